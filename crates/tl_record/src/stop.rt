@@ -1,0 +1,78 @@
+//! Why reading stops.
+
+use std::fmt;
+
+/// The fields that are read, by the names of the TIGER/Line technical documentation.
+#[derive(Clone, Copy, Debug, PartialEq, Eq, Hash)]
+pub enum Field {
+    Tlid,
+    FrLong,
+    FrLat,
+    ToLong,
+    ToLat,
+    Rtsq,
+    /// The longitude of the shape pair with this number, from 1.
+    Long(u8),
+    /// The latitude of the shape pair with this number, from 1.
+    Lat(u8),
+}
+
+impl fmt::Display for Field {
+    fn fmt<W: fmt::Write>(&self, f: &mut fmt::Formatter<W>) -> fmt::Result {
+        match self {
+            Field::Tlid => write!(f, "TLID"),
+            Field::FrLong => write!(f, "FRLONG"),
+            Field::FrLat => write!(f, "FRLAT"),
+            Field::ToLong => write!(f, "TOLONG"),
+            Field::ToLat => write!(f, "TOLAT"),
+            Field::Rtsq => write!(f, "RTSQ"),
+            Field::Long(pair) => write!(f, "LONG{pair}"),
+            Field::Lat(pair) => write!(f, "LAT{pair}"),
+        }
+    }
+}
+
+/// Why a line is refused.
+#[derive(Clone, Copy, Debug, PartialEq, Eq, Hash)]
+pub enum Cause {
+    /// L1: more than 1,024 bytes stand before the line's end.
+    LineTooLong,
+    /// L2: a field that has to be given is blank.
+    Missing(Field),
+    /// L3: the bytes don't spell what the field holds.
+    BadField(Field),
+    /// L4: a longitude or a latitude lies outside its limits.
+    OutOfRange(Field),
+    /// L5: the line's number is above 67,108,864.
+    TooManyLines,
+}
+
+impl fmt::Display for Cause {
+    fn fmt<W: fmt::Write>(&self, f: &mut fmt::Formatter<W>) -> fmt::Result {
+        match self {
+            Cause::LineTooLong => write!(f, "L1 LineTooLong"),
+            Cause::Missing(field) => write!(f, "L2 Missing {field}"),
+            Cause::BadField(field) => write!(f, "L3 BadField {field}"),
+            Cause::OutOfRange(field) => write!(f, "L4 OutOfRange {field}"),
+            Cause::TooManyLines => write!(f, "L5 TooManyLines"),
+        }
+    }
+}
+
+/// Why a reader gives no more records.
+#[derive(Clone, Copy, Debug, PartialEq, Eq, Hash)]
+pub enum ReadStop {
+    /// This line, counted from 1, is the first that is refused.
+    Refused { line: u64, cause: Cause },
+    /// A read of the source failed.
+    Device,
+}
+
+impl fmt::Display for ReadStop {
+    fn fmt<W: fmt::Write>(&self, f: &mut fmt::Formatter<W>) -> fmt::Result {
+        match self {
+            ReadStop::Refused { line, cause } => write!(f, "refused line {line} {cause}"),
+            ReadStop::Device => write!(f, "stopped Device"),
+        }
+    }
+}
