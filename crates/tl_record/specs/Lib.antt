@@ -1,1 +1,11 @@
 pub mod Failures
+pub mod Fetching
+pub mod Lines
+pub mod Range
+pub mod Fields
+pub mod Layout
+pub mod Outcome
+pub mod Judgement
+pub mod Records
+pub mod NextLine
+pub mod Reader

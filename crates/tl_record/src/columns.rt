@@ -1,18 +1,44 @@
 //! Columns of a line.
 
-ghost use Rattle.std.specs.Prelude.{◌≡◌, ℕ, ◌+◌, ◌-◌, ◌<◌, ◌≤◌, List, take, drop};
+ghost use Rattle.std.specs.Prelude.{◌≡◌, ℕ, ◌+◌, ◌-◌, ◌<◌, ◌≤◌, List, length, take, drop};
+ghost use Rattle.tl_record.specs.Range.{Range, IsRange, columns};
 
 use std::marker::Model;
 
-/// A range of columns. Columns count from 1, and both ends belong to the range.
+/// A range of at most 18 columns. Columns count from 1, and both ends belong to the range.
 #[derive(Clone, Copy, Debug)]
 pub struct ColumnRange {
-    pub first: u16,
-    pub last: u16,
-    ghost from_one: { 1 ≤ first },
-    ghost ordered: { first ≤ last },
-    // A number of that many digits fits 64 bits.
-    ghost narrow: { last < first + 18 },
+    first: u16,
+    last: u16,
+}
+
+impl Model for ColumnRange {
+    ghost Value = { Range };
+
+    ghost view = { λ range. columns range.first range.last };
+
+    ghost invariant = { λ range. IsRange (columns range.first range.last) };
+
+    ghost inverse = { λ range. record { first = range.first; last = range.last } };
+}
+
+impl ColumnRange {
+    /// The columns from `first` to `last`.
+    pub fn new(first: u16, last: u16) -> ColumnRange
+        requires { IsRange (columns first last) }
+        ensures { result ≡ columns first last }
+    {
+        ColumnRange { first, last }
+    }
+
+    /// The bytes of a line at these columns, as far as the line has them.
+    pub fn of<'a>(self, line: &Columns<'a>) -> &'a [u8]
+        ensures bytes { result.now ≡ take (self.last + 1 - self.first) (drop (self.first - 1) line.now) }
+        ensures narrow { length result.now ≤ 18 }
+        ensures range { IsRange self }
+    {
+        line.field(self.first, self.last)
+    }
 }
 
 /// The bytes of a line, without what ends it, by columns.

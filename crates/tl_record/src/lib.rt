@@ -1,17 +1,31 @@
 //! The records of a county's TIGER/Line files.
+//!
+//! A [`Source`] gives the bytes of a text in reads of any size and counts the reads that failed; a [`RecordReader`]
+//! over it hands out the text's records one after the other, with their line numbers, up to the text's end or to the
+//! first line that is refused. Which columns each record type has is a value, [`Layout`], and what a line means is one
+//! definition over that value. Nothing here takes memory.
 #![tactic(auto)]
 
 mod columns;
+mod field;
+mod judge;
+mod layout;
+mod line_buffer;
 mod meter;
 mod number;
+mod reader;
 mod record;
 mod sink;
 mod source;
 mod stop;
 
 pub use columns::{ColumnRange, Columns};
+pub use field::{MAX_LATITUDE, MAX_LONGITUDE};
+pub use judge::{Judgement, MAX_LINE_BYTES, MAX_LINES, judge_line};
+pub use layout::{ChainColumns, Layout, PointColumns, ShapeColumns};
 pub use meter::{Meter, MeterOut};
 pub use number::Spelt;
+pub use reader::RecordReader;
 pub use record::{PAIRS, Record};
 pub use sink::Sink;
 pub use source::Source;

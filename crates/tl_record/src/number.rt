@@ -1,5 +1,8 @@
 //! What the bytes of a field spell.
 
+ghost use Rattle.std.specs.Prelude.{◌≡◌, ◌≤◌, ◌^◌, length};
+ghost use Rattle.tl_record.specs.Fields.{without_leading_blanks, without_trailing_blanks, trimmed, digits_spell, IsBelow, negated, not_negated, number_spelt, coordinate_spelt};
+
 /// What a field's bytes spell, where it holds a number.
 #[derive(Clone, Copy, Debug, PartialEq, Eq)]
 pub enum Spelt<T> {
@@ -9,4 +12,99 @@ pub enum Spelt<T> {
     Value(T),
     /// Anything else.
     Unreadable,
+}
+
+fn without_leading_blanks(bytes: &[u8]) -> &[u8]
+    ensures value { result.now ≡ without_leading_blanks bytes.now }
+    ensures shorter { length result.now ≤ length bytes.now }
+{
+    let mut rest = bytes;
+    while let [b' ', after @ ..] = rest {
+        rest = after;
+    }
+    rest
+}
+
+fn without_trailing_blanks(bytes: &[u8]) -> &[u8]
+    ensures value { result.now ≡ without_trailing_blanks bytes.now }
+    ensures shorter { length result.now ≤ length bytes.now }
+{
+    let mut length = bytes.len();
+    while length > 0 && bytes[length - 1] == b' ' {
+        length -= 1;
+    }
+    &bytes[..length]
+}
+
+fn trimmed(bytes: &[u8]) -> &[u8]
+    ensures value { result.now ≡ trimmed bytes.now }
+    ensures shorter { length result.now ≤ length bytes.now }
+{
+    without_trailing_blanks(without_leading_blanks(bytes))
+}
+
+/// The value of one or more decimal digits.
+fn digits_spell(bytes: &[u8]) -> Spelt<u64>
+    requires { length bytes.now ≤ 18 }
+    ensures value { result ≡ digits_spell bytes.now }
+    ensures fits { IsBelow (10 ^ 18) result }
+{
+    if bytes.is_empty() {
+        return Spelt::Unreadable;
+    }
+    let mut value = 0u64;
+    for byte in bytes {
+        if !byte.is_ascii_digit() {
+            return Spelt::Unreadable;
+        }
+        value = value * 10 + (*byte - b'0') as u64;
+    }
+    Spelt::Value(value)
+}
+
+fn not_negated(magnitude: Spelt<u64>) -> Spelt<i64>
+    requires { IsBelow (10 ^ 18) magnitude }
+    ensures { result ≡ not_negated magnitude }
+{
+    match magnitude {
+        Spelt::Blank => Spelt::Blank,
+        Spelt::Value(value) => Spelt::Value(value as i64),
+        Spelt::Unreadable => Spelt::Unreadable,
+    }
+}
+
+fn negated(magnitude: Spelt<u64>) -> Spelt<i64>
+    requires { IsBelow (10 ^ 18) magnitude }
+    ensures { result ≡ negated magnitude }
+{
+    match magnitude {
+        Spelt::Blank => Spelt::Blank,
+        Spelt::Value(value) => Spelt::Value(0 - value as i64),
+        Spelt::Unreadable => Spelt::Unreadable,
+    }
+}
+
+/// What the bytes of a number's field spell: digits, with blanks before them, after them or both.
+pub fn number_spelt(bytes: &[u8]) -> Spelt<u64>
+    requires { length bytes.now ≤ 18 }
+    ensures { result ≡ number_spelt bytes.now }
+{
+    match trimmed(bytes) {
+        [] => Spelt::Blank,
+        digits => digits_spell(digits),
+    }
+}
+
+/// What the bytes of a longitude's or a latitude's field spell: digits with at most one sign directly before them, with
+/// blanks round both.
+pub fn coordinate_spelt(bytes: &[u8]) -> Spelt<i64>
+    requires { length bytes.now ≤ 18 }
+    ensures { result ≡ coordinate_spelt bytes.now }
+{
+    match trimmed(bytes) {
+        [] => Spelt::Blank,
+        [b'-', digits @ ..] => negated(digits_spell(digits)),
+        [b'+', digits @ ..] => not_negated(digits_spell(digits)),
+        digits => not_negated(digits_spell(digits)),
+    }
 }

@@ -1,0 +1,88 @@
+-- Blanks at the end of a field.
+use Rattle.std.proofs.Common.{◌≡◌, ℕ, zero, suc, ◌+◌, ◌-◌, ◌<◌, ◌≤◌, true, false, ◌&&◌, Bool, List, [], ◌∷◌, ◌++◌, length, take, drop, get_or, refl, ap, sym, ◌∙◌, arith, replicate}
+use Rattle.std.proofs.Common.{inl, inr, take_all}
+use Rattle.std.proofs.lemmas.Bool.{cases_Bool, cases_lt}
+use Rattle.std.proofs.lemmas.List.{take_more, take-append-le}
+use Rattle.std.proofs.Math.Seq.{take-append-add}
+use Rattle.std.specs.List.{list_all}
+use Rattle.std.proofs.lemmas.List.Folds.{list_all-append}
+use Rattle.std.proofs.Math.Bool.{and-true, and-false}
+use Rattle.tl_record.specs.Fields.{blank, is_blank, without_leading_blanks, without_trailing_blanks, trimmed, number_spelt, coordinate_spelt, field, width_of}
+use Rattle.tl_record.specs.Range.{Range}
+
+all_blank_append : (bytes blanks : List ℕ) → list_all is_blank blanks ≡ true → list_all is_blank (bytes ++ blanks) ≡ list_all is_blank bytes
+all_blank_append bytes blanks all = list_all-append is_blank bytes blanks ∙ rw all (and-true _)
+
+nothing_left : (bytes : List ℕ) → list_all is_blank bytes ≡ true → without_trailing_blanks bytes ≡ []
+nothing_left [] all = refl
+nothing_left (byte ∷ bytes) all = rw all refl
+
+-- blanks at the end don't matter
+pub without_trailing_blanks-append : (bytes blanks : List ℕ) → list_all is_blank blanks ≡ true → without_trailing_blanks (bytes ++ blanks) ≡ without_trailing_blanks bytes
+without_trailing_blanks-append [] blanks all = nothing_left blanks all
+without_trailing_blanks-append (byte ∷ bytes) blanks all =
+    rw (all_blank_append (byte ∷ bytes) blanks all, without_trailing_blanks-append bytes blanks all) refl
+
+-- the last blank of several may be left out
+pub one_blank_less : (bytes : List ℕ) (n : ℕ) → 0 < n → n ≤ length bytes → get_or bytes (n - 1) 0 ≡ blank
+    → without_trailing_blanks (take (n - 1) bytes) ≡ without_trailing_blanks (take n bytes)
+one_blank_less bytes n positive within is =
+    let below : n - 1 < length bytes = omega arith in
+    let next : n - 1 + 1 ≡ n = omega arith in
+    let split : take n bytes ≡ take (n - 1) bytes ++ get_or bytes (n - 1) 0 ∷ [] = ap (λ k. take k bytes) (sym next) ∙ take_more bytes (n - 1) 0 below in
+    sym (without_trailing_blanks-append (take (n - 1) bytes) (blank ∷ []) refl) ∙ ap (λ byte. without_trailing_blanks (take (n - 1) bytes ++ byte ∷ [])) (sym is) ∙ ap without_trailing_blanks (sym split)
+
+not_all_blank : (bytes : List ℕ) (last : ℕ) → is_blank last ≡ false → list_all is_blank (bytes ++ last ∷ []) ≡ false
+not_all_blank bytes last is = list_all-append is_blank bytes (last ∷ []) ∙ rw is (and-false (list_all is_blank bytes))
+
+stays : (bytes : List ℕ) (last : ℕ) → is_blank last ≡ false → without_trailing_blanks (bytes ++ last ∷ []) ≡ bytes ++ last ∷ []
+stays [] last is = rw is refl
+stays (byte ∷ bytes) last is = rw (not_all_blank (byte ∷ bytes) last is, stays bytes last is) refl
+
+-- where the last byte is no blank, nothing is left out
+pub no_blank_less : (bytes : List ℕ) (n : ℕ) → 0 < n → n ≤ length bytes → is_blank (get_or bytes (n - 1) 0) ≡ false → without_trailing_blanks (take n bytes) ≡ take n bytes
+no_blank_less bytes n positive within is =
+    let below : n - 1 < length bytes = omega arith in
+    let next : n - 1 + 1 ≡ n = omega arith in
+    let split : take n bytes ≡ take (n - 1) bytes ++ get_or bytes (n - 1) 0 ∷ [] = ap (λ k. take k bytes) (sym next) ∙ take_more bytes (n - 1) 0 below in
+    rw split (stays (take (n - 1) bytes) (get_or bytes (n - 1) 0) is)
+
+all_blanks : (n : ℕ) → list_all is_blank (replicate n blank) ≡ true
+all_blanks zero = refl
+all_blanks (suc n) = all_blanks n
+
+both_parts : (a b : Bool) → (a && b) ≡ true → (a ≡ true) × (b ≡ true)
+both_parts true b h = (refl, h)
+both_parts false b h = cc
+
+-- a line that ends inside a field reads as if blanks stood in the rest of it
+no_more : (blanks : List ℕ) → list_all is_blank blanks ≡ true → without_leading_blanks blanks ≡ []
+no_more [] all = refl
+no_more (byte ∷ blanks) all = let parts = both_parts (is_blank byte) (list_all is_blank blanks) all in rw parts.0 (no_more blanks parts.1)
+
+pub trimmed-append : (bytes blanks : List ℕ) → list_all is_blank blanks ≡ true → trimmed (bytes ++ blanks) ≡ trimmed bytes
+trimmed-append [] blanks all = ap without_trailing_blanks (no_more blanks all)
+trimmed-append (byte ∷ bytes) blanks all =
+    elim (cases_Bool (is_blank byte)) [
+      | inl is ↦ rw is (trimmed-append bytes blanks all)
+      | inr is ↦ rw is (without_trailing_blanks-append (byte ∷ bytes) blanks all)
+    ]
+
+all_blank_take : (n m : ℕ) → list_all is_blank (take n (replicate m blank)) ≡ true
+all_blank_take zero m = refl
+all_blank_take (suc n) zero = refl
+all_blank_take (suc n) (suc m) = all_blank_take n m
+
+-- the bytes that a line has of a field spell what the field spells
+pub trimmed-field : (line : List ℕ) (range : Range) → trimmed (field line range) ≡ trimmed (take (width_of range) (drop (range.first - 1) line))
+trimmed-field line range =
+    let bytes = drop (range.first - 1) line in
+    let blanks = replicate (width_of range) blank in
+    elim (cases_lt (length bytes) (width_of range)) [
+      | inl short ↦
+        let enough : width_of range ≡ length bytes + (width_of range - length bytes) = omega arith in
+        let whole : take (width_of range) bytes ≡ bytes = take_all (width_of range) bytes (omega arith) in
+        let parts : take (width_of range) (bytes ++ blanks) ≡ bytes ++ take (width_of range - length bytes) blanks = ap (λ n. take n (bytes ++ blanks)) enough ∙ take-append-add bytes blanks (width_of range - length bytes) in
+        ap trimmed parts ∙ trimmed-append bytes (take (width_of range - length bytes) blanks) (all_blank_take (width_of range - length bytes) (width_of range)) ∙ ap trimmed (sym whole)
+      | inr long ↦ ap trimmed (take-append-le (width_of range) bytes blanks long)
+    ]

@@ -1,0 +1,10 @@
+-- The bytes that weren't judged yet, where they are known.
+use Rattle.std.proofs.Common.{◌≡◌, ℕ, List, [], ◌∷◌, ◌++◌, Option, None, Some, refl, sym, ap, ◌∙◌, append_assoc}
+use Rattle.std.specs.Io.KnownBytes.{Consumes, Keeps, prepend_known}
+
+-- fetched bytes go from the source to the buffer
+pub fetched_kept : (old new bytes : List ℕ) (left after : Option (List ℕ)) → new ≡ old ++ bytes → Consumes left after bytes
+    → Keeps (prepend_known old left) (prepend_known new after)
+fetched_kept old new bytes None after added consumed = tt
+fetched_kept old new bytes (Some xs) None added consumed = absurd consumed
+fetched_kept old new bytes (Some xs) (Some ys) added consumed = rw (added, consumed, append_assoc) refl

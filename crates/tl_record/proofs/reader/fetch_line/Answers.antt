@@ -1,0 +1,41 @@
+use Rattle.std.proofs.Common.{◌≡◌, ◌≤◌, ◌<◌, ◌++◌, ℕ, refl, sym, ap, ◌∙◌, arith, length, [], append-nil}
+use Rattle.tl_record.specs.Lines.{line_feeds}
+use Rattle.std.proofs.KnownBytes.{Keeps-trans}
+use Rattle.tl_record.proofs.KnownLemmas.{fetched_kept}
+use Rattle.tl_record.proofs.LineLemmas.{feed_found, no_feed_found, front_searched, no_bytes}
+use Rattle.tl_record.proofs.reader.fetch_line.Goals as goal
+
+pub returns-in-Some-clause-shows : goal.returns-in-Some-clause-shows
+returns-in-Some-clause-shows g c =
+    feed_found c.fetches.buffer c.bytes-bytes.result.now c.fetches.searched c.in-Some.found c.bytes-bytes.ensures.value c.fetches.invariant.searched c.fetches.invariant.none c.in-Some.ensures
+
+pub returns-then-searched-eq-MAX_LINE_BYTES-clause-shows : goal.returns-then-searched-eq-MAX_LINE_BYTES-clause-shows
+returns-then-searched-eq-MAX_LINE_BYTES-clause-shows g c = (
+  no_feed_found c.fetches.buffer c.bytes-bytes.result.now c.fetches.searched c.bytes-bytes.ensures.value c.fetches.invariant.searched c.fetches.invariant.none c.in_default.ensures,
+  ap length (sym c.bytes-bytes.ensures.value) ∙ c.if-searched-eq-MAX_LINE_BYTES.true,
+)
+
+pub returns-in-Ok-eq0-clause-shows : goal.returns-in-Ok-eq0-clause-shows
+returns-in-Ok-eq0-clause-shows g c =
+    let none = no_feed_found c.fetches.buffer c.bytes-bytes.result.now c.fetches.searched c.bytes-bytes.ensures.value c.fetches.invariant.searched c.fetches.invariant.none c.in_default.ensures in
+    let fetched = c.in-Ok-eq0.ensures.bytes in
+    let empty : length fetched.0 ≡ 0 = fetched.1 ∙ c.in-Ok-eq0.field-0-test in
+    (ap line_feeds (fetched.2.added ∙ no_bytes c.fetches.buffer fetched.0 empty) ∙ none, fetched.2.ended empty)
+
+pub fetches-preserved : goal.fetches-preserved
+fetches-preserved g c =
+    let none = no_feed_found c.fetches.buffer c.bytes-bytes.result.now c.fetches.searched c.bytes-bytes.ensures.value c.fetches.invariant.searched c.fetches.invariant.none c.in_default.ensures in
+    let fetched = c.in-Ok.ensures.bytes in
+    let front = front_searched c.fetches.buffer fetched.0 c.fetch.new.self (length c.bytes-bytes.result.now) fetched.2.added (ap length c.bytes-bytes.ensures.value) none in
+    record {
+      searched = front.0;
+      none = front.1;
+      bytes = Keeps-trans _ _ _ c.fetches.invariant.bytes
+        (fetched_kept c.fetches.buffer c.fetch.new.self fetched.0 (g.R.Source.remaining c.fetches.source) (g.R.Source.remaining c.fetch.new.source) fetched.2.added fetched.2.consumed);
+      failures = c.in-Ok.ensures.failures ∙ c.fetches.invariant.failures;
+    }
+
+pub returns-in-Err-clause-shows : goal.returns-in-Err-clause-shows
+returns-in-Err-clause-shows g c =
+    let none = no_feed_found c.fetches.buffer c.bytes-bytes.result.now c.fetches.searched c.bytes-bytes.ensures.value c.fetches.invariant.searched c.fetches.invariant.none c.in_default.ensures in
+    ap line_feeds c.in-Err.ensures.bytes.0 ∙ none

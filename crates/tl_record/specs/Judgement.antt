@@ -1,0 +1,119 @@
+-- What a raw line with its number means, by a layout: a record, a line that is passed over, or a refusal.
+use Rattle.std.specs.Prelude.{ℕ, ℤ, ◌+◌, ◌==◌, ◌&&◌, ◌^◌, unsigned_abs, nat_lt, nat_le, Bool, true, false, List, [], ◌∷◌, length, Result, Ok, Err, Option, Some, None, if◌then◌else◌}
+use Rattle.tl_geom.specs.declared.point.Point.{Point}
+use Rattle.tl_record.specs.declared.layout.Layout.{Layout}
+use Rattle.tl_record.specs.declared.layout.ChainColumns.{ChainColumns}
+use Rattle.tl_record.specs.declared.layout.ShapeColumns.{ShapeColumns}
+use Rattle.tl_record.specs.declared.layout.PointColumns.{PointColumns}
+use Rattle.tl_record.specs.declared.stop.Cause.{Cause}
+use Rattle.tl_record.specs.declared.stop.Cause.TheVariants.{LineTooLong, Missing, BadField, OutOfRange, TooManyLines}
+use Rattle.tl_record.specs.declared.stop.Field.{Field}
+use Rattle.tl_record.specs.declared.stop.Field.TheVariants as field_name
+use Rattle.tl_record.specs.declared.record.Record.{Record}
+use Rattle.tl_record.specs.declared.record.Record.TheVariants.{Chain, Shape}
+use Rattle.tl_record.specs.declared.number.Spelt.{Spelt}
+use Rattle.tl_record.specs.declared.number.Spelt.TheVariants.{Blank, Value, Unreadable}
+use Rattle.tl_record.specs.declared.judge.Judgement.{Judgement}
+use Rattle.tl_record.specs.declared.judge.Judgement.TheVariants.{PassedOver, Read, Refused}
+use Rattle.tl_record.specs.declared.judge.TheConstants.{MAX_LINES, MAX_LINE_BYTES}
+use Rattle.tl_record.specs.declared.field.TheConstants.{MAX_LONGITUDE, MAX_LATITUDE}
+use Rattle.tl_record.specs.Range.{Range}
+use Rattle.tl_record.specs.Lines.{content}
+use Rattle.tl_record.specs.Fields.{field, number_spelt, coordinate_spelt}
+use Rattle.tl_record.specs.Outcome.{◌>>=◌}
+
+-- a field that has to be given, with the value that it spells
+abbrev pub required : {T : Type 0} → Field → Spelt T → Result T Cause
+required name Blank = Err (Missing name)
+required name (Value value) = Ok value
+required name Unreadable = Err (BadField name)
+
+-- a coordinate that is at most so far from 0
+abbrev pub in_range : Field → ℕ → ℤ → Result ℤ Cause
+in_range name limit value = if nat_le (unsigned_abs value) limit then Ok value else Err (OutOfRange name)
+
+abbrev pub coordinate : Field → ℕ → Spelt ℤ → Result ℤ Cause
+coordinate name limit spelt = required name spelt >>= in_range name limit
+
+-- a point that has to be given: its longitude is tested first, then its latitude
+abbrev pub point : Field → Field → Spelt ℤ → Spelt ℤ → Result Point Cause
+point long_name lat_name long lat = do
+  x ← coordinate long_name MAX_LONGITUDE long
+  y ← coordinate lat_name MAX_LATITUDE lat
+  Ok (record { x = x; y = y })
+
+abbrev pub is_blank_field : {T : Type 0} → Spelt T → Bool
+is_blank_field Blank = true
+is_blank_field (Value value) = false
+is_blank_field Unreadable = false
+
+-- a point that may be left out, by two blank fields
+abbrev pub optional_point : Field → Field → Spelt ℤ → Spelt ℤ → Result (Option Point) Cause
+optional_point long_name lat_name long lat =
+    if is_blank_field long && is_blank_field lat then Ok None else (point long_name lat_name long lat >>= λ p. Ok (Some p))
+
+-- the fields of a point on a line
+abbrev pub point_at : Field → Field → PointColumns → List ℕ → Result Point Cause
+point_at long_name lat_name columns line =
+    point long_name lat_name (coordinate_spelt (field line columns.long)) (coordinate_spelt (field line columns.lat))
+
+abbrev pub optional_point_at : Field → Field → PointColumns → List ℕ → Result (Option Point) Cause
+optional_point_at long_name lat_name columns line =
+    optional_point long_name lat_name (coordinate_spelt (field line columns.long)) (coordinate_spelt (field line columns.lat))
+
+-- a shape pair whose fields both read as 0 is unused, as one whose fields are blank is
+abbrev pub unless_zero : Option Point → Option Point
+unless_zero None = None
+unless_zero (Some p) = if unsigned_abs p.x == 0 && unsigned_abs p.y == 0 then None else Some p
+
+-- the shape pairs of a line, of which the first has this number
+unfoldable pub shape_pairs : ℕ → List PointColumns → List ℕ → Result (List (Option Point)) Cause
+shape_pairs number [] line = Ok []
+shape_pairs number (columns ∷ others) line = do
+  pair ← optional_point_at (field_name.Long number) (field_name.Lat number) columns line
+  rest ← shape_pairs (number + 1) others line
+  Ok (unless_zero pair ∷ rest)
+
+-- a number that has to be given
+abbrev pub number_at : Field → Range → List ℕ → Result ℕ Cause
+number_at name columns line = required name (number_spelt (field line columns))
+
+-- a sequence number fits 16 bits; three columns hold no other
+abbrev pub sequence_number : ℕ → Result ℕ Cause
+sequence_number number = if nat_lt number (2 ^ 16) then Ok number else Err (BadField field_name.Rtsq)
+
+-- type 1: a complete chain
+unfoldable pub chain_record : ChainColumns → List ℕ → Result Record Cause
+chain_record columns line = do
+  tlid ← number_at field_name.Tlid columns.tlid line
+  from ← point_at field_name.FrLong field_name.FrLat columns.from line
+  to ← point_at field_name.ToLong field_name.ToLat columns.to line
+  Ok (Chain tlid from to)
+
+-- type 2: shape points of a chain
+unfoldable pub shape_record : ShapeColumns → List ℕ → Result Record Cause
+shape_record columns line = do
+  tlid ← number_at field_name.Tlid columns.tlid line
+  number ← number_at field_name.Rtsq columns.rtsq line
+  rtsq ← sequence_number number
+  pairs ← shape_pairs 1 columns.pairs line
+  Ok (Shape tlid rtsq pairs)
+
+abbrev pub judged : Result Record Cause → Judgement
+judged (Ok r) = Read r
+judged (Err cause) = Refused cause
+
+-- what a line's content means: its first byte is the record type, and 49 is '1'
+abbrev pub content_judgement : Layout → List ℕ → Judgement
+content_judgement layout [] = PassedOver
+content_judgement layout (kind ∷ rest) =
+    if kind == 49 then judged (chain_record layout.chain (kind ∷ rest)) else
+    if kind == 50 then judged (shape_record layout.shape (kind ∷ rest)) else
+    PassedOver
+
+-- what a raw line with this number means: the first rule that applies
+abbrev pub judgement : Layout → ℕ → List ℕ → Judgement
+judgement layout number line =
+    if nat_lt MAX_LINES number then Refused TooManyLines else
+    if nat_lt MAX_LINE_BYTES (length line) then Refused LineTooLong else
+    content_judgement layout (content line)

@@ -1,0 +1,74 @@
+-- How the next line is found in the bytes that were fetched and those that the source has left.
+use Rattle.std.specs.Prelude.{◌≡◌, ◌≢◌, ℕ, ◌+◌, ◌<◌, List, [], Option, None, Some, length, slice_index, take, ⊤}
+use Rattle.std.specs.Io.KnownBytes.{IsAtEnd}
+use Rattle.tl_record.specs.declared.layout.Layout.{Layout}
+use Rattle.tl_record.specs.declared.judge.Judgement.{Judgement}
+use Rattle.tl_record.specs.declared.judge.Judgement.TheVariants.{PassedOver, Read, Refused}
+use Rattle.tl_record.specs.declared.judge.TheConstants.{MAX_LINE_BYTES}
+use Rattle.tl_record.specs.declared.reader.Fetched.{Fetched}
+use Rattle.tl_record.specs.declared.reader.Fetched.TheVariants.{Whole, Rest, Full, Failed}
+use Rattle.tl_record.specs.declared.reader.NextLine.{NextLine}
+use Rattle.tl_record.specs.declared.reader.NextLine.TheVariants as next
+use Rattle.tl_record.specs.Failures.{one_more}
+use Rattle.tl_record.specs.Lines.{line_feed, line_feeds, first_line, after_first_line}
+use Rattle.tl_record.specs.Judgement.{judgement}
+
+-- what the bytes of a buffer and the state of its source show: the line's length, that it is the last, or neither
+abbrev pub Shows : List ℕ → Option (List ℕ) → Fetched → Type 0
+Shows bytes left (Whole len) = (len < length bytes) × (slice_index bytes len ≡ line_feed) × (line_feeds (take len bytes) ≡ 0)
+Shows bytes left Rest = (line_feeds bytes ≡ 0) × IsAtEnd left
+Shows bytes left Full = (line_feeds bytes ≡ 0) × (length bytes ≡ MAX_LINE_BYTES)
+Shows bytes left Failed = line_feeds bytes ≡ 0
+
+-- a failed fetch counts
+abbrev pub CountsFetch : ℕ → ℕ → Fetched → Type 0
+CountsFetch old new (Whole len) = new ≡ old
+CountsFetch old new Rest = new ≡ old
+CountsFetch old new Full = new ≡ old
+CountsFetch old new Failed = new ≡ one_more old
+
+-- the line's judgement, under this number
+pub record JudgesFirst (layout : Layout) (number : ℕ) (text : List ℕ) (j : Judgement) : Type 0 where
+  pub some : text ≢ []
+  pub is : j ≡ judgement layout number (first_line text)
+
+-- what holds where a line is accepted, that is, not refused
+abbrev pub IfAccepted : Judgement → Type 0 → Type 0
+IfAccepted PassedOver P = P
+IfAccepted (Read r) P = P
+IfAccepted (Refused cause) P = ⊤
+
+-- some line has this judgement
+abbrev pub JudgesSome : Layout → ℕ → NextLine → Type 0
+JudgesSome layout number (next.Line j) = (line : List ℕ) × (j ≡ judgement layout number line)
+JudgesSome layout number (next.Last j) = (line : List ℕ) × (j ≡ judgement layout number line)
+JudgesSome layout number next.End = ⊤
+JudgesSome layout number next.Failed = ⊤
+
+-- a line that ends in a line feed was judged, and what follows it is left
+pub record TakesLine (layout : Layout) (number : ℕ) (text : List ℕ) (new : Option (List ℕ)) (j : Judgement) : Type 0 where
+  pub first : JudgesFirst layout number text j
+  pub rest : IfAccepted j (new ≡ Some (after_first_line text))
+  pub feeds : IfAccepted j (line_feeds text ≡ line_feeds (after_first_line text) + 1)
+
+-- what was found in the text that wasn't judged before, where that is known
+abbrev pub FindsNext : Layout → ℕ → Option (List ℕ) → Option (List ℕ) → NextLine → Type 0
+FindsNext layout number None new found = ⊤
+FindsNext layout number (Some text) new (next.Line j) = TakesLine layout number text new j
+FindsNext layout number (Some text) new (next.Last j) = JudgesFirst layout number text j × (after_first_line text ≡ [])
+FindsNext layout number (Some text) new next.End = text ≡ []
+FindsNext layout number (Some text) new next.Failed = new ≡ Some text
+
+-- a failed fetch counts
+abbrev pub CountsNext : ℕ → ℕ → NextLine → Type 0
+CountsNext old new (next.Line j) = new ≡ old
+CountsNext old new (next.Last j) = new ≡ old
+CountsNext old new next.End = new ≡ old
+CountsNext old new next.Failed = new ≡ one_more old
+
+-- where a fetch failed, no line feed is among the bytes that were fetched
+abbrev pub PendingWhole : List ℕ → NextLine → Type 0
+PendingWhole pending (next.Line j) = ⊤
+PendingWhole pending (next.Last j) = ⊤
+PendingWhole pending next.End = ⊤
+PendingWhole pending next.Failed = line_feeds pending ≡ 0

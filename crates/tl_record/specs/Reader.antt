@@ -1,0 +1,130 @@
+-- What a record reader keeps, and what it still has to give.
+use Rattle.std.specs.Prelude.{◌≡◌, ◌⊎◌, ℕ, ◌+◌, List, [], ◌∷◌, Option, None, Some, Result, Ok, Err, IfSome, ⊤}
+use Rattle.std.specs.Option.{option_map}
+use Rattle.std.specs.Io.KnownBytes.{prepend_known}
+use Rattle.tl_record.specs.declared.record.Record.{Record}
+use Rattle.tl_record.specs.declared.layout.Layout.{Layout}
+use Rattle.tl_record.specs.declared.stop.Cause.{Cause}
+use Rattle.tl_record.specs.declared.stop.ReadStop.{ReadStop}
+use Rattle.tl_record.specs.declared.stop.ReadStop.TheVariants.{Refused, Device}
+use Rattle.tl_record.specs.declared.reader.Standing.{Standing}
+use Rattle.tl_record.specs.declared.reader.Standing.TheVariants.{Reading, Ended, Stopped}
+use Rattle.tl_record.specs.declared.reader.RecordReader.{RecordReader}
+use Rattle.tl_record.specs.Failures.{one_more}
+use Rattle.tl_record.specs.Lines.{raw_lines, line_feeds}
+use Rattle.tl_record.specs.Records.{Records, records_of_lines}
+
+abbrev pub source_of : {R : Type 0} → RecordReader R → R
+source_of reader = reader.source
+
+abbrev pub layout_of : {R : Type 0} → RecordReader R → Layout
+layout_of reader = reader.layout
+
+-- how many lines were accepted so far, and how many of them were passed over
+abbrev pub lines_of : {R : Type 0} → RecordReader R → ℕ
+lines_of reader = reader.lines
+
+abbrev pub skipped_of : {R : Type 0} → RecordReader R → ℕ
+skipped_of reader = reader.skipped
+
+-- whether the reader still reads, or which answer it repeats
+abbrev pub standing_of : {R : Type 0} → RecordReader R → Standing
+standing_of reader = reader.standing
+
+-- the bytes that were fetched and not judged yet
+abbrev pub pending_of : {R : Type 0} → RecordReader R → List ℕ
+pending_of reader = reader.buffer
+
+-- the bytes that weren't judged yet, fetched or not, where those that the source has left are known
+abbrev pub unjudged : {R : Type 0} → (R → Option (List ℕ)) → RecordReader R → Option (List ℕ)
+unjudged remaining reader = prepend_known (pending_of reader) (remaining (source_of reader))
+
+-- the same records, where so many lines were passed over before
+abbrev pub with_skipped : ℕ → Records → Records
+with_skipped before records = record { entries = records.entries; refusal = records.refusal; skipped = before + records.skipped }
+
+-- what the bytes that weren't judged give, where they're known: entries, a refusal, and how many lines will have been
+-- passed over in all
+abbrev pub to_come : {R : Type 0} → (R → Option (List ℕ)) → RecordReader R → Option Records
+to_come remaining reader =
+    option_map (λ text. with_skipped (skipped_of reader) (records_of_lines (layout_of reader) (lines_of reader) (raw_lines text))) (unjudged remaining reader)
+
+-- nothing comes any more
+abbrev pub nothing_after : ℕ → Records
+nothing_after skipped = record { entries = []; refusal = None; skipped = skipped }
+
+-- the refusal comes next, and nothing after it
+abbrev pub refusal_after : ℕ → ℕ → Cause → Records
+refusal_after skipped line cause = record { entries = []; refusal = Some (line, cause); skipped = skipped }
+
+abbrev pub outcome_standing : Standing → Option Records → ℕ → Option Records
+outcome_standing Reading coming skipped = coming
+outcome_standing Ended coming skipped = Some (nothing_after skipped)
+outcome_standing (Stopped (Refused line cause)) coming skipped = Some (refusal_after skipped line cause)
+outcome_standing (Stopped Device) coming skipped = None
+
+-- what the reader still has to give, where that is known
+abbrev pub outcome : {R : Type 0} → (R → Option (List ℕ)) → RecordReader R → Option Records
+outcome remaining reader = outcome_standing (standing_of reader) (to_come remaining reader) (skipped_of reader)
+
+abbrev pub Answer : Type 0
+Answer = Result (Option (ℕ × Record)) ReadStop
+
+-- these records, with one more entry before them
+abbrev pub with_entry : ℕ × Record → Records → Records
+with_entry entry rest = record { entries = entry ∷ rest.entries; refusal = rest.refusal; skipped = rest.skipped }
+
+-- What an answer takes from what was to come, where that was known: the first entry, and the rest comes after it; the
+-- end; or the refusal. A failed read leaves what was to come.
+abbrev pub Gives : Option Records → Option Records → ℕ → Answer → Type 0
+Gives None new skipped answer = ⊤
+Gives (Some old) new skipped (Ok (Some entry)) = (rest : Records) × (new ≡ Some rest) × (old ≡ with_entry entry rest)
+Gives (Some old) new skipped (Ok None) = old ≡ nothing_after skipped
+Gives (Some old) new skipped (Err (Refused line cause)) = old ≡ refusal_after skipped line cause
+Gives (Some old) new skipped (Err Device) = ⊤
+
+-- A reader that ended or stopped stays as it is, and answers the same again.
+abbrev pub Repeats : {R : Type 0} → Standing → RecordReader R → RecordReader R → Answer → Type 0
+Repeats Reading old new answer = ⊤
+Repeats Ended old new answer = (answer ≡ Ok None) × (new ≡ old)
+Repeats (Stopped stop) old new answer = (answer ≡ Err stop) × (new ≡ old)
+
+-- After an entry the reader reads on, or is at the end. After the end or a stop, that is the answer from then on.
+abbrev pub Settles : Standing → Answer → Type 0
+Settles standing (Ok (Some entry)) = (standing ≡ Reading) ⊎ (standing ≡ Ended)
+Settles standing (Ok None) = standing ≡ Ended
+Settles standing (Err stop) = standing ≡ Stopped stop
+
+-- An entry bears the number of the last line that was accepted, and a refusal that of the line after it; each other
+-- line up to there was passed over.
+abbrev pub Counts : ℕ → ℕ → ℕ → ℕ → Answer → Type 0
+Counts old_lines old_skipped lines skipped (Ok (Some entry)) = (entry.0 ≡ lines) × (skipped + old_lines + 1 ≡ old_skipped + lines)
+Counts old_lines old_skipped lines skipped (Ok None) = skipped + old_lines ≡ old_skipped + lines
+Counts old_lines old_skipped lines skipped (Err (Refused line cause)) = (line ≡ lines + 1) × (skipped + old_lines ≡ old_skipped + lines)
+Counts old_lines old_skipped lines skipped (Err Device) = skipped + old_lines ≡ old_skipped + lines
+
+-- The source counts a failed read, and `Device` comes of nothing else.
+abbrev pub TellsFailure : Standing → ℕ → ℕ → Answer → Type 0
+TellsFailure Reading old new (Ok entry) = new ≡ old
+TellsFailure Reading old new (Err (Refused line cause)) = new ≡ old
+TellsFailure Reading old new (Err Device) = new ≡ one_more old
+TellsFailure Ended old new answer = new ≡ old
+TellsFailure (Stopped stop) old new answer = new ≡ old
+
+abbrev pub line_feeds_known : Option (List ℕ) → ℕ
+line_feeds_known None = 0
+line_feeds_known (Some text) = line_feeds text
+
+-- Where a read failed, the lines that were accepted are those whose line feed was read: nothing else was handed out, no
+-- byte is lost, and what the bytes give that weren't judged is what was to come.
+pub record KeepsWholeLines {R : Type 0} (remaining : R → Option (List ℕ)) (old new : RecordReader R) : Type 0 where
+  pub pending : line_feeds (pending_of new) ≡ 0
+  pub feeds : line_feeds_known (unjudged remaining old) + lines_of old ≡ line_feeds_known (unjudged remaining new) + lines_of new
+  pub coming : IfSome (to_come remaining old) (λ records. to_come remaining new ≡ Some records)
+
+abbrev pub FailsWhole : {R : Type 0} → (R → Option (List ℕ)) → Standing → RecordReader R → RecordReader R → Answer → Type 0
+FailsWhole remaining Reading old new (Ok entry) = ⊤
+FailsWhole remaining Reading old new (Err (Refused line cause)) = ⊤
+FailsWhole remaining Reading old new (Err Device) = KeepsWholeLines remaining old new
+FailsWhole remaining Ended old new answer = ⊤
+FailsWhole remaining (Stopped stop) old new answer = ⊤
