@@ -80,9 +80,9 @@ trimmed-field line range =
     let blanks = replicate (width_of range) blank in
     elim (cases_lt (length bytes) (width_of range)) [
       | inl short ↦
-        let enough : width_of range ≡ length bytes + (width_of range - length bytes) = omega arith in
-        let whole : take (width_of range) bytes ≡ bytes = take_all (width_of range) bytes (omega arith) in
-        let parts : take (width_of range) (bytes ++ blanks) ≡ bytes ++ take (width_of range - length bytes) blanks = ap (λ n. take n (bytes ++ blanks)) enough ∙ take-append-add bytes blanks (width_of range - length bytes) in
-        ap trimmed parts ∙ trimmed-append bytes (take (width_of range - length bytes) blanks) (all_blank_take (width_of range - length bytes) (width_of range)) ∙ ap trimmed (sym whole)
+          let enough : width_of range ≡ length bytes + (width_of range - length bytes) = omega arith in
+          let whole : take (width_of range) bytes ≡ bytes = take_all (width_of range) bytes (omega arith) in
+          let parts : take (width_of range) (bytes ++ blanks) ≡ bytes ++ take (width_of range - length bytes) blanks = ap (λ n. take n (bytes ++ blanks)) enough ∙ take-append-add bytes blanks (width_of range - length bytes) in
+          ap trimmed parts ∙ trimmed-append bytes (take (width_of range - length bytes) blanks) (all_blank_take (width_of range - length bytes) (width_of range)) ∙ ap trimmed (sym whole)
       | inr long ↦ ap trimmed (take-append-le (width_of range) bytes blanks long)
     ]

@@ -4,3 +4,7 @@ pub mod Pairs
 pub mod Buffer
 pub mod LineLemmas
 pub mod KnownLemmas
+pub mod NextLemmas
+pub mod RecordLemmas
+pub mod MoveLemmas
+pub mod ReadOn

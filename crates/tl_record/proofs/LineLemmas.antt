@@ -1,7 +1,7 @@
 -- Line feeds in a text, and its lines.
 use Rattle.std.proofs.Common.{◌≡◌, ◌≢◌, ℕ, zero, suc, ◌+◌, ◌-◌, ◌<◌, ◌≤◌, Bool, true, false, List, [], ◌∷◌, ◌++◌, Option, Some, None, length, take, drop, get_or, zero-add, take-add, take-append-drop, refl, sym, ap, ◌∙◌, arith, inl, inr, take_all, cond}
 use Rattle.std.specs.List.{between, slice_index}
-use Rattle.std.proofs.lemmas.List.{length-drop, take-append-le, get_or-drop, length-append, take_at, append-nil}
+use Rattle.std.proofs.lemmas.List.{length-drop, take-append-le, get_or-drop, length-append, take_at, append-nil, drop_more}
 use Rattle.std.proofs.lemmas.List.Sums.{sum_by-append}
 use Rattle.std.proofs.lemmas.Slice.{between_to_end}
 use Rattle.std.proofs.lemmas.Bool.{cases_Bool, eqb-true}
@@ -41,9 +41,11 @@ feed_found bytes view searched found same within none first =
     let below : found < length (drop searched bytes) = behind.0.high in
     let inside : found < length bytes - searched = omega (arith, below, length-drop searched bytes) in
     let before = none_below (drop searched bytes) found (omega arith) (λ k less. behind.0.before k (omega arith) less) in
-    let is : slice_index (drop searched bytes) found ≡ line_feed = eqb-true _ _ behind.1 in
-    (omega arith, sym (get_or-drop searched bytes found 0) ∙ is,
-      ap line_feeds (take-add searched found bytes) ∙ feeds-append (take searched bytes) (take found (drop searched bytes)) ∙ rw (none, before) refl)
+    let is : slice_index (drop searched bytes) found ≡ line_feed = eqb-true _ _ behind.1 in (
+      omega arith,
+      sym (get_or-drop searched bytes found 0) ∙ is,
+      ap line_feeds (take-add searched found bytes) ∙ feeds-append (take searched bytes) (take found (drop searched bytes)) ∙ rw (none, before) refl,
+    )
 
 -- no line feed was found behind the first bytes of a buffer
 pub no_feed_found : (bytes view : List ℕ) (searched : ℕ) → view ≡ bytes → searched ≤ length bytes → line_feeds (take searched bytes) ≡ 0
@@ -65,3 +67,67 @@ front_searched old bytes new searched joined all none =
 pub no_bytes : (front bytes : List ℕ) → length bytes ≡ 0 → front ++ bytes ≡ front
 no_bytes front [] none = append-nil front
 no_bytes front (byte ∷ bytes) none = absurd (omega arith)
+
+-- a text with no line feed is one line, and nothing follows it
+no_feed_here : (byte : ℕ) (text : List ℕ) → line_feeds (byte ∷ text) ≡ 0 → (is_byte line_feed byte ≡ false) × (line_feeds text ≡ 0)
+no_feed_here byte text none =
+    elim (cases_Bool (is_byte line_feed byte)) [
+      | inl is ↦ let counted = feed_counts byte text is in absurd (omega (arith, counted))
+      | inr is ↦ (is, sym (other_counts byte text is) ∙ none)
+    ]
+
+pub first_line_before : (front rest : List ℕ) → line_feeds front ≡ 0 → first_line (front ++ line_feed ∷ rest) ≡ front
+first_line_before [] rest none = refl
+first_line_before (byte ∷ front) rest none =
+    let parts = no_feed_here byte front none in rw parts.0 (ap (λ (l : List ℕ). byte ∷ l) (first_line_before front rest parts.1))
+
+pub after_first_line_before : (front rest : List ℕ) → line_feeds front ≡ 0 → after_first_line (front ++ line_feed ∷ rest) ≡ rest
+after_first_line_before [] rest none = refl
+after_first_line_before (byte ∷ front) rest none =
+    let parts = no_feed_here byte front none in rw parts.0 (after_first_line_before front rest parts.1)
+
+pub first_line_whole : (text : List ℕ) → line_feeds text ≡ 0 → first_line text ≡ text
+first_line_whole [] none = refl
+first_line_whole (byte ∷ text) none = let parts = no_feed_here byte text none in rw parts.0 (ap (λ (l : List ℕ). byte ∷ l) (first_line_whole text parts.1))
+
+pub after_first_line_whole : (text : List ℕ) → line_feeds text ≡ 0 → after_first_line text ≡ []
+after_first_line_whole [] none = refl
+after_first_line_whole (byte ∷ text) none = let parts = no_feed_here byte text none in rw parts.0 (after_first_line_whole text parts.1)
+
+-- the first line of a text goes at least as far as its bytes with no line feed
+pub first_line_long : (front : List ℕ) (byte : ℕ) (rest : List ℕ) → line_feeds front ≡ 0 → is_byte line_feed byte ≡ false
+    → length front < length (first_line (front ++ byte ∷ rest))
+first_line_long [] byte rest none other = rw other (omega arith)
+first_line_long (first ∷ front) byte rest none other =
+    let parts = no_feed_here first front none in
+    let longer = first_line_long front byte rest parts.1 other in
+    rw parts.0 (omega (arith, longer))
+
+-- a byte before a text stands before its first line
+byte_before : (byte : ℕ) (text : List ℕ) → with_first_byte byte (raw_lines text) ≡ (byte ∷ first_line text) ∷ raw_lines (after_first_line text)
+byte_before byte [] = refl
+byte_before byte (next ∷ text) =
+    elim (cases_Bool (is_byte line_feed next)) [
+      | inl is ↦ rw is refl
+      | inr is ↦ rw is (ap (with_first_byte byte) (byte_before next text))
+    ]
+
+-- the raw lines of a text: its first line, and those of what follows it
+pub raw_lines-first : (text : List ℕ) → text ≢ [] → raw_lines text ≡ first_line text ∷ raw_lines (after_first_line text)
+raw_lines-first [] some = absurd (some refl)
+raw_lines-first (byte ∷ text) some =
+    elim (cases_Bool (is_byte line_feed byte)) [
+      | inl is ↦ rw is refl
+      | inr is ↦ rw is (byte_before byte text)
+    ]
+
+-- bytes up to a line feed, the line feed, and the bytes after it
+pub split_at_feed : (bytes : List ℕ) (len : ℕ) → len < length bytes → slice_index bytes len ≡ line_feed → bytes ≡ take len bytes ++ line_feed ∷ drop (len + 1) bytes
+split_at_feed bytes len within is =
+    sym (take-append-drop len bytes) ∙ ap (λ (l : List ℕ). take len bytes ++ l) (drop_more bytes len 0 within)
+    ∙ ap (λ byte. take len bytes ++ byte ∷ drop (len + 1) bytes) is
+
+pub feeds-split : (front rest : List ℕ) → line_feeds front ≡ 0 → line_feeds (front ++ line_feed ∷ rest) ≡ line_feeds rest + 1
+feeds-split front rest none =
+    let counted = feed_counts line_feed rest refl in
+    feeds-append front (line_feed ∷ rest) ∙ rw (none, counted) (omega arith)

@@ -10,7 +10,7 @@ abbrev pub tiger_2006_chain : ChainColumns
 tiger_2006_chain = record {
   tlid = columns 6 15;
   from = record { long = columns 191 200; lat = columns 201 209 };
-  to = record { long = columns 210 219; lat = columns 220 228 }
+  to = record { long = columns 210 219; lat = columns 220 228 };
 }
 
 -- type 2, with its ten coordinate pairs
@@ -19,16 +19,16 @@ tiger_2006_shape = record {
   tlid = columns 6 15;
   rtsq = columns 16 18;
   pairs =
-    record { long = columns 19 28; lat = columns 29 37 } ∷
-    record { long = columns 38 47; lat = columns 48 56 } ∷
-    record { long = columns 57 66; lat = columns 67 75 } ∷
-    record { long = columns 76 85; lat = columns 86 94 } ∷
-    record { long = columns 95 104; lat = columns 105 113 } ∷
-    record { long = columns 114 123; lat = columns 124 132 } ∷
-    record { long = columns 133 142; lat = columns 143 151 } ∷
-    record { long = columns 152 161; lat = columns 162 170 } ∷
-    record { long = columns 171 180; lat = columns 181 189 } ∷
-    record { long = columns 190 199; lat = columns 200 208 } ∷ []
+      record { long = columns 19 28; lat = columns 29 37 } ∷
+      record { long = columns 38 47; lat = columns 48 56 } ∷
+      record { long = columns 57 66; lat = columns 67 75 } ∷
+      record { long = columns 76 85; lat = columns 86 94 } ∷
+      record { long = columns 95 104; lat = columns 105 113 } ∷
+      record { long = columns 114 123; lat = columns 124 132 } ∷
+      record { long = columns 133 142; lat = columns 143 151 } ∷
+      record { long = columns 152 161; lat = columns 162 170 } ∷
+      record { long = columns 171 180; lat = columns 181 189 } ∷
+      record { long = columns 190 199; lat = columns 200 208 } ∷ [];
 }
 
 abbrev pub tiger_2006 : Layout

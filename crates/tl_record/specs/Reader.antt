@@ -1,9 +1,12 @@
 -- What a record reader keeps, and what it still has to give.
-use Rattle.std.specs.Prelude.{◌≡◌, ◌⊎◌, ℕ, ◌+◌, List, [], ◌∷◌, Option, None, Some, Result, Ok, Err, IfSome, ⊤}
+use Rattle.std.specs.Prelude.{◌≡◌, ◌⊎◌, ℕ, ◌+◌, List, [], ◌∷◌, Option, None, Some, Result, Ok, Err, ⊤}
 use Rattle.std.specs.Option.{option_map}
 use Rattle.std.specs.Io.KnownBytes.{prepend_known}
 use Rattle.tl_record.specs.declared.record.Record.{Record}
 use Rattle.tl_record.specs.declared.layout.Layout.{Layout}
+use Rattle.tl_record.specs.declared.judge.Judgement.{Judgement}
+use Rattle.tl_record.specs.declared.judge.Judgement.TheVariants.{PassedOver, Read}
+use Rattle.tl_record.specs.declared.judge.Judgement.TheVariants as judged
 use Rattle.tl_record.specs.declared.stop.Cause.{Cause}
 use Rattle.tl_record.specs.declared.stop.ReadStop.{ReadStop}
 use Rattle.tl_record.specs.declared.stop.ReadStop.TheVariants.{Refused, Device}
@@ -13,6 +16,8 @@ use Rattle.tl_record.specs.declared.reader.RecordReader.{RecordReader}
 use Rattle.tl_record.specs.Failures.{one_more}
 use Rattle.tl_record.specs.Lines.{raw_lines, line_feeds}
 use Rattle.tl_record.specs.Records.{Records, records_of_lines}
+use Rattle.tl_record.specs.declared.reader.NextLine.{NextLine}
+use Rattle.tl_record.specs.NextLine.{FindsNext, JudgesSome, PendingWhole, CountsNext}
 
 abbrev pub source_of : {R : Type 0} → RecordReader R → R
 source_of reader = reader.source
@@ -111,20 +116,93 @@ TellsFailure Reading old new (Err Device) = new ≡ one_more old
 TellsFailure Ended old new answer = new ≡ old
 TellsFailure (Stopped stop) old new answer = new ≡ old
 
-abbrev pub line_feeds_known : Option (List ℕ) → ℕ
-line_feeds_known None = 0
-line_feeds_known (Some text) = line_feeds text
+-- known records stay as they were
+abbrev pub KeepsRecords : Option Records → Option Records → Type 0
+KeepsRecords None new = ⊤
+KeepsRecords (Some records) new = new ≡ Some records
 
--- Where a read failed, the lines that were accepted are those whose line feed was read: nothing else was handed out, no
--- byte is lost, and what the bytes give that weren't judged is what was to come.
+-- each line feed that is gone from a known text ended a line that was counted
+abbrev pub CountsLineFeeds : Option (List ℕ) → ℕ → Option (List ℕ) → ℕ → Type 0
+CountsLineFeeds None old_lines new lines = ⊤
+CountsLineFeeds (Some text) old_lines None lines = ⊥
+CountsLineFeeds (Some text) old_lines (Some rest) lines = line_feeds text + old_lines ≡ line_feeds rest + lines
+
+-- Where a read failed, the lines that were accepted are those whose line feed was read: none of the bytes that were
+-- fetched behind them is a line feed, and what was to come is still to come of the bytes that are left.
 pub record KeepsWholeLines {R : Type 0} (remaining : R → Option (List ℕ)) (old new : RecordReader R) : Type 0 where
   pub pending : line_feeds (pending_of new) ≡ 0
-  pub feeds : line_feeds_known (unjudged remaining old) + lines_of old ≡ line_feeds_known (unjudged remaining new) + lines_of new
-  pub coming : IfSome (to_come remaining old) (λ records. to_come remaining new ≡ Some records)
+  pub feeds : CountsLineFeeds (unjudged remaining old) (lines_of old) (unjudged remaining new) (lines_of new)
+  pub coming : KeepsRecords (to_come remaining old) (to_come remaining new)
 
-abbrev pub FailsWhole : {R : Type 0} → (R → Option (List ℕ)) → Standing → RecordReader R → RecordReader R → Answer → Type 0
-FailsWhole remaining Reading old new (Ok entry) = ⊤
-FailsWhole remaining Reading old new (Err (Refused line cause)) = ⊤
-FailsWhole remaining Reading old new (Err Device) = KeepsWholeLines remaining old new
-FailsWhole remaining Ended old new answer = ⊤
-FailsWhole remaining (Stopped stop) old new answer = ⊤
+abbrev pub FailsWhole : {R : Type 0} → (R → Option (List ℕ)) → RecordReader R → RecordReader R → Answer → Type 0
+FailsWhole remaining old new (Ok entry) = ⊤
+FailsWhole remaining old new (Err (Refused line cause)) = ⊤
+FailsWhole remaining old new (Err Device) = KeepsWholeLines remaining old new
+
+-- what holds where the reader still reads
+abbrev pub WhereReading : Standing → Type 0 → Type 0
+WhereReading Reading P = P
+WhereReading Ended P = ⊤
+WhereReading (Stopped stop) P = ⊤
+
+-- what a search for the next line keeps
+pub record KeepsProgress {R : Type 0} (old new : RecordReader R) : Type 0 where
+  pub layout : layout_of new ≡ layout_of old
+  pub lines : lines_of new ≡ lines_of old
+  pub skipped : skipped_of new ≡ skipped_of old
+  pub standing : standing_of new ≡ standing_of old
+
+-- a search for the next line, judged under the number after those that were accepted
+pub record StepsTo {R : Type 0} (remaining : R → Option (List ℕ)) (failure_count : R → ℕ) (old new : RecordReader R) (found : NextLine) : Type 0 where
+  pub finds : FindsNext (layout_of old) (lines_of old + 1) (unjudged remaining old) (unjudged remaining new) found
+  pub judges : JudgesSome (layout_of old) (lines_of old + 1) found
+  pub pending : PendingWhole (pending_of new) found
+  pub failures : CountsNext (failure_count (source_of old)) (failure_count (source_of new)) found
+  pub progress : KeepsProgress old new
+
+-- what is answered of a judged line: nothing where it is passed over
+abbrev pub answer_of : ℕ → Judgement → Option Answer
+answer_of number PassedOver = None
+answer_of number (Read r) = Some (Ok (Some (number, r)))
+answer_of number (judged.Refused cause) = Some (Err (Refused number cause))
+
+abbrev pub lines_with : ℕ → Judgement → ℕ
+lines_with lines PassedOver = lines + 1
+lines_with lines (Read r) = lines + 1
+lines_with lines (judged.Refused cause) = lines
+
+abbrev pub skipped_with : ℕ → Judgement → ℕ
+skipped_with skipped PassedOver = skipped + 1
+skipped_with skipped (Read r) = skipped
+skipped_with skipped (judged.Refused cause) = skipped
+
+abbrev pub standing_with : Standing → ℕ → Judgement → Standing
+standing_with standing number PassedOver = standing
+standing_with standing number (Read r) = standing
+standing_with standing number (judged.Refused cause) = Stopped (Refused number cause)
+
+-- a judged line is counted, and answered unless it is passed over
+pub record CountsLine {R : Type 0} (old new : RecordReader R) (j : Judgement) (answer : Option Answer) : Type 0 where
+  pub is : answer ≡ answer_of (lines_of old + 1) j
+  pub lines : lines_of new ≡ lines_with (lines_of old) j
+  pub skipped : skipped_of new ≡ skipped_with (skipped_of old) j
+  pub standing : standing_of new ≡ standing_with (standing_of old) (lines_of old + 1) j
+  pub layout : layout_of new ≡ layout_of old
+  pub source : source_of new ≡ source_of old
+  pub pending : pending_of new ≡ pending_of old
+
+-- lines were passed over, and no other
+pub record PassesOver {R : Type 0} (remaining : R → Option (List ℕ)) (failure_count : R → ℕ) (old new : RecordReader R) : Type 0 where
+  pub standing : standing_of new ≡ Reading
+  pub failures : failure_count (source_of new) ≡ failure_count (source_of old)
+  pub counts : skipped_of new + lines_of old ≡ skipped_of old + lines_of new
+  pub feeds : CountsLineFeeds (unjudged remaining old) (lines_of old) (unjudged remaining new) (lines_of new)
+  pub coming : KeepsRecords (to_come remaining old) (to_come remaining new)
+
+-- what a reader answers that reads
+pub record Moves {R : Type 0} (remaining : R → Option (List ℕ)) (failure_count : R → ℕ) (old new : RecordReader R) (answer : Answer) : Type 0 where
+  pub gives : Gives (to_come remaining old) (outcome remaining new) (skipped_of new) answer
+  pub settles : Settles (standing_of new) answer
+  pub counts : Counts (lines_of old) (skipped_of old) (lines_of new) (skipped_of new) answer
+  pub failures : TellsFailure Reading (failure_count (source_of old)) (failure_count (source_of new)) answer
+  pub whole : FailsWhole remaining old new answer

@@ -51,7 +51,7 @@ abbrev pub records_judged : List (ℕ × Judgement) → Records
 records_judged judged = record {
   entries = filter_map entry_of (accepted judged);
   refusal = option_and_then refusal_of (find is_refused judged);
-  skipped = count_by is_passed_over (accepted judged)
+  skipped = count_by is_passed_over (accepted judged);
 }
 
 -- the records of these lines, where so many lines come before them

@@ -70,13 +70,21 @@ fn shape_record(columns: &ShapeColumns, line: &Columns<'_>) -> Result<Record, Ca
     Ok(Record::Shape { tlid, rtsq, pairs })
 }
 
-fn shape_pairs(columns: &[PointColumns; PAIRS], line: &Columns<'_>) -> Result<[Option<Point>; PAIRS], Cause>
+fn shape_pairs(
+    columns: &[PointColumns; PAIRS],
+    line: &Columns<'_>,
+) -> Result<[Option<Point>; PAIRS], Cause>
     ensures { result ≡ shape_pairs 1 columns.now line.now }
 {
     let mut pairs = [None; PAIRS];
     for index in 0..PAIRS {
         let number = index as u8 + 1;
-        let pair = optional_point_at(Field::Long(number), Field::Lat(number), &columns[index], line)?;
+        let pair = optional_point_at(
+            Field::Long(number),
+            Field::Lat(number),
+            &columns[index],
+            line,
+        )?;
         pairs[index] = unless_zero(pair);
     }
     Ok(pairs)

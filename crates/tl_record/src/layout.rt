@@ -1,6 +1,8 @@
 //! Which columns hold which field.
 
+ghost use Rattle.tl_record.specs.Layout.{tiger_2006, tiger_2006_chain, tiger_2006_shape};
 ghost use Rattle.std.specs.Prelude.{◌≡◌};
+ghost use Rattle.tl_record.specs.Range.{columns, IsRange};
 
 use crate::columns::ColumnRange;
 use crate::record::PAIRS;
@@ -33,4 +35,56 @@ pub struct ShapeColumns {
 pub struct Layout {
     pub chain: ChainColumns,
     pub shape: ShapeColumns,
+}
+
+fn point_columns(long_first: u16, long_last: u16, lat_first: u16, lat_last: u16) -> PointColumns
+    requires long { IsRange (columns long_first long_last) }
+    requires lat { IsRange (columns lat_first lat_last) }
+    ensures { result ≡ record { long = columns long_first long_last; lat = columns lat_first lat_last } }
+{
+    PointColumns {
+        long: ColumnRange::new(long_first, long_last),
+        lat: ColumnRange::new(lat_first, lat_last),
+    }
+}
+
+fn tiger_2006_chain() -> ChainColumns
+    ensures { result ≡ tiger_2006_chain }
+{
+    ChainColumns {
+        tlid: ColumnRange::new(6, 15),
+        from: point_columns(191, 200, 201, 209),
+        to: point_columns(210, 219, 220, 228),
+    }
+}
+
+fn tiger_2006_shape() -> ShapeColumns
+    ensures { result ≡ tiger_2006_shape }
+{
+    ShapeColumns {
+        tlid: ColumnRange::new(6, 15),
+        rtsq: ColumnRange::new(16, 18),
+        pairs: [
+            point_columns(19, 28, 29, 37),
+            point_columns(38, 47, 48, 56),
+            point_columns(57, 66, 67, 75),
+            point_columns(76, 85, 86, 94),
+            point_columns(95, 104, 105, 113),
+            point_columns(114, 123, 124, 132),
+            point_columns(133, 142, 143, 151),
+            point_columns(152, 161, 162, 170),
+            point_columns(171, 180, 181, 189),
+            point_columns(190, 199, 200, 208),
+        ],
+    }
+}
+
+/// The column table of the TIGER/Line files of 2006, in this project's own profile of the documentation.
+pub fn tiger_2006() -> Layout
+    ensures { result ≡ tiger_2006 }
+{
+    Layout {
+        chain: tiger_2006_chain(),
+        shape: tiger_2006_shape(),
+    }
 }

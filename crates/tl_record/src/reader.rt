@@ -1,13 +1,18 @@
 //! The records of a text, one after the other.
 
-ghost use Rattle.std.specs.Prelude.{◌≡◌, ◌+◌, ◌<◌, ◌≤◌, ℕ, [], length, ⊤};
+ghost use Rattle.std.specs.Prelude.{◌≡◌, ◌+◌, ◌<◌, ◌≤◌, ℕ, List, length, take};
 ghost use Rattle.std.specs.Option.{option_map};
-ghost use Rattle.std.specs.Io.KnownBytes.{Keeps, prepend_known};
+ghost use Rattle.std.specs.Io.KnownBytes.{IsAtEnd, Keeps, prepend_known};
 ghost use Rattle.tl_record.specs.declared.judge.TheConstants.{MAX_LINES, MAX_LINE_BYTES};
+ghost use Rattle.tl_record.specs.declared.layout.Layout.{Layout};
+ghost use Rattle.tl_record.specs.Lines.{line_feeds};
+ghost use Rattle.tl_record.specs.Layout.{tiger_2006};
+ghost use Rattle.tl_record.specs.Judgement.{judgement, judgement as judgement_of};
+ghost use Rattle.tl_record.specs.Records.{records_of};
 ghost use Rattle.tl_record.specs.NextLine.{Shows, CountsFetch};
 
 use crate::judge::{Judgement, MAX_LINE_BYTES, MAX_LINES, judge_line};
-use crate::layout::Layout;
+use crate::layout::{Layout, tiger_2006};
 use crate::line_buffer::LineBuffer;
 use crate::record::Record;
 use crate::source::Source;
@@ -86,6 +91,188 @@ fn fetch_line<R: Source>(buffer: &mut LineBuffer, source: &mut R) -> Fetched
             Ok(0) => return Fetched::Rest,
             Ok(_) => {}
             Err(_) => return Fetched::Failed,
+        }
+    }
+}
+
+/// Why a line is refused that is longer than any that is read.
+fn long_line_cause(number: u64) -> Cause
+    ensures { (layout : Layout) (line : List ℕ) → MAX_LINE_BYTES < length line → judgement layout number line ≡ Judgement.Refused result }
+{
+    if number > MAX_LINES {
+        Cause::TooManyLines
+    } else {
+        Cause::LineTooLong
+    }
+}
+
+impl<R: Source> RecordReader<R> {
+    ghost use Rattle.tl_record.specs.Reader.{source_of, layout_of, lines_of, skipped_of, standing_of, pending_of, outcome, StepsTo, CountsLine, Moves, Gives, Settles, Repeats, Counts, TellsFailure, FailsWhole, WhereReading};
+
+    /// A reader of the source's records, by the column table of the TIGER/Line files of 2006.
+    pub fn new(source: R) -> RecordReader<R>
+        ensures source { source_of result ≡ source }
+        ensures records { outcome R.remaining result ≡ option_map (records_of tiger_2006) (R.remaining source) }
+        ensures lines { lines_of result ≡ 0 }
+        ensures skipped { skipped_of result ≡ 0 }
+        ensures standing { standing_of result ≡ Standing.Reading }
+    {
+        RecordReader {
+            source,
+            layout: tiger_2006(),
+            buffer: LineBuffer::new(),
+            lines: 0,
+            skipped: 0,
+            standing: Standing::Reading,
+        }
+    }
+
+    /// How many lines were passed over so far: empty lines, and lines of types that aren't read.
+    pub fn skipped(&self) -> u64
+        ensures { result ≡ skipped_of self.now }
+    {
+        self.skipped
+    }
+
+    // What the first bytes that were fetched mean as the next line.
+    fn judge_pending(&self, len: usize) -> Judgement
+        requires { len ≤ length (pending_of self.now) }
+        ensures judged { result ≡ judgement (layout_of self.now) (lines_of self.now + 1) (take len (pending_of self.now)) }
+        ensures room { length (pending_of self.now) ≤ MAX_LINE_BYTES }
+    {
+        judge_line(&self.layout, self.lines + 1, &self.buffer.bytes()[..len])
+    }
+
+    // The last line, where the source is at its end.
+    fn judge_last(&mut self) -> NextLine
+        requires ended { IsAtEnd (R.remaining (source_of self.old)) }
+        requires none { line_feeds (pending_of self.old) ≡ 0 }
+        ensures { StepsTo R.remaining R.failure_count self.old self.new result }
+    {
+        let len = self.buffer.bytes().len();
+        if len == 0 {
+            return NextLine::End;
+        }
+        NextLine::Last(self.judge_pending(len))
+    }
+
+    // The next line, where the buffer is full: one more byte tells whether it is too long.
+    fn judge_full(&mut self) -> NextLine
+        requires full { length (pending_of self.old) ≡ MAX_LINE_BYTES }
+        requires none { line_feeds (pending_of self.old) ≡ 0 }
+        ensures { StepsTo R.remaining R.failure_count self.old self.new result }
+    {
+        let mut next = [0u8; 1];
+        match self.source.fetch(&mut next) {
+            Ok(0) => self.judge_last(),
+            Ok(_) => {
+                if next[0] == b'\n' {
+                    let judgement = self.judge_pending(MAX_LINE_BYTES);
+                    self.buffer.consume(MAX_LINE_BYTES);
+                    NextLine::Line(judgement)
+                } else {
+                    NextLine::Line(Judgement::Refused(long_line_cause(self.lines + 1)))
+                }
+            }
+            Err(_) => NextLine::Failed,
+        }
+    }
+
+    // Finds the next line and judges it.
+    fn next_line(&mut self) -> NextLine
+        ensures { StepsTo R.remaining R.failure_count self.old self.new result }
+    {
+        match fetch_line(&mut self.buffer, &mut self.source) {
+            Fetched::Whole(len) => {
+                let judgement = self.judge_pending(len);
+                self.buffer.consume(len + 1);
+                NextLine::Line(judgement)
+            }
+            Fetched::Rest => self.judge_last(),
+            Fetched::Full => self.judge_full(),
+            Fetched::Failed => NextLine::Failed,
+        }
+    }
+
+    // Counts a judged line, and says what to answer of it: nothing where it is passed over.
+    fn count_line(
+        &mut self,
+        judgement: Judgement,
+    ) -> Option<Result<Option<(u64, Record)>, ReadStop>>
+        requires { (line : List ℕ) × (judgement ≡ judgement_of (layout_of self.old) (lines_of self.old + 1) line) }
+        ensures { CountsLine self.old self.new judgement result }
+    {
+        let number = self.lines + 1;
+        match judgement {
+            Judgement::PassedOver => {
+                self.lines = number;
+                self.skipped += 1;
+                None
+            }
+            Judgement::Read(entry) => {
+                self.lines = number;
+                Some(Ok(Some((number, entry))))
+            }
+            Judgement::Refused(cause) => {
+                let stop = ReadStop::Refused {
+                    line: number,
+                    cause,
+                };
+                self.standing = Standing::Stopped(stop);
+                Some(Err(stop))
+            }
+        }
+    }
+
+    // Reads on, up to a line that isn't passed over.
+    fn read_on(&mut self) -> Result<Option<(u64, Record)>, ReadStop>
+        requires { standing_of self.old ≡ Standing.Reading }
+        ensures { Moves R.remaining R.failure_count self.old self.new result }
+    {
+        'lines: loop {
+            match self.next_line() {
+                NextLine::Line(judgement) => {
+                    if let Some(answer) = self.count_line(judgement) {
+                        return answer;
+                    }
+                }
+                NextLine::Last(judgement) => {
+                    self.standing = Standing::Ended;
+                    return self.count_line(judgement).unwrap_or(Ok(None));
+                }
+                NextLine::End => {
+                    self.standing = Standing::Ended;
+                    return Ok(None);
+                }
+                NextLine::Failed => {
+                    self.standing = Standing::Stopped(ReadStop::Device);
+                    return Err(ReadStop::Device);
+                }
+            }
+        }
+    }
+
+    /// The next record with its line's number, counted from 1, or `None` at the end of the text.
+    ///
+    /// Lines that are empty or of a type that isn't read are passed over and counted. The first line that is refused
+    /// is answered as [`ReadStop::Refused`], and a read that fails, an interrupted one too, as [`ReadStop::Device`].
+    /// After any of these and after the end, each later call answers the same and reads nothing.
+    pub fn next_record(&mut self) -> Result<Option<(u64, Record)>, ReadStop>
+        // The first entry of what was to come, or its end, or its refusal.
+        ensures gives { Gives (outcome R.remaining self.old) (outcome R.remaining self.new) (skipped_of self.new) result }
+        // An end or a stop is answered again and again, and nothing is read any more.
+        ensures settles { Settles (standing_of self.new) result }
+        ensures repeats { Repeats (standing_of self.old) self.old self.new result }
+        // The numbers of lines, and how many were passed over.
+        ensures counts { WhereReading (standing_of self.old) (Counts (lines_of self.old) (skipped_of self.old) (lines_of self.new) (skipped_of self.new) result) }
+        // `Device` is answered where a read failed in this call, and nowhere else.
+        ensures failures { TellsFailure (standing_of self.old) (R.failure_count (source_of self.old)) (R.failure_count (source_of self.new)) result }
+        ensures whole_lines { WhereReading (standing_of self.old) (FailsWhole R.remaining self.old self.new result) }
+    {
+        match self.standing {
+            Standing::Reading => self.read_on(),
+            Standing::Ended => Ok(None),
+            Standing::Stopped(stop) => Err(stop),
         }
     }
 }

@@ -10,7 +10,11 @@ pub const PAIRS: usize = 10;
 #[derive(Clone, Copy, Debug, PartialEq, Eq)]
 pub enum Record {
     /// Type 1: a complete chain with its start and its end.
-    Chain { tlid: u64, from: Point, to: Point },
+    Chain {
+        tlid: u64,
+        from: Point,
+        to: Point,
+    },
     /// Type 2: up to ten shape points of a chain. `rtsq` numbers the chain's type 2 records from 1; an unused pair is
     /// `None`.
     Shape {

@@ -23,7 +23,7 @@ loop-index-preserved c =
     record {
       room = length-set c.loop-index.pairs c.loop-index.index c.unless_zero.result ∙ c.loop-index.invariant.room;
       read = rw front (goes_on (take c.loop-index.index c.loop-index.pairs) c.args.columns.now c.loop-index.index c.index-columns-index.result c.args.line.now c.in_ok-pair.pair
-        (shape_pairs 1 c.args.columns.now c.args.line.now) within (sym c.in_ok-pair.ensures) c.loop-index.invariant.read);
+          (shape_pairs 1 c.args.columns.now c.args.line.now) within (sym c.in_ok-pair.ensures) c.loop-index.invariant.read);
     }
 
 pub returns : goal.returns

@@ -12,5 +12,5 @@ loop-index-preserved c =
     record {
       front = byte_moved c.args.bytes.now bytes c.args.at index (omega arith) below (omega arith) c.loop-index.invariant.rest c.loop-index.invariant.front;
       rest = drop-set-lt (index + 1) bytes (index - c.args.at) (get_or bytes index 0) place
-        ∙ sym (drop-drop 1 index bytes) ∙ ap (drop 1) c.loop-index.invariant.rest ∙ drop-drop 1 index c.args.bytes.now;
+          ∙ sym (drop-drop 1 index bytes) ∙ ap (drop 1) c.loop-index.invariant.rest ∙ drop-drop 1 index c.args.bytes.now;
     }

@@ -8,5 +8,5 @@ abbrev pub invariant-loop-byte : goal.invariant-loop-byte
 invariant-loop-byte l = record {
   digits : list_all is_ascii_digit (take l.byte-index l.bytes) ≡ true;
   value : l.value ≡ decimal (take l.byte-index l.bytes);
-  below : l.value < 10 ^ l.byte-index
+  below : l.value < 10 ^ l.byte-index;
 }

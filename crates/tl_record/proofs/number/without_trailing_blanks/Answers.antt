@@ -14,9 +14,9 @@ pub returns-clause-value : goal.returns-clause-value
 returns-clause-value c =
     elim c.loop-length-test.branch [
       | then-loop-length-test+else-bytes-length-eq32 w ↦
-        let other : is_blank (get_or c.args.bytes.now (c.loop-length.length - 1) 0) ≡ false = ne_eqb _ _ w.if-bytes-length-eq32.false in
-        sym (no_blank_less c.args.bytes.now c.loop-length.length w.loop-length-test.true c.loop-length.invariant.within other) ∙ c.loop-length.invariant.same
+          let other : is_blank (get_or c.args.bytes.now (c.loop-length.length - 1) 0) ≡ false = ne_eqb _ _ w.if-bytes-length-eq32.false in
+          sym (no_blank_less c.args.bytes.now c.loop-length.length w.loop-length-test.true c.loop-length.invariant.within other) ∙ c.loop-length.invariant.same
       | else-loop-length-test w ↦
-        let none : c.loop-length.length ≡ 0 = omega arith in
-        rw none (rw none at c.loop-length.invariant.same)
+          let none : c.loop-length.length ≡ 0 = omega arith in
+          rw none (rw none at c.loop-length.invariant.same)
     ]

@@ -31,7 +31,7 @@ fetches-preserved g c =
       searched = front.0;
       none = front.1;
       bytes = Keeps-trans _ _ _ c.fetches.invariant.bytes
-        (fetched_kept c.fetches.buffer c.fetch.new.self fetched.0 (g.R.Source.remaining c.fetches.source) (g.R.Source.remaining c.fetch.new.source) fetched.2.added fetched.2.consumed);
+          (fetched_kept c.fetches.buffer c.fetch.new.self fetched.0 (g.R.Source.remaining c.fetches.source) (g.R.Source.remaining c.fetch.new.source) fetched.2.added fetched.2.consumed);
       failures = c.in-Ok.ensures.failures ∙ c.fetches.invariant.failures;
     }
 

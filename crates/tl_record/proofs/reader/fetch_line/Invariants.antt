@@ -8,7 +8,7 @@ invariant-fetches g l = record {
   searched : l.searched ≤ length l.buffer;
   none : line_feeds (take l.searched l.buffer) ≡ 0;
   bytes : Keeps (prepend_known l.fn.buffer (g.R.Source.remaining l.fn.source)) (prepend_known l.buffer (g.R.Source.remaining l.source));
-  failures : g.R.Source.failure_count l.source ≡ g.R.Source.failure_count l.fn.source
+  failures : g.R.Source.failure_count l.source ≡ g.R.Source.failure_count l.fn.source;
 }
 
 abbrev pub decreases-fetches : goal.decreases-fetches

@@ -20,9 +20,12 @@ returns-in-Ok-clause-bytes g c =
     omega (arith, before, length-take kept (drop c.self.inside.at c.self.inside.bytes), length-drop c.self.inside.at c.self.inside.bytes, c.self.told) in
     let free : length bytes ≡ 1024 - kept =
     c.fetch.auto.buf ∙ length-take-le (1024 - kept) (drop kept moved) (omega (arith, length-drop kept moved)) in
-    let flat : kept + count - 0 ≡ kept + count = omega arith in
-    (take count bytes, size, record {
-      added = ap (λ n. take n (put_mid kept (1024 - kept) moved bytes)) flat ∙ part_filled moved bytes kept (1024 - kept) count (omega arith) some ∙ ap (λ l. l ++ take count bytes) (c.move_to_front.ensures ∙ c.self.view_is);
-      consumed = c.in-Ok.ensures.bytes.0;
-      ended = λ none. c.in-Ok.ensures.bytes.1 (sym size ∙ none) (omega arith);
-    })
+    let flat : kept + count - 0 ≡ kept + count = omega arith in (
+      take count bytes,
+      size,
+      record {
+        added = ap (λ n. take n (put_mid kept (1024 - kept) moved bytes)) flat ∙ part_filled moved bytes kept (1024 - kept) count (omega arith) some ∙ ap (λ l. l ++ take count bytes) (c.move_to_front.ensures ∙ c.self.view_is);
+        consumed = c.in-Ok.ensures.bytes.0;
+        ended = λ none. c.in-Ok.ensures.bytes.1 (sym size ∙ none) (omega arith);
+      },
+    )

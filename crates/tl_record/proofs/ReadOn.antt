@@ -1,0 +1,122 @@
+-- What a reader answers, from the lines that it passed over and the line that it judged last.
+use Rattle.std.proofs.Common.{◌≡◌, ℕ, ◌+◌, ◌∷◌, List, [], Option, None, Some, Ok, Err, Result, refl, sym, ap, ◌∙◌, arith, inl, inr, subst}
+use Rattle.std.specs.Option.{unwrap_or}
+use Rattle.tl_record.specs.declared.record.Record.{Record}
+use Rattle.tl_record.specs.declared.stop.Cause.{Cause}
+use Rattle.tl_record.specs.declared.stop.ReadStop.TheVariants as stop
+use Rattle.tl_record.specs.declared.judge.Judgement.{Judgement}
+use Rattle.tl_record.specs.declared.judge.Judgement.TheVariants.{PassedOver, Read, Refused}
+use Rattle.tl_record.specs.declared.reader.NextLine.TheVariants as next
+use Rattle.tl_record.specs.declared.reader.Standing.TheVariants.{Reading, Ended, Stopped}
+use Rattle.tl_record.specs.declared.reader.RecordReader.{RecordReader}
+use Rattle.tl_record.specs.Records.{Records}
+use Rattle.tl_record.specs.Reader.{Answer, source_of, layout_of, lines_of, skipped_of, standing_of, pending_of, unjudged, outcome, to_come, nothing_after, refusal_after, StepsTo, CountsLine, PassesOver, Moves, Gives, answer_of, lines_with, skipped_with, standing_with}
+use Rattle.tl_record.proofs.MoveLemmas.{coming, line_passed, feed_passed, line_read, line_refused, last_passed, last_read, last_refused, KeepsRecords-trans, Gives-after, CountsLineFeeds-trans}
+
+-- one more line is passed over
+pub passes_on : {R : Type 0} (remaining : R → Option (List ℕ)) (failure_count : R → ℕ) (first before found after : RecordReader R) (j : Judgement)
+    → PassesOver remaining failure_count first before → StepsTo remaining failure_count before found (next.Line j) → CountsLine found after j None
+    → PassesOver remaining failure_count first after
+passes_on remaining failure_count first before found after PassedOver passed step counted =
+    let layout : after.layout ≡ before.layout = counted.layout ∙ step.progress.layout in
+    let lines : after.lines ≡ before.lines + 1 = counted.lines ∙ ap (λ n. n + 1) step.progress.lines in
+    let skipped : after.skipped ≡ before.skipped + 1 = counted.skipped ∙ ap (λ n. n + 1) step.progress.skipped in
+    let same : unjudged remaining after ≡ unjudged remaining found = rw (counted.source, counted.pending) refl in
+    record {
+      standing = counted.standing ∙ step.progress.standing ∙ passed.standing;
+      failures = ap failure_count counted.source ∙ step.failures ∙ passed.failures;
+      counts = omega (arith, passed.counts, lines, skipped);
+      feeds = CountsLineFeeds-trans _ _ _ _ _ _ passed.feeds
+          (rw (same, lines) (feed_passed before.layout before.lines (unjudged remaining before) (unjudged remaining found) step.finds));
+      coming = KeepsRecords-trans _ _ _ passed.coming
+          (rw (same, layout, lines, skipped) (line_passed before.layout before.lines before.skipped (unjudged remaining before) (unjudged remaining found) step.finds));
+    }
+passes_on remaining failure_count first before found after (Read r) passed step counted = let bad = counted.is in cc
+passes_on remaining failure_count first before found after (Refused cause) passed step counted = let bad = counted.is in cc
+
+-- a line whose line feed was read is answered
+pub answers_line : {R : Type 0} (remaining : R → Option (List ℕ)) (failure_count : R → ℕ) (first before found after : RecordReader R) (j : Judgement) (answer : Answer)
+    → PassesOver remaining failure_count first before → StepsTo remaining failure_count before found (next.Line j) → CountsLine found after j (Some answer)
+    → Moves remaining failure_count first after answer
+answers_line remaining failure_count first before found after PassedOver answer passed step counted = let bad = counted.is in cc
+answers_line remaining failure_count first before found after (Read r) answer passed step counted =
+    let layout : after.layout ≡ before.layout = counted.layout ∙ step.progress.layout in
+    let lines : after.lines ≡ before.lines + 1 = counted.lines ∙ ap (λ n. n + 1) step.progress.lines in
+    let skipped : after.skipped ≡ before.skipped = counted.skipped ∙ step.progress.skipped in
+    let standing : after.standing ≡ Reading = counted.standing ∙ step.progress.standing ∙ passed.standing in
+    let told : answer ≡ Ok (Some (found.lines + 1, r)) = let is = counted.is in cc in
+    let is : answer ≡ Ok (Some (before.lines + 1, r)) = told ∙ ap (λ n. Ok (Some (n + 1, r))) step.progress.lines in
+    let left : outcome remaining after ≡ coming before.layout (before.lines + 1) before.skipped (unjudged remaining found) =
+    rw (standing, layout, lines, skipped, counted.source, counted.pending) refl in
+    rw is record {
+      gives = Gives-after _ _ _ _ _ passed.coming
+          (rw left (line_read before.layout before.lines before.skipped (unjudged remaining before) (unjudged remaining found) r after.skipped step.finds));
+      settles = inl standing;
+      counts = (sym lines, omega (arith, passed.counts, lines, skipped));
+      failures = ap failure_count counted.source ∙ step.failures ∙ passed.failures;
+      whole = tt;
+    }
+answers_line remaining failure_count first before found after (Refused cause) answer passed step counted =
+    let lines : after.lines ≡ before.lines = counted.lines ∙ step.progress.lines in
+    let skipped : after.skipped ≡ before.skipped = counted.skipped ∙ step.progress.skipped in
+    let told : answer ≡ Err (stop.Refused (found.lines + 1) cause) = let is = counted.is in cc in
+    let is : answer ≡ Err (stop.Refused (before.lines + 1) cause) = told ∙ ap (λ n. Err (stop.Refused (n + 1) cause)) step.progress.lines in
+    let standing : after.standing ≡ Stopped (stop.Refused (before.lines + 1) cause) = counted.standing ∙ ap (λ n. Stopped (stop.Refused (n + 1) cause)) step.progress.lines in
+    rw is record {
+      gives = Gives-after _ _ _ _ _ passed.coming
+          (subst (λ (n : ℕ). Gives (to_come remaining before) (outcome remaining after) n (Err (stop.Refused (before.lines + 1) cause))) (sym skipped) (line_refused before.layout before.lines before.skipped (unjudged remaining before) (unjudged remaining found) (outcome remaining after) cause step.finds));
+      settles = standing;
+      counts = (ap (λ n. n + 1) (sym lines), omega (arith, passed.counts, lines, skipped));
+      failures = ap failure_count counted.source ∙ step.failures ∙ passed.failures;
+      whole = tt;
+    }
+
+-- a last line, counted by a reader that holds itself at the end
+pub record IsAccepted {R : Type 0} (old new : RecordReader R) (j : Judgement) (told : Option Answer) : Type 0 where
+  pub is : told ≡ answer_of (lines_of old + 1) j
+  pub lines : lines_of new ≡ lines_with (lines_of old) j
+  pub skipped : skipped_of new ≡ skipped_with (skipped_of old) j
+  pub standing : standing_of new ≡ standing_with Ended (lines_of old + 1) j
+  pub source : source_of new ≡ source_of old
+
+-- a last line with no line feed is answered, or the end where it is passed over
+pub answers_last : {R : Type 0} (remaining : R → Option (List ℕ)) (failure_count : R → ℕ) (first before found after : RecordReader R) (j : Judgement) (told : Option Answer)
+    → PassesOver remaining failure_count first before → StepsTo remaining failure_count before found (next.Last j)
+    → IsAccepted found after j told → Moves remaining failure_count first after (unwrap_or told (Ok None))
+answers_last remaining failure_count first before found after PassedOver told passed step counted =
+    let lines : after.lines ≡ before.lines + 1 = counted.lines ∙ ap (λ n. n + 1) step.progress.lines in
+    let skipped : after.skipped ≡ before.skipped + 1 = counted.skipped ∙ ap (λ n. n + 1) step.progress.skipped in
+    rw counted.is record {
+      gives = Gives-after _ _ _ _ _ passed.coming
+          (subst (λ (n : ℕ). Gives (to_come remaining before) (outcome remaining after) n (Ok None)) (sym skipped) (last_passed before.layout before.lines before.skipped (unjudged remaining before) (unjudged remaining found) (outcome remaining after) step.finds));
+      settles = counted.standing;
+      counts = omega (arith, passed.counts, lines, skipped);
+      failures = ap failure_count counted.source ∙ step.failures ∙ passed.failures;
+      whole = tt;
+    }
+answers_last remaining failure_count first before found after (Read r) told passed step counted =
+    let lines : after.lines ≡ before.lines + 1 = counted.lines ∙ ap (λ n. n + 1) step.progress.lines in
+    let skipped : after.skipped ≡ before.skipped = counted.skipped ∙ step.progress.skipped in
+    let is : told ≡ Some (Ok (Some (before.lines + 1, r))) = counted.is ∙ ap (λ n. Some (Ok (Some (n + 1, r)))) step.progress.lines in
+    let left : outcome remaining after ≡ Some (nothing_after before.skipped) = rw (counted.standing, skipped) refl in
+    rw is record {
+      gives = Gives-after _ _ _ _ _ passed.coming
+          (rw left (last_read before.layout before.lines before.skipped (unjudged remaining before) (unjudged remaining found) r after.skipped step.finds));
+      settles = inr counted.standing;
+      counts = (sym lines, omega (arith, passed.counts, lines, skipped));
+      failures = ap failure_count counted.source ∙ step.failures ∙ passed.failures;
+      whole = tt;
+    }
+answers_last remaining failure_count first before found after (Refused cause) told passed step counted =
+    let lines : after.lines ≡ before.lines = counted.lines ∙ step.progress.lines in
+    let skipped : after.skipped ≡ before.skipped = counted.skipped ∙ step.progress.skipped in
+    let is : told ≡ Some (Err (stop.Refused (before.lines + 1) cause)) = counted.is ∙ ap (λ n. Some (Err (stop.Refused (n + 1) cause))) step.progress.lines in
+    let standing : after.standing ≡ Stopped (stop.Refused (before.lines + 1) cause) = counted.standing ∙ ap (λ n. Stopped (stop.Refused (n + 1) cause)) step.progress.lines in
+    rw is record {
+      gives = Gives-after _ _ _ _ _ passed.coming
+          (subst (λ (n : ℕ). Gives (to_come remaining before) (outcome remaining after) n (Err (stop.Refused (before.lines + 1) cause))) (sym skipped) (last_refused before.layout before.lines before.skipped (unjudged remaining before) (unjudged remaining found) (outcome remaining after) cause step.finds));
+      settles = standing;
+      counts = (ap (λ n. n + 1) (sym lines), omega (arith, passed.counts, lines, skipped));
+      failures = ap failure_count counted.source ∙ step.failures ∙ passed.failures;
+      whole = tt;
+    }

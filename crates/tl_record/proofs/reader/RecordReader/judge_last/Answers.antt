@@ -1,0 +1,20 @@
+use Rattle.std.proofs.Common.{◌≡◌, ◌≢◌, ◌+◌, List, ℕ, [], refl, ap, sym, ◌∙◌, length, take, take_all, arith}
+use Rattle.tl_record.specs.Judgement.{judgement}
+use Rattle.tl_record.proofs.NextLemmas.{finds_last}
+use Rattle.tl_record.proofs.reader.RecordReader.judge_last.Goals as goal
+
+pub returns : goal.returns
+returns g c =
+    let reader = c.args.self.now in
+    let bytes = reader.buffer in
+    let same : length c.bytes-len.result.now ≡ length bytes = ap length c.bytes-len.ensures.value in
+    let all : take (length c.bytes-len.result.now) bytes ≡ bytes = take_all (length c.bytes-len.result.now) bytes (omega arith) in
+    let some : bytes ≢ [] = λ none. c.if-len-eq0.false (same ∙ ap length none) in
+    let is = c.judge_pending.ensures.judged ∙ ap (judgement reader.layout (reader.lines + 1)) all in
+    record {
+      finds = finds_last reader.layout (reader.lines + 1) (g.R.Source.remaining reader.source) _ bytes c.judge_pending.result some c.requires.ended c.requires.none is;
+      judges = (bytes, is);
+      pending = tt;
+      failures = refl;
+      progress = record { layout = refl; lines = refl; skipped = refl; standing = refl };
+    }
