@@ -8,3 +8,4 @@ pub mod NextLemmas
 pub mod RecordLemmas
 pub mod MoveLemmas
 pub mod ReadOn
+pub mod PlainLemmas

@@ -1,7 +1,7 @@
 -- Line feeds in a text, and its lines.
-use Rattle.std.proofs.Common.{◌≡◌, ◌≢◌, ℕ, zero, suc, ◌+◌, ◌-◌, ◌<◌, ◌≤◌, Bool, true, false, List, [], ◌∷◌, ◌++◌, Option, Some, None, length, take, drop, get_or, zero-add, take-add, take-append-drop, refl, sym, ap, ◌∙◌, arith, inl, inr, take_all, cond}
+use Rattle.std.proofs.Common.{◌≡◌, ◌≢◌, ℕ, zero, suc, ◌+◌, ◌-◌, ◌<◌, ◌≤◌, Bool, true, false, List, [], ◌∷◌, ◌++◌, Option, Some, None, length, take, drop, get_or, zero-add, take-add, take-append-drop, ne_eqb, refl, sym, ap, ◌∙◌, arith, inl, inr, take_all, cond}
 use Rattle.std.specs.List.{between, slice_index}
-use Rattle.std.proofs.lemmas.List.{length-drop, take-append-le, get_or-drop, length-append, take_at, append-nil, drop_more}
+use Rattle.std.proofs.lemmas.List.{length-drop, take-append-le, get_or-drop, length-append, take_at, append-nil, drop_more, drop_all, take_more}
 use Rattle.std.proofs.lemmas.List.Sums.{sum_by-append}
 use Rattle.std.proofs.lemmas.Slice.{between_to_end}
 use Rattle.std.proofs.lemmas.Bool.{cases_Bool, eqb-true}
@@ -131,3 +131,20 @@ pub feeds-split : (front rest : List ℕ) → line_feeds front ≡ 0 → line_fe
 feeds-split front rest none =
     let counted = feed_counts line_feed rest refl in
     feeds-append front (line_feed ∷ rest) ∙ rw (none, counted) (omega arith)
+
+-- where the first line of a text ends
+pub line_ends : (text : List ℕ) (n : ℕ) → n < length text → slice_index text n ≡ line_feed → line_feeds (take n text) ≡ 0
+    → (take n text ≡ first_line text) × (drop (n + 1) text ≡ after_first_line text)
+line_ends text n within feed none =
+    let split = split_at_feed text n within feed in
+    (sym (ap first_line split ∙ first_line_before (take n text) (drop (n + 1) text) none), sym (ap after_first_line split ∙ after_first_line_before (take n text) (drop (n + 1) text) none))
+
+pub line_is_whole : (text : List ℕ) → line_feeds text ≡ 0 → (take (length text) text ≡ first_line text) × (drop (length text + 1) text ≡ after_first_line text)
+line_is_whole text none =
+    (take_all (length text) text (omega arith) ∙ sym (first_line_whole text none), drop_all (length text + 1) text (omega arith) ∙ sym (after_first_line_whole text none))
+
+-- one more byte that is no line feed
+pub no_feed_more : (text : List ℕ) (n : ℕ) → n < length text → (slice_index text n ≡ line_feed → ⊥) → line_feeds (take n text) ≡ 0 → line_feeds (take (n + 1) text) ≡ 0
+no_feed_more text n within other none =
+    let counted = other_counts (slice_index text n) [] (ne_eqb (slice_index text n) 10 other) in
+    ap line_feeds (take_more text n 0 within) ∙ feeds-append (take n text) (slice_index text n ∷ []) ∙ rw (none, counted) refl

@@ -21,19 +21,19 @@ coming_of layout lines skipped text = with_skipped skipped (records_of_lines lay
 abbrev pub coming : Layout → ℕ → ℕ → Option (List ℕ) → Option Records
 coming layout lines skipped text = option_map (coming_of layout lines skipped) text
 
-first_passed : (layout : Layout) (lines skipped : ℕ) (text : List ℕ) → JudgesFirst layout (lines + 1) text PassedOver
+pub first_passed : (layout : Layout) (lines skipped : ℕ) (text : List ℕ) → JudgesFirst layout (lines + 1) text PassedOver
     → coming_of layout lines skipped text ≡ coming_of layout (lines + 1) (skipped + 1) (after_first_line text)
 first_passed layout lines skipped text first =
     ap (λ js. with_skipped skipped (records_judged js)) (judgements-first layout lines text PassedOver first.some first.is)
     ∙ records_passed (lines + 1) skipped (judgements layout (lines + 1) (raw_lines (after_first_line text)))
 
-first_read : (layout : Layout) (lines skipped : ℕ) (text : List ℕ) (r : Record) → JudgesFirst layout (lines + 1) text (Read r)
+pub first_read : (layout : Layout) (lines skipped : ℕ) (text : List ℕ) (r : Record) → JudgesFirst layout (lines + 1) text (Read r)
     → coming_of layout lines skipped text ≡ with_entry (lines + 1, r) (coming_of layout (lines + 1) skipped (after_first_line text))
 first_read layout lines skipped text r first =
     ap (λ js. with_skipped skipped (records_judged js)) (judgements-first layout lines text (Read r) first.some first.is)
     ∙ records_read (lines + 1) skipped r (judgements layout (lines + 1) (raw_lines (after_first_line text)))
 
-first_refused : (layout : Layout) (lines skipped : ℕ) (text : List ℕ) (cause : Cause) → JudgesFirst layout (lines + 1) text (Refused cause)
+pub first_refused : (layout : Layout) (lines skipped : ℕ) (text : List ℕ) (cause : Cause) → JudgesFirst layout (lines + 1) text (Refused cause)
     → coming_of layout lines skipped text ≡ refusal_after skipped (lines + 1) cause
 first_refused layout lines skipped text cause first =
     ap (λ js. with_skipped skipped (records_judged js)) (judgements-first layout lines text (Refused cause) first.some first.is)

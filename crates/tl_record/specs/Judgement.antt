@@ -15,9 +15,8 @@ use Rattle.tl_record.specs.declared.number.Spelt.{Spelt}
 use Rattle.tl_record.specs.declared.number.Spelt.TheVariants.{Blank, Value, Unreadable}
 use Rattle.tl_record.specs.declared.judge.Judgement.{Judgement}
 use Rattle.tl_record.specs.declared.judge.Judgement.TheVariants.{PassedOver, Read, Refused}
-use Rattle.tl_record.specs.declared.judge.TheConstants.{MAX_LINES, MAX_LINE_BYTES}
-use Rattle.tl_record.specs.declared.field.TheConstants.{MAX_LONGITUDE, MAX_LATITUDE}
 use Rattle.tl_record.specs.Range.{Range}
+use Rattle.tl_record.specs.Limits.{most_lines, most_line_bytes, greatest_longitude, greatest_latitude}
 use Rattle.tl_record.specs.Lines.{content}
 use Rattle.tl_record.specs.Fields.{field, number_spelt, coordinate_spelt}
 use Rattle.tl_record.specs.Outcome.{◌>>=◌}
@@ -38,8 +37,8 @@ coordinate name limit spelt = required name spelt >>= in_range name limit
 -- a point that has to be given: its longitude is tested first, then its latitude
 abbrev pub point : Field → Field → Spelt ℤ → Spelt ℤ → Result Point Cause
 point long_name lat_name long lat = do
-  x ← coordinate long_name MAX_LONGITUDE long
-  y ← coordinate lat_name MAX_LATITUDE lat
+  x ← coordinate long_name greatest_longitude long
+  y ← coordinate lat_name greatest_latitude lat
   Ok (record { x = x; y = y })
 
 abbrev pub is_blank_field : {T : Type 0} → Spelt T → Bool
@@ -114,6 +113,6 @@ content_judgement layout (kind ∷ rest) =
 -- what a raw line with this number means: the first rule that applies
 abbrev pub judgement : Layout → ℕ → List ℕ → Judgement
 judgement layout number line =
-    if nat_lt MAX_LINES number then Refused TooManyLines else
-    if nat_lt MAX_LINE_BYTES (length line) then Refused LineTooLong else
+    if nat_lt most_lines number then Refused TooManyLines else
+    if nat_lt most_line_bytes (length line) then Refused LineTooLong else
     content_judgement layout (content line)

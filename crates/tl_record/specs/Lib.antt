@@ -1,5 +1,6 @@
 pub mod Failures
 pub mod Fetching
+pub mod Limits
 pub mod Lines
 pub mod Range
 pub mod Fields

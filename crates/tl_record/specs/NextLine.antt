@@ -4,12 +4,12 @@ use Rattle.std.specs.Io.KnownBytes.{IsAtEnd}
 use Rattle.tl_record.specs.declared.layout.Layout.{Layout}
 use Rattle.tl_record.specs.declared.judge.Judgement.{Judgement}
 use Rattle.tl_record.specs.declared.judge.Judgement.TheVariants.{PassedOver, Read, Refused}
-use Rattle.tl_record.specs.declared.judge.TheConstants.{MAX_LINE_BYTES}
 use Rattle.tl_record.specs.declared.reader.Fetched.{Fetched}
 use Rattle.tl_record.specs.declared.reader.Fetched.TheVariants.{Whole, Rest, Full, Failed}
 use Rattle.tl_record.specs.declared.reader.NextLine.{NextLine}
 use Rattle.tl_record.specs.declared.reader.NextLine.TheVariants as next
 use Rattle.tl_record.specs.Failures.{one_more}
+use Rattle.tl_record.specs.Limits.{most_line_bytes}
 use Rattle.tl_record.specs.Lines.{line_feed, line_feeds, first_line, after_first_line}
 use Rattle.tl_record.specs.Judgement.{judgement}
 
@@ -17,7 +17,7 @@ use Rattle.tl_record.specs.Judgement.{judgement}
 abbrev pub Shows : List ℕ → Option (List ℕ) → Fetched → Type 0
 Shows bytes left (Whole len) = (len < length bytes) × (slice_index bytes len ≡ line_feed) × (line_feeds (take len bytes) ≡ 0)
 Shows bytes left Rest = (line_feeds bytes ≡ 0) × IsAtEnd left
-Shows bytes left Full = (line_feeds bytes ≡ 0) × (length bytes ≡ MAX_LINE_BYTES)
+Shows bytes left Full = (line_feeds bytes ≡ 0) × (length bytes ≡ most_line_bytes)
 Shows bytes left Failed = line_feeds bytes ≡ 0
 
 -- a failed fetch counts

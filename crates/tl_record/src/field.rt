@@ -2,7 +2,7 @@
 
 ghost use Rattle.std.specs.Prelude.{◌≡◌, ◌≤◌, ◌<◌, ◌^◌};
 ghost use Rattle.tl_record.specs.Fields.{field, number_spelt, coordinate_spelt};
-ghost use Rattle.tl_record.specs.Judgement.{number_at, coordinate, point, point_at, optional_point, optional_point_at, unless_zero};
+ghost use Rattle.tl_record.specs.Judgement.{required, number_at, coordinate, point, point_at, optional_point, optional_point_at, unless_zero};
 
 use crate::columns::{ColumnRange, Columns};
 use crate::layout::PointColumns;
@@ -23,15 +23,22 @@ fn number_spelt_at(columns: ColumnRange, line: &Columns<'_>) -> Spelt<u64>
     number_spelt(columns.of(line))
 }
 
-/// A number that has to be given.
-pub(crate) fn number_at(name: Field, columns: ColumnRange, line: &Columns<'_>) -> Result<u64, Cause>
-    ensures { result ≡ number_at name columns line.now }
+/// A field that has to be given, with the value that it spells.
+fn required<T: Copy>(name: Field, spelt: Spelt<T>) -> Result<T, Cause>
+    ensures { result ≡ required name spelt }
 {
-    match number_spelt_at(columns, line) {
+    match spelt {
         Spelt::Blank => Err(Cause::Missing(name)),
         Spelt::Value(value) => Ok(value),
         Spelt::Unreadable => Err(Cause::BadField(name)),
     }
+}
+
+/// A number that has to be given.
+pub(crate) fn number_at(name: Field, columns: ColumnRange, line: &Columns<'_>) -> Result<u64, Cause>
+    ensures { result ≡ number_at name columns line.now }
+{
+    required(name, number_spelt_at(columns, line))
 }
 
 /// What a longitude's or a latitude's field spells.
@@ -46,16 +53,11 @@ fn coordinate(name: Field, limit: u32, spelt: Spelt<i64>) -> Result<i32, Cause>
     requires { limit < 2 ^ 31 }
     ensures { result ≡ coordinate name limit spelt }
 {
-    match spelt {
-        Spelt::Blank => Err(Cause::Missing(name)),
-        Spelt::Value(value) => {
-            if value.unsigned_abs() <= u64::from(limit) {
-                Ok(value as i32)
-            } else {
-                Err(Cause::OutOfRange(name))
-            }
-        }
-        Spelt::Unreadable => Err(Cause::BadField(name)),
+    let value = required(name, spelt)?;
+    if value.unsigned_abs() <= u64::from(limit) {
+        Ok(value as i32)
+    } else {
+        Err(Cause::OutOfRange(name))
     }
 }
 

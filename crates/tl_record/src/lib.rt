@@ -18,6 +18,8 @@ mod record;
 mod sink;
 mod source;
 mod stop;
+#[cfg(test)]
+mod tests;
 
 pub use columns::{ColumnRange, Columns};
 pub use field::{MAX_LATITUDE, MAX_LONGITUDE};

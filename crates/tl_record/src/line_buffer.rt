@@ -1,7 +1,7 @@
 //! The bytes that were fetched and not judged yet.
 
 ghost use Rattle.std.specs.Prelude.{◌≡◌, ℕ, ◌-◌, ◌<◌, ◌≤◌, List, [], length, take, drop};
-ghost use Rattle.tl_record.specs.declared.judge.TheConstants.{MAX_LINE_BYTES};
+ghost use Rattle.tl_record.specs.Limits.{most_line_bytes};
 ghost use Rattle.tl_record.specs.Failures.{CountsRead};
 ghost use Rattle.tl_record.specs.Fetching.{Fetches};
 
@@ -23,7 +23,7 @@ impl Model for LineBuffer {
 
     ghost view = { λ buffer. take (buffer.filled - buffer.at) (drop buffer.at buffer.bytes) };
 
-    ghost invariant = { λ buffer. (buffer.at ≤ buffer.filled) × (buffer.filled ≤ MAX_LINE_BYTES) };
+    ghost invariant = { λ buffer. (buffer.at ≤ buffer.filled) × (buffer.filled ≤ most_line_bytes) };
 }
 
 /// Copies the bytes from `at` up to `filled` to the front.
@@ -53,7 +53,7 @@ impl LineBuffer {
 
     pub fn bytes(&self) -> &[u8]
         ensures value { result.now ≡ self.now }
-        ensures room { length self.now ≤ MAX_LINE_BYTES }
+        ensures room { length self.now ≤ most_line_bytes }
     {
         &self.bytes[self.at..self.filled]
     }
@@ -68,7 +68,7 @@ impl LineBuffer {
 
     /// Fetches bytes to the end, as many as one read of the source gives and there is room for.
     pub fn fetch<S: Source>(&mut self, source: &mut S) -> io::Result<usize>
-        requires { length self.old < MAX_LINE_BYTES }
+        requires { length self.old < most_line_bytes }
         ensures bytes { Fetches self.old self.new (S.remaining source.old) (S.remaining source.new) result }
         ensures failures { CountsRead (S.failure_count source.old) (S.failure_count source.new) result }
     {

@@ -3,7 +3,7 @@
 ghost use Rattle.std.specs.Prelude.{◌≡◌, ◌+◌, ◌<◌, ◌≤◌, ℕ, List, length, take};
 ghost use Rattle.std.specs.Option.{option_map};
 ghost use Rattle.std.specs.Io.KnownBytes.{IsAtEnd, Keeps, prepend_known};
-ghost use Rattle.tl_record.specs.declared.judge.TheConstants.{MAX_LINES, MAX_LINE_BYTES};
+ghost use Rattle.tl_record.specs.Limits.{most_lines, most_line_bytes};
 ghost use Rattle.tl_record.specs.declared.layout.Layout.{Layout};
 ghost use Rattle.tl_record.specs.Lines.{line_feeds};
 ghost use Rattle.tl_record.specs.Layout.{tiger_2006};
@@ -67,7 +67,7 @@ pub struct RecordReader<R> {
     lines: u64,
     skipped: u64,
     standing: Standing,
-    ghost few_lines: { lines ≤ MAX_LINES },
+    ghost few_lines: { lines ≤ most_lines },
     ghost some_skipped: { skipped ≤ lines },
 }
 
@@ -97,7 +97,7 @@ fn fetch_line<R: Source>(buffer: &mut LineBuffer, source: &mut R) -> Fetched
 
 /// Why a line is refused that is longer than any that is read.
 fn long_line_cause(number: u64) -> Cause
-    ensures { (layout : Layout) (line : List ℕ) → MAX_LINE_BYTES < length line → judgement layout number line ≡ Judgement.Refused result }
+    ensures { (layout : Layout) (line : List ℕ) → most_line_bytes < length line → judgement layout number line ≡ Judgement.Refused result }
 {
     if number > MAX_LINES {
         Cause::TooManyLines
@@ -138,7 +138,7 @@ impl<R: Source> RecordReader<R> {
     fn judge_pending(&self, len: usize) -> Judgement
         requires { len ≤ length (pending_of self.now) }
         ensures judged { result ≡ judgement (layout_of self.now) (lines_of self.now + 1) (take len (pending_of self.now)) }
-        ensures room { length (pending_of self.now) ≤ MAX_LINE_BYTES }
+        ensures room { length (pending_of self.now) ≤ most_line_bytes }
     {
         judge_line(&self.layout, self.lines + 1, &self.buffer.bytes()[..len])
     }
@@ -158,7 +158,7 @@ impl<R: Source> RecordReader<R> {
 
     // The next line, where the buffer is full: one more byte tells whether it is too long.
     fn judge_full(&mut self) -> NextLine
-        requires full { length (pending_of self.old) ≡ MAX_LINE_BYTES }
+        requires full { length (pending_of self.old) ≡ most_line_bytes }
         requires none { line_feeds (pending_of self.old) ≡ 0 }
         ensures { StepsTo R.remaining R.failure_count self.old self.new result }
     {
@@ -205,7 +205,7 @@ impl<R: Source> RecordReader<R> {
         let number = self.lines + 1;
         match judgement {
             Judgement::PassedOver => {
-                self.lines = number;
+                self.lines += 1;
                 self.skipped += 1;
                 None
             }

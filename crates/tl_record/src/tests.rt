@@ -1,0 +1,7 @@
+//! Worked examples, whose answers come from the reading rules and not from the program.
+
+mod fields;
+mod plain;
+mod readers;
+mod sources;
+mod texts;
