@@ -3,6 +3,7 @@ pub mod Blanks
 pub mod Pairs
 pub mod Buffer
 pub mod LineLemmas
+pub mod TextLemmas
 pub mod KnownLemmas
 pub mod NextLemmas
 pub mod RecordLemmas

@@ -18,7 +18,7 @@ feeds-cons byte text = feeds-append (byte ∷ []) text ∙ ap (λ n. n + line_fe
 feed_counts : (byte : ℕ) (text : List ℕ) → is_byte line_feed byte ≡ true → line_feeds (byte ∷ text) ≡ 1 + line_feeds text
 feed_counts byte text is = feeds-cons byte text ∙ rw is refl
 
-other_counts : (byte : ℕ) (text : List ℕ) → is_byte line_feed byte ≡ false → line_feeds (byte ∷ text) ≡ line_feeds text
+pub other_counts : (byte : ℕ) (text : List ℕ) → is_byte line_feed byte ≡ false → line_feeds (byte ∷ text) ≡ line_feeds text
 other_counts byte text is = feeds-cons byte text ∙ rw is (zero-add (line_feeds text))
 
 -- where no byte below a place is a line feed, none is counted

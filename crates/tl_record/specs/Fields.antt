@@ -1,5 +1,5 @@
 -- The fields of a line, and what their bytes spell.
-use Rattle.std.specs.Prelude.{ℕ, ℤ, pos, ◌-ℤ◌, ◌+◌, ◌-◌, ◌*◌, ◌^◌, ◌<◌, ◌==◌, Bool, List, [], ◌∷◌, ◌++◌, length, take, drop, replicate, if◌then◌else◌}
+use Rattle.std.specs.Prelude.{ℕ, ℤ, pos, ◌-ℤ◌, ◌+◌, ◌-◌, ◌*◌, ◌^◌, ◌<◌, ◌==◌, ◌&&◌, nat_le, Bool, List, [], ◌∷◌, ◌++◌, length, take, drop, replicate, if◌then◌else◌}
 use Rattle.std.specs.List.{list_all}
 use Rattle.std.specs.Char.{is_ascii_digit}
 use Rattle.tl_record.specs.Range.{Range}
@@ -12,6 +12,10 @@ blank = 32
 
 abbrev pub is_blank : ℕ → Bool
 is_blank byte = byte == blank
+
+-- a byte that a CENID may have: from 0x20 to 0x7E
+abbrev pub is_cenid_byte : ℕ → Bool
+is_cenid_byte byte = nat_le 32 byte && nat_le byte 126
 
 -- how many columns a range has
 abbrev pub width_of : Range → ℕ

@@ -4,21 +4,28 @@ use Rattle.tl_geom.specs.declared.point.Point.{Point}
 use Rattle.tl_record.specs.declared.layout.Layout.{Layout}
 use Rattle.tl_record.specs.declared.layout.ChainColumns.{ChainColumns}
 use Rattle.tl_record.specs.declared.layout.ShapeColumns.{ShapeColumns}
+use Rattle.tl_record.specs.declared.layout.SidesColumns.{SidesColumns}
+use Rattle.tl_record.specs.declared.layout.KeyColumns.{KeyColumns}
+use Rattle.tl_record.specs.declared.layout.PolyPointColumns.{PolyPointColumns}
+use Rattle.tl_record.specs.declared.layout.LandmarkColumns.{LandmarkColumns}
+use Rattle.tl_record.specs.declared.layout.AreaLinkColumns.{AreaLinkColumns}
 use Rattle.tl_record.specs.declared.layout.PointColumns.{PointColumns}
 use Rattle.tl_record.specs.declared.stop.Cause.{Cause}
 use Rattle.tl_record.specs.declared.stop.Cause.TheVariants.{LineTooLong, Missing, BadField, OutOfRange, TooManyLines}
 use Rattle.tl_record.specs.declared.stop.Field.{Field}
 use Rattle.tl_record.specs.declared.stop.Field.TheVariants as field_name
 use Rattle.tl_record.specs.declared.record.Record.{Record}
-use Rattle.tl_record.specs.declared.record.Record.TheVariants.{Chain, Shape}
+use Rattle.tl_record.specs.declared.record.Record.TheVariants.{Chain, Shape, Sides, PolyPoint, Landmark, AreaLink}
+use Rattle.tl_record.specs.declared.record.PolyKey.{PolyKey}
 use Rattle.tl_record.specs.declared.number.Spelt.{Spelt}
 use Rattle.tl_record.specs.declared.number.Spelt.TheVariants.{Blank, Value, Unreadable}
 use Rattle.tl_record.specs.declared.judge.Judgement.{Judgement}
 use Rattle.tl_record.specs.declared.judge.Judgement.TheVariants.{PassedOver, Read, Refused}
+use Rattle.std.specs.List.{list_all}
 use Rattle.tl_record.specs.Range.{Range}
 use Rattle.tl_record.specs.Limits.{most_lines, most_line_bytes, greatest_longitude, greatest_latitude}
 use Rattle.tl_record.specs.Lines.{content}
-use Rattle.tl_record.specs.Fields.{field, number_spelt, coordinate_spelt}
+use Rattle.tl_record.specs.Fields.{field, is_cenid_byte, number_spelt, coordinate_spelt}
 use Rattle.tl_record.specs.Outcome.{◌>>=◌}
 
 -- a field that has to be given, with the value that it spells
@@ -98,16 +105,66 @@ shape_record columns line = do
   pairs ← shape_pairs 1 columns.pairs line
   Ok (Shape tlid rtsq pairs)
 
+-- the bytes of a CENID: five that are printed or blanks, taken as they stand
+abbrev pub cenid_at : Field → Range → List ℕ → Result (List ℕ) Cause
+cenid_at name columns line =
+    if list_all is_cenid_byte (field line columns) then Ok (field line columns) else Err (BadField name)
+
+-- a polygon's key, that has to be given: its CENID is tested first, and five blanks are one
+abbrev pub key_at : Field → Field → KeyColumns → List ℕ → Result PolyKey Cause
+key_at cenid_name polyid_name columns line = do
+  cenid ← cenid_at cenid_name columns.cenid line
+  polyid ← number_at polyid_name columns.polyid line
+  Ok (record { cenid = cenid; polyid = polyid })
+
+-- a side: with a blank POLYID it is outside, whatever its CENID holds
+abbrev pub side_at : Field → Field → KeyColumns → List ℕ → Result (Option PolyKey) Cause
+side_at cenid_name polyid_name columns line =
+    if is_blank_field (number_spelt (field line columns.polyid)) then Ok None else (key_at cenid_name polyid_name columns line >>= λ key. Ok (Some key))
+
+-- type I: the polygons on both sides of a chain
+unfoldable pub sides_record : SidesColumns → List ℕ → Result Record Cause
+sides_record columns line = do
+  tlid ← number_at field_name.Tlid columns.tlid line
+  left ← side_at field_name.CenidL field_name.PolyidL columns.left line
+  right ← side_at field_name.CenidR field_name.PolyidR columns.right line
+  Ok (Sides tlid left right)
+
+-- type P: a polygon and its internal point
+unfoldable pub poly_point_record : PolyPointColumns → List ℕ → Result Record Cause
+poly_point_record columns line = do
+  key ← key_at field_name.Cenid field_name.Polyid columns.key line
+  internal ← point_at field_name.PolyLong field_name.PolyLat columns.point line
+  Ok (PolyPoint key internal)
+
+-- type 7: a landmark, with a point or none
+unfoldable pub landmark_record : LandmarkColumns → List ℕ → Result Record Cause
+landmark_record columns line = do
+  land ← number_at field_name.Land columns.land line
+  place ← optional_point_at field_name.LaLong field_name.LaLat columns.point line
+  Ok (Landmark land place)
+
+-- type 8: a polygon that belongs to an area landmark
+unfoldable pub area_link_record : AreaLinkColumns → List ℕ → Result Record Cause
+area_link_record columns line = do
+  key ← key_at field_name.Cenid field_name.Polyid columns.key line
+  land ← number_at field_name.Land columns.land line
+  Ok (AreaLink key land)
+
 abbrev pub judged : Result Record Cause → Judgement
 judged (Ok r) = Read r
 judged (Err cause) = Refused cause
 
--- what a line's content means: its first byte is the record type, and 49 is '1'
+-- what a line's content means: its first byte is the record type, as 49 is '1', 73 is 'I' and 80 is 'P'
 abbrev pub content_judgement : Layout → List ℕ → Judgement
 content_judgement layout [] = PassedOver
 content_judgement layout (kind ∷ rest) =
     if kind == 49 then judged (chain_record layout.chain (kind ∷ rest)) else
     if kind == 50 then judged (shape_record layout.shape (kind ∷ rest)) else
+    if kind == 73 then judged (sides_record layout.sides (kind ∷ rest)) else
+    if kind == 80 then judged (poly_point_record layout.poly_point (kind ∷ rest)) else
+    if kind == 55 then judged (landmark_record layout.landmark (kind ∷ rest)) else
+    if kind == 56 then judged (area_link_record layout.area_link (kind ∷ rest)) else
     PassedOver
 
 -- what a raw line with this number means: the first rule that applies

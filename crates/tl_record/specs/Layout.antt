@@ -4,6 +4,11 @@ use Rattle.tl_record.specs.Range.{columns}
 use Rattle.tl_record.specs.declared.layout.Layout.{Layout}
 use Rattle.tl_record.specs.declared.layout.ChainColumns.{ChainColumns}
 use Rattle.tl_record.specs.declared.layout.ShapeColumns.{ShapeColumns}
+use Rattle.tl_record.specs.declared.layout.SidesColumns.{SidesColumns}
+use Rattle.tl_record.specs.declared.layout.KeyColumns.{KeyColumns}
+use Rattle.tl_record.specs.declared.layout.PolyPointColumns.{PolyPointColumns}
+use Rattle.tl_record.specs.declared.layout.LandmarkColumns.{LandmarkColumns}
+use Rattle.tl_record.specs.declared.layout.AreaLinkColumns.{AreaLinkColumns}
 
 -- type 1
 abbrev pub tiger_2006_chain : ChainColumns
@@ -31,5 +36,36 @@ tiger_2006_shape = record {
       record { long = columns 190 199; lat = columns 200 208 } ∷ [];
 }
 
+-- type I, with the left side's key and the right side's
+abbrev pub tiger_2006_sides : SidesColumns
+tiger_2006_sides = record {
+  tlid = columns 6 15;
+  left = record { cenid = columns 41 45; polyid = columns 46 55 };
+  right = record { cenid = columns 56 60; polyid = columns 61 70 };
+}
+
+-- the key of types P and 8
+abbrev pub tiger_2006_key : KeyColumns
+tiger_2006_key = record { cenid = columns 11 15; polyid = columns 16 25 }
+
+-- type P
+abbrev pub tiger_2006_poly_point : PolyPointColumns
+tiger_2006_poly_point = record { key = tiger_2006_key; point = record { long = columns 26 35; lat = columns 36 44 } }
+
+-- type 7
+abbrev pub tiger_2006_landmark : LandmarkColumns
+tiger_2006_landmark = record { land = columns 11 20; point = record { long = columns 55 64; lat = columns 65 73 } }
+
+-- type 8
+abbrev pub tiger_2006_area_link : AreaLinkColumns
+tiger_2006_area_link = record { key = tiger_2006_key; land = columns 26 35 }
+
 abbrev pub tiger_2006 : Layout
-tiger_2006 = record { chain = tiger_2006_chain; shape = tiger_2006_shape }
+tiger_2006 = record {
+  chain = tiger_2006_chain;
+  shape = tiger_2006_shape;
+  sides = tiger_2006_sides;
+  poly_point = tiger_2006_poly_point;
+  landmark = tiger_2006_landmark;
+  area_link = tiger_2006_area_link;
+}

@@ -1,7 +1,8 @@
 //! Columns of a line.
 
-ghost use Rattle.std.specs.Prelude.{◌≡◌, ℕ, ◌+◌, ◌-◌, ◌<◌, ◌≤◌, List, length, take, drop};
+ghost use Rattle.std.specs.Prelude.{◌≡◌, ℕ, ◌+◌, ◌-◌, ◌^◌, ◌<◌, ◌≤◌, List, length, take, drop};
 ghost use Rattle.tl_record.specs.Range.{Range, IsRange, columns};
+ghost use Rattle.tl_record.specs.Fields.{field};
 
 use std::marker::Model;
 
@@ -38,6 +39,43 @@ impl ColumnRange {
         ensures range { IsRange self }
     {
         line.field(self.first, self.last)
+    }
+}
+
+/// Five columns, of which this is the first.
+#[derive(Clone, Copy, Debug)]
+pub struct FiveColumns {
+    first: u16,
+}
+
+impl Model for FiveColumns {
+    ghost Value = { Range };
+
+    ghost view = { λ five. columns five.first (five.first + 4) };
+
+    ghost invariant = { λ five. IsRange (columns five.first (five.first + 4)) × (five.first < 2 ^ 15) };
+
+    ghost inverse = { λ range. record { first = range.first } };
+}
+
+impl FiveColumns {
+    /// The five columns from `first` on.
+    pub fn new(first: u16) -> FiveColumns
+        requires from_one { 1 ≤ first }
+        requires in_reach { first < 2 ^ 15 }
+        ensures { result ≡ columns first (first + 4) }
+    {
+        FiveColumns { first }
+    }
+
+    /// The bytes of a line at these columns, a blank for each column past its end.
+    pub fn of(self, line: &Columns<'_>) -> [u8; 5]
+        ensures { result ≡ field line.now self }
+    {
+        let given = line.field(self.first, self.first + 4);
+        let mut bytes = [b' '; 5];
+        bytes[..given.len()].copy_from_slice(given);
+        bytes
     }
 }
 

@@ -1,12 +1,14 @@
 //! Reading a field of one kind.
 
 ghost use Rattle.std.specs.Prelude.{◌≡◌, ◌≤◌, ◌<◌, ◌^◌};
-ghost use Rattle.tl_record.specs.Fields.{field, number_spelt, coordinate_spelt};
-ghost use Rattle.tl_record.specs.Judgement.{required, number_at, coordinate, point, point_at, optional_point, optional_point_at, unless_zero};
+ghost use Rattle.tl_record.specs.Fields.{field, is_cenid_byte, number_spelt, coordinate_spelt};
+ghost use Rattle.std.specs.List.{list_all};
+ghost use Rattle.tl_record.specs.Judgement.{required, number_at, coordinate, point, point_at, optional_point, optional_point_at, unless_zero, cenid_at, key_at, side_at};
 
-use crate::columns::{ColumnRange, Columns};
-use crate::layout::PointColumns;
+use crate::columns::{ColumnRange, Columns, FiveColumns};
+use crate::layout::{KeyColumns, PointColumns};
 use crate::number::{Spelt, coordinate_spelt, number_spelt};
+use crate::record::PolyKey;
 use crate::stop::{Cause, Field};
 use tl_geom::Point;
 
@@ -114,4 +116,51 @@ pub(crate) fn unless_zero(pair: Option<Point>) -> Option<Point>
         Some(point) if point.x == 0 && point.y == 0 => None,
         other => other,
     }
+}
+
+fn is_cenid(bytes: &[u8]) -> bool
+    ensures { result ≡ list_all is_cenid_byte bytes.now }
+{
+    bytes.iter().all(|byte| 0x20 <= *byte && *byte <= 0x7e)
+}
+
+/// The bytes of a CENID.
+fn cenid_at(name: Field, columns: FiveColumns, line: &Columns<'_>) -> Result<[u8; 5], Cause>
+    ensures { result ≡ cenid_at name columns line.now }
+{
+    let bytes = columns.of(line);
+    if is_cenid(&bytes) {
+        Ok(bytes)
+    } else {
+        Err(Cause::BadField(name))
+    }
+}
+
+/// A polygon's key, that has to be given: its CENID is tested first.
+pub(crate) fn key_at(
+    cenid_name: Field,
+    polyid_name: Field,
+    columns: &KeyColumns,
+    line: &Columns<'_>,
+) -> Result<PolyKey, Cause>
+    ensures { result ≡ key_at cenid_name polyid_name columns.now line.now }
+{
+    let cenid = cenid_at(cenid_name, columns.cenid, line)?;
+    let polyid = number_at(polyid_name, columns.polyid, line)?;
+    Ok(PolyKey { cenid, polyid })
+}
+
+/// The polygon on one side of a chain. With a blank POLYID the side is outside, and its CENID isn't tested.
+pub(crate) fn side_at(
+    cenid_name: Field,
+    polyid_name: Field,
+    columns: &KeyColumns,
+    line: &Columns<'_>,
+) -> Result<Option<PolyKey>, Cause>
+    ensures { result ≡ side_at cenid_name polyid_name columns.now line.now }
+{
+    if let Spelt::Blank = number_spelt_at(columns.polyid, line) {
+        return Ok(None);
+    }
+    Ok(Some(key_at(cenid_name, polyid_name, columns, line)?))
 }

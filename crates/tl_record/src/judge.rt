@@ -2,11 +2,14 @@
 
 ghost use Rattle.std.specs.Prelude.{◌≡◌, ◌+◌, ◌≤◌, ◌<◌};
 ghost use Rattle.tl_record.specs.Lines.{content};
-ghost use Rattle.tl_record.specs.Judgement.{judgement, content_judgement, chain_record, shape_record, shape_pairs, sequence_number, judged};
+ghost use Rattle.tl_record.specs.Judgement.{judgement, content_judgement, chain_record, shape_record, sides_record, poly_point_record, landmark_record, area_link_record, shape_pairs, sequence_number, judged};
 
 use crate::columns::Columns;
-use crate::field::{number_at, optional_point_at, point_at, unless_zero};
-use crate::layout::{ChainColumns, Layout, PointColumns, ShapeColumns};
+use crate::field::{key_at, number_at, optional_point_at, point_at, side_at, unless_zero};
+use crate::layout::{
+    AreaLinkColumns, ChainColumns, LandmarkColumns, Layout, PointColumns, PolyPointColumns,
+    ShapeColumns, SidesColumns,
+};
 use crate::record::{PAIRS, Record};
 use crate::stop::{Cause, Field};
 use tl_geom::Point;
@@ -90,6 +93,43 @@ fn shape_pairs(
     Ok(pairs)
 }
 
+#[tactic(auto, unfolding(crate::specs::Judgement::sides_record))]
+fn sides_record(columns: &SidesColumns, line: &Columns<'_>) -> Result<Record, Cause>
+    ensures { result ≡ sides_record columns.now line.now }
+{
+    let tlid = number_at(Field::Tlid, columns.tlid, line)?;
+    let left = side_at(Field::CenidL, Field::PolyidL, &columns.left, line)?;
+    let right = side_at(Field::CenidR, Field::PolyidR, &columns.right, line)?;
+    Ok(Record::Sides { tlid, left, right })
+}
+
+#[tactic(auto, unfolding(crate::specs::Judgement::poly_point_record))]
+fn poly_point_record(columns: &PolyPointColumns, line: &Columns<'_>) -> Result<Record, Cause>
+    ensures { result ≡ poly_point_record columns.now line.now }
+{
+    let key = key_at(Field::Cenid, Field::Polyid, &columns.key, line)?;
+    let point = point_at(Field::PolyLong, Field::PolyLat, &columns.point, line)?;
+    Ok(Record::PolyPoint { key, point })
+}
+
+#[tactic(auto, unfolding(crate::specs::Judgement::landmark_record))]
+fn landmark_record(columns: &LandmarkColumns, line: &Columns<'_>) -> Result<Record, Cause>
+    ensures { result ≡ landmark_record columns.now line.now }
+{
+    let land = number_at(Field::Land, columns.land, line)?;
+    let point = optional_point_at(Field::LaLong, Field::LaLat, &columns.point, line)?;
+    Ok(Record::Landmark { land, point })
+}
+
+#[tactic(auto, unfolding(crate::specs::Judgement::area_link_record))]
+fn area_link_record(columns: &AreaLinkColumns, line: &Columns<'_>) -> Result<Record, Cause>
+    ensures { result ≡ area_link_record columns.now line.now }
+{
+    let key = key_at(Field::Cenid, Field::Polyid, &columns.key, line)?;
+    let land = number_at(Field::Land, columns.land, line)?;
+    Ok(Record::AreaLink { key, land })
+}
+
 fn judged(read: Result<Record, Cause>) -> Judgement
     ensures { result ≡ judged read }
 {
@@ -106,6 +146,10 @@ fn content_judgement(layout: &Layout, content: &[u8]) -> Judgement
     match content {
         [b'1', ..] => judged(chain_record(&layout.chain, &line)),
         [b'2', ..] => judged(shape_record(&layout.shape, &line)),
+        [b'I', ..] => judged(sides_record(&layout.sides, &line)),
+        [b'P', ..] => judged(poly_point_record(&layout.poly_point, &line)),
+        [b'7', ..] => judged(landmark_record(&layout.landmark, &line)),
+        [b'8', ..] => judged(area_link_record(&layout.area_link, &line)),
         _ => Judgement::PassedOver,
     }
 }

@@ -1,10 +1,10 @@
 //! Which columns hold which field.
 
-ghost use Rattle.tl_record.specs.Layout.{tiger_2006, tiger_2006_chain, tiger_2006_shape};
+ghost use Rattle.tl_record.specs.Layout.{tiger_2006, tiger_2006_chain, tiger_2006_shape, tiger_2006_sides, tiger_2006_key, tiger_2006_poly_point, tiger_2006_landmark, tiger_2006_area_link};
 ghost use Rattle.std.specs.Prelude.{◌≡◌};
 ghost use Rattle.tl_record.specs.Range.{columns, IsRange};
 
-use crate::columns::ColumnRange;
+use crate::columns::{ColumnRange, FiveColumns};
 use crate::record::PAIRS;
 
 /// Where a point's longitude and latitude stand.
@@ -30,11 +30,51 @@ pub struct ShapeColumns {
     pub pairs: [PointColumns; PAIRS],
 }
 
+/// Where a polygon's CENID and POLYID stand.
+#[derive(Clone, Copy, Debug)]
+pub struct KeyColumns {
+    pub cenid: FiveColumns,
+    pub polyid: ColumnRange,
+}
+
+/// The columns of type I, the polygons on both sides of a chain.
+#[derive(Clone, Copy, Debug)]
+pub struct SidesColumns {
+    pub tlid: ColumnRange,
+    pub left: KeyColumns,
+    pub right: KeyColumns,
+}
+
+/// The columns of type P, polygons with their internal points.
+#[derive(Clone, Copy, Debug)]
+pub struct PolyPointColumns {
+    pub key: KeyColumns,
+    pub point: PointColumns,
+}
+
+/// The columns of type 7, landmarks.
+#[derive(Clone, Copy, Debug)]
+pub struct LandmarkColumns {
+    pub land: ColumnRange,
+    pub point: PointColumns,
+}
+
+/// The columns of type 8, polygons of area landmarks.
+#[derive(Clone, Copy, Debug)]
+pub struct AreaLinkColumns {
+    pub key: KeyColumns,
+    pub land: ColumnRange,
+}
+
 /// Which columns hold the fields of each record type that is read.
 #[derive(Clone, Copy, Debug)]
 pub struct Layout {
     pub chain: ChainColumns,
     pub shape: ShapeColumns,
+    pub sides: SidesColumns,
+    pub poly_point: PolyPointColumns,
+    pub landmark: LandmarkColumns,
+    pub area_link: AreaLinkColumns,
 }
 
 fn point_columns(long_first: u16, long_last: u16, lat_first: u16, lat_last: u16) -> PointColumns
@@ -79,6 +119,58 @@ fn tiger_2006_shape() -> ShapeColumns
     }
 }
 
+fn tiger_2006_sides() -> SidesColumns
+    ensures { result ≡ tiger_2006_sides }
+{
+    SidesColumns {
+        tlid: ColumnRange::new(6, 15),
+        left: KeyColumns {
+            cenid: FiveColumns::new(41),
+            polyid: ColumnRange::new(46, 55),
+        },
+        right: KeyColumns {
+            cenid: FiveColumns::new(56),
+            polyid: ColumnRange::new(61, 70),
+        },
+    }
+}
+
+fn tiger_2006_key() -> KeyColumns
+    ensures { result ≡ tiger_2006_key }
+{
+    KeyColumns {
+        cenid: FiveColumns::new(11),
+        polyid: ColumnRange::new(16, 25),
+    }
+}
+
+fn tiger_2006_poly_point() -> PolyPointColumns
+    ensures { result ≡ tiger_2006_poly_point }
+{
+    PolyPointColumns {
+        key: tiger_2006_key(),
+        point: point_columns(26, 35, 36, 44),
+    }
+}
+
+fn tiger_2006_landmark() -> LandmarkColumns
+    ensures { result ≡ tiger_2006_landmark }
+{
+    LandmarkColumns {
+        land: ColumnRange::new(11, 20),
+        point: point_columns(55, 64, 65, 73),
+    }
+}
+
+fn tiger_2006_area_link() -> AreaLinkColumns
+    ensures { result ≡ tiger_2006_area_link }
+{
+    AreaLinkColumns {
+        key: tiger_2006_key(),
+        land: ColumnRange::new(26, 35),
+    }
+}
+
 /// The column table of the TIGER/Line files of 2006, in this project's own profile of the documentation.
 pub fn tiger_2006() -> Layout
     ensures { result ≡ tiger_2006 }
@@ -86,5 +178,9 @@ pub fn tiger_2006() -> Layout
     Layout {
         chain: tiger_2006_chain(),
         shape: tiger_2006_shape(),
+        sides: tiger_2006_sides(),
+        poly_point: tiger_2006_poly_point(),
+        landmark: tiger_2006_landmark(),
+        area_link: tiger_2006_area_link(),
     }
 }

@@ -9,6 +9,7 @@
 mod columns;
 mod field;
 mod judge;
+pub mod laws;
 mod layout;
 mod line_buffer;
 mod meter;
@@ -21,14 +22,17 @@ mod stop;
 #[cfg(test)]
 mod tests;
 
-pub use columns::{ColumnRange, Columns};
+pub use columns::{ColumnRange, Columns, FiveColumns};
 pub use field::{MAX_LATITUDE, MAX_LONGITUDE};
 pub use judge::{Judgement, MAX_LINE_BYTES, MAX_LINES, judge_line};
-pub use layout::{ChainColumns, Layout, PointColumns, ShapeColumns};
+pub use layout::{
+    AreaLinkColumns, ChainColumns, KeyColumns, LandmarkColumns, Layout, PointColumns,
+    PolyPointColumns, ShapeColumns, SidesColumns, tiger_2006,
+};
 pub use meter::{Meter, MeterOut};
 pub use number::Spelt;
 pub use reader::RecordReader;
-pub use record::{PAIRS, Record};
+pub use record::{PAIRS, PolyKey, Record};
 pub use sink::Sink;
 pub use source::Source;
 pub use stop::{Cause, Field, ReadStop};

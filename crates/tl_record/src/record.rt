@@ -5,6 +5,14 @@ use tl_geom::Point;
 /// How many coordinate pairs one shape record has room for.
 pub const PAIRS: usize = 10;
 
+/// What names a polygon: CENID and POLYID together.
+#[derive(Clone, Copy, Debug, PartialEq, Eq, PartialOrd, Ord, Hash)]
+pub struct PolyKey {
+    /// Five bytes from 0x20 to 0x7E, as they stand in the record.
+    pub cenid: [u8; 5],
+    pub polyid: u64,
+}
+
 /// A record of one of the types that are read. Coordinates are in millionths of a degree, longitude to the east and
 /// latitude to the north.
 #[derive(Clone, Copy, Debug, PartialEq, Eq)]
@@ -21,5 +29,26 @@ pub enum Record {
         tlid: u64,
         rtsq: u16,
         pairs: [Option<Point>; PAIRS],
+    },
+    /// Type I: the polygons on both sides of a chain, seen from its start to its end. `None` is outside of the county.
+    Sides {
+        tlid: u64,
+        left: Option<PolyKey>,
+        right: Option<PolyKey>,
+    },
+    /// Type P: a polygon and its internal point.
+    PolyPoint {
+        key: PolyKey,
+        point: Point,
+    },
+    /// Type 7: a landmark; an area landmark has no point.
+    Landmark {
+        land: u64,
+        point: Option<Point>,
+    },
+    /// Type 8: a polygon that belongs to an area landmark.
+    AreaLink {
+        key: PolyKey,
+        land: u64,
     },
 }

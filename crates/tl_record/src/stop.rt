@@ -15,6 +15,17 @@ pub enum Field {
     Long(u8),
     /// The latitude of the shape pair with this number, from 1.
     Lat(u8),
+    CenidL,
+    PolyidL,
+    CenidR,
+    PolyidR,
+    Cenid,
+    Polyid,
+    PolyLong,
+    PolyLat,
+    Land,
+    LaLong,
+    LaLat,
 }
 
 impl fmt::Display for Field {
@@ -28,6 +39,17 @@ impl fmt::Display for Field {
             Field::Rtsq => write!(f, "RTSQ"),
             Field::Long(pair) => write!(f, "LONG{pair}"),
             Field::Lat(pair) => write!(f, "LAT{pair}"),
+            Field::CenidL => write!(f, "CENIDL"),
+            Field::PolyidL => write!(f, "POLYIDL"),
+            Field::CenidR => write!(f, "CENIDR"),
+            Field::PolyidR => write!(f, "POLYIDR"),
+            Field::Cenid => write!(f, "CENID"),
+            Field::Polyid => write!(f, "POLYID"),
+            Field::PolyLong => write!(f, "POLYLONG"),
+            Field::PolyLat => write!(f, "POLYLAT"),
+            Field::Land => write!(f, "LAND"),
+            Field::LaLong => write!(f, "LALONG"),
+            Field::LaLat => write!(f, "LALAT"),
         }
     }
 }

@@ -1,95 +1,15 @@
 //! Whole texts: what the reader gives is what the plain program gives, in any pieces, and the worked examples' answers.
 
-ghost use Rattle.std.specs.Prelude.{◌<◌};
-
 use crate::reader::RecordReader;
-use crate::record::{PAIRS, Record};
+use crate::record::{PAIRS, PolyKey, Record};
 use crate::source::Source;
 use crate::stop::{Cause, Field, ReadStop};
+use crate::tests::lines::{agrees, line_of, map_b, read_all};
 use crate::tests::plain::plain_records;
 use crate::tests::readers::Pieces;
 use std::alloc::{AllocError, Global};
-use std::process::Abort;
 use std::test::Fail;
 use tl_geom::Point;
-
-/// What a reader gave.
-#[derive(Drop)]
-struct Given {
-    entries: Vec<(u64, Record)>,
-    stop: Option<ReadStop>,
-    skipped: u64,
-}
-
-/// Everything that a reader gives.
-fn read_all<S: Source + Drop>(alloc: Global, source: S) -> Result<Given, AllocError> {
-    let mut reader = RecordReader::new(source);
-    let mut entries = Vec::new(alloc);
-    let mut stop = None;
-    for _ in 0..u64::MAX {
-        match reader.next_record() {
-            Ok(Some(entry)) => entries.push(entry)?,
-            Ok(None) => break,
-            Err(reason) => {
-                stop = Some(reason);
-                break;
-            }
-        }
-    }
-    Ok(Given {
-        entries,
-        stop,
-        skipped: reader.skipped(),
-    })
-}
-
-/// Compares the reader with the plain program, in pieces of many sizes.
-fn agrees(rt: &impl Abort, alloc: Global, text: &[u8]) -> Result<(), AllocError> {
-    let plain = plain_records(alloc, text)?;
-    for most in [1, 2, 7, 511, 1_023, 1_024, 1_025, 100_000] {
-        let given = read_all(alloc, Pieces::new(text, most, 0))?;
-        assert!(rt; given.entries.as_slice() == plain.entries.as_slice());
-        assert!(rt; given.skipped == plain.skipped);
-        let refusal = match given.stop {
-            Some(ReadStop::Refused { line, cause }) => Some((line, cause)),
-            _ => None,
-        };
-        assert!(rt; refusal == plain.refusal);
-    }
-    Ok(())
-}
-
-/// A line of blanks with these fields, each at its first column, counted from 1.
-fn line_of(alloc: Global, width: usize, fields: &[(usize, &[u8])]) -> Result<Vec<u8>, AllocError> {
-    let mut line = vec![in alloc; b' '; width]?;
-    for (first, bytes) in fields {
-        let mut column = *first;
-        for byte in bytes.iter() {
-            if 1 <= column && column <= line.len() {
-                line[column - 1] = *byte;
-            }
-            column = column.saturating_add(1);
-        }
-    }
-    Ok(line)
-}
-
-/// The chain of map B: its two lines, each with its line feed.
-fn map_b(alloc: Global) -> Result<Vec<u8>, AllocError> {
-    let mut text = line_of(
-        alloc,
-        228,
-        &[
-            (1, b"10000         1"),
-            (191, b"+000000010+00000010+000000010+00000010"),
-        ],
-    )?;
-    text.push(b'\n')?;
-    text.extend_from_slice(
-        b"20000         1  1+000000030+00000010+000000030+00000030+000000010+00000030\n",
-    )?;
-    Ok(text)
-}
 
 fn at(x: i32, y: i32) -> Point {
     Point { x, y }
@@ -115,12 +35,31 @@ fn map_b_shape() -> Record {
     }
 }
 
+fn key(cenid: [u8; 5], polyid: u64) -> PolyKey {
+    PolyKey { cenid, polyid }
+}
+
 #[test]
 fn map_b_is_read(rt: HostRuntime) -> Result<(), Fail> {
     let text = map_b(rt.alloc())?;
     agrees(&rt, rt.alloc(), &text)?;
     let given = read_all(rt.alloc(), Pieces::new(&text, 1, 0))?;
-    let wanted = [(1, map_b_chain()), (2, map_b_shape())];
+    let first = key(*b"A0001", 1);
+    let sides = Record::Sides {
+        tlid: 1,
+        left: Some(first),
+        right: None,
+    };
+    let polygon = Record::PolyPoint {
+        key: first,
+        point: at(20, 20),
+    };
+    let wanted = [
+        (1, map_b_chain()),
+        (2, map_b_shape()),
+        (3, sides),
+        (4, polygon),
+    ];
     assert!(rt; given.entries.as_slice() == wanted.as_slice());
     assert!(rt; given.stop.is_none());
     assert_eq!(rt; given.skipped, 0);
