@@ -1,0 +1,9 @@
+pub mod CountLemmas
+pub mod SequenceLemmas
+pub mod GapLemmas
+pub mod StrayLemmas
+pub mod RowLemmas
+pub mod JoinLemmas
+pub mod CollectLemmas
+pub mod OrderLemmas
+pub mod ChainLemmas

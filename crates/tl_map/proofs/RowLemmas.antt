@@ -1,0 +1,111 @@
+use Rattle.std.proofs.Common.{◌≡◌, ◌≢◌, ℕ, zero, suc, ◌+◌, ◌-◌, ◌<◌, ◌≤◌, Bool, true, false, cond, eqb, ◌&&◌, ◌⊎◌, inl, inr, Option, Some, None, List, [], ◌∷◌, ◌++◌, length, take, drop, map, get_or, filter, sum_by, All, refl, sym, ap, ◌∙◌, subst, arith, add-one}
+use Rattle.std.specs.Prelude.{slice_get}
+use Rattle.std.specs.List.{dedup, dedup_from, flat_map}
+use Rattle.std.specs.Option.{option_map}
+use Rattle.std.proofs.lemmas.Option.{slice_get-map, slice_get-get_or}
+use Rattle.std.proofs.lemmas.List.{append-nil, append_assoc, at_drop_more, at_drop_all, drop-append-le, take-append-le, drop_at, take_all, map_push, length-append, length-drop, length_push}
+use Rattle.std.proofs.lemmas.List.Elements.{All-nil, All-head, All-tail, All-push, All-weaker}
+use Rattle.std.proofs.lemmas.List.Sums.{sum_by_push}
+use Rattle.tl_map.specs.declared.entry.ChainEntry.{ChainEntry}
+use Rattle.tl_map.specs.declared.entry.ShapeEntry.{ShapeEntry}
+use Rattle.tl_map.specs.Entries.{entry_points}
+use Rattle.tl_geom.specs.declared.point.Point.{Point}
+use Rattle.tl_map.specs.declared.chains.ChainRow.{ChainRow}
+use Rattle.tl_map.specs.Chains.{CompleteChain, tlids, same_point, segment_count}
+use Rattle.tl_map.specs.Rows.{IsWithin, chain_in, chains_in, IsTable, dedup_after, drawn_through}
+
+-- what is read of the chain of a row
+pub row_read : {Y : Type 0} (f : CompleteChain → Y) (points : List Point) (rows : List ChainRow) (i : ℕ) (row : ChainRow) → i < length rows → row ≡ get_or rows i row → slice_get (map f (chains_in points rows)) i ≡ Some (f (chain_in points row))
+row_read f points rows i row h at =
+    slice_get-map f (chains_in points rows) i
+    ∙ ap (option_map f) (slice_get-map (chain_in points) rows i ∙ ap (option_map (chain_in points)) (slice_get-get_or rows i row h))
+    ∙ ap (λ r. Some (f (chain_in points r))) (sym at)
+
+-- a range of the points, as a slice reads it
+pub cut_read : (first count : ℕ) (points slice : List Point) → slice ≡ points → Some (take count (drop first points)) ≡ Some (take (first + count - first) (drop first slice))
+cut_read first count points slice same =
+    let n : first + count - first ≡ count = omega arith in
+    rw (n, same) refl
+
+-- dedup keeps the first point and what follows it
+pub dedup_from-is : (p : Point) (qs : List Point) → dedup_from same_point p qs ≡ p ∷ dedup_after p qs
+dedup_from-is p [] = refl
+dedup_from-is p (q ∷ qs) = go (same_point q p) (dedup_from-is p qs) (dedup_from-is q qs)
+  where
+    go : (b : Bool) → dedup_from same_point p qs ≡ p ∷ dedup_after p qs → dedup_from same_point q qs ≡ q ∷ dedup_after q qs → cond b (dedup_from same_point p qs) (p ∷ dedup_from same_point q qs) ≡ p ∷ cond b (dedup_after p qs) (q ∷ dedup_after q qs)
+    go true here next = here
+    go false here next = ap (λ ps. p ∷ ps) next
+
+-- the points of the runs from the i-th on, before more
+pub run_more : (pool : List Point) (run : List ShapeEntry) (i : ℕ) (d : ShapeEntry) (rest : List Point) → i < length run → flat_map (entry_points pool) (drop i run) ++ rest ≡ entry_points pool (get_or run i d) ++ (flat_map (entry_points pool) (drop (i + 1) run) ++ rest)
+run_more pool run i d rest h =
+    ap (λ ps. ps ++ rest) (at_drop_more (flat_map (entry_points pool)) run i d h)
+    ∙ append_assoc (entry_points pool (get_or run i d)) (flat_map (entry_points pool) (drop (i + 1) run)) rest
+
+-- one more run is appended
+pub appended_run : (pool : List Point) (run : List ShapeEntry) (i : ℕ) (d : ShapeEntry) (rest points added whole slice : List Point) (last end : Point) → i < length run → slice ≡ entry_points pool (get_or run i d) → ((more : List Point) → added ++ dedup_after end more ≡ points ++ dedup_after last (slice ++ more)) → points ++ dedup_after last (flat_map (entry_points pool) (drop i run) ++ rest) ≡ whole → added ++ dedup_after end (flat_map (entry_points pool) (drop (i + 1) run) ++ rest) ≡ whole
+appended_run pool run i d rest points added whole slice last end h cut appended before =
+    appended (flat_map (entry_points pool) (drop (i + 1) run) ++ rest)
+    ∙ ap (λ ps. points ++ dedup_after last ps) (ap (λ s. s ++ (flat_map (entry_points pool) (drop (i + 1) run) ++ rest)) cut ∙ sym (run_more pool run i d rest h))
+    ∙ before
+
+-- the end is appended
+pub appended_end : (pool : List Point) (run : List ShapeEntry) (i : ℕ) (points added old : List Point) (from to last end : Point) → length run ≤ i → ((more : List Point) → added ++ dedup_after end more ≡ points ++ dedup_after last ((to ∷ []) ++ more)) → ((rest : List Point) → points ++ dedup_after last (flat_map (entry_points pool) (drop i run) ++ rest) ≡ old ++ from ∷ dedup_after from (flat_map (entry_points pool) run ++ rest)) → added ≡ old ++ dedup_from same_point from (flat_map (entry_points pool) run ++ to ∷ [])
+appended_end pool run i points added old from to last end h appended before =
+    sym (append-nil added) ∙ appended []
+    ∙ ap (λ ps. points ++ dedup_after last (ps ++ to ∷ [])) (sym (at_drop_all (flat_map (entry_points pool)) run i h))
+    ∙ before (to ∷ [])
+    ∙ ap (λ ps. old ++ ps) (sym (dedup_from-is from (flat_map (entry_points pool) run ++ to ∷ [])))
+
+-- the chains of the rows stay as points are appended
+pub chains_in-append : (points more : List Point) (rows : List ChainRow) → All (IsWithin points) rows → chains_in (points ++ more) rows ≡ chains_in points rows
+chains_in-append points more [] within = refl
+chains_in-append points more (row ∷ rows) within =
+    let here : row.first + row.count ≤ length points = All-head (IsWithin points) row rows within in
+    let cut : take row.count (drop row.first (points ++ more)) ≡ take row.count (drop row.first points) =
+    ap (take row.count) (drop-append-le row.first points more (omega arith))
+    ∙ take-append-le row.count (drop row.first points) more (omega (arith, length-drop row.first points)) in
+    rw (cut, chains_in-append points more rows (All-tail (IsWithin points) row rows within)) refl
+
+-- the last row has the points that were appended
+pub chain_in-last : (points more : List Point) (t first count : ℕ) → first ≡ length points → count ≡ length more → chain_in (points ++ more) (record { tlid = t; first = first; count = count }) ≡ record { tlid = t; points = more }
+chain_in-last points more t first count at len =
+    ap (λ ps. record { tlid = t; points = ps })
+    (ap (take count) (drop_at points more first (sym at)) ∙ take_all count more (omega arith))
+
+-- the chains of the rows with one row more
+pub chains_in-push : (points more : List Point) (rows : List ChainRow) (t first count : ℕ) → All (IsWithin points) rows → first ≡ length points → count ≡ length more → chains_in (points ++ more) (rows ++ record { tlid = t; first = first; count = count } ∷ []) ≡ chains_in points rows ++ record { tlid = t; points = more } ∷ []
+chains_in-push points more rows t first count within at len =
+    map_push (chain_in (points ++ more)) rows (record { tlid = t; first = first; count = count })
+    ∙ ap (λ cs. cs ++ chain_in (points ++ more) (record { tlid = t; first = first; count = count }) ∷ []) (chains_in-append points more rows within)
+    ∙ ap (λ c. chains_in points rows ++ c ∷ []) (chain_in-last points more t first count at len)
+
+-- the rows and points are a table with one row more
+pub IsTable-push : (points more : List Point) (rows : List ChainRow) (t first count : ℕ) → IsTable points rows → first ≡ length points → count ≡ length more → 1 ≤ length more → IsTable (points ++ more) (rows ++ record { tlid = t; first = first; count = count } ∷ [])
+IsTable-push points more rows t first count table at len some = record {
+  within = All-push (IsWithin (points ++ more)) rows (record { tlid = t; first = first; count = count })
+      (All-weaker (IsWithin points) (IsWithin (points ++ more)) (λ row h. omega (arith, length-append points more, h)) rows table.within)
+      (omega (arith, length-append points more));
+  total =
+      let chains = chains_in-push points more rows t first count table.within at len in
+      let segments = ap segment_count chains ∙ sum_by_push (λ c. length c.points - 1) (chains_in points rows) (record { tlid = t; points = more }) in
+      omega (arith, segments, table.total, length-append points more, length_push rows (record { tlid = t; first = first; count = count }));
+}
+
+-- a range of the shared points, as a slice reads it
+pub cut_points : (first n count : ℕ) (pool : List Point) → n ≡ count → take (first + n - first) (drop first pool) ≡ take count (drop first pool)
+cut_points first n count pool same = ap (λ m. take m (drop first pool)) (omega arith)
+
+-- a chain has a point
+pub one_drawn : (c : ChainEntry) (between : List Point) → 1 ≤ length (drawn_through c between)
+one_drawn c between =
+    let is = dedup_from-is c.from (between ++ c.to ∷ []) in
+    omega (arith, ap length is)
+
+-- how many points were appended
+pub length_appended : (old more new : List Point) (first count m n : ℕ) → new ≡ old ++ more → first ≡ m → count ≡ n → m ≡ length old → n ≡ length new → (first ≡ length old) × (count - first ≡ length more)
+length_appended old more new first count m n is p q a b = (omega arith, omega (arith, ap length is, length-append old more))
+
+-- no rows and no points are a table
+pub IsTable-nil : (points : List Point) (rows : List ChainRow) → points ≡ [] → rows ≡ [] → IsTable points rows
+IsTable-nil points rows no_points no_rows = rw (no_points, no_rows) (record { within = All-nil (IsWithin []); total = refl })

@@ -1,0 +1,51 @@
+use Rattle.std.proofs.Common.{◌≡◌, ◌≤◌, List, length, arith}
+use Rattle.std.proofs.lemmas.List.Elements.{All-weaker}
+use Rattle.tl_map.specs.declared.fault.TheConstants.{CHAIN_LIMIT}
+use Rattle.tl_map.specs.Entries.{AreChainEntries, AreShapeEntries, IsInside, IsShapeEntry}
+use Rattle.tl_map.specs.Built.{AreSound}
+use Rattle.tl_map.proofs.ChainLemmas.{built}
+use Rattle.tl_map.proofs.build.build_chains.Goals as goal
+
+pub returns-in-Some : goal.returns-in-Some
+returns-in-Some c = λ rs h.
+    let chains = c.in_ok-sort_chains.ensures.same rs (h.chains c.if-collected.false) in
+    let shapes = c.in_ok-sort_shapes.ensures.same rs c.args.collected.pool.items h.shapes in
+    c.in-Some.ensures rs c.args.collected.pool.items (rw c.deref.ensures.value chains) (rw c.deref-2.ensures.value shapes)
+
+pub join-requires-clause-rising : goal.join-requires-clause-rising
+join-requires-clause-rising c =
+    let rs = c.requires.0 in
+    let h = c.requires.1 in
+    let chains = c.in_ok-sort_chains.ensures.same rs (h.chains c.if-collected.false) in
+    let shapes = c.in_ok-sort_shapes.ensures.same rs c.args.collected.pool.items h.shapes in
+    let sound : AreSound rs c.sort_chains.new.chains.items c.sort_shapes.new.shapes.items = rw (c.deref.ensures.value, c.deref-2.ensures.value) at (c.in_default.ensures rs c.args.collected.pool.items (rw c.deref.ensures.value chains) (rw c.deref-2.ensures.value shapes)) in
+    rw c.deref-3.ensures.value sound.rising
+
+pub join-requires-clause-inside : goal.join-requires-clause-inside
+join-requires-clause-inside c =
+    let rs = c.requires.0 in
+    let h = c.requires.1 in
+    let pool = c.args.collected.pool.items in
+    let shapes = c.in_ok-sort_shapes.ensures.same rs pool h.shapes in
+    rw (c.deref-4.ensures.value, c.deref-5.ensures.value) (All-weaker (IsShapeEntry rs pool) (IsInside pool) (λ s entry. entry.inside) c.sort_shapes.new.shapes.items shapes.each)
+
+pub join-requires-clause-known : goal.join-requires-clause-known
+join-requires-clause-known c =
+    let rs = c.requires.0 in
+    let h = c.requires.1 in
+    let chains = c.in_ok-sort_chains.ensures.same rs (h.chains c.if-collected.false) in
+    let shapes = c.in_ok-sort_shapes.ensures.same rs c.args.collected.pool.items h.shapes in
+    let sound : AreSound rs c.sort_chains.new.chains.items c.sort_shapes.new.shapes.items = rw (c.deref.ensures.value, c.deref-2.ensures.value) at (c.in_default.ensures rs c.args.collected.pool.items (rw c.deref.ensures.value chains) (rw c.deref-2.ensures.value shapes)) in
+    rw (c.deref-3.ensures.value, c.deref-4.ensures.value) sound.known
+
+pub returns : goal.returns
+returns c = λ rs h.
+    let pool = c.args.collected.pool.items in
+    let chains = c.in_ok-sort_chains.ensures.same rs (h.chains c.if-collected.false) in
+    let shapes = c.in_ok-sort_shapes.ensures.same rs pool h.shapes in
+    let sound : AreSound rs c.sort_chains.new.chains.items c.sort_shapes.new.shapes.items = rw (c.deref.ensures.value, c.deref-2.ensures.value) at (c.in_default.ensures rs pool (rw c.deref.ensures.value chains) (rw c.deref-2.ensures.value shapes)) in
+    let room : length c.sort_chains.new.chains.items ≤ CHAIN_LIMIT = omega (arith, h.room, c.in_ok-sort_chains.ensures.length) in
+    built rs c.deref-5.result.now c.deref-3.result.now c.deref-4.result.now c.args.skipped c.join.result
+    (rw c.deref-3.ensures.value chains) (rw (c.deref-4.ensures.value, c.deref-5.ensures.value) shapes)
+    (rw (c.deref-3.ensures.value, c.deref-4.ensures.value) sound) (rw c.deref-3.ensures.value room)
+    c.join.ensures.ok c.join.ensures.several c.join.ensures.few c.join.ensures.err

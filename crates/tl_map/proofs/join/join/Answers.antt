@@ -1,0 +1,61 @@
+use Rattle.std.proofs.Common.{◌≡◌, ℕ, ◌+◌, ◌-◌, ◌<◌, ◌≤◌, List, length, get_or, filter, take, drop, pos, arith, refl}
+use Rattle.std.proofs.lemmas.Result.{err_from_is_err_and}
+use Rattle.std.proofs.lemmas.List.{get_or_default}
+use Rattle.tl_map.specs.declared.entry.ChainEntry.{ChainEntry}
+use Rattle.tl_map.specs.declared.entry.ShapeEntry.{ShapeEntry}
+use Rattle.tl_map.specs.Entries.{has_tlid, joined}
+use Rattle.tl_map.proofs.JoinLemmas.{run_is, above_run, behind_more, ahead_more, ahead_first, drawn_is, joined_more, stops_join, several_more}
+use Rattle.tl_map.proofs.RowLemmas.{IsTable-nil}
+use Rattle.tl_map.proofs.join.join.Goals as goal
+
+pub loop-chain-init : goal.loop-chain-init
+loop-chain-init c = record {
+  within = omega arith;
+  behind = λ k m d e lt. absurd (omega arith);
+  ahead = ahead_first c.args.chains.now c.args.shapes.now c.requires.rising c.requires.known;
+  table = IsTable-nil _ _ c.new-points.ensures.items c.in_ok-rows.ensures.items;
+  count = rw c.in_ok-rows.ensures.items refl;
+  few = let none : length c.new-points.result.items ≡ 0 = rw c.new-points.ensures.items refl in omega (arith, none);
+  are = rw c.in_ok-rows.ensures.items refl;
+  several = λ k d lt. absurd (omega arith);
+}
+
+pub returns-in_err-add_chain-clause-err : goal.returns-in_err-add_chain-clause-err
+returns-in_err-add_chain-clause-err c =
+    let chains = c.args.chains.now in
+    let shapes = c.args.shapes.now in
+    let i = c.loop-chain.chain-index in
+    let s = c.loop-chain.start in
+    let e = c.run_end-end.result in
+    let x : ChainEntry = record { tlid = 0; from = record { x = pos 0; y = pos 0 }; to = record { x = pos 0; y = pos 0 } } in
+    let chain : ChainEntry = get_or chains i x in
+    let t : ℕ = chain.tlid in
+    let above = above_run shapes s e t c.run_end-end.ensures.from c.requires.ordered (λ k d low high. c.loop-chain.invariant.ahead k d x low high c.loop-chain-test.true) c.run_end-end.ensures.stops in
+    let run = run_is shapes s e t c.run_end-end.ensures.from c.run_end-end.ensures.within c.requires.ordered (λ k d lt. c.loop-chain.invariant.behind k i d x lt (omega arith) c.loop-chain-test.true) c.run_end-end.ensures.same above in
+    let drawn = drawn_is c.args.pool.now shapes chain _ run in
+    let p = err_from_is_err_and c.from_residual-in_err-add_chain.result c.from_residual-in_err-add_chain.ensures.1 in
+    rw (p.1, p.2) (stops_join (joined c.args.pool.now shapes) chains i x _ _ c.in_err-add_chain.field-0.0 c.loop-chain-test.true c.loop-chain.invariant.are drawn c.in_err-add_chain.ensures.err)
+
+pub loop-chain-preserved : goal.loop-chain-preserved
+loop-chain-preserved c =
+    let chains = c.args.chains.now in
+    let shapes = c.args.shapes.now in
+    let i = c.loop-chain.chain-index in
+    let s = c.loop-chain.start in
+    let e = c.run_end-end.result in
+    let x : ChainEntry = record { tlid = 0; from = record { x = pos 0; y = pos 0 }; to = record { x = pos 0; y = pos 0 } } in
+    let chain : ChainEntry = get_or chains i x in
+    let t : ℕ = chain.tlid in
+    let above = above_run shapes s e t c.run_end-end.ensures.from c.requires.ordered (λ k d low high. c.loop-chain.invariant.ahead k d x low high c.loop-chain-test.true) c.run_end-end.ensures.stops in
+    let run = run_is shapes s e t c.run_end-end.ensures.from c.run_end-end.ensures.within c.requires.ordered (λ k d lt. c.loop-chain.invariant.behind k i d x lt (omega arith) c.loop-chain-test.true) c.run_end-end.ensures.same above in
+    let drawn = drawn_is c.args.pool.now shapes chain _ run in
+    record {
+      within = c.run_end-end.ensures.within;
+      behind = behind_more chains shapes i s e x c.loop-chain-test.true c.requires.rising c.loop-chain.invariant.behind c.run_end-end.ensures.same;
+      ahead = ahead_more chains shapes i e x c.loop-chain-test.true c.requires.rising c.requires.known above;
+      table = c.in_ok-add_chain.ensures.table;
+      count = omega (arith, c.in_ok-add_chain.ensures.rows, c.loop-chain.invariant.count);
+      few = c.in_ok-add_chain.ensures.few;
+      are = joined_more c.args.pool.now chains shapes i x _ _ _ c.loop-chain-test.true c.in_ok-add_chain.ensures.added drawn c.loop-chain.invariant.are;
+      several = several_more (joined c.args.pool.now shapes) chains i x _ c.loop-chain-test.true drawn c.in_ok-add_chain.ensures.several c.loop-chain.invariant.several;
+    }

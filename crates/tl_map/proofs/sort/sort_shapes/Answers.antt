@@ -1,0 +1,13 @@
+use Rattle.std.proofs.Common.{◌≡◌, rules}
+use Rattle.std.proofs.lemmas.Fn.{always_returns_same}
+use Rattle.tl_map.specs.declared.entry.ShapeEntry.{ShapeEntry}
+use Rattle.tl_map.proofs.CollectLemmas.{AreShapeEntries-permutation}
+use Rattle.tl_map.proofs.OrderLemmas.{AreInOrder-from_sort}
+use Rattle.tl_map.proofs.sort.sort_shapes.Goals as goal
+
+pub returns-clause-ordered : goal.returns-clause-ordered
+returns-clause-ordered c =
+    AreInOrder-from_sort _ (c.in_ok-sort_by_key.ensures.sorted (λ (x : ShapeEntry). (x.tlid, x.rtsq)) (always_returns_same _ (λ a r. r ≡ (a.0.now.tlid, a.0.now.rtsq)) _ (λ a r q k. search rules)))
+
+pub returns-clause-same : goal.returns-clause-same
+returns-clause-same c = λ rs pool h. AreShapeEntries-permutation rs pool _ _ c.in_ok-sort_by_key.ensures.permutation h

@@ -1,0 +1,29 @@
+use Rattle.std.specs.Prelude.{◌≡◌, ◌⊎◌, ℕ, List, ◌++◌, Option, Some, None, IfSome}
+use Rattle.tl_record.specs.declared.record.Record.{Record}
+use Rattle.tl_record.specs.declared.reader.Standing.{Standing}
+use Rattle.tl_record.specs.declared.reader.Standing.TheVariants.{Reading, Ended}
+use Rattle.tl_record.specs.Records.{Records}
+use Rattle.tl_map.specs.declared.collect.Collected.{Collected}
+use Rattle.tl_map.specs.declared.fault.MapStop.{MapStop}
+use Rattle.tl_map.specs.declared.fault.MapStop.TheVariants.{Refused, Device, Memory, Fault}
+use Rattle.tl_map.specs.Collected.{Collects}
+use Rattle.tl_map.specs.Reading.{records_in}
+
+-- the records so far, and what was to come at first is these and what comes now
+pub record GathersSoFar (at_first now : Option Records) (c : Collected) : Type 0 where
+  pub records : List Record
+  pub kept : Collects records c
+  pub known : IfSome at_first (λ all. (rest : Records) × (now ≡ Some rest) × (records_in all ≡ records ++ records_in rest) × (all.refusal ≡ rest.refusal) × (all.skipped ≡ rest.skipped))
+
+-- all records that were to come, none of which is refused
+pub record Gathers (at_first : Option Records) (skipped : ℕ) (c : Collected) : Type 0 where
+  pub records : List Record
+  pub kept : Collects records c
+  pub known : IfSome at_first (λ all. (records_in all ≡ records) × (all.refusal ≡ None) × (all.skipped ≡ skipped))
+
+-- why not all records come
+abbrev pub StopsGathering : Option Records → MapStop → Type 0
+StopsGathering at_first Device = Unit {0}
+StopsGathering at_first Memory = Unit {0}
+StopsGathering at_first (Refused line cause) = IfSome at_first (λ all. all.refusal ≡ Some (line, cause))
+StopsGathering at_first (Fault fault) = ⊥

@@ -1,0 +1,69 @@
+use Rattle.std.specs.Prelude.{◌≡◌, ℕ, ◌+◌, ◌<◌, ◌≤◌, if◌then◌else◌, List, [], ◌∷◌, ◌++◌, length, map, take, drop, All, Any}
+use Rattle.std.specs.List.{dedup, flat_map}
+use Rattle.tl_geom.specs.declared.point.Point.{Point}
+use Rattle.tl_map.specs.declared.chains.ChainRow.{ChainRow}
+use Rattle.tl_map.specs.declared.entry.ChainEntry.{ChainEntry}
+use Rattle.tl_map.specs.declared.entry.ShapeEntry.{ShapeEntry}
+use Rattle.tl_map.specs.declared.fault.TheConstants.{SEGMENT_LIMIT}
+use Rattle.tl_map.specs.declared.fault.Limited.TheVariants.{Chains, Segments}
+use Rattle.tl_map.specs.declared.fault.MapFault.TheVariants.{DuplicateChain, ShapeWithoutChain, ShapeSequence, ShapeGap, DegenerateChain, TooMany}
+use Rattle.tl_map.specs.declared.fault.MapStop.{MapStop}
+use Rattle.tl_map.specs.declared.fault.MapStop.TheVariants.{Refused, Device, Memory, Fault}
+use Rattle.tl_map.specs.Chains.{CompleteChain, same_point, segment_count}
+use Rattle.tl_map.specs.Entries.{entry_points}
+
+-- the row's points lie within the list
+abbrev pub IsWithin : List Point → ChainRow → Type 0
+IsWithin points row = row.first + row.count ≤ length points
+
+-- the chain of a row
+abbrev pub chain_in : List Point → ChainRow → CompleteChain
+chain_in points row = record { tlid = row.tlid; points = take row.count (drop row.first points) }
+
+-- the chains of the rows
+abbrev pub chains_in : List Point → List ChainRow → List CompleteChain
+chains_in points rows = map (chain_in points) rows
+
+-- the rows lie within the points, and there is no point beside theirs
+pub record IsTable (points : List Point) (rows : List ChainRow) : Type 0 where
+  pub within : All (IsWithin points) rows
+  pub total : length points ≡ segment_count (chains_in points rows) + length rows
+
+-- what dedup leaves of the points that follow p
+abbrev pub dedup_after : Point → List Point → List Point
+dedup_after p [] = []
+dedup_after p (q ∷ qs) = if same_point q p then dedup_after p qs else q ∷ dedup_after q qs
+
+-- the points of a chain with these between its start and its end
+abbrev pub drawn_through : ChainEntry → List Point → List Point
+drawn_through c between = dedup same_point (c.from ∷ (between ++ c.to ∷ []))
+
+-- the chain of an entry with the points of its shapes
+abbrev pub drawn_by : List Point → ChainEntry → List ShapeEntry → CompleteChain
+drawn_by pool c run = record { tlid = c.tlid; points = drawn_through c (flat_map (entry_points pool) run) }
+
+-- why a chain isn't added: it is one point, or there are too many segments with it
+abbrev pub StopsAdding : List CompleteChain → CompleteChain → MapStop → Type 0
+StopsAdding chains c Memory = Unit {0}
+StopsAdding chains c Device = ⊥
+StopsAdding chains c (Refused line cause) = ⊥
+StopsAdding chains c (Fault (DegenerateChain t)) = (t ≡ c.tlid) × (length c.points ≡ 1)
+StopsAdding chains c (Fault (TooMany Segments)) = SEGMENT_LIMIT < segment_count (chains ++ c ∷ [])
+StopsAdding chains c (Fault (TooMany Chains)) = ⊥
+StopsAdding chains c (Fault (DuplicateChain t)) = ⊥
+StopsAdding chains c (Fault (ShapeWithoutChain t)) = ⊥
+StopsAdding chains c (Fault (ShapeSequence t)) = ⊥
+StopsAdding chains c (Fault (ShapeGap t)) = ⊥
+
+-- why the chains aren't joined: one of them is one point, or they have too many segments
+abbrev pub StopsJoin : List CompleteChain → MapStop → Type 0
+StopsJoin chains Memory = Unit {0}
+StopsJoin chains Device = ⊥
+StopsJoin chains (Refused line cause) = ⊥
+StopsJoin chains (Fault (DegenerateChain t)) = Any (λ c. (t ≡ c.tlid) × (length c.points ≡ 1)) chains
+StopsJoin chains (Fault (TooMany Segments)) = SEGMENT_LIMIT < segment_count chains
+StopsJoin chains (Fault (TooMany Chains)) = ⊥
+StopsJoin chains (Fault (DuplicateChain t)) = ⊥
+StopsJoin chains (Fault (ShapeWithoutChain t)) = ⊥
+StopsJoin chains (Fault (ShapeSequence t)) = ⊥
+StopsJoin chains (Fault (ShapeGap t)) = ⊥

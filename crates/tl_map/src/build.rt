@@ -1,0 +1,63 @@
+//! Chains from the collected records.
+
+ghost use Rattle.std.specs.Prelude.{◌≡◌, ◌≤◌, List, MatchOption, MatchResult, length};
+ghost use Rattle.std.specs.List.Sorted.{IsNonDecreasingBy};
+ghost use Rattle.tl_geom.specs.declared.point.Point.{Point};
+ghost use Rattle.tl_record.specs.declared.record.Record.{Record};
+ghost use Rattle.tl_map.specs.declared.entry.ChainEntry.{ChainEntry};
+ghost use Rattle.tl_map.specs.Faults.{IsTrueOf};
+ghost use Rattle.tl_map.specs.Entries.{AreChainEntries, AreShapeEntries, AreInOrder};
+ghost use Rattle.tl_map.specs.Collected.{Collects};
+ghost use Rattle.tl_map.specs.Built.{AreSound, AreBuilt, StopsBuilding};
+
+use crate::chains::Chains;
+use crate::collect::Collected;
+use crate::entry::{ChainEntry, ShapeEntry};
+use crate::fault::{Limited, MapFault, MapStop};
+use crate::join::join;
+use crate::passes::{gap_tlid, misnumbered_tlid, repeated_tlid, stray_tlid};
+use crate::sort::{sort_chains, sort_shapes};
+use std::alloc::Global;
+
+/// A fault of sorted chains and shapes that shows before they are joined.
+fn first_fault(chains: &[ChainEntry], shapes: &[ShapeEntry]) -> Option<MapFault>
+    requires chains { IsNonDecreasingBy (λ (c : ChainEntry). c.tlid) chains.now }
+    requires shapes { AreInOrder shapes.now }
+    ensures { (rs : List Record) (pool : List Point) → AreChainEntries rs chains.now → AreShapeEntries rs pool shapes.now → MatchOption result (AreSound rs chains.now shapes.now) (IsTrueOf rs) }
+{
+    if let Some(tlid) = repeated_tlid(chains) {
+        return Some(MapFault::DuplicateChain { tlid });
+    }
+    if let Some(tlid) = stray_tlid(chains, shapes) {
+        return Some(MapFault::ShapeWithoutChain { tlid });
+    }
+    if let Some(tlid) = misnumbered_tlid(shapes) {
+        return Some(MapFault::ShapeSequence { tlid });
+    }
+    if let Some(tlid) = gap_tlid(shapes) {
+        return Some(MapFault::ShapeGap { tlid });
+    }
+    None
+}
+
+/// The chains of the records.
+pub fn build_chains(alloc: Global, collected: Collected, skipped: u64) -> Result<Chains, MapStop>
+    requires { (rs : List Record) × Collects rs collected }
+    ensures { (rs : List Record) → Collects rs collected → MatchResult result (AreBuilt rs skipped) (StopsBuilding rs) }
+{
+    if collected.too_many {
+        return Err(MapStop::Fault(MapFault::TooMany(Limited::Chains)));
+    }
+    let Collected {
+        mut chains,
+        mut shapes,
+        pool,
+        too_many: _,
+    } = collected;
+    sort_chains(&mut chains)?;
+    sort_shapes(&mut shapes)?;
+    if let Some(fault) = first_fault(&chains, &shapes) {
+        return Err(MapStop::Fault(fault));
+    }
+    join(alloc, &chains, &shapes, &pool, skipped)
+}

@@ -1,0 +1,119 @@
+//! Keeps records until all of them are read.
+
+ghost use Rattle.std.specs.Prelude.{◌≡◌, ◌+◌, ◌<◌, ◌≤◌, ◌∷◌, [], ◌++◌, List, OnOk, IfOk, length};
+ghost use Rattle.tl_geom.specs.declared.point.Point.{Point};
+ghost use Rattle.tl_record.specs.declared.record.Record.{Record};
+ghost use Rattle.tl_record.specs.declared.record.Record.TheVariants.{Shape};
+ghost use Rattle.tl_map.specs.Chains.{used};
+ghost use Rattle.tl_map.specs.Entries.{fill_of, AreShapeEntries};
+
+use crate::entry::{ChainEntry, Fill, ShapeEntry};
+use crate::fault::CHAIN_LIMIT;
+use std::alloc::{AllocError, Global};
+use tl_geom::Point;
+use tl_record::{PAIRS, Record};
+
+/// The records read so far.
+#[derive(Drop)]
+pub struct Collected {
+    pub chains: Vec<ChainEntry>,
+    pub shapes: Vec<ShapeEntry>,
+    /// The used points of all shapes.
+    pub pool: Vec<Point>,
+    /// There are more type 1 records than the limit. The chains are then not all kept.
+    pub too_many: bool,
+}
+
+impl Collected {
+    ghost use Rattle.std.specs.Prelude.{◌∷◌, [], ◌++◌, List, OnOk};
+    ghost use Rattle.tl_record.specs.declared.record.Record.{Record};
+    ghost use Rattle.tl_map.specs.Collected.{Collects};
+
+    /// No record.
+    pub fn new(alloc: Global) -> Collected
+        ensures { Collects [] result }
+    {
+        Collected {
+            chains: Vec::new(alloc),
+            shapes: Vec::new(alloc),
+            pool: Vec::new(alloc),
+            too_many: false,
+        }
+    }
+
+    /// Keeps one more record.
+    pub fn add(&mut self, next: &Record) -> Result<(), AllocError>
+        ensures { (rs : List Record) → Collects rs self.old → OnOk result (Collects (rs ++ next.now ∷ []) self.new) }
+    {
+        match next {
+            Record::Chain { tlid, from, to } => {
+                if self.chains.len() < CHAIN_LIMIT as usize {
+                    self.chains.push(ChainEntry {
+                        tlid: *tlid,
+                        from: *from,
+                        to: *to,
+                    })?;
+                } else {
+                    self.too_many = true;
+                }
+                Ok(())
+            }
+            Record::Shape { tlid, rtsq, pairs } => {
+                add_shape(&mut self.shapes, &mut self.pool, *tlid, *rtsq, pairs)
+            }
+            // Records of the other types draw no chain.
+            Record::Sides { .. }
+            | Record::PolyPoint { .. }
+            | Record::Landmark { .. }
+            | Record::AreaLink { .. } => Ok(()),
+        }
+    }
+}
+
+/// Keeps a type 2 record.
+fn add_shape(
+    shapes: &mut Vec<ShapeEntry>,
+    pool: &mut Vec<Point>,
+    tlid: u64,
+    rtsq: u16,
+    pairs: &[Option<Point>; PAIRS],
+) -> Result<(), AllocError>
+    ensures { (rs : List Record) → AreShapeEntries rs pool.old.items shapes.old.items → OnOk result (AreShapeEntries (rs ++ Shape tlid rtsq pairs.now ∷ []) pool.new.items shapes.new.items) }
+{
+    let first = pool.len();
+    let fill = append_used(pool, pairs)?;
+    let used = (pool.len() - first) as u8;
+    shapes.push(ShapeEntry {
+        tlid,
+        first,
+        rtsq,
+        used,
+        fill,
+    })?;
+    Ok(())
+}
+
+/// Appends the points of the used pairs, and says how the pairs are filled.
+fn append_used(pool: &mut Vec<Point>, pairs: &[Option<Point>; PAIRS]) -> Result<Fill, AllocError>
+    ensures points { OnOk result (pool.new.items ≡ pool.old.items ++ used pairs.now) }
+    ensures fill { IfOk result (λ fill. fill ≡ fill_of pairs.now) }
+{
+    let mut ended = false;
+    let mut gap = false;
+    for pair in pairs {
+        match pair {
+            None => ended = true,
+            Some(point) => {
+                pool.push(*point)?;
+                gap |= ended;
+            }
+        }
+    }
+    Ok(if gap {
+        Fill::Gap
+    } else if ended {
+        Fill::Ended
+    } else {
+        Fill::Full
+    })
+}

@@ -1,0 +1,32 @@
+//! Records as they are kept until all of them are read.
+
+use tl_geom::Point;
+
+/// A type 1 record.
+#[derive(Clone, Copy, Debug)]
+pub struct ChainEntry {
+    pub tlid: u64,
+    pub from: Point,
+    pub to: Point,
+}
+
+/// How the used pairs of a type 2 record lie among the unused ones.
+#[derive(Clone, Copy, Debug, PartialEq, Eq)]
+pub enum Fill {
+    /// Each pair is used.
+    Full,
+    /// The pairs from one on are unused, and those before it are used.
+    Ended,
+    /// A used pair comes after an unused one.
+    Gap,
+}
+
+/// A type 2 record, whose used points stand in a list that all records share: `used` of them from `first` on.
+#[derive(Clone, Copy, Debug)]
+pub struct ShapeEntry {
+    pub tlid: u64,
+    pub first: usize,
+    pub rtsq: u16,
+    pub used: u8,
+    pub fill: Fill,
+}

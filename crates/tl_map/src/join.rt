@@ -1,0 +1,135 @@
+//! Joins chains with their shapes.
+
+ghost use Rattle.std.specs.Prelude.{◌≡◌, ◌≢◌, ℕ, ◌+◌, ◌<◌, ◌≤◌, ◌∷◌, [], ◌++◌, List, OnOk, IfOk, IfErr, length, map, slice_index_or, All};
+ghost use Rattle.tl_geom.specs.declared.point.Point.{Point};
+ghost use Rattle.tl_map.specs.declared.entry.ShapeEntry.{ShapeEntry};
+ghost use Rattle.tl_map.specs.declared.fault.TheConstants.{CHAIN_LIMIT, SEGMENT_LIMIT};
+ghost use Rattle.std.specs.List.{flat_map};
+ghost use Rattle.tl_map.specs.Entries.{entry_points, IsInside, AreRising, AreInOrder, chains_with, joined};
+ghost use Rattle.tl_map.specs.Rows.{IsTable, chains_in, dedup_after, drawn_through, drawn_by, StopsAdding, StopsJoin};
+ghost use Rattle.tl_map.specs.Chains.{segment_count};
+
+use crate::chains::{ChainRow, Chains};
+use crate::entry::{ChainEntry, ShapeEntry};
+use crate::fault::{CHAIN_LIMIT, Limited, MapFault, MapStop, SEGMENT_LIMIT};
+use std::alloc::{AllocError, Global};
+use tl_geom::Point;
+
+/// Appends the points that differ from the one before, where `last` is the one before the first. Gives the last.
+fn append_distinct(
+    points: &mut Vec<Point>,
+    last: Point,
+    more: &[Point],
+) -> Result<Point, AllocError>
+    ensures { IfOk result (λ end. (rest : List Point) → points.new.items ++ dedup_after end rest ≡ points.old.items ++ dedup_after last (more.now ++ rest)) }
+{
+    let mut last = last;
+    for point in more {
+        if *point != last {
+            points.push(*point)?;
+            last = *point;
+        }
+    }
+    Ok(last)
+}
+
+/// Appends the points of a chain with these shapes.
+fn append_chain(
+    points: &mut Vec<Point>,
+    chain: &ChainEntry,
+    run: &[ShapeEntry],
+    pool: &[Point],
+) -> Result<(), AllocError>
+    requires { All (IsInside pool.now) run.now }
+    ensures { OnOk result (points.new.items ≡ points.old.items ++ drawn_through chain.now (flat_map (entry_points pool.now) run.now)) }
+{
+    let mut last = chain.from;
+    points.push(last)?;
+    for shape in run {
+        let used = &pool[shape.first..shape.first + usize::from(shape.used)];
+        last = append_distinct(points, last, used)?;
+    }
+    append_distinct(points, last, &[chain.to])?;
+    Ok(())
+}
+
+/// Adds a chain with these shapes.
+fn add_chain(
+    rows: &mut Vec<ChainRow>,
+    points: &mut Vec<Point>,
+    chain: &ChainEntry,
+    run: &[ShapeEntry],
+    pool: &[Point],
+) -> Result<(), MapStop>
+    requires inside { All (IsInside pool.now) run.now }
+    requires table { IsTable points.old.items rows.old.items }
+    requires room { length rows.old.items < CHAIN_LIMIT }
+    requires few { length points.old.items ≤ SEGMENT_LIMIT + length rows.old.items }
+    ensures table { OnOk result (IsTable points.new.items rows.new.items) }
+    ensures few { OnOk result (length points.new.items ≤ SEGMENT_LIMIT + length rows.new.items) }
+    ensures added { OnOk result (chains_in points.new.items rows.new.items ≡ chains_in points.old.items rows.old.items ++ drawn_by pool.now chain.now run.now ∷ []) }
+    ensures rows { OnOk result (length rows.new.items ≡ length rows.old.items + 1) }
+    ensures several { OnOk result (length (drawn_by pool.now chain.now run.now).points ≢ 1) }
+    ensures err { IfErr result (StopsAdding (chains_in points.old.items rows.old.items) (drawn_by pool.now chain.now run.now)) }
+{
+    let first = points.len();
+    append_chain(points, chain, run, pool)?;
+    let count = points.len() - first;
+    if count == 1 {
+        return Err(MapStop::Fault(MapFault::DegenerateChain { tlid: chain.tlid }));
+    }
+    if points.len() > SEGMENT_LIMIT as usize + rows.len() + 1 {
+        return Err(MapStop::Fault(MapFault::TooMany(Limited::Segments)));
+    }
+    rows.push(ChainRow {
+        tlid: chain.tlid,
+        first: first as u32,
+        count: count as u32,
+    })?;
+    Ok(())
+}
+
+/// Where the shapes of a TLID end that begin at `start`.
+fn run_end(shapes: &[ShapeEntry], start: usize, tlid: u64) -> usize
+    requires { start ≤ length shapes.now }
+    ensures within { result ≤ length shapes.now }
+    ensures from { start ≤ result }
+    ensures same { (k : ℕ) (d : ShapeEntry) → start ≤ k → k < result → (slice_index_or shapes.now k d).tlid ≡ tlid }
+    ensures stops { (d : ShapeEntry) → result < length shapes.now → (slice_index_or shapes.now result d).tlid ≢ tlid }
+{
+    let mut end = start;
+    while end < shapes.len() && shapes[end].tlid == tlid {
+        end += 1;
+    }
+    end
+}
+
+/// The chains with the points of their shapes, in chains and shapes sorted by TLID, where each shape has the TLID of a
+/// chain.
+pub fn join(
+    alloc: Global,
+    chains: &[ChainEntry],
+    shapes: &[ShapeEntry],
+    pool: &[Point],
+    skipped: u64,
+) -> Result<Chains, MapStop>
+    requires room { length chains.now ≤ CHAIN_LIMIT }
+    requires rising { AreRising chains.now }
+    requires ordered { AreInOrder shapes.now }
+    requires inside { All (IsInside pool.now) shapes.now }
+    requires known { All (λ s. 1 ≤ chains_with s.tlid chains.now) shapes.now }
+    ensures ok { IfOk result (λ c. c ≡ record { chains = map (joined pool.now shapes.now) chains.now; skipped = skipped }) }
+    ensures several { OnOk result (All (λ c. length (joined pool.now shapes.now c).points ≢ 1) chains.now) }
+    ensures few { OnOk result (segment_count (map (joined pool.now shapes.now) chains.now) ≤ SEGMENT_LIMIT) }
+    ensures err { IfErr result (StopsJoin (map (joined pool.now shapes.now) chains.now)) }
+{
+    let mut points = Vec::new(alloc);
+    let mut rows = Vec::with_capacity(alloc, chains.len())?;
+    let mut start = 0;
+    for chain in chains {
+        let end = run_end(shapes, start, chain.tlid);
+        add_chain(&mut rows, &mut points, chain, &shapes[start..end], pool)?;
+        start = end;
+    }
+    Ok(Chains::new(rows, points, skipped))
+}

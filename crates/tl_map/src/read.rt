@@ -1,0 +1,53 @@
+//! Chains from the bytes of record files.
+
+ghost use Rattle.std.specs.Prelude.{◌≡◌, IfOk, IfErr, IfSome};
+ghost use Rattle.tl_record.specs.declared.reader.Standing.TheVariants.{Reading};
+ghost use Rattle.tl_record.specs.Layout.{tiger_2006};
+ghost use Rattle.tl_record.specs.Records.{records_of};
+ghost use Rattle.tl_record.specs.Reader.{source_of, skipped_of, standing_of, outcome};
+ghost use Rattle.tl_map.specs.Reading.{AreReadFrom, StopsReading, TellsDevice};
+ghost use Rattle.tl_map.specs.Gathering.{Gathers, StopsGathering};
+
+use crate::build::build_chains;
+use crate::chains::Chains;
+use crate::collect::Collected;
+use crate::fault::MapStop;
+use std::alloc::Global;
+use tl_record::{RecordReader, Source};
+
+/// Collects all records that a reader has to give.
+fn collect_records<R: Source>(
+    alloc: Global,
+    reader: &mut RecordReader<R>,
+) -> Result<Collected, MapStop>
+    requires { standing_of reader.old ≡ Reading }
+    ensures all { IfOk result (Gathers (outcome R.remaining reader.old) (skipped_of reader.new)) }
+    ensures stops { IfErr result (StopsGathering (outcome R.remaining reader.old)) }
+    ensures failures { TellsDevice (R.failure_count (source_of reader.old)) (R.failure_count (source_of reader.new)) result }
+{
+    let mut collected = Collected::new(alloc);
+    'records: loop {
+        match reader.next_record() {
+            Ok(Some((_, next))) => collected.add(&next)?,
+            Ok(None) => return Ok(collected),
+            Err(stop) => return Err(MapStop::from(stop)),
+        }
+    }
+}
+
+/// Reads the chains of a county from the text of its record files, types 1 and 2.
+///
+/// All lines are read before a fault of the records is answered.
+pub fn read_chains<R: Source>(alloc: Global, records: &mut R) -> Result<Chains, MapStop>
+    // Where the bytes are known: the chains of their records, where no line is refused and no fault is true.
+    ensures chains { IfOk result (λ c. IfSome (R.remaining records.old) (λ text. AreReadFrom (records_of tiger_2006 text) c)) }
+    // The first refused line, or where there is none, a fault that is true.
+    ensures stops { IfErr result (λ stop. IfSome (R.remaining records.old) (λ text. StopsReading (records_of tiger_2006 text) stop)) }
+{
+    let mut reader = RecordReader::new(records);
+    let collected = collect_records(alloc, &mut reader)?;
+    build_chains(alloc, collected, reader.skipped())
+}
+
+#[cfg(test)]
+mod tests;

@@ -1,0 +1,398 @@
+use crate::chains::Chains;
+use crate::fault::{Limited, MapFault, MapStop};
+use crate::read::read_chains;
+use std::alloc::{AllocError, Global};
+use std::io;
+use std::io::Read;
+use std::process::Abort;
+use std::test::Fail;
+use tl_geom::Point;
+use tl_record::{Cause, Field, Meter};
+
+/// Record lines, written field by field.
+#[derive(Drop)]
+struct Text {
+    text: String,
+}
+
+impl Text {
+    fn new(alloc: Global) -> Text {
+        Text {
+            text: String::new(alloc),
+        }
+    }
+
+    /// A type 1 record, 228 columns.
+    fn chain(&mut self, tlid: u64, from: Point, to: Point) -> Result<(), AllocError> {
+        write!(self.text, "10000{tlid:>10}{:>175}", "")?;
+        self.pair(from.x, from.y)?;
+        self.pair(to.x, to.y)?;
+        self.text.push_str("\n")
+    }
+
+    /// A type 2 record with these pairs; the rest of its columns are past its end.
+    fn shape(&mut self, tlid: u64, rtsq: u16, pairs: &[Point]) -> Result<(), AllocError> {
+        write!(self.text, "20000{tlid:>10}{rtsq:>3}")?;
+        for pair in pairs {
+            self.pair(pair.x, pair.y)?;
+        }
+        self.text.push_str("\n")
+    }
+
+    fn pair(&mut self, x: i32, y: i32) -> Result<(), AllocError> {
+        self.number(x, 9)?;
+        self.number(y, 8)
+    }
+
+    fn number(&mut self, value: i32, width: usize) -> Result<(), AllocError> {
+        self.text.push_str(if value < 0 { "-" } else { "+" })?;
+        let size = value.unsigned_abs();
+        if width == 9 {
+            write!(self.text, "{size:09}")
+        } else {
+            write!(self.text, "{size:08}")
+        }
+    }
+
+    fn read(&self, alloc: Global) -> Result<Chains, MapStop> {
+        read_chains(alloc, &mut Meter::new(self.text.as_bytes()))
+    }
+}
+
+fn at(x: i32, y: i32) -> Point {
+    Point { x, y }
+}
+
+/// Ends in the chains' numbers: how many there are, their segments, and the lines passed over.
+fn assert_counts(rt: &impl Abort, chains: &Chains, len: u32, segments: u32, skipped: u64) {
+    assert!(rt; chains.len() == len);
+    assert!(rt; chains.segments() == segments);
+    assert!(rt; chains.skipped() == skipped);
+}
+
+fn assert_chain(rt: &impl Abort, chains: &Chains, number: u32, tlid: u64, points: &[Point]) {
+    assert!(rt; number < chains.len());
+    assert!(rt; chains.tlid(number) == tlid);
+    assert!(rt; chains.points(number) == points);
+}
+
+fn fault_of(text: &Text, alloc: Global) -> Option<MapFault> {
+    match text.read(alloc) {
+        Err(MapStop::Fault(fault)) => Some(fault),
+        _ => None,
+    }
+}
+
+#[test]
+fn no_records(rt: HostRuntime) -> Result<(), Fail> {
+    let chains = Text::new(rt.alloc()).read(rt.alloc())?;
+    assert_counts(&rt, &chains, 0, 0, 0);
+    Ok(())
+}
+
+#[test]
+fn square(rt: HostRuntime) -> Result<(), Fail> {
+    let mut text = Text::new(rt.alloc());
+    text.chain(1, at(10, 10), at(10, 10))?;
+    text.shape(1, 1, &[at(30, 10), at(30, 30), at(10, 30)])?;
+    let chains = text.read(rt.alloc())?;
+    assert_counts(&rt, &chains, 1, 4, 0);
+    let points = [at(10, 10), at(30, 10), at(30, 30), at(10, 30), at(10, 10)];
+    assert_chain(&rt, &chains, 0, 1, &points);
+    Ok(())
+}
+
+#[test]
+fn equal_neighbours_once(rt: HostRuntime) -> Result<(), Fail> {
+    let mut text = Text::new(rt.alloc());
+    text.chain(1, at(10, 10), at(10, 10))?;
+    text.shape(1, 1, &[at(30, 10), at(30, 10), at(30, 30), at(10, 30)])?;
+    text.text.push_str("4\n")?;
+    let chains = text.read(rt.alloc())?;
+    assert_counts(&rt, &chains, 1, 4, 1);
+    let points = [at(10, 10), at(30, 10), at(30, 30), at(10, 30), at(10, 10)];
+    assert_chain(&rt, &chains, 0, 1, &points);
+    Ok(())
+}
+
+#[test]
+fn shapes_by_rising_rtsq(rt: HostRuntime) -> Result<(), Fail> {
+    let mut text = Text::new(rt.alloc());
+    text.chain(9, at(1, 1), at(13, 13))?;
+    text.shape(9, 2, &[at(12, 12)])?;
+    text.shape(
+        9,
+        1,
+        &[
+            at(2, 2),
+            at(3, 3),
+            at(4, 4),
+            at(5, 5),
+            at(6, 6),
+            at(7, 7),
+            at(8, 8),
+            at(9, 9),
+            at(10, 10),
+            at(11, 11),
+        ],
+    )?;
+    let chains = text.read(rt.alloc())?;
+    assert_counts(&rt, &chains, 1, 12, 0);
+    let points = [
+        at(1, 1),
+        at(2, 2),
+        at(3, 3),
+        at(4, 4),
+        at(5, 5),
+        at(6, 6),
+        at(7, 7),
+        at(8, 8),
+        at(9, 9),
+        at(10, 10),
+        at(11, 11),
+        at(12, 12),
+        at(13, 13),
+    ];
+    assert_chain(&rt, &chains, 0, 9, &points);
+    Ok(())
+}
+
+#[test]
+fn chains_by_rising_tlid(rt: HostRuntime) -> Result<(), Fail> {
+    let mut text = Text::new(rt.alloc());
+    text.shape(20, 1, &[at(-1, 2)])?;
+    text.chain(30, at(5, 5), at(6, 6))?;
+    text.chain(20, at(0, 0), at(-3, -4))?;
+    let chains = text.read(rt.alloc())?;
+    assert_counts(&rt, &chains, 2, 3, 0);
+    assert_chain(&rt, &chains, 0, 20, &[at(0, 0), at(-1, 2), at(-3, -4)]);
+    assert_chain(&rt, &chains, 1, 30, &[at(5, 5), at(6, 6)]);
+    Ok(())
+}
+
+#[test]
+fn gap(rt: HostRuntime) -> Result<(), Fail> {
+    let mut text = Text::new(rt.alloc());
+    text.chain(7, at(1, 1), at(9, 9))?;
+    text.shape(7, 1, &[at(2, 2), at(3, 3), at(4, 4), at(0, 0), at(6, 6)])?;
+    assert_eq!(rt;
+        fault_of(&text, rt.alloc()),
+        Some(MapFault::ShapeGap { tlid: 7 })
+    );
+    Ok(())
+}
+
+#[test]
+fn gap_between_records(rt: HostRuntime) -> Result<(), Fail> {
+    let mut text = Text::new(rt.alloc());
+    text.chain(7, at(1, 1), at(9, 9))?;
+    text.shape(7, 1, &[at(2, 2)])?;
+    text.shape(7, 2, &[at(3, 3)])?;
+    assert_eq!(rt;
+        fault_of(&text, rt.alloc()),
+        Some(MapFault::ShapeGap { tlid: 7 })
+    );
+    Ok(())
+}
+
+#[test]
+fn sequence_with_a_hole(rt: HostRuntime) -> Result<(), Fail> {
+    let mut text = Text::new(rt.alloc());
+    text.chain(7, at(1, 1), at(9, 9))?;
+    text.shape(7, 1, &[at(2, 2)])?;
+    text.shape(7, 3, &[at(3, 3)])?;
+    assert_eq!(rt;
+        fault_of(&text, rt.alloc()),
+        Some(MapFault::ShapeSequence { tlid: 7 })
+    );
+    Ok(())
+}
+
+#[test]
+fn sequence_from_zero(rt: HostRuntime) -> Result<(), Fail> {
+    let mut text = Text::new(rt.alloc());
+    text.chain(7, at(1, 1), at(9, 9))?;
+    text.shape(7, 0, &[at(2, 2)])?;
+    assert_eq!(rt;
+        fault_of(&text, rt.alloc()),
+        Some(MapFault::ShapeSequence { tlid: 7 })
+    );
+    Ok(())
+}
+
+#[test]
+fn sequence_number_twice(rt: HostRuntime) -> Result<(), Fail> {
+    let mut text = Text::new(rt.alloc());
+    text.chain(7, at(1, 1), at(9, 9))?;
+    text.shape(7, 1, &[at(2, 2)])?;
+    text.shape(7, 1, &[at(3, 3)])?;
+    assert_eq!(rt;
+        fault_of(&text, rt.alloc()),
+        Some(MapFault::ShapeSequence { tlid: 7 })
+    );
+    Ok(())
+}
+
+#[test]
+fn duplicate_chain(rt: HostRuntime) -> Result<(), Fail> {
+    let mut text = Text::new(rt.alloc());
+    text.chain(4, at(1, 1), at(9, 9))?;
+    text.chain(5, at(1, 1), at(8, 8))?;
+    text.chain(4, at(1, 1), at(9, 9))?;
+    assert_eq!(rt;
+        fault_of(&text, rt.alloc()),
+        Some(MapFault::DuplicateChain { tlid: 4 })
+    );
+    Ok(())
+}
+
+#[test]
+fn shape_without_chain(rt: HostRuntime) -> Result<(), Fail> {
+    let mut text = Text::new(rt.alloc());
+    text.chain(4, at(1, 1), at(9, 9))?;
+    text.shape(6, 1, &[at(2, 2)])?;
+    text.chain(8, at(1, 1), at(9, 8))?;
+    assert_eq!(rt;
+        fault_of(&text, rt.alloc()),
+        Some(MapFault::ShapeWithoutChain { tlid: 6 })
+    );
+    Ok(())
+}
+
+#[test]
+fn degenerate_chain(rt: HostRuntime) -> Result<(), Fail> {
+    let mut text = Text::new(rt.alloc());
+    text.chain(2, at(1, 1), at(9, 9))?;
+    text.chain(3, at(5, 5), at(5, 5))?;
+    text.shape(3, 1, &[at(5, 5), at(5, 5)])?;
+    assert_eq!(rt;
+        fault_of(&text, rt.alloc()),
+        Some(MapFault::DegenerateChain { tlid: 3 })
+    );
+    Ok(())
+}
+
+#[test]
+fn latitude_limit(rt: HostRuntime) -> Result<(), Fail> {
+    let mut taken = Text::new(rt.alloc());
+    taken.chain(1, at(10, 90_000_000), at(20, 20))?;
+    assert_counts(&rt, &taken.read(rt.alloc())?, 1, 1, 0);
+    let mut refused = Text::new(rt.alloc());
+    refused.chain(1, at(10, 90_000_001), at(20, 20))?;
+    let stop = MapStop::Refused {
+        line: 1,
+        cause: Cause::OutOfRange(Field::FrLat),
+    };
+    assert!(rt; stops_with(refused.read(rt.alloc()), stop));
+    Ok(())
+}
+
+#[test]
+fn refused_line_before_a_fault(rt: HostRuntime) -> Result<(), Fail> {
+    let mut text = Text::new(rt.alloc());
+    text.chain(4, at(1, 1), at(9, 9))?;
+    text.chain(4, at(1, 1), at(9, 9))?;
+    text.chain(5, at(180_000_001, 1), at(9, 9))?;
+    let stop = MapStop::Refused {
+        line: 3,
+        cause: Cause::OutOfRange(Field::FrLong),
+    };
+    assert!(rt; stops_with(text.read(rt.alloc()), stop));
+    Ok(())
+}
+
+fn stops_with(answer: Result<Chains, MapStop>, stop: MapStop) -> bool {
+    match answer {
+        Ok(_) => false,
+        Err(found) => found == stop,
+    }
+}
+
+/// Gives one byte a read, and fails at the read with this number, from 1.
+#[derive(Drop)]
+struct OneByte<'a> {
+    bytes: &'a [u8],
+    fails_in: u64,
+}
+
+impl<'a> Read for OneByte<'a> {
+    fn read(&mut self, buf: &mut [u8]) -> io::Result<usize> {
+        if self.fails_in == 0 {
+            return Err(io::Error::from(io::ErrorKind::Other));
+        }
+        self.fails_in -= 1;
+        match (self.bytes, buf) {
+            ([first, rest @ ..], [place, ..]) => {
+                *place = *first;
+                self.bytes = rest;
+                Ok(1)
+            }
+            _ => Ok(0),
+        }
+    }
+}
+
+#[test]
+fn one_byte_a_read(rt: HostRuntime) -> Result<(), Fail> {
+    let mut text = Text::new(rt.alloc());
+    text.chain(1, at(10, 10), at(10, 10))?;
+    text.shape(1, 1, &[at(30, 10), at(30, 30)])?;
+    let bytes = text.text.as_bytes();
+    let mut whole = Meter::new(OneByte {
+        bytes,
+        fails_in: u64::MAX,
+    });
+    assert_counts(&rt, &read_chains(rt.alloc(), &mut whole)?, 1, 3, 0);
+    for fails_in in 0..200 {
+        let mut failing = Meter::new(OneByte { bytes, fails_in });
+        assert!(rt; stops_with(read_chains(rt.alloc(), &mut failing), MapStop::Device));
+    }
+    Ok(())
+}
+
+#[test]
+fn printed(rt: HostRuntime) -> Result<(), Fail> {
+    let faults = [
+        (
+            MapFault::DuplicateChain { tlid: 12 },
+            "map fault M1 DuplicateChain tlid 12",
+        ),
+        (
+            MapFault::ShapeWithoutChain { tlid: 1 },
+            "map fault M2 ShapeWithoutChain tlid 1",
+        ),
+        (
+            MapFault::ShapeSequence { tlid: 7 },
+            "map fault M3 ShapeSequence tlid 7",
+        ),
+        (
+            MapFault::ShapeGap { tlid: 7 },
+            "map fault M4 ShapeGap tlid 7",
+        ),
+        (
+            MapFault::DegenerateChain { tlid: 3 },
+            "map fault M12 DegenerateChain tlid 3",
+        ),
+        (
+            MapFault::TooMany(Limited::Chains),
+            "map fault M13 TooMany chains",
+        ),
+        (
+            MapFault::TooMany(Limited::Segments),
+            "map fault M13 TooMany segments",
+        ),
+    ];
+    for (fault, line) in faults {
+        let printed = format!(in rt.alloc(); "{}", MapStop::Fault(fault))?;
+        assert!(rt; printed.as_str() == line);
+    }
+    let refused = MapStop::Refused {
+        line: 1,
+        cause: Cause::OutOfRange(Field::FrLat),
+    };
+    let printed = format!(in rt.alloc(); "{refused}")?;
+    assert!(rt; printed.as_str() == "refused line 1 L4 OutOfRange FRLAT");
+    let printed = format!(in rt.alloc(); "{} {}", MapStop::Device, MapStop::Memory)?;
+    assert!(rt; printed.as_str() == "stopped Device stopped Memory");
+    Ok(())
+}
