@@ -1,0 +1,31 @@
+# make                     proves and builds the program
+# make check               the merge gate: every proof, must-fail edit, test and stored run, from nothing
+# make examples            runs the commands of examples/README.md and compares what they print
+# make memory              refuses each allocation of the program in its turn
+# make bench               measures the program on record files of 1,000 to 100,000 chains
+# make install PREFIX=..   installs the program as PREFIX/bin/tigertopo
+
+PREFIX = /usr/local
+PROGRAM = crates/tigertopo/out/tigertopo
+
+.PHONY: build check examples memory bench install
+
+build:
+	cd crates/tigertopo && rt run -- --help >/dev/null
+
+check:
+	.ci/run
+
+examples: build
+	python3 examples/run.py
+
+memory: build
+	python3 tests/refuse_memory.py
+
+bench: build
+	cd crates/count_records && rt run >/dev/null
+	python3 bench/run.py
+
+install: build
+	install -d $(DESTDIR)$(PREFIX)/bin
+	install $(PROGRAM) $(DESTDIR)$(PREFIX)/bin/tigertopo

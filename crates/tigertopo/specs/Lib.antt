@@ -1,0 +1,5 @@
+-- What the command's contracts cite.
+pub mod Joining
+pub mod Plans
+pub mod Printing
+pub mod Stops

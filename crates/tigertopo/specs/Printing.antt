@@ -1,0 +1,56 @@
+-- What `show` prints.
+use Rattle.std.specs.Prelude.{◌≡◌, Option, None, Result, IfSome, IsSome, MatchResult, ℕ, List, [], ◌∷◌, ◌++◌, length, codes, decimal}
+use Rattle.std.specs.Fmt.{signed_decimal}
+use Rattle.std.specs.Io.KnownBytes.{Appends}
+use Rattle.tl_record.specs.Failures.{one_more}
+use Rattle.tl_record.specs.Layout.{tiger_2006}
+use Rattle.tl_record.specs.Records.{records_of}
+use Rattle.tl_map.specs.declared.fault.MapFault.{MapFault}
+use Rattle.tl_map.specs.Faults.{IsTrueOf}
+use Rattle.tl_map.specs.Reading.{AreReadFrom, records_in}
+use Rattle.tl_geom.specs.declared.point.Point.{Point}
+use Rattle.tl_map.specs.Chains.{CompleteChain, ChainList, segment_count}
+
+-- a blank, the longitude, a comma and the latitude
+unfoldable pub point_text : Point → List ℕ
+point_text point = codes " " ++ signed_decimal point.x ++ codes "," ++ signed_decimal point.y
+
+-- the points one after the other
+abbrev pub points_text : List Point → List ℕ
+points_text [] = []
+points_text (point ∷ rest) = point_text point ++ points_text rest
+
+-- the line of a chain
+unfoldable pub chain_text : CompleteChain → List ℕ
+chain_text chain = codes "tlid " ++ decimal chain.tlid ++ points_text chain.points ++ codes "\n"
+
+-- the lines of the chains one after the other
+abbrev pub chains_text : List CompleteChain → List ℕ
+chains_text [] = []
+chains_text (chain ∷ rest) = chain_text chain ++ chains_text rest
+
+-- the line of counts: of chains, of segments and of lines passed over
+abbrev pub counts_text : ℕ → ℕ → ℕ → List ℕ
+counts_text chains segments skipped =
+    codes "chains=" ++ decimal chains ++ codes " segments=" ++ decimal segments ++ codes " skipped=" ++ decimal skipped ++ codes "\n"
+
+-- a line for each chain, and then the counts
+abbrev pub shown_text : ChainList → List ℕ
+shown_text list = chains_text list.chains ++ counts_text (length list.chains) (segment_count list.chains) list.skipped
+
+-- an error says that one more write failed, and success that none did
+abbrev pub CountsFailure : {T E : Type 0} → ℕ → ℕ → Result T E → Type 0
+CountsFailure old new r = MatchResult r (λ _. new ≡ old) (λ _. new ≡ one_more old)
+
+-- the output grew by the lines of the chains that the text's records draw: no line of it is refused, and no fault is true
+abbrev pub IsShown : Option (List ℕ) → Option (List ℕ) → List ℕ → Type 0
+IsShown old new text = (list : ChainList) × AreReadFrom (records_of tiger_2006 text) list × Appends old new (shown_text list)
+
+-- no line of the text is refused, and its records have a fault
+abbrev pub HasMapFault : List ℕ → Type 0
+HasMapFault text =
+    (fault : MapFault) × ((records_of tiger_2006 text).refusal ≡ None) × IsTrueOf (records_in (records_of tiger_2006 text)) fault
+
+-- a line of the text is refused
+abbrev pub IsRefused : List ℕ → Type 0
+IsRefused text = IsSome (records_of tiger_2006 text).refusal

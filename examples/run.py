@@ -1,0 +1,38 @@
+#!/usr/bin/env python3
+"""Runs the commands of examples/README.md, from the top of the repository, and compares what they print."""
+
+import re
+import subprocess
+import sys
+from pathlib import Path
+
+TOP = Path(__file__).resolve().parent.parent
+
+
+def steps(text):
+    """The commands of the page's blocks, each with what it is to print."""
+    for block in re.findall(r"^```\n(\$ .*?)^```$", text, re.M | re.S):
+        for step in re.split(r"^\$ ", block, flags=re.M)[1:]:
+            command, _, printed = step.partition("\n")
+            yield command, printed
+
+
+def main():
+    page = Path(__file__).resolve().parent / "README.md"
+    status = 0
+    count = failed = 0
+    for command, wanted in steps(page.read_text()):
+        # The shell keeps no status from one command to the next.
+        command = command.replace("$?", str(status))
+        done = subprocess.run(command, shell=True, cwd=TOP, stdout=subprocess.PIPE, stderr=subprocess.STDOUT, text=True)
+        status = done.returncode
+        count += 1
+        if done.stdout != wanted:
+            failed += 1
+            print(f"$ {command}\n-- wanted\n{wanted}-- printed\n{done.stdout}", end="")
+    print(f"{count - failed} passed, {failed} failed")
+    sys.exit(failed > 0)
+
+
+if __name__ == "__main__":
+    main()

@@ -1,0 +1,91 @@
+#!/usr/bin/env python3
+"""Refuses each allocation of the built program in its turn, and looks for an answer that changes in its place.
+
+usage: refuse_memory.py [PROGRAM]
+
+With each allocation refused, the program has to answer `stopped Memory` with status 4 and print nothing else. It needs
+a C compiler, cc, and glibc, whose malloc it stands before.
+"""
+
+import os
+import subprocess
+import sys
+import tempfile
+from pathlib import Path
+
+TOP = Path(__file__).resolve().parent.parent
+PROGRAM = TOP / "crates" / "tigertopo" / "out" / "tigertopo"
+RUNS = [
+    ["show", TOP / "examples" / "square.RT1", TOP / "examples" / "square.RT2"],
+    ["show", TOP / "examples" / "river.RT2", TOP / "examples" / "river.RT1"],
+    ["show", TOP / "examples" / "gap.RT1", TOP / "examples" / "gap.RT2"],
+    ["show", TOP / "examples" / "north.RT1"],
+    ["show", "--help"],
+    ["show"],
+    ["shown", "a"],
+]
+REFUSE = r"""
+#include <stdlib.h>
+#include <unistd.h>
+
+void *__libc_malloc(size_t);
+void *__libc_calloc(size_t, size_t);
+void *__libc_realloc(void *, size_t);
+void *__libc_memalign(size_t, size_t);
+
+static long left;
+
+__attribute__((constructor)) static void begin(void) {
+    const char *which = getenv("REFUSED_ALLOCATION");
+    left = which ? atol(which) : 0;
+}
+
+/* Says on the descriptor 9 that the allocation was reached. */
+static int refused(void) {
+    if (left == 0 || --left > 0) return 0;
+    (void)!write(9, "r", 1);
+    return 1;
+}
+
+void *malloc(size_t n) { return refused() ? 0 : __libc_malloc(n); }
+void *calloc(size_t k, size_t n) { return refused() ? 0 : __libc_calloc(k, n); }
+void *realloc(void *p, size_t n) { return refused() ? 0 : __libc_realloc(p, n); }
+void *aligned_alloc(size_t a, size_t n) { return refused() ? 0 : __libc_memalign(a, n); }
+void *memalign(size_t a, size_t n) { return refused() ? 0 : __libc_memalign(a, n); }
+int posix_memalign(void **p, size_t a, size_t n) { return refused() ? 12 : (*p = __libc_memalign(a, n)) ? 0 : 12; }
+"""
+
+
+def answer_of(words, library, which):
+    """The answer with that allocation refused, and whether the program came to it."""
+    reached, told = os.pipe()
+    environment = {**os.environ, "LD_PRELOAD": library, "REFUSED_ALLOCATION": str(which)}
+    done = subprocess.run(words, env=environment, stdout=subprocess.PIPE, stderr=subprocess.PIPE,
+                          preexec_fn=lambda: os.dup2(told, 9), close_fds=False)
+    os.close(told)
+    was_reached = os.read(reached, 1) == b"r"
+    os.close(reached)
+    return (done.returncode, done.stdout, done.stderr), was_reached
+
+
+def main():
+    program = sys.argv[1] if len(sys.argv) > 1 else PROGRAM
+    with tempfile.TemporaryDirectory() as folder:
+        library = f"{folder}/refuse.so"
+        subprocess.run(["cc", "-shared", "-fPIC", "-O1", "-o", library, "-x", "c", "-"], input=REFUSE, text=True, check=True)
+        count = failed = 0
+        for words in RUNS:
+            for which in range(1, 10_000):
+                answer, was_reached = answer_of([program, *words], library, which)
+                if not was_reached:
+                    break
+                count += 1
+                if answer != (4, b"", b"stopped Memory\n"):
+                    failed += 1
+                    print(f"{' '.join(map(str, words))}: with allocation {which} refused: {answer}")
+    print(f"{count - failed} passed, {failed} failed")
+    sys.exit(failed > 0 or count == 0)
+
+
+if __name__ == "__main__":
+    main()
