@@ -1,9 +1,35 @@
-//! Exact plane geometry in whole numbers.
+//! Exact plane geometry in whole numbers: how segments meet, which way directions turn, what a ray crosses and what a
+//! rectangle holds.
 //!
-//! Points have whole coordinates; the records of a county give them in millionths of a degree, x to the east and
-//! y to the north. Nothing here rounds, allocates or fails.
+//! Points have whole coordinates; the records of a county give them in millionths of a degree, `x` to the east and `y`
+//! to the north. Every call answers for all `i32` coordinates. Nothing here rounds, allocates or fails.
 #![tactic(auto)]
 
+mod difference;
+mod direction;
+pub mod laws;
+mod meeting;
+mod orientation;
 mod point;
+mod rational;
+mod ray;
+mod rect;
+mod round;
+mod segment;
+mod shared;
 
+pub use direction::Direction;
+pub use meeting::contact;
+pub use orientation::{on, turn};
 pub use point::Point;
+pub use rational::Rational;
+pub use ray::crosses_ray;
+pub use rect::Rect;
+pub use round::round_cmp;
+pub use segment::Segment;
+pub use shared::Contact;
+
+#[cfg(test)]
+mod grid_tests;
+#[cfg(test)]
+mod tests;

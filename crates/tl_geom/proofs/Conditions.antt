@@ -1,0 +1,51 @@
+-- What a test says, alone and after another.
+use Rattle.std.proofs.Common.{◌≡◌, ◌↔◌, Bool, true, false, IsTrue, Ordering, ℤ, pos, ◌<ℤ◌, ◌≤ℤ◌, sym, ◌∙◌, refl, arith}
+use Rattle.std.proofs.lemmas.Int.{ints}
+use Rattle.std.proofs.lemmas.Cmp.{int_ranked}
+use Rattle.std.specs.declared.cmp.Ordering.TheVariants.{Less, Equal, Greater}
+use Rattle.std.specs.Ordering.{int_cmp, is_lt, is_eq, is_gt, MatchOrdering}
+use lib.Signed.{le_z}
+use borrow.Author.Differences.{true_is_le}
+
+-- a test that comes after a test that passed
+pub second_test : {P Q R : Type 0} (b c : Bool) → b ≡ true → (IsTrue b ↔ P) → (IsTrue c ↔ Q) → (P → Q → R) → (R → Q) → IsTrue c ↔ R
+second_test b c e p q to from = (λ h. to (p.0 e) (q.0 h), λ r. q.1 (from r))
+
+-- a test that failed
+pub failed_test : {P R : Type 0} (b : Bool) → b ≡ false → (IsTrue b ↔ P) → (R → P) → IsTrue b ↔ R
+failed_test b e p from = (λ h. absurd (apart (sym e ∙ h)), λ r. p.1 (from r))
+  where
+    apart : false ≡ true → ⊥
+    apart e = cc
+
+-- the tests of an order
+pub le_test : (x y : ℤ) → IsTrue (le_z x y) ↔ (x ≤ℤ y)
+le_test x y = (λ h. omega (arith, ints, h), λ h. sym (true_is_le x y (omega (arith, ints, h))))
+
+gt_cases : (z : ℤ) (o : Ordering) → MatchOrdering o (z <ℤ pos 0) (z ≡ pos 0) (pos 0 <ℤ z) → IsTrue (is_gt o) ↔ (pos 0 <ℤ z)
+gt_cases z Less m = (λ e. absurd (cc), λ h. absurd (omega (arith, ints, m, h)))
+gt_cases z Equal m = (λ e. absurd (cc), λ h. absurd (omega (arith, ints, m, h)))
+gt_cases z Greater m = (λ e. m, λ h. refl)
+
+pub gt_test : (z : ℤ) (o : Ordering) → o ≡ int_cmp z (pos 0) → IsTrue (is_gt o) ↔ (pos 0 <ℤ z)
+gt_test z o e = gt_cases z o (int_ranked z (pos 0) o e)
+
+lt_cases : (z : ℤ) (o : Ordering) → MatchOrdering o (z <ℤ pos 0) (z ≡ pos 0) (pos 0 <ℤ z) → IsTrue (is_lt o) ↔ (z <ℤ pos 0)
+lt_cases z Less m = (λ e. m, λ h. refl)
+lt_cases z Equal m = (λ e. absurd (cc), λ h. absurd (omega (arith, ints, m, h)))
+lt_cases z Greater m = (λ e. absurd (cc), λ h. absurd (omega (arith, ints, m, h)))
+
+pub lt_test : (z : ℤ) (o : Ordering) → o ≡ int_cmp z (pos 0) → IsTrue (is_lt o) ↔ (z <ℤ pos 0)
+lt_test z o e = lt_cases z o (int_ranked z (pos 0) o e)
+
+eq_cases : (z : ℤ) (o : Ordering) → MatchOrdering o (z <ℤ pos 0) (z ≡ pos 0) (pos 0 <ℤ z) → IsTrue (is_eq o) ↔ (z ≡ pos 0)
+eq_cases z Less m = (λ e. absurd (cc), λ h. absurd (omega (arith, ints, m, h)))
+eq_cases z Equal m = (λ e. m, λ h. refl)
+eq_cases z Greater m = (λ e. absurd (cc), λ h. absurd (omega (arith, ints, m, h)))
+
+pub eq_test : (z : ℤ) (o : Ordering) → o ≡ int_cmp z (pos 0) → IsTrue (is_eq o) ↔ (z ≡ pos 0)
+eq_test z o e = eq_cases z o (int_ranked z (pos 0) o e)
+
+-- one fact that holds exactly where another does, and that where a third does
+pub iff_trans : {P Q R : Type 0} → (P ↔ Q) → (Q ↔ R) → P ↔ R
+iff_trans p q = (λ h. q.0 (p.0 h), λ r. p.1 (q.1 r))

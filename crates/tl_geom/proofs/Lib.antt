@@ -1,0 +1,14 @@
+pub mod Polynomials
+pub mod Signs
+pub mod Places
+pub mod Lines
+pub mod Crossings
+pub mod Rectangles
+pub mod Rays
+pub mod Conditions
+pub mod Halves
+pub mod Order
+pub mod Within
+pub mod Overlaps
+pub mod Contacts
+pub mod Meetings

@@ -1,0 +1,6 @@
+pub mod Plane
+pub mod Contact
+pub mod Turning
+pub mod Ray
+pub mod Rectangle
+pub mod Lines

@@ -1,0 +1,362 @@
+//! Worked examples with answers from outside, and plain programs that go another way.
+use crate::{
+    Contact, Direction, Point, Rational, Rect, Segment, contact, crosses_ray, on, round_cmp, turn,
+};
+use std::cmp::Ordering;
+use std::process::Abort;
+use std::test::Fail;
+
+const LEAST: i32 = i32::MIN;
+
+const MOST: i32 = i32::MAX;
+
+fn point(x: i32, y: i32) -> Point {
+    Point { x, y }
+}
+
+fn segment(a: (i32, i32), b: (i32, i32)) -> Result<Segment, &'static str> {
+    Segment::new(point(a.0, a.1), point(b.0, b.1)).ok_or("the ends are one point")
+}
+
+fn contact_of(
+    a: (i32, i32),
+    b: (i32, i32),
+    p: (i32, i32),
+    q: (i32, i32),
+) -> Result<Contact, &'static str> {
+    Ok(contact(segment(a, b)?, segment(p, q)?))
+}
+
+#[test]
+fn segments_have_two_ends(rt: HostRuntime) -> Result<(), Fail> {
+    assert_eq!(rt; Segment::new(point(3, 4), point(3, 4)), None);
+    let s = segment((LEAST, 4), (MOST, 4))?;
+    assert_eq!(rt; s.a(), point(LEAST, 4));
+    assert_eq!(rt; s.b(), point(MOST, 4));
+    Ok(())
+}
+
+#[test]
+fn directions_go_from_point_to_point(rt: HostRuntime) -> Result<(), Fail> {
+    assert_eq!(rt; Direction::between(point(3, 4), point(3, 4)), None);
+    let u = Direction::between(point(MOST, LEAST), point(LEAST, MOST)).ok_or("one point")?;
+    assert_eq!(rt; u.x, -4294967295);
+    assert_eq!(rt; u.y, 4294967295);
+    Ok(())
+}
+
+#[test]
+fn turns(rt: HostRuntime) {
+    assert_eq!(rt;
+        turn(point(0, 0), point(1, 0), point(1, 1)),
+        Ordering::Greater
+    );
+    assert_eq!(rt;
+        turn(point(0, 0), point(1, 0), point(1, -1)),
+        Ordering::Less
+    );
+    assert_eq!(rt;
+        turn(point(0, 0), point(1, 0), point(-7, 0)),
+        Ordering::Equal
+    );
+    assert_eq!(rt;
+        turn(point(5, 5), point(5, 5), point(1, 2)),
+        Ordering::Equal
+    );
+    assert_eq!(rt;
+        turn(point(LEAST, LEAST), point(MOST, MOST), point(LEAST, MOST)),
+        Ordering::Greater
+    );
+    assert_eq!(rt;
+        turn(
+            point(LEAST, LEAST),
+            point(MOST, MOST),
+            point(MOST, MOST - 1)
+        ),
+        Ordering::Less
+    );
+    assert_eq!(rt;
+        turn(point(LEAST, LEAST), point(MOST, MOST), point(0, 0)),
+        Ordering::Equal
+    );
+}
+
+#[test]
+fn points_on_segments(rt: HostRuntime) -> Result<(), Fail> {
+    let s = segment((0, 0), (4, 2))?;
+    assert!(rt; on(s, point(0, 0)));
+    assert!(rt; on(s, point(4, 2)));
+    assert!(rt; on(s, point(2, 1)));
+    assert!(rt; !on(s, point(3, 1)));
+    assert!(rt; !on(s, point(6, 3)));
+    assert!(rt; !on(s, point(-2, -1)));
+    let whole = segment((LEAST, LEAST), (MOST, MOST))?;
+    assert!(rt; on(whole, point(17, 17)));
+    assert!(rt; !on(whole, point(17, 18)));
+    Ok(())
+}
+
+#[test]
+fn contacts_that_are_no_crossing(rt: HostRuntime) -> Result<(), Fail> {
+    assert_eq!(rt; contact_of((0, 0), (2, 2), (3, 3), (5, 5))?, Contact::Apart);
+    assert_eq!(rt; contact_of((0, 0), (4, 0), (0, 1), (4, 1))?, Contact::Apart);
+    assert_eq!(rt;
+        contact_of((0, 0), (4, 0), (5, 1), (5, -1))?,
+        Contact::Apart
+    );
+    assert_eq!(rt;
+        contact_of((0, 0), (4, 0), (4, 0), (9, 0))?,
+        Contact::AtEnds(point(4, 0))
+    );
+    assert_eq!(rt;
+        contact_of((0, 0), (4, 0), (4, 0), (4, 7))?,
+        Contact::AtEnds(point(4, 0))
+    );
+    assert_eq!(rt;
+        contact_of((LEAST, MOST), (0, 0), (0, 0), (MOST, LEAST))?,
+        Contact::AtEnds(point(0, 0))
+    );
+    Ok(())
+}
+
+#[test]
+fn crossings(rt: HostRuntime) -> Result<(), Fail> {
+    let proper = Contact::Crossing(Rational {
+        x: 176,
+        y: 168,
+        d: 16,
+    });
+    assert_eq!(rt; contact_of((10, 10), (14, 12), (10, 12), (12, 9))?, proper);
+    let overlap = Contact::Crossing(Rational { x: 5, y: 0, d: 2 });
+    assert_eq!(rt; contact_of((0, 0), (4, 0), (1, 0), (9, 0))?, overlap);
+    let from_one_end = Contact::Crossing(Rational { x: 4, y: 0, d: 2 });
+    assert_eq!(rt; contact_of((0, 0), (4, 0), (0, 0), (9, 0))?, from_one_end);
+    let touch = Contact::Crossing(Rational { x: 2, y: 0, d: 1 });
+    assert_eq!(rt; contact_of((0, 0), (4, 0), (2, 0), (2, 5))?, touch);
+    let diagonals = Contact::Crossing(Rational {
+        x: -18446744065119617025,
+        y: -18446744065119617025,
+        d: 36893488130239234050,
+    });
+    assert_eq!(rt;
+        contact_of((LEAST, LEAST), (MOST, MOST), (LEAST, MOST), (MOST, LEAST))?,
+        diagonals
+    );
+    Ok(())
+}
+
+/// Tools in floating point place the first on the wrong side, and tools that are handed decimal degrees miss the second.
+#[test]
+fn near_crossings(rt: HostRuntime) -> Result<(), Fail> {
+    let near = Contact::Crossing(Rational {
+        x: 849327051787711420829,
+        y: 2526790987106507540445,
+        d: 1233205392343296,
+    });
+    assert_eq!(rt;
+        contact_of(
+            (-151166796, -80923608),
+            (157002569, 87457533),
+            (688715, 2048962),
+            (-995096, 5130655)
+        )?,
+        near
+    );
+    let oblique = Contact::Crossing(Rational {
+        x: -76568233,
+        y: 39482465,
+        d: 1,
+    });
+    assert_eq!(rt;
+        contact_of(
+            (-76568325, 39482222),
+            (-76568141, 39482708),
+            (-76568233, 39482465),
+            (-76568476, 39482557)
+        )?,
+        oblique
+    );
+    Ok(())
+}
+
+#[test]
+fn extreme_contacts(rt: HostRuntime) -> Result<(), Fail> {
+    let whole_side = Contact::Crossing(Rational {
+        x: -1,
+        y: -4294967296,
+        d: 2,
+    });
+    assert_eq!(rt;
+        contact_of((LEAST, LEAST), (MOST, LEAST), (MOST, LEAST), (LEAST, LEAST))?,
+        whole_side
+    );
+    let upright = Contact::Crossing(Rational {
+        x: 4294967294,
+        y: 2147483647,
+        d: 2,
+    });
+    assert_eq!(rt;
+        contact_of((MOST, LEAST), (MOST, MOST), (MOST, 0), (MOST, MOST))?,
+        upright
+    );
+    assert_eq!(rt;
+        contact_of((LEAST, LEAST), (LEAST, MOST), (MOST, LEAST), (MOST, MOST))?,
+        Contact::Apart
+    );
+    Ok(())
+}
+
+#[test]
+fn rays(rt: HostRuntime) -> Result<(), Fail> {
+    let q = point(20, 20);
+    assert!(rt; !crosses_ray(segment((20, 10), (30, 20))?, q));
+    assert!(rt; crosses_ray(segment((30, 20), (20, 30))?, q));
+    assert!(rt; !crosses_ray(segment((30, 20), (40, 20))?, q));
+    assert!(rt; !crosses_ray(segment((10, 10), (10, 30))?, q));
+    assert!(rt; !crosses_ray(segment((20, 10), (20, 30))?, q));
+    assert!(rt; crosses_ray(segment((30, 30), (30, 10))?, q));
+    assert!(rt;
+        crosses_ray(
+            segment((MOST, LEAST), (MOST, MOST))?,
+            point(LEAST, MOST - 1)
+        )
+    );
+    assert!(rt;
+        !crosses_ray(
+            segment((MOST, LEAST), (LEAST, MOST))?,
+            point(MOST, MOST - 1)
+        )
+    );
+    Ok(())
+}
+
+#[test]
+fn rectangles(rt: HostRuntime) -> Result<(), Fail> {
+    let r = Rect::of(segment((4, -2), (1, 7))?);
+    assert_eq!(rt;
+        r,
+        Rect {
+            xmin: 1,
+            ymin: -2,
+            xmax: 4,
+            ymax: 7
+        }
+    );
+    assert!(rt; r.holds(point(1, 7)));
+    assert!(rt; !r.holds(point(0, 7)));
+    assert!(rt;
+        r.meets(Rect {
+            xmin: 4,
+            ymin: 7,
+            xmax: 9,
+            ymax: 9
+        })
+    );
+    assert!(rt;
+        !r.meets(Rect {
+            xmin: 5,
+            ymin: -2,
+            xmax: 9,
+            ymax: 7
+        })
+    );
+    assert!(rt;
+        !r.meets(Rect {
+            xmin: 3,
+            ymin: 0,
+            xmax: 2,
+            ymax: 0
+        })
+    );
+    assert_eq!(rt;
+        r.join(Rect {
+            xmin: 9,
+            ymin: 0,
+            xmax: 12,
+            ymax: 1
+        }),
+        Rect {
+            xmin: 1,
+            ymin: -2,
+            xmax: 12,
+            ymax: 7
+        }
+    );
+    let whole = Rect::of(segment((LEAST, MOST), (MOST, LEAST))?);
+    assert!(rt; whole.holds(point(MOST, LEAST)));
+    assert_eq!(rt; whole.join(r), whole);
+    Ok(())
+}
+
+fn rises(rt: &impl Abort, u: Direction, v: Direction) {
+    assert_eq!(rt; round_cmp(u, v), Ordering::Less);
+    assert_eq!(rt; round_cmp(v, u), Ordering::Greater);
+}
+
+#[test]
+fn directions_in_rising_order(rt: HostRuntime) {
+    let rising = [
+        Direction { x: 1, y: 0 },
+        Direction { x: 5, y: 1 },
+        Direction { x: 5, y: 5 },
+        Direction { x: 0, y: 20 },
+        Direction { x: -1, y: 1 },
+        Direction { x: -3, y: 0 },
+        Direction { x: -1, y: -1 },
+        Direction { x: 0, y: -7 },
+        Direction { x: 5, y: -1 },
+    ];
+    for i in 0..rising.len() {
+        for j in 0..i {
+            rises(&rt, rising[j], rising[i]);
+        }
+    }
+}
+
+#[test]
+fn one_direction(rt: HostRuntime) {
+    assert_eq!(rt;
+        round_cmp(Direction { x: 2, y: 0 }, Direction { x: 5, y: 0 }),
+        Ordering::Equal
+    );
+    rises(&rt, Direction { x: 5, y: 5 }, Direction { x: -5, y: -5 });
+    let least = i64::MIN;
+    let most = i64::MAX;
+    assert_eq!(rt;
+        round_cmp(Direction { x: least, y: least }, Direction { x: -1, y: -1 }),
+        Ordering::Equal
+    );
+    rises(
+        &rt,
+        Direction { x: least, y: most },
+        Direction { x: least, y: least },
+    );
+    rises(
+        &rt,
+        Direction { x: least, y: least },
+        Direction { x: most, y: least },
+    );
+}
+
+/// The place of each direction with coordinates from -3 to 3 in a turn from east, from its angle, and 0 for no direction;
+/// rows by rising y, in a row by rising x.
+const PLACES: [u8; 49] = [
+    21, 22, 24, 25, 26, 28, 29, 20, 21, 23, 25, 27, 29, 30, 18, 19, 21, 25, 29, 31, 32, 17, 17, 17,
+    0, 1, 1, 1, 16, 15, 13, 9, 5, 3, 2, 14, 13, 11, 9, 7, 5, 4, 13, 12, 10, 9, 8, 6, 5,
+];
+
+fn grid_direction(i: u8) -> Option<Direction> {
+    Direction::between(point(3, 3), point(i32::from(i % 7), i32::from(i / 7)))
+}
+
+#[test]
+fn grid_of_directions(rt: HostRuntime) {
+    for i in 0..49u8 {
+        for j in 0..49u8 {
+            let want = PLACES[i as usize].cmp(&PLACES[j as usize]);
+            if let (Some(u), Some(v)) = (grid_direction(i), grid_direction(j)) {
+                assert_eq!(rt; round_cmp(u, v), want, "{i} {j}");
+            }
+        }
+    }
+}
