@@ -24,6 +24,7 @@ fn collect_records<R: Source>(
     ensures all { IfOk result (Gathers (outcome R.remaining reader.old) (skipped_of reader.new)) }
     ensures stops { IfErr result (StopsGathering (outcome R.remaining reader.old)) }
     ensures failures { TellsDevice (R.failure_count (source_of reader.old)) (R.failure_count (source_of reader.new)) result }
+    ensures same_reference { R.reference (source_of reader.new) ≡ R.reference (source_of reader.old) }
 {
     let mut collected = Collected::new(alloc);
     'records: loop {
@@ -43,6 +44,8 @@ pub fn read_chains<R: Source>(alloc: Global, records: &mut R) -> Result<Chains, 
     ensures chains { IfOk result (λ c. IfSome (R.remaining records.old) (λ text. AreReadFrom (records_of tiger_2006 text) c)) }
     // The first refused line, or where there is none, a fault that is true.
     ensures stops { IfErr result (λ stop. IfSome (R.remaining records.old) (λ text. StopsReading (records_of tiger_2006 text) stop)) }
+    // `Device` is answered where a read failed in this call, and nowhere else.
+    ensures failures { TellsDevice (R.failure_count records.old) (R.failure_count records.new) result }
 {
     let mut reader = RecordReader::new(records);
     let collected = collect_records(alloc, &mut reader)?;

@@ -71,6 +71,7 @@ impl LineBuffer {
         requires { length self.old < most_line_bytes }
         ensures bytes { Fetches self.old self.new (S.remaining source.old) (S.remaining source.new) result }
         ensures failures { CountsRead (S.failure_count source.old) (S.failure_count source.new) result }
+        ensures same_reference { S.reference source.new ≡ S.reference source.old }
     {
         move_to_front(&mut self.bytes, self.at, self.filled);
         self.filled -= self.at;

@@ -76,6 +76,7 @@ fn fetch_line<R: Source>(buffer: &mut LineBuffer, source: &mut R) -> Fetched
     ensures shows { Shows buffer.new (R.remaining source.new) result }
     ensures bytes { Keeps (prepend_known buffer.old (R.remaining source.old)) (prepend_known buffer.new (R.remaining source.new)) }
     ensures failures { CountsFetch (R.failure_count source.old) (R.failure_count source.new) result }
+    ensures same_reference { R.reference source.new ≡ R.reference source.old }
 {
     let mut searched = 0;
     'fetches: loop {
@@ -147,7 +148,8 @@ impl<R: Source> RecordReader<R> {
     fn judge_last(&mut self) -> NextLine
         requires ended { IsAtEnd (R.remaining (source_of self.old)) }
         requires none { line_feeds (pending_of self.old) ≡ 0 }
-        ensures { StepsTo R.remaining R.failure_count self.old self.new result }
+        ensures steps { StepsTo R.remaining R.failure_count self.old self.new result }
+        ensures same_reference { R.reference (source_of self.new) ≡ R.reference (source_of self.old) }
     {
         let len = self.buffer.bytes().len();
         if len == 0 {
@@ -160,7 +162,8 @@ impl<R: Source> RecordReader<R> {
     fn judge_full(&mut self) -> NextLine
         requires full { length (pending_of self.old) ≡ most_line_bytes }
         requires none { line_feeds (pending_of self.old) ≡ 0 }
-        ensures { StepsTo R.remaining R.failure_count self.old self.new result }
+        ensures steps { StepsTo R.remaining R.failure_count self.old self.new result }
+        ensures same_reference { R.reference (source_of self.new) ≡ R.reference (source_of self.old) }
     {
         let mut next = [0u8; 1];
         match self.source.fetch(&mut next) {
@@ -180,7 +183,8 @@ impl<R: Source> RecordReader<R> {
 
     // Finds the next line and judges it.
     fn next_line(&mut self) -> NextLine
-        ensures { StepsTo R.remaining R.failure_count self.old self.new result }
+        ensures steps { StepsTo R.remaining R.failure_count self.old self.new result }
+        ensures same_reference { R.reference (source_of self.new) ≡ R.reference (source_of self.old) }
     {
         match fetch_line(&mut self.buffer, &mut self.source) {
             Fetched::Whole(len) => {
@@ -227,7 +231,8 @@ impl<R: Source> RecordReader<R> {
     // Reads on, up to a line that isn't passed over.
     fn read_on(&mut self) -> Result<Option<(u64, Record)>, ReadStop>
         requires { standing_of self.old ≡ Standing.Reading }
-        ensures { Moves R.remaining R.failure_count self.old self.new result }
+        ensures moves { Moves R.remaining R.failure_count self.old self.new result }
+        ensures same_reference { R.reference (source_of self.new) ≡ R.reference (source_of self.old) }
     {
         'lines: loop {
             match self.next_line() {
@@ -267,6 +272,8 @@ impl<R: Source> RecordReader<R> {
         ensures counts { WhereReading (standing_of self.old) (Counts (lines_of self.old) (skipped_of self.old) (lines_of self.new) (skipped_of self.new) result) }
         // `Device` is answered where a read failed in this call, and nowhere else.
         ensures failures { TellsFailure (standing_of self.old) (R.failure_count (source_of self.old)) (R.failure_count (source_of self.new)) result }
+        // Its source is the one that it was.
+        ensures same_reference { R.reference (source_of self.new) ≡ R.reference (source_of self.old) }
         ensures whole_lines { WhereReading (standing_of self.old) (FailsWhole R.remaining self.old self.new result) }
     {
         match self.standing {

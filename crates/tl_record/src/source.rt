@@ -15,12 +15,16 @@ pub trait Source {
     // How many reads have failed so far.
     ghost failure_count: { Self → ℕ };
 
+    // Which `&mut` the source is, where it is one: reads don't put another in its place.
+    ghost reference: { Self → ℕ } = { λ _. 0 };
+
     /// Reads some bytes into the front of `buf`, as [`io::Read::read`] does: 0 where `buf` has room says that the
     /// bytes are at their end. An error consumes nothing and counts as one failure.
     fn fetch(&mut self, buf: &mut [u8]) -> io::Result<usize>
         ensures bound { ReadsAtMost result buf.new }
         ensures bytes { ReadConsumes (remaining self.old) (remaining self.new) result buf.new }
-        ensures failures { CountsRead (failure_count self.old) (failure_count self.new) result };
+        ensures failures { CountsRead (failure_count self.old) (failure_count self.new) result }
+        ensures same_reference { reference self.new ≡ reference self.old };
 
     /// How many reads have failed so far. The count stays at the greatest `u64`.
     fn failures(&self) -> u64
@@ -31,6 +35,8 @@ impl<S: Source> Source for &mut S {
     ghost remaining = { λ s. S.remaining s.now };
 
     ghost failure_count = { λ s. S.failure_count s.now };
+
+    ghost reference = { λ s. s.ghost_name };
 
     fn fetch(&mut self, buf: &mut [u8]) -> io::Result<usize> {
         (**self).fetch(buf)

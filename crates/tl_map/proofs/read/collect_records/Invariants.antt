@@ -9,6 +9,7 @@ abbrev pub invariant-records : goal.invariant-records
 invariant-records g l = record {
   so_far : GathersSoFar (outcome g.R.Source.remaining l.fn.reader) (outcome g.R.Source.remaining l.reader) l.collected;
   failures : g.R.Source.failure_count (source_of l.reader) ≡ g.R.Source.failure_count (source_of l.fn.reader);
+  same : g.R.Source.reference (source_of l.reader) ≡ g.R.Source.reference (source_of l.fn.reader);
   standing : (standing_of l.reader ≡ Reading) ⊎ (standing_of l.reader ≡ Ended);
 }
 

@@ -33,6 +33,7 @@ fetches-preserved g c =
       bytes = Keeps-trans _ _ _ c.fetches.invariant.bytes
           (fetched_kept c.fetches.buffer c.fetch.new.self fetched.0 (g.R.Source.remaining c.fetches.source) (g.R.Source.remaining c.fetch.new.source) fetched.2.added fetched.2.consumed);
       failures = c.in-Ok.ensures.failures ∙ c.fetches.invariant.failures;
+      same = c.in-Ok.ensures.same_reference ∙ c.fetches.invariant.same;
     }
 
 pub returns-in-Err-clause-shows : goal.returns-in-Err-clause-shows

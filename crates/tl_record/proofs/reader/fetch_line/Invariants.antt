@@ -9,6 +9,7 @@ invariant-fetches g l = record {
   none : line_feeds (take l.searched l.buffer) ≡ 0;
   bytes : Keeps (prepend_known l.fn.buffer (g.R.Source.remaining l.fn.source)) (prepend_known l.buffer (g.R.Source.remaining l.source));
   failures : g.R.Source.failure_count l.source ≡ g.R.Source.failure_count l.fn.source;
+  same : g.R.Source.reference l.source ≡ g.R.Source.reference l.fn.source;
 }
 
 abbrev pub decreases-fetches : goal.decreases-fetches

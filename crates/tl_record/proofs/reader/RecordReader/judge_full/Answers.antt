@@ -6,8 +6,8 @@ use Rattle.tl_record.specs.Judgement.{judgement}
 use Rattle.tl_record.proofs.NextLemmas.{finds_full, finds_long, one_byte, longer, longer_is}
 use Rattle.tl_record.proofs.reader.RecordReader.judge_full.Goals as goal
 
-pub returns-then-next-eq10 : goal.returns-then-next-eq10
-returns-then-next-eq10 g c =
+pub returns-then-next-eq10-clause-steps : goal.returns-then-next-eq10-clause-steps
+returns-then-next-eq10-clause-steps g c =
     let reader = c.args.self.now in
     let bytes = c.fetch.new.buf in
     let taken : take c.in-Ok.field-0 bytes ≡ line_feed ∷ [] = one_byte bytes c.in-Ok.field-0 line_feed c.fetch.auto.buf c.in-Ok.ensures.bound.0 c.in-Ok.field-0-test.1 c.if-next-eq10.true in
@@ -20,8 +20,8 @@ returns-then-next-eq10 g c =
       progress = record { layout = refl; lines = refl; skipped = refl; standing = refl };
     }
 
-pub returns-else-next-eq10 : goal.returns-else-next-eq10
-returns-else-next-eq10 g c =
+pub returns-else-next-eq10-clause-steps : goal.returns-else-next-eq10-clause-steps
+returns-else-next-eq10-clause-steps g c =
     let reader = c.args.self.now in
     let bytes = c.fetch.new.buf in
     let byte = get_or bytes 0 0 in

@@ -3,8 +3,8 @@ use Rattle.tl_record.specs.Judgement.{judgement}
 use Rattle.tl_record.proofs.NextLemmas.{finds_last}
 use Rattle.tl_record.proofs.reader.RecordReader.judge_last.Goals as goal
 
-pub returns : goal.returns
-returns g c =
+pub returns-clause-steps : goal.returns-clause-steps
+returns-clause-steps g c =
     let reader = c.args.self.now in
     let bytes = reader.buffer in
     let same : length c.bytes-len.result.now ≡ length bytes = ap length c.bytes-len.ensures.value in

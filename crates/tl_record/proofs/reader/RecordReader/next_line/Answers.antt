@@ -6,8 +6,8 @@ use Rattle.tl_record.proofs.reader.RecordReader.next_line.Goals as goal
 pub overflow_add-len : goal.overflow_add-len
 overflow_add-len g c = omega (arith, c.in-Whole.ensures.shows.0, c.judge_pending-judgement.ensures.room)
 
-pub returns-in-Whole : goal.returns-in-Whole
-returns-in-Whole g c =
+pub returns-in-Whole-clause-steps : goal.returns-in-Whole-clause-steps
+returns-in-Whole-clause-steps g c =
     let reader = c.args.self.now in
     let bytes = c.fetch_line.new.buffer in
     let shows = c.in-Whole.ensures.shows in

@@ -1,9 +1,12 @@
-use Rattle.std.proofs.Common.{◌-◌}
-use Rattle.tl_record.specs.Reader.{lines_of, PassesOver}
+use Rattle.std.proofs.Common.{◌≡◌, ◌-◌}
+use Rattle.tl_record.specs.Reader.{source_of, lines_of, PassesOver}
 use Rattle.tl_record.proofs.reader.RecordReader.read_on.Given as goal
 
 abbrev pub invariant-lines : goal.invariant-lines
-invariant-lines g l = PassesOver g.R.Source.remaining g.R.Source.failure_count l.initial.self l.self
+invariant-lines g l = record {
+  passes : PassesOver g.R.Source.remaining g.R.Source.failure_count l.initial.self l.self;
+  same : g.R.Source.reference (source_of l.self) ≡ g.R.Source.reference (source_of l.initial.self);
+}
 
 abbrev pub decreases-lines : goal.decreases-lines
 decreases-lines g l = 67108864 - lines_of l.self
