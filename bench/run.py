@@ -66,7 +66,7 @@ def rows(chains, mixed, runs):
     for name, found in taken.items():
         seconds = statistics.median(found)
         yield (f"{chains:,}{' mixed' if mixed else ''}", f"{lines:,}", f"{size / 1e6:.1f}", name, f"{seconds * 1e3:.1f}",
-               f"{seconds / base:.1f}", f"{lines / seconds / 1e6:.2f}", f"{peaks[name]:.1f}" if peaks[name] else "-")
+               f"{seconds / base:.1f}", f"{lines / seconds / 1e6:.2f}", f"{peaks[name]:.1f}" if peaks[name] >= 0.1 else "-")
 
 
 def main():

@@ -1,5 +1,5 @@
 -- Texts without an escape.
-use Rattle.std.proofs.Common.{◌≡◌, ◌≢◌, ℕ, ◌<◌, List, ◌++◌, length, slice_index, All, sym, ◌∙◌, arith, append-nil, lit<}
+use Rattle.std.proofs.Common.{◌≢◌, ℕ, List, ◌++◌, All, sym, ◌∙◌, arith, append-nil}
 use Rattle.std.proofs.lemmas.List.Elements.{All-append, All-from_get_or}
 use Rattle.std.proofs.lemmas.Str.{inside_one}
 use Rattle.std.specs.Prelude.{encode_utf8}

@@ -2,4 +2,4 @@
 pub mod Joining
 pub mod Plans
 pub mod Printing
-pub mod Stops
+pub mod Running

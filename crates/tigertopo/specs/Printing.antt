@@ -1,13 +1,7 @@
 -- What `show` prints.
-use Rattle.std.specs.Prelude.{◌≡◌, Option, None, Result, IfSome, IsSome, MatchResult, ℕ, List, [], ◌∷◌, ◌++◌, length, codes, decimal}
+use Rattle.std.specs.Prelude.{◌≡◌, Result, MatchResult, ℕ, List, [], ◌∷◌, ◌++◌, length, codes, decimal}
 use Rattle.std.specs.Fmt.{signed_decimal}
-use Rattle.std.specs.Io.KnownBytes.{Appends}
 use Rattle.tl_record.specs.Failures.{one_more}
-use Rattle.tl_record.specs.Layout.{tiger_2006}
-use Rattle.tl_record.specs.Records.{records_of}
-use Rattle.tl_map.specs.declared.fault.MapFault.{MapFault}
-use Rattle.tl_map.specs.Faults.{IsTrueOf}
-use Rattle.tl_map.specs.Reading.{AreReadFrom, records_in}
 use Rattle.tl_geom.specs.declared.point.Point.{Point}
 use Rattle.tl_map.specs.Chains.{CompleteChain, ChainList, segment_count}
 
@@ -41,16 +35,3 @@ shown_text list = chains_text list.chains ++ counts_text (length list.chains) (s
 -- an error says that one more write failed, and success that none did
 abbrev pub CountsFailure : {T E : Type 0} → ℕ → ℕ → Result T E → Type 0
 CountsFailure old new r = MatchResult r (λ _. new ≡ old) (λ _. new ≡ one_more old)
-
--- the output grew by the lines of the chains that the text's records draw: no line of it is refused, and no fault is true
-abbrev pub IsShown : Option (List ℕ) → Option (List ℕ) → List ℕ → Type 0
-IsShown old new text = (list : ChainList) × AreReadFrom (records_of tiger_2006 text) list × Appends old new (shown_text list)
-
--- no line of the text is refused, and its records have a fault
-abbrev pub HasMapFault : List ℕ → Type 0
-HasMapFault text =
-    (fault : MapFault) × ((records_of tiger_2006 text).refusal ≡ None) × IsTrueOf (records_in (records_of tiger_2006 text)) fault
-
--- a line of the text is refused
-abbrev pub IsRefused : List ℕ → Type 0
-IsRefused text = IsSome (records_of tiger_2006 text).refusal

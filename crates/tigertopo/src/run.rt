@@ -5,8 +5,8 @@ ghost use Rattle.std.specs.Io.KnownBytes.{Appends};
 ghost use Rattle.tl_record.specs.Layout.{tiger_2006};
 ghost use Rattle.tl_record.specs.Records.{records_of};
 ghost use Rattle.tl_map.specs.Reading.{StopsReading};
-ghost use Rattle.tigertopo.specs.Printing.{CountsFailure, IsShown, HasMapFault, IsRefused, shown_text};
-ghost use Rattle.tigertopo.specs.Stops.{status_of_stop};
+ghost use Rattle.tigertopo.specs.Printing.{CountsFailure, shown_text};
+ghost use Rattle.tigertopo.specs.Running.{IsShown, HasMapFault, IsRefused, status_of_stop};
 
 use crate::output::OutputBuffer;
 use crate::plan::Plan;
@@ -40,8 +40,10 @@ pub fn run<R: Source, S: Source, C: Sink, W: Sink, E: Sink>(
     out: &mut W,
     err: &mut E,
 ) -> u8
-    // The chains of the records were printed, all of them and nothing else, and no write failed.
+    // The chains of the records were printed, all of them and nothing else.
     ensures shown { result ≡ DONE → IfSome (R.remaining records.old) (IsShown (W.contents out.old) (W.contents out.new)) }
+    // No read failed, and no write.
+    ensures read_whole { result ≡ DONE → R.failure_count records.new ≡ R.failure_count records.old }
     ensures written_whole { result ≡ DONE → W.failure_count out.new ≡ W.failure_count out.old }
 
     // A fault and a refusal are true, where the bytes are known.
@@ -68,6 +70,7 @@ pub fn run<R: Source, S: Source, C: Sink, W: Sink, E: Sink>(
 fn show<R: Source, W: Sink>(alloc: Global, records: &mut R, out: &mut W) -> Result<(), MapStop>
     ensures shown { OnOk result (IfSome (R.remaining records.old) (IsShown (W.contents out.old) (W.contents out.new))) }
     ensures stops { IfErr result (λ stop. IfSome (R.remaining records.old) (λ text. StopsReading (records_of tiger_2006 text) stop)) }
+    ensures in_failures { OnOk result (R.failure_count records.new ≡ R.failure_count records.old) }
     ensures out_failures { OnOk result (W.failure_count out.new ≡ W.failure_count out.old) }
 {
     let chains = read_chains(alloc, records)?;

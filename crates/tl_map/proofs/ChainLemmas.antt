@@ -1,12 +1,11 @@
-use Rattle.std.proofs.Common.{◌≡◌, ◌≢◌, ℕ, zero, suc, ◌+◌, ◌-◌, ◌<◌, ◌≤◌, Bool, true, false, cond, eqb, ◌&&◌, ◌⊎◌, inl, inr, Option, Some, None, List, [], ◌∷◌, ◌++◌, length, take, drop, map, get_or, filter, sum_by, count_by, All, Contains, refl, sym, ap, ◌∙◌, subst, arith, add-one}
-use Rattle.std.specs.Prelude.{Any, Result, Ok, Err, IfOk, IfErr, OnOk, MatchResult}
+use Rattle.std.proofs.Common.{◌≡◌, ◌≢◌, ℕ, zero, suc, ◌+◌, ◌-◌, ◌<◌, ◌≤◌, Bool, true, false, cond, eqb, ◌⊎◌, inl, inr, List, [], ◌∷◌, ◌++◌, length, take, map, get_or, filter, sum_by, count_by, All, Contains, refl, sym, ap, ◌∙◌, arith, add-one}
+use Rattle.std.specs.Prelude.{Result, Ok, Err, IfOk, IfErr, OnOk, MatchResult}
 use Rattle.std.specs.List.{dedup, flat_map}
-use Rattle.std.specs.List.Sorted.{IsStrictlyIncreasing}
-use Rattle.std.proofs.lemmas.Bool.{cases_lt, cases_Bool, eq-eqb, ne_eqb, eqb-true, false≢true}
-use Rattle.std.proofs.lemmas.List.{append-nil, take_all, take_more, length-map, get_or-map}
-use Rattle.std.proofs.lemmas.List.Elements.{filter_more, Contains-get_or, All-map, All-head}
+use Rattle.std.proofs.lemmas.Bool.{cases_Bool, eq-eqb, ne_eqb, eqb-true, false≢true}
+use Rattle.std.proofs.lemmas.List.{append-nil, take_all, length-map, get_or-map}
+use Rattle.std.proofs.lemmas.List.Elements.{filter_more, All-map}
 use Rattle.std.proofs.lemmas.List.Concat.{flat_map-append}
-use Rattle.std.proofs.lemmas.List.Sums.{sum_by-cons, count_by_more_yes, count_by_more_no}
+use Rattle.std.proofs.lemmas.List.Sums.{sum_by-cons, count_by_more_no}
 use Rattle.tl_geom.specs.declared.point.Point.{Point}
 use Rattle.tl_record.specs.declared.record.Record.{Record}
 use Rattle.tl_record.specs.declared.record.Record.TheVariants.{Chain, Shape}
@@ -18,14 +17,14 @@ use Rattle.tl_map.specs.declared.fault.Limited.TheVariants.{Chains, Segments}
 use Rattle.tl_map.specs.declared.fault.MapFault.TheVariants.{DuplicateChain, ShapeWithoutChain, ShapeSequence, ShapeGap, DegenerateChain, TooMany}
 use Rattle.tl_map.specs.declared.fault.MapStop.{MapStop}
 use Rattle.tl_map.specs.declared.fault.MapStop.TheVariants.{Refused, Device, Memory, Fault}
-use Rattle.tl_map.specs.Chains.{is_chain, is_shape, is_shape_at, shape_count, pairs_up_to, pairs_of, used, has_gap, same_point, points_between, segments_by, segments_of, chain_count, CompleteChain, ChainList, tlids, segment_count, IsDrawn, AreChainsOf}
-use Rattle.tl_map.specs.Faults.{IsRepeated, IsStray, IsNumbered, IsBroken, IsDegenerate, AreJoined, IsTrueOf, HaveNoChainFault}
-use Rattle.tl_map.specs.Entries.{by_chain, AreChainEntries, entry_points, IsInside, IsShapeEntry, AreShapeEntries, chains_with, AreRising, has_tlid, shapes_with, AreInOrder, ArePlaced, AreNumbered, joined}
+use Rattle.tl_map.specs.Chains.{is_chain, shape_count, pairs_up_to, pairs_of, used, same_point, points_between, segments_by, segments_of, CompleteChain, ChainList, tlids, segment_count, IsDrawn, AreChainsOf}
+use Rattle.tl_map.specs.Faults.{IsStray, IsDegenerate, AreJoined, IsTrueOf, HaveNoChainFault}
+use Rattle.tl_map.specs.Entries.{by_chain, AreChainEntries, entry_points, AreShapeEntries, chains_with, AreRising, has_tlid, shapes_with, ArePlaced, joined}
 use Rattle.tl_map.specs.Rows.{StopsJoin}
 use Rattle.tl_map.specs.Built.{AreSound, AreBuilt, StopsBuilding}
 use Rattle.tl_map.proofs.CountLemmas.{none_counted, one_counted, sum_by-same, rising_keys_from_pairs}
 use Rattle.tl_map.proofs.SequenceLemmas.{numbered_from_placed}
-use Rattle.tl_map.proofs.GapLemmas.{used-append, shapes_with_is, IsNumbered-from_entries, AreNumbered-from_records, pairs_more}
+use Rattle.tl_map.proofs.GapLemmas.{used-append, shapes_with_is, IsNumbered-from_entries, pairs_more}
 use Rattle.tl_map.proofs.CollectLemmas.{chain_count_is}
 
 -- the used points of a TLID, with one entry more

@@ -1,6 +1,6 @@
-use Rattle.std.proofs.Common.{◌≡◌, ℕ, zero, suc, ◌+◌, ◌-◌, ◌<◌, ◌≤◌, Bool, true, false, cond, ◌&&◌, ◌||◌, Option, Some, None, List, [], ◌∷◌, ◌++◌, length, take, drop, get_or, sum_by, count_by, All, Contains, refl, sym, ap, ◌∙◌, arith}
+use Rattle.std.proofs.Common.{◌≡◌, ℕ, ◌+◌, ◌<◌, ◌≤◌, Bool, true, false, cond, ◌&&◌, ◌||◌, Option, Some, None, List, [], ◌∷◌, ◌++◌, length, take, drop, get_or, sum_by, Contains, refl, sym, ap, ◌∙◌, arith}
 use Rattle.std.specs.List.Sorted.{IsPermutation}
-use Rattle.std.proofs.lemmas.List.{append-nil, append_assoc, take_more, drop-append-le, take-append-le, drop_at, take_all, length-append, length-drop, length-take-le, length_push}
+use Rattle.std.proofs.lemmas.List.{append-nil, append_assoc, take_more, drop-append-le, take-append-le, drop_at, take_all, length-append, length-drop}
 use Rattle.std.proofs.lemmas.List.Elements.{All-push, All-weaker, Contains-append_left, Contains-push}
 use Rattle.std.proofs.lemmas.List.Sorted.{sum_by-IsPermutation, All-permutation}
 use Rattle.std.proofs.lemmas.List.Sums.{sum_by_push, sum_by-cons}
@@ -12,8 +12,8 @@ use Rattle.tl_map.specs.Collected.{Collects}
 use Rattle.tl_map.specs.declared.entry.ChainEntry.{ChainEntry}
 use Rattle.tl_map.specs.declared.entry.ShapeEntry.{ShapeEntry}
 use Rattle.tl_map.specs.declared.entry.Fill.{Fill}
-use Rattle.tl_map.specs.Chains.{is_any_chain, chain_count, used, some_used, has_gap}
-use Rattle.tl_map.specs.Entries.{some_unused, fill_of, by_chain, by_shape, AreChainEntries, entry_points, IsInside, IsShapeEntry, AreShapeEntries}
+use Rattle.tl_map.specs.Chains.{is_any_chain, chain_count, used, has_gap}
+use Rattle.tl_map.specs.Entries.{some_unused, fill_of, by_chain, by_shape, AreChainEntries, IsShapeEntry, AreShapeEntries}
 use Rattle.tl_map.proofs.CountLemmas.{sum_by-same}
 use Rattle.tl_map.proofs.GapLemmas.{used-append, some_unused-append, has_gap-append}
 

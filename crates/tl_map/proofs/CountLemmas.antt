@@ -1,4 +1,4 @@
-use Rattle.std.proofs.Common.{eqb, Option, Some, None, MatchOption, ◌≡◌, ℕ, zero, suc, ◌+◌, ◌*◌, ◌-◌, ◌<◌, ◌≤◌, Bool, true, false, cond, List, [], ◌∷◌, ◌++◌, length, take, drop, map, get_or, sum_by, count_by, All, refl, sym, ap, ◌∙◌, arith, add-one, inl, inr}
+use Rattle.std.proofs.Common.{eqb, Option, Some, None, MatchOption, ◌≡◌, ℕ, zero, suc, ◌+◌, ◌-◌, ◌<◌, ◌≤◌, Bool, true, false, cond, List, [], ◌∷◌, length, take, map, get_or, sum_by, count_by, All, refl, sym, ◌∙◌, arith, add-one, inl, inr}
 use Rattle.std.specs.Prelude.{IfSome}
 use Rattle.std.specs.Option.{option_eq}
 use Rattle.std.specs.List.Sorted.{IsStrictlyIncreasing}
@@ -6,7 +6,7 @@ use Rattle.tl_map.specs.declared.entry.ChainEntry.{ChainEntry}
 use Rattle.tl_map.specs.Entries.{chains_with}
 use Rattle.std.proofs.lemmas.Bool.{eq-eqb, eqb-true, cases_lt}
 use Rattle.std.proofs.lemmas.List.{get_or-map, length-map}
-use Rattle.std.proofs.lemmas.List.Sums.{sum_by-cons, sum_by_more, sum_by-take-le, sum_by-le, sum_by-take-drop, count_by_more_yes}
+use Rattle.std.proofs.lemmas.List.Sums.{sum_by-cons, sum_by-take-le, sum_by-le, count_by_more_yes}
 
 -- neighbours that pass are two that pass
 pub two_counted : {X : Type 0} (p : X → Bool) (xs : List X) (i : ℕ) (d : X) → i + 1 < length xs → p (get_or xs i d) ≡ true → p (get_or xs (i + 1) d) ≡ true → 2 ≤ count_by p xs

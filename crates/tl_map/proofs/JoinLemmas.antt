@@ -1,8 +1,6 @@
-use Rattle.std.proofs.Common.{◌≡◌, ◌≢◌, ℕ, zero, suc, ◌+◌, ◌-◌, ◌<◌, ◌≤◌, Bool, true, false, cond, eqb, ◌⊎◌, inl, inr, List, [], ◌∷◌, ◌++◌, length, take, drop, map, get_or, filter, All, refl, sym, ap, ◌∙◌, arith, add-one}
-use Rattle.std.specs.Prelude.{Any}
-use Rattle.std.specs.List.{flat_map}
+use Rattle.std.proofs.Common.{◌≡◌, ◌≢◌, ℕ, ◌+◌, ◌-◌, ◌<◌, ◌≤◌, Bool, true, false, inl, inr, List, [], ◌∷◌, ◌++◌, length, take, drop, map, get_or, filter, All, refl, sym, ap, ◌∙◌, arith}
 use Rattle.std.proofs.lemmas.Bool.{cases_lt, eq-eqb, ne_eqb}
-use Rattle.std.proofs.lemmas.List.{append-nil, append_assoc, take-append-drop, get_or-take, get_or-drop, get_or_default, length-take-le, length-drop, map_more, length-map, get_or-map, take-map}
+use Rattle.std.proofs.lemmas.List.{append-nil, take-append-drop, get_or-take, get_or-drop, get_or_default, length-take-le, length-drop, map_more, length-map, get_or-map, take-map}
 use Rattle.std.proofs.lemmas.List.Elements.{All-head, All-tail, filter-append}
 use Rattle.tl_geom.specs.declared.point.Point.{Point}
 use Rattle.tl_map.specs.declared.entry.ChainEntry.{ChainEntry}
@@ -13,8 +11,8 @@ use Rattle.tl_map.specs.declared.fault.MapFault.TheVariants.{DuplicateChain, Sha
 use Rattle.tl_map.specs.declared.fault.MapStop.{MapStop}
 use Rattle.tl_map.specs.declared.fault.MapStop.TheVariants.{Refused, Device, Memory, Fault}
 use Rattle.tl_map.specs.Chains.{CompleteChain, segment_count}
-use Rattle.tl_map.specs.Entries.{entry_points, has_tlid, chains_with, AreRising, AreInOrder, joined}
-use Rattle.tl_map.specs.Rows.{drawn_by, drawn_through, StopsAdding, StopsJoin}
+use Rattle.tl_map.specs.Entries.{has_tlid, chains_with, AreRising, AreInOrder, joined}
+use Rattle.tl_map.specs.Rows.{drawn_by, StopsAdding, StopsJoin}
 use Rattle.tl_map.proofs.StrayLemmas.{no_chain}
 
 filter_none : {X : Type 0} (p : X → Bool) (xs : List X) → All (λ x. p x ≡ false) xs → filter p xs ≡ []

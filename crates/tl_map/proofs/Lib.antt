@@ -7,3 +7,4 @@ pub mod JoinLemmas
 pub mod CollectLemmas
 pub mod OrderLemmas
 pub mod ChainLemmas
+pub mod PlainLemmas

@@ -1,4 +1,4 @@
-use Rattle.std.specs.Prelude.{◌≡◌, ℕ, ◌+◌, ◌<◌, ◌≤◌, nat_lt, Bool, true, false, ◌&&◌, ◌==◌, if◌then◌else◌, Option, Some, None, List, [], ◌∷◌, ◌++◌, length, take, drop, map, filter, sum_by, count_by, All, Contains, slice_index_or}
+use Rattle.std.specs.Prelude.{◌≡◌, ℕ, ◌+◌, ◌<◌, ◌≤◌, nat_lt, Bool, true, false, ◌&&◌, ◌==◌, if◌then◌else◌, Option, Some, None, List, [], ◌∷◌, ◌++◌, length, take, drop, filter, sum_by, count_by, All, Contains, slice_index_or}
 use Rattle.std.specs.List.{dedup, flat_map}
 use Rattle.tl_geom.specs.declared.point.Point.{Point}
 use Rattle.tl_record.specs.declared.record.Record.{Record}
@@ -7,7 +7,7 @@ use Rattle.tl_map.specs.declared.entry.ChainEntry.{ChainEntry}
 use Rattle.tl_map.specs.declared.entry.ShapeEntry.{ShapeEntry}
 use Rattle.tl_map.specs.declared.entry.Fill.{Fill}
 use Rattle.tl_map.specs.declared.entry.Fill.TheVariants.{Full, Ended, Gap}
-use Rattle.tl_map.specs.Chains.{same_point, used, some_used, has_gap, CompleteChain}
+use Rattle.tl_map.specs.Chains.{same_point, used, has_gap, CompleteChain}
 
 -- is one of the pairs unused
 abbrev pub some_unused : List (Option Point) → Bool

@@ -1,4 +1,4 @@
-use Rattle.std.specs.Prelude.{◌≡◌, ℕ, ◌<◌, ◌≤◌, true, false, List, length, count_by, Contains}
+use Rattle.std.specs.Prelude.{◌≡◌, ℕ, ◌<◌, ◌≤◌, true, List, length, count_by, Contains}
 use Rattle.tl_geom.specs.declared.point.Point.{Point}
 use Rattle.tl_record.specs.declared.record.Record.{Record}
 use Rattle.tl_record.specs.declared.record.Record.TheVariants.{Chain}
@@ -6,7 +6,7 @@ use Rattle.tl_map.specs.declared.fault.Limited.{Limited}
 use Rattle.tl_map.specs.declared.fault.Limited.TheVariants.{Chains, Segments}
 use Rattle.tl_map.specs.declared.fault.MapFault.{MapFault}
 use Rattle.tl_map.specs.declared.fault.MapFault.TheVariants.{DuplicateChain, ShapeWithoutChain, ShapeSequence, ShapeGap, DegenerateChain, TooMany}
-use Rattle.tl_map.specs.Chains.{is_chain, is_shape, is_shape_at, shape_count, pairs_of, has_gap, points_between, segments_of, chain_count}
+use Rattle.tl_map.specs.Chains.{is_chain, is_shape_at, shape_count, pairs_of, has_gap, points_between, segments_of, chain_count}
 
 -- two type 1 records have TLID t
 abbrev pub IsRepeated : List Record → ℕ → Type 0

@@ -1,4 +1,4 @@
-use Rattle.std.specs.Prelude.{◌≡◌, ℕ, ◌+◌, ◌<◌, ◌≤◌, if◌then◌else◌, List, [], ◌∷◌, ◌++◌, length, map, take, drop, All, Any}
+use Rattle.std.specs.Prelude.{◌≡◌, ◌+◌, ◌<◌, ◌≤◌, if◌then◌else◌, List, [], ◌∷◌, ◌++◌, length, map, take, drop, All, Any}
 use Rattle.std.specs.List.{dedup, flat_map}
 use Rattle.tl_geom.specs.declared.point.Point.{Point}
 use Rattle.tl_map.specs.declared.chains.ChainRow.{ChainRow}

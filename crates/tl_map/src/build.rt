@@ -42,6 +42,7 @@ fn first_fault(chains: &[ChainEntry], shapes: &[ShapeEntry]) -> Option<MapFault>
 
 /// The chains of the records.
 pub fn build_chains(alloc: Global, collected: Collected, skipped: u64) -> Result<Chains, MapStop>
+    // It has collected some records.
     requires { (rs : List Record) × Collects rs collected }
     ensures { (rs : List Record) → Collects rs collected → MatchResult result (AreBuilt rs skipped) (StopsBuilding rs) }
 {

@@ -7,7 +7,7 @@ use Rattle.std.proofs.Math.Seq.{take-append-add}
 use Rattle.std.specs.List.{list_all}
 use Rattle.std.proofs.lemmas.List.Folds.{list_all-append}
 use Rattle.std.proofs.Math.Bool.{and-true, and-false}
-use Rattle.tl_record.specs.Fields.{blank, is_blank, without_leading_blanks, without_trailing_blanks, trimmed, number_spelt, coordinate_spelt, field, width_of}
+use Rattle.tl_record.specs.Fields.{blank, is_blank, without_leading_blanks, without_trailing_blanks, trimmed, field, width_of}
 use Rattle.tl_record.specs.Range.{Range}
 
 all_blank_append : (bytes blanks : List ℕ) → list_all is_blank blanks ≡ true → list_all is_blank (bytes ++ blanks) ≡ list_all is_blank bytes

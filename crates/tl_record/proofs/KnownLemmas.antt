@@ -1,5 +1,5 @@
 -- The bytes that weren't judged yet, where they are known.
-use Rattle.std.proofs.Common.{◌≡◌, ℕ, List, [], ◌∷◌, ◌++◌, Option, None, Some, refl, sym, ap, ◌∙◌, append_assoc}
+use Rattle.std.proofs.Common.{◌≡◌, ℕ, List, ◌++◌, Option, None, Some, refl, append_assoc}
 use Rattle.std.specs.Io.KnownBytes.{Consumes, Keeps, prepend_known}
 
 -- fetched bytes go from the source to the buffer

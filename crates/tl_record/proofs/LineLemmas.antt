@@ -1,7 +1,7 @@
 -- Line feeds in a text, and its lines.
-use Rattle.std.proofs.Common.{◌≡◌, ◌≢◌, ℕ, zero, suc, ◌+◌, ◌-◌, ◌<◌, ◌≤◌, Bool, true, false, List, [], ◌∷◌, ◌++◌, Option, Some, None, length, take, drop, get_or, zero-add, take-add, take-append-drop, ne_eqb, refl, sym, ap, ◌∙◌, arith, inl, inr, take_all, cond}
+use Rattle.std.proofs.Common.{◌≡◌, ◌≢◌, ℕ, zero, suc, ◌+◌, ◌-◌, ◌<◌, ◌≤◌, true, false, List, [], ◌∷◌, ◌++◌, Some, None, length, take, drop, zero-add, take-add, take-append-drop, ne_eqb, refl, sym, ap, ◌∙◌, arith, inl, inr, take_all, cond}
 use Rattle.std.specs.List.{between, slice_index}
-use Rattle.std.proofs.lemmas.List.{length-drop, take-append-le, get_or-drop, length-append, take_at, append-nil, drop_more, drop_all, take_more}
+use Rattle.std.proofs.lemmas.List.{length-drop, get_or-drop, length-append, take_at, append-nil, drop_more, drop_all, take_more}
 use Rattle.std.proofs.lemmas.List.Sums.{sum_by-append}
 use Rattle.std.proofs.lemmas.Slice.{between_to_end}
 use Rattle.std.proofs.lemmas.Bool.{cases_Bool, eqb-true}

@@ -1,14 +1,13 @@
 -- What the next line takes from the records that were to come.
-use Rattle.std.proofs.Common.{◌≡◌, ◌≢◌, ℕ, ◌+◌, ◌∷◌, List, [], Option, None, Some, Ok, Err, refl, sym, ap, ◌∙◌, arith}
+use Rattle.std.proofs.Common.{◌≡◌, ℕ, ◌+◌, List, Option, None, Some, Ok, Err, refl, sym, ap, ◌∙◌, arith}
 use Rattle.std.specs.Option.{option_map}
 use Rattle.tl_record.specs.declared.layout.Layout.{Layout}
 use Rattle.tl_record.specs.declared.record.Record.{Record}
 use Rattle.tl_record.specs.declared.stop.Cause.{Cause}
 use Rattle.tl_record.specs.declared.stop.ReadStop.TheVariants as stop
-use Rattle.tl_record.specs.declared.judge.Judgement.{Judgement}
 use Rattle.tl_record.specs.declared.judge.Judgement.TheVariants.{PassedOver, Read, Refused}
 use Rattle.tl_record.specs.declared.reader.NextLine.TheVariants as next
-use Rattle.tl_record.specs.Lines.{raw_lines, line_feeds, first_line, after_first_line}
+use Rattle.tl_record.specs.Lines.{raw_lines, line_feeds, after_first_line}
 use Rattle.tl_record.specs.Records.{Records, judgements, records_judged, records_of_lines}
 use Rattle.tl_record.specs.NextLine.{JudgesFirst, FindsNext}
 use Rattle.tl_record.specs.Reader.{Answer, with_skipped, with_entry, nothing_after, refusal_after, Gives, KeepsRecords, CountsLineFeeds}

@@ -10,7 +10,7 @@ use Rattle.tl_record.specs.declared.judge.Judgement.TheVariants.{PassedOver, Rea
 use Rattle.tl_record.specs.declared.reader.NextLine.TheVariants as next
 use Rattle.tl_record.specs.Lines.{line_feed, line_feeds, first_line, after_first_line}
 use Rattle.tl_record.specs.Judgement.{judgement}
-use Rattle.tl_record.specs.NextLine.{JudgesFirst, IfAccepted, TakesLine, FindsNext}
+use Rattle.tl_record.specs.NextLine.{IfAccepted, TakesLine, FindsNext}
 use Rattle.tl_record.proofs.LineLemmas.{first_line_before, after_first_line_before, first_line_whole, after_first_line_whole, first_line_long, split_at_feed, feeds-split}
 use Rattle.memchr.specs.Find.{is_byte}
 

@@ -1,5 +1,5 @@
 -- Shape pairs, as a loop reads one after the other.
-use Rattle.std.proofs.Common.{◌≡◌, ℕ, suc, ◌+◌, ◌<◌, ◌≤◌, List, [], ◌∷◌, ◌++◌, Option, Result, Ok, Err, length, take, drop, get_or, refl, sym, ap, ◌∙◌, append_assoc, add-one, arith, drop-cons, take_all}
+use Rattle.std.proofs.Common.{◌≡◌, ℕ, ◌+◌, ◌<◌, ◌≤◌, List, [], ◌∷◌, ◌++◌, Option, Result, Ok, Err, length, take, drop, get_or, refl, sym, ap, ◌∙◌, append_assoc, add-one, drop-cons, take_all}
 use Rattle.std.proofs.lemmas.List.{append-nil, drop_all}
 use Rattle.tl_geom.specs.declared.point.Point.{Point}
 use Rattle.tl_record.specs.declared.layout.PointColumns.{PointColumns}

@@ -1,14 +1,13 @@
 -- The records of a text, as a program finds them that reads its lines one after the other.
-use Rattle.std.proofs.Common.{◌≡◌, ◌≢◌, ℕ, ◌+◌, ◌∷◌, List, [], ◌++◌, Option, None, Some, refl, sym, ap, ◌∙◌, append_assoc, append-nil}
+use Rattle.std.proofs.Common.{◌≡◌, ◌≢◌, ℕ, ◌+◌, ◌∷◌, List, [], ◌++◌, None, Some, refl, sym, ap, ◌∙◌, append_assoc, append-nil}
 use Rattle.tl_record.specs.declared.layout.Layout.{Layout}
 use Rattle.tl_record.specs.declared.record.Record.{Record}
 use Rattle.tl_record.specs.declared.stop.Cause.{Cause}
-use Rattle.tl_record.specs.declared.judge.Judgement.{Judgement}
 use Rattle.tl_record.specs.declared.judge.Judgement.TheVariants.{PassedOver, Read, Refused}
 use Rattle.tl_record.specs.Lines.{first_line, after_first_line}
 use Rattle.tl_record.specs.Judgement.{judgement}
 use Rattle.tl_record.specs.Records.{Records}
-use Rattle.tl_record.specs.Reader.{with_entry, nothing_after, refusal_after}
+use Rattle.tl_record.specs.Reader.{with_entry}
 use Rattle.tl_record.proofs.RecordLemmas.{records_none}
 use Rattle.tl_record.proofs.MoveLemmas.{coming_of, first_passed, first_read, first_refused}
 

@@ -1,16 +1,13 @@
 -- What a reader answers, from the lines that it passed over and the line that it judged last.
-use Rattle.std.proofs.Common.{◌≡◌, ℕ, ◌+◌, ◌∷◌, List, [], Option, None, Some, Ok, Err, Result, refl, sym, ap, ◌∙◌, arith, inl, inr, subst}
+use Rattle.std.proofs.Common.{◌≡◌, ℕ, ◌+◌, List, Option, None, Some, Ok, Err, refl, sym, ap, ◌∙◌, arith, inl, inr, subst}
 use Rattle.std.specs.Option.{unwrap_or}
-use Rattle.tl_record.specs.declared.record.Record.{Record}
-use Rattle.tl_record.specs.declared.stop.Cause.{Cause}
 use Rattle.tl_record.specs.declared.stop.ReadStop.TheVariants as stop
 use Rattle.tl_record.specs.declared.judge.Judgement.{Judgement}
 use Rattle.tl_record.specs.declared.judge.Judgement.TheVariants.{PassedOver, Read, Refused}
 use Rattle.tl_record.specs.declared.reader.NextLine.TheVariants as next
 use Rattle.tl_record.specs.declared.reader.Standing.TheVariants.{Reading, Ended, Stopped}
 use Rattle.tl_record.specs.declared.reader.RecordReader.{RecordReader}
-use Rattle.tl_record.specs.Records.{Records}
-use Rattle.tl_record.specs.Reader.{Answer, source_of, layout_of, lines_of, skipped_of, standing_of, pending_of, unjudged, outcome, to_come, nothing_after, refusal_after, StepsTo, CountsLine, PassesOver, Moves, Gives, answer_of, lines_with, skipped_with, standing_with}
+use Rattle.tl_record.specs.Reader.{Answer, source_of, lines_of, skipped_of, standing_of, unjudged, outcome, to_come, nothing_after, StepsTo, CountsLine, PassesOver, Moves, Gives, answer_of, lines_with, skipped_with, standing_with}
 use Rattle.tl_record.proofs.MoveLemmas.{coming, line_passed, feed_passed, line_read, line_refused, last_passed, last_read, last_refused, KeepsRecords-trans, Gives-after, CountsLineFeeds-trans}
 
 -- one more line is passed over

@@ -1,6 +1,6 @@
 -- What one more judgement in front makes of the records of a text.
-use Rattle.std.proofs.Common.{◌≡◌, ◌≢◌, ℕ, ◌+◌, ◌∷◌, List, [], ◌++◌, Bool, true, false, not, cond, Option, None, Some, refl, sym, ap, ◌∙◌, arith, add_assoc}
-use Rattle.std.specs.List.{enumerate_from, filter_map, take_while, find, count_by, sum_by}
+use Rattle.std.proofs.Common.{◌≡◌, ◌≢◌, ℕ, ◌+◌, ◌∷◌, List, [], Bool, not, cond, Option, refl, sym, ap, ◌∙◌, arith}
+use Rattle.std.specs.List.{filter_map, count_by}
 use Rattle.std.proofs.lemmas.List.Sums.{take_while-cons, sum_by-append}
 use Rattle.tl_record.specs.declared.layout.Layout.{Layout}
 use Rattle.tl_record.specs.declared.record.Record.{Record}
@@ -9,7 +9,7 @@ use Rattle.tl_record.specs.declared.judge.Judgement.{Judgement}
 use Rattle.tl_record.specs.declared.judge.Judgement.TheVariants.{PassedOver, Read, Refused}
 use Rattle.tl_record.specs.Lines.{raw_lines, first_line, after_first_line}
 use Rattle.tl_record.specs.Judgement.{judgement}
-use Rattle.tl_record.specs.Records.{Records, judgements, is_refused, is_passed_over, entry_of, refusal_of, accepted, records_judged, records_of_lines}
+use Rattle.tl_record.specs.Records.{Records, judgements, is_refused, is_passed_over, entry_of, accepted, records_judged, records_of_lines}
 use Rattle.tl_record.specs.Reader.{with_skipped, with_entry, nothing_after, refusal_after}
 use Rattle.tl_record.proofs.LineLemmas.{raw_lines-first}
 

@@ -1,9 +1,9 @@
 -- A text has one list of raw lines.
-use Rattle.std.proofs.Common.{◌≡◌, ◌≢◌, ◌⊎◌, ℕ, List, [], ◌∷◌, ◌++◌, true, false, refl, sym, ap, ◌∙◌, inl, inr, append_assoc, arith}
+use Rattle.std.proofs.Common.{◌≡◌, ◌≢◌, ℕ, List, [], ◌∷◌, ◌++◌, false, refl, sym, ap, ◌∙◌, inl, inr, append_assoc}
 use Rattle.std.proofs.lemmas.List.{append_cancel_right}
 use Rattle.std.proofs.lemmas.Bool.{cases_Bool, eqb-true}
 use Rattle.memchr.specs.Find.{is_byte}
-use Rattle.tl_record.specs.Lines.{line_feed, line_feeds, raw_lines, with_first_byte, joined_lines, HoldNoLineFeed, EndInBytes, AreLinesOf, first_line, after_first_line}
+use Rattle.tl_record.specs.Lines.{line_feed, line_feeds, raw_lines, with_first_byte, joined_lines, AreLinesOf}
 use Rattle.tl_record.proofs.LineLemmas.{first_line_before, after_first_line_before, first_line_whole, after_first_line_whole, raw_lines-first, other_counts}
 
 not_empty : (front rest : List ℕ) (byte : ℕ) → front ++ byte ∷ rest ≢ []
@@ -74,19 +74,19 @@ only_raw_lines (line ∷ []) text are =
     elim are.whole [
       | inl is ↦ ap raw_lines is ∙ line_first line [] [] are.inside.0 refl
       | inr is ↦
-        let same : text ≡ line = append_cancel_right text line (line_feed ∷ []) is.0 in
-        ap raw_lines same ∙ raw_lines-first line is.1 ∙ rw (first_line_whole line are.inside.0, after_first_line_whole line are.inside.0) refl
+          let same : text ≡ line = append_cancel_right text line (line_feed ∷ []) is.0 in
+          ap raw_lines same ∙ raw_lines-first line is.1 ∙ rw (first_line_whole line are.inside.0, after_first_line_whole line are.inside.0) refl
     ]
 only_raw_lines (line ∷ next ∷ lines) text are =
     elim are.whole [
       | inl is ↦
-        ap raw_lines is ∙ line_first line (joined_lines (next ∷ lines)) (next ∷ lines) are.inside.0
+          ap raw_lines is ∙ line_first line (joined_lines (next ∷ lines)) (next ∷ lines) are.inside.0
           (only_raw_lines (next ∷ lines) (joined_lines (next ∷ lines)) record { inside = are.inside.1; whole = inl refl })
       | inr is ↦
-        let last = last_feed next lines in
-        let split : line ++ line_feed ∷ joined_lines (next ∷ lines) ≡ (line ++ line_feed ∷ last.0) ++ line_feed ∷ [] =
-        ap (λ (l : List ℕ). line ++ line_feed ∷ l) last.1 ∙ sym (append_assoc line (line_feed ∷ last.0) (line_feed ∷ [])) in
-        let same : text ≡ line ++ line_feed ∷ last.0 = append_cancel_right text (line ++ line_feed ∷ last.0) (line_feed ∷ []) (is.0 ∙ split) in
-        ap raw_lines same ∙ line_first line last.0 (next ∷ lines) are.inside.0
+          let last = last_feed next lines in
+          let split : line ++ line_feed ∷ joined_lines (next ∷ lines) ≡ (line ++ line_feed ∷ last.0) ++ line_feed ∷ [] =
+          ap (λ (l : List ℕ). line ++ line_feed ∷ l) last.1 ∙ sym (append_assoc line (line_feed ∷ last.0) (line_feed ∷ [])) in
+          let same : text ≡ line ++ line_feed ∷ last.0 = append_cancel_right text (line ++ line_feed ∷ last.0) (line_feed ∷ []) (is.0 ∙ split) in
+          ap raw_lines same ∙ line_first line last.0 (next ∷ lines) are.inside.0
           (only_raw_lines (next ∷ lines) last.0 record { inside = are.inside.1; whole = inr (sym last.1, is.1) })
     ]

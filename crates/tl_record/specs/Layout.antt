@@ -1,5 +1,5 @@
 -- The column table of the TIGER/Line files of 2006, as data: this project's own profile of the documentation.
-use Rattle.std.specs.Prelude.{List, [], ◌∷◌}
+use Rattle.std.specs.Prelude.{[], ◌∷◌}
 use Rattle.tl_record.specs.Range.{columns}
 use Rattle.tl_record.specs.declared.layout.Layout.{Layout}
 use Rattle.tl_record.specs.declared.layout.ChainColumns.{ChainColumns}

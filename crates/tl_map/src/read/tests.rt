@@ -1,5 +1,6 @@
 use crate::chains::Chains;
 use crate::fault::{Limited, MapFault, MapStop};
+use crate::plain::plain_points;
 use crate::read::read_chains;
 use std::alloc::{AllocError, Global};
 use std::io;
@@ -7,7 +8,7 @@ use std::io::Read;
 use std::process::Abort;
 use std::test::Fail;
 use tl_geom::Point;
-use tl_record::{Cause, Field, Meter};
+use tl_record::{Cause, Field, Meter, Record, RecordReader};
 
 /// Record lines, written field by field.
 #[derive(Drop)]
@@ -394,5 +395,84 @@ fn printed(rt: HostRuntime) -> Result<(), Fail> {
     assert!(rt; printed.as_str() == "refused line 1 L4 OutOfRange FRLAT");
     let printed = format!(in rt.alloc(); "{} {}", MapStop::Device, MapStop::Memory)?;
     assert!(rt; printed.as_str() == "stopped Device stopped Memory");
+    Ok(())
+}
+
+/// All records of the text.
+fn records_of(text: &Text, alloc: Global) -> Result<Vec<Record>, Fail> {
+    let mut reader = RecordReader::new(Meter::new(text.text.as_bytes()));
+    let mut records = Vec::new(alloc);
+    for _ in 0..u64::MAX {
+        match reader.next_record()? {
+            Some((_, next)) => records.push(next)?,
+            None => break,
+        }
+    }
+    Ok(records)
+}
+
+/// Does each chain have the points that the plain program gives its record?
+fn agrees(alloc: Global, records: &[Record], chains: &Chains) -> Result<bool, Fail> {
+    for next in records {
+        if let Record::Chain { tlid, from, to } = next {
+            let points = plain_points(alloc, records, *tlid, *from, *to)?;
+            for number in 0..chains.len() {
+                if chains.tlid(number) == *tlid && chains.points(number) != points.as_slice() {
+                    return Ok(false);
+                }
+            }
+        }
+    }
+    Ok(true)
+}
+
+#[test]
+fn agrees_with_the_plain_program(rt: HostRuntime) -> Result<(), Fail> {
+    let mut text = Text::new(rt.alloc());
+    text.shape(30, 2, &[at(7, 7), at(7, 7)])?;
+    text.chain(30, at(5, 5), at(5, 5))?;
+    text.shape(10, 1, &[at(1, 1), at(2, 2), at(2, 2), at(1, 1)])?;
+    text.chain(20, at(-5, 5), at(6, -6))?;
+    text.chain(10, at(1, 1), at(1, 1))?;
+    text.shape(
+        30,
+        1,
+        &[
+            at(1, 1),
+            at(1, 1),
+            at(1, 2),
+            at(1, 3),
+            at(1, 4),
+            at(1, 5),
+            at(1, 6),
+            at(1, 7),
+            at(1, 8),
+            at(7, 7),
+        ],
+    )?;
+    let chains = text.read(rt.alloc())?;
+    assert_counts(&rt, &chains, 3, 13, 0);
+    let records = records_of(&text, rt.alloc())?;
+    assert_eq!(rt; records.len(), 6);
+    assert!(rt; agrees(rt.alloc(), &records, &chains)?);
+    Ok(())
+}
+
+/// A chain with TLID 2 and the square with TLID 1.
+const TWO_CHAINS: &str =
+    "10000         2                                                                                                                                                                               +000000001+00000001+000000009+00000009\n10000         1                                                                                                                                                                               +000000010+00000010+000000010+00000010\n20000         1  1+000000030+00000010+000000030+00000030+000000010+00000030";
+
+/// With each allocation refused in turn, the answer is the right one or `Memory`.
+#[test]
+fn right_or_memory(rt: HostRuntime) -> Result<(), Fail> {
+    match read_chains(rt.alloc(), &mut Meter::new(TWO_CHAINS.as_bytes())) {
+        Ok(chains) => {
+            assert_counts(&rt, &chains, 2, 5, 0);
+            let points = [at(10, 10), at(30, 10), at(30, 30), at(10, 30), at(10, 10)];
+            assert_chain(&rt, &chains, 0, 1, &points);
+            assert_chain(&rt, &chains, 1, 2, &[at(1, 1), at(9, 9)]);
+        }
+        Err(stop) => assert!(rt; stop == MapStop::Memory),
+    }
     Ok(())
 }

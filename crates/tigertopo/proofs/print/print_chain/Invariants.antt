@@ -1,4 +1,4 @@
-use Rattle.std.proofs.Common.{◌≡◌, ◌++◌, take, codes, decimal}
+use Rattle.std.proofs.Common.{◌≡◌, take}
 use Rattle.std.specs.Io.KnownBytes.{Appends, append_known}
 use Rattle.tigertopo.specs.Printing.{points_text}
 use Rattle.tigertopo.proofs.print.print_chain.Given as goal

@@ -1,4 +1,4 @@
-use Rattle.std.proofs.Common.{◌≡◌, rules, refl, append_assoc}
+use Rattle.std.proofs.Common.{◌≡◌, rules, refl}
 use Rattle.std.proofs.KnownBytes.{Appends-trans}
 use Rattle.std.specs.Fmt.{decimal}
 use Rattle.tigertopo.proofs.PrintingLemmas.{OnOk-appends}

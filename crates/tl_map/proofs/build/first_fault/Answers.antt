@@ -1,4 +1,4 @@
-use Rattle.std.proofs.Common.{◌≡◌, ◌∙◌, sym, arith}
+use Rattle.std.proofs.Common.{◌∙◌, sym, arith}
 use Rattle.tl_map.proofs.GapLemmas.{shapes_with_is, IsNumbered-from_entries, AreNumbered-from_records}
 use Rattle.tl_map.proofs.SequenceLemmas.{numbered_from_placed}
 use Rattle.tl_map.proofs.ChainLemmas.{chains_with_is}

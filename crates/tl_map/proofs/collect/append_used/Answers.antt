@@ -1,4 +1,4 @@
-use Rattle.std.proofs.Common.{◌≡◌, ◌+◌, ◌<◌, length, take, arith}
+use Rattle.std.proofs.Common.{◌<◌, length, take, arith}
 use Rattle.tl_map.proofs.CollectLemmas.{AreSeen, AreSeen-none, AreSeen-some}
 use Rattle.tl_map.proofs.collect.append_used.Goals as goal
 use Rattle.tl_map.proofs.collect.append_used.Goals.{in-None, in-Some+in_ok-push-in-Some}

@@ -1,4 +1,4 @@
-use Rattle.std.proofs.Common.{◌≡◌, ◌+◌, ◌-◌, get_or}
+use Rattle.std.proofs.Common.{get_or}
 use Rattle.tl_map.specs.declared.entry.ShapeEntry.{ShapeEntry}
 use Rattle.tl_map.specs.declared.entry.Fill.TheVariants.{Full}
 use Rattle.tl_map.proofs.RowLemmas.{appended_run, appended_end, cut_points}

@@ -1,4 +1,4 @@
-use Rattle.std.proofs.Common.{◌≡◌, ◌++◌, ◌∷◌, List, drop, take}
+use Rattle.std.proofs.Common.{◌≡◌, ◌++◌, ◌∷◌, List, drop}
 use Rattle.std.specs.List.{flat_map}
 use Rattle.tl_geom.specs.declared.point.Point.{Point}
 use Rattle.tl_map.specs.Entries.{entry_points}

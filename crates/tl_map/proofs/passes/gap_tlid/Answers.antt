@@ -1,4 +1,4 @@
-use Rattle.std.proofs.Common.{◌≡◌, ◌∙◌, ◌⊎◌, inl, inr, sym, refl, arith, length}
+use Rattle.std.proofs.Common.{◌∙◌, inl, inr, sym}
 use Rattle.tl_map.proofs.SequenceLemmas.{last_entry}
 use Rattle.tl_map.proofs.GapLemmas.{ended_at_entry, tlid_at_entry, late_found, free_more, ended_more, free_whole}
 use Rattle.tl_map.proofs.passes.gap_tlid.Goals as goal

@@ -1,4 +1,4 @@
-use Rattle.std.proofs.Common.{◌≡◌, ◌≢◌, ◌⊎◌, inl, inr, ◌∙◌, sym, refl, arith, length, get_or, below_more}
+use Rattle.std.proofs.Common.{inl, inr, ◌∙◌, sym, below_more}
 use Rattle.tl_map.proofs.SequenceLemmas.{count_at_entry, count_more, placed_entry, misplaced_entry, last_entry, count_small, not_numbered}
 use Rattle.tl_map.proofs.passes.misnumbered_tlid.Goals as goal
 use Rattle.tl_map.proofs.passes.misnumbered_tlid.Goals.{then-shape-tlid, else-shape-tlid}

@@ -1,4 +1,4 @@
-use Rattle.std.proofs.Common.{◌≡◌, ◌∙◌, sym, refl, arith, length}
+use Rattle.std.proofs.Common.{◌∙◌, sym, refl, arith}
 use Rattle.tl_map.specs.declared.entry.ChainEntry.{ChainEntry}
 use Rattle.tl_map.proofs.CountLemmas.{repeat_found, rising_pairs}
 use Rattle.tl_map.proofs.passes.repeated_tlid.Goals as goal

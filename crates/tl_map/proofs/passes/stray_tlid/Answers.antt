@@ -1,4 +1,4 @@
-use Rattle.std.proofs.Common.{◌≡◌, ◌⊎◌, inl, inr, sym, refl, arith, length, below_more}
+use Rattle.std.proofs.Common.{inl, inr, arith}
 use Rattle.tl_map.proofs.StrayLemmas.{all_below, stray_found, chain_found, passed_more, known_more}
 use Rattle.tl_map.proofs.passes.stray_tlid.Goals as goal
 use Rattle.tl_map.proofs.passes.stray_tlid.Goals.{then-below-chains-via-then-below-chains, then-below-chains-via-else-below-chains+then-chains-below}

@@ -1,9 +1,9 @@
-use Rattle.std.proofs.Common.{refl, ◌≡◌, ◌<◌, ◌≤◌, ◌+◌, ◌++◌, ◌∷◌, [], ap, sym, ◌∙◌, arith, length, take, drop, add-one, set}
+use Rattle.std.proofs.Common.{refl, ◌≡◌, ◌<◌, ◌+◌, ◌++◌, ◌∷◌, [], ap, sym, ◌∙◌, arith, length, take, add-one, set}
 use Rattle.std.proofs.Math.Seq.{take-suc-set}
 use Rattle.std.proofs.lemmas.List.{length-set}
 use Rattle.std.proofs.lemmas.Result.{err_from_is_err_and}
 use Rattle.tl_record.specs.Judgement.{shape_pairs, unless_zero}
-use Rattle.tl_record.proofs.Pairs.{with_front, goes_on, fails, is_done}
+use Rattle.tl_record.proofs.Pairs.{goes_on, fails, is_done}
 use Rattle.tl_record.proofs.judge.shape_pairs.Goals as goal
 
 pub returns-in_err-pair : goal.returns-in_err-pair

@@ -1,4 +1,4 @@
-use Rattle.std.proofs.Common.{◌≡◌, ◌≤◌, ◌<◌, ◌+◌, ◌-◌, ap, sym, ◌∙◌, arith, length, take, drop, get_or}
+use Rattle.std.proofs.Common.{◌<◌, ◌+◌, ◌-◌, ap, sym, ◌∙◌, arith, length, drop, get_or}
 use Rattle.std.proofs.lemmas.List.{drop-set-lt, drop-drop}
 use Rattle.tl_record.proofs.Buffer.{byte_moved}
 use Rattle.tl_record.proofs.line_buffer.move_to_front.Goals as goal

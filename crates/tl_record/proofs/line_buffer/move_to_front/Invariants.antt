@@ -1,4 +1,4 @@
-use Rattle.std.proofs.Common.{◌≡◌, ◌-◌, length, take, drop}
+use Rattle.std.proofs.Common.{◌≡◌, ◌-◌, take, drop}
 use Rattle.tl_record.proofs.line_buffer.move_to_front.Given as goal
 
 abbrev pub invariant-loop-index : goal.invariant-loop-index

@@ -1,7 +1,6 @@
-use Rattle.std.proofs.Common.{◌≡◌, ◌≤◌, ◌<◌, ◌+◌, ◌*◌, ◌^◌, ◌-◌, true, take, length, get_or, arith, rules, take_all, sym, ◌∙◌, ap, subst, ℕ}
+use Rattle.std.proofs.Common.{◌≡◌, ◌≤◌, ◌<◌, ◌+◌, ◌*◌, ◌^◌, ◌-◌, true, get_or, arith, rules, sym, ◌∙◌, ap}
 use Rattle.std.specs.Char.{is_ascii_digit}
 use Rattle.std.proofs.Math.Nat.{pow-le-pow_right}
-use Rattle.tl_record.specs.Fields.{decimal}
 use Rattle.tl_record.proofs.Digits.{power_below, next_below, decimal_more, all_digits_more}
 use Rattle.tl_record.proofs.number.digits_spell.Goals as goal
 

@@ -1,5 +1,5 @@
-use Rattle.std.proofs.Common.{ne_eqb, ◌≡◌, ◌∙◌, ◌≤◌, ◌<◌, sym, arith, rules, ◌-◌, false, take, length, get_or, ℕ}
-use Rattle.tl_record.specs.Fields.{is_blank, without_trailing_blanks}
+use Rattle.std.proofs.Common.{ne_eqb, ◌≡◌, ◌∙◌, sym, arith, ◌-◌, false, get_or}
+use Rattle.tl_record.specs.Fields.{is_blank}
 use Rattle.tl_record.proofs.Blanks.{one_blank_less, no_blank_less}
 use Rattle.tl_record.proofs.number.without_trailing_blanks.Goals as goal
 use Rattle.tl_record.proofs.number.without_trailing_blanks.Goals.{then-loop-length-test+else-bytes-length-eq32, else-loop-length-test}

@@ -1,6 +1,4 @@
-use Rattle.std.proofs.Common.{◌≡◌, ◌<◌, ◌+◌, ℕ, arith, length, drop, take, slice_set, subst}
-use Rattle.std.specs.Io.KnownBytes.{Consumes}
-use Rattle.tigertopo.specs.Joining.{joined_bytes}
+use Rattle.std.proofs.Common.{◌≡◌, ◌<◌, arith, length, take}
 use Rattle.tigertopo.proofs.JoiningLemmas.{joined_bytes-read, joined_bytes-end, leaves_open-read, take-line_feed}
 use Rattle.tigertopo.proofs.joined.Joined.step.Goals as goal
 

@@ -1,4 +1,4 @@
-use Rattle.std.proofs.Common.{◌<◌, length, arith}
+use Rattle.std.proofs.Common.{◌<◌, length}
 use Rattle.std.proofs.lemmas.List.{length-map}
 use Rattle.tl_map.specs.Chains.{CompleteChain}
 use Rattle.tl_map.proofs.RowLemmas.{row_read}

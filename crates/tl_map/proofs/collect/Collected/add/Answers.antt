@@ -1,4 +1,4 @@
-use Rattle.std.proofs.Common.{inl, inr, ◌≡◌, ◌∷◌, [], ◌++◌, ap, length, arith}
+use Rattle.std.proofs.Common.{inl, inr, ◌∷◌, [], ◌++◌, ap, length, arith}
 use Rattle.std.proofs.lemmas.Bool.{true≢false}
 use Rattle.std.proofs.lemmas.List.{length_push}
 use Rattle.tl_map.specs.declared.entry.ChainEntry.{ChainEntry}

@@ -1,8 +1,6 @@
-use Rattle.std.proofs.Common.{◌≡◌, ◌≤◌, ◌<◌, ◌+◌, ◌∷◌, ℕ, List, [], false, refl, ap, sym, ◌∙◌, length, take, get_or, arith, ne_eqb, replicate}
-use Rattle.std.specs.Io.KnownBytes.{Consumes}
+use Rattle.std.proofs.Common.{◌≡◌, ◌+◌, ◌∷◌, [], false, refl, sym, take, get_or, arith, ne_eqb}
 use Rattle.memchr.specs.Find.{is_byte}
 use Rattle.tl_record.specs.Lines.{line_feed}
-use Rattle.tl_record.specs.Judgement.{judgement}
 use Rattle.tl_record.proofs.NextLemmas.{finds_full, finds_long, one_byte, longer, longer_is}
 use Rattle.tl_record.proofs.reader.RecordReader.judge_full.Goals as goal
 

@@ -1,4 +1,4 @@
-use Rattle.std.proofs.Common.{◌≡◌, ◌≢◌, ◌+◌, List, ℕ, [], refl, ap, sym, ◌∙◌, length, take, take_all, arith}
+use Rattle.std.proofs.Common.{◌≡◌, ◌≢◌, ◌+◌, [], refl, ap, ◌∙◌, length, take, take_all, arith}
 use Rattle.tl_record.specs.Judgement.{judgement}
 use Rattle.tl_record.proofs.NextLemmas.{finds_last}
 use Rattle.tl_record.proofs.reader.RecordReader.judge_last.Goals as goal

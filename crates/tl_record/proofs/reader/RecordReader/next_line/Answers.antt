@@ -1,5 +1,4 @@
-use Rattle.std.proofs.Common.{◌≡◌, ◌≢◌, ◌≤◌, ◌<◌, ◌+◌, ◌++◌, ◌∷◌, ℕ, List, [], refl, ap, sym, ◌∙◌, length, take, drop, arith}
-use Rattle.tl_record.specs.Judgement.{judgement}
+use Rattle.std.proofs.Common.{◌+◌, refl, take, arith}
 use Rattle.tl_record.proofs.NextLemmas.{finds_line}
 use Rattle.tl_record.proofs.reader.RecordReader.next_line.Goals as goal
 

@@ -1,6 +1,4 @@
-use Rattle.std.proofs.Common.{◌≡◌, refl, sym, ap, ◌∙◌, arith, None, Ok}
-use Rattle.std.specs.Option.{unwrap_or}
-use Rattle.tl_record.specs.Reader.{Moves}
+use Rattle.std.proofs.Common.{ap, ◌∙◌}
 use Rattle.tl_record.proofs.ReadOn.{passes_on, answers_line, answers_last}
 use Rattle.tl_record.proofs.reader.RecordReader.read_on.Goals as goal
 

@@ -1,4 +1,4 @@
-use Rattle.std.proofs.Common.{◌≡◌, ◌≤◌, ap, sym, ◌∙◌, arith, length, take, take_all}
+use Rattle.std.proofs.Common.{ap, sym, ◌∙◌, take_all}
 use Rattle.tl_record.specs.Lines.{line_feeds}
 use Rattle.tl_record.proofs.LineLemmas.{line_ends, line_is_whole}
 use Rattle.tl_record.proofs.tests.plain.first_line_len.Goals as goal

@@ -1,11 +1,10 @@
-use Rattle.std.proofs.Common.{◌≡◌, ◌≢◌, ◌≤◌, ◌<◌, ◌+◌, ◌++◌, ◌∷◌, ℕ, List, [], refl, ap, sym, ◌∙◌, arith, rules, length, length-drop}
+use Rattle.std.proofs.Common.{◌≡◌, ◌≢◌, ◌<◌, ◌+◌, ◌++◌, ◌∷◌, ℕ, List, [], ap, ◌∙◌, arith, rules, length, length-drop}
 use Rattle.tl_record.specs.declared.judge.Judgement.TheVariants.{Read, Refused, PassedOver}
 use Rattle.tl_record.specs.Layout.{tiger_2006}
 use Rattle.tl_record.specs.Lines.{first_line, after_first_line}
 use Rattle.tl_record.specs.Judgement.{judgement}
 use Rattle.tl_record.specs.Records.{records_of}
-use Rattle.tl_record.proofs.MoveLemmas.{coming_of}
-use Rattle.tl_record.proofs.PlainLemmas.{with_entries, passes, reads, refuses}
+use Rattle.tl_record.proofs.PlainLemmas.{passes, reads, refuses}
 use Rattle.tl_record.proofs.tests.plain.plain_records.Goals as goal
 use Rattle.tl_record.proofs.tests.plain.plain_records.Goals.{in-PassedOver, in-Read+in_ok-push-in-Read}
 
