@@ -83,7 +83,7 @@ def mixed_lines(rng, kind, index, tlid, start):
     if kind == "P":
         return padded(f"P{VERSION}{'':<5}{cenid}{index + 1:>10}{pair(start)}", 44)
     if kind == "7":
-        return padded(f"7{VERSION}{'':<5}{index + 1:>10}{'D82':<3}{rng.choice(NAMES):<31}{pair(start)}", 74)
+        return padded(f"7{VERSION}{'':<5}{index + 1:>10}{'H31':<3}{rng.choice(NAMES):<31}{pair(start)}", 74)
     if kind == "8":
         return padded(f"8{VERSION}{'':<5}{cenid}{index + 1:>10}{index + 1:>10}", 36)
     widths = {"3": 111, "4": 58, "5": 52, "6": 76, "A": 210, "C": 122, "H": 62, "R": 76, "S": 120, "Z": 26}
