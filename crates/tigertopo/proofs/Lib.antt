@@ -1,4 +1,3 @@
 -- Lemmas of the command.
-pub mod JoiningLemmas
 pub mod PlansLemmas
-pub mod PrintingLemmas
+pub mod WordsLemmas

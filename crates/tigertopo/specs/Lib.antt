@@ -1,5 +1,6 @@
 -- What the command's contracts cite.
-pub mod Joining
+pub mod CommandLine
 pub mod Plans
-pub mod Printing
 pub mod Running
+pub mod Starting
+pub mod Stops

@@ -1,17 +1,15 @@
--- What a plan and the lack of one have.
-use Rattle.std.specs.Prelude.{◌≢◌, ◌<◌, ℕ, All, ⊤, String, vec_len, string_bytes}
-use Rattle.tigertopo.specs.declared.plan.Plan.{Plan}
-use Rattle.tigertopo.specs.declared.plan.Plan.TheVariants.{Show}
+-- Texts that are shown where words make no plan.
+use Rattle.std.specs.Prelude.{◌≢◌, ◌==◌, ℕ, List, not, All, ⊤, String, string_bytes, filter}
 use Rattle.tigertopo.specs.declared.plan.PlanStop.{PlanStop}
 use Rattle.tigertopo.specs.declared.plan.PlanStop.TheVariants.{Usage, Help, Memory}
-
--- the plan names a record file
-abbrev pub NamesFiles : Plan → Type 0
-NamesFiles (Show files) = 0 < vec_len files
 
 -- the byte that begins a terminal's escape sequence
 abbrev pub escape : ℕ
 escape = 27
+
+-- the text with its escapes left out
+abbrev pub plain_text : List ℕ → List ℕ
+plain_text text = filter (λ byte. not (byte == escape)) text
 
 -- no byte of the text is an escape
 abbrev pub HasNoEscape : {A : Type 0} → String A → Type 0

@@ -1,33 +1,84 @@
--- What a run may answer.
-use Rattle.std.specs.Prelude.{◌≡◌, ℕ, List, Option, None, IsSome}
-use Rattle.std.specs.Io.KnownBytes.{Appends}
+-- What a run may answer: for each exit status, what was written and what is true of the records.
+--
+-- `known` is the text of the record files, where it is known; `wrote` says of a text that it was written.
+use Rattle.std.specs.Prelude.{◌≡◌, ◌⊎◌, ℕ, List, Option, None, Some, IfSome, Result, Ok, Err, ⊤}
+use Rattle.tl_record.specs.declared.stop.Cause.{Cause}
+use Rattle.tl_record.specs.Failures.{one_more}
 use Rattle.tl_record.specs.Layout.{tiger_2006}
+use Rattle.tl_record.specs.Messages.{refusal_text}
 use Rattle.tl_record.specs.Records.{records_of}
 use Rattle.tl_map.specs.declared.fault.MapFault.{MapFault}
 use Rattle.tl_map.specs.declared.fault.MapStop.{MapStop}
-use Rattle.tl_map.specs.declared.fault.MapStop.TheVariants.{Refused, Device, Memory, Fault}
+use Rattle.tl_map.specs.declared.fault.MapStop.TheVariants as map_stop
 use Rattle.tl_map.specs.Chains.{ChainList}
 use Rattle.tl_map.specs.Faults.{IsTrueOf}
+use Rattle.tl_map.specs.Messages.{fault_text}
 use Rattle.tl_map.specs.Reading.{AreReadFrom, records_in}
-use Rattle.tigertopo.specs.declared.run.TheConstants.{MAP_FAULT, REFUSED, STOPPED}
-use Rattle.tigertopo.specs.Printing.{shown_text}
+use Rattle.tl_text.specs.Printing.{shown_text}
+use Rattle.tl_text.specs.Writing.{line_of}
+use Rattle.tigertopo.specs.declared.stop.Stop.{Stop}
+use Rattle.tigertopo.specs.declared.stop.Stop.TheVariants.{Refused, Memory, Device}
+use Rattle.tigertopo.specs.declared.stop.TheConstants.{DONE, MAP_FAULT, REFUSED, STOPPED}
+use Rattle.tigertopo.specs.Stops.{stop_text}
 
--- the output grew by the lines of the chains that the text's records draw: no line of it is refused, and no fault is true
-abbrev pub IsShown : Option (List ℕ) → Option (List ℕ) → List ℕ → Type 0
-IsShown old new text = (list : ChainList) × AreReadFrom (records_of tiger_2006 text) list × Appends old new (shown_text list)
+-- no line of the text is refused, and the fault is true of its records
+abbrev pub HasFault : List ℕ → MapFault → Type 0
+HasFault text fault = ((records_of tiger_2006 text).refusal ≡ None) × IsTrueOf (records_in (records_of tiger_2006 text)) fault
 
--- no line of the text is refused, and its records have a fault
-abbrev pub HasMapFault : List ℕ → Type 0
-HasMapFault text =
-    (fault : MapFault) × ((records_of tiger_2006 text).refusal ≡ None) × IsTrueOf (records_in (records_of tiger_2006 text)) fault
+-- this is the first line of the text that is refused, and why it is
+abbrev pub IsFirstRefusal : List ℕ → ℕ → Cause → Type 0
+IsFirstRefusal text line cause = (records_of tiger_2006 text).refusal ≡ Some (line, cause)
 
--- a line of the text is refused
-abbrev pub IsRefused : List ℕ → Type 0
-IsRefused text = IsSome (records_of tiger_2006 text).refusal
+-- the lines of chains were written, and their counts: those that the records draw, where no line is refused and no
+-- fault of the chains is true
+pub record IsShown (known : Option (List ℕ)) (wrote : List ℕ → Type 0) : Type 0 where
+  pub list : ChainList
+  pub written : wrote (shown_text list)
+  pub drawn : IfSome known (λ text. AreReadFrom (records_of tiger_2006 text) list)
 
--- the exit status of a stop
-abbrev pub status_of_stop : MapStop → ℕ
-status_of_stop (Refused line cause) = REFUSED
-status_of_stop Device = STOPPED
-status_of_stop Memory = STOPPED
-status_of_stop (Fault fault) = MAP_FAULT
+-- the line of a fault was written, and it is true
+pub record NamesFault (known : Option (List ℕ)) (wrote : List ℕ → Type 0) : Type 0 where
+  pub fault : MapFault
+  pub written : wrote (line_of (fault_text fault))
+  pub holds : IfSome known (λ text. HasFault text fault)
+
+-- the line of the first refusal was written
+pub record NamesRefusal (known : Option (List ℕ)) (wrote : List ℕ → Type 0) : Type 0 where
+  pub line : ℕ
+  pub cause : Cause
+  pub written : wrote (line_of (refusal_text line cause))
+  pub first : IfSome known (λ text. IsFirstRefusal text line cause)
+
+-- the line of a stop was written: of a want of memory, or of a device where one failed
+abbrev pub NamesStop : (List ℕ → Type 0) → Type 0 → Type 0
+NamesStop wrote failed = wrote (line_of (stop_text Memory)) ⊎ (wrote (line_of (stop_text Device)) × failed)
+
+-- the statuses that a run answers with
+abbrev pub IsRunStatus : ℕ → Type 0
+IsRunStatus status = ((status ≡ DONE) ⊎ (status ≡ MAP_FAULT)) ⊎ ((status ≡ REFUSED) ⊎ (status ≡ STOPPED))
+
+-- a read failed: the source counted it
+abbrev pub FailsToRead : {S : Type 0} → (S → ℕ) → S → S → Type 0
+FailsToRead failures old new = failures new ≡ one_more (failures old)
+
+-- how a stop is told: by its line and its status; where there is no room for its line, by that of a want of memory
+abbrev pub IsTold : Stop → ℕ → (List ℕ → Type 0) → Type 0
+IsTold (Refused line cause) status wrote =
+    ((status ≡ REFUSED) × wrote (line_of (refusal_text line cause))) ⊎ ((status ≡ STOPPED) × wrote (line_of (stop_text Memory)))
+IsTold Memory status wrote = (status ≡ STOPPED) × wrote (line_of (stop_text Memory))
+IsTold Device status wrote = (status ≡ STOPPED) × (wrote (line_of (stop_text Memory)) ⊎ wrote (line_of (stop_text Device)))
+
+-- why nothing was shown: `failed` says that a read or a write failed, `stays` that the output is as it was
+abbrev pub StopsShowing : Option (List ℕ) → Type 0 → Type 0 → MapStop → Type 0
+StopsShowing known failed stays map_stop.Device = failed
+StopsShowing known failed stays map_stop.Memory = stays
+StopsShowing known failed stays (map_stop.Refused line cause) = stays × IfSome known (λ text. IsFirstRefusal text line cause)
+StopsShowing known failed stays (map_stop.Fault fault) = stays × IfSome known (λ text. HasFault text fault)
+
+-- the count of failed reads stays, but for an answer that a device failed
+abbrev pub KeepsReads : ℕ → ℕ → Result (Unit {0}) MapStop → Type 0
+KeepsReads old new (Ok done) = new ≡ old
+KeepsReads old new (Err map_stop.Device) = ⊤
+KeepsReads old new (Err map_stop.Memory) = new ≡ old
+KeepsReads old new (Err (map_stop.Refused line cause)) = new ≡ old
+KeepsReads old new (Err (map_stop.Fault fault)) = new ≡ old

@@ -1,13 +1,11 @@
-//! The command `tigertopo`: reads its words by `words` into a `plan`, opens the files that it names by `open`, reads
-//! them as one text by `joined`, and does what it asks by `run`, which says by `print` what goes to the `output`.
+//! The command `tigertopo`: reads its words by `words` into a `plan`, opens the files that it names by `open`, and does
+//! what it asks by `run`; `stop` says why where it can't.
 #![tactic(auto)]
 
-mod joined;
 mod open;
-mod output;
 mod plan;
-mod print;
 mod run;
+mod stop;
 #[cfg(test)]
 mod tests;
 mod words;
@@ -15,8 +13,9 @@ mod words;
 use std::env;
 use std::io::ErrorKind;
 use std::process::ExitCode;
-use tl_map::MapStop;
+use stop::{Stop, USAGE, stopped};
 use tl_record::MeterOut;
+use tl_text::write_all;
 
 fn main(rt: HostRuntime) -> ExitCode {
     let alloc = rt.alloc();
@@ -25,17 +24,15 @@ fn main(rt: HostRuntime) -> ExitCode {
     let status = match env::args(&rt) {
         Ok(args) => match args.skip(1).collect::<Vec<String>>(alloc) {
             Ok(words) => open::start(&rt, alloc, words.as_slice(), &mut out, &mut err),
-            Err(_) => run::stopped(&MapStop::Memory, &mut err),
+            Err(_) => stopped(&Stop::Memory, &mut err),
         },
-        Err(error) if error.kind() == ErrorKind::OutOfMemory => {
-            run::stopped(&MapStop::Memory, &mut err)
-        }
+        Err(error) if error.kind() == ErrorKind::OutOfMemory => { stopped(&Stop::Memory, &mut err) }
         Err(_) => {
-            let _ = output::write_all(
+            let _ = write_all(
                 b"error: a word of the command line is no UTF-8 text\n",
                 &mut err,
             );
-            open::USAGE
+            USAGE
         }
     };
     ExitCode::from(status)

@@ -1,32 +1,20 @@
 //! Doing what a plan asks.
 
-ghost use Rattle.std.specs.Prelude.{◌≡◌, [], OnOk, IfErr, IfSome};
+ghost use Rattle.std.specs.Prelude.{◌≡◌, ◌≢◌, ◌⊎◌, [], OnOk, IfErr};
+ghost use Rattle.tl_map.specs.Messages.{fault_text};
+ghost use Rattle.tl_text.specs.Printing.{shown_text};
+ghost use Rattle.tl_text.specs.Writing.{Writes, TriesToWrite, FailsToWrite, CountsFailure, line_of};
 ghost use Rattle.std.specs.Io.KnownBytes.{Appends};
-ghost use Rattle.tl_record.specs.Layout.{tiger_2006};
-ghost use Rattle.tl_record.specs.Records.{records_of};
-ghost use Rattle.tl_map.specs.Reading.{StopsReading};
-ghost use Rattle.tigertopo.specs.Printing.{CountsFailure, shown_text};
-ghost use Rattle.tigertopo.specs.Running.{IsShown, HasMapFault, IsRefused, status_of_stop};
+ghost use Rattle.tigertopo.specs.declared.stop.TheConstants.{DONE, MAP_FAULT, REFUSED, STOPPED};
+ghost use Rattle.tigertopo.specs.Running.{IsShown, NamesFault, NamesRefusal, NamesStop, IsRunStatus, FailsToRead, StopsShowing, KeepsReads};
 
-use crate::output::OutputBuffer;
 use crate::plan::Plan;
-use crate::print::{print_chains, print_line};
+use crate::stop::{DONE, MAP_FAULT, Stop, stopped};
 use std::alloc::Global;
 use std::io;
-use tl_map::{Chains, MapStop, read_chains};
+use tl_map::{Chains, MapFault, MapStop, read_chains};
 use tl_record::{Sink, Source};
-
-/// The status of a command that is done.
-pub const DONE: u8 = 0;
-
-/// The status where the map has a fault.
-pub const MAP_FAULT: u8 = 1;
-
-/// The status where a record is refused.
-pub const REFUSED: u8 = 3;
-
-/// The status where memory was refused, or a file or the output failed.
-pub const STOPPED: u8 = 4;
+use tl_text::{LineStop, OutputBuffer, print_chains, print_line};
 
 /// Does what the plan asks and gives the program's exit status. Answers and faults go to `out`, refusals and stops to
 /// `err`. `cert` is the certificate that is read, and `made` takes the one that is written; a command that has none
@@ -40,15 +28,27 @@ pub fn run<R: Source, S: Source, C: Sink, W: Sink, E: Sink>(
     out: &mut W,
     err: &mut E,
 ) -> u8
-    // The chains of the records were printed, all of them and nothing else.
-    ensures shown { result ≡ DONE → IfSome (R.remaining records.old) (IsShown (W.contents out.old) (W.contents out.new)) }
-    // No read failed, and no write.
-    ensures read_whole { result ≡ DONE → R.failure_count records.new ≡ R.failure_count records.old }
-    ensures written_whole { result ≡ DONE → W.failure_count out.new ≡ W.failure_count out.old }
+    ensures status { IsRunStatus result }
 
-    // A fault and a refusal are true, where the bytes are known.
-    ensures fault { result ≡ MAP_FAULT → IfSome (R.remaining records.old) HasMapFault }
-    ensures refused { result ≡ REFUSED → IfSome (R.remaining records.old) IsRefused }
+    // The output grew by the answer.
+    ensures shown { result ≡ DONE
+        → IsShown (R.remaining records.old) (Writes W.contents W.failure_count out.old out.new) }
+    // The output grew by the line of a fault that is true.
+    ensures fault { result ≡ MAP_FAULT
+        → NamesFault (R.remaining records.old) (Writes W.contents W.failure_count out.old out.new) }
+    // The line of the first refusal was written to `err`, or the write of it failed.
+    ensures refused { result ≡ REFUSED
+        → NamesRefusal (R.remaining records.old) (TriesToWrite E.contents E.failure_count err.old err.new) }
+    // The line of a stop was, or the write of it failed; of a device only where a read or a write failed.
+    ensures stopped { result ≡ STOPPED
+        → NamesStop (TriesToWrite E.contents E.failure_count err.old err.new)
+        (FailsToRead R.failure_count records.old records.new ⊎ FailsToWrite W.failure_count out.old out.new) }
+
+    // The other stream stays as it was.
+    ensures err_stays { (result ≡ DONE) ⊎ (result ≡ MAP_FAULT) → err.new ≡ err.old }
+    ensures out_stays { result ≡ REFUSED → out.new ≡ out.old }
+    // No read failed where the run didn't stop.
+    ensures read_whole { result ≢ STOPPED → R.failure_count records.new ≡ R.failure_count records.old }
 
     // No command reads or makes a certificate yet.
     ensures cert { cert.new ≡ cert.old }
@@ -59,19 +59,20 @@ pub fn run<R: Source, S: Source, C: Sink, W: Sink, E: Sink>(
     };
     match answer {
         Ok(()) => DONE,
-        Err(MapStop::Fault(fault)) => match print_line(&fault, out) {
-            Ok(()) => MAP_FAULT,
-            Err(_) => stopped(&MapStop::Device, err),
-        },
-        Err(stop) => stopped(&stop, err),
+        Err(MapStop::Fault(fault)) => name_fault(&fault, out, err),
+        Err(MapStop::Refused { line, cause }) => stopped(&Stop::Refused { line, cause }, err),
+        Err(MapStop::Memory) => stopped(&Stop::Memory, err),
+        Err(MapStop::Device) => stopped(&Stop::Device, err),
     }
 }
 
 fn show<R: Source, W: Sink>(alloc: Global, records: &mut R, out: &mut W) -> Result<(), MapStop>
-    ensures shown { OnOk result (IfSome (R.remaining records.old) (IsShown (W.contents out.old) (W.contents out.new))) }
-    ensures stops { IfErr result (λ stop. IfSome (R.remaining records.old) (λ text. StopsReading (records_of tiger_2006 text) stop)) }
-    ensures in_failures { OnOk result (R.failure_count records.new ≡ R.failure_count records.old) }
-    ensures out_failures { OnOk result (W.failure_count out.new ≡ W.failure_count out.old) }
+    ensures shown { OnOk result
+        (IsShown (R.remaining records.old) (Writes W.contents W.failure_count out.old out.new)) }
+    ensures stops { IfErr result (StopsShowing (R.remaining records.old)
+        (FailsToRead R.failure_count records.old records.new ⊎ FailsToWrite W.failure_count out.old out.new)
+        (out.new ≡ out.old)) }
+    ensures reads { KeepsReads (R.failure_count records.old) (R.failure_count records.new) result }
 {
     let chains = read_chains(alloc, records)?;
     let Ok(mut buffer) = OutputBuffer::new(alloc) else {
@@ -92,15 +93,19 @@ fn print_all<W: Sink>(chains: &Chains, buffer: &mut OutputBuffer, out: &mut W) -
     buffer.flush(out)
 }
 
-/// Says on `err` why a command stopped, and gives its status. A fault's status is that of a fault.
-pub fn stopped<E: Sink>(stop: &MapStop, err: &mut E) -> u8
-    ensures { result ≡ status_of_stop stop.now }
+// Says which fault the map has. Where that can't be written, the command is stopped.
+fn name_fault<W: Sink, E: Sink>(fault: &MapFault, out: &mut W, err: &mut E) -> u8
+    ensures status { (result ≡ MAP_FAULT) ⊎ (result ≡ STOPPED) }
+    ensures named { result ≡ MAP_FAULT
+        → Writes W.contents W.failure_count out.old out.new (line_of (fault_text fault.now)) }
+    ensures err_stays { result ≡ MAP_FAULT → err.new ≡ err.old }
+    ensures stopped { result ≡ STOPPED
+        → NamesStop (TriesToWrite E.contents E.failure_count err.old err.new)
+        (FailsToWrite W.failure_count out.old out.new) }
 {
-    // Where this fails too, the status alone is left to tell it.
-    let _ = print_line(stop, err);
-    match stop {
-        MapStop::Fault(_) => MAP_FAULT,
-        MapStop::Refused { .. } => REFUSED,
-        MapStop::Device | MapStop::Memory => STOPPED,
+    match print_line(fault, out) {
+        Ok(()) => MAP_FAULT,
+        Err(LineStop::Failed) => stopped(&Stop::Device, err),
+        Err(LineStop::NoRoom) => stopped(&Stop::Memory, err),
     }
 }

@@ -1,11 +1,16 @@
 //! What the words of the command line ask for.
 
-ghost use Rattle.std.specs.Prelude.{IfOk, IfErr};
-ghost use Rattle.tigertopo.specs.Plans.{NamesFiles, HasNoEscape, ShowsNoEscape};
+ghost use Rattle.std.specs.Prelude.{◌≡◌, false, IfOk, IfErr, map, string_bytes};
+ghost use Rattle.clap.specs.Values.{kind_of};
+ghost use Rattle.clap.specs.Simple.{app_of, subcommand_rows_of};
+ghost use Rattle.clap.specs.Walk.{rule_of};
+ghost use Rattle.clap.specs.declared.builder.command.Command.TheViews.{out-Command as fields_of};
+ghost use Rattle.tigertopo.specs.CommandLine.{command_line, show_command as show_app, files_argument as files_rule, AskFor, StopsPlanning, IsStopOf, IsPlanOf, named_in};
+ghost use Rattle.tigertopo.specs.Plans.{plain_text, HasNoEscape, ShowsNoEscape};
 
 use crate::plan::{Plan, PlanStop};
 use clap::error::ErrorKind;
-use clap::{Arg, ArgAction, Command, Error};
+use clap::{Arg, ArgAction, ArgMatches, Command, Error};
 use std::alloc::{AllocError, Global};
 use std::convert::AsStr;
 
@@ -34,9 +39,13 @@ Example:
   tigertopo show TGR24001.RT1 TGR24001.RT2";
 
 /// The plan that the words after the program's name stand for. `PlanStop::Usage` comes for words that are no command
-/// of the program, no words among them, and `PlanStop::Help` for those that ask for help.
+/// of the program, no words among them, and `PlanStop::Help` for those that ask for help; both come with the text that
+/// `clap` has for them.
 pub fn plan<S: AsStr>(alloc: Global, words: &[S]) -> Result<Plan, PlanStop>
-    ensures files { IfOk result NamesFiles }
+    // The plan is what the words ask for: its command, and the names of its files, word for word and in their order.
+    ensures plan { IfOk result (AskFor (map S.text words.now)) }
+    // Words that are a use of a command are refused for want of memory alone.
+    ensures stops { IfErr result (StopsPlanning (map S.text words.now)) }
     ensures texts { IfErr result ShowsNoEscape }
 {
     let mut command = command(alloc)?;
@@ -44,39 +53,68 @@ pub fn plan<S: AsStr>(alloc: Global, words: &[S]) -> Result<Plan, PlanStop>
         Ok(matches) => matches,
         Err(error) => return Err(stop_of(alloc, &error)),
     };
-    if let Some(("show", show)) = matches.subcommand() {
-        let files = copied(alloc, show.get_strs("files"))?;
-        if !files.is_empty() {
-            return Ok(Plan::Show { files });
-        }
+    if let Some(plan) = plan_of(alloc, &matches)? {
+        return Ok(plan);
     }
     // clap has refused such words before.
     let usage = command.render_usage()?;
     Err(PlanStop::Usage(without_escapes(alloc, usage.as_str())?))
 }
 
-fn command<'a>(alloc: Global) -> Result<Command<'a>, AllocError> {
-    let files = Arg::new(alloc, "files")
-        .value_name("FILES")
-        .help("Record files, which are read one after the other as one text")
-        .required(true)
-        .num_args(1..)
-        .action(ArgAction::Append);
-    let show = Command::new(alloc, "show")
-        .about(SHOW_ABOUT)
-        .after_help(SHOW_EXAMPLE)
-        .arg(files)?;
-    Command::new(alloc, "tigertopo")
+// The plan that the matches stand for, where they name a command with files.
+fn plan_of(alloc: Global, matches: &ArgMatches<'_>) -> Result<Option<Plan>, AllocError>
+    ensures { IfOk result (IsPlanOf (named_in (subcommand_rows_of matches.now))) }
+{
+    let Some(show) = matches.subcommand_matches("show") else {
+        return Ok(None);
+    };
+    let files = copied(alloc, show.get_strs("files").unwrap_or(&[]))?;
+    if files.is_empty() {
+        return Ok(None);
+    }
+    Ok(Some(Plan::Show { files }))
+}
+
+fn command<'a>(alloc: Global) -> Result<Command<'a>, AllocError>
+    ensures { IfOk result (λ command. app_of command ≡ command_line) }
+{
+    let show = show_command(alloc)?;
+    let top = Command::new(alloc, "tigertopo")
         .about(ABOUT)
         .after_help(EXAMPLES)
         .no_binary_name(true)
         .bin_name("tigertopo")?
-        .subcommand_required(true)
-        .subcommand(show)
+        .subcommand_required(true);
+    top.subcommand(show)
 }
 
+fn show_command<'a>(alloc: Global) -> Result<Command<'a>, AllocError>
+    ensures shape { IfOk result (λ command. app_of command ≡ show_app) }
+    ensures local { IfOk result (λ command. (fields_of command).has_globals ≡ false) }
+{
+    let files = files_argument(alloc);
+    Command::new(alloc, "show")
+        .about(SHOW_ABOUT)
+        .after_help(SHOW_EXAMPLE)
+        .arg(files)
+}
+
+fn files_argument<'a>(alloc: Global) -> Arg<'a>
+    ensures rule { rule_of result ≡ files_rule }
+    ensures local { result.global ≡ false }
+{
+    Arg::new(alloc, "files")
+        .value_name("FILES")
+        .help("Record files, which are read one after the other as one text")
+        .required(true)
+        .num_args(1..)
+        .action(ArgAction::Append)
+}
+
+// Why there is no plan where clap gives this error.
 fn stop_of(alloc: Global, error: &Error) -> PlanStop
-    ensures { ShowsNoEscape result }
+    ensures stop { IsStopOf (kind_of error.now) result }
+    ensures texts { ShowsNoEscape result }
 {
     if error.kind() == ErrorKind::OutOfMemory {
         return PlanStop::Memory;
@@ -99,22 +137,20 @@ fn text_of(alloc: Global, error: &Error) -> Result<String, AllocError>
 }
 
 // A word can hold an escape sequence, which a terminal would obey.
-#[tactic(auto, using(crate::proofs::PlansLemmas::pushed))]
 fn without_escapes(alloc: Global, text: &str) -> Result<String, AllocError>
-    ensures { IfOk result HasNoEscape }
+    ensures text { IfOk result (λ plain. string_bytes plain ≡ plain_text text.now) }
+    ensures no_escape { IfOk result HasNoEscape }
 {
-    let mut plain = String::new(alloc);
-    for c in text.chars() {
-        if c != '\u{1b}' {
-            plain.push(c)?;
-        }
-    }
+    let mut plain = String::from_str(alloc, text)?;
+    plain.retain(|c| c != '\u{1b}');
     Ok(plain)
 }
 
-fn copied(alloc: Global, texts: Option<&[&str]>) -> Result<Vec<String>, AllocError> {
+fn copied(alloc: Global, texts: &[&str]) -> Result<Vec<String>, AllocError>
+    ensures { IfOk result (λ copies. map string_bytes copies.items ≡ map (λ text. text.now) texts.now) }
+{
     let mut copies = Vec::new(alloc);
-    for text in texts.unwrap_or(&[]) {
+    for text in texts {
         copies.push(String::from_str(alloc, text)?)?;
     }
     Ok(copies)

@@ -2,13 +2,13 @@
 
 use super::records::*;
 use super::support::{Failure, Kept, Pieces, show};
-use crate::joined::Joined;
 use crate::plan::PlanStop;
 use crate::words::plan;
 use std::alloc::Global;
 use std::io::Read;
 use std::process::Abort;
 use std::test::Fail;
+use tl_text::Joined;
 
 const STOPPED_DEVICE: &str = "stopped Device\n";
 

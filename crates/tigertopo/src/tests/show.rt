@@ -2,10 +2,10 @@
 
 use super::records::*;
 use super::support::{Kept, Pieces, show};
-use crate::joined::Joined;
 use std::alloc::Global;
 use std::process::Abort;
 use std::test::Fail;
+use tl_text::Joined;
 
 /// How many of the square's four lines hold no record of a type that is read.
 const SQUARE_LINES_SKIPPED: u32 = 0;

@@ -1,0 +1,41 @@
+-- What the program answers to its words.
+use Rattle.std.specs.Prelude.{◌≡◌, ◌≢◌, ◌⊎◌, ℕ, List, [], All, ⊤}
+use Rattle.clap.specs.Faults.{fault_of}
+use Rattle.clap.specs.Walk.{Text}
+use Rattle.tigertopo.specs.declared.plan.Plan.{Plan}
+use Rattle.tigertopo.specs.declared.stop.Stop.{Stop}
+use Rattle.tigertopo.specs.declared.stop.Stop.TheVariants.{Refused, Memory, Device}
+use Rattle.tigertopo.specs.declared.stop.TheConstants.{USAGE}
+use Rattle.tigertopo.specs.CommandLine.{command_line, AskFor, AreAUse, HasMistake, HasAnswer}
+use Rattle.tigertopo.specs.Plans.{escape}
+use Rattle.tigertopo.specs.Running.{IsRunStatus}
+
+-- the statuses of the program
+abbrev pub IsStartStatus : ℕ → Type 0
+IsStartStatus status = IsRunStatus status ⊎ (status ≡ USAGE)
+
+-- the words ask for a plan
+abbrev pub AskForSome : List Text → Type 0
+AskForSome words = (plan : Plan) × AskFor words plan
+
+-- the words are no use of a command, and a text without an escape was written
+pub record ShowsUsage (words : List Text) (wrote : List ℕ → Type 0) : Type 0 where
+  pub no_use : ¬ AreAUse words
+  pub mistake : HasMistake (fault_of command_line words) ⊎ (fault_of command_line words ≡ [])
+  pub text : List ℕ
+  pub no_escape : All (λ byte. byte ≢ escape) text
+  pub written : wrote text
+
+-- the words wish for help, and a text without an escape was written
+pub record ShowsHelp (words : List Text) (wrote : List ℕ → Type 0) : Type 0 where
+  pub no_use : ¬ AreAUse words
+  pub wish : HasAnswer (fault_of command_line words)
+  pub text : List ℕ
+  pub no_escape : All (λ byte. byte ≢ escape) text
+  pub written : wrote text
+
+-- files aren't opened for want of memory or where a device fails
+abbrev pub StopsOpening : Stop → Type 0
+StopsOpening (Refused line cause) = ⊥
+StopsOpening Memory = ⊤
+StopsOpening Device = ⊤

@@ -1,0 +1,97 @@
+-- What reading several texts as one gives.
+use Rattle.std.proofs.Common.{◌≡◌, ℕ, ◌+◌, ◌-◌, ◌<◌, ◌≤◌, Bool, false, not, ◌==◌, nat_eq, List, [], ◌∷◌, ◌++◌, length, take, drop, slice_index}
+use Rattle.std.proofs.Common.{Some, None, refl, ap, ◌∙◌, append_assoc, arith, map, option_map, if◌then◌else◌, slice_index_or, slice_set, add-one}
+use Rattle.std.proofs.Math.Seq.{drop-cons}
+use Rattle.std.proofs.lemmas.List.{drop-set, drop-set-lt, get_or-take, length-take-le}
+use Rattle.std.specs.Io.KnownBytes.{Consumes, IsAtEnd}
+use Rattle.std.specs.Prelude.{Option}
+use Rattle.std.specs.Fmt.{option_append}
+use Rattle.tl_text.specs.Joining.{line_feed, leaves_open, closed, joined, joined_bytes}
+
+pub leaves_open-append : (before : Bool) (xs ys : List ℕ) → leaves_open before (xs ++ ys) ≡ leaves_open (leaves_open before xs) ys
+leaves_open-append before [] ys = refl
+leaves_open-append before (x ∷ xs) ys = leaves_open-append (not (x == line_feed)) xs ys
+
+-- what was read leaves the rest of the text to be closed
+pub closed-append : (before : Bool) (xs ys : List ℕ) → closed before (xs ++ ys) ≡ xs ++ closed (leaves_open before xs) ys
+closed-append before xs ys =
+    rw leaves_open-append (append_assoc xs ys (if leaves_open (leaves_open before xs) ys then line_feed ∷ [] else []))
+
+-- the last byte decides
+leaves_open-cons : (xs : List ℕ) (x : ℕ) (before : Bool)
+    → leaves_open before (x ∷ xs) ≡ not (slice_index (x ∷ xs) (length xs) == line_feed)
+leaves_open-cons [] x before = refl
+leaves_open-cons (y ∷ ys) x before = leaves_open-cons ys y (not (x == line_feed))
+
+pub leaves_open-last : (before : Bool) (xs : List ℕ) → 0 < length xs
+    → leaves_open before xs ≡ not (slice_index xs (length xs - 1) == line_feed)
+leaves_open-last before [] h = absurd (omega arith)
+leaves_open-last before (x ∷ xs) h =
+    let size : length (x ∷ xs) - 1 ≡ length xs = omega arith in
+    rw size (leaves_open-cons xs x before)
+
+-- the last of the n bytes that a read gave decides
+pub leaves_open-read : (before : Bool) (buf : List ℕ) (n : ℕ) → 0 < n → n ≤ length buf
+    → leaves_open before (take n buf) ≡ not (nat_eq (slice_index_or buf (n - 1) 0) line_feed)
+leaves_open-read before buf n some bound =
+    let size : length (take n buf) ≡ n = length-take-le n buf bound in
+    let last : n - 1 < n = omega arith in
+    let here : slice_index_or (take n buf) (n - 1) 0 ≡ slice_index_or buf (n - 1) 0 = get_or-take n buf (n - 1) 0 last in
+    leaves_open-last before (take n buf) (omega arith) ∙ ap (λ k. not (nat_eq (slice_index_or (take n buf) (k - 1) 0) line_feed)) size
+    ∙ ap (λ b. not (nat_eq b line_feed)) here
+
+-- a read of the first text, of whose bytes and of those behind it some are known
+first_read : (before : Bool) (a b rest : Option (List ℕ)) (xs : List ℕ) → Consumes a b xs
+    → Consumes (option_append (option_map (closed before) a) rest)
+    (option_append (option_map (closed (leaves_open before xs)) b) rest) xs
+first_read before None b rest xs h = tt
+first_read before (Some p) None rest xs h = absurd h
+first_read before (Some p) (Some q) None xs h = tt
+first_read before (Some p) (Some q) (Some r) xs h =
+    ap (λ l. closed before l ++ r) h ∙ ap (λ l. l ++ r) (closed-append before xs q)
+    ∙ append_assoc xs (closed (leaves_open before xs) q) r
+
+-- the first text is at its end
+first_end : (before : Bool) (a b rest : Option (List ℕ)) → Consumes a b [] → IsAtEnd b
+    → Consumes (option_append (option_map (closed before) a) rest) rest (if before then line_feed ∷ [] else [])
+first_end before None b rest h e = tt
+first_end before (Some p) None rest h e = absurd h
+first_end before (Some p) (Some q) None h e = tt
+first_end before (Some p) (Some q) (Some r) h e = ap (λ l. closed before l ++ r) (h ∙ e)
+
+-- a line feed at the front of a buffer
+pub take-line_feed : (buf : List ℕ) → 0 < length buf → take 1 (slice_set buf 0 line_feed) ≡ line_feed ∷ []
+take-line_feed [] h = absurd (omega arith)
+take-line_feed (x ∷ xs) h = refl
+
+module _ {R : Type 0} (bytes : R → Option (List ℕ)) where
+  -- the reader at i gave some bytes
+  pub joined_bytes-read : (before : Bool) (readers : List R) (i : ℕ) (old new : R) (xs : List ℕ) → i < length readers
+      → old ≡ slice_index_or readers i old → Consumes (bytes old) (bytes new) xs
+      → Consumes (joined_bytes bytes before (drop i readers))
+      (joined_bytes bytes (leaves_open before xs) (drop i (slice_set readers i new))) xs
+  joined_bytes-read before readers i old new xs within here h =
+      let from : drop i readers ≡ old ∷ drop (i + 1) readers = rw (add-one, drop-cons readers i old, ← here) refl in
+      rw (from, drop-set readers i new within) (first_read before _ _ _ xs h)
+
+  -- the reader at i is at its end
+  pub joined_bytes-end : (before : Bool) (readers : List R) (i : ℕ) (old new : R) → i < length readers
+      → old ≡ slice_index_or readers i old → Consumes (bytes old) (bytes new) [] → IsAtEnd (bytes new)
+      → Consumes (joined_bytes bytes before (drop i readers))
+      (joined_bytes bytes false (drop (i + 1) (slice_set readers i new))) (if before then line_feed ∷ [] else [])
+  joined_bytes-end before readers i old new within here h e =
+      let from : drop i readers ≡ old ∷ drop (i + 1) readers = rw (add-one, drop-cons readers i old, ← here) refl in
+      let past : drop (i + 1) (slice_set readers i new) ≡ drop (i + 1) readers =
+      drop-set-lt (i + 1) readers i new (omega arith) in
+      rw (from, past) (first_end before _ _ _ h e)
+
+  -- the readers' texts, where each is known
+  pub joined_bytes-known : (readers : List R) (texts : List (List ℕ)) → map bytes readers ≡ map Some texts
+      → joined_bytes bytes false readers ≡ Some (joined texts)
+  joined_bytes-known [] [] h = refl
+  joined_bytes-known [] (text ∷ texts) h = cc
+  joined_bytes-known (reader ∷ readers) [] h = cc
+  joined_bytes-known (reader ∷ readers) (text ∷ texts) h =
+      let first : bytes reader ≡ Some text = cc in
+      let others : map bytes readers ≡ map Some texts = cc in
+      rw (first, joined_bytes-known readers texts others) refl

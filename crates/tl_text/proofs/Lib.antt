@@ -1,0 +1,4 @@
+-- Lemmas on texts.
+pub mod JoiningLemmas
+pub mod LineLemmas
+pub mod PrintingLemmas

@@ -1,0 +1,25 @@
+-- What a sink has taken: its contents and its count of failed writes, before and after.
+use Rattle.std.specs.Prelude.{◌≡◌, ◌⊎◌, ℕ, List, ◌∷◌, [], ◌++◌, Option, Result, MatchResult}
+use Rattle.std.specs.Io.KnownBytes.{Appends}
+use Rattle.tl_record.specs.Failures.{one_more}
+
+-- an error says that one more write failed, and success that none did
+abbrev pub CountsFailure : {T E : Type 0} → ℕ → ℕ → Result T E → Type 0
+CountsFailure old new r = MatchResult r (λ _. new ≡ old) (λ _. new ≡ one_more old)
+
+-- a write failed
+abbrev pub FailsToWrite : {S : Type 0} → (S → ℕ) → S → S → Type 0
+FailsToWrite failures old new = failures new ≡ one_more (failures old)
+
+-- the sink took this text, all of it and nothing else, and no write failed
+pub record Writes {S : Type 0} (contents : S → Option (List ℕ)) (failures : S → ℕ) (old new : S) (text : List ℕ) : Type 0 where
+  pub grown : Appends (contents old) (contents new) text
+  pub no_failure : failures new ≡ failures old
+
+-- it did, or a write failed
+abbrev pub TriesToWrite : {S : Type 0} → (S → Option (List ℕ)) → (S → ℕ) → S → S → List ℕ → Type 0
+TriesToWrite contents failures old new text = Writes contents failures old new text ⊎ FailsToWrite failures old new
+
+-- a text as a line: a line feed stands behind it
+abbrev pub line_of : List ℕ → List ℕ
+line_of text = text ++ 10 ∷ []

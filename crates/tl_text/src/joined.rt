@@ -1,0 +1,84 @@
+//! Several readers as one.
+
+ghost use Rattle.std.specs.Prelude.{◌≡◌, ◌+◌, ◌<◌, ◌≤◌, false, List, ℕ, Some, MatchResult, map, drop, take, length, vec_len};
+ghost use Rattle.std.specs.Io.{ReadsAtMost};
+ghost use Rattle.std.specs.Io.KnownBytes.{Consumes, Keeps};
+ghost use Rattle.tl_text.specs.Joining.{joined, joined_bytes};
+
+use std::io;
+use std::io::Read;
+
+/// A reader over a list of readers, which gives their bytes one after the other. After a reader that gave bytes, of
+/// which the last is no LF, it puts an LF, so that no line runs from one file into the next.
+#[derive(Drop)]
+pub struct Joined<R> {
+    readers: Vec<R>,
+    // The reader that is read now.
+    place: usize,
+    // The reader that is read now gave bytes, of which the last is no LF.
+    is_open: bool,
+    ghost within: { place ≤ vec_len readers },
+}
+
+impl<R: Read> Joined<R> {
+    /// A reader of what these readers give, from the first to the last.
+    pub fn new(readers: Vec<R>) -> Joined<R>
+        ensures known { (texts : List (List ℕ)) → map R.remaining readers.items ≡ map Some texts
+            → ⟦<Joined<R> as Read>⟧.remaining result ≡ Some (joined texts) }
+        ensures bytes { ⟦<Joined<R> as Read>⟧.remaining result
+            ≡ joined_bytes R.remaining false readers.items }
+    {
+        Joined {
+            readers,
+            place: 0,
+            is_open: false,
+        }
+    }
+
+    // One read of the reader that is read now. Where it is at its end, the next one is read from here on, and the LF
+    // that its last line lacks is given.
+    fn step(&mut self, buf: &mut [u8]) -> io::Result<usize>
+        requires room { 0 < length buf.old }
+        requires left { self.old.place < vec_len self.old.readers }
+        ensures bound { ReadsAtMost result buf.new }
+        ensures bytes { MatchResult result
+            (λ n. Consumes (joined_bytes R.remaining self.old.is_open (drop self.old.place self.old.readers.items))
+            (joined_bytes R.remaining self.new.is_open (drop self.new.place self.new.readers.items)) (take n buf.new))
+            (λ _. Keeps (joined_bytes R.remaining self.old.is_open (drop self.old.place self.old.readers.items))
+            (joined_bytes R.remaining self.new.is_open (drop self.new.place self.new.readers.items))) }
+        ensures next { MatchResult result
+            (λ n. n ≡ 0 → self.new.place ≡ self.old.place + 1)
+            (λ _. self.new.place ≡ self.old.place) }
+        ensures readers { vec_len self.new.readers ≡ vec_len self.old.readers }
+    {
+        let count = self.readers[self.place].read(buf)?;
+        if count > 0 {
+            self.is_open = buf[count - 1] != b'\n';
+            return Ok(count);
+        }
+        self.place += 1;
+        if self.is_open {
+            self.is_open = false;
+            buf[0] = b'\n';
+            return Ok(1);
+        }
+        Ok(0)
+    }
+}
+
+impl<R: Read> Read for Joined<R> {
+    ghost remaining = { λ j. joined_bytes R.remaining j.is_open (drop j.place j.readers.items) };
+
+    fn read(&mut self, buf: &mut [u8]) -> io::Result<usize> {
+        if buf.is_empty() {
+            return Ok(0);
+        }
+        while self.place < self.readers.len() {
+            let count = self.step(buf)?;
+            if count > 0 {
+                return Ok(count);
+            }
+        }
+        Ok(0)
+    }
+}

@@ -1,0 +1,86 @@
+//! Output on its way to a sink.
+
+ghost use Rattle.std.specs.Prelude.{◌≡◌, [], IfOk, OnOk};
+ghost use Rattle.std.specs.Io.KnownBytes.{Appends, Keeps, append_known};
+ghost use Rattle.tl_text.specs.Writing.{CountsFailure};
+
+use std::alloc::{AllocError, Global};
+use std::io;
+use std::io::ErrorKind;
+use std::marker::Model;
+use tl_record::Sink;
+
+// How many bytes are put together before they are written.
+const CAPACITY: usize = 65_536;
+
+/// Bytes that are put together before they are written to a sink, which each call is given.
+#[derive(Drop)]
+pub struct OutputBuffer {
+    bytes: Vec<u8>,
+}
+
+impl Model for OutputBuffer {
+    ghost use Rattle.std.specs.Prelude.{ℕ, List};
+
+    ghost Value = { List ℕ };
+
+    ghost view = { λ b. b.bytes.items };
+}
+
+impl OutputBuffer {
+    /// A buffer that holds nothing.
+    pub fn new(alloc: Global) -> Result<OutputBuffer, AllocError>
+        ensures { IfOk result (λ b. b ≡ []) }
+    {
+        Ok(OutputBuffer {
+            bytes: Vec::with_capacity(alloc, CAPACITY)?,
+        })
+    }
+
+    /// Adds bytes to the output. Where the buffer has no room for them, what it holds is written first. An error says
+    /// that a write failed.
+    pub fn add<S: Sink>(&mut self, bytes: &[u8], out: &mut S) -> io::Result<()>
+        ensures bytes { OnOk result (Appends (append_known (S.contents out.old) self.old)
+            (append_known (S.contents out.new) self.new) bytes.now) }
+        ensures failures { CountsFailure (S.failure_count out.old) (S.failure_count out.new) result }
+    {
+        if bytes.len() > self.bytes.capacity() - self.bytes.len() {
+            self.flush(out)?;
+        }
+        if self.bytes.extend_from_slice(bytes).is_err() {
+            self.flush(out)?;
+            return write_all(bytes, out);
+        }
+        Ok(())
+    }
+
+    /// Writes what the buffer holds. An error says that a write failed.
+    pub fn flush<S: Sink>(&mut self, out: &mut S) -> io::Result<()>
+        ensures bytes { OnOk result (Appends (S.contents out.old) (S.contents out.new) self.old) }
+        ensures moved { OnOk result (Keeps (append_known (S.contents out.old) self.old)
+            (append_known (S.contents out.new) self.new)) }
+        ensures empty { OnOk result (self.new ≡ []) }
+        ensures failures { CountsFailure (S.failure_count out.old) (S.failure_count out.new) result }
+    {
+        write_all(self.bytes.as_slice(), out)?;
+        self.bytes.clear();
+        Ok(())
+    }
+}
+
+/// Writes all of the bytes. An error says that a write failed: one that answered an error, an interrupted one too, or
+/// one that took nothing.
+pub fn write_all<S: Sink>(bytes: &[u8], out: &mut S) -> io::Result<()>
+    ensures bytes { OnOk result (Appends (S.contents out.old) (S.contents out.new) bytes.now) }
+    ensures failures { CountsFailure (S.failure_count out.old) (S.failure_count out.new) result }
+{
+    let mut written = 0;
+    while written < bytes.len() {
+        let taken = out.put(&bytes[written..])?;
+        if taken == 0 {
+            return Err(io::Error::from(ErrorKind::WriteZero));
+        }
+        written += taken;
+    }
+    Ok(())
+}

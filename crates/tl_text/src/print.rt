@@ -1,0 +1,87 @@
+//! The lines of chains.
+
+ghost use Rattle.std.specs.Prelude.{◌≡◌, OnOk};
+ghost use Rattle.std.specs.Io.KnownBytes.{Appends, append_known};
+ghost use Rattle.tl_text.specs.Printing.{point_text, chain_text, counts_text, shown_text};
+ghost use Rattle.tl_text.specs.Writing.{CountsFailure};
+
+use crate::output::OutputBuffer;
+use itoa::Buffer;
+use std::io;
+use tl_geom::Point;
+use tl_map::Chains;
+use tl_record::Sink;
+
+/// Writes a line for each chain and a line of counts. An error says that a write failed.
+pub fn print_chains<S: Sink>(
+    chains: &Chains,
+    buffer: &mut OutputBuffer,
+    out: &mut S,
+) -> io::Result<()>
+    ensures bytes { OnOk result (Appends (append_known (S.contents out.old) buffer.old)
+        (append_known (S.contents out.new) buffer.new) (shown_text chains.now)) }
+    ensures failures { CountsFailure (S.failure_count out.old) (S.failure_count out.new) result }
+{
+    for chain in 0..chains.len() {
+        print_chain(chains.tlid(chain), chains.points(chain), buffer, out)?;
+    }
+    print_counts(
+        chains.len(),
+        chains.segments(),
+        chains.skipped(),
+        buffer,
+        out,
+    )
+}
+
+fn print_counts<S: Sink>(
+    chains: u32,
+    segments: u32,
+    skipped: u64,
+    buffer: &mut OutputBuffer,
+    out: &mut S,
+) -> io::Result<()>
+    ensures bytes { OnOk result (Appends (append_known (S.contents out.old) buffer.old)
+        (append_known (S.contents out.new) buffer.new) (counts_text chains segments skipped)) }
+    ensures failures { CountsFailure (S.failure_count out.old) (S.failure_count out.new) result }
+{
+    let mut digits = Buffer::new();
+    buffer.add(b"chains=", out)?;
+    buffer.add(digits.format(chains).as_bytes(), out)?;
+    buffer.add(b" segments=", out)?;
+    buffer.add(digits.format(segments).as_bytes(), out)?;
+    buffer.add(b" skipped=", out)?;
+    buffer.add(digits.format(skipped).as_bytes(), out)?;
+    buffer.add(b"\n", out)
+}
+
+fn print_chain<S: Sink>(
+    tlid: u64,
+    points: &[Point],
+    buffer: &mut OutputBuffer,
+    out: &mut S,
+) -> io::Result<()>
+    ensures bytes { OnOk result (Appends (append_known (S.contents out.old) buffer.old)
+        (append_known (S.contents out.new) buffer.new) (chain_text (record { tlid = tlid; points = points.now }))) }
+    ensures failures { CountsFailure (S.failure_count out.old) (S.failure_count out.new) result }
+{
+    let mut digits = Buffer::new();
+    buffer.add(b"tlid ", out)?;
+    buffer.add(digits.format(tlid).as_bytes(), out)?;
+    for point in points {
+        print_point(*point, buffer, out)?;
+    }
+    buffer.add(b"\n", out)
+}
+
+fn print_point<S: Sink>(point: Point, buffer: &mut OutputBuffer, out: &mut S) -> io::Result<()>
+    ensures bytes { OnOk result (Appends (append_known (S.contents out.old) buffer.old)
+        (append_known (S.contents out.new) buffer.new) (point_text point)) }
+    ensures failures { CountsFailure (S.failure_count out.old) (S.failure_count out.new) result }
+{
+    let mut digits = Buffer::new();
+    buffer.add(b" ", out)?;
+    buffer.add(digits.format(point.x).as_bytes(), out)?;
+    buffer.add(b",", out)?;
+    buffer.add(digits.format(point.y).as_bytes(), out)
+}
