@@ -20,7 +20,7 @@ examples: build
 	python3 examples/run.py
 
 memory: build
-	python3 tests/refuse_memory.py
+	python3 tests/memory.py
 
 bench: build
 	cd crates/count_records && rt run >/dev/null

@@ -17,10 +17,10 @@ def steps(text):
             yield command, printed
 
 
-def main():
+def play_all():
+    """How many commands print what the page says, and how many don't."""
     page = Path(__file__).resolve().parent / "README.md"
-    status = 0
-    count = failed = 0
+    status = count = failed = 0
     for command, wanted in steps(page.read_text()):
         # The shell keeps no status from one command to the next.
         command = command.replace("$?", str(status))
@@ -30,9 +30,10 @@ def main():
         if done.stdout != wanted:
             failed += 1
             print(f"$ {command}\n-- wanted\n{wanted}-- printed\n{done.stdout}", end="")
-    print(f"{count - failed} passed, {failed} failed")
-    sys.exit(failed > 0)
+    return count - failed, failed
 
 
 if __name__ == "__main__":
-    main()
+    passed, failed = play_all()
+    print(f"{passed} passed, {failed} failed")
+    sys.exit(failed > 0 or passed == 0)

@@ -68,9 +68,9 @@ module _ (found : Option (Text × List Row)) where
         same = request_is rows name arguments ∙ ap (λ (g : Option (List Text)). Some (codes "show", g)) whole;
         files = rw (← size) some;
       } where
-    given_some : (g : Option (List Text)) (names : List Text) → names ≡ unwrap_or g [] → 0 < length names → g ≡ Some names
-    given_some None names e some = absurd (omega (arith, ap length e))
-    given_some (Some given) names e some = ap Some (sym e)
+        given_some : (g : Option (List Text)) (names : List Text) → names ≡ unwrap_or g [] → 0 < length names → g ≡ Some names
+        given_some None names e some = absurd (omega (arith, ap length e))
+        given_some (Some given) names e some = ap Some (sym e)
 
   -- where none was given there is no plan
   pub none_given : (rows : List Row) (files : Vec (String Global) Global) → option_map (λ p. p.0) found ≡ Some (codes "show")

@@ -2,7 +2,7 @@
 
 ghost use Rattle.std.specs.Prelude.{◌≡◌, ◌⊎◌, false, ⊤, None, IfOk, IfErr, length, vec_len, map, string_bytes};
 ghost use Rattle.tl_text.specs.Joining.{joined_bytes};
-ghost use Rattle.tl_text.specs.Writing.{Writes, TriesToWrite};
+ghost use Rattle.tl_text.specs.Writing.{Writes, TriesToWrite, FailsToWrite};
 ghost use Rattle.tigertopo.specs.declared.stop.TheConstants.{DONE, MAP_FAULT, REFUSED, STOPPED, USAGE};
 ghost use Rattle.tigertopo.specs.declared.stop.Stop.TheVariants.{Memory, Device};
 ghost use Rattle.tigertopo.specs.Running.{IsShown, NamesFault, NamesRefusal, NamesStop, IsRunStatus};
@@ -56,14 +56,32 @@ pub fn start<R: Files, W: Sink, E: Sink>(
     match words::plan(alloc, words) {
         Ok(plan) => open_and_run(rt, alloc, &plan, out, err),
         Err(PlanStop::Memory) => stopped(&Stop::Memory, err),
-        Err(PlanStop::Usage(text)) => {
-            let _ = write_all(text.as_str().as_bytes(), err);
-            USAGE
-        }
-        Err(PlanStop::Help(text)) => match write_all(text.as_str().as_bytes(), out) {
-            Ok(()) => DONE,
-            Err(_) => stopped(&Stop::Device, err),
-        },
+        Err(PlanStop::Usage(text)) => say_usage(&text, err),
+        Err(PlanStop::Help(text)) => say_help(&text, out, err),
+    }
+}
+
+// Says what is wrong with the words. Where that can't be written, the status alone is left to tell it.
+fn say_usage<E: Sink>(text: &String, err: &mut E) -> u8
+    ensures status { result ≡ USAGE }
+    ensures said { TriesToWrite E.contents E.failure_count err.old err.new (string_bytes text.now) }
+{
+    let _ = write_all(text.as_str().as_bytes(), err);
+    USAGE
+}
+
+// Gives the help that the words wish for. Where that can't be written, the program is stopped.
+fn say_help<W: Sink, E: Sink>(text: &String, out: &mut W, err: &mut E) -> u8
+    ensures status { (result ≡ DONE) ⊎ (result ≡ STOPPED) }
+    ensures said { result ≡ DONE → Writes W.contents W.failure_count out.old out.new (string_bytes text.now) }
+    ensures err_stays { result ≡ DONE → err.new ≡ err.old }
+    ensures stopped { result ≡ STOPPED
+        → NamesStop (TriesToWrite E.contents E.failure_count err.old err.new)
+        (FailsToWrite W.failure_count out.old out.new) }
+{
+    match write_all(text.as_str().as_bytes(), out) {
+        Ok(()) => DONE,
+        Err(_) => stopped(&Stop::Device, err),
     }
 }
 

@@ -5,4 +5,3 @@ mod files;
 mod records;
 mod show;
 mod support;
-mod words;

@@ -1,7 +1,7 @@
 #!/usr/bin/env python3
 """Refuses each allocation of the built program in its turn, and looks for an answer that changes in its place.
 
-usage: refuse_memory.py [PROGRAM]
+usage: memory.py [PROGRAM]
 
 With each allocation refused, the program has to answer `stopped Memory` with status 4 and print nothing else, or, where
 it can do without that allocation, what it answers otherwise. It needs a C compiler, cc, and glibc, whose malloc it
@@ -69,8 +69,8 @@ def answer_of(words, library, which):
     return (done.returncode, done.stdout, done.stderr), was_reached
 
 
-def main():
-    program = sys.argv[1] if len(sys.argv) > 1 else PROGRAM
+def play_all(program=PROGRAM):
+    """How many refused allocations were answered well, and how many weren't."""
     with tempfile.TemporaryDirectory() as folder:
         library = f"{folder}/refuse.so"
         subprocess.run(["cc", "-shared", "-fPIC", "-O1", "-o", library, "-x", "c", "-"], input=REFUSE, text=True, check=True)
@@ -85,9 +85,10 @@ def main():
                 if answer not in (usual, (4, b"", b"stopped Memory\n")):
                     failed += 1
                     print(f"{' '.join(map(str, words))}: with allocation {which} refused: {answer}")
-    print(f"{count - failed} passed, {failed} failed")
-    sys.exit(failed > 0 or count == 0)
+    return count - failed, failed
 
 
 if __name__ == "__main__":
-    main()
+    passed, failed = play_all(*sys.argv[1:2])
+    print(f"{passed} passed, {failed} failed")
+    sys.exit(failed > 0 or passed == 0)

@@ -1,0 +1,53 @@
+#!/usr/bin/env python3
+"""The merge gate: `rt ci`, and behind it what only the built program can show. The last line counts all of it."""
+
+import re
+import subprocess
+import sys
+import time
+from pathlib import Path
+
+TOP = Path(__file__).resolve().parent.parent
+sys.path += [str(TOP / "tests"), str(TOP / "examples")]
+
+
+def prove():
+    """Runs `rt ci`, prints what it says, and gives its two numbers."""
+    numbers = None
+    with subprocess.Popen(["rt", "ci"], cwd=TOP, stdout=subprocess.PIPE, text=True, errors="replace") as proofs:
+        for line in proofs.stdout:
+            numbers = re.fullmatch(r"(\d+) passed, (\d+) failed\n", line)
+            if not numbers:
+                print(line, end="", flush=True)
+    passed, failed = map(int, numbers.groups()) if numbers else (0, 1)
+    return passed, failed or (proofs.returncode != 0)
+
+
+def main():
+    import full_size
+    import memory
+    import rows
+    import run as examples
+
+    passed = failed = 0
+    parts = {
+        "proofs, edits and tests": prove,
+        "rows": rows.play_all,
+        "answers at full size": full_size.play_all,
+        "refused allocations": memory.play_all,
+        "examples": examples.play_all,
+    }
+    for name, play in parts.items():
+        begun = time.monotonic()
+        well, ill = play()
+        print(f"{name}: {well} of {well + ill}, {time.monotonic() - begun:.0f} s", flush=True)
+        passed, failed = passed + well, failed + ill + (well + ill == 0)
+        if name == "proofs, edits and tests" and failed:
+            # The program is not the one that was proved.
+            break
+    print(f"{passed} passed, {failed} failed")
+    return failed > 0
+
+
+if __name__ == "__main__":
+    sys.exit(main())
