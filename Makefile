@@ -1,14 +1,16 @@
 # make                     proves and builds the program
 # make check               the merge gate: every proof, must-fail edit, test and stored run, from nothing
-# make examples            runs the commands of examples/README.md and compares what they print
+# make rows                plays the rows of tests/ over the program
+# make full-size           asks for each answer once with a million chains
 # make memory              refuses each allocation of the program in its turn
+# make examples            runs the commands of examples/README.md and compares what they print
 # make bench               measures the program on record files of 1,000 to 100,000 chains
 # make install PREFIX=..   installs the program as PREFIX/bin/tigertopo
 
 PREFIX = /usr/local
 PROGRAM = crates/tigertopo/out/tigertopo
 
-.PHONY: build check examples memory bench install
+.PHONY: build check rows full-size memory examples bench install
 
 build:
 	cd crates/tigertopo && rt run -- --help >/dev/null
@@ -18,6 +20,12 @@ check:
 
 examples: build
 	python3 examples/run.py
+
+rows: build
+	python3 tests/rows.py
+
+full-size: build
+	python3 tests/full_size.py
 
 memory: build
 	python3 tests/memory.py

@@ -71,8 +71,10 @@ pub fn stopped<E: Sink>(stop: &Stop, err: &mut E) -> u8
 
 // Writes the line of the stop, or where there is no room for it, that of a want of memory; and says whether there was.
 fn tell<E: Sink>(stop: &Stop, err: &mut E) -> bool
-    ensures room { OnTrue result (TriesToWrite E.contents E.failure_count err.old err.new (line_of (stop_text stop.now))) }
-    ensures none { OnFalse result (TriesToWrite E.contents E.failure_count err.old err.new (line_of (stop_text Memory))) }
+    ensures room { OnTrue result
+        (TriesToWrite E.contents E.failure_count err.old err.new (line_of (stop_text stop.now))) }
+    ensures none { OnFalse result
+        (TriesToWrite E.contents E.failure_count err.old err.new (line_of (stop_text Memory))) }
 {
     match print_line(stop, err) {
         Ok(()) => true,
