@@ -1,5 +1,6 @@
 #!/usr/bin/env python3
-"""Runs the commands of examples/README.md, from the top of the repository, and compares what they print."""
+"""Runs the commands of examples/README.md, from the top of the repository, and compares what they print, each stream by
+itself: lines of refusals and stops belong to standard error, all others to standard output."""
 
 import re
 import subprocess
@@ -17,6 +18,13 @@ def steps(text):
             yield command, printed
 
 
+def streams_of(printed):
+    """The lines that belong to standard output, and those that belong to standard error."""
+    lines = printed.splitlines(keepends=True)
+    is_error = re.compile(r"(refused line|stopped|error:) ").match
+    return "".join(it for it in lines if not is_error(it)), "".join(it for it in lines if is_error(it))
+
+
 def play_all():
     """How many commands print what the page says, and how many don't."""
     page = Path(__file__).resolve().parent / "README.md"
@@ -24,12 +32,12 @@ def play_all():
     for command, wanted in steps(page.read_text()):
         # The shell keeps no status from one command to the next.
         command = command.replace("$?", str(status))
-        done = subprocess.run(command, shell=True, cwd=TOP, stdout=subprocess.PIPE, stderr=subprocess.STDOUT, text=True)
+        done = subprocess.run(command, shell=True, cwd=TOP, capture_output=True, text=True)
         status = done.returncode
         count += 1
-        if done.stdout != wanted:
+        if (done.stdout, done.stderr) != streams_of(wanted):
             failed += 1
-            print(f"$ {command}\n-- wanted\n{wanted}-- printed\n{done.stdout}", end="")
+            print(f"$ {command}\n-- wanted\n{wanted}-- printed\n{done.stdout}{done.stderr}", end="")
     return count - failed, failed
 
 

@@ -5,7 +5,7 @@ use super::support::{Failure, Kept, Pieces, show};
 use crate::plan::PlanStop;
 use crate::words::plan;
 use std::alloc::Global;
-use std::io::Read;
+use std::io::{ErrorKind, Read};
 use std::process::Abort;
 use std::test::Fail;
 use tl_text::Joined;
@@ -29,15 +29,17 @@ fn check_failed_read<R: Read + Drop>(
 fn a_failed_read_is_a_device(rt: HostRuntime) -> Result<(), Fail> {
     let alloc = rt.alloc();
     let square = format!(in alloc; "{SQUARE_CHAIN}\n{SQUARE_SHAPE}")?;
-    let mut whole = Pieces::new(square.as_str(), 7, 0);
+    let mut whole = Pieces::whole(square.as_str(), 7);
     let (mut out, mut err) = (Kept::new(), Kept::new());
     assert_eq!(rt; show(alloc, &mut whole, &mut out, &mut err)?, 0);
     // 304 bytes take 44 reads, and the next one finds the end.
     assert!(rt; whole.calls >= 45);
     for before in 0..whole.calls {
         let fails_at = before + 1;
-        let records = Pieces::new(square.as_str(), 7, fails_at);
-        check_failed_read(&rt, alloc, records, fails_at)?;
+        for kind in [ErrorKind::Other, ErrorKind::Interrupted] {
+            let records = Pieces::new(square.as_str(), 7, fails_at, kind);
+            check_failed_read(&rt, alloc, records, fails_at)?;
+        }
     }
     Ok(())
 }
@@ -47,10 +49,12 @@ fn a_failed_read_of_joined_files_is_a_device(rt: HostRuntime) -> Result<(), Fail
     let alloc = rt.alloc();
     // The shape's 75 bytes take four reads, and the fifth finds the end.
     for fails_at in 1..=5 {
-        let mut readers = Vec::new(alloc);
-        readers.push(Pieces::new(SQUARE_CHAIN, 2048, 0))?;
-        readers.push(Pieces::new(SQUARE_SHAPE, 20, fails_at))?;
-        check_failed_read(&rt, alloc, Joined::new(readers), fails_at)?;
+        for kind in [ErrorKind::Other, ErrorKind::Interrupted] {
+            let mut readers = Vec::new(alloc);
+            readers.push(Pieces::whole(SQUARE_CHAIN, 2048))?;
+            readers.push(Pieces::new(SQUARE_SHAPE, 20, fails_at, kind))?;
+            check_failed_read(&rt, alloc, Joined::new(readers), fails_at)?;
+        }
     }
     Ok(())
 }

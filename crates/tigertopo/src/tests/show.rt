@@ -11,7 +11,7 @@ fn chains_are_printed_however_the_bytes_come(rt: HostRuntime) -> Result<(), Fail
     let square = format!(in alloc; "{SQUARE_CHAIN}\r\n{SQUARE_SHAPE}")?;
     for most in [2048, 1] {
         let (mut out, mut err) = (Kept::new(), Kept::new());
-        let records = Pieces::new(square.as_str(), most, 0);
+        let records = Pieces::whole(square.as_str(), most);
         assert_eq!(rt; show(alloc, records, &mut out, &mut err)?, 0);
         assert_eq!(rt; (out.text(), err.text()), (SQUARE_SHOWN, ""));
     }

@@ -9,24 +9,30 @@ use std::io::{ErrorKind, Read, Write};
 use std::{io, str};
 use tl_record::{Meter, MeterOut};
 
-/// A reader of a text in memory that gives at most `most` bytes a call and fails once, at the call `fails_at`, counted
-/// from 1.
+/// A reader of a text in memory that gives at most `most` bytes a call and fails once, by `kind`, at the call `fails_at`,
+/// counted from 1.
 #[derive(Drop)]
 pub struct Pieces<'a> {
     rest: &'a [u8],
     most: usize,
     fails_at: u64,
+    kind: ErrorKind,
     pub calls: u64,
 }
 
 impl<'a> Pieces<'a> {
-    pub fn new(text: &'a str, most: usize, fails_at: u64) -> Pieces<'a> {
+    pub fn new(text: &'a str, most: usize, fails_at: u64, kind: ErrorKind) -> Pieces<'a> {
         Pieces {
             rest: text.as_bytes(),
             most,
             fails_at,
+            kind,
             calls: 0,
         }
+    }
+
+    pub fn whole(text: &'a str, most: usize) -> Pieces<'a> {
+        Pieces::new(text, most, 0, ErrorKind::Other)
     }
 }
 
@@ -34,7 +40,7 @@ impl Read for Pieces<'_> {
     fn read(&mut self, buf: &mut [u8]) -> io::Result<usize> {
         self.calls = self.calls.saturating_add(1);
         if self.calls == self.fails_at {
-            return Err(io::Error::from(ErrorKind::Other));
+            return Err(io::Error::from(self.kind));
         }
         let count = self.most.min(buf.len());
         self.rest.read(&mut buf[..count])
