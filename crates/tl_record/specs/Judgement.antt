@@ -128,7 +128,7 @@ sides_record columns line = do
   tlid ← number_at field_name.Tlid columns.tlid line
   left ← side_at field_name.CenidL field_name.PolyidL columns.left line
   right ← side_at field_name.CenidR field_name.PolyidR columns.right line
-  Ok (Sides tlid left right)
+  Ok (Sides tlid None None left right)
 
 -- type P: a polygon and its internal point
 unfoldable pub poly_point_record : PolyPointColumns → List ℕ → Result Record Cause

@@ -100,7 +100,13 @@ fn sides_record(columns: &SidesColumns, line: &Columns<'_>) -> Result<Record, Ca
     let tlid = number_at(Field::Tlid, columns.tlid, line)?;
     let left = side_at(Field::CenidL, Field::PolyidL, &columns.left, line)?;
     let right = side_at(Field::CenidR, Field::PolyidR, &columns.right, line)?;
-    Ok(Record::Sides { tlid, left, right })
+    Ok(Record::Sides {
+        tlid,
+        start_cell: None,
+        end_cell: None,
+        left,
+        right,
+    })
 }
 
 #[tactic(auto, unfolding(crate::specs::Judgement::poly_point_record))]

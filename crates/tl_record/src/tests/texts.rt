@@ -47,6 +47,8 @@ fn map_b_is_read(rt: HostRuntime) -> Result<(), Fail> {
     let first = key(*b"A0001", 1);
     let sides = Record::Sides {
         tlid: 1,
+        start_cell: None,
+        end_cell: None,
         left: Some(first),
         right: None,
     };

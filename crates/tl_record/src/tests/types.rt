@@ -107,6 +107,8 @@ fn an_outside_side_may_have_any_cenid(rt: HostRuntime) -> Result<(), Fail> {
     let given = read_all(rt.alloc(), Pieces::new(&line, 9, 0))?;
     let sides = Record::Sides {
         tlid: 1,
+        start_cell: None,
+        end_cell: None,
         left: None,
         right: None,
     };
@@ -226,6 +228,8 @@ fn other_columns_have_no_meaning(rt: HostRuntime) -> Result<(), Fail> {
             3,
             Record::Sides {
                 tlid: 12,
+                start_cell: None,
+                end_cell: None,
                 left: Some(some(3)),
                 right: Some(blank),
             },
