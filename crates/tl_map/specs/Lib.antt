@@ -1,5 +1,6 @@
 pub mod Chains
 pub mod Faults
+pub mod Messages
 pub mod Entries
 pub mod Rows
 pub mod Collected

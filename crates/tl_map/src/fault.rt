@@ -22,6 +22,11 @@ pub enum Limited {
 }
 
 impl fmt::Display for Limited {
+    ghost use Rattle.std.specs.Prelude.{Some};
+    ghost use Rattle.tl_map.specs.Messages.{limited_text};
+
+    ghost output = { λ what. Some (limited_text what) };
+
     fn fmt<W: fmt::Write>(&self, f: &mut fmt::Formatter<W>) -> fmt::Result {
         match self {
             Limited::Chains => write!(f, "chains"),
@@ -48,6 +53,11 @@ pub enum MapFault {
 }
 
 impl fmt::Display for MapFault {
+    ghost use Rattle.std.specs.Prelude.{Some};
+    ghost use Rattle.tl_map.specs.Messages.{fault_text};
+
+    ghost output = { λ fault. Some (fault_text fault) };
+
     fn fmt<W: fmt::Write>(&self, f: &mut fmt::Formatter<W>) -> fmt::Result {
         match self {
             MapFault::DuplicateChain { tlid } => {
@@ -82,6 +92,11 @@ pub enum MapStop {
 }
 
 impl fmt::Display for MapStop {
+    ghost use Rattle.std.specs.Prelude.{Some};
+    ghost use Rattle.tl_map.specs.Messages.{map_stop_text};
+
+    ghost output = { λ stop. Some (map_stop_text stop) };
+
     fn fmt<W: fmt::Write>(&self, f: &mut fmt::Formatter<W>) -> fmt::Result {
         match self {
             MapStop::Refused { line, cause } => write!(f, "refused line {line} {cause}"),

@@ -5,6 +5,7 @@ pub mod Lines
 pub mod Range
 pub mod Fields
 pub mod Layout
+pub mod Messages
 pub mod Outcome
 pub mod Judgement
 pub mod Records

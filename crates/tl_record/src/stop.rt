@@ -29,6 +29,11 @@ pub enum Field {
 }
 
 impl fmt::Display for Field {
+    ghost use Rattle.std.specs.Prelude.{Some};
+    ghost use Rattle.tl_record.specs.Messages.{field_text};
+
+    ghost output = { λ field. Some (field_text field) };
+
     fn fmt<W: fmt::Write>(&self, f: &mut fmt::Formatter<W>) -> fmt::Result {
         match self {
             Field::Tlid => write!(f, "TLID"),
@@ -70,6 +75,11 @@ pub enum Cause {
 }
 
 impl fmt::Display for Cause {
+    ghost use Rattle.std.specs.Prelude.{Some};
+    ghost use Rattle.tl_record.specs.Messages.{cause_text};
+
+    ghost output = { λ cause. Some (cause_text cause) };
+
     fn fmt<W: fmt::Write>(&self, f: &mut fmt::Formatter<W>) -> fmt::Result {
         match self {
             Cause::LineTooLong => write!(f, "L1 LineTooLong"),
@@ -91,6 +101,11 @@ pub enum ReadStop {
 }
 
 impl fmt::Display for ReadStop {
+    ghost use Rattle.std.specs.Prelude.{Some};
+    ghost use Rattle.tl_record.specs.Messages.{read_stop_text};
+
+    ghost output = { λ stop. Some (read_stop_text stop) };
+
     fn fmt<W: fmt::Write>(&self, f: &mut fmt::Formatter<W>) -> fmt::Result {
         match self {
             ReadStop::Refused { line, cause } => write!(f, "refused line {line} {cause}"),
