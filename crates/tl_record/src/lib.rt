@@ -22,6 +22,7 @@ mod source;
 mod stop;
 #[cfg(test)]
 mod tests;
+mod word;
 
 pub use columns::{ColumnRange, Columns, FiveColumns};
 pub use field::{MAX_LATITUDE, MAX_LONGITUDE};
