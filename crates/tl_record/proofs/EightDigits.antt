@@ -1,12 +1,11 @@
 -- Eight digits in one word.
-use Rattle.std.proofs.Common.{◌≡◌, ℕ, ◌+◌, ◌-◌, ◌*◌, ◌/◌, ◌%◌, ◌^◌, ◌<◌, ◌≤◌, true, List, [], ◌∷◌, map, length, refl, sym, ap, ◌∙◌, arith, rules}
-use Rattle.std.proofs.lemmas.Nat.{and_le_r}
+use Rattle.std.proofs.Common.{◌≡◌, ℕ, ◌+◌, ◌-◌, ◌*◌, ◌/◌, ◌<◌, ◌≤◌, true, List, [], ◌∷◌, map, length, refl, ap, ◌∙◌, arith}
 use Rattle.std.proofs.lemmas.Nat.Bits.{and_high}
 use Rattle.std.specs.List.{list_all, slice_index}
 use Rattle.std.specs.Char.{is_ascii_digit}
 use Rattle.std.specs.Int.{from_le_bytes, w64}
 use Rattle.tl_record.specs.Fields.{decimal}
-use Rattle.tl_record.proofs.Lanes.{lanes, Each, AtMost, flat, first_ones, lanes-plus, upper_halves, merged}
+use Rattle.tl_record.proofs.Lanes.{lanes, Each, AtMost, flat, upper_halves, merged}
 use lib.Bits.{bit_and}
 
 -- a byte below 256 whose upper half is 3, and whose lower half is no more than 9

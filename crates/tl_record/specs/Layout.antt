@@ -1,6 +1,6 @@
 -- The column table of the TIGER/Line files of 2006, as data: this project's own profile of the documentation, with what
 -- may be chosen of type I.
-use Rattle.std.specs.Prelude.{[], ◌∷◌, Option, Some, None, true, false, if◌then◌else◌}
+use Rattle.std.specs.Prelude.{[], ◌∷◌, Option, Some, None, false, if◌then◌else◌}
 use Rattle.tl_record.specs.Range.{Range, columns}
 use Rattle.tl_record.specs.declared.options.Options.{Options}
 use Rattle.tl_record.specs.declared.layout.Layout.{Layout}

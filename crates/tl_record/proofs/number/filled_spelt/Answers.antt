@@ -1,4 +1,4 @@
-use Rattle.std.proofs.Common.{◌≡◌, ◌∙◌, ap, arith}
+use Rattle.std.proofs.Common.{◌∙◌, ap, arith}
 use Rattle.std.proofs.lemmas.Int.{ints}
 use Rattle.tl_record.specs.declared.number.Spelt.TheVariants.{Value}
 use Rattle.tl_record.proofs.Filled.{minus_spelt, plus_spelt}

@@ -1,6 +1,5 @@
-use Rattle.std.proofs.Common.{rules, ◌≡◌, ℕ, ◌<◌, List, length, refl, arith}
-use Rattle.std.specs.List.{slice_index}
-use Rattle.tl_record.proofs.EightDigits.{SpellsEight, spells_eight}
+use Rattle.std.proofs.Common.{rules, refl, arith}
+use Rattle.tl_record.proofs.EightDigits.{spells_eight}
 use Rattle.tl_record.proofs.word.eight_digits.Goals as goal
 
 pub overflow_mul-pairs : goal.overflow_mul-pairs
