@@ -72,7 +72,7 @@ fn long_number(bytes: &[u8]) -> Option<u64>
     Some((*first - b'0') as u64 * 100_000_000 + low)
 }
 
-/// The value of one or more decimal digits, one after the other.
+/// The value of one or more decimal digits.
 fn digits_spell(bytes: &[u8]) -> Spelt<u64>
     requires { length bytes.now ≤ 18 }
     ensures value { result ≡ digits_spell bytes.now }

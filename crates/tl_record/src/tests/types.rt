@@ -22,6 +22,7 @@ const LINES: &str = "|1:1|191:+000000010+00000010+000000010+00000010=refused lin
 |1:I|15:1|41:A\u{7f}001|55:x=refused line 1 L3 BadField CENIDL
 |1:I|15:1|56:A0001|70:-=refused line 1 L3 BadField POLYIDR
 |1:I|15:1|41:\u{1}\u{1}\u{1}\u{1}\u{1}=Sides { tlid: 1, start_cell: None, end_cell: None, left: None, right: None }
+|1:I|15:1|21:      5  5         7=Sides { tlid: 1, start_cell: None, end_cell: None, left: None, right: None }
 |1:P|11:A0001|26:+000000020+00000020=refused line 1 L2 Missing POLYID
 |1:P|11:A0001|25:1|26:+000000020+90000020=refused line 1 L4 OutOfRange POLYLAT
 |1:P|11:A0001|25:1|26:+0000=refused line 1 L2 Missing POLYLAT
@@ -51,22 +52,21 @@ const RELEASED_LINES: &str =
 |1:I|6:24001|21:      5  5=refused line 1 L2 Missing TLID
 |1:I|6:240 1|11:2400164702=Sides { tlid: 2400164702, start_cell: None, end_cell: None, left: None, right: None }";
 
+const RELEASED_LINES_WITH_CELLS: &str =
+    "|1:I|6:24001        12         5         7=Sides { tlid: 12, start_cell: Some(5), end_cell: Some(7), left: None, right: None }";
+
 #[test]
 fn lines_are_answered_so(rt: HostRuntime) -> Result<(), Fail> {
-    let none = Options::default();
-    let with_cells = Options {
-        zero_cells: true,
-        released: false,
-    };
-    let released = Options {
-        zero_cells: false,
-        released: true,
-    };
-    for (rows, options) in [
-        (LINES, none),
-        (LINES_WITH_CELLS, with_cells),
-        (RELEASED_LINES, released),
+    for (rows, zero_cells, released) in [
+        (LINES, false, false),
+        (LINES_WITH_CELLS, true, false),
+        (RELEASED_LINES, false, true),
+        (RELEASED_LINES_WITH_CELLS, true, true),
     ] {
+        let options = Options {
+            zero_cells,
+            released,
+        };
         for row in rows.lines() {
             let (fields, wanted) = row.split_once('=').unwrap_or(("", row));
             let line = line_of(rt.alloc(), fields)?;
