@@ -8,3 +8,9 @@ pub mod CollectLemmas
 pub mod OrderLemmas
 pub mod ChainLemmas
 pub mod PlainLemmas
+pub mod IndexLemmas
+pub mod SideLemmas
+pub mod AreaLemmas
+pub mod LandmarkLemmas
+pub mod MarkLemmas
+pub mod ListedLemmas
