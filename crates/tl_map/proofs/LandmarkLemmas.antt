@@ -8,12 +8,12 @@ use Rattle.std.proofs.lemmas.Map.Lookups.{exact_unsigned}
 use Rattle.std.proofs.lemmas.Option.{slice_get-map, slice_get-get_or, slice_get_within}
 use Rattle.std.proofs.lemmas.List.{get_or_append_left, at_drop_more, at_drop_all, get_or_default, map_push, length-map, length_push, length-append, get_or-map}
 use Rattle.std.proofs.Math.Seq.{get_or-append_seam}
-use Rattle.std.proofs.lemmas.List.Elements.{Contains-push, Contains-append_left}
+use Rattle.std.proofs.lemmas.List.Elements.{Contains-push, Contains-push_cases, Contains-append_left}
 use Rattle.tl_map.specs.declared.entry.LandmarkEntry.{LandmarkEntry}
 use Rattle.tl_map.specs.declared.fault.TheConstants.{LANDMARK_LIMIT}
 use Rattle.tl_map.specs.TheMap.{firsts, firsts_after}
 use Rattle.std.specs.BTreeMap.{get}
-use Rattle.std.specs.List.Sorted.{IsNonDecreasingBy, IsStableByKey}
+use Rattle.std.specs.List.Sorted.{IsNonDecreasingBy, IsPermutation, IsStableByKey}
 use Rattle.std.proofs.lemmas.Bool.Decides.{nat_tests}
 use Rattle.tl_record.specs.declared.record.PolyKey.{PolyKey}
 use Rattle.tl_map.specs.declared.entry.LinkEntry.{LinkEntry}
@@ -28,6 +28,7 @@ pub record Listing (entries : List LandmarkEntry) (i : ℕ) (kept : List Landmar
   pub so_far : firsts_after (λ (e : LandmarkEntry). e.land) kept (drop i entries) ≡ firsts (λ (e : LandmarkEntry). e.land) entries
   pub known : NumbersUpTo (lands kept) (length kept) found
   pub all : (j : ℕ) (d : LandmarkEntry) → j < i → Contains (lands kept) (get_or entries j d).land
+  pub no_other : (n : ℕ) → Contains (lands kept) n → Contains (lands entries) n
   pub few : length kept ≤ LANDMARK_LIMIT
 
 any_told : (kept : List LandmarkEntry) (m : ℕ) → list_any (λ y. eqb y.land m) kept ≡ true → Contains (lands kept) m
@@ -97,6 +98,10 @@ listing_new entries i v d kept old new lt count room absent is before = record {
   so_far = so_far_new entries i d kept old lt absent before;
   known = known;
   all = all;
+  no_other = λ n has. elim (Contains-push_cases (lands kept) (get_or entries i d).land n (rw lands_more at has)) [
+    | inl earlier ↦ before.no_other n earlier
+    | inr same ↦ (i, (let long = length-map entries (λ (x : LandmarkEntry). x.land) in omega arith), get_or-map (λ (x : LandmarkEntry). x.land) entries i d n lt ∙ same)
+  ];
   few = omega (arith, before.few, length_push kept (get_or entries i d));
 }
   where
@@ -128,6 +133,7 @@ listing_old entries i d kept found n lt here before =
         | inl earlier ↦ before.all j x earlier
         | inr last ↦ let same : j ≡ i = omega arith in rw (same, get_or_default entries i x d lt) (contained (lands kept) n (get_or entries i d).land was.1)
       ];
+      no_other = before.no_other;
       few = before.few;
     }
   where
@@ -142,6 +148,7 @@ listed entries i f whole before = record {
   firsts_are = sym (at_drop_all (firsts_after (λ (e : LandmarkEntry). e.land) f.firsts.items) entries i whole) ∙ before.so_far;
   index = numbers_whole (lands f.firsts.items) (length f.firsts.items) (get nat_cmp f.index) (omega (arith, length-map f.firsts.items (λ (x : LandmarkEntry). x.land))) before.known;
   all = λ n has. all entries n has (λ j d lt. before.all j d (omega arith));
+  no_other = before.no_other;
   few = before.few;
 }
   where
@@ -180,9 +187,10 @@ filter_agree p q same (x ∷ xs) = go (p x) (q x) (same x) (filter_agree p q sam
     go a false e rest = rw e rest
 
 -- links that a stable sort by landmark leaves
-pub by_landmark : (old new : List Link) → IsNonDecreasingBy (λ (m : Link). m.landmark) new → IsStableByKey (λ (m : Link). m.landmark) nat_cmp old new → AreByLandmark old new
-by_landmark old new rising stable = record {
+pub by_landmark : (old new : List Link) → IsPermutation old new → IsNonDecreasingBy (λ (m : Link). m.landmark) new → IsStableByKey (λ (m : Link). m.landmark) nat_cmp old new → AreByLandmark old new
+by_landmark old new moved rising stable = record {
   rising = rising;
+  moved = moved;
   same = λ l.
       let x : Link = record { landmark = l; polygon = 0 } in
       filter_agree _ _ (λ m. tied m.landmark l) new ∙ stable x ∙ sym (filter_agree _ _ (λ m. tied m.landmark l) old);

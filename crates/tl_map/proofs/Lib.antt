@@ -14,3 +14,5 @@ pub mod AreaLemmas
 pub mod LandmarkLemmas
 pub mod MarkLemmas
 pub mod ListedLemmas
+pub mod LinkedLemmas
+pub mod PairLemmas

@@ -3,7 +3,7 @@
 ghost use Rattle.std.specs.Prelude.{◌≡◌, ◌≢◌, ◌<◌, ◌≤◌, ◌++◌, ℕ, List, IfOk, IfErr, OnOk, MatchResult, All, length, map, slice_index_or};
 ghost use Rattle.tl_record.specs.declared.record.PolyKey.{PolyKey};
 ghost use Rattle.tl_map.specs.Keeping.Index.{Indexes};
-ghost use Rattle.tl_map.specs.Keeping.Landmarks.{ListsLandmarks, StopsLandmarks, IsLink, IndexesLands, StopsLink, AreAllLinks, StopsLinks, AreByLandmark, listed, IsLinked};
+ghost use Rattle.tl_map.specs.Keeping.Landmarks.{ListsLandmarks, StopsLandmarks, IsLink, IndexesLands, StopsLink, AreAllLinks, StopsLinks, AreByLandmark, listed, IsLinked, AreLinked, StopsLinking};
 ghost use Rattle.tl_map.specs.TheMap.{firsts};
 ghost use Rattle.tl_map.specs.declared.fault.TheConstants.{LANDMARK_LIMIT};
 ghost use Rattle.tl_map.specs.declared.landmarks.Link.{Link};
@@ -187,4 +187,22 @@ fn list_linked(
         number += 1;
     }
     Ok(LinkedLandmarks { rows, linked })
+}
+
+/// The landmarks of the records with the polygons that are linked to them.
+pub fn build_landmarks(
+    alloc: Global,
+    index: &BTreeMap<PolyKey, u32>,
+    polygons: usize,
+    entries: &[LandmarkEntry],
+    links: &[LinkEntry],
+) -> Result<LinkedLandmarks, MapStop>
+    requires { (ks : List PolyKey) × Indexes ks index.now × (length ks ≡ polygons) }
+    ensures { (ks : List PolyKey) → Indexes ks index.now → MatchResult result (AreLinked ks entries.now links.now) (StopsLinking ks entries.now links.now) }
+{
+    let landmarks = first_landmarks(alloc, entries)?;
+    let mut made = resolve_links(alloc, index, &landmarks.index, links)?;
+    sort_links(&mut made)?;
+    let linked = list_linked(alloc, &landmarks.firsts, &made, polygons)?;
+    Ok(linked)
 }

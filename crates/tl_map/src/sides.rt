@@ -1,14 +1,18 @@
 //! What lies on the sides of chains.
 
-ghost use Rattle.std.specs.Prelude.{◌≡◌, List, IfOk, IfErr, MatchResult, map};
+ghost use Rattle.std.specs.Prelude.{◌≡◌, ◌≤◌, ◌==◌, List, IfOk, OnOk, IfErr, MatchOption, MatchResult, map, count_by};
+ghost use Rattle.std.specs.List.Sorted.{IsNonDecreasingBy, IsStrictlyIncreasing, IsPermutation};
+ghost use Rattle.tl_map.specs.declared.entry.SidesEntry.{SidesEntry};
+ghost use Rattle.tl_map.specs.Chains.{tlids};
 ghost use Rattle.tl_record.specs.declared.record.PolyKey.{PolyKey};
 ghost use Rattle.tl_map.specs.Keeping.Index.{Indexes};
-ghost use Rattle.tl_map.specs.Keeping.Sided.{sided_by, StopsSide, StopsSides};
+ghost use Rattle.tl_map.specs.Keeping.Sided.{sided_by, StopsSide, StopsSides, sides_tlids, IsUnpaired, ArePaired, StopsPairing};
 ghost use Rattle.tl_map.specs.TheMap.{side_of};
 
+use crate::chains::Chains;
 use crate::entry::SidesEntry;
 use crate::fault::{MapFault, MapStop};
-use std::alloc::Global;
+use std::alloc::{AllocError, Global};
 use std::collections::BTreeMap;
 use tl_record::PolyKey;
 
@@ -55,6 +59,72 @@ pub fn resolve_sides(
         let left = resolve_side(index, entry.left, entry.tlid)?;
         let right = resolve_side(index, entry.right, entry.tlid)?;
         sides.push(ChainSides { left, right })?;
+    }
+    Ok(sides)
+}
+
+/// Sorts type I records by TLID.
+fn sort_sides(sides: &mut Vec<SidesEntry>) -> Result<(), AllocError>
+    ensures ordered { OnOk result (IsNonDecreasingBy (λ (s : SidesEntry). s.tlid) sides.new.items) }
+    ensures moved { OnOk result (IsPermutation sides.old.items sides.new.items) }
+{
+    sides.sort_by_key(|entry| entry.tlid)?;
+    Ok(())
+}
+
+/// A TLID that two type I records have, in records sorted by TLID.
+fn repeated_sides(sides: &[SidesEntry]) -> Option<u64>
+    requires { IsNonDecreasingBy (λ (s : SidesEntry). s.tlid) sides.now }
+    ensures { MatchOption result (IsStrictlyIncreasing (sides_tlids sides.now)) (λ t. 2 ≤ count_by (λ s. s.tlid == t) sides.now) }
+{
+    let mut previous = None;
+    for entry in sides {
+        if previous == Some(entry.tlid) {
+            return previous;
+        }
+        previous = Some(entry.tlid);
+    }
+    None
+}
+
+/// A chain without sides, or sides without a chain, where both rise by TLID.
+fn unpaired(chains: &Chains, sides: &[SidesEntry]) -> Option<MapFault>
+    requires chains { IsStrictlyIncreasing (tlids chains.now.chains) }
+    requires sides { IsStrictlyIncreasing (sides_tlids sides.now) }
+    ensures { MatchOption result (sides_tlids sides.now ≡ tlids chains.now.chains) (IsUnpaired (tlids chains.now.chains) (sides_tlids sides.now)) }
+{
+    let count = chains.len();
+    for c in 0..count {
+        let tlid = chains.tlid(c);
+        let place = c as usize;
+        if place == sides.len() || tlid < sides[place].tlid {
+            return Some(MapFault::ChainWithoutSides { tlid });
+        }
+        if sides[place].tlid < tlid {
+            return Some(MapFault::SidesWithoutChain {
+                tlid: sides[place].tlid,
+            });
+        }
+    }
+    if sides.len() > count as usize {
+        return Some(MapFault::SidesWithoutChain {
+            tlid: sides[count as usize].tlid,
+        });
+    }
+    None
+}
+
+/// The type I record of each chain, in the order of the chains, which rise by TLID.
+pub fn pair_sides(chains: &Chains, mut sides: Vec<SidesEntry>) -> Result<Vec<SidesEntry>, MapStop>
+    requires { IsStrictlyIncreasing (tlids chains.now.chains) }
+    ensures { MatchResult result (λ made. ArePaired (tlids chains.now.chains) sides.items made.items) (StopsPairing (tlids chains.now.chains) sides.items) }
+{
+    sort_sides(&mut sides)?;
+    if let Some(tlid) = repeated_sides(&sides) {
+        return Err(MapStop::Fault(MapFault::DuplicateSides { tlid }));
+    }
+    if let Some(fault) = unpaired(chains, &sides) {
+        return Err(MapStop::Fault(fault));
     }
     Ok(sides)
 }

@@ -1,7 +1,7 @@
 use Rattle.std.specs.Prelude.{◌≡◌, ℕ, ◌+◌, ◌<◌, ◌≤◌, ◌==◌, ◌⊎◌, Option, Some, List, [], ◌∷◌, All, length, map, take, drop, filter, Any, Contains, slice_get, slice_index_or}
 use Rattle.std.specs.Ordering.{nat_cmp}
 use Rattle.std.specs.BTreeMap.{BTreeMap, get}
-use Rattle.std.specs.List.Sorted.{IsNonDecreasingBy}
+use Rattle.std.specs.List.Sorted.{IsNonDecreasingBy, IsPermutation}
 use Rattle.tl_record.specs.declared.record.PolyKey.{PolyKey}
 use Rattle.tl_map.specs.declared.entry.LandmarkEntry.{LandmarkEntry}
 use Rattle.tl_map.specs.declared.entry.LinkEntry.{LinkEntry}
@@ -11,8 +11,9 @@ use Rattle.tl_map.specs.declared.fault.Limited.TheVariants.{Landmarks}
 use Rattle.tl_map.specs.declared.fault.MapFault.TheVariants.{TooMany, LinkWithoutLandmark, LinkWithoutPolygon}
 use Rattle.tl_map.specs.declared.fault.MapStop.{MapStop}
 use Rattle.tl_map.specs.declared.fault.MapStop.TheVariants.{Memory, Fault}
+use Rattle.tl_map.specs.declared.landmarks.LinkedLandmarks.{LinkedLandmarks}
 use Rattle.tl_map.specs.declared.landmarks.LandmarkRow.{LandmarkRow}
-use Rattle.tl_map.specs.TheMap.{firsts, place_of, MapLandmark}
+use Rattle.tl_map.specs.TheMap.{firsts, place_of, linked_to, MapLandmark}
 use Rattle.tl_map.specs.Faults.{most_landmarks}
 use Rattle.tl_map.specs.Keeping.Index.{Numbers}
 
@@ -29,6 +30,7 @@ pub record ListsLandmarks (entries : List LandmarkEntry) (f : FirstLandmarks) : 
   pub firsts_are : f.firsts.items ≡ firsts (λ e. e.land) entries
   pub index : IndexesLands (lands f.firsts.items) f.index
   pub all : (n : ℕ) → Contains (lands entries) n → Contains (lands f.firsts.items) n
+  pub no_other : (n : ℕ) → Contains (lands f.firsts.items) n → Contains (lands entries) n
   pub few : length f.firsts.items ≤ most_landmarks
 
 -- why the first records aren't listed: memory was refused, or there are too many
@@ -67,6 +69,7 @@ links_to l made = filter (λ m. m.landmark == l) made
 -- by rising landmark, and those of one landmark in the order that they had
 pub record AreByLandmark (old new : List Link) : Type 0 where
   pub rising : IsNonDecreasingBy (λ (m : Link). m.landmark) new
+  pub moved : IsPermutation old new
   pub same : (l : ℕ) → links_to l new ≡ links_to l old
 
 -- the landmark of a record with the links to the number
@@ -90,3 +93,17 @@ landmark_in linked row = record { land = row.land; point = row.point; polygons =
 pub record IsLinked (landmarks : List MapLandmark) (linked : List ℕ) (rows : List LandmarkRow) : Type 0 where
   pub within : All (IsRow linked) rows
   pub are : map (landmark_in linked) rows ≡ landmarks
+
+-- the landmark of a first record, by the polygons' keys and the links
+abbrev pub landmark_from : List PolyKey → List LinkEntry → LandmarkEntry → MapLandmark
+landmark_from ks links e = record { land = e.land; point = e.point; polygons = linked_to ks links e.land }
+
+-- the landmarks of the records with the polygons of the links, each of which names one of both
+pub record AreLinked (ks : List PolyKey) (entries : List LandmarkEntry) (links : List LinkEntry) (l : LinkedLandmarks) : Type 0 where
+  pub rows : IsLinked (map (landmark_from ks links) (firsts (λ e. e.land) entries)) l.linked.items l.rows.items
+  pub known : All (λ link. Contains (lands entries) link.land × Contains ks link.key) links
+  pub few : length (firsts (λ (e : LandmarkEntry). e.land) entries) ≤ most_landmarks
+
+-- why they aren't: memory was refused, there are too many landmarks, or a link names none
+abbrev pub StopsLinking : List PolyKey → List LandmarkEntry → List LinkEntry → MapStop → Type 0
+StopsLinking ks entries links stop = StopsLandmarks entries stop ⊎ Any (λ link. StopsLink ks (lands entries) link stop) links
