@@ -139,3 +139,13 @@ pub not_known : {K : Type 0} (ks : List K) (k : K) (found : K → Option ℕ) �
 not_known ks k found numbers none has =
     let at : slice_get ks has.0 ≡ Some k = slice_get-get_or ks has.0 k has.1 ∙ ap Some has.2 in
     absurd (let e = numbers.each has.0 k at in cc)
+
+-- what stands at a place is contained
+pub contained : {X : Type 0} (xs : List X) (k : ℕ) (x : X) → slice_get xs k ≡ Some x → Contains xs x
+contained [] k x at = absurd (let e : None ≡ Some x = at in cc)
+contained (y ∷ ys) zero x at = (0, omega arith, (let e : y ≡ x = cc in e))
+contained (y ∷ ys) (suc k) x at = let rest = contained ys k x at in (suc rest.0, omega (arith, rest.1), rest.2)
+
+-- a key that a look-up finds is one of the keys
+pub known_key : {K : Type 0} (ks : List K) (k : K) (n : ℕ) (found : K → Option ℕ) → Numbers ks found → found k ≡ Some n → Contains ks k
+known_key ks k n found numbers here = contained ks n k (numbers.only k n here)

@@ -13,12 +13,7 @@ use Rattle.tl_map.specs.declared.fault.MapStop.{MapStop}
 use Rattle.tl_map.specs.TheMap.{firsts, place_of, linked_to}
 use Rattle.tl_map.specs.Keeping.Index.{Numbers}
 use Rattle.tl_map.specs.Keeping.Landmarks.{lands, ListsLandmarks, IsLink, AreLinks, AreAllLinks, StopsLink, StopsLinks, StopsLinking, links_to, AreByLandmark, landmark_with, listed, IsLinked, landmark_from, AreLinked}
-use Rattle.tl_map.proofs.IndexLemmas.{slice_get-image}
-
-contained : {X : Type 0} (xs : List X) (k : ℕ) (x : X) → slice_get xs k ≡ Some x → Contains xs x
-contained [] k x at = absurd (let e : None ≡ Some x = at in cc)
-contained (y ∷ ys) zero x at = (0, omega arith, (let e : y ≡ x = cc in e))
-contained (y ∷ ys) (suc k) x at = let rest = contained ys k x at in (suc rest.0, omega (arith, rest.1), rest.2)
+use Rattle.tl_map.proofs.IndexLemmas.{contained}
 
 -- the links of the l-th LAND, by numbers and by keys
 to_links : (ks : List PolyKey) (ns : List ℕ) (found : ℕ → Option ℕ) (links : List LinkEntry) (made : List Link) (l n : ℕ) → Numbers ns found → slice_get ns l ≡ Some n → length made ≡ length links → ((j : ℕ) (link : LinkEntry) (m : Link) → j < length made → IsLink ks ns (get_or links j link) (get_or made j m)) → map (λ (m : Link). m.polygon) (links_to l made) ≡ map (λ (k : LinkEntry). place_of ks k.key) (filter (λ (k : LinkEntry). eqb k.land n) links)

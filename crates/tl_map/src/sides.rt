@@ -1,13 +1,12 @@
 //! What lies on the sides of chains.
 
-ghost use Rattle.std.specs.Prelude.{◌≡◌, ◌≤◌, ◌==◌, List, IfOk, OnOk, IfErr, MatchOption, MatchResult, map, count_by};
+ghost use Rattle.std.specs.Prelude.{◌≡◌, ◌≤◌, ◌==◌, List, IfOk, OnOk, IfErr, MatchOption, MatchResult, map, count_by, All};
 ghost use Rattle.std.specs.List.Sorted.{IsNonDecreasingBy, IsStrictlyIncreasing, IsPermutation};
 ghost use Rattle.tl_map.specs.declared.entry.SidesEntry.{SidesEntry};
 ghost use Rattle.tl_map.specs.Chains.{tlids};
 ghost use Rattle.tl_record.specs.declared.record.PolyKey.{PolyKey};
 ghost use Rattle.tl_map.specs.Keeping.Index.{Indexes};
-ghost use Rattle.tl_map.specs.Keeping.Sided.{sided_by, StopsSide, StopsSides, sides_tlids, IsUnpaired, ArePaired, StopsPairing};
-ghost use Rattle.tl_map.specs.TheMap.{side_of};
+ghost use Rattle.tl_map.specs.Keeping.Sided.{sided_by, IsSide, NamesKnown, StopsSide, StopsSides, sides_tlids, IsUnpaired, ArePaired, StopsPairing};
 
 use crate::chains::Chains;
 use crate::entry::SidesEntry;
@@ -34,7 +33,7 @@ pub struct ChainSides {
 
 /// What lies on a side of a chain whose record has this key there.
 fn resolve_side(index: &BTreeMap<PolyKey, u32>, key: Option<PolyKey>, tlid: u64) -> Result<Side, MapStop>
-    ensures { (ks : List PolyKey) → Indexes ks index.now → MatchResult result (λ s. s ≡ side_of ks key) (StopsSide ks key tlid) }
+    ensures { (ks : List PolyKey) → Indexes ks index.now → MatchResult result (IsSide ks key) (StopsSide ks key tlid) }
 {
     match key {
         None => Ok(Side::Outside),
@@ -52,6 +51,7 @@ pub fn resolve_sides(
     entries: &[SidesEntry],
 ) -> Result<Vec<ChainSides>, MapStop>
     ensures sides { (ks : List PolyKey) → Indexes ks index.now → IfOk result (λ sides. sides.items ≡ map (sided_by ks) entries.now) }
+    ensures known { (ks : List PolyKey) → Indexes ks index.now → OnOk result (All (NamesKnown ks) entries.now) }
     ensures stops { (ks : List PolyKey) → Indexes ks index.now → IfErr result (StopsSides ks entries.now) }
 {
     let mut sides = Vec::with_capacity(alloc, entries.len())?;

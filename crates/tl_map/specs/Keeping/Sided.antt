@@ -2,6 +2,7 @@ use Rattle.std.specs.Prelude.{◌≡◌, ℕ, ◌≤◌, ◌==◌, Option, Some,
 use Rattle.tl_record.specs.declared.record.PolyKey.{PolyKey}
 use Rattle.tl_map.specs.declared.entry.SidesEntry.{SidesEntry}
 use Rattle.tl_map.specs.declared.sides.ChainSides.{ChainSides}
+use Rattle.tl_map.specs.declared.sides.Side.{Side}
 use Rattle.tl_map.specs.declared.fault.MapStop.{MapStop}
 use Rattle.tl_map.specs.declared.fault.MapStop.TheVariants.{Memory, Fault}
 use Rattle.tl_map.specs.declared.fault.MapFault.{MapFault}
@@ -13,6 +14,15 @@ use Rattle.tl_map.specs.TheMap.{side_of}
 -- what lies on the sides of a record's chain
 abbrev pub sided_by : List PolyKey → SidesEntry → ChainSides
 sided_by ks s = record { left = side_of ks s.left; right = side_of ks s.right }
+
+-- the side of a key, which is one of the keys
+pub record IsSide (ks : List PolyKey) (key : Option PolyKey) (s : Side) : Type 0 where
+  pub is : s ≡ side_of ks key
+  pub known : (k : PolyKey) → key ≡ Some k → Contains ks k
+
+-- the keys of both sides are among the keys
+abbrev pub NamesKnown : List PolyKey → SidesEntry → Type 0
+NamesKnown ks s = (k : PolyKey) → Names s k → Contains ks k
 
 -- a side's key isn't one of the keys
 abbrev pub StopsSide : List PolyKey → Option PolyKey → ℕ → MapStop → Type 0
