@@ -10,3 +10,6 @@ pub mod RecordLemmas
 pub mod MoveLemmas
 pub mod ReadOn
 pub mod PlainLemmas
+pub mod Filled
+pub mod Lanes
+pub mod EightDigits

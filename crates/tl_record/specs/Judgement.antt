@@ -4,6 +4,7 @@ use Rattle.tl_geom.specs.declared.point.Point.{Point}
 use Rattle.tl_record.specs.declared.layout.Layout.{Layout}
 use Rattle.tl_record.specs.declared.layout.ChainColumns.{ChainColumns}
 use Rattle.tl_record.specs.declared.layout.ShapeColumns.{ShapeColumns}
+use Rattle.tl_record.specs.declared.layout.CellColumns.{CellColumns}
 use Rattle.tl_record.specs.declared.layout.SidesColumns.{SidesColumns}
 use Rattle.tl_record.specs.declared.layout.KeyColumns.{KeyColumns}
 use Rattle.tl_record.specs.declared.layout.PolyPointColumns.{PolyPointColumns}
@@ -122,13 +123,31 @@ abbrev pub side_at : Field → Field → KeyColumns → List ℕ → Result (Opt
 side_at cenid_name polyid_name columns line =
     if is_blank_field (number_spelt (field line columns.polyid)) then Ok None else (key_at cenid_name polyid_name columns line >>= λ key. Ok (Some key))
 
--- type I: the polygons on both sides of a chain
+-- the id that a zero-cell id's field gives: blanks are none, and neither is 0
+abbrev pub optional_id : Field → Spelt ℕ → Result (Option ℕ) Cause
+optional_id name Blank = Ok None
+optional_id name (Value number) = Ok (if number == 0 then None else Some number)
+optional_id name Unreadable = Err (BadField name)
+
+abbrev pub id_at : Field → Range → List ℕ → Result (Option ℕ) Cause
+id_at name columns line = optional_id name (number_spelt (field line columns))
+
+-- the zero-cell ids of a chain's start and its end, where the layout has columns for them
+abbrev pub cells_at : Option CellColumns → List ℕ → Result (Option ℕ × Option ℕ) Cause
+cells_at None line = Ok (None, None)
+cells_at (Some columns) line = do
+  start ← id_at field_name.Tzids columns.start line
+  end ← id_at field_name.Tzide columns.end line
+  Ok (start, end)
+
+-- type I: the polygons on both sides of a chain, and the zero-cell ids of its start and its end
 unfoldable pub sides_record : SidesColumns → List ℕ → Result Record Cause
 sides_record columns line = do
   tlid ← number_at field_name.Tlid columns.tlid line
+  cells ← cells_at columns.cells line
   left ← side_at field_name.CenidL field_name.PolyidL columns.left line
   right ← side_at field_name.CenidR field_name.PolyidR columns.right line
-  Ok (Sides tlid left right)
+  Ok (Sides tlid cells.0 cells.1 left right)
 
 -- type P: a polygon and its internal point
 unfoldable pub poly_point_record : PolyPointColumns → List ℕ → Result Record Cause

@@ -1,9 +1,12 @@
--- The column table of the TIGER/Line files of 2006, as data: this project's own profile of the documentation.
-use Rattle.std.specs.Prelude.{[], ◌∷◌}
-use Rattle.tl_record.specs.Range.{columns}
+-- The column table of the TIGER/Line files of 2006, as data: this project's own profile of the documentation, with what
+-- may be chosen of type I.
+use Rattle.std.specs.Prelude.{[], ◌∷◌, Option, Some, None, false, if◌then◌else◌}
+use Rattle.tl_record.specs.Range.{Range, columns}
+use Rattle.tl_record.specs.declared.options.Options.{Options}
 use Rattle.tl_record.specs.declared.layout.Layout.{Layout}
 use Rattle.tl_record.specs.declared.layout.ChainColumns.{ChainColumns}
 use Rattle.tl_record.specs.declared.layout.ShapeColumns.{ShapeColumns}
+use Rattle.tl_record.specs.declared.layout.CellColumns.{CellColumns}
 use Rattle.tl_record.specs.declared.layout.SidesColumns.{SidesColumns}
 use Rattle.tl_record.specs.declared.layout.KeyColumns.{KeyColumns}
 use Rattle.tl_record.specs.declared.layout.PolyPointColumns.{PolyPointColumns}
@@ -36,10 +39,19 @@ tiger_2006_shape = record {
       record { long = columns 190 199; lat = columns 200 208 } ∷ [];
 }
 
+-- the TLID of type I: in the files as they were released, FILE stands before it in columns 6 to 10
+abbrev pub sides_tlid : Options → Range
+sides_tlid options = if options.released then columns 11 20 else columns 6 15
+
+-- TZIDS and TZIDE of type I, where the zero-cell ids are read
+abbrev pub sides_cells : Options → Option CellColumns
+sides_cells options = if options.zero_cells then Some (record { start = columns 21 30; end = columns 31 40 }) else None
+
 -- type I, with the left side's key and the right side's
-abbrev pub tiger_2006_sides : SidesColumns
-tiger_2006_sides = record {
-  tlid = columns 6 15;
+abbrev pub sides_with : Options → SidesColumns
+sides_with options = record {
+  tlid = sides_tlid options;
+  cells = sides_cells options;
   left = record { cenid = columns 41 45; polyid = columns 46 55 };
   right = record { cenid = columns 56 60; polyid = columns 61 70 };
 }
@@ -60,12 +72,17 @@ tiger_2006_landmark = record { land = columns 11 20; point = record { long = col
 abbrev pub tiger_2006_area_link : AreaLinkColumns
 tiger_2006_area_link = record { key = tiger_2006_key; land = columns 26 35 }
 
-abbrev pub tiger_2006 : Layout
-tiger_2006 = record {
+-- the column table with these options
+abbrev pub layout_with : Options → Layout
+layout_with options = record {
   chain = tiger_2006_chain;
   shape = tiger_2006_shape;
-  sides = tiger_2006_sides;
+  sides = sides_with options;
   poly_point = tiger_2006_poly_point;
   landmark = tiger_2006_landmark;
   area_link = tiger_2006_area_link;
 }
+
+-- the column table where nothing is chosen: TLID of type I in columns 6 to 15, and no zero-cell ids
+abbrev pub tiger_2006 : Layout
+tiger_2006 = layout_with (record { zero_cells = false; released = false })

@@ -1,7 +1,7 @@
 -- What is printed of a refused line: the text of each field's name, of each cause and of each stop.
 use Rattle.std.specs.Prelude.{ℕ, List, ◌++◌, codes, decimal}
 use Rattle.tl_record.specs.declared.stop.Field.{Field}
-use Rattle.tl_record.specs.declared.stop.Field.TheVariants.{Tlid, FrLong, FrLat, ToLong, ToLat, Rtsq, Long, Lat, CenidL, PolyidL, CenidR, PolyidR, Cenid, Polyid, PolyLong, PolyLat, Land, LaLong, LaLat}
+use Rattle.tl_record.specs.declared.stop.Field.TheVariants.{Tlid, FrLong, FrLat, ToLong, ToLat, Rtsq, Long, Lat, Tzids, Tzide, CenidL, PolyidL, CenidR, PolyidR, Cenid, Polyid, PolyLong, PolyLat, Land, LaLong, LaLat}
 use Rattle.tl_record.specs.declared.stop.Cause.{Cause}
 use Rattle.tl_record.specs.declared.stop.Cause.TheVariants.{LineTooLong, Missing, BadField, OutOfRange, TooManyLines}
 use Rattle.tl_record.specs.declared.stop.ReadStop.{ReadStop}
@@ -17,6 +17,8 @@ field_text ToLat = codes "TOLAT"
 field_text Rtsq = codes "RTSQ"
 field_text (Long pair) = codes "LONG" ++ decimal pair
 field_text (Lat pair) = codes "LAT" ++ decimal pair
+field_text Tzids = codes "TZIDS"
+field_text Tzide = codes "TZIDE"
 field_text CenidL = codes "CENIDL"
 field_text PolyidL = codes "POLYIDL"
 field_text CenidR = codes "CENIDR"

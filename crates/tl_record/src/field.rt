@@ -3,10 +3,10 @@
 ghost use Rattle.std.specs.Prelude.{◌≡◌, ◌≤◌, ◌<◌, ◌^◌};
 ghost use Rattle.tl_record.specs.Fields.{field, is_cenid_byte, number_spelt, coordinate_spelt};
 ghost use Rattle.std.specs.List.{list_all};
-ghost use Rattle.tl_record.specs.Judgement.{required, number_at, coordinate, point, point_at, optional_point, optional_point_at, unless_zero, cenid_at, key_at, side_at};
+ghost use Rattle.tl_record.specs.Judgement.{required, number_at, coordinate, point, point_at, optional_point, optional_point_at, unless_zero, cenid_at, key_at, side_at, optional_id, id_at, cells_at};
 
 use crate::columns::{ColumnRange, Columns, FiveColumns};
-use crate::layout::{KeyColumns, PointColumns};
+use crate::layout::{CellColumns, KeyColumns, PointColumns};
 use crate::number::{Spelt, coordinate_spelt, number_spelt};
 use crate::record::PolyKey;
 use crate::stop::{Cause, Field};
@@ -163,4 +163,36 @@ pub(crate) fn side_at(
         return Ok(None);
     }
     Ok(Some(key_at(cenid_name, polyid_name, columns, line)?))
+}
+
+fn optional_id(name: Field, spelt: Spelt<u64>) -> Result<Option<u64>, Cause>
+    ensures { result ≡ optional_id name spelt }
+{
+    match spelt {
+        Spelt::Blank | Spelt::Value(0) => Ok(None),
+        Spelt::Value(id) => Ok(Some(id)),
+        Spelt::Unreadable => Err(Cause::BadField(name)),
+    }
+}
+
+/// A zero-cell id, where one is given: blanks are none, and neither is 0.
+fn id_at(name: Field, columns: ColumnRange, line: &Columns<'_>) -> Result<Option<u64>, Cause>
+    ensures { result ≡ id_at name columns line.now }
+{
+    optional_id(name, number_spelt_at(columns, line))
+}
+
+/// The zero-cell ids of a chain's start and its end. Without columns for them no byte is looked at.
+pub(crate) fn cells_at(
+    columns: Option<CellColumns>,
+    line: &Columns<'_>,
+) -> Result<(Option<u64>, Option<u64>), Cause>
+    ensures { result ≡ cells_at columns line.now }
+{
+    let Some(cells) = columns else {
+        return Ok((None, None));
+    };
+    let start = id_at(Field::Tzids, cells.start, line)?;
+    let end = id_at(Field::Tzide, cells.end, line)?;
+    Ok((start, end))
 }

@@ -5,7 +5,9 @@ ghost use Rattle.tl_record.specs.Lines.{content};
 ghost use Rattle.tl_record.specs.Judgement.{judgement, content_judgement, chain_record, shape_record, sides_record, poly_point_record, landmark_record, area_link_record, shape_pairs, sequence_number, judged};
 
 use crate::columns::Columns;
-use crate::field::{key_at, number_at, optional_point_at, point_at, side_at, unless_zero};
+use crate::field::{
+    cells_at, key_at, number_at, optional_point_at, point_at, side_at, unless_zero,
+};
 use crate::layout::{
     AreaLinkColumns, ChainColumns, LandmarkColumns, Layout, PointColumns, PolyPointColumns,
     ShapeColumns, SidesColumns,
@@ -98,9 +100,16 @@ fn sides_record(columns: &SidesColumns, line: &Columns<'_>) -> Result<Record, Ca
     ensures { result ≡ sides_record columns.now line.now }
 {
     let tlid = number_at(Field::Tlid, columns.tlid, line)?;
+    let (start_cell, end_cell) = cells_at(columns.cells, line)?;
     let left = side_at(Field::CenidL, Field::PolyidL, &columns.left, line)?;
     let right = side_at(Field::CenidR, Field::PolyidR, &columns.right, line)?;
-    Ok(Record::Sides { tlid, left, right })
+    Ok(Record::Sides {
+        tlid,
+        start_cell,
+        end_cell,
+        left,
+        right,
+    })
 }
 
 #[tactic(auto, unfolding(crate::specs::Judgement::poly_point_record))]

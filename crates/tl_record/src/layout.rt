@@ -1,10 +1,11 @@
 //! Which columns hold which field.
 
-ghost use Rattle.tl_record.specs.Layout.{tiger_2006, tiger_2006_chain, tiger_2006_shape, tiger_2006_sides, tiger_2006_key, tiger_2006_poly_point, tiger_2006_landmark, tiger_2006_area_link};
+ghost use Rattle.tl_record.specs.Layout.{tiger_2006, layout_with, sides_with, sides_tlid, sides_cells, tiger_2006_chain, tiger_2006_shape, tiger_2006_key, tiger_2006_poly_point, tiger_2006_landmark, tiger_2006_area_link};
 ghost use Rattle.std.specs.Prelude.{◌≡◌};
 ghost use Rattle.tl_record.specs.Range.{columns, IsRange};
 
 use crate::columns::{ColumnRange, FiveColumns};
+use crate::options::Options;
 use crate::record::PAIRS;
 
 /// Where a point's longitude and latitude stand.
@@ -37,10 +38,18 @@ pub struct KeyColumns {
     pub polyid: ColumnRange,
 }
 
-/// The columns of type I, the polygons on both sides of a chain.
+/// Where the zero-cell ids of a chain's start and its end stand.
+#[derive(Clone, Copy, Debug)]
+pub struct CellColumns {
+    pub start: ColumnRange,
+    pub end: ColumnRange,
+}
+
+/// The columns of type I, the polygons on both sides of a chain. `cells` is `None` where the zero-cell ids aren't read.
 #[derive(Clone, Copy, Debug)]
 pub struct SidesColumns {
     pub tlid: ColumnRange,
+    pub cells: Option<CellColumns>,
     pub left: KeyColumns,
     pub right: KeyColumns,
 }
@@ -119,11 +128,34 @@ fn tiger_2006_shape() -> ShapeColumns
     }
 }
 
-fn tiger_2006_sides() -> SidesColumns
-    ensures { result ≡ tiger_2006_sides }
+fn sides_tlid(options: Options) -> ColumnRange
+    ensures { result ≡ sides_tlid options }
+{
+    if options.released {
+        ColumnRange::new(11, 20)
+    } else {
+        ColumnRange::new(6, 15)
+    }
+}
+
+fn sides_cells(options: Options) -> Option<CellColumns>
+    ensures { result ≡ sides_cells options }
+{
+    if !options.zero_cells {
+        return None;
+    }
+    Some(CellColumns {
+        start: ColumnRange::new(21, 30),
+        end: ColumnRange::new(31, 40),
+    })
+}
+
+fn sides_with(options: Options) -> SidesColumns
+    ensures { result ≡ sides_with options }
 {
     SidesColumns {
-        tlid: ColumnRange::new(6, 15),
+        tlid: sides_tlid(options),
+        cells: sides_cells(options),
         left: KeyColumns {
             cenid: FiveColumns::new(41),
             polyid: ColumnRange::new(46, 55),
@@ -171,16 +203,24 @@ fn tiger_2006_area_link() -> AreaLinkColumns
     }
 }
 
-/// The column table of the TIGER/Line files of 2006, in this project's own profile of the documentation.
-pub fn tiger_2006() -> Layout
-    ensures { result ≡ tiger_2006 }
+/// The column table of the TIGER/Line files of 2006, in this project's own profile of the documentation, with what the
+/// options choose of type I.
+pub fn layout_with(options: Options) -> Layout
+    ensures { result ≡ layout_with options }
 {
     Layout {
         chain: tiger_2006_chain(),
         shape: tiger_2006_shape(),
-        sides: tiger_2006_sides(),
+        sides: sides_with(options),
         poly_point: tiger_2006_poly_point(),
         landmark: tiger_2006_landmark(),
         area_link: tiger_2006_area_link(),
     }
+}
+
+/// The column table where nothing is chosen: `layout_with(Options::default())`.
+pub fn tiger_2006() -> Layout
+    ensures { result ≡ tiger_2006 }
+{
+    layout_with(Options::default())
 }

@@ -15,6 +15,7 @@ mod layout;
 mod line_buffer;
 mod meter;
 mod number;
+mod options;
 mod reader;
 mod record;
 mod sink;
@@ -22,16 +23,18 @@ mod source;
 mod stop;
 #[cfg(test)]
 mod tests;
+mod word;
 
 pub use columns::{ColumnRange, Columns, FiveColumns};
 pub use field::{MAX_LATITUDE, MAX_LONGITUDE};
 pub use judge::{Judgement, MAX_LINE_BYTES, MAX_LINES, judge_line};
 pub use layout::{
-    AreaLinkColumns, ChainColumns, KeyColumns, LandmarkColumns, Layout, PointColumns,
-    PolyPointColumns, ShapeColumns, SidesColumns, tiger_2006,
+    AreaLinkColumns, CellColumns, ChainColumns, KeyColumns, LandmarkColumns, Layout, PointColumns,
+    PolyPointColumns, ShapeColumns, SidesColumns, layout_with, tiger_2006,
 };
 pub use meter::{Meter, MeterOut};
 pub use number::Spelt;
+pub use options::Options;
 pub use reader::RecordReader;
 pub use record::{PAIRS, PolyKey, Record};
 pub use sink::Sink;

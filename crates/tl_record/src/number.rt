@@ -1,7 +1,11 @@
 //! What the bytes of a field spell.
 
-ghost use Rattle.std.specs.Prelude.{◌≡◌, ◌≤◌, ◌^◌, length};
-ghost use Rattle.tl_record.specs.Fields.{without_leading_blanks, without_trailing_blanks, trimmed, digits_spell, IsBelow, negated, not_negated, number_spelt, coordinate_spelt};
+ghost use Rattle.std.specs.Prelude.{◌≡◌, ◌<◌, ◌≤◌, ◌^◌, true, length, IfSome};
+ghost use Rattle.std.specs.List.{list_all};
+ghost use Rattle.std.specs.Char.{is_ascii_digit};
+ghost use Rattle.tl_record.specs.Fields.{without_leading_blanks, without_trailing_blanks, trimmed, decimal, digits_spell, IsBelow, negated, not_negated, number_spelt, coordinate_spelt};
+
+use crate::word::eight_digits;
 
 /// What a field's bytes spell, where it holds a number.
 #[derive(Clone, Copy, Debug, PartialEq, Eq)]
@@ -43,12 +47,40 @@ fn trimmed(bytes: &[u8]) -> &[u8]
     without_trailing_blanks(without_leading_blanks(bytes))
 }
 
+/// The value of bytes that are eight or nine decimal digits.
+fn long_number(bytes: &[u8]) -> Option<u64>
+    ensures digits { IfSome result (λ _. list_all is_ascii_digit bytes.now ≡ true) }
+    ensures some { IfSome result (λ _. 0 < length bytes.now) }
+    ensures value { IfSome result (λ value. value ≡ decimal bytes.now) }
+    ensures fits { IfSome result (λ value. value < 10 ^ 9) }
+{
+    if let Ok(eight) = <[u8; 8]>::try_from(bytes) {
+        return eight_digits(eight);
+    }
+    let [first, rest @ ..] = bytes else {
+        return None;
+    };
+    let Ok(eight) = <[u8; 8]>::try_from(rest) else {
+        return None;
+    };
+    if !first.is_ascii_digit() {
+        return None;
+    }
+    let Some(low) = eight_digits(eight) else {
+        return None;
+    };
+    Some((*first - b'0') as u64 * 100_000_000 + low)
+}
+
 /// The value of one or more decimal digits.
 fn digits_spell(bytes: &[u8]) -> Spelt<u64>
     requires { length bytes.now ≤ 18 }
     ensures value { result ≡ digits_spell bytes.now }
     ensures fits { IsBelow (10 ^ 18) result }
 {
+    if let Some(value) = long_number(bytes) {
+        return Spelt::Value(value);
+    }
     if bytes.is_empty() {
         return Spelt::Unreadable;
     }
@@ -95,9 +127,27 @@ pub fn number_spelt(bytes: &[u8]) -> Spelt<u64>
     }
 }
 
-/// What the bytes of a longitude's or a latitude's field spell: digits with at most one sign directly before them, with
-/// blanks round both.
-pub fn coordinate_spelt(bytes: &[u8]) -> Spelt<i64>
+/// What the bytes of a longitude's or a latitude's field spell that is filled, as the Census Bureau writes them: a sign
+/// and eight or nine digits.
+fn filled_spelt(bytes: &[u8]) -> Option<i64>
+    ensures { IfSome result (λ value. coordinate_spelt bytes.now ≡ Spelt.Value value) }
+{
+    let [sign, digits @ ..] = bytes else {
+        return None;
+    };
+    let Some(value) = long_number(digits) else {
+        return None;
+    };
+    match sign {
+        b'-' => Some(0 - value as i64),
+        b'+' => Some(value as i64),
+        _ => None,
+    }
+}
+
+/// What the bytes of such a field spell where blanks may stand round it.
+#[inline(never)]
+fn trimmed_spelt(bytes: &[u8]) -> Spelt<i64>
     requires { length bytes.now ≤ 18 }
     ensures { result ≡ coordinate_spelt bytes.now }
 {
@@ -106,5 +156,17 @@ pub fn coordinate_spelt(bytes: &[u8]) -> Spelt<i64>
         [b'-', digits @ ..] => negated(digits_spell(digits)),
         [b'+', digits @ ..] => not_negated(digits_spell(digits)),
         digits => not_negated(digits_spell(digits)),
+    }
+}
+
+/// What the bytes of a longitude's or a latitude's field spell: digits with at most one sign directly before them, with
+/// blanks round both.
+pub fn coordinate_spelt(bytes: &[u8]) -> Spelt<i64>
+    requires { length bytes.now ≤ 18 }
+    ensures { result ≡ coordinate_spelt bytes.now }
+{
+    match filled_spelt(bytes) {
+        Some(value) => Spelt::Value(value),
+        None => trimmed_spelt(bytes),
     }
 }

@@ -6,14 +6,15 @@ ghost use Rattle.std.specs.Io.KnownBytes.{IsAtEnd, Keeps, prepend_known};
 ghost use Rattle.tl_record.specs.Limits.{most_lines, most_line_bytes};
 ghost use Rattle.tl_record.specs.declared.layout.Layout.{Layout};
 ghost use Rattle.tl_record.specs.Lines.{line_feeds};
-ghost use Rattle.tl_record.specs.Layout.{tiger_2006};
+ghost use Rattle.tl_record.specs.Layout.{tiger_2006, layout_with};
 ghost use Rattle.tl_record.specs.Judgement.{judgement, judgement as judgement_of};
 ghost use Rattle.tl_record.specs.Records.{records_of};
 ghost use Rattle.tl_record.specs.NextLine.{Shows, CountsFetch};
 
 use crate::judge::{Judgement, MAX_LINE_BYTES, MAX_LINES, judge_line};
-use crate::layout::{Layout, tiger_2006};
+use crate::layout::{Layout, layout_with};
 use crate::line_buffer::LineBuffer;
+use crate::options::Options;
 use crate::record::Record;
 use crate::source::Source;
 use crate::stop::{Cause, ReadStop};
@@ -118,9 +119,20 @@ impl<R: Source> RecordReader<R> {
         ensures skipped { skipped_of result ≡ 0 }
         ensures standing { standing_of result ≡ Standing.Reading }
     {
+        RecordReader::with(source, Options::default())
+    }
+
+    /// A reader of the source's records, by that column table with what the options choose of type I.
+    pub fn with(source: R, options: Options) -> RecordReader<R>
+        ensures source { source_of result ≡ source }
+        ensures records { outcome R.remaining result ≡ option_map (records_of (layout_with options)) (R.remaining source) }
+        ensures lines { lines_of result ≡ 0 }
+        ensures skipped { skipped_of result ≡ 0 }
+        ensures standing { standing_of result ≡ Standing.Reading }
+    {
         RecordReader {
             source,
-            layout: tiger_2006(),
+            layout: layout_with(options),
             buffer: LineBuffer::new(),
             lines: 0,
             skipped: 0,

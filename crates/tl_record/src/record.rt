@@ -30,9 +30,12 @@ pub enum Record {
         rtsq: u16,
         pairs: [Option<Point>; PAIRS],
     },
-    /// Type I: the polygons on both sides of a chain, seen from its start to its end. `None` is outside of the county.
+    /// Type I: the polygons on both sides of a chain, seen from its start to its end, where `None` is outside of the
+    /// county; and the zero-cell ids of its start and its end, which name nodes, where they are read and given.
     Sides {
         tlid: u64,
+        start_cell: Option<u64>,
+        end_cell: Option<u64>,
         left: Option<PolyKey>,
         right: Option<PolyKey>,
     },

@@ -15,6 +15,8 @@ pub enum Field {
     Long(u8),
     /// The latitude of the shape pair with this number, from 1.
     Lat(u8),
+    Tzids,
+    Tzide,
     CenidL,
     PolyidL,
     CenidR,
@@ -44,6 +46,8 @@ impl fmt::Display for Field {
             Field::Rtsq => write!(f, "RTSQ"),
             Field::Long(pair) => write!(f, "LONG{pair}"),
             Field::Lat(pair) => write!(f, "LAT{pair}"),
+            Field::Tzids => write!(f, "TZIDS"),
+            Field::Tzide => write!(f, "TZIDE"),
             Field::CenidL => write!(f, "CENIDL"),
             Field::PolyidL => write!(f, "POLYIDL"),
             Field::CenidR => write!(f, "CENIDR"),

@@ -4,6 +4,5 @@ mod fields;
 mod lines;
 mod plain;
 mod readers;
-mod sources;
 mod texts;
 mod types;

@@ -1,41 +1,63 @@
 //! How fields are spelt: the examples of the reading rules.
 
-use crate::number::{Spelt, coordinate_spelt, number_spelt};
+use crate::number::{coordinate_spelt, number_spelt};
+use std::test::Fail;
+
+// Each row is a field's bytes, an equals sign, and what they spell.
+const COORDINATES: &str = "-087654321=Value(-87654321)
++180000000=Value(180000000)
++180000001=Value(180000001)
+-999999999=Value(-999999999)
++00000000=Value(0)
+-00000000=Value(0)
+-98765432=Value(-98765432)
+ 12345678 =Value(12345678)
+        -0=Value(0)
++00000000 =Value(0)
++ 12345678=Unreadable
+1234 56789=Unreadable
++1234567/9=Unreadable
++12345678:=Unreadable
++:2345678=Unreadable
+-/2345678=Unreadable
+-1234567 9=Unreadable
++         =Unreadable
++-12345678=Unreadable
+++12345678=Unreadable
+*123456789=Unreadable
+123456789-=Unreadable
+1234567\089=Unreadable
+-12345678\u{7f}=Unreadable
+1234567890=Value(1234567890)
+123456789=Value(123456789)
+          =Blank
+=Blank";
+
+const NUMBERS: &str = "0000000001=Value(1)
+9999999999=Value(9999999999)
+  42      =Value(42)
++000000001=Unreadable
+-000000001=Unreadable
+1        1=Unreadable
+\t       11=Unreadable
+          =Blank
+=Blank";
 
 #[test]
-fn coordinates_are_spelt_so(rt: HostRuntime) {
-    for (bytes, wanted) in [
-        (b"-087654321", Spelt::Value(-87_654_321)),
-        (b" 12345678 ", Spelt::Value(12_345_678)),
-        (b"+180000000", Spelt::Value(180_000_000)),
-        (b"+180000001", Spelt::Value(180_000_001)),
-        (b"        -0", Spelt::Value(0)),
-        (b"+00000000 ", Spelt::Value(0)),
-        (b"+ 12345678", Spelt::Unreadable),
-        (b"1234 56789", Spelt::Unreadable),
-        (b"+         ", Spelt::Unreadable),
-        (b"+-12345678", Spelt::Unreadable),
-        (b"123456789-", Spelt::Unreadable),
-        (b"1234567\x0089", Spelt::Unreadable),
-        (b"          ", Spelt::Blank),
-    ] {
-        assert_eq!(rt; coordinate_spelt(bytes), wanted);
+fn fields_are_spelt_so(rt: HostRuntime) -> Result<(), Fail> {
+    for row in COORDINATES.lines() {
+        let (field, wanted) = row.split_once('=').unwrap_or(("", row));
+        let bytes = field.as_bytes();
+        assert!(rt; bytes.len() <= 10);
+        let spelt = format!(in rt.alloc(); "{:?}", coordinate_spelt(bytes))?;
+        assert_eq!(rt; spelt.as_str(), wanted);
     }
-}
-
-#[test]
-fn numbers_are_spelt_so(rt: HostRuntime) {
-    for (bytes, wanted) in [
-        (b"0000000001", Spelt::Value(1)),
-        (b"9999999999", Spelt::Value(9_999_999_999)),
-        (b"  42      ", Spelt::Value(42)),
-        (b"+000000001", Spelt::Unreadable),
-        (b"-000000001", Spelt::Unreadable),
-        (b"1        1", Spelt::Unreadable),
-        (b"\t       11", Spelt::Unreadable),
-        (b"          ", Spelt::Blank),
-    ] {
-        assert_eq!(rt; number_spelt(bytes), wanted);
+    for row in NUMBERS.lines() {
+        let (field, wanted) = row.split_once('=').unwrap_or(("", row));
+        let bytes = field.as_bytes();
+        assert!(rt; bytes.len() <= 10);
+        let spelt = format!(in rt.alloc(); "{:?}", number_spelt(bytes))?;
+        assert_eq!(rt; spelt.as_str(), wanted);
     }
-    assert_eq!(rt; number_spelt(b""), Spelt::Blank);
+    Ok(())
 }

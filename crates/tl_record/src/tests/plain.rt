@@ -1,12 +1,13 @@
 //! A plain, slow program whose contract is the definition of a text's records. It has the whole text before it.
 
 ghost use Rattle.std.specs.Prelude.{◌≡◌, ◌+◌, ◌≤◌, length, IfOk, take, drop};
-ghost use Rattle.tl_record.specs.Layout.{tiger_2006};
+ghost use Rattle.tl_record.specs.Layout.{layout_with};
 ghost use Rattle.tl_record.specs.Lines.{first_line, after_first_line};
 ghost use Rattle.tl_record.specs.Records.{Records, records_of};
 
 use crate::judge::{Judgement, judge_line};
-use crate::layout::tiger_2006;
+use crate::layout::layout_with;
+use crate::options::Options;
 use crate::record::Record;
 use crate::stop::Cause;
 use std::alloc::{AllocError, Global};
@@ -45,11 +46,15 @@ fn after_line(text: &[u8], len: usize) -> &[u8]
 }
 
 /// The records of a text.
-pub fn plain_records(alloc: Global, text: &[u8]) -> Result<PlainRecords, AllocError>
-    ensures { IfOk result (λ plain. records_of tiger_2006 text.now
+pub fn plain_records(
+    alloc: Global,
+    text: &[u8],
+    options: Options,
+) -> Result<PlainRecords, AllocError>
+    ensures { IfOk result (λ plain. records_of (layout_with options) text.now
         ≡ record { entries = plain.entries.items; refusal = plain.refusal; skipped = plain.skipped }) }
 {
-    let layout = tiger_2006();
+    let layout = layout_with(options);
     let mut entries = Vec::new(alloc);
     let mut skipped = 0u64;
     let mut number = 0u64;

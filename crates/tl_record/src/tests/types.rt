@@ -1,136 +1,85 @@
 //! One line of each type: full width, fields that fail, and what stands in columns that aren't read.
 
-use crate::record::{PAIRS, PolyKey, Record};
-use crate::stop::{Cause, Field, ReadStop};
-use crate::tests::lines::{agrees, line_of, map_b, read_all};
-use crate::tests::readers::Pieces;
+use crate::options::Options;
+use crate::tests::lines::{agrees, answer_of, line_of};
 use std::alloc::{AllocError, Global};
 use std::test::Fail;
-use tl_geom::Point;
 
-/// What the reader stops at, where the text is this line.
-fn stop_at(
-    alloc: Global,
-    width: usize,
-    fields: &[(usize, &[u8])],
-) -> Result<Option<ReadStop>, AllocError> {
-    let line = line_of(alloc, width, fields)?;
-    Ok(read_all(alloc, Pieces::new(&line, 33, 0))?.stop)
-}
+// Each row is a line's fields, an equals sign, and the answer.
+const LINES: &str = "|1:1|191:+000000010+00000010+000000010+00000010=refused line 1 L2 Missing TLID
+|1:1|6:+000000001|191:+000000010+00000010+000000010+00000010=refused line 1 L3 BadField TLID
+|1:1|15:1|201:+00000010+000000010+00000010=refused line 1 L2 Missing FRLONG
+|1:1|15:1|191:+180000001+00000010+000000010+00000010=refused line 1 L4 OutOfRange FRLONG
+|1:1|15:1|191:+000000010+ 1234567+000000010+00000010=refused line 1 L3 BadField FRLAT
+|1:1|15:1|191:+000000010+        +000000010+00000010=refused line 1 L3 BadField FRLAT
+|1:1|15:1|191:+000000010-90000001+000000010+00000010=refused line 1 L4 OutOfRange FRLAT
+|1:1|15:1|191:+000000010+00000010-180000001+00000010=refused line 1 L4 OutOfRange TOLONG
+|1:1|15:1|191:+000000010+00000010+000000010=refused line 1 L2 Missing TOLAT
+|1:1|6:0000000001|191: 12345678 +90000000-180000000-90000000=Chain { tlid: 1, from: Point { x: 12345678, y: 90000000 }, to: Point { x: -180000000, y: -90000000 } }
+|1:2|15:1|19:+000000010=refused line 1 L2 Missing RTSQ
+|1:2|15:1|18:1|19:+000000010=refused line 1 L2 Missing LAT1
+|1:2|15:1|18:1|190:+000000010+90000001=refused line 1 L4 OutOfRange LAT10
+|1:I|15:1|41:A\u{7f}001|55:x=refused line 1 L3 BadField CENIDL
+|1:I|15:1|56:A0001|70:-=refused line 1 L3 BadField POLYIDR
+|1:I|15:1|41:\u{1}\u{1}\u{1}\u{1}\u{1}=Sides { tlid: 1, start_cell: None, end_cell: None, left: None, right: None }
+|1:I|15:1|21:      5  5         7=Sides { tlid: 1, start_cell: None, end_cell: None, left: None, right: None }
+|1:P|11:A0001|26:+000000020+00000020=refused line 1 L2 Missing POLYID
+|1:P|11:A0001|25:1|26:+000000020+90000020=refused line 1 L4 OutOfRange POLYLAT
+|1:P|11:A0001|25:1|26:+0000=refused line 1 L2 Missing POLYLAT
+|1:7|55:-087654321+41000000=refused line 1 L2 Missing LAND
+|1:7|20:7|55:-087654321=refused line 1 L2 Missing LALAT
+|1:7|20:7|65:+41000000=refused line 1 L2 Missing LALONG
+|1:7|20:7|55:x=refused line 1 L3 BadField LALONG
+|1:7|20:7|65:x=refused line 1 L2 Missing LALONG
+|1:7|20:7|55:+000000000+00000000=Landmark { land: 7, point: Some(Point { x: 0, y: 0 }) }
+|1:8|11:A0001|25:1=refused line 1 L2 Missing LAND
+|1:4|6:x=1 passed over";
+
+// Zero-cell ids: 0 is none, an id is never missing, and a bad one is told behind TLID and before CENIDL.
+const LINES_WITH_CELLS: &str =
+    "|1:I|15:1|21:         5         7=Sides { tlid: 1, start_cell: Some(5), end_cell: Some(7), left: None, right: None }
+|1:I|15:1|21:0000000000=Sides { tlid: 1, start_cell: None, end_cell: None, left: None, right: None }
+|1:I|15:1|31:9999999999=Sides { tlid: 1, start_cell: None, end_cell: Some(9999999999), left: None, right: None }
+|1:I|15:1|21:      5  5=refused line 1 L3 BadField TZIDS
+|1:I|15:1|21:         5+000000007=refused line 1 L3 BadField TZIDE
+|1:I|15:1|21:x|31:x=refused line 1 L3 BadField TZIDS
+|1:I|15:x|21:x=refused line 1 L3 BadField TLID
+|1:I|15:1|31:x|41:\u{1}|55:1=refused line 1 L3 BadField TZIDE";
+
+// Type I of the released files, where columns 6 to 10 hold FILE.
+const RELEASED_LINES: &str =
+    "|1:I|6:24001 647000001|55:1=Sides { tlid: 647000001, start_cell: None, end_cell: None, left: Some(PolyKey { cenid: [32, 32, 32, 32, 32], polyid: 1 }), right: None }
+|1:I|6:24001|21:      5  5=refused line 1 L2 Missing TLID
+|1:I|6:240 1|11:2400164702=Sides { tlid: 2400164702, start_cell: None, end_cell: None, left: None, right: None }";
+
+const RELEASED_LINES_WITH_CELLS: &str =
+    "|1:I|6:24001        12         5         7=Sides { tlid: 12, start_cell: Some(5), end_cell: Some(7), left: None, right: None }";
 
 #[test]
-fn fields_that_fail_are_named(rt: HostRuntime) -> Result<(), Fail> {
-    let lines: [(&[(usize, &[u8])], Cause); 13] = [
-        // A landmark with a longitude alone, a latitude alone, and no number.
-        (
-            &[(1, b"7"), (20, b"7"), (55, b"-087654321")],
-            Cause::Missing(Field::LaLat),
-        ),
-        (
-            &[(1, b"7"), (20, b"7"), (65, b"+41000000")],
-            Cause::Missing(Field::LaLong),
-        ),
-        (&[(1, b"7")], Cause::Missing(Field::Land)),
-        // The order of fields decides: a bad longitude comes before a blank latitude, and a blank one before a bad latitude.
-        (
-            &[(1, b"7"), (20, b"7"), (55, b"x")],
-            Cause::BadField(Field::LaLong),
-        ),
-        (
-            &[(1, b"7"), (20, b"7"), (65, b"x")],
-            Cause::Missing(Field::LaLong),
-        ),
-        (
-            &[(1, b"2"), (15, b"1"), (18, b"1"), (19, b"+000000010")],
-            Cause::Missing(Field::Lat(1)),
-        ),
-        (
-            &[
-                (1, b"2"),
-                (15, b"1"),
-                (18, b"1"),
-                (190, b"+000000010"),
-                (200, b"+90000001"),
-            ],
-            Cause::OutOfRange(Field::Lat(10)),
-        ),
-        // A side's CENID is tested where its POLYID isn't blank.
-        (
-            &[
-                (1, b"I"),
-                (15, b"1"),
-                (41, b"\x01\x01\x01\x01\x01"),
-                (55, b"1"),
-            ],
-            Cause::BadField(Field::CenidL),
-        ),
-        (
-            &[(1, b"I"), (15, b"1"), (41, b"A\x7f001"), (55, b"x")],
-            Cause::BadField(Field::CenidL),
-        ),
-        (
-            &[(1, b"I"), (15, b"1"), (56, b"A0001"), (70, b"-")],
-            Cause::BadField(Field::PolyidR),
-        ),
-        (
-            &[(1, b"P"), (11, b"A0001"), (26, b"+000000020+00000020")],
-            Cause::Missing(Field::Polyid),
-        ),
-        (
-            &[
-                (1, b"P"),
-                (11, b"A0001"),
-                (25, b"1"),
-                (26, b"+000000020+90000020"),
-            ],
-            Cause::OutOfRange(Field::PolyLat),
-        ),
-        (
-            &[(1, b"8"), (11, b"A0001"), (25, b"1")],
-            Cause::Missing(Field::Land),
-        ),
-    ];
-    for (fields, cause) in lines {
-        let stop = ReadStop::Refused { line: 1, cause };
-        assert!(rt; stop_at(rt.alloc(), 208, fields)? == Some(stop));
+fn lines_are_answered_so(rt: HostRuntime) -> Result<(), Fail> {
+    for (rows, zero_cells, released) in [
+        (LINES, false, false),
+        (LINES_WITH_CELLS, true, false),
+        (RELEASED_LINES, false, true),
+        (RELEASED_LINES_WITH_CELLS, true, true),
+    ] {
+        let options = Options {
+            zero_cells,
+            released,
+        };
+        for row in rows.lines() {
+            let (fields, wanted) = row.split_once('=').unwrap_or(("", row));
+            let line = line_of(rt.alloc(), fields)?;
+            agrees(&rt, rt.alloc(), &line, options)?;
+            assert_eq!(rt; answer_of(rt.alloc(), &line, options)?.as_str(), wanted);
+        }
     }
     Ok(())
 }
 
-#[test]
-fn an_outside_side_may_have_any_cenid(rt: HostRuntime) -> Result<(), Fail> {
-    let line = line_of(
-        rt.alloc(),
-        70,
-        &[(1, b"I"), (15, b"1"), (41, b"\x01\x01\x01\x01\x01")],
-    )?;
-    let given = read_all(rt.alloc(), Pieces::new(&line, 9, 0))?;
-    let sides = Record::Sides {
-        tlid: 1,
-        left: None,
-        right: None,
-    };
-    assert!(rt; given.entries.as_slice() == [(1, sides)].as_slice());
-    Ok(())
-}
-
-#[test]
-fn a_polygon_cut_before_its_latitude(rt: HostRuntime) -> Result<(), Fail> {
-    let text = map_b(rt.alloc())?;
-    // Line 4 begins behind 361 bytes.
-    let len = (361 + 30).min(text.len());
-    let given = read_all(rt.alloc(), Pieces::new(&text[..len], 1, 0))?;
-    let stop = ReadStop::Refused {
-        line: 4,
-        cause: Cause::Missing(Field::PolyLat),
-    };
-    assert!(rt; given.stop == Some(stop));
-    Ok(())
-}
-
-/// A line of junk with these fields.
-fn junk_of(alloc: Global, width: usize, fields: &[(usize, &[u8])]) -> Result<Vec<u8>, AllocError> {
-    let mut line = line_of(alloc, width, fields)?;
+/// A line of junk with these fields, in which a tilde stands for a blank.
+fn junk_of(alloc: Global, fields: &str) -> Result<Vec<u8>, AllocError> {
+    let mut line = line_of(alloc, fields)?;
     for byte in line.iter_mut() {
         if *byte == b'~' {
             *byte = b' ';
@@ -138,122 +87,27 @@ fn junk_of(alloc: Global, width: usize, fields: &[(usize, &[u8])]) -> Result<Vec
             *byte = 0xff;
         }
     }
-    line.extend_from_slice(b"\r\n")?;
     Ok(line)
 }
 
-/// A type 2 line of full width. `~` stands for a blank, and blanks for junk.
-fn full_shape(alloc: Global) -> Result<Vec<u8>, AllocError> {
-    let mut fields = vec![in alloc; (1, b"2".as_slice()), (6, b"~~~~~~~~12~~3")]?;
-    for column in [19, 38, 57, 76, 95, 114, 133, 152, 171, 190] {
-        fields.push((column, b"-000000001+00000002"))?;
-    }
-    junk_of(alloc, 208, &fields)
-}
+// Lines of full width, which end in a carriage return.
+const FULL_LINES: &str =
+    "|1:1|6:~~~~~~~~12|191:-180000000-90000000+180000000+90000000\r=Chain { tlid: 12, from: Point { x: -180000000, y: -90000000 }, to: Point { x: 180000000, y: 90000000 } }
+|1:I|6:~~~~~~~~12|41:A0001~~~~~~~~~3~~~~~~~~~~~~~~4|127: \r=Sides { tlid: 12, start_cell: None, end_cell: None, left: Some(PolyKey { cenid: [65, 48, 48, 48, 49], polyid: 3 }), right: Some(PolyKey { cenid: [32, 32, 32, 32, 32], polyid: 4 }) }
+|1:P|11:~~~~~~~~~~~~~~4+000000005~00000006|45: \r=PolyPoint { key: PolyKey { cenid: [32, 32, 32, 32, 32], polyid: 4 }, point: Point { x: 5, y: 6 } }
+|1:7|11:~~~~~~~~~7|55:~~~~~~~~~~~~~~~~~~~|74: \r=Landmark { land: 7, point: None }
+|1:8|11:A0001~~~~~~~~~3~~~~~~~~~7|36: \r=AreaLink { key: PolyKey { cenid: [65, 48, 48, 48, 49], polyid: 3 }, land: 7 }
+|1:2|6:~~~~~~~~12~~3-000000001+00000002-000000003+00000004+000000000+00000000~~~~~~~~~~~~~~~~~~~-000000001+00000002-000000003+00000004-000000001+00000002-000000003+00000004-000000001+00000002-179999999+89999999\r=Shape { tlid: 12, rtsq: 3, pairs: [Some(Point { x: -1, y: 2 }), Some(Point { x: -3, y: 4 }), None, None, Some(Point { x: -1, y: 2 }), Some(Point { x: -3, y: 4 }), Some(Point { x: -1, y: 2 }), Some(Point { x: -3, y: 4 }), Some(Point { x: -1, y: 2 }), Some(Point { x: -179999999, y: 89999999 })] }";
 
 #[test]
 fn other_columns_have_no_meaning(rt: HostRuntime) -> Result<(), Fail> {
-    let mut text = junk_of(
-        rt.alloc(),
-        228,
-        &[
-            (1, b"1"),
-            (6, b"~~~~~~~~12"),
-            (191, b"-180000000-90000000+180000000+90000000"),
-        ],
-    )?;
-    text.extend_from_slice(&full_shape(rt.alloc())?)?;
-    text.extend_from_slice(&junk_of(
-        rt.alloc(),
-        127,
-        &[
-            (1, b"I"),
-            (6, b"~~~~~~~~12"),
-            (41, b"A0001~~~~~~~~~3~~~~~~~~~~~~~~4"),
-        ],
-    )?)?;
-    text.extend_from_slice(&junk_of(
-        rt.alloc(),
-        45,
-        &[(1, b"P"), (11, b"~~~~~~~~~~~~~~4+000000005~00000006")],
-    )?)?;
-    text.extend_from_slice(&junk_of(
-        rt.alloc(),
-        74,
-        &[(1, b"7"), (11, b"~~~~~~~~~7"), (55, b"~~~~~~~~~~~~~~~~~~~")],
-    )?)?;
-    text.extend_from_slice(&junk_of(
-        rt.alloc(),
-        36,
-        &[(1, b"8"), (11, b"A0001~~~~~~~~~3~~~~~~~~~7")],
-    )?)?;
-    text.extend_from_slice(&junk_of(rt.alloc(), 80, &[(1, b"4")])?)?;
-    agrees(&rt, rt.alloc(), &text)?;
-
-    let given = read_all(rt.alloc(), Pieces::new(&text, 1, 0))?;
-    let some = |polyid: u64| PolyKey {
-        cenid: *b"A0001",
-        polyid,
-    };
-    let blank = PolyKey {
-        cenid: *b"     ",
-        polyid: 4,
-    };
-    let wanted = [
-        (
-            1,
-            Record::Chain {
-                tlid: 12,
-                from: Point {
-                    x: -180_000_000,
-                    y: -90_000_000,
-                },
-                to: Point {
-                    x: 180_000_000,
-                    y: 90_000_000,
-                },
-            },
-        ),
-        (
-            2,
-            Record::Shape {
-                tlid: 12,
-                rtsq: 3,
-                pairs: [Some(Point { x: -1, y: 2 }); PAIRS],
-            },
-        ),
-        (
-            3,
-            Record::Sides {
-                tlid: 12,
-                left: Some(some(3)),
-                right: Some(blank),
-            },
-        ),
-        (
-            4,
-            Record::PolyPoint {
-                key: blank,
-                point: Point { x: 5, y: 6 },
-            },
-        ),
-        (
-            5,
-            Record::Landmark {
-                land: 7,
-                point: None,
-            },
-        ),
-        (
-            6,
-            Record::AreaLink {
-                key: some(3),
-                land: 7,
-            },
-        ),
-    ];
-    assert!(rt; given.stop.is_none());
-    assert!(rt; given.entries.as_slice() == wanted.as_slice());
-    assert_eq!(rt; given.skipped, 1);
+    for row in FULL_LINES.split('\n') {
+        let (fields, wanted) = row.split_once('=').unwrap_or(("", row));
+        let line = junk_of(rt.alloc(), fields)?;
+        assert_eq!(rt;
+            answer_of(rt.alloc(), &line, Options::default())?.as_str(),
+            wanted
+        );
+    }
     Ok(())
 }

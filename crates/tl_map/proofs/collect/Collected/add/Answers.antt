@@ -39,7 +39,7 @@ returns-in-Shape c = λ rs h.
 pub returns-in-Sides : goal.returns-in-Sides
 returns-in-Sides c = λ rs h.
     let other : IsOther c.args.next.now = elim c.in-Sides.is [
-      | inl sides ↦ rw sides.3 tt
+      | inl sides ↦ rw sides.5 tt
       | inr others ↦ elim others [ inl polygon ↦ rw polygon.2 tt | inr rest ↦ elim rest [ inl landmark ↦ rw landmark.2 tt | inr link ↦ rw link.2 tt ] ]
     ] in
     Collects-other rs c.args.next.now c.args.self.now other h
@@ -47,7 +47,7 @@ returns-in-Sides c = λ rs h.
 pub returns-in-Sides-2 : goal.returns-in-Sides-2
 returns-in-Sides-2 c = λ rs h.
     let other : IsOther c.args.next.now = elim c.in-Sides.is [
-      | inl sides ↦ rw sides.3 tt
+      | inl sides ↦ rw sides.5 tt
       | inr others ↦ elim others [ inl polygon ↦ rw polygon.2 tt | inr rest ↦ elim rest [ inl landmark ↦ rw landmark.2 tt | inr link ↦ rw link.2 tt ] ]
     ] in
     Collects-other rs c.args.next.now c.args.self.now other h
@@ -55,7 +55,7 @@ returns-in-Sides-2 c = λ rs h.
 pub returns-in-Sides-3 : goal.returns-in-Sides-3
 returns-in-Sides-3 c = λ rs h.
     let other : IsOther c.args.next.now = elim c.in-Sides.is [
-      | inl sides ↦ rw sides.3 tt
+      | inl sides ↦ rw sides.5 tt
       | inr others ↦ elim others [ inl polygon ↦ rw polygon.2 tt | inr rest ↦ elim rest [ inl landmark ↦ rw landmark.2 tt | inr link ↦ rw link.2 tt ] ]
     ] in
     Collects-other rs c.args.next.now c.args.self.now other h
@@ -63,7 +63,7 @@ returns-in-Sides-3 c = λ rs h.
 pub returns-in-Sides-4 : goal.returns-in-Sides-4
 returns-in-Sides-4 c = λ rs h.
     let other : IsOther c.args.next.now = elim c.in-Sides.is [
-      | inl sides ↦ rw sides.3 tt
+      | inl sides ↦ rw sides.5 tt
       | inr others ↦ elim others [ inl polygon ↦ rw polygon.2 tt | inr rest ↦ elim rest [ inl landmark ↦ rw landmark.2 tt | inr link ↦ rw link.2 tt ] ]
     ] in
     Collects-other rs c.args.next.now c.args.self.now other h

@@ -1,5 +1,5 @@
 use Rattle.std.proofs.Common.{◌≡◌, ◌≤◌, ◌+◌, length}
-use Rattle.tl_record.specs.Layout.{tiger_2006}
+use Rattle.tl_record.specs.Layout.{layout_with}
 use Rattle.tl_record.specs.Records.{records_of}
 use Rattle.tl_record.proofs.MoveLemmas.{coming_of}
 use Rattle.tl_record.proofs.PlainLemmas.{with_entries}
@@ -9,7 +9,7 @@ abbrev pub invariant-loop-rest : goal.invariant-loop-rest
 invariant-loop-rest l = record {
   within : l.number + length l.rest ≤ length l.text;
   some_skipped : l.skipped ≤ l.number;
-  found : with_entries l.entries.items (coming_of tiger_2006 l.number l.skipped l.rest) ≡ records_of tiger_2006 l.text;
+  found : with_entries l.entries.items (coming_of (layout_with l.fn.options) l.number l.skipped l.rest) ≡ records_of (layout_with l.fn.options) l.text;
 }
 
 abbrev pub decreases-loop-rest : goal.decreases-loop-rest
