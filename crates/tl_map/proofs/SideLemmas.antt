@@ -18,10 +18,10 @@ stops_right ks entries i d stop lt why =
     inr ((get_or entries i d).tlid, why.0, why.1, (i, get_or entries i d, lt, get_or_default entries i (get_or entries i d) d lt, (refl, inr why.2)), why.3)
 
 -- the sides of one record more
-pub sides_more : (ks : List PolyKey) (entries : List SidesEntry) (i : ℕ) (d : SidesEntry) (sides new : List ChainSides) (left right : Side) → i < length entries → sides ≡ map (sided_by ks) (take i entries) → IsSide ks (get_or entries i d).left left → IsSide ks (get_or entries i d).right right → new ≡ sides ++ record { left = left; right = right } ∷ [] → new ≡ map (sided_by ks) (take (i + 1) entries)
+pub sides_more : (ks : List PolyKey) (entries : List SidesEntry) (i : ℕ) (d : SidesEntry) (sides new : List ChainSides) (left right : Side) → i < length entries → sides ≡ map (sided_by ks) (take i entries) → IsSide ks (get_or entries i d).left left → IsSide ks (get_or entries i d).right right → new ≡ sides ++ record { left = left; right = right; start_cell = (get_or entries i d).start_cell; end_cell = (get_or entries i d).end_cell } ∷ [] → new ≡ map (sided_by ks) (take (i + 1) entries)
 sides_more ks entries i d sides new left right lt before l r added =
-    added ∙ ap (λ xs. xs ++ record { left = left; right = right } ∷ []) before
-    ∙ ap (λ x. map (sided_by ks) (take i entries) ++ x ∷ []) (λ i. record { left = l.is i; right = r.is i }) ∙ sym (map_more (sided_by ks) entries i d lt)
+    added ∙ ap (λ xs. xs ++ record { left = left; right = right; start_cell = (get_or entries i d).start_cell; end_cell = (get_or entries i d).end_cell } ∷ []) before
+    ∙ ap (λ x. map (sided_by ks) (take i entries) ++ x ∷ []) (λ j. record { left = l.is j; right = r.is j; start_cell = (get_or entries i d).start_cell; end_cell = (get_or entries i d).end_cell }) ∙ sym (map_more (sided_by ks) entries i d lt)
 
 -- the keys of one record more are known
 pub known_more : (ks : List PolyKey) (entries : List SidesEntry) (i : ℕ) (d : SidesEntry) (left right : Side) → i < length entries → IsSide ks (get_or entries i d).left left → IsSide ks (get_or entries i d).right right → ((j : ℕ) (e : SidesEntry) → j < i → NamesKnown ks (get_or entries j e)) → (j : ℕ) (e : SidesEntry) → j < i + 1 → NamesKnown ks (get_or entries j e)

@@ -16,7 +16,7 @@ use Rattle.tl_map.specs.Chains.{CompleteChain, AreChainsOf}
 
 -- what a type I record says
 abbrev pub sides_at : Record → Option SidesEntry
-sides_at (Sides t l r) = Some (record { tlid = t; left = l; right = r })
+sides_at (Sides t s e l r) = Some (record { tlid = t; start_cell = s; end_cell = e; left = l; right = r })
 sides_at other = None
 
 -- what a type P record says
@@ -82,12 +82,15 @@ first_landmarks rs = firsts (λ e. e.land) (landmarks_in rs)
 abbrev pub linked_to : List PolyKey → List LinkEntry → ℕ → List ℕ
 linked_to ks links n = firsts (λ p. p) (map (λ l. place_of ks l.key) (filter (λ l. l.land == n) links))
 
--- a chain of the map: its TLID, its points from start to end, and what lies on its left and on its right
+-- a chain of the map: its TLID, its points from start to end, what lies on its left and on its right, and the zero-cell
+-- ids of its start and its end where they are read and given
 pub record MapChain : Type 0 where
   pub tlid : ℕ
   pub points : List Point
   pub left : Side
   pub right : Side
+  pub start_cell : Option ℕ
+  pub end_cell : Option ℕ
 
 -- a landmark of the map: its LAND, its point where it has one, and the numbers of the polygons linked to it
 pub record MapLandmark : Type 0 where
@@ -112,6 +115,8 @@ pub record IsSided (rs : List Record) (c : MapChain) : Type 0 where
   pub tlid : sides.tlid ≡ c.tlid
   pub left : c.left ≡ side_of (keys (polygons_in rs)) sides.left
   pub right : c.right ≡ side_of (keys (polygons_in rs)) sides.right
+  pub start_cell : c.start_cell ≡ sides.start_cell
+  pub end_cell : c.end_cell ≡ sides.end_cell
 
 -- the landmark of a first type 7 record
 abbrev pub landmark_of : List Record → LandmarkEntry → MapLandmark

@@ -36,9 +36,17 @@ impl AreaRecords {
         ensures { (rs : List Record) → KeepsAreas rs self.old → OnOk result (KeepsAreas (rs ++ next.now ∷ []) self.new) }
     {
         match next {
-            Record::Sides { tlid, left, right } => {
+            Record::Sides {
+                tlid,
+                start_cell,
+                end_cell,
+                left,
+                right,
+            } => {
                 self.sides.push(SidesEntry {
                     tlid: *tlid,
+                    start_cell: *start_cell,
+                    end_cell: *end_cell,
                     left: *left,
                     right: *right,
                 })?;

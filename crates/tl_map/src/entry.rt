@@ -36,6 +36,8 @@ pub struct ShapeEntry {
 #[derive(Clone, Copy, Debug)]
 pub struct SidesEntry {
     pub tlid: u64,
+    pub start_cell: Option<u64>,
+    pub end_cell: Option<u64>,
     pub left: Option<PolyKey>,
     pub right: Option<PolyKey>,
 }

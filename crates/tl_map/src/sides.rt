@@ -24,11 +24,13 @@ pub enum Side {
     Polygon(u32),
 }
 
-/// What lies on both sides of a chain, seen from its start to its end.
+/// What lies on both sides of a chain, seen from its start to its end, and the zero-cell ids of its start and its end.
 #[derive(Clone, Copy, Debug)]
 pub struct ChainSides {
     pub left: Side,
     pub right: Side,
+    pub start_cell: Option<u64>,
+    pub end_cell: Option<u64>,
 }
 
 /// What lies on a side of a chain whose record has this key there.
@@ -58,7 +60,12 @@ pub fn resolve_sides(
     for entry in entries {
         let left = resolve_side(index, entry.left, entry.tlid)?;
         let right = resolve_side(index, entry.right, entry.tlid)?;
-        sides.push(ChainSides { left, right })?;
+        sides.push(ChainSides {
+            left,
+            right,
+            start_cell: entry.start_cell,
+            end_cell: entry.end_cell,
+        })?;
     }
     Ok(sides)
 }

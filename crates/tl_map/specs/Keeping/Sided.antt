@@ -13,7 +13,7 @@ use Rattle.tl_map.specs.TheMap.{side_of}
 
 -- what lies on the sides of a record's chain
 abbrev pub sided_by : List PolyKey → SidesEntry → ChainSides
-sided_by ks s = record { left = side_of ks s.left; right = side_of ks s.right }
+sided_by ks s = record { left = side_of ks s.left; right = side_of ks s.right; start_cell = s.start_cell; end_cell = s.end_cell }
 
 -- the side of a key, which is one of the keys
 pub record IsSide (ks : List PolyKey) (key : Option PolyKey) (s : Side) : Type 0 where

@@ -16,7 +16,7 @@ returns-in_err-right-clause-stops c = λ ks h.
 
 pub loop-entry-preserved : goal.loop-entry-preserved
 loop-entry-preserved c =
-    let d : SidesEntry = record { tlid = 0; left = None; right = None } in
+    let d : SidesEntry = record { tlid = 0; start_cell = None; end_cell = None; left = None; right = None } in
     record {
       sides = λ ks h. sides_more ks c.args.entries.now c.loop-entry.entry-index d c.loop-entry.sides.items _ c.in_ok-left.left c.in_ok-right.right c.loop-entry-test.true (c.loop-entry.invariant.sides ks h) (c.in_ok-left.ensures ks h) (c.in_ok-right.ensures ks h) c.in_ok-push.ensures.items;
       known = λ ks h. known_more ks c.args.entries.now c.loop-entry.entry-index d c.in_ok-left.left c.in_ok-right.right c.loop-entry-test.true (c.in_ok-left.ensures ks h) (c.in_ok-right.ensures ks h) (c.loop-entry.invariant.known ks h);

@@ -18,7 +18,7 @@ returns-then-place-sides c =
     let at = told ts i c.tlid-tlid.result lt c.tlid-tlid.ensures in
     inl (_, refl, present ts i _ lt at, absent ts us i _ c.requires.chains c.requires.sides c.loop-c.invariant.same lt at (λ within. elim c.then-place-sides.branch [
       | then-place-sides-via-then-place-sides w ↦ absurd (omega (arith, w.if-place-sides.true, within, wide))
-      | then-place-sides-via-else-place-sides+then-tlid-sides w ↦ let h = tlid_at c.args.sides.now i (record { tlid = 0; left = None; right = None }) (omega (arith, within, wide)) in omega (arith, h, w.if-tlid-sides.true)
+      | then-place-sides-via-else-place-sides+then-tlid-sides w ↦ let h = tlid_at c.args.sides.now i (record { tlid = 0; start_cell = None; end_cell = None; left = None; right = None }) (omega (arith, within, wide)) in omega (arith, h, w.if-tlid-sides.true)
     ]))
 
 pub returns-then-sides-place : goal.returns-then-sides-place
@@ -31,7 +31,7 @@ returns-then-sides-place c =
     let lt : i < length ts = omega (arith, c.loop-c-test.true, c.len-count.ensures, long) in
     let low : i < length us = omega (arith, c.loop-c.invariant.within, c.if-place-sides.false, wide) in
     let at = told ts i c.tlid-tlid.result lt c.tlid-tlid.ensures in
-    let of = tlid_at c.args.sides.now i (record { tlid = 0; left = None; right = None }) (omega (arith, low, wide)) in
+    let of = tlid_at c.args.sides.now i (record { tlid = 0; start_cell = None; end_cell = None; left = None; right = None }) (omega (arith, low, wide)) in
     inr (_, refl, present us i _ low of, absent us ts i _ c.requires.sides c.requires.chains (λ k h. sym (c.loop-c.invariant.same k h)) low of (λ within. omega (arith, at, c.if-sides-place.true)))
 
 pub loop-c-preserved : goal.loop-c-preserved
@@ -44,7 +44,7 @@ loop-c-preserved c =
     let lt : i < length ts = omega (arith, c.loop-c-test.true, c.len-count.ensures, long) in
     let low : i < length us = omega (arith, c.loop-c.invariant.within, c.if-place-sides.false, wide) in
     let at = told ts i c.tlid-tlid.result lt c.tlid-tlid.ensures in
-    let of = tlid_at c.args.sides.now i (record { tlid = 0; left = None; right = None }) (omega (arith, low, wide)) in
+    let of = tlid_at c.args.sides.now i (record { tlid = 0; start_cell = None; end_cell = None; left = None; right = None }) (omega (arith, low, wide)) in
     record {
       within = omega (arith, low, wide);
       same = same_more us ts i c.loop-c.invariant.same (omega (arith, at, of, c.if-tlid-sides.false, c.if-sides-place.false));
@@ -58,7 +58,7 @@ returns-then-sides-count c =
     let long = length-map c.args.chains.now.chains (λ (x : CompleteChain). x.tlid) in
     let wide = length-map c.args.sides.now (λ (s : SidesEntry). s.tlid) in
     let low : i < length us = omega (arith, c.if-sides-count.true, wide) in
-    let of = tlid_at c.args.sides.now i (record { tlid = 0; left = None; right = None }) (omega (arith, low, wide)) in
+    let of = tlid_at c.args.sides.now i (record { tlid = 0; start_cell = None; end_cell = None; left = None; right = None }) (omega (arith, low, wide)) in
     inr (_, refl, present us i _ low of, absent us ts i _ c.requires.sides c.requires.chains (λ k h. sym (c.loop-c.invariant.same k (omega (arith, h, c.loop-c-test.false)))) low of (λ within. absurd (omega (arith, within, long, c.len-count.ensures))))
 
 pub returns : goal.returns
