@@ -16,3 +16,4 @@ pub mod MarkLemmas
 pub mod ListedLemmas
 pub mod LinkedLemmas
 pub mod PairLemmas
+pub mod MapLemmas

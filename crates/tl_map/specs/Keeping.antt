@@ -8,3 +8,4 @@ pub mod Index
 pub mod Sided
 pub mod Areas
 pub mod Landmarks
+pub mod Mapped

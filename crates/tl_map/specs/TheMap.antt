@@ -98,11 +98,12 @@ pub record MapLandmark : Type 0 where
   pub point : Option Point
   pub polygons : List ℕ
 
--- a map
+-- a map, and how many lines were passed over where it was read
 pub record TheMap : Type 0 where
   pub chains : List MapChain
   pub polygons : List Polygon
   pub landmarks : List MapLandmark
+  pub skipped : ℕ
 
 -- a chain without its sides
 abbrev pub without_sides : MapChain → CompleteChain
@@ -129,3 +130,12 @@ pub record IsMapOf (rs : List Record) (m : TheMap) : Type 0 where
   pub sides : All (IsSided rs) m.chains
   pub polygons : m.polygons ≡ polygons_in rs
   pub landmarks : m.landmarks ≡ map (landmark_of rs) (first_landmarks rs)
+
+-- a look-up gives this chain
+pub record IsChain (found : Option MapChain) (tlid : ℕ) (points : List Point) (left right : Side) : Type 0 where
+  pub chain : MapChain
+  pub is : found ≡ Some chain
+  pub tlid_is : tlid ≡ chain.tlid
+  pub points_are : points ≡ chain.points
+  pub left_is : left ≡ chain.left
+  pub right_is : right ≡ chain.right

@@ -13,6 +13,7 @@ mod entry;
 mod fault;
 mod join;
 mod landmarks;
+mod map;
 mod passes;
 #[cfg(test)]
 mod plain;
@@ -25,6 +26,7 @@ pub use chains::Chains;
 pub use fault::{
     CHAIN_LIMIT, LANDMARK_LIMIT, Limited, MapFault, MapStop, POLYGON_LIMIT, SEGMENT_LIMIT,
 };
+pub use map::{Chain, Landmark, Map};
 pub use polygons::Polygon;
 pub use read::read_chains;
 pub use sides::Side;
