@@ -17,3 +17,4 @@ pub mod ListedLemmas
 pub mod LinkedLemmas
 pub mod PairLemmas
 pub mod MapLemmas
+pub mod MappedLemmas

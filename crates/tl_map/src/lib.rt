@@ -7,6 +7,7 @@
 
 mod areas;
 mod build;
+mod build_map;
 mod chains;
 mod collect;
 mod entry;
