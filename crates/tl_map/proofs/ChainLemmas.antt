@@ -1,5 +1,5 @@
 use Rattle.std.proofs.Common.{◌≡◌, ◌≢◌, ℕ, zero, suc, ◌+◌, ◌-◌, ◌<◌, ◌≤◌, Bool, true, false, cond, eqb, ◌⊎◌, inl, inr, List, [], ◌∷◌, ◌++◌, length, take, map, get_or, filter, sum_by, count_by, All, Contains, refl, sym, ap, ◌∙◌, arith, add-one}
-use Rattle.std.specs.Prelude.{Result, Ok, Err, IfOk, IfErr, OnOk, MatchResult}
+use Rattle.std.specs.Prelude.{Any, Result, Ok, Err, IfOk, IfErr, OnOk, MatchResult}
 use Rattle.std.specs.List.{dedup, flat_map}
 use Rattle.std.proofs.lemmas.Bool.{cases_Bool, eq-eqb, ne_eqb, eqb-true, false≢true}
 use Rattle.std.proofs.lemmas.List.{append-nil, take_all, length-map, get_or-map}
@@ -19,9 +19,9 @@ use Rattle.tl_map.specs.declared.fault.MapStop.{MapStop}
 use Rattle.tl_map.specs.declared.fault.MapStop.TheVariants.{Refused, Device, Memory, Fault}
 use Rattle.tl_map.specs.Chains.{is_chain, shape_count, pairs_up_to, pairs_of, used, same_point, points_between, segments_by, segments_of, CompleteChain, ChainList, tlids, segment_count, IsDrawn, AreChainsOf}
 use Rattle.tl_map.specs.Faults.{IsStray, IsDegenerate, AreJoined, IsTrueOf, HaveNoChainFault}
-use Rattle.tl_map.specs.Entries.{by_chain, AreChainEntries, entry_points, AreShapeEntries, chains_with, AreRising, has_tlid, shapes_with, ArePlaced, joined}
-use Rattle.tl_map.specs.Rows.{StopsJoin}
-use Rattle.tl_map.specs.Built.{AreSound, AreBuilt, StopsBuilding}
+use Rattle.tl_map.specs.Keeping.Entries.{by_chain, AreChainEntries, entry_points, AreShapeEntries, chains_with, AreRising, has_tlid, shapes_with, ArePlaced, joined}
+use Rattle.tl_map.specs.Keeping.Rows.{StopsJoin}
+use Rattle.tl_map.specs.Keeping.Built.{AreSound, AreBuilt, StopsBuilding}
 use Rattle.tl_map.proofs.CountLemmas.{none_counted, one_counted, sum_by-same, rising_keys_from_pairs}
 use Rattle.tl_map.proofs.SequenceLemmas.{numbered_from_placed}
 use Rattle.tl_map.proofs.GapLemmas.{used-append, shapes_with_is, IsNumbered-from_entries, pairs_more}
@@ -202,32 +202,32 @@ HaveNoChainFault-joined rs pool chains shapes are have sound room several few =
       in_sequence = λ t wrong. wrong (joined_all.numbered t);
       no_gap = joined_all.no_gap;
       not_degenerate = not_degenerate rs pool chains shapes are have sound.placed several;
-      not_too_many = not_too_many;
+      few_chains = λ many. omega (arith, many, chain_count_is rs chains are);
+      few_segments = λ many. omega (arith, many.1, few, segments_are rs pool chains shapes are have sound.placed);
     }
-  where
-    not_too_many : (what : Limited) → ¬ IsTrueOf rs (TooMany what)
-    not_too_many Chains many = omega (arith, many, chain_count_is rs chains are)
-    not_too_many Segments many = omega (arith, many.1, few, segments_are rs pool chains shapes are have sound.placed)
 
 -- what stops the join is true of the records
 pub StopsBuilding-joined : (rs : List Record) (pool : List Point) (chains : List ChainEntry) (shapes : List ShapeEntry) (stop : MapStop) → AreChainEntries rs chains → AreShapeEntries rs pool shapes → AreSound rs chains shapes → StopsJoin (map (joined pool shapes) chains) stop → StopsBuilding rs stop
-StopsBuilding-joined rs pool chains shapes Memory are have sound why = tt
-StopsBuilding-joined rs pool chains shapes Device are have sound why = why
-StopsBuilding-joined rs pool chains shapes (Refused line cause) are have sound why = why
-StopsBuilding-joined rs pool chains shapes (Fault (DegenerateChain t)) are have sound why = go chains refl
+StopsBuilding-joined rs pool chains shapes stop are have sound why = elim why [
+  | inl memory ↦ rw memory tt
+  | inr fault ↦ elim fault [
+    | inl one ↦ rw one.1 (degenerate one.0 one.2 chains refl)
+    | inr many ↦ rw many.0 (are_joined rs pool chains shapes are have sound, omega (arith, many.1, segments_are rs pool chains shapes are have sound.placed))
+  ]
+]
   where
     joined_all : AreJoined rs
     joined_all = are_joined rs pool chains shapes are have sound
 
-    go : (cs : List ChainEntry) → cs ≡ chains → IsDegenerate rs t
-    go [] e = let none : length (map (joined pool shapes) chains) ≡ 0 = length-map chains (joined pool shapes) ∙ ap length (sym e) in absurd (omega (arith, why.2, none))
-    go (x ∷ cs) e =
-        let k = why.0 in
-        let long : k < length chains = omega (arith, why.2, length-map chains (joined pool shapes)) in
+    degenerate : (t : ℕ) → Any (λ c. (t ≡ c.tlid) × (length c.points ≡ 1)) (map (joined pool shapes) chains) → (cs : List ChainEntry) → cs ≡ chains → IsDegenerate rs t
+    degenerate t found [] e = let none : length (map (joined pool shapes) chains) ≡ 0 = length-map chains (joined pool shapes) ∙ ap length (sym e) in absurd (omega (arith, found.2, none))
+    degenerate t found (x ∷ cs) e =
+        let k = found.0 in
+        let long : k < length chains = omega (arith, found.2, length-map chains (joined pool shapes)) in
         let c : ChainEntry = get_or chains k x in
-        let is : why.1 ≡ joined pool shapes c = sym why.3 ∙ get_or-map (joined pool shapes) chains k x why.1 long in
-        let at : t ≡ c.tlid = why.4.0 ∙ ap (λ (d : CompleteChain). d.tlid) is in
-        let one : length (joined pool shapes c).points ≡ 1 = sym (ap (λ (d : CompleteChain). length d.points) is) ∙ why.4.1 in
+        let is : found.1 ≡ joined pool shapes c = sym found.3 ∙ get_or-map (joined pool shapes) chains k x found.1 long in
+        let at : t ≡ c.tlid = found.4.0 ∙ ap (λ (d : CompleteChain). d.tlid) is in
+        let one : length (joined pool shapes c).points ≡ 1 = sym (ap (λ (d : CompleteChain). length d.points) is) ∙ found.4.1 in
         rw at (record {
           once = joined_all.once c.tlid;
           numbered = joined_all.numbered c.tlid;
@@ -237,13 +237,6 @@ StopsBuilding-joined rs pool chains shapes (Fault (DegenerateChain t)) are have 
           record_of_it = are.each k x long;
           one_point = sym (ap length (joined_is rs pool shapes c have sound.placed)) ∙ one;
         })
-StopsBuilding-joined rs pool chains shapes (Fault (TooMany Segments)) are have sound why =
-    (are_joined rs pool chains shapes are have sound, omega (arith, why, segments_are rs pool chains shapes are have sound.placed))
-StopsBuilding-joined rs pool chains shapes (Fault (TooMany Chains)) are have sound why = absurd why
-StopsBuilding-joined rs pool chains shapes (Fault (DuplicateChain t)) are have sound why = absurd why
-StopsBuilding-joined rs pool chains shapes (Fault (ShapeWithoutChain t)) are have sound why = absurd why
-StopsBuilding-joined rs pool chains shapes (Fault (ShapeSequence t)) are have sound why = absurd why
-StopsBuilding-joined rs pool chains shapes (Fault (ShapeGap t)) are have sound why = absurd why
 
 -- what the join gives is what the records have
 pub built : (rs : List Record) (pool : List Point) (chains : List ChainEntry) (shapes : List ShapeEntry) (skipped : ℕ) (r : Result ChainList MapStop) → AreChainEntries rs chains → AreShapeEntries rs pool shapes → AreSound rs chains shapes → length chains ≤ CHAIN_LIMIT → IfOk r (λ c. c ≡ record { chains = map (joined pool shapes) chains; skipped = skipped }) → OnOk r (All (λ c. length (joined pool shapes c).points ≢ 1) chains) → OnOk r (segment_count (map (joined pool shapes) chains) ≤ SEGMENT_LIMIT) → IfErr r (StopsJoin (map (joined pool shapes) chains)) → MatchResult r (AreBuilt rs skipped) (StopsBuilding rs)

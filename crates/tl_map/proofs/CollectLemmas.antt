@@ -8,12 +8,12 @@ use Rattle.tl_geom.specs.declared.point.Point.{Point}
 use Rattle.tl_record.specs.declared.record.Record.{Record}
 use Rattle.tl_record.specs.declared.record.Record.TheVariants.{Chain, Shape}
 use Rattle.tl_map.specs.declared.collect.Collected.{Collected}
-use Rattle.tl_map.specs.Collected.{Collects}
+use Rattle.tl_map.specs.Keeping.Collected.{Collects}
 use Rattle.tl_map.specs.declared.entry.ChainEntry.{ChainEntry}
 use Rattle.tl_map.specs.declared.entry.ShapeEntry.{ShapeEntry}
 use Rattle.tl_map.specs.declared.entry.Fill.{Fill}
 use Rattle.tl_map.specs.Chains.{is_any_chain, chain_count, used, has_gap}
-use Rattle.tl_map.specs.Entries.{some_unused, fill_of, by_chain, by_shape, AreChainEntries, IsShapeEntry, AreShapeEntries}
+use Rattle.tl_map.specs.Keeping.Entries.{some_unused, fill_of, by_chain, by_shape, AreChainEntries, IsShapeEntry, AreShapeEntries}
 use Rattle.tl_map.proofs.CountLemmas.{sum_by-same}
 use Rattle.tl_map.proofs.GapLemmas.{used-append, some_unused-append, has_gap-append}
 

@@ -2,8 +2,6 @@ use Rattle.std.proofs.Common.{eqb, Option, Some, None, MatchOption, ◌≡◌, �
 use Rattle.std.specs.Prelude.{IfSome}
 use Rattle.std.specs.Option.{option_eq}
 use Rattle.std.specs.List.Sorted.{IsStrictlyIncreasing}
-use Rattle.tl_map.specs.declared.entry.ChainEntry.{ChainEntry}
-use Rattle.tl_map.specs.Entries.{chains_with}
 use Rattle.std.proofs.lemmas.Bool.{eq-eqb, eqb-true, cases_lt}
 use Rattle.std.proofs.lemmas.List.{get_or-map, length-map}
 use Rattle.std.proofs.lemmas.List.Sums.{sum_by-cons, sum_by-take-le, sum_by-le, count_by_more_yes}
@@ -44,11 +42,11 @@ sum_by-same f g e (x ∷ xs) =
     omega (arith, sum_by-same f g e xs, e x, sum_by-cons f x xs, sum_by-cons g x xs)
 
 -- a key that is the one before stands twice
-pub repeat_found : (A : Type 0) (xs : List ChainEntry) (i t : ℕ) (d : ChainEntry) (previous : Option ℕ) → i < length xs → IfSome previous (λ u. (0 < i) × ((e : ChainEntry) → (get_or xs (i - 1) e).tlid ≡ u)) → (get_or xs i d).tlid ≡ t → option_eq eqb previous (Some t) ≡ true → MatchOption previous A (λ u. 2 ≤ chains_with u xs)
-repeat_found A xs i t d None h last here same = cc
-repeat_found A xs i t d (Some u) h last here same =
+pub repeat_found : {X : Type 0} (n : X → ℕ) (A : Type 0) (xs : List X) (i t : ℕ) (d : X) (previous : Option ℕ) → i < length xs → IfSome previous (λ u. (0 < i) × ((e : X) → n (get_or xs (i - 1) e) ≡ u)) → n (get_or xs i d) ≡ t → option_eq eqb previous (Some t) ≡ true → MatchOption previous A (λ u. 2 ≤ count_by (λ x. eqb (n x) u) xs)
+repeat_found n A xs i t d None h last here same = cc
+repeat_found n A xs i t d (Some u) h last here same =
     let u_is = eqb-true u t same in
-    two_counted (λ c. eqb c.tlid u) xs (i - 1) d (omega (arith, last.0)) (eq-eqb _ _ (last.1 d))
+    two_counted (λ c. eqb (n c) u) xs (i - 1) d (omega (arith, last.0)) (eq-eqb _ _ (last.1 d))
     (let at : i - 1 + 1 ≡ i = omega (arith, last.0) in rw at (eq-eqb _ _ (here ∙ sym u_is)))
 
 -- each key is below all later ones where it is below the next

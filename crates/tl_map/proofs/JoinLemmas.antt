@@ -6,13 +6,10 @@ use Rattle.tl_geom.specs.declared.point.Point.{Point}
 use Rattle.tl_map.specs.declared.entry.ChainEntry.{ChainEntry}
 use Rattle.tl_map.specs.declared.entry.ShapeEntry.{ShapeEntry}
 use Rattle.std.proofs.lemmas.List.Sums.{sum_by-take-le}
-use Rattle.tl_map.specs.declared.fault.Limited.TheVariants.{Chains, Segments}
-use Rattle.tl_map.specs.declared.fault.MapFault.TheVariants.{DuplicateChain, ShapeWithoutChain, ShapeSequence, ShapeGap, DegenerateChain, TooMany}
 use Rattle.tl_map.specs.declared.fault.MapStop.{MapStop}
-use Rattle.tl_map.specs.declared.fault.MapStop.TheVariants.{Refused, Device, Memory, Fault}
 use Rattle.tl_map.specs.Chains.{CompleteChain, segment_count}
-use Rattle.tl_map.specs.Entries.{has_tlid, chains_with, AreRising, AreInOrder, joined}
-use Rattle.tl_map.specs.Rows.{drawn_by, StopsAdding, StopsJoin}
+use Rattle.tl_map.specs.Keeping.Entries.{has_tlid, chains_with, AreRising, AreInOrder, joined}
+use Rattle.tl_map.specs.Keeping.Rows.{drawn_by, StopsAdding, StopsJoin}
 use Rattle.tl_map.proofs.StrayLemmas.{no_chain}
 
 filter_none : {X : Type 0} (p : X → Bool) (xs : List X) → All (λ x. p x ≡ false) xs → filter p xs ≡ []
@@ -26,7 +23,7 @@ filter_all p (x ∷ xs) h =
     rw (All-head (λ x. p x ≡ true) x xs h) (ap (λ ys. x ∷ ys) (filter_all p xs (All-tail (λ x. p x ≡ true) x xs h)))
 
 -- the part from s to e passes, and nothing else does
-filter_part : {X : Type 0} (p : X → Bool) (xs : List X) (s e : ℕ) → s ≤ e → e ≤ length xs → ((k : ℕ) (d : X) → k < s → p (get_or xs k d) ≡ false) → ((k : ℕ) (d : X) → s ≤ k → k < e → p (get_or xs k d) ≡ true) → ((k : ℕ) (d : X) → e ≤ k → k < length xs → p (get_or xs k d) ≡ false) → filter p xs ≡ take (e - s) (drop s xs)
+pub filter_part : {X : Type 0} (p : X → Bool) (xs : List X) (s e : ℕ) → s ≤ e → e ≤ length xs → ((k : ℕ) (d : X) → k < s → p (get_or xs k d) ≡ false) → ((k : ℕ) (d : X) → s ≤ k → k < e → p (get_or xs k d) ≡ true) → ((k : ℕ) (d : X) → e ≤ k → k < length xs → p (get_or xs k d) ≡ false) → filter p xs ≡ take (e - s) (drop s xs)
 filter_part p xs s e le within before between after =
     let part : List _ = take (e - s) (drop s xs) in
     let rest : List _ = drop (e - s) (drop s xs) in
@@ -103,20 +100,18 @@ ahead_first chains shapes rising known k d x low high some =
 
 -- what stops a chain stops the join
 pub stops_join : (J : ChainEntry → CompleteChain) (chains : List ChainEntry) (i : ℕ) (c : ChainEntry) (before : List CompleteChain) (drawn : CompleteChain) (stop : MapStop) → i < length chains → before ≡ map J (take i chains) → drawn ≡ J (get_or chains i c) → StopsAdding before drawn stop → StopsJoin (map J chains) stop
-stops_join J chains i c before drawn Memory h were is why = tt
-stops_join J chains i c before drawn Device h were is why = why
-stops_join J chains i c before drawn (Refused line cause) h were is why = why
-stops_join J chains i c before drawn (Fault (DegenerateChain t)) h were is why =
-    (i, drawn, (let long = length-map chains J in omega arith), get_or-map J chains i c drawn h ∙ sym is, why)
-stops_join J chains i c before drawn (Fault (TooMany Segments)) h were is why =
-    let parts : before ++ drawn ∷ [] ≡ take (i + 1) (map J chains) =
-    ap (λ cs. cs ++ drawn ∷ []) were ∙ ap (λ d. map J (take i chains) ++ d ∷ []) is ∙ sym (map_more J chains i c h) ∙ sym (take-map J (i + 1) chains) in
-    omega (arith, why, ap segment_count parts, sum_by-take-le (λ d. length d.points - 1) (map J chains) (i + 1))
-stops_join J chains i c before drawn (Fault (TooMany Chains)) h were is why = why
-stops_join J chains i c before drawn (Fault (DuplicateChain t)) h were is why = why
-stops_join J chains i c before drawn (Fault (ShapeWithoutChain t)) h were is why = why
-stops_join J chains i c before drawn (Fault (ShapeSequence t)) h were is why = why
-stops_join J chains i c before drawn (Fault (ShapeGap t)) h were is why = why
+stops_join J chains i c before drawn stop h were is why = elim why [
+  | inl memory ↦ inl memory
+  | inr fault ↦ elim fault [
+    | inl one ↦
+        let at : get_or (map J chains) i drawn ≡ drawn = get_or-map J chains i c drawn h ∙ sym is in
+        inr (inl (drawn.tlid, one.0, (i, drawn, (let long = length-map chains J in omega arith), at, (refl, one.1))))
+    | inr many ↦
+        let parts : before ++ drawn ∷ [] ≡ take (i + 1) (map J chains) =
+        ap (λ cs. cs ++ drawn ∷ []) were ∙ ap (λ d. map J (take i chains) ++ d ∷ []) is ∙ sym (map_more J chains i c h) ∙ sym (take-map J (i + 1) chains) in
+        inr (inr (many.0, omega (arith, many.1, ap segment_count parts, sum_by-take-le (λ d. length d.points - 1) (map J chains) (i + 1))))
+  ]
+]
 
 -- one more chain has several points
 pub several_more : (J : ChainEntry → CompleteChain) (chains : List ChainEntry) (i : ℕ) (c : ChainEntry) (drawn : CompleteChain) → i < length chains → drawn ≡ J (get_or chains i c) → length drawn.points ≢ 1 → ((k : ℕ) (d : ChainEntry) → k < i → length (J (get_or chains k d)).points ≢ 1) → (k : ℕ) (d : ChainEntry) → k < i + 1 → length (J (get_or chains k d)).points ≢ 1

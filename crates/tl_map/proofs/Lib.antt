@@ -8,3 +8,13 @@ pub mod CollectLemmas
 pub mod OrderLemmas
 pub mod ChainLemmas
 pub mod PlainLemmas
+pub mod IndexLemmas
+pub mod SideLemmas
+pub mod AreaLemmas
+pub mod LandmarkLemmas
+pub mod MarkLemmas
+pub mod ListedLemmas
+pub mod LinkedLemmas
+pub mod PairLemmas
+pub mod MapLemmas
+pub mod MappedLemmas

@@ -3,7 +3,7 @@ use Rattle.std.specs.Ordering.{nat_cmp, ordering_then, is_lt}
 use Rattle.std.proofs.lemmas.Bool.{cases_lt}
 use Rattle.std.proofs.lemmas.Bool.Decides.{nat_tests}
 use Rattle.tl_map.specs.declared.entry.ShapeEntry.{ShapeEntry}
-use Rattle.tl_map.specs.Entries.{Precedes, AreInOrder}
+use Rattle.tl_map.specs.Keeping.Entries.{Precedes, AreInOrder}
 
 -- neighbours that a sort by TLID and RTSQ leaves
 precedes_from_sort : (x y : ShapeEntry) → is_lt (ordering_then (nat_cmp y.tlid x.tlid) (nat_cmp y.rtsq x.rtsq)) ≡ false → Precedes x y

@@ -8,11 +8,11 @@ use Rattle.std.proofs.lemmas.List.Elements.{All-nil, All-head, All-tail, All-pus
 use Rattle.std.proofs.lemmas.List.Sums.{sum_by_push}
 use Rattle.tl_map.specs.declared.entry.ChainEntry.{ChainEntry}
 use Rattle.tl_map.specs.declared.entry.ShapeEntry.{ShapeEntry}
-use Rattle.tl_map.specs.Entries.{entry_points}
+use Rattle.tl_map.specs.Keeping.Entries.{entry_points}
 use Rattle.tl_geom.specs.declared.point.Point.{Point}
 use Rattle.tl_map.specs.declared.chains.ChainRow.{ChainRow}
 use Rattle.tl_map.specs.Chains.{CompleteChain, same_point, segment_count}
-use Rattle.tl_map.specs.Rows.{IsWithin, chain_in, chains_in, IsTable, dedup_after, drawn_through}
+use Rattle.tl_map.specs.Keeping.Rows.{IsWithin, chain_in, chains_in, IsTable, dedup_after, drawn_through}
 
 -- what is read of the chain of a row
 pub row_read : {Y : Type 0} (f : CompleteChain → Y) (points : List Point) (rows : List ChainRow) (i : ℕ) (row : ChainRow) → i < length rows → row ≡ get_or rows i row → slice_get (map f (chains_in points rows)) i ≡ Some (f (chain_in points row))

@@ -3,7 +3,7 @@ use Rattle.std.proofs.lemmas.Bool.{cases_lt, eq-eqb, ne_eqb}
 use Rattle.std.proofs.lemmas.List.{get_or_default}
 use Rattle.tl_map.specs.declared.entry.ChainEntry.{ChainEntry}
 use Rattle.tl_map.specs.declared.entry.ShapeEntry.{ShapeEntry}
-use Rattle.tl_map.specs.Entries.{chains_with, AreRising, has_tlid, shapes_with, AreInOrder}
+use Rattle.tl_map.specs.Keeping.Entries.{chains_with, AreRising, has_tlid, shapes_with, AreInOrder}
 use Rattle.tl_map.proofs.CountLemmas.{none_counted, one_counted}
 
 -- the chains passed so far and those passed now are all below the i-th shape

@@ -1,12 +1,16 @@
-use Rattle.std.specs.Prelude.{◌≡◌, ℕ, ◌<◌, ◌≤◌, true, List, length, count_by, Contains}
+-- Each fault of the records as a statement about the whole list of them, and the limits.
+use Rattle.std.specs.Prelude.{◌≡◌, ℕ, ◌<◌, ◌≤◌, ◌==◌, ◌⊎◌, true, Some, List, length, map, count_by, Any, Contains, slice_get}
 use Rattle.tl_geom.specs.declared.point.Point.{Point}
+use Rattle.tl_record.specs.declared.record.PolyKey.{PolyKey}
 use Rattle.tl_record.specs.declared.record.Record.{Record}
 use Rattle.tl_record.specs.declared.record.Record.TheVariants.{Chain}
 use Rattle.tl_map.specs.declared.fault.Limited.{Limited}
-use Rattle.tl_map.specs.declared.fault.Limited.TheVariants.{Chains, Segments}
+use Rattle.tl_map.specs.declared.fault.Limited.TheVariants.{Chains, Segments, Polygons, Landmarks}
 use Rattle.tl_map.specs.declared.fault.MapFault.{MapFault}
-use Rattle.tl_map.specs.declared.fault.MapFault.TheVariants.{DuplicateChain, ShapeWithoutChain, ShapeSequence, ShapeGap, DegenerateChain, TooMany}
+use Rattle.tl_map.specs.declared.fault.MapFault.TheVariants.{DuplicateChain, ShapeWithoutChain, ShapeSequence, ShapeGap, ChainWithoutSides, SidesWithoutChain, DuplicateSides, DuplicatePolygon, SideWithoutPolygon, LinkWithoutLandmark, LinkWithoutPolygon, DegenerateChain, TooMany}
 use Rattle.tl_map.specs.Chains.{is_chain, is_shape_at, shape_count, pairs_of, has_gap, points_between, segments_of, chain_count}
+use Rattle.tl_map.specs.declared.entry.SidesEntry.{SidesEntry}
+use Rattle.tl_map.specs.TheMap.{sides_in, polygons_in, landmarks_in, links_in, keys, first_landmarks}
 
 -- two type 1 records have TLID t
 abbrev pub IsRepeated : List Record → ℕ → Type 0
@@ -42,17 +46,49 @@ pub record AreJoined (rs : List Record) : Type 0 where
   pub numbered : (t : ℕ) → IsNumbered rs t
   pub no_gap : (t : ℕ) → ¬ IsBroken rs t
 
--- how many chains a county may have, and how many segments all of them: this project's own limits
+-- a type 1 record has TLID t
+abbrev pub HasChain : List Record → ℕ → Type 0
+HasChain rs t = (from : Point) × (to : Point) × Contains rs (Chain t from to)
+
+-- a type I record has TLID t
+abbrev pub HasSides : List Record → ℕ → Type 0
+HasSides rs t = Contains (map (λ s. s.tlid) (sides_in rs)) t
+
+-- a type P record has key k
+abbrev pub HasPolygon : List Record → PolyKey → Type 0
+HasPolygon rs k = Contains (keys (polygons_in rs)) k
+
+-- a type 7 record has LAND n
+abbrev pub HasLandmark : List Record → ℕ → Type 0
+HasLandmark rs n = Contains (map (λ e. e.land) (landmarks_in rs)) n
+
+-- two places of the list hold the same
+abbrev pub StandsTwice : {X : Type 0} → List X → X → Type 0
+StandsTwice xs x = (i : ℕ) × (j : ℕ) × (i < j) × (slice_get xs i ≡ Some x) × (slice_get xs j ≡ Some x)
+
+-- a side of the type I record names key k
+abbrev pub Names : SidesEntry → PolyKey → Type 0
+Names s k = (s.left ≡ Some k) ⊎ (s.right ≡ Some k)
+
+-- how many chains, segments of all chains, polygons and landmarks a county may have: this project's own limits
 abbrev pub most_chains : ℕ
 most_chains = 1048576
 
 abbrev pub most_segments : ℕ
-most_segments = 4194304
+most_segments = 16777216
+
+abbrev pub most_polygons : ℕ
+most_polygons = 1048576
+
+abbrev pub most_landmarks : ℕ
+most_landmarks = 1048576
 
 -- there are more than the limit
 abbrev pub IsTooMany : List Record → Limited → Type 0
 IsTooMany rs Chains = most_chains < chain_count rs
 IsTooMany rs Segments = AreJoined rs × (most_segments < segments_of rs)
+IsTooMany rs Polygons = most_polygons < length (polygons_in rs)
+IsTooMany rs Landmarks = most_landmarks < length (first_landmarks rs)
 
 -- the fault is true of the records
 abbrev pub IsTrueOf : List Record → MapFault → Type 0
@@ -60,6 +96,13 @@ IsTrueOf rs (DuplicateChain t) = IsRepeated rs t
 IsTrueOf rs (ShapeWithoutChain t) = IsStray rs t
 IsTrueOf rs (ShapeSequence t) = ¬ IsNumbered rs t
 IsTrueOf rs (ShapeGap t) = IsBroken rs t
+IsTrueOf rs (ChainWithoutSides t) = HasChain rs t × ¬ HasSides rs t
+IsTrueOf rs (SidesWithoutChain t) = HasSides rs t × ¬ HasChain rs t
+IsTrueOf rs (DuplicateSides t) = 2 ≤ count_by (λ s. s.tlid == t) (sides_in rs)
+IsTrueOf rs (DuplicatePolygon k) = StandsTwice (keys (polygons_in rs)) k
+IsTrueOf rs (SideWithoutPolygon t k) = Any (λ s. (s.tlid ≡ t) × Names s k) (sides_in rs) × ¬ HasPolygon rs k
+IsTrueOf rs (LinkWithoutLandmark n) = Any (λ l. l.land ≡ n) (links_in rs) × ¬ HasLandmark rs n
+IsTrueOf rs (LinkWithoutPolygon k n) = Any (λ l. (l.key ≡ k) × (l.land ≡ n)) (links_in rs) × ¬ HasPolygon rs k
 IsTrueOf rs (DegenerateChain t) = IsDegenerate rs t
 IsTrueOf rs (TooMany what) = IsTooMany rs what
 
@@ -70,4 +113,9 @@ pub record HaveNoChainFault (rs : List Record) : Type 0 where
   pub in_sequence : (t : ℕ) → ¬ IsTrueOf rs (ShapeSequence t)
   pub no_gap : (t : ℕ) → ¬ IsTrueOf rs (ShapeGap t)
   pub not_degenerate : (t : ℕ) → ¬ IsTrueOf rs (DegenerateChain t)
-  pub not_too_many : (what : Limited) → ¬ IsTrueOf rs (TooMany what)
+  pub few_chains : ¬ IsTrueOf rs (TooMany Chains)
+  pub few_segments : ¬ IsTrueOf rs (TooMany Segments)
+
+-- no fault is true of the records
+abbrev pub HaveNoFault : List Record → Type 0
+HaveNoFault rs = (fault : MapFault) → ¬ IsTrueOf rs fault

@@ -1,9 +1,6 @@
 pub mod Chains
+pub mod TheMap
 pub mod Faults
 pub mod Messages
-pub mod Entries
-pub mod Rows
-pub mod Collected
-pub mod Built
 pub mod Reading
-pub mod Gathering
+pub mod Keeping

@@ -1,3 +1,4 @@
+-- What reading the chains or the map of a text answers.
 use Rattle.std.specs.Prelude.{◌≡◌, ℕ, List, map, Some, None, Result, Ok, Err}
 use Rattle.tl_record.specs.declared.record.Record.{Record}
 use Rattle.tl_record.specs.declared.stop.ReadStop.{ReadStop}

@@ -6,9 +6,9 @@ ghost use Rattle.tl_geom.specs.declared.point.Point.{Point};
 ghost use Rattle.tl_record.specs.declared.record.Record.{Record};
 ghost use Rattle.tl_map.specs.declared.entry.ChainEntry.{ChainEntry};
 ghost use Rattle.tl_map.specs.Faults.{IsTrueOf};
-ghost use Rattle.tl_map.specs.Entries.{AreChainEntries, AreShapeEntries, AreInOrder};
-ghost use Rattle.tl_map.specs.Collected.{Collects};
-ghost use Rattle.tl_map.specs.Built.{AreSound, AreBuilt, StopsBuilding};
+ghost use Rattle.tl_map.specs.Keeping.Entries.{AreChainEntries, AreShapeEntries, AreInOrder};
+ghost use Rattle.tl_map.specs.Keeping.Collected.{Collects};
+ghost use Rattle.tl_map.specs.Keeping.Built.{AreSound, AreBuilt, StopsBuilding};
 
 use crate::chains::Chains;
 use crate::collect::Collected;

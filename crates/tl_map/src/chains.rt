@@ -30,7 +30,7 @@ impl Model for Chains {
 
     ghost Value = { ChainList };
 
-    ghost use Rattle.tl_map.specs.Rows.{IsWithin, chains_in};
+    ghost use Rattle.tl_map.specs.Keeping.Rows.{IsWithin, chains_in};
 
     ghost view = { λ c. record { chains = chains_in c.points.items c.rows.items; skipped = c.skipped } };
 
@@ -40,7 +40,7 @@ impl Model for Chains {
 impl Chains {
     ghost use Rattle.std.specs.Prelude.{◌≡◌, ◌+◌, ◌≤◌, length};
     ghost use Rattle.tl_map.specs.declared.fault.TheConstants.{CHAIN_LIMIT, SEGMENT_LIMIT};
-    ghost use Rattle.tl_map.specs.Rows.{IsTable, chains_in};
+    ghost use Rattle.tl_map.specs.Keeping.Rows.{IsTable, chains_in};
 
     /// The chains of these rows.
     pub(crate) fn new(rows: Vec<ChainRow>, points: Vec<Point>, skipped: u64) -> Chains

@@ -5,7 +5,7 @@ ghost use Rattle.tl_geom.specs.declared.point.Point.{Point};
 ghost use Rattle.tl_record.specs.declared.record.Record.{Record};
 ghost use Rattle.tl_record.specs.declared.record.Record.TheVariants.{Shape};
 ghost use Rattle.tl_map.specs.Chains.{used};
-ghost use Rattle.tl_map.specs.Entries.{fill_of, AreShapeEntries};
+ghost use Rattle.tl_map.specs.Keeping.Entries.{fill_of, AreShapeEntries};
 
 use crate::entry::{ChainEntry, Fill, ShapeEntry};
 use crate::fault::CHAIN_LIMIT;
@@ -27,7 +27,7 @@ pub struct Collected {
 impl Collected {
     ghost use Rattle.std.specs.Prelude.{◌∷◌, [], ◌++◌, List, OnOk};
     ghost use Rattle.tl_record.specs.declared.record.Record.{Record};
-    ghost use Rattle.tl_map.specs.Collected.{Collects};
+    ghost use Rattle.tl_map.specs.Keeping.Collected.{Collects};
 
     /// No record.
     pub fn new(alloc: Global) -> Collected

@@ -1,6 +1,7 @@
 //! Records as they are kept until all of them are read.
 
 use tl_geom::Point;
+use tl_record::PolyKey;
 
 /// A type 1 record.
 #[derive(Clone, Copy, Debug)]
@@ -29,4 +30,28 @@ pub struct ShapeEntry {
     pub rtsq: u16,
     pub used: u8,
     pub fill: Fill,
+}
+
+/// A type I record.
+#[derive(Clone, Copy, Debug)]
+pub struct SidesEntry {
+    pub tlid: u64,
+    pub start_cell: Option<u64>,
+    pub end_cell: Option<u64>,
+    pub left: Option<PolyKey>,
+    pub right: Option<PolyKey>,
+}
+
+/// A type 7 record.
+#[derive(Clone, Copy, Debug)]
+pub struct LandmarkEntry {
+    pub land: u64,
+    pub point: Option<Point>,
+}
+
+/// A type 8 record.
+#[derive(Clone, Copy, Debug)]
+pub struct LinkEntry {
+    pub key: PolyKey,
+    pub land: u64,
 }

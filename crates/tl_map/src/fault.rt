@@ -6,19 +6,27 @@ ghost use Rattle.tl_map.specs.Reading.{stop_of};
 
 use std::alloc::{AllocError, AllocFailed};
 use std::fmt;
-use tl_record::{Cause, ReadStop};
+use tl_record::{Cause, PolyKey, ReadStop};
 
 /// How many type 1 records a county may have.
 pub const CHAIN_LIMIT: u32 = 1_048_576;
 
 /// How many segments the chains of a county may have together.
-pub const SEGMENT_LIMIT: u32 = 4_194_304;
+pub const SEGMENT_LIMIT: u32 = 16_777_216;
+
+/// How many type P records a county may have.
+pub const POLYGON_LIMIT: u32 = 1_048_576;
+
+/// How many landmarks a county may have.
+pub const LANDMARK_LIMIT: u32 = 1_048_576;
 
 /// What there can be too many of.
 #[derive(Clone, Copy, Debug, PartialEq, Eq, Hash)]
 pub enum Limited {
     Chains,
     Segments,
+    Polygons,
+    Landmarks,
 }
 
 impl fmt::Display for Limited {
@@ -31,6 +39,8 @@ impl fmt::Display for Limited {
         match self {
             Limited::Chains => write!(f, "chains"),
             Limited::Segments => write!(f, "segments"),
+            Limited::Polygons => write!(f, "polygons"),
+            Limited::Landmarks => write!(f, "landmarks"),
         }
     }
 }
@@ -46,6 +56,20 @@ pub enum MapFault {
     ShapeSequence { tlid: u64 },
     /// M4: they are, and a used pair comes after an unused one.
     ShapeGap { tlid: u64 },
+    /// M5: a type 1 record has the TLID, and no type I record has.
+    ChainWithoutSides { tlid: u64 },
+    /// M6: a type I record has the TLID, and no type 1 record has.
+    SidesWithoutChain { tlid: u64 },
+    /// M7: two type I records have the TLID.
+    DuplicateSides { tlid: u64 },
+    /// M8: two type P records have the key.
+    DuplicatePolygon { polygon: PolyKey },
+    /// M9: a side of a type I record with the TLID names a key that no type P record has.
+    SideWithoutPolygon { tlid: u64, polygon: PolyKey },
+    /// M10: a type 8 record has the LAND, and no type 7 record has.
+    LinkWithoutLandmark { land: u64 },
+    /// M11: a type 8 record has the key and the LAND, and no type P record has the key.
+    LinkWithoutPolygon { polygon: PolyKey, land: u64 },
     /// M12: all points of the chain are one point.
     DegenerateChain { tlid: u64 },
     /// M13: there are more of these than the limit.
@@ -70,6 +94,27 @@ impl fmt::Display for MapFault {
                 write!(f, "map fault M3 ShapeSequence tlid {tlid}")
             }
             MapFault::ShapeGap { tlid } => write!(f, "map fault M4 ShapeGap tlid {tlid}"),
+            MapFault::ChainWithoutSides { tlid } => {
+                write!(f, "map fault M5 ChainWithoutSides tlid {tlid}")
+            }
+            MapFault::SidesWithoutChain { tlid } => {
+                write!(f, "map fault M6 SidesWithoutChain tlid {tlid}")
+            }
+            MapFault::DuplicateSides { tlid } => {
+                write!(f, "map fault M7 DuplicateSides tlid {tlid}")
+            }
+            MapFault::DuplicatePolygon { polygon } => {
+                write!(f, "map fault M8 DuplicatePolygon polygon {polygon}")
+            }
+            MapFault::SideWithoutPolygon { tlid, polygon } => {
+                write!(f, "map fault M9 SideWithoutPolygon tlid {tlid} polygon {polygon}")
+            }
+            MapFault::LinkWithoutLandmark { land } => {
+                write!(f, "map fault M10 LinkWithoutLandmark land {land}")
+            }
+            MapFault::LinkWithoutPolygon { polygon, land } => {
+                write!(f, "map fault M11 LinkWithoutPolygon polygon {polygon} land {land}")
+            }
             MapFault::DegenerateChain { tlid } => {
                 write!(f, "map fault M12 DegenerateChain tlid {tlid}")
             }

@@ -5,8 +5,8 @@ ghost use Rattle.tl_geom.specs.declared.point.Point.{Point};
 ghost use Rattle.tl_map.specs.declared.entry.ShapeEntry.{ShapeEntry};
 ghost use Rattle.tl_map.specs.declared.fault.TheConstants.{CHAIN_LIMIT, SEGMENT_LIMIT};
 ghost use Rattle.std.specs.List.{flat_map};
-ghost use Rattle.tl_map.specs.Entries.{entry_points, IsInside, AreRising, AreInOrder, chains_with, joined};
-ghost use Rattle.tl_map.specs.Rows.{IsTable, chains_in, dedup_after, drawn_through, drawn_by, StopsAdding, StopsJoin};
+ghost use Rattle.tl_map.specs.Keeping.Entries.{entry_points, IsInside, AreRising, AreInOrder, chains_with, joined};
+ghost use Rattle.tl_map.specs.Keeping.Rows.{IsTable, chains_in, dedup_after, drawn_through, drawn_by, StopsAdding, StopsJoin};
 ghost use Rattle.tl_map.specs.Chains.{segment_count};
 
 use crate::chains::{ChainRow, Chains};

@@ -5,18 +5,29 @@
 //! they come, sorted once and joined by merging; the points of all chains lie in one list.
 #![tactic(auto)]
 
+mod areas;
 mod build;
+mod build_map;
 mod chains;
 mod collect;
 mod entry;
 mod fault;
 mod join;
+mod landmarks;
+mod map;
 mod passes;
 #[cfg(test)]
 mod plain;
+mod polygons;
 mod read;
+mod sides;
 mod sort;
 
 pub use chains::Chains;
-pub use fault::{CHAIN_LIMIT, Limited, MapFault, MapStop, SEGMENT_LIMIT};
+pub use fault::{
+    CHAIN_LIMIT, LANDMARK_LIMIT, Limited, MapFault, MapStop, POLYGON_LIMIT, SEGMENT_LIMIT,
+};
+pub use map::{Chain, Landmark, Map};
+pub use polygons::Polygon;
 pub use read::read_chains;
+pub use sides::Side;

@@ -6,7 +6,7 @@ ghost use Rattle.tl_record.specs.Layout.{tiger_2006};
 ghost use Rattle.tl_record.specs.Records.{records_of};
 ghost use Rattle.tl_record.specs.Reader.{source_of, skipped_of, standing_of, outcome};
 ghost use Rattle.tl_map.specs.Reading.{AreReadFrom, StopsReading, TellsDevice};
-ghost use Rattle.tl_map.specs.Gathering.{Gathers, StopsGathering};
+ghost use Rattle.tl_map.specs.Keeping.Gathering.{Gathers, StopsGathering};
 
 use crate::build::build_chains;
 use crate::chains::Chains;

@@ -4,7 +4,7 @@ ghost use Rattle.std.specs.Prelude.{◌≡◌, OnOk, List, length};
 ghost use Rattle.std.specs.List.Sorted.{IsNonDecreasingBy};
 ghost use Rattle.tl_geom.specs.declared.point.Point.{Point};
 ghost use Rattle.tl_record.specs.declared.record.Record.{Record};
-ghost use Rattle.tl_map.specs.Entries.{AreChainEntries, AreShapeEntries, AreInOrder};
+ghost use Rattle.tl_map.specs.Keeping.Entries.{AreChainEntries, AreShapeEntries, AreInOrder};
 
 use crate::entry::{ChainEntry, ShapeEntry};
 use std::alloc::AllocError;

@@ -6,6 +6,7 @@ pub mod Range
 pub mod Fields
 pub mod Layout
 pub mod Messages
+pub mod KeyText
 pub mod Outcome
 pub mod Judgement
 pub mod Records

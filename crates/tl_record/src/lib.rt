@@ -9,6 +9,7 @@
 mod columns;
 mod field;
 mod judge;
+mod key_display;
 pub mod laws;
 mod layout;
 mod line_buffer;

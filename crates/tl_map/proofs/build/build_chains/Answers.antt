@@ -1,8 +1,8 @@
 use Rattle.std.proofs.Common.{◌≤◌, length, arith}
 use Rattle.std.proofs.lemmas.List.Elements.{All-weaker}
 use Rattle.tl_map.specs.declared.fault.TheConstants.{CHAIN_LIMIT}
-use Rattle.tl_map.specs.Entries.{IsInside, IsShapeEntry}
-use Rattle.tl_map.specs.Built.{AreSound}
+use Rattle.tl_map.specs.Keeping.Entries.{IsInside, IsShapeEntry}
+use Rattle.tl_map.specs.Keeping.Built.{AreSound}
 use Rattle.tl_map.proofs.ChainLemmas.{built}
 use Rattle.tl_map.proofs.build.build_chains.Goals as goal
 

@@ -1,6 +1,6 @@
 use Rattle.std.proofs.Common.{◌≡◌, ◌++◌, take}
 use Rattle.tl_map.specs.Chains.{used, has_gap}
-use Rattle.tl_map.specs.Entries.{some_unused}
+use Rattle.tl_map.specs.Keeping.Entries.{some_unused}
 use Rattle.tl_map.proofs.collect.append_used.Given as goal
 
 abbrev pub invariant-loop-pair : goal.invariant-loop-pair

@@ -1,8 +1,8 @@
 use Rattle.std.proofs.Common.{List, arith}
 use Rattle.std.specs.List.{flat_map}
 use Rattle.tl_geom.specs.declared.point.Point.{Point}
-use Rattle.tl_map.specs.Entries.{entry_points}
-use Rattle.tl_map.specs.Rows.{drawn_through}
+use Rattle.tl_map.specs.Keeping.Entries.{entry_points}
+use Rattle.tl_map.specs.Keeping.Rows.{drawn_through}
 use Rattle.tl_map.proofs.RowLemmas.{IsTable-push, chains_in-push, one_drawn, length_appended}
 use Rattle.tl_map.proofs.join.add_chain.Goals as goal
 

@@ -1,8 +1,8 @@
 use Rattle.std.proofs.Common.{◌≡◌, ◌++◌, ◌∷◌, List, drop}
 use Rattle.std.specs.List.{flat_map}
 use Rattle.tl_geom.specs.declared.point.Point.{Point}
-use Rattle.tl_map.specs.Entries.{entry_points}
-use Rattle.tl_map.specs.Rows.{dedup_after}
+use Rattle.tl_map.specs.Keeping.Entries.{entry_points}
+use Rattle.tl_map.specs.Keeping.Rows.{dedup_after}
 use Rattle.tl_map.proofs.join.append_chain.Given as goal
 
 abbrev pub invariant-loop-shape : goal.invariant-loop-shape

@@ -1,6 +1,6 @@
 use Rattle.std.proofs.Common.{◌≡◌, ◌++◌, List, drop}
 use Rattle.tl_geom.specs.declared.point.Point.{Point}
-use Rattle.tl_map.specs.Rows.{dedup_after}
+use Rattle.tl_map.specs.Keeping.Rows.{dedup_after}
 use Rattle.tl_map.proofs.join.append_distinct.Given as goal
 
 abbrev pub invariant-loop-point : goal.invariant-loop-point

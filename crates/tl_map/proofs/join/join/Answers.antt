@@ -1,7 +1,7 @@
 use Rattle.std.proofs.Common.{◌≡◌, ℕ, length, get_or, pos, arith, refl}
 use Rattle.std.proofs.lemmas.Result.{err_from_is_err_and}
 use Rattle.tl_map.specs.declared.entry.ChainEntry.{ChainEntry}
-use Rattle.tl_map.specs.Entries.{joined}
+use Rattle.tl_map.specs.Keeping.Entries.{joined}
 use Rattle.tl_map.proofs.JoinLemmas.{run_is, above_run, behind_more, ahead_more, ahead_first, drawn_is, joined_more, stops_join, several_more}
 use Rattle.tl_map.proofs.RowLemmas.{IsTable-nil}
 use Rattle.tl_map.proofs.join.join.Goals as goal

@@ -2,7 +2,7 @@ use Rattle.std.proofs.Common.{◌≡◌, ◌⊎◌, ◌+◌, ◌-◌}
 use Rattle.tl_record.specs.declared.judge.TheConstants.{MAX_LINES}
 use Rattle.tl_record.specs.declared.reader.Standing.TheVariants.{Reading, Ended}
 use Rattle.tl_record.specs.Reader.{source_of, lines_of, skipped_of, standing_of, outcome}
-use Rattle.tl_map.specs.Gathering.{GathersSoFar}
+use Rattle.tl_map.specs.Keeping.Gathering.{GathersSoFar}
 use Rattle.tl_map.proofs.read.collect_records.Given as goal
 
 abbrev pub invariant-records : goal.invariant-records

@@ -4,7 +4,7 @@ use Rattle.std.proofs.lemmas.List.{length_push}
 use Rattle.tl_map.specs.declared.entry.ChainEntry.{ChainEntry}
 use Rattle.std.proofs.lemmas.Result.{on_ok_weaker}
 use Rattle.tl_record.specs.declared.record.Record.TheVariants.{Shape}
-use Rattle.tl_map.specs.Entries.{AreShapeEntries}
+use Rattle.tl_map.specs.Keeping.Entries.{AreShapeEntries}
 use Rattle.tl_map.proofs.CollectLemmas.{AreChainEntries-push, AreChainEntries-shape, AreShapeEntries-chain, chain_count-chain, chain_count-shape, many_more, IsOther, Collects-other}
 use Rattle.tl_map.proofs.collect.Collected.add.Goals as goal
 

@@ -1,16 +1,16 @@
-use Rattle.std.specs.Prelude.{◌≡◌, ◌+◌, ◌<◌, ◌≤◌, if◌then◌else◌, List, [], ◌∷◌, ◌++◌, length, map, take, drop, All, Any}
+use Rattle.std.specs.Prelude.{◌≡◌, ℕ, ◌⊎◌, ◌+◌, ◌<◌, ◌≤◌, if◌then◌else◌, List, [], ◌∷◌, ◌++◌, length, map, take, drop, All, Any}
 use Rattle.std.specs.List.{dedup, flat_map}
 use Rattle.tl_geom.specs.declared.point.Point.{Point}
 use Rattle.tl_map.specs.declared.chains.ChainRow.{ChainRow}
 use Rattle.tl_map.specs.declared.entry.ChainEntry.{ChainEntry}
 use Rattle.tl_map.specs.declared.entry.ShapeEntry.{ShapeEntry}
 use Rattle.tl_map.specs.declared.fault.TheConstants.{SEGMENT_LIMIT}
-use Rattle.tl_map.specs.declared.fault.Limited.TheVariants.{Chains, Segments}
-use Rattle.tl_map.specs.declared.fault.MapFault.TheVariants.{DuplicateChain, ShapeWithoutChain, ShapeSequence, ShapeGap, DegenerateChain, TooMany}
+use Rattle.tl_map.specs.declared.fault.Limited.TheVariants.{Segments}
+use Rattle.tl_map.specs.declared.fault.MapFault.TheVariants.{DegenerateChain, TooMany}
 use Rattle.tl_map.specs.declared.fault.MapStop.{MapStop}
-use Rattle.tl_map.specs.declared.fault.MapStop.TheVariants.{Refused, Device, Memory, Fault}
+use Rattle.tl_map.specs.declared.fault.MapStop.TheVariants.{Memory, Fault}
 use Rattle.tl_map.specs.Chains.{CompleteChain, same_point, segment_count}
-use Rattle.tl_map.specs.Entries.{entry_points}
+use Rattle.tl_map.specs.Keeping.Entries.{entry_points}
 
 -- the row's points lie within the list
 abbrev pub IsWithin : List Point → ChainRow → Type 0
@@ -42,28 +42,12 @@ drawn_through c between = dedup same_point (c.from ∷ (between ++ c.to ∷ []))
 abbrev pub drawn_by : List Point → ChainEntry → List ShapeEntry → CompleteChain
 drawn_by pool c run = record { tlid = c.tlid; points = drawn_through c (flat_map (entry_points pool) run) }
 
--- why a chain isn't added: it is one point, or there are too many segments with it
+-- why a chain isn't added: memory was refused, it is one point, or there are too many segments with it
 abbrev pub StopsAdding : List CompleteChain → CompleteChain → MapStop → Type 0
-StopsAdding chains c Memory = Unit {0}
-StopsAdding chains c Device = ⊥
-StopsAdding chains c (Refused line cause) = ⊥
-StopsAdding chains c (Fault (DegenerateChain t)) = (t ≡ c.tlid) × (length c.points ≡ 1)
-StopsAdding chains c (Fault (TooMany Segments)) = SEGMENT_LIMIT < segment_count (chains ++ c ∷ [])
-StopsAdding chains c (Fault (TooMany Chains)) = ⊥
-StopsAdding chains c (Fault (DuplicateChain t)) = ⊥
-StopsAdding chains c (Fault (ShapeWithoutChain t)) = ⊥
-StopsAdding chains c (Fault (ShapeSequence t)) = ⊥
-StopsAdding chains c (Fault (ShapeGap t)) = ⊥
+StopsAdding chains c stop =
+    (stop ≡ Memory) ⊎ (((stop ≡ Fault (DegenerateChain c.tlid)) × (length c.points ≡ 1)) ⊎ ((stop ≡ Fault (TooMany Segments)) × (SEGMENT_LIMIT < segment_count (chains ++ c ∷ []))))
 
--- why the chains aren't joined: one of them is one point, or they have too many segments
+-- why the chains aren't joined: memory was refused, one of them is one point, or they have too many segments
 abbrev pub StopsJoin : List CompleteChain → MapStop → Type 0
-StopsJoin chains Memory = Unit {0}
-StopsJoin chains Device = ⊥
-StopsJoin chains (Refused line cause) = ⊥
-StopsJoin chains (Fault (DegenerateChain t)) = Any (λ c. (t ≡ c.tlid) × (length c.points ≡ 1)) chains
-StopsJoin chains (Fault (TooMany Segments)) = SEGMENT_LIMIT < segment_count chains
-StopsJoin chains (Fault (TooMany Chains)) = ⊥
-StopsJoin chains (Fault (DuplicateChain t)) = ⊥
-StopsJoin chains (Fault (ShapeWithoutChain t)) = ⊥
-StopsJoin chains (Fault (ShapeSequence t)) = ⊥
-StopsJoin chains (Fault (ShapeGap t)) = ⊥
+StopsJoin chains stop =
+    (stop ≡ Memory) ⊎ (((t : ℕ) × (stop ≡ Fault (DegenerateChain t)) × Any (λ c. (t ≡ c.tlid) × (length c.points ≡ 1)) chains) ⊎ ((stop ≡ Fault (TooMany Segments)) × (SEGMENT_LIMIT < segment_count chains)))

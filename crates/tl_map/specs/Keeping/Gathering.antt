@@ -4,7 +4,7 @@ use Rattle.tl_record.specs.Records.{Records}
 use Rattle.tl_map.specs.declared.collect.Collected.{Collected}
 use Rattle.tl_map.specs.declared.fault.MapStop.{MapStop}
 use Rattle.tl_map.specs.declared.fault.MapStop.TheVariants.{Refused, Device, Memory, Fault}
-use Rattle.tl_map.specs.Collected.{Collects}
+use Rattle.tl_map.specs.Keeping.Collected.{Collects}
 use Rattle.tl_map.specs.Reading.{records_in}
 
 -- the records so far, and what was to come at first is these and what comes now

@@ -6,7 +6,7 @@ use Rattle.tl_map.specs.declared.fault.MapStop.{MapStop}
 use Rattle.tl_map.specs.declared.fault.MapStop.TheVariants.{Refused, Device, Memory, Fault}
 use Rattle.tl_map.specs.Chains.{ChainList, AreChainsOf, has_gap, pairs_of}
 use Rattle.tl_map.specs.Faults.{IsTrueOf, HaveNoChainFault}
-use Rattle.tl_map.specs.Entries.{chains_with, AreRising, ArePlaced}
+use Rattle.tl_map.specs.Keeping.Entries.{chains_with, AreRising, ArePlaced}
 
 -- sorted entries can be joined
 pub record AreSound (rs : List Record) (chains : List ChainEntry) (shapes : List ShapeEntry) : Type 0 where

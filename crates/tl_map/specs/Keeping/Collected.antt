@@ -3,7 +3,7 @@ use Rattle.tl_record.specs.declared.record.Record.{Record}
 use Rattle.tl_map.specs.declared.collect.Collected.{Collected}
 use Rattle.tl_map.specs.declared.fault.TheConstants.{CHAIN_LIMIT}
 use Rattle.tl_map.specs.Chains.{chain_count}
-use Rattle.tl_map.specs.Entries.{AreChainEntries, AreShapeEntries}
+use Rattle.tl_map.specs.Keeping.Entries.{AreChainEntries, AreShapeEntries}
 
 -- the records are kept; past the limit, the chains are not
 pub record Collects (rs : List Record) (c : Collected) : Type 0 where

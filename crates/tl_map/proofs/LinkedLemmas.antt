@@ -1,0 +1,73 @@
+use Rattle.std.proofs.Common.{◌≡◌, ℕ, zero, suc, ◌+◌, ◌<◌, ◌≤◌, Bool, true, false, cond, eqb, inl, inr, Option, Some, None, List, [], ◌∷◌, length, map, filter, get_or, All, Contains, refl, sym, ap, ◌∙◌, arith}
+use Rattle.std.specs.Prelude.{slice_get}
+use Rattle.std.proofs.lemmas.Bool.{cases_eq, eq-eqb, ne_eqb}
+use Rattle.std.proofs.lemmas.Option.{slice_get_within}
+use Rattle.std.proofs.lemmas.List.Sorted.{All-permutation}
+use Rattle.tl_record.specs.declared.record.PolyKey.{PolyKey}
+use Rattle.tl_map.specs.declared.entry.LandmarkEntry.{LandmarkEntry}
+use Rattle.tl_map.specs.declared.entry.LinkEntry.{LinkEntry}
+use Rattle.tl_map.specs.declared.landmarks.Link.{Link}
+use Rattle.tl_map.specs.declared.landmarks.FirstLandmarks.{FirstLandmarks}
+use Rattle.tl_map.specs.declared.landmarks.LinkedLandmarks.{LinkedLandmarks}
+use Rattle.tl_map.specs.declared.fault.MapStop.{MapStop}
+use Rattle.tl_map.specs.TheMap.{firsts, place_of, linked_to}
+use Rattle.tl_map.specs.Keeping.Index.{Numbers}
+use Rattle.tl_map.specs.Keeping.Landmarks.{lands, ListsLandmarks, IsLink, AreLinks, AreAllLinks, StopsLink, StopsLinks, StopsLinking, links_to, AreByLandmark, landmark_with, listed, IsLinked, landmark_from, AreLinked}
+use Rattle.tl_map.proofs.IndexLemmas.{contained}
+
+-- the links of the l-th LAND, by numbers and by keys
+to_links : (ks : List PolyKey) (ns : List ℕ) (found : ℕ → Option ℕ) (links : List LinkEntry) (made : List Link) (l n : ℕ) → Numbers ns found → slice_get ns l ≡ Some n → length made ≡ length links → ((j : ℕ) (link : LinkEntry) (m : Link) → j < length made → IsLink ks ns (get_or links j link) (get_or made j m)) → map (λ (m : Link). m.polygon) (links_to l made) ≡ map (λ (k : LinkEntry). place_of ks k.key) (filter (λ (k : LinkEntry). eqb k.land n) links)
+to_links ks ns found [] [] l n numbers at same each = refl
+to_links ks ns found [] (m ∷ made) l n numbers at same each = absurd (omega arith)
+to_links ks ns found (k ∷ links) [] l n numbers at same each = absurd (omega arith)
+to_links ks ns found (k ∷ links) (m ∷ made) l n numbers at same each =
+    let this = each 0 k m (omega arith) in
+    let rest = to_links ks ns found links made l n numbers at (omega arith) (λ j link e lt. each (suc j) link e (omega arith)) in
+    elim (cases_eq m.landmark l) [
+      | inl here ↦
+          let land : k.land ≡ n = let h = rw here at this.landmark in cc in
+          rw (eq-eqb m.landmark l here, eq-eqb k.land n land) (λ i. this.polygon i ∷ rest i)
+      | inr other ↦
+          let land : k.land ≡ n → ⊥ = λ e.
+          let one = numbers.each m.landmark k.land this.landmark in
+          let two : found k.land ≡ Some l = rw e (numbers.each l n at) in
+          other (cc) in
+          rw (ne_eqb m.landmark l other, ne_eqb k.land n land) rest
+    ]
+
+-- the landmarks that are listed are those of the links
+listed_is : (ks : List PolyKey) (ns : List ℕ) (found : ℕ → Option ℕ) (links : List LinkEntry) (old new : List Link) (es : List LandmarkEntry) (l : ℕ) → Numbers ns found → AreAllLinks ks ns links old → AreByLandmark old new → ((j : ℕ) (n : ℕ) → slice_get (lands es) j ≡ Some n → slice_get ns (l + j) ≡ Some n) → listed new l es ≡ map (landmark_from ks links) es
+listed_is ks ns found links old new [] l numbers all sorted at = refl
+listed_is ks ns found links old new (e ∷ es) l numbers all sorted at =
+    let here : slice_get ns l ≡ Some e.land = let none : l + 0 ≡ l = omega arith in rw none at (at 0 e.land refl) in
+    let this : landmark_with new l e ≡ landmark_from ks links e =
+    ap (λ ps. record { land = e.land; point = e.point; polygons = firsts (λ p. p) ps })
+    (ap (map (λ (m : Link). m.polygon)) (sorted.same l) ∙ to_links ks ns found links old l e.land numbers here all.1 all.0.each) in
+    let rest = listed_is ks ns found links old new es (l + 1) numbers all sorted (λ j n h. let more : l + 1 + j ≡ l + suc j = omega arith in rw more (at (suc j) n h)) in
+    λ i. this i ∷ rest i
+
+-- each link has a polygon
+pub links_inside : (ks : List PolyKey) (ns : List ℕ) (links : List LinkEntry) (old new : List Link) (count : ℕ) → length ks ≡ count → AreAllLinks ks ns links old → AreByLandmark old new → All (λ m. m.polygon < count) new
+links_inside ks ns links old new count same all sorted =
+    All-permutation (λ m. m.polygon < count) old new sorted.moved (λ k d lt. let x : LinkEntry = record { key = record { cenid = []; polyid = 0 }; land = 0 } in let h = slice_get_within ks (get_or old k d).polygon _ (all.0.each k x d lt).known in omega (arith, h, same))
+
+-- the landmarks with their links
+pub linked_all : (ks : List PolyKey) (entries : List LandmarkEntry) (f : FirstLandmarks) (found : ℕ → Option ℕ) (links : List LinkEntry) (old new : List Link) (l : LinkedLandmarks) → ListsLandmarks entries f → Numbers (lands f.firsts.items) found → AreAllLinks ks (lands f.firsts.items) links old → AreByLandmark old new → IsLinked (listed new 0 f.firsts.items) l.linked.items l.rows.items → AreLinked ks entries links l
+linked_all ks entries f found links old new l lists numbers all sorted are = record {
+  rows = rw (← lists.firsts_are, ← listed_is ks (lands f.firsts.items) found links old new f.firsts.items 0 numbers all sorted (λ j n h. let none : 0 + j ≡ j = omega arith in rw none h)) are;
+  known = λ k d lt.
+      let m : Link = record { landmark = 0; polygon = 0 } in
+      let this = all.0.each k d m (omega (arith, all.1)) in
+      (lists.no_other (get_or links k d).land (contained (lands f.firsts.items) (get_or old k m).landmark _ this.landmark), contained ks (get_or old k m).polygon _ this.known);
+  few = rw (← lists.firsts_are) lists.few;
+}
+
+-- what stops the links
+pub stops_linking : (ks : List PolyKey) (entries : List LandmarkEntry) (f : FirstLandmarks) (links : List LinkEntry) (stop : MapStop) → ListsLandmarks entries f → StopsLinks ks (lands f.firsts.items) links stop → StopsLinking ks entries links stop
+stops_linking ks entries f links stop lists why = elim why [
+  | inl memory ↦ inl (inl memory)
+  | inr link ↦ inr (link.0, link.1, link.2, link.3, elim link.4 [
+    | inl landmark ↦ inl (landmark.0, λ has. landmark.1 (lists.all link.1.land has))
+    | inr polygon ↦ inr polygon
+  ])
+]

@@ -1,0 +1,194 @@
+use Rattle.std.proofs.Common.{◌≡◌, ◌≢◌, ℕ, zero, suc, ◌+◌, ◌<◌, ◌≤◌, Bool, true, false, cond, eqb, inl, inr, Option, Some, None, List, [], ◌∷◌, length, drop, map, get_or, count_by, All, Contains, refl, sym, ap, ◌∙◌, arith}
+use Rattle.std.specs.Prelude.{Any, slice_get}
+use Rattle.std.specs.BTreeMap.{get}
+use Rattle.std.specs.List.Sorted.{IsStrictlyIncreasing, IsPermutation}
+use Rattle.std.proofs.lemmas.Bool.{eq-eqb, ne_eqb, eqb-true}
+use Rattle.std.proofs.lemmas.List.{get_or_default, length-map, get_or-map}
+use Rattle.std.proofs.lemmas.List.Sums.{sum_by-cons}
+use Rattle.std.proofs.lemmas.List.Sorted.{IsPermutation-map, IsPermutation-sym, Contains-permutation, All-permutation, sum_by-IsPermutation}
+use Rattle.tl_geom.specs.declared.point.Point.{Point}
+use Rattle.tl_record.specs.declared.record.PolyKey.{PolyKey}
+use Rattle.tl_record.specs.declared.record.Record.{Record}
+use Rattle.tl_record.specs.declared.record.Record.TheVariants.{Chain}
+use Rattle.tl_map.specs.declared.areas.AreaRecords.{AreaRecords}
+use Rattle.tl_map.specs.declared.entry.SidesEntry.{SidesEntry}
+use Rattle.tl_map.specs.declared.entry.LandmarkEntry.{LandmarkEntry}
+use Rattle.tl_map.specs.declared.entry.LinkEntry.{LinkEntry}
+use Rattle.tl_map.specs.declared.polygons.Polygon.{Polygon}
+use Rattle.tl_map.specs.declared.sides.ChainSides.{ChainSides}
+use Rattle.tl_map.specs.declared.landmarks.LinkedLandmarks.{LinkedLandmarks}
+use Rattle.tl_map.specs.declared.fault.Limited.TheVariants.{Chains, Segments, Polygons, Landmarks}
+use Rattle.tl_map.specs.declared.fault.MapFault.{MapFault}
+use Rattle.tl_map.specs.declared.fault.MapFault.TheVariants.{DuplicateChain, ShapeWithoutChain, ShapeSequence, ShapeGap, ChainWithoutSides, SidesWithoutChain, DuplicateSides, DuplicatePolygon, SideWithoutPolygon, LinkWithoutLandmark, LinkWithoutPolygon, DegenerateChain, TooMany}
+use Rattle.tl_map.specs.declared.fault.MapStop.{MapStop}
+use Rattle.tl_map.specs.Chains.{CompleteChain, ChainList, tlids, IsDrawn, AreChainsOf}
+use Rattle.tl_map.specs.TheMap.{sides_in, polygons_in, landmarks_in, links_in, keys, MapChain, TheMap, without_sides, IsSided, IsMapOf, firsts}
+use Rattle.tl_map.specs.Faults.{HasChain, HasSides, HaveNoFault, IsTrueOf, most_polygons, most_landmarks}
+use Rattle.tl_map.specs.Keeping.Areas.{KeepsAreas}
+use Rattle.tl_map.specs.Keeping.Built.{AreBuilt, StopsBuilding}
+use Rattle.tl_map.specs.Keeping.Index.{Numbers, Indexes, key_cmp, StopsIndex}
+use Rattle.tl_map.specs.Keeping.Sided.{sided_by, NamesKnown, sides_tlids, IsUnpaired, ArePaired, StopsPairing, StopsSides}
+use Rattle.tl_map.specs.Keeping.Landmarks.{landmark_in, landmark_from, AreLinked, StopsLinking}
+use Rattle.tl_map.specs.Keeping.Mapped.{sided, AreMapped}
+use Rattle.tl_map.proofs.CountLemmas.{none_counted}
+use Rattle.tl_map.proofs.PairLemmas.{far}
+
+-- a TLID of the chains is one of a type 1 record, and the other way round
+chain_known : (rs : List Record) (chains : List CompleteChain) (t : ℕ) → AreChainsOf rs chains → Contains (tlids chains) t → HasChain rs t
+chain_known rs [] t are has = absurd (omega (arith, has.1))
+chain_known rs (x ∷ chains) t are has =
+    let lt : has.0 < length (x ∷ chains) = omega (arith, has.1, length-map (x ∷ chains) (λ (c : CompleteChain). c.tlid)) in
+    let drawn : IsDrawn rs (get_or (x ∷ chains) has.0 x) = are.drawn has.0 x lt in
+    let same : (get_or (x ∷ chains) has.0 x).tlid ≡ t = sym (get_or-map (λ (c : CompleteChain). c.tlid) (x ∷ chains) has.0 x t lt) ∙ has.2 in
+    rw (← same) (drawn.from, drawn.to, drawn.record_of_it)
+
+chain_there : (rs : List Record) (chains : List CompleteChain) (t : ℕ) → AreChainsOf rs chains → HasChain rs t → Contains (tlids chains) t
+chain_there rs chains t are has = are.complete t has.0 has.1 has.2
+
+-- the chains of records are those with the records' sides
+sided_all : (rs : List Record) (cs : List CompleteChain) (ss : List SidesEntry) → sides_tlids ss ≡ tlids cs → ((k : ℕ) (d : SidesEntry) → k < length ss → Contains (sides_in rs) (get_or ss k d)) → All (IsSided rs) (sided cs (map (sided_by (keys (polygons_in rs))) ss)) × (map without_sides (sided cs (map (sided_by (keys (polygons_in rs))) ss)) ≡ cs) × (length ss ≡ length cs)
+sided_all rs [] [] same has = ((λ k d lt. absurd (omega arith)), refl, refl)
+sided_all rs [] (s ∷ ss) same has = absurd (let h = ap length same in omega (arith, h))
+sided_all rs (c ∷ cs) [] same has = absurd (let h = ap length same in omega (arith, h))
+sided_all rs (c ∷ cs) (s ∷ ss) same has =
+    let head : s.tlid ≡ c.tlid = ap (λ (ts : List ℕ). get_or ts 0 0) same in
+    let tail : sides_tlids ss ≡ tlids cs = ap (λ (ts : List ℕ). drop 1 ts) same in
+    let rest = sided_all rs cs ss tail (λ k d lt. has (suc k) d (omega arith)) in
+    (all head (has 0 s (omega arith)) rest.0, (λ i. c ∷ rest.1 i), ap suc rest.2)
+  where
+    all : s.tlid ≡ c.tlid → Contains (sides_in rs) s → All (IsSided rs) (sided cs (map (sided_by (keys (polygons_in rs))) ss)) → All (IsSided rs) (sided (c ∷ cs) (map (sided_by (keys (polygons_in rs))) (s ∷ ss)))
+    all head found rest zero d lt = record { sides = s; record_of_it = found; tlid = head; left = refl; right = refl; start_cell = refl; end_cell = refl }
+    all head found rest (suc k) d lt = rest k d (omega arith)
+
+-- a TLID stands once in sides that rise
+once : (ss : List SidesEntry) (t : ℕ) → ((i j : ℕ) → i < j → j < length ss → get_or (sides_tlids ss) i 0 < get_or (sides_tlids ss) j 0) → count_by (λ (s : SidesEntry). eqb s.tlid t) ss ≤ 1
+once [] t rising = omega arith
+once (s ∷ ss) t rising = go (eqb s.tlid t) refl (once ss t (λ i j before within. rising (suc i) (suc j) (omega arith) (omega arith)))
+  where
+    more : count_by (λ (x : SidesEntry). eqb x.tlid t) (s ∷ ss) ≡ cond (eqb s.tlid t) 1 0 + count_by (λ (x : SidesEntry). eqb x.tlid t) ss
+    more = sum_by-cons (λ (x : SidesEntry). cond (eqb x.tlid t) 1 0) s ss
+
+    go : (b : Bool) → eqb s.tlid t ≡ b → count_by (λ (x : SidesEntry). eqb x.tlid t) ss ≤ 1 → count_by (λ (x : SidesEntry). eqb x.tlid t) (s ∷ ss) ≤ 1
+    go true e later =
+        let here : count_by (λ (x : SidesEntry). eqb x.tlid t) (s ∷ ss) ≡ 1 + count_by (λ (x : SidesEntry). eqb x.tlid t) ss = more ∙ ap (λ (b : Bool). cond {A = ℕ} b 1 0 + count_by (λ (x : SidesEntry). eqb x.tlid t) ss) e in
+        let same = eqb-true s.tlid t e in
+        let none : count_by (λ (x : SidesEntry). eqb x.tlid t) ss ≡ 0 = none_counted (λ (x : SidesEntry). eqb x.tlid t) ss (λ k d h. ne_eqb _ _ (λ at. omega (arith, rising 0 (suc k) (omega arith) (omega arith), same, at, get_or-map (λ (x : SidesEntry). x.tlid) ss k d 0 h))) in
+        omega (arith, here, none)
+    go false e later =
+        let rest : count_by (λ (x : SidesEntry). eqb x.tlid t) (s ∷ ss) ≡ 0 + count_by (λ (x : SidesEntry). eqb x.tlid t) ss = more ∙ ap (λ (b : Bool). cond {A = ℕ} b 1 0 + count_by (λ (x : SidesEntry). eqb x.tlid t) ss) e in
+        omega (arith, rest, later)
+
+-- the records of a map have no fault
+no_fault : (rs : List Record) (skipped : ℕ) (chains : ChainList) (new : List SidesEntry) (found : PolyKey → Option ℕ) (l : LinkedLandmarks) → AreBuilt rs skipped chains → ArePaired (tlids chains.chains) (sides_in rs) new → Numbers (keys (polygons_in rs)) found → All (NamesKnown (keys (polygons_in rs))) new → length (polygons_in rs) ≤ most_polygons → AreLinked (keys (polygons_in rs)) (landmarks_in rs) (links_in rs) l → HaveNoFault rs
+no_fault rs skipped chains new found l built paired numbers known few linked (DuplicateChain t) = built.no_fault.once t
+no_fault rs skipped chains new found l built paired numbers known few linked (ShapeWithoutChain t) = built.no_fault.no_stray t
+no_fault rs skipped chains new found l built paired numbers known few linked (ShapeSequence t) = built.no_fault.in_sequence t
+no_fault rs skipped chains new found l built paired numbers known few linked (ShapeGap t) = built.no_fault.no_gap t
+no_fault rs skipped chains new found l built paired numbers known few linked (DegenerateChain t) = built.no_fault.not_degenerate t
+no_fault rs skipped chains new found l built paired numbers known few linked (TooMany Chains) = built.no_fault.few_chains
+no_fault rs skipped chains new found l built paired numbers known few linked (TooMany Segments) = built.no_fault.few_segments
+no_fault rs skipped chains new found l built paired numbers known few linked (TooMany Polygons) = λ many. omega (arith, many, few)
+no_fault rs skipped chains new found l built paired numbers known few linked (TooMany Landmarks) = λ many. omega (arith, many, linked.few)
+no_fault rs skipped chains new found l built paired numbers known few linked (ChainWithoutSides t) = λ fault.
+    let there = IsPermutation-map (λ (s : SidesEntry). s.tlid) (sides_in rs) new paired.moved in
+    let has = chain_there rs chains.chains t built.chains fault.0 in
+    fault.1 (Contains-permutation (sides_tlids new) (sides_tlids (sides_in rs)) t (IsPermutation-sym (sides_tlids (sides_in rs)) (sides_tlids new) there) (rw paired.same has))
+no_fault rs skipped chains new found l built paired numbers known few linked (SidesWithoutChain t) = λ fault.
+    let there = IsPermutation-map (λ (s : SidesEntry). s.tlid) (sides_in rs) new paired.moved in
+    let has : Contains (sides_tlids new) t = Contains-permutation (sides_tlids (sides_in rs)) (sides_tlids new) t there fault.0 in
+    fault.1 (chain_known rs chains.chains t built.chains (rw paired.same at has))
+no_fault rs skipped chains new found l built paired numbers known few linked (DuplicateSides t) = λ fault.
+    let rising = far (tlids chains.chains) built.chains.rising in
+    let one = once new t (λ i j before within. rw paired.same (rising i j before (let h = ap length paired.same in let k = length-map new (λ (s : SidesEntry). s.tlid) in omega (arith, h, k, within)))) in
+    let same = sum_by-IsPermutation (λ (s : SidesEntry). cond (eqb s.tlid t) 1 0) (sides_in rs) new paired.moved in
+    omega (arith, fault, one, same)
+no_fault rs skipped chains new found l built paired numbers known few linked (DuplicatePolygon k) = λ fault.
+    let one = numbers.each fault.0 k fault.3 in
+    let two = numbers.each fault.1 k fault.4 in
+    let same : fault.0 ≡ fault.1 = cc in
+    omega (arith, fault.2, same)
+no_fault rs skipped chains new found l built paired numbers known few linked (SideWithoutPolygon t k) = λ fault.
+    let all = All-permutation (NamesKnown (keys (polygons_in rs))) new (sides_in rs) (IsPermutation-sym (sides_in rs) new paired.moved) known in
+    let any = fault.0 in
+    fault.1 (all any.0 any.1 any.2 k (rw any.3 any.4.1))
+no_fault rs skipped chains new found l built paired numbers known few linked (LinkWithoutLandmark n) = λ fault.
+    let any = fault.0 in
+    let has = linked.known any.0 any.1 any.2 in
+    fault.1 (let same : (get_or (links_in rs) any.0 any.1).land ≡ n = ap (λ (x : LinkEntry). x.land) any.3 ∙ any.4 in rw same at has.0)
+no_fault rs skipped chains new found l built paired numbers known few linked (LinkWithoutPolygon k n) = λ fault.
+    let any = fault.0 in
+    let has = linked.known any.0 any.1 any.2 in
+    fault.1 (let same : (get_or (links_in rs) any.0 any.1).key ≡ k = ap (λ (x : LinkEntry). x.key) any.3 ∙ any.4.0 in rw same at has.1)
+
+-- why chains and sides aren't paired is true of the records
+pub stops_pairing : (rs : List Record) (skipped : ℕ) (chains : ChainList) (sides : List SidesEntry) (stop : MapStop) → AreBuilt rs skipped chains → sides ≡ sides_in rs → StopsPairing (tlids chains.chains) sides stop → StopsBuilding rs stop
+stops_pairing rs skipped chains sides stop built is why = elim why [
+  | inl memory ↦ rw memory tt
+  | inr fault ↦ elim fault [
+    | inl two ↦ rw two.1 (rw is at two.2)
+    | inr unpaired ↦ rw unpaired.1 (elim unpaired.2 [
+      | inl chain ↦ rw chain.1 (chain_known rs chains.chains chain.0 built.chains chain.2, λ has. chain.3 (rw is has))
+      | inr side ↦ rw side.1 ((rw is at side.2), λ has. side.3 (chain_there rs chains.chains side.0 built.chains has))
+    ])
+  ]
+]
+
+-- why keys aren't indexed is true of the records
+pub stops_index : (rs : List Record) (polygons : List Polygon) (stop : MapStop) → polygons ≡ polygons_in rs → StopsIndex (keys polygons) stop → StopsBuilding rs stop
+stops_index rs polygons stop is why = elim why [
+  | inl memory ↦ rw memory tt
+  | inr twice ↦ rw twice.1 (rw is at twice.2)
+]
+
+-- why sides aren't resolved is true of the records
+pub stops_sides : (rs : List Record) (polygons : List Polygon) (ts : List ℕ) (old new : List SidesEntry) (stop : MapStop) → polygons ≡ polygons_in rs → old ≡ sides_in rs → ArePaired ts old new → StopsSides (keys polygons) new stop → StopsBuilding rs stop
+stops_sides rs polygons ts old new stop is same paired why = elim why [
+  | inl memory ↦ rw memory tt
+  | inr side ↦
+      let any = side.3 in
+      let found : Contains old any.1 = Contains-permutation new old any.1 (IsPermutation-sym old new paired.moved) (any.0, any.2, any.3) in
+      let there : Contains (sides_in rs) any.1 = rw same at found in
+      rw side.2 ((there.0, any.1, there.1, there.2, any.4), λ has. side.4 (rw is has))
+]
+
+-- why landmarks aren't linked is true of the records
+pub stops_linked : (rs : List Record) (polygons : List Polygon) (entries : List LandmarkEntry) (links : List LinkEntry) (stop : MapStop) → polygons ≡ polygons_in rs → entries ≡ landmarks_in rs → links ≡ links_in rs → StopsLinking (keys polygons) entries links stop → StopsBuilding rs stop
+stops_linked rs polygons entries links stop p e l why = elim why [
+  | inl landmarks ↦ elim landmarks [ inl memory ↦ rw memory tt | inr many ↦ rw many.0 (rw e at many.1) ]
+  | inr any ↦ elim any.4 [
+    | inl landmark ↦ let one : Any (λ (x : LinkEntry). x.land ≡ any.1.land) links = (any.0, any.1, any.2, any.3, refl) in rw landmark.0 (rw l at one, λ has. landmark.1 (rw e has))
+    | inr polygon ↦ let one : Any (λ (x : LinkEntry). (x.key ≡ any.1.key) × (x.land ≡ any.1.land)) links = (any.0, any.1, any.2, any.3, (refl, refl)) in rw polygon.0 (rw l at one, λ has. polygon.1 (rw p has))
+  ]
+]
+
+-- the map is that of the records
+pub mapped_all : (rs : List Record) (skipped : ℕ) (chains : ChainList) (areas : AreaRecords) (new : List SidesEntry) (sides : List ChainSides) (found : PolyKey → Option ℕ) (l : LinkedLandmarks) → AreBuilt rs skipped chains → KeepsAreas rs areas → ArePaired (tlids chains.chains) areas.sides.items new → Numbers (keys areas.polygons.items) found → All (NamesKnown (keys areas.polygons.items)) new → sides ≡ map (sided_by (keys areas.polygons.items)) new → length areas.polygons.items ≤ most_polygons → AreLinked (keys areas.polygons.items) areas.landmarks.items areas.links.items l → AreMapped rs skipped (record { chains = sided chains.chains sides; polygons = areas.polygons.items; landmarks = map (landmark_in l.linked.items) l.rows.items; skipped = chains.skipped })
+mapped_all rs skipped chains areas new sides found l built keeps paired numbers known are few linked =
+    let paired_in : ArePaired (tlids chains.chains) (sides_in rs) new = rw keeps.sides at paired in
+    let numbers_in : Numbers (keys (polygons_in rs)) found = rw keeps.polygons at numbers in
+    let known_in : All (NamesKnown (keys (polygons_in rs))) new = rw keeps.polygons at known in
+    let few_in : length (polygons_in rs) ≤ most_polygons = rw keeps.polygons at few in
+    let linked_in : AreLinked (keys (polygons_in rs)) (landmarks_in rs) (links_in rs) l = rw (keeps.polygons, keeps.landmarks, keeps.links) at linked in
+    let sides_are : sides ≡ map (sided_by (keys (polygons_in rs))) new = are ∙ ap (λ (ps : List Polygon). map (sided_by (keys ps)) new) keeps.polygons in
+    let has = All-permutation (λ (s : SidesEntry). Contains (sides_in rs) s) (sides_in rs) new paired_in.moved (λ k d lt. (k, lt, get_or_default (sides_in rs) k _ d lt)) in
+    let all = sided_all rs chains.chains new paired_in.same has in
+    record {
+      map = record {
+        chains = rw (sides_are, all.1) built.chains;
+        sides = rw sides_are all.0;
+        polygons = keeps.polygons;
+        landmarks = linked_in.rows.are;
+      };
+      skipped_lines = built.skipped_lines;
+      no_fault = no_fault rs skipped chains new found l built paired_in numbers_in known_in few_in linked_in;
+    }
+
+-- as many sides as chains, and no more landmarks than the limit
+pub as_many : (rs : List Record) (skipped : ℕ) (chains : ChainList) (old new : List SidesEntry) (sides : List ChainSides) (ks : List PolyKey) → AreBuilt rs skipped chains → ArePaired (tlids chains.chains) old new → sides ≡ map (sided_by ks) new → length sides ≡ length chains.chains
+as_many rs skipped chains old new sides ks built paired are =
+    omega (arith, ap length are, length-map new (sided_by ks), ap length paired.same, length-map new (λ (s : SidesEntry). s.tlid), length-map chains.chains (λ (c : CompleteChain). c.tlid))
+
+-- no more landmarks than the limit
+pub few_rows : (ks : List PolyKey) (entries : List LandmarkEntry) (links : List LinkEntry) (l : LinkedLandmarks) → AreLinked ks entries links l → length l.rows.items ≤ most_landmarks
+few_rows ks entries links l linked =
+    omega (arith, ap length linked.rows.are, length-map l.rows.items (landmark_in l.linked.items), length-map (firsts (λ (e : LandmarkEntry). e.land) entries) (landmark_from ks links), linked.few)

@@ -1,0 +1,65 @@
+use Rattle.std.proofs.Common.{◌≡◌, ◌≢◌, ℕ, zero, suc, ◌+◌, ◌<◌, ◌≤◌, inl, inr, Option, Some, List, [], ◌∷◌, length, map, get_or, Contains, refl, sym, ap, ◌∙◌, arith}
+use Rattle.std.specs.Prelude.{slice_get}
+use Rattle.std.specs.List.Sorted.{IsStrictlyIncreasing, IsPermutation}
+use Rattle.std.proofs.lemmas.Bool.{cases_lt}
+use Rattle.std.proofs.lemmas.Option.{slice_get-get_or}
+use Rattle.std.proofs.lemmas.List.{get_or_default, length-map, get_or-map}
+use Rattle.std.proofs.lemmas.List.Sorted.{IsPermutation-map, IsPermutation-sym, Contains-permutation}
+use Rattle.tl_map.specs.declared.fault.MapFault.{MapFault}
+use Rattle.tl_map.specs.declared.entry.SidesEntry.{SidesEntry}
+use Rattle.tl_map.specs.Keeping.Sided.{sides_tlids, IsUnpaired}
+use Rattle.tl_map.proofs.CountLemmas.{rising_pairs}
+
+-- numbers that rise by neighbours rise
+pub far : (xs : List ℕ) → IsStrictlyIncreasing xs → (i j : ℕ) → i < j → j < length xs → get_or xs i 0 < get_or xs j 0
+far xs up i j before within =
+    rising_pairs (λ (x : ℕ). x) xs (λ k d lt. let one = get_or_default xs k 0 d (omega arith) in let two = get_or_default xs (k + 1) 0 d lt in omega (arith, up k lt, one, two)) i j 0 before within
+
+-- two lists are one up to i, and the i-th of the first isn't in the second
+pub absent : (xs ys : List ℕ) (i x : ℕ) → IsStrictlyIncreasing xs → IsStrictlyIncreasing ys → ((k : ℕ) → k < i → get_or ys k 0 ≡ get_or xs k 0) → i < length xs → get_or xs i 0 ≡ x → (i < length ys → x < get_or ys i 0) → ¬ Contains ys x
+absent xs ys i x up_x up_y same lt at above has =
+    let k = has.0 in
+    let here : get_or ys k 0 ≡ x = get_or_default ys k 0 x has.1 ∙ has.2 in
+    elim (cases_lt k i) [
+      | inl earlier ↦ omega (arith, here, same k earlier, far xs up_x k i earlier lt, at)
+      | inr later ↦ elim (cases_lt i k) [
+        | inl after ↦ omega (arith, here, above (omega (arith, has.1)), far ys up_y i k after has.1)
+        | inr last ↦ let e : k ≡ i = omega arith in let h = rw e at here in omega (arith, h, above (omega (arith, has.1)))
+      ]
+    ]
+
+-- the i-th is in the list
+pub present : (xs : List ℕ) (i x : ℕ) → i < length xs → get_or xs i 0 ≡ x → Contains xs x
+present xs i x lt at = (i, lt, get_or_default xs i x 0 lt ∙ at)
+
+-- what a look-up of a list gives
+pub told : (xs : List ℕ) (i x : ℕ) → i < length xs → slice_get xs i ≡ Some x → get_or xs i 0 ≡ x
+told xs i x lt at = let h = slice_get-get_or xs i 0 lt in cc
+
+-- the TLID of the i-th sides
+pub tlid_at : (sides : List SidesEntry) (i : ℕ) (d : SidesEntry) → i < length sides → get_or (sides_tlids sides) i 0 ≡ (get_or sides i d).tlid
+tlid_at sides i d lt = get_or-map (λ (s : SidesEntry). s.tlid) sides i d 0 lt
+
+-- lists of one length with the same numbers
+pub same_lists : (xs ys : List ℕ) → length xs ≡ length ys → ((k : ℕ) → k < length xs → get_or xs k 0 ≡ get_or ys k 0) → xs ≡ ys
+same_lists [] [] long each = refl
+same_lists [] (y ∷ ys) long each = absurd (omega arith)
+same_lists (x ∷ xs) [] long each = absurd (omega arith)
+same_lists (x ∷ xs) (y ∷ ys) long each =
+    let first : x ≡ y = each 0 (omega arith) in
+    let rest = same_lists xs ys (omega arith) (λ k lt. each (suc k) (omega arith)) in
+    λ i. first i ∷ rest i
+
+-- one number more is the same
+pub same_more : (us ts : List ℕ) (i : ℕ) → ((k : ℕ) → k < i → get_or us k 0 ≡ get_or ts k 0) → get_or us i 0 ≡ get_or ts i 0 → (k : ℕ) → k < i + 1 → get_or us k 0 ≡ get_or ts k 0
+same_more us ts i before here k lt = elim (cases_lt k i) [ inl earlier ↦ before k earlier | inr last ↦ let e : k ≡ i = omega arith in rw e here ]
+
+-- what is unpaired in sorted records is unpaired in the records
+pub unpaired_moved : (ts : List ℕ) (old new : List SidesEntry) (fault : MapFault) → IsPermutation old new → IsUnpaired ts (sides_tlids new) fault → IsUnpaired ts (sides_tlids old) fault
+unpaired_moved ts old new fault moved h =
+    let there = IsPermutation-map (λ (s : SidesEntry). s.tlid) old new moved in
+    let back = IsPermutation-sym (sides_tlids old) (sides_tlids new) there in
+    elim h [
+      | inl chain ↦ inl (chain.0, chain.1, chain.2, λ has. chain.3 (Contains-permutation (sides_tlids old) (sides_tlids new) chain.0 there has))
+      | inr side ↦ inr (side.0, side.1, Contains-permutation (sides_tlids new) (sides_tlids old) side.0 back side.2, side.3)
+    ]

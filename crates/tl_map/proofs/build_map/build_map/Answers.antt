@@ -1,0 +1,61 @@
+use Rattle.std.proofs.Common.{◌≡◌, ◌≤◌, ◌∙◌, length, sym, ap, arith}
+use Rattle.std.proofs.lemmas.List.{length-map}
+use Rattle.std.proofs.lemmas.Result.{err_from_is_err_and}
+use Rattle.tl_map.specs.TheMap.{keys}
+use Rattle.tl_map.specs.Faults.{most_polygons}
+use Rattle.tl_map.proofs.MappedLemmas.{stops_pairing, stops_index, stops_sides, stops_linked, mapped_all, as_many, few_rows}
+use Rattle.tl_map.proofs.build_map.build_map.Goals as goal
+
+pub pair_sides-requires : goal.pair_sides-requires
+pair_sides-requires c = (c.in_ok-chains.ensures c.requires.0 c.requires.1).chains.rising
+
+pub returns-in_err-paired : goal.returns-in_err-paired
+returns-in_err-paired c = λ rs h k.
+    let p = err_from_is_err_and c.from_residual-in_err-paired.result c.from_residual-in_err-paired.ensures.1 in
+    rw (p.1, p.2) (stops_pairing rs c.args.skipped c.in_ok-chains.chains c.args.areas.sides.items c.in_err-paired.field-0.0 (c.in_ok-chains.ensures rs h) k.sides c.in_err-paired.ensures)
+
+pub returns-in_err-index : goal.returns-in_err-index
+returns-in_err-index c = λ rs h k.
+    let p = err_from_is_err_and c.from_residual-in_err-index.result c.from_residual-in_err-index.ensures.1 in
+    rw (p.1, p.2) (stops_index rs c.args.areas.polygons.items c.in_err-index.field-0.0 k.polygons (rw c.deref.ensures.value at c.in_err-index.ensures.stops))
+
+pub returns-in_err-sides : goal.returns-in_err-sides
+returns-in_err-sides c = λ rs h k.
+    let p = err_from_is_err_and c.from_residual-in_err-sides.result c.from_residual-in_err-sides.ensures.1 in
+    rw (p.1, p.2) (stops_sides rs c.args.areas.polygons.items _ c.args.areas.sides.items c.in_ok-paired.paired.items c.in_err-sides.field-0.0 k.polygons k.sides c.in_ok-paired.ensures
+    (rw c.deref-2.ensures.value at (c.in_err-sides.ensures.stops (keys c.args.areas.polygons.items) (rw c.deref.ensures.value at c.in_ok-index.ensures.index))))
+
+pub returns-in_err-linked : goal.returns-in_err-linked
+returns-in_err-linked c = λ rs h k.
+    let p = err_from_is_err_and c.from_residual-in_err-linked.result c.from_residual-in_err-linked.ensures.1 in
+    rw (p.1, p.2) (stops_linked rs c.args.areas.polygons.items c.args.areas.landmarks.items c.args.areas.links.items c.in_err-linked.field-0.0 k.polygons k.landmarks k.links
+    (rw (c.deref-3.ensures.value, c.deref-4.ensures.value) at (c.in_err-linked.ensures (keys c.args.areas.polygons.items) (rw c.deref.ensures.value at c.in_ok-index.ensures.index))))
+
+pub new-requires-clause-paired : goal.new-requires-clause-paired
+new-requires-clause-paired c =
+    let ks = keys c.args.areas.polygons.items in
+    let index = rw c.deref.ensures.value at c.in_ok-index.ensures.index in
+    let are = rw c.deref-2.ensures.value at (c.in_ok-sides.ensures.sides ks index) in
+    as_many c.requires.0 c.args.skipped c.in_ok-chains.chains c.args.areas.sides.items c.in_ok-paired.paired.items c.in_ok-sides.sides.items ks (c.in_ok-chains.ensures c.requires.0 c.requires.1) c.in_ok-paired.ensures are
+
+pub new-requires-clause-landmarks : goal.new-requires-clause-landmarks
+new-requires-clause-landmarks c =
+    let ks = keys c.args.areas.polygons.items in
+    let index = rw c.deref.ensures.value at c.in_ok-index.ensures.index in
+    few_rows ks _ _ c.in_ok-linked.linked (c.in_ok-linked.ensures ks index)
+
+pub new-requires-clause-within : goal.new-requires-clause-within
+new-requires-clause-within c =
+    let ks = keys c.args.areas.polygons.items in
+    let index = rw c.deref.ensures.value at c.in_ok-index.ensures.index in
+    (c.in_ok-linked.ensures ks index).rows.within
+
+pub returns : goal.returns
+returns c = λ rs h k.
+    let ks = keys c.args.areas.polygons.items in
+    let index = rw c.deref.ensures.value at c.in_ok-index.ensures.index in
+    let are = rw c.deref-2.ensures.value at (c.in_ok-sides.ensures.sides ks index) in
+    let known = rw c.deref-2.ensures.value at (c.in_ok-sides.ensures.known ks index) in
+    let few : length c.args.areas.polygons.items ≤ most_polygons = omega (arith, c.len.ensures, c.if-len.false, c.args.areas.polygons.ok.0) in
+    let linked = rw (c.deref-3.ensures.value, c.deref-4.ensures.value) at (c.in_ok-linked.ensures ks index) in
+    rw c.new.ensures (mapped_all rs c.args.skipped c.in_ok-chains.chains c.args.areas c.in_ok-paired.paired.items c.in_ok-sides.sides.items _ c.in_ok-linked.linked (c.in_ok-chains.ensures rs h) k c.in_ok-paired.ensures index known are few linked)

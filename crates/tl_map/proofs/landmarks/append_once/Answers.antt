@@ -1,0 +1,19 @@
+use Rattle.std.proofs.Common.{◌<◌, ◌∙◌, length, get_or, arith}
+use Rattle.std.proofs.lemmas.List.{length-set}
+use Rattle.tl_map.specs.declared.landmarks.Link.{Link}
+use Rattle.tl_map.proofs.MarkLemmas.{Marking, marking_old, marking_new}
+use Rattle.tl_map.proofs.landmarks.append_once.Goals as goal
+use Rattle.tl_map.proofs.landmarks.append_once.Goals.{then-marks-place+in_ok-push, else-marks-place}
+
+pub loop-link-preserved : goal.loop-link-preserved
+loop-link-preserved c =
+    let x : Link = record { landmark = 0; polygon = 0 } in
+    let inside : (get_or c.args.run.now c.loop-link.link-index x).polygon < length c.loop-link.marks = omega (arith, c.requires.inside c.loop-link.link-index x c.loop-link-test.true, c.loop-link.invariant.same) in
+    elim c.if-marks-place.branch [
+      | then-marks-place+in_ok-push w ↦
+          let after = marking_new c.args.run.now c.loop-link.link-index c.args.mark x c.args.linked.now.items c.loop-link.linked.items c.loop-link.marks c.loop-link-test.true inside w.if-marks-place.true c.loop-link.invariant.marking in
+          rw (w.linked-is, w.marks-is, w.in_ok-push.ensures.items) (record { marking = after; same = length-set c.loop-link.marks (get_or c.args.run.now c.loop-link.link-index x).polygon c.args.mark ∙ c.loop-link.invariant.same })
+      | else-marks-place w ↦
+          let after = marking_old c.args.run.now c.loop-link.link-index c.args.mark x c.args.linked.now.items c.loop-link.linked.items c.loop-link.marks c.loop-link-test.true inside w.if-marks-place.false c.loop-link.invariant.marking in
+          rw (w.linked-is, w.marks-is) (record { marking = after; same = c.loop-link.invariant.same })
+    ]

@@ -1,0 +1,24 @@
+use Rattle.std.proofs.Common.{◌<◌, length, arith}
+use Rattle.tl_map.proofs.MapLemmas.{length-sided, chain_read}
+use Rattle.tl_map.proofs.map.Map.chain.Goals as goal
+
+pub tlid-requires : goal.tlid-requires
+tlid-requires c =
+    let wide = length-sided c.self.inside.chains.chains c.self.inside.sides.items c.self.invariant.0 in
+    omega (arith, wide, rw (← c.self.view_is) at c.requires)
+
+pub points-requires : goal.points-requires
+points-requires c =
+    let wide = length-sided c.self.inside.chains.chains c.self.inside.sides.items c.self.invariant.0 in
+    omega (arith, wide, rw (← c.self.view_is) at c.requires)
+
+pub index-sides-requires : goal.index-sides-requires
+index-sides-requires c =
+    let wide = length-sided c.self.inside.chains.chains c.self.inside.sides.items c.self.invariant.0 in
+    omega (arith, wide, c.self.invariant.0, c.self.inside.sides.ok.0, rw (← c.self.view_is) at c.requires)
+
+pub returns : goal.returns
+returns c =
+    let wide = length-sided c.self.inside.chains.chains c.self.inside.sides.items c.self.invariant.0 in
+    let lt : c.args.c < length c.self.inside.chains.chains = omega (arith, wide, rw (← c.self.view_is) at c.requires) in
+    rw (← c.self.view_is) (chain_read c.self.inside.chains.chains c.self.inside.sides.items c.args.c c.tlid.result c.points.result.now c.index-sides.result.now lt c.self.invariant.0 c.tlid.ensures c.points.ensures c.index-sides.ensures)

@@ -1,0 +1,12 @@
+use Rattle.std.proofs.Common.{◌≡◌, length}
+use Rattle.std.specs.BTreeMap.{get}
+use Rattle.tl_map.specs.TheMap.{keys}
+use Rattle.tl_map.specs.Keeping.Index.{key_cmp}
+use Rattle.tl_map.proofs.IndexLemmas.{NumbersUpTo}
+use Rattle.tl_map.proofs.polygons.index_polygons.Given as goal
+
+abbrev pub invariant-loop-polygon : goal.invariant-loop-polygon
+invariant-loop-polygon l = record {
+  number : l.number ≡ l.polygon-index;
+  known : NumbersUpTo (keys l.polygons) l.polygon-index (get key_cmp l.index);
+}

@@ -1,0 +1,19 @@
+use Rattle.std.proofs.Common.{◌≡◌, ◌∙◌, None, Some, sym, ap, refl}
+use Rattle.tl_map.specs.declared.sides.Side.TheVariants.{Polygon}
+use Rattle.tl_map.proofs.IndexLemmas.{place_is, not_known, known_key}
+use Rattle.tl_map.proofs.sides.resolve_side.Goals as goal
+
+pub returns-in-None : goal.returns-in-None
+returns-in-None c = λ ks h. rw c.in-None.is (record { is = refl; known = λ k e. absurd (let f : None ≡ Some k = e in cc) })
+
+pub returns-in-Some-copied : goal.returns-in-Some-copied
+returns-in-Some-copied c = λ ks h.
+    let here = sym c.get.ensures.value ∙ sym c.in-Some-copied.ensures in
+    rw c.in-Some.is (record {
+      is = ap Polygon (sym (place_is ks c.in-Some.polygon c.in-Some-copied.number _ h here));
+      known = λ k e. let same : c.in-Some.polygon ≡ k = cc in rw (← same) (known_key ks c.in-Some.polygon c.in-Some-copied.number _ h here);
+    })
+
+pub returns-in-None-copied : goal.returns-in-None-copied
+returns-in-None-copied c = λ ks h.
+    (c.in-Some.polygon, refl, c.in-Some.is, not_known ks c.in-Some.polygon _ h (sym c.get.ensures.value ∙ sym c.in-None-copied.ensures))

@@ -1,0 +1,12 @@
+use Rattle.std.proofs.Common.{◌≡◌, ℕ, ◌<◌, List, map, take, get_or}
+use Rattle.tl_record.specs.declared.record.PolyKey.{PolyKey}
+use Rattle.tl_map.specs.declared.entry.SidesEntry.{SidesEntry}
+use Rattle.tl_map.specs.Keeping.Index.{Indexes}
+use Rattle.tl_map.specs.Keeping.Sided.{sided_by, NamesKnown}
+use Rattle.tl_map.proofs.sides.resolve_sides.Given as goal
+
+abbrev pub invariant-loop-entry : goal.invariant-loop-entry
+invariant-loop-entry l = record {
+  sides : (ks : List PolyKey) → Indexes ks l.index → l.sides.items ≡ map (sided_by ks) (take l.entry-index l.entries);
+  known : (ks : List PolyKey) → Indexes ks l.index → (j : ℕ) (d : SidesEntry) → j < l.entry-index → NamesKnown ks (get_or l.entries j d);
+}

@@ -1,0 +1,71 @@
+use Rattle.std.proofs.Common.{◌≡◌, ◌∙◌, ◌<◌, ◌≤◌, None, List, length, get_or, sym, refl, inl, inr, arith}
+use Rattle.std.proofs.lemmas.List.{length-map}
+use Rattle.tl_map.specs.declared.entry.SidesEntry.{SidesEntry}
+use Rattle.tl_map.specs.Chains.{CompleteChain, tlids}
+use Rattle.tl_map.specs.Keeping.Sided.{sides_tlids}
+use Rattle.tl_map.proofs.PairLemmas.{absent, present, told, tlid_at, same_lists, same_more}
+use Rattle.tl_map.proofs.sides.unpaired.Goals as goal
+use Rattle.tl_map.proofs.sides.unpaired.Goals.{then-place-sides-via-then-place-sides, then-place-sides-via-else-place-sides+then-tlid-sides}
+
+pub returns-then-place-sides : goal.returns-then-place-sides
+returns-then-place-sides c =
+    let ts : List _ = tlids c.args.chains.now.chains in
+    let us : List _ = sides_tlids c.args.sides.now in
+    let i = c.loop-c.c in
+    let long = length-map c.args.chains.now.chains (λ (x : CompleteChain). x.tlid) in
+    let wide = length-map c.args.sides.now (λ (s : SidesEntry). s.tlid) in
+    let lt : i < length ts = omega (arith, c.loop-c-test.true, c.len-count.ensures, long) in
+    let at = told ts i c.tlid-tlid.result lt c.tlid-tlid.ensures in
+    inl (_, refl, present ts i _ lt at, absent ts us i _ c.requires.chains c.requires.sides c.loop-c.invariant.same lt at (λ within. elim c.then-place-sides.branch [
+      | then-place-sides-via-then-place-sides w ↦ absurd (omega (arith, w.if-place-sides.true, within, wide))
+      | then-place-sides-via-else-place-sides+then-tlid-sides w ↦ let h = tlid_at c.args.sides.now i (record { tlid = 0; start_cell = None; end_cell = None; left = None; right = None }) (omega (arith, within, wide)) in omega (arith, h, w.if-tlid-sides.true)
+    ]))
+
+pub returns-then-sides-place : goal.returns-then-sides-place
+returns-then-sides-place c =
+    let ts : List _ = tlids c.args.chains.now.chains in
+    let us : List _ = sides_tlids c.args.sides.now in
+    let i = c.loop-c.c in
+    let long = length-map c.args.chains.now.chains (λ (x : CompleteChain). x.tlid) in
+    let wide = length-map c.args.sides.now (λ (s : SidesEntry). s.tlid) in
+    let lt : i < length ts = omega (arith, c.loop-c-test.true, c.len-count.ensures, long) in
+    let low : i < length us = omega (arith, c.loop-c.invariant.within, c.if-place-sides.false, wide) in
+    let at = told ts i c.tlid-tlid.result lt c.tlid-tlid.ensures in
+    let of = tlid_at c.args.sides.now i (record { tlid = 0; start_cell = None; end_cell = None; left = None; right = None }) (omega (arith, low, wide)) in
+    inr (_, refl, present us i _ low of, absent us ts i _ c.requires.sides c.requires.chains (λ k h. sym (c.loop-c.invariant.same k h)) low of (λ within. omega (arith, at, c.if-sides-place.true)))
+
+pub loop-c-preserved : goal.loop-c-preserved
+loop-c-preserved c =
+    let ts : List _ = tlids c.args.chains.now.chains in
+    let us : List _ = sides_tlids c.args.sides.now in
+    let i = c.loop-c.c in
+    let long = length-map c.args.chains.now.chains (λ (x : CompleteChain). x.tlid) in
+    let wide = length-map c.args.sides.now (λ (s : SidesEntry). s.tlid) in
+    let lt : i < length ts = omega (arith, c.loop-c-test.true, c.len-count.ensures, long) in
+    let low : i < length us = omega (arith, c.loop-c.invariant.within, c.if-place-sides.false, wide) in
+    let at = told ts i c.tlid-tlid.result lt c.tlid-tlid.ensures in
+    let of = tlid_at c.args.sides.now i (record { tlid = 0; start_cell = None; end_cell = None; left = None; right = None }) (omega (arith, low, wide)) in
+    record {
+      within = omega (arith, low, wide);
+      same = same_more us ts i c.loop-c.invariant.same (omega (arith, at, of, c.if-tlid-sides.false, c.if-sides-place.false));
+    }
+
+pub returns-then-sides-count : goal.returns-then-sides-count
+returns-then-sides-count c =
+    let ts : List _ = tlids c.args.chains.now.chains in
+    let us : List _ = sides_tlids c.args.sides.now in
+    let i = c.len-count.result in
+    let long = length-map c.args.chains.now.chains (λ (x : CompleteChain). x.tlid) in
+    let wide = length-map c.args.sides.now (λ (s : SidesEntry). s.tlid) in
+    let low : i < length us = omega (arith, c.if-sides-count.true, wide) in
+    let of = tlid_at c.args.sides.now i (record { tlid = 0; start_cell = None; end_cell = None; left = None; right = None }) (omega (arith, low, wide)) in
+    inr (_, refl, present us i _ low of, absent us ts i _ c.requires.sides c.requires.chains (λ k h. sym (c.loop-c.invariant.same k (omega (arith, h, c.loop-c-test.false)))) low of (λ within. absurd (omega (arith, within, long, c.len-count.ensures))))
+
+pub returns : goal.returns
+returns c =
+    let ts : List _ = tlids c.args.chains.now.chains in
+    let us : List _ = sides_tlids c.args.sides.now in
+    let long = length-map c.args.chains.now.chains (λ (x : CompleteChain). x.tlid) in
+    let wide = length-map c.args.sides.now (λ (s : SidesEntry). s.tlid) in
+    let same : length us ≡ length ts = omega (arith, wide, long, c.if-sides-count.false, c.loop-c.invariant.within, c.loop-c-test.false, c.len-count.ensures, c.loop-c.auto.c-end) in
+    same_lists us ts same (λ k lt. c.loop-c.invariant.same k (omega (arith, lt, same, long, c.len-count.ensures, c.loop-c-test.false)))

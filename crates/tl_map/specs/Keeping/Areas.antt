@@ -1,0 +1,11 @@
+use Rattle.std.specs.Prelude.{◌≡◌, List}
+use Rattle.tl_record.specs.declared.record.Record.{Record}
+use Rattle.tl_map.specs.declared.areas.AreaRecords.{AreaRecords}
+use Rattle.tl_map.specs.TheMap.{sides_in, polygons_in, landmarks_in, links_in}
+
+-- the type I, P, 7 and 8 records are kept, each in file order
+pub record KeepsAreas (rs : List Record) (a : AreaRecords) : Type 0 where
+  pub sides : a.sides.items ≡ sides_in rs
+  pub polygons : a.polygons.items ≡ polygons_in rs
+  pub landmarks : a.landmarks.items ≡ landmarks_in rs
+  pub links : a.links.items ≡ links_in rs

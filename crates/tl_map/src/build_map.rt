@@ -1,0 +1,46 @@
+//! The map from the collected records.
+
+ghost use Rattle.std.specs.Prelude.{List, MatchResult};
+ghost use Rattle.tl_record.specs.declared.record.Record.{Record};
+ghost use Rattle.tl_map.specs.Keeping.Collected.{Collects};
+ghost use Rattle.tl_map.specs.Keeping.Areas.{KeepsAreas};
+ghost use Rattle.tl_map.specs.Keeping.Mapped.{AreMapped};
+ghost use Rattle.tl_map.specs.Keeping.Built.{StopsBuilding};
+
+use crate::areas::AreaRecords;
+use crate::build::build_chains;
+use crate::collect::Collected;
+use crate::fault::{Limited, MapFault, MapStop, POLYGON_LIMIT};
+use crate::landmarks::build_landmarks;
+use crate::map::Map;
+use crate::polygons::index_polygons;
+use crate::sides::{pair_sides, resolve_sides};
+use std::alloc::Global;
+
+/// The map of the records.
+pub fn build_map(
+    alloc: Global,
+    collected: Collected,
+    areas: AreaRecords,
+    skipped: u64,
+) -> Result<Map, MapStop>
+    // It has collected some records.
+    requires { (rs : List Record) × Collects rs collected × KeepsAreas rs areas }
+    ensures { (rs : List Record) → Collects rs collected → KeepsAreas rs areas → MatchResult result (AreMapped rs skipped) (StopsBuilding rs) }
+{
+    let AreaRecords {
+        sides,
+        polygons,
+        landmarks,
+        links,
+    } = areas;
+    if polygons.len() > POLYGON_LIMIT as usize {
+        return Err(MapStop::Fault(MapFault::TooMany(Limited::Polygons)));
+    }
+    let chains = build_chains(alloc, collected, skipped)?;
+    let paired = pair_sides(&chains, sides)?;
+    let index = index_polygons(alloc, &polygons)?;
+    let sides = resolve_sides(alloc, &index, &paired)?;
+    let linked = build_landmarks(alloc, &index, polygons.len(), &landmarks, &links)?;
+    Ok(Map::new(chains, sides, polygons, linked))
+}

@@ -1,0 +1,147 @@
+//! The map: chains with their sides, polygons, and landmarks with their polygons.
+
+ghost use Rattle.std.specs.Prelude.{◌≡◌, ◌<◌, length, slice_get, Some};
+ghost use Rattle.tl_map.specs.TheMap.{IsChain};
+
+use crate::chains::Chains;
+use crate::landmarks::{LandmarkRow, LinkedLandmarks};
+use crate::polygons::Polygon;
+use crate::sides::{ChainSides, Side};
+use std::marker::Model;
+use tl_geom::Point;
+
+/// The map of a county: chains by rising TLID, polygons in the order of their type P records, landmarks in the order of
+/// their first type 7 record, each numbered from 0. Coordinates are in millionths of a degree.
+#[derive(Drop)]
+pub struct Map {
+    chains: Chains,
+    sides: Vec<ChainSides>,
+    polygons: Vec<Polygon>,
+    rows: Vec<LandmarkRow>,
+    linked: Vec<u32>,
+}
+
+/// A chain of a map: its points from its start to its end, and what lies on both sides of a walker along them.
+#[derive(Clone, Copy, Debug)]
+pub struct Chain<'a> {
+    pub tlid: u64,
+    pub points: &'a [Point],
+    pub left: Side,
+    pub right: Side,
+}
+
+/// A landmark of a map: its point, which an area landmark has not, and the numbers of its polygons in the order of
+/// their first links.
+#[derive(Clone, Copy, Debug)]
+pub struct Landmark<'a> {
+    pub land: u64,
+    pub point: Option<Point>,
+    pub polygons: &'a [u32],
+}
+
+impl Model for Map {
+    ghost use Rattle.std.specs.Prelude.{◌≡◌, ◌≤◌, All, length, map};
+    ghost use Rattle.tl_map.specs.TheMap.{TheMap};
+
+    ghost Value = { TheMap };
+
+    ghost use Rattle.tl_map.specs.Faults.{most_polygons, most_landmarks};
+    ghost use Rattle.tl_map.specs.Keeping.Landmarks.{IsRow, landmark_in};
+    ghost use Rattle.tl_map.specs.Keeping.Mapped.{sided};
+
+    ghost view = { λ m. record { chains = sided m.chains.chains m.sides.items; polygons = m.polygons.items; landmarks = map (landmark_in m.linked.items) m.rows.items; skipped = m.chains.skipped } };
+
+    ghost invariant = { λ m. (length m.sides.items ≡ length m.chains.chains) × (length m.polygons.items ≤ most_polygons) × (length m.rows.items ≤ most_landmarks) × All (IsRow m.linked.items) m.rows.items };
+}
+
+impl Map {
+    ghost use Rattle.std.specs.Prelude.{◌≡◌, ◌≤◌, All, length, map};
+    ghost use Rattle.tl_map.specs.Faults.{most_polygons, most_landmarks};
+    ghost use Rattle.tl_map.specs.Keeping.Landmarks.{IsRow, landmark_in};
+    ghost use Rattle.tl_map.specs.Keeping.Mapped.{sided};
+
+    /// The map of these chains, their sides, the polygons and the landmarks.
+    pub(crate) fn new(
+        chains: Chains,
+        sides: Vec<ChainSides>,
+        polygons: Vec<Polygon>,
+        landmarks: LinkedLandmarks,
+    ) -> Map
+        requires paired { length sides.items ≡ length chains.chains }
+        requires polygons { length polygons.items ≤ most_polygons }
+        requires landmarks { length landmarks.rows.items ≤ most_landmarks }
+        requires within { All (IsRow landmarks.linked.items) landmarks.rows.items }
+        ensures { result ≡ record { chains = sided chains.chains sides.items; polygons = polygons.items; landmarks = map (landmark_in landmarks.linked.items) landmarks.rows.items; skipped = chains.skipped } }
+    {
+        Map {
+            chains,
+            sides,
+            polygons,
+            rows: landmarks.rows,
+            linked: landmarks.linked,
+        }
+    }
+
+    /// How many chains there are.
+    pub fn chains(&self) -> u32
+        ensures { result ≡ length self.now.chains }
+    {
+        self.chains.len()
+    }
+
+    /// How many polygons there are.
+    pub fn polygons(&self) -> u32
+        ensures { result ≡ length self.now.polygons }
+    {
+        self.polygons.len() as u32
+    }
+
+    /// How many landmarks there are.
+    pub fn landmarks(&self) -> u32
+        ensures { result ≡ length self.now.landmarks }
+    {
+        self.rows.len() as u32
+    }
+
+    /// How many lines were passed over.
+    pub fn skipped(&self) -> u64
+        ensures { result ≡ self.now.skipped }
+    {
+        self.chains.skipped()
+    }
+
+    /// A chain by its number.
+    pub fn chain(&self, c: u32) -> Chain<'_>
+        requires { c < length self.now.chains }
+        ensures { IsChain (slice_get self.now.chains c) result.tlid result.points.now result.left result.right }
+    {
+        let sides = self.sides[c as usize];
+        Chain {
+            tlid: self.chains.tlid(c),
+            points: self.chains.points(c),
+            left: sides.left,
+            right: sides.right,
+        }
+    }
+
+    /// A polygon by its number.
+    pub fn polygon(&self, p: u32) -> Polygon
+        requires { p < length self.now.polygons }
+        ensures { slice_get self.now.polygons p ≡ Some result }
+    {
+        self.polygons[p as usize]
+    }
+
+    /// A landmark by its number.
+    pub fn landmark(&self, l: u32) -> Landmark<'_>
+        requires { l < length self.now.landmarks }
+        ensures { slice_get self.now.landmarks l ≡ Some (record { land = result.land; point = result.point; polygons = result.polygons.now }) }
+    {
+        let row = self.rows[l as usize];
+        Landmark {
+            land: row.land,
+            point: row.point,
+            polygons: &self.linked[row.first..row.first + row.count],
+        }
+    }
+}

@@ -1,0 +1,137 @@
+//! What lies on the sides of chains.
+
+ghost use Rattle.std.specs.Prelude.{◌≡◌, ◌≤◌, ◌==◌, List, IfOk, OnOk, IfErr, MatchOption, MatchResult, map, count_by, All};
+ghost use Rattle.std.specs.List.Sorted.{IsNonDecreasingBy, IsStrictlyIncreasing, IsPermutation};
+ghost use Rattle.tl_map.specs.declared.entry.SidesEntry.{SidesEntry};
+ghost use Rattle.tl_map.specs.Chains.{tlids};
+ghost use Rattle.tl_record.specs.declared.record.PolyKey.{PolyKey};
+ghost use Rattle.tl_map.specs.Keeping.Index.{Indexes};
+ghost use Rattle.tl_map.specs.Keeping.Sided.{sided_by, IsSide, NamesKnown, StopsSide, StopsSides, sides_tlids, IsUnpaired, ArePaired, StopsPairing};
+
+use crate::chains::Chains;
+use crate::entry::SidesEntry;
+use crate::fault::{MapFault, MapStop};
+use std::alloc::{AllocError, Global};
+use std::collections::BTreeMap;
+use tl_record::PolyKey;
+
+/// What lies on a side of a chain.
+#[derive(Clone, Copy, Debug, PartialEq, Eq, Hash)]
+pub enum Side {
+    /// Nothing of the county.
+    Outside,
+    /// The polygon of this number.
+    Polygon(u32),
+}
+
+/// What lies on both sides of a chain, seen from its start to its end, and the zero-cell ids of its start and its end.
+#[derive(Clone, Copy, Debug)]
+pub struct ChainSides {
+    pub left: Side,
+    pub right: Side,
+    pub start_cell: Option<u64>,
+    pub end_cell: Option<u64>,
+}
+
+/// What lies on a side of a chain whose record has this key there.
+fn resolve_side(index: &BTreeMap<PolyKey, u32>, key: Option<PolyKey>, tlid: u64) -> Result<Side, MapStop>
+    ensures { (ks : List PolyKey) → Indexes ks index.now → MatchResult result (IsSide ks key) (StopsSide ks key tlid) }
+{
+    match key {
+        None => Ok(Side::Outside),
+        Some(polygon) => match index.get(&polygon).copied() {
+            Some(number) => Ok(Side::Polygon(number)),
+            None => Err(MapStop::Fault(MapFault::SideWithoutPolygon { tlid, polygon })),
+        },
+    }
+}
+
+/// The sides of these records.
+pub fn resolve_sides(
+    alloc: Global,
+    index: &BTreeMap<PolyKey, u32>,
+    entries: &[SidesEntry],
+) -> Result<Vec<ChainSides>, MapStop>
+    ensures sides { (ks : List PolyKey) → Indexes ks index.now → IfOk result (λ sides. sides.items ≡ map (sided_by ks) entries.now) }
+    ensures known { (ks : List PolyKey) → Indexes ks index.now → OnOk result (All (NamesKnown ks) entries.now) }
+    ensures stops { (ks : List PolyKey) → Indexes ks index.now → IfErr result (StopsSides ks entries.now) }
+{
+    let mut sides = Vec::with_capacity(alloc, entries.len())?;
+    for entry in entries {
+        let left = resolve_side(index, entry.left, entry.tlid)?;
+        let right = resolve_side(index, entry.right, entry.tlid)?;
+        sides.push(ChainSides {
+            left,
+            right,
+            start_cell: entry.start_cell,
+            end_cell: entry.end_cell,
+        })?;
+    }
+    Ok(sides)
+}
+
+/// Sorts type I records by TLID.
+fn sort_sides(sides: &mut Vec<SidesEntry>) -> Result<(), AllocError>
+    ensures ordered { OnOk result (IsNonDecreasingBy (λ (s : SidesEntry). s.tlid) sides.new.items) }
+    ensures moved { OnOk result (IsPermutation sides.old.items sides.new.items) }
+{
+    sides.sort_by_key(|entry| entry.tlid)?;
+    Ok(())
+}
+
+/// A TLID that two type I records have, in records sorted by TLID.
+fn repeated_sides(sides: &[SidesEntry]) -> Option<u64>
+    requires { IsNonDecreasingBy (λ (s : SidesEntry). s.tlid) sides.now }
+    ensures { MatchOption result (IsStrictlyIncreasing (sides_tlids sides.now)) (λ t. 2 ≤ count_by (λ s. s.tlid == t) sides.now) }
+{
+    let mut previous = None;
+    for entry in sides {
+        if previous == Some(entry.tlid) {
+            return previous;
+        }
+        previous = Some(entry.tlid);
+    }
+    None
+}
+
+/// A chain without sides, or sides without a chain, where both rise by TLID.
+fn unpaired(chains: &Chains, sides: &[SidesEntry]) -> Option<MapFault>
+    requires chains { IsStrictlyIncreasing (tlids chains.now.chains) }
+    requires sides { IsStrictlyIncreasing (sides_tlids sides.now) }
+    ensures { MatchOption result (sides_tlids sides.now ≡ tlids chains.now.chains) (IsUnpaired (tlids chains.now.chains) (sides_tlids sides.now)) }
+{
+    let count = chains.len();
+    for c in 0..count {
+        let tlid = chains.tlid(c);
+        let place = c as usize;
+        if place == sides.len() || tlid < sides[place].tlid {
+            return Some(MapFault::ChainWithoutSides { tlid });
+        }
+        if sides[place].tlid < tlid {
+            return Some(MapFault::SidesWithoutChain {
+                tlid: sides[place].tlid,
+            });
+        }
+    }
+    if sides.len() > count as usize {
+        return Some(MapFault::SidesWithoutChain {
+            tlid: sides[count as usize].tlid,
+        });
+    }
+    None
+}
+
+/// The type I record of each chain, in the order of the chains, which rise by TLID.
+pub fn pair_sides(chains: &Chains, mut sides: Vec<SidesEntry>) -> Result<Vec<SidesEntry>, MapStop>
+    requires { IsStrictlyIncreasing (tlids chains.now.chains) }
+    ensures { MatchResult result (λ made. ArePaired (tlids chains.now.chains) sides.items made.items) (StopsPairing (tlids chains.now.chains) sides.items) }
+{
+    sort_sides(&mut sides)?;
+    if let Some(tlid) = repeated_sides(&sides) {
+        return Err(MapStop::Fault(MapFault::DuplicateSides { tlid }));
+    }
+    if let Some(fault) = unpaired(chains, &sides) {
+        return Err(MapStop::Fault(fault));
+    }
+    Ok(sides)
+}
