@@ -18,3 +18,4 @@ pub mod LinkedLemmas
 pub mod PairLemmas
 pub mod MapLemmas
 pub mod MappedLemmas
+pub mod GatherLemmas

@@ -8,7 +8,8 @@ use Rattle.tl_record.specs.Records.{Records}
 use Rattle.tl_map.specs.declared.fault.MapStop.{MapStop}
 use Rattle.tl_map.specs.declared.fault.MapStop.TheVariants.{Refused, Device, Memory, Fault}
 use Rattle.tl_map.specs.Chains.{ChainList, AreChainsOf}
-use Rattle.tl_map.specs.Faults.{IsTrueOf, HaveNoChainFault}
+use Rattle.tl_map.specs.Faults.{IsTrueOf, HaveNoChainFault, HaveNoFault}
+use Rattle.tl_map.specs.TheMap.{TheMap, IsMapOf}
 
 -- the records, without the numbers of their lines
 abbrev pub records_in : Records → List Record
@@ -20,6 +21,13 @@ pub record AreReadFrom (all : Records) (c : ChainList) : Type 0 where
   pub no_fault : HaveNoChainFault (records_in all)
   pub chains : AreChainsOf (records_in all) c.chains
   pub skipped_lines : c.skipped ≡ all.skipped
+
+-- the map is that of the text: no line is refused, and its records have no fault
+pub record IsReadFrom (all : Records) (m : TheMap) : Type 0 where
+  pub no_refusal : all.refusal ≡ None
+  pub no_fault : HaveNoFault (records_in all)
+  pub map : IsMapOf (records_in all) m
+  pub skipped_lines : m.skipped ≡ all.skipped
 
 -- why the text gives no map: a read failed, memory was refused, this line is the first that is refused, or none is
 -- refused and the records have the fault

@@ -29,5 +29,5 @@ pub use fault::{
 };
 pub use map::{Chain, Landmark, Map};
 pub use polygons::Polygon;
-pub use read::read_chains;
+pub use read::{read_chains, read_chains_with, read_map, read_map_with};
 pub use sides::Side;

@@ -1,19 +1,22 @@
-//! Chains from the bytes of record files.
+//! Chains and maps from the bytes of record files.
 
 ghost use Rattle.std.specs.Prelude.{◌≡◌, IfOk, IfErr, IfSome};
 ghost use Rattle.tl_record.specs.declared.reader.Standing.TheVariants.{Reading};
-ghost use Rattle.tl_record.specs.Layout.{tiger_2006};
+ghost use Rattle.tl_record.specs.Layout.{tiger_2006, layout_with};
 ghost use Rattle.tl_record.specs.Records.{records_of};
 ghost use Rattle.tl_record.specs.Reader.{source_of, skipped_of, standing_of, outcome};
-ghost use Rattle.tl_map.specs.Reading.{AreReadFrom, StopsReading, TellsDevice};
-ghost use Rattle.tl_map.specs.Keeping.Gathering.{Gathers, StopsGathering};
+ghost use Rattle.tl_map.specs.Reading.{AreReadFrom, IsReadFrom, StopsReading, TellsDevice};
+ghost use Rattle.tl_map.specs.Keeping.Gathering.{Gathers, GathersAll, StopsGathering};
 
+use crate::areas::AreaRecords;
 use crate::build::build_chains;
+use crate::build_map::build_map;
 use crate::chains::Chains;
 use crate::collect::Collected;
 use crate::fault::MapStop;
+use crate::map::Map;
 use std::alloc::Global;
-use tl_record::{RecordReader, Source};
+use tl_record::{Options, RecordReader, Source};
 
 /// Collects all records that a reader has to give.
 fn collect_records<R: Source>(
@@ -36,7 +39,33 @@ fn collect_records<R: Source>(
     }
 }
 
-/// Reads the chains of a county from the text of its record files, types 1 and 2.
+/// Collects all records that a reader has to give, those of the types I, P, 7 and 8 too.
+fn collect_all<R: Source>(
+    alloc: Global,
+    reader: &mut RecordReader<R>,
+) -> Result<(Collected, AreaRecords), MapStop>
+    requires { standing_of reader.old ≡ Reading }
+    ensures all { IfOk result (λ made. GathersAll (outcome R.remaining reader.old) (skipped_of reader.new) made.0 made.1) }
+    ensures stops { IfErr result (StopsGathering (outcome R.remaining reader.old)) }
+    ensures failures { TellsDevice (R.failure_count (source_of reader.old)) (R.failure_count (source_of reader.new)) result }
+    ensures same_reference { R.reference (source_of reader.new) ≡ R.reference (source_of reader.old) }
+{
+    let mut collected = Collected::new(alloc);
+    let mut areas = AreaRecords::new(alloc);
+    'records: loop {
+        match reader.next_record() {
+            Ok(Some((_, next))) => {
+                collected.add(&next)?;
+                areas.add(&next)?;
+            }
+            Ok(None) => return Ok((collected, areas)),
+            Err(stop) => return Err(MapStop::from(stop)),
+        }
+    }
+}
+
+/// Reads the chains of a county from the text of its record files, types 1 and 2, by the columns of [`Options`]'s
+/// default.
 ///
 /// All lines are read before a fault of the records is answered.
 pub fn read_chains<R: Source>(alloc: Global, records: &mut R) -> Result<Chains, MapStop>
@@ -50,6 +79,52 @@ pub fn read_chains<R: Source>(alloc: Global, records: &mut R) -> Result<Chains, 
     let mut reader = RecordReader::new(records);
     let collected = collect_records(alloc, &mut reader)?;
     build_chains(alloc, collected, reader.skipped())
+}
+
+/// Reads the chains of a county as [`read_chains`] does, with the columns that the options choose of type I.
+pub fn read_chains_with<R: Source>(
+    alloc: Global,
+    records: &mut R,
+    options: Options,
+) -> Result<Chains, MapStop>
+    ensures chains { IfOk result (λ c. IfSome (R.remaining records.old) (λ text. AreReadFrom (records_of (layout_with options) text) c)) }
+    ensures stops { IfErr result (λ stop. IfSome (R.remaining records.old) (λ text. StopsReading (records_of (layout_with options) text) stop)) }
+    ensures failures { TellsDevice (R.failure_count records.old) (R.failure_count records.new) result }
+{
+    let mut reader = RecordReader::with(records, options);
+    let collected = collect_records(alloc, &mut reader)?;
+    build_chains(alloc, collected, reader.skipped())
+}
+
+/// Reads the map of a county from the text of its record files, by the columns of [`Options`]'s default.
+///
+/// All lines are read before a fault of the records is answered.
+pub fn read_map<R: Source>(alloc: Global, records: &mut R) -> Result<Map, MapStop>
+    // Where the bytes are known: the map of their records, where no line is refused and no fault is true.
+    ensures map { IfOk result (λ m. IfSome (R.remaining records.old) (λ text. IsReadFrom (records_of tiger_2006 text) m)) }
+    // The first refused line, or where there is none, a fault that is true.
+    ensures stops { IfErr result (λ stop. IfSome (R.remaining records.old) (λ text. StopsReading (records_of tiger_2006 text) stop)) }
+    // `Device` is answered where a read failed in this call, and nowhere else.
+    ensures failures { TellsDevice (R.failure_count records.old) (R.failure_count records.new) result }
+{
+    let mut reader = RecordReader::new(records);
+    let (collected, areas) = collect_all(alloc, &mut reader)?;
+    build_map(alloc, collected, areas, reader.skipped())
+}
+
+/// Reads the map of a county as [`read_map`] does, with the columns that the options choose of type I.
+pub fn read_map_with<R: Source>(
+    alloc: Global,
+    records: &mut R,
+    options: Options,
+) -> Result<Map, MapStop>
+    ensures map { IfOk result (λ m. IfSome (R.remaining records.old) (λ text. IsReadFrom (records_of (layout_with options) text) m)) }
+    ensures stops { IfErr result (λ stop. IfSome (R.remaining records.old) (λ text. StopsReading (records_of (layout_with options) text) stop)) }
+    ensures failures { TellsDevice (R.failure_count records.old) (R.failure_count records.new) result }
+{
+    let mut reader = RecordReader::with(records, options);
+    let (collected, areas) = collect_all(alloc, &mut reader)?;
+    build_map(alloc, collected, areas, reader.skipped())
 }
 
 #[cfg(test)]

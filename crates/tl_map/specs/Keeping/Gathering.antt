@@ -4,6 +4,8 @@ use Rattle.tl_record.specs.Records.{Records}
 use Rattle.tl_map.specs.declared.collect.Collected.{Collected}
 use Rattle.tl_map.specs.declared.fault.MapStop.{MapStop}
 use Rattle.tl_map.specs.declared.fault.MapStop.TheVariants.{Refused, Device, Memory, Fault}
+use Rattle.tl_map.specs.declared.areas.AreaRecords.{AreaRecords}
+use Rattle.tl_map.specs.Keeping.Areas.{KeepsAreas}
 use Rattle.tl_map.specs.Keeping.Collected.{Collects}
 use Rattle.tl_map.specs.Reading.{records_in}
 
@@ -17,6 +19,19 @@ pub record GathersSoFar (at_first now : Option Records) (c : Collected) : Type 0
 pub record Gathers (at_first : Option Records) (skipped : ℕ) (c : Collected) : Type 0 where
   pub records : List Record
   pub kept : Collects records c
+  pub known : IfSome at_first (λ all. (records_in all ≡ records) × (all.refusal ≡ None) × (all.skipped ≡ skipped))
+
+-- the same with the records of all types
+pub record GathersAllSoFar (at_first now : Option Records) (c : Collected) (a : AreaRecords) : Type 0 where
+  pub records : List Record
+  pub kept : Collects records c
+  pub areas : KeepsAreas records a
+  pub known : IfSome at_first (λ all. (rest : Records) × (now ≡ Some rest) × (records_in all ≡ records ++ records_in rest) × (all.refusal ≡ rest.refusal) × (all.skipped ≡ rest.skipped))
+
+pub record GathersAll (at_first : Option Records) (skipped : ℕ) (c : Collected) (a : AreaRecords) : Type 0 where
+  pub records : List Record
+  pub kept : Collects records c
+  pub areas : KeepsAreas records a
   pub known : IfSome at_first (λ all. (records_in all ≡ records) × (all.refusal ≡ None) × (all.skipped ≡ skipped))
 
 -- why not all records come
