@@ -1,7 +1,7 @@
 //! Keys of polygons as they are printed.
 
 ghost use Rattle.std.specs.Prelude.{◌≡◌};
-ghost use Rattle.tl_record.specs.KeyText.{shown_byte};
+ghost use Rattle.tl_record.specs.KeyText.{shown_byte, shown_cenid};
 
 use crate::record::PolyKey;
 use std::fmt;
@@ -13,6 +13,22 @@ fn shown(byte: u8) -> char
     if byte == b' ' { '_' } else { char::from(byte) }
 }
 
+impl PolyKey {
+    /// The five bytes of the CENID as they are printed, each blank as an underscore.
+    pub fn shown_cenid(&self) -> [char; 5]
+        ensures { result ≡ shown_cenid self.now }
+    {
+        let cenid = self.cenid;
+        [
+            shown(cenid[0]),
+            shown(cenid[1]),
+            shown(cenid[2]),
+            shown(cenid[3]),
+            shown(cenid[4]),
+        ]
+    }
+}
+
 impl fmt::Display for PolyKey {
     ghost use Rattle.std.specs.Prelude.{Some};
     ghost use Rattle.tl_record.specs.KeyText.{key_text};
@@ -21,12 +37,7 @@ impl fmt::Display for PolyKey {
 
     /// The five bytes of the CENID, each blank as `_`, then `/` and the POLYID.
     fn fmt<W: fmt::Write>(&self, f: &mut fmt::Formatter<W>) -> fmt::Result {
-        let cenid = self.cenid;
-        let first = shown(cenid[0]);
-        let second = shown(cenid[1]);
-        let third = shown(cenid[2]);
-        let fourth = shown(cenid[3]);
-        let fifth = shown(cenid[4]);
+        let [first, second, third, fourth, fifth] = self.shown_cenid();
         let polyid = self.polyid;
         write!(f, "{first}{second}{third}{fourth}{fifth}/{polyid}")
     }

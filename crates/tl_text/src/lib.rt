@@ -6,11 +6,13 @@
 #![tactic(auto)]
 
 mod joined;
+mod landmarks;
 mod line;
 mod output;
 mod print;
 
 pub use joined::Joined;
+pub use landmarks::print_landmarks;
 pub use line::{LineStop, print_line};
 pub use output::{OutputBuffer, write_all};
 pub use print::print_chains;

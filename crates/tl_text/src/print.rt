@@ -74,7 +74,8 @@ fn print_chain<S: Sink>(
     buffer.add(b"\n", out)
 }
 
-fn print_point<S: Sink>(point: Point, buffer: &mut OutputBuffer, out: &mut S) -> io::Result<()>
+/// Writes a blank, the longitude, a comma and the latitude. An error says that a write failed.
+pub fn print_point<S: Sink>(point: Point, buffer: &mut OutputBuffer, out: &mut S) -> io::Result<()>
     ensures bytes { OnOk result (Appends (append_known (S.contents out.old) buffer.old)
         (append_known (S.contents out.new) buffer.new) (point_text point)) }
     ensures failures { CountsFailure (S.failure_count out.old) (S.failure_count out.new) result }
