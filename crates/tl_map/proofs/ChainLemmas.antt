@@ -17,7 +17,7 @@ use Rattle.tl_map.specs.declared.fault.Limited.TheVariants.{Chains, Segments}
 use Rattle.tl_map.specs.declared.fault.MapFault.TheVariants.{DuplicateChain, ShapeWithoutChain, ShapeSequence, ShapeGap, DegenerateChain, TooMany}
 use Rattle.tl_map.specs.declared.fault.MapStop.{MapStop}
 use Rattle.tl_map.specs.declared.fault.MapStop.TheVariants.{Refused, Device, Memory, Fault}
-use Rattle.tl_map.specs.Chains.{is_chain, shape_count, pairs_up_to, pairs_of, used, same_point, points_between, segments_by, segments_of, CompleteChain, ChainList, tlids, segment_count, IsDrawn, AreChainsOf}
+use Rattle.tl_map.specs.Chains.{is_chain, shape_count, pairs_up_to, pairs_of, used, same_point, points_between, segments_by, segments_of, CompleteChain, ChainList, tlids, segment_count, IsDrawn, AreChainsOf, IsProper}
 use Rattle.tl_map.specs.Faults.{IsStray, IsDegenerate, AreJoined, IsTrueOf, HaveNoChainFault}
 use Rattle.tl_map.specs.Keeping.Entries.{by_chain, AreChainEntries, entry_points, AreShapeEntries, chains_with, AreRising, has_tlid, shapes_with, ArePlaced, joined}
 use Rattle.tl_map.specs.Keeping.Rows.{StopsJoin}
@@ -26,6 +26,7 @@ use Rattle.tl_map.proofs.CountLemmas.{none_counted, one_counted, sum_by-same, ri
 use Rattle.tl_map.proofs.SequenceLemmas.{numbered_from_placed}
 use Rattle.tl_map.proofs.GapLemmas.{used-append, shapes_with_is, IsNumbered-from_entries, pairs_more}
 use Rattle.tl_map.proofs.CollectLemmas.{chain_count_is}
+use Rattle.tl_map.proofs.ProperLemmas.{proper_dedup}
 
 -- the used points of a TLID, with one entry more
 used_more : (rs : List Record) (pool : List Point) (entries : List ShapeEntry) (d : ShapeEntry) (t i : ℕ) → AreShapeEntries rs pool entries → ArePlaced entries → i < length entries → used (pairs_up_to rs t (shapes_with t (take i entries))) ≡ flat_map (entry_points pool) (filter (has_tlid t) (take i entries)) → used (pairs_up_to rs t (shapes_with t (take (i + 1) entries))) ≡ flat_map (entry_points pool) (filter (has_tlid t) (take (i + 1) entries))
@@ -244,5 +245,6 @@ built rs pool chains shapes skipped (Ok c) are have sound room ok several few er
   chains = AreChainsOf-joined rs pool chains shapes are have sound;
   skipped_lines = refl;
   no_fault = HaveNoChainFault-joined rs pool chains shapes are have sound room several few;
+  proper = All-map (λ (x : CompleteChain). IsProper x.points) (joined pool shapes) chains (λ k d lt. proper_dedup (get_or chains k d).from _ (several k d lt));
 })
 built rs pool chains shapes skipped (Err stop) are have sound room ok several few err = StopsBuilding-joined rs pool chains shapes stop are have sound err

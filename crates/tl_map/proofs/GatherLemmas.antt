@@ -27,7 +27,8 @@ gathers_more (Some all) now new skipped line r c d a b gives chains areas before
       kept = chains before.records before.kept;
       areas = areas before.records before.areas;
       known = (
-        more.0, more.1,
+        more.0,
+        more.1,
         before.known.2 ∙ ap (λ (x : Records). before.records ++ records_in x) more.2 ∙ sym (append_assoc before.records (r ∷ []) (records_in more.0)),
         before.known.3 ∙ ap (λ (x : Records). x.refusal) more.2,
         before.known.4 ∙ ap (λ (x : Records). x.skipped) more.2,

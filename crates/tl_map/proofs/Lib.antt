@@ -19,3 +19,4 @@ pub mod PairLemmas
 pub mod MapLemmas
 pub mod MappedLemmas
 pub mod GatherLemmas
+pub mod ProperLemmas

@@ -66,8 +66,14 @@ linked_all ks entries f found links old new l lists numbers all sorted are = rec
 pub stops_linking : (ks : List PolyKey) (entries : List LandmarkEntry) (f : FirstLandmarks) (links : List LinkEntry) (stop : MapStop) → ListsLandmarks entries f → StopsLinks ks (lands f.firsts.items) links stop → StopsLinking ks entries links stop
 stops_linking ks entries f links stop lists why = elim why [
   | inl memory ↦ inl (inl memory)
-  | inr link ↦ inr (link.0, link.1, link.2, link.3, elim link.4 [
-    | inl landmark ↦ inl (landmark.0, λ has. landmark.1 (lists.all link.1.land has))
-    | inr polygon ↦ inr polygon
-  ])
+  | inr link ↦ inr (
+    link.0,
+    link.1,
+    link.2,
+    link.3,
+    elim link.4 [
+      | inl landmark ↦ inl (landmark.0, λ has. landmark.1 (lists.all link.1.land has))
+      | inr polygon ↦ inr polygon
+    ],
+  )
 ]

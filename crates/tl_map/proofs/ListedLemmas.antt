@@ -29,10 +29,10 @@ pub row_more : (links : List Link) (firsts_all : List LandmarkEntry) (i l : ℕ)
 row_more links all i l d linked more rows first count lt number at long is within before = (
   All-push (IsRow (linked ++ more)) rows row (All-weaker (IsRow linked) (IsRow (linked ++ more)) (λ r h. omega (arith, length-append linked more, h)) rows within) (omega (arith, length-append linked more)),
   ap (λ ms. ms ++ listed links (i + 1) (drop (i + 1) all)) (map_push (landmark_in (linked ++ more)) rows row ∙ ap (λ ms. ms ++ landmark_in (linked ++ more) row ∷ []) (stays rows within))
-  ∙ append_assoc (map (landmark_in linked) rows) (landmark_in (linked ++ more) row ∷ []) (listed links (i + 1) (drop (i + 1) all))
-  ∙ ap (λ m. map (landmark_in linked) rows ++ m ∷ listed links (i + 1) (drop (i + 1) all)) this
-  ∙ ap (λ ms. map (landmark_in linked) rows ++ ms) (sym (at_drop_more (listed links i) all i d lt))
-  ∙ before,
+      ∙ append_assoc (map (landmark_in linked) rows) (landmark_in (linked ++ more) row ∷ []) (listed links (i + 1) (drop (i + 1) all))
+      ∙ ap (λ m. map (landmark_in linked) rows ++ m ∷ listed links (i + 1) (drop (i + 1) all)) this
+      ∙ ap (λ ms. map (landmark_in linked) rows ++ ms) (sym (at_drop_more (listed links i) all i d lt))
+      ∙ before,
 )
   where
     row : LandmarkRow

@@ -3,7 +3,7 @@ use Rattle.std.specs.Prelude.{slice_get}
 use Rattle.std.proofs.lemmas.Option.{slice_get-get_or}
 use Rattle.tl_geom.specs.declared.point.Point.{Point}
 use Rattle.tl_map.specs.declared.sides.ChainSides.{ChainSides}
-use Rattle.tl_map.specs.Chains.{CompleteChain, tlids}
+use Rattle.tl_map.specs.Chains.{CompleteChain, tlids, IsProper}
 use Rattle.tl_map.specs.TheMap.{MapChain, IsChain}
 use Rattle.tl_map.specs.Keeping.Mapped.{with_sides, sided}
 use Rattle.tl_map.proofs.IndexLemmas.{slice_get-image}
@@ -36,3 +36,16 @@ chain_read cs ss i t ps s lt same tlid points at =
       left_is = refl;
       right_is = refl;
     }
+
+-- the points of a chain are proper
+pub proper_read : (cs : List CompleteChain) (i : ℕ) (ps : List Point) → i < length cs → slice_get (map (λ (c : CompleteChain). c.points) cs) i ≡ Some ps → All (λ (c : CompleteChain). IsProper c.points) cs → IsProper ps
+proper_read cs i ps lt points all =
+    let d : CompleteChain = record { tlid = 0; points = [] } in
+    let two = slice_get-image (λ (x : CompleteChain). x.points) cs i d lt in
+    let same : (get_or cs i d).points ≡ ps = cc in
+    rw (← same) (all i d lt)
+
+-- the sides of a chain at a place
+pub sides_read : (cs : List CompleteChain) (ss : List ChainSides) (i : ℕ) (s : ChainSides) → i < length cs → length ss ≡ length cs → s ≡ get_or ss i s → slice_get (sided cs ss) i ≡ Some (with_sides (get_or cs i (record { tlid = 0; points = [] })) s)
+sides_read cs ss i s lt same at =
+    slice_get-sided cs ss i _ s (slice_get-get_or cs i (record { tlid = 0; points = [] }) lt) (slice_get-get_or ss i s (omega arith) ∙ ap Some (sym at))

@@ -1,5 +1,5 @@
 -- The chains that a list of records draws: each chain's points, and all chains by rising TLID.
-use Rattle.std.specs.Prelude.{◌≡◌, ℕ, zero, suc, ◌-◌, Bool, true, false, ◌&&◌, ◌==◌, if◌then◌else◌, Option, Some, None, List, [], ◌∷◌, ◌++◌, length, map, sum_by, count_by, All, Contains}
+use Rattle.std.specs.Prelude.{◌≡◌, ◌≢◌, ◌<◌, ◌≤◌, ◌+◌, slice_index_or, ℕ, zero, suc, ◌-◌, Bool, true, false, ◌&&◌, ◌==◌, if◌then◌else◌, Option, Some, None, List, [], ◌∷◌, ◌++◌, length, map, sum_by, count_by, All, Contains}
 use Rattle.std.specs.Ordering.{int_eq}
 use Rattle.std.specs.List.{dedup}
 use Rattle.std.specs.List.Sorted.{IsStrictlyIncreasing}
@@ -116,3 +116,8 @@ pub record AreChainsOf (rs : List Record) (chains : List CompleteChain) : Type 0
   pub drawn : All (IsDrawn rs) chains
   pub complete : (t : ℕ) (from to : Point) → Contains rs (Chain t from to) → Contains (tlids chains) t
   pub segments : segment_count chains ≡ segments_of rs
+
+-- two points or more, where neighbours differ
+pub record IsProper (points : List Point) : Type 0 where
+  pub several : 2 ≤ length points
+  pub distinct : (k : ℕ) (d : Point) → k + 1 < length points → slice_index_or points k d ≢ slice_index_or points (k + 1) d

@@ -1,5 +1,6 @@
 pub mod Chains
 pub mod TheMap
+pub mod Darts
 pub mod Faults
 pub mod Messages
 pub mod Reading

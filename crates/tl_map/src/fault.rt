@@ -107,13 +107,19 @@ impl fmt::Display for MapFault {
                 write!(f, "map fault M8 DuplicatePolygon polygon {polygon}")
             }
             MapFault::SideWithoutPolygon { tlid, polygon } => {
-                write!(f, "map fault M9 SideWithoutPolygon tlid {tlid} polygon {polygon}")
+                write!(
+                    f,
+                    "map fault M9 SideWithoutPolygon tlid {tlid} polygon {polygon}"
+                )
             }
             MapFault::LinkWithoutLandmark { land } => {
                 write!(f, "map fault M10 LinkWithoutLandmark land {land}")
             }
             MapFault::LinkWithoutPolygon { polygon, land } => {
-                write!(f, "map fault M11 LinkWithoutPolygon polygon {polygon} land {land}")
+                write!(
+                    f,
+                    "map fault M11 LinkWithoutPolygon polygon {polygon} land {land}"
+                )
             }
             MapFault::DegenerateChain { tlid } => {
                 write!(f, "map fault M12 DegenerateChain tlid {tlid}")

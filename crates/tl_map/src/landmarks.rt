@@ -24,10 +24,7 @@ pub struct FirstLandmarks {
 }
 
 /// The first record of each LAND, by their order.
-pub fn first_landmarks(
-    alloc: Global,
-    entries: &[LandmarkEntry],
-) -> Result<FirstLandmarks, MapStop>
+pub fn first_landmarks(alloc: Global, entries: &[LandmarkEntry]) -> Result<FirstLandmarks, MapStop>
     ensures ok { IfOk result (ListsLandmarks entries.now) }
     ensures stops { IfErr result (StopsLandmarks entries.now) }
 {
@@ -63,9 +60,7 @@ fn resolve_link(
     let landmark = match landmarks.get(&link.land).copied() {
         Some(landmark) => landmark,
         None => {
-            return Err(MapStop::Fault(MapFault::LinkWithoutLandmark {
-                land: link.land,
-            }));
+            return Err(MapStop::Fault(MapFault::LinkWithoutLandmark { land: link.land }));
         }
     };
     match polygons.get(&link.key).copied() {

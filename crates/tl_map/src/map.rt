@@ -1,6 +1,7 @@
 //! The map: chains with their sides, polygons, and landmarks with their polygons.
 
-ghost use Rattle.std.specs.Prelude.{◌≡◌, ◌<◌, length, slice_get, Some};
+ghost use Rattle.std.specs.Prelude.{◌≡◌, ◌≢◌, ◌<◌, ◌-ℤ◌, length, slice_get, Some};
+ghost use Rattle.tl_map.specs.Darts.{directed};
 ghost use Rattle.tl_map.specs.TheMap.{IsChain};
 
 use crate::chains::Chains;
@@ -8,7 +9,7 @@ use crate::landmarks::{LandmarkRow, LinkedLandmarks};
 use crate::polygons::Polygon;
 use crate::sides::{ChainSides, Side};
 use std::marker::Model;
-use tl_geom::Point;
+use tl_geom::{Direction, Point};
 
 /// The map of a county: chains by rising TLID, polygons in the order of their type P records, landmarks in the order of
 /// their first type 7 record, each numbered from 0. Coordinates are in millionths of a degree.
@@ -46,17 +47,20 @@ impl Model for Map {
     ghost Value = { TheMap };
 
     ghost use Rattle.tl_map.specs.Faults.{most_polygons, most_landmarks};
+    ghost use Rattle.tl_map.specs.Chains.{CompleteChain, IsProper};
     ghost use Rattle.tl_map.specs.Keeping.Landmarks.{IsRow, landmark_in};
     ghost use Rattle.tl_map.specs.Keeping.Mapped.{sided};
 
     ghost view = { λ m. record { chains = sided m.chains.chains m.sides.items; polygons = m.polygons.items; landmarks = map (landmark_in m.linked.items) m.rows.items; skipped = m.chains.skipped } };
 
-    ghost invariant = { λ m. (length m.sides.items ≡ length m.chains.chains) × (length m.polygons.items ≤ most_polygons) × (length m.rows.items ≤ most_landmarks) × All (IsRow m.linked.items) m.rows.items };
+    ghost invariant = { λ m. (length m.sides.items ≡ length m.chains.chains) × (length m.polygons.items ≤ most_polygons) × (length m.rows.items ≤ most_landmarks) × All (IsRow m.linked.items) m.rows.items × All (λ (c : CompleteChain). IsProper c.points) m.chains.chains };
 }
 
 impl Map {
-    ghost use Rattle.std.specs.Prelude.{◌≡◌, ◌≤◌, All, length, map};
+    ghost use Rattle.std.specs.Prelude.{◌≡◌, ◌<◌, ◌≤◌, ◌*◌, All, length, map};
+    ghost use Rattle.tl_map.specs.Darts.{dart_start as dart_start_of, dart_end as dart_end_of, dart_left as dart_left_of, dart_cell as dart_cell_of, Heads};
     ghost use Rattle.tl_map.specs.Faults.{most_polygons, most_landmarks};
+    ghost use Rattle.tl_map.specs.Chains.{CompleteChain, IsProper};
     ghost use Rattle.tl_map.specs.Keeping.Landmarks.{IsRow, landmark_in};
     ghost use Rattle.tl_map.specs.Keeping.Mapped.{sided};
 
@@ -71,6 +75,7 @@ impl Map {
         requires polygons { length polygons.items ≤ most_polygons }
         requires landmarks { length landmarks.rows.items ≤ most_landmarks }
         requires within { All (IsRow landmarks.linked.items) landmarks.rows.items }
+        requires proper { All (λ (c : CompleteChain). IsProper c.points) chains.chains }
         ensures { result ≡ record { chains = sided chains.chains sides.items; polygons = polygons.items; landmarks = map (landmark_in landmarks.linked.items) landmarks.rows.items; skipped = chains.skipped } }
     {
         Map {
@@ -113,7 +118,8 @@ impl Map {
     /// A chain by its number.
     pub fn chain(&self, c: u32) -> Chain<'_>
         requires { c < length self.now.chains }
-        ensures { IsChain (slice_get self.now.chains c) result.tlid result.points.now result.left result.right }
+        ensures chain { IsChain (slice_get self.now.chains c) result.tlid result.points.now result.left result.right }
+        ensures points { IsProper result.points.now }
     {
         let sides = self.sides[c as usize];
         Chain {
@@ -143,5 +149,78 @@ impl Map {
             point: row.point,
             polygons: &self.linked[row.first..row.first + row.count],
         }
+    }
+
+    /// The point where a dart starts: dart 2c runs along chain c, dart 2c + 1 against it.
+    pub fn dart_start(&self, d: u32) -> Point
+        requires { d < 2 * length self.now.chains }
+        ensures { dart_start_of self.now.chains d ≡ Some result }
+    {
+        point_along(self.chain(d / 2).points, d % 2 == 0, 0)
+    }
+
+    /// The point where a dart ends.
+    pub fn dart_end(&self, d: u32) -> Point
+        requires { d < 2 * length self.now.chains }
+        ensures { dart_end_of self.now.chains d ≡ Some result }
+    {
+        point_along(self.chain(d / 2).points, d % 2 != 0, 0)
+    }
+
+    /// The direction from a dart's first point to its second.
+    pub fn dart_heading(&self, d: u32) -> Direction
+        requires { d < 2 * length self.now.chains }
+        ensures { Heads self.now.chains d result }
+    {
+        let points = self.chain(d / 2).points;
+        let first = point_along(points, d % 2 == 0, 0);
+        let second = point_along(points, d % 2 == 0, 1);
+        heading(first, second)
+    }
+
+    /// What lies on the left of a dart.
+    pub fn dart_left(&self, d: u32) -> Side
+        requires { d < 2 * length self.now.chains }
+        ensures { dart_left_of self.now.chains d ≡ Some result }
+    {
+        let chain = self.chain(d / 2);
+        if d % 2 == 0 { chain.left } else { chain.right }
+    }
+
+    /// The zero-cell id at the start of a dart, where ids are read and this one is given.
+    pub fn dart_cell(&self, d: u32) -> Option<u64>
+        requires { d < 2 * length self.now.chains }
+        ensures { dart_cell_of self.now.chains d ≡ Some result }
+    {
+        let sides = self.sides[(d / 2) as usize];
+        if d % 2 == 0 {
+            sides.start_cell
+        } else {
+            sides.end_cell
+        }
+    }
+}
+
+/// A point of a chain by its place, counted from the first point or from the last.
+fn point_along(points: &[Point], forward: bool, place: usize) -> Point
+    requires { place < length points.now }
+    ensures { slice_get (directed forward points.now) place ≡ Some result }
+{
+    if forward {
+        points[place]
+    } else {
+        points[points.len() - 1 - place]
+    }
+}
+
+/// The direction from one point to another.
+fn heading(first: Point, second: Point) -> Direction
+    requires { first ≢ second }
+    ensures x { result.x ≡ second.x -ℤ first.x }
+    ensures y { result.y ≡ second.y -ℤ first.y }
+{
+    match Direction::between(first, second) {
+        Some(direction) => direction,
+        None => unreachable!(),
     }
 }

@@ -34,7 +34,11 @@ pub struct ChainSides {
 }
 
 /// What lies on a side of a chain whose record has this key there.
-fn resolve_side(index: &BTreeMap<PolyKey, u32>, key: Option<PolyKey>, tlid: u64) -> Result<Side, MapStop>
+fn resolve_side(
+    index: &BTreeMap<PolyKey, u32>,
+    key: Option<PolyKey>,
+    tlid: u64,
+) -> Result<Side, MapStop>
     ensures { (ks : List PolyKey) → Indexes ks index.now → MatchResult result (IsSide ks key) (StopsSide ks key tlid) }
 {
     match key {

@@ -4,7 +4,7 @@ use Rattle.tl_map.specs.declared.entry.ChainEntry.{ChainEntry}
 use Rattle.tl_map.specs.declared.entry.ShapeEntry.{ShapeEntry}
 use Rattle.tl_map.specs.declared.fault.MapStop.{MapStop}
 use Rattle.tl_map.specs.declared.fault.MapStop.TheVariants.{Refused, Device, Memory, Fault}
-use Rattle.tl_map.specs.Chains.{ChainList, AreChainsOf, has_gap, pairs_of}
+use Rattle.tl_map.specs.Chains.{CompleteChain, IsProper, ChainList, AreChainsOf, has_gap, pairs_of}
 use Rattle.tl_map.specs.Faults.{IsTrueOf, HaveNoChainFault}
 use Rattle.tl_map.specs.Keeping.Entries.{chains_with, AreRising, ArePlaced}
 
@@ -20,6 +20,7 @@ pub record AreBuilt (rs : List Record) (skipped : ℕ) (c : ChainList) : Type 0 
   pub chains : AreChainsOf rs c.chains
   pub skipped_lines : c.skipped ≡ skipped
   pub no_fault : HaveNoChainFault rs
+  pub proper : All (λ (x : CompleteChain). IsProper x.points) c.chains
 
 -- why the records give no chains: memory was refused, or they have the fault
 abbrev pub StopsBuilding : List Record → MapStop → Type 0

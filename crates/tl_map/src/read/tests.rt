@@ -1,3 +1,5 @@
+mod map;
+
 use crate::chains::Chains;
 use crate::fault::{Limited, MapFault, MapStop};
 use crate::plain::plain_points;

@@ -50,6 +50,9 @@ new-requires-clause-within c =
     let index = rw c.deref.ensures.value at c.in_ok-index.ensures.index in
     (c.in_ok-linked.ensures ks index).rows.within
 
+pub new-requires-clause-proper : goal.new-requires-clause-proper
+new-requires-clause-proper c = (c.in_ok-chains.ensures c.requires.0 c.requires.1).proper
+
 pub returns : goal.returns
 returns c = λ rs h k.
     let ks = keys c.args.areas.polygons.items in

@@ -9,8 +9,11 @@ use Rattle.tl_map.proofs.landmarks.first_landmarks.Goals.{then-is_none+else-len+
 
 pub returns-then-len-clause-stops : goal.returns-then-len-clause-stops
 returns-then-len-clause-stops c =
-    inr (refl, too_many c.args.entries.now c.loop-entry.entry-index _ c.loop-entry.firsts.items _ c.loop-entry-test.true
-    (sym c.get.ensures.value ∙ sym c.copied.ensures ∙ none_told c.copied.result c.if-is_none.ensures) (omega (arith, c.len.ensures, c.if-len.true, c.loop-entry.firsts.ok.0)) c.loop-entry.invariant)
+    inr (
+      refl,
+      too_many c.args.entries.now c.loop-entry.entry-index _ c.loop-entry.firsts.items _ c.loop-entry-test.true
+          (sym c.get.ensures.value ∙ sym c.copied.ensures ∙ none_told c.copied.result c.if-is_none.ensures) (omega (arith, c.len.ensures, c.if-len.true, c.loop-entry.firsts.ok.0)) c.loop-entry.invariant,
+    )
 
 pub loop-entry-preserved : goal.loop-entry-preserved
 loop-entry-preserved c = elim c.if-is_none.branch [

@@ -19,7 +19,7 @@ loop-entry-preserved c =
     let more : List ℕ = firsts (λ p. p) (map (λ (m : Link). m.polygon) (take (e - s) (drop s links))) in
     let long = ap length c.in_ok-append_once.ensures.linked in
     let row = row_more links c.args.firsts.now c.loop-entry.entry-index l _ c.loop-entry.linked.items more c.loop-entry.rows.items c.len-first.result (c.len.result - c.len-first.result) c.loop-entry-test.true c.loop-entry.invariant.number
-        (omega (arith, c.len-first.ensures, c.loop-entry.linked.ok.0)) (omega (arith, c.len-first.ensures, c.len.ensures, c.loop-entry.linked.ok.0, c.append_once.new.linked.ok.0, long, length-append c.loop-entry.linked.items more)) (ap (λ (ms : List Link). firsts (λ p. p) (map (λ (m : Link). m.polygon) ms)) (sym run)) c.loop-entry.invariant.rows c.loop-entry.invariant.are in
+    (omega (arith, c.len-first.ensures, c.loop-entry.linked.ok.0)) (omega (arith, c.len-first.ensures, c.len.ensures, c.loop-entry.linked.ok.0, c.append_once.new.linked.ok.0, long, length-append c.loop-entry.linked.items more)) (ap (λ (ms : List Link). firsts (λ p. p) (map (λ (m : Link). m.polygon) ms)) (sym run)) c.loop-entry.invariant.rows c.loop-entry.invariant.are in
     let back = whole_back c.append_once.new.marks c.loop-entry.marks.items c.loop-entry.marks.len (c.append_once.ensures.length ∙ ap length c.deref_mut.ensures.value) c.loop-entry.marks.ok.0 in
     record {
       within = c.links_end-end.ensures.within;

@@ -16,10 +16,15 @@ returns-then-place-sides c =
     let wide = length-map c.args.sides.now (λ (s : SidesEntry). s.tlid) in
     let lt : i < length ts = omega (arith, c.loop-c-test.true, c.len-count.ensures, long) in
     let at = told ts i c.tlid-tlid.result lt c.tlid-tlid.ensures in
-    inl (_, refl, present ts i _ lt at, absent ts us i _ c.requires.chains c.requires.sides c.loop-c.invariant.same lt at (λ within. elim c.then-place-sides.branch [
-      | then-place-sides-via-then-place-sides w ↦ absurd (omega (arith, w.if-place-sides.true, within, wide))
-      | then-place-sides-via-else-place-sides+then-tlid-sides w ↦ let h = tlid_at c.args.sides.now i (record { tlid = 0; start_cell = None; end_cell = None; left = None; right = None }) (omega (arith, within, wide)) in omega (arith, h, w.if-tlid-sides.true)
-    ]))
+    inl (
+      _,
+      refl,
+      present ts i _ lt at,
+      absent ts us i _ c.requires.chains c.requires.sides c.loop-c.invariant.same lt at (λ within. elim c.then-place-sides.branch [
+        | then-place-sides-via-then-place-sides w ↦ absurd (omega (arith, w.if-place-sides.true, within, wide))
+        | then-place-sides-via-else-place-sides+then-tlid-sides w ↦ let h = tlid_at c.args.sides.now i (record { tlid = 0; start_cell = None; end_cell = None; left = None; right = None }) (omega (arith, within, wide)) in omega (arith, h, w.if-tlid-sides.true)
+      ]),
+    )
 
 pub returns-then-sides-place : goal.returns-then-sides-place
 returns-then-sides-place c =
