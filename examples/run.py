@@ -1,5 +1,5 @@
 #!/usr/bin/env python3
-"""Runs the commands of examples/README.md, from the top of the repository, and compares what they print, each stream by
+"""Runs the commands of the pages below, from the top of the repository, and compares what they print, each stream by
 itself: lines of refusals and stops belong to standard error, all others to standard output."""
 
 import re
@@ -8,6 +8,7 @@ import sys
 from pathlib import Path
 
 TOP = Path(__file__).resolve().parent.parent
+PAGES = ["examples/README.md", "docs/faults.md"]
 
 
 def steps(text):
@@ -27,9 +28,8 @@ def streams_of(printed):
 
 def play_all():
     """How many commands print what the page says, and how many don't."""
-    page = Path(__file__).resolve().parent / "README.md"
     status = count = failed = 0
-    for command, wanted in steps(page.read_text()):
+    for command, wanted in (step for page in PAGES for step in steps((TOP / page).read_text())):
         # The shell keeps no status from one command to the next.
         command = command.replace("$?", str(status))
         done = subprocess.run(command, shell=True, cwd=TOP, capture_output=True, text=True)

@@ -5,6 +5,7 @@ A line is written as words: what it is, its values, and changes of single fields
     chain TLID X,Y X,Y                  type 1: a chain's start and end
     shape TLID RTSQ X,Y X,Y ..          type 2: up to ten points; `-` leaves a pair blank
     sides TLID LEFT RIGHT               type I: keys as A0001/1; `-` leaves a side blank
+    released TLID LEFT RIGHT            type I by the released files' columns, with a FILE
     point KEY X,Y                       type P
     land LAND [X,Y]                     type 7
     link KEY LAND                       type 8
@@ -25,7 +26,8 @@ COLUMNS = {
         **{f"LONG{k}": (19 * k, 19 * k + 9) for k in range(1, 11)},
         **{f"LAT{k}": (19 * k + 10, 19 * k + 18) for k in range(1, 11)},
     },
-    "I": {"TLID": (6, 15), "CENIDL": (41, 45), "POLYIDL": (46, 55), "CENIDR": (56, 60), "POLYIDR": (61, 70)},
+    "I": {"TLID": (6, 15), "TZIDS": (21, 30), "TZIDE": (31, 40), "CENIDL": (41, 45), "POLYIDL": (46, 55), "CENIDR": (56, 60), "POLYIDR": (61, 70)},
+    "released": {"FILE": (6, 10), "TLID": (11, 20), "CENIDL": (41, 45), "POLYIDL": (46, 55), "CENIDR": (56, 60), "POLYIDR": (61, 70)},
     "P": {"CENID": (11, 15), "POLYID": (16, 25), "POLYLONG": (26, 35), "POLYLAT": (36, 44)},
     "7": {"LAND": (11, 20), "LALONG": (55, 64), "LALAT": (65, 73)},
     "8": {"CENID": (11, 15), "POLYID": (16, 25), "LAND": (26, 35)},
@@ -62,6 +64,10 @@ def values_of(kind, words):
     if kind == "sides":
         tlid, left, right, *rest = words
         return "I", {"TLID": tlid, **key(left, "CENIDL", "POLYIDL"), **key(right, "CENIDR", "POLYIDR")}, rest
+    if kind == "released":
+        tlid, left, right, *rest = words
+        sides = {**key(left, "CENIDL", "POLYIDL"), **key(right, "CENIDR", "POLYIDR")}
+        return "released", {"FILE": "24001", "TLID": tlid, **sides}, rest
     if kind == "point":
         name, at, *rest = words
         return "P", {**key(name, "CENID", "POLYID"), **point(at, "POLYLONG", "POLYLAT")}, rest
@@ -90,7 +96,7 @@ def line_of(text):
         record, values, line = "", {}, bytearray(byte.encode() * int(count))
     else:
         record, values, changes = values_of(kind, rest.split())
-        line = bytearray(record.encode() + b"0000")
+        line = bytearray((record if len(record) == 1 else "I").encode() + b"0000")
     end, cut = b"\n", None
     for change in changes:
         name, _, value = change.partition("=")

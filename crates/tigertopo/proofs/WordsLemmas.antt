@@ -2,8 +2,7 @@
 use Rattle.std.proofs.Common.{◌≡◌, ◌≢◌, ◌⊎◌, ◌<◌, inl, inr, ℕ, true, List, [], Option, Some, None, refl, sym, ap, ap₂, subst, ◌∙◌, Result, Ok, Err, length, map, option_map, unwrap_or, codes, arith, vec_len, Vec, String, Global, Bor}
 use Rattle.std.specs.Prelude.{string_bytes, option_and_then}
 use Rattle.std.proofs.lemmas.List.{length-map}
-use Rattle.clap.specs.Walk.{Row, all_of}
-use Rattle.tigertopo.specs.declared.plan.Plan.TheVariants.{Show}
+use Rattle.clap.specs.Walk.{Row, all_of, first_of}
 use Rattle.clap.specs.Values.{kind_of}
 use Rattle.clap.specs.Walk.{Text}
 use Rattle.clap.specs.Simple.{App, is_simple, subcommand_rows, subcommand_rows_of}
@@ -22,7 +21,7 @@ use Rattle.clap.specs.declared.error.kind.ErrorKind.TheVariants.{OutOfMemory}
 use Rattle.clap.proofs.OnLiterals.{clap_on_literals}
 use Rattle.tigertopo.specs.declared.plan.PlanStop.{PlanStop}
 use Rattle.tigertopo.specs.declared.plan.PlanStop.TheVariants.{Usage, Help, Memory}
-use Rattle.tigertopo.specs.CommandLine.{command_line, AreAUse, HasMistake, HasAnswer, IsStopOf, StopsPlanning, named_in, IsFor, IsWhole, Request}
+use Rattle.tigertopo.specs.CommandLine.{command_line, AreAUse, HasMistake, HasAnswer, IsStopOf, StopsPlanning, named_in, request_in, IsWhole, Request, show_name, landmarks_name}
 
 pub is_simple-command_line : is_simple command_line ≡ true
 unfolding clap_on_literals
@@ -46,51 +45,47 @@ stops_for words kind (Usage text) is passes kinds =
 stops_for words kind (Help text) is passes kinds = (λ use_of. is.0 (passes use_of.taken), (kind, among _ kind is.0 kinds, is.1))
 stops_for words kind Memory is passes kinds = tt
 
-module _ (found : Option (Text × List Row)) where
-  -- the command show was found, and this was given for its files
-  request_is : (rows : List Row) → option_map (λ p. p.0) found ≡ Some (codes "show") → option_map (λ p. p.1) found ≡ Some rows
-      → named_in found ≡ Some (codes "show", all_of (codes "files") rows)
-  request_is rows name arguments = go found name arguments where
-    go : (found : Option (Text × List Row)) → option_map (λ p. p.0) found ≡ Some (codes "show")
-        → option_map (λ p. p.1) found ≡ Some rows → named_in found ≡ Some (codes "show", all_of (codes "files") rows)
-    go None name arguments = cc
-    go (Some (command, given)) name arguments =
-        let show : command ≡ codes "show" = cc in
-        let same : given ≡ rows = cc in
-        ap₂ (λ (a : Text) (b : List Row). Some (a, all_of (codes "files") b)) show same
+module _ (found : Option (Text × List Row)) (name : Text) (rows : List Row) (is_named : option_map (λ p. p.0) found ≡ Some name) (is_given : option_map (λ p. p.1) found ≡ Some rows) where
+  -- a command of this name was found, with these arguments
+  request_is : named_in found ≡ Some (request_in (name, rows))
+  request_is = go found is_named is_given where
+    go : (found : Option (Text × List Row)) → option_map (λ p. p.0) found ≡ Some name → option_map (λ p. p.1) found ≡ Some rows
+        → named_in found ≡ Some (request_in (name, rows))
+    go None named given = cc
+    go (Some (command, arguments)) named given =
+        let same_name : command ≡ name = cc in
+        let same_rows : arguments ≡ rows = cc in
+        ap₂ (λ (a : Text) (b : List Row). Some (request_in (a, b))) same_name same_rows
 
-  -- the files that were given make a plan
-  pub plan_found : (rows : List Row) (files : Vec (String Global) Global) → option_map (λ p. p.0) found ≡ Some (codes "show")
-      → option_map (λ p. p.1) found ≡ Some rows → map string_bytes files.items ≡ unwrap_or (all_of (codes "files") rows) []
-      → 0 < length files.items → length files.items ≡ vec_len files → IsFor (named_in found) (Show files)
-  plan_found rows files name arguments given some size =
-      let whole = given_some (all_of (codes "files") rows) (map string_bytes files.items) given (rw length-map some) in record {
-        same = request_is rows name arguments ∙ ap (λ (g : Option (List Text)). Some (codes "show", g)) whole;
-        files = rw (← size) some;
-      } where
-        given_some : (g : Option (List Text)) (names : List Text) → names ≡ unwrap_or g [] → 0 < length names → g ≡ Some names
-        given_some None names e some = absurd (omega (arith, ap length e))
-        given_some (Some given) names e some = ap Some (sym e)
+  given_some : (g : Option (List Text)) (names : List Text) → names ≡ unwrap_or g [] → 0 < length names → g ≡ Some names
+  given_some None names e some = absurd (omega (arith, ap length e))
+  given_some (Some given) names e some = ap Some (sym e)
 
-  -- where none was given there is no plan
-  pub none_given : (rows : List Row) (files : Vec (String Global) Global) → option_map (λ p. p.0) found ≡ Some (codes "show")
-      → option_map (λ p. p.1) found ≡ Some rows → map string_bytes files.items ≡ unwrap_or (all_of (codes "files") rows) []
-      → length files.items ≡ 0 → ¬ IsWhole (named_in found)
-  none_given rows files name arguments given none whole =
-      let same = sym (request_is rows name arguments) ∙ whole.same in
-      let names : all_of (codes "files") rows ≡ Some whole.files = ap (option_and_then (λ (p : Request). p.1)) same in
-      let empty : length (map string_bytes files.items) ≡ length whole.files = ap length given ∙ ap (λ (g : Option (List Text)). length (unwrap_or g [])) names in
-      let size : length (map string_bytes files.items) ≡ 0 = rw length-map none in
+  -- the request for this command, where files were given
+  pub request_found : (files : List Text) → files ≡ unwrap_or (all_of (codes "files") rows) [] → 0 < length files
+      → named_in found ≡ Some (record { command = name; files = Some files; released = first_of (codes "released") rows })
+  request_found files given some =
+      request_is ∙ ap (λ (g : Option (List Text)). Some (record { command = name; files = g; released = first_of (codes "released") rows }))
+      (given_some (all_of (codes "files") rows) files given some)
+
+  -- where none was given the request isn't whole
+  pub none_given : (files : List Text) → files ≡ unwrap_or (all_of (codes "files") rows) [] → length files ≡ 0 → ¬ IsWhole (named_in found)
+  none_given files given none whole =
+      let same = sym request_is ∙ whole.same in
+      let names : all_of (codes "files") rows ≡ Some whole.files = ap (option_and_then (λ (r : Request). r.files)) same in
+      let size : length files ≡ length whole.files = ap length given ∙ ap (λ (g : Option (List Text)). length (unwrap_or g [])) names in
       omega (arith, whole.some_file)
 
-  -- where another command was found, or none
-  pub other_command : ((option_map (λ p. p.0) found ≡ Some (codes "show")) → ⊥) → ¬ IsWhole (named_in found)
-  other_command other whole = go found other whole.same where
-    go : (found : Option (Text × List Row)) → ((option_map (λ p. p.0) found ≡ Some (codes "show")) → ⊥)
-        → named_in found ≡ Some (codes "show", Some whole.files) → ⊥
-    go None other same = cc
-    go (Some (command, given)) other same =
-        other (ap (option_map (λ (p : Request). p.0)) same)
+-- where another command was found, or none
+pub other_command : (found : Option (Text × List Row)) → ((option_map (λ p. p.0) found ≡ Some show_name) → ⊥)
+    → ((option_map (λ p. p.0) found ≡ Some landmarks_name) → ⊥) → ¬ IsWhole (named_in found)
+other_command found not_show not_landmarks whole = elim whole.known [
+  | inl show ↦ not_show (name_in found ∙ ap (option_map (λ (r : Request). r.command)) whole.same ∙ ap Some show)
+  | inr landmarks ↦ not_landmarks (name_in found ∙ ap (option_map (λ (r : Request). r.command)) whole.same ∙ ap Some landmarks)
+] where
+  name_in : (found : Option (Text × List Row)) → option_map (λ p. p.0) found ≡ option_map (λ (r : Request). r.command) (named_in found)
+  name_in None = refl
+  name_in (Some (command, given)) = refl
 
 -- the name of the command that was found
 pub name_found : (m : ArgMatches) → option_map (λ p. p.0) (subcommand_rows_of m) ≡ subcommand_name_of m

@@ -1,5 +1,5 @@
 -- What the program answers to its words.
-use Rattle.std.specs.Prelude.{◌≡◌, ◌≢◌, ◌⊎◌, ℕ, List, [], All, ⊤}
+use Rattle.std.specs.Prelude.{◌≡◌, ◌≢◌, ◌⊎◌, ℕ, List, [], None, All, ⊤}
 use Rattle.clap.specs.Faults.{fault_of}
 use Rattle.clap.specs.Walk.{Text}
 use Rattle.tigertopo.specs.declared.plan.Plan.{Plan}
@@ -8,15 +8,23 @@ use Rattle.tigertopo.specs.declared.stop.Stop.TheVariants.{Refused, Memory, Devi
 use Rattle.tigertopo.specs.declared.stop.TheConstants.{USAGE}
 use Rattle.tigertopo.specs.CommandLine.{command_line, AskFor, AreAUse, HasMistake, HasAnswer}
 use Rattle.tigertopo.specs.Plans.{escape}
-use Rattle.tigertopo.specs.Running.{IsRunStatus}
+use Rattle.tigertopo.specs.Running.{IsRunStatus, IsAnswered, NamesFault, NamesRefusal, layout_of}
 
 -- the statuses of the program
 abbrev pub IsStartStatus : ℕ → Type 0
 IsStartStatus status = IsRunStatus status ⊎ (status ≡ USAGE)
 
--- the words ask for a plan
-abbrev pub AskForSome : List Text → Type 0
-AskForSome words = (plan : Plan) × AskFor words plan
+-- the words ask for a plan, and its answer was written
+abbrev pub AnswersSome : List Text → (List ℕ → Type 0) → Type 0
+AnswersSome words wrote = (plan : Plan) × AskFor words plan × IsAnswered plan None wrote
+
+-- the words ask for a plan, and a fault of its records was named
+abbrev pub FaultsSome : List Text → (List ℕ → Type 0) → Type 0
+FaultsSome words wrote = (plan : Plan) × AskFor words plan × NamesFault (layout_of plan) None wrote
+
+-- the words ask for a plan, and the first refusal of its records was told
+abbrev pub RefusesSome : List Text → (List ℕ → Type 0) → Type 0
+RefusesSome words wrote = (plan : Plan) × AskFor words plan × NamesRefusal (layout_of plan) None wrote
 
 -- the words are no use of a command, and a text without an escape was written
 pub record ShowsUsage (words : List Text) (wrote : List ℕ → Type 0) : Type 0 where

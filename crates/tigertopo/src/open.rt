@@ -5,8 +5,8 @@ ghost use Rattle.tl_text.specs.Joining.{joined_bytes};
 ghost use Rattle.tl_text.specs.Writing.{Writes, TriesToWrite, FailsToWrite};
 ghost use Rattle.tigertopo.specs.declared.stop.TheConstants.{DONE, MAP_FAULT, REFUSED, STOPPED, USAGE};
 ghost use Rattle.tigertopo.specs.declared.stop.Stop.TheVariants.{Memory, Device};
-ghost use Rattle.tigertopo.specs.Running.{IsShown, NamesFault, NamesRefusal, NamesStop, IsRunStatus};
-ghost use Rattle.tigertopo.specs.Starting.{IsStartStatus, ShowsUsage, ShowsHelp, AskForSome, StopsOpening};
+ghost use Rattle.tigertopo.specs.Running.{IsAnswered, NamesFault, NamesRefusal, NamesStop, IsRunStatus, layout_of};
+ghost use Rattle.tigertopo.specs.Starting.{IsStartStatus, ShowsUsage, ShowsHelp, AnswersSome, FaultsSome, RefusesSome, StopsOpening};
 
 use crate::plan::{Plan, PlanStop};
 use crate::run::run;
@@ -37,16 +37,13 @@ pub fn start<R: Files, W: Sink, E: Sink>(
         (TriesToWrite E.contents E.failure_count err.old err.new) }
     // The output grew by the answer to what the words ask for, or by the help that they ask for.
     ensures done { result ≡ DONE
-        → (AskForSome (map string_bytes words.now)
-        × IsShown None (Writes W.contents W.failure_count out.old out.new))
+        → AnswersSome (map string_bytes words.now) (Writes W.contents W.failure_count out.old out.new)
         ⊎ ShowsHelp (map string_bytes words.now) (Writes W.contents W.failure_count out.old out.new) }
     // The words ask for a plan, and the output or `err` grew by the line that its run writes.
     ensures fault { result ≡ MAP_FAULT
-        → AskForSome (map string_bytes words.now)
-        × NamesFault None (Writes W.contents W.failure_count out.old out.new) }
+        → FaultsSome (map string_bytes words.now) (Writes W.contents W.failure_count out.old out.new) }
     ensures refused { result ≡ REFUSED
-        → AskForSome (map string_bytes words.now)
-        × NamesRefusal None (TriesToWrite E.contents E.failure_count err.old err.new) }
+        → RefusesSome (map string_bytes words.now) (TriesToWrite E.contents E.failure_count err.old err.new) }
     ensures stopped { result ≡ STOPPED
         → NamesStop (TriesToWrite E.contents E.failure_count err.old err.new) ⊤ }
     // The other stream stays as it was.
@@ -95,17 +92,17 @@ pub fn open_and_run<R: Files, W: Sink, E: Sink>(
     err: &mut E,
 ) -> u8
     ensures status { IsRunStatus result }
-    ensures shown { result ≡ DONE → IsShown None (Writes W.contents W.failure_count out.old out.new) }
-    ensures fault { result ≡ MAP_FAULT → NamesFault None (Writes W.contents W.failure_count out.old out.new) }
+    ensures answered { result ≡ DONE → IsAnswered plan.now None (Writes W.contents W.failure_count out.old out.new) }
+    ensures fault { result ≡ MAP_FAULT
+        → NamesFault (layout_of plan.now) None (Writes W.contents W.failure_count out.old out.new) }
     ensures refused { result ≡ REFUSED
-        → NamesRefusal None (TriesToWrite E.contents E.failure_count err.old err.new) }
+        → NamesRefusal (layout_of plan.now) None (TriesToWrite E.contents E.failure_count err.old err.new) }
     ensures stopped { result ≡ STOPPED
         → NamesStop (TriesToWrite E.contents E.failure_count err.old err.new) ⊤ }
     ensures err_stays { (result ≡ DONE) ⊎ (result ≡ MAP_FAULT) → err.new ≡ err.old }
     ensures out_stays { result ≡ REFUSED → out.new ≡ out.old }
 {
-    let Plan::Show { files } = plan;
-    let readers = match open_all(rt, alloc, files.as_slice()) {
+    let readers = match open_all(rt, alloc, plan.files()) {
         Ok(readers) => readers,
         Err(stop) => return stopped(&stop, err),
     };
@@ -126,14 +123,14 @@ pub fn run_on_readers<F: Read + Drop, S: Source, C: Sink, W: Sink, E: Sink>(
     err: &mut E,
 ) -> u8
     ensures status { IsRunStatus result }
-    ensures shown { result ≡ DONE
-        → IsShown (joined_bytes F.remaining false readers.items)
+    ensures answered { result ≡ DONE
+        → IsAnswered plan.now (joined_bytes F.remaining false readers.items)
         (Writes W.contents W.failure_count out.old out.new) }
     ensures fault { result ≡ MAP_FAULT
-        → NamesFault (joined_bytes F.remaining false readers.items)
+        → NamesFault (layout_of plan.now) (joined_bytes F.remaining false readers.items)
         (Writes W.contents W.failure_count out.old out.new) }
     ensures refused { result ≡ REFUSED
-        → NamesRefusal (joined_bytes F.remaining false readers.items)
+        → NamesRefusal (layout_of plan.now) (joined_bytes F.remaining false readers.items)
         (TriesToWrite E.contents E.failure_count err.old err.new) }
     ensures stopped { result ≡ STOPPED
         → NamesStop (TriesToWrite E.contents E.failure_count err.old err.new) ⊤ }

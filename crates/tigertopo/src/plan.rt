@@ -4,12 +4,37 @@ ghost use Rattle.std.specs.Prelude.{◌≡◌};
 ghost use Rattle.tigertopo.specs.declared.plan.PlanStop.TheVariants.{Memory};
 
 use std::alloc::AllocError;
+use tl_record::Options;
 
-/// What the program is asked to do.
+/// What the program is asked to do with record files, which are read one after the other as one text, by the columns
+/// that the options choose.
 #[derive(Debug, Drop)]
 pub enum Plan {
-    /// To print the chains of these record files, which are read one after the other as one text.
-    Show { files: Vec<String> },
+    /// To print the chains.
+    Show {
+        options: Options,
+        files: Vec<String>,
+    },
+    /// To print the landmarks with their polygons.
+    Landmarks {
+        options: Options,
+        files: Vec<String>,
+    },
+}
+
+impl Plan {
+    ghost use Rattle.std.specs.Prelude.{◌≡◌, map, string_bytes};
+    ghost use Rattle.tigertopo.specs.CommandLine.{files_of};
+
+    /// The names of the record files.
+    pub fn files(&self) -> &[String]
+        ensures { map string_bytes result.now ≡ files_of self.now }
+    {
+        match self {
+            Plan::Show { files, .. } => files.as_slice(),
+            Plan::Landmarks { files, .. } => files.as_slice(),
+        }
+    }
 }
 
 /// Why the words are no plan.

@@ -1,11 +1,12 @@
 //! What the words of the command line ask for.
 
-ghost use Rattle.std.specs.Prelude.{◌≡◌, false, IfOk, IfErr, map, string_bytes};
+ghost use Rattle.std.specs.Prelude.{◌≡◌, ◌↔◌, false, IfOk, IfErr, IsTrue, [], codes, map, option_map, unwrap_or, string_bytes};
 ghost use Rattle.clap.specs.Values.{kind_of};
 ghost use Rattle.clap.specs.Simple.{app_of, subcommand_rows_of};
-ghost use Rattle.clap.specs.Walk.{rule_of};
+ghost use Rattle.clap.specs.Walk.{rule_of, rows_of, all_of, first_of};
+ghost use Rattle.clap.specs.Matches.{found_of};
 ghost use Rattle.clap.specs.declared.builder.command.Command.TheViews.{out-Command as fields_of};
-ghost use Rattle.tigertopo.specs.CommandLine.{command_line, show_command as show_app, files_argument as files_rule, AskFor, StopsPlanning, IsStopOf, IsPlanOf, named_in};
+ghost use Rattle.tigertopo.specs.CommandLine.{program, command_line, command_on_files as app_on_files, released_argument as released_rule, files_argument as files_rule, AreChosen, AskFor, StopsPlanning, IsStopOf, IsPlanOf, named_in};
 ghost use Rattle.tigertopo.specs.Plans.{plain_text, HasNoEscape, ShowsNoEscape};
 
 use crate::plan::{Plan, PlanStop};
@@ -13,12 +14,14 @@ use clap::error::ErrorKind;
 use clap::{Arg, ArgAction, ArgMatches, Command, Error};
 use std::alloc::{AllocError, Global};
 use std::convert::AsStr;
+use tl_record::Options;
 
 const ABOUT: &str = "Checks the topology of TIGER/Line 2006 record files";
 
 const EXAMPLES: &str = "\
 Examples:
   tigertopo show TGR24001.RT1 TGR24001.RT2    prints each chain's TLID and points
+  tigertopo landmarks --released TGR24001.RT* prints each landmark and its polygons
 
 Exit status:
   0   done, or help was asked for
@@ -37,6 +40,17 @@ Each chain is a line `tlid T X,Y X,Y ..`, in millionths of a degree, and the las
 
 Example:
   tigertopo show TGR24001.RT1 TGR24001.RT2";
+
+const LANDMARKS_ABOUT: &str =
+    "Prints each landmark with its polygons, in the order of the landmarks' first records";
+
+const LANDMARKS_EXAMPLE: &str = "\
+Each landmark is a line `land N area polygons P P ..` or `land N point X,Y polygons P ..`, where a
+polygon is its CENID (each blank as _), `/` and its POLYID, and no polygon is `none`. The last line
+is `landmarks=K`.
+
+Example:
+  tigertopo landmarks --released TGR24001.RT*";
 
 /// The plan that the words after the program's name stand for. `PlanStop::Usage` comes for words that are no command
 /// of the program, no words among them, and `PlanStop::Help` for those that ask for help; both come with the text that
@@ -65,38 +79,100 @@ pub fn plan<S: AsStr>(alloc: Global, words: &[S]) -> Result<Plan, PlanStop>
 fn plan_of(alloc: Global, matches: &ArgMatches<'_>) -> Result<Option<Plan>, AllocError>
     ensures { IfOk result (IsPlanOf (named_in (subcommand_rows_of matches.now))) }
 {
-    let Some(show) = matches.subcommand_matches("show") else {
-        return Ok(None);
-    };
-    let files = copied(alloc, show.get_strs("files").unwrap_or(&[]))?;
-    if files.is_empty() {
-        return Ok(None);
+    if let Some(show) = matches.subcommand_matches("show") {
+        let files = files_of(alloc, show)?;
+        if files.is_empty() {
+            return Ok(None);
+        }
+        let options = options_of(show);
+        return Ok(Some(Plan::Show { options, files }));
     }
-    Ok(Some(Plan::Show { files }))
+    if let Some(landmarks) = matches.subcommand_matches("landmarks") {
+        let files = files_of(alloc, landmarks)?;
+        if files.is_empty() {
+            return Ok(None);
+        }
+        let options = options_of(landmarks);
+        return Ok(Some(Plan::Landmarks { options, files }));
+    }
+    Ok(None)
+}
+
+// The names that were given for the command's FILES.
+fn files_of(alloc: Global, command: &ArgMatches<'_>) -> Result<Vec<String>, AllocError>
+    ensures { IfOk result (λ files. map string_bytes files.items
+        ≡ unwrap_or (all_of (codes "files") (rows_of (found_of command.now))) []) }
+{
+    copied(alloc, command.get_strs("files").unwrap_or(&[]))
+}
+
+// What the command's switches choose of the columns.
+fn options_of(command: &ArgMatches<'_>) -> Options
+    ensures { AreChosen (first_of (codes "released") (rows_of (found_of command.now))) result }
+{
+    Options {
+        zero_cells: false,
+        released: is_set(command.get_str("released")),
+    }
+}
+
+// Whether a switch's value is the one that it has where it is given.
+fn is_set(value: Option<&str>) -> bool
+    ensures { IsTrue result ↔ (option_map (λ text. text.now) value.entry ≡ Some (codes "true")) }
+{
+    match value {
+        Some(text) => text == "true",
+        None => false,
+    }
 }
 
 fn command<'a>(alloc: Global) -> Result<Command<'a>, AllocError>
     ensures { IfOk result (λ command. app_of command ≡ command_line) }
 {
-    let show = show_command(alloc)?;
-    let top = Command::new(alloc, "tigertopo")
+    let show = command_on_files(alloc, "show", SHOW_ABOUT, SHOW_EXAMPLE)?;
+    let landmarks = command_on_files(alloc, "landmarks", LANDMARKS_ABOUT, LANDMARKS_EXAMPLE)?;
+    program(alloc)?.subcommand(show)?.subcommand(landmarks)
+}
+
+fn program<'a>(alloc: Global) -> Result<Command<'a>, AllocError>
+    ensures { IfOk result (λ command. app_of command ≡ program) }
+{
+    let named = Command::new(alloc, "tigertopo")
         .about(ABOUT)
         .after_help(EXAMPLES)
         .no_binary_name(true)
-        .bin_name("tigertopo")?
-        .subcommand_required(true);
-    top.subcommand(show)
+        .bin_name("tigertopo")?;
+    Ok(named.subcommand_required(true))
 }
 
-fn show_command<'a>(alloc: Global) -> Result<Command<'a>, AllocError>
-    ensures shape { IfOk result (λ command. app_of command ≡ show_app) }
+fn command_on_files<'a>(
+    alloc: Global,
+    name: &'a str,
+    about: &'a str,
+    example: &'a str,
+) -> Result<Command<'a>, AllocError>
+    ensures shape { IfOk result (λ command. app_of command ≡ app_on_files name.entry.now) }
     ensures local { IfOk result (λ command. (fields_of command).has_globals ≡ false) }
 {
+    let released = released_argument(alloc);
     let files = files_argument(alloc);
-    Command::new(alloc, "show")
-        .about(SHOW_ABOUT)
-        .after_help(SHOW_EXAMPLE)
+    Command::new(alloc, name)
+        .about(about)
+        .after_help(example)
+        .arg(released)?
         .arg(files)
+}
+
+fn released_argument<'a>(alloc: Global) -> Arg<'a>
+    ensures rule { rule_of result ≡ released_rule }
+    ensures local { result.global ≡ false }
+{
+    Arg::new(alloc, "released")
+        .long("released")
+        .help(
+            "Reads type I lines by the columns of the released files, FILE in 6-10 and TLID in 11-20",
+        )
+        .action(ArgAction::SetTrue)
 }
 
 fn files_argument<'a>(alloc: Global) -> Arg<'a>
