@@ -1,5 +1,5 @@
 -- Numbers of one width that stand side by side in one word, the first in its lowest bits.
-use Rattle.std.proofs.Common.{◌≡◌, ℕ, ◌+◌, ◌-◌, ◌*◌, ◌/◌, ◌%◌, ◌^◌, ◌<◌, ◌≤◌, List, [], ◌∷◌, map, refl, sym, ap, subst, ◌∙◌, arith}
+use Rattle.std.proofs.Common.{◌≡◌, ℕ, ◌+◌, ◌-◌, ◌*◌, ◌/◌, ◌%◌, ◌^◌, ◌<◌, ◌≤◌, List, [], ◌∷◌, map, sym, ap, subst, ◌∙◌, arith}
 use Rattle.std.proofs.lemmas.Nat.{and_block, and_mask, and_le_r, mod-mul-add, div-mul-add, div-add-mod', mul-le, mul-add-lt, same_from_place, pow_pos, pow-add}
 use lib.Bits.{bit_and}
 
@@ -12,13 +12,6 @@ lanes bits (x ∷ xs) = lanes bits xs * 2 ^ bits + x
 abbrev pub Each : (ℕ → Type 0) → List ℕ → Type 0
 Each P [] = Unit {0}
 Each P (x ∷ xs) = P x × Each P xs
-
--- the same number is added to each
-pub lanes-plus : (bits n : ℕ) (xs : List ℕ) → lanes bits (map (λ x. x + n) xs) ≡ lanes bits xs + lanes bits (map (λ _. n) xs)
-lanes-plus bits n [] = refl
-lanes-plus bits n (x ∷ xs) =
-    let rest = lanes-plus bits n xs in
-    rw rest (omega arith)
 
 -- the upper half of each byte is that of this one
 pub upper_halves : (half : ℕ) (xs : List ℕ) → half < 256 → Each (λ x. x < 256) xs

@@ -1,6 +1,6 @@
-//! How fields are spelt: the examples of the reading rules.
+//! How coordinates are spelt: the examples of the reading rules.
 
-use crate::number::{coordinate_spelt, number_spelt};
+use crate::number::coordinate_spelt;
 use std::test::Fail;
 
 // Each row is a field's bytes, an equals sign, and what they spell.
@@ -33,30 +33,13 @@ const COORDINATES: &str = "-087654321=Value(-87654321)
           =Blank
 =Blank";
 
-const NUMBERS: &str = "0000000001=Value(1)
-9999999999=Value(9999999999)
-  42      =Value(42)
-+000000001=Unreadable
--000000001=Unreadable
-1        1=Unreadable
-\t       11=Unreadable
-          =Blank
-=Blank";
-
 #[test]
-fn fields_are_spelt_so(rt: HostRuntime) -> Result<(), Fail> {
+fn coordinates_are_spelt_so(rt: HostRuntime) -> Result<(), Fail> {
     for row in COORDINATES.lines() {
         let (field, wanted) = row.split_once('=').unwrap_or(("", row));
         let bytes = field.as_bytes();
         assert!(rt; bytes.len() <= 10);
         let spelt = format!(in rt.alloc(); "{:?}", coordinate_spelt(bytes))?;
-        assert_eq!(rt; spelt.as_str(), wanted);
-    }
-    for row in NUMBERS.lines() {
-        let (field, wanted) = row.split_once('=').unwrap_or(("", row));
-        let bytes = field.as_bytes();
-        assert!(rt; bytes.len() <= 10);
-        let spelt = format!(in rt.alloc(); "{:?}", number_spelt(bytes))?;
         assert_eq!(rt; spelt.as_str(), wanted);
     }
     Ok(())

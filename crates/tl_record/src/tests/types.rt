@@ -27,6 +27,15 @@ const LINES: &str = "|1:1|191:+000000010+00000010+000000010+00000010=refused lin
 |1:P|11:A0001|25:1|26:+000000020+90000020=refused line 1 L4 OutOfRange POLYLAT
 |1:P|11:A0001|25:1|26:+0000=refused line 1 L2 Missing POLYLAT
 |1:7|55:-087654321+41000000=refused line 1 L2 Missing LAND
+|1:7|11:0000000001=Landmark { land: 1, point: None }
+|1:7|11:9999999999=Landmark { land: 9999999999, point: None }
+|1:7|11:  42      =Landmark { land: 42, point: None }
+|1:7|11: 123456789=Landmark { land: 123456789, point: None }
+|1:7|11:+000000001=refused line 1 L3 BadField LAND
+|1:7|11:-000000001=refused line 1 L3 BadField LAND
+|1:7|11:1        1=refused line 1 L3 BadField LAND
+|1:7|11:\t       11=refused line 1 L3 BadField LAND
+|1:7|11: 12345:789=refused line 1 L3 BadField LAND
 |1:7|20:7|55:-087654321=refused line 1 L2 Missing LALAT
 |1:7|20:7|65:+41000000=refused line 1 L2 Missing LALONG
 |1:7|20:7|55:x=refused line 1 L3 BadField LALONG
