@@ -20,6 +20,7 @@ mod passes;
 mod plain;
 mod polygons;
 mod read;
+mod segments;
 mod sides;
 mod sort;
 
