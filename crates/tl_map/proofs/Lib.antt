@@ -22,3 +22,4 @@ pub mod GatherLemmas
 pub mod ProperLemmas
 pub mod NumberLemmas
 pub mod SegmentLemmas
+pub mod OneMapLemmas

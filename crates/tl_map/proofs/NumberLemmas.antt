@@ -22,11 +22,14 @@ number_more cs n d of new firsts count v lt at many long front back before = rec
     | inl earlier ↦
         let was = before.each s earlier in
         (was.0, rw (front s 0 earlier) (record { chain = omega (arith, was.1.chain); place = was.1.place; number = was.1.number }))
-    | inr later ↦ (s - length of, rw (back s 0 later low) (record {
-      chain = omega arith;
-      place = λ e. rw (get_or_default cs n e d lt) (omega (arith, long, many));
-      number = omega (arith, before.count);
-    }))
+    | inr later ↦ (
+      s - length of,
+      rw (back s 0 later low) (record {
+        chain = omega arith;
+        place = λ e. rw (get_or_default cs n e d lt) (omega (arith, long, many));
+        number = omega (arith, before.count);
+      }),
+    )
   ];
 }
 

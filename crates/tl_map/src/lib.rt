@@ -14,6 +14,7 @@ mod entry;
 mod fault;
 mod join;
 mod landmarks;
+pub mod laws;
 mod map;
 mod passes;
 #[cfg(test)]
