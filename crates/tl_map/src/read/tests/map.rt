@@ -105,7 +105,8 @@ fn darts_of_a_chain(rt: HostRuntime) -> Result<(), Fail> {
     let map = text.read_map(rt.alloc())?;
     assert!(rt; map.chains() == 1 && map.segments() == 2);
     assert!(rt; map.segment_chain(1) == 0);
-    assert!(rt; map.segment(1).a() == at(4, 2) && map.segment(1).b() == at(9, 5));
+    let segment = map.segment(1);
+    assert!(rt; segment.a() == at(4, 2) && segment.b() == at(9, 5));
     assert!(rt; map.dart_start(0) == at(1, 1) && map.dart_end(0) == at(9, 5));
     assert!(rt; map.dart_start(1) == at(9, 5) && map.dart_end(1) == at(1, 1));
     assert!(rt; map.dart_heading(0).x == 3 && map.dart_heading(0).y == 1);
