@@ -20,3 +20,6 @@ pub mod MapLemmas
 pub mod MappedLemmas
 pub mod GatherLemmas
 pub mod ProperLemmas
+pub mod NumberLemmas
+pub mod SegmentLemmas
+pub mod OneMapLemmas

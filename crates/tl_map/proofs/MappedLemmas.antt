@@ -34,7 +34,7 @@ use Rattle.tl_map.proofs.CountLemmas.{none_counted}
 use Rattle.tl_map.proofs.PairLemmas.{far}
 
 -- a TLID of the chains is one of a type 1 record, and the other way round
-chain_known : (rs : List Record) (chains : List CompleteChain) (t : ℕ) → AreChainsOf rs chains → Contains (tlids chains) t → HasChain rs t
+pub chain_known : (rs : List Record) (chains : List CompleteChain) (t : ℕ) → AreChainsOf rs chains → Contains (tlids chains) t → HasChain rs t
 chain_known rs [] t are has = absurd (omega (arith, has.1))
 chain_known rs (x ∷ chains) t are has =
     let lt : has.0 < length (x ∷ chains) = omega (arith, has.1, length-map (x ∷ chains) (λ (c : CompleteChain). c.tlid)) in

@@ -9,3 +9,4 @@ pub mod Sided
 pub mod Areas
 pub mod Landmarks
 pub mod Mapped
+pub mod Numbered

@@ -14,6 +14,7 @@ use crate::fault::{Limited, MapFault, MapStop, POLYGON_LIMIT};
 use crate::landmarks::build_landmarks;
 use crate::map::Map;
 use crate::polygons::index_polygons;
+use crate::segments::number_segments;
 use crate::sides::{pair_sides, resolve_sides};
 use std::alloc::Global;
 
@@ -42,5 +43,6 @@ pub fn build_map(
     let index = index_polygons(alloc, &polygons)?;
     let sides = resolve_sides(alloc, &index, &paired)?;
     let linked = build_landmarks(alloc, &index, polygons.len(), &landmarks, &links)?;
-    Ok(Map::new(chains, sides, polygons, linked))
+    let segments = number_segments(alloc, &chains)?;
+    Ok(Map::new(chains, sides, polygons, linked, segments))
 }

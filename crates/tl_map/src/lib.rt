@@ -14,12 +14,14 @@ mod entry;
 mod fault;
 mod join;
 mod landmarks;
+pub mod laws;
 mod map;
 mod passes;
 #[cfg(test)]
 mod plain;
 mod polygons;
 mod read;
+mod segments;
 mod sides;
 mod sort;
 

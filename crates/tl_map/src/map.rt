@@ -1,15 +1,17 @@
 //! The map: chains with their sides, polygons, and landmarks with their polygons.
 
 ghost use Rattle.std.specs.Prelude.{◌≡◌, ◌≢◌, ◌<◌, ◌-ℤ◌, length, slice_get, Some};
+ghost use Rattle.tl_geom.specs.Plane.{end_a, end_b};
 ghost use Rattle.tl_map.specs.Darts.{directed};
 ghost use Rattle.tl_map.specs.TheMap.{IsChain};
 
 use crate::chains::Chains;
 use crate::landmarks::{LandmarkRow, LinkedLandmarks};
 use crate::polygons::Polygon;
+use crate::segments::Segments;
 use crate::sides::{ChainSides, Side};
 use std::marker::Model;
-use tl_geom::{Direction, Point};
+use tl_geom::{Direction, Point, Segment};
 
 /// The map of a county: chains by rising TLID, polygons in the order of their type P records, landmarks in the order of
 /// their first type 7 record, each numbered from 0. Coordinates are in millionths of a degree.
@@ -20,6 +22,7 @@ pub struct Map {
     polygons: Vec<Polygon>,
     rows: Vec<LandmarkRow>,
     linked: Vec<u32>,
+    segments: Segments,
 }
 
 /// A chain of a map: its points from its start to its end, and what lies on both sides of a walker along them.
@@ -50,19 +53,23 @@ impl Model for Map {
     ghost use Rattle.tl_map.specs.Chains.{CompleteChain, IsProper};
     ghost use Rattle.tl_map.specs.Keeping.Landmarks.{IsRow, landmark_in};
     ghost use Rattle.tl_map.specs.Keeping.Mapped.{sided};
+    ghost use Rattle.tl_map.specs.Keeping.Numbered.{AreNumberedSegments};
 
     ghost view = { λ m. record { chains = sided m.chains.chains m.sides.items; polygons = m.polygons.items; landmarks = map (landmark_in m.linked.items) m.rows.items; skipped = m.chains.skipped } };
 
-    ghost invariant = { λ m. (length m.sides.items ≡ length m.chains.chains) × (length m.polygons.items ≤ most_polygons) × (length m.rows.items ≤ most_landmarks) × All (IsRow m.linked.items) m.rows.items × All (λ (c : CompleteChain). IsProper c.points) m.chains.chains };
+    ghost invariant = { λ m. (length m.sides.items ≡ length m.chains.chains) × (length m.polygons.items ≤ most_polygons) × (length m.rows.items ≤ most_landmarks) × All (IsRow m.linked.items) m.rows.items × All (λ (c : CompleteChain). IsProper c.points) m.chains.chains × AreNumberedSegments m.chains.chains m.segments };
 }
 
 impl Map {
-    ghost use Rattle.std.specs.Prelude.{◌≡◌, ◌<◌, ◌≤◌, ◌*◌, All, length, map};
+    ghost use Rattle.std.specs.Prelude.{◌≡◌, ℕ, ◌<◌, ◌≤◌, ◌*◌, All, length, map};
+    ghost use Rattle.tl_map.specs.Segments.{segments_before, IsSegmentOf, Joins};
+    ghost use Rattle.tl_map.specs.Keeping.Numbered.{AreNumberedSegments};
     ghost use Rattle.tl_map.specs.Darts.{dart_start as dart_start_of, dart_end as dart_end_of, dart_left as dart_left_of, dart_cell as dart_cell_of, Heads};
     ghost use Rattle.tl_map.specs.Faults.{most_polygons, most_landmarks};
     ghost use Rattle.tl_map.specs.Chains.{CompleteChain, IsProper};
     ghost use Rattle.tl_map.specs.Keeping.Landmarks.{IsRow, landmark_in};
     ghost use Rattle.tl_map.specs.Keeping.Mapped.{sided};
+    ghost use Rattle.tl_map.specs.Keeping.Numbered.{AreNumberedSegments};
 
     /// The map of these chains, their sides, the polygons and the landmarks.
     pub(crate) fn new(
@@ -70,12 +77,14 @@ impl Map {
         sides: Vec<ChainSides>,
         polygons: Vec<Polygon>,
         landmarks: LinkedLandmarks,
+        segments: Segments,
     ) -> Map
         requires paired { length sides.items ≡ length chains.chains }
         requires polygons { length polygons.items ≤ most_polygons }
         requires landmarks { length landmarks.rows.items ≤ most_landmarks }
         requires within { All (IsRow landmarks.linked.items) landmarks.rows.items }
         requires proper { All (λ (c : CompleteChain). IsProper c.points) chains.chains }
+        requires segments { AreNumberedSegments chains.chains segments }
         ensures { result ≡ record { chains = sided chains.chains sides.items; polygons = polygons.items; landmarks = map (landmark_in landmarks.linked.items) landmarks.rows.items; skipped = chains.skipped } }
     {
         Map {
@@ -84,6 +93,7 @@ impl Map {
             polygons,
             rows: landmarks.rows,
             linked: landmarks.linked,
+            segments,
         }
     }
 
@@ -92,6 +102,13 @@ impl Map {
         ensures { result ≡ length self.now.chains }
     {
         self.chains.len()
+    }
+
+    /// How many segments the chains have together.
+    pub fn segments(&self) -> u32
+        ensures { result ≡ segments_before self.now.chains (length self.now.chains) }
+    {
+        self.chains.segments()
     }
 
     /// How many polygons there are.
@@ -149,6 +166,25 @@ impl Map {
             point: row.point,
             polygons: &self.linked[row.first..row.first + row.count],
         }
+    }
+
+    /// The number of the chain that a segment is one of, by the segment's number.
+    pub fn segment_chain(&self, s: u32) -> u32
+        requires { s < segments_before self.now.chains (length self.now.chains) }
+        ensures { (k : ℕ) × IsSegmentOf self.now.chains s result k }
+    {
+        self.segments.chains[s as usize]
+    }
+
+    /// A segment by its number, from chain to chain and from start to end in each.
+    pub fn segment(&self, s: u32) -> Segment
+        requires { s < segments_before self.now.chains (length self.now.chains) }
+        ensures { (c : ℕ) × (k : ℕ) × IsSegmentOf self.now.chains s c k × Joins self.now.chains c k result }
+    {
+        let c = self.segments.chains[s as usize];
+        let place = (s - self.segments.firsts[c as usize]) as usize;
+        let points = self.chains.points(c);
+        segment_between(points[place], points[place + 1])
     }
 
     /// The point where a dart starts: dart 2c runs along chain c, dart 2c + 1 against it.
@@ -221,6 +257,18 @@ fn heading(first: Point, second: Point) -> Direction
 {
     match Direction::between(first, second) {
         Some(direction) => direction,
+        None => unreachable!(),
+    }
+}
+
+/// The segment from one point to another.
+fn segment_between(a: Point, b: Point) -> Segment
+    requires { a ≢ b }
+    ensures from { end_a result ≡ a }
+    ensures to { end_b result ≡ b }
+{
+    match Segment::new(a, b) {
+        Some(segment) => segment,
         None => unreachable!(),
     }
 }

@@ -103,6 +103,10 @@ fn darts_of_a_chain(rt: HostRuntime) -> Result<(), Fail> {
     text.sides(2, 0, 3)?;
     text.polygon("A0001", 3, at(20, 20))?;
     let map = text.read_map(rt.alloc())?;
+    assert!(rt; map.chains() == 1 && map.segments() == 2);
+    assert!(rt; map.segment_chain(1) == 0);
+    let segment = map.segment(1);
+    assert!(rt; segment.a() == at(4, 2) && segment.b() == at(9, 5));
     assert!(rt; map.dart_start(0) == at(1, 1) && map.dart_end(0) == at(9, 5));
     assert!(rt; map.dart_start(1) == at(9, 5) && map.dart_end(1) == at(1, 1));
     assert!(rt; map.dart_heading(0).x == 3 && map.dart_heading(0).y == 1);
@@ -125,6 +129,7 @@ fn links_by_their_first_records(rt: HostRuntime) -> Result<(), Fail> {
     text.landmark(8, None)?;
     text.landmark(7, Some(at(1, 1)))?;
     let map = text.read_map(rt.alloc())?;
+    assert!(rt; map.landmarks() == 2);
     assert!(rt; map.landmark(0).polygons == [1, 0].as_slice());
     assert!(rt; map.landmark(1).polygons == [2].as_slice());
     Ok(())
@@ -141,6 +146,7 @@ fn ids_of_released_files(rt: HostRuntime) -> Result<(), Fail> {
     };
     let mut source = Meter::new(text.text.as_bytes());
     let map = read_map_with(rt.alloc(), &mut source, options)?;
+    assert!(rt; map.chains() == 1);
     assert!(rt; map.dart_cell(0) == Some(5) && map.dart_cell(1).is_none());
     Ok(())
 }

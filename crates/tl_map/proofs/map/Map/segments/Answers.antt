@@ -1,0 +1,6 @@
+use Rattle.std.proofs.Common.{◌∙◌, sym}
+use Rattle.tl_map.proofs.SegmentLemmas.{whole_sided}
+use Rattle.tl_map.proofs.map.Map.segments.Goals as goal
+
+pub returns : goal.returns
+returns c = rw (← c.self.view_is) (c.segments.ensures ∙ sym (whole_sided c.self.inside.chains.chains c.self.inside.sides.items c.self.invariant.0))
