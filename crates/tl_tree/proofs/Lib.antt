@@ -1,0 +1,4 @@
+pub mod PairLemmas
+pub mod PairTests
+pub mod Leaving
+pub mod Steps
