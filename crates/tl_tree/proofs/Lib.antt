@@ -2,3 +2,5 @@ pub mod PairLemmas
 pub mod PairTests
 pub mod Leaving
 pub mod Steps
+pub mod Apart
+pub mod Walks

@@ -78,8 +78,34 @@ pub fn test_pairs<I: Items>(items: &I, some: &[u32], left: u64) -> Result<u64, S
     Ok(rest)
 }
 
-/// Tests each item of a tree against each item of some trees. Where the rectangles of two trees don't meet, no item of one
-/// is tested against one of the other.
+/// Tests each item of a tree against each item of another. Where their rectangles don't meet, nothing is tested.
+#[cycle(between)]
+pub fn search_two<I: Items, W: Trees>(
+    items: &I,
+    tree: &Tree<'_, W>,
+    other: &Tree<'_, W>,
+    left: u64,
+) -> Result<u64, Stop<I::C>>
+    requires tree { IsSound (I.count items.now) (I.bounds_of items.now) W.forest tree.now }
+    requires other { IsSound (I.count items.now) (I.bounds_of items.now) W.forest other.now }
+    ensures { MayLeave (I.count items.now) (I.conflict_of items.now)
+        (cross_sum (meeting (I.bounds_of items.now))
+            (items_below W.forest tree.now.below) (items_below W.forest other.now.below))
+        (cross_sum (conflicting (I.conflict_of items.now))
+            (items_below W.forest tree.now.below) (items_below W.forest other.now.below)) left result }
+{
+    if !tree.rect.meets(other.rect) {
+        return Ok(left);
+    }
+    match (&tree.below, &other.below) {
+        (Below::Items(some), Below::Items(others)) => test_cross(items, some, others, left),
+        (Below::Children(children), _) => search_between(items, other, children, left),
+        (_, Below::Children(children)) => search_between(items, tree, children, left),
+    }
+}
+
+/// Tests each item of a tree against each item of some trees.
+#[cycle(between)]
 pub fn search_between<I: Items, W: Trees>(
     items: &I,
     tree: &Tree<'_, W>,
@@ -97,20 +123,35 @@ pub fn search_between<I: Items, W: Trees>(
     let Some((other, rest)) = others.split_first() else {
         return Ok(left);
     };
-    let left = if tree.rect.meets(other.rect) {
-        match (&tree.below, &other.below) {
-            (Below::Items(some), Below::Items(more)) => test_cross(items, some, more, left)?,
-            (Below::Children(children), _) => search_between(items, &other, children, left)?,
-            (_, Below::Children(children)) => search_between(items, tree, children, left)?,
-        }
-    } else {
-        left
-    };
-    search_between(items, tree, &rest, left)
+    let left_then = search_two(items, tree, &other, left)?;
+    search_between(items, tree, &rest, left_then)
+}
+
+/// Tests the pairs of items of a tree.
+#[cycle(within)]
+pub fn search_one<I: Items, W: Trees>(
+    items: &I,
+    tree: &Tree<'_, W>,
+    left: u64,
+) -> Result<u64, Stop<I::C>>
+    requires { IsSound (I.count items.now) (I.bounds_of items.now) W.forest tree.now }
+    ensures { MayLeave (I.count items.now) (I.conflict_of items.now)
+        (pair_sum (meeting (I.bounds_of items.now)) (items_below W.forest tree.now.below))
+        (pair_sum (conflicting (I.conflict_of items.now)) (items_below W.forest tree.now.below)) left result }
+{
+    match &tree.below {
+        Below::Items(some) => test_pairs(items, some, left),
+        Below::Children(children) => search_within(items, children, left),
+    }
 }
 
 /// Tests the pairs of items of some trees.
-pub fn search_within<I: Items, W: Trees>(items: &I, trees: &W, left: u64) -> Result<u64, Stop<I::C>>
+#[cycle(within)]
+pub fn search_within<I: Items, W: Trees>(
+    items: &I,
+    trees: &W,
+    left: u64,
+) -> Result<u64, Stop<I::C>>
     requires { AreSound (I.count items.now) (I.bounds_of items.now) (W.forest trees.now) }
     ensures { MayLeave (I.count items.now) (I.conflict_of items.now)
         (pair_sum (meeting (I.bounds_of items.now)) (leaf_items (W.forest trees.now)))
@@ -119,10 +160,7 @@ pub fn search_within<I: Items, W: Trees>(items: &I, trees: &W, left: u64) -> Res
     let Some((tree, rest)) = trees.split_first() else {
         return Ok(left);
     };
-    let left = match &tree.below {
-        Below::Items(some) => test_pairs(items, some, left)?,
-        Below::Children(children) => search_within(items, children, left)?,
-    };
-    let left = search_between(items, &tree, &rest, left)?;
-    search_within(items, &rest, left)
+    let left_then = search_one(items, &tree, left)?;
+    let left_last = search_between(items, &tree, &rest, left_then)?;
+    search_within(items, &rest, left_last)
 }
