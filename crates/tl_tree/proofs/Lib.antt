@@ -4,3 +4,5 @@ pub mod Leaving
 pub mod Steps
 pub mod Apart
 pub mod Walks
+pub mod Permuted
+pub mod Finishing

@@ -1,12 +1,13 @@
 //! The search for two items that conflict.
 ghost use Rattle.std.specs.Prelude.{◌<◌};
-ghost use Rattle.tl_tree.specs.Fits.{AreBelow};
+ghost use Rattle.tl_tree.specs.Fits.{AreBelow, Fits};
 ghost use Rattle.tl_tree.specs.Pairs.{meeting, conflicting, row_sum, cross_sum, pair_sum};
+ghost use Rattle.tl_tree.specs.Searches.{MayAnswer};
 ghost use Rattle.tl_tree.specs.Trees.{leaf_items};
 ghost use Rattle.tl_tree.specs.Walking.{MayLeave, items_below, IsSound, AreSound};
 
 use crate::walk::{Below, Tree, Trees};
-use crate::Items;
+use crate::{Items, Search};
 
 /// Why a part of a search stops.
 pub enum Stop<C> {
@@ -163,4 +164,16 @@ pub fn search_within<I: Items, W: Trees>(
     let left_then = search_one(items, &tree, left)?;
     let left_last = search_between(items, &tree, &rest, left_then)?;
     search_within(items, &rest, left_last)
+}
+
+/// Looks for two items that conflict, by trees that fit the items.
+pub fn search_trees<I: Items, W: Trees>(items: &I, trees: &W, budget: u64) -> Search<I::C>
+    requires { Fits (W.forest trees.now) (I.count items.now) (I.bounds_of items.now) }
+    ensures { MayAnswer (I.count items.now) (I.bounds_of items.now) (I.conflict_of items.now) budget result }
+{
+    match search_within(items, trees, budget) {
+        Ok(_) => Search::Clear,
+        Err(Stop::Found { i, j, c }) => Search::Found { i, j, c },
+        Err(Stop::Spent) => Search::Budget,
+    }
 }
