@@ -6,3 +6,5 @@ pub mod Apart
 pub mod Walks
 pub mod Permuted
 pub mod Finishing
+pub mod Indices
+pub mod Hitting

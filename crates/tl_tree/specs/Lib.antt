@@ -5,3 +5,4 @@ pub mod Trees
 pub mod Preorder
 pub mod Fits
 pub mod Walking
+pub mod Sizes

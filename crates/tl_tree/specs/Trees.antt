@@ -49,3 +49,7 @@ abbrev pub trees_of : List TreeNode → Forest
 trees_of [] = none
 trees_of (Leaf r v ∷ nodes) = leaf r v.items (trees_of nodes)
 trees_of (Inner r k ∷ nodes) = inner r (first_trees k (trees_of nodes)) (other_trees k (trees_of nodes))
+
+-- the first tree that the nodes spell: all of them, where they are a whole tree in preorder
+abbrev pub tree_of : List TreeNode → Forest
+tree_of nodes = first_trees 1 (trees_of nodes)

@@ -1,5 +1,5 @@
 -- What a search keeps on its way: how a walk over trees splits, and what a part of a search leaves of the budget.
-use Rattle.std.specs.Prelude.{◌≡◌, ℕ, ◌<◌, ◌+◌, List, Option, Some, None, Result, Ok, Err}
+use Rattle.std.specs.Prelude.{◌≡◌, ℕ, ◌<◌, ◌+◌, List, ◌++◌, Option, Some, None, Result, Ok, Err}
 use Rattle.tl_geom.specs.declared.rect.Rect.{Rect}
 use Rattle.tl_tree.specs.declared.walk.Tree.{Tree}
 use Rattle.tl_tree.specs.declared.walk.Below.{Below}
@@ -52,3 +52,8 @@ abbrev pub MayLeave : {C : Type 0} → ℕ → (ℕ → ℕ → Option C) → (m
 MayLeave n conflict meet clash left (Ok rest) = (rest + meet ≡ left) × (clash ≡ 0)
 MayLeave n conflict meet clash left (Err (Found i j c)) = IsConflict n conflict i j c
 MayLeave n conflict meet clash left (Err Spent) = left < meet
+
+-- new is old with something appended
+pub record Grows (old new : List ℕ) : Type 0 where
+  pub added : List ℕ
+  pub appended : new ≡ old ++ added

@@ -6,7 +6,9 @@
 //! doesn't.
 #![tactic(auto)]
 
+mod cursor;
 mod fault;
+mod hits;
 mod index;
 mod items;
 mod node;
