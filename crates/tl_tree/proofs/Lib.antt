@@ -8,3 +8,4 @@ pub mod Permuted
 pub mod Finishing
 pub mod Indices
 pub mod Hitting
+pub mod Flat

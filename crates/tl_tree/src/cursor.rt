@@ -29,21 +29,20 @@ impl Trees for Cursor<'_> {
             at: self.at + self.sizes[self.at] as usize,
             count: self.count - 1,
         };
-        let tree = match &self.nodes[self.at] {
-            TreeNode::Leaf(rect, items) => Tree {
-                rect: *rect,
-                below: Below::Items(items.as_slice()),
-            },
-            TreeNode::Inner(rect, children) => Tree {
-                rect: *rect,
-                below: Below::Children(Cursor {
+        match &self.nodes[self.at] {
+            TreeNode::Leaf(rect, items) => {
+                let below = Below::Items(items.as_slice());
+                Some((Tree { rect: *rect, below }, rest))
+            }
+            TreeNode::Inner(rect, children) => {
+                let below = Below::Children(Cursor {
                     nodes: self.nodes,
                     sizes: self.sizes,
                     at: self.at + 1,
                     count: *children,
-                }),
-            },
-        };
-        Some((tree, rest))
+                });
+                Some((Tree { rect: *rect, below }, rest))
+            }
+        }
     }
 }
