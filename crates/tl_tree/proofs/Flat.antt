@@ -1,5 +1,5 @@
 -- Trees of a list of nodes: how they split.
-use Rattle.std.proofs.Common.{◌≡◌, ℕ, zero, suc, ◌+◌, ◌-◌, ◌<◌, ◌≤◌, List, [], ◌∷◌, ◌++◌, length, get_or, drop, refl, sym, ap, ◌∙◌, arith, ◌⊎◌, inl, inr}
+use Rattle.std.proofs.Common.{◌≡◌, ℕ, zero, suc, ◌+◌, ◌-◌, ◌<◌, ◌≤◌, List, [], ◌∷◌, ◌++◌, length, get_or, drop, refl, sym, ap, ◌∙◌, arith, ◌⊎◌, inl, inr, length-drop}
 use Rattle.std.proofs.lemmas.List.{at_drop_more, at_drop_all, drop-drop}
 use Rattle.tl_geom.specs.declared.rect.Rect.{Rect}
 use Rattle.tl_tree.specs.declared.node.TreeNode.{TreeNode}
@@ -67,3 +67,41 @@ split-inner count size at nodes r k d ne h e p =
     let b : trees_of (drop (at + size) nodes) ≡ other_trees k (trees_of rest) =
       ap trees_of (ap (λ i. drop i nodes) (omega (arith, s)) ∙ sym (drop-drop (node_count (first_trees k (trees_of rest))) (at + 1) nodes)) ∙ behind rest k in
     ap (first_trees count) here ∙ first-inner count (count - 1) r (first_trees k (trees_of rest)) (other_trees k (trees_of rest)) (omega (arith, ne)) ∙ ap (λ g. inner r (first_trees k (trees_of rest)) (first_trees (count - 1) g)) (sym b)
+
+-- ---- where trees end
+
+end-here : (nodes : List TreeNode) (first i at : ℕ) → at ≡ first + node_count (first_trees i (trees_of (drop first nodes))) → other_trees i (trees_of (drop first nodes)) ≡ trees_of (drop at nodes)
+end-here nodes first i at e =
+    let n = node_count (first_trees i (trees_of (drop first nodes))) in
+    sym (behind (drop first nodes) i) ∙ ap trees_of (drop-drop n first nodes ∙ ap (λ j. drop j nodes) (sym e))
+
+pub end-step : (nodes : List TreeNode) (first i at : ℕ) → at ≡ first + node_count (first_trees i (trees_of (drop first nodes))) → node_count (first_trees (i + 1) (trees_of (drop first nodes))) ≡ node_count (first_trees i (trees_of (drop first nodes))) + size_at nodes at
+end-step nodes first i at e =
+    let f = trees_of (drop first nodes) in
+    first-add (i + 1) i 1 f refl ∙ ap (λ g. node_count (first_trees i f) + node_count (first_trees 1 g)) (end-here nodes first i at e)
+
+pub size-past : (nodes : List TreeNode) (at : ℕ) → length nodes ≤ at → size_at nodes at ≡ 0
+size-past nodes at h = ap (λ f. node_count (first_trees 1 f)) (at_drop_all trees_of nodes at h)
+
+pub counts-all : (k : ℕ) (f : Forest) → node_count (first_trees k f) + node_count (other_trees k f) ≡ node_count f
+counts-all zero f = omega arith
+counts-all (suc k) none = refl
+counts-all (suc k) (leaf r xs others) = omega (arith, counts-all k others)
+counts-all (suc k) (inner r children others) = omega (arith, counts-all k others)
+
+pub counts-nodes : (nodes : List TreeNode) → node_count (trees_of nodes) ≡ length nodes
+counts-nodes [] = refl
+counts-nodes (Leaf r v ∷ nodes) = omega (arith, counts-nodes nodes)
+counts-nodes (Inner r k ∷ nodes) = omega (arith, counts-nodes nodes, counts-all k (trees_of nodes))
+
+pub end-bound : (nodes : List TreeNode) (first k : ℕ) → first ≤ length nodes → first + node_count (first_trees k (trees_of (drop first nodes))) ≤ length nodes
+end-bound nodes first k h =
+    omega (arith, h, counts-all k (trees_of (drop first nodes)), counts-nodes (drop first nodes), length-drop first nodes)
+
+pub size-leaf : (nodes : List TreeNode) (at : ℕ) (r : Rect) (v : ArrayVec ℕ) (d : TreeNode) → at < length nodes → get_or nodes at d ≡ Leaf r v → size_at nodes at ≡ 1
+size-leaf nodes at r v d h e = ap (λ f. node_count (first_trees 1 f)) (at_drop_more trees_of nodes at d h ∙ ap (λ x. trees_of (x ∷ drop (at + 1) nodes)) e)
+
+pub size-inner : (nodes : List TreeNode) (at : ℕ) (r : Rect) (k : ℕ) (d : TreeNode) → at < length nodes → get_or nodes at d ≡ Inner r k → size_at nodes at ≡ 1 + node_count (first_trees k (trees_of (drop (at + 1) nodes)))
+size-inner nodes at r k d h e =
+    let s = ap (λ f. node_count (first_trees 1 f)) (at_drop_more trees_of nodes at d h ∙ ap (λ x. trees_of (x ∷ drop (at + 1) nodes)) e) in
+    omega (arith, s)

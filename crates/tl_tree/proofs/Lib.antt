@@ -9,3 +9,4 @@ pub mod Finishing
 pub mod Indices
 pub mod Hitting
 pub mod Flat
+pub mod Counting

@@ -7,19 +7,24 @@
 #![tactic(auto)]
 
 mod cursor;
+mod depth;
 mod fault;
+mod flat_tree;
 mod hits;
 mod index;
 mod items;
 mod node;
 mod plain_list;
+mod preorder;
 mod probe;
 mod search;
 mod walk;
 
 pub use fault::{TreeFault, TreeStop};
+pub use flat_tree::FlatTree;
 pub use index::{BoxIndex, Memory};
 pub use items::{Items, Search};
 pub use node::TreeNode;
 pub use plain_list::PlainList;
+pub use preorder::is_preorder;
 pub use probe::Probe;
