@@ -1,7 +1,7 @@
 -- A list of nodes is a whole tree exactly where counting the trees still to come says so.
 use Rattle.std.proofs.Common.{◌≡◌, ℕ, zero, suc, ◌+◌, ◌-◌, ◌<◌, ◌≤◌, Bool, true, false, leb, ◌&&◌, ◌↔◌, ◌⊎◌, inl, inr, IsTrue, eqb, List, [], ◌∷◌, ◌++◌, length, get_or, drop, refl, sym, ap, ◌∙◌, subst, append_assoc, append-nil, arith}
 use Rattle.std.proofs.lemmas.Bool.{false≢true}
-use Rattle.std.proofs.lemmas.Bool.Decides.{nat_tests, Decides-leb}
+use Rattle.std.proofs.lemmas.Bool.Decides.{nat_tests}
 use Rattle.std.proofs.lemmas.List.{at_drop_more, at_drop_all}
 use Rattle.arrayvec.specs.ArrayVec.{ArrayVec}
 use Rattle.tl_geom.specs.declared.rect.Rect.{Rect}
@@ -45,7 +45,7 @@ part (suc k) p nodes m (inner_first r c children nodes' q h2 h8 t u) e =
     }
 
 leb→le' : {a b : ℕ} → leb a b ≡ true → a ≤ b
-leb→le' {a} {b} e = (Decides-leb a b).0 e
+leb→le' {a} {b} e = grind (arith, nat_tests)
 
 first-true : (a b c : Bool) → ((a && b) && c) ≡ true → a ≡ true
 first-true true b c e = refl
@@ -142,3 +142,9 @@ step-end awaited nodes at h = at_drop_all (counted awaited) nodes at h ∙ at-en
     at-end : (awaited : ℕ) → counted awaited [] ≡ eqb awaited 0
     at-end zero = refl
     at-end (suc awaited) = grind (arith, nat_tests)
+
+pub not-empty : (n : ℕ) (r : Bool) → r ≡ eqb n 0 → r ≡ false → n ≡ 0 → ⊥
+not-empty n r e f z = false≢true (sym f ∙ e ∙ zero-test n z)
+  where
+    zero-test : (n : ℕ) → n ≡ 0 → eqb n 0 ≡ true
+    zero-test n z = grind (arith, nat_tests)

@@ -10,3 +10,4 @@ pub mod Indices
 pub mod Hitting
 pub mod Flat
 pub mod Counting
+pub mod Hulls

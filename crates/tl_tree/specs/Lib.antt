@@ -6,3 +6,4 @@ pub mod Preorder
 pub mod Fits
 pub mod Walking
 pub mod Sizes
+pub mod Checking

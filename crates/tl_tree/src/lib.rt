@@ -6,11 +6,13 @@
 //! doesn't.
 #![tactic(auto)]
 
+mod check;
 mod cursor;
 mod depth;
 mod fault;
 mod flat_tree;
 mod hits;
+mod hull;
 mod index;
 mod items;
 mod node;
