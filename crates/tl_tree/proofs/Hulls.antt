@@ -63,3 +63,6 @@ hull-one b x r = (λ c. (c, tt), λ c. c.0)
 
 pub hull-none : (b : ℕ → Rect) (hull : Rect) → IsEmpty hull → IsHull b [] hull
 hull-none b hull e r = (λ c. tt, λ c. covers-empty r hull e)
+
+pub nothing-empty : IsEmpty (record { xmin = pos 1; ymin = pos 1; xmax = pos 0; ymax = pos 0 })
+nothing-empty p k = let w = k.west in let e = k.east in absurd (omega (arith, ints, w, e))

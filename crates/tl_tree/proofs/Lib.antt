@@ -11,3 +11,5 @@ pub mod Hitting
 pub mod Flat
 pub mod Counting
 pub mod Hulls
+pub mod Marks
+pub mod Checks

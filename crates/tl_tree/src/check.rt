@@ -1,6 +1,6 @@
 //! The check of a tree against items.
-ghost use Rattle.std.specs.Prelude.{◌≡◌, ◌<◌, ◌+◌, ◌^◌, ◌↔◌, length, None, OnOk, IfOk, IfErr};
-ghost use Rattle.tl_tree.specs.Checking.{AreMarked, IsMarkFault, AreChecked, IsChecked, IsFaultAt, IsFaultBelow};
+ghost use Rattle.std.specs.Prelude.{◌≡◌, ℕ, ◌<◌, ◌+◌, ◌^◌, ◌↔◌, length, None, OnOk, IfOk, IfErr};
+ghost use Rattle.tl_tree.specs.Checking.{mark_at, AreMarked, IsMarkFault, AreChecked, IsChecked, IsFaultAt, IsFaultBelow};
 ghost use Rattle.tl_tree.specs.Fits.{Fits, MayFind};
 ghost use Rattle.tl_tree.specs.Trees.{node_count};
 ghost use Rattle.tl_tree.specs.Walking.{size_of};
@@ -85,6 +85,25 @@ fn check_trees<I: Items, W: Trees>(
     Ok(hull_of(hull, others))
 }
 
+/// Checks trees, with marks of which none is set: nothing exactly where they fit the items, or a fault that is true.
+fn check_marked<I: Items, W: Trees>(items: &I, trees: &W, marks: &mut [bool]) -> Option<TreeFault>
+    requires marks { length marks.old ≡ I.count items.now }
+    requires unmarked { (i : ℕ) → mark_at marks.old i ≡ 0 }
+    requires numbers { node_count (W.forest trees.now) < 2 ^ 32 }
+    ensures { MayFind (W.forest trees.now) (I.count items.now) (I.bounds_of items.now) result }
+{
+    let mut number = 0;
+    if let Err(fault) = check_trees(items, trees, marks, &mut number) {
+        return Some(fault);
+    }
+    for i in 0..items.len() {
+        if !marks[i as usize] {
+            return Some(TreeFault::IndexMissing(i));
+        }
+    }
+    None
+}
+
 /// Checks trees: nothing exactly where they fit the items, or a fault that is true.
 pub fn check_all<I: Items, W: Trees>(
     alloc: Global,
@@ -92,21 +111,13 @@ pub fn check_all<I: Items, W: Trees>(
     trees: &W,
 ) -> Result<Option<TreeFault>, Memory>
     requires { node_count (W.forest trees.now) < 2 ^ 32 }
-    ensures found { IfOk result (MayFind (W.forest trees.now) (I.count items.now) (I.bounds_of items.now)) }
+    ensures found { IfOk result
+        (MayFind (W.forest trees.now) (I.count items.now) (I.bounds_of items.now)) }
     ensures exact { IfOk result (λ found.
         found ≡ None ↔ Fits (W.forest trees.now) (I.count items.now) (I.bounds_of items.now)) }
 {
     let Ok(mut marks) = vec![in alloc; false; items.len() as usize] else {
         return Err(Memory);
     };
-    let mut number = 0u32;
-    if let Err(fault) = check_trees(items, trees, marks.as_mut_slice(), &mut number) {
-        return Ok(Some(fault));
-    }
-    for i in 0..items.len() {
-        if !marks[i as usize] {
-            return Ok(Some(TreeFault::IndexMissing(i)));
-        }
-    }
-    Ok(None)
+    Ok(check_marked(items, trees, marks.as_mut_slice()))
 }

@@ -1,6 +1,7 @@
 //! The flat tree: a list of nodes in preorder, lent, and the size of each subtree.
-ghost use Rattle.std.specs.Prelude.{◌≡◌, ◌<◌, ◌≤◌, ◌+◌, ◌^◌, length, drop, IfOk, IfErr};
+ghost use Rattle.std.specs.Prelude.{◌≡◌, ◌<◌, ◌≤◌, ◌+◌, ◌^◌, ◌↔◌, None, length, drop, IfOk, IfErr};
 ghost use Rattle.tl_tree.specs.declared.fault.TreeStop.TheVariants.{TooDeep};
+ghost use Rattle.tl_tree.specs.Fits.{Fits, MayFind};
 ghost use Rattle.tl_tree.specs.Preorder.{IsPreorder};
 ghost use Rattle.tl_tree.specs.Sizes.{AreSizesFrom};
 ghost use Rattle.tl_tree.specs.Trees.{depth, tree_of, first_trees, trees_of, node_count};
@@ -8,11 +9,12 @@ ghost use Rattle.tl_tree.specs.Trees.{depth, tree_of, first_trees, trees_of, nod
 use std::alloc::{AllocError, Global};
 use std::marker::Model;
 
+use crate::check::check_all;
 use crate::cursor::Cursor;
 use crate::depth::is_within_depth;
 use crate::hits::collect_all;
 use crate::search::search_trees;
-use crate::{BoxIndex, Items, Memory, Probe, Search, TreeNode, TreeStop};
+use crate::{BoxIndex, Items, Memory, Probe, Search, TreeFault, TreeNode, TreeStop};
 
 /// A tree over a list of nodes in preorder, which it borrows. Beside them it keeps the number of nodes of each subtree.
 #[derive(Drop)]
@@ -22,7 +24,7 @@ pub struct FlatTree<'a> {
 }
 
 impl<'a> Model for FlatTree<'a> {
-    ghost use Rattle.std.specs.Prelude.{List};
+    ghost use Rattle.std.specs.Prelude.{List, length, ◌<◌, ◌^◌};
     ghost use Rattle.tl_tree.specs.declared.node.TreeNode.{TreeNode};
     ghost use Rattle.tl_tree.specs.Sizes.{AreSizesFrom};
 
@@ -30,7 +32,8 @@ impl<'a> Model for FlatTree<'a> {
 
     ghost view = { λ tree. tree.nodes.now };
 
-    ghost invariant = { λ tree. AreSizesFrom 0 tree.nodes.now tree.sizes.items };
+    ghost invariant = { λ tree.
+        AreSizesFrom 0 tree.nodes.now tree.sizes.items × length tree.nodes.now < 2 ^ 32 };
 }
 
 impl<'a> FlatTree<'a> {
@@ -52,6 +55,17 @@ impl<'a> FlatTree<'a> {
         } else {
             Err(TreeStop::TooDeep)
         }
+    }
+
+    /// Checks the tree against items: nothing exactly where it fits them, else a fault that is true. `Memory` comes where
+    /// the marks of the items were refused.
+    pub fn check<I: Items>(&self, alloc: Global, items: &I) -> Result<Option<TreeFault>, Memory>
+        ensures found { IfOk result
+            (MayFind (tree_of self.now) (I.count items.now) (I.bounds_of items.now)) }
+        ensures exact { IfOk result (λ found.
+            found ≡ None ↔ Fits (tree_of self.now) (I.count items.now) (I.bounds_of items.now)) }
+    {
+        check_all(alloc, items, &self.root())
     }
 
     /// The walk over the whole tree.
