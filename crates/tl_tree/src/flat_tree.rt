@@ -70,7 +70,8 @@ impl<'a> FlatTree<'a> {
 
     /// The walk over the whole tree.
     fn root(&self) -> Cursor<'_>
-        ensures { first_trees result.count (trees_of (drop result.at result.nodes.now)) ≡ tree_of self.now }
+        ensures whole { first_trees result.count (trees_of (drop result.at result.nodes.now)) ≡ tree_of self.now }
+        ensures numbered { node_count (tree_of self.now) < 2 ^ 32 }
     {
         Cursor {
             nodes: self.nodes,
