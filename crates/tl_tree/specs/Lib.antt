@@ -7,3 +7,5 @@ pub mod Fits
 pub mod Walking
 pub mod Sizes
 pub mod Checking
+pub mod Branches
+pub mod Boxed

@@ -69,7 +69,7 @@ impl<'a> FlatTree<'a> {
     }
 
     /// The walk over the whole tree.
-    fn root(&self) -> Cursor<'_>
+    pub(crate) fn root(&self) -> Cursor<'_>
         ensures whole { first_trees result.count (trees_of (drop result.at result.nodes.now)) ≡ tree_of self.now }
         ensures numbered { node_count (tree_of self.now) < 2 ^ 32 }
     {

@@ -6,6 +6,8 @@
 //! doesn't.
 #![tactic(auto)]
 
+mod box_tree;
+mod branch;
 mod check;
 mod cursor;
 mod depth;
@@ -22,6 +24,7 @@ mod probe;
 mod search;
 mod walk;
 
+pub use box_tree::BoxTree;
 pub use fault::{TreeFault, TreeStop};
 pub use flat_tree::FlatTree;
 pub use index::{BoxIndex, Memory};
