@@ -1,10 +1,10 @@
 -- Items below two rectangles that don't meet: no pair of them has bounds that meet, and none conflicts.
-use Rattle.std.proofs.Common.{◌≡◌, ℕ, ◌+◌, ◌<◌, ◌≤◌, List, [], ◌∷◌, Option, IsSome, refl, arith}
+use Rattle.std.proofs.Common.{◌≡◌, ℕ, ◌+◌, ◌<◌, ◌≤◌, List, [], ◌∷◌, Option, refl, arith}
 use Rattle.tl_geom.specs.declared.rect.Rect.{Rect}
 use Rattle.tl_geom.specs.Rectangle.{AreMeeting, Covers}
-use Rattle.tl_tree.specs.Pairs.{row_sum, cross_sum, meeting, conflicting}
+use Rattle.tl_tree.specs.Pairs.{row_sum, cross_sum, meeting, AllRow, AllCross, AreFree}
 use Rattle.tl_tree.specs.Fits.{AreBelow, CoversAll}
-use Rattle.tl_tree.proofs.PairTests.{meeting-apart, conflicting-0}
+use Rattle.tl_tree.proofs.PairTests.{meeting-apart, KeepsLaw, free-apart}
 
 -- rectangles that hold what two others hold meet where those do
 wider-meet : (r q s t : Rect) → Covers r s → Covers q t → AreMeeting s t → AreMeeting r q
@@ -20,17 +20,12 @@ module _ (b : ℕ → Rect) where
   cross-apart r q [] ys ne h k = refl
   cross-apart r q (x ∷ xs) ys ne h k = omega (arith, row-apart r q x ys ne h.0 k, cross-apart r q xs ys ne h.1 k)
 
-  module _ {C : Type 0} (n : ℕ) (conflict : ℕ → ℕ → Option C) where
-    -- the law of the items: those that conflict have bounds that meet
-    abbrev pub KeepsLaw : Type 0
-    KeepsLaw = (i j : ℕ) → i < j → j < n → IsSome (conflict i j) → AreMeeting (b i) (b j)
+  module _ {C : Type 0} (n : ℕ) (tells : ℕ → ℕ → Option C → Type 0) where
+    row-free : KeepsLaw tells n b → (r q : Rect) (x : ℕ) (ys : List ℕ) → (AreMeeting r q → ⊥) → x < n → AreBelow n ys → Covers r (b x) → CoversAll b q ys → AllRow (AreFree tells) x ys
+    row-free law r q x [] ne k l c d = tt
+    row-free law r q x (y ∷ ys) ne k l c d =
+        (free-apart tells n b law x y k l.0 (λ m. ne (wider-meet r q (b x) (b y) c d.0 m)), row-free law r q x ys ne k l.1 c d.1)
 
-    pub row-law : KeepsLaw → (x : ℕ) (ys : List ℕ) → x < n → AreBelow n ys → row_sum (meeting b) x ys ≡ 0 → row_sum (conflicting conflict) x ys ≡ 0
-    row-law law x [] h k e = refl
-    row-law law x (y ∷ ys) h k e =
-        omega (arith, conflicting-0 conflict n b law x y h k.0 (omega (arith, e)), row-law law x ys h k.1 (omega (arith, e)))
-
-    pub cross-law : KeepsLaw → (xs ys : List ℕ) → AreBelow n xs → AreBelow n ys → cross_sum (meeting b) xs ys ≡ 0 → cross_sum (conflicting conflict) xs ys ≡ 0
-    cross-law law [] ys h k e = refl
-    cross-law law (x ∷ xs) ys h k e =
-        omega (arith, row-law law x ys h.0 k (omega (arith, e)), cross-law law xs ys h.1 k (omega (arith, e)))
+    pub cross-free : KeepsLaw tells n b → (r q : Rect) (xs ys : List ℕ) → (AreMeeting r q → ⊥) → AreBelow n xs → AreBelow n ys → CoversAll b r xs → CoversAll b q ys → AllCross (AreFree tells) xs ys
+    cross-free law r q [] ys ne k l c d = tt
+    cross-free law r q (x ∷ xs) ys ne k l c d = (row-free law r q x ys ne k.0 l c.0 d, cross-free law r q xs ys ne k.1 l c.1 d)

@@ -7,7 +7,7 @@ use Rattle.std.proofs.lemmas.Bool.Decides.{nat_tests, Decides-eqb}
 use Rattle.std.proofs.lemmas.Int.{ints, clamps}
 use Rattle.tl_geom.specs.declared.rect.Rect.{Rect}
 use Rattle.tl_geom.specs.Rectangle.{AreMeeting, Holds}
-use Rattle.tl_tree.specs.Pairs.{overlaps, meeting, conflicting}
+use Rattle.tl_tree.specs.Pairs.{overlaps, meeting, AreFree}
 
 T-true : (b : Bool) → T b → b ≡ true
 T-true true h = refl
@@ -90,55 +90,29 @@ pub meeting-swap : (b : ℕ → Rect) (i j : ℕ) → meeting b i j ≡ meeting 
 unfolding meeting
 meeting-swap b i j = rw overlaps-swap (grind (arith, nat_tests))
 
--- ---- conflicting
+-- ---- conflicts
 
-below_or : {P : Type 0} (i j : ℕ) → (i < j → P) → (i ≡ j → P) → (j < i → P) → P
+pub below_or : {P : Type 0} (i j : ℕ) → (i < j → P) → (i ≡ j → P) → (j < i → P) → P
 below_or zero zero f g h = g refl
 below_or zero (suc j) f g h = f (omega arith)
 below_or (suc i) zero f g h = h (omega arith)
 below_or (suc i) (suc j) f g h = below_or i j (λ k. f (omega arith)) (λ e. g (ap suc e)) (λ k. h (omega arith))
 
-module _ {C : Type 0} (conflict : ℕ → ℕ → Option C) where
-  pub conflicting-equal : (i j : ℕ) → i ≡ j → conflicting conflict i j ≡ 0
-  unfolding conflicting
-  conflicting-equal i j e = grind (arith, nat_tests)
+module _ {C : Type 0} (tells : ℕ → ℕ → Option C → Type 0) where
+  pub free-turned : (i j : ℕ) → AreFree tells i j → AreFree tells j i
+  free-turned i j h = record { up = h.down; down = h.up }
 
-  pub conflicting-up : (i j : ℕ) → i < j → conflicting conflict i j ≡ cond (is_some (conflict i j)) 1 0
-  unfolding conflicting
-  conflicting-up i j h = grind (arith, nat_tests)
+  -- an item and itself are no pair
+  pub free-equal : (i j : ℕ) → i ≡ j → AreFree tells i j
+  free-equal i j e = record { up = λ h. absurd (omega (arith, e, h)); down = λ h. absurd (omega (arith, e, h)) }
 
-  pub conflicting-down : (i j : ℕ) → j < i → conflicting conflict i j ≡ cond (is_some (conflict j i)) 1 0
-  unfolding conflicting
-  conflicting-down i j h = grind (arith, nat_tests)
-
-  -- by the law of the items, those whose bounds don't meet don't conflict
-  pub conflicting-0 : (n : ℕ) (b : ℕ → Rect) → ((i j : ℕ) → i < j → j < n → IsSome (conflict i j) → AreMeeting (b i) (b j)) → (i j : ℕ) → i < n → j < n → meeting b i j ≡ 0 → conflicting conflict i j ≡ 0
-  conflicting-0 n b law i j hi hj e =
-      below_or i j
-        (λ h. conflicting-up i j h ∙ none-0 (conflict i j) (λ s. one-not-0 (meeting-1 b i j (λ p. omega (arith, h, p)) (law i j h hj s)) e))
-        (conflicting-equal i j)
-        (λ h. conflicting-down i j h ∙ none-0 (conflict j i) (λ s. one-not-0 (meeting-1 b j i (λ p. omega (arith, h, p)) (law j i h hi s)) (meeting-swap b j i ∙ e)))
-    where
-      one-not-0 : {m : ℕ} → m ≡ 1 → m ≡ 0 → ⊥
-      one-not-0 p q = omega (arith, p, q)
-      none-0 : (o : Option C) → (IsSome o → ⊥) → ◌≡◌ {A = ℕ} (cond (is_some o) 1 0) 0
-      none-0 None h = refl
-      none-0 (Some x) h = absurd (h refl)
-
-  pub conflicting-swap : (i j : ℕ) → conflicting conflict i j ≡ conflicting conflict j i
-  conflicting-swap i j =
-      below_or i j
-        (λ h. conflicting-up i j h ∙ sym (conflicting-down j i h))
-        (λ e. conflicting-equal i j e ∙ sym (conflicting-equal j i (sym e)))
-        (λ h. conflicting-down i j h ∙ sym (conflicting-up j i h))
-
-  -- the pair of the lesser and the greater one has no conflict
-  pub conflicting-none : (i j : ℕ) → conflict (min i j) (max i j) ≡ None → conflicting conflict i j ≡ 0
-  conflicting-none i j e =
-      below_or i j
-        (λ h. conflicting-up i j h ∙ ap (λ o. cond (is_some o) 1 0) (sym (ap (λ x. conflict x (max i j)) (min-up h) ∙ ap (conflict i) (max-up h)) ∙ e))
-        (conflicting-equal i j)
-        (λ h. conflicting-down i j h ∙ ap (λ o. cond (is_some o) 1 0) (sym (ap (λ x. conflict x (max i j)) (min-down h) ∙ ap (conflict j) (max-down h)) ∙ e))
+  -- what is told of the lesser and the greater one
+  pub free-told : (i j : ℕ) → tells (min i j) (max i j) None → AreFree tells i j
+  free-told i j t =
+      record {
+        up = λ h. let P : ℕ → Type 0 = λ k. tells k (max i j) None in let Q : ℕ → Type 0 = λ k. tells i k None in subst Q (max-up h) (subst P (min-up h) t);
+        down = λ h. let P : ℕ → Type 0 = λ k. tells k (max i j) None in let Q : ℕ → Type 0 = λ k. tells j k None in subst Q (max-down h) (subst P (min-down h) t);
+      }
     where
       min-up : i < j → min i j ≡ i
       min-up h = omega arith
@@ -148,3 +122,14 @@ module _ {C : Type 0} (conflict : ℕ → ℕ → Option C) where
       min-down h = omega arith
       max-down : j < i → max i j ≡ i
       max-down h = omega arith
+
+  -- the law of the items: of those whose bounds don't meet it is told that they don't conflict
+  abbrev pub KeepsLaw : ℕ → (ℕ → Rect) → Type 0
+  KeepsLaw n b = (i j : ℕ) → i < j → j < n → (AreMeeting (b i) (b j) → ⊥) → tells i j None
+
+  pub free-apart : (n : ℕ) (b : ℕ → Rect) → KeepsLaw n b → (i j : ℕ) → i < n → j < n → (AreMeeting (b i) (b j) → ⊥) → AreFree tells i j
+  free-apart n b law i j h k ne =
+      record {
+        up = λ l. law i j l k ne;
+        down = λ l. law j i l h (λ m. ne (record { point = m.point; in_first = m.in_second; in_second = m.in_first }));
+      }

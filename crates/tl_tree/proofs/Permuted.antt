@@ -1,11 +1,10 @@
 -- Sums over a list in which each number below n stands once.
-use Rattle.std.proofs.Common.{◌≡◌, ℕ, zero, suc, ◌+◌, ◌<◌, ◌≤◌, Bool, true, false, cond, eqb, is_some, Option, Some, None, List, [], ◌∷◌, ◌++◌, refl, sym, ap, ◌∙◌, arith}
+use Rattle.std.proofs.Common.{◌≡◌, ℕ, zero, suc, ◌+◌, ◌<◌, ◌≤◌, Bool, true, false, cond, eqb, List, [], ◌∷◌, ◌++◌, refl, sym, ap, ◌∙◌, subst, arith}
 use Rattle.std.proofs.lemmas.Bool.Decides.{nat_tests}
-use Rattle.tl_tree.specs.Pairs.{indices, row_sum, pair_sum, conflicting}
+use Rattle.tl_tree.specs.Pairs.{indices, row_sum, pair_sum, AllRow, AllPairs}
 use Rattle.tl_tree.specs.Hits.{times}
 use Rattle.tl_tree.specs.Fits.{AreBelow}
-use Rattle.tl_tree.proofs.PairLemmas.{IsSymmetric}
-use Rattle.tl_tree.proofs.PairTests.{conflicting-down}
+use Rattle.tl_tree.proofs.PairLemmas.{IsSymmetric, Turns}
 
 pub same_or : {P : Type 0} (n x : ℕ) → (n ≡ x → P) → ((n ≡ x → ⊥) → P) → P
 same_or zero zero f g = f refl
@@ -93,31 +92,58 @@ pairs-same f s (suc n) xs h k =
     let once : (i : ℕ) → i < n → times i (without n xs) ≡ 1 = λ i l. times-without i n xs (λ e. omega (arith, e, l)) ∙ k i (omega (arith, l)) in
     omega (arith, pair-without f s n xs (k n (omega arith)), rows-same f n n (without n xs) known once, pairs-same f s n (without n xs) known once)
 
--- ---- no conflict
+-- ---- what is true of each pair
 
-module _ {C : Type 0} (conflict : ℕ → ℕ → Option C) where
-  row-none : (i j n : ℕ) → i < n → row_sum (conflicting conflict) j (indices n) ≡ 0 → conflicting conflict j i ≡ 0
-  unfolding indices
-  row-none i j zero h e = absurd (omega (arith, h))
-  row-none i j (suc n) h e =
-      same_or i n
-        (λ p. ap (conflicting conflict j) p ∙ zero-left (conflicting conflict j n) (row_sum (conflicting conflict) j (indices n)) e)
-        (λ ne. row-none i j n (omega (arith, h, ne)) (omega (arith, e)))
-    where
-      zero-left : (a b : ℕ) → a + b ≡ 0 → a ≡ 0
-      zero-left a b e = omega (arith, e)
+module _ (P : ℕ → ℕ → Type 0) where
+  all_row-at : (y n : ℕ) (xs : List ℕ) → times n xs ≡ 1 → AllRow P y xs → P y n × AllRow P y (without n xs)
+  unfolding without
+  all_row-at y n [] h a = absurd (omega (arith, h))
+  all_row-at y n (x ∷ xs) h a =
+      same_or n x
+        (λ e. rw (without-same n x xs e, without-none n xs (omega (arith, h, times-same n x xs e))) ((let Q : ℕ → Type 0 = P y in subst Q (sym e) a.0), a.1))
+        (λ ne.
+          let k : P y n × AllRow P y (without n xs) = all_row-at y n xs (omega (arith, h, times-other n x xs ne)) a.1 in
+          rw (without-other n x xs ne) (k.0, (a.0, k.1)))
 
-  -- where no two of the numbers below n conflict
-  pub none-conflict : (n i j : ℕ) → pair_sum (conflicting conflict) (indices n) ≡ 0 → i < j → j < n → conflict i j ≡ None
+  all_pairs-at : Turns P → (n : ℕ) (xs : List ℕ) → times n xs ≡ 1 → AllPairs P xs → AllRow P n (without n xs) × AllPairs P (without n xs)
+  unfolding without
+  all_pairs-at s n [] h a = absurd (omega (arith, h))
+  all_pairs-at s n (x ∷ xs) h a =
+      same_or n x
+        (λ e. rw (without-same n x xs e, without-none n xs (omega (arith, h, times-same n x xs e))) ((let Q : ℕ → Type 0 = λ z. AllRow P z xs in subst Q (sym e) a.0), a.1))
+        (λ ne.
+          let t : times n xs ≡ 1 = omega (arith, h, times-other n x xs ne) in
+          let r : P x n × AllRow P x (without n xs) = all_row-at x n xs t a.0 in
+          let k : AllRow P n (without n xs) × AllPairs P (without n xs) = all_pairs-at s n xs t a.1 in
+          rw (without-other n x xs ne) ((s x n r.0, k.0), (r.1, k.1)))
+
+  all_rows-same : (y n : ℕ) (xs : List ℕ) → AreBelow n xs → ((i : ℕ) → i < n → times i xs ≡ 1) → AllRow P y xs → AllRow P y (indices n)
   unfolding indices
-  none-conflict zero i j e h k = absurd (omega (arith, k))
-  none-conflict (suc n) i j e h k =
+  all_rows-same y zero xs h k a = tt
+  all_rows-same y (suc n) xs h k a =
+      let r = all_row-at y n xs (k n (omega arith)) a in
+      (r.0, all_rows-same y n (without n xs) (below-without n xs h) (λ i l. times-without i n xs (λ e. omega (arith, e, l)) ∙ k i (omega (arith, l))) r.1)
+
+  -- what is true of each pair of such a list is true of each pair of the numbers below n
+  pub all_pairs-same : Turns P → (n : ℕ) (xs : List ℕ) → AreBelow n xs → ((i : ℕ) → i < n → times i xs ≡ 1) → AllPairs P xs → AllPairs P (indices n)
+  unfolding indices
+  all_pairs-same s zero xs h k a = tt
+  all_pairs-same s (suc n) xs h k a =
+      let r = all_pairs-at s n xs (k n (omega arith)) a in
+      let known = below-without n xs h in
+      let once : (i : ℕ) → i < n → times i (without n xs) ≡ 1 = λ i l. times-without i n xs (λ e. omega (arith, e, l)) ∙ k i (omega (arith, l)) in
+      (all_rows-same n n (without n xs) known once r.0, all_pairs-same s n (without n xs) known once r.1)
+
+  row-at : (i j n : ℕ) → i < n → AllRow P j (indices n) → P j i
+  unfolding indices
+  row-at i j zero h a = absurd (omega (arith, h))
+  row-at i j (suc n) h a =
+      same_or i n (λ e. let Q : ℕ → Type 0 = P j in subst Q (sym e) a.0) (λ ne. row-at i j n (omega (arith, h, ne)) a.1)
+
+  pub pair-at : (n i j : ℕ) → AllPairs P (indices n) → i < j → j < n → P j i
+  unfolding indices
+  pair-at zero i j a h k = absurd (omega (arith, k))
+  pair-at (suc n) i j a h k =
       same_or j n
-        (λ p. is-none (conflict i j) (sym (conflicting-down conflict j i h) ∙ row-none i j n (omega (arith, h, p)) (ap (λ z. row_sum (conflicting conflict) z (indices n)) p ∙ zero-left (row_sum (conflicting conflict) n (indices n)) (pair_sum (conflicting conflict) (indices n)) e)))
-        (λ ne. none-conflict n i j (omega (arith, e)) h (omega (arith, k, ne)))
-    where
-      zero-left : (a b : ℕ) → a + b ≡ 0 → a ≡ 0
-      zero-left a b e = omega (arith, e)
-      is-none : (o : Option C) → ◌≡◌ {A = ℕ} (cond (is_some o) 1 0) 0 → o ≡ None
-      is-none None e = refl
-      is-none (Some x) e = absurd (omega (arith, e))
+        (λ e. let Q : ℕ → Type 0 = λ z. P z i in subst Q (sym e) (row-at i n n (omega (arith, h, e)) a.0))
+        (λ ne. pair-at n i j a.1 h (omega (arith, k, ne)))

@@ -4,8 +4,8 @@ use Rattle.tl_geom.specs.declared.rect.Rect.{Rect}
 use Rattle.tl_tree.specs.declared.walk.Tree.{Tree}
 use Rattle.tl_tree.specs.declared.walk.Below.{Below}
 use Rattle.tl_tree.specs.declared.walk.Below.TheVariants.{Items, Children}
-use Rattle.tl_tree.specs.Pairs.{cross_sum, pair_sum}
-use Rattle.tl_tree.proofs.PairLemmas.{cross-nil, cross-append_right, pair-append}
+use Rattle.tl_tree.specs.Pairs.{cross_sum, pair_sum, AllCross, AllPairs}
+use Rattle.tl_tree.proofs.PairLemmas.{cross-nil, cross-append_right, pair-append, all_cross-nil, all_cross-join, all_pairs-join}
 use Rattle.tl_tree.specs.Fits.{AreBelow, CoversAll, CoversBelow}
 use Rattle.tl_tree.specs.Trees.{Forest, none, leaf, inner, leaf_items, node_count}
 use Rattle.tl_tree.specs.Walking.{followed, items_below, size_of, AreSound, IsSound, CoveredBelow}
@@ -19,6 +19,12 @@ cross-none f xs ts e = ap (λ us. cross_sum f xs (leaf_items us)) e ∙ cross-ni
 
 pub pair-none : (f : ℕ → ℕ → ℕ) (ts : Forest) → ts ≡ none → pair_sum f (leaf_items ts) ≡ 0
 pair-none f ts e = ap (λ us. pair_sum f (leaf_items us)) e
+
+pub all_cross-none : (P : ℕ → ℕ → Type 0) (xs : List ℕ) (ts : Forest) → ts ≡ none → AllCross P xs (leaf_items ts)
+all_cross-none P xs ts e = let Q : Forest → Type 0 = λ us. AllCross P xs (leaf_items us) in subst Q (sym e) (all_cross-nil P xs)
+
+pub all_pairs-none : (P : ℕ → ℕ → Type 0) (ts : Forest) → ts ≡ none → AllPairs P (leaf_items ts)
+all_pairs-none P ts e = let Q : Forest → Type 0 = λ us. AllPairs P (leaf_items us) in subst Q (sym e) tt
 
 module _ {W : Type 0} (see : W → Forest) where
   pub items-followed : (r : Rect) (t : Below W) (others : Forest) → leaf_items (followed see r t others) ≡ items_below see t ++ leaf_items others
@@ -45,6 +51,16 @@ module _ {W : Type 0} (see : W → Forest) where
   pub size-above_0 : (t : Below W) → 0 < size_of see t
   size-above_0 (Items xs) = omega arith
   size-above_0 (Children w) = omega arith
+
+  pub all_cross-split : (P : ℕ → ℕ → Type 0) (xs : List ℕ) (ts : Forest) (r : Rect) (t : Below W) (others : Forest) → ts ≡ followed see r t others → AllCross P xs (items_below see t) → AllCross P xs (leaf_items others) → AllCross P xs (leaf_items ts)
+  all_cross-split P xs ts r t others e h k =
+      let Q : List ℕ → Type 0 = AllCross P xs in
+      subst Q (sym (ap leaf_items e ∙ items-followed r t others)) (all_cross-join P xs (items_below see t) (leaf_items others) h k)
+
+  pub all_pairs-split : (P : ℕ → ℕ → Type 0) (ts : Forest) (r : Rect) (t : Below W) (others : Forest) → ts ≡ followed see r t others → AllPairs P (items_below see t) → AllCross P (items_below see t) (leaf_items others) → AllPairs P (leaf_items others) → AllPairs P (leaf_items ts)
+  all_pairs-split P ts r t others e h c k =
+      let Q : List ℕ → Type 0 = AllPairs P in
+      subst Q (sym (ap leaf_items e ∙ items-followed r t others)) (all_pairs-join P (items_below see t) (leaf_items others) h c k)
 
   pub nodes-split : (ts : Forest) (r : Rect) (t : Below W) (others : Forest) → ts ≡ followed see r t others → node_count ts ≡ size_of see t + node_count others
   nodes-split ts r t others e = ap node_count e ∙ nodes-followed r t others

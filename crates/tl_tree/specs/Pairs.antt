@@ -1,5 +1,5 @@
--- Sums over pairs of numbers in a list; which pairs of items have bounds that meet, and which conflict.
-use Rattle.std.specs.Prelude.{ℕ, zero, suc, ◌+◌, ◌==◌, Bool, ◌&&◌, nat_lt, int_le, List, [], ◌∷◌, Option, is_some, if◌then◌else◌}
+-- Pairs of numbers in lists: sums over them, what is true of each; and which pairs of items have bounds that meet.
+use Rattle.std.specs.Prelude.{ℕ, zero, suc, ◌+◌, ◌<◌, ◌==◌, Bool, ◌&&◌, int_le, List, [], ◌∷◌, Option, None, if◌then◌else◌}
 use Rattle.std.specs.Int.{int_max, int_min}
 use Rattle.tl_geom.specs.declared.rect.Rect.{Rect}
 
@@ -33,9 +33,22 @@ overlaps r q =
 unfoldable pub meeting : (ℕ → Rect) → ℕ → ℕ → ℕ
 meeting bounds x y = if x == y then 0 else (if overlaps (bounds x) (bounds y) then 1 else 0)
 
--- 1 where x and y are two items that conflict, else 0
-unfoldable pub conflicting : {C : Type 0} → (ℕ → ℕ → Option C) → ℕ → ℕ → ℕ
-conflicting conflict x y =
-    if nat_lt x y
-    then (if is_some (conflict x y) then 1 else 0)
-    else (if nat_lt y x then (if is_some (conflict y x) then 1 else 0) else 0)
+-- each y of ys is related to x
+abbrev pub AllRow : (ℕ → ℕ → Type 0) → ℕ → List ℕ → Type 0
+AllRow P x [] = Unit {0}
+AllRow P x (y ∷ ys) = P x y × AllRow P x ys
+
+-- each x of xs and each y of ys are related
+abbrev pub AllCross : (ℕ → ℕ → Type 0) → List ℕ → List ℕ → Type 0
+AllCross P [] ys = Unit {0}
+AllCross P (x ∷ xs) ys = AllRow P x ys × AllCross P xs ys
+
+-- each x and each y that stands after it in the list are related
+abbrev pub AllPairs : (ℕ → ℕ → Type 0) → List ℕ → Type 0
+AllPairs P [] = Unit {0}
+AllPairs P (x ∷ xs) = AllRow P x xs × AllPairs P xs
+
+-- where x and y are two items, it is told of them, the lower one first, that they don't conflict
+pub record AreFree {C : Type 0} (tells : ℕ → ℕ → Option C → Type 0) (x y : ℕ) : Type 0 where
+  pub up : x < y → tells x y None
+  pub down : y < x → tells y x None

@@ -46,12 +46,12 @@ pub record IsSound {W : Type 0} (n : ℕ) (bounds : ℕ → Rect) (see : W → F
   pub covers : CoversAll bounds t.rect (items_below see t.below)
   pub below : CoveredBelow bounds see t.below
 
--- what a part of a search may answer with `left` of the budget, over pairs of which `meet` have bounds that meet and
--- `clash` conflict: what is left then, or why it stops
-abbrev pub MayLeave : {C : Type 0} → ℕ → (ℕ → ℕ → Option C) → (meet clash left : ℕ) → Result ℕ (Stop C) → Type 0
-MayLeave n conflict meet clash left (Ok rest) = (rest + meet ≡ left) × (clash ≡ 0)
-MayLeave n conflict meet clash left (Err (Found i j c)) = IsConflict n conflict i j c
-MayLeave n conflict meet clash left (Err Spent) = left < meet
+-- what a part of a search may answer with `left` of the budget, over pairs of which `meet` have bounds that meet: what is
+-- left then, where they are free of conflicts, or why it stops
+abbrev pub MayLeave : {C : Type 0} → ℕ → (ℕ → ℕ → Option C → Type 0) → ℕ → Type 0 → ℕ → Result ℕ (Stop C) → Type 0
+MayLeave n tells meet free left (Ok rest) = (rest + meet ≡ left) × free
+MayLeave n tells meet free left (Err (Found i j c)) = IsConflict n tells i j c
+MayLeave n tells meet free left (Err Spent) = left < meet
 
 -- new is old with something appended
 pub record Grows (old new : List ℕ) : Type 0 where

@@ -19,7 +19,7 @@ pub trait BoxIndex {
     /// `budget` pairs have rectangles that meet, and `Clear` only where at most `budget` have. It takes no memory.
     fn first_conflict<I: Items>(&self, items: &I, budget: u64) -> Search<I::C>
         requires { fits self.now (I.count items.now) (I.bounds_of items.now) }
-        ensures { MayAnswer (I.count items.now) (I.bounds_of items.now) (I.conflict_of items.now) budget result };
+        ensures { MayAnswer (I.count items.now) (I.bounds_of items.now) (I.tells items.now) budget result };
 
     /// Appends the number of each item that is hit, in an order that is left open. Behind a refused growth `out` is as
     /// before.

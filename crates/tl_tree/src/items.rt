@@ -1,5 +1,5 @@
 //! Items that a search goes over, and what it answers.
-ghost use Rattle.std.specs.Prelude.{◌≡◌, ◌<◌, ℕ, Option, IsSome};
+ghost use Rattle.std.specs.Prelude.{◌≡◌, ◌<◌, ℕ, Option, None};
 ghost use Rattle.tl_geom.specs.declared.rect.Rect.{Rect};
 ghost use Rattle.tl_geom.specs.Rectangle.{AreMeeting};
 
@@ -16,8 +16,8 @@ pub trait Items {
     // The rectangle of an item.
     ghost bounds_of: { Self → ℕ → Rect };
 
-    // What is told of two items, the lower number first.
-    ghost conflict_of: { Self → ℕ → ℕ → Option Self.C };
+    // What may be told of two items, the lower number first: how they conflict, or that they don't.
+    ghost tells: { Self → ℕ → ℕ → Option Self.C → Type 0 };
 
     /// How many items there are.
     fn len(&self) -> u32
@@ -32,11 +32,12 @@ pub trait Items {
     fn conflict(&self, i: u32, j: u32) -> Option<Self::C>
         requires ordered { i < j }
         requires known { j < count self.now }
-        ensures { result ≡ conflict_of self.now i j };
+        ensures { tells self.now i j result };
 
-    // The law that each implementation proves: items that conflict have rectangles that meet.
-    ghost conflicts_meet: { (items : Self) (i j : ℕ) → i < j → j < count items →
-        IsSome (conflict_of items i j) → AreMeeting (bounds_of items i) (bounds_of items j) };
+    // The law that each implementation proves: items that conflict have rectangles that meet, so of those whose
+    // rectangles don't meet it is told that they don't conflict.
+    ghost apart: { (items : Self) (i j : ℕ) → i < j → j < count items →
+        ¬ AreMeeting (bounds_of items i) (bounds_of items j) → tells items i j None };
 }
 
 /// What a search for a conflict answers.

@@ -1,6 +1,6 @@
 //! The plain index: a list of all items.
 ghost use Rattle.std.specs.Prelude.{◌≡◌, ◌<◌, ◌≤◌};
-ghost use Rattle.tl_tree.specs.Pairs.{meeting, conflicting, row_sum, indices};
+ghost use Rattle.tl_tree.specs.Pairs.{meeting, row_sum, AllRow, AreFree, indices};
 ghost use Rattle.tl_tree.specs.Walking.{MayLeave};
 
 use std::marker::Model;
@@ -34,9 +34,9 @@ impl PlainList {
 /// Tests an item against each item below it.
 fn test_below<I: Items>(items: &I, j: u32, left: u64) -> Result<u64, Stop<I::C>>
     requires { j < I.count items.now }
-    ensures { MayLeave (I.count items.now) (I.conflict_of items.now)
+    ensures { MayLeave (I.count items.now) (I.tells items.now)
         (row_sum (meeting (I.bounds_of items.now)) j (indices j))
-        (row_sum (conflicting (I.conflict_of items.now)) j (indices j)) left result }
+        (AllRow (AreFree (I.tells items.now)) j (indices j)) left result }
 {
     let mut rest = left;
     for i in 0..j {

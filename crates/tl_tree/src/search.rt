@@ -1,7 +1,7 @@
 //! The search for two items that conflict.
 ghost use Rattle.std.specs.Prelude.{◌<◌};
 ghost use Rattle.tl_tree.specs.Fits.{AreBelow, Fits};
-ghost use Rattle.tl_tree.specs.Pairs.{meeting, conflicting, row_sum, cross_sum, pair_sum};
+ghost use Rattle.tl_tree.specs.Pairs.{meeting, row_sum, cross_sum, pair_sum, AllRow, AllCross, AllPairs, AreFree};
 ghost use Rattle.tl_tree.specs.Searches.{MayAnswer};
 ghost use Rattle.tl_tree.specs.Trees.{leaf_items};
 ghost use Rattle.tl_tree.specs.Walking.{MayLeave, items_below, IsSound, AreSound};
@@ -19,8 +19,8 @@ pub enum Stop<C> {
 pub fn test_pair<I: Items>(items: &I, i: u32, j: u32, left: u64) -> Result<u64, Stop<I::C>>
     requires first { i < I.count items.now }
     requires second { j < I.count items.now }
-    ensures { MayLeave (I.count items.now) (I.conflict_of items.now)
-        (meeting (I.bounds_of items.now) i j) (conflicting (I.conflict_of items.now) i j) left result }
+    ensures { MayLeave (I.count items.now) (I.tells items.now)
+        (meeting (I.bounds_of items.now) i j) (AreFree (I.tells items.now) i j) left result }
 {
     let (low, high) = (i.min(j), i.max(j));
     if low == high || !items.bounds(i).meets(items.bounds(j)) {
@@ -39,9 +39,9 @@ pub fn test_pair<I: Items>(items: &I, i: u32, j: u32, left: u64) -> Result<u64, 
 pub fn test_row<I: Items>(items: &I, i: u32, others: &[u32], left: u64) -> Result<u64, Stop<I::C>>
     requires item { i < I.count items.now }
     requires others { AreBelow (I.count items.now) others.now }
-    ensures { MayLeave (I.count items.now) (I.conflict_of items.now)
+    ensures { MayLeave (I.count items.now) (I.tells items.now)
         (row_sum (meeting (I.bounds_of items.now)) i others.now)
-        (row_sum (conflicting (I.conflict_of items.now)) i others.now) left result }
+        (AllRow (AreFree (I.tells items.now)) i others.now) left result }
 {
     let mut rest = left;
     for j in others {
@@ -54,9 +54,9 @@ pub fn test_row<I: Items>(items: &I, i: u32, others: &[u32], left: u64) -> Resul
 pub fn test_cross<I: Items>(items: &I, some: &[u32], others: &[u32], left: u64) -> Result<u64, Stop<I::C>>
     requires some { AreBelow (I.count items.now) some.now }
     requires others { AreBelow (I.count items.now) others.now }
-    ensures { MayLeave (I.count items.now) (I.conflict_of items.now)
+    ensures { MayLeave (I.count items.now) (I.tells items.now)
         (cross_sum (meeting (I.bounds_of items.now)) some.now others.now)
-        (cross_sum (conflicting (I.conflict_of items.now)) some.now others.now) left result }
+        (AllCross (AreFree (I.tells items.now)) some.now others.now) left result }
 {
     let mut rest = left;
     for i in some {
@@ -68,9 +68,9 @@ pub fn test_cross<I: Items>(items: &I, some: &[u32], others: &[u32], left: u64) 
 /// Tests the pairs of some items.
 pub fn test_pairs<I: Items>(items: &I, some: &[u32], left: u64) -> Result<u64, Stop<I::C>>
     requires { AreBelow (I.count items.now) some.now }
-    ensures { MayLeave (I.count items.now) (I.conflict_of items.now)
+    ensures { MayLeave (I.count items.now) (I.tells items.now)
         (pair_sum (meeting (I.bounds_of items.now)) some.now)
-        (pair_sum (conflicting (I.conflict_of items.now)) some.now) left result }
+        (AllPairs (AreFree (I.tells items.now)) some.now) left result }
 {
     let mut rest = left;
     for k in 0..some.len() {
@@ -89,10 +89,10 @@ pub fn search_two<I: Items, W: Trees>(
 ) -> Result<u64, Stop<I::C>>
     requires tree { IsSound (I.count items.now) (I.bounds_of items.now) W.forest tree.now }
     requires other { IsSound (I.count items.now) (I.bounds_of items.now) W.forest other.now }
-    ensures { MayLeave (I.count items.now) (I.conflict_of items.now)
+    ensures { MayLeave (I.count items.now) (I.tells items.now)
         (cross_sum (meeting (I.bounds_of items.now))
             (items_below W.forest tree.now.below) (items_below W.forest other.now.below))
-        (cross_sum (conflicting (I.conflict_of items.now))
+        (AllCross (AreFree (I.tells items.now))
             (items_below W.forest tree.now.below) (items_below W.forest other.now.below)) left result }
 {
     if !tree.rect.meets(other.rect) {
@@ -115,10 +115,10 @@ pub fn search_between<I: Items, W: Trees>(
 ) -> Result<u64, Stop<I::C>>
     requires tree { IsSound (I.count items.now) (I.bounds_of items.now) W.forest tree.now }
     requires others { AreSound (I.count items.now) (I.bounds_of items.now) (W.forest others.now) }
-    ensures { MayLeave (I.count items.now) (I.conflict_of items.now)
+    ensures { MayLeave (I.count items.now) (I.tells items.now)
         (cross_sum (meeting (I.bounds_of items.now))
             (items_below W.forest tree.now.below) (leaf_items (W.forest others.now)))
-        (cross_sum (conflicting (I.conflict_of items.now))
+        (AllCross (AreFree (I.tells items.now))
             (items_below W.forest tree.now.below) (leaf_items (W.forest others.now))) left result }
 {
     let Some((other, rest)) = others.split_first() else {
@@ -136,9 +136,9 @@ pub fn search_one<I: Items, W: Trees>(
     left: u64,
 ) -> Result<u64, Stop<I::C>>
     requires { IsSound (I.count items.now) (I.bounds_of items.now) W.forest tree.now }
-    ensures { MayLeave (I.count items.now) (I.conflict_of items.now)
+    ensures { MayLeave (I.count items.now) (I.tells items.now)
         (pair_sum (meeting (I.bounds_of items.now)) (items_below W.forest tree.now.below))
-        (pair_sum (conflicting (I.conflict_of items.now)) (items_below W.forest tree.now.below)) left result }
+        (AllPairs (AreFree (I.tells items.now)) (items_below W.forest tree.now.below)) left result }
 {
     match &tree.below {
         Below::Items(some) => test_pairs(items, some, left),
@@ -154,9 +154,9 @@ pub fn search_within<I: Items, W: Trees>(
     left: u64,
 ) -> Result<u64, Stop<I::C>>
     requires { AreSound (I.count items.now) (I.bounds_of items.now) (W.forest trees.now) }
-    ensures { MayLeave (I.count items.now) (I.conflict_of items.now)
+    ensures { MayLeave (I.count items.now) (I.tells items.now)
         (pair_sum (meeting (I.bounds_of items.now)) (leaf_items (W.forest trees.now)))
-        (pair_sum (conflicting (I.conflict_of items.now)) (leaf_items (W.forest trees.now))) left result }
+        (AllPairs (AreFree (I.tells items.now)) (leaf_items (W.forest trees.now))) left result }
 {
     let Some((tree, rest)) = trees.split_first() else {
         return Ok(left);
@@ -169,7 +169,7 @@ pub fn search_within<I: Items, W: Trees>(
 /// Looks for two items that conflict, by trees that fit the items.
 pub fn search_trees<I: Items, W: Trees>(items: &I, trees: &W, budget: u64) -> Search<I::C>
     requires { Fits (W.forest trees.now) (I.count items.now) (I.bounds_of items.now) }
-    ensures { MayAnswer (I.count items.now) (I.bounds_of items.now) (I.conflict_of items.now) budget result }
+    ensures { MayAnswer (I.count items.now) (I.bounds_of items.now) (I.tells items.now) budget result }
 {
     match search_within(items, trees, budget) {
         Ok(_) => Search::Clear,
