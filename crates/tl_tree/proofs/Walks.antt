@@ -8,7 +8,8 @@ use Rattle.tl_tree.specs.Pairs.{cross_sum, pair_sum, AllCross, AllPairs}
 use Rattle.tl_tree.proofs.PairLemmas.{cross-nil, cross-append_right, pair-append, all_cross-nil, all_cross-join, all_pairs-join}
 use Rattle.tl_tree.specs.Fits.{AreBelow, CoversAll, CoversBelow}
 use Rattle.tl_tree.specs.Trees.{Forest, none, leaf, inner, leaf_items, node_count}
-use Rattle.tl_tree.specs.Walking.{followed, items_below, size_of, AreSound, IsSound, CoveredBelow}
+use Rattle.tl_tree.specs.Walking.{followed, items_below, size_of, AreSound, IsSound, CoveredBelow, Collects}
+use Rattle.tl_tree.proofs.Hitting.{collects-nothing, collects-both}
 
 pub below-append : (n : ℕ) (xs ys : List ℕ) → AreBelow n (xs ++ ys) → AreBelow n xs × AreBelow n ys
 below-append n [] ys h = (tt, h)
@@ -25,6 +26,9 @@ all_cross-none P xs ts e = let Q : Forest → Type 0 = λ us. AllCross P xs (lea
 
 pub all_pairs-none : (P : ℕ → ℕ → Type 0) (ts : Forest) → ts ≡ none → AllPairs P (leaf_items ts)
 all_pairs-none P ts e = let Q : Forest → Type 0 = λ us. AllPairs P (leaf_items us) in subst Q (sym e) tt
+
+pub collects-none : (hit : ℕ → Type 0) (ts : Forest) (old : List ℕ) → ts ≡ none → Collects hit (leaf_items ts) old old
+collects-none hit ts old e = let P : Forest → Type 0 = λ us. Collects hit (leaf_items us) old old in subst P (sym e) (collects-nothing hit [] old old refl (λ i h. refl))
 
 module _ {W : Type 0} (see : W → Forest) where
   pub items-followed : (r : Rect) (t : Below W) (others : Forest) → leaf_items (followed see r t others) ≡ items_below see t ++ leaf_items others
@@ -61,6 +65,11 @@ module _ {W : Type 0} (see : W → Forest) where
   all_pairs-split P ts r t others e h c k =
       let Q : List ℕ → Type 0 = AllPairs P in
       subst Q (sym (ap leaf_items e ∙ items-followed r t others)) (all_pairs-join P (items_below see t) (leaf_items others) h c k)
+
+  pub collects-split : (hit : ℕ → Type 0) (ts : Forest) (r : Rect) (t : Below W) (others : Forest) (old mid new : List ℕ) → ts ≡ followed see r t others → Collects hit (items_below see t) old mid → Collects hit (leaf_items others) mid new → Collects hit (leaf_items ts) old new
+  collects-split hit ts r t others old mid new e c d =
+      let P : List ℕ → Type 0 = λ xs. Collects hit xs old new in
+      subst P (sym (ap leaf_items e ∙ items-followed r t others)) (collects-both hit (items_below see t) (leaf_items others) old mid new c d)
 
   pub nodes-split : (ts : Forest) (r : Rect) (t : Below W) (others : Forest) → ts ≡ followed see r t others → node_count ts ≡ size_of see t + node_count others
   nodes-split ts r t others e = ap node_count e ∙ nodes-followed r t others

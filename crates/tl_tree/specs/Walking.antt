@@ -1,5 +1,5 @@
 -- What a search keeps on its way: how a walk over trees splits, and what a part of a search leaves of the budget.
-use Rattle.std.specs.Prelude.{◌≡◌, ℕ, ◌<◌, ◌+◌, List, ◌++◌, Option, Some, None, Result, Ok, Err}
+use Rattle.std.specs.Prelude.{◌≡◌, ℕ, ◌<◌, ◌≤◌, ◌+◌, List, ◌++◌, Option, Some, None, Result, Ok, Err}
 use Rattle.tl_geom.specs.declared.rect.Rect.{Rect}
 use Rattle.tl_tree.specs.declared.walk.Tree.{Tree}
 use Rattle.tl_tree.specs.declared.walk.Below.{Below}
@@ -7,6 +7,7 @@ use Rattle.tl_tree.specs.declared.walk.Below.TheVariants.{Items, Children}
 use Rattle.tl_tree.specs.declared.search.Stop.{Stop}
 use Rattle.tl_tree.specs.declared.search.Stop.TheVariants.{Found, Spent}
 use Rattle.tl_tree.specs.Searches.{IsConflict}
+use Rattle.tl_tree.specs.Hits.{times}
 use Rattle.tl_tree.specs.Fits.{AreBelow, CoversAll, CoversBelow}
 use Rattle.tl_tree.specs.Trees.{Forest, none, leaf, inner, leaf_items, node_count}
 
@@ -57,3 +58,11 @@ MayLeave n tells meet free left (Err Spent) = left < meet
 pub record Grows (old new : List ℕ) : Type 0 where
   pub added : List ℕ
   pub appended : new ≡ old ++ added
+
+-- new is old, followed by those of xs that are hit, each as often as it stands there, and by nothing else
+pub record Collects (hit : ℕ → Type 0) (xs old new : List ℕ) : Type 0 where
+  pub found : List ℕ
+  pub appended : new ≡ old ++ found
+  pub hits : (i : ℕ) → hit i → times i found ≡ times i xs
+  pub others : (i : ℕ) → ¬ hit i → times i found ≡ 0
+  pub among : (i : ℕ) → times i found ≤ times i xs

@@ -1,9 +1,9 @@
 //! The search for the items that a probe hits.
-ghost use Rattle.std.specs.Prelude.{◌≡◌, ◌++◌, filter, OnOk, OnErr};
+ghost use Rattle.std.specs.Prelude.{◌≡◌, OnOk, OnErr};
 ghost use Rattle.tl_tree.specs.Fits.{AreBelow, Fits};
 ghost use Rattle.tl_tree.specs.Hits.{Adds};
 ghost use Rattle.tl_tree.specs.Trees.{leaf_items};
-ghost use Rattle.tl_tree.specs.Walking.{AreSound, IsSound, Grows, items_below};
+ghost use Rattle.tl_tree.specs.Walking.{AreSound, IsSound, Grows, Collects, items_below};
 
 use tl_geom::Rect;
 
@@ -21,7 +21,7 @@ fn push_hits<I: Items, P: Probe<I>>(
     requires known { AreBelow (I.count items.now) some.now }
     requires region { region ≡ P.region_of probe.now }
     ensures hits { OnOk result
-        (out.new.items ≡ out.old.items ++ filter (P.is_hit probe.now items.now) some.now) }
+        (Collects (P.hit probe.now items.now) some.now out.old.items out.new.items) }
     ensures grows { Grows out.old.items out.new.items }
 {
     for i in some {
@@ -44,7 +44,8 @@ fn collect_one<I: Items, P: Probe<I>, W: Trees>(
     requires tree { IsSound (I.count items.now) (I.bounds_of items.now) W.forest tree.now }
     requires region { region ≡ P.region_of probe.now }
     ensures hits { OnOk result
-        (out.new.items ≡ out.old.items ++ filter (P.is_hit probe.now items.now) (items_below W.forest tree.now.below)) }
+        (Collects (P.hit probe.now items.now)
+            (items_below W.forest tree.now.below) out.old.items out.new.items) }
     ensures grows { Grows out.old.items out.new.items }
 {
     if !tree.rect.meets(region) {
@@ -68,7 +69,8 @@ fn collect_trees<I: Items, P: Probe<I>, W: Trees>(
     requires trees { AreSound (I.count items.now) (I.bounds_of items.now) (W.forest trees.now) }
     requires region { region ≡ P.region_of probe.now }
     ensures hits { OnOk result
-        (out.new.items ≡ out.old.items ++ filter (P.is_hit probe.now items.now) (leaf_items (W.forest trees.now))) }
+        (Collects (P.hit probe.now items.now)
+            (leaf_items (W.forest trees.now)) out.old.items out.new.items) }
     ensures grows { Grows out.old.items out.new.items }
 {
     let Some((tree, rest)) = trees.split_first() else {
@@ -87,7 +89,7 @@ pub fn collect_all<I: Items, P: Probe<I>, W: Trees>(
 ) -> Result<(), Memory>
     requires { Fits (W.forest trees.now) (I.count items.now) (I.bounds_of items.now) }
     ensures hits { OnOk result
-        (Adds (I.count items.now) (P.is_hit probe.now items.now) out.old.items out.new.items) }
+        (Adds (I.count items.now) (P.hit probe.now items.now) out.old.items out.new.items) }
     ensures refused { OnErr result (out.new.items ≡ out.old.items) }
 {
     let before = out.len();

@@ -31,6 +31,6 @@ pub trait BoxIndex {
     ) -> Result<(), Memory>
         requires { fits self.now (I.count items.now) (I.bounds_of items.now) }
         ensures hits { OnOk result
-            (Adds (I.count items.now) (P.is_hit probe.now items.now) out.old.items out.new.items) }
+            (Adds (I.count items.now) (P.hit probe.now items.now) out.old.items out.new.items) }
         ensures refused { OnErr result (out.new.items ≡ out.old.items) };
 }

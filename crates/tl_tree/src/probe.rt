@@ -1,5 +1,5 @@
 //! Probes: what items are asked for.
-ghost use Rattle.std.specs.Prelude.{◌≡◌, ◌<◌, ℕ, Bool, true};
+ghost use Rattle.std.specs.Prelude.{◌≡◌, ◌<◌, ◌↔◌, ℕ, IsTrue};
 ghost use Rattle.tl_geom.specs.declared.rect.Rect.{Rect};
 ghost use Rattle.tl_geom.specs.Rectangle.{AreMeeting};
 
@@ -13,7 +13,7 @@ pub trait Probe<I: Items> {
     ghost region_of: { Self → Rect };
 
     // Whether an item is hit.
-    ghost is_hit: { Self → I → ℕ → Bool };
+    ghost hit: { Self → I → ℕ → Type 0 };
 
     /// A rectangle that the rectangle of each hit item meets.
     fn region(&self) -> Rect
@@ -22,9 +22,9 @@ pub trait Probe<I: Items> {
     /// Whether item `i` is hit.
     fn hits(&self, items: &I, i: u32) -> bool
         requires { i < I.count items.now }
-        ensures { result ≡ is_hit self.now items.now i };
+        ensures { IsTrue result ↔ hit self.now items.now i };
 
     // The law that each implementation proves: an item that is hit has a rectangle that meets the region.
     ghost hits_meet: { (probe : Self) (items : I) (i : ℕ) → i < I.count items →
-        is_hit probe items i ≡ true → AreMeeting (region_of probe) (I.bounds_of items i) };
+        hit probe items i → AreMeeting (region_of probe) (I.bounds_of items i) };
 }

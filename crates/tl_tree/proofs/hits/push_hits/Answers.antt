@@ -1,8 +1,10 @@
-use Rattle.std.proofs.Common.{◌≡◌, ℕ, Bool, ◌+◌, ◌++◌, ◌∷◌, [], cond, not, is_ok, true, false, filter, take, get_or, ap, sym, ◌∙◌, append_assoc, arith}
+use Rattle.std.proofs.Common.{◌≡◌, ℕ, List, ◌+◌, ◌++◌, ◌∷◌, [], cond, not, is_ok, true, false, take, get_or, refl, ap, sym, ◌∙◌, subst, arith}
 use Rattle.std.proofs.lemmas.Bool.{false≢true}
+use Rattle.std.proofs.lemmas.List.{take_all}
 use Rattle.tl_geom.specs.Rectangle.{AreMeeting}
+use Rattle.tl_tree.specs.Walking.{Collects, Grows}
 use Rattle.tl_tree.proofs.Steps.{below-at}
-use Rattle.tl_tree.proofs.Hitting.{filter-hit, filter-miss, miss}
+use Rattle.tl_tree.proofs.Hitting.{collects-nothing, collects-hit, collects-miss, miss}
 use Rattle.tl_tree.proofs.hits.push_hits.Goals as goal
 use Rattle.tl_tree.proofs.hits.push_hits.Goals.{else-meets-via-then-meets+then-hits+else-is_err, else-meets-via-then-meets+else-hits, else-meets-via-else-meets}
 
@@ -12,9 +14,12 @@ bounds-requires g c = below-at _ _ c.loop-i.i-index c.loop-i-test.true c.require
 pub hits-requires : goal.hits-requires
 hits-requires g c = below-at _ _ c.loop-i.i-index c.loop-i-test.true c.requires.known
 
+pub loop-i-init : goal.loop-i-init
+loop-i-init g c = collects-nothing (g.P.Probe.hit c.args.probe.now c.args.items.now) [] c.args.out.now.items c.args.out.now.items refl (λ i h. refl)
+
 pub loop-i-preserved : goal.loop-i-preserved
 loop-i-preserved g c =
-    let hit = g.P.Probe.is_hit c.args.probe.now c.args.items.now in
+    let hit = g.P.Probe.hit c.args.probe.now c.args.items.now in
     let b = g.I.Items.bounds_of c.args.items.now in
     let n = g.I.Items.count c.args.items.now in
     let xs = c.args.some.now in
@@ -24,14 +29,21 @@ loop-i-preserved g c =
     elim c.else-meets.branch [
       else-meets-via-then-meets+then-hits+else-is_err w ↦
         let ok : is_ok w.push.result ≡ true = w.is_err.ensures.negation ∙ ap not w.if-is_err.false in
-        ap (λ v. v.items) w.out-is ∙ w.push.ensures.items ∙ ap (λ t. cond t (now ++ get_or xs k 0 ∷ []) now) ok
-        ∙ ap (λ ys. ys ++ get_or xs k 0 ∷ []) c.loop-i.invariant ∙ append_assoc old (filter hit (take k xs)) (get_or xs k 0 ∷ [])
-        ∙ ap (λ ys. old ++ ys) (sym (filter-hit hit xs k c.loop-i-test.true (sym w.hits.ensures ∙ w.if-hits.true)))
+        collects-hit hit xs k old now c.else-meets.out.items c.loop-i-test.true (w.hits.ensures.0 w.if-hits.true)
+          (ap (λ v. v.items) w.out-is ∙ w.push.ensures.items ∙ ap (λ t. cond t (now ++ get_or xs k 0 ∷ []) now) ok) c.loop-i.invariant
     | else-meets-via-then-meets+else-hits w ↦
-        ap (λ v. v.items) w.out-is ∙ c.loop-i.invariant ∙ ap (λ ys. old ++ ys) (sym (filter-miss hit xs k c.loop-i-test.true (sym w.hits.ensures ∙ w.if-hits.false)))
+        collects-miss hit xs k old now c.else-meets.out.items c.loop-i-test.true (λ h. false≢true (sym w.if-hits.false ∙ w.hits.ensures.1 h)) (ap (λ v. v.items) w.out-is) c.loop-i.invariant
     | else-meets-via-else-meets w ↦
         let no : AreMeeting (b (get_or xs k 0)) c.args.region → ⊥ = λ m. false≢true (sym w.if-meets.false ∙ c.meets.ensures.1 (rw c.bounds.ensures m)) in
-        let missed : hit (get_or xs k 0) ≡ false =
-          miss n b hit c.args.region (λ i h e. rw c.requires.region (g.met.P.Probe.hits_meet c.args.probe.now c.args.items.now i h e)) (get_or xs k 0) (below-at n xs k c.loop-i-test.true c.requires.known) no in
-        ap (λ v. v.items) w.out-is ∙ c.loop-i.invariant ∙ ap (λ ys. old ++ ys) (sym (filter-miss hit xs k c.loop-i-test.true missed))
+        collects-miss hit xs k old now c.else-meets.out.items c.loop-i-test.true
+          (miss n b hit c.args.region (λ i h e. rw c.requires.region (g.met.P.Probe.hits_meet c.args.probe.now c.args.items.now i h e)) (get_or xs k 0) (below-at n xs k c.loop-i-test.true c.requires.known) no)
+          (ap (λ v. v.items) w.out-is) c.loop-i.invariant
     ]
+
+pub returns : goal.returns
+returns g c =
+    let P : List ℕ → Type 0 = λ xs. Collects (g.P.Probe.hit c.args.probe.now c.args.items.now) xs c.args.out.now.items c.loop-i.out.items in
+    record {
+      hits = subst P (take_all c.loop-i.i-index c.args.some.now c.loop-i-test.false) c.loop-i.invariant;
+      grows = record { added = c.loop-i.invariant.found; appended = c.loop-i.invariant.appended };
+    }

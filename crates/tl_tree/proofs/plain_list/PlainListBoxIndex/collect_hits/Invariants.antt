@@ -3,4 +3,4 @@ use Rattle.tl_tree.proofs.plain_list.PlainListBoxIndex.collect_hits.Given as goa
 
 -- the hits among the items so far are appended
 abbrev pub invariant-loop-i : goal.invariant-loop-i
-invariant-loop-i g l = Adds l.i (g.P.Probe.is_hit l.probe l.items) l.initial.out.items l.out.items
+invariant-loop-i g l = Adds l.i (g.P.Probe.hit l.probe l.items) l.initial.out.items l.out.items
