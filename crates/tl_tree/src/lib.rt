@@ -33,3 +33,6 @@ pub use node::TreeNode;
 pub use plain_list::PlainList;
 pub use preorder::is_preorder;
 pub use probe::Probe;
+
+#[cfg(test)]
+mod tests;
