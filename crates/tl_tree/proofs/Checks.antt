@@ -1,5 +1,5 @@
 -- What is found of trees, from what is found of the first one and of the others.
-use Rattle.std.proofs.Common.{◌≡◌, ℕ, zero, suc, ◌+◌, ◌-◌, ◌<◌, ◌≤◌, ◌⊎◌, inl, inr, ◌↔◌, Bool, true, false, List, [], ◌∷◌, ◌++◌, length, get_or, replicate, Option, Some, None, Result, Ok, Err, IfOk, refl, sym, ap, ◌∙◌, subst, arith}
+use Rattle.std.proofs.Common.{◌≡◌, ℕ, zero, suc, ◌+◌, ◌-◌, ◌<◌, ◌≤◌, inl, inr, ◌↔◌, Bool, true, false, List, length, get_or, replicate, Option, Some, None, Result, Ok, Err, IfOk, refl, sym, subst, arith}
 use Rattle.tl_geom.specs.declared.rect.Rect.{Rect}
 use Rattle.tl_geom.specs.Rectangle.{Covers}
 use Rattle.tl_tree.specs.declared.fault.TreeFault.{TreeFault}
@@ -9,8 +9,8 @@ use Rattle.tl_tree.specs.declared.walk.Below.TheVariants.{Items, Children}
 use Rattle.tl_tree.specs.Fits.{AreBelow, CoversAll, CoversBelow, IsTooSmall, Fits, IsFaultOf, MayFind}
 use Rattle.tl_tree.specs.Hits.{times}
 use Rattle.tl_tree.specs.Trees.{Forest, none, leaf, inner, leaf_items, node_count}
-use Rattle.tl_tree.specs.Walking.{followed, items_below, size_of, CoveredBelow}
-use Rattle.tl_tree.specs.Checking.{mark_at, AreMarked, IsHull, IsMarkFault, AreChecked, IsChecked, IsFaultAt, IsFaultBelow}
+use Rattle.tl_tree.specs.Walking.{followed, items_below, size_of}
+use Rattle.tl_tree.specs.Checking.{mark_at, AreMarked, IsHull, AreChecked, IsChecked, IsFaultAt, IsFaultBelow}
 use Rattle.tl_tree.proofs.Hitting.{times-append, times-above}
 use Rattle.tl_tree.proofs.Hulls.{hull-both}
 use Rattle.tl_tree.proofs.Marks.{marked-both, unmarked, is-marked}

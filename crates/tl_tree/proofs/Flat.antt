@@ -1,11 +1,11 @@
 -- Trees of a list of nodes: how they split.
-use Rattle.std.proofs.Common.{◌≡◌, ℕ, zero, suc, ◌+◌, ◌-◌, ◌<◌, ◌≤◌, List, [], ◌∷◌, ◌++◌, length, get_or, drop, refl, sym, ap, ◌∙◌, arith, ◌⊎◌, inl, inr, length-drop}
+use Rattle.std.proofs.Common.{◌≡◌, ℕ, zero, suc, ◌+◌, ◌-◌, ◌<◌, ◌≤◌, List, [], ◌∷◌, length, get_or, drop, refl, sym, ap, ◌∙◌, arith, ◌⊎◌, inl, inr, length-drop}
 use Rattle.std.proofs.lemmas.List.{at_drop_more, at_drop_all, drop-drop}
 use Rattle.tl_geom.specs.declared.rect.Rect.{Rect}
 use Rattle.tl_tree.specs.declared.node.TreeNode.{TreeNode}
 use Rattle.tl_tree.specs.declared.node.TreeNode.TheVariants.{Inner, Leaf}
 use Rattle.arrayvec.specs.ArrayVec.{ArrayVec}
-use Rattle.tl_tree.specs.Trees.{Forest, none, leaf, inner, leaf_items, node_count, first_trees, other_trees, trees_of}
+use Rattle.tl_tree.specs.Trees.{Forest, none, leaf, inner, node_count, first_trees, other_trees, trees_of}
 use Rattle.tl_tree.specs.Sizes.{size_at}
 
 pub first-none : (k : ℕ) → first_trees k none ≡ none
@@ -65,7 +65,7 @@ split-inner count size at nodes r k d ne h e p =
     let here : trees_of (drop at nodes) ≡ trees_of (Inner r k ∷ rest) = at_drop_more trees_of nodes at d h ∙ ap (λ x. trees_of (x ∷ rest)) e in
     let s : size ≡ 1 + node_count (first_trees k (trees_of rest)) = omega (arith, p, ap (λ f. node_count (first_trees 1 f)) here) in
     let b : trees_of (drop (at + size) nodes) ≡ other_trees k (trees_of rest) =
-      ap trees_of (ap (λ i. drop i nodes) (omega (arith, s)) ∙ sym (drop-drop (node_count (first_trees k (trees_of rest))) (at + 1) nodes)) ∙ behind rest k in
+    ap trees_of (ap (λ i. drop i nodes) (omega (arith, s)) ∙ sym (drop-drop (node_count (first_trees k (trees_of rest))) (at + 1) nodes)) ∙ behind rest k in
     ap (first_trees count) here ∙ first-inner count (count - 1) r (first_trees k (trees_of rest)) (other_trees k (trees_of rest)) (omega (arith, ne)) ∙ ap (λ g. inner r (first_trees k (trees_of rest)) (first_trees (count - 1) g)) (sym b)
 
 -- ---- where trees end

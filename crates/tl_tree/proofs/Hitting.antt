@@ -1,8 +1,8 @@
 -- Lists of hits.
-use Rattle.std.proofs.Common.{◌≡◌, ℕ, zero, suc, ◌+◌, ◌<◌, ◌≤◌, List, [], ◌∷◌, ◌++◌, take, length, get_or, refl, sym, ap, ◌∙◌, subst, append_assoc, append-nil, Result, Ok, Err, OnOk, arith}
+use Rattle.std.proofs.Common.{◌≡◌, ℕ, ◌+◌, ◌<◌, ◌≤◌, List, [], ◌∷◌, ◌++◌, take, length, get_or, refl, sym, ap, ◌∙◌, subst, append_assoc, append-nil, Result, Ok, Err, OnOk, arith}
 use Rattle.std.proofs.lemmas.List.{take_more}
 use Rattle.tl_geom.specs.declared.rect.Rect.{Rect}
-use Rattle.tl_geom.specs.Rectangle.{AreMeeting, Covers}
+use Rattle.tl_geom.specs.Rectangle.{AreMeeting}
 use Rattle.tl_tree.specs.Fits.{AreBelow, CoversAll}
 use Rattle.tl_tree.specs.Hits.{times, AreHits, Adds}
 use Rattle.tl_tree.specs.Walking.{Collects}
@@ -27,8 +27,8 @@ module _ (hit : ℕ → Type 0) where
   hits-more k found e h =
       record {
         once = λ i l p. same_or i k
-          (λ q. rw q (omega (arith, times-append k found (k ∷ []), h.known k (omega arith), times-one k)))
-          (λ ne. omega (arith, times-append i found (k ∷ []), h.once i (omega (arith, l, ne)) p, times-unhit i k ne));
+            (λ q. rw q (omega (arith, times-append k found (k ∷ []), h.known k (omega arith), times-one k)))
+            (λ ne. omega (arith, times-append i found (k ∷ []), h.once i (omega (arith, l, ne)) p, times-unhit i k ne));
         others = λ i unhit. omega (arith, times-append i found (k ∷ []), h.others i unhit, times-unhit i k (λ q. let P : ℕ → Type 0 = hit in unhit (subst P (sym q) e)));
         known = λ i l. omega (arith, times-append i found (k ∷ []), h.known i (omega (arith, l)), times-unhit i k (λ p. omega (arith, p, l)));
       }
@@ -37,8 +37,8 @@ module _ (hit : ℕ → Type 0) where
   hits-same k found unhit h =
       record {
         once = λ i l p. same_or i k
-          (λ q. let P : ℕ → Type 0 = hit in absurd (unhit (subst P q p)))
-          (λ ne. h.once i (omega (arith, l, ne)) p);
+            (λ q. let P : ℕ → Type 0 = hit in absurd (unhit (subst P q p)))
+            (λ ne. h.once i (omega (arith, l, ne)) p);
         others = h.others;
         known = λ i l. h.known i (omega (arith, l));
       }
@@ -121,8 +121,8 @@ module _ (n : ℕ) (b : ℕ → Rect) (hit : ℕ → Type 0) (region : Rect) whe
   none-hit law r [] ne l c i h = refl
   none-hit law r (x ∷ xs) ne l c i h =
       same_or i x
-        (λ e. let P : ℕ → Type 0 = hit in absurd (miss law x l.0 (λ m. ne (record { point = m.point; in_first = c.0 m.point m.in_first; in_second = m.in_second })) (subst P e h)))
-        (λ unhit. times-other i x xs unhit ∙ none-hit law r xs ne l.1 c.1 i h)
+      (λ e. let P : ℕ → Type 0 = hit in absurd (miss law x l.0 (λ m. ne (record { point = m.point; in_first = c.0 m.point m.in_first; in_second = m.in_second })) (subst P e h)))
+      (λ unhit. times-other i x xs unhit ∙ none-hit law r xs ne l.1 c.1 i h)
 
 -- what holds of an answer that is Ok
 pub on-ok : {T E : Type 0} {P Q : Type 0} (r : Result T E) → (P → Q) → OnOk r P → OnOk r Q

@@ -1,8 +1,6 @@
 -- Rectangles that hold others.
-use Rattle.std.proofs.Common.{◌≡◌, ℕ, zero, suc, ◌+◌, ◌<◌, ◌≤◌, ℤ, pos, ◌<ℤ◌, ◌≤ℤ◌, ◌↔◌, Bool, true, false, IsTrue, List, [], ◌∷◌, ◌++◌, length, get_or, take, refl, sym, ap, ◌∙◌, subst, arith}
-use Rattle.std.proofs.lemmas.Bool.{false≢true}
+use Rattle.std.proofs.Common.{ℕ, pos, ◌<ℤ◌, ◌≤ℤ◌, ◌↔◌, List, [], ◌∷◌, ◌++◌, arith}
 use Rattle.std.proofs.lemmas.Int.{ints, by_lt_z}
-use Rattle.std.proofs.lemmas.List.{take_more}
 use Rattle.tl_geom.specs.declared.rect.Rect.{Rect}
 use Rattle.tl_geom.specs.Rectangle.{Holds, Covers, IsEmpty}
 use Rattle.tl_tree.specs.Fits.{CoversAll}
@@ -49,6 +47,7 @@ all-append b r xs ys = (parted xs, joined xs)
     parted : (xs : List ℕ) → CoversAll b r (xs ++ ys) → CoversAll b r xs × CoversAll b r ys
     parted [] h = (tt, h)
     parted (x ∷ xs) h = let k : CoversAll b r xs × CoversAll b r ys = parted xs h.1 in ((h.0, k.0), k.1)
+
     joined : (xs : List ℕ) → CoversAll b r xs × CoversAll b r ys → CoversAll b r (xs ++ ys)
     joined [] h = h.1
     joined (x ∷ xs) h = (h.0.0, joined xs (h.0.1, h.1))

@@ -1,5 +1,5 @@
 -- Sums over the numbers below a bound, as a loop comes to them.
-use Rattle.std.proofs.Common.{◌≡◌, ℕ, zero, suc, ◌+◌, ◌<◌, ◌≤◌, List, [], ◌∷◌, refl, add-one, arith}
+use Rattle.std.proofs.Common.{◌≡◌, ℕ, zero, suc, ◌+◌, ◌≤◌, refl, add-one, arith}
 use Rattle.tl_tree.specs.Pairs.{indices, row_sum, pair_sum, AllRow, AllPairs}
 use Rattle.tl_tree.proofs.Permuted.{same_or}
 
@@ -31,13 +31,13 @@ pub row-grows : (f : ℕ → ℕ → ℕ) (x i j : ℕ) → i ≤ j → row_sum 
 row-grows f x i zero h = let e : i ≡ 0 = omega (arith, h) in rw e (omega arith)
 row-grows f x i (suc j) h =
     same_or i (suc j) (λ e. rw e (omega arith))
-      (λ ne. omega (arith, row-grows f x i j (omega (arith, h, ne)), row-suc f x j))
+    (λ ne. omega (arith, row-grows f x i j (omega (arith, h, ne)), row-suc f x j))
 
 pub pair-grows : (f : ℕ → ℕ → ℕ) (i j : ℕ) → i ≤ j → pair_sum f (indices i) ≤ pair_sum f (indices j)
 pair-grows f i zero h = let e : i ≡ 0 = omega (arith, h) in rw e (omega arith)
 pair-grows f i (suc j) h =
     same_or i (suc j) (λ e. rw e (omega arith))
-      (λ ne. omega (arith, pair-grows f i j (omega (arith, h, ne)), pair-suc f j))
+    (λ ne. omega (arith, pair-grows f i j (omega (arith, h, ne)), pair-suc f j))
 
 -- ---- what is true of each pair
 

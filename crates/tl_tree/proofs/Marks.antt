@@ -1,5 +1,5 @@
 -- Marks of items.
-use Rattle.std.proofs.Common.{◌≡◌, ℕ, zero, suc, ◌+◌, ◌<◌, ◌≤◌, Bool, true, false, cond, List, [], ◌∷◌, ◌++◌, length, get_or, take, set, refl, sym, ap, ◌∙◌, length-set, get_or-set_same, get_or-set_other, arith}
+use Rattle.std.proofs.Common.{◌≡◌, ℕ, zero, suc, ◌+◌, ◌<◌, ◌≤◌, Bool, true, false, cond, List, [], ◌∷◌, ◌++◌, length, get_or, take, set, refl, ap, ◌∙◌, length-set, get_or-set_same, get_or-set_other, arith}
 use Rattle.std.proofs.lemmas.List.{take_more}
 use Rattle.tl_tree.specs.Fits.{AreBelow}
 use Rattle.tl_tree.specs.Hits.{times}
@@ -44,8 +44,8 @@ module _ (old : List Bool) (xs : List ℕ) (k : ℕ) (marks : List Bool) where
         complete = length-set marks x true ∙ m.complete;
         known = rw (take_more xs k 0 h) (below-append (length old) (take k xs) (x ∷ []) m.known (omega (arith, l, m.complete), tt));
         marked = λ i. same_or i x
-          (λ p. rw p (omega (arith, mark-same marks x l, times-more x xs k h, times-same x x [] refl, m.marked x, unmarked marks x e)))
-          (λ ne. omega (arith, mark-other marks x i ne, times-more i xs k h, times-other i x [] ne, m.marked i));
+            (λ p. rw p (omega (arith, mark-same marks x l, times-more x xs k h, times-same x x [] refl, m.marked x, unmarked marks x e)))
+            (λ ne. omega (arith, mark-other marks x i ne, times-more i xs k h, times-other i x [] ne, m.marked i));
       }
 
   pub twice : AreMarked old (take k xs) marks → k < length xs → get_or marks (get_or xs k 0) false ≡ true → 2 ≤ mark_at old (get_or xs k 0) + times (get_or xs k 0) xs

@@ -1,12 +1,12 @@
 -- Two items that are tested: whether their bounds meet, and whether they conflict.
-use Rattle.std.proofs.Common.{◌≡◌, ℕ, zero, suc, ◌+◌, ◌<◌, ◌≤◌, min, max, ◌≤ℤ◌, ℤ, Bool, true, false, T, cond, eqb, ltb, nat_lt, ◌==◌, ◌&&◌, int_le, ◌↔◌, Option, Some, None, IsSome, is_some, IsTrue, refl, sym, ap, ◌∙◌, arith, subst, Decides}
+use Rattle.std.proofs.Common.{◌≡◌, ℕ, zero, suc, ◌<◌, min, max, ◌≤ℤ◌, ℤ, Bool, true, false, T, ◌&&◌, int_le, ◌↔◌, Option, None, IsTrue, refl, sym, ap, ◌∙◌, arith, subst}
 use Rattle.std.specs.Int.Signed.{le_z_yes}
 use Rattle.std.specs.Int.{int_max, int_min}
 use Rattle.std.proofs.lemmas.Bool.{false≢true}
-use Rattle.std.proofs.lemmas.Bool.Decides.{nat_tests, Decides-eqb}
+use Rattle.std.proofs.lemmas.Bool.Decides.{nat_tests}
 use Rattle.std.proofs.lemmas.Int.{ints, clamps}
 use Rattle.tl_geom.specs.declared.rect.Rect.{Rect}
-use Rattle.tl_geom.specs.Rectangle.{AreMeeting, Holds}
+use Rattle.tl_geom.specs.Rectangle.{AreMeeting}
 use Rattle.tl_tree.specs.Pairs.{overlaps, meeting, AreFree}
 
 T-true : (b : Bool) → T b → b ≡ true
@@ -38,8 +38,8 @@ second-true false b e = absurd (false≢true e)
 pub overlaps-meeting : (r q : Rect) → AreMeeting r q → overlaps r q ≡ true
 overlaps-meeting r q m =
     both-true (int_le (int_max r.xmin q.xmin) (int_min r.xmax q.xmax)) (int_le (int_max r.ymin q.ymin) (int_min r.ymax q.ymax))
-      (le-true _ _ (least_most r.xmin q.xmin r.xmax q.xmax m.point.x m.in_first.west m.in_second.west m.in_first.east m.in_second.east))
-      (le-true _ _ (least_most r.ymin q.ymin r.ymax q.ymax m.point.y m.in_first.south m.in_second.south m.in_first.north m.in_second.north))
+    (le-true _ _ (least_most r.xmin q.xmin r.xmax q.xmax m.point.x m.in_first.west m.in_second.west m.in_first.east m.in_second.east))
+    (le-true _ _ (least_most r.ymin q.ymin r.ymax q.ymax m.point.y m.in_first.south m.in_second.south m.in_first.north m.in_second.north))
   where
     least_most : (a b c d x : ℤ) → a ≤ℤ x → b ≤ℤ x → x ≤ℤ c → x ≤ℤ d → int_max a b ≤ℤ int_min c d
     least_most a b c d x h k l m = omega (arith, ints, clamps, h, k, l, m)
@@ -116,10 +116,13 @@ module _ {C : Type 0} (tells : ℕ → ℕ → Option C → Type 0) where
     where
       min-up : i < j → min i j ≡ i
       min-up h = omega arith
+
       max-up : i < j → max i j ≡ j
       max-up h = omega arith
+
       min-down : j < i → min i j ≡ j
       min-down h = omega arith
+
       max-down : j < i → max i j ≡ i
       max-down h = omega arith
 

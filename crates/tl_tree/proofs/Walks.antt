@@ -1,5 +1,5 @@
 -- Trees that split into a first one and the others.
-use Rattle.std.proofs.Common.{◌≡◌, ℕ, ◌+◌, ◌<◌, ◌≤◌, List, [], ◌∷◌, ◌++◌, refl, sym, ap, ◌∙◌, subst, arith}
+use Rattle.std.proofs.Common.{◌≡◌, ℕ, ◌+◌, ◌<◌, List, [], ◌∷◌, ◌++◌, refl, sym, ap, ◌∙◌, subst, arith}
 use Rattle.tl_geom.specs.declared.rect.Rect.{Rect}
 use Rattle.tl_tree.specs.declared.walk.Tree.{Tree}
 use Rattle.tl_tree.specs.declared.walk.Below.{Below}
@@ -7,7 +7,7 @@ use Rattle.tl_tree.specs.declared.walk.Below.TheVariants.{Items, Children}
 use Rattle.tl_tree.specs.Pairs.{cross_sum, pair_sum, AllCross, AllPairs}
 use Rattle.tl_tree.proofs.PairLemmas.{cross-nil, cross-append_right, pair-append, all_cross-nil, all_cross-join, all_pairs-join}
 use Rattle.tl_tree.specs.Fits.{AreBelow, CoversAll, CoversBelow}
-use Rattle.tl_tree.specs.Trees.{Forest, none, leaf, inner, leaf_items, node_count}
+use Rattle.tl_tree.specs.Trees.{Forest, none, leaf_items, node_count}
 use Rattle.tl_tree.specs.Walking.{followed, items_below, size_of, AreSound, IsSound, CoveredBelow, Collects}
 use Rattle.tl_tree.proofs.Hitting.{collects-nothing, collects-both}
 

@@ -1,5 +1,5 @@
 -- What the check of a tree keeps on its way: marks of the items met so far, and a rectangle that stands for their bounds.
-use Rattle.std.specs.Prelude.{◌≡◌, ℕ, Bool, false, ◌<◌, ◌≤◌, ◌+◌, ◌-◌, ◌↔◌, List, length, slice_index_or, if◌then◌else◌}
+use Rattle.std.specs.Prelude.{◌≡◌, ℕ, Bool, false, ◌≤◌, ◌+◌, ◌-◌, ◌↔◌, List, length, slice_index_or, if◌then◌else◌}
 use Rattle.tl_geom.specs.declared.rect.Rect.{Rect}
 use Rattle.tl_geom.specs.Rectangle.{Covers}
 use Rattle.tl_tree.specs.declared.fault.TreeFault.{TreeFault}

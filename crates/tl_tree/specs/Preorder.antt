@@ -10,11 +10,11 @@ use Rattle.tl_tree.specs.declared.node.TreeNode.TheVariants.{Inner, Leaf}
 pub data AreTrees : List TreeNode → ℕ → Type 0 where
   no_tree : AreTrees [] 0
   leaf_first :
-    (r : Rect) (v : ArrayVec ℕ) (nodes : List TreeNode) (p : ℕ) →
-    AreTrees nodes p → AreTrees (Leaf r v ∷ nodes) (suc p)
+      (r : Rect) (v : ArrayVec ℕ) (nodes : List TreeNode) (p : ℕ) →
+      AreTrees nodes p → AreTrees (Leaf r v ∷ nodes) (suc p)
   inner_first :
-    (r : Rect) (k : ℕ) (children nodes : List TreeNode) (p : ℕ) → 2 ≤ k → k ≤ 8 →
-    AreTrees children k → AreTrees nodes p → AreTrees (Inner r k ∷ (children ++ nodes)) (suc p)
+      (r : Rect) (k : ℕ) (children nodes : List TreeNode) (p : ℕ) → 2 ≤ k → k ≤ 8 →
+      AreTrees children k → AreTrees nodes p → AreTrees (Inner r k ∷ (children ++ nodes)) (suc p)
 
 -- the nodes are one whole tree, or there is none
 abbrev pub IsPreorder : List TreeNode → Type 0

@@ -6,13 +6,12 @@ ghost use Rattle.tl_tree.specs.Fits.{Fits, MayFind};
 ghost use Rattle.tl_tree.specs.Preorder.{IsPreorder};
 ghost use Rattle.tl_tree.specs.Trees.{depth, tree_of, node_count};
 
-use std::alloc::Global;
-
 use crate::branch::{Branch, copy_trees};
 use crate::check::check_all;
 use crate::hits::collect_all;
 use crate::search::search_trees;
 use crate::{BoxIndex, FlatTree, Items, Memory, Probe, Search, TreeFault, TreeNode, TreeStop};
+use std::alloc::Global;
 
 /// A tree whose nodes own their children. [`FlatTree`] does the same over a list of nodes that it borrows.
 #[derive(Drop)]

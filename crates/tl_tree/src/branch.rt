@@ -2,11 +2,9 @@
 ghost use Rattle.std.specs.Prelude.{◌≡◌, IfOk};
 ghost use Rattle.tl_tree.specs.Branches.{forest_of};
 
-use std::alloc::{AllocError, Global};
-
-use tl_geom::Rect;
-
 use crate::walk::{Below, Tree, Trees};
+use std::alloc::{AllocError, Global};
+use tl_geom::Rect;
 
 /// Some trees in order, each with the others behind it in a box, and an inner node's children in another.
 #[derive(Drop)]

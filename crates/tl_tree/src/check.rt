@@ -5,13 +5,11 @@ ghost use Rattle.tl_tree.specs.Fits.{Fits, MayFind};
 ghost use Rattle.tl_tree.specs.Trees.{node_count};
 ghost use Rattle.tl_tree.specs.Walking.{size_of};
 
-use std::alloc::Global;
-
-use tl_geom::Rect;
-
 use crate::hull::{NOTHING, covers, hull_of, hull_of_items};
 use crate::walk::{Below, Tree, Trees};
 use crate::{Items, Memory, TreeFault};
+use std::alloc::Global;
+use tl_geom::Rect;
 
 /// Marks some items, none of which may be marked already.
 fn mark_items(marks: &mut [bool], some: &[u32]) -> Result<(), TreeFault>

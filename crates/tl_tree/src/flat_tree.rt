@@ -6,15 +6,14 @@ ghost use Rattle.tl_tree.specs.Preorder.{IsPreorder};
 ghost use Rattle.tl_tree.specs.Sizes.{AreSizesFrom};
 ghost use Rattle.tl_tree.specs.Trees.{depth, tree_of, first_trees, trees_of, node_count};
 
-use std::alloc::{AllocError, Global};
-use std::marker::Model;
-
 use crate::check::check_all;
 use crate::cursor::Cursor;
 use crate::depth::is_within_depth;
 use crate::hits::collect_all;
 use crate::search::search_trees;
 use crate::{BoxIndex, Items, Memory, Probe, Search, TreeFault, TreeNode, TreeStop};
+use std::alloc::{AllocError, Global};
+use std::marker::Model;
 
 /// A tree over a list of nodes in preorder, which it borrows. Beside them it keeps the number of nodes of each subtree.
 #[derive(Drop)]
@@ -91,7 +90,8 @@ fn subtree_sizes(alloc: Global, nodes: &[TreeNode]) -> Result<Vec<u32>, AllocErr
     for k in (0..nodes.len()).rev() {
         let size = match &nodes[k] {
             TreeNode::Leaf(_, _) => 1,
-            TreeNode::Inner(_, children) => trees_end(nodes, sizes.as_slice(), k + 1, *children) - k,
+            TreeNode::Inner(_, children) => trees_end(nodes, sizes.as_slice(), k + 1, *children)
+                - k,
         };
         sizes[k] = size as u32;
     }

@@ -5,10 +5,9 @@ ghost use Rattle.tl_tree.specs.Hits.{Adds};
 ghost use Rattle.tl_tree.specs.Trees.{leaf_items};
 ghost use Rattle.tl_tree.specs.Walking.{AreSound, IsSound, Grows, Collects, items_below};
 
-use tl_geom::Rect;
-
 use crate::walk::{Below, Tree, Trees};
 use crate::{Items, Memory, Probe};
+use tl_geom::Rect;
 
 /// Appends those of some items that are hit.
 fn push_hits<I: Items, P: Probe<I>>(
@@ -45,7 +44,7 @@ fn collect_one<I: Items, P: Probe<I>, W: Trees>(
     requires region { region ≡ P.region_of probe.now }
     ensures hits { OnOk result
         (Collects (P.hit probe.now items.now)
-            (items_below W.forest tree.now.below) out.old.items out.new.items) }
+        (items_below W.forest tree.now.below) out.old.items out.new.items) }
     ensures grows { Grows out.old.items out.new.items }
 {
     if !tree.rect.meets(region) {
@@ -70,7 +69,7 @@ fn collect_trees<I: Items, P: Probe<I>, W: Trees>(
     requires region { region ≡ P.region_of probe.now }
     ensures hits { OnOk result
         (Collects (P.hit probe.now items.now)
-            (leaf_items (W.forest trees.now)) out.old.items out.new.items) }
+        (leaf_items (W.forest trees.now)) out.old.items out.new.items) }
     ensures grows { Grows out.old.items out.new.items }
 {
     let Some((tree, rest)) = trees.split_first() else {

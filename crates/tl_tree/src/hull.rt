@@ -5,9 +5,8 @@ ghost use Rattle.tl_geom.specs.declared.rect.Rect.{Rect};
 ghost use Rattle.tl_tree.specs.Checking.{IsHull};
 ghost use Rattle.tl_tree.specs.Fits.{AreBelow};
 
-use tl_geom::Rect;
-
 use crate::Items;
+use tl_geom::Rect;
 
 /// A rectangle that holds no point.
 pub const NOTHING: Rect = Rect {

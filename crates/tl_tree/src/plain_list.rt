@@ -3,10 +3,9 @@ ghost use Rattle.std.specs.Prelude.{◌≡◌, ◌<◌, ◌≤◌};
 ghost use Rattle.tl_tree.specs.Pairs.{meeting, row_sum, AllRow, AreFree, indices};
 ghost use Rattle.tl_tree.specs.Walking.{MayLeave};
 
-use std::marker::Model;
-
 use crate::search::{Stop, test_pair};
 use crate::{BoxIndex, Items, Memory, Probe, Search};
+use std::marker::Model;
 
 /// All items, with no tree over them: each pair whose rectangles meet is tested, and each item is asked.
 #[derive(Drop)]

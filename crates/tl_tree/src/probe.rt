@@ -3,9 +3,8 @@ ghost use Rattle.std.specs.Prelude.{◌≡◌, ◌<◌, ◌↔◌, ℕ, IsTrue};
 ghost use Rattle.tl_geom.specs.declared.rect.Rect.{Rect};
 ghost use Rattle.tl_geom.specs.Rectangle.{AreMeeting};
 
-use tl_geom::Rect;
-
 use crate::Items;
+use tl_geom::Rect;
 
 /// A question that each item answers with yes, a hit, or no. No call takes memory.
 pub trait Probe<I: Items> {

@@ -51,7 +51,12 @@ pub fn test_row<I: Items>(items: &I, i: u32, others: &[u32], left: u64) -> Resul
 }
 
 /// Tests each of some items against each of some others.
-pub fn test_cross<I: Items>(items: &I, some: &[u32], others: &[u32], left: u64) -> Result<u64, Stop<I::C>>
+pub fn test_cross<I: Items>(
+    items: &I,
+    some: &[u32],
+    others: &[u32],
+    left: u64,
+) -> Result<u64, Stop<I::C>>
     requires some { AreBelow (I.count items.now) some.now }
     requires others { AreBelow (I.count items.now) others.now }
     ensures { MayLeave (I.count items.now) (I.tells items.now)
@@ -91,9 +96,9 @@ pub fn search_two<I: Items, W: Trees>(
     requires other { IsSound (I.count items.now) (I.bounds_of items.now) W.forest other.now }
     ensures { MayLeave (I.count items.now) (I.tells items.now)
         (cross_sum (meeting (I.bounds_of items.now))
-            (items_below W.forest tree.now.below) (items_below W.forest other.now.below))
+        (items_below W.forest tree.now.below) (items_below W.forest other.now.below))
         (AllCross (AreFree (I.tells items.now))
-            (items_below W.forest tree.now.below) (items_below W.forest other.now.below)) left result }
+        (items_below W.forest tree.now.below) (items_below W.forest other.now.below)) left result }
 {
     if !tree.rect.meets(other.rect) {
         return Ok(left);
@@ -117,9 +122,9 @@ pub fn search_between<I: Items, W: Trees>(
     requires others { AreSound (I.count items.now) (I.bounds_of items.now) (W.forest others.now) }
     ensures { MayLeave (I.count items.now) (I.tells items.now)
         (cross_sum (meeting (I.bounds_of items.now))
-            (items_below W.forest tree.now.below) (leaf_items (W.forest others.now)))
+        (items_below W.forest tree.now.below) (leaf_items (W.forest others.now)))
         (AllCross (AreFree (I.tells items.now))
-            (items_below W.forest tree.now.below) (leaf_items (W.forest others.now))) left result }
+        (items_below W.forest tree.now.below) (leaf_items (W.forest others.now))) left result }
 {
     let Some((other, rest)) = others.split_first() else {
         return Ok(left);
@@ -148,11 +153,7 @@ pub fn search_one<I: Items, W: Trees>(
 
 /// Tests the pairs of items of some trees.
 #[cycle(within)]
-pub fn search_within<I: Items, W: Trees>(
-    items: &I,
-    trees: &W,
-    left: u64,
-) -> Result<u64, Stop<I::C>>
+pub fn search_within<I: Items, W: Trees>(items: &I, trees: &W, left: u64) -> Result<u64, Stop<I::C>>
     requires { AreSound (I.count items.now) (I.bounds_of items.now) (W.forest trees.now) }
     ensures { MayLeave (I.count items.now) (I.tells items.now)
         (pair_sum (meeting (I.bounds_of items.now)) (leaf_items (W.forest trees.now)))

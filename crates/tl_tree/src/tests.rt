@@ -1,16 +1,14 @@
 //! Searches, hits and checks of small trees, by items that count what they are asked.
-use std::alloc::Global;
-use std::cell::Cell;
-use std::process::Abort;
-use std::test::Fail;
-
-use arrayvec::ArrayVec;
-use tl_geom::{Point, Rect};
-
 use crate::{
     BoxIndex, BoxTree, FlatTree, Items, PlainList, Probe, Search, TreeFault, TreeNode, TreeStop,
     is_preorder,
 };
+use arrayvec::ArrayVec;
+use std::alloc::Global;
+use std::cell::Cell;
+use std::process::Abort;
+use std::test::Fail;
+use tl_geom::{Point, Rect};
 
 /// Four rectangles as items, of which one pair may conflict. They claim nothing of what they tell, count how often they
 /// are asked, and keep whether they were asked of one pair twice or of a pair that doesn't meet.
@@ -85,7 +83,12 @@ impl Probe<Counting> for Pin {
 
     fn region(&self) -> Rect {
         let Point { x, y } = self.0;
-        Rect { xmin: x, ymin: y, xmax: x, ymax: y }
+        Rect {
+            xmin: x,
+            ymin: y,
+            xmax: x,
+            ymax: y,
+        }
     }
 
     fn hits(&self, items: &Counting, i: u32) -> bool {
@@ -93,19 +96,24 @@ impl Probe<Counting> for Pin {
     }
 
     ghost hits_meet = { λ pin items i l h. record {
-        point = pin.0;
-        in_first = record {
-            west = Prim.omega (arith, ints);
-            east = Prim.omega (arith, ints);
-            south = Prim.omega (arith, ints);
-            north = Prim.omega (arith, ints);
-        };
-        in_second = h;
+      point = pin.0;
+      in_first = record {
+        west = Prim.omega (arith, ints);
+        east = Prim.omega (arith, ints);
+        south = Prim.omega (arith, ints);
+        north = Prim.omega (arith, ints);
+      };
+      in_second = h;
     } };
 }
 
 fn rect(xmin: i32, ymin: i32, xmax: i32, ymax: i32) -> Rect {
-    Rect { xmin, ymin, xmax, ymax }
+    Rect {
+        xmin,
+        ymin,
+        xmax,
+        ymax,
+    }
 }
 
 /// The sides of a square: each meets the two beside it.
@@ -137,7 +145,12 @@ fn two_leaves(alloc: Global, first: &[u32], second: &[u32]) -> Result<Vec<TreeNo
 }
 
 /// What an index answers with a budget, and how often it asked.
-fn answer<X: BoxIndex>(rt: &impl Abort, index: &X, items: &Counting, budget: u64) -> (Search<u8>, u32)
+fn answer<X: BoxIndex>(
+    rt: &impl Abort,
+    index: &X,
+    items: &Counting,
+    budget: u64,
+) -> (Search<u8>, u32)
     requires { X.fits index.now 4 (⟦<Counting as Items>⟧.bounds_of items.now) }
 {
     items.asked.set(0);
@@ -156,7 +169,10 @@ fn a_pair_is_asked_once_where_it_meets(rt: HostRuntime) -> Result<(), Fail> {
     let flat = FlatTree::from_nodes(rt.alloc(), &nodes).map_err(|_| "flat")?;
     let boxed = BoxTree::from_nodes(rt.alloc(), &nodes).map_err(|_| "boxed")?;
     assert_eq!(rt; flat.check(rt.alloc(), &items).map_err(|_| "memory")?, None);
-    assert_eq!(rt; boxed.check(rt.alloc(), &items).map_err(|_| "memory")?, None);
+    assert_eq!(rt;
+        boxed.check(rt.alloc(), &items).map_err(|_| "memory")?,
+        None
+    );
     let plain = PlainList::new(4);
     assert_eq!(rt; answer(&rt, &plain, &items, 4), (Search::Clear, 4));
     assert_eq!(rt; answer(&rt, &flat, &items, 4), (Search::Clear, 4));
@@ -203,11 +219,18 @@ fn trees_apart_are_not_searched(rt: HostRuntime) -> Result<(), Fail> {
 }
 
 /// The items that an index says are hit, in rising order.
-fn hits<X: BoxIndex>(alloc: Global, index: &X, items: &Counting, pin: &Pin) -> Result<Vec<u32>, Fail>
+fn hits<X: BoxIndex>(
+    alloc: Global,
+    index: &X,
+    items: &Counting,
+    pin: &Pin,
+) -> Result<Vec<u32>, Fail>
     requires { X.fits index.now 4 (⟦<Counting as Items>⟧.bounds_of items.now) }
 {
     let mut out = vec![in alloc; 99]?;
-    index.collect_hits(items, pin, &mut out).map_err(|_| "memory")?;
+    index
+        .collect_hits(items, pin, &mut out)
+        .map_err(|_| "memory")?;
     out.sort_unstable();
     Ok(out)
 }
@@ -221,17 +244,34 @@ fn hits_are_the_same(rt: HostRuntime) -> Result<(), Fail> {
     let flat = FlatTree::from_nodes(rt.alloc(), &nodes).map_err(|_| "flat")?;
     let boxed = BoxTree::from_nodes(rt.alloc(), &nodes).map_err(|_| "boxed")?;
     assert_eq!(rt; flat.check(rt.alloc(), &items).map_err(|_| "memory")?, None);
-    assert_eq!(rt; boxed.check(rt.alloc(), &items).map_err(|_| "memory")?, None);
+    assert_eq!(rt;
+        boxed.check(rt.alloc(), &items).map_err(|_| "memory")?,
+        None
+    );
     let pin = Pin(Point { x: 10, y: 30 });
     let wanted = [2, 3, 99];
-    assert_eq!(rt; hits(rt.alloc(), &PlainList::new(4), &items, &pin)?.as_slice(), wanted.as_slice());
-    assert_eq!(rt; hits(rt.alloc(), &flat, &items, &pin)?.as_slice(), wanted.as_slice());
-    assert_eq!(rt; hits(rt.alloc(), &boxed, &items, &pin)?.as_slice(), wanted.as_slice());
+    assert_eq!(rt;
+        hits(rt.alloc(), &PlainList::new(4), &items, &pin)?.as_slice(),
+        wanted.as_slice()
+    );
+    assert_eq!(rt;
+        hits(rt.alloc(), &flat, &items, &pin)?.as_slice(),
+        wanted.as_slice()
+    );
+    assert_eq!(rt;
+        hits(rt.alloc(), &boxed, &items, &pin)?.as_slice(),
+        wanted.as_slice()
+    );
     Ok(())
 }
 
 /// What the checks of both trees over two leaves find.
-fn found(rt: &impl Abort, alloc: Global, first: &[u32], second: &[u32]) -> Result<Option<TreeFault>, Fail> {
+fn found(
+    rt: &impl Abort,
+    alloc: Global,
+    first: &[u32],
+    second: &[u32],
+) -> Result<Option<TreeFault>, Fail> {
     let items = square();
     let nodes = two_leaves(alloc, first, second)?;
     assert!(rt; is_preorder(&nodes));
@@ -245,9 +285,18 @@ fn found(rt: &impl Abort, alloc: Global, first: &[u32], second: &[u32]) -> Resul
 
 #[test]
 fn faults(rt: HostRuntime) -> Result<(), Fail> {
-    assert_eq!(rt; found(&rt, rt.alloc(), &[0, 1], &[2, 2])?, Some(TreeFault::IndexTwice(2)));
-    assert_eq!(rt; found(&rt, rt.alloc(), &[0, 1], &[2, 4])?, Some(TreeFault::UnknownIndex(4)));
-    assert_eq!(rt; found(&rt, rt.alloc(), &[0, 1], &[3])?, Some(TreeFault::IndexMissing(2)));
+    assert_eq!(rt;
+        found(&rt, rt.alloc(), &[0, 1], &[2, 2])?,
+        Some(TreeFault::IndexTwice(2))
+    );
+    assert_eq!(rt;
+        found(&rt, rt.alloc(), &[0, 1], &[2, 4])?,
+        Some(TreeFault::UnknownIndex(4))
+    );
+    assert_eq!(rt;
+        found(&rt, rt.alloc(), &[0, 1], &[3])?,
+        Some(TreeFault::IndexMissing(2))
+    );
     let mut nodes = two_leaves(rt.alloc(), &[0, 1], &[])?;
     assert_eq!(rt; nodes.len(), 3);
     nodes[2] = leaf(rect(10, 10, 30, 29), &[2, 3]);

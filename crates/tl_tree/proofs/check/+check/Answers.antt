@@ -1,4 +1,4 @@
-use Rattle.std.proofs.Common.{◌≡◌, ◌+◌, sym, ◌∙◌, arith}
+use Rattle.std.proofs.Common.{sym, ◌∙◌, arith}
 use Rattle.std.proofs.lemmas.Bool.{false≢true}
 use Rattle.std.proofs.lemmas.Result.{err_from_is_err_and}
 use Rattle.tl_tree.proofs.Checks.{ok-map, checked-items, checked-children, fault-first, fault-others, too-small, checked-both}
@@ -22,7 +22,7 @@ pub check_trees-returns-then-not-covers-clause-fault : goal.check_trees-returns-
 check_trees-returns-then-not-covers-clause-fault g t c =
     let see = g.W.Trees.forest in
     too-small (g.I.Items.bounds_of c.args.items.now) see c.args.marks.now c.args.number.now (see c.args.trees.now) c.in-Some.tree.rect c.in-Some.tree.below (see c.in-Some.rest) c.in-Some.ensures
-      (λ h. false≢true (sym c.if-not-covers.true ∙ c.covers.ensures.1 ((c.in_ok-hull.ensures.right.around c.in-Some.tree.rect).1 h)))
+    (λ h. false≢true (sym c.if-not-covers.true ∙ c.covers.ensures.1 ((c.in_ok-hull.ensures.right.around c.in-Some.tree.rect).1 h)))
 
 pub check_trees-returns-in_err-others-clause-fault : goal.check_trees-returns-in_err-others-clause-fault
 check_trees-returns-in_err-others-clause-fault g t c =

@@ -1,4 +1,4 @@
-use Rattle.std.proofs.Common.{◌≡◌, arith}
+use Rattle.std.proofs.Common.{arith}
 use Rattle.tl_tree.proofs.Marks.{times-at, marks-more, twice}
 use Rattle.tl_tree.proofs.check.mark_items.Goals as goal
 

@@ -1,7 +1,6 @@
-use Rattle.std.proofs.Common.{◌≡◌, ◌+◌, ◌*◌, ◌<◌, true, false, refl, sym, ◌∙◌, arith, rules}
+use Rattle.std.proofs.Common.{◌≡◌, ◌+◌, ◌<◌, refl, sym, ◌∙◌, rules}
 use Rattle.std.proofs.lemmas.Bool.{false≢true}
-use Rattle.tl_geom.specs.Rectangle.{AreMeeting}
-use Rattle.tl_tree.specs.Trees.{leaf_items, node_count}
+use Rattle.tl_tree.specs.Trees.{node_count}
 use Rattle.tl_tree.specs.Walking.{items_below, size_of, IsSound, AreSound}
 use Rattle.tl_tree.proofs.Hitting.{collects-nothing, none-hit, on-ok}
 use Rattle.tl_tree.proofs.Walks.{collects-none, collects-split, nodes-split, sound-first, sound-others, size-above_0}
@@ -12,9 +11,9 @@ collect_one-returns-then-not-meets-clause-hits g t c =
     let hit = g.P.Probe.hit c.args.probe.now c.args.items.now in
     let xs = items_below g.W.Trees.forest c.args.tree.now.below in
     collects-nothing hit xs c.args.out.now.items c.args.out.now.items refl
-      (none-hit (g.I.Items.count c.args.items.now) (g.I.Items.bounds_of c.args.items.now) hit c.args.region
-        (λ i h e. rw c.requires.region (g.met.P.Probe.hits_meet c.args.probe.now c.args.items.now i h e))
-        c.args.tree.now.rect xs (λ m. false≢true (sym c.if-not-meets.true ∙ c.meets.ensures.1 m)) c.requires.tree.known c.requires.tree.covers)
+    (none-hit (g.I.Items.count c.args.items.now) (g.I.Items.bounds_of c.args.items.now) hit c.args.region
+    (λ i h e. rw c.requires.region (g.met.P.Probe.hits_meet c.args.probe.now c.args.items.now i h e))
+    c.args.tree.now.rect xs (λ m. false≢true (sym c.if-not-meets.true ∙ c.meets.ensures.1 m)) c.requires.tree.known c.requires.tree.covers)
 
 pub collect_trees-collect_one-requires : goal.collect_trees-collect_one-requires
 collect_trees-collect_one-requires g t c =
@@ -42,5 +41,5 @@ pub collect_trees-returns-clause-hits : goal.collect_trees-returns-clause-hits
 collect_trees-returns-clause-hits g t c =
     let see = g.W.Trees.forest in
     on-ok c.collect_trees.result
-      (collects-split see (g.P.Probe.hit c.args.probe.now c.args.items.now) (see c.args.trees.now) c.in-Some.tree.rect c.in-Some.tree.below (see c.in-Some.rest) c.args.out.now.items c.collect_one.new.out.items c.collect_trees.new.out.items c.in-Some.ensures c.in_ok-collect_one.ensures.hits)
-      c.collect_trees.ensures.hits
+    (collects-split see (g.P.Probe.hit c.args.probe.now c.args.items.now) (see c.args.trees.now) c.in-Some.tree.rect c.in-Some.tree.below (see c.in-Some.rest) c.args.out.now.items c.collect_one.new.out.items c.collect_trees.new.out.items c.in-Some.ensures c.in_ok-collect_one.ensures.hits)
+    c.collect_trees.ensures.hits

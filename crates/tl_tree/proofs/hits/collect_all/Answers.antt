@@ -6,5 +6,5 @@ pub returns-else-is_err-clause-hits : goal.returns-else-is_err-clause-hits
 returns-else-is_err-clause-hits g c =
     let f = g.W.Trees.forest c.args.trees.now in
     on-ok c.collect_trees-collected.result
-      (adds-collected (g.P.Probe.hit c.args.probe.now c.args.items.now) (g.I.Items.count c.args.items.now) (leaf_items f) c.args.out.now.items c.collect_trees-collected.new.out.items c.requires.known c.requires.once)
-      c.collect_trees-collected.ensures.hits
+    (adds-collected (g.P.Probe.hit c.args.probe.now c.args.items.now) (g.I.Items.count c.args.items.now) (leaf_items f) c.args.out.now.items c.collect_trees-collected.new.out.items c.requires.known c.requires.once)
+    c.collect_trees-collected.ensures.hits

@@ -1,8 +1,8 @@
-use Rattle.std.proofs.Common.{◌≡◌, ℕ, List, ◌+◌, ◌++◌, ◌∷◌, [], cond, not, is_ok, true, false, take, get_or, refl, ap, sym, ◌∙◌, subst, arith}
+use Rattle.std.proofs.Common.{◌≡◌, ℕ, List, ◌++◌, ◌∷◌, [], cond, not, is_ok, true, get_or, refl, ap, sym, ◌∙◌, subst}
 use Rattle.std.proofs.lemmas.Bool.{false≢true}
 use Rattle.std.proofs.lemmas.List.{take_all}
 use Rattle.tl_geom.specs.Rectangle.{AreMeeting}
-use Rattle.tl_tree.specs.Walking.{Collects, Grows}
+use Rattle.tl_tree.specs.Walking.{Collects}
 use Rattle.tl_tree.proofs.Steps.{below-at}
 use Rattle.tl_tree.proofs.Hitting.{collects-nothing, collects-hit, collects-miss, miss}
 use Rattle.tl_tree.proofs.hits.push_hits.Goals as goal
@@ -27,15 +27,15 @@ loop-i-preserved g c =
     let now = c.loop-i.out.items in
     let old = c.args.out.now.items in
     elim c.else-meets.branch [
-      else-meets-via-then-meets+then-hits+else-is_err w ↦
-        let ok : is_ok w.push.result ≡ true = w.is_err.ensures.negation ∙ ap not w.if-is_err.false in
-        collects-hit hit xs k old now c.else-meets.out.items c.loop-i-test.true (w.hits.ensures.0 w.if-hits.true)
+      | else-meets-via-then-meets+then-hits+else-is_err w ↦
+          let ok : is_ok w.push.result ≡ true = w.is_err.ensures.negation ∙ ap not w.if-is_err.false in
+          collects-hit hit xs k old now c.else-meets.out.items c.loop-i-test.true (w.hits.ensures.0 w.if-hits.true)
           (ap (λ v. v.items) w.out-is ∙ w.push.ensures.items ∙ ap (λ t. cond t (now ++ get_or xs k 0 ∷ []) now) ok) c.loop-i.invariant
-    | else-meets-via-then-meets+else-hits w ↦
-        collects-miss hit xs k old now c.else-meets.out.items c.loop-i-test.true (λ h. false≢true (sym w.if-hits.false ∙ w.hits.ensures.1 h)) (ap (λ v. v.items) w.out-is) c.loop-i.invariant
-    | else-meets-via-else-meets w ↦
-        let no : AreMeeting (b (get_or xs k 0)) c.args.region → ⊥ = λ m. false≢true (sym w.if-meets.false ∙ c.meets.ensures.1 (rw c.bounds.ensures m)) in
-        collects-miss hit xs k old now c.else-meets.out.items c.loop-i-test.true
+      | else-meets-via-then-meets+else-hits w ↦
+          collects-miss hit xs k old now c.else-meets.out.items c.loop-i-test.true (λ h. false≢true (sym w.if-hits.false ∙ w.hits.ensures.1 h)) (ap (λ v. v.items) w.out-is) c.loop-i.invariant
+      | else-meets-via-else-meets w ↦
+          let no : AreMeeting (b (get_or xs k 0)) c.args.region → ⊥ = λ m. false≢true (sym w.if-meets.false ∙ c.meets.ensures.1 (rw c.bounds.ensures m)) in
+          collects-miss hit xs k old now c.else-meets.out.items c.loop-i-test.true
           (miss n b hit c.args.region (λ i h e. rw c.requires.region (g.met.P.Probe.hits_meet c.args.probe.now c.args.items.now i h e)) (get_or xs k 0) (below-at n xs k c.loop-i-test.true c.requires.known) no)
           (ap (λ v. v.items) w.out-is) c.loop-i.invariant
     ]

@@ -1,4 +1,4 @@
-use Rattle.std.proofs.Common.{refl, sym, ◌∙◌, ◌≤ℤ◌, arith}
+use Rattle.std.proofs.Common.{refl, sym, ◌∙◌, arith}
 use Rattle.std.proofs.lemmas.Bool.{false≢true}
 use Rattle.std.proofs.lemmas.Int.{ints}
 use Rattle.tl_tree.proofs.Hulls.{covers-empty, covers-by, by-covers}
@@ -11,8 +11,7 @@ pub returns-then-spans : goal.returns-then-spans
 returns-then-spans c =
     let x = c.spans.ensures.0 c.if-spans.true in
     let r = c.args.r in
-    let q = c.args.q in
-    (
+    let q = c.args.q in (
       λ h.
           let y = c.spans-then-spans.ensures.0 h in
           covers-by r q (omega (arith, ints, x.0)) (omega (arith, ints, x.1)) (omega (arith, ints, y.0)) (omega (arith, ints, y.1)),

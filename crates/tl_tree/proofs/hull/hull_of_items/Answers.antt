@@ -1,6 +1,5 @@
-use Rattle.std.proofs.Common.{◌≡◌, ℕ, List, [], ◌∷◌, ◌++◌, ◌+◌, get_or, take, sym, subst, arith}
+use Rattle.std.proofs.Common.{ℕ, List, [], ◌∷◌, get_or, take, sym, subst}
 use Rattle.std.proofs.lemmas.List.{take_more, take_all}
-use Rattle.std.proofs.lemmas.Int.{ints}
 use Rattle.tl_geom.specs.declared.rect.Rect.{Rect}
 use Rattle.tl_tree.specs.Checking.{IsHull}
 use Rattle.tl_tree.proofs.Steps.{below-at}
@@ -21,7 +20,7 @@ loop-i-preserved g c =
     let P : List ℕ → Type 0 = λ ys. IsHull b ys c.hull_of-hull.result in
     let Q : Rect → Type 0 = IsHull b (get_or xs k 0 ∷ []) in
     subst P (sym (take_more xs k 0 c.loop-i-test.true))
-      (hull-both b (take k xs) (get_or xs k 0 ∷ []) c.loop-i.hull c.bounds.result c.hull_of-hull.result c.loop-i.invariant (subst Q (sym c.bounds.ensures) (hull-one b (get_or xs k 0))) c.hull_of-hull.ensures)
+    (hull-both b (take k xs) (get_or xs k 0 ∷ []) c.loop-i.hull c.bounds.result c.hull_of-hull.result c.loop-i.invariant (subst Q (sym c.bounds.ensures) (hull-one b (get_or xs k 0))) c.hull_of-hull.ensures)
 
 pub returns : goal.returns
 returns g c =

@@ -1,11 +1,11 @@
-use Rattle.std.proofs.Common.{◌≡◌, ℕ, ap, ◌+◌, ◌*◌, ◌<◌, subst, arith, rules, false, sym, ◌∙◌}
+use Rattle.std.proofs.Common.{◌≡◌, ap, ◌+◌, ◌<◌, subst, arith, rules, sym, ◌∙◌}
 use Rattle.std.proofs.lemmas.Bool.{false≢true}
 use Rattle.std.proofs.lemmas.Result.{err_from_is_err_and}
 use Rattle.tl_geom.specs.Rectangle.{AreMeeting}
 use Rattle.tl_tree.specs.Pairs.{meeting, cross_sum, AreFree, AllCross}
 use Rattle.tl_tree.specs.declared.walk.Below.{Below}
 use Rattle.tl_tree.specs.Trees.{leaf_items, node_count}
-use Rattle.tl_tree.specs.Walking.{MayLeave, items_below, size_of, IsSound, AreSound}
+use Rattle.tl_tree.specs.Walking.{items_below, size_of, IsSound, AreSound}
 use Rattle.tl_tree.proofs.PairLemmas.{cross-swap, all_cross-swap}
 use Rattle.tl_tree.proofs.PairTests.{meeting-swap, free-turned}
 use Rattle.tl_tree.proofs.Apart.{cross-apart, cross-free}
@@ -53,9 +53,9 @@ search_between-returns g t c =
     let tells = g.I.Items.tells c.args.items.now in
     let meet = meeting (g.I.Items.bounds_of c.args.items.now) in
     leaves_same n tells _ _ _ _ _ c.search_between.result
-      (sym (cross-split see meet xs (see c.args.others.now) c.in-Some.other.rect c.in-Some.other.below (see c.in-Some.rest) c.in-Some.ensures))
-      (λ h. all_cross-split see (AreFree tells) xs (see c.args.others.now) c.in-Some.other.rect c.in-Some.other.below (see c.in-Some.rest) c.in-Some.ensures h.0 h.1)
-      (leaves_both n tells _ _ _ c.in_ok-left_then.left_then _ _ c.search_between.result c.in_ok-left_then.ensures.0 c.in_ok-left_then.ensures.1 c.search_between.ensures)
+    (sym (cross-split see meet xs (see c.args.others.now) c.in-Some.other.rect c.in-Some.other.below (see c.in-Some.rest) c.in-Some.ensures))
+    (λ h. all_cross-split see (AreFree tells) xs (see c.args.others.now) c.in-Some.other.rect c.in-Some.other.below (see c.in-Some.rest) c.in-Some.ensures h.0 h.1)
+    (leaves_both n tells _ _ _ c.in_ok-left_then.left_then _ _ c.search_between.result c.in_ok-left_then.ensures.0 c.in_ok-left_then.ensures.1 c.search_between.ensures)
 
 pub search_two-returns-then-not-meets : goal.search_two-returns-then-not-meets
 search_two-returns-then-not-meets g t c =
@@ -78,6 +78,6 @@ search_two-returns-in-Children-default g t c =
     let tells = g.I.Items.tells c.args.items.now in
     let P : Below g.row.W.Denot → Type 0 = λ u. AllCross (AreFree tells) (items_below see u) other in
     leaves_same (g.I.Items.count c.args.items.now) tells _ _ _ _ _ c.search_between-in-Children-default.result
-      (cross-swap meet (meeting-swap (g.I.Items.bounds_of c.args.items.now)) other kids ∙ ap (λ (u : Below g.row.W.Denot). cross_sum meet (items_below see u) other) (sym c.in-Children-default.is-0))
-      (λ h. subst P (sym c.in-Children-default.is-0) (all_cross-swap (AreFree tells) (free-turned tells) other kids h))
-      c.search_between-in-Children-default.ensures
+    (cross-swap meet (meeting-swap (g.I.Items.bounds_of c.args.items.now)) other kids ∙ ap (λ (u : Below g.row.W.Denot). cross_sum meet (items_below see u) other) (sym c.in-Children-default.is-0))
+    (λ h. subst P (sym c.in-Children-default.is-0) (all_cross-swap (AreFree tells) (free-turned tells) other kids h))
+    c.search_between-in-Children-default.ensures

@@ -1,8 +1,8 @@
-use Rattle.std.proofs.Common.{◌≡◌, ℕ, ap, ◌+◌, ◌*◌, ◌<◌, arith, rules, sym}
+use Rattle.std.proofs.Common.{◌≡◌, ℕ, ◌+◌, ◌<◌, arith, rules, sym}
 use Rattle.std.proofs.lemmas.Result.{err_from_is_err_and}
 use Rattle.tl_tree.specs.Pairs.{meeting, AreFree, AllPairs, AllCross}
 use Rattle.tl_tree.specs.Trees.{leaf_items, node_count}
-use Rattle.tl_tree.specs.Walking.{MayLeave, items_below, size_of, IsSound, AreSound}
+use Rattle.tl_tree.specs.Walking.{items_below, size_of, IsSound, AreSound}
 use Rattle.tl_tree.proofs.Leaving.{stops, leaves_same, leaves_both}
 use Rattle.tl_tree.proofs.Walks.{pair-none, pair-split, all_pairs-none, all_pairs-split, nodes-split, sound-first, sound-others, size-above_0}
 use Rattle.tl_tree.proofs.search.+within.Goals as goal
@@ -82,6 +82,6 @@ search_within-returns g t c =
     let xs = items_below see c.in-Some.tree.below in
     let ys = leaf_items (see c.in-Some.rest) in
     leaves_same n tells _ _ _ _ _ c.search_within.result (sym (split (meeting b)))
-      (λ (h : (AllPairs free xs × AllCross free xs ys) × AllPairs free ys). all_pairs-split see free (see c.args.trees.now) c.in-Some.tree.rect c.in-Some.tree.below (see c.in-Some.rest) c.in-Some.ensures h.0.0 h.0.1 h.1)
-      (leaves_both n tells _ (AllPairs free xs × AllCross free xs ys) _ c.in_ok-left_last.left_last _ (AllPairs free ys) c.search_within.result
-        (omega (arith, c.in_ok-left_then.ensures.0, c.in_ok-left_last.ensures.0)) (c.in_ok-left_then.ensures.1, c.in_ok-left_last.ensures.1) c.search_within.ensures)
+    (λ (h : (AllPairs free xs × AllCross free xs ys) × AllPairs free ys). all_pairs-split see free (see c.args.trees.now) c.in-Some.tree.rect c.in-Some.tree.below (see c.in-Some.rest) c.in-Some.ensures h.0.0 h.0.1 h.1)
+    (leaves_both n tells _ (AllPairs free xs × AllCross free xs ys) _ c.in_ok-left_last.left_last _ (AllPairs free ys) c.search_within.result
+    (omega (arith, c.in_ok-left_then.ensures.0, c.in_ok-left_last.ensures.0)) (c.in_ok-left_then.ensures.1, c.in_ok-left_last.ensures.1) c.search_within.ensures)

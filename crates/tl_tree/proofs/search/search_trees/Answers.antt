@@ -1,4 +1,4 @@
-use Rattle.std.proofs.Common.{◌≡◌, ◌+◌, arith}
+use Rattle.std.proofs.Common.{arith}
 use Rattle.tl_tree.proofs.Finishing.{clear, meeting-of, free-of}
 use Rattle.tl_tree.proofs.search.search_trees.Goals as goal
 

@@ -1,4 +1,4 @@
-use Rattle.std.proofs.Common.{◌≡◌, ℕ, Option, None, ◌+◌, ◌<◌, arith, sym, ◌∙◌, subst, true, false}
+use Rattle.std.proofs.Common.{◌≡◌, arith, sym, ◌∙◌}
 use Rattle.std.proofs.lemmas.Bool.{false≢true}
 use Rattle.tl_geom.specs.Rectangle.{AreMeeting}
 use Rattle.tl_tree.specs.Pairs.{meeting}
@@ -11,13 +11,13 @@ returns-then-low-high g c =
     let b = g.I.Items.bounds_of c.args.items.now in
     let tells = g.I.Items.tells c.args.items.now in
     elim c.then-low-high.branch [
-      then-low-high-via-then-low-high w ↦
-        let e : c.args.i ≡ c.args.j = omega (arith, w.if-low-high.true, c.min-low.ensures, c.max-high.ensures) in
-        (omega (arith, meeting-equal b c.args.i c.args.j e), free-equal tells c.args.i c.args.j e)
-    | then-low-high-via-else-low-high+then-not-meets w ↦
-        let m : meeting b c.args.i c.args.j ≡ 0 = meeting-0 b c.args.i c.args.j w.meets.result (rw (← w.bounds.ensures, ← w.bounds-else-low-high.ensures) w.meets.ensures) w.if-not-meets.true in
-        let no : AreMeeting (b c.args.i) (b c.args.j) → ⊥ = λ h. false≢true (sym w.if-not-meets.true ∙ w.meets.ensures.1 (rw (w.bounds.ensures, w.bounds-else-low-high.ensures) h)) in
-        (omega (arith, m), free-apart tells (g.I.Items.count c.args.items.now) b (g.met.I.Items.apart c.args.items.now) c.args.i c.args.j c.requires.first c.requires.second no)
+      | then-low-high-via-then-low-high w ↦
+          let e : c.args.i ≡ c.args.j = omega (arith, w.if-low-high.true, c.min-low.ensures, c.max-high.ensures) in
+          (omega (arith, meeting-equal b c.args.i c.args.j e), free-equal tells c.args.i c.args.j e)
+      | then-low-high-via-else-low-high+then-not-meets w ↦
+          let m : meeting b c.args.i c.args.j ≡ 0 = meeting-0 b c.args.i c.args.j w.meets.result (rw (← w.bounds.ensures, ← w.bounds-else-low-high.ensures) w.meets.ensures) w.if-not-meets.true in
+          let no : AreMeeting (b c.args.i) (b c.args.j) → ⊥ = λ h. false≢true (sym w.if-not-meets.true ∙ w.meets.ensures.1 (rw (w.bounds.ensures, w.bounds-else-low-high.ensures) h)) in
+          (omega (arith, m), free-apart tells (g.I.Items.count c.args.items.now) b (g.met.I.Items.apart c.args.items.now) c.args.i c.args.j c.requires.first c.requires.second no)
     ]
 
 pub returns-then-left-eq0 : goal.returns-then-left-eq0

@@ -1,6 +1,6 @@
-use Rattle.std.proofs.Common.{◌≡◌, ℕ, List, ◌+◌, ◌-◌, take, drop, length, get_or, subst, arith}
+use Rattle.std.proofs.Common.{arith}
 use Rattle.std.proofs.lemmas.Result.{err_from_is_err_and}
-use Rattle.tl_tree.specs.Pairs.{meeting, AreFree, AllRow}
+use Rattle.tl_tree.specs.Pairs.{meeting, AreFree}
 use Rattle.tl_tree.proofs.Leaving.{stops}
 use Rattle.tl_tree.proofs.Steps.{row-step, row-end, all_row-step, all_row-end, below-at}
 use Rattle.tl_tree.proofs.search.test_row.Goals as goal

@@ -1,4 +1,4 @@
-use Rattle.std.proofs.Common.{◌≡◌, ◌+◌, ℕ, List, drop}
+use Rattle.std.proofs.Common.{◌≡◌, ◌+◌, drop}
 use Rattle.tl_tree.specs.Pairs.{meeting, AreFree, row_sum, AllRow}
 use Rattle.tl_tree.proofs.search.test_row.Given as goal
 

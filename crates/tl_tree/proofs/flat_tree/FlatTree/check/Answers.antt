@@ -1,5 +1,3 @@
-use Rattle.std.proofs.Common.{◌<◌, ◌^◌, sym, subst}
-use Rattle.tl_tree.specs.Trees.{Forest, node_count}
 use Rattle.tl_tree.proofs.flat_tree.FlatTree.check.Goals as goal
 
 pub check_all-requires : goal.check_all-requires

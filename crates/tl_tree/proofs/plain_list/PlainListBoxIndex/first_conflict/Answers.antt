@@ -1,4 +1,4 @@
-use Rattle.std.proofs.Common.{◌≡◌, ℕ, ◌≤◌, ◌+◌, ap, subst, arith}
+use Rattle.std.proofs.Common.{◌≡◌, ℕ, ◌+◌, ap, subst, arith}
 use Rattle.tl_tree.specs.Pairs.{meeting, pair_sum, AreFree, AllPairs, indices}
 use Rattle.tl_tree.proofs.Finishing.{clear}
 use Rattle.tl_tree.proofs.Indices.{pair-0, pair-more, pair-grows, all_pairs-0, all_pairs-more}
@@ -35,4 +35,4 @@ returns g c =
     let P : ℕ → Type 0 = λ k. AllPairs (AreFree tells) (indices k) in
     let e : c.loop-j.j ≡ n = omega (arith, c.self.view_is, c.requires) in
     clear n b tells c.args.budget (subst P e c.loop-j.invariant.free)
-      (omega (arith, c.loop-j.invariant.left, ap (λ k. pair_sum (meeting b) (indices k)) e))
+    (omega (arith, c.loop-j.invariant.left, ap (λ k. pair_sum (meeting b) (indices k)) e))
