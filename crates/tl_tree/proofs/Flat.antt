@@ -23,7 +23,7 @@ other-add (suc m) (suc c) k none e = sym (other-none k)
 other-add (suc m) (suc c) k (leaf r xs others) e = other-add m c k others (omega (arith, e))
 other-add (suc m) (suc c) k (inner r children others) e = other-add m c k others (omega (arith, e))
 
-first-add : (m c k : ℕ) (f : Forest) → m ≡ c + k → node_count (first_trees m f) ≡ node_count (first_trees c f) + node_count (first_trees k (other_trees c f))
+pub first-add : (m c k : ℕ) (f : Forest) → m ≡ c + k → node_count (first_trees m f) ≡ node_count (first_trees c f) + node_count (first_trees k (other_trees c f))
 first-add m zero k f e = let p : m ≡ k = omega (arith, e) in omega (arith, ap (λ i. node_count (first_trees i f)) p)
 first-add zero (suc c) k f e = absurd (omega (arith, e))
 first-add (suc m) (suc c) k none e = omega (arith, ap node_count (first-none k))

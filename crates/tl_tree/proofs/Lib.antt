@@ -13,3 +13,4 @@ pub mod Counting
 pub mod Hulls
 pub mod Marks
 pub mod Checks
+pub mod Whole
