@@ -36,4 +36,6 @@ pub use preorder::is_preorder;
 pub use probe::Probe;
 
 #[cfg(test)]
+mod segment_tests;
+#[cfg(test)]
 mod tests;
