@@ -1,0 +1,31 @@
+-- Items below two rectangles that don't meet: no pair of them has bounds that meet, and none conflicts.
+use Rattle.std.proofs.Common.{◌≡◌, ℕ, ◌<◌, List, [], ◌∷◌, Option, refl, arith}
+use Rattle.tl_geom.specs.declared.rect.Rect.{Rect}
+use Rattle.tl_geom.specs.Rectangle.{AreMeeting, Covers}
+use Rattle.tl_tree.specs.Pairs.{row_sum, cross_sum, meeting, AllRow, AllCross, AreFree}
+use Rattle.tl_tree.specs.Fits.{AreBelow, CoversAll}
+use Rattle.tl_tree.proofs.PairTests.{meeting-apart, KeepsLaw, free-apart}
+
+-- rectangles that hold what two others hold meet where those do
+wider-meet : (r q s t : Rect) → Covers r s → Covers q t → AreMeeting s t → AreMeeting r q
+wider-meet r q s t h k m = record { point = m.point; in_first = h m.point m.in_first; in_second = k m.point m.in_second }
+
+module _ (b : ℕ → Rect) where
+  row-apart : (r q : Rect) (x : ℕ) (ys : List ℕ) → (AreMeeting r q → ⊥) → Covers r (b x) → CoversAll b q ys → row_sum (meeting b) x ys ≡ 0
+  row-apart r q x [] ne h k = refl
+  row-apart r q x (y ∷ ys) ne h k =
+      omega (arith, meeting-apart b x y (λ m. ne (wider-meet r q (b x) (b y) h k.0 m)), row-apart r q x ys ne h k.1)
+
+  pub cross-apart : (r q : Rect) (xs ys : List ℕ) → (AreMeeting r q → ⊥) → CoversAll b r xs → CoversAll b q ys → cross_sum (meeting b) xs ys ≡ 0
+  cross-apart r q [] ys ne h k = refl
+  cross-apart r q (x ∷ xs) ys ne h k = omega (arith, row-apart r q x ys ne h.0 k, cross-apart r q xs ys ne h.1 k)
+
+  module _ {C : Type 0} (n : ℕ) (tells : ℕ → ℕ → Option C → Type 0) where
+    row-free : KeepsLaw tells n b → (r q : Rect) (x : ℕ) (ys : List ℕ) → (AreMeeting r q → ⊥) → x < n → AreBelow n ys → Covers r (b x) → CoversAll b q ys → AllRow (AreFree tells) x ys
+    row-free law r q x [] ne k l c d = tt
+    row-free law r q x (y ∷ ys) ne k l c d =
+        (free-apart tells n b law x y k l.0 (λ m. ne (wider-meet r q (b x) (b y) c d.0 m)), row-free law r q x ys ne k l.1 c d.1)
+
+    pub cross-free : KeepsLaw tells n b → (r q : Rect) (xs ys : List ℕ) → (AreMeeting r q → ⊥) → AreBelow n xs → AreBelow n ys → CoversAll b r xs → CoversAll b q ys → AllCross (AreFree tells) xs ys
+    cross-free law r q [] ys ne k l c d = tt
+    cross-free law r q (x ∷ xs) ys ne k l c d = (row-free law r q x ys ne k.0 l c.0 d, cross-free law r q xs ys ne k.1 l c.1 d)

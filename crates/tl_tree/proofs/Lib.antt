@@ -1,0 +1,16 @@
+pub mod PairLemmas
+pub mod PairTests
+pub mod Leaving
+pub mod Steps
+pub mod Apart
+pub mod Walks
+pub mod Permuted
+pub mod Finishing
+pub mod Indices
+pub mod Hitting
+pub mod Flat
+pub mod Counting
+pub mod Hulls
+pub mod Marks
+pub mod Checks
+pub mod Whole

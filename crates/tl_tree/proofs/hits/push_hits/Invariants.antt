@@ -1,0 +1,7 @@
+use Rattle.std.proofs.Common.{take}
+use Rattle.tl_tree.specs.Walking.{Collects}
+use Rattle.tl_tree.proofs.hits.push_hits.Given as goal
+
+-- the hits among the items so far are appended
+abbrev pub invariant-loop-i : goal.invariant-loop-i
+invariant-loop-i g l = Collects (g.P.Probe.hit l.probe l.items) (take l.i-index l.some) l.initial.out.items l.out.items

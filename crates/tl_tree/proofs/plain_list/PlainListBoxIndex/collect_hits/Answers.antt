@@ -1,0 +1,18 @@
+use Rattle.std.proofs.Common.{◌≡◌, ◌++◌, ◌∷◌, [], cond, not, is_ok, true, ap, sym, ◌∙◌}
+use Rattle.std.proofs.lemmas.Bool.{false≢true}
+use Rattle.tl_tree.proofs.Hitting.{adds-hit, adds-miss}
+use Rattle.tl_tree.proofs.plain_list.PlainListBoxIndex.collect_hits.Goals as goal
+use Rattle.tl_tree.proofs.plain_list.PlainListBoxIndex.collect_hits.Goals.{else-hits-via-then-hits+else-is_err, else-hits-via-else-hits}
+
+pub loop-i-preserved : goal.loop-i-preserved
+loop-i-preserved g c =
+    let hit = g.P.Probe.hit c.args.probe.now c.args.items.now in
+    let now = c.loop-i.out.items in
+    elim c.else-hits.branch [
+      | else-hits-via-then-hits+else-is_err w ↦
+          let ok : is_ok w.push.result ≡ true = w.is_err.ensures.negation ∙ ap not w.if-is_err.false in
+          adds-hit hit c.loop-i.i c.args.out.now.items now c.else-hits.out.items (c.hits.ensures.0 w.if-hits.true)
+          (ap (λ v. v.items) w.out-is ∙ w.push.ensures.items ∙ ap (λ t. cond t (now ++ c.loop-i.i ∷ []) now) ok) c.loop-i.invariant
+      | else-hits-via-else-hits w ↦
+          adds-miss hit c.loop-i.i c.args.out.now.items now c.else-hits.out.items (λ h. false≢true (sym w.if-hits.false ∙ c.hits.ensures.1 h)) (ap (λ v. v.items) w.out-is) c.loop-i.invariant
+    ]

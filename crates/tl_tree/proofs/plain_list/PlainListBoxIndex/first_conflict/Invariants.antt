@@ -1,0 +1,11 @@
+use Rattle.std.proofs.Common.{◌≡◌, ◌+◌}
+use Rattle.tl_tree.specs.Pairs.{meeting, pair_sum, AreFree, AllPairs, indices}
+use Rattle.tl_tree.proofs.plain_list.PlainListBoxIndex.first_conflict.Given as goal
+
+-- what is left and what was met are the budget, and so far nothing conflicted
+abbrev pub invariant-loop-j : goal.invariant-loop-j
+invariant-loop-j g l =
+    record {
+      left : l.rest + pair_sum (meeting (g.I.Items.bounds_of l.items)) (indices l.j) ≡ l.budget;
+      free : AllPairs (AreFree (g.I.Items.tells l.items)) (indices l.j);
+    }

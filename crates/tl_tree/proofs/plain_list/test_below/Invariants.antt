@@ -1,0 +1,11 @@
+use Rattle.std.proofs.Common.{◌≡◌, ◌+◌}
+use Rattle.tl_tree.specs.Pairs.{meeting, row_sum, AreFree, AllRow, indices}
+use Rattle.tl_tree.proofs.plain_list.test_below.Given as goal
+
+-- what is left and what was met are the budget, and so far nothing conflicted
+abbrev pub invariant-loop-i : goal.invariant-loop-i
+invariant-loop-i g l =
+    record {
+      left : l.rest + row_sum (meeting (g.I.Items.bounds_of l.items)) l.j (indices l.i) ≡ l.left;
+      free : AllRow (AreFree (g.I.Items.tells l.items)) l.j (indices l.i);
+    }

@@ -1,0 +1,13 @@
+use Rattle.std.proofs.Common.{◌≡◌, ◌+◌, drop}
+use Rattle.tl_tree.specs.Pairs.{meeting, AreFree, pair_sum, AllPairs}
+use Rattle.tl_tree.proofs.search.test_pairs.Given as goal
+
+-- what is left covers what was met so far, and so far nothing conflicted
+abbrev pub invariant-loop-k : goal.invariant-loop-k
+invariant-loop-k g l =
+    let meet = pair_sum (meeting (g.I.Items.bounds_of l.items)) in
+    let free = AllPairs (AreFree (g.I.Items.tells l.items)) in
+    record {
+      left : l.rest + meet l.some ≡ l.left + meet (drop l.k l.some);
+      free : free (drop l.k l.some) → free l.some;
+    }

@@ -1,0 +1,11 @@
+pub mod Pairs
+pub mod Searches
+pub mod Hits
+pub mod Trees
+pub mod Preorder
+pub mod Fits
+pub mod Walking
+pub mod Sizes
+pub mod Checking
+pub mod Branches
+pub mod Boxed

@@ -1,0 +1,30 @@
+//! Which lists of nodes are a whole tree in preorder.
+ghost use Rattle.std.specs.Prelude.{◌↔◌, IsTrue};
+ghost use Rattle.tl_tree.specs.Preorder.{IsPreorder};
+
+use crate::TreeNode;
+
+/// Whether the nodes are one whole tree in preorder, where each inner node has 2 to 8 children, or there is no node.
+pub fn is_preorder(nodes: &[TreeNode]) -> bool
+    ensures { IsTrue result ↔ IsPreorder nodes.now }
+{
+    if nodes.is_empty() {
+        return true;
+    }
+    let mut awaited: u128 = 1;
+    for node in nodes {
+        if awaited == 0 {
+            return false;
+        }
+        match node {
+            TreeNode::Leaf(_, _) => awaited -= 1,
+            TreeNode::Inner(_, children) => {
+                if *children < 2 || 8 < *children {
+                    return false;
+                }
+                awaited = awaited - 1 + u128::from(*children);
+            }
+        }
+    }
+    awaited == 0
+}
