@@ -25,8 +25,8 @@ same_rising (x ∷ xs) (y ∷ ys) up_x up_y there back =
     let high = lowest (x ∷ xs) x y up_x refl (back y (0, omega arith, refl)) in
     let first : x ≡ y = omega (arith, low, high) in
     let rest = same_rising xs ys (λ i j before within. up_x (suc i) (suc j) (omega arith) (omega arith)) (λ i j before within. up_y (suc i) (suc j) (omega arith) (omega arith))
-        (λ t has. tail x xs y ys t up_x first (there t (suc has.0, omega (arith, has.1), has.2)) has)
-        (λ t has. tail y ys x xs t up_y (sym first) (back t (suc has.0, omega (arith, has.1), has.2)) has) in
+    (λ t has. tail x xs y ys t up_x first (there t (suc has.0, omega (arith, has.1), has.2)) has)
+    (λ t has. tail y ys x xs t up_y (sym first) (back t (suc has.0, omega (arith, has.1), has.2)) has) in
     λ i. first i ∷ rest i
   where
     lowest : (zs : List ℕ) (z t : ℕ) → ((i j : ℕ) → i < j → j < length zs → get_or zs i 0 < get_or zs j 0) → get_or zs 0 0 ≡ z → Contains zs t → z ≤ t
@@ -101,5 +101,5 @@ known_there rs cs ds t are_c are_d has = let known = chain_known rs cs t are_c h
 pub one_map : (rs : List Record) (m n : TheMap) → HaveNoFault rs → IsMapOf rs m → IsMapOf rs n → (m.chains ≡ n.chains) × (m.polygons ≡ n.polygons) × (m.landmarks ≡ n.landmarks)
 one_map rs m n none is_m is_n =
     let same = same_rising (tlids (map without_sides m.chains)) (tlids (map without_sides n.chains)) (far _ is_m.chains.rising) (far _ is_n.chains.rising)
-        (λ t has. known_there rs _ _ t is_m.chains is_n.chains has) (λ t has. known_there rs _ _ t is_n.chains is_m.chains has) in
+    (λ t has. known_there rs _ _ t is_m.chains is_n.chains has) (λ t has. known_there rs _ _ t is_n.chains is_m.chains has) in
     (same_chains rs m.chains n.chains none same is_m.chains.drawn is_n.chains.drawn is_m.sides is_n.sides, is_m.polygons ∙ sym is_n.polygons, is_m.landmarks ∙ sym is_n.landmarks)
