@@ -1,8 +1,10 @@
 //! The map that the records of a county draw.
 //!
-//! [`read_chains`] reads the records of a text and joins each complete chain with its shape points: the answer is the
-//! chains of the whole text, its first refused line, or a fault that is true of its records. Records are gathered as
-//! they come, sorted once and joined by merging; the points of all chains lie in one list.
+//! [`read_map`] reads the records of a text and makes the county's [`Map`]: complete chains with their points and the
+//! polygons on both sides, polygons, and landmarks with their polygons; [`read_chains`] makes the chains alone. The
+//! answer is that of the whole text, its first refused line, or a fault that is true of its records. Records are
+//! gathered as they come, sorted once and joined by merging; the points of all chains lie in one list, and keys are
+//! looked up in their order, never by a hash that a file could be made against.
 #![tactic(auto)]
 
 mod areas;
