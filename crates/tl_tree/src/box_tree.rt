@@ -39,8 +39,8 @@ impl BoxTree {
         }
     }
 
-    /// Checks the tree against items: nothing exactly where it fits them, else a fault that is true. `Memory` comes where
-    /// the marks of the items were refused.
+    /// Checks the tree against items: nothing exactly where it fits them, else a fault that is true. `Memory` comes
+    /// where the marks of the items were refused.
     pub fn check<I: Items>(&self, alloc: Global, items: &I) -> Result<Option<TreeFault>, Memory>
         ensures found { IfOk result (MayFind (unboxed self.now) (I.count items.now) (I.bounds_of items.now)) }
         ensures exact { IfOk result (λ found.

@@ -56,8 +56,8 @@ impl<'a> FlatTree<'a> {
         }
     }
 
-    /// Checks the tree against items: nothing exactly where it fits them, else a fault that is true. `Memory` comes where
-    /// the marks of the items were refused.
+    /// Checks the tree against items: nothing exactly where it fits them, else a fault that is true. `Memory` comes
+    /// where the marks of the items were refused.
     pub fn check<I: Items>(&self, alloc: Global, items: &I) -> Result<Option<TreeFault>, Memory>
         ensures found { IfOk result
             (MayFind (tree_of self.now) (I.count items.now) (I.bounds_of items.now)) }
