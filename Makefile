@@ -4,7 +4,7 @@
 # make full-size           asks for each answer once with a million chains
 # make memory              refuses each allocation of the program in its turn
 # make examples            runs the commands of examples/README.md and compares what they print
-# make bench               measures the program on record files of 1,000 to 100,000 chains
+# make bench               measures the program on record files of 1,000 to 1,000,000 chains
 # make install PREFIX=..   installs the program as PREFIX/bin/tigertopo
 
 PREFIX = /usr/local

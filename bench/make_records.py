@@ -1,12 +1,12 @@
 #!/usr/bin/env python3
-"""Makes record files of a made-up county, laid out as the Census Bureau's are.
+"""Makes the files of types 1 and 2 of made-up streets, laid out as the Census Bureau's are.
 
-usage: make_records.py FOLDER CHAINS [--mixed]
+usage: make_records.py FOLDER CHAINS
 
 Lines have their full width and end in CR LF, and the columns that tigertopo doesn't read hold names, addresses and
 codes. Chains come by rising TLID. Every tenth chain has 25 shape points in three type 2 records, three more of ten have
-one to four in one record, and pairs that aren't used are written as zeros. With --mixed there are also files of types I,
-P, 7 and 8, and of types that tigertopo passes over. Each run with the same words makes the same bytes.
+one to four in one record, and pairs that aren't used are written as zeros. Each run with the same words makes the same
+bytes.
 """
 
 import argparse
@@ -76,42 +76,18 @@ def chains(rng, count):
         yield tlid, start, end, between(rng, start, end, shape_count(rng, index))
 
 
-def mixed_lines(rng, kind, index, tlid, start):
-    cenid = "A4001"
-    if kind == "I":
-        return padded(f"I{VERSION}{tlid:>10}{'':<25}{cenid}{index % 997 + 1:>10}{cenid}{index % 991 + 1:>10}", 127)
-    if kind == "P":
-        return padded(f"P{VERSION}{'':<5}{cenid}{index + 1:>10}{pair(start)}", 44)
-    if kind == "7":
-        return padded(f"7{VERSION}{'':<5}{index + 1:>10}{'H31':<3}{rng.choice(NAMES):<31}{pair(start)}", 74)
-    if kind == "8":
-        return padded(f"8{VERSION}{'':<5}{cenid}{index + 1:>10}{index + 1:>10}", 36)
-    widths = {"3": 111, "4": 58, "5": 52, "6": 76, "A": 210, "C": 122, "H": 62, "R": 76, "S": 120, "Z": 26}
-    return padded((f"{kind}{VERSION}{tlid:>10}" + rng.choice(NAMES))[:widths[kind]], widths[kind])
-
-
 def main():
     parser = argparse.ArgumentParser()
     parser.add_argument("folder", type=Path)
     parser.add_argument("chains", type=int)
-    parser.add_argument("--mixed", action="store_true")
     words = parser.parse_args()
     words.folder.mkdir(parents=True, exist_ok=True)
     rng = random.Random(words.chains)
-    # How many lines of each further type there are for a chain, in hundredths.
-    others = {"I": 100, "P": 37, "7": 4, "8": 6, "3": 100, "4": 20, "5": 15, "6": 5, "A": 37, "C": 2, "H": 1, "R": 1,
-              "S": 37, "Z": 30} if words.mixed else {}
     base = words.folder / "TGR24001"
     with open(f"{base}.RT1", "w", newline="") as first, open(f"{base}.RT2", "w", newline="") as second:
-        files = {kind: open(f"{base}.RT{kind}", "w", newline="") for kind in others}
-        for index, (tlid, start, end, points) in enumerate(chains(rng, words.chains)):
+        for tlid, start, end, points in chains(rng, words.chains):
             first.write(chain_line(rng, tlid, start, end))
             second.writelines(shape_lines(tlid, points))
-            for kind, share in others.items():
-                if rng.randrange(100) < share:
-                    files[kind].write(mixed_lines(rng, kind, index, tlid, start))
-        for file in files.values():
-            file.close()
 
 
 if __name__ == "__main__":

@@ -1,7 +1,10 @@
 #!/usr/bin/env python3
-"""Measures `tigertopo show`, and a program that only counts records, beside `wc -l` of the same files.
+"""Measures `tigertopo show` and `landmarks`, and a program that only counts records, beside `wc -l` of the same files.
 
-usage: run.py [--sizes N,N,..] [--runs N]
+usage: run.py [--sizes N,N,..] [--counties N,N,..] [--runs N]
+
+The files of --sizes hold types 1 and 2; those of --counties are whole counties of all six types, by rising TLID and, in a
+second row of files, in random order.
 
 Each program runs once for its peak of memory and then RUNS times for its seconds, in turn with the others, with its
 output thrown away. The table has medians. Files are made in bench/out, once. `make bench` builds the programs first.
@@ -16,14 +19,16 @@ from pathlib import Path
 
 BENCH = Path(__file__).resolve().parent
 CRATES = BENCH.parent / "crates"
-SHOW = CRATES / "tigertopo" / "out" / "tigertopo"
+PROGRAM = CRATES / "tigertopo" / "out" / "tigertopo"
 COUNT = CRATES / "count_records" / "out" / "count_records"
+NAMES = {"streets": "streets alone", "county": "a county", "shuffled": "a county, random order"}
 
 
-def files_of(chains, mixed):
-    folder = BENCH / "out" / f"{chains}{'-mixed' if mixed else ''}"
+def files_of(chains, kind):
+    folder = BENCH / "out" / f"{chains}-{kind}"
     if not (folder / "done").exists():
-        words = [sys.executable, BENCH / "make_records.py", folder, str(chains)] + ["--mixed"] * mixed
+        maker = "make_records.py" if kind == "streets" else "county.py"
+        words = [sys.executable, BENCH / maker, folder, str(chains)] + ["--shuffled"] * (kind == "shuffled")
         subprocess.run(words, check=True)
         (folder / "done").touch()
     return sorted(folder.glob("*.RT*"))
@@ -50,12 +55,14 @@ def peak_of(words):
     return peak / 1024
 
 
-def rows(chains, mixed, runs):
-    files = files_of(chains, mixed)
+def rows(chains, kind, runs):
+    files = files_of(chains, kind)
     counted = subprocess.run(["wc", "-l", *files], stdout=subprocess.PIPE, text=True, check=True).stdout
     lines = int(counted.split("\n")[-2].split()[0])
     size = sum(file.stat().st_size for file in files)
-    programs = {"wc -l": ["wc", "-l", *files], "count_records": [COUNT, *files], "show": [SHOW, "show", *files]}
+    programs = {"wc -l": ["wc", "-l", *files], "count_records": [COUNT, *files], "show": [PROGRAM, "show", *files]}
+    if kind != "streets":
+        programs["landmarks"] = [PROGRAM, "landmarks", *files]
     programs = {name: words for name, words in programs.items() if name == "wc -l" or words[0].exists()}
     peaks = {name: peak_of(words) for name, words in programs.items()}
     taken = {name: [] for name in programs}
@@ -65,21 +72,22 @@ def rows(chains, mixed, runs):
     base = statistics.median(taken["wc -l"])
     for name, found in taken.items():
         seconds = statistics.median(found)
-        yield (f"{chains:,}{' mixed' if mixed else ''}", f"{lines:,}", f"{size / 1e6:.1f}", name, f"{seconds * 1e3:.1f}",
+        yield (f"{chains:,} {NAMES[kind]}", f"{lines:,}", f"{size / 1e6:.1f}", name, f"{seconds * 1e3:.1f}",
                f"{seconds / base:.1f}", f"{lines / seconds / 1e6:.2f}", f"{peaks[name]:.1f}" if peaks[name] >= 0.1 else "-")
 
 
 def main():
     parser = argparse.ArgumentParser()
     parser.add_argument("--sizes", default="1000,10000,100000")
+    parser.add_argument("--counties", default="10000,100000,1000000")
     parser.add_argument("--runs", type=int, default=5)
     words = parser.parse_args()
     print("| Chains | Lines | MB | Program | ms | times `wc -l` | million lines a second | peak MB |")
     print("|---|---|---|---|---|---|---|---|")
-    for mixed in (False, True):
-        for chains in words.sizes.split(","):
-            for row in rows(int(chains), mixed, words.runs):
-                print("| " + " | ".join(row) + " |", flush=True)
+    parts = [("streets", words.sizes), ("county", words.counties), ("shuffled", words.counties)]
+    for kind, chains in ((kind, int(it)) for kind, sizes in parts for it in sizes.split(",") if it):
+        for row in rows(chains, kind, words.runs):
+            print("| " + " | ".join(row) + " |", flush=True)
 
 
 if __name__ == "__main__":

@@ -18,6 +18,7 @@ from layout import line_of
 from rows import PROGRAM
 
 CHAIN_LIMIT = 1_048_576
+LINE_LIMIT = 67_108_864
 
 
 def chain(tlid, start, end):
@@ -66,6 +67,11 @@ def play_all(program=PROGRAM):
         names = [plays.file(f"file {k}", line.rstrip()) for k, (line, _) in enumerate(many)]
         counts = lambda chains: f"chains={chains} segments={chains} skipped=0\n"
         plays.play("200 files", names, 0, "".join(it[1] for it in many) + counts(200))
+
+        empty = plays.file("empty", b"\n" * LINE_LIMIT)
+        plays.play("the most lines", [empty], 0, f"chains=0 segments=0 skipped={LINE_LIMIT}\n")
+        one = plays.file("one", b"\n")
+        plays.play("one line more", [empty, one], 3, err=f"refused line {LINE_LIMIT + 1} L5 TooManyLines\n")
 
         text, shown, tlids = county(CHAIN_LIMIT - 1, 1)
         county_file = plays.file("county", text)
