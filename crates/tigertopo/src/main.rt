@@ -1,19 +1,11 @@
-//! The command `tigertopo`: reads its words by `words` into a `plan`, opens the files that it names by `open`, and does
-//! what it asks by `run`; `stop` says why where it can't.
+//! The command `tigertopo`: collects its words and does what `tl_command` makes of them.
 #![tactic(auto)]
-
-mod open;
-mod plan;
-mod run;
-mod stop;
-#[cfg(test)]
-mod tests;
-mod words;
 
 use std::env;
 use std::io::ErrorKind;
 use std::process::ExitCode;
-use stop::{Stop, USAGE, stopped};
+use tl_command::open::start;
+use tl_command::stop::{Stop, USAGE, stopped};
 use tl_record::MeterOut;
 use tl_text::write_all;
 
@@ -23,7 +15,7 @@ fn main(rt: HostRuntime) -> ExitCode {
     let mut err = MeterOut::new(rt.stderr());
     let status = match env::args(&rt) {
         Ok(args) => match args.skip(1).collect::<Vec<String>>(alloc) {
-            Ok(words) => open::start(&rt, alloc, words.as_slice(), &mut out, &mut err),
+            Ok(words) => start(&rt, alloc, words.as_slice(), &mut out, &mut err),
             Err(_) => stopped(&Stop::Memory, &mut err),
         },
         Err(error) if error.kind() == ErrorKind::OutOfMemory => { stopped(&Stop::Memory, &mut err) }

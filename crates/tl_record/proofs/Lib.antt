@@ -9,7 +9,6 @@ pub mod NextLemmas
 pub mod RecordLemmas
 pub mod MoveLemmas
 pub mod ReadOn
-pub mod PlainLemmas
 pub mod Filled
 pub mod Lanes
 pub mod EightDigits

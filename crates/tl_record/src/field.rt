@@ -3,7 +3,9 @@
 ghost use Rattle.std.specs.Prelude.{◌≡◌, ◌≤◌, ◌<◌, ◌^◌};
 ghost use Rattle.tl_record.specs.Fields.{field, is_cenid_byte, number_spelt, coordinate_spelt};
 ghost use Rattle.std.specs.List.{list_all};
-ghost use Rattle.tl_record.specs.Judgement.{required, number_at, coordinate, point, point_at, optional_point, optional_point_at, unless_zero, cenid_at, key_at, side_at, optional_id, id_at, cells_at};
+ghost use Rattle.tl_record.specs.Judgement.{required, number_at, coordinate, point, point_at, optional_point};
+ghost use Rattle.tl_record.specs.Judgement.{optional_point_at, unless_zero, cenid_at, key_at, side_at, optional_id};
+ghost use Rattle.tl_record.specs.Judgement.{id_at, cells_at};
 
 use crate::columns::{ColumnRange, Columns, FiveColumns};
 use crate::layout::{CellColumns, KeyColumns, PointColumns};

@@ -2,7 +2,9 @@
 
 ghost use Rattle.std.specs.Prelude.{◌≡◌, ◌+◌, ◌≤◌, ◌<◌};
 ghost use Rattle.tl_record.specs.Lines.{content};
-ghost use Rattle.tl_record.specs.Judgement.{judgement, content_judgement, chain_record, shape_record, sides_record, poly_point_record, landmark_record, area_link_record, shape_pairs, sequence_number, judged};
+ghost use Rattle.tl_record.specs.Judgement.{judgement, content_judgement, chain_record, shape_record, sides_record};
+ghost use Rattle.tl_record.specs.Judgement.{poly_point_record, landmark_record, area_link_record, shape_pairs};
+ghost use Rattle.tl_record.specs.Judgement.{sequence_number, judged};
 
 use crate::columns::Columns;
 use crate::field::{

@@ -1,6 +1,8 @@
 //! Which columns hold which field.
 
-ghost use Rattle.tl_record.specs.Layout.{tiger_2006, layout_with, sides_with, sides_tlid, sides_cells, tiger_2006_chain, tiger_2006_shape, tiger_2006_key, tiger_2006_poly_point, tiger_2006_landmark, tiger_2006_area_link};
+ghost use Rattle.tl_record.specs.Layout.{tiger_2006, layout_with, sides_with, sides_tlid, sides_cells};
+ghost use Rattle.tl_record.specs.Layout.{tiger_2006_chain, tiger_2006_shape, tiger_2006_key, tiger_2006_poly_point};
+ghost use Rattle.tl_record.specs.Layout.{tiger_2006_landmark, tiger_2006_area_link};
 ghost use Rattle.std.specs.Prelude.{◌≡◌};
 ghost use Rattle.tl_record.specs.Range.{columns, IsRange};
 

@@ -21,8 +21,6 @@ mod record;
 mod sink;
 mod source;
 mod stop;
-#[cfg(test)]
-mod tests;
 mod word;
 
 pub use columns::{ColumnRange, Columns, FiveColumns};
@@ -33,7 +31,7 @@ pub use layout::{
     PolyPointColumns, ShapeColumns, SidesColumns, layout_with, tiger_2006,
 };
 pub use meter::{Meter, MeterOut};
-pub use number::Spelt;
+pub use number::{Spelt, coordinate_spelt};
 pub use options::Options;
 pub use reader::RecordReader;
 pub use record::{PAIRS, PolyKey, Record};

@@ -3,7 +3,8 @@
 ghost use Rattle.std.specs.Prelude.{◌≡◌, ◌<◌, ◌≤◌, ◌^◌, true, length, IfSome};
 ghost use Rattle.std.specs.List.{list_all};
 ghost use Rattle.std.specs.Char.{is_ascii_digit};
-ghost use Rattle.tl_record.specs.Fields.{without_leading_blanks, without_trailing_blanks, trimmed, decimal, digits_spell, IsBelow, negated, not_negated, number_spelt, coordinate_spelt};
+ghost use Rattle.tl_record.specs.Fields.{without_leading_blanks, without_trailing_blanks, trimmed, decimal};
+ghost use Rattle.tl_record.specs.Fields.{digits_spell, IsBelow, negated, not_negated, number_spelt, coordinate_spelt};
 
 use crate::word::eight_digits;
 

@@ -75,7 +75,8 @@ pub struct RecordReader<R> {
 /// Fetches until the buffer holds a whole line, or no more can be fetched.
 fn fetch_line<R: Source>(buffer: &mut LineBuffer, source: &mut R) -> Fetched
     ensures shows { Shows buffer.new (R.remaining source.new) result }
-    ensures bytes { Keeps (prepend_known buffer.old (R.remaining source.old)) (prepend_known buffer.new (R.remaining source.new)) }
+    ensures bytes { Keeps (prepend_known buffer.old (R.remaining source.old))
+        (prepend_known buffer.new (R.remaining source.new)) }
     ensures failures { CountsFetch (R.failure_count source.old) (R.failure_count source.new) result }
     ensures same_reference { R.reference source.new ≡ R.reference source.old }
 {
@@ -99,7 +100,8 @@ fn fetch_line<R: Source>(buffer: &mut LineBuffer, source: &mut R) -> Fetched
 
 /// Why a line is refused that is longer than any that is read.
 fn long_line_cause(number: u64) -> Cause
-    ensures { (layout : Layout) (line : List ℕ) → most_line_bytes < length line → judgement layout number line ≡ Judgement.Refused result }
+    ensures { (layout : Layout) (line : List ℕ) → most_line_bytes < length line
+        → judgement layout number line ≡ Judgement.Refused result }
 {
     if number > MAX_LINES {
         Cause::TooManyLines
@@ -109,7 +111,9 @@ fn long_line_cause(number: u64) -> Cause
 }
 
 impl<R: Source> RecordReader<R> {
-    ghost use Rattle.tl_record.specs.Reader.{source_of, layout_of, lines_of, skipped_of, standing_of, pending_of, outcome, StepsTo, CountsLine, Moves, Gives, Settles, Repeats, Counts, TellsFailure, FailsWhole, WhereReading};
+    ghost use Rattle.tl_record.specs.Reader.{source_of, layout_of, lines_of, skipped_of, standing_of, pending_of};
+    ghost use Rattle.tl_record.specs.Reader.{outcome, StepsTo, CountsLine, Moves, Gives, Settles, Repeats, Counts};
+    ghost use Rattle.tl_record.specs.Reader.{TellsFailure, FailsWhole, WhereReading};
 
     /// A reader of the source's records, by the column table of the TIGER/Line files of 2006.
     pub fn new(source: R) -> RecordReader<R>
@@ -125,7 +129,8 @@ impl<R: Source> RecordReader<R> {
     /// A reader of the source's records, by that column table with what the options choose of type I.
     pub fn with(source: R, options: Options) -> RecordReader<R>
         ensures source { source_of result ≡ source }
-        ensures records { outcome R.remaining result ≡ option_map (records_of (layout_with options)) (R.remaining source) }
+        ensures records { outcome R.remaining result
+            ≡ option_map (records_of (layout_with options)) (R.remaining source) }
         ensures lines { lines_of result ≡ 0 }
         ensures skipped { skipped_of result ≡ 0 }
         ensures standing { standing_of result ≡ Standing.Reading }
@@ -150,7 +155,8 @@ impl<R: Source> RecordReader<R> {
     // What the first bytes that were fetched mean as the next line.
     fn judge_pending(&self, len: usize) -> Judgement
         requires { len ≤ length (pending_of self.now) }
-        ensures judged { result ≡ judgement (layout_of self.now) (lines_of self.now + 1) (take len (pending_of self.now)) }
+        ensures judged { result
+            ≡ judgement (layout_of self.now) (lines_of self.now + 1) (take len (pending_of self.now)) }
         ensures room { length (pending_of self.now) ≤ most_line_bytes }
     {
         judge_line(&self.layout, self.lines + 1, &self.buffer.bytes()[..len])
@@ -276,14 +282,17 @@ impl<R: Source> RecordReader<R> {
     /// After any of these and after the end, each later call answers the same and reads nothing.
     pub fn next_record(&mut self) -> Result<Option<(u64, Record)>, ReadStop>
         // The first entry of what was to come, or its end, or its refusal.
-        ensures gives { Gives (outcome R.remaining self.old) (outcome R.remaining self.new) (skipped_of self.new) result }
+        ensures gives { Gives (outcome R.remaining self.old) (outcome R.remaining self.new) (skipped_of self.new)
+            result }
         // An end or a stop is answered again and again, and nothing is read any more.
         ensures settles { Settles (standing_of self.new) result }
         ensures repeats { Repeats (standing_of self.old) self.old self.new result }
         // The numbers of lines, and how many were passed over.
-        ensures counts { WhereReading (standing_of self.old) (Counts (lines_of self.old) (skipped_of self.old) (lines_of self.new) (skipped_of self.new) result) }
+        ensures counts { WhereReading (standing_of self.old)
+            (Counts (lines_of self.old) (skipped_of self.old) (lines_of self.new) (skipped_of self.new) result) }
         // `Device` is answered where a read failed in this call, and nowhere else.
-        ensures failures { TellsFailure (standing_of self.old) (R.failure_count (source_of self.old)) (R.failure_count (source_of self.new)) result }
+        ensures failures { TellsFailure (standing_of self.old) (R.failure_count (source_of self.old))
+            (R.failure_count (source_of self.new)) result }
         // Its source is the one that it was.
         ensures same_reference { R.reference (source_of self.new) ≡ R.reference (source_of self.old) }
         ensures whole_lines { WhereReading (standing_of self.old) (FailsWhole R.remaining self.old self.new result) }

@@ -1,0 +1,140 @@
+//! Whole texts: what the reader gives is what the plain program gives, in any pieces, and the worked examples' answers.
+
+use crate::lines::{agrees, map_b, read_all};
+use crate::plain::plain_records;
+use crate::readers::Pieces;
+use std::test::Fail;
+use tl_record::{Cause, Field, Meter, MeterOut, Options, ReadStop, RecordReader, Sink, Source};
+
+const MAP_B: &str =
+    "Ok(Some((1, Chain { tlid: 1, from: Point { x: 10, y: 10 }, to: Point { x: 10, y: 10 } })))
+Ok(Some((2, Shape { tlid: 1, rtsq: 1, pairs: [Some(Point { x: 30, y: 10 }), Some(Point { x: 30, y: 30 }), Some(Point { x: 10, y: 30 }), None, None, None, None, None, None, None] })))
+Ok(Some((3, Sides { tlid: 1, start_cell: None, end_cell: None, left: Some(PolyKey { cenid: [65, 48, 48, 48, 49], polyid: 1 }), right: None })))
+Ok(Some((4, PolyPoint { key: PolyKey { cenid: [65, 48, 48, 48, 49], polyid: 1 }, point: Point { x: 20, y: 20 } })))
+Ok(None)
+";
+
+#[test]
+fn map_b_is_read(rt: HostRuntime) -> Result<(), Fail> {
+    let text = map_b(rt.alloc())?;
+    let mut reader = RecordReader::new(Meter::new(text.as_slice()));
+    let mut given = String::new(rt.alloc());
+    for _ in 0..5 {
+        given.push_str(format!(in rt.alloc(); "{:?}\n", reader.next_record())?.as_str())?;
+    }
+    assert_eq!(rt; given.as_str(), MAP_B);
+    assert_eq!(rt; reader.skipped(), 0);
+    Ok(())
+}
+
+#[test]
+fn every_cut_of_map_b_agrees(rt: HostRuntime) -> Result<(), Fail> {
+    let text = map_b(rt.alloc())?;
+    for len in 0..text.len() {
+        let plain = plain_records(rt.alloc(), &text[..len], Options::default())?;
+        let given = read_all(
+            rt.alloc(),
+            Pieces::new(&text[..len], 100, 0),
+            Options::default(),
+        )?;
+        assert!(rt; given.entries.as_slice() == plain.entries.as_slice());
+        assert!(rt; given.stop.is_none() == plain.refusal.is_none());
+    }
+    Ok(())
+}
+
+#[test]
+fn line_ends_are_found(rt: HostRuntime) -> Result<(), Fail> {
+    for text in ",\n,\n\n,\r,\r\n,4,4\n,4\n\n4,2,\r\r\n4\r\n".split(',') {
+        agrees(&rt, rt.alloc(), text.as_bytes(), Options::default())?;
+    }
+    // An empty text has no line; a text that ends in a line feed has none after it.
+    for (text, lines) in [("", 0), ("4\n\n4", 3), ("4\n\n4\n", 3)] {
+        let source = Pieces::new(text.as_bytes(), 9, 0);
+        let given = read_all(rt.alloc(), source, Options::default())?;
+        assert_eq!(rt; given.skipped, lines);
+    }
+    Ok(())
+}
+
+#[test]
+fn long_lines_are_refused(rt: HostRuntime) -> Result<(), Fail> {
+    for (len, refused) in [(1_023, false), (1_024, false), (1_025, true), (3_000, true)] {
+        let mut text = vec![in rt.alloc(); b'4'; len]?;
+        for _ in 0..2 {
+            agrees(&rt, rt.alloc(), &text, Options::default())?;
+            let given = read_all(rt.alloc(), Pieces::new(&text, 600, 0), Options::default())?;
+            let stop = ReadStop::Refused {
+                line: 1,
+                cause: Cause::LineTooLong,
+            };
+            assert!(rt; given.stop == if refused { Some(stop) } else { None });
+            text.push(b'\n')?;
+        }
+    }
+    // A carriage return counts.
+    let mut text = vec![in rt.alloc(); b'4'; 1_024]?;
+    text.extend_from_slice(b"\r\n")?;
+    agrees(&rt, rt.alloc(), &text, Options::default())?;
+    assert!(rt;
+        read_all(rt.alloc(), Pieces::new(&text, 600, 0), Options::default())?
+            .stop
+            .is_some()
+    );
+    Ok(())
+}
+
+#[test]
+fn a_failed_read_is_no_end(rt: HostRuntime) -> Result<(), Fail> {
+    let text = map_b(rt.alloc())?;
+    let mut source = Pieces::new(&text, 60, 0);
+    let whole = read_all(rt.alloc(), &mut source, Options::default())?;
+    assert!(rt; whole.stop.is_none());
+    let reads = source.reads();
+    for fails_at in 1..reads.saturating_add(1) {
+        let mut source = Pieces::new(&text, 60, fails_at);
+        let given = read_all(rt.alloc(), &mut source, Options::default())?;
+        assert!(rt; given.stop == Some(ReadStop::Device));
+        assert_eq!(rt; source.failures(), 1);
+        assert_eq!(rt; source.reads(), fails_at);
+    }
+    Ok(())
+}
+
+#[test]
+fn a_stop_is_answered_again(rt: HostRuntime) -> Result<(), Fail> {
+    let mut source = Pieces::new(b"1\n10000         1\n", 4, 3);
+    let mut reader = RecordReader::new(&mut source);
+    let first = reader.next_record();
+    let again = reader.next_record();
+    assert!(rt; first == again);
+    let stop = ReadStop::Refused {
+        line: 1,
+        cause: Cause::Missing(Field::Tlid),
+    };
+    assert!(rt; first == Err(stop));
+    assert_eq!(rt; source.reads(), 1);
+
+    let mut source = Pieces::new(b"10000         1\n", 4, 2);
+    let mut reader = RecordReader::new(&mut source);
+    assert!(rt; reader.next_record() == Err(ReadStop::Device));
+    assert!(rt; reader.next_record() == Err(ReadStop::Device));
+    assert_eq!(rt; source.reads(), 2);
+
+    let mut source = Pieces::new(b"4", 4, 3);
+    let mut reader = RecordReader::new(&mut source);
+    assert!(rt; reader.next_record() == Ok(None));
+    assert!(rt; reader.next_record() == Ok(None));
+    assert_eq!(rt; reader.skipped(), 1);
+    assert_eq!(rt; source.reads(), 2);
+    Ok(())
+}
+
+#[test]
+fn a_writer_takes_bytes(rt: HostRuntime) -> Result<(), Fail> {
+    let mut sink = MeterOut::new(Vec::new(rt.alloc()));
+    assert!(rt; sink.put(b"ab").ok() == Some(2));
+    assert!(rt; sink.put(b"").ok() == Some(0));
+    assert_eq!(rt; sink.failures(), 0);
+    Ok(())
+}

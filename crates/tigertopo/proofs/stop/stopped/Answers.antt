@@ -1,5 +1,0 @@
-use Rattle.std.proofs.Common.{refl, inr}
-use Rattle.tigertopo.proofs.stop.stopped.Goals as goal
-
-pub returns-in-Device : goal.returns-in-Device
-returns-in-Device g c = rw c.in-Device.is (refl, inr (rw c.in-Device.is at c.if-not-tell.ensures.room))

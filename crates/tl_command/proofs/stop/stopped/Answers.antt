@@ -1,0 +1,5 @@
+use Rattle.std.proofs.Common.{refl, inr}
+use Rattle.tl_command.proofs.stop.stopped.Goals as goal
+
+pub returns-in-Device : goal.returns-in-Device
+returns-in-Device g c = rw c.in-Device.is (refl, inr (rw c.in-Device.is at c.if-not-tell.ensures.room))

@@ -1,0 +1,106 @@
+-- What a run may answer: for each exit status, what was written and what is true of the records.
+--
+-- `layout` is the column table that the records are read by; `known` is the text of the record files, where it is known;
+-- `wrote` says of a text that it was written.
+use Rattle.std.specs.Prelude.{◌≡◌, ◌⊎◌, ℕ, List, Option, None, Some, IfSome, Result, Ok, Err, ⊤}
+use Rattle.tl_record.specs.declared.stop.Cause.{Cause}
+use Rattle.tl_record.specs.Failures.{one_more}
+use Rattle.tl_record.specs.declared.layout.Layout.{Layout}
+use Rattle.tl_record.specs.Layout.{layout_with}
+use Rattle.tl_record.specs.Messages.{refusal_text}
+use Rattle.tl_record.specs.Records.{records_of}
+use Rattle.tl_map.specs.declared.fault.MapFault.{MapFault}
+use Rattle.tl_map.specs.declared.fault.MapStop.{MapStop}
+use Rattle.tl_map.specs.declared.fault.MapStop.TheVariants as map_stop
+use Rattle.tl_map.specs.Chains.{ChainList}
+use Rattle.tl_map.specs.Faults.{IsTrueOf}
+use Rattle.tl_map.specs.Messages.{fault_text}
+use Rattle.tl_map.specs.TheMap.{TheMap}
+use Rattle.tl_map.specs.Reading.{AreReadFrom, IsReadFrom, records_in}
+use Rattle.tl_text.specs.Printing.{shown_text, listing_text}
+use Rattle.tl_text.specs.Writing.{line_of}
+use Rattle.tl_command.specs.declared.stop.Stop.{Stop}
+use Rattle.tl_command.specs.declared.stop.Stop.TheVariants.{Refused, Memory, Device}
+use Rattle.tl_command.specs.declared.stop.TheConstants.{DONE, MAP_FAULT, REFUSED, STOPPED}
+use Rattle.tl_command.specs.declared.plan.Plan.{Plan}
+use Rattle.tl_command.specs.declared.plan.Plan.TheVariants.{Show, Landmarks}
+use Rattle.tl_command.specs.CommandLine.{options_of}
+use Rattle.tl_command.specs.Stops.{stop_text}
+
+-- no line of the text is refused, and the fault is true of its records
+abbrev pub HasFault : Layout → List ℕ → MapFault → Type 0
+HasFault layout text fault = ((records_of layout text).refusal ≡ None) × IsTrueOf (records_in (records_of layout text)) fault
+
+-- this is the first line of the text that is refused, and why it is
+abbrev pub IsFirstRefusal : Layout → List ℕ → ℕ → Cause → Type 0
+IsFirstRefusal layout text line cause = (records_of layout text).refusal ≡ Some (line, cause)
+
+-- the lines of chains were written, and their counts: those that the records draw, where no line is refused and no
+-- fault of the chains is true
+pub record IsShown (layout : Layout) (known : Option (List ℕ)) (wrote : List ℕ → Type 0) : Type 0 where
+  pub list : ChainList
+  pub written : wrote (shown_text list)
+  pub drawn : IfSome known (λ text. AreReadFrom (records_of layout text) list)
+
+-- the lines of landmarks were written, and their number: those of the map that the records draw, where no line is refused
+-- and no fault is true
+pub record IsListed (layout : Layout) (known : Option (List ℕ)) (wrote : List ℕ → Type 0) : Type 0 where
+  pub map : TheMap
+  pub written : wrote (listing_text map)
+  pub drawn : IfSome known (λ text. IsReadFrom (records_of layout text) map)
+
+-- the column table that a plan's records are read by
+abbrev pub layout_of : Plan → Layout
+layout_of plan = layout_with (options_of plan)
+
+-- what the plan asks for was written
+abbrev pub IsAnswered : Plan → Option (List ℕ) → (List ℕ → Type 0) → Type 0
+IsAnswered (Show options files) known wrote = IsShown (layout_with options) known wrote
+IsAnswered (Landmarks options files) known wrote = IsListed (layout_with options) known wrote
+
+-- the line of a fault was written, and it is true
+pub record NamesFault (layout : Layout) (known : Option (List ℕ)) (wrote : List ℕ → Type 0) : Type 0 where
+  pub fault : MapFault
+  pub written : wrote (line_of (fault_text fault))
+  pub holds : IfSome known (λ text. HasFault layout text fault)
+
+-- the line of the first refusal was written
+pub record NamesRefusal (layout : Layout) (known : Option (List ℕ)) (wrote : List ℕ → Type 0) : Type 0 where
+  pub line : ℕ
+  pub cause : Cause
+  pub written : wrote (line_of (refusal_text line cause))
+  pub first : IfSome known (λ text. IsFirstRefusal layout text line cause)
+
+-- the line of a stop was written: of a want of memory, or of a device where one failed
+abbrev pub NamesStop : (List ℕ → Type 0) → Type 0 → Type 0
+NamesStop wrote failed = wrote (line_of (stop_text Memory)) ⊎ (wrote (line_of (stop_text Device)) × failed)
+
+-- the statuses that a run answers with
+abbrev pub IsRunStatus : ℕ → Type 0
+IsRunStatus status = ((status ≡ DONE) ⊎ (status ≡ MAP_FAULT)) ⊎ ((status ≡ REFUSED) ⊎ (status ≡ STOPPED))
+
+-- a read failed: the source counted it
+abbrev pub FailsToRead : {S : Type 0} → (S → ℕ) → S → S → Type 0
+FailsToRead failures old new = failures new ≡ one_more (failures old)
+
+-- how a stop is told: by its line and its status; where there is no room for its line, by that of a want of memory
+abbrev pub IsTold : Stop → ℕ → (List ℕ → Type 0) → Type 0
+IsTold (Refused line cause) status wrote =
+    ((status ≡ REFUSED) × wrote (line_of (refusal_text line cause))) ⊎ ((status ≡ STOPPED) × wrote (line_of (stop_text Memory)))
+IsTold Memory status wrote = (status ≡ STOPPED) × wrote (line_of (stop_text Memory))
+IsTold Device status wrote = (status ≡ STOPPED) × (wrote (line_of (stop_text Memory)) ⊎ wrote (line_of (stop_text Device)))
+
+-- why nothing was answered: `failed` says that a read or a write failed, `stays` that the output is as it was
+abbrev pub StopsAnswer : Layout → Option (List ℕ) → Type 0 → Type 0 → MapStop → Type 0
+StopsAnswer layout known failed stays map_stop.Device = failed
+StopsAnswer layout known failed stays map_stop.Memory = stays
+StopsAnswer layout known failed stays (map_stop.Refused line cause) = stays × IfSome known (λ text. IsFirstRefusal layout text line cause)
+StopsAnswer layout known failed stays (map_stop.Fault fault) = stays × IfSome known (λ text. HasFault layout text fault)
+
+-- the count of failed reads stays, but for an answer that a device failed
+abbrev pub KeepsReads : ℕ → ℕ → Result (Unit {0}) MapStop → Type 0
+KeepsReads old new (Ok done) = new ≡ old
+KeepsReads old new (Err map_stop.Device) = ⊤
+KeepsReads old new (Err map_stop.Memory) = new ≡ old
+KeepsReads old new (Err (map_stop.Refused line cause)) = new ≡ old
+KeepsReads old new (Err (map_stop.Fault fault)) = new ≡ old

@@ -1,0 +1,49 @@
+-- What the program answers to its words.
+use Rattle.std.specs.Prelude.{◌≡◌, ◌≢◌, ◌⊎◌, ℕ, List, [], None, All, ⊤}
+use Rattle.clap.specs.Faults.{fault_of}
+use Rattle.clap.specs.Walk.{Text}
+use Rattle.tl_command.specs.declared.plan.Plan.{Plan}
+use Rattle.tl_command.specs.declared.stop.Stop.{Stop}
+use Rattle.tl_command.specs.declared.stop.Stop.TheVariants.{Refused, Memory, Device}
+use Rattle.tl_command.specs.declared.stop.TheConstants.{USAGE}
+use Rattle.tl_command.specs.CommandLine.{command_line, AskFor, AreAUse, HasMistake, HasAnswer}
+use Rattle.tl_command.specs.Plans.{escape}
+use Rattle.tl_command.specs.Running.{IsRunStatus, IsAnswered, NamesFault, NamesRefusal, layout_of}
+
+-- the statuses of the program
+abbrev pub IsStartStatus : ℕ → Type 0
+IsStartStatus status = IsRunStatus status ⊎ (status ≡ USAGE)
+
+-- the words ask for a plan, and its answer was written
+abbrev pub AnswersSome : List Text → (List ℕ → Type 0) → Type 0
+AnswersSome words wrote = (plan : Plan) × AskFor words plan × IsAnswered plan None wrote
+
+-- the words ask for a plan, and a fault of its records was named
+abbrev pub FaultsSome : List Text → (List ℕ → Type 0) → Type 0
+FaultsSome words wrote = (plan : Plan) × AskFor words plan × NamesFault (layout_of plan) None wrote
+
+-- the words ask for a plan, and the first refusal of its records was told
+abbrev pub RefusesSome : List Text → (List ℕ → Type 0) → Type 0
+RefusesSome words wrote = (plan : Plan) × AskFor words plan × NamesRefusal (layout_of plan) None wrote
+
+-- the words are no use of a command, and a text without an escape was written
+pub record ShowsUsage (words : List Text) (wrote : List ℕ → Type 0) : Type 0 where
+  pub no_use : ¬ AreAUse words
+  pub mistake : HasMistake (fault_of command_line words) ⊎ (fault_of command_line words ≡ [])
+  pub text : List ℕ
+  pub no_escape : All (λ byte. byte ≢ escape) text
+  pub written : wrote text
+
+-- the words wish for help, and a text without an escape was written
+pub record ShowsHelp (words : List Text) (wrote : List ℕ → Type 0) : Type 0 where
+  pub no_use : ¬ AreAUse words
+  pub wish : HasAnswer (fault_of command_line words)
+  pub text : List ℕ
+  pub no_escape : All (λ byte. byte ≢ escape) text
+  pub written : wrote text
+
+-- files aren't opened for want of memory or where a device fails
+abbrev pub StopsOpening : Stop → Type 0
+StopsOpening (Refused line cause) = ⊥
+StopsOpening Memory = ⊤
+StopsOpening Device = ⊤

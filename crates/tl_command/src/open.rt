@@ -1,0 +1,176 @@
+//! The program from its words to its status.
+
+ghost use Rattle.std.specs.Prelude.{◌≡◌, ◌⊎◌, false, ⊤, None, IfOk, IfErr, length, vec_len, map, string_bytes};
+ghost use Rattle.tl_text.specs.Joining.{joined_bytes};
+ghost use Rattle.tl_text.specs.Writing.{Writes, TriesToWrite, FailsToWrite};
+ghost use Rattle.tl_command.specs.declared.stop.TheConstants.{DONE, MAP_FAULT, REFUSED, STOPPED, USAGE};
+ghost use Rattle.tl_command.specs.declared.stop.Stop.TheVariants.{Memory, Device};
+ghost use Rattle.tl_command.specs.Running.{IsAnswered, NamesFault, NamesRefusal, NamesStop, IsRunStatus, layout_of};
+ghost use Rattle.tl_command.specs.Starting.{IsStartStatus, ShowsUsage, ShowsHelp, AnswersSome, FaultsSome, RefusesSome};
+ghost use Rattle.tl_command.specs.Starting.{StopsOpening};
+
+use crate::plan::{Plan, PlanStop};
+use crate::run::run;
+use crate::stop::{DONE, Stop, USAGE, stopped};
+use crate::words;
+use std::alloc::Global;
+use std::fs::File;
+use std::io;
+use std::io::{BufReader, Read};
+use std::rt::Files;
+use tl_record::{Meter, MeterOut, Sink, Source};
+use tl_text::{Joined, write_all};
+
+// How many bytes of the record files are read at a time.
+const INPUT_BUFFER: usize = 131_072;
+
+/// Does what the words after the program's name ask, and gives the program's exit status.
+pub fn start<R: Files, W: Sink, E: Sink>(
+    rt: &R,
+    alloc: Global,
+    words: &[String],
+    out: &mut W,
+    err: &mut E,
+) -> u8
+    ensures status { IsStartStatus result }
+    // Words that are no use of a command: what is wrong with them was written to `err`, or the write failed.
+    ensures usage { result ≡ USAGE → ShowsUsage (map string_bytes words.now)
+        (TriesToWrite E.contents E.failure_count err.old err.new) }
+    // The output grew by the answer to what the words ask for, or by the help that they ask for.
+    ensures done { result ≡ DONE
+        → AnswersSome (map string_bytes words.now) (Writes W.contents W.failure_count out.old out.new)
+        ⊎ ShowsHelp (map string_bytes words.now) (Writes W.contents W.failure_count out.old out.new) }
+    // The words ask for a plan, and the output or `err` grew by the line that its run writes.
+    ensures fault { result ≡ MAP_FAULT
+        → FaultsSome (map string_bytes words.now) (Writes W.contents W.failure_count out.old out.new) }
+    ensures refused { result ≡ REFUSED
+        → RefusesSome (map string_bytes words.now) (TriesToWrite E.contents E.failure_count err.old err.new) }
+    ensures stopped { result ≡ STOPPED
+        → NamesStop (TriesToWrite E.contents E.failure_count err.old err.new) ⊤ }
+    // The other stream stays as it was.
+    ensures err_stays { (result ≡ DONE) ⊎ (result ≡ MAP_FAULT) → err.new ≡ err.old }
+    ensures out_stays { (result ≡ REFUSED) ⊎ (result ≡ USAGE) → out.new ≡ out.old }
+{
+    match words::plan(alloc, words) {
+        Ok(plan) => open_and_run(rt, alloc, &plan, out, err),
+        Err(PlanStop::Memory) => stopped(&Stop::Memory, err),
+        Err(PlanStop::Usage(text)) => say_usage(&text, err),
+        Err(PlanStop::Help(text)) => say_help(&text, out, err),
+    }
+}
+
+// Says what is wrong with the words. Where that can't be written, the status alone is left to tell it.
+fn say_usage<E: Sink>(text: &String, err: &mut E) -> u8
+    ensures status { result ≡ USAGE }
+    ensures said { TriesToWrite E.contents E.failure_count err.old err.new (string_bytes text.now) }
+{
+    let _ = write_all(text.as_str().as_bytes(), err);
+    USAGE
+}
+
+// Gives the help that the words wish for. Where that can't be written, the program is stopped.
+fn say_help<W: Sink, E: Sink>(text: &String, out: &mut W, err: &mut E) -> u8
+    ensures status { (result ≡ DONE) ⊎ (result ≡ STOPPED) }
+    ensures said { result ≡ DONE → Writes W.contents W.failure_count out.old out.new (string_bytes text.now) }
+    ensures err_stays { result ≡ DONE → err.new ≡ err.old }
+    ensures stopped { result ≡ STOPPED
+        → NamesStop (TriesToWrite E.contents E.failure_count err.old err.new)
+        (FailsToWrite W.failure_count out.old out.new) }
+{
+    match write_all(text.as_str().as_bytes(), out) {
+        Ok(()) => DONE,
+        Err(_) => stopped(&Stop::Device, err),
+    }
+}
+
+/// Opens the plan's files, each once and in the order of their names, does what it asks, and gives the program's exit
+/// status. All files are opened before the first is read, and where one can't be, nothing is printed on `out`.
+pub fn open_and_run<R: Files, W: Sink, E: Sink>(
+    rt: &R,
+    alloc: Global,
+    plan: &Plan,
+    out: &mut W,
+    err: &mut E,
+) -> u8
+    ensures status { IsRunStatus result }
+    ensures answered { result ≡ DONE → IsAnswered plan.now None (Writes W.contents W.failure_count out.old out.new) }
+    ensures fault { result ≡ MAP_FAULT
+        → NamesFault (layout_of plan.now) None (Writes W.contents W.failure_count out.old out.new) }
+    ensures refused { result ≡ REFUSED
+        → NamesRefusal (layout_of plan.now) None (TriesToWrite E.contents E.failure_count err.old err.new) }
+    ensures stopped { result ≡ STOPPED
+        → NamesStop (TriesToWrite E.contents E.failure_count err.old err.new) ⊤ }
+    ensures err_stays { (result ≡ DONE) ⊎ (result ≡ MAP_FAULT) → err.new ≡ err.old }
+    ensures out_stays { result ≡ REFUSED → out.new ≡ out.old }
+{
+    let readers = match open_all(rt, alloc, plan.files()) {
+        Ok(readers) => readers,
+        Err(stop) => return stopped(&stop, err),
+    };
+    let mut cert = Meter::new(io::empty());
+    let mut made = MeterOut::new(io::sink());
+    run_on_readers(alloc, plan, readers, &mut cert, &mut made, out, err)
+}
+
+/// Does what the plan asks over these readers, which are read one after the other as one text, and gives the program's
+/// exit status. Where the bytes of each reader are known, so is that text, and all that [`run`] promises holds of it.
+pub fn run_on_readers<F: Read + Drop, S: Source, C: Sink, W: Sink, E: Sink>(
+    alloc: Global,
+    plan: &Plan,
+    readers: Vec<F>,
+    cert: &mut S,
+    made: &mut C,
+    out: &mut W,
+    err: &mut E,
+) -> u8
+    ensures status { IsRunStatus result }
+    ensures answered { result ≡ DONE
+        → IsAnswered plan.now (joined_bytes F.remaining false readers.items)
+        (Writes W.contents W.failure_count out.old out.new) }
+    ensures fault { result ≡ MAP_FAULT
+        → NamesFault (layout_of plan.now) (joined_bytes F.remaining false readers.items)
+        (Writes W.contents W.failure_count out.old out.new) }
+    ensures refused { result ≡ REFUSED
+        → NamesRefusal (layout_of plan.now) (joined_bytes F.remaining false readers.items)
+        (TriesToWrite E.contents E.failure_count err.old err.new) }
+    ensures stopped { result ≡ STOPPED
+        → NamesStop (TriesToWrite E.contents E.failure_count err.old err.new) ⊤ }
+    ensures err_stays { (result ≡ DONE) ⊎ (result ≡ MAP_FAULT) → err.new ≡ err.old }
+    ensures out_stays { result ≡ REFUSED → out.new ≡ out.old }
+    ensures cert { cert.new ≡ cert.old }
+    ensures made { made.new ≡ made.old }
+{
+    let Ok(mut records) = joined_source(alloc, readers) else {
+        return stopped(&Stop::Memory, err);
+    };
+    run(alloc, plan, &mut records, cert, made, out, err)
+}
+
+// A source of the readers' joined text.
+fn joined_source<F: Read + Drop>(
+    alloc: Global,
+    readers: Vec<F>,
+) -> io::Result<Meter<BufReader<Joined<F>>>>
+    ensures { IfOk result (λ source. ⟦<Meter<BufReader<Joined<F>>> as Source>⟧.remaining source
+        ≡ joined_bytes F.remaining false readers.items) }
+{
+    let reader = BufReader::with_capacity(alloc, INPUT_BUFFER, Joined::new(readers))?;
+    Ok(Meter::new(reader))
+}
+
+// The files of these names, each opened once and in their order.
+fn open_all<R: Files>(rt: &R, alloc: Global, names: &[String]) -> Result<Vec<R::File>, Stop>
+    ensures each { IfOk result (λ readers. vec_len readers ≡ length names.now) }
+    ensures stops { IfErr result StopsOpening }
+{
+    let mut readers = Vec::new(alloc);
+    for name in names {
+        let Ok(file) = File::open(rt, name.as_str()) else {
+            return Err(Stop::Device);
+        };
+        if readers.push(file).is_err() {
+            return Err(Stop::Memory);
+        }
+    }
+    Ok(readers)
+}

@@ -1,0 +1,57 @@
+//! What the program is asked to do.
+
+ghost use Rattle.std.specs.Prelude.{◌≡◌};
+ghost use Rattle.tl_command.specs.declared.plan.PlanStop.TheVariants.{Memory};
+
+use std::alloc::AllocError;
+use tl_record::Options;
+
+/// What the program is asked to do with record files, which are read one after the other as one text, by the columns
+/// that the options choose.
+#[derive(Debug, Drop)]
+pub enum Plan {
+    /// To print the chains.
+    Show {
+        options: Options,
+        files: Vec<String>,
+    },
+    /// To print the landmarks with their polygons.
+    Landmarks {
+        options: Options,
+        files: Vec<String>,
+    },
+}
+
+impl Plan {
+    ghost use Rattle.std.specs.Prelude.{◌≡◌, map, string_bytes};
+    ghost use Rattle.tl_command.specs.CommandLine.{files_of};
+
+    /// The names of the record files.
+    pub fn files(&self) -> &[String]
+        ensures { map string_bytes result.now ≡ files_of self.now }
+    {
+        match self {
+            Plan::Show { files, .. } => files.as_slice(),
+            Plan::Landmarks { files, .. } => files.as_slice(),
+        }
+    }
+}
+
+/// Why the words are no plan.
+#[derive(Debug, Drop)]
+pub enum PlanStop {
+    /// They don't name a command as it is used. The text says what is wrong.
+    Usage(String),
+    /// They ask for help. The text is the help.
+    Help(String),
+    /// Memory was refused.
+    Memory,
+}
+
+impl From<AllocError> for PlanStop {
+    ghost from_gives = { λ _ stop. stop ≡ Memory };
+
+    fn from(_error: AllocError) -> PlanStop {
+        PlanStop::Memory
+    }
+}

@@ -1,0 +1,171 @@
+//! Doing what a plan asks.
+
+ghost use Rattle.std.specs.Prelude.{◌≡◌, ◌≢◌, ◌⊎◌, [], OnOk, IfErr};
+ghost use Rattle.tl_map.specs.Messages.{fault_text};
+ghost use Rattle.tl_record.specs.Layout.{layout_with};
+ghost use Rattle.tl_text.specs.Printing.{shown_text, listing_text};
+ghost use Rattle.tl_text.specs.Writing.{Writes, TriesToWrite, FailsToWrite, CountsFailure, line_of};
+ghost use Rattle.std.specs.Io.KnownBytes.{Appends};
+ghost use Rattle.tl_command.specs.declared.stop.TheConstants.{DONE, MAP_FAULT, REFUSED, STOPPED};
+ghost use Rattle.tl_command.specs.Running.{IsAnswered, IsShown, IsListed, NamesFault, NamesRefusal, NamesStop};
+ghost use Rattle.tl_command.specs.Running.{IsRunStatus, FailsToRead, StopsAnswer, KeepsReads, layout_of};
+
+use crate::plan::Plan;
+use crate::stop::{DONE, MAP_FAULT, Stop, stopped};
+use std::alloc::Global;
+use std::io;
+use tl_map::{Chains, Map, MapFault, MapStop, read_chains_with, read_map_with};
+use tl_record::{Options, Sink, Source};
+use tl_text::{LineStop, OutputBuffer, print_chains, print_landmarks, print_line};
+
+/// Does what the plan asks and gives the program's exit status. Answers and faults go to `out`, refusals and stops to
+/// `err`. `cert` is the certificate that is read, and `made` takes the one that is written; a command that has none
+/// leaves them alone.
+pub fn run<R: Source, S: Source, C: Sink, W: Sink, E: Sink>(
+    alloc: Global,
+    plan: &Plan,
+    records: &mut R,
+    cert: &mut S,
+    made: &mut C,
+    out: &mut W,
+    err: &mut E,
+) -> u8
+    ensures status { IsRunStatus result }
+
+    // The output grew by the answer.
+    ensures answered { result ≡ DONE
+        → IsAnswered plan.now (R.remaining records.old) (Writes W.contents W.failure_count out.old out.new) }
+    // The output grew by the line of a fault that is true.
+    ensures fault { result ≡ MAP_FAULT
+        → NamesFault (layout_of plan.now) (R.remaining records.old) (Writes W.contents W.failure_count out.old out.new) }
+    // The line of the first refusal was written to `err`, or the write of it failed.
+    ensures refused { result ≡ REFUSED
+        → NamesRefusal (layout_of plan.now) (R.remaining records.old) (TriesToWrite E.contents E.failure_count err.old err.new) }
+    // The line of a stop was, or the write of it failed; of a device only where a read or a write failed.
+    ensures stopped { result ≡ STOPPED
+        → NamesStop (TriesToWrite E.contents E.failure_count err.old err.new)
+        (FailsToRead R.failure_count records.old records.new ⊎ FailsToWrite W.failure_count out.old out.new) }
+
+    // The other stream stays as it was.
+    ensures err_stays { (result ≡ DONE) ⊎ (result ≡ MAP_FAULT) → err.new ≡ err.old }
+    ensures out_stays { result ≡ REFUSED → out.new ≡ out.old }
+    // No read failed where the run didn't stop.
+    ensures read_whole { result ≢ STOPPED → R.failure_count records.new ≡ R.failure_count records.old }
+
+    // No command reads or makes a certificate yet.
+    ensures cert { cert.new ≡ cert.old }
+    ensures made { made.new ≡ made.old }
+{
+    match answer(alloc, plan, records, out) {
+        Ok(()) => DONE,
+        Err(MapStop::Fault(fault)) => name_fault(&fault, out, err),
+        Err(MapStop::Refused { line, cause }) => stopped(&Stop::Refused { line, cause }, err),
+        Err(MapStop::Memory) => stopped(&Stop::Memory, err),
+        Err(MapStop::Device) => stopped(&Stop::Device, err),
+    }
+}
+
+// Writes the answer to what the plan asks for.
+fn answer<R: Source, W: Sink>(
+    alloc: Global,
+    plan: &Plan,
+    records: &mut R,
+    out: &mut W,
+) -> Result<(), MapStop>
+    ensures answered { OnOk result (IsAnswered plan.now (R.remaining records.old)
+        (Writes W.contents W.failure_count out.old out.new)) }
+    ensures stops { IfErr result (StopsAnswer (layout_of plan.now) (R.remaining records.old)
+        (FailsToRead R.failure_count records.old records.new ⊎ FailsToWrite W.failure_count out.old out.new)
+        (out.new ≡ out.old)) }
+    ensures reads { KeepsReads (R.failure_count records.old) (R.failure_count records.new) result }
+{
+    match plan {
+        Plan::Show { options, .. } => show(alloc, *options, records, out),
+        Plan::Landmarks { options, .. } => landmarks(alloc, *options, records, out),
+    }
+}
+
+fn show<R: Source, W: Sink>(
+    alloc: Global,
+    options: Options,
+    records: &mut R,
+    out: &mut W,
+) -> Result<(), MapStop>
+    ensures answered { OnOk result (IsShown (layout_with options) (R.remaining records.old)
+        (Writes W.contents W.failure_count out.old out.new)) }
+    ensures stops { IfErr result (StopsAnswer (layout_with options) (R.remaining records.old)
+        (FailsToRead R.failure_count records.old records.new ⊎ FailsToWrite W.failure_count out.old out.new)
+        (out.new ≡ out.old)) }
+    ensures reads { KeepsReads (R.failure_count records.old) (R.failure_count records.new) result }
+{
+    let chains = read_chains_with(alloc, records, options)?;
+    let Ok(mut buffer) = OutputBuffer::new(alloc) else {
+        return Err(MapStop::Memory);
+    };
+    match print_all_chains(&chains, &mut buffer, out) {
+        Ok(()) => Ok(()),
+        Err(_) => Err(MapStop::Device),
+    }
+}
+
+fn landmarks<R: Source, W: Sink>(
+    alloc: Global,
+    options: Options,
+    records: &mut R,
+    out: &mut W,
+) -> Result<(), MapStop>
+    ensures answered { OnOk result (IsListed (layout_with options) (R.remaining records.old)
+        (Writes W.contents W.failure_count out.old out.new)) }
+    ensures stops { IfErr result (StopsAnswer (layout_with options) (R.remaining records.old)
+        (FailsToRead R.failure_count records.old records.new ⊎ FailsToWrite W.failure_count out.old out.new)
+        (out.new ≡ out.old)) }
+    ensures reads { KeepsReads (R.failure_count records.old) (R.failure_count records.new) result }
+{
+    let map = read_map_with(alloc, records, options)?;
+    let Ok(mut buffer) = OutputBuffer::new(alloc) else {
+        return Err(MapStop::Memory);
+    };
+    match print_all_landmarks(&map, &mut buffer, out) {
+        Ok(()) => Ok(()),
+        Err(_) => Err(MapStop::Device),
+    }
+}
+
+fn print_all_chains<W: Sink>(
+    chains: &Chains,
+    buffer: &mut OutputBuffer,
+    out: &mut W,
+) -> io::Result<()>
+    requires { buffer.old ≡ [] }
+    ensures bytes { OnOk result (Appends (W.contents out.old) (W.contents out.new) (shown_text chains.now)) }
+    ensures failures { CountsFailure (W.failure_count out.old) (W.failure_count out.new) result }
+{
+    print_chains(chains, buffer, out)?;
+    buffer.flush(out)
+}
+
+fn print_all_landmarks<W: Sink>(map: &Map, buffer: &mut OutputBuffer, out: &mut W) -> io::Result<()>
+    requires { buffer.old ≡ [] }
+    ensures bytes { OnOk result (Appends (W.contents out.old) (W.contents out.new) (listing_text map.now)) }
+    ensures failures { CountsFailure (W.failure_count out.old) (W.failure_count out.new) result }
+{
+    print_landmarks(map, buffer, out)?;
+    buffer.flush(out)
+}
+
+// Says which fault the map has. Where that can't be written, the command is stopped.
+fn name_fault<W: Sink, E: Sink>(fault: &MapFault, out: &mut W, err: &mut E) -> u8
+    ensures status { (result ≡ MAP_FAULT) ⊎ (result ≡ STOPPED) }
+    ensures named { result ≡ MAP_FAULT
+        → Writes W.contents W.failure_count out.old out.new (line_of (fault_text fault.now)) }
+    ensures err_stays { result ≡ MAP_FAULT → err.new ≡ err.old }
+    ensures stopped { result ≡ STOPPED
+        → NamesStop (TriesToWrite E.contents E.failure_count err.old err.new)
+        (FailsToWrite W.failure_count out.old out.new) }
+{
+    match print_line(fault, out) {
+        Ok(()) => MAP_FAULT,
+        Err(LineStop::Failed) => stopped(&Stop::Device, err),
+        Err(LineStop::NoRoom) => stopped(&Stop::Memory, err),
+    }
+}
