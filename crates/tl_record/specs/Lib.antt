@@ -1,5 +1,5 @@
 pub mod Failures
-pub mod Fetching
+pub mod Keeping
 pub mod Limits
 pub mod Lines
 pub mod Range

@@ -3,7 +3,7 @@
 ghost use Rattle.std.specs.Prelude.{◌≡◌, ℕ, ◌-◌, ◌<◌, ◌≤◌, List, [], length, take, drop};
 ghost use Rattle.tl_record.specs.Limits.{most_line_bytes};
 ghost use Rattle.tl_record.specs.Failures.{CountsRead};
-ghost use Rattle.tl_record.specs.Fetching.{Fetches};
+ghost use Rattle.tl_record.specs.Keeping.Fetching.{Fetches};
 
 use crate::judge::MAX_LINE_BYTES;
 use crate::source::Source;
