@@ -18,6 +18,9 @@ from layout import line_of
 from rows import PROGRAM
 
 CHAIN_LIMIT = 1_048_576
+POLYGON_LIMIT = 1_048_576
+LANDMARK_LIMIT = 1_048_576
+SEGMENT_LIMIT = 16_777_216
 LINE_LIMIT = 67_108_864
 
 
@@ -42,6 +45,19 @@ def county(count, seed):
     return "".join(it[0] for it in both), shown, tlids
 
 
+def long_chains(count, segments):
+    """The records of so many chains of so many segments each, along parallels, with nothing on either side."""
+    tlid, latitude = 7_777_777_777, 55_555_555
+    points = [f"{x},{latitude}" for x in range(segments + 1)]
+    between = points[1:-1]
+    records = [f"chain {tlid} {points[0]} {points[-1]}", f"sides {tlid} - -"]
+    for k in range(0, len(between), 10):
+        records.append(f"shape {tlid} {k // 10 + 1} " + " ".join(between[k : k + 10]))
+    one = b"".join(map(line_of, records))
+    numbered = lambda k: one.replace(b"%10d" % tlid, b"%10d" % k).replace(b"%+09d" % latitude, b"%+09d" % k)
+    return b"".join(map(numbered, range(1, count + 1)))
+
+
 class Plays:
     def __init__(self, program, folder):
         self.program, self.folder, self.passed, self.failed = program, folder, 0, 0
@@ -50,8 +66,8 @@ class Plays:
         Path(self.folder, name).write_bytes(text if isinstance(text, bytes) else text.encode())
         return name
 
-    def play(self, title, names, status, out="", err=""):
-        done = subprocess.run([self.program, "show", *names], cwd=self.folder, capture_output=True)
+    def play(self, title, names, status, out="", err="", command="show"):
+        done = subprocess.run([self.program, command, *names], cwd=self.folder, capture_output=True)
         digest = lambda text: (len(text), hashlib.sha256(text).hexdigest())
         wanted = (status, digest(out.encode()), err.encode())
         well = (done.returncode, digest(done.stdout), done.stderr) == wanted
@@ -94,7 +110,49 @@ def play_all(program=PROGRAM):
         late = plays.file("late", line_of("chain 1 1,1 2,90000001"))
         refusal = f"refused line {lines + 1} L4 OutOfRange TOLAT\n"
         plays.play("a late refusal", [county_file, late], 3, "", refusal)
+        play_maps(plays, county_file, tlids)
     return plays.passed, plays.failed
+
+
+def play_maps(plays, county_file, tlids):
+    """Each answer of `landmarks` behind a whole county, and each limit of it."""
+    more = lambda *records: plays.file("more", b"".join(map(line_of, records)))
+    listed = lambda title, names, status, out: plays.play(title, names, status, out, command="landmarks")
+
+    side = line_of("sides 7777777777 A0001/1 -")
+    sides = plays.file("sides", b"".join(side.replace(b"7777777777", b"%10d" % tlid) for tlid in tlids))
+    polygon = plays.file("polygon", line_of("point A0001/1 1,1"))
+    new, old = 9_999_999_998, tlids[len(tlids) // 2]
+    whole = [county_file, sides, polygon]
+    listed("a county's landmarks", [*whole, more("land 7", "link A0001/1 7")], 0, "land 7 area polygons A0001/1\nlandmarks=1\n")
+    behind = {
+        f"M5 ChainWithoutSides tlid {new}": [f"chain {new} 1,1 2,2"],
+        f"M6 SidesWithoutChain tlid {new}": [f"sides {new} - -"],
+        f"M7 DuplicateSides tlid {old}": [f"sides {old} A0001/1 -"],
+        "M8 DuplicatePolygon polygon A0001/1": ["point A0001/1 2,2"],
+        f"M9 SideWithoutPolygon tlid {new} polygon A0001/2": [f"chain {new} 1,1 2,2", f"sides {new} A0001/2 -"],
+        "M10 LinkWithoutLandmark land 8": ["link A0001/1 8"],
+        "M11 LinkWithoutPolygon polygon A0001/2 land 7": ["land 7", "link A0001/2 7"],
+    }
+    for fault, records in behind.items():
+        listed(fault, [*whole, more(*records)], 1, f"map fault {fault}\n")
+
+    point = line_of("point A0001/7777777777 1,1")
+    polygons = plays.file("polygons", b"".join(point.replace(b"7777777777", b"%10d" % k) for k in range(POLYGON_LIMIT)))
+    listed("the most polygons", [polygons], 0, "landmarks=0\n")
+    listed("one polygon more", [polygons, more(f"point A0001/{POLYGON_LIMIT} 1,1")], 1, "map fault M13 TooMany polygons\n")
+
+    land = line_of("land 7777777777 1,1")
+    landmarks = plays.file("landmarks", b"".join(land.replace(b"7777777777", b"%10d" % k) for k in range(LANDMARK_LIMIT)))
+    lines = "".join(f"land {k} point 1,1 polygons none\n" for k in range(LANDMARK_LIMIT))
+    listed("the most landmarks", [landmarks], 0, f"{lines}landmarks={LANDMARK_LIMIT}\n")
+    listed("one landmark more", [landmarks, more(f"land {LANDMARK_LIMIT}")], 1, "map fault M13 TooMany landmarks\n")
+    listed("a landmark's second record", [landmarks, more("land 7")], 0, f"{lines}landmarks={LANDMARK_LIMIT}\n")
+
+    chains, each = 16_384, SEGMENT_LIMIT // 16_384
+    segments = plays.file("segments", long_chains(chains, each))
+    listed("the most segments", [segments], 0, "landmarks=0\n")
+    listed("one segment more", [segments, more(f"chain {new} 1,1 2,2", f"sides {new} - -")], 1, "map fault M13 TooMany segments\n")
 
 
 if __name__ == "__main__":
