@@ -1,0 +1,4 @@
+-- What the contracts of certificates cite.
+pub mod Certificates
+pub mod Text
+pub mod Beginnings

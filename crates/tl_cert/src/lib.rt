@@ -1,0 +1,6 @@
+//! Certificates of maps.
+#![tactic(auto)]
+
+mod certificate;
+
+pub use certificate::{Certificate, Counts};
