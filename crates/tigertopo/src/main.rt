@@ -6,8 +6,8 @@ use std::io::ErrorKind;
 use std::process::ExitCode;
 use tl_command::open::start;
 use tl_command::stop::{Stop, USAGE, stopped};
+use tl_output::write_all;
 use tl_record::MeterOut;
-use tl_text::write_all;
 
 fn main(rt: HostRuntime) -> ExitCode {
     let alloc = rt.alloc();

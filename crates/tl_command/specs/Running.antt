@@ -18,7 +18,7 @@ use Rattle.tl_map.specs.Messages.{fault_text}
 use Rattle.tl_map.specs.TheMap.{TheMap}
 use Rattle.tl_map.specs.Reading.{AreReadFrom, IsReadFrom, records_in}
 use Rattle.tl_text.specs.Printing.{shown_text, listing_text}
-use Rattle.tl_text.specs.Writing.{line_of}
+use Rattle.tl_output.specs.Writing.{line_of}
 use Rattle.tl_command.specs.declared.stop.Stop.{Stop}
 use Rattle.tl_command.specs.declared.stop.Stop.TheVariants.{Refused, Memory, Device}
 use Rattle.tl_command.specs.declared.stop.TheConstants.{DONE, MAP_FAULT, REFUSED, STOPPED}

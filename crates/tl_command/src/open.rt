@@ -2,7 +2,7 @@
 
 ghost use Rattle.std.specs.Prelude.{◌≡◌, ◌⊎◌, false, ⊤, None, IfOk, IfErr, length, vec_len, map, string_bytes};
 ghost use Rattle.tl_text.specs.Joining.{joined_bytes};
-ghost use Rattle.tl_text.specs.Writing.{Writes, TriesToWrite, FailsToWrite};
+ghost use Rattle.tl_output.specs.Writing.{Writes, TriesToWrite, FailsToWrite};
 ghost use Rattle.tl_command.specs.declared.stop.TheConstants.{DONE, MAP_FAULT, REFUSED, STOPPED, USAGE};
 ghost use Rattle.tl_command.specs.declared.stop.Stop.TheVariants.{Memory, Device};
 ghost use Rattle.tl_command.specs.Running.{IsAnswered, NamesFault, NamesRefusal, NamesStop, IsRunStatus, layout_of};
@@ -18,8 +18,9 @@ use std::fs::File;
 use std::io;
 use std::io::{BufReader, Read};
 use std::rt::Files;
+use tl_output::write_all;
 use tl_record::{Meter, MeterOut, Sink, Source};
-use tl_text::{Joined, write_all};
+use tl_text::Joined;
 
 // How many bytes of the record files are read at a time.
 const INPUT_BUFFER: usize = 131_072;

@@ -4,7 +4,7 @@ ghost use Rattle.std.specs.Prelude.{◌≡◌, ◌≢◌, ◌⊎◌, [], OnOk, I
 ghost use Rattle.tl_map.specs.Messages.{fault_text};
 ghost use Rattle.tl_record.specs.Layout.{layout_with};
 ghost use Rattle.tl_text.specs.Printing.{shown_text, listing_text};
-ghost use Rattle.tl_text.specs.Writing.{Writes, TriesToWrite, FailsToWrite, CountsFailure, line_of};
+ghost use Rattle.tl_output.specs.Writing.{Writes, TriesToWrite, FailsToWrite, CountsFailure, line_of};
 ghost use Rattle.std.specs.Io.KnownBytes.{Appends};
 ghost use Rattle.tl_command.specs.declared.stop.TheConstants.{DONE, MAP_FAULT, REFUSED, STOPPED};
 ghost use Rattle.tl_command.specs.Running.{IsAnswered, IsShown, IsListed, NamesFault, NamesRefusal, NamesStop};
@@ -15,8 +15,9 @@ use crate::stop::{DONE, MAP_FAULT, Stop, stopped};
 use std::alloc::Global;
 use std::io;
 use tl_map::{Chains, Map, MapFault, MapStop, read_chains_with, read_map_with};
+use tl_output::{LineStop, OutputBuffer, print_line};
 use tl_record::{Options, Sink, Source};
-use tl_text::{LineStop, OutputBuffer, print_chains, print_landmarks, print_line};
+use tl_text::{print_chains, print_landmarks};
 
 /// Does what the plan asks and gives the program's exit status. Answers and faults go to `out`, refusals and stops to
 /// `err`. `cert` is the certificate that is read, and `made` takes the one that is written; a command that has none
@@ -99,9 +100,7 @@ fn show<R: Source, W: Sink>(
     ensures reads { KeepsReads (R.failure_count records.old) (R.failure_count records.new) result }
 {
     let chains = read_chains_with(alloc, records, options)?;
-    let Ok(mut buffer) = OutputBuffer::new(alloc) else {
-        return Err(MapStop::Memory);
-    };
+    let mut buffer = OutputBuffer::new();
     match print_all_chains(&chains, &mut buffer, out) {
         Ok(()) => Ok(()),
         Err(_) => Err(MapStop::Device),
@@ -122,9 +121,7 @@ fn landmarks<R: Source, W: Sink>(
     ensures reads { KeepsReads (R.failure_count records.old) (R.failure_count records.new) result }
 {
     let map = read_map_with(alloc, records, options)?;
-    let Ok(mut buffer) = OutputBuffer::new(alloc) else {
-        return Err(MapStop::Memory);
-    };
+    let mut buffer = OutputBuffer::new();
     match print_all_landmarks(&map, &mut buffer, out) {
         Ok(()) => Ok(()),
         Err(_) => Err(MapStop::Device),

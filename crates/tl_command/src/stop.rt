@@ -1,14 +1,14 @@
 //! Why a command stops, and how that is told.
 
 ghost use Rattle.std.specs.Bool.{OnTrue, OnFalse};
-ghost use Rattle.tl_text.specs.Writing.{TriesToWrite, line_of};
+ghost use Rattle.tl_output.specs.Writing.{TriesToWrite, line_of};
 ghost use Rattle.tl_command.specs.declared.stop.Stop.TheVariants.{Memory};
 ghost use Rattle.tl_command.specs.Stops.{stop_text};
 ghost use Rattle.tl_command.specs.Running.{IsTold};
 
 use std::fmt;
+use tl_output::{LineStop, print_line, write_all};
 use tl_record::{Cause, Sink};
-use tl_text::{LineStop, print_line, write_all};
 
 /// The status of a command that is done, and of help.
 pub const DONE: u8 = 0;

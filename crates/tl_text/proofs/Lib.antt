@@ -1,5 +1,4 @@
 -- Lemmas on texts.
 pub mod JoiningLemmas
 pub mod LandmarkLemmas
-pub mod LineLemmas
 pub mod PrintingLemmas

@@ -1,13 +1,10 @@
 -- What is written piece by piece.
 use Rattle.std.proofs.Common.{◌≡◌, ℕ, zero, suc, ◌+◌, ◌<◌, List, [], ◌∷◌, ◌++◌, length, take, map, slice_get, slice_index_or}
-use Rattle.std.proofs.Common.{Some, Result, Ok, Err, OnOk, refl, sym, ap, subst, ◌∙◌, append_assoc, append-nil, add-one, arith}
-use Rattle.std.proofs.Common.{false}
+use Rattle.std.proofs.Common.{Some, Result, Ok, Err, OnOk, refl, sym, ap, subst, ◌∙◌, append_assoc, append-nil, add-one}
 use Rattle.std.proofs.Math.Seq.{take-suc}
-use Rattle.std.proofs.lemmas.Bool.Decides.{nat_tests}
 use Rattle.std.proofs.KnownBytes.{Appends-trans}
 use Rattle.std.specs.Io.KnownBytes.{Appends}
-use Rattle.std.specs.Prelude.{Option, ◌==◌, ◌&&◌, ◌≢◌, not, if◌then◌else◌}
-use Rattle.tl_record.specs.Failures.{one_more}
+use Rattle.std.specs.Prelude.{Option}
 use Rattle.tl_geom.specs.declared.point.Point.{Point}
 use Rattle.tl_map.specs.Chains.{CompleteChain, tlids}
 use Rattle.tl_text.specs.Printing.{point_text, points_text, chain_text, chains_text}
@@ -46,10 +43,3 @@ pub OnOk-appends : {T E : Type 0} (result : Result T E) (old mid new : Option (L
 OnOk-appends (Ok x) old mid new xs ys all before last same =
     subst (Appends old new) same (Appends-trans old mid new xs ys before last)
 OnOk-appends (Err e) old mid new xs ys all before last same = tt
-
--- a write that took some bytes has not failed
-pub no_failure : (taken count size : ℕ) → taken ≢ 0
-    → (if taken == 0 && not (size == 0) then one_more count else count) ≡ count
-no_failure taken count size some =
-    let other : (taken == 0) ≡ false = grind (arith, nat_tests) in
-    rw other refl

@@ -4,14 +4,14 @@ ghost use Rattle.std.specs.Prelude.{OnOk, encode_utf8};
 ghost use Rattle.std.specs.Io.KnownBytes.{Appends, append_known};
 ghost use Rattle.tl_record.specs.KeyText.{key_text};
 ghost use Rattle.tl_text.specs.Printing.{polygon_text, listed_text, polygons_text, place_text, landmark_text, landmark_count_text, listing_text};
-ghost use Rattle.tl_text.specs.Writing.{CountsFailure};
+ghost use Rattle.tl_output.specs.Writing.{CountsFailure};
 
-use crate::output::OutputBuffer;
 use crate::print::print_point;
 use itoa::Buffer;
 use std::io;
 use tl_geom::Point;
 use tl_map::{Landmark, Map};
+use tl_output::OutputBuffer;
 use tl_record::{PolyKey, Sink};
 
 /// Writes a line for each landmark, with the keys of its polygons, and a line of their number. An error says that a write
@@ -45,7 +45,9 @@ fn print_landmark<S: Sink>(
     out: &mut S,
 ) -> io::Result<()>
     ensures bytes { OnOk result (Appends (append_known (S.contents out.old) buffer.old)
-        (append_known (S.contents out.new) buffer.new) (landmark_text map.now.polygons (record { land = landmark.now.land; point = landmark.now.point; polygons = landmark.now.polygons.now }))) }
+        (append_known (S.contents out.new) buffer.new)
+        (landmark_text map.now.polygons
+        (record { land = landmark.now.land; point = landmark.now.point; polygons = landmark.now.polygons.now }))) }
     ensures failures { CountsFailure (S.failure_count out.old) (S.failure_count out.new) result }
 {
     let mut digits = Buffer::new();

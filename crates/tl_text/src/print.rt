@@ -3,13 +3,13 @@
 ghost use Rattle.std.specs.Prelude.{◌≡◌, OnOk};
 ghost use Rattle.std.specs.Io.KnownBytes.{Appends, append_known};
 ghost use Rattle.tl_text.specs.Printing.{point_text, chain_text, counts_text, shown_text};
-ghost use Rattle.tl_text.specs.Writing.{CountsFailure};
+ghost use Rattle.tl_output.specs.Writing.{CountsFailure};
 
-use crate::output::OutputBuffer;
 use itoa::Buffer;
 use std::io;
 use tl_geom::Point;
 use tl_map::Chains;
+use tl_output::OutputBuffer;
 use tl_record::Sink;
 
 /// Writes a line for each chain and a line of counts. An error says that a write failed.

@@ -1,8 +1,6 @@
-use Rattle.std.proofs.Common.{◌≡◌, rules, refl, append_assoc, ◌++◌, codes}
+use Rattle.std.proofs.Common.{◌≡◌, rules, append_assoc}
 use Rattle.std.proofs.KnownBytes.{Appends-trans}
 use Rattle.std.specs.Fmt.{decimal}
-use Rattle.std.specs.Prelude.{encode_utf8}
-use Rattle.tl_record.specs.KeyText.{cenid_text}
 use Rattle.tl_text.proofs.PrintingLemmas.{OnOk-appends}
 use Rattle.tl_text.proofs.landmarks.print_key.Goals as goal
 

@@ -1,8 +1,8 @@
 //! A line by itself.
 
 ghost use Rattle.std.specs.Prelude.{◌≡◌, IfErr, IfSome, OnOk};
-ghost use Rattle.tl_text.specs.Writing.{Writes, line_of};
-ghost use Rattle.tl_text.specs.Lines.{StopsLine};
+ghost use Rattle.tl_output.specs.Writing.{Writes, line_of};
+ghost use Rattle.tl_output.specs.Lines.{StopsLine};
 
 use crate::output::write_all;
 use arrayvec::ArrayString;

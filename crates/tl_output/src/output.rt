@@ -1,10 +1,10 @@
 //! Output on its way to a sink.
 
-ghost use Rattle.std.specs.Prelude.{◌≡◌, [], IfOk, OnOk};
+ghost use Rattle.std.specs.Prelude.{◌≡◌, [], OnOk};
 ghost use Rattle.std.specs.Io.KnownBytes.{Appends, Keeps, append_known};
-ghost use Rattle.tl_text.specs.Writing.{CountsFailure};
+ghost use Rattle.tl_output.specs.Writing.{CountsFailure};
 
-use std::alloc::{AllocError, Global};
+use arrayvec::ArrayVec;
 use std::io;
 use std::io::ErrorKind;
 use std::marker::Model;
@@ -13,10 +13,10 @@ use tl_record::Sink;
 // How many bytes are put together before they are written.
 const CAPACITY: usize = 65_536;
 
-/// Bytes that are put together before they are written to a sink, which each call is given.
+/// Bytes that are put together before they are written to a sink, which each call is given. It takes no memory.
 #[derive(Drop)]
 pub struct OutputBuffer {
-    bytes: Vec<u8>,
+    bytes: ArrayVec<u8, CAPACITY>,
 }
 
 impl Model for OutputBuffer {
@@ -29,12 +29,12 @@ impl Model for OutputBuffer {
 
 impl OutputBuffer {
     /// A buffer that holds nothing.
-    pub fn new(alloc: Global) -> Result<OutputBuffer, AllocError>
-        ensures { IfOk result (λ b. b ≡ []) }
+    pub fn new() -> OutputBuffer
+        ensures { result ≡ [] }
     {
-        Ok(OutputBuffer {
-            bytes: Vec::with_capacity(alloc, CAPACITY)?,
-        })
+        OutputBuffer {
+            bytes: ArrayVec::new(),
+        }
     }
 
     /// Adds bytes to the output. Where the buffer has no room for them, what it holds is written first. An error says
@@ -44,14 +44,14 @@ impl OutputBuffer {
             (append_known (S.contents out.new) self.new) bytes.now) }
         ensures failures { CountsFailure (S.failure_count out.old) (S.failure_count out.new) result }
     {
-        if bytes.len() > self.bytes.capacity() - self.bytes.len() {
-            self.flush(out)?;
+        if self.bytes.try_extend_from_slice(bytes).is_ok() {
+            return Ok(());
         }
-        if self.bytes.extend_from_slice(bytes).is_err() {
-            self.flush(out)?;
-            return write_all(bytes, out);
+        self.flush(out)?;
+        if self.bytes.try_extend_from_slice(bytes).is_ok() {
+            return Ok(());
         }
-        Ok(())
+        write_all(bytes, out)
     }
 
     /// Writes what the buffer holds. An error says that a write failed.

@@ -2,8 +2,8 @@ use Rattle.std.proofs.Common.{◌-◌, ◌++◌, length, take, drop, sym, ap, su
 use lib.Seq.{take-add, take-take}
 use Rattle.std.specs.Io.KnownBytes.{Appends}
 use Rattle.std.proofs.KnownBytes.{Appends-trans}
-use Rattle.tl_text.proofs.PrintingLemmas.{no_failure}
-use Rattle.tl_text.proofs.output.write_all.Goals as goal
+use Rattle.tl_output.proofs.WritingLemmas.{no_failure}
+use Rattle.tl_output.proofs.output.write_all.Goals as goal
 
 pub loop-written-preserved : goal.loop-written-preserved
 loop-written-preserved g c =

@@ -3,7 +3,7 @@ use Rattle.std.proofs.Common.{◌≡◌, ℕ, List, [], ◌∷◌, ◌++◌, IfS
 use Rattle.std.proofs.lemmas.Fmt.{contents_after_writes}
 use Rattle.std.specs.Fmt.{WritesText, option_append}
 use Rattle.std.specs.Prelude.{Option}
-use Rattle.tl_text.specs.Writing.{line_of}
+use Rattle.tl_output.specs.Writing.{line_of}
 
 -- a text and a line feed were written to an empty line, where each write appends
 pub line_written : {W : Type 0} (took : W → List ℕ → W → Type 0) (bytes : W → List ℕ)

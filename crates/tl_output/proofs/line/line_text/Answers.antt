@@ -1,5 +1,5 @@
-use Rattle.tl_text.proofs.LineLemmas.{line_written}
-use Rattle.tl_text.proofs.line.line_text.Goals as goal
+use Rattle.tl_output.proofs.LineLemmas.{line_written}
+use Rattle.tl_output.proofs.line.line_text.Goals as goal
 
 pub returns-in-Ok : goal.returns-in-Ok
 returns-in-Ok g c =

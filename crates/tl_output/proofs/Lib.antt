@@ -1,0 +1,3 @@
+-- Lemmas on output.
+pub mod LineLemmas
+pub mod WritingLemmas
