@@ -1,5 +1,5 @@
 -- Lists of lists of darts.
-use Rattle.std.proofs.Common.{◌≡◌, ◌↔◌, All, map, ℕ, ◌<◌, length, List, sym, subst, Vec, Global}
+use Rattle.std.proofs.Common.{All, map, ℕ, ◌<◌, List, sym, subst, Vec, Global}
 use Rattle.std.proofs.lemmas.List.{length-map}
 use Rattle.std.proofs.lemmas.List.Elements.{All-map}
 use Rattle.std.proofs.Math.ListN.{get_or-map}

@@ -1,9 +1,8 @@
 -- The certificate of the test map, a square of one chain: its text by the definition is the worked one.
-use Rattle.std.proofs.Common.{◌≡◌, ℕ, ℤ, pos, List, [], ◌∷◌, refl, codes}
+use Rattle.std.proofs.Common.{◌≡◌, ℕ, pos, [], ◌∷◌, refl, codes}
 use Rattle.arrayvec.specs.ArrayVec.{ArrayVec}
 use Rattle.tl_geom.specs.declared.rect.Rect.{Rect}
-use Rattle.tl_tree.specs.declared.node.TreeNode.{TreeNode}
-use Rattle.tl_tree.specs.declared.node.TreeNode.TheVariants.{Inner, Leaf}
+use Rattle.tl_tree.specs.declared.node.TreeNode.TheVariants.{Leaf}
 use Rattle.tl_cert.specs.Certificates.{TheCertificate}
 use Rattle.tl_cert.specs.Text.{certificate_text}
 use Rattle.std.specs.Fmt.{digits}

@@ -18,8 +18,13 @@ pub record TheCertificate : Type 0 where
 
 -- the certificate of these parts, the darts in lists of their own
 abbrev pub made : ℕ → Counts → List TreeNode → List (Vec ℕ Global) → List (Vec ℕ Global) → TheCertificate
-made version counts tree rounds walks = record { version = version; counts = counts; tree = tree;
-    rounds = map (λ r. r.items) rounds; walks = map (λ w. w.items) walks }
+made version counts tree rounds walks = record {
+  version = version;
+  counts = counts;
+  tree = tree;
+  rounds = map (λ r. r.items) rounds;
+  walks = map (λ w. w.items) walks;
+}
 
 -- a number of 32 bits
 abbrev pub IsNumber : ℕ → Type 0

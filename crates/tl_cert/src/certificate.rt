@@ -32,8 +32,13 @@ impl Model for Certificate {
 
     ghost Value = { TheCertificate };
 
-    ghost view = { λ c. record { version = c.version; counts = c.counts; tree = c.tree.items;
-        rounds = map (λ r. r.items) c.rounds.items; walks = map (λ w. w.items) c.walks.items } };
+    ghost view = { λ c. record {
+      version = c.version;
+      counts = c.counts;
+      tree = c.tree.items;
+      rounds = map (λ r. r.items) c.rounds.items;
+      walks = map (λ w. w.items) c.walks.items;
+    } };
 }
 
 impl Certificate {
@@ -148,8 +153,8 @@ fn are_nodes(version: u8, nodes: &[TreeNode]) -> bool
     true
 }
 
-fn is_dart_list(darts: &Vec<u32>) -> bool
-    ensures { IsTrue result ↔ IsDartList darts.now.items }
+fn is_dart_list(darts: &[u32]) -> bool
+    ensures { IsTrue result ↔ IsDartList darts.now }
 {
     0 < darts.len() && darts.len() <= MOST
 }
@@ -164,7 +169,7 @@ fn is_each_dart_list(lists: &[Vec<u32>]) -> bool
     ensures { IsTrue result ↔ All (λ l. IsDartList l.items) lists.now }
 {
     for darts in lists {
-        if !is_dart_list(darts) {
+        if !is_dart_list(darts.as_slice()) {
             return false;
         }
     }
