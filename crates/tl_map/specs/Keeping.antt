@@ -10,3 +10,4 @@ pub mod Areas
 pub mod Landmarks
 pub mod Mapped
 pub mod Numbered
+pub mod Noded

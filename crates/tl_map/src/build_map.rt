@@ -13,6 +13,7 @@ use crate::collect::Collected;
 use crate::fault::{Limited, MapFault, MapStop, POLYGON_LIMIT};
 use crate::landmarks::build_landmarks;
 use crate::map::Map;
+use crate::nodes::number_nodes;
 use crate::polygons::index_polygons;
 use crate::segments::number_segments;
 use crate::sides::{pair_sides, resolve_sides};
@@ -44,5 +45,6 @@ pub fn build_map(
     let sides = resolve_sides(alloc, &index, &paired)?;
     let linked = build_landmarks(alloc, &index, polygons.len(), &landmarks, &links)?;
     let segments = number_segments(alloc, &chains)?;
-    Ok(Map::new(chains, sides, polygons, linked, segments))
+    let nodes = number_nodes(alloc, &chains)?;
+    Ok(Map::new(chains, sides, polygons, linked, segments, nodes))
 }

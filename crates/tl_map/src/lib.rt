@@ -18,6 +18,7 @@ mod join;
 mod landmarks;
 pub mod laws;
 mod map;
+mod nodes;
 mod passes;
 #[cfg(test)]
 mod plain;
