@@ -33,7 +33,8 @@ impl AreaRecords {
 
     /// Keeps one more record.
     pub fn add(&mut self, next: &Record) -> Result<(), AllocError>
-        ensures { (rs : List Record) → KeepsAreas rs self.old → OnOk result (KeepsAreas (rs ++ next.now ∷ []) self.new) }
+        ensures { (rs : List Record) → KeepsAreas rs self.old →
+            OnOk result (KeepsAreas (rs ++ next.now ∷ []) self.new) }
     {
         match next {
             Record::Sides {

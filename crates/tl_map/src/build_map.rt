@@ -28,7 +28,8 @@ pub fn build_map(
 ) -> Result<Map, MapStop>
     // It has collected some records.
     requires { (rs : List Record) × Collects rs collected × KeepsAreas rs areas }
-    ensures { (rs : List Record) → Collects rs collected → KeepsAreas rs areas → MatchResult result (AreMapped rs skipped) (StopsBuilding rs) }
+    ensures { (rs : List Record) → Collects rs collected → KeepsAreas rs areas →
+        MatchResult result (AreMapped rs skipped) (StopsBuilding rs) }
 {
     let AreaRecords {
         sides,

@@ -77,7 +77,8 @@ impl Map {
     ghost use Rattle.std.specs.Prelude.{◌≡◌, ℕ, ◌<◌, ◌≤◌, ◌*◌, All, length, map};
     ghost use Rattle.tl_map.specs.Segments.{segments_before, IsSegmentOf, Joins};
     ghost use Rattle.tl_map.specs.Keeping.Numbered.{AreNumberedSegments};
-    ghost use Rattle.tl_map.specs.Darts.{dart_start as dart_start_of, dart_end as dart_end_of, dart_left as dart_left_of, dart_cell as dart_cell_of, Heads};
+    ghost use Rattle.tl_map.specs.Darts.{dart_start as dart_start_of, dart_end as dart_end_of};
+    ghost use Rattle.tl_map.specs.Darts.{dart_left as dart_left_of, dart_cell as dart_cell_of, Heads};
     ghost use Rattle.tl_map.specs.Faults.{most_polygons, most_landmarks};
     ghost use Rattle.tl_map.specs.Chains.{CompleteChain, IsProper};
     ghost use Rattle.tl_map.specs.Keeping.Landmarks.{IsRow, landmark_in};
@@ -182,7 +183,8 @@ impl Map {
     /// A landmark by its number.
     pub fn landmark(&self, l: u32) -> Landmark<'_>
         requires { l < length self.now.landmarks }
-        ensures { slice_get self.now.landmarks l ≡ Some (record { land = result.land; point = result.point; polygons = result.polygons.now }) }
+        ensures { slice_get self.now.landmarks l ≡
+            Some (record { land = result.land; point = result.point; polygons = result.polygons.now }) }
     {
         let row = self.rows[l as usize];
         Landmark {

@@ -3,15 +3,8 @@
 ghost use Rattle.std.specs.Prelude.{◌≡◌, ◌+◌, ◌*◌, ◌<◌, ◌^◌, All, IfOk, OnOk, Option, length};
 ghost use Rattle.std.specs.List.Sorted.{IsPermutation};
 ghost use Rattle.tl_map.specs.Chains.{CompleteChain, IsProper};
-ghost use Rattle.tl_map.specs.Keeping.Noded.{
-  start_in,
-  TellStarts,
-  AreByPoint,
-  AreDarts,
-  AreNumbered,
-  CountsOn,
-  AreNumberedNodes,
-};
+ghost use Rattle.tl_map.specs.Keeping.Noded.{start_in, TellStarts, AreByPoint, AreDarts, AreNumbered, CountsOn};
+ghost use Rattle.tl_map.specs.Keeping.Noded.{AreNumberedNodes};
 
 use crate::chains::{Chains, point_along};
 use std::alloc::{AllocError, Global};
@@ -34,7 +27,8 @@ pub struct DartStart {
 /// The points where the darts of the chains start, by rising dart.
 fn dart_starts(alloc: Global, chains: &Chains) -> Result<Vec<DartStart>, AllocError>
     requires { All (λ (c : CompleteChain). IsProper c.points) chains.now.chains }
-    ensures starts { IfOk result (λ starts. TellStarts (start_in chains.now.chains) (2 * length chains.now.chains) starts.items) }
+    ensures starts { IfOk result (λ starts.
+        TellStarts (start_in chains.now.chains) (2 * length chains.now.chains) starts.items) }
     ensures room { IfOk result (λ starts. length starts.items < 2 ^ 32) }
 {
     let darts = chains.darts();

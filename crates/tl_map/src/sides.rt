@@ -1,12 +1,14 @@
 //! What lies on the sides of chains.
 
-ghost use Rattle.std.specs.Prelude.{◌≡◌, ◌≤◌, ◌==◌, List, IfOk, OnOk, IfErr, MatchOption, MatchResult, map, count_by, All};
+ghost use Rattle.std.specs.Prelude.{◌≡◌, ◌≤◌, ◌==◌, List, IfOk, OnOk, IfErr, MatchOption, MatchResult, map};
+ghost use Rattle.std.specs.Prelude.{count_by, All};
 ghost use Rattle.std.specs.List.Sorted.{IsNonDecreasingBy, IsStrictlyIncreasing, IsPermutation};
 ghost use Rattle.tl_map.specs.declared.entry.SidesEntry.{SidesEntry};
 ghost use Rattle.tl_map.specs.Chains.{tlids};
 ghost use Rattle.tl_record.specs.declared.record.PolyKey.{PolyKey};
 ghost use Rattle.tl_map.specs.Keeping.Index.{Indexes};
-ghost use Rattle.tl_map.specs.Keeping.Sided.{sided_by, IsSide, NamesKnown, StopsSide, StopsSides, sides_tlids, IsUnpaired, ArePaired, StopsPairing};
+ghost use Rattle.tl_map.specs.Keeping.Sided.{sided_by, IsSide, NamesKnown, StopsSide, StopsSides, sides_tlids};
+ghost use Rattle.tl_map.specs.Keeping.Sided.{IsUnpaired, ArePaired, StopsPairing};
 
 use crate::chains::Chains;
 use crate::entry::SidesEntry;
@@ -56,7 +58,8 @@ pub fn resolve_sides(
     index: &BTreeMap<PolyKey, u32>,
     entries: &[SidesEntry],
 ) -> Result<Vec<ChainSides>, MapStop>
-    ensures sides { (ks : List PolyKey) → Indexes ks index.now → IfOk result (λ sides. sides.items ≡ map (sided_by ks) entries.now) }
+    ensures sides { (ks : List PolyKey) → Indexes ks index.now →
+        IfOk result (λ sides. sides.items ≡ map (sided_by ks) entries.now) }
     ensures known { (ks : List PolyKey) → Indexes ks index.now → OnOk result (All (NamesKnown ks) entries.now) }
     ensures stops { (ks : List PolyKey) → Indexes ks index.now → IfErr result (StopsSides ks entries.now) }
 {
@@ -86,7 +89,8 @@ fn sort_sides(sides: &mut Vec<SidesEntry>) -> Result<(), AllocError>
 /// A TLID that two type I records have, in records sorted by TLID.
 fn repeated_sides(sides: &[SidesEntry]) -> Option<u64>
     requires { IsNonDecreasingBy (λ (s : SidesEntry). s.tlid) sides.now }
-    ensures { MatchOption result (IsStrictlyIncreasing (sides_tlids sides.now)) (λ t. 2 ≤ count_by (λ s. s.tlid == t) sides.now) }
+    ensures { MatchOption result (IsStrictlyIncreasing (sides_tlids sides.now))
+        (λ t. 2 ≤ count_by (λ s. s.tlid == t) sides.now) }
 {
     let mut previous = None;
     for entry in sides {
@@ -102,7 +106,8 @@ fn repeated_sides(sides: &[SidesEntry]) -> Option<u64>
 fn unpaired(chains: &Chains, sides: &[SidesEntry]) -> Option<MapFault>
     requires chains { IsStrictlyIncreasing (tlids chains.now.chains) }
     requires sides { IsStrictlyIncreasing (sides_tlids sides.now) }
-    ensures { MatchOption result (sides_tlids sides.now ≡ tlids chains.now.chains) (IsUnpaired (tlids chains.now.chains) (sides_tlids sides.now)) }
+    ensures { MatchOption result (sides_tlids sides.now ≡ tlids chains.now.chains)
+        (IsUnpaired (tlids chains.now.chains) (sides_tlids sides.now)) }
 {
     let count = chains.len();
     for c in 0..count {
@@ -128,7 +133,8 @@ fn unpaired(chains: &Chains, sides: &[SidesEntry]) -> Option<MapFault>
 /// The type I record of each chain, in the order of the chains, which rise by TLID.
 pub fn pair_sides(chains: &Chains, mut sides: Vec<SidesEntry>) -> Result<Vec<SidesEntry>, MapStop>
     requires { IsStrictlyIncreasing (tlids chains.now.chains) }
-    ensures { MatchResult result (λ made. ArePaired (tlids chains.now.chains) sides.items made.items) (StopsPairing (tlids chains.now.chains) sides.items) }
+    ensures { MatchResult result (λ made. ArePaired (tlids chains.now.chains) sides.items made.items)
+        (StopsPairing (tlids chains.now.chains) sides.items) }
 {
     sort_sides(&mut sides)?;
     if let Some(tlid) = repeated_sides(&sides) {
