@@ -44,7 +44,9 @@ pub fn build_map(
     let paired = pair_sides(&chains, sides)?;
     let index = index_polygons(alloc, &polygons)?;
     let sides = resolve_sides(alloc, &index, &paired)?;
+    drop(paired);
     let linked = build_landmarks(alloc, &index, polygons.len(), &landmarks, &links)?;
+    drop(index);
     let segments = number_segments(alloc, &chains)?;
     let nodes = number_nodes(alloc, &chains)?;
     Ok(Map::new(chains, sides, polygons, linked, segments, nodes))

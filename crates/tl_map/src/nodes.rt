@@ -1,6 +1,6 @@
 //! The numbers of nodes.
 
-ghost use Rattle.std.specs.Prelude.{◌≡◌, ◌+◌, ◌*◌, ◌<◌, ◌^◌, All, IfOk, OnOk, Option, length};
+ghost use Rattle.std.specs.Prelude.{◌≡◌, ◌+◌, ◌*◌, ◌<◌, ◌^◌, All, IfOk, Option, length};
 ghost use Rattle.std.specs.List.Sorted.{IsPermutation};
 ghost use Rattle.tl_map.specs.Chains.{CompleteChain, IsProper};
 ghost use Rattle.tl_map.specs.Keeping.Noded.{start_in, TellStarts, AreByPoint, AreDarts, AreNumbered, CountsOn};
@@ -40,13 +40,12 @@ fn dart_starts(alloc: Global, chains: &Chains) -> Result<Vec<DartStart>, AllocEr
     Ok(starts)
 }
 
-/// Sorts the starts of darts by point.
-fn sort_starts(starts: &mut Vec<DartStart>) -> Result<(), AllocError>
-    ensures ordered { OnOk result (AreByPoint starts.new.items) }
-    ensures moved { OnOk result (IsPermutation starts.old.items starts.new.items) }
+/// Sorts the starts of darts by point, in place.
+fn sort_starts(starts: &mut Vec<DartStart>)
+    ensures ordered { AreByPoint starts.new.items }
+    ensures moved { IsPermutation starts.old.items starts.new.items }
 {
-    starts.sort_by_key(|start| start.point)?;
-    Ok(())
+    starts.sort_unstable_by_key(|start| start.point);
 }
 
 /// How many points there are with one more, in a list where equal ones stand together.
@@ -86,7 +85,7 @@ pub fn number_nodes(alloc: Global, chains: &Chains) -> Result<Nodes, AllocError>
     ensures { IfOk result (AreNumberedNodes chains.now.chains) }
 {
     let mut starts = dart_starts(alloc, chains)?;
-    sort_starts(&mut starts)?;
+    sort_starts(&mut starts);
     let nodes = number_starts(alloc, &starts)?;
     Ok(nodes)
 }

@@ -5,4 +5,4 @@ use Rattle.tl_map.proofs.nodes.sort_starts.Goals as goal
 
 pub returns-clause-ordered : goal.returns-clause-ordered
 returns-clause-ordered c =
-    c.in_ok-sort_by_key.ensures.sorted (λ (x : DartStart). x.point) (always_returns_same _ (λ a r. r ≡ a.0.now.point) _ (λ a r q k. search rules))
+    c.sort_unstable_by_key.ensures.sorted (λ (x : DartStart). x.point) (always_returns_same _ (λ a r. r ≡ a.0.now.point) _ (λ a r q k. search rules))
