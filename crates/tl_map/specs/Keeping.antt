@@ -11,3 +11,4 @@ pub mod Landmarks
 pub mod Mapped
 pub mod Numbered
 pub mod Noded
+pub mod Kept

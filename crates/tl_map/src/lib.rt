@@ -15,6 +15,7 @@ mod collect;
 mod entry;
 mod fault;
 mod join;
+mod kept;
 mod landmarks;
 pub mod laws;
 mod map;

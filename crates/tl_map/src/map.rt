@@ -5,11 +5,12 @@ ghost use Rattle.tl_geom.specs.Plane.{end_a, end_b};
 ghost use Rattle.tl_map.specs.TheMap.{IsChain};
 
 use crate::chains::{Chains, point_along};
+use crate::kept::KeptChainSides;
 use crate::landmarks::{LandmarkRow, LinkedLandmarks};
 use crate::nodes::Nodes;
 use crate::polygons::Polygon;
 use crate::segments::Segments;
-use crate::sides::{ChainSides, Side};
+use crate::sides::Side;
 use std::marker::Model;
 use tl_geom::{Direction, Point, Segment};
 
@@ -18,7 +19,7 @@ use tl_geom::{Direction, Point, Segment};
 #[derive(Drop)]
 pub struct Map {
     chains: Chains,
-    sides: Vec<ChainSides>,
+    sides: Vec<KeptChainSides>,
     polygons: Vec<Polygon>,
     rows: Vec<LandmarkRow>,
     linked: Vec<u32>,
@@ -91,7 +92,7 @@ impl Map {
     /// The map of these chains, their sides, the polygons and the landmarks.
     pub(crate) fn new(
         chains: Chains,
-        sides: Vec<ChainSides>,
+        sides: Vec<KeptChainSides>,
         polygons: Vec<Polygon>,
         landmarks: LinkedLandmarks,
         segments: Segments,
@@ -163,7 +164,7 @@ impl Map {
         ensures chain { IsChain (slice_get self.now.chains c) result.tlid result.points.now result.left result.right }
         ensures points { IsProper result.points.now }
     {
-        let sides = self.sides[c as usize];
+        let sides = self.sides[c as usize].whole();
         Chain {
             tlid: self.chains.tlid(c),
             points: self.chains.points(c),
@@ -271,7 +272,7 @@ impl Map {
         requires { d < 2 * length self.now.chains }
         ensures { dart_cell_of self.now.chains d ≡ Some result }
     {
-        let sides = self.sides[(d / 2) as usize];
+        let sides = self.sides[(d / 2) as usize].whole();
         if d % 2 == 0 {
             sides.start_cell
         } else {
