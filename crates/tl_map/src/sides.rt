@@ -13,7 +13,7 @@ ghost use Rattle.tl_map.specs.Keeping.Sided.{IsUnpaired, ArePaired, StopsPairing
 use crate::chains::Chains;
 use crate::fault::{MapFault, MapStop};
 use crate::kept::{KeptChainSides, KeptSides};
-use std::alloc::{AllocError, Global};
+use std::alloc::Global;
 use std::collections::BTreeMap;
 use tl_record::PolyKey;
 
@@ -78,13 +78,12 @@ pub fn resolve_sides(
     Ok(sides)
 }
 
-/// Sorts type I records by TLID.
-fn sort_sides(sides: &mut Vec<KeptSides>) -> Result<(), AllocError>
-    ensures ordered { OnOk result (IsNonDecreasingBy (λ (s : SidesEntry). s.tlid) sides.new.items) }
-    ensures moved { OnOk result (IsPermutation sides.old.items sides.new.items) }
+/// Sorts type I records by TLID, in place.
+fn sort_sides(sides: &mut Vec<KeptSides>)
+    ensures ordered { IsNonDecreasingBy (λ (s : SidesEntry). s.tlid) sides.new.items }
+    ensures moved { IsPermutation sides.old.items sides.new.items }
 {
-    sides.sort_by_key(|kept| kept.tlid())?;
-    Ok(())
+    sides.sort_unstable_by_key(|kept| kept.tlid());
 }
 
 /// A TLID that two type I records have, in records sorted by TLID.
@@ -147,7 +146,7 @@ pub fn pair_sides(chains: &Chains, mut sides: Vec<KeptSides>) -> Result<Vec<Kept
     ensures { MatchResult result (λ made. ArePaired (tlids chains.now.chains) sides.items made.items)
         (StopsPairing (tlids chains.now.chains) sides.items) }
 {
-    sort_sides(&mut sides)?;
+    sort_sides(&mut sides);
     if let Some(tlid) = repeated_sides(&sides) {
         return Err(MapStop::Fault(MapFault::DuplicateSides { tlid }));
     }

@@ -1,3 +1,4 @@
+-- Kept on the way: options as a part and whether it is there.
 use Rattle.std.specs.Prelude.{ℕ, Bool, true, false, if◌then◌else◌, Option, Some, None}
 use Rattle.tl_map.specs.declared.sides.Side.{Side}
 use Rattle.tl_map.specs.declared.sides.Side.TheVariants.{Outside, Polygon}

@@ -1,3 +1,4 @@
+-- Kept on the way: the starts of darts by point, and the numbers of nodes.
 use Rattle.std.specs.Prelude.{◌≡◌, ℕ, ◌+◌, ◌*◌, ◌/◌, ◌<◌, ◌⊎◌, ◌≢◌, Option, Some, List, length, map, slice_get, slice_index, slice_index_or, All, Contains}
 use Rattle.std.specs.List.{AllPairs}
 use Rattle.std.specs.List.Sorted.{IsSortedBy}

@@ -1,4 +1,4 @@
-use Rattle.std.proofs.Common.{◌≡◌, ◌*◌, ◌/◌, ◌<◌, length, refl, arith}
+use Rattle.std.proofs.Common.{◌≡◌, ◌*◌, ◌/◌, length, refl, arith}
 use Rattle.tl_map.specs.Keeping.Noded.{start_in}
 use Rattle.tl_map.proofs.NumberLemmas.{several_told}
 use Rattle.tl_map.proofs.NodeLemmas.{start_told, told_more, told_whole}

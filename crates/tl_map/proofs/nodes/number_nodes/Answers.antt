@@ -1,6 +1,6 @@
-use Rattle.std.proofs.Common.{◌*◌, ◌<◌, ◌^◌, length, arith}
+use Rattle.std.proofs.Common.{◌*◌, length}
 use Rattle.std.proofs.lemmas.List.Sorted.{length_permutation}
-use Rattle.tl_map.specs.Keeping.Noded.{start_in, TellStarts}
+use Rattle.tl_map.specs.Keeping.Noded.{start_in}
 use Rattle.tl_map.proofs.NodeLemmas.{starts_moved, darts_told}
 use Rattle.tl_map.proofs.NumberingLemmas.{numbered_nodes}
 use Rattle.tl_map.proofs.nodes.number_nodes.Goals as goal

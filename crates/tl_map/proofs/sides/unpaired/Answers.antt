@@ -1,4 +1,4 @@
-use Rattle.std.proofs.Common.{◌≡◌, ◌<◌, List, length, get_or, sym, refl, inl, inr, arith}
+use Rattle.std.proofs.Common.{◌≡◌, ◌<◌, List, length, sym, refl, inl, inr, arith}
 use Rattle.std.proofs.lemmas.List.{length-map}
 use Rattle.tl_map.specs.declared.entry.SidesEntry.{SidesEntry}
 use Rattle.tl_map.specs.Chains.{CompleteChain, tlids}

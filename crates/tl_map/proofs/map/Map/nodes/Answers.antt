@@ -1,5 +1,4 @@
 use Rattle.std.proofs.Common.{ℕ}
-use Rattle.tl_map.specs.Darts.{dart_start}
 use Rattle.tl_map.specs.Keeping.Noded.{start_in}
 use Rattle.tl_map.proofs.NodeLemmas.{starts_alike, start_sided}
 use Rattle.tl_map.proofs.map.Map.nodes.Goals as goal
