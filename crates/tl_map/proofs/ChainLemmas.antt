@@ -12,13 +12,9 @@ use Rattle.tl_record.specs.declared.record.Record.TheVariants.{Chain, Shape}
 use Rattle.tl_map.specs.declared.entry.ChainEntry.{ChainEntry}
 use Rattle.tl_map.specs.declared.entry.ShapeEntry.{ShapeEntry}
 use Rattle.tl_map.specs.declared.fault.TheConstants.{CHAIN_LIMIT, SEGMENT_LIMIT}
-use Rattle.tl_map.specs.declared.fault.Limited.{Limited}
-use Rattle.tl_map.specs.declared.fault.Limited.TheVariants.{Chains, Segments}
-use Rattle.tl_map.specs.declared.fault.MapFault.TheVariants.{DuplicateChain, ShapeWithoutChain, ShapeSequence, ShapeGap, DegenerateChain, TooMany}
 use Rattle.tl_map.specs.declared.fault.MapStop.{MapStop}
-use Rattle.tl_map.specs.declared.fault.MapStop.TheVariants.{Refused, Device, Memory, Fault}
 use Rattle.tl_map.specs.Chains.{is_chain, shape_count, pairs_up_to, pairs_of, used, same_point, points_between, segments_by, segments_of, CompleteChain, ChainList, tlids, segment_count, IsDrawn, AreChainsOf, IsProper}
-use Rattle.tl_map.specs.Faults.{IsStray, IsDegenerate, AreJoined, IsTrueOf, HaveNoChainFault}
+use Rattle.tl_map.specs.Faults.{IsStray, IsDegenerate, AreJoined, HaveNoChainFault}
 use Rattle.tl_map.specs.Keeping.Entries.{by_chain, AreChainEntries, entry_points, AreShapeEntries, chains_with, AreRising, has_tlid, shapes_with, ArePlaced, joined}
 use Rattle.tl_map.specs.Keeping.Rows.{StopsJoin}
 use Rattle.tl_map.specs.Keeping.Built.{AreSound, AreBuilt, StopsBuilding}

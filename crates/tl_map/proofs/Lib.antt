@@ -23,3 +23,5 @@ pub mod ProperLemmas
 pub mod NumberLemmas
 pub mod SegmentLemmas
 pub mod OneMapLemmas
+pub mod NodeLemmas
+pub mod NumberingLemmas

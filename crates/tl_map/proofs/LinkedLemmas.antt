@@ -1,4 +1,4 @@
-use Rattle.std.proofs.Common.{◌≡◌, ℕ, zero, suc, ◌+◌, ◌<◌, ◌≤◌, Bool, true, false, cond, eqb, inl, inr, Option, Some, None, List, [], ◌∷◌, length, map, filter, get_or, All, Contains, refl, sym, ap, ◌∙◌, arith}
+use Rattle.std.proofs.Common.{◌≡◌, ℕ, suc, ◌+◌, ◌<◌, eqb, inl, inr, Option, Some, List, [], ◌∷◌, length, map, filter, get_or, All, refl, ap, ◌∙◌, arith}
 use Rattle.std.specs.Prelude.{slice_get}
 use Rattle.std.proofs.lemmas.Bool.{cases_eq, eq-eqb, ne_eqb}
 use Rattle.std.proofs.lemmas.Option.{slice_get_within}
@@ -10,9 +10,9 @@ use Rattle.tl_map.specs.declared.landmarks.Link.{Link}
 use Rattle.tl_map.specs.declared.landmarks.FirstLandmarks.{FirstLandmarks}
 use Rattle.tl_map.specs.declared.landmarks.LinkedLandmarks.{LinkedLandmarks}
 use Rattle.tl_map.specs.declared.fault.MapStop.{MapStop}
-use Rattle.tl_map.specs.TheMap.{firsts, place_of, linked_to}
+use Rattle.tl_map.specs.TheMap.{firsts, place_of}
 use Rattle.tl_map.specs.Keeping.Index.{Numbers}
-use Rattle.tl_map.specs.Keeping.Landmarks.{lands, ListsLandmarks, IsLink, AreLinks, AreAllLinks, StopsLink, StopsLinks, StopsLinking, links_to, AreByLandmark, landmark_with, listed, IsLinked, landmark_from, AreLinked}
+use Rattle.tl_map.specs.Keeping.Landmarks.{lands, ListsLandmarks, IsLink, AreAllLinks, StopsLinks, StopsLinking, links_to, AreByLandmark, landmark_with, listed, IsLinked, landmark_from, AreLinked}
 use Rattle.tl_map.proofs.IndexLemmas.{contained}
 
 -- the links of the l-th LAND, by numbers and by keys

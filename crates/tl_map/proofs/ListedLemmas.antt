@@ -1,14 +1,13 @@
-use Rattle.std.proofs.Common.{◌≡◌, ◌≢◌, ℕ, suc, ◌+◌, ◌-◌, ◌<◌, ◌≤◌, eqb, inl, inr, List, [], ◌∷◌, ◌++◌, length, map, take, drop, filter, get_or, All, refl, sym, ap, ◌∙◌, arith}
+use Rattle.std.proofs.Common.{◌≡◌, ◌≢◌, ℕ, suc, ◌+◌, ◌-◌, ◌<◌, ◌≤◌, eqb, List, [], ◌∷◌, ◌++◌, length, map, take, drop, get_or, All, refl, sym, ap, ◌∙◌, arith}
 use Rattle.std.specs.List.Sorted.{IsNonDecreasingBy}
-use Rattle.std.proofs.lemmas.Bool.{cases_lt, eq-eqb, ne_eqb}
-use Rattle.std.proofs.lemmas.List.{append_assoc, append-nil, at_drop_more, at_drop_all, drop-append-le, take-append-le, drop_at, take_all, map_push, length-append, length-drop, length_push, get_or-take, get_or-drop, length-take-le}
-use Rattle.std.proofs.lemmas.List.Elements.{All-nil, All-push, All-weaker}
-use Rattle.tl_geom.specs.declared.point.Point.{Point}
+use Rattle.std.proofs.lemmas.Bool.{eq-eqb, ne_eqb}
+use Rattle.std.proofs.lemmas.List.{append_assoc, append-nil, at_drop_more, at_drop_all, drop-append-le, take-append-le, drop_at, take_all, map_push, length-append, length-drop, get_or-take, get_or-drop, length-take-le}
+use Rattle.std.proofs.lemmas.List.Elements.{All-push, All-weaker}
 use Rattle.tl_map.specs.declared.entry.LandmarkEntry.{LandmarkEntry}
 use Rattle.tl_map.specs.declared.landmarks.Link.{Link}
 use Rattle.tl_map.specs.declared.landmarks.LandmarkRow.{LandmarkRow}
-use Rattle.tl_map.specs.TheMap.{firsts, MapLandmark}
-use Rattle.tl_map.specs.Keeping.Landmarks.{links_to, landmark_with, listed, IsRow, landmark_in, IsLinked}
+use Rattle.tl_map.specs.TheMap.{firsts}
+use Rattle.tl_map.specs.Keeping.Landmarks.{links_to, landmark_with, listed, IsRow, landmark_in}
 use Rattle.tl_map.proofs.JoinLemmas.{filter_part}
 
 -- the links of landmark l stand from s to e

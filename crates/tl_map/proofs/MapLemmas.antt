@@ -1,10 +1,10 @@
-use Rattle.std.proofs.Common.{◌≡◌, ℕ, zero, suc, ◌+◌, ◌<◌, ◌≤◌, Option, Some, None, List, [], ◌∷◌, length, map, get_or, All, Contains, refl, sym, ap, ◌∙◌, arith}
+use Rattle.std.proofs.Common.{◌≡◌, ℕ, zero, suc, ◌<◌, Some, None, List, [], ◌∷◌, length, map, get_or, All, refl, sym, ap, ◌∙◌, arith}
 use Rattle.std.specs.Prelude.{slice_get}
 use Rattle.std.proofs.lemmas.Option.{slice_get-get_or}
 use Rattle.tl_geom.specs.declared.point.Point.{Point}
 use Rattle.tl_map.specs.declared.sides.ChainSides.{ChainSides}
 use Rattle.tl_map.specs.Chains.{CompleteChain, tlids, IsProper}
-use Rattle.tl_map.specs.TheMap.{MapChain, IsChain}
+use Rattle.tl_map.specs.TheMap.{IsChain}
 use Rattle.tl_map.specs.Keeping.Mapped.{with_sides, sided}
 use Rattle.tl_map.proofs.IndexLemmas.{slice_get-image}
 

@@ -1,15 +1,11 @@
-use Rattle.std.proofs.Common.{◌≡◌, ◌≢◌, ℕ, zero, suc, ◌+◌, ◌<◌, ◌≤◌, Bool, true, false, cond, eqb, inl, inr, Option, Some, None, List, [], ◌∷◌, length, drop, map, get_or, count_by, All, Contains, refl, sym, ap, ◌∙◌, arith}
-use Rattle.std.specs.Prelude.{Any, slice_get}
-use Rattle.std.specs.BTreeMap.{get}
-use Rattle.std.specs.List.Sorted.{IsStrictlyIncreasing, IsPermutation}
-use Rattle.std.proofs.lemmas.Bool.{eq-eqb, ne_eqb, eqb-true}
+use Rattle.std.proofs.Common.{◌≡◌, ℕ, zero, suc, ◌+◌, ◌<◌, ◌≤◌, Bool, true, false, cond, eqb, inl, inr, Option, List, [], ◌∷◌, length, drop, map, get_or, count_by, All, Contains, refl, sym, ap, ◌∙◌, arith}
+use Rattle.std.specs.Prelude.{Any}
+use Rattle.std.proofs.lemmas.Bool.{ne_eqb, eqb-true}
 use Rattle.std.proofs.lemmas.List.{get_or_default, length-map, get_or-map}
 use Rattle.std.proofs.lemmas.List.Sums.{sum_by-cons}
 use Rattle.std.proofs.lemmas.List.Sorted.{IsPermutation-map, IsPermutation-sym, Contains-permutation, All-permutation, sum_by-IsPermutation}
-use Rattle.tl_geom.specs.declared.point.Point.{Point}
 use Rattle.tl_record.specs.declared.record.PolyKey.{PolyKey}
 use Rattle.tl_record.specs.declared.record.Record.{Record}
-use Rattle.tl_record.specs.declared.record.Record.TheVariants.{Chain}
 use Rattle.tl_map.specs.declared.areas.AreaRecords.{AreaRecords}
 use Rattle.tl_map.specs.declared.entry.SidesEntry.{SidesEntry}
 use Rattle.tl_map.specs.declared.entry.LandmarkEntry.{LandmarkEntry}
@@ -18,16 +14,15 @@ use Rattle.tl_map.specs.declared.polygons.Polygon.{Polygon}
 use Rattle.tl_map.specs.declared.sides.ChainSides.{ChainSides}
 use Rattle.tl_map.specs.declared.landmarks.LinkedLandmarks.{LinkedLandmarks}
 use Rattle.tl_map.specs.declared.fault.Limited.TheVariants.{Chains, Segments, Polygons, Landmarks}
-use Rattle.tl_map.specs.declared.fault.MapFault.{MapFault}
 use Rattle.tl_map.specs.declared.fault.MapFault.TheVariants.{DuplicateChain, ShapeWithoutChain, ShapeSequence, ShapeGap, ChainWithoutSides, SidesWithoutChain, DuplicateSides, DuplicatePolygon, SideWithoutPolygon, LinkWithoutLandmark, LinkWithoutPolygon, DegenerateChain, TooMany}
 use Rattle.tl_map.specs.declared.fault.MapStop.{MapStop}
 use Rattle.tl_map.specs.Chains.{CompleteChain, ChainList, tlids, IsDrawn, AreChainsOf}
-use Rattle.tl_map.specs.TheMap.{sides_in, polygons_in, landmarks_in, links_in, keys, MapChain, TheMap, without_sides, IsSided, IsMapOf, firsts}
-use Rattle.tl_map.specs.Faults.{HasChain, HasSides, HaveNoFault, IsTrueOf, most_polygons, most_landmarks}
+use Rattle.tl_map.specs.TheMap.{sides_in, polygons_in, landmarks_in, links_in, keys, without_sides, IsSided, firsts}
+use Rattle.tl_map.specs.Faults.{HasChain, HaveNoFault, most_polygons, most_landmarks}
 use Rattle.tl_map.specs.Keeping.Areas.{KeepsAreas}
 use Rattle.tl_map.specs.Keeping.Built.{AreBuilt, StopsBuilding}
-use Rattle.tl_map.specs.Keeping.Index.{Numbers, Indexes, key_cmp, StopsIndex}
-use Rattle.tl_map.specs.Keeping.Sided.{sided_by, NamesKnown, sides_tlids, IsUnpaired, ArePaired, StopsPairing, StopsSides}
+use Rattle.tl_map.specs.Keeping.Index.{Numbers, StopsIndex}
+use Rattle.tl_map.specs.Keeping.Sided.{sided_by, NamesKnown, sides_tlids, ArePaired, StopsPairing, StopsSides}
 use Rattle.tl_map.specs.Keeping.Landmarks.{landmark_in, landmark_from, AreLinked, StopsLinking}
 use Rattle.tl_map.specs.Keeping.Mapped.{sided, AreMapped}
 use Rattle.tl_map.proofs.CountLemmas.{none_counted}

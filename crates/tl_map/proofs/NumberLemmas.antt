@@ -1,12 +1,12 @@
-use Rattle.std.proofs.Common.{◌≡◌, ℕ, ◌+◌, ◌-◌, ◌<◌, ◌≤◌, inl, inr, Option, Some, List, [], ◌∷◌, ◌++◌, length, take, map, get_or, All, refl, sym, ap, ◌∙◌, subst, arith}
+use Rattle.std.proofs.Common.{◌≡◌, ℕ, ◌+◌, ◌-◌, ◌<◌, ◌≤◌, inl, inr, Some, List, [], ◌∷◌, ◌++◌, length, map, get_or, All, ap, ◌∙◌, arith}
 use Rattle.std.specs.Prelude.{slice_get}
 use Rattle.std.proofs.lemmas.Bool.{cases_lt}
 use Rattle.std.proofs.Math.Seq.{get_or-append_seam}
 use Rattle.std.proofs.lemmas.List.{get_or_append_left, get_or_default, length_push}
 use Rattle.std.proofs.lemmas.List.Sums.{sum_by_more}
 use Rattle.tl_geom.specs.declared.point.Point.{Point}
-use Rattle.tl_map.specs.Chains.{CompleteChain, IsProper, segment_count}
-use Rattle.tl_map.specs.Keeping.Numbered.{IsNumber, NumberUpTo}
+use Rattle.tl_map.specs.Chains.{CompleteChain, IsProper}
+use Rattle.tl_map.specs.Keeping.Numbered.{NumberUpTo}
 use Rattle.tl_map.proofs.IndexLemmas.{slice_get-image}
 
 -- the segments of one chain more

@@ -1,4 +1,4 @@
-use Rattle.std.proofs.Common.{◌≡◌, ◌≢◌, ℕ, zero, suc, ◌+◌, ◌-◌, ◌<◌, ◌≤◌, Option, Some, None, List, [], ◌∷◌, length, take, map, get_or, sum_by, All, refl, sym, ap, ◌∙◌, arith}
+use Rattle.std.proofs.Common.{◌≡◌, ℕ, zero, suc, ◌+◌, ◌-◌, ◌<◌, Some, None, List, [], ◌∷◌, length, take, map, get_or, refl, sym, ap, ◌∙◌, arith}
 use Rattle.std.specs.Prelude.{slice_get}
 use Rattle.std.proofs.lemmas.Option.{slice_get-get_or}
 use Rattle.std.proofs.lemmas.List.{get_or_default, take_all}
@@ -8,7 +8,7 @@ use Rattle.tl_geom.specs.declared.segment.Segment.{Segment}
 use Rattle.tl_geom.specs.Plane.{end_a, end_b}
 use Rattle.tl_map.specs.declared.sides.ChainSides.{ChainSides}
 use Rattle.tl_map.specs.declared.sides.Side.TheVariants.{Outside}
-use Rattle.tl_map.specs.Chains.{CompleteChain, IsProper, segment_count}
+use Rattle.tl_map.specs.Chains.{CompleteChain, segment_count}
 use Rattle.tl_map.specs.TheMap.{MapChain}
 use Rattle.tl_map.specs.Segments.{segments_before, IsSegmentOf, Joins}
 use Rattle.tl_map.specs.Keeping.Mapped.{with_sides, sided}

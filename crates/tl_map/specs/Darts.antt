@@ -1,5 +1,5 @@
 -- The darts of a map's chains: dart 2c runs along chain c, dart 2c + 1 against it.
-use Rattle.std.specs.Prelude.{◌≡◌, ◌≢◌, ℕ, ◌+◌, ◌-◌, ◌*◌, ◌/◌, ◌%◌, ◌<◌, ◌≤◌, ◌==◌, Bool, not, ◌-ℤ◌, if◌then◌else◌, Option, Some, List, length, reverse, slice_get, slice_index_or}
+use Rattle.std.specs.Prelude.{◌≡◌, ℕ, ◌+◌, ◌-◌, ◌/◌, ◌%◌, ◌==◌, Bool, not, ◌-ℤ◌, if◌then◌else◌, Option, Some, List, reverse, slice_get}
 use Rattle.std.specs.Option.{option_map, option_and_then}
 use Rattle.tl_geom.specs.declared.point.Point.{Point}
 use Rattle.tl_geom.specs.declared.direction.Direction.{Direction}

@@ -10,3 +10,5 @@ pub mod Areas
 pub mod Landmarks
 pub mod Mapped
 pub mod Numbered
+pub mod Noded
+pub mod Kept

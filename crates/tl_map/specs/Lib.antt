@@ -1,6 +1,7 @@
 pub mod Chains
 pub mod TheMap
 pub mod Darts
+pub mod Nodes
 pub mod Segments
 pub mod Faults
 pub mod Messages

@@ -1,6 +1,7 @@
 //! Keeps the records of sides, polygons, landmarks and links until all of them are read.
 
 use crate::entry::{LandmarkEntry, LinkEntry, SidesEntry};
+use crate::kept::KeptSides;
 use crate::polygons::Polygon;
 use std::alloc::{AllocError, Global};
 use tl_record::Record;
@@ -8,7 +9,7 @@ use tl_record::Record;
 /// The type I, P, 7 and 8 records read so far, each in file order.
 #[derive(Drop)]
 pub struct AreaRecords {
-    pub sides: Vec<SidesEntry>,
+    pub sides: Vec<KeptSides>,
     pub polygons: Vec<Polygon>,
     pub landmarks: Vec<LandmarkEntry>,
     pub links: Vec<LinkEntry>,
@@ -33,7 +34,8 @@ impl AreaRecords {
 
     /// Keeps one more record.
     pub fn add(&mut self, next: &Record) -> Result<(), AllocError>
-        ensures { (rs : List Record) → KeepsAreas rs self.old → OnOk result (KeepsAreas (rs ++ next.now ∷ []) self.new) }
+        ensures { (rs : List Record) → KeepsAreas rs self.old →
+            OnOk result (KeepsAreas (rs ++ next.now ∷ []) self.new) }
     {
         match next {
             Record::Sides {
@@ -43,13 +45,13 @@ impl AreaRecords {
                 left,
                 right,
             } => {
-                self.sides.push(SidesEntry {
+                self.sides.push(KeptSides::new(SidesEntry {
                     tlid: *tlid,
                     start_cell: *start_cell,
                     end_cell: *end_cell,
                     left: *left,
                     right: *right,
-                })?;
+                }))?;
                 Ok(())
             }
             Record::PolyPoint { key, point } => {

@@ -23,7 +23,8 @@ use std::alloc::Global;
 fn first_fault(chains: &[ChainEntry], shapes: &[ShapeEntry]) -> Option<MapFault>
     requires chains { IsNonDecreasingBy (λ (c : ChainEntry). c.tlid) chains.now }
     requires shapes { AreInOrder shapes.now }
-    ensures { (rs : List Record) (pool : List Point) → AreChainEntries rs chains.now → AreShapeEntries rs pool shapes.now → MatchOption result (AreSound rs chains.now shapes.now) (IsTrueOf rs) }
+    ensures { (rs : List Record) (pool : List Point) → AreChainEntries rs chains.now →
+        AreShapeEntries rs pool shapes.now → MatchOption result (AreSound rs chains.now shapes.now) (IsTrueOf rs) }
 {
     if let Some(tlid) = repeated_tlid(chains) {
         return Some(MapFault::DuplicateChain { tlid });

@@ -13,6 +13,7 @@ use crate::collect::Collected;
 use crate::fault::{Limited, MapFault, MapStop, POLYGON_LIMIT};
 use crate::landmarks::build_landmarks;
 use crate::map::Map;
+use crate::nodes::number_nodes;
 use crate::polygons::index_polygons;
 use crate::segments::number_segments;
 use crate::sides::{pair_sides, resolve_sides};
@@ -27,7 +28,8 @@ pub fn build_map(
 ) -> Result<Map, MapStop>
     // It has collected some records.
     requires { (rs : List Record) × Collects rs collected × KeepsAreas rs areas }
-    ensures { (rs : List Record) → Collects rs collected → KeepsAreas rs areas → MatchResult result (AreMapped rs skipped) (StopsBuilding rs) }
+    ensures { (rs : List Record) → Collects rs collected → KeepsAreas rs areas →
+        MatchResult result (AreMapped rs skipped) (StopsBuilding rs) }
 {
     let AreaRecords {
         sides,
@@ -42,7 +44,10 @@ pub fn build_map(
     let paired = pair_sides(&chains, sides)?;
     let index = index_polygons(alloc, &polygons)?;
     let sides = resolve_sides(alloc, &index, &paired)?;
+    drop(paired);
     let linked = build_landmarks(alloc, &index, polygons.len(), &landmarks, &links)?;
+    drop(index);
     let segments = number_segments(alloc, &chains)?;
-    Ok(Map::new(chains, sides, polygons, linked, segments))
+    let nodes = number_nodes(alloc, &chains)?;
+    Ok(Map::new(chains, sides, polygons, linked, segments, nodes))
 }

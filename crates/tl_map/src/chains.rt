@@ -1,7 +1,8 @@
 //! Chains with their points.
 
-ghost use Rattle.std.specs.Prelude.{◌≡◌, ℕ, ◌<◌, List, length, map, slice_get, Some};
+ghost use Rattle.std.specs.Prelude.{◌≡◌, ℕ, ◌*◌, ◌<◌, List, length, map, slice_get, Some};
 ghost use Rattle.tl_map.specs.Chains.{tlids, segment_count};
+ghost use Rattle.tl_map.specs.Darts.{directed};
 
 use std::marker::Model;
 use tl_geom::Point;
@@ -25,7 +26,7 @@ pub struct Chains {
 }
 
 impl Model for Chains {
-    ghost use Rattle.std.specs.Prelude.{◌≡◌, ◌<◌, ◌^◌, All, length};
+    ghost use Rattle.std.specs.Prelude.{◌≡◌, ◌≤◌, All, length};
     ghost use Rattle.tl_map.specs.Chains.{ChainList, segment_count};
 
     ghost Value = { ChainList };
@@ -34,7 +35,11 @@ impl Model for Chains {
 
     ghost view = { λ c. record { chains = chains_in c.points.items c.rows.items; skipped = c.skipped } };
 
-    ghost invariant = { λ c. (length c.rows.items < 2 ^ 32) × All (IsWithin c.points.items) c.rows.items × (c.segments ≡ segment_count (chains_in c.points.items c.rows.items)) };
+    ghost use Rattle.tl_map.specs.declared.fault.TheConstants.{CHAIN_LIMIT};
+
+    ghost invariant = { λ c. (length c.rows.items ≤ CHAIN_LIMIT)
+        × All (IsWithin c.points.items) c.rows.items
+        × (c.segments ≡ segment_count (chains_in c.points.items c.rows.items)) };
 }
 
 impl Chains {
@@ -90,10 +95,29 @@ impl Chains {
         self.segments
     }
 
+    /// How many darts there are: two of each chain.
+    pub(crate) fn darts(&self) -> u32
+        ensures { result ≡ 2 * length self.now.chains }
+    {
+        self.rows.len() as u32 * 2
+    }
+
     /// How many lines were passed over.
     pub fn skipped(&self) -> u64
         ensures { result ≡ self.now.skipped }
     {
         self.skipped
+    }
+}
+
+/// A point of a chain by its place, counted from the first point or from the last.
+pub fn point_along(points: &[Point], forward: bool, place: usize) -> Point
+    requires { place < length points.now }
+    ensures { slice_get (directed forward points.now) place ≡ Some result }
+{
+    if forward {
+        points[place]
+    } else {
+        points[points.len() - 1 - place]
     }
 }

@@ -78,7 +78,8 @@ fn add_shape(
     rtsq: u16,
     pairs: &[Option<Point>; PAIRS],
 ) -> Result<(), AllocError>
-    ensures { (rs : List Record) → AreShapeEntries rs pool.old.items shapes.old.items → OnOk result (AreShapeEntries (rs ++ Shape tlid rtsq pairs.now ∷ []) pool.new.items shapes.new.items) }
+    ensures { (rs : List Record) → AreShapeEntries rs pool.old.items shapes.old.items →
+        OnOk result (AreShapeEntries (rs ++ Shape tlid rtsq pairs.now ∷ []) pool.new.items shapes.new.items) }
 {
     let first = pool.len();
     let fill = append_used(pool, pairs)?;

@@ -1,12 +1,14 @@
 //! Joins chains with their shapes.
 
-ghost use Rattle.std.specs.Prelude.{◌≡◌, ◌≢◌, ℕ, ◌+◌, ◌<◌, ◌≤◌, ◌∷◌, [], ◌++◌, List, OnOk, IfOk, IfErr, length, map, slice_index_or, All};
+ghost use Rattle.std.specs.Prelude.{◌≡◌, ◌≢◌, ℕ, ◌+◌, ◌<◌, ◌≤◌, ◌∷◌, [], ◌++◌, List, OnOk, IfOk, IfErr, length};
+ghost use Rattle.std.specs.Prelude.{map, slice_index_or, All};
 ghost use Rattle.tl_geom.specs.declared.point.Point.{Point};
 ghost use Rattle.tl_map.specs.declared.entry.ShapeEntry.{ShapeEntry};
 ghost use Rattle.tl_map.specs.declared.fault.TheConstants.{CHAIN_LIMIT, SEGMENT_LIMIT};
 ghost use Rattle.std.specs.List.{flat_map};
 ghost use Rattle.tl_map.specs.Keeping.Entries.{entry_points, IsInside, AreRising, AreInOrder, chains_with, joined};
-ghost use Rattle.tl_map.specs.Keeping.Rows.{IsTable, chains_in, dedup_after, drawn_through, drawn_by, StopsAdding, StopsJoin};
+ghost use Rattle.tl_map.specs.Keeping.Rows.{IsTable, chains_in, dedup_after, drawn_through, drawn_by, StopsAdding};
+ghost use Rattle.tl_map.specs.Keeping.Rows.{StopsJoin};
 ghost use Rattle.tl_map.specs.Chains.{segment_count};
 
 use crate::chains::{ChainRow, Chains};
@@ -21,7 +23,8 @@ fn append_distinct(
     last: Point,
     more: &[Point],
 ) -> Result<Point, AllocError>
-    ensures { IfOk result (λ end. (rest : List Point) → points.new.items ++ dedup_after end rest ≡ points.old.items ++ dedup_after last (more.now ++ rest)) }
+    ensures { IfOk result (λ end. (rest : List Point) →
+        points.new.items ++ dedup_after end rest ≡ points.old.items ++ dedup_after last (more.now ++ rest)) }
 {
     let mut last = last;
     for point in more {
@@ -41,7 +44,8 @@ fn append_chain(
     pool: &[Point],
 ) -> Result<(), AllocError>
     requires { All (IsInside pool.now) run.now }
-    ensures { OnOk result (points.new.items ≡ points.old.items ++ drawn_through chain.now (flat_map (entry_points pool.now) run.now)) }
+    ensures { OnOk result (points.new.items ≡
+        points.old.items ++ drawn_through chain.now (flat_map (entry_points pool.now) run.now)) }
 {
     let mut last = chain.from;
     points.push(last)?;
@@ -67,10 +71,12 @@ fn add_chain(
     requires few { length points.old.items ≤ SEGMENT_LIMIT + length rows.old.items }
     ensures table { OnOk result (IsTable points.new.items rows.new.items) }
     ensures few { OnOk result (length points.new.items ≤ SEGMENT_LIMIT + length rows.new.items) }
-    ensures added { OnOk result (chains_in points.new.items rows.new.items ≡ chains_in points.old.items rows.old.items ++ drawn_by pool.now chain.now run.now ∷ []) }
+    ensures added { OnOk result (chains_in points.new.items rows.new.items ≡
+        chains_in points.old.items rows.old.items ++ drawn_by pool.now chain.now run.now ∷ []) }
     ensures rows { OnOk result (length rows.new.items ≡ length rows.old.items + 1) }
     ensures several { OnOk result (length (drawn_by pool.now chain.now run.now).points ≢ 1) }
-    ensures err { IfErr result (StopsAdding (chains_in points.old.items rows.old.items) (drawn_by pool.now chain.now run.now)) }
+    ensures err { IfErr result (StopsAdding (chains_in points.old.items rows.old.items)
+        (drawn_by pool.now chain.now run.now)) }
 {
     let first = points.len();
     append_chain(points, chain, run, pool)?;
@@ -118,7 +124,8 @@ pub fn join(
     requires ordered { AreInOrder shapes.now }
     requires inside { All (IsInside pool.now) shapes.now }
     requires known { All (λ s. 1 ≤ chains_with s.tlid chains.now) shapes.now }
-    ensures ok { IfOk result (λ c. c ≡ record { chains = map (joined pool.now shapes.now) chains.now; skipped = skipped }) }
+    ensures ok { IfOk result (λ c.
+        c ≡ record { chains = map (joined pool.now shapes.now) chains.now; skipped = skipped }) }
     ensures several { OnOk result (All (λ c. length (joined pool.now shapes.now c).points ≢ 1) chains.now) }
     ensures few { OnOk result (segment_count (map (joined pool.now shapes.now) chains.now) ≤ SEGMENT_LIMIT) }
     ensures err { IfErr result (StopsJoin (map (joined pool.now shapes.now) chains.now)) }

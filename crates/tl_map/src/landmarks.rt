@@ -1,9 +1,12 @@
 //! Landmarks and the polygons that are linked to them.
 
-ghost use Rattle.std.specs.Prelude.{◌≡◌, ◌≢◌, ◌<◌, ◌≤◌, ◌++◌, ℕ, List, IfOk, IfErr, OnOk, MatchResult, All, length, map, slice_index_or};
+ghost use Rattle.std.specs.Prelude.{◌≡◌, ◌≢◌, ◌<◌, ◌≤◌, ◌++◌, ℕ, List, IfOk, IfErr, OnOk, MatchResult, All, length};
+ghost use Rattle.std.specs.Prelude.{map, slice_index_or};
 ghost use Rattle.tl_record.specs.declared.record.PolyKey.{PolyKey};
 ghost use Rattle.tl_map.specs.Keeping.Index.{Indexes};
-ghost use Rattle.tl_map.specs.Keeping.Landmarks.{ListsLandmarks, StopsLandmarks, IsLink, IndexesLands, StopsLink, AreAllLinks, StopsLinks, AreByLandmark, listed, IsLinked, AreLinked, StopsLinking};
+ghost use Rattle.tl_map.specs.Keeping.Landmarks.{ListsLandmarks, StopsLandmarks, IsLink, IndexesLands, StopsLink};
+ghost use Rattle.tl_map.specs.Keeping.Landmarks.{AreAllLinks, StopsLinks, AreByLandmark, listed, IsLinked};
+ghost use Rattle.tl_map.specs.Keeping.Landmarks.{AreLinked, StopsLinking};
 ghost use Rattle.tl_map.specs.TheMap.{firsts};
 ghost use Rattle.tl_map.specs.declared.fault.TheConstants.{LANDMARK_LIMIT};
 ghost use Rattle.tl_map.specs.declared.landmarks.Link.{Link};
@@ -55,7 +58,8 @@ fn resolve_link(
     landmarks: &BTreeMap<u64, u32>,
     link: LinkEntry,
 ) -> Result<Link, MapStop>
-    ensures { (ks : List PolyKey) (lands : List ℕ) → Indexes ks polygons.now → IndexesLands lands landmarks.now → MatchResult result (IsLink ks lands link) (StopsLink ks lands link) }
+    ensures { (ks : List PolyKey) (lands : List ℕ) → Indexes ks polygons.now → IndexesLands lands landmarks.now →
+        MatchResult result (IsLink ks lands link) (StopsLink ks lands link) }
 {
     let landmark = match landmarks.get(&link.land).copied() {
         Some(landmark) => landmark,
@@ -79,8 +83,10 @@ fn resolve_links(
     landmarks: &BTreeMap<u64, u32>,
     links: &[LinkEntry],
 ) -> Result<Vec<Link>, MapStop>
-    ensures ok { (ks : List PolyKey) (lands : List ℕ) → Indexes ks polygons.now → IndexesLands lands landmarks.now → IfOk result (λ made. AreAllLinks ks lands links.now made.items) }
-    ensures stops { (ks : List PolyKey) (lands : List ℕ) → Indexes ks polygons.now → IndexesLands lands landmarks.now → IfErr result (StopsLinks ks lands links.now) }
+    ensures ok { (ks : List PolyKey) (lands : List ℕ) → Indexes ks polygons.now → IndexesLands lands landmarks.now →
+        IfOk result (λ made. AreAllLinks ks lands links.now made.items) }
+    ensures stops { (ks : List PolyKey) (lands : List ℕ) → Indexes ks polygons.now →
+        IndexesLands lands landmarks.now → IfErr result (StopsLinks ks lands links.now) }
 {
     let mut made = Vec::with_capacity(alloc, links.len())?;
     for link in links {
@@ -122,7 +128,8 @@ fn append_once(
 ) -> Result<(), AllocError>
     requires inside { All (λ m. m.polygon < length marks.old) run.now }
     requires fresh { All (λ n. n < mark) marks.old }
-    ensures linked { OnOk result (linked.new.items ≡ linked.old.items ++ firsts (λ p. p) (map (λ m. m.polygon) run.now)) }
+    ensures linked { OnOk result (linked.new.items ≡
+        linked.old.items ++ firsts (λ p. p) (map (λ m. m.polygon) run.now)) }
     ensures marks { All (λ n. n ≤ mark) marks.new }
     ensures length { length marks.new ≡ length marks.old }
 {
@@ -193,7 +200,8 @@ pub fn build_landmarks(
     links: &[LinkEntry],
 ) -> Result<LinkedLandmarks, MapStop>
     requires { (ks : List PolyKey) × Indexes ks index.now × (length ks ≡ polygons) }
-    ensures { (ks : List PolyKey) → Indexes ks index.now → MatchResult result (AreLinked ks entries.now links.now) (StopsLinking ks entries.now links.now) }
+    ensures { (ks : List PolyKey) → Indexes ks index.now →
+        MatchResult result (AreLinked ks entries.now links.now) (StopsLinking ks entries.now links.now) }
 {
     let landmarks = first_landmarks(alloc, entries)?;
     let mut made = resolve_links(alloc, index, &landmarks.index, links)?;

@@ -15,9 +15,11 @@ mod collect;
 mod entry;
 mod fault;
 mod join;
+mod kept;
 mod landmarks;
 pub mod laws;
 mod map;
+mod nodes;
 mod passes;
 #[cfg(test)]
 mod plain;

@@ -2,14 +2,15 @@
 
 ghost use Rattle.std.specs.Prelude.{◌≡◌, ◌≢◌, ◌<◌, ◌-ℤ◌, length, slice_get, Some};
 ghost use Rattle.tl_geom.specs.Plane.{end_a, end_b};
-ghost use Rattle.tl_map.specs.Darts.{directed};
 ghost use Rattle.tl_map.specs.TheMap.{IsChain};
 
-use crate::chains::Chains;
+use crate::chains::{Chains, point_along};
+use crate::kept::KeptChainSides;
 use crate::landmarks::{LandmarkRow, LinkedLandmarks};
+use crate::nodes::Nodes;
 use crate::polygons::Polygon;
 use crate::segments::Segments;
-use crate::sides::{ChainSides, Side};
+use crate::sides::Side;
 use std::marker::Model;
 use tl_geom::{Direction, Point, Segment};
 
@@ -18,11 +19,12 @@ use tl_geom::{Direction, Point, Segment};
 #[derive(Drop)]
 pub struct Map {
     chains: Chains,
-    sides: Vec<ChainSides>,
+    sides: Vec<KeptChainSides>,
     polygons: Vec<Polygon>,
     rows: Vec<LandmarkRow>,
     linked: Vec<u32>,
     segments: Segments,
+    nodes: Nodes,
 }
 
 /// A chain of a map: its points from its start to its end, and what lies on both sides of a walker along them.
@@ -54,30 +56,47 @@ impl Model for Map {
     ghost use Rattle.tl_map.specs.Keeping.Landmarks.{IsRow, landmark_in};
     ghost use Rattle.tl_map.specs.Keeping.Mapped.{sided};
     ghost use Rattle.tl_map.specs.Keeping.Numbered.{AreNumberedSegments};
+    ghost use Rattle.tl_map.specs.Keeping.Noded.{AreNumberedNodes};
 
-    ghost view = { λ m. record { chains = sided m.chains.chains m.sides.items; polygons = m.polygons.items; landmarks = map (landmark_in m.linked.items) m.rows.items; skipped = m.chains.skipped } };
+    ghost view = { λ m. record {
+      chains = sided m.chains.chains m.sides.items;
+      polygons = m.polygons.items;
+      landmarks = map (landmark_in m.linked.items) m.rows.items;
+      skipped = m.chains.skipped;
+    } };
 
-    ghost invariant = { λ m. (length m.sides.items ≡ length m.chains.chains) × (length m.polygons.items ≤ most_polygons) × (length m.rows.items ≤ most_landmarks) × All (IsRow m.linked.items) m.rows.items × All (λ (c : CompleteChain). IsProper c.points) m.chains.chains × AreNumberedSegments m.chains.chains m.segments };
+    ghost invariant = { λ m. (length m.sides.items ≡ length m.chains.chains)
+        × (length m.polygons.items ≤ most_polygons)
+        × (length m.rows.items ≤ most_landmarks)
+        × All (IsRow m.linked.items) m.rows.items
+        × All (λ (c : CompleteChain). IsProper c.points) m.chains.chains
+        × AreNumberedSegments m.chains.chains m.segments
+        × AreNumberedNodes m.chains.chains m.nodes };
 }
 
 impl Map {
     ghost use Rattle.std.specs.Prelude.{◌≡◌, ℕ, ◌<◌, ◌≤◌, ◌*◌, All, length, map};
     ghost use Rattle.tl_map.specs.Segments.{segments_before, IsSegmentOf, Joins};
     ghost use Rattle.tl_map.specs.Keeping.Numbered.{AreNumberedSegments};
-    ghost use Rattle.tl_map.specs.Darts.{dart_start as dart_start_of, dart_end as dart_end_of, dart_left as dart_left_of, dart_cell as dart_cell_of, Heads};
+    ghost use Rattle.tl_map.specs.Darts.{dart_start as dart_start_of, dart_end as dart_end_of};
+    ghost use Rattle.tl_map.specs.Darts.{dart_left as dart_left_of, dart_cell as dart_cell_of, Heads};
     ghost use Rattle.tl_map.specs.Faults.{most_polygons, most_landmarks};
     ghost use Rattle.tl_map.specs.Chains.{CompleteChain, IsProper};
     ghost use Rattle.tl_map.specs.Keeping.Landmarks.{IsRow, landmark_in};
     ghost use Rattle.tl_map.specs.Keeping.Mapped.{sided};
-    ghost use Rattle.tl_map.specs.Keeping.Numbered.{AreNumberedSegments};
+    ghost use Rattle.tl_map.specs.Keeping.Noded.{AreNumberedNodes};
+    ghost use Rattle.tl_map.specs.Nodes.{AreNodes};
+    ghost use Rattle.tl_geom.specs.declared.point.Point.{Point};
+    ghost use Rattle.std.specs.Prelude.{List};
 
     /// The map of these chains, their sides, the polygons and the landmarks.
     pub(crate) fn new(
         chains: Chains,
-        sides: Vec<ChainSides>,
+        sides: Vec<KeptChainSides>,
         polygons: Vec<Polygon>,
         landmarks: LinkedLandmarks,
         segments: Segments,
+        nodes: Nodes,
     ) -> Map
         requires paired { length sides.items ≡ length chains.chains }
         requires polygons { length polygons.items ≤ most_polygons }
@@ -85,7 +104,13 @@ impl Map {
         requires within { All (IsRow landmarks.linked.items) landmarks.rows.items }
         requires proper { All (λ (c : CompleteChain). IsProper c.points) chains.chains }
         requires segments { AreNumberedSegments chains.chains segments }
-        ensures { result ≡ record { chains = sided chains.chains sides.items; polygons = polygons.items; landmarks = map (landmark_in landmarks.linked.items) landmarks.rows.items; skipped = chains.skipped } }
+        requires nodes { AreNumberedNodes chains.chains nodes }
+        ensures { result ≡ record {
+          chains = sided chains.chains sides.items;
+          polygons = polygons.items;
+          landmarks = map (landmark_in landmarks.linked.items) landmarks.rows.items;
+          skipped = chains.skipped;
+        } }
     {
         Map {
             chains,
@@ -94,6 +119,7 @@ impl Map {
             rows: landmarks.rows,
             linked: landmarks.linked,
             segments,
+            nodes,
         }
     }
 
@@ -138,7 +164,7 @@ impl Map {
         ensures chain { IsChain (slice_get self.now.chains c) result.tlid result.points.now result.left result.right }
         ensures points { IsProper result.points.now }
     {
-        let sides = self.sides[c as usize];
+        let sides = self.sides[c as usize].whole();
         Chain {
             tlid: self.chains.tlid(c),
             points: self.chains.points(c),
@@ -158,7 +184,8 @@ impl Map {
     /// A landmark by its number.
     pub fn landmark(&self, l: u32) -> Landmark<'_>
         requires { l < length self.now.landmarks }
-        ensures { slice_get self.now.landmarks l ≡ Some (record { land = result.land; point = result.point; polygons = result.polygons.now }) }
+        ensures { slice_get self.now.landmarks l ≡
+            Some (record { land = result.land; point = result.point; polygons = result.polygons.now }) }
     {
         let row = self.rows[l as usize];
         Landmark {
@@ -195,6 +222,23 @@ impl Map {
         point_along(self.chain(d / 2).points, d % 2 == 0, 0)
     }
 
+    /// How many nodes there are: distinct points where chains begin or end.
+    pub fn nodes(&self) -> u32
+        ensures { (nodes : List Point) × AreNodes self.now.chains nodes × (result ≡ length nodes) }
+    {
+        self.nodes.count
+    }
+
+    /// The number of the node where a dart starts, from 0.
+    pub fn dart_node(&self, d: u32) -> u32
+        requires { d < 2 * length self.now.chains }
+        ensures start { (nodes : List Point) → AreNodes self.now.chains nodes →
+            slice_get nodes result ≡ dart_start_of self.now.chains d }
+        ensures within { (nodes : List Point) → AreNodes self.now.chains nodes → result < length nodes }
+    {
+        self.nodes.numbers[d as usize]
+    }
+
     /// The point where a dart ends.
     pub fn dart_end(&self, d: u32) -> Point
         requires { d < 2 * length self.now.chains }
@@ -228,24 +272,12 @@ impl Map {
         requires { d < 2 * length self.now.chains }
         ensures { dart_cell_of self.now.chains d ≡ Some result }
     {
-        let sides = self.sides[(d / 2) as usize];
+        let sides = self.sides[(d / 2) as usize].whole();
         if d % 2 == 0 {
             sides.start_cell
         } else {
             sides.end_cell
         }
-    }
-}
-
-/// A point of a chain by its place, counted from the first point or from the last.
-fn point_along(points: &[Point], forward: bool, place: usize) -> Point
-    requires { place < length points.now }
-    ensures { slice_get (directed forward points.now) place ≡ Some result }
-{
-    if forward {
-        points[place]
-    } else {
-        points[points.len() - 1 - place]
     }
 }
 

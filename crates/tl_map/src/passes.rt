@@ -5,7 +5,8 @@ ghost use Rattle.std.specs.List.Sorted.{IsNonDecreasingBy};
 ghost use Rattle.tl_geom.specs.declared.point.Point.{Point};
 ghost use Rattle.tl_record.specs.declared.record.Record.{Record};
 ghost use Rattle.tl_map.specs.Chains.{has_gap, pairs_of};
-ghost use Rattle.tl_map.specs.Keeping.Entries.{chains_with, AreRising, shapes_with, AreInOrder, ArePlaced, AreNumbered, AreShapeEntries, late_after, ended_after};
+ghost use Rattle.tl_map.specs.Keeping.Entries.{chains_with, AreRising, shapes_with, AreInOrder, ArePlaced};
+ghost use Rattle.tl_map.specs.Keeping.Entries.{AreNumbered, AreShapeEntries, late_after, ended_after};
 
 use crate::entry::{ChainEntry, Fill, ShapeEntry};
 
@@ -48,7 +49,8 @@ pub fn misnumbered_tlid(shapes: &[ShapeEntry]) -> Option<u64>
 pub fn stray_tlid(chains: &[ChainEntry], shapes: &[ShapeEntry]) -> Option<u64>
     requires rising { AreRising chains.now }
     requires ordered { AreInOrder shapes.now }
-    ensures { MatchOption result (All (λ s. 1 ≤ chains_with s.tlid chains.now) shapes.now) (λ t. (1 ≤ shapes_with t shapes.now) × (chains_with t chains.now ≡ 0)) }
+    ensures { MatchOption result (All (λ s. 1 ≤ chains_with s.tlid chains.now) shapes.now)
+        (λ t. (1 ≤ shapes_with t shapes.now) × (chains_with t chains.now ≡ 0)) }
 {
     let mut below = 0;
     for shape in shapes {
@@ -79,7 +81,8 @@ fn first_not_below(chains: &[ChainEntry], start: usize, tlid: u64) -> usize
 pub fn gap_tlid(shapes: &[ShapeEntry]) -> Option<u64>
     requires ordered { AreInOrder shapes.now }
     requires placed { ArePlaced shapes.now }
-    ensures { (rs : List Record) (pool : List Point) → AreShapeEntries rs pool shapes.now → MatchOption result ((t : ℕ) → has_gap (pairs_of rs t) ≡ false) (λ t. has_gap (pairs_of rs t) ≡ true) }
+    ensures { (rs : List Record) (pool : List Point) → AreShapeEntries rs pool shapes.now →
+        MatchOption result ((t : ℕ) → has_gap (pairs_of rs t) ≡ false) (λ t. has_gap (pairs_of rs t) ≡ true) }
 {
     let mut tlid = 0;
     let mut ended = false;

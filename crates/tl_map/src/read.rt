@@ -26,7 +26,8 @@ fn collect_records<R: Source>(
     requires { standing_of reader.old ≡ Reading }
     ensures all { IfOk result (Gathers (outcome R.remaining reader.old) (skipped_of reader.new)) }
     ensures stops { IfErr result (StopsGathering (outcome R.remaining reader.old)) }
-    ensures failures { TellsDevice (R.failure_count (source_of reader.old)) (R.failure_count (source_of reader.new)) result }
+    ensures failures { TellsDevice (R.failure_count (source_of reader.old))
+        (R.failure_count (source_of reader.new)) result }
     ensures same_reference { R.reference (source_of reader.new) ≡ R.reference (source_of reader.old) }
 {
     let mut collected = Collected::new(alloc);
@@ -45,9 +46,11 @@ fn collect_all<R: Source>(
     reader: &mut RecordReader<R>,
 ) -> Result<(Collected, AreaRecords), MapStop>
     requires { standing_of reader.old ≡ Reading }
-    ensures all { IfOk result (λ made. GathersAll (outcome R.remaining reader.old) (skipped_of reader.new) made.0 made.1) }
+    ensures all { IfOk result (λ made.
+        GathersAll (outcome R.remaining reader.old) (skipped_of reader.new) made.0 made.1) }
     ensures stops { IfErr result (StopsGathering (outcome R.remaining reader.old)) }
-    ensures failures { TellsDevice (R.failure_count (source_of reader.old)) (R.failure_count (source_of reader.new)) result }
+    ensures failures { TellsDevice (R.failure_count (source_of reader.old))
+        (R.failure_count (source_of reader.new)) result }
     ensures same_reference { R.reference (source_of reader.new) ≡ R.reference (source_of reader.old) }
 {
     let mut collected = Collected::new(alloc);
@@ -70,9 +73,11 @@ fn collect_all<R: Source>(
 /// All lines are read before a fault of the records is answered.
 pub fn read_chains<R: Source>(alloc: Global, records: &mut R) -> Result<Chains, MapStop>
     // Where the bytes are known: the chains of their records, where no line is refused and no fault is true.
-    ensures chains { IfOk result (λ c. IfSome (R.remaining records.old) (λ text. AreReadFrom (records_of tiger_2006 text) c)) }
+    ensures chains { IfOk result (λ c. IfSome (R.remaining records.old)
+        (λ text. AreReadFrom (records_of tiger_2006 text) c)) }
     // The first refused line, or where there is none, a fault that is true.
-    ensures stops { IfErr result (λ stop. IfSome (R.remaining records.old) (λ text. StopsReading (records_of tiger_2006 text) stop)) }
+    ensures stops { IfErr result (λ stop. IfSome (R.remaining records.old)
+        (λ text. StopsReading (records_of tiger_2006 text) stop)) }
     // `Device` is answered where a read failed in this call, and nowhere else.
     ensures failures { TellsDevice (R.failure_count records.old) (R.failure_count records.new) result }
 {
@@ -87,8 +92,10 @@ pub fn read_chains_with<R: Source>(
     records: &mut R,
     options: Options,
 ) -> Result<Chains, MapStop>
-    ensures chains { IfOk result (λ c. IfSome (R.remaining records.old) (λ text. AreReadFrom (records_of (layout_with options) text) c)) }
-    ensures stops { IfErr result (λ stop. IfSome (R.remaining records.old) (λ text. StopsReading (records_of (layout_with options) text) stop)) }
+    ensures chains { IfOk result (λ c. IfSome (R.remaining records.old)
+        (λ text. AreReadFrom (records_of (layout_with options) text) c)) }
+    ensures stops { IfErr result (λ stop. IfSome (R.remaining records.old)
+        (λ text. StopsReading (records_of (layout_with options) text) stop)) }
     ensures failures { TellsDevice (R.failure_count records.old) (R.failure_count records.new) result }
 {
     let mut reader = RecordReader::with(records, options);
@@ -101,9 +108,11 @@ pub fn read_chains_with<R: Source>(
 /// All lines are read before a fault of the records is answered.
 pub fn read_map<R: Source>(alloc: Global, records: &mut R) -> Result<Map, MapStop>
     // Where the bytes are known: the map of their records, where no line is refused and no fault is true.
-    ensures map { IfOk result (λ m. IfSome (R.remaining records.old) (λ text. IsReadFrom (records_of tiger_2006 text) m)) }
+    ensures map { IfOk result (λ m. IfSome (R.remaining records.old)
+        (λ text. IsReadFrom (records_of tiger_2006 text) m)) }
     // The first refused line, or where there is none, a fault that is true.
-    ensures stops { IfErr result (λ stop. IfSome (R.remaining records.old) (λ text. StopsReading (records_of tiger_2006 text) stop)) }
+    ensures stops { IfErr result (λ stop. IfSome (R.remaining records.old)
+        (λ text. StopsReading (records_of tiger_2006 text) stop)) }
     // `Device` is answered where a read failed in this call, and nowhere else.
     ensures failures { TellsDevice (R.failure_count records.old) (R.failure_count records.new) result }
 {
@@ -118,8 +127,10 @@ pub fn read_map_with<R: Source>(
     records: &mut R,
     options: Options,
 ) -> Result<Map, MapStop>
-    ensures map { IfOk result (λ m. IfSome (R.remaining records.old) (λ text. IsReadFrom (records_of (layout_with options) text) m)) }
-    ensures stops { IfErr result (λ stop. IfSome (R.remaining records.old) (λ text. StopsReading (records_of (layout_with options) text) stop)) }
+    ensures map { IfOk result (λ m. IfSome (R.remaining records.old)
+        (λ text. IsReadFrom (records_of (layout_with options) text) m)) }
+    ensures stops { IfErr result (λ stop. IfSome (R.remaining records.old)
+        (λ text. StopsReading (records_of (layout_with options) text) stop)) }
     ensures failures { TellsDevice (R.failure_count records.old) (R.failure_count records.new) result }
 {
     let mut reader = RecordReader::with(records, options);

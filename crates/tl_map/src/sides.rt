@@ -1,17 +1,19 @@
 //! What lies on the sides of chains.
 
-ghost use Rattle.std.specs.Prelude.{◌≡◌, ◌≤◌, ◌==◌, List, IfOk, OnOk, IfErr, MatchOption, MatchResult, map, count_by, All};
+ghost use Rattle.std.specs.Prelude.{◌≡◌, ◌<◌, ◌≤◌, ◌==◌, List, length, slice_index, IfOk, OnOk, IfErr, MatchOption, MatchResult, map};
+ghost use Rattle.std.specs.Prelude.{count_by, All};
 ghost use Rattle.std.specs.List.Sorted.{IsNonDecreasingBy, IsStrictlyIncreasing, IsPermutation};
 ghost use Rattle.tl_map.specs.declared.entry.SidesEntry.{SidesEntry};
 ghost use Rattle.tl_map.specs.Chains.{tlids};
 ghost use Rattle.tl_record.specs.declared.record.PolyKey.{PolyKey};
 ghost use Rattle.tl_map.specs.Keeping.Index.{Indexes};
-ghost use Rattle.tl_map.specs.Keeping.Sided.{sided_by, IsSide, NamesKnown, StopsSide, StopsSides, sides_tlids, IsUnpaired, ArePaired, StopsPairing};
+ghost use Rattle.tl_map.specs.Keeping.Sided.{sided_by, IsSide, NamesKnown, StopsSide, StopsSides, sides_tlids};
+ghost use Rattle.tl_map.specs.Keeping.Sided.{IsUnpaired, ArePaired, StopsPairing};
 
 use crate::chains::Chains;
-use crate::entry::SidesEntry;
 use crate::fault::{MapFault, MapStop};
-use std::alloc::{AllocError, Global};
+use crate::kept::{KeptChainSides, KeptSides};
+use std::alloc::Global;
 use std::collections::BTreeMap;
 use tl_record::PolyKey;
 
@@ -54,83 +56,97 @@ fn resolve_side(
 pub fn resolve_sides(
     alloc: Global,
     index: &BTreeMap<PolyKey, u32>,
-    entries: &[SidesEntry],
-) -> Result<Vec<ChainSides>, MapStop>
-    ensures sides { (ks : List PolyKey) → Indexes ks index.now → IfOk result (λ sides. sides.items ≡ map (sided_by ks) entries.now) }
+    entries: &[KeptSides],
+) -> Result<Vec<KeptChainSides>, MapStop>
+    ensures sides { (ks : List PolyKey) → Indexes ks index.now →
+        IfOk result (λ sides. sides.items ≡ map (sided_by ks) entries.now) }
     ensures known { (ks : List PolyKey) → Indexes ks index.now → OnOk result (All (NamesKnown ks) entries.now) }
     ensures stops { (ks : List PolyKey) → Indexes ks index.now → IfErr result (StopsSides ks entries.now) }
 {
     let mut sides = Vec::with_capacity(alloc, entries.len())?;
-    for entry in entries {
+    for kept in entries {
+        let entry = kept.whole();
         let left = resolve_side(index, entry.left, entry.tlid)?;
         let right = resolve_side(index, entry.right, entry.tlid)?;
-        sides.push(ChainSides {
+        sides.push(KeptChainSides::new(ChainSides {
             left,
             right,
             start_cell: entry.start_cell,
             end_cell: entry.end_cell,
-        })?;
+        }))?;
     }
     Ok(sides)
 }
 
-/// Sorts type I records by TLID.
-fn sort_sides(sides: &mut Vec<SidesEntry>) -> Result<(), AllocError>
-    ensures ordered { OnOk result (IsNonDecreasingBy (λ (s : SidesEntry). s.tlid) sides.new.items) }
-    ensures moved { OnOk result (IsPermutation sides.old.items sides.new.items) }
+/// Sorts type I records by TLID, in place.
+fn sort_sides(sides: &mut Vec<KeptSides>)
+    ensures ordered { IsNonDecreasingBy (λ (s : SidesEntry). s.tlid) sides.new.items }
+    ensures moved { IsPermutation sides.old.items sides.new.items }
 {
-    sides.sort_by_key(|entry| entry.tlid)?;
-    Ok(())
+    sides.sort_unstable_by_key(|kept| kept.tlid());
 }
 
 /// A TLID that two type I records have, in records sorted by TLID.
-fn repeated_sides(sides: &[SidesEntry]) -> Option<u64>
+fn repeated_sides(sides: &[KeptSides]) -> Option<u64>
     requires { IsNonDecreasingBy (λ (s : SidesEntry). s.tlid) sides.now }
-    ensures { MatchOption result (IsStrictlyIncreasing (sides_tlids sides.now)) (λ t. 2 ≤ count_by (λ s. s.tlid == t) sides.now) }
+    ensures { MatchOption result (IsStrictlyIncreasing (sides_tlids sides.now))
+        (λ t. 2 ≤ count_by (λ s. s.tlid == t) sides.now) }
 {
     let mut previous = None;
     for entry in sides {
-        if previous == Some(entry.tlid) {
+        let tlid = entry.tlid();
+        if previous == Some(tlid) {
             return previous;
         }
-        previous = Some(entry.tlid);
+        previous = Some(tlid);
     }
     None
 }
 
+/// The TLID of a record by its place.
+fn tlid_at(sides: &[KeptSides], place: usize) -> u64
+    requires { place < length sides.now }
+    ensures { slice_index (sides_tlids sides.now) place ≡ result }
+{
+    sides[place].tlid()
+}
+
 /// A chain without sides, or sides without a chain, where both rise by TLID.
-fn unpaired(chains: &Chains, sides: &[SidesEntry]) -> Option<MapFault>
+fn unpaired(chains: &Chains, sides: &[KeptSides]) -> Option<MapFault>
     requires chains { IsStrictlyIncreasing (tlids chains.now.chains) }
     requires sides { IsStrictlyIncreasing (sides_tlids sides.now) }
-    ensures { MatchOption result (sides_tlids sides.now ≡ tlids chains.now.chains) (IsUnpaired (tlids chains.now.chains) (sides_tlids sides.now)) }
+    ensures { MatchOption result (sides_tlids sides.now ≡ tlids chains.now.chains)
+        (IsUnpaired (tlids chains.now.chains) (sides_tlids sides.now)) }
 {
     let count = chains.len();
     for c in 0..count {
         let tlid = chains.tlid(c);
         let place = c as usize;
-        if place == sides.len() || tlid < sides[place].tlid {
+        if place == sides.len() {
             return Some(MapFault::ChainWithoutSides { tlid });
         }
-        if sides[place].tlid < tlid {
-            return Some(MapFault::SidesWithoutChain {
-                tlid: sides[place].tlid,
-            });
+        let here = tlid_at(sides, place);
+        if tlid < here {
+            return Some(MapFault::ChainWithoutSides { tlid });
+        }
+        if here < tlid {
+            return Some(MapFault::SidesWithoutChain { tlid: here });
         }
     }
     if sides.len() > count as usize {
-        return Some(MapFault::SidesWithoutChain {
-            tlid: sides[count as usize].tlid,
-        });
+        let here = tlid_at(sides, count as usize);
+        return Some(MapFault::SidesWithoutChain { tlid: here });
     }
     None
 }
 
 /// The type I record of each chain, in the order of the chains, which rise by TLID.
-pub fn pair_sides(chains: &Chains, mut sides: Vec<SidesEntry>) -> Result<Vec<SidesEntry>, MapStop>
+pub fn pair_sides(chains: &Chains, mut sides: Vec<KeptSides>) -> Result<Vec<KeptSides>, MapStop>
     requires { IsStrictlyIncreasing (tlids chains.now.chains) }
-    ensures { MatchResult result (λ made. ArePaired (tlids chains.now.chains) sides.items made.items) (StopsPairing (tlids chains.now.chains) sides.items) }
+    ensures { MatchResult result (λ made. ArePaired (tlids chains.now.chains) sides.items made.items)
+        (StopsPairing (tlids chains.now.chains) sides.items) }
 {
-    sort_sides(&mut sides)?;
+    sort_sides(&mut sides);
     if let Some(tlid) = repeated_sides(&sides) {
         return Err(MapStop::Fault(MapFault::DuplicateSides { tlid }));
     }

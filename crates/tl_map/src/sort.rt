@@ -12,7 +12,8 @@ use std::alloc::AllocError;
 /// Sorts chains by TLID.
 pub fn sort_chains(chains: &mut Vec<ChainEntry>) -> Result<(), AllocError>
     ensures ordered { OnOk result (IsNonDecreasingBy (λ (c : ChainEntry). c.tlid) chains.new.items) }
-    ensures same { OnOk result ((rs : List Record) → AreChainEntries rs chains.old.items → AreChainEntries rs chains.new.items) }
+    ensures same { OnOk result ((rs : List Record) → AreChainEntries rs chains.old.items →
+        AreChainEntries rs chains.new.items) }
     ensures length { OnOk result (length chains.new.items ≡ length chains.old.items) }
 {
     chains.sort_by_key(|chain| chain.tlid)?;
@@ -22,7 +23,8 @@ pub fn sort_chains(chains: &mut Vec<ChainEntry>) -> Result<(), AllocError>
 /// Sorts shapes by TLID, and within one TLID by RTSQ.
 pub fn sort_shapes(shapes: &mut Vec<ShapeEntry>) -> Result<(), AllocError>
     ensures ordered { OnOk result (AreInOrder shapes.new.items) }
-    ensures same { OnOk result ((rs : List Record) (pool : List Point) → AreShapeEntries rs pool shapes.old.items → AreShapeEntries rs pool shapes.new.items) }
+    ensures same { OnOk result ((rs : List Record) (pool : List Point) → AreShapeEntries rs pool shapes.old.items →
+        AreShapeEntries rs pool shapes.new.items) }
 {
     shapes.sort_by_key(|shape| (shape.tlid, shape.rtsq))?;
     Ok(())

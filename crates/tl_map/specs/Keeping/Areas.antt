@@ -1,3 +1,4 @@
+-- Kept on the way: the records of sides, polygons, landmarks and links.
 use Rattle.std.specs.Prelude.{◌≡◌, List}
 use Rattle.tl_record.specs.declared.record.Record.{Record}
 use Rattle.tl_map.specs.declared.areas.AreaRecords.{AreaRecords}

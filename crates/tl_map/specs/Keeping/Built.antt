@@ -1,3 +1,4 @@
+-- Kept on the way: what sorted entries must be to be joined, and what building answers.
 use Rattle.std.specs.Prelude.{◌≡◌, ℕ, ◌≤◌, false, List, All}
 use Rattle.tl_record.specs.declared.record.Record.{Record}
 use Rattle.tl_map.specs.declared.entry.ChainEntry.{ChainEntry}

@@ -1,3 +1,4 @@
+-- Kept on the way: the type 1 and type 2 records read so far.
 use Rattle.std.specs.Prelude.{◌≡◌, ◌<◌, ◌≤◌, true, false, List, length}
 use Rattle.tl_record.specs.declared.record.Record.{Record}
 use Rattle.tl_map.specs.declared.collect.Collected.{Collected}

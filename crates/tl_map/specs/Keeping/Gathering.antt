@@ -1,3 +1,4 @@
+-- Kept on the way: what a reader has given and what is still to come.
 use Rattle.std.specs.Prelude.{◌≡◌, ℕ, List, ◌++◌, Option, Some, None, IfSome}
 use Rattle.tl_record.specs.declared.record.Record.{Record}
 use Rattle.tl_record.specs.Records.{Records}

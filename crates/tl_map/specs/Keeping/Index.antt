@@ -1,3 +1,4 @@
+-- Kept on the way: the place of each key among the polygons.
 use Rattle.std.specs.Prelude.{◌≡◌, ℕ, Option, Some, List, ◌⊎◌}
 use Rattle.std.specs.Ordering.{nat_cmp, ordering_then}
 use Rattle.std.specs.Cmp.Lexicographic.{slice_cmp}

@@ -1,4 +1,5 @@
-use Rattle.std.specs.Prelude.{◌≡◌, ℕ, ◌+◌, ◌<◌, ◌≤◌, ◌==◌, ◌⊎◌, Option, Some, List, [], ◌∷◌, All, length, map, take, drop, filter, Any, Contains, slice_get, slice_index_or}
+-- Kept on the way: the first record of each landmark, links by number, and the rows of landmarks.
+use Rattle.std.specs.Prelude.{◌≡◌, ℕ, ◌+◌, ◌<◌, ◌≤◌, ◌==◌, ◌⊎◌, Some, List, [], ◌∷◌, All, length, map, take, drop, filter, Any, Contains, slice_get, slice_index_or}
 use Rattle.std.specs.Ordering.{nat_cmp}
 use Rattle.std.specs.BTreeMap.{BTreeMap, get}
 use Rattle.std.specs.List.Sorted.{IsNonDecreasingBy, IsPermutation}

@@ -1,6 +1,6 @@
-use Rattle.std.specs.Prelude.{◌≡◌, ℕ, ◌<◌, ◌≤◌, ◌^◌, List, [], ◌∷◌, length, All}
+-- Kept on the way: chains with their sides, and what makes the whole map.
+use Rattle.std.specs.Prelude.{◌≡◌, ℕ, List, [], ◌∷◌}
 use Rattle.tl_record.specs.declared.record.Record.{Record}
-use Rattle.tl_map.specs.declared.landmarks.LandmarkRow.{LandmarkRow}
 use Rattle.tl_map.specs.declared.sides.ChainSides.{ChainSides}
 use Rattle.tl_map.specs.Chains.{CompleteChain}
 use Rattle.tl_map.specs.TheMap.{MapChain, TheMap, IsMapOf}

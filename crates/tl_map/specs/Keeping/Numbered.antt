@@ -1,3 +1,4 @@
+-- Kept on the way: the chain of each segment, and the first segment of each chain.
 use Rattle.std.specs.Prelude.{◌≡◌, ℕ, ◌+◌, ◌<◌, List, length, take, slice_index, slice_index_or}
 use Rattle.tl_map.specs.declared.segments.Segments.{Segments}
 use Rattle.tl_map.specs.Chains.{CompleteChain, segment_count}

@@ -1,7 +1,7 @@
 use Rattle.std.proofs.Common.{◌<◌, ◌∙◌, length, get_or, arith}
 use Rattle.std.proofs.lemmas.List.{length-set}
 use Rattle.tl_map.specs.declared.landmarks.Link.{Link}
-use Rattle.tl_map.proofs.MarkLemmas.{Marking, marking_old, marking_new}
+use Rattle.tl_map.proofs.MarkLemmas.{marking_old, marking_new}
 use Rattle.tl_map.proofs.landmarks.append_once.Goals as goal
 use Rattle.tl_map.proofs.landmarks.append_once.Goals.{then-marks-place+in_ok-push, else-marks-place}
 

@@ -1,4 +1,3 @@
-use Rattle.std.proofs.Common.{List}
 use Rattle.std.proofs.lemmas.Result.{err_from_is_err_and}
 use Rattle.tl_map.specs.Keeping.Landmarks.{lands}
 use Rattle.tl_map.proofs.LinkedLemmas.{links_inside, linked_all, stops_linking}

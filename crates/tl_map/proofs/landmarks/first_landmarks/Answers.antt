@@ -1,9 +1,6 @@
-use Rattle.std.proofs.Common.{◌≡◌, ◌≢◌, ◌≤◌, ◌∙◌, sym, refl, inr, arith, length, drop, Contains}
-use Rattle.std.proofs.lemmas.List.{at_drop_all, length-map, get_or-map}
-use Rattle.tl_map.specs.declared.entry.LandmarkEntry.{LandmarkEntry}
-use Rattle.tl_map.specs.declared.fault.TheConstants.{LANDMARK_LIMIT}
-use Rattle.tl_map.proofs.IndexLemmas.{none_told, some_told, numbers_none}
-use Rattle.tl_map.proofs.LandmarkLemmas.{Listing, listing_new, listing_old, too_many, listed}
+use Rattle.std.proofs.Common.{◌∙◌, sym, refl, inr, arith}
+use Rattle.tl_map.proofs.IndexLemmas.{none_told, some_told}
+use Rattle.tl_map.proofs.LandmarkLemmas.{listing_new, listing_old, too_many, listed}
 use Rattle.tl_map.proofs.landmarks.first_landmarks.Goals as goal
 use Rattle.tl_map.proofs.landmarks.first_landmarks.Goals.{then-is_none+else-len+in_ok-insert+in_ok-push, else-is_none}
 

@@ -1,7 +1,6 @@
 use Rattle.std.proofs.Common.{ap, length, arith}
 use Rattle.std.proofs.lemmas.List.{length_push}
-use Rattle.std.proofs.lemmas.Result.{err_from_is_err_and}
-use Rattle.tl_map.proofs.LandmarkLemmas.{links_more, stops_links}
+use Rattle.tl_map.proofs.LandmarkLemmas.{links_more}
 use Rattle.tl_map.proofs.landmarks.resolve_links.Goals as goal
 
 pub loop-link-preserved : goal.loop-link-preserved

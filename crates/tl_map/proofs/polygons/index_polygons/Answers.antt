@@ -1,7 +1,5 @@
-use Rattle.std.proofs.Common.{◌≡◌, ◌∙◌, sym, inr, Some, refl, length, arith}
-use Rattle.std.specs.Prelude.{slice_get}
+use Rattle.std.proofs.Common.{◌∙◌, sym, inr, refl, arith}
 use Rattle.std.proofs.lemmas.List.{length-map}
-use Rattle.tl_record.specs.declared.record.PolyKey.{PolyKey}
 use Rattle.tl_map.specs.declared.polygons.Polygon.{Polygon}
 use Rattle.tl_map.specs.TheMap.{keys}
 use Rattle.tl_map.proofs.IndexLemmas.{numbers_more, key_total, key_exact, twice_told, none_told, slice_get-image, numbers_whole}

@@ -1,4 +1,4 @@
-use Rattle.std.proofs.Common.{◌≡◌, length}
+use Rattle.std.proofs.Common.{◌≡◌}
 use Rattle.std.specs.BTreeMap.{get}
 use Rattle.tl_map.specs.TheMap.{keys}
 use Rattle.tl_map.specs.Keeping.Index.{key_cmp}

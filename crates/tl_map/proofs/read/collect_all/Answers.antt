@@ -1,4 +1,4 @@
-use Rattle.std.proofs.Common.{rules, sym, ◌∙◌}
+use Rattle.std.proofs.Common.{rules}
 use Rattle.tl_map.proofs.GatherLemmas.{gathers_more}
 use Rattle.tl_map.proofs.read.collect_all.Goals as goal
 

@@ -1,4 +1,4 @@
-use Rattle.std.proofs.Common.{◌≡◌, ◌-◌, ◌<◌, ◌∙◌, List, [], ◌+◌, length, get_or, ap, sym, refl, subst, arith}
+use Rattle.std.proofs.Common.{◌≡◌, ◌-◌, ◌<◌, List, [], ◌+◌, length, ap, sym, refl, subst, arith}
 use Rattle.tl_map.specs.Chains.{CompleteChain}
 use Rattle.tl_map.specs.Keeping.Numbered.{NumberUpTo}
 use Rattle.tl_map.proofs.NumberLemmas.{number_more, points_told, several_told}

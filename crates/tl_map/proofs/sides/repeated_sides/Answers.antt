@@ -1,11 +1,11 @@
-use Rattle.std.proofs.Common.{◌∙◌, sym, refl, arith}
+use Rattle.std.proofs.Common.{◌∙◌, ap, sym, arith}
 use Rattle.tl_map.specs.declared.entry.SidesEntry.{SidesEntry}
 use Rattle.tl_map.proofs.CountLemmas.{repeat_found, rising_keys}
 use Rattle.tl_map.proofs.sides.repeated_sides.Goals as goal
 
 pub returns-then-eq : goal.returns-then-eq
 returns-then-eq c =
-    repeat_found (λ (x : SidesEntry). x.tlid) _ c.args.sides.now _ _ _ _ c.loop-entry-test.true c.loop-entry.invariant.last refl (sym c.eq.ensures ∙ c.if-eq.true)
+    repeat_found (λ (x : SidesEntry). x.tlid) _ c.args.sides.now _ _ c.entry-item.result _ c.loop-entry-test.true c.loop-entry.invariant.last (ap (λ (x : SidesEntry). x.tlid) (sym c.entry-item.is) ∙ sym c.tlid-tlid.ensures) (sym c.eq.ensures ∙ c.if-eq.true)
 
 pub returns : goal.returns
 returns c = rising_keys (λ (x : SidesEntry). x.tlid) c.args.sides.now (λ k d h. c.loop-entry.invariant.rising k d (omega (arith, c.loop-entry-test.false)))

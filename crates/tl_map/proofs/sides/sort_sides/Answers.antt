@@ -5,4 +5,4 @@ use Rattle.tl_map.proofs.sides.sort_sides.Goals as goal
 
 pub returns-clause-ordered : goal.returns-clause-ordered
 returns-clause-ordered c =
-    IsNonDecreasingBy-from_sort_by_key (λ (x : SidesEntry). x.tlid) _ c.in_ok-sort_by_key.ensures.sorted (λ a r q k. search rules)
+    IsNonDecreasingBy-from_sort_by_key (λ (x : SidesEntry). x.tlid) _ c.sort_unstable_by_key.ensures.sorted (λ a r q k. search rules)

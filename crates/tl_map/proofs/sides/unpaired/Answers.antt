@@ -1,11 +1,10 @@
-use Rattle.std.proofs.Common.{◌≡◌, ◌∙◌, ◌<◌, ◌≤◌, None, List, length, get_or, sym, refl, inl, inr, arith}
+use Rattle.std.proofs.Common.{◌≡◌, ◌<◌, List, length, sym, refl, inl, inr, arith}
 use Rattle.std.proofs.lemmas.List.{length-map}
 use Rattle.tl_map.specs.declared.entry.SidesEntry.{SidesEntry}
 use Rattle.tl_map.specs.Chains.{CompleteChain, tlids}
 use Rattle.tl_map.specs.Keeping.Sided.{sides_tlids}
-use Rattle.tl_map.proofs.PairLemmas.{absent, present, told, tlid_at, same_lists, same_more}
+use Rattle.tl_map.proofs.PairLemmas.{absent, present, told, same_lists, same_more}
 use Rattle.tl_map.proofs.sides.unpaired.Goals as goal
-use Rattle.tl_map.proofs.sides.unpaired.Goals.{then-place-sides-via-then-place-sides, then-place-sides-via-else-place-sides+then-tlid-sides}
 
 pub returns-then-place-sides : goal.returns-then-place-sides
 returns-then-place-sides c =
@@ -16,28 +15,31 @@ returns-then-place-sides c =
     let wide = length-map c.args.sides.now (λ (s : SidesEntry). s.tlid) in
     let lt : i < length ts = omega (arith, c.loop-c-test.true, c.len-count.ensures, long) in
     let at = told ts i c.tlid-tlid.result lt c.tlid-tlid.ensures in
-    inl (
-      _,
-      refl,
-      present ts i _ lt at,
-      absent ts us i _ c.requires.chains c.requires.sides c.loop-c.invariant.same lt at (λ within. elim c.then-place-sides.branch [
-        | then-place-sides-via-then-place-sides w ↦ absurd (omega (arith, w.if-place-sides.true, within, wide))
-        | then-place-sides-via-else-place-sides+then-tlid-sides w ↦ let h = tlid_at c.args.sides.now i (record { tlid = 0; start_cell = None; end_cell = None; left = None; right = None }) (omega (arith, within, wide)) in omega (arith, h, w.if-tlid-sides.true)
-      ]),
-    )
+    inl (_, refl, present ts i _ lt at, absent ts us i _ c.requires.chains c.requires.sides c.loop-c.invariant.same lt at (λ within. absurd (omega (arith, c.if-place-sides.true, within, wide))))
 
-pub returns-then-sides-place : goal.returns-then-sides-place
-returns-then-sides-place c =
+pub returns-then-tlid-here : goal.returns-then-tlid-here
+returns-then-tlid-here c =
     let ts : List _ = tlids c.args.chains.now.chains in
     let us : List _ = sides_tlids c.args.sides.now in
     let i = c.loop-c.c in
     let long = length-map c.args.chains.now.chains (λ (x : CompleteChain). x.tlid) in
     let wide = length-map c.args.sides.now (λ (s : SidesEntry). s.tlid) in
     let lt : i < length ts = omega (arith, c.loop-c-test.true, c.len-count.ensures, long) in
-    let low : i < length us = omega (arith, c.loop-c.invariant.within, c.if-place-sides.false, wide) in
     let at = told ts i c.tlid-tlid.result lt c.tlid-tlid.ensures in
-    let of = tlid_at c.args.sides.now i (record { tlid = 0; start_cell = None; end_cell = None; left = None; right = None }) (omega (arith, low, wide)) in
-    inr (_, refl, present us i _ low of, absent us ts i _ c.requires.sides c.requires.chains (λ k h. sym (c.loop-c.invariant.same k h)) low of (λ within. omega (arith, at, c.if-sides-place.true)))
+    inl (_, refl, present ts i _ lt at, absent ts us i _ c.requires.chains c.requires.sides c.loop-c.invariant.same lt at (λ within. omega (arith, c.tlid_at-here.ensures, c.if-tlid-here.true)))
+
+pub returns-then-here-tlid : goal.returns-then-here-tlid
+returns-then-here-tlid c =
+    let ts : List _ = tlids c.args.chains.now.chains in
+    let us : List _ = sides_tlids c.args.sides.now in
+    let i = c.loop-c.c in
+    let long = length-map c.args.chains.now.chains (λ (x : CompleteChain). x.tlid) in
+    let wide = length-map c.args.sides.now (λ (s : SidesEntry). s.tlid) in
+    let lt : i < length ts = omega (arith, c.loop-c-test.true, c.len-count.ensures, long) in
+    let at = told ts i c.tlid-tlid.result lt c.tlid-tlid.ensures in
+    let low : i < length us = omega (arith, c.loop-c.invariant.within, c.if-place-sides.false, wide) in
+    let of = c.tlid_at-here.ensures in
+    inr (_, refl, present us i _ low of, absent us ts i _ c.requires.sides c.requires.chains (λ k h. sym (c.loop-c.invariant.same k h)) low of (λ within. omega (arith, at, c.if-here-tlid.true)))
 
 pub loop-c-preserved : goal.loop-c-preserved
 loop-c-preserved c =
@@ -47,12 +49,12 @@ loop-c-preserved c =
     let long = length-map c.args.chains.now.chains (λ (x : CompleteChain). x.tlid) in
     let wide = length-map c.args.sides.now (λ (s : SidesEntry). s.tlid) in
     let lt : i < length ts = omega (arith, c.loop-c-test.true, c.len-count.ensures, long) in
-    let low : i < length us = omega (arith, c.loop-c.invariant.within, c.if-place-sides.false, wide) in
     let at = told ts i c.tlid-tlid.result lt c.tlid-tlid.ensures in
-    let of = tlid_at c.args.sides.now i (record { tlid = 0; start_cell = None; end_cell = None; left = None; right = None }) (omega (arith, low, wide)) in
+    let low : i < length us = omega (arith, c.loop-c.invariant.within, c.if-place-sides.false, wide) in
+    let of = c.tlid_at-here.ensures in
     record {
       within = omega (arith, low, wide);
-      same = same_more us ts i c.loop-c.invariant.same (omega (arith, at, of, c.if-tlid-sides.false, c.if-sides-place.false));
+      same = same_more us ts i c.loop-c.invariant.same (omega (arith, at, of, c.if-tlid-here.false, c.if-here-tlid.false));
     }
 
 pub returns-then-sides-count : goal.returns-then-sides-count
@@ -63,7 +65,7 @@ returns-then-sides-count c =
     let long = length-map c.args.chains.now.chains (λ (x : CompleteChain). x.tlid) in
     let wide = length-map c.args.sides.now (λ (s : SidesEntry). s.tlid) in
     let low : i < length us = omega (arith, c.if-sides-count.true, wide) in
-    let of = tlid_at c.args.sides.now i (record { tlid = 0; start_cell = None; end_cell = None; left = None; right = None }) (omega (arith, low, wide)) in
+    let of = c.tlid_at-here-then-sides-count.ensures in
     inr (_, refl, present us i _ low of, absent us ts i _ c.requires.sides c.requires.chains (λ k h. sym (c.loop-c.invariant.same k (omega (arith, h, c.loop-c-test.false)))) low of (λ within. absurd (omega (arith, within, long, c.len-count.ensures))))
 
 pub returns : goal.returns

@@ -117,6 +117,27 @@ fn darts_of_a_chain(rt: HostRuntime) -> Result<(), Fail> {
     Ok(())
 }
 
+/// A triangle, and a ring that begins and ends at one of its corners.
+#[test]
+fn nodes_from_west_to_east(rt: HostRuntime) -> Result<(), Fail> {
+    let mut text = Text::new(rt.alloc());
+    text.chain(1, at(7, 7), at(5, 5))?;
+    text.chain(2, at(5, 5), at(5, 5))?;
+    text.shape(2, 1, &[at(6, 2), at(8, 2)])?;
+    text.chain(3, at(5, 5), at(5, -3))?;
+    text.chain(4, at(5, -3), at(7, 7))?;
+    for tlid in 1..5 {
+        text.sides(tlid, 0, 0)?;
+    }
+    let map = text.read_map(rt.alloc())?;
+    assert!(rt; map.chains() == 4 && map.nodes() == 3);
+    assert!(rt; map.dart_node(0) == 2 && map.dart_node(1) == 1);
+    assert!(rt; map.dart_node(2) == 1 && map.dart_node(3) == 1);
+    assert!(rt; map.dart_node(4) == 1 && map.dart_node(5) == 0);
+    assert!(rt; map.dart_node(6) == 0 && map.dart_node(7) == 2);
+    Ok(())
+}
+
 #[test]
 fn links_by_their_first_records(rt: HostRuntime) -> Result<(), Fail> {
     let mut text = Text::new(rt.alloc());

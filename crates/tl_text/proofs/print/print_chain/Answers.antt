@@ -1,4 +1,5 @@
-use Rattle.std.proofs.Common.{◌≡◌, ◌∙◌, take, decimal, rules, refl, arith, pos}
+use Rattle.std.proofs.Common.{◌≡◌, ◌∙◌, ◌++◌, take, decimal, rules, refl, arith, pos}
+use Rattle.std.specs.Prelude.{codes}
 use Rattle.std.proofs.lemmas.List.{take_all}
 use Rattle.std.proofs.KnownBytes.{Appends-trans}
 use Rattle.tl_text.proofs.PrintingLemmas.{OnOk-appends, points_text-next}
@@ -16,7 +17,6 @@ pub returns-clause-bytes : goal.returns-clause-bytes
 unfolding chain_text
 returns-clause-bytes g c =
     let all : take c.loop-point.point-index c.args.points.now ≡ c.args.points.now = take_all _ _ (omega arith) in
-    let number : c.as_bytes.result.now ≡ decimal c.args.tlid = search rules in
-    let head = Appends-trans _ _ _ _ _ c.in_ok-add.ensures.bytes c.in_ok-add-2.ensures.bytes in
-    let points = Appends-trans _ _ _ _ _ head c.loop-point.invariant.0 in
-    OnOk-appends c.add-3.result _ _ _ _ _ _ points c.add-3.ensures.bytes (rw (all, number) refl)
+    let head : c.as_bytes.result.now ≡ codes "tlid " ++ decimal c.args.tlid = search rules in
+    let points = Appends-trans _ _ _ _ _ c.in_ok-add.ensures.bytes c.loop-point.invariant.0 in
+    OnOk-appends c.add-2.result _ _ _ _ _ _ points c.add-2.ensures.bytes (rw (all, head) refl)

@@ -6,7 +6,7 @@ use Rattle.tl_map.proofs.areas.AreaRecords.add.Goals as goal
 
 pub returns-in_ok-push-in-Sides : goal.returns-in_ok-push-in-Sides
 returns-in_ok-push-in-Sides c = λ rs h. rw c.in-Sides.is (record {
-  sides = added sides_at rs (Sides c.in-Sides.tlid c.in-Sides.start_cell c.in-Sides.end_cell c.in-Sides.left c.in-Sides.right) _ _ _ refl h.sides c.in_ok-push-in-Sides.ensures.items;
+  sides = added sides_at rs (Sides c.in-Sides.tlid c.in-Sides.start_cell c.in-Sides.end_cell c.in-Sides.left c.in-Sides.right) _ _ _ refl h.sides (rw c.new.ensures at c.in_ok-push-in-Sides.ensures.items);
   polygons = kept polygon_at rs (Sides c.in-Sides.tlid c.in-Sides.start_cell c.in-Sides.end_cell c.in-Sides.left c.in-Sides.right) _ refl h.polygons;
   landmarks = kept landmark_at rs (Sides c.in-Sides.tlid c.in-Sides.start_cell c.in-Sides.end_cell c.in-Sides.left c.in-Sides.right) _ refl h.landmarks;
   links = kept link_at rs (Sides c.in-Sides.tlid c.in-Sides.start_cell c.in-Sides.end_cell c.in-Sides.left c.in-Sides.right) _ refl h.links;

@@ -12,8 +12,8 @@ points-requires c =
     let wide = length-sided c.self.inside.chains.chains c.self.inside.sides.items c.self.invariant.0 in
     omega (arith, wide, rw (← c.self.view_is) at c.requires)
 
-pub index-sides-requires : goal.index-sides-requires
-index-sides-requires c =
+pub index-requires : goal.index-requires
+index-requires c =
     let wide = length-sided c.self.inside.chains.chains c.self.inside.sides.items c.self.invariant.0 in
     omega (arith, wide, c.self.invariant.0, c.self.inside.sides.ok.0, rw (← c.self.view_is) at c.requires)
 
@@ -21,7 +21,7 @@ pub returns-clause-chain : goal.returns-clause-chain
 returns-clause-chain c =
     let wide = length-sided c.self.inside.chains.chains c.self.inside.sides.items c.self.invariant.0 in
     let lt : c.args.c < length c.self.inside.chains.chains = omega (arith, wide, rw (← c.self.view_is) at c.requires) in
-    rw (← c.self.view_is) (chain_read c.self.inside.chains.chains c.self.inside.sides.items c.args.c c.tlid.result c.points.result.now c.index-sides.result.now lt c.self.invariant.0 c.tlid.ensures c.points.ensures c.index-sides.ensures)
+    rw (← c.self.view_is, c.whole-sides.ensures) (chain_read c.self.inside.chains.chains c.self.inside.sides.items c.args.c c.tlid.result c.points.result.now c.index.result.now lt c.self.invariant.0 c.tlid.ensures c.points.ensures c.index.ensures)
 
 pub returns-clause-points : goal.returns-clause-points
 returns-clause-points c =

@@ -1,4 +1,4 @@
-use Rattle.std.proofs.Common.{◌≡◌, ◌+◌, ◌-◌, ◌<◌, ◌∙◌, pos, [], length, get_or, ap, refl, sym, subst, arith}
+use Rattle.std.proofs.Common.{◌≡◌, ◌+◌, ◌-◌, ◌<◌, pos, [], length, ap, arith}
 use Rattle.std.proofs.lemmas.List.{take_all}
 use Rattle.tl_geom.specs.declared.point.Point.{Point}
 use Rattle.tl_map.specs.Chains.{CompleteChain, IsProper, segment_count}
