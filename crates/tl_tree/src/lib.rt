@@ -17,6 +17,7 @@ mod hits;
 mod hull;
 mod index;
 mod items;
+mod lanes;
 pub mod laws;
 mod node;
 mod plain_list;
