@@ -37,6 +37,8 @@ pub use preorder::is_preorder;
 pub use probe::Probe;
 
 #[cfg(test)]
+mod index_tests;
+#[cfg(test)]
 mod segment_tests;
 #[cfg(test)]
 mod tests;

@@ -8,9 +8,7 @@ ghost use Rattle.tl_tree.specs.Searches.{MayAnswer};
 ghost use Rattle.tl_tree.specs.Trees.{leaf_items};
 ghost use Rattle.tl_tree.specs.Walking.{MayLeave, items_below, IsSound, AreSound};
 
-use crate::lanes::{
-    bounds_of_eight, is_first_marked, later_marks, marks_behind, meeting_roots,
-};
+use crate::lanes::{bounds_of_eight, is_first_marked, later_marks, marks_behind, meeting_roots};
 use crate::walk::{Below, Tree, Trees};
 use crate::{Items, Search};
 use tl_geom::Rect8;

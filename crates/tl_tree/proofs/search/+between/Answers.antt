@@ -29,7 +29,7 @@ search_marked-search_if_marked-requires g t c =
     let h : IsSound n b see c.in-Some.other = sound-first see n b (see c.args.others.now) c.in-Some.other (see c.in-Some.rest) c.in-Some.ensures c.requires.others in
     let e : node_count (see c.args.others.now) ≡ size_of see c.in-Some.other.below + node_count (see c.in-Some.rest) = nodes-split see (see c.args.others.now) c.in-Some.other.rect c.in-Some.other.below (see c.in-Some.rest) c.in-Some.ensures in
     let no : IsFalse c.is_first_marked.result → AreMeeting c.in-Some.other.rect c.args.tree.now.rect → ⊥ =
-        λ f m. false≢true (sym f ∙ c.is_first_marked.ensures.1 (c.requires.marks 0 (omega arith) (first-root see (see c.args.others.now) c.in-Some.other.rect c.in-Some.other.below (see c.in-Some.rest) c.args.tree.now.rect c.in-Some.ensures m))) in
+    λ f m. false≢true (sym f ∙ c.is_first_marked.ensures.1 (c.requires.marks 0 (omega arith) (first-root see (see c.args.others.now) c.in-Some.other.rect c.in-Some.other.below (see c.in-Some.rest) c.args.tree.now.rect c.in-Some.ensures m))) in
     search rules
 
 pub search_marked-returns-in_err-left_then : goal.search_marked-returns-in_err-left_then
@@ -48,7 +48,7 @@ search_marked-search_marked-requires g t c =
     let e : node_count (see c.args.others.now) ≡ size_of see c.in-Some.other.below + node_count (see c.in-Some.rest) = nodes-split see (see c.args.others.now) c.in-Some.other.rect c.in-Some.other.below (see c.in-Some.rest) c.in-Some.ensures in
     let k : 0 < size_of see c.in-Some.other.below = size-above_0 see c.in-Some.other.below in
     let m : Includes c.later_marks.result (RootMeets (see c.in-Some.rest) c.args.tree.now.rect) =
-        includes-roots see (see c.args.others.now) c.in-Some.other.rect c.in-Some.other.below (see c.in-Some.rest) c.args.tree.now.rect c.args.marks c.later_marks.result c.in-Some.ensures c.later_marks.ensures.moved c.later_marks.ensures.last c.requires.marks in
+    includes-roots see (see c.args.others.now) c.in-Some.other.rect c.in-Some.other.below (see c.in-Some.rest) c.args.tree.now.rect c.args.marks c.later_marks.result c.in-Some.ensures c.later_marks.ensures.moved c.later_marks.ensures.last c.requires.marks in
     search rules
 
 pub search_marked-returns : goal.search_marked-returns
