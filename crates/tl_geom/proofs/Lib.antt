@@ -12,3 +12,4 @@ pub mod Within
 pub mod Overlaps
 pub mod Contacts
 pub mod Meetings
+pub mod Masks

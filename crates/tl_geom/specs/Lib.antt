@@ -4,3 +4,5 @@ pub mod Turning
 pub mod Ray
 pub mod Rectangle
 pub mod Lines
+pub mod EightRectangles
+pub mod Lanes

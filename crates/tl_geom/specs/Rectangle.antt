@@ -39,3 +39,7 @@ rect_of s =
 -- the rectangle of the ray that runs from q to the east: as far as an i32 goes, at the height of q
 abbrev pub ray_rect : Point → Rect
 ray_rect q = record { xmin = q.x; ymin = q.y; xmax = pos 2147483647; ymax = q.y }
+
+-- a rectangle that holds no point
+abbrev pub nothing : Rect
+nothing = record { xmin = pos 1; ymin = pos 1; xmax = pos 0; ymax = pos 0 }

@@ -14,6 +14,7 @@ mod point;
 mod rational;
 mod ray;
 mod rect;
+mod rect8;
 mod round;
 mod segment;
 mod shared;
@@ -25,11 +26,14 @@ pub use point::Point;
 pub use rational::Rational;
 pub use ray::crosses_ray;
 pub use rect::Rect;
+pub use rect8::Rect8;
 pub use round::round_cmp;
 pub use segment::Segment;
 pub use shared::Contact;
 
 #[cfg(test)]
 mod grid_tests;
+#[cfg(test)]
+mod rect8_tests;
 #[cfg(test)]
 mod tests;

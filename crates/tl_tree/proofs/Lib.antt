@@ -14,3 +14,5 @@ pub mod Hulls
 pub mod Marks
 pub mod Checks
 pub mod Whole
+mod Marks8
+mod Roots

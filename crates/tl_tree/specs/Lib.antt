@@ -9,3 +9,4 @@ pub mod Sizes
 pub mod Checking
 pub mod Branches
 pub mod Boxed
+pub mod Marking

@@ -17,6 +17,7 @@ mod hits;
 mod hull;
 mod index;
 mod items;
+mod lanes;
 pub mod laws;
 mod node;
 mod plain_list;
@@ -35,6 +36,8 @@ pub use plain_list::PlainList;
 pub use preorder::is_preorder;
 pub use probe::Probe;
 
+#[cfg(test)]
+mod index_tests;
 #[cfg(test)]
 mod segment_tests;
 #[cfg(test)]

@@ -4,6 +4,11 @@ ghost use Rattle.tl_tree.specs.Preorder.{IsPreorder};
 
 use crate::TreeNode;
 
+// How many children an inner node has, at least and at most.
+const LEAST: u8 = 2;
+
+const MOST: u8 = 8;
+
 /// Whether the nodes are one whole tree in preorder, where each inner node has 2 to 8 children, or there is no node.
 pub fn is_preorder(nodes: &[TreeNode]) -> bool
     ensures { IsTrue result ↔ IsPreorder nodes.now }
@@ -19,7 +24,7 @@ pub fn is_preorder(nodes: &[TreeNode]) -> bool
         match node {
             TreeNode::Leaf(_, _) => awaited -= 1,
             TreeNode::Inner(_, children) => {
-                if *children < 2 || 8 < *children {
+                if *children < LEAST || MOST < *children {
                     return false;
                 }
                 awaited = awaited - 1 + u128::from(*children);

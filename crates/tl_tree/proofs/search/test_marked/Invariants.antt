@@ -1,8 +1,9 @@
-use Rattle.std.proofs.Common.{◌≡◌, ◌+◌, drop}
+use Rattle.std.proofs.Common.{◌≡◌, ℕ, ◌+◌, drop}
+use Rattle.tl_tree.specs.Marking.{Includes, MeetsAt}
 use Rattle.tl_tree.specs.Pairs.{meeting, AreFree, row_sum, AllRow}
-use Rattle.tl_tree.proofs.search.test_row.Given as goal
+use Rattle.tl_tree.proofs.search.test_marked.Given as goal
 
--- what is left covers what was met so far, and so far nothing conflicted
+-- what is left covers what was met so far, and so far nothing conflicted; the marks are those of the others
 abbrev pub invariant-loop-j : goal.invariant-loop-j
 invariant-loop-j g l =
     let meet = row_sum (meeting (g.I.Items.bounds_of l.items)) l.i in
@@ -10,4 +11,5 @@ invariant-loop-j g l =
     record {
       left : l.rest + meet l.others ≡ l.left + meet (drop l.j-index l.others);
       free : free (drop l.j-index l.others) → free l.others;
+      marks : Includes l.later (λ k. MeetsAt (g.I.Items.bounds_of l.items) l.i l.others (k + l.j-index));
     }

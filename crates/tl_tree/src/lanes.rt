@@ -1,0 +1,78 @@
+//! Eight at once: which of the first eight items or trees a rectangle may meet.
+ghost use Rattle.std.specs.Prelude.{◌≡◌, ℕ, ◌<◌, ◌≤◌, ◌+◌, ◌↔◌, length, get_or, IsTrue};
+ghost use Rattle.std.specs.Int.{bit_at};
+ghost use Rattle.tl_geom.specs.Rectangle.{nothing};
+ghost use Rattle.tl_tree.specs.Fits.{AreBelow};
+ghost use Rattle.tl_tree.specs.Marking.{AreBoundsOf, Includes, RootMeets, roots};
+
+use crate::Items;
+use crate::hull::NOTHING;
+use crate::walk::Trees;
+use tl_geom::{Rect, Rect8};
+
+/// The bounds of the first eight of some items.
+pub fn bounds_of_eight<I: Items>(items: &I, some: &[u32]) -> Rect8
+    requires { AreBelow (I.count items.now) some.now }
+    ensures { AreBoundsOf (I.bounds_of items.now) some.now result }
+{
+    let mut rects = [NOTHING; 8];
+    for k in 0..some.len().min(8) {
+        rects[k] = items.bounds(some[k]);
+    }
+    Rect8::gather(&rects)
+}
+
+/// Whether the first one is marked.
+pub fn is_first_marked(marks: u8) -> bool
+    ensures { IsTrue result ↔ (bit_at marks 0 ≡ 1) }
+{
+    marks % 2 == 1
+}
+
+/// The marks without the first one. Behind the eighth all are marked.
+pub fn later_marks(marks: u8) -> u8
+    ensures moved { (k : ℕ) → k < 7 → bit_at result k ≡ bit_at marks (k + 1) }
+    ensures last { bit_at result 7 ≡ 1 }
+{
+    marks / 2 + 128
+}
+
+/// The marks without the first `count` ones. Behind the eighth all are marked.
+pub fn marks_behind(marks: u8, count: usize) -> u8
+    ensures moved { (k : ℕ) → k < 8 → k + count < 8 → bit_at result k ≡ bit_at marks (k + count) }
+    ensures last { (k : ℕ) → k < 8 → 8 ≤ k + count → bit_at result k ≡ 1 }
+{
+    let mut rest = marks;
+    for _i in 0..count {
+        rest = later_marks(rest);
+    }
+    rest
+}
+
+/// Puts the rectangles of some trees into an array of eight, from a place on.
+fn fill_roots<W: Trees>(trees: &W, rects: &mut [Rect], from: usize)
+    requires eight { length rects.old ≡ 8 }
+    requires within { from ≤ 8 }
+    ensures eight { length rects.new ≡ 8 }
+    ensures kept { (k : ℕ) → k < from → get_or rects.new k nothing ≡ get_or rects.old k nothing }
+    ensures found { (k : ℕ) → k + from < 8 → k < length (roots (W.forest trees.now)) →
+        get_or rects.new (k + from) nothing ≡ get_or (roots (W.forest trees.now)) k nothing }
+{
+    if from >= 8 {
+        return;
+    }
+    let Some((tree, rest)) = trees.split_first() else {
+        return;
+    };
+    rects[from] = tree.rect;
+    fill_roots(&rest, rects, from + 1);
+}
+
+/// Which of the first eight trees have rectangles that meet a rectangle: those that aren't marked have not.
+pub fn meeting_roots<W: Trees>(trees: &W, rect: Rect) -> u8
+    ensures { Includes result (RootMeets (W.forest trees.now) rect) }
+{
+    let mut rects = [NOTHING; 8];
+    fill_roots(trees, &mut rects, 0);
+    Rect8::gather(&rects).meets8(rect)
+}
