@@ -30,10 +30,3 @@ pub use rect8::Rect8;
 pub use round::round_cmp;
 pub use segment::Segment;
 pub use shared::Contact;
-
-#[cfg(test)]
-mod grid_tests;
-#[cfg(test)]
-mod rect8_tests;
-#[cfg(test)]
-mod tests;

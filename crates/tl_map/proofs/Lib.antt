@@ -7,7 +7,6 @@ pub mod JoinLemmas
 pub mod CollectLemmas
 pub mod OrderLemmas
 pub mod ChainLemmas
-pub mod PlainLemmas
 pub mod IndexLemmas
 pub mod SideLemmas
 pub mod AreaLemmas

@@ -21,8 +21,6 @@ pub mod laws;
 mod map;
 mod nodes;
 mod passes;
-#[cfg(test)]
-mod plain;
 mod polygons;
 mod read;
 mod segments;

@@ -137,6 +137,3 @@ pub fn read_map_with<R: Source>(
     let (collected, areas) = collect_all(alloc, &mut reader)?;
     build_map(alloc, collected, areas, reader.skipped())
 }
-
-#[cfg(test)]
-mod tests;

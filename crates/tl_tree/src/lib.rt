@@ -35,10 +35,3 @@ pub use node::TreeNode;
 pub use plain_list::PlainList;
 pub use preorder::is_preorder;
 pub use probe::Probe;
-
-#[cfg(test)]
-mod index_tests;
-#[cfg(test)]
-mod segment_tests;
-#[cfg(test)]
-mod tests;

@@ -1,15 +1,13 @@
 mod map;
 
-use crate::chains::Chains;
-use crate::fault::{Limited, MapFault, MapStop};
 use crate::plain::plain_points;
-use crate::read::read_chains;
 use std::alloc::{AllocError, Global};
 use std::io;
 use std::io::Read;
 use std::process::Abort;
 use std::test::Fail;
 use tl_geom::Point;
+use tl_map::{Chains, Limited, MapFault, MapStop, read_chains};
 use tl_record::{Cause, Field, Meter, Record, RecordReader};
 
 /// Record lines, written field by field.

@@ -2,8 +2,8 @@ use Rattle.std.proofs.Common.{◌≡◌, ◌∷◌, [], ◌++◌, ◌∙◌, ℕ
 use Rattle.std.proofs.lemmas.List.Filters.{dedup_is}
 use Rattle.std.specs.List.{dedup}
 use Rattle.tl_map.specs.Chains.{used, pairs_up_to, shape_count, same_point}
-use Rattle.tl_map.proofs.PlainLemmas.{used_up_to-more}
-use Rattle.tl_map.proofs.plain.plain_points.Goals as goal
+use Rattle.map_tests.proofs.PlainLemmas.{used_up_to-more}
+use Rattle.map_tests.proofs.plain.plain_points.Goals as goal
 
 pub loop-index-preserved : goal.loop-index-preserved
 loop-index-preserved c =

@@ -1,10 +1,10 @@
 //! Worked examples with answers from outside, and plain programs that go another way.
-use crate::{
-    Contact, Direction, Point, Rational, Rect, Segment, contact, crosses_ray, on, round_cmp, turn,
-};
 use std::cmp::Ordering;
 use std::process::Abort;
 use std::test::Fail;
+use tl_geom::{
+    Contact, Direction, Point, Rational, Rect, Segment, contact, crosses_ray, on, round_cmp, turn,
+};
 
 const LEAST: i32 = i32::MIN;
 

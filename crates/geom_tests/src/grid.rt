@@ -1,8 +1,8 @@
 //! Every two segments with ends in a 4 by 4 square, against a plain program that goes another way: it solves the two lines
 //! for their meeting point in rationals, and tests the definition at that point and at the four ends. Its numbers are
 //! small, so that nothing wraps.
-use crate::{Contact, Point, Rational, Segment, contact};
 use std::process::Abort;
+use tl_geom::{Contact, Point, Rational, Segment, contact};
 
 /// A place `(x/d, y/d)`.
 #[derive(Clone, Copy)]

@@ -1,11 +1,8 @@
 use super::{Text, at};
-use crate::fault::{MapFault, MapStop};
-use crate::map::Map;
-use crate::read::{read_map, read_map_with};
-use crate::sides::Side;
 use std::alloc::{AllocError, Global};
 use std::test::Fail;
 use tl_geom::Point;
+use tl_map::{Map, MapFault, MapStop, Side, read_map, read_map_with};
 use tl_record::{Meter, Options, PolyKey};
 
 impl Text {

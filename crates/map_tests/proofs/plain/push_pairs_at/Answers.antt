@@ -1,8 +1,8 @@
 use Rattle.std.proofs.Common.{◌++◌, ◌∙◌, ap, sym}
 use Rattle.std.proofs.lemmas.List.{append-nil}
 use Rattle.tl_map.specs.Chains.{used}
-use Rattle.tl_map.proofs.PlainLemmas.{found_here, found_nowhere}
-use Rattle.tl_map.proofs.plain.push_pairs_at.Goals as goal
+use Rattle.map_tests.proofs.PlainLemmas.{found_here, found_nowhere}
+use Rattle.map_tests.proofs.plain.push_pairs_at.Goals as goal
 
 pub returns-then-from-number : goal.returns-then-from-number
 returns-then-from-number c =

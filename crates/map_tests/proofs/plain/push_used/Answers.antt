@@ -2,9 +2,9 @@ use Rattle.std.proofs.Common.{◌∷◌, [], ◌++◌, ◌∙◌, ◌<◌, ap, s
 use Rattle.std.proofs.lemmas.List.{append_assoc}
 use Rattle.tl_map.specs.Chains.{used}
 use Rattle.std.proofs.Common.{take}
-use Rattle.tl_map.proofs.PlainLemmas.{used_more-none, used_more-some}
-use Rattle.tl_map.proofs.plain.push_used.Goals as goal
-use Rattle.tl_map.proofs.plain.push_used.Goals.{in-None, in-Some+in_ok-push-in-Some}
+use Rattle.map_tests.proofs.PlainLemmas.{used_more-none, used_more-some}
+use Rattle.map_tests.proofs.plain.push_used.Goals as goal
+use Rattle.map_tests.proofs.plain.push_used.Goals.{in-None, in-Some+in_ok-push-in-Some}
 
 pub loop-pair-preserved : goal.loop-pair-preserved
 loop-pair-preserved c =

@@ -1,7 +1,7 @@
 //! Segments as items, which conflict where they share a point.
-use crate::{BoxIndex, Items, PlainList, Search};
 use std::test::Fail;
 use tl_geom::{Contact, Point, Rect, Segment, contact};
+use tl_tree::{BoxIndex, Items, PlainList, Search};
 
 /// Two segments as items, which conflict where they share a point.
 #[derive(Drop)]

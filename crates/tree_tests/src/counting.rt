@@ -1,14 +1,14 @@
 //! Searches, hits and checks of small trees, by items that count what they are asked.
-use crate::{
-    BoxIndex, BoxTree, FlatTree, Items, PlainList, Probe, Search, TreeFault, TreeNode, TreeStop,
-    is_preorder,
-};
 use arrayvec::ArrayVec;
 use std::alloc::Global;
 use std::cell::Cell;
 use std::process::Abort;
 use std::test::Fail;
 use tl_geom::{Point, Rect};
+use tl_tree::{
+    BoxIndex, BoxTree, FlatTree, Items, PlainList, Probe, Search, TreeFault, TreeNode, TreeStop,
+    is_preorder,
+};
 
 /// Four rectangles as items, of which one pair may conflict. They claim nothing of what they tell, count how often they
 /// are asked, and keep whether they were asked of one pair twice or of a pair that doesn't meet.

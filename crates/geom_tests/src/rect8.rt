@@ -1,6 +1,6 @@
 //! Eight rectangles at once, beside one at a time.
-use crate::{Rect, Rect8};
 use std::test::Fail;
+use tl_geom::{Rect, Rect8};
 
 fn rect(xmin: i32, ymin: i32, xmax: i32, ymax: i32) -> Rect {
     Rect {

@@ -1,13 +1,15 @@
 //! The three indexes over the same items: equal hits and equal answers.
 ghost use Rattle.std.specs.Prelude.{◌≡◌, ◌<◌, ◌^◌, length, IfOk};
 
-use crate::{BoxIndex, BoxTree, FlatTree, Items, PlainList, Probe, Search, TreeNode, is_preorder};
 use arrayvec::ArrayVec;
 use std::alloc::Global;
 use std::cell::Cell;
 use std::process::Abort;
 use std::test::Fail;
 use tl_geom::{Point, Rect};
+use tl_tree::{
+    BoxIndex, BoxTree, FlatTree, Items, PlainList, Probe, Search, TreeNode, is_preorder,
+};
 
 /// Rectangles as items, none of which conflict. They claim nothing of what they tell, and count how often they are asked.
 #[derive(Drop)]
