@@ -5,7 +5,9 @@ use tl_geom::Point;
 
 // The side of a block, in millionths of a degree.
 const SIDE: i64 = 1200;
+
 const WEST: i64 = -76_700_000;
+
 const SOUTH: i64 = 39_200_000;
 
 /// A generator of numbers that are all alike from run to run.

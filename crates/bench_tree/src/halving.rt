@@ -52,7 +52,11 @@ fn sort_along(rects: &[Rect], entries: &mut [Entry], hull: Rect) {
 /// Where some entries are halved, so that leaves of eight are full.
 fn half(len: usize) -> usize {
     let half = len / 2;
-    if half % 8 == 0 || len - half < 9 { half } else { half / 8 * 8 + 8 }
+    if half % 8 == 0 || len - half < 9 {
+        half
+    } else {
+        half / 8 * 8 + 8
+    }
 }
 
 fn push_leaf(nodes: &mut Vec<TreeNode>, hull: Rect, entries: &[Entry]) -> Result<(), AllocError> {
@@ -120,11 +124,7 @@ fn push_children(
 }
 
 /// The tree over the segments, with two children a node or, where `eight` says so, up to eight.
-pub fn tree_of(
-    alloc: Global,
-    streets: &Streets,
-    eight: bool,
-) -> Result<Vec<TreeNode>, AllocError> {
+pub fn tree_of(alloc: Global, streets: &Streets, eight: bool) -> Result<Vec<TreeNode>, AllocError> {
     let rects = streets.rectangles(alloc)?;
     let mut entries = Vec::new(alloc);
     for item in 0..streets.len() {

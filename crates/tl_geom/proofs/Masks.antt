@@ -1,5 +1,5 @@
 -- Vectors of eight numbers that are compared.
-use Rattle.std.proofs.Common.{◌≡◌, ℕ, zero, suc, ◌<◌, ◌≤◌, ◌^◌, ◌%◌, ◌-◌, Bool, true, false, T, cond, ◌↔◌, ℤ, pos, ◌≤ℤ◌, List, [], ◌∷◌, map, length, get_or, FitsSigned, of_z, to_z, w32, refl, sym, ap, ap₂, ◌∙◌, subst, arith, min, bit_and, replicate}
+use Rattle.std.proofs.Common.{◌≡◌, ℕ, zero, suc, ◌<◌, ◌^◌, ◌%◌, ◌-◌, Bool, true, false, T, cond, ◌↔◌, ℤ, pos, ◌≤ℤ◌, List, [], ◌∷◌, map, length, get_or, FitsSigned, of_z, to_z, w32, refl, sym, ap, ap₂, ◌∙◌, subst, arith, min, bit_and, replicate}
 use Rattle.std.specs.Int.{bit_at, int_max, int_min}
 use Rattle.std.specs.Int.Signed.{le_z, le_z_yes}
 use Rattle.std.proofs.lemmas.Int.{to_z-of_z, ints, clamps}

@@ -93,9 +93,7 @@ fn overlap8(low: i32x8, high: i32x8, low2: i32, high2: i32) -> u64
     if high2 < low2 {
         return 0;
     }
-    at_most8(low, high)
-        & at_most8(low, i32x8::splat(high2))
-        & at_most8(i32x8::splat(low2), high)
+    at_most8(low, high) & at_most8(low, i32x8::splat(high2)) & at_most8(i32x8::splat(low2), high)
 }
 
 /// In which lanes the first number is at most the second one.

@@ -1,5 +1,5 @@
 -- Items below two rectangles that don't meet: no pair of them has bounds that meet, and none conflicts.
-use Rattle.std.proofs.Common.{◌≡◌, ℕ, zero, suc, ◌<◌, List, [], ◌∷◌, length, get_or, Option, refl, arith}
+use Rattle.std.proofs.Common.{◌≡◌, ℕ, suc, ◌<◌, List, [], ◌∷◌, length, get_or, Option, refl, arith}
 use Rattle.tl_geom.specs.declared.rect.Rect.{Rect}
 use Rattle.tl_geom.specs.Rectangle.{AreMeeting, Covers}
 use Rattle.tl_tree.specs.Pairs.{row_sum, cross_sum, meeting, AllRow, AllCross, AreFree}

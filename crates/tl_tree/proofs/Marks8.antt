@@ -1,5 +1,5 @@
 -- Marks of the first eight of a list, and what stands behind some of them.
-use Rattle.std.proofs.Common.{◌≡◌, ℕ, zero, suc, ◌+◌, ◌/◌, ◌%◌, ◌^◌, ◌<◌, ◌≤◌, ◌⊎◌, inl, inr, ⊎_elim, ◌↔◌, List, [], ◌∷◌, length, get_or, drop, subst, refl, sym, ap, ◌∙◌, arith}
+use Rattle.std.proofs.Common.{◌≡◌, ℕ, zero, suc, ◌+◌, ◌/◌, ◌<◌, ◌≤◌, ◌⊎◌, inl, inr, ⊎_elim, ◌↔◌, List, [], ◌∷◌, length, get_or, drop, subst, refl, sym, ap, ◌∙◌, arith}
 use Rattle.std.specs.Int.{bit_at}
 use Rattle.tl_geom.specs.declared.rect.Rect.{Rect}
 use Rattle.tl_geom.specs.declared.rect8.Rect8.{Rect8}
@@ -69,9 +69,9 @@ includes-none P m h e k lt p = absurd (omega (arith, sym (bit_at-zero k) ∙ ap 
 
 -- ---- the bounds of the first eight of a list
 
--- the lanes that meet the bounds of an item are the items that meet it
-pub includes-meets : (b : ℕ → Rect) (i : ℕ) (xs : List ℕ) (e : Rect8) (r : Rect) (m : ℕ) → AreBoundsOf b xs e → r ≡ b i → ((k : ℕ) → k < 8 → (bit_at m k ≡ 1) ↔ AreMeeting (lane e k) r) → Includes m (MeetsAt b i xs)
-includes-meets b i xs e r m lanes same bits k lt p = (bits k lt).1 (rw (lanes k lt p.within, same) p.meets)
+-- the lanes that meet a rectangle are the items whose bounds do
+pub includes-meets : (b : ℕ → Rect) (q : Rect) (xs : List ℕ) (e : Rect8) (r : Rect) (m : ℕ) → AreBoundsOf b xs e → r ≡ q → ((k : ℕ) → k < 8 → (bit_at m k ≡ 1) ↔ AreMeeting (lane e k) r) → Includes m (MeetsAt b q xs)
+includes-meets b q xs e r m lanes same bits k lt p = (bits k lt).1 (rw (lanes k lt p.within, same) p.meets)
 
 at-drop : (xs : List ℕ) (c k : ℕ) → get_or (drop c xs) k 0 ≡ get_or xs (k + c) 0
 at-drop xs zero k = let e : k ≡ k + 0 = omega arith in ap (λ i. get_or xs i 0) e
@@ -84,8 +84,8 @@ length-behind [] (suc c) k h = absurd (omega (arith, h))
 length-behind (x ∷ xs) (suc c) k h = omega (arith, length-behind xs c k h)
 
 -- an item behind the first c ones is an item of the list
-pub meets-behind : (b : ℕ → Rect) (i : ℕ) (xs ys : List ℕ) (c k : ℕ) → ys ≡ drop c xs → MeetsAt b i ys k → MeetsAt b i xs (k + c)
-meets-behind b i xs ys c k e p =
-    let P : List ℕ → Type 0 = λ zs. MeetsAt b i zs k in
-    let q : MeetsAt b i (drop c xs) k = subst P e p in
-    record { within = length-behind xs c k q.within; meets = rw (← at-drop xs c k) q.meets }
+pub meets-behind : (b : ℕ → Rect) (q : Rect) (xs ys : List ℕ) (c k : ℕ) → ys ≡ drop c xs → MeetsAt b q ys k → MeetsAt b q xs (k + c)
+meets-behind b q xs ys c k e p =
+    let P : List ℕ → Type 0 = λ zs. MeetsAt b q zs k in
+    let m : MeetsAt b q (drop c xs) k = subst P e p in
+    record { within = length-behind xs c k m.within; meets = rw (← at-drop xs c k) m.meets }

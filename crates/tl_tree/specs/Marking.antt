@@ -11,10 +11,10 @@ use Rattle.tl_tree.specs.Trees.{Forest, none, leaf, inner}
 abbrev pub Includes : ℕ → (ℕ → Type 0) → Type 0
 Includes marks P = (k : ℕ) → k < 8 → P k → bit_at marks k ≡ 1
 
--- item k of the list has bounds that meet those of item i
-pub record MeetsAt (bounds : ℕ → Rect) (i : ℕ) (xs : List ℕ) (k : ℕ) : Type 0 where
+-- item k of the list has bounds that meet a rectangle
+pub record MeetsAt (bounds : ℕ → Rect) (r : Rect) (xs : List ℕ) (k : ℕ) : Type 0 where
   pub within : k < length xs
-  pub meets : AreMeeting (bounds (get_or xs k 0)) (bounds i)
+  pub meets : AreMeeting (bounds (get_or xs k 0)) r
 
 -- the lanes are the bounds of the first eight items of the list
 abbrev pub AreBoundsOf : (ℕ → Rect) → List ℕ → Rect8 → Type 0

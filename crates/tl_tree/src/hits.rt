@@ -1,10 +1,13 @@
 //! The search for the items that a probe hits.
-ghost use Rattle.std.specs.Prelude.{◌≡◌, OnOk, OnErr};
+ghost use Rattle.std.specs.Prelude.{◌≡◌, OnOk, OnErr, IsFalse};
+ghost use Rattle.tl_geom.specs.Rectangle.{AreMeeting};
 ghost use Rattle.tl_tree.specs.Fits.{AreBelow, Fits};
 ghost use Rattle.tl_tree.specs.Hits.{Adds};
+ghost use Rattle.tl_tree.specs.Marking.{Includes, RootMeets};
 ghost use Rattle.tl_tree.specs.Trees.{leaf_items};
 ghost use Rattle.tl_tree.specs.Walking.{AreSound, IsSound, Grows, Collects, items_below};
 
+use crate::lanes::{bounds_of_eight, is_first_marked, later_marks, meeting_roots};
 use crate::walk::{Below, Tree, Trees};
 use crate::{Items, Memory, Probe};
 use tl_geom::Rect;
@@ -23,10 +26,12 @@ fn push_hits<I: Items, P: Probe<I>>(
         (Collects (P.hit probe.now items.now) some.now out.old.items out.new.items) }
     ensures grows { Grows out.old.items out.new.items }
 {
+    let mut marks = bounds_of_eight(items, some).meets8(region);
     for i in some {
-        if items.bounds(*i).meets(region) && probe.hits(items, *i) && out.push(*i).is_err() {
+        if is_first_marked(marks) && probe.hits(items, *i) && out.push(*i).is_err() {
             return Err(Memory);
         }
+        marks = later_marks(marks);
     }
     Ok(())
 }
@@ -56,7 +61,8 @@ fn collect_one<I: Items, P: Probe<I>, W: Trees>(
     }
 }
 
-/// Appends the items of some trees that are hit.
+/// Appends the items of some trees that are hit. Of the first eight those whose rectangles don't meet the region are
+/// passed over.
 #[cycle(collect)]
 fn collect_trees<I: Items, P: Probe<I>, W: Trees>(
     items: &I,
@@ -72,11 +78,59 @@ fn collect_trees<I: Items, P: Probe<I>, W: Trees>(
         (leaf_items (W.forest trees.now)) out.old.items out.new.items) }
     ensures grows { Grows out.old.items out.new.items }
 {
+    let marks = meeting_roots(trees, region);
+    collect_marked(items, probe, region, trees, marks, out)
+}
+
+/// Appends the items of some trees that are hit, of which marks tell that the rectangles of others than the marked ones
+/// don't meet the region.
+#[cycle(collect)]
+fn collect_marked<I: Items, P: Probe<I>, W: Trees>(
+    items: &I,
+    probe: &P,
+    region: Rect,
+    trees: &W,
+    marks: u8,
+    out: &mut Vec<u32>,
+) -> Result<(), Memory>
+    requires trees { AreSound (I.count items.now) (I.bounds_of items.now) (W.forest trees.now) }
+    requires region { region ≡ P.region_of probe.now }
+    requires marks { Includes marks (RootMeets (W.forest trees.now) region) }
+    ensures hits { OnOk result
+        (Collects (P.hit probe.now items.now)
+        (leaf_items (W.forest trees.now)) out.old.items out.new.items) }
+    ensures grows { Grows out.old.items out.new.items }
+{
     let Some((tree, rest)) = trees.split_first() else {
         return Ok(());
     };
-    collect_one(items, probe, region, &tree, out)?;
-    collect_trees(items, probe, region, &rest, out)
+    collect_if_marked(items, probe, region, &tree, is_first_marked(marks), out)?;
+    collect_marked(items, probe, region, &rest, later_marks(marks), out)
+}
+
+/// Appends the items of a tree that are hit, unless it is known that its rectangle doesn't meet the region.
+#[cycle(collect)]
+fn collect_if_marked<I: Items, P: Probe<I>, W: Trees>(
+    items: &I,
+    probe: &P,
+    region: Rect,
+    tree: &Tree<'_, W>,
+    marked: bool,
+    out: &mut Vec<u32>,
+) -> Result<(), Memory>
+    requires tree { IsSound (I.count items.now) (I.bounds_of items.now) W.forest tree.now }
+    requires region { region ≡ P.region_of probe.now }
+    requires unmarked { IsFalse marked → ¬ AreMeeting tree.now.rect region }
+    ensures hits { OnOk result
+        (Collects (P.hit probe.now items.now)
+        (items_below W.forest tree.now.below) out.old.items out.new.items) }
+    ensures grows { Grows out.old.items out.new.items }
+{
+    if marked {
+        collect_one(items, probe, region, tree, out)
+    } else {
+        Ok(())
+    }
 }
 
 /// Appends the items that are hit, by trees that fit them. Behind a refused growth `out` is as before.

@@ -71,7 +71,7 @@ fn test_marked<I: Items>(
 ) -> Result<u64, Stop<I::C>>
     requires item { i < I.count items.now }
     requires others { AreBelow (I.count items.now) others.now }
-    requires marks { Includes marks (MeetsAt (I.bounds_of items.now) i others.now) }
+    requires marks { Includes marks (MeetsAt (I.bounds_of items.now) (I.bounds_of items.now i) others.now) }
     ensures { MayLeave (I.count items.now) (I.tells items.now)
         (row_sum (meeting (I.bounds_of items.now)) i others.now)
         (AllRow (AreFree (I.tells items.now)) i others.now) left result }

@@ -184,11 +184,8 @@ fn indexes_agree(rt: HostRuntime) -> Result<(), Fail> {
     assert!(rt; 64 < pairs && pairs < 1000);
     assert_eq!(rt; tested(&rt, &flat, &items), pairs);
     assert_eq!(rt; tested(&rt, &boxed, &items), pairs);
-    for x in 0..8 {
-        let spot = Spot(Point {
-            x: 10 * x,
-            y: 70 - 9 * x,
-        });
+    for (x, y) in [(10, 61), (20, 20), (30, 43), (40, 34), (50, 60), (79, 79)] {
+        let spot = Spot(Point { x, y });
         let wanted = found(rt.alloc(), &plain, &items, &spot)?;
         assert!(rt; found(rt.alloc(), &flat, &items, &spot)? == wanted);
         assert!(rt; found(rt.alloc(), &boxed, &items, &spot)? == wanted);

@@ -3,10 +3,18 @@ use Rattle.tl_tree.specs.Trees.{node_count}
 use Rattle.tl_tree.specs.Walking.{size_of}
 use Rattle.tl_tree.proofs.hits.+collect.Given as goal
 
--- twice the nodes of the tree
+-- four times the nodes of the tree
 abbrev pub decreases-collect_one : goal.decreases-collect_one
-decreases-collect_one g l = 2 * size_of g.W.Trees.forest l.tree.now.below
+decreases-collect_one g l = 4 * size_of g.W.Trees.forest l.tree.now.below
 
--- one more than twice the nodes of the trees
+-- one more than that
+abbrev pub decreases-collect_if_marked : goal.decreases-collect_if_marked
+decreases-collect_if_marked g l = 4 * size_of g.W.Trees.forest l.tree.now.below + 1
+
+-- two more than four times the nodes of the trees
+abbrev pub decreases-collect_marked : goal.decreases-collect_marked
+decreases-collect_marked g l = 4 * node_count (g.W.Trees.forest l.trees.now) + 2
+
+-- three more
 abbrev pub decreases-collect_trees : goal.decreases-collect_trees
-decreases-collect_trees g l = 2 * node_count (g.W.Trees.forest l.trees.now) + 1
+decreases-collect_trees g l = 4 * node_count (g.W.Trees.forest l.trees.now) + 3

@@ -1,4 +1,3 @@
-use Rattle.std.proofs.Common.{◌≡◌, ℕ, suc, ◌+◌, ◌<◌, ◌≤◌, ⊎_elim, arith}
 use Rattle.tl_tree.proofs.Marks8.{moved-more, last-more}
 use Rattle.tl_tree.proofs.lanes.marks_behind.Goals as goal
 

@@ -17,7 +17,7 @@ pub test_marked-requires-clause-marks : goal.test_marked-requires-clause-marks
 test_marked-requires-clause-marks g c =
     let b = g.I.Items.bounds_of c.args.items.now in
     let some = c.args.some.now in
-    let i = get_or some c.args.k 0 in
-    let all = includes-meets b i some c.args.bounds.now c.bounds.result c.meets8.result c.requires.bounds c.bounds.ensures c.meets8.ensures in
-    includes-same _ _ _ (λ k lt p. meets-behind b i some _ (c.args.k + 1) k (rest-of some (c.args.k + 1)) p)
-    (includes-behind (MeetsAt b i some) c.meets8.result c.marks_behind-marks.result (c.args.k + 1) c.marks_behind-marks.ensures.moved c.marks_behind-marks.ensures.last all)
+    let q = b (get_or some c.args.k 0) in
+    let all = includes-meets b q some c.args.bounds.now c.bounds.result c.meets8.result c.requires.bounds c.bounds.ensures c.meets8.ensures in
+    includes-same _ _ _ (λ k lt p. meets-behind b q some _ (c.args.k + 1) k (rest-of some (c.args.k + 1)) p)
+    (includes-behind (MeetsAt b q some) c.meets8.result c.marks_behind-marks.result (c.args.k + 1) c.marks_behind-marks.ensures.moved c.marks_behind-marks.ensures.last all)

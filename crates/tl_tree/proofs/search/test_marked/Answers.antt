@@ -20,7 +20,7 @@ loop-j-init g c =
     record {
       left = omega arith;
       free = λ h. h;
-      marks = includes-same (MeetsAt b c.args.i c.args.others.now) _ c.args.marks (λ k lt m. subst (MeetsAt b c.args.i c.args.others.now) (none_passed k) m) c.requires.marks;
+      marks = includes-same (MeetsAt b (b c.args.i) c.args.others.now) _ c.args.marks (λ k lt m. subst (MeetsAt b (b c.args.i) c.args.others.now) (none_passed k) m) c.requires.marks;
     }
 
 pub returns-in_err-rest : goal.returns-in_err-rest
@@ -37,7 +37,7 @@ loop-j-preserved g c =
     record {
       left = omega (arith, s, c.in_ok-rest.ensures.0, c.loop-j.invariant.left);
       free = λ h. c.loop-j.invariant.free (all_row-step (AreFree (g.I.Items.tells c.args.items.now)) c.args.i c.args.others.now c.loop-j.j-index c.loop-j-test.true c.in_ok-rest.ensures.1 h);
-      marks = includes-same _ _ _ (λ k lt m. subst (MeetsAt b c.args.i c.args.others.now) (passed k) m) (includes-later (λ k. MeetsAt b c.args.i c.args.others.now (k + c.loop-j.j-index)) _ _ c.later_marks-later.ensures.moved c.later_marks-later.ensures.last c.loop-j.invariant.marks);
+      marks = includes-same _ _ _ (λ k lt m. subst (MeetsAt b (b c.args.i) c.args.others.now) (passed k) m) (includes-later (λ k. MeetsAt b (b c.args.i) c.args.others.now (k + c.loop-j.j-index)) _ _ c.later_marks-later.ensures.moved c.later_marks-later.ensures.last c.loop-j.invariant.marks);
     }
 
 pub returns : goal.returns
@@ -52,8 +52,8 @@ test_marked_pair-requires-clause-unmarked g c =
     let others = c.args.others.now in
     let e : c.loop-j.j-index ≡ 0 + c.loop-j.j-index = omega arith in
     λ no m.
-    let here : MeetsAt b i others c.loop-j.j-index = record { within = c.loop-j-test.true; meets = m } in
-    false≢true (sym no ∙ c.is_first_marked.ensures.1 (c.loop-j.invariant.marks 0 (omega arith) (subst (MeetsAt b i others) e here)))
+    let here : MeetsAt b (b i) others c.loop-j.j-index = record { within = c.loop-j-test.true; meets = m } in
+    false≢true (sym no ∙ c.is_first_marked.ensures.1 (c.loop-j.invariant.marks 0 (omega arith) (subst (MeetsAt b (b i) others) e here)))
 
 pub returns-then-others-le8 : goal.returns-then-others-le8
 returns-then-others-le8 g c =
@@ -62,6 +62,6 @@ returns-then-others-le8 g c =
     let i = c.args.i in
     let others = c.args.others.now in
     let none : (k : ℕ) → k < length others → AreMeeting (b (get_or others k 0)) (b i) → ⊥ =
-    λ k l m. includes-none (MeetsAt b i others) c.args.marks c.requires.marks c.if-marks-eq0.true k (omega (arith, l, c.if-others-le8.true)) (record { within = l; meets = m }) in
+    λ k l m. includes-none (MeetsAt b (b i) others) c.args.marks c.requires.marks c.if-marks-eq0.true k (omega (arith, l, c.if-others-le8.true)) (record { within = l; meets = m }) in
     let e : row_sum (meeting b) i others ≡ 0 = row-none b i others none in
     (omega (arith, e), row-none_free n (g.I.Items.tells c.args.items.now) b (g.met.I.Items.apart c.args.items.now) i others c.requires.item c.requires.others none)

@@ -1,4 +1,4 @@
-use Rattle.std.proofs.Common.{◌≡◌, ℕ, ◌+◌, drop}
+use Rattle.std.proofs.Common.{◌≡◌, ◌+◌, drop}
 use Rattle.tl_tree.specs.Marking.{Includes, MeetsAt}
 use Rattle.tl_tree.specs.Pairs.{meeting, AreFree, row_sum, AllRow}
 use Rattle.tl_tree.proofs.search.test_marked.Given as goal
@@ -11,5 +11,5 @@ invariant-loop-j g l =
     record {
       left : l.rest + meet l.others ≡ l.left + meet (drop l.j-index l.others);
       free : free (drop l.j-index l.others) → free l.others;
-      marks : Includes l.later (λ k. MeetsAt (g.I.Items.bounds_of l.items) l.i l.others (k + l.j-index));
+      marks : Includes l.later (λ k. MeetsAt (g.I.Items.bounds_of l.items) (g.I.Items.bounds_of l.items l.i) l.others (k + l.j-index));
     }

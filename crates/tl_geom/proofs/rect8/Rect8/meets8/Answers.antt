@@ -29,11 +29,11 @@ returns c =
     let x' : FitsSigned w32 r.xmax = search rules in
     let y' : FitsSigned w32 r.ymax = search rules in
     λ k lt.
-        let q = lane self k in
-        let a : (bit_at c.overlap8-west_to_east.result k ≡ 1) ↔ (int_max (get_or (map (to_z w32) (map (of_z w32) self.xmin)) k (pos 1)) (to_z w32 (of_z w32 r.xmin)) ≤ℤ int_min (get_or (map (to_z w32) (map (of_z w32) self.xmax)) k (pos 0)) (to_z w32 (of_z w32 r.xmax))) = c.overlap8-west_to_east.ensures.lanes k lt in
-        let b : (bit_at c.overlap8-south_to_north.result k ≡ 1) ↔ (int_max (get_or (map (to_z w32) (map (of_z w32) self.ymin)) k (pos 1)) (to_z w32 (of_z w32 r.ymin)) ≤ℤ int_min (get_or (map (to_z w32) (map (of_z w32) self.ymax)) k (pos 0)) (to_z w32 (of_z w32 r.ymax))) = c.overlap8-south_to_north.ensures.lanes k lt in
-        two_bits k c.overlap8-west_to_east.result c.overlap8-south_to_north.result
-        (int_max q.xmin r.xmin ≤ℤ int_min q.xmax r.xmax) (int_max q.ymin r.ymin ≤ℤ int_min q.ymax r.ymax) (AreMeeting q r)
-        (rw (again self.xmin self.west, again self.xmax self.east, own r.xmin x, own r.xmax x') at a)
-        (rw (again self.ymin self.south, again self.ymax self.north, own r.ymin y, own r.ymax y') at b)
-        (λ x y. meeting_by q r x y) (λ m. by_meeting q r m)
+    let q = lane self k in
+    let a : (bit_at c.overlap8-west_to_east.result k ≡ 1) ↔ (int_max (get_or (map (to_z w32) (map (of_z w32) self.xmin)) k (pos 1)) (to_z w32 (of_z w32 r.xmin)) ≤ℤ int_min (get_or (map (to_z w32) (map (of_z w32) self.xmax)) k (pos 0)) (to_z w32 (of_z w32 r.xmax))) = c.overlap8-west_to_east.ensures.lanes k lt in
+    let b : (bit_at c.overlap8-south_to_north.result k ≡ 1) ↔ (int_max (get_or (map (to_z w32) (map (of_z w32) self.ymin)) k (pos 1)) (to_z w32 (of_z w32 r.ymin)) ≤ℤ int_min (get_or (map (to_z w32) (map (of_z w32) self.ymax)) k (pos 0)) (to_z w32 (of_z w32 r.ymax))) = c.overlap8-south_to_north.ensures.lanes k lt in
+    two_bits k c.overlap8-west_to_east.result c.overlap8-south_to_north.result
+    (int_max q.xmin r.xmin ≤ℤ int_min q.xmax r.xmax) (int_max q.ymin r.ymin ≤ℤ int_min q.ymax r.ymax) (AreMeeting q r)
+    (rw (again self.xmin self.west, again self.xmax self.east, own r.xmin x, own r.xmax x') at a)
+    (rw (again self.ymin self.south, again self.ymax self.north, own r.ymin y, own r.ymax y') at b)
+    (λ x y. meeting_by q r x y) (λ m. by_meeting q r m)
