@@ -6,7 +6,7 @@ use Rattle.tl_geom.specs.declared.rational.Rational.{Rational}
 use Rattle.tl_geom.specs.declared.segment.Segment.{Segment}
 use Rattle.tl_geom.specs.Plane.{IsOn, IsSame, whole, step_cross}
 use Rattle.tl_geom.specs.Contact.{IsOnlyShared, IsEnd, AreApart, MeetAtEnds, IsTouch, IsProper}
-use Rattle.tl_geom.specs.Lines.{AreShares, IsEndAt}
+use Rattle.tl_geom.specs.Keeping.Lines.{AreShares, IsEndAt}
 use Rattle.tl_geom.proofs.Polynomials.{num, ◌⊕◌, ◌⊖◌, ◌⊗◌, same_by}
 use Rattle.tl_geom.proofs.Signs.{zero_product}
 use Rattle.tl_geom.proofs.Places.{place, place_on, place_start, place_finish, some_step, on_same, same_sym, same_trans, same_refl}

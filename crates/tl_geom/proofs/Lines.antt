@@ -5,7 +5,7 @@ use Rattle.tl_geom.specs.declared.rational.Rational.{Rational}
 use Rattle.tl_geom.specs.declared.segment.Segment.{Segment}
 use Rattle.tl_geom.specs.Plane.{IsBetween, cross, step_cross}
 use Rattle.tl_geom.specs.Contact.{IsShared}
-use Rattle.tl_geom.specs.Lines.{AreShares}
+use Rattle.tl_geom.specs.Keeping.Lines.{AreShares}
 use Rattle.tl_geom.proofs.Polynomials.{num, ◌⊕◌, ◌⊖◌, ◌⊗◌, same, same_by, same_by_two}
 use Rattle.tl_geom.proofs.Signs.{mono, mono_lt, cancel_le, times_zero, product_above}
 use Rattle.tl_geom.proofs.Places.{some_step}

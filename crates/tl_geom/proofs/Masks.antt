@@ -9,7 +9,7 @@ use Rattle.std.proofs.lemmas.Simd.{tops_compared, length-zip2, mask_l-mod, mask_
 use lib.Lanes.{Each1, zip2, mask_l, top}
 use Rattle.tl_geom.specs.declared.rect.Rect.{Rect}
 use Rattle.tl_geom.specs.Rectangle.{nothing}
-use Rattle.tl_geom.specs.Lanes.{AreLanes, HasSides}
+use Rattle.tl_geom.specs.Keeping.Lanes.{AreLanes, HasSides}
 
 -- whether the first of two numbers of 32 bits, read with their signs, is at most the second one
 abbrev at_most : ℕ → ℕ → Bool

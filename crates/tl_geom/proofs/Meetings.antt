@@ -8,7 +8,7 @@ use Rattle.tl_geom.specs.declared.shared.Contact.{Contact}
 use Rattle.tl_geom.specs.declared.shared.Contact.TheVariants.{Crossing}
 use Rattle.tl_geom.specs.Plane.{cross, step_cross, whole, place_x, place_y}
 use Rattle.tl_geom.specs.Contact.{AreApart, IsTouch, IsCrossing, IsContact}
-use Rattle.tl_geom.specs.Lines.{AreShares, AreCrosses, AreInLine, IsEndAt, IsInside}
+use Rattle.tl_geom.specs.Keeping.Lines.{AreShares, AreCrosses, AreInLine, IsEndAt, IsInside}
 use Rattle.tl_geom.proofs.Polynomials.{num, ◌⊖◌, ◌⊗◌, same_by_two}
 use Rattle.tl_geom.proofs.Signs.{zero_product}
 use Rattle.tl_geom.proofs.Places.{some_step}

@@ -7,7 +7,7 @@ use Rattle.tl_geom.specs.declared.rational.Rational.{Rational}
 use Rattle.tl_geom.specs.declared.segment.Segment.{Segment}
 use Rattle.tl_geom.specs.Plane.{IsOn, IsSame, IsBetween, cross, whole, turn_of}
 use Rattle.tl_geom.specs.Contact.{IsShared, IsEnd, AreApart, MeetAtEnds, IsMiddle}
-use Rattle.tl_geom.specs.Lines.{AreInLine, AreInOrder, AreEndsInOrder, IsLater, IsEarlier}
+use Rattle.tl_geom.specs.Keeping.Lines.{AreInLine, AreInOrder, AreEndsInOrder, IsLater, IsEarlier}
 use Rattle.tl_geom.proofs.Polynomials.{num, ◌⊖◌, ◌⊗◌, same, same_by, same_by_two}
 use Rattle.tl_geom.proofs.Signs.{mono, cancel_le, zero_product, times_zero, square_above, square, product_at_least, at_least_of_product, between_product, product_between}
 use Rattle.tl_geom.proofs.Places.{some_step, point_same, same_refl, a_on, b_on}

@@ -2,7 +2,7 @@
 ghost use Rattle.std.specs.Prelude.{◌≡◌, ◌≢◌, ◌↔◌, ◌⊎◌, ◌<◌, ◌^◌, ◌≤ℤ◌, ◌<ℤ◌, ◌+ℤ◌, ◌-ℤ◌, ◌*ℤ◌, neg_ℤ, pos, unsigned_abs, IfSome, IfNone, IsTrue, IsFalse};
 ghost use Rattle.tl_geom.specs.Plane.{place_x, place_y, whole};
 ghost use Rattle.tl_geom.specs.Contact.{AreApart, MeetAtEnds, IsCrossing, IsShared, AreBothEnded, IfCrossing, IsContact};
-ghost use Rattle.tl_geom.specs.Lines.{AreShares, IsEndAt, IsInside, AreInLine, AreInOrder, AreEndsInOrder, IsLater, IsEarlier};
+ghost use Rattle.tl_geom.specs.Keeping.Lines.{AreShares, IsEndAt, IsInside, AreInLine, AreInOrder, AreEndsInOrder, IsLater, IsEarlier};
 
 use crate::difference::{cross_of_steps, difference};
 use crate::{Contact, Point, Rational, Segment};

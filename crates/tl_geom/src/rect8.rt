@@ -2,7 +2,7 @@
 ghost use Rattle.std.specs.Prelude.{◌≡◌, ℕ, ◌<◌, ◌≤◌, ◌^◌, ◌↔◌, ◌≤ℤ◌, pos, length, get_or, ◌∷◌, []};
 ghost use Rattle.std.specs.Int.{bit_at, int_max, int_min};
 ghost use Rattle.tl_geom.specs.Rectangle.{AreMeeting, nothing};
-ghost use Rattle.tl_geom.specs.Lanes.{AreLanes};
+ghost use Rattle.tl_geom.specs.Keeping.Lanes.{AreLanes};
 
 use crate::Rect;
 use std::simd::prelude::*;

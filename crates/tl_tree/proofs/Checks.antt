@@ -9,8 +9,8 @@ use Rattle.tl_tree.specs.declared.walk.Below.TheVariants.{Items, Children}
 use Rattle.tl_tree.specs.Fits.{AreBelow, CoversAll, CoversBelow, IsTooSmall, Fits, IsFaultOf, MayFind}
 use Rattle.tl_tree.specs.Hits.{times}
 use Rattle.tl_tree.specs.Trees.{Forest, none, leaf, inner, leaf_items, node_count}
-use Rattle.tl_tree.specs.Walking.{followed, items_below, size_of}
-use Rattle.tl_tree.specs.Checking.{mark_at, AreMarked, IsHull, AreChecked, IsChecked, IsFaultAt, IsFaultBelow}
+use Rattle.tl_tree.specs.Keeping.Walking.{followed, items_below, size_of}
+use Rattle.tl_tree.specs.Keeping.Checking.{mark_at, AreMarked, IsHull, AreChecked, IsChecked, IsFaultAt, IsFaultBelow}
 use Rattle.tl_tree.proofs.Hitting.{times-append, times-above}
 use Rattle.tl_tree.proofs.Hulls.{hull-both}
 use Rattle.tl_tree.proofs.Marks.{marked-both, unmarked, is-marked}

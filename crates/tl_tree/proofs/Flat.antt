@@ -6,7 +6,7 @@ use Rattle.tl_tree.specs.declared.node.TreeNode.{TreeNode}
 use Rattle.tl_tree.specs.declared.node.TreeNode.TheVariants.{Inner, Leaf}
 use Rattle.arrayvec.specs.ArrayVec.{ArrayVec}
 use Rattle.tl_tree.specs.Trees.{Forest, none, leaf, inner, node_count, first_trees, other_trees, trees_of}
-use Rattle.tl_tree.specs.Sizes.{size_at}
+use Rattle.tl_tree.specs.Keeping.Sizes.{size_at}
 
 pub first-none : (k : ℕ) → first_trees k none ≡ none
 first-none zero = refl

@@ -5,7 +5,7 @@ use Rattle.tl_geom.specs.declared.rect.Rect.{Rect}
 use Rattle.tl_geom.specs.Rectangle.{AreMeeting}
 use Rattle.tl_tree.specs.Fits.{AreBelow, CoversAll}
 use Rattle.tl_tree.specs.Hits.{times, AreHits, Adds}
-use Rattle.tl_tree.specs.Walking.{Collects}
+use Rattle.tl_tree.specs.Keeping.Walking.{Collects}
 use Rattle.tl_tree.proofs.Permuted.{same_or, times-same, times-other}
 
 pub times-append : (i : ℕ) (xs ys : List ℕ) → times i (xs ++ ys) ≡ times i xs + times i ys

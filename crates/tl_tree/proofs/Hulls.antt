@@ -4,7 +4,7 @@ use Rattle.std.proofs.lemmas.Int.{ints, by_lt_z}
 use Rattle.tl_geom.specs.declared.rect.Rect.{Rect}
 use Rattle.tl_geom.specs.Rectangle.{Holds, Covers, IsEmpty}
 use Rattle.tl_tree.specs.Fits.{CoversAll}
-use Rattle.tl_tree.specs.Checking.{IsHull}
+use Rattle.tl_tree.specs.Keeping.Checking.{IsHull}
 
 pub empty-x : (r : Rect) → r.xmax <ℤ r.xmin → IsEmpty r
 empty-x r h p k = let w = k.west in let e = k.east in absurd (omega (arith, ints, h, w, e))

@@ -2,7 +2,7 @@
 use Rattle.std.proofs.Common.{◌≡◌, ℕ, ◌+◌, ◌<◌, Option, Result, Ok, Err, arith}
 use Rattle.tl_tree.specs.declared.search.Stop.{Stop}
 use Rattle.tl_tree.specs.declared.search.Stop.TheVariants.{Found, Spent}
-use Rattle.tl_tree.specs.Walking.{MayLeave}
+use Rattle.tl_tree.specs.Keeping.Walking.{MayLeave}
 
 module _ {C : Type 0} (n : ℕ) (tells : ℕ → ℕ → Option C → Type 0) where
   -- a part that stops stops the whole

@@ -3,7 +3,7 @@ use Rattle.std.proofs.Common.{◌≡◌, ℕ, zero, suc, ◌+◌, ◌<◌, ◌�
 use Rattle.std.proofs.lemmas.List.{take_more}
 use Rattle.tl_tree.specs.Fits.{AreBelow}
 use Rattle.tl_tree.specs.Hits.{times}
-use Rattle.tl_tree.specs.Checking.{mark_at, AreMarked}
+use Rattle.tl_tree.specs.Keeping.Checking.{mark_at, AreMarked}
 use Rattle.tl_tree.proofs.Permuted.{same_or, times-same, times-other}
 use Rattle.tl_tree.proofs.Hitting.{times-append}
 

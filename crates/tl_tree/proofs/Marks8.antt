@@ -5,7 +5,7 @@ use Rattle.tl_geom.specs.declared.rect.Rect.{Rect}
 use Rattle.tl_geom.specs.declared.rect8.Rect8.{Rect8}
 use Rattle.tl_geom.specs.EightRectangles.{lane}
 use Rattle.tl_geom.specs.Rectangle.{AreMeeting}
-use Rattle.tl_tree.specs.Marking.{Includes, MeetsAt, AreBoundsOf}
+use Rattle.tl_tree.specs.Keeping.Marking.{Includes, MeetsAt, AreBoundsOf}
 use Rattle.std.proofs.lemmas.Nat.Bits.{bit_at-suc, bit_at-zero}
 
 by_test : (k n : ℕ) → (k < n) ⊎ (n ≤ k)

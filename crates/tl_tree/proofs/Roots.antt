@@ -5,9 +5,9 @@ use Rattle.tl_geom.specs.declared.rect.Rect.{Rect}
 use Rattle.tl_geom.specs.Rectangle.{AreMeeting}
 use Rattle.tl_tree.specs.declared.walk.Below.{Below}
 use Rattle.tl_tree.specs.declared.walk.Below.TheVariants.{Items, Children}
-use Rattle.tl_tree.specs.Marking.{Includes, roots, RootMeets}
+use Rattle.tl_tree.specs.Keeping.Marking.{Includes, roots, RootMeets}
 use Rattle.tl_tree.specs.Trees.{Forest}
-use Rattle.tl_tree.specs.Walking.{followed}
+use Rattle.tl_tree.specs.Keeping.Walking.{followed}
 use Rattle.tl_tree.proofs.Marks8.{includes-later, includes-same}
 
 module _ {W : Type 0} (see : W → Forest) where

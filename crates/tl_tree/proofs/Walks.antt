@@ -8,7 +8,7 @@ use Rattle.tl_tree.specs.Pairs.{cross_sum, pair_sum, AllCross, AllPairs}
 use Rattle.tl_tree.proofs.PairLemmas.{cross-nil, cross-append_right, pair-append, all_cross-nil, all_cross-join, all_pairs-join}
 use Rattle.tl_tree.specs.Fits.{AreBelow, CoversAll, CoversBelow}
 use Rattle.tl_tree.specs.Trees.{Forest, none, leaf_items, node_count}
-use Rattle.tl_tree.specs.Walking.{followed, items_below, size_of, AreSound, IsSound, CoveredBelow, Collects}
+use Rattle.tl_tree.specs.Keeping.Walking.{followed, items_below, size_of, AreSound, IsSound, CoveredBelow, Collects}
 use Rattle.tl_tree.proofs.Hitting.{collects-nothing, collects-both}
 
 pub below-append : (n : ℕ) (xs ys : List ℕ) → AreBelow n (xs ++ ys) → AreBelow n xs × AreBelow n ys

@@ -4,9 +4,4 @@ pub mod Hits
 pub mod Trees
 pub mod Preorder
 pub mod Fits
-pub mod Walking
-pub mod Sizes
-pub mod Checking
-pub mod Branches
-pub mod Boxed
-pub mod Marking
+pub mod Keeping

@@ -1,7 +1,7 @@
 //! The boxed tree: nodes that own their children.
 ghost use Rattle.std.specs.Prelude.{◌≡◌, ◌<◌, ◌≤◌, ◌^◌, ◌↔◌, None, length, IfOk, IfErr};
 ghost use Rattle.tl_tree.specs.declared.fault.TreeStop.TheVariants.{TooDeep};
-ghost use Rattle.tl_tree.specs.Branches.{forest_of};
+ghost use Rattle.tl_tree.specs.Keeping.Branches.{forest_of};
 ghost use Rattle.tl_tree.specs.Fits.{Fits, MayFind};
 ghost use Rattle.tl_tree.specs.Preorder.{IsPreorder};
 ghost use Rattle.tl_tree.specs.Trees.{depth, tree_of, node_count};
@@ -21,7 +21,7 @@ pub struct BoxTree {
 }
 
 impl BoxTree {
-    ghost use Rattle.tl_tree.specs.Boxed.{unboxed};
+    ghost use Rattle.tl_tree.specs.Keeping.Boxed.{unboxed};
 
     /// The tree of a list of nodes that [`is_preorder`](crate::is_preorder) takes, fewer than 4,294,967,296 of them.
     /// `TooDeep` comes exactly where a node has a depth above 64, unless memory was refused first.
@@ -51,7 +51,7 @@ impl BoxTree {
 }
 
 impl BoxIndex for BoxTree {
-    ghost use Rattle.tl_tree.specs.Boxed.{unboxed};
+    ghost use Rattle.tl_tree.specs.Keeping.Boxed.{unboxed};
     ghost use Rattle.tl_tree.specs.Fits.{Fits};
 
     ghost fits = { λ tree n bounds. Fits (unboxed tree) n bounds };

@@ -1,6 +1,6 @@
 //! Trees whose nodes own their children.
 ghost use Rattle.std.specs.Prelude.{◌≡◌, IfOk};
-ghost use Rattle.tl_tree.specs.Branches.{forest_of};
+ghost use Rattle.tl_tree.specs.Keeping.Branches.{forest_of};
 
 use crate::walk::{Below, Tree, Trees};
 use std::alloc::{AllocError, Global};

@@ -1,9 +1,9 @@
 //! The check of a tree against items.
 ghost use Rattle.std.specs.Prelude.{◌≡◌, ℕ, ◌<◌, ◌+◌, ◌^◌, ◌↔◌, length, None, OnOk, IfOk, IfErr};
-ghost use Rattle.tl_tree.specs.Checking.{mark_at, AreMarked, IsMarkFault, AreChecked, IsChecked, IsFaultAt, IsFaultBelow};
+ghost use Rattle.tl_tree.specs.Keeping.Checking.{mark_at, AreMarked, IsMarkFault, AreChecked, IsChecked, IsFaultAt, IsFaultBelow};
 ghost use Rattle.tl_tree.specs.Fits.{Fits, MayFind};
 ghost use Rattle.tl_tree.specs.Trees.{node_count};
-ghost use Rattle.tl_tree.specs.Walking.{size_of};
+ghost use Rattle.tl_tree.specs.Keeping.Walking.{size_of};
 
 use crate::hull::{NOTHING, covers, hull_of, hull_of_items};
 use crate::walk::{Below, Tree, Trees};

@@ -1,7 +1,7 @@
 //! A walk over a list of nodes in preorder.
 ghost use Rattle.std.specs.Prelude.{drop};
 ghost use Rattle.tl_tree.specs.Trees.{first_trees, trees_of};
-ghost use Rattle.tl_tree.specs.Sizes.{AreSizesFrom};
+ghost use Rattle.tl_tree.specs.Keeping.Sizes.{AreSizesFrom};
 
 use crate::TreeNode;
 use crate::walk::{Below, Tree, Trees};

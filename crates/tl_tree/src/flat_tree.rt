@@ -3,7 +3,7 @@ ghost use Rattle.std.specs.Prelude.{◌≡◌, ◌<◌, ◌≤◌, ◌+◌, ◌^
 ghost use Rattle.tl_tree.specs.declared.fault.TreeStop.TheVariants.{TooDeep};
 ghost use Rattle.tl_tree.specs.Fits.{Fits, MayFind};
 ghost use Rattle.tl_tree.specs.Preorder.{IsPreorder};
-ghost use Rattle.tl_tree.specs.Sizes.{AreSizesFrom};
+ghost use Rattle.tl_tree.specs.Keeping.Sizes.{AreSizesFrom};
 ghost use Rattle.tl_tree.specs.Trees.{depth, tree_of, first_trees, trees_of, node_count};
 
 use crate::check::check_all;
@@ -25,7 +25,7 @@ pub struct FlatTree<'a> {
 impl<'a> Model for FlatTree<'a> {
     ghost use Rattle.std.specs.Prelude.{List, length, ◌<◌, ◌^◌};
     ghost use Rattle.tl_tree.specs.declared.node.TreeNode.{TreeNode};
-    ghost use Rattle.tl_tree.specs.Sizes.{AreSizesFrom};
+    ghost use Rattle.tl_tree.specs.Keeping.Sizes.{AreSizesFrom};
 
     ghost Value = { List TreeNode };
 

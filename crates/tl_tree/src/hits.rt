@@ -3,9 +3,9 @@ ghost use Rattle.std.specs.Prelude.{◌≡◌, OnOk, OnErr, IsFalse};
 ghost use Rattle.tl_geom.specs.Rectangle.{AreMeeting};
 ghost use Rattle.tl_tree.specs.Fits.{AreBelow, Fits};
 ghost use Rattle.tl_tree.specs.Hits.{Adds};
-ghost use Rattle.tl_tree.specs.Marking.{Includes, RootMeets};
+ghost use Rattle.tl_tree.specs.Keeping.Marking.{Includes, RootMeets};
 ghost use Rattle.tl_tree.specs.Trees.{leaf_items};
-ghost use Rattle.tl_tree.specs.Walking.{AreSound, IsSound, Grows, Collects, items_below};
+ghost use Rattle.tl_tree.specs.Keeping.Walking.{AreSound, IsSound, Grows, Collects, items_below};
 
 use crate::lanes::{bounds_of_eight, is_first_marked, later_marks, meeting_roots};
 use crate::walk::{Below, Tree, Trees};

@@ -3,7 +3,7 @@ ghost use Rattle.std.specs.Prelude.{◌≡◌, ℕ, ◌<◌, ◌≤◌, ◌+◌,
 ghost use Rattle.std.specs.Int.{bit_at};
 ghost use Rattle.tl_geom.specs.Rectangle.{nothing};
 ghost use Rattle.tl_tree.specs.Fits.{AreBelow};
-ghost use Rattle.tl_tree.specs.Marking.{AreBoundsOf, Includes, RootMeets, roots};
+ghost use Rattle.tl_tree.specs.Keeping.Marking.{AreBoundsOf, Includes, RootMeets, roots};
 
 use crate::Items;
 use crate::hull::NOTHING;

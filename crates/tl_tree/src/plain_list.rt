@@ -1,7 +1,7 @@
 //! The plain index: a list of all items.
 ghost use Rattle.std.specs.Prelude.{◌≡◌, ◌<◌, ◌≤◌};
 ghost use Rattle.tl_tree.specs.Pairs.{meeting, row_sum, AllRow, AreFree, indices};
-ghost use Rattle.tl_tree.specs.Walking.{MayLeave};
+ghost use Rattle.tl_tree.specs.Keeping.Walking.{MayLeave};
 
 use crate::search::{Stop, test_pair};
 use crate::{BoxIndex, Items, Memory, Probe, Search};

@@ -2,11 +2,11 @@
 ghost use Rattle.std.specs.Prelude.{◌<◌, ◌+◌, length, get_or, drop, IsFalse};
 ghost use Rattle.tl_geom.specs.Rectangle.{AreMeeting};
 ghost use Rattle.tl_tree.specs.Fits.{AreBelow, Fits};
-ghost use Rattle.tl_tree.specs.Marking.{Includes, MeetsAt, RootMeets, AreBoundsOf};
+ghost use Rattle.tl_tree.specs.Keeping.Marking.{Includes, MeetsAt, RootMeets, AreBoundsOf};
 ghost use Rattle.tl_tree.specs.Pairs.{meeting, row_sum, cross_sum, pair_sum, AllRow, AllCross, AllPairs, AreFree};
 ghost use Rattle.tl_tree.specs.Searches.{MayAnswer};
 ghost use Rattle.tl_tree.specs.Trees.{leaf_items};
-ghost use Rattle.tl_tree.specs.Walking.{MayLeave, items_below, IsSound, AreSound};
+ghost use Rattle.tl_tree.specs.Keeping.Walking.{MayLeave, items_below, IsSound, AreSound};
 
 use crate::lanes::{bounds_of_eight, is_first_marked, later_marks, marks_behind, meeting_roots};
 use crate::walk::{Below, Tree, Trees};

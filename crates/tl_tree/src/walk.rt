@@ -19,7 +19,7 @@ pub enum Below<'a, W> {
 
 /// Some trees in order.
 pub trait Trees: Drop {
-    ghost use Rattle.tl_tree.specs.Walking.{Splits};
+    ghost use Rattle.tl_tree.specs.Keeping.Walking.{Splits};
 
     // The trees.
     ghost forest: { Self → Forest };

@@ -1,7 +1,7 @@
 use Rattle.std.proofs.Common.{inl, inr, arith}
 use Rattle.std.proofs.lemmas.Int.{ints, to_z-of_z}
 use mir.Syntax.{w128}
-use Rattle.tl_geom.specs.Lines.{IsEndAt, IsInside}
+use Rattle.tl_geom.specs.Keeping.Lines.{IsEndAt, IsInside}
 use Rattle.tl_geom.proofs.Crossings.{apart_first, apart_second, at_ends, touch_first, touch_second}
 use Rattle.tl_geom.proofs.Meetings.{touch, some_end, no_end_found, proper_at}
 use Rattle.tl_geom.proofs.meeting.meeting_of_lines.Goals as goal

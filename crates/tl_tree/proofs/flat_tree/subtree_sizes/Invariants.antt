@@ -1,4 +1,4 @@
-use Rattle.tl_tree.specs.Sizes.{AreSizesFrom}
+use Rattle.tl_tree.specs.Keeping.Sizes.{AreSizesFrom}
 use Rattle.tl_tree.proofs.flat_tree.subtree_sizes.Given as goal
 
 -- the sizes are right from node k on

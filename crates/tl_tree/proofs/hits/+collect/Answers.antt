@@ -1,9 +1,9 @@
 use Rattle.std.proofs.Common.{◌≡◌, ◌+◌, ◌<◌, refl, sym, ◌∙◌, rules, arith, IsFalse}
 use Rattle.std.proofs.lemmas.Bool.{false≢true}
 use Rattle.tl_geom.specs.Rectangle.{AreMeeting}
-use Rattle.tl_tree.specs.Marking.{Includes, RootMeets}
+use Rattle.tl_tree.specs.Keeping.Marking.{Includes, RootMeets}
 use Rattle.tl_tree.specs.Trees.{node_count}
-use Rattle.tl_tree.specs.Walking.{items_below, size_of, IsSound, AreSound}
+use Rattle.tl_tree.specs.Keeping.Walking.{items_below, size_of, IsSound, AreSound}
 use Rattle.tl_tree.proofs.Hitting.{collects-nothing, none-hit, on-ok}
 use Rattle.tl_tree.proofs.Roots.{first-root, includes-roots}
 use Rattle.tl_tree.proofs.Walks.{collects-none, collects-split, nodes-split, sound-first, sound-others, size-above_0}

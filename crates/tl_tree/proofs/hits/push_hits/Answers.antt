@@ -2,8 +2,8 @@ use Rattle.std.proofs.Common.{◌≡◌, ℕ, List, ◌++◌, ◌∷◌, [], con
 use Rattle.std.proofs.lemmas.Bool.{false≢true}
 use Rattle.std.proofs.lemmas.List.{take_all}
 use Rattle.tl_geom.specs.Rectangle.{AreMeeting}
-use Rattle.tl_tree.specs.Marking.{MeetsAt}
-use Rattle.tl_tree.specs.Walking.{Collects}
+use Rattle.tl_tree.specs.Keeping.Marking.{MeetsAt}
+use Rattle.tl_tree.specs.Keeping.Walking.{Collects}
 use Rattle.tl_tree.proofs.Marks8.{includes-later, includes-meets, includes-same}
 use Rattle.tl_tree.proofs.Steps.{below-at}
 use Rattle.tl_tree.proofs.Hitting.{collects-nothing, collects-hit, collects-miss, miss}

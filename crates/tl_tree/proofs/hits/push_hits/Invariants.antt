@@ -1,6 +1,6 @@
 use Rattle.std.proofs.Common.{◌+◌, take}
-use Rattle.tl_tree.specs.Marking.{Includes, MeetsAt}
-use Rattle.tl_tree.specs.Walking.{Collects}
+use Rattle.tl_tree.specs.Keeping.Marking.{Includes, MeetsAt}
+use Rattle.tl_tree.specs.Keeping.Walking.{Collects}
 use Rattle.tl_tree.proofs.hits.push_hits.Given as goal
 
 -- the hits among the items so far are appended, and the marks are those of the others

@@ -1,7 +1,7 @@
 use Rattle.std.proofs.Common.{ℕ, List, [], ◌∷◌, get_or, take, sym, subst}
 use Rattle.std.proofs.lemmas.List.{take_more, take_all}
 use Rattle.tl_geom.specs.declared.rect.Rect.{Rect}
-use Rattle.tl_tree.specs.Checking.{IsHull}
+use Rattle.tl_tree.specs.Keeping.Checking.{IsHull}
 use Rattle.tl_tree.proofs.Steps.{below-at}
 use Rattle.tl_tree.proofs.Hulls.{hull-none, hull-both, hull-one, nothing-empty}
 use Rattle.tl_tree.proofs.hull.hull_of_items.Goals as goal

@@ -1,5 +1,5 @@
 use Rattle.std.proofs.Common.{take}
-use Rattle.tl_tree.specs.Checking.{IsHull}
+use Rattle.tl_tree.specs.Keeping.Checking.{IsHull}
 use Rattle.tl_tree.proofs.hull.hull_of_items.Given as goal
 
 -- the hull of the items so far

@@ -2,11 +2,11 @@ use Rattle.std.proofs.Common.{◌≡◌, ap, ◌+◌, ◌<◌, subst, arith, rul
 use Rattle.std.proofs.lemmas.Bool.{false≢true}
 use Rattle.std.proofs.lemmas.Result.{err_from_is_err_and}
 use Rattle.tl_geom.specs.Rectangle.{AreMeeting}
-use Rattle.tl_tree.specs.Marking.{Includes, RootMeets}
+use Rattle.tl_tree.specs.Keeping.Marking.{Includes, RootMeets}
 use Rattle.tl_tree.specs.Pairs.{meeting, cross_sum, AreFree, AllCross}
 use Rattle.tl_tree.specs.declared.walk.Below.{Below}
 use Rattle.tl_tree.specs.Trees.{leaf_items, node_count}
-use Rattle.tl_tree.specs.Walking.{items_below, size_of, IsSound, AreSound}
+use Rattle.tl_tree.specs.Keeping.Walking.{items_below, size_of, IsSound, AreSound}
 use Rattle.tl_tree.proofs.PairLemmas.{cross-swap, all_cross-swap}
 use Rattle.tl_tree.proofs.PairTests.{meeting-swap, free-turned}
 use Rattle.tl_tree.proofs.Apart.{cross-apart, cross-free}

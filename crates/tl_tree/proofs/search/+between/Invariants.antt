@@ -1,6 +1,6 @@
 use Rattle.std.proofs.Common.{◌+◌, ◌*◌}
 use Rattle.tl_tree.specs.Trees.{node_count}
-use Rattle.tl_tree.specs.Walking.{size_of}
+use Rattle.tl_tree.specs.Keeping.Walking.{size_of}
 use Rattle.tl_tree.proofs.search.+between.Given as goal
 
 -- four times the nodes of both trees

@@ -2,7 +2,7 @@ use Rattle.std.proofs.Common.{◌≡◌, ℕ, ◌+◌, ◌<◌, arith, rules, sy
 use Rattle.std.proofs.lemmas.Result.{err_from_is_err_and}
 use Rattle.tl_tree.specs.Pairs.{meeting, AreFree, AllPairs, AllCross}
 use Rattle.tl_tree.specs.Trees.{leaf_items, node_count}
-use Rattle.tl_tree.specs.Walking.{items_below, size_of, IsSound, AreSound}
+use Rattle.tl_tree.specs.Keeping.Walking.{items_below, size_of, IsSound, AreSound}
 use Rattle.tl_tree.proofs.Leaving.{stops, leaves_same, leaves_both}
 use Rattle.tl_tree.proofs.Walks.{pair-none, pair-split, all_pairs-none, all_pairs-split, nodes-split, sound-first, sound-others, size-above_0}
 use Rattle.tl_tree.proofs.search.+within.Goals as goal

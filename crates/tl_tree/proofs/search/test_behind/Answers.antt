@@ -1,5 +1,5 @@
 use Rattle.std.proofs.Common.{◌+◌, get_or}
-use Rattle.tl_tree.specs.Marking.{MeetsAt}
+use Rattle.tl_tree.specs.Keeping.Marking.{MeetsAt}
 use Rattle.tl_tree.proofs.Marks8.{includes-meets, includes-behind, includes-same, meets-behind}
 use Rattle.tl_tree.proofs.Steps.{below-at, below-drop, rest-of}
 use Rattle.tl_tree.proofs.search.test_behind.Goals as goal

@@ -2,7 +2,7 @@ use Rattle.std.proofs.Common.{◌≡◌, ℕ, ◌+◌, ◌<◌, length, get_or, 
 use Rattle.std.proofs.lemmas.Bool.{false≢true}
 use Rattle.std.proofs.lemmas.Result.{err_from_is_err_and}
 use Rattle.tl_geom.specs.Rectangle.{AreMeeting}
-use Rattle.tl_tree.specs.Marking.{MeetsAt}
+use Rattle.tl_tree.specs.Keeping.Marking.{MeetsAt}
 use Rattle.tl_tree.specs.Pairs.{meeting, row_sum, AreFree}
 use Rattle.tl_tree.proofs.Leaving.{stops}
 use Rattle.tl_tree.proofs.Apart.{row-none, row-none_free}

@@ -1,5 +1,5 @@
 use Rattle.std.proofs.Common.{◌≡◌, ◌+◌, drop}
-use Rattle.tl_tree.specs.Marking.{Includes, MeetsAt}
+use Rattle.tl_tree.specs.Keeping.Marking.{Includes, MeetsAt}
 use Rattle.tl_tree.specs.Pairs.{meeting, AreFree, row_sum, AllRow}
 use Rattle.tl_tree.proofs.search.test_marked.Given as goal
 

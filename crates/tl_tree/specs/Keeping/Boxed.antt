@@ -1,6 +1,6 @@
 -- The tree that a boxed tree is.
 use Rattle.tl_tree.specs.declared.box_tree.BoxTree.{BoxTree}
-use Rattle.tl_tree.specs.Branches.{forest_of}
+use Rattle.tl_tree.specs.Keeping.Branches.{forest_of}
 use Rattle.tl_tree.specs.Trees.{Forest}
 
 -- its nodes, without the boxes

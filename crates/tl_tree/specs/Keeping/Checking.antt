@@ -9,7 +9,7 @@ use Rattle.tl_tree.specs.declared.walk.Below.TheVariants.{Items, Children}
 use Rattle.tl_tree.specs.Fits.{AreBelow, CoversAll, CoversBelow, IsTooSmall}
 use Rattle.tl_tree.specs.Hits.{times}
 use Rattle.tl_tree.specs.Trees.{Forest, leaf_items}
-use Rattle.tl_tree.specs.Walking.{items_below, CoveredBelow}
+use Rattle.tl_tree.specs.Keeping.Walking.{items_below, CoveredBelow}
 
 -- 1 where item i is marked, else 0
 abbrev pub mark_at : List Bool → ℕ → ℕ
