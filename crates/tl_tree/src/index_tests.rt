@@ -9,7 +9,8 @@ use std::process::Abort;
 use std::test::Fail;
 use tl_geom::{Point, Rect};
 
-/// Rectangles as items, none of which conflict. They claim nothing of what they tell, and count how often they are asked.
+/// Rectangles as items, none of which conflict. They claim nothing of what they tell, and count how often they are
+/// asked.
 #[derive(Drop)]
 struct Scattered {
     rects: Vec<Rect>,
