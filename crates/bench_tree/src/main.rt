@@ -1,6 +1,6 @@
 //! How fast trees are: makes the streets of a county, as many segments as the first argument says, 2.75 to a chain, and
-//! trees over them by halving along the longer side, with leaves of eight and two or eight children a node. It prints how
-//! many pairs of a search were tested and, on the error output, the milliseconds that each step takes.
+//! trees over them by halving along the longer side, with leaves of eight and two or eight children a node. It prints
+//! how many pairs of a search were tested and, on the error output, the milliseconds that each step takes.
 #![tactic(auto)]
 
 mod county;

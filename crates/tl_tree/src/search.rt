@@ -206,8 +206,8 @@ pub fn search_between<I: Items, W: Trees>(
     search_marked(items, tree, others, meeting_roots(others, tree.rect), left)
 }
 
-/// Tests each item of a tree against each item of some trees, of which marks tell that the rectangles of others than the
-/// marked ones don't meet that of the tree.
+/// Tests each item of a tree against each item of some trees, of which marks tell that the rectangles of others than
+/// the marked ones don't meet that of the tree.
 #[cycle(between)]
 fn search_marked<I: Items, W: Trees>(
     items: &I,

@@ -11,7 +11,8 @@ use tl_tree::{
     BoxIndex, BoxTree, FlatTree, Items, PlainList, Probe, Search, TreeNode, is_preorder,
 };
 
-/// Rectangles as items, none of which conflict. They claim nothing of what they tell, and count how often they are asked.
+/// Rectangles as items, none of which conflict. They claim nothing of what they tell, and count how often they are
+/// asked.
 #[derive(Drop)]
 struct Scattered {
     rects: Vec<Rect>,
