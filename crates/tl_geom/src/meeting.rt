@@ -1,8 +1,11 @@
 //! Where two segments meet.
-ghost use Rattle.std.specs.Prelude.{◌≡◌, ◌≢◌, ◌↔◌, ◌⊎◌, ◌<◌, ◌^◌, ◌≤ℤ◌, ◌<ℤ◌, ◌+ℤ◌, ◌-ℤ◌, ◌*ℤ◌, neg_ℤ, pos, unsigned_abs, IfSome, IfNone, IsTrue, IsFalse};
+ghost use Rattle.std.specs.Prelude.{◌≡◌, ◌≢◌, ◌↔◌, ◌⊎◌, ◌<◌, ◌^◌, ◌≤ℤ◌, ◌<ℤ◌, ◌+ℤ◌, ◌-ℤ◌, ◌*ℤ◌, neg_ℤ, pos};
+ghost use Rattle.std.specs.Prelude.{unsigned_abs, IfSome, IfNone, IsTrue, IsFalse};
 ghost use Rattle.tl_geom.specs.Plane.{place_x, place_y, whole};
-ghost use Rattle.tl_geom.specs.Contact.{AreApart, MeetAtEnds, IsCrossing, IsShared, AreBothEnded, IfCrossing, IsContact};
-ghost use Rattle.tl_geom.specs.Keeping.Lines.{AreShares, IsEndAt, IsInside, AreInLine, AreInOrder, AreEndsInOrder, IsLater, IsEarlier};
+ghost use Rattle.tl_geom.specs.Contact.{AreApart, MeetAtEnds, IsCrossing, IsShared, AreBothEnded, IfCrossing};
+ghost use Rattle.tl_geom.specs.Contact.{IsContact};
+ghost use Rattle.tl_geom.specs.Keeping.Lines.{AreShares, IsEndAt, IsInside, AreInLine, AreInOrder, AreEndsInOrder};
+ghost use Rattle.tl_geom.specs.Keeping.Lines.{IsLater, IsEarlier};
 
 use crate::difference::{cross_of_steps, difference};
 use crate::{Contact, Point, Rational, Segment};

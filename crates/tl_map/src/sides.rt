@@ -1,6 +1,7 @@
 //! What lies on the sides of chains.
 
-ghost use Rattle.std.specs.Prelude.{◌≡◌, ◌<◌, ◌≤◌, ◌==◌, List, length, slice_index, IfOk, OnOk, IfErr, MatchOption, MatchResult, map};
+ghost use Rattle.std.specs.Prelude.{◌≡◌, ◌<◌, ◌≤◌, ◌==◌, List, length, slice_index, IfOk, OnOk, IfErr, MatchOption};
+ghost use Rattle.std.specs.Prelude.{MatchResult, map};
 ghost use Rattle.std.specs.Prelude.{count_by, All};
 ghost use Rattle.std.specs.List.Sorted.{IsNonDecreasingBy, IsStrictlyIncreasing, IsPermutation};
 ghost use Rattle.tl_map.specs.declared.entry.SidesEntry.{SidesEntry};
