@@ -1,10 +1,11 @@
 #!/usr/bin/env python3
 """Measures `tigertopo show` and `landmarks`, and a program that only counts records, beside `wc -l` of the same files.
 
-usage: run.py [--sizes N,N,..] [--counties N,N,..] [--runs N]
+usage: run.py [--sizes N,N,..] [--counties N,N,..] [--keys N] [--runs N]
 
 The files of --sizes hold types 1 and 2; those of --counties are whole counties of all six types, by rising TLID and, in a
-second row of files, in random order.
+second row of files, in random order. Those of --keys have as many polygons as chains, with ordinary keys and, in a second
+row, with keys that were chosen against a hash function.
 
 Each program runs once for its peak of memory and then RUNS times for its seconds, in turn with the others, with its
 output thrown away. The table has medians. Files are made in bench/out, once. `make bench` builds the programs first.
@@ -21,15 +22,22 @@ BENCH = Path(__file__).resolve().parent
 CRATES = BENCH.parent / "crates"
 PROGRAM = CRATES / "tigertopo" / "out" / "tigertopo"
 COUNT = CRATES / "count_records" / "out" / "count_records"
-NAMES = {"streets": "streets alone", "county": "a county", "shuffled": "a county, random order"}
+NAMES = {
+    "streets": "streets alone",
+    "county": "a county",
+    "shuffled": "a county, random order",
+    "keys": "ordinary keys",
+    "hostile": "hostile keys",
+}
+MAKERS = {"streets": ["make_records.py"], "county": ["county.py"], "shuffled": ["county.py", "--shuffled"],
+          "keys": ["keys.py"], "hostile": ["keys.py", "--hostile"]}
 
 
 def files_of(chains, kind):
     folder = BENCH / "out" / f"{chains}-{kind}"
     if not (folder / "done").exists():
-        maker = "make_records.py" if kind == "streets" else "county.py"
-        words = [sys.executable, BENCH / maker, folder, str(chains)] + ["--shuffled"] * (kind == "shuffled")
-        subprocess.run(words, check=True)
+        maker, *choices = MAKERS[kind]
+        subprocess.run([sys.executable, BENCH / maker, folder, str(chains), *choices], check=True)
         (folder / "done").touch()
     return sorted(folder.glob("*.RT*"))
 
@@ -80,11 +88,13 @@ def main():
     parser = argparse.ArgumentParser()
     parser.add_argument("--sizes", default="1000,10000,100000")
     parser.add_argument("--counties", default="10000,100000,1000000")
+    parser.add_argument("--keys", default="100000")
     parser.add_argument("--runs", type=int, default=5)
     words = parser.parse_args()
     print("| Chains | Lines | MB | Program | ms | times `wc -l` | million lines a second | peak MB |")
     print("|---|---|---|---|---|---|---|---|")
     parts = [("streets", words.sizes), ("county", words.counties), ("shuffled", words.counties)]
+    parts += [("keys", words.keys), ("hostile", words.keys)]
     for kind, chains in ((kind, int(it)) for kind, sizes in parts for it in sizes.split(",") if it):
         for row in rows(chains, kind, words.runs):
             print("| " + " | ".join(row) + " |", flush=True)

@@ -2,7 +2,7 @@ use super::{Text, at};
 use std::alloc::{AllocError, Global};
 use std::test::Fail;
 use tl_geom::Point;
-use tl_map::{Map, MapFault, MapStop, Side, read_map, read_map_with};
+use tl_map::{Map, MapStop, Side, read_map, read_map_with};
 use tl_record::{Meter, Options, PolyKey};
 
 impl Text {
@@ -48,13 +48,6 @@ impl Text {
 
     fn read_map(&self, alloc: Global) -> Result<Map, MapStop> {
         read_map(alloc, &mut Meter::new(self.text.as_bytes()))
-    }
-}
-
-fn map_fault(text: &Text, alloc: Global) -> Option<MapFault> {
-    match text.read_map(alloc) {
-        Err(MapStop::Fault(fault)) => Some(fault),
-        _ => None,
     }
 }
 
@@ -136,25 +129,6 @@ fn nodes_from_west_to_east(rt: HostRuntime) -> Result<(), Fail> {
 }
 
 #[test]
-fn links_by_their_first_records(rt: HostRuntime) -> Result<(), Fail> {
-    let mut text = Text::new(rt.alloc());
-    text.link(2, 8)?;
-    text.link(3, 7)?;
-    text.link(1, 8)?;
-    text.link(2, 8)?;
-    text.polygon("A0001", 1, at(1, 1))?;
-    text.polygon("A0001", 2, at(2, 2))?;
-    text.polygon("A0001", 3, at(3, 3))?;
-    text.landmark(8, None)?;
-    text.landmark(7, Some(at(1, 1)))?;
-    let map = text.read_map(rt.alloc())?;
-    assert!(rt; map.landmarks() == 2);
-    assert!(rt; map.landmark(0).polygons == [1, 0].as_slice());
-    assert!(rt; map.landmark(1).polygons == [2].as_slice());
-    Ok(())
-}
-
-#[test]
 fn ids_of_released_files(rt: HostRuntime) -> Result<(), Fail> {
     let mut text = Text::new(rt.alloc());
     text.chain(2, at(1, 1), at(9, 5))?;
@@ -167,50 +141,5 @@ fn ids_of_released_files(rt: HostRuntime) -> Result<(), Fail> {
     let map = read_map_with(rt.alloc(), &mut source, options)?;
     assert!(rt; map.chains() == 1);
     assert!(rt; map.dart_cell(0) == Some(5) && map.dart_cell(1).is_none());
-    Ok(())
-}
-
-#[test]
-fn sides_and_chains(rt: HostRuntime) -> Result<(), Fail> {
-    let mut text = Text::new(rt.alloc());
-    text.ring()?;
-    let fault = map_fault(&text, rt.alloc());
-    assert!(rt; fault == Some(MapFault::ChainWithoutSides { tlid: 1 }));
-    text.sides(1, 0, 0)?;
-    text.sides(2, 0, 0)?;
-    let fault = map_fault(&text, rt.alloc());
-    assert!(rt; fault == Some(MapFault::SidesWithoutChain { tlid: 2 }));
-    text.chain(2, at(1, 1), at(2, 2))?;
-    assert!(rt; text.read_map(rt.alloc())?.chains() == 2);
-    text.sides(1, 0, 0)?;
-    let fault = map_fault(&text, rt.alloc());
-    assert!(rt; fault == Some(MapFault::DuplicateSides { tlid: 1 }));
-    Ok(())
-}
-
-#[test]
-fn keys_without_records(rt: HostRuntime) -> Result<(), Fail> {
-    let mut text = Text::new(rt.alloc());
-    text.ring()?;
-    text.sides(1, 1, 4)?;
-    text.polygon("A0001", 1, at(20, 20))?;
-    let polygon = key(4);
-    let fault = map_fault(&text, rt.alloc());
-    assert!(rt; fault == Some(MapFault::SideWithoutPolygon { tlid: 1, polygon }));
-    text.polygon("A0001", 4, at(2, 2))?;
-    text.link(1, 7)?;
-    let fault = map_fault(&text, rt.alloc());
-    assert!(rt; fault == Some(MapFault::LinkWithoutLandmark { land: 7 }));
-    text.landmark(7, None)?;
-    assert!(rt; text.read_map(rt.alloc())?.landmarks() == 1);
-    text.link(2, 7)?;
-    let fault = map_fault(&text, rt.alloc());
-    let polygon = key(2);
-    assert!(rt; fault == Some(MapFault::LinkWithoutPolygon { polygon, land: 7 }));
-    text.polygon("A0001", 2, at(2, 2))?;
-    text.polygon("A0001", 1, at(2, 2))?;
-    let fault = map_fault(&text, rt.alloc());
-    let polygon = key(1);
-    assert!(rt; fault == Some(MapFault::DuplicatePolygon { polygon }));
     Ok(())
 }
