@@ -6,8 +6,8 @@ use std::alloc::Global;
 use std::io::{ErrorKind, Read};
 use std::process::Abort;
 use std::test::Fail;
-use tl_command::plan::PlanStop;
-use tl_command::words::plan;
+use tl_plan::PlanStop;
+use tl_plan::words::plan;
 use tl_text::Joined;
 
 const STOPPED_DEVICE: &str = "stopped Device\n";

@@ -4,9 +4,9 @@ use arrayvec::ArrayVec;
 use std::alloc::Global;
 use std::io::{ErrorKind, Read, Write};
 use std::{io, str};
-use tl_command::plan::{Plan, PlanStop};
 use tl_command::run::run;
-use tl_command::words::plan;
+use tl_plan::words::plan;
+use tl_plan::{Plan, PlanStop};
 use tl_record::{Meter, MeterOut};
 
 /// A reader of a text in memory that gives at most `most` bytes a call and fails once, by `kind`, at the call `fails_at`,

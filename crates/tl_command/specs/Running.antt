@@ -22,9 +22,9 @@ use Rattle.tl_output.specs.Writing.{line_of}
 use Rattle.tl_command.specs.declared.stop.Stop.{Stop}
 use Rattle.tl_command.specs.declared.stop.Stop.TheVariants.{Refused, Memory, Device}
 use Rattle.tl_command.specs.declared.stop.TheConstants.{DONE, MAP_FAULT, REFUSED, STOPPED}
-use Rattle.tl_command.specs.declared.plan.Plan.{Plan}
-use Rattle.tl_command.specs.declared.plan.Plan.TheVariants.{Show, Landmarks}
-use Rattle.tl_command.specs.CommandLine.{options_of}
+use Rattle.tl_plan.specs.declared.plan.Plan.{Plan}
+use Rattle.tl_plan.specs.declared.plan.Plan.TheVariants.{Show, Landmarks}
+use Rattle.tl_plan.specs.CommandLine.{options_of}
 use Rattle.tl_command.specs.Stops.{stop_text}
 
 -- no line of the text is refused, and the fault is true of its records

@@ -2,12 +2,12 @@
 use Rattle.std.specs.Prelude.{◌≡◌, ◌≢◌, ◌⊎◌, ℕ, List, [], None, All, ⊤}
 use Rattle.clap.specs.Faults.{fault_of}
 use Rattle.clap.specs.Walk.{Text}
-use Rattle.tl_command.specs.declared.plan.Plan.{Plan}
+use Rattle.tl_plan.specs.declared.plan.Plan.{Plan}
 use Rattle.tl_command.specs.declared.stop.Stop.{Stop}
 use Rattle.tl_command.specs.declared.stop.Stop.TheVariants.{Refused, Memory, Device}
 use Rattle.tl_command.specs.declared.stop.TheConstants.{USAGE}
-use Rattle.tl_command.specs.CommandLine.{command_line, AskFor, AreAUse, HasMistake, HasAnswer}
-use Rattle.tl_command.specs.Plans.{escape}
+use Rattle.tl_plan.specs.CommandLine.{command_line, AskFor, AreAUse, HasMistake, HasAnswer}
+use Rattle.tl_plan.specs.Plans.{escape}
 use Rattle.tl_command.specs.Running.{IsRunStatus, IsAnswered, NamesFault, NamesRefusal, layout_of}
 
 -- the statuses of the program

@@ -9,16 +9,15 @@ ghost use Rattle.tl_command.specs.Running.{IsAnswered, NamesFault, NamesRefusal,
 ghost use Rattle.tl_command.specs.Starting.{IsStartStatus, ShowsUsage, ShowsHelp, AnswersSome, FaultsSome, RefusesSome};
 ghost use Rattle.tl_command.specs.Starting.{StopsOpening};
 
-use crate::plan::{Plan, PlanStop};
 use crate::run::run;
 use crate::stop::{DONE, Stop, USAGE, stopped};
-use crate::words;
 use std::alloc::Global;
 use std::fs::File;
 use std::io;
 use std::io::{BufReader, Read};
 use std::rt::Files;
 use tl_output::write_all;
+use tl_plan::{Plan, PlanStop, words};
 use tl_record::{Meter, MeterOut, Sink, Source};
 use tl_text::Joined;
 

@@ -10,12 +10,12 @@ ghost use Rattle.tl_command.specs.declared.stop.TheConstants.{DONE, MAP_FAULT, R
 ghost use Rattle.tl_command.specs.Running.{IsAnswered, IsShown, IsListed, NamesFault, NamesRefusal, NamesStop};
 ghost use Rattle.tl_command.specs.Running.{IsRunStatus, FailsToRead, StopsAnswer, KeepsReads, layout_of};
 
-use crate::plan::Plan;
 use crate::stop::{DONE, MAP_FAULT, Stop, stopped};
 use std::alloc::Global;
 use std::io;
 use tl_map::{Chains, Map, MapFault, MapStop, read_chains_with, read_map_with};
 use tl_output::{LineStop, OutputBuffer, print_line};
+use tl_plan::Plan;
 use tl_record::{Options, Sink, Source};
 use tl_text::{print_chains, print_landmarks};
 

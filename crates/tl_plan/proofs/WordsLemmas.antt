@@ -14,9 +14,9 @@ use Rattle.clap.specs.Kinds.{Kinds, IsAmong}
 use Rattle.clap.specs.declared.error.kind.ErrorKind.{ErrorKind}
 use Rattle.clap.specs.declared.error.kind.ErrorKind.TheVariants.{OutOfMemory}
 use Rattle.clap.proofs.OnLiterals.{clap_on_literals}
-use Rattle.tl_command.specs.declared.plan.PlanStop.{PlanStop}
-use Rattle.tl_command.specs.declared.plan.PlanStop.TheVariants.{Usage, Help, Memory}
-use Rattle.tl_command.specs.CommandLine.{command_line, IsStopOf, StopsPlanning}
+use Rattle.tl_plan.specs.declared.plan.PlanStop.{PlanStop}
+use Rattle.tl_plan.specs.declared.plan.PlanStop.TheVariants.{Usage, Help, Memory}
+use Rattle.tl_plan.specs.CommandLine.{command_line, IsStopOf, StopsPlanning}
 
 pub is_simple-command_line : is_simple command_line ≡ true
 unfolding clap_on_literals

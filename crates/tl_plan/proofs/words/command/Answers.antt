@@ -1,7 +1,7 @@
 use Rattle.std.proofs.Common.{ap, ap₂, ◌∙◌}
 use Rattle.std.proofs.lemmas.Result.{IfOk-weaker}
 use Rattle.clap.specs.Simple.{App, with_subcommand}
-use Rattle.tl_command.proofs.words.command.Goals as goal
+use Rattle.tl_plan.proofs.words.command.Goals as goal
 
 pub returns : goal.returns
 returns c =

@@ -7,10 +7,10 @@ ghost use Rattle.clap.specs.Simple.{app_of, subcommand_rows_of};
 ghost use Rattle.clap.specs.Walk.{rule_of, rows_of, all_of, first_of};
 ghost use Rattle.clap.specs.Matches.{found_of};
 ghost use Rattle.clap.specs.declared.builder.command.Command.TheViews.{out-Command as fields_of};
-ghost use Rattle.tl_command.specs.CommandLine.{program, command_line, command_on_files as app_on_files};
-ghost use Rattle.tl_command.specs.CommandLine.{released_argument as released_rule, files_argument as files_rule};
-ghost use Rattle.tl_command.specs.CommandLine.{AreChosen, AskFor, StopsPlanning, IsStopOf, IsPlanOf, named_in};
-ghost use Rattle.tl_command.specs.Plans.{plain_text, HasNoEscape, ShowsNoEscape};
+ghost use Rattle.tl_plan.specs.CommandLine.{program, command_line, command_on_files as app_on_files};
+ghost use Rattle.tl_plan.specs.CommandLine.{released_argument as released_rule, files_argument as files_rule};
+ghost use Rattle.tl_plan.specs.CommandLine.{AreChosen, AskFor, StopsPlanning, IsStopOf, IsPlanOf, named_in};
+ghost use Rattle.tl_plan.specs.Plans.{plain_text, HasNoEscape, ShowsNoEscape};
 
 use crate::plan::{Plan, PlanStop};
 use clap::error::ErrorKind;

@@ -5,8 +5,8 @@ use Rattle.clap.specs.Takes.{takes}
 use Rattle.clap.specs.Faults.{fault_of, is_simple_and_free}
 use Rattle.clap.specs.Kinds.{HasKind}
 use Rattle.clap.specs.declared.error.kind.ErrorKind.TheVariants.{OutOfMemory}
-use Rattle.tl_command.proofs.WordsLemmas.{stops_for, is_free-command_line}
-use Rattle.tl_command.proofs.words.plan.Goals as goal
+use Rattle.tl_plan.proofs.WordsLemmas.{stops_for, is_free-command_line}
+use Rattle.tl_plan.proofs.words.plan.Goals as goal
 
 pub returns-in-Err-clause-stops : goal.returns-in-Err-clause-stops
 returns-in-Err-clause-stops g c =

@@ -1,7 +1,7 @@
 //! What the program is asked to do.
 
 ghost use Rattle.std.specs.Prelude.{◌≡◌};
-ghost use Rattle.tl_command.specs.declared.plan.PlanStop.TheVariants.{Memory};
+ghost use Rattle.tl_plan.specs.declared.plan.PlanStop.TheVariants.{Memory};
 
 use std::alloc::AllocError;
 use tl_record::Options;
@@ -24,7 +24,7 @@ pub enum Plan {
 
 impl Plan {
     ghost use Rattle.std.specs.Prelude.{◌≡◌, map, string_bytes};
-    ghost use Rattle.tl_command.specs.CommandLine.{files_of};
+    ghost use Rattle.tl_plan.specs.CommandLine.{files_of};
 
     /// The names of the record files.
     pub fn files(&self) -> &[String]

@@ -2,7 +2,7 @@ use Rattle.std.proofs.Common.{◌≡◌, ◌↔◌, List, Option, Some, codes, s
 use Rattle.std.specs.Prelude.{IsTrue}
 use Rattle.clap.specs.Matches.{found_of}
 use Rattle.clap.proofs.WalkLemmas.{first_value-rows}
-use Rattle.tl_command.proofs.words.options_of.Goals as goal
+use Rattle.tl_plan.proofs.words.options_of.Goals as goal
 
 pub returns : goal.returns
 returns c =

@@ -11,11 +11,11 @@ use Rattle.clap.specs.Kinds.{Kinds, IsAmong}
 use Rattle.clap.specs.declared.builder.action.ArgAction.TheVariants.{Append, SetTrue}
 use Rattle.clap.specs.declared.error.kind.ErrorKind.{ErrorKind}
 use Rattle.clap.specs.declared.error.kind.ErrorKind.TheVariants.{DisplayHelp, DisplayVersion, OutOfMemory}
-use Rattle.tl_command.specs.declared.plan.Plan.{Plan}
+use Rattle.tl_plan.specs.declared.plan.Plan.{Plan}
 use Rattle.tl_record.specs.declared.options.Options.{Options}
-use Rattle.tl_command.specs.declared.plan.Plan.TheVariants.{Show, Landmarks}
-use Rattle.tl_command.specs.declared.plan.PlanStop.{PlanStop}
-use Rattle.tl_command.specs.declared.plan.PlanStop.TheVariants.{Usage, Help, Memory}
+use Rattle.tl_plan.specs.declared.plan.Plan.TheVariants.{Show, Landmarks}
+use Rattle.tl_plan.specs.declared.plan.PlanStop.{PlanStop}
+use Rattle.tl_plan.specs.declared.plan.PlanStop.TheVariants.{Usage, Help, Memory}
 
 -- FILES..: one name or more
 abbrev pub files_argument : Rule

@@ -2,8 +2,8 @@ use Rattle.std.proofs.Common.{map, codes, ap, ◌∙◌, refl}
 use Rattle.std.proofs.lemmas.Result.{IfOk-weaker}
 use Rattle.clap.specs.Matches.{found_of}
 use Rattle.clap.proofs.WalkLemmas.{raw_values-rows}
-use Rattle.tl_command.proofs.WordsLemmas.{given_texts}
-use Rattle.tl_command.proofs.words.files_of.Goals as goal
+use Rattle.tl_plan.proofs.WordsLemmas.{given_texts}
+use Rattle.tl_plan.proofs.words.files_of.Goals as goal
 
 pub returns : goal.returns
 returns c =

@@ -6,7 +6,7 @@ use Rattle.std.proofs.lemmas.Str.{inside_one}
 use Rattle.std.specs.Str.{encode_utf8_all}
 use Rattle.std.specs.Prelude.{encode_utf8}
 use lib.Utf8.{encode}
-use Rattle.tl_command.specs.Plans.{escape, plain_text}
+use Rattle.tl_plan.specs.Plans.{escape, plain_text}
 
 -- the number is no escape
 abbrev pub is_plain : ℕ → Bool

@@ -1,3 +1,3 @@
--- Lemmas of the command.
+-- Lemmas on words and plans.
 pub mod PlansLemmas
 pub mod WordsLemmas

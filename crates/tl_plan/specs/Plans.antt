@@ -1,7 +1,7 @@
 -- Texts that are shown where words make no plan.
 use Rattle.std.specs.Prelude.{◌≢◌, ◌==◌, ℕ, List, not, All, ⊤, String, string_bytes, filter}
-use Rattle.tl_command.specs.declared.plan.PlanStop.{PlanStop}
-use Rattle.tl_command.specs.declared.plan.PlanStop.TheVariants.{Usage, Help, Memory}
+use Rattle.tl_plan.specs.declared.plan.PlanStop.{PlanStop}
+use Rattle.tl_plan.specs.declared.plan.PlanStop.TheVariants.{Usage, Help, Memory}
 
 -- the byte that begins a terminal's escape sequence
 abbrev pub escape : ℕ

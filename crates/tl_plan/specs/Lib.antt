@@ -1,0 +1,3 @@
+-- What the contracts of plans cite.
+pub mod CommandLine
+pub mod Plans

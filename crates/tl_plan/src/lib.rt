@@ -1,0 +1,7 @@
+//! What the words of the command line ask for: a [`Plan`], which [`words::plan`] makes of them by `clap`'s reading.
+#![tactic(auto)]
+
+mod plan;
+pub mod words;
+
+pub use plan::{Plan, PlanStop};
