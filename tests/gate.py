@@ -5,6 +5,7 @@ import re
 import subprocess
 import sys
 import time
+from concurrent.futures import ThreadPoolExecutor
 from pathlib import Path
 
 TOP = Path(__file__).resolve().parent.parent
@@ -29,22 +30,27 @@ def main():
     import rows
     import run as examples
 
-    passed = failed = 0
-    parts = {
-        "proofs, edits and tests": prove,
-        "rows": rows.play_all,
-        "answers at full size": full_size.play_all,
-        "refused allocations": memory.play_all,
-        "examples": examples.play_all,
-    }
-    for name, play in parts.items():
+    def timed(part):
+        name, play = part
         begun = time.monotonic()
         well, ill = play()
-        print(f"{name}: {well} of {well + ill}, {time.monotonic() - begun:.0f} s", flush=True)
-        passed, failed = passed + well, failed + ill + (well + ill == 0)
-        if name == "proofs, edits and tests" and failed:
-            # The program is not the one that was proved.
-            break
+        sys.stdout.write(f"{name}: {well} of {well + ill}, {time.monotonic() - begun:.0f} s\n")
+        sys.stdout.flush()
+        return well, ill + (well + ill == 0)
+
+    proofs = ("proofs, edits and tests", prove)
+    parts = [
+        ("rows", rows.play_all),
+        ("answers at full size", full_size.play_all),
+        ("refused allocations", memory.play_all),
+        ("examples", examples.play_all),
+    ]
+    counts = [timed(proofs)]
+    # Where a proof failed, the program is not the one that was proved.
+    if not counts[0][1]:
+        with ThreadPoolExecutor(len(parts)) as pool:
+            counts += pool.map(timed, parts)
+    passed, failed = (sum(column) for column in zip(*counts))
     print(f"{passed} passed, {failed} failed")
     return failed > 0
 
