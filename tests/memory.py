@@ -64,8 +64,13 @@ def answer_of(words, library, which):
     """The answer with that allocation refused, and whether the program came to it."""
     reached, told = os.pipe()
     environment = {**os.environ, "LD_PRELOAD": library, "REFUSED_ALLOCATION": str(which)}
+
+    def lend():
+        os.dup2(told, 9)
+        os.set_inheritable(9, True)
+
     done = subprocess.run(words, env=environment, stdout=subprocess.PIPE, stderr=subprocess.PIPE,
-                          preexec_fn=lambda: os.dup2(told, 9), close_fds=False)
+                          preexec_fn=lend, close_fds=False)
     os.close(told)
     was_reached = os.read(reached, 1) == b"r"
     os.close(reached)
