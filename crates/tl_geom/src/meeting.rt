@@ -1,5 +1,6 @@
 //! Where two segments meet.
-ghost use Rattle.std.specs.Prelude.{◌≡◌, ◌≢◌, ◌↔◌, ◌⊎◌, ◌<◌, ◌^◌, ◌≤ℤ◌, ◌<ℤ◌, ◌+ℤ◌, ◌-ℤ◌, ◌*ℤ◌, neg_ℤ, pos};
+ghost use Rattle.std.specs.Prelude.{◌≡◌, ◌≢◌, ◌↔◌, ◌⊎◌, ◌<◌, ◌^◌, neg_ℤ, pos};
+ghost use Rattle.std.specs.Prelude.{◌≤ℤ◌, ◌<ℤ◌, ◌+ℤ◌, ◌-ℤ◌, ◌*ℤ◌};
 ghost use Rattle.std.specs.Prelude.{unsigned_abs, IfSome, IfNone, IsTrue, IsFalse};
 ghost use Rattle.tl_geom.specs.Plane.{place_x, place_y, whole};
 ghost use Rattle.tl_geom.specs.Contact.{AreApart, MeetAtEnds, IsCrossing, IsShared, AreBothEnded, IfCrossing};

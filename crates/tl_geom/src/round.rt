@@ -6,8 +6,8 @@ ghost use Rattle.tl_geom.specs.Turning.{IsBelow, IsOneDirection, IsFirstHalf, Is
 use crate::Direction;
 use std::cmp::Ordering;
 
-/// The order of directions counter-clockwise from east, which is the lowest: this project's own choice of a first direction. `Equal` says that both are one direction,
-/// not that they are steps of one length.
+/// The order of directions counter-clockwise from east, which is the lowest: this project's own choice of a first
+/// direction. `Equal` says that both are one direction, not that they are steps of one length.
 pub fn round_cmp(u: Direction, v: Direction) -> Ordering
     ensures below { (result ≡ Ordering.Less) ↔ IsBelow u v }
     ensures same { (result ≡ Ordering.Equal) ↔ IsOneDirection u v }
