@@ -1,5 +1,5 @@
 pub mod Failures
-pub mod Keeping
+pub mod Fetching
 pub mod Limits
 pub mod Lines
 pub mod Range
