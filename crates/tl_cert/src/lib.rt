@@ -6,5 +6,10 @@
 #![tactic(auto)]
 
 mod certificate;
+mod line_kind;
+mod lines;
+mod number;
+mod stop;
 
 pub use certificate::{Certificate, Counts};
+pub use stop::{CertStop, WriteStop};

@@ -1,0 +1,335 @@
+//! The kinds of lines that a certificate has.
+
+ghost use Rattle.std.specs.Prelude.{◌≡◌, ◌⊎◌, ◌<◌, ◌≤◌, ◌+◌, ◌^◌, ◌↔◌, ◌∷◌, ◌++◌, [], ℕ, List, IsTrue, MatchOption, ⊤};
+ghost use Rattle.tl_cert.specs.Certificates.{IsNumber, IsInRange, AreCountsInRange};
+ghost use Rattle.tl_cert.specs.Text.{number, numbered_line, head_line, counts_line, children, end_line};
+ghost use Rattle.tl_cert.specs.Keeping.Words.{StartsWord, counts_words};
+ghost use Rattle.tl_cert.specs.Keeping.Kinds.{node_line, NodeFits, ChildrenFit, children_told};
+ghost use Rattle.tl_cert.specs.Keeping.Steps.{CanHave, roots};
+
+use crate::certificate::Counts;
+use crate::number::{behind, last_number, split_number, split_rectangle};
+use tl_geom::Rect;
+
+// How many children or items a node has at most, and how many children at least.
+const MOST: u8 = 8;
+
+const LEAST_CHILDREN: u8 = 2;
+
+/// A kind of lines, each of which spells a value.
+pub trait LineKind {
+    /// What a line of this kind spells.
+    type Value;
+
+    // The line of a value, without its line feed.
+    ghost spelt: { Self → Self.Value → List ℕ };
+
+    // Which values a line may spell.
+    ghost fits: { Self → Self.Value → Type 0 };
+
+    /// The value that the line spells.
+    fn parse(&self, line: &[u8]) -> Option<Self::Value>
+        ensures { MatchOption result ((value : Self.Value) → fits self.now value → ¬ (line.now ≡ spelt self.now value))
+            (λ value. fits self.now value × (line.now ≡ spelt self.now value)) };
+}
+
+/// A letter and a number that is not below `least`.
+pub struct Numbered {
+    pub letter: u8,
+    pub least: u32,
+}
+
+impl LineKind for Numbered {
+    type Value = u32;
+
+    ghost spelt = { λ kind n. numbered_line (kind.letter ∷ []) n };
+
+    ghost fits = { λ kind n. IsNumber n × (kind.least ≤ n) };
+
+    fn parse(&self, line: &[u8]) -> Option<u32> {
+        let Some(n) = number_behind(line, self.letter) else {
+            return None;
+        };
+        if n < self.least {
+            return None;
+        }
+        Some(n)
+    }
+}
+
+/// The number of a line that has one behind this letter.
+fn number_behind(line: &[u8], letter: u8) -> Option<u32>
+    ensures { MatchOption result ((n : ℕ) → IsNumber n → ¬ (line.now ≡ numbered_line (letter ∷ []) n))
+        (λ n. IsNumber n × (line.now ≡ numbered_line (letter ∷ []) n)) }
+{
+    let Some(others) = behind(line, letter) else {
+        return None;
+    };
+    last_number(others)
+}
+
+/// Whether so many trees can have so many nodes in all.
+fn can_have(version: u8, trees: u64, nodes: u64) -> bool
+    requires trees { trees < 2 ^ 40 }
+    requires nodes { nodes < 2 ^ 40 }
+    ensures { IsTrue result ↔ CanHave version trees nodes }
+{
+    if trees == nodes {
+        return true;
+    }
+    if trees == 0 || nodes < trees {
+        return false;
+    }
+    let others = nodes - trees;
+    if version >= 2 {
+        others >= 2
+    } else {
+        others % 2 == 0
+    }
+}
+
+/// How many trees so many nodes are: one, or none.
+pub fn roots_of(nodes: u32) -> u32
+    ensures { result ≡ roots nodes }
+{
+    nodes.min(1)
+}
+
+/// The number of nodes of a tree.
+pub struct TreeSize {
+    pub version: u8,
+}
+
+impl LineKind for TreeSize {
+    type Value = u32;
+
+    ghost spelt = { λ kind n. numbered_line (84 ∷ []) n };
+
+    ghost fits = { λ kind n. IsNumber n × CanHave kind.version (roots n) n };
+
+    fn parse(&self, line: &[u8]) -> Option<u32> {
+        let Some(n) = number_behind(line, b'T') else {
+            return None;
+        };
+        if !can_have(self.version, u64::from(roots_of(n)), u64::from(n)) {
+            return None;
+        }
+        Some(n)
+    }
+}
+
+/// The first line, which tells the version.
+pub struct Head;
+
+impl LineKind for Head {
+    type Value = u8;
+
+    ghost spelt = { λ kind version. head_line version };
+
+    ghost fits = { λ kind version. (version ≡ 1) ⊎ (version ≡ 2) };
+
+    fn parse(&self, line: &[u8]) -> Option<u8> {
+        if line == b"TIGERCERT 1".as_slice() {
+            return Some(1);
+        }
+        if line == b"TIGERCERT 2".as_slice() {
+            return Some(2);
+        }
+        None
+    }
+}
+
+/// The map's counts.
+pub struct CountsLine;
+
+/// The counts that stand first, and the bytes behind them.
+fn split_counts(bytes: &[u8]) -> Option<(Counts, &[u8])>
+    ensures { MatchOption result
+        ((c : Counts) (others : List ℕ) → AreCountsInRange c → StartsWord others
+        → ¬ (bytes.now ≡ counts_words c ++ others))
+        (λ split. (bytes.now ≡ counts_words split.0 ++ split.1.now) × StartsWord split.1.now
+        × AreCountsInRange split.0) }
+{
+    let Some((chains, others)) = split_number(bytes) else {
+        return None;
+    };
+    let Some((segments, others)) = split_number(others) else {
+        return None;
+    };
+    let Some((nodes, others)) = split_number(others) else {
+        return None;
+    };
+    let Some((polygons, others)) = split_number(others) else {
+        return None;
+    };
+    let counts = Counts {
+        chains,
+        segments,
+        nodes,
+        polygons,
+    };
+    Some((counts, others))
+}
+
+impl LineKind for CountsLine {
+    type Value = Counts;
+
+    ghost spelt = { λ kind counts. counts_line counts };
+
+    ghost fits = { λ kind counts. AreCountsInRange counts };
+
+    fn parse(&self, line: &[u8]) -> Option<Counts> {
+        let Some(others) = behind(line, b'C') else {
+            return None;
+        };
+        let Some((counts, others)) = split_counts(others) else {
+            return None;
+        };
+        if !others.is_empty() {
+            return None;
+        }
+        Some(counts)
+    }
+}
+
+/// What the line of a node tells of it.
+#[derive(Clone, Copy)]
+pub enum NodeStart {
+    /// An inner node with its number of children.
+    Inner(Rect, u8),
+    /// A leaf with its number of items.
+    Leaf(Rect, u8),
+}
+
+/// The number that the bytes spell behind a space, where it is from `least` to 8.
+fn small_number(bytes: &[u8], least: u8) -> Option<u8>
+    ensures { MatchOption result ((k : ℕ) → least ≤ k → k ≤ 8 → ¬ (bytes.now ≡ number k))
+        (λ k. (bytes.now ≡ number k) × (least ≤ k) × (k ≤ 8)) }
+{
+    let Some(k) = last_number(bytes) else {
+        return None;
+    };
+    if k < u32::from(least) {
+        return None;
+    }
+    if k > u32::from(MOST) {
+        return None;
+    }
+    Some(k as u8)
+}
+
+/// How many children the bytes tell of.
+fn child_count(version: u8, bytes: &[u8]) -> Option<u8>
+    ensures { MatchOption result ((k : ℕ) → ChildrenFit version k → ¬ (bytes.now ≡ children version k))
+        (λ k. (bytes.now ≡ children version k) × ChildrenFit version k) }
+{
+    if version >= 2 {
+        return small_number(bytes, LEAST_CHILDREN);
+    }
+    if !bytes.is_empty() {
+        return None;
+    }
+    Some(LEAST_CHILDREN)
+}
+
+/// The inner node whose line goes on with these bytes.
+fn inner_start(version: u8, bytes: &[u8]) -> Option<NodeStart>
+    ensures { MatchOption result
+        ((r : Rect) (k : ℕ) → IsInRange r → ChildrenFit version k
+        → ¬ (66 ∷ bytes.now ≡ node_line version (NodeStart.Inner r k)))
+        (λ node. NodeFits version node × (66 ∷ bytes.now ≡ node_line version node)) }
+{
+    let Some((rect, others)) = split_rectangle(bytes) else {
+        return None;
+    };
+    let Some(k) = child_count(version, others) else {
+        return None;
+    };
+    Some(NodeStart::Inner(rect, k))
+}
+
+/// The leaf whose line goes on with these bytes.
+fn leaf_start(bytes: &[u8]) -> Option<NodeStart>
+    ensures { MatchOption result
+        ((version : ℕ) (r : Rect) (k : ℕ) → IsInRange r → 1 ≤ k → k ≤ 8
+        → ¬ (76 ∷ bytes.now ≡ node_line version (NodeStart.Leaf r k)))
+        (λ node. (version : ℕ) → NodeFits version node × (76 ∷ bytes.now ≡ node_line version node)) }
+{
+    let Some((rect, others)) = split_rectangle(bytes) else {
+        return None;
+    };
+    let Some(k) = small_number(others, 1) else {
+        return None;
+    };
+    Some(NodeStart::Leaf(rect, k))
+}
+
+/// What the line of a node tells, in a certificate of this version.
+fn node_start(version: u8, line: &[u8]) -> Option<NodeStart>
+    ensures { MatchOption result ((node : NodeStart) → NodeFits version node → ¬ (line.now ≡ node_line version node))
+        (λ node. NodeFits version node × (line.now ≡ node_line version node)) }
+{
+    if let Some(others) = behind(line, b'B') {
+        return inner_start(version, others);
+    }
+    let Some(others) = behind(line, b'L') else {
+        return None;
+    };
+    leaf_start(others)
+}
+
+/// How many children a node has.
+fn children_of(node: &NodeStart) -> u8
+    ensures { result ≡ children_told node.now }
+{
+    match node {
+        NodeStart::Inner(_, children) => *children,
+        NodeStart::Leaf(_, _) => 0,
+    }
+}
+
+/// The first line of a node, in a certificate of this version, where so many subtrees and nodes are to come besides it
+/// and its children.
+pub struct NodeLine {
+    pub version: u8,
+    pub subtrees: u32,
+    pub nodes: u32,
+}
+
+impl LineKind for NodeLine {
+    type Value = NodeStart;
+
+    ghost spelt = { λ kind node. node_line kind.version node };
+
+    ghost fits = { λ kind node. NodeFits kind.version node
+        × CanHave kind.version (children_told node + kind.subtrees) kind.nodes };
+
+    fn parse(&self, line: &[u8]) -> Option<NodeStart> {
+        let Some(node) = node_start(self.version, line) else {
+            return None;
+        };
+        let trees = u64::from(children_of(&node)) + u64::from(self.subtrees);
+        if !can_have(self.version, trees, u64::from(self.nodes)) {
+            return None;
+        }
+        Some(node)
+    }
+}
+
+/// The last line.
+pub struct EndLine;
+
+impl LineKind for EndLine {
+    type Value = ();
+
+    ghost spelt = { λ kind value. end_line };
+
+    ghost fits = { λ kind value. ⊤ };
+
+    fn parse(&self, line: &[u8]) -> Option<()> {
+        if line == b"END".as_slice() {
+            return Some(());
+        }
+        None
+    }
+}
