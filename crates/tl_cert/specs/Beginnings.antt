@@ -1,5 +1,5 @@
 -- What begins some certificate's text, and the line of a text that no certificate has.
-use Rattle.std.specs.Prelude.{◌≡◌, ℕ, ◌+◌, ◌<◌, ◌≤◌, List, ◌++◌, length, take}
+use Rattle.std.specs.Prelude.{◌≡◌, ℕ, ◌+◌, ◌≤◌, List, ◌++◌, take}
 use Rattle.tl_record.specs.Lines.{line_feeds}
 use Rattle.tl_cert.specs.Certificates.{TheCertificate, IsCertificate}
 use Rattle.tl_cert.specs.Text.{certificate_text}
@@ -19,12 +19,12 @@ pub record BeginsSome (front : List ℕ) : Type 0 where
   pub rest : List ℕ
   pub whole : IsTextOf certificate (front ++ rest)
 
--- the line that no certificate has at its place: one more than the line feeds in the longest beginning of the text that
--- begins some certificate's text
+-- The line that no certificate has at its place: one more than the line feeds in the longest beginning of the text that
+-- begins some certificate's text. No such beginning has more line feeds than this one.
 pub record IsBadLine (text : List ℕ) (line : ℕ) : Type 0 where
   pub len : ℕ
   pub begins : BeginsSome (take len text)
-  pub longest : (more : ℕ) → len < more → more ≤ length text → ¬ BeginsSome (take more text)
+  pub most : (more : ℕ) → BeginsSome (take more text) → line_feeds (take more text) ≤ line_feeds (take len text)
   pub counted : line ≡ 1 + line_feeds (take len text)
 
 -- no certificate has this text, and the line is where it is seen

@@ -70,12 +70,16 @@ abbrev pub IsNodeInRange : TreeNode → Type 0
 IsNodeInRange (Inner r k) = IsInRange r
 IsNodeInRange (Leaf r v) = IsInRange r × (length v.items ≤ 8) × All IsNumber v.items
 
+-- counts that are such numbers
+pub record AreCountsInRange (c : Counts) : Type 0 where
+  pub chains : IsNumber c.chains
+  pub segments : IsNumber c.segments
+  pub nodes : IsNumber c.nodes
+  pub polygons : IsNumber c.polygons
+
 -- all of a certificate's numbers have 32 bits, as those of the types that hold them do
 pub record HasNumbersInRange (c : TheCertificate) : Type 0 where
-  pub chains : IsNumber c.counts.chains
-  pub segments : IsNumber c.counts.segments
-  pub nodes : IsNumber c.counts.nodes
-  pub polygons : IsNumber c.counts.polygons
+  pub counts : AreCountsInRange c.counts
   pub tree : All IsNodeInRange c.tree
   pub rounds : All (All IsNumber) c.rounds
   pub walks : All (All IsNumber) c.walks

@@ -2,3 +2,4 @@
 pub mod Certificates
 pub mod Text
 pub mod Beginnings
+pub mod Keeping

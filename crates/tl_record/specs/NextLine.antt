@@ -4,21 +4,21 @@ use Rattle.std.specs.Io.KnownBytes.{IsAtEnd}
 use Rattle.tl_record.specs.declared.layout.Layout.{Layout}
 use Rattle.tl_record.specs.declared.judge.Judgement.{Judgement}
 use Rattle.tl_record.specs.declared.judge.Judgement.TheVariants.{PassedOver, Read, Refused}
-use Rattle.tl_record.specs.declared.reader.Fetched.{Fetched}
-use Rattle.tl_record.specs.declared.reader.Fetched.TheVariants.{Whole, Rest, Full, Failed}
+use Rattle.tl_record.specs.declared.line_buffer.Fetched.{Fetched}
+use Rattle.tl_record.specs.declared.line_buffer.Fetched.TheVariants.{Whole, Rest, Full, Failed}
 use Rattle.tl_record.specs.declared.reader.NextLine.{NextLine}
 use Rattle.tl_record.specs.declared.reader.NextLine.TheVariants as next
 use Rattle.tl_record.specs.Failures.{one_more}
-use Rattle.tl_record.specs.Limits.{most_line_bytes}
 use Rattle.tl_record.specs.Lines.{line_feed, line_feeds, first_line, after_first_line}
 use Rattle.tl_record.specs.Judgement.{judgement}
 
--- what the bytes of a buffer and the state of its source show: the line's length, that it is the last, or neither
-abbrev pub Shows : List ℕ → Option (List ℕ) → Fetched → Type 0
-Shows bytes left (Whole len) = (len < length bytes) × (slice_index bytes len ≡ line_feed) × (line_feeds (take len bytes) ≡ 0)
-Shows bytes left Rest = (line_feeds bytes ≡ 0) × IsAtEnd left
-Shows bytes left Full = (line_feeds bytes ≡ 0) × (length bytes ≡ most_line_bytes)
-Shows bytes left Failed = line_feeds bytes ≡ 0
+-- what the bytes of a buffer with so much room and the state of its source show: the line's length, that it is the
+-- last, or neither
+abbrev pub Shows : ℕ → List ℕ → Option (List ℕ) → Fetched → Type 0
+Shows most bytes left (Whole len) = (len < length bytes) × (slice_index bytes len ≡ line_feed) × (line_feeds (take len bytes) ≡ 0)
+Shows most bytes left Rest = (line_feeds bytes ≡ 0) × IsAtEnd left
+Shows most bytes left Full = (line_feeds bytes ≡ 0) × (length bytes ≡ most)
+Shows most bytes left Failed = line_feeds bytes ≡ 0
 
 -- a failed fetch counts
 abbrev pub CountsFetch : ℕ → ℕ → Fetched → Type 0

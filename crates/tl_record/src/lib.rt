@@ -30,6 +30,7 @@ pub use layout::{
     AreaLinkColumns, CellColumns, ChainColumns, KeyColumns, LandmarkColumns, Layout, PointColumns,
     PolyPointColumns, ShapeColumns, SidesColumns, layout_with, tiger_2006,
 };
+pub use line_buffer::{Fetched, LineBuffer, fetch_line};
 pub use meter::{Meter, MeterOut};
 pub use number::{Spelt, coordinate_spelt};
 pub use options::Options;

@@ -1,29 +1,43 @@
 //! The bytes that were fetched and not judged yet.
 
 ghost use Rattle.std.specs.Prelude.{◌≡◌, ℕ, ◌-◌, ◌<◌, ◌≤◌, List, [], length, take, drop};
-ghost use Rattle.tl_record.specs.Limits.{most_line_bytes};
+ghost use Rattle.std.specs.Io.KnownBytes.{Keeps, prepend_known};
 ghost use Rattle.tl_record.specs.Failures.{CountsRead};
+ghost use Rattle.tl_record.specs.NextLine.{Shows, CountsFetch};
 ghost use Rattle.tl_record.specs.Keeping.Fetching.{Fetches};
 
-use crate::judge::MAX_LINE_BYTES;
 use crate::source::Source;
+use memchr::memchr;
 use std::io;
 use std::marker::Model;
 
-/// A buffer with room for the longest line.
+/// What a search for the end of the next line shows.
+#[derive(Clone, Copy, Debug)]
+pub enum Fetched {
+    /// The line's length: its line feed is fetched.
+    Whole(usize),
+    /// The source is at its end, and what was fetched has no line feed.
+    Rest,
+    /// The buffer is full, and has no line feed.
+    Full,
+    /// A read failed.
+    Failed,
+}
+
+/// A buffer with room for `N` bytes.
 #[derive(Drop)]
-pub(crate) struct LineBuffer {
-    bytes: [u8; MAX_LINE_BYTES],
+pub struct LineBuffer<const N: usize> {
+    bytes: [u8; N],
     at: usize,
     filled: usize,
 }
 
-impl Model for LineBuffer {
+impl<const N: usize> Model for LineBuffer<N> {
     ghost Value = { List ℕ };
 
     ghost view = { λ buffer. take (buffer.filled - buffer.at) (drop buffer.at buffer.bytes) };
 
-    ghost invariant = { λ buffer. (buffer.at ≤ buffer.filled) × (buffer.filled ≤ most_line_bytes) };
+    ghost invariant = { λ buffer. (buffer.at ≤ buffer.filled) × (buffer.filled ≤ N) };
 }
 
 /// Copies the bytes from `at` up to `filled` to the front.
@@ -40,12 +54,12 @@ fn move_to_front(bytes: &mut [u8], at: usize, filled: usize)
     }
 }
 
-impl LineBuffer {
-    pub fn new() -> LineBuffer
+impl<const N: usize> LineBuffer<N> {
+    pub fn new() -> LineBuffer<N>
         ensures { result ≡ [] }
     {
         LineBuffer {
-            bytes: [0; MAX_LINE_BYTES],
+            bytes: [0; N],
             at: 0,
             filled: 0,
         }
@@ -53,9 +67,10 @@ impl LineBuffer {
 
     pub fn bytes(&self) -> &[u8]
         ensures value { result.now ≡ self.now }
-        ensures room { length self.now ≤ most_line_bytes }
+        ensures room { length self.now ≤ N }
     {
-        &self.bytes[self.at..self.filled]
+        let all = &self.bytes[..];
+        &all[self.at..self.filled]
     }
 
     /// Takes bytes off the front.
@@ -68,20 +83,47 @@ impl LineBuffer {
 
     /// Fetches bytes to the end, as many as one read of the source gives and there is room for.
     pub fn fetch<S: Source>(&mut self, source: &mut S) -> io::Result<usize>
-        requires { length self.old < most_line_bytes }
+        requires { length self.old < N }
         ensures bytes { Fetches self.old self.new (S.remaining source.old) (S.remaining source.new) result }
         ensures failures { CountsRead (S.failure_count source.old) (S.failure_count source.new) result }
         ensures same_reference { S.reference source.new ≡ S.reference source.old }
     {
-        move_to_front(&mut self.bytes, self.at, self.filled);
+        let all = &mut self.bytes[..];
+        move_to_front(all, self.at, self.filled);
         self.filled -= self.at;
         self.at = 0;
-        match source.fetch(&mut self.bytes[self.filled..]) {
+        match source.fetch(&mut all[self.filled..]) {
             Ok(count) => {
                 self.filled += count;
                 Ok(count)
             }
             Err(error) => Err(error),
+        }
+    }
+}
+
+/// Fetches until the buffer holds a whole line, or no more can be fetched.
+pub fn fetch_line<const N: usize, R: Source>(buffer: &mut LineBuffer<N>, source: &mut R) -> Fetched
+    ensures shows { Shows N buffer.new (R.remaining source.new) result }
+    ensures bytes { Keeps (prepend_known buffer.old (R.remaining source.old))
+        (prepend_known buffer.new (R.remaining source.new)) }
+    ensures failures { CountsFetch (R.failure_count source.old) (R.failure_count source.new) result }
+    ensures same_reference { R.reference source.new ≡ R.reference source.old }
+{
+    let mut searched = 0;
+    'fetches: loop {
+        let bytes = buffer.bytes();
+        if let Some(found) = memchr(b'\n', &bytes[searched..]) {
+            return Fetched::Whole(searched + found);
+        }
+        searched = bytes.len();
+        if searched == N {
+            return Fetched::Full;
+        }
+        match buffer.fetch(source) {
+            Ok(0) => return Fetched::Rest,
+            Ok(_) => {}
+            Err(_) => return Fetched::Failed,
         }
     }
 }

@@ -13,25 +13,11 @@ ghost use Rattle.tl_record.specs.NextLine.{Shows, CountsFetch};
 
 use crate::judge::{Judgement, MAX_LINE_BYTES, MAX_LINES, judge_line};
 use crate::layout::{Layout, layout_with};
-use crate::line_buffer::LineBuffer;
+use crate::line_buffer::{Fetched, LineBuffer, fetch_line};
 use crate::options::Options;
 use crate::record::Record;
 use crate::source::Source;
 use crate::stop::{Cause, ReadStop};
-use memchr::memchr;
-
-/// What a search for the end of the next line shows.
-#[derive(Clone, Copy, Debug)]
-enum Fetched {
-    /// The line's length: its line feed is fetched.
-    Whole(usize),
-    /// The source is at its end, and what was fetched has no line feed.
-    Rest,
-    /// The buffer is full, and has no line feed.
-    Full,
-    /// A read failed.
-    Failed,
-}
 
 /// The next line, judged.
 #[derive(Clone, Copy, Debug)]
@@ -64,38 +50,12 @@ pub enum Standing {
 pub struct RecordReader<R> {
     source: R,
     layout: Layout,
-    buffer: LineBuffer,
+    buffer: LineBuffer<MAX_LINE_BYTES>,
     lines: u64,
     skipped: u64,
     standing: Standing,
     ghost few_lines: { lines ≤ most_lines },
     ghost some_skipped: { skipped ≤ lines },
-}
-
-/// Fetches until the buffer holds a whole line, or no more can be fetched.
-fn fetch_line<R: Source>(buffer: &mut LineBuffer, source: &mut R) -> Fetched
-    ensures shows { Shows buffer.new (R.remaining source.new) result }
-    ensures bytes { Keeps (prepend_known buffer.old (R.remaining source.old))
-        (prepend_known buffer.new (R.remaining source.new)) }
-    ensures failures { CountsFetch (R.failure_count source.old) (R.failure_count source.new) result }
-    ensures same_reference { R.reference source.new ≡ R.reference source.old }
-{
-    let mut searched = 0;
-    'fetches: loop {
-        let bytes = buffer.bytes();
-        if let Some(found) = memchr(b'\n', &bytes[searched..]) {
-            return Fetched::Whole(searched + found);
-        }
-        searched = bytes.len();
-        if searched == MAX_LINE_BYTES {
-            return Fetched::Full;
-        }
-        match buffer.fetch(source) {
-            Ok(0) => return Fetched::Rest,
-            Ok(_) => {}
-            Err(_) => return Fetched::Failed,
-        }
-    }
 }
 
 /// Why a line is refused that is longer than any that is read.

@@ -11,20 +11,20 @@ returns-in-Ok-clause-bytes g c =
     let moved = c.move_to_front.new.bytes in
     let kept : ℕ = c.self.inside.filled - c.self.inside.at in
     let ordered : c.self.inside.at ≤ c.self.inside.filled = c.self.invariant.0 in
-    let within : c.self.inside.filled ≤ 1024 = c.self.invariant.1 in
-    let whole : length moved ≡ 1024 = c.move_to_front.auto.bytes ∙ c.self.told in
+    let within : c.self.inside.filled ≤ g.row.N = c.self.invariant.1 in
+    let whole : length moved ≡ g.row.N = c.move_to_front.auto.bytes ∙ c.self.told in
     let some : count ≤ length bytes = c.in-Ok.ensures.bound.0 in
     let size : length (take count bytes) ≡ count = length-take-le count bytes some in
-    let room : kept < 1024 =
+    let room : kept < g.row.N =
     let before = rw (← c.self.view_is) at c.requires in
     omega (arith, before, length-take kept (drop c.self.inside.at c.self.inside.bytes), length-drop c.self.inside.at c.self.inside.bytes, c.self.told) in
-    let free : length bytes ≡ 1024 - kept =
-    c.fetch.auto.buf ∙ length-take-le (1024 - kept) (drop kept moved) (omega (arith, length-drop kept moved)) in
+    let free : length bytes ≡ length moved - kept =
+    c.fetch.auto.buf ∙ length-take-le (length moved - kept) (drop kept moved) (omega (arith, length-drop kept moved)) in
     let flat : kept + count - 0 ≡ kept + count = omega arith in (
       take count bytes,
       size,
       record {
-        added = ap (λ n. take n (put_mid kept (1024 - kept) moved bytes)) flat ∙ part_filled moved bytes kept (1024 - kept) count (omega arith) some ∙ ap (λ l. l ++ take count bytes) (c.move_to_front.ensures ∙ c.self.view_is);
+        added = ap (λ n. take n (put_mid kept (length moved - kept) moved bytes)) flat ∙ part_filled moved bytes kept (length moved - kept) count (omega arith) some ∙ ap (λ l. l ++ take count bytes) (c.move_to_front.ensures ∙ c.self.view_is);
         consumed = c.in-Ok.ensures.bytes.0;
         ended = λ none. c.in-Ok.ensures.bytes.1 (sym size ∙ none) (omega arith);
       },

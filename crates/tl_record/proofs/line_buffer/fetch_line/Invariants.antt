@@ -1,7 +1,7 @@
 use Rattle.std.proofs.Common.{◌≡◌, ◌≤◌, ◌-◌, length, take}
 use Rattle.std.specs.Io.KnownBytes.{Keeps, prepend_known}
 use Rattle.tl_record.specs.Lines.{line_feeds}
-use Rattle.tl_record.proofs.reader.fetch_line.Given as goal
+use Rattle.tl_record.proofs.line_buffer.fetch_line.Given as goal
 
 abbrev pub invariant-fetches : goal.invariant-fetches
 invariant-fetches g l = record {
@@ -13,4 +13,4 @@ invariant-fetches g l = record {
 }
 
 abbrev pub decreases-fetches : goal.decreases-fetches
-decreases-fetches g l = 1024 - length l.buffer
+decreases-fetches g l = g.row.N - length l.buffer

@@ -3,16 +3,16 @@ use Rattle.tl_record.specs.Lines.{line_feeds}
 use Rattle.std.proofs.KnownBytes.{Keeps-trans}
 use Rattle.tl_record.proofs.KnownLemmas.{fetched_kept}
 use Rattle.tl_record.proofs.LineLemmas.{feed_found, no_feed_found, front_searched, no_bytes}
-use Rattle.tl_record.proofs.reader.fetch_line.Goals as goal
+use Rattle.tl_record.proofs.line_buffer.fetch_line.Goals as goal
 
 pub returns-in-Some-clause-shows : goal.returns-in-Some-clause-shows
 returns-in-Some-clause-shows g c =
     feed_found c.fetches.buffer c.bytes-bytes.result.now c.fetches.searched c.in-Some.found c.bytes-bytes.ensures.value c.fetches.invariant.searched c.fetches.invariant.none c.in-Some.ensures
 
-pub returns-then-searched-eq-MAX_LINE_BYTES-clause-shows : goal.returns-then-searched-eq-MAX_LINE_BYTES-clause-shows
-returns-then-searched-eq-MAX_LINE_BYTES-clause-shows g c = (
+pub returns-then-searched-clause-shows : goal.returns-then-searched-clause-shows
+returns-then-searched-clause-shows g c = (
   no_feed_found c.fetches.buffer c.bytes-bytes.result.now c.fetches.searched c.bytes-bytes.ensures.value c.fetches.invariant.searched c.fetches.invariant.none c.in_default.ensures,
-  ap length (sym c.bytes-bytes.ensures.value) ∙ c.if-searched-eq-MAX_LINE_BYTES.true,
+  ap length (sym c.bytes-bytes.ensures.value) ∙ c.if-searched.true,
 )
 
 pub returns-in-Ok-eq0-clause-shows : goal.returns-in-Ok-eq0-clause-shows
