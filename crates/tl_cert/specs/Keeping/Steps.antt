@@ -1,5 +1,5 @@
 -- Where a reader stands between two lines of a certificate, and which lines take it on.
-use Rattle.std.specs.Prelude.{◌≡◌, ℕ, suc, ◌+◌, ◌*◌, ◌<◌, ◌≤◌, ◌⊎◌, List, [], ◌∷◌, ◌++◌, codes}
+use Rattle.std.specs.Prelude.{◌≡◌, ℕ, zero, suc, ◌+◌, ◌*◌, ◌<◌, ◌≤◌, ◌⊎◌, List, [], ◌∷◌, ◌++◌, codes}
 use Rattle.tl_geom.specs.declared.rect.Rect.{Rect}
 use Rattle.tl_record.specs.Lines.{line_feed}
 use Rattle.tl_cert.specs.declared.certificate.Counts.{Counts}
@@ -24,7 +24,7 @@ CanHave version p r = (p ≡ r) ⊎ ((1 ≤ p) × ((inner : ℕ) × (r ≡ p + 2
 
 -- how many trees are these nodes: one, or none
 abbrev pub roots : ℕ → ℕ
-roots 0 = 0
+roots zero = 0
 roots (suc n) = 1
 
 -- a line leads from one state to another
