@@ -1,3 +1,5 @@
 pub mod Lists
 pub mod MapB
 pub mod WordLemmas
+pub mod LineWords
+pub mod StepLemmas

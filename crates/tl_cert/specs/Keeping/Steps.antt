@@ -33,7 +33,7 @@ pub data Steps : State → List ℕ → State → Type 0 where
   at_counts : (v : ℕ) (c : Counts) → AreCountsInRange c → Steps (headed v) (counts_line c) (counted v)
   at_nodes : (v n : ℕ) → IsNumber n → CanHave v (roots n) n → Steps (counted v) (numbered_line (codes "T") n) (tree v (roots n) n 0)
   at_inner :
-      (v p r : ℕ) (rect : Rect) (k : ℕ) → IsInRange rect → 2 ≤ k → k ≤ 8 → (v ≡ 1 → k ≡ 2) → CanHave v (k + p) r →
+      (v p r : ℕ) (rect : Rect) (k : ℕ) → IsInRange rect → 2 ≤ k → k ≤ 8 → (v ≤ 1 → k ≡ 2) → CanHave v (k + p) r →
       Steps (tree v (suc p) (suc r) 0) (inner_line v rect k) (tree v (k + p) r 0)
   at_leaf :
       (v p r : ℕ) (rect : Rect) (k : ℕ) → IsInRange rect → 1 ≤ k → k ≤ 8 → CanHave v p r →
