@@ -3,3 +3,5 @@ pub mod MapB
 pub mod WordLemmas
 pub mod LineWords
 pub mod StepLemmas
+pub mod Standing
+pub mod RunLemmas
