@@ -5,3 +5,5 @@ pub mod LineWords
 pub mod StepLemmas
 pub mod Standing
 pub mod RunLemmas
+pub mod Ending
+pub mod Completing
