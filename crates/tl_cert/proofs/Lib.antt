@@ -7,3 +7,5 @@ pub mod Standing
 pub mod RunLemmas
 pub mod Ending
 pub mod Completing
+pub mod JoinedLines
+pub mod Stuck
