@@ -9,3 +9,4 @@ pub mod Ending
 pub mod Completing
 pub mod JoinedLines
 pub mod Stuck
+pub mod OneText

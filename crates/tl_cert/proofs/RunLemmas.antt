@@ -72,7 +72,7 @@ stand_run v p (Inner rect k ∷ others) stand nodes range low =
     (first_line (tree v (suc q) (suc n) 0) (tree v (k + q) n 0) (tree v 0 0 0) (inner_line v rect k) (nodes_lines v others)
     (at_inner v q n rect k here stand.2 stand.3 two can) more)
 
-low_known : (v : ℕ) → (v ≡ 1) ⊎ (v ≡ 2) → v ≤ 1 → v ≡ 1
+pub low_known : (v : ℕ) → (v ≡ 1) ⊎ (v ≡ 2) → v ≤ 1 → v ≡ 1
 low_known v known low = omega arith
 
 pub nodes_run : (version p : ℕ) (nodes : List TreeNode) → AreTrees nodes p → All (IsNode version) nodes → All IsNodeInRange nodes

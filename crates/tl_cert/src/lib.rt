@@ -6,5 +6,6 @@
 #![tactic(auto)]
 
 mod certificate;
+pub mod laws;
 
 pub use certificate::{Certificate, Counts};
