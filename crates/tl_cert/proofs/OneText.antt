@@ -7,7 +7,8 @@ use Rattle.tl_tree.specs.declared.node.TreeNode.{TreeNode}
 use Rattle.tl_tree.specs.declared.node.TreeNode.TheVariants.{Inner, Leaf}
 use Rattle.tl_record.specs.Lines.{joined_lines}
 use Rattle.tl_cert.specs.Certificates.{TheCertificate, IsNumber, IsCounted, IsDartList, AreDartLists, IsNode, IsNodeInRange, IsCertificate}
-use Rattle.tl_cert.specs.Text.{numbered_line, head_line, counts_line, end_line, item_lines, dart_lines, nodes_lines, tree_lines, all_darts_lines, rounds_lines, walks_lines, certificate_lines, certificate_text}
+use Rattle.tl_cert.specs.Text.{numbered_line, head_line, counts_line, end_line, item_lines, dart_lines, nodes_lines, tree_lines, all_darts_lines}
+use Rattle.tl_cert.specs.Text.{rounds_lines, walks_lines, certificate_lines, certificate_text}
 use Rattle.tl_cert.specs.Keeping.Steps.{State, start, ended, Runs, roots}
 use Rattle.tl_cert.proofs.LineWords.{number_line_only, counts_only, inner_only, leaf_only, inner_not_leaf}
 use Rattle.tl_cert.proofs.StepLemmas.{leads}
@@ -29,7 +30,8 @@ numbered_lines_only word [] (y ∷ ys) front behind counts low small same = absu
 numbered_lines_only word (x ∷ xs) [] front behind counts low small same = absurd (omega (arith, counts))
 numbered_lines_only word (x ∷ xs) (y ∷ ys) front behind counts low small same =
     let first = number_line_only word x y (All-head IsNumber x xs low) (All-head IsNumber y ys small) (first_same _ _ _ _ same) in
-    let rest = numbered_lines_only word xs ys front behind (omega (arith, counts)) (All-tail IsNumber x xs low) (All-tail IsNumber y ys small) (rest_same _ _ _ _ same) in
+    let rest = numbered_lines_only word xs ys front behind (omega (arith, counts)) (All-tail IsNumber x xs low) (All-tail IsNumber y ys small)
+    (rest_same _ _ _ _ same) in
     (cc (first, rest.0), rest.1)
 
 -- nodes of a certificate of this version, or the last of them
@@ -96,7 +98,8 @@ lists_only word (list ∷ lists) (other ∷ others) front behind counts each eve
 -- lists behind the line of their number
 counted_lists_only : (word each_word : List ℕ) (lists others front behind : List (List ℕ)) → AreDartLists lists → AreDartLists others
     → All (All IsNumber) lists → All (All IsNumber) others
-    → (numbered_line word (length lists) ∷ all_darts_lines each_word lists) ++ front ≡ (numbered_line word (length others) ∷ all_darts_lines each_word others) ++ behind
+    → (numbered_line word (length lists) ∷ all_darts_lines each_word lists) ++ front
+    ≡ (numbered_line word (length others) ∷ all_darts_lines each_word others) ++ behind
     → (lists ≡ others) × (front ≡ behind)
 counted_lists_only word each_word lists others front behind are too all alls same =
     let count = number_line_only word (length lists) (length others) are.counted too.counted (first_same _ _ _ _ same) in
