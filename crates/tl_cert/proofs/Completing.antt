@@ -1,5 +1,6 @@
 -- Lines that lead from the start to the end are a certificate's, so those that lead from the start begin some certificate's text.
-use Rattle.std.proofs.Common.{◌≡◌, ℕ, zero, suc, ◌+◌, ◌<◌, ◌≤◌, ◌⊎◌, inl, inr, length, List, [], ◌∷◌, ◌++◌, refl, sym, ap, ◌∙◌, subst, arith, append_assoc, codes, All}
+use Rattle.std.proofs.Common.{◌≡◌, ℕ, zero, suc, ◌+◌, ◌<◌, ◌≤◌, ◌⊎◌, inl, inr, length, List, [], ◌∷◌, ◌++◌, refl, sym, ap, ◌∙◌, subst, arith, append_assoc}
+use Rattle.std.proofs.Common.{codes, All}
 use Rattle.std.proofs.lemmas.List.Elements.{All-nil, All-cons}
 use Rattle.tl_geom.specs.declared.rect.Rect.{Rect}
 use Rattle.tl_tree.specs.declared.node.TreeNode.{TreeNode}
@@ -7,10 +8,14 @@ use Rattle.tl_tree.specs.declared.node.TreeNode.TheVariants.{Inner, Leaf}
 use Rattle.tl_tree.specs.Preorder.{IsPreorder}
 use Rattle.tl_record.specs.Lines.{line_feed, joined_lines}
 use Rattle.tl_cert.specs.declared.certificate.Counts.{Counts}
-use Rattle.tl_cert.specs.Certificates.{TheCertificate, IsNumber, IsCounted, IsDartList, AreDartLists, IsNode, IsNodeInRange, IsInRange, IsCertificate, AreCountsInRange}
-use Rattle.tl_cert.specs.Text.{numbered_line, head_line, counts_line, end_line, inner_line, leaf_line, item_lines, dart_lines, nodes_lines, tree_lines, all_darts_lines, rounds_lines, walks_lines, certificate_lines}
+use Rattle.tl_cert.specs.Certificates.{TheCertificate, IsNumber, IsCounted, IsDartList, AreDartLists, IsNode, IsNodeInRange, IsInRange, IsCertificate}
+use Rattle.tl_cert.specs.Certificates.{AreCountsInRange}
+use Rattle.tl_cert.specs.Text.{numbered_line, head_line, counts_line, end_line, inner_line, leaf_line, item_lines, dart_lines, nodes_lines, tree_lines}
+use Rattle.tl_cert.specs.Text.{all_darts_lines, rounds_lines, walks_lines, certificate_lines}
 use Rattle.tl_cert.specs.Beginnings.{BeginsSome}
-use Rattle.tl_cert.specs.Keeping.Steps.{State, start, headed, counted, tree, rounds, walks, ended, roots, Steps, at_head, at_counts, at_nodes, at_inner, at_leaf, at_item, at_rounds, at_round, at_round_dart, at_walks, at_walk, at_walk_dart, at_end, Runs, no_line, first_line}
+use Rattle.tl_cert.specs.Keeping.Steps.{State, start, headed, counted, tree, rounds, walks, ended, roots, Steps, at_head, at_counts, at_nodes, at_inner}
+use Rattle.tl_cert.specs.Keeping.Steps.{at_leaf, at_item, at_rounds, at_round, at_round_dart, at_walks, at_walk, at_walk_dart, at_end, Runs, no_line}
+use Rattle.tl_cert.specs.Keeping.Steps.{first_line}
 use Rattle.tl_cert.proofs.Standing.{Stand, standing_trees}
 use Rattle.tl_cert.proofs.RunLemmas.{runs-append}
 use Rattle.tl_cert.proofs.Ending.{run_open, all_reach}
@@ -297,21 +302,30 @@ head_certificate v lines known has =
     let the_tree = has.tree in
     let the_rounds = the_tree.rounds in
     let the_walks = the_rounds.walks in
+    let node_lines = tree_lines v the_tree.nodes in
+    let round_lines = rounds_lines (length the_rounds.rounds) the_rounds.rounds in
     record {
       certificate = record { version = v; counts = has.counts; tree = the_tree.nodes; rounds = the_rounds.rounds; walks = the_walks.walks };
       is = (
-        record { version = known; preorder = the_tree.preorder; counted = the_tree.counted; nodes = the_tree.each; rounds = the_rounds.are; walks = the_walks.are },
+        record {
+          version = known;
+          preorder = the_tree.preorder;
+          counted = the_tree.counted;
+          nodes = the_tree.each;
+          rounds = the_rounds.are;
+          walks = the_walks.are;
+        },
         record { counts = has.range; tree = the_tree.range; rounds = the_rounds.all; walks = the_walks.all },
       );
       spelt =
           ap (λ (l : List (List ℕ)). head_line v ∷ l) has.spelt
           ∙ ap (λ (l : List (List ℕ)). head_line v ∷ counts_line has.counts ∷ l) the_tree.spelt
-          ∙ ap (λ (l : List (List ℕ)). head_line v ∷ counts_line has.counts ∷ (tree_lines v the_tree.nodes ++ l)) the_rounds.spelt
+          ∙ ap (λ (l : List (List ℕ)). head_line v ∷ counts_line has.counts ∷ (node_lines ++ l)) the_rounds.spelt
           ∙ ap
-          (λ (l : List (List ℕ)). head_line v ∷ counts_line has.counts ∷ (tree_lines v the_tree.nodes ++ (rounds_lines (length the_rounds.rounds) the_rounds.rounds ++ l)))
+          (λ (l : List (List ℕ)). head_line v ∷ counts_line has.counts ∷ (node_lines ++ (round_lines ++ l)))
           the_walks.spelt
-          ∙ parts_joined (head_line v) (counts_line has.counts) end_line (tree_lines v the_tree.nodes)
-          (rounds_lines (length the_rounds.rounds) the_rounds.rounds) (walks_lines (length the_walks.walks) the_walks.walks);
+          ∙ parts_joined (head_line v) (counts_line has.counts) end_line node_lines round_lines
+          (walks_lines (length the_walks.walks) the_walks.walks);
     }
 
 says_more : (s t : State) (line : List ℕ) (lines : List (List ℕ)) → Steps s line t → Says t lines → Says s (line ∷ lines)
@@ -327,7 +341,8 @@ says_more s t line lines (at_round m k some small) says =
 says_more s t line lines (at_round_dart m k x small) says =
     record { behind = says.behind; darts = dart_more (codes "R") m k x lines says.behind small says.darts; walks = says.walks }
 says_more s t line lines (at_walks m small) says =
-    record { behind = numbered_line (codes "W") m ∷ lines; darts = no_darts (codes "R") (numbered_line (codes "W") m ∷ lines); walks = walks_line m lines small says }
+    let behind : List (List ℕ) = numbered_line (codes "W") m ∷ lines in
+    record { behind = behind; darts = no_darts (codes "R") behind; walks = walks_line m lines small says }
 says_more s t line lines (at_walk m k some small) says = list_more (codes "K") m k lines (end_line ∷ []) some small says
 says_more s t line lines (at_walk_dart m k x small) says = dart_more (codes "K") m k x lines (end_line ∷ []) small says
 says_more s t line lines at_end says =

@@ -1,10 +1,12 @@
 -- From each state that lines lead to, lines lead to the end.
-use Rattle.std.proofs.Common.{◌≡◌, ℕ, zero, suc, ◌+◌, ◌*◌, ◌≤◌, ◌⊎◌, inl, inr, List, [], ◌∷◌, refl, subst, arith, codes, pos}
+use Rattle.std.proofs.Common.{◌≡◌, ℕ, zero, suc, ◌+◌, ◌*◌, ◌≤◌, ◌⊎◌, inl, inr, List, [], ◌∷◌, refl, subst, arith, codes, pos, FitsSigned, w32}
 use Rattle.tl_geom.specs.declared.rect.Rect.{Rect}
 use Rattle.tl_cert.specs.declared.certificate.Counts.{Counts}
 use Rattle.tl_cert.specs.Certificates.{IsInRange, AreCountsInRange}
 use Rattle.tl_cert.specs.Text.{numbered_line, head_line, counts_line, end_line, inner_line, leaf_line}
-use Rattle.tl_cert.specs.Keeping.Steps.{State, start, headed, counted, tree, rounds, walks, ended, CanHave, Steps, at_head, at_counts, at_nodes, at_inner, at_leaf, at_item, at_rounds, at_round, at_round_dart, at_walks, at_walk, at_walk_dart, at_end, Runs, no_line, first_line}
+use Rattle.tl_cert.specs.Keeping.Steps.{State, start, headed, counted, tree, rounds, walks, ended, CanHave, Steps, at_head, at_counts, at_nodes, at_inner}
+use Rattle.tl_cert.specs.Keeping.Steps.{at_leaf, at_item, at_rounds, at_round, at_round_dart, at_walks, at_walk, at_walk_dart, at_end, Runs, no_line}
+use Rattle.tl_cert.specs.Keeping.Steps.{first_line}
 use Rattle.tl_cert.proofs.Standing.{can_same}
 
 -- what holds where lines lead to a state: its subtrees can have its nodes
@@ -64,7 +66,8 @@ point = record { xmin = pos 0; ymin = pos 0; xmax = pos 0; ymax = pos 0 }
 point_in_range : IsInRange point
 unfolding point
 point_in_range =
-    record { xmin = record { sfits = omega arith }; ymin = record { sfits = omega arith }; xmax = record { sfits = omega arith }; ymax = record { sfits = omega arith } }
+    let fits : FitsSigned w32 (pos 0) = record { sfits = omega arith } in
+    record { xmin = fits; ymin = fits; xmax = fits; ymax = fits }
 
 items_reach : (v p r i : ℕ) → Reaches (tree v p r 0) ended → Reaches (tree v p r i) ended
 items_reach v p r zero more = more
@@ -81,7 +84,8 @@ leaves_reach v (suc p) =
     (reaches_step (tree v p p 1) (tree v p p 0) ended (numbered_line (codes "S") 0) (at_item v p p 0 0 (omega arith)) (leaves_reach v p))
 
 -- an inner node before others
-node_reach : (v p r k : ℕ) → 2 ≤ k → k ≤ 8 → (v ≤ 1 → k ≡ 2) → CanHave v (k + p) r → Reaches (tree v (k + p) r 0) ended → Reaches (tree v (suc p) (suc r) 0) ended
+node_reach : (v p r k : ℕ) → 2 ≤ k → k ≤ 8 → (v ≤ 1 → k ≡ 2) → CanHave v (k + p) r → Reaches (tree v (k + p) r 0) ended
+    → Reaches (tree v (suc p) (suc r) 0) ended
 node_reach v p r k least most two can more =
     reaches_step (tree v (suc p) (suc r) 0) (tree v (k + p) r 0) ended (inner_line v point k) (at_inner v p r point k point_in_range least most two can) more
 

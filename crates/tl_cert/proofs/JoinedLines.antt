@@ -8,7 +8,8 @@ use Rattle.tl_cert.specs.Keeping.Steps.{State, Runs, no_line, first_line}
 use Rattle.tl_cert.proofs.StepLemmas.{step_short}
 
 -- a line up to its line feed
-pub line_apart : (x y front behind : List ℕ) → line_feeds x ≡ 0 → line_feeds y ≡ 0 → x ++ line_feed ∷ front ≡ y ++ line_feed ∷ behind → (x ≡ y) × (front ≡ behind)
+pub line_apart : (x y front behind : List ℕ) → line_feeds x ≡ 0 → line_feeds y ≡ 0
+    → x ++ line_feed ∷ front ≡ y ++ line_feed ∷ behind → (x ≡ y) × (front ≡ behind)
 line_apart x y front behind none other same = (
   sym (first_line_before x front none) ∙ ap Lines.first_line same ∙ first_line_before y behind other,
   sym (after_first_line_before x front none) ∙ ap after_first_line same ∙ after_first_line_before y behind other,

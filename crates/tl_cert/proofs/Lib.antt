@@ -6,6 +6,7 @@ pub mod SplitLemmas
 pub mod RectangleLemmas
 pub mod KindLemmas
 pub mod NodeLineLemmas
+pub mod CountLemmas
 pub mod LineLemmas
 pub mod LineWords
 pub mod StepLemmas
@@ -15,4 +16,4 @@ pub mod Ending
 pub mod Completing
 pub mod JoinedLines
 pub mod Stuck
-pub mod CountLemmas
+pub mod OneText

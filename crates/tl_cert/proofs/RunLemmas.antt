@@ -5,8 +5,11 @@ use Rattle.tl_tree.specs.declared.node.TreeNode.{TreeNode}
 use Rattle.tl_tree.specs.declared.node.TreeNode.TheVariants.{Inner, Leaf}
 use Rattle.tl_tree.specs.Preorder.{AreTrees, IsPreorder}
 use Rattle.tl_cert.specs.Certificates.{TheCertificate, IsNumber, IsCounted, IsDartList, AreDartLists, IsNode, IsNodeInRange, IsCertificate}
-use Rattle.tl_cert.specs.Text.{numbered_line, head_line, counts_line, end_line, inner_line, leaf_line, item_lines, dart_lines, nodes_lines, tree_lines, all_darts_lines, rounds_lines, walks_lines, certificate_lines}
-use Rattle.tl_cert.specs.Keeping.Steps.{State, start, headed, counted, tree, rounds, walks, ended, roots, Steps, at_head, at_counts, at_nodes, at_inner, at_leaf, at_item, at_rounds, at_round, at_round_dart, at_walks, at_walk, at_walk_dart, at_end, Runs, no_line, first_line}
+use Rattle.tl_cert.specs.Text.{numbered_line, head_line, counts_line, end_line, inner_line, leaf_line, item_lines, dart_lines, nodes_lines, tree_lines}
+use Rattle.tl_cert.specs.Text.{all_darts_lines, rounds_lines, walks_lines, certificate_lines}
+use Rattle.tl_cert.specs.Keeping.Steps.{State, start, headed, counted, tree, rounds, walks, ended, roots, Steps, at_head, at_counts, at_nodes, at_inner}
+use Rattle.tl_cert.specs.Keeping.Steps.{at_leaf, at_item, at_rounds, at_round, at_round_dart, at_walks, at_walk, at_walk_dart, at_end, Runs, no_line}
+use Rattle.tl_cert.specs.Keeping.Steps.{first_line}
 use Rattle.tl_cert.proofs.StepLemmas.{step_same}
 use Rattle.tl_cert.proofs.Standing.{Stand, trees_stand, stand_can}
 
@@ -72,7 +75,7 @@ stand_run v p (Inner rect k ∷ others) stand nodes range low =
     (first_line (tree v (suc q) (suc n) 0) (tree v (k + q) n 0) (tree v 0 0 0) (inner_line v rect k) (nodes_lines v others)
     (at_inner v q n rect k here stand.2 stand.3 two can) more)
 
-low_known : (v : ℕ) → (v ≡ 1) ⊎ (v ≡ 2) → v ≤ 1 → v ≡ 1
+pub low_known : (v : ℕ) → (v ≡ 1) ⊎ (v ≡ 2) → v ≤ 1 → v ≡ 1
 low_known v known low = omega arith
 
 pub nodes_run : (version p : ℕ) (nodes : List TreeNode) → AreTrees nodes p → All (IsNode version) nodes → All IsNodeInRange nodes

@@ -1,5 +1,6 @@
 -- The lines that lead on from a state: each is short, and leads to one state.
-use Rattle.std.proofs.Common.{◌≡◌, ℕ, ℤ, zero, suc, ◌+◌, ◌<◌, ◌≤◌, ◌⊎◌, inl, inr, length, List, ◌++◌, refl, sym, ap, ◌∙◌, arith, codes, decimal, FitsSigned, w32, length-append}
+use Rattle.std.proofs.Common.{◌≡◌, ℕ, ℤ, zero, suc, ◌+◌, ◌<◌, ◌≤◌, ◌⊎◌, inl, inr, length, List, ◌++◌, refl, sym, ap, ◌∙◌, arith, codes, decimal}
+use Rattle.std.proofs.Common.{FitsSigned, w32, length-append}
 use Rattle.std.specs.Fmt.{signed_decimal}
 use Rattle.std.proofs.lemmas.Fmt.{length-decimal-le, length_signed_le}
 use Rattle.tl_geom.specs.declared.rect.Rect.{Rect}
@@ -8,7 +9,8 @@ use Rattle.tl_record.proofs.LineLemmas.{feeds-append, other_counts}
 use Rattle.tl_cert.specs.declared.certificate.Counts.{Counts}
 use Rattle.tl_cert.specs.Certificates.{IsNumber, IsInRange, AreCountsInRange}
 use Rattle.tl_cert.specs.Text.{number, coordinate, numbered_line, counts_line, end_line, rectangle, children, inner_line, leaf_line}
-use Rattle.tl_cert.specs.Keeping.Steps.{State, start, headed, counted, tree, rounds, walks, ended, CanHave, roots, Steps, at_head, at_counts, at_nodes, at_inner, at_leaf, at_item, at_rounds, at_round, at_round_dart, at_walks, at_walk, at_walk_dart, at_end}
+use Rattle.tl_cert.specs.Keeping.Steps.{State, start, headed, counted, tree, rounds, walks, ended, CanHave, roots, Steps, at_head, at_counts, at_nodes}
+use Rattle.tl_cert.specs.Keeping.Steps.{at_inner, at_leaf, at_item, at_rounds, at_round, at_round_dart, at_walks, at_walk, at_walk_dart, at_end}
 use Rattle.tl_cert.proofs.WordLemmas.{decimal_feeds, signed_feeds, magnitude_32}
 use Rattle.tl_cert.proofs.LineWords.{number_line_only, inner_only, leaf_only, inner_not_leaf}
 

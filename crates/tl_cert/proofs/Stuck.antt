@@ -1,5 +1,6 @@
 -- A text is refused at the first of its lines that doesn't lead on.
-use Rattle.std.proofs.Common.{◌≡◌, ℕ, ◌+◌, ◌-◌, ◌≤◌, inl, inr, length, List, [], ◌∷◌, ◌++◌, sym, ap, ◌∙◌, subst, arith, append_assoc, take, drop, take-append-drop, take-add}
+use Rattle.std.proofs.Common.{◌≡◌, ℕ, ◌+◌, ◌-◌, ◌≤◌, inl, inr, length, List, [], ◌∷◌, ◌++◌, sym, ap, ◌∙◌, subst, arith, append_assoc, take, drop}
+use Rattle.std.proofs.Common.{take-append-drop, take-add}
 use Rattle.std.proofs.lemmas.Bool.{cases_lt}
 use Rattle.std.proofs.Math.Seq.{take-append_seam, take-append-add}
 use Rattle.tl_record.specs.Lines.{line_feed, line_feeds, joined_lines}
@@ -72,7 +73,8 @@ stuck_most lines s text more run stuck begins =
           let front : ℕ = more - length (joined_lines lines) in
           let split : take more (joined_lines lines ++ text) ≡ joined_lines lines ++ take front text =
           ap (λ k. take k (joined_lines lines ++ text)) (omega arith) ∙ take-append-add (joined_lines lines) text front in
-          let none = stuck_feeds lines s text (take front text) (drop front text) run stuck (sym (take-append-drop front text)) (subst BeginsSome split begins) in
+          let begun = subst BeginsSome split begins in
+          let none = stuck_feeds lines s text (take front text) (drop front text) run stuck (sym (take-append-drop front text)) begun in
           omega (arith, ap line_feeds split, feeds-append (joined_lines lines) (take front text), none)
     ]
 

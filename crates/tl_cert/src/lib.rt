@@ -6,6 +6,7 @@
 #![tactic(auto)]
 
 mod certificate;
+pub mod laws;
 mod line_kind;
 mod lines;
 mod number;
