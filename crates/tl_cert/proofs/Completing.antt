@@ -16,7 +16,7 @@ use Rattle.tl_cert.specs.Beginnings.{BeginsSome}
 use Rattle.tl_cert.specs.Keeping.Steps.{State, start, headed, counted, tree, rounds, walks, ended, roots, Steps, at_head, at_counts, at_nodes, at_inner}
 use Rattle.tl_cert.specs.Keeping.Steps.{at_leaf, at_item, at_rounds, at_round, at_round_dart, at_walks, at_walk, at_walk_dart, at_end, Runs, no_line}
 use Rattle.tl_cert.specs.Keeping.Steps.{first_line}
-use Rattle.tl_cert.proofs.Standing.{Stand, standing_trees}
+use Rattle.tl_cert.proofs.StandingTrees.{Stand, standing_trees}
 use Rattle.tl_cert.proofs.RunLemmas.{runs-append}
 use Rattle.tl_cert.proofs.Ending.{run_open, all_reach}
 

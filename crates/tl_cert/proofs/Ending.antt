@@ -7,7 +7,7 @@ use Rattle.tl_cert.specs.Text.{numbered_line, head_line, counts_line, end_line, 
 use Rattle.tl_cert.specs.Keeping.Steps.{State, start, headed, counted, tree, rounds, walks, ended, CanHave, Steps, at_head, at_counts, at_nodes, at_inner}
 use Rattle.tl_cert.specs.Keeping.Steps.{at_leaf, at_item, at_rounds, at_round, at_round_dart, at_walks, at_walk, at_walk_dart, at_end, Runs, no_line}
 use Rattle.tl_cert.specs.Keeping.Steps.{first_line}
-use Rattle.tl_cert.proofs.Standing.{can_same}
+use Rattle.tl_cert.proofs.StandingTrees.{can_same}
 
 -- what holds where lines lead to a state: its subtrees can have its nodes
 abbrev pub IsOpen : State → Type 0

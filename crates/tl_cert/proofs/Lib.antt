@@ -10,10 +10,15 @@ pub mod CountLemmas
 pub mod LineLemmas
 pub mod LineWords
 pub mod StepLemmas
-pub mod Standing
+pub mod StandingTrees
 pub mod RunLemmas
 pub mod Ending
 pub mod Completing
 pub mod JoinedLines
 pub mod Stuck
 pub mod OneText
+pub mod PartLemmas
+pub mod AllowedLemmas
+pub mod TreeLemmas
+pub mod PlaceLemmas
+pub mod ReaderLemmas

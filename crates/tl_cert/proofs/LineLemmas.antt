@@ -1,5 +1,5 @@
 -- A line that was found in a buffer, and lines that can't be there.
-use Rattle.std.proofs.Common.{◌≡◌, ℕ, ◌+◌, ◌-◌, ◌<◌, ◌≤◌, suc, List, [], ◌∷◌, ◌++◌, length, take, drop, Option, None, Some, refl, sym, ap, subst, ◌∙◌, arith, append_assoc, append-nil, slice_index, take_all}
+use Rattle.std.proofs.Common.{◌≡◌, ℕ, ◌+◌, ◌-◌, ◌<◌, ◌≤◌, suc, List, [], ◌∷◌, ◌++◌, length, take, drop, Option, None, Some, refl, sym, ap, subst, ◌∙◌, arith, append_assoc, append-nil, length-append, slice_index, take_all}
 use Rattle.std.specs.Option.{IfSome}
 use Rattle.std.specs.Io.KnownBytes.{Keeps, Consumes, IsAtEnd, prepend_known}
 use Rattle.std.proofs.lemmas.List.{take-append-le}
@@ -63,3 +63,8 @@ line_taken None left bytes after line len kept within feed rest is = tt
 line_taken (Some text) None bytes after line len kept within feed rest is = kept
 line_taken (Some text) (Some xs) bytes after line len kept within feed rest is =
     whole_text text bytes xs len kept within feed ∙ rw (rest, is) (sym (append_assoc line (line_feed ∷ []) (drop (len + 1) bytes ++ xs)))
+
+-- bytes that were fetched are left
+pub some_left : (bytes : List ℕ) (left : Option (List ℕ)) → (length bytes ≡ 0 → ⊥) → IfSome (prepend_known bytes left) (λ text. text ≡ [] → ⊥)
+some_left bytes None some = tt
+some_left bytes (Some xs) some = λ none. some (let sizes = ap length none in omega (arith, sizes, length-append bytes xs))

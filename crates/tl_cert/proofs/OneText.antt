@@ -12,7 +12,7 @@ use Rattle.tl_cert.specs.Text.{rounds_lines, walks_lines, certificate_lines, cer
 use Rattle.tl_cert.specs.Keeping.Steps.{State, start, ended, Runs, roots}
 use Rattle.tl_cert.proofs.LineWords.{number_line_only, counts_only, inner_only, leaf_only, inner_not_leaf}
 use Rattle.tl_cert.proofs.StepLemmas.{leads}
-use Rattle.tl_cert.proofs.Standing.{Stand}
+use Rattle.tl_cert.proofs.StandingTrees.{Stand}
 use Rattle.tl_cert.proofs.RunLemmas.{run_first, runs_same, certificate_runs, preorder_stand, low_known}
 use Rattle.tl_cert.proofs.JoinedLines.{joined_apart, run_holds}
 

@@ -11,7 +11,7 @@ use Rattle.tl_cert.specs.Keeping.Steps.{State, start, headed, counted, tree, rou
 use Rattle.tl_cert.specs.Keeping.Steps.{at_leaf, at_item, at_rounds, at_round, at_round_dart, at_walks, at_walk, at_walk_dart, at_end, Runs, no_line}
 use Rattle.tl_cert.specs.Keeping.Steps.{first_line}
 use Rattle.tl_cert.proofs.StepLemmas.{step_same}
-use Rattle.tl_cert.proofs.Standing.{Stand, trees_stand, stand_can}
+use Rattle.tl_cert.proofs.StandingTrees.{Stand, trees_stand, stand_can}
 
 -- ---- runs
 
@@ -140,14 +140,14 @@ walks_run left (darts ∷ lists) each all =
     (walk_darts_run m darts (All-head (All IsNumber) darts lists all))
     (walks_run left lists (All-tail IsDartList darts lists each) (All-tail (All IsNumber) darts lists all))))
 
-all_rounds_run : (version : ℕ) (lists : List (List ℕ)) → AreDartLists lists → All (All IsNumber) lists
+pub all_rounds_run : (version : ℕ) (lists : List (List ℕ)) → AreDartLists lists → All (All IsNumber) lists
     → Runs (tree version 0 0 0) (rounds_lines (length lists) lists) (rounds 0 0)
 all_rounds_run version lists are all =
     first_line (tree version 0 0 0) (rounds (length lists) 0) (rounds 0 0) (numbered_line (codes "N") (length lists)) (all_darts_lines (codes "R") lists)
     (at_rounds version (length lists) are.counted)
     (subst (λ n. Runs (rounds n 0) (all_darts_lines (codes "R") lists) (rounds 0 0)) (omega arith) (rounds_run 0 lists are.each all))
 
-all_walks_run : (lists : List (List ℕ)) → AreDartLists lists → All (All IsNumber) lists → Runs (rounds 0 0) (walks_lines (length lists) lists) (walks 0 0)
+pub all_walks_run : (lists : List (List ℕ)) → AreDartLists lists → All (All IsNumber) lists → Runs (rounds 0 0) (walks_lines (length lists) lists) (walks 0 0)
 all_walks_run lists are all =
     first_line (rounds 0 0) (walks (length lists) 0) (walks 0 0) (numbered_line (codes "W") (length lists)) (all_darts_lines (codes "K") lists)
     (at_walks (length lists) are.counted)

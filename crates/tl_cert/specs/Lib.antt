@@ -2,4 +2,6 @@
 pub mod Certificates
 pub mod Text
 pub mod Beginnings
+pub mod Given
+pub mod Reading
 pub mod Keeping

@@ -9,8 +9,14 @@ mod certificate;
 pub mod laws;
 mod line_kind;
 mod lines;
+mod next;
 mod number;
+mod parts;
+mod place;
+mod reader;
 mod stop;
 
 pub use certificate::{Certificate, Counts};
+pub use place::{CertPart, Place};
+pub use reader::{CertReader, Standing};
 pub use stop::{CertStop, WriteStop};

@@ -34,6 +34,7 @@ pub trait LineKind {
 }
 
 /// A letter and a number that is not below `least`.
+#[derive(Clone, Copy)]
 pub struct Numbered {
     pub letter: u8,
     pub least: u32,
@@ -96,6 +97,7 @@ pub fn roots_of(nodes: u32) -> u32
 }
 
 /// The number of nodes of a tree.
+#[derive(Clone, Copy)]
 pub struct TreeSize {
     pub version: u8,
 }
@@ -119,6 +121,7 @@ impl LineKind for TreeSize {
 }
 
 /// The first line, which tells the version.
+#[derive(Clone, Copy)]
 pub struct Head;
 
 impl LineKind for Head {
@@ -140,6 +143,7 @@ impl LineKind for Head {
 }
 
 /// The map's counts.
+#[derive(Clone, Copy)]
 pub struct CountsLine;
 
 /// The counts that stand first, and the bytes behind them.
@@ -290,6 +294,7 @@ fn children_of(node: &NodeStart) -> u8
 
 /// The first line of a node, in a certificate of this version, where so many subtrees and nodes are to come besides it
 /// and its children.
+#[derive(Clone, Copy)]
 pub struct NodeLine {
     pub version: u8,
     pub subtrees: u32,
@@ -317,6 +322,7 @@ impl LineKind for NodeLine {
 }
 
 /// The last line.
+#[derive(Clone, Copy)]
 pub struct EndLine;
 
 impl LineKind for EndLine {

@@ -18,7 +18,7 @@ pub struct LineReader<R> {
 }
 
 impl<R: Source> LineReader<R> {
-    ghost use Rattle.tl_cert.specs.Keeping.Lines.{taken, untaken, ReadsLine, TellsRead};
+    ghost use Rattle.tl_cert.specs.Keeping.Lines.{taken, untaken, ReadsLine, EndsText, TellsRead};
 
     /// A reader of the source's lines.
     pub fn new(source: R) -> LineReader<R>
@@ -58,6 +58,27 @@ impl<R: Source> LineReader<R> {
                 line: self.lines + 1,
             }),
             Fetched::Failed => Err(CertStop::Device),
+        }
+    }
+
+    /// Whether the source is at its end, behind the lines that were taken: a byte that is left is refused.
+    pub fn end(&mut self) -> Result<(), CertStop>
+        requires { taken self.old < 2 ^ 127 }
+        ensures ends { EndsText R.remaining self.old result }
+        ensures failures { TellsRead (R.failure_count self.old.source) (R.failure_count self.new.source) result }
+        ensures same_reference { R.reference self.new.source ≡ R.reference self.old.source }
+    {
+        if !self.buffer.bytes().is_empty() {
+            return Err(CertStop::Text {
+                line: self.lines + 1,
+            });
+        }
+        match self.buffer.fetch(&mut self.source) {
+            Ok(0) => Ok(()),
+            Ok(_) => Err(CertStop::Text {
+                line: self.lines + 1,
+            }),
+            Err(_) => Err(CertStop::Device),
         }
     }
 }

@@ -44,3 +44,10 @@ TellsRead old new (Ok value) = new ≡ old
 TellsRead old new (Err (Text line)) = new ≡ old
 TellsRead old new (Err Memory) = new ≡ old
 TellsRead old new (Err Device) = new ≡ one_more old
+
+-- the text is at its end, or has a byte more
+abbrev pub EndsText : {R : Type 0} → (R → Option (List ℕ)) → LineReader R → Result Unit CertStop → Type 0
+EndsText remaining old (Ok value) = IfSome (untaken remaining old) (λ text. text ≡ [])
+EndsText remaining old (Err (Text line)) = (line ≡ 1 + taken old) × IfSome (untaken remaining old) (λ text. ¬ (text ≡ []))
+EndsText remaining old (Err Memory) = ⊥
+EndsText remaining old (Err Device) = ⊤

@@ -6,13 +6,8 @@ use Rattle.tl_tree.specs.declared.node.TreeNode.TheVariants.{Inner, Leaf}
 use Rattle.tl_tree.specs.Preorder.{AreTrees, no_tree, leaf_first, inner_first}
 use Rattle.tl_cert.specs.Certificates.{IsNode}
 use Rattle.tl_cert.specs.Keeping.Steps.{CanHave}
+pub use Rattle.tl_cert.specs.Keeping.Parts.{Stand}
 use Rattle.std.proofs.lemmas.List.Elements.{All-head, All-tail}
-
--- the nodes are p trees
-abbrev pub Stand : List TreeNode → ℕ → Type 0
-Stand [] p = p ≡ 0
-Stand (Leaf r v ∷ nodes) p = (q : ℕ) × (p ≡ suc q) × Stand nodes q
-Stand (Inner r k ∷ nodes) p = (q : ℕ) × (p ≡ suc q) × (2 ≤ k) × (k ≤ 8) × Stand nodes (k + q)
 
 stand_append : (nodes : List TreeNode) (p : ℕ) → AreTrees nodes p → (m q : ℕ) (rest : List TreeNode) → Stand rest q → m ≡ p + q → Stand (nodes ++ rest) m
 stand_append nodes p no_tree m q rest s e = subst (Stand rest) (omega (arith, e)) s

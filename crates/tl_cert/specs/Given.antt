@@ -1,0 +1,34 @@
+-- The parts that were given before a place, and their lines.
+use Rattle.std.specs.Prelude.{◌≡◌, ℕ, ◌+◌, List, [], ◌∷◌, ◌++◌, length}
+use Rattle.tl_cert.specs.declared.place.Place.{Place}
+use Rattle.tl_cert.specs.declared.place.Place.TheVariants.{Start, Counted, Treed, Rounds, Walks}
+use Rattle.tl_cert.specs.declared.place.CertPart.{CertPart}
+use Rattle.tl_cert.specs.declared.place.CertPart.TheVariants as part
+use Rattle.tl_cert.specs.Certificates.{TheCertificate, IsCertificate, IsNumber}
+use Rattle.tl_cert.specs.Text.{head_line, counts_line, tree_lines, rounds_lines, walks_lines}
+
+-- a certificate with one part more
+abbrev pub with_part : TheCertificate → CertPart → TheCertificate
+with_part c (part.Counts counts version) = record c { counts = counts; version = version }
+with_part c (part.Tree nodes) = record c { tree = nodes.items }
+with_part c (part.Round darts) = record c { rounds = c.rounds ++ darts.items ∷ [] }
+with_part c (part.Walk darts) = record c { walks = c.walks ++ darts.items ∷ [] }
+
+-- the parts that were given before this place, as a certificate where all others are missing
+abbrev pub AreGiven : Place → TheCertificate → Type 0
+AreGiven Start c = (c.tree ≡ []) × (c.rounds ≡ []) × (c.walks ≡ [])
+AreGiven (Counted version) c = IsCertificate c × (c.version ≡ version) × (c.tree ≡ []) × (c.rounds ≡ []) × (c.walks ≡ [])
+AreGiven (Treed version) c = IsCertificate c × (c.version ≡ version) × (c.rounds ≡ []) × (c.walks ≡ [])
+AreGiven (Rounds left) c = IsCertificate c × IsNumber (length c.rounds + left) × (c.walks ≡ [])
+AreGiven (Walks left) c = IsCertificate c × IsNumber (length c.walks + left)
+
+-- their lines: the numbers of rounds and of walks count those that are still to come
+abbrev pub given_lines : Place → TheCertificate → List (List ℕ)
+given_lines Start c = []
+given_lines (Counted version) c = head_line c.version ∷ counts_line c.counts ∷ []
+given_lines (Treed version) c = head_line c.version ∷ counts_line c.counts ∷ tree_lines c.version c.tree
+given_lines (Rounds left) c = head_line c.version ∷ counts_line c.counts ∷ tree_lines c.version c.tree ++ rounds_lines (length c.rounds + left) c.rounds
+given_lines (Walks left) c =
+    head_line c.version ∷ counts_line c.counts ∷ tree_lines c.version c.tree
+    ++ rounds_lines (length c.rounds) c.rounds
+    ++ walks_lines (length c.walks + left) c.walks

@@ -1,0 +1,80 @@
+-- What a reader of certificates keeps, and what each part that it gives says of the text.
+use Rattle.std.specs.Prelude.{◌≡◌, ℕ, List, ◌++◌, length, Option, None, Some, Result, Ok, Err, ⊤}
+use Rattle.std.specs.Option.{IfSome}
+use Rattle.std.specs.Io.KnownBytes.{prepend_known}
+use Rattle.tl_record.specs.Lines.{joined_lines}
+use Rattle.tl_record.specs.Failures.{one_more}
+use Rattle.tl_cert.specs.declared.reader.CertReader.{CertReader}
+use Rattle.tl_cert.specs.declared.reader.Standing.{Standing}
+use Rattle.tl_cert.specs.declared.reader.Standing.TheVariants.{Reading, Ended, Stopped}
+use Rattle.tl_cert.specs.declared.place.Place.{Place}
+use Rattle.tl_cert.specs.declared.place.CertPart.{CertPart}
+use Rattle.tl_cert.specs.declared.stop.CertStop.{CertStop}
+use Rattle.tl_cert.specs.declared.stop.CertStop.TheVariants.{Text, Memory, Device}
+use Rattle.tl_cert.specs.Certificates.{TheCertificate}
+use Rattle.tl_cert.specs.Given.{AreGiven, given_lines, with_part}
+use Rattle.tl_cert.specs.Beginnings.{IsTextOf, IsRefused}
+
+-- its source, the lines that it has taken, and whether it still reads and where, or which answer it repeats
+abbrev pub source_of : {R : Type 0} → CertReader R → R
+source_of reader = reader.lines.source
+
+abbrev pub lines_of : {R : Type 0} → CertReader R → ℕ
+lines_of reader = reader.lines.lines
+
+abbrev pub standing_of : {R : Type 0} → CertReader R → Standing
+standing_of reader = reader.standing
+
+-- the bytes that weren't taken yet, fetched or not, where those that the source has left are known
+abbrev pub unread : {R : Type 0} → (R → Option (List ℕ)) → CertReader R → Option (List ℕ)
+unread remaining reader = prepend_known reader.lines.buffer (remaining (source_of reader))
+
+-- the parts of c were given, and their lines are those that were taken
+pub record IsBehind (lines : ℕ) (place : Place) (c : TheCertificate) : Type 0 where
+  pub given : AreGiven place c
+  pub counted : lines ≡ length (given_lines place c)
+
+-- the text of the parts that were given, and what follows it
+abbrev pub whole : Place → TheCertificate → List ℕ → List ℕ
+whole place c rest = joined_lines (given_lines place c) ++ rest
+
+abbrev pub Answer : Type 0
+Answer = Result (Option CertPart) CertStop
+
+-- a reader goes on at this place with a part more, which is what was read of a known text
+abbrev pub GoesOn : Option (List ℕ) → Option (List ℕ) → Place → Place → TheCertificate → TheCertificate → Type 0
+GoesOn None new place next c d = ⊤
+GoesOn (Some text) None place next c d = ⊥
+GoesOn (Some text) (Some rest) place next c d = whole place c text ≡ whole next d rest
+
+-- What an answer says, whatever parts c were given before: it is a part more, and the text behind it is what is left; or
+-- the end, and the whole text is that of c; or no certificate has the whole text, and this is the line.
+abbrev pub GivesAt : {R : Type 0} → (R → Option (List ℕ)) → Place → CertReader R → CertReader R → Answer → Type 0
+GivesAt remaining place old new (Ok (Some given)) =
+    (next : Place) × (standing_of new ≡ Reading next)
+    × ((c : TheCertificate) → IsBehind (lines_of old) place c
+    → IsBehind (lines_of new) next (with_part c given) × GoesOn (unread remaining old) (unread remaining new) place next c (with_part c given))
+GivesAt remaining place old new (Ok None) = (c : TheCertificate) → IsBehind (lines_of old) place c → IfSome (unread remaining old) (λ text. IsTextOf c (whole place c text))
+GivesAt remaining place old new (Err (Text line)) = (c : TheCertificate) → IsBehind (lines_of old) place c → IfSome (unread remaining old) (λ text. IsRefused (whole place c text) line)
+GivesAt remaining place old new (Err Memory) = ⊤
+GivesAt remaining place old new (Err Device) = ⊤
+
+abbrev pub Gives : {R : Type 0} → (R → Option (List ℕ)) → CertReader R → CertReader R → Answer → Standing → Type 0
+Gives remaining old new answer (Reading place) = GivesAt remaining place old new answer
+Gives remaining old new answer Ended = (answer ≡ Ok None) × (new ≡ old)
+Gives remaining old new answer (Stopped stop) = (answer ≡ Err stop) × (new ≡ old)
+
+-- after a part the reader reads on; after the end or a stop, that is the answer from then on
+abbrev pub Settles : Standing → Answer → Type 0
+Settles standing (Ok (Some given)) = (next : Place) × (standing ≡ Reading next)
+Settles standing (Ok None) = standing ≡ Ended
+Settles standing (Err stop) = standing ≡ Stopped stop
+
+-- the source counts a failed read, and `Device` comes of nothing else
+abbrev pub TellsFailure : Standing → ℕ → ℕ → Answer → Type 0
+TellsFailure (Reading place) old new (Ok given) = new ≡ old
+TellsFailure (Reading place) old new (Err (Text line)) = new ≡ old
+TellsFailure (Reading place) old new (Err Memory) = new ≡ old
+TellsFailure (Reading place) old new (Err Device) = new ≡ one_more old
+TellsFailure Ended old new answer = new ≡ old
+TellsFailure (Stopped stop) old new answer = new ≡ old
