@@ -22,3 +22,4 @@ pub mod AllowedLemmas
 pub mod TreeLemmas
 pub mod PlaceLemmas
 pub mod ReaderLemmas
+pub mod CollectLemmas

@@ -6,14 +6,13 @@ use Rattle.std.proofs.KnownBytes.{Consumes-trans, Consumes-nil}
 use Rattle.std.proofs.lemmas.List.{map-append}
 use Rattle.std.proofs.lemmas.List.Elements.{All-head, All-tail, All-nil, All-cons, All-append}
 use Rattle.tl_record.specs.Lines.{joined_lines}
-use Rattle.tl_cert.specs.declared.lines.LineReader.{LineReader}
 use Rattle.tl_cert.specs.declared.parts.DartLists.{DartLists}
 use Rattle.tl_cert.specs.declared.parts.DartLists.TheVariants.{Rounds, Walks}
 use Rattle.tl_cert.specs.declared.stop.CertStop.{CertStop}
 use Rattle.tl_cert.specs.declared.stop.CertStop.TheVariants.{Text, Memory, Device}
 use Rattle.tl_cert.specs.Certificates.{IsNumber}
 use Rattle.tl_cert.specs.Text.{numbered_line, item_lines, dart_lines}
-use Rattle.tl_cert.specs.Keeping.Lines.{NoLineBegins, TakesLines, ReadsLine, taken, untaken}
+use Rattle.tl_cert.specs.Keeping.Lines.{LineState, NoLineBegins, TakesLines, ReadsLine, taken, untaken}
 use Rattle.tl_cert.specs.Keeping.Parts.{IsStuckAfter, Sticks, Reads, letter_of, among}
 use Rattle.tl_cert.specs.Keeping.Steps.{State, tree, rounds, walks, ended, Steps, at_item, at_round, at_round_dart, at_walk, at_walk_dart, Runs, no_line, first_line, IsStuck}
 use Rattle.tl_cert.proofs.StepLemmas.{step_short}
@@ -21,11 +20,11 @@ use Rattle.tl_cert.proofs.RunLemmas.{runs-append}
 use Rattle.tl_cert.proofs.Completing.{joined-append}
 
 -- no line was taken
-pub takes_none : {R : Type 0} (remaining : R → Option (List ℕ)) (reader : LineReader R) → TakesLines remaining reader reader []
+pub takes_none : {R : Type 0} (remaining : R → Option (List ℕ)) (reader : LineState R) → TakesLines remaining reader reader []
 takes_none remaining reader = record { bytes = Consumes-nil (untaken remaining reader); counted = omega arith }
 
 -- some lines and then others
-pub takes_more : {R : Type 0} (remaining : R → Option (List ℕ)) (old mid new : LineReader R) (xs ys : List (List ℕ))
+pub takes_more : {R : Type 0} (remaining : R → Option (List ℕ)) (old mid new : LineState R) (xs ys : List (List ℕ))
     → TakesLines remaining old mid xs → TakesLines remaining mid new ys → TakesLines remaining old new (xs ++ ys)
 takes_more remaining old mid new xs ys first second = record {
   bytes = subst (λ b. Consumes (untaken remaining old) (untaken remaining new) b) (sym (joined-append xs ys))
@@ -68,7 +67,7 @@ stuck_later (Some text) (Some rest) s t lines before mid line bytes counted runs
 
 -- a stop behind lines that were taken
 pub stops_later : {R S T : Type 0} (remaining : R → Option (List ℕ)) (may : S → Type 0) (some : S → List (List ℕ)) (fits : T → Type 0) (part : T → List (List ℕ)) (s t : State) (lines : List (List ℕ))
-    (old mid new end : LineReader R) (stop : CertStop)
+    (old mid new end : LineState R) (stop : CertStop)
     → Runs s lines t → TakesLines remaining old mid lines → Reads {T = S} remaining may some t mid new (Err stop) → Reads {T = T} remaining fits part s old end (Err stop)
 stops_later remaining may some fits part s t lines old mid new end (Text line) runs takes reads =
     stuck_later (untaken remaining old) (untaken remaining mid) s t lines (taken old) (taken mid) line takes.bytes takes.counted runs reads
@@ -77,7 +76,7 @@ stops_later remaining may some fits part s t lines old mid new end Device runs t
 
 -- a line that isn't there, behind lines that were taken
 pub line_missing : {R V T : Type 0} (remaining : R → Option (List ℕ)) (spelt : V → List ℕ) (may : V → Type 0) (fits : T → Type 0) (part : T → List (List ℕ)) (s t : State) (lines : List (List ℕ))
-    (old mid new end : LineReader R) (stop : CertStop) → Runs s lines t → TakesLines remaining old mid lines
+    (old mid new end : LineState R) (stop : CertStop) → Runs s lines t → TakesLines remaining old mid lines
     → ((l : List ℕ) (u : State) → Steps t l u → (value : V) × may value × (l ≡ spelt value)) → (t ≡ ended → ⊥)
     → ReadsLine remaining spelt may mid new (Err stop) → Reads {T = T} remaining fits part s old end (Err stop)
 line_missing {R} {V} {T} remaining spelt may fits part s t lines old mid new end (Text line) runs takes allowed goes reads =

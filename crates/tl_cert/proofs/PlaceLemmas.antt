@@ -9,7 +9,6 @@ use Rattle.tl_record.specs.Lines.{joined_lines}
 use Rattle.tl_tree.specs.declared.node.TreeNode.{TreeNode}
 use Rattle.tl_tree.specs.declared.node.TreeNode.TheVariants.{Inner, Leaf}
 use Rattle.tl_cert.specs.declared.certificate.Counts.{Counts}
-use Rattle.tl_cert.specs.declared.lines.LineReader.{LineReader}
 use Rattle.tl_cert.specs.declared.place.Place.{Place}
 use Rattle.tl_cert.specs.declared.place.Place.TheVariants.{Start, Counted, Treed, Rounds, Walks}
 use Rattle.tl_cert.specs.declared.place.CertPart.{CertPart}
@@ -18,8 +17,8 @@ use Rattle.tl_cert.specs.declared.stop.CertStop.{CertStop}
 use Rattle.tl_cert.specs.declared.stop.CertStop.TheVariants.{Text, Memory, Device}
 use Rattle.tl_cert.specs.Certificates.{TheCertificate, IsCertificate, MakesCertificate, HasNumbersInRange, IsNumber, IsNode, IsNodeInRange, IsDartList, AreDartLists}
 use Rattle.tl_cert.specs.Text.{numbered_line, item_lines, nodes_lines, tree_lines, rounds_lines, walks_lines, darts_lines, all_darts_lines, end_line, head_line, counts_line, certificate_lines}
-use Rattle.tl_cert.specs.Given.{AreGiven, given_lines, with_part}
-use Rattle.tl_cert.specs.Keeping.Lines.{taken, untaken, TakesLines, ReadsLine, EndsText}
+use Rattle.tl_cert.specs.Given.{AreGiven, given_lines, with_part, parts_left}
+use Rattle.tl_cert.specs.Keeping.Lines.{LineState, taken, untaken, TakesLines, ReadsLine, EndsText}
 use Rattle.tl_cert.specs.Keeping.Parts.{IsTree, AreDarts, AreVersionedCounts, versioned_lines, IsStuckAfter, Reads}
 use Rattle.tl_cert.specs.Keeping.Places.{Adds, Ends, ReadsPart, FitsPlace, state_at}
 use Rattle.tl_cert.specs.Keeping.Steps.{State, rounds, walks, ended, Steps, at_end, Runs, no_line, first_line}
@@ -169,32 +168,33 @@ ends_behind (Some text) None line lines bytes is = absurd bytes
 ends_behind (Some text) (Some rest) line lines bytes is =
     bytes ∙ ap (λ (b : List ℕ). (line ++ 10 ∷ []) ++ b) is ∙ append_assoc line (10 ∷ []) (joined_lines lines)
 
-pub passed : {R : Type 0} (remaining : R → Option (List ℕ)) (place next : Place) (line : List ℕ) (old mid new : LineReader R) (answer : Result (Option (CertPart × Place)) CertStop)
-    → Passes place next line → Steps (state_at place) line (state_at next) → TakesLines remaining old mid (line ∷ []) → ReadsPart remaining next mid new answer
+pub passed : {R : Type 0} (remaining : R → Option (List ℕ)) (place next : Place) (line : List ℕ) (old mid new : LineState R) (answer : Result (Option (CertPart × Place)) CertStop)
+    → Passes place next line → parts_left next ≤ parts_left place → Steps (state_at place) line (state_at next) → TakesLines remaining old mid (line ∷ []) → ReadsPart remaining next mid new answer
     → ReadsPart remaining place old new answer
-passed remaining place next line old mid new (Ok (Some (given, then))) passes step takes reads = (
+passed remaining place next line old mid new (Ok (Some (given, then))) passes fewer step takes reads = (
   line ∷ reads.0,
   takes_more remaining old mid new (line ∷ []) reads.0 takes reads.1,
   λ c are. let here = passes c are in
       let more = reads.2 c here.0 in
       (more.0, more.1 ∙ ap (λ (ls : List (List ℕ)). ls ++ reads.0) here.1 ∙ append_assoc (given_lines place c) (line ∷ []) reads.0),
   reads.3,
+  omega (arith, reads.4, fewer),
 )
-passed remaining place next line old mid new (Ok None) passes step takes reads = (
+passed remaining place next line old mid new (Ok None) passes fewer step takes reads = (
   line ∷ reads.0,
   λ c are. let here = passes c are in
       let more = reads.1 c here.0 in
       (more.0, more.1 ∙ ap (λ (ls : List (List ℕ)). ls ++ reads.0) here.1 ∙ append_assoc (given_lines place c) (line ∷ []) reads.0),
   ends_behind (untaken remaining old) (untaken remaining mid) line reads.0 takes.bytes reads.2,
 )
-passed remaining place next line old mid new (Err (Text number)) passes step takes reads =
+passed remaining place next line old mid new (Err (Text number)) passes fewer step takes reads =
     stuck_later (untaken remaining old) (untaken remaining mid) (state_at place) (state_at next) (line ∷ []) (taken old) (taken mid) number takes.bytes takes.counted
     (first_line (state_at place) (state_at next) (state_at next) line [] step (no_line (state_at next))) reads
-passed remaining place next line old mid new (Err Memory) passes step takes reads = tt
-passed remaining place next line old mid new (Err Device) passes step takes reads = tt
+passed remaining place next line old mid new (Err Memory) passes fewer step takes reads = tt
+passed remaining place next line old mid new (Err Device) passes fewer step takes reads = tt
 
 -- a stop while a part is read
-pub stops_part : {R T : Type 0} (remaining : R → Option (List ℕ)) (fits : T → Type 0) (lines : T → List (List ℕ)) (place : Place) (old new end : LineReader R) (stop : CertStop)
+pub stops_part : {R T : Type 0} (remaining : R → Option (List ℕ)) (fits : T → Type 0) (lines : T → List (List ℕ)) (place : Place) (old new end : LineState R) (stop : CertStop)
     → Reads {T = T} remaining fits lines (state_at place) old new (Err stop) → ReadsPart remaining place old end (Err stop)
 stops_part remaining fits lines place old new end (Text number) reads = reads
 stops_part remaining fits lines place old new end Memory reads = tt
@@ -220,7 +220,7 @@ known (suc (suc zero)) some few = inr refl
 known (suc (suc (suc version))) some few = absurd (omega (arith, few))
 
 -- a list of darts, where some are left
-pub walk_read : {R : Type 0} (remaining : R → Option (List ℕ)) (left : ℕ) (darts : Vec ℕ Global) (old new : LineReader R) → 0 < left → AreDarts darts
+pub walk_read : {R : Type 0} (remaining : R → Option (List ℕ)) (left : ℕ) (darts : Vec ℕ Global) (old new : LineState R) → 0 < left → AreDarts darts
     → TakesLines remaining old new (darts_lines (75 ∷ []) darts.items) → FitsPlace (Walks left) (taken old)
     → ReadsPart remaining (Walks left) old new (Ok (Some (part.Walk darts, Walks (left - 1))))
 walk_read remaining left darts old new some are takes fits =
@@ -229,9 +229,10 @@ walk_read remaining left darts old new some are takes fits =
       takes,
       subst (λ n. Adds (Walks n) (Walks (left - 1)) (part.Walk darts) (darts_lines (75 ∷ []) darts.items)) before (add_walk (left - 1) darts are),
       omega (arith, takes.counted, few_darts 75 darts.items are.0, fits, some),
+      omega (arith, some),
     )
 
-pub round_read : {R : Type 0} (remaining : R → Option (List ℕ)) (left : ℕ) (darts : Vec ℕ Global) (old new : LineReader R) → 0 < left → AreDarts darts
+pub round_read : {R : Type 0} (remaining : R → Option (List ℕ)) (left : ℕ) (darts : Vec ℕ Global) (old new : LineState R) → 0 < left → AreDarts darts
     → TakesLines remaining old new (darts_lines (82 ∷ []) darts.items) → FitsPlace (Rounds left) (taken old)
     → ReadsPart remaining (Rounds left) old new (Ok (Some (part.Round darts, Rounds (left - 1))))
 round_read remaining left darts old new some are takes fits =
@@ -240,17 +241,18 @@ round_read remaining left darts old new some are takes fits =
       takes,
       subst (λ n. Adds (Rounds n) (Rounds (left - 1)) (part.Round darts) (darts_lines (82 ∷ []) darts.items)) before (add_round (left - 1) darts are),
       omega (arith, takes.counted, few_darts 82 darts.items are.0, fits, some),
+      omega (arith, some),
     )
 
 -- a list of darts that isn't there
-pub walk_stops : {R : Type 0} (remaining : R → Option (List ℕ)) (left : ℕ) (old new end : LineReader R) (stop : CertStop) → 0 < left
+pub walk_stops : {R : Type 0} (remaining : R → Option (List ℕ)) (left : ℕ) (old new end : LineState R) (stop : CertStop) → 0 < left
     → ((others : ℕ) → Reads {T = Vec ℕ Global} remaining AreDarts (λ v. darts_lines (75 ∷ []) v.items) (walks (suc others) 0) old new (Err stop)) → ReadsPart remaining (Walks left) old end (Err stop)
 walk_stops remaining left old new end stop some reads =
     let before : suc (left - 1) ≡ left = omega (arith, some) in
     subst (λ n. ReadsPart remaining (Walks n) old end (Err stop)) before
     (stops_part {T = Vec ℕ Global} remaining AreDarts (λ v. darts_lines (75 ∷ []) v.items) (Walks (suc (left - 1))) old new end stop (reads (left - 1)))
 
-pub round_stops : {R : Type 0} (remaining : R → Option (List ℕ)) (left : ℕ) (old new end : LineReader R) (stop : CertStop) → 0 < left
+pub round_stops : {R : Type 0} (remaining : R → Option (List ℕ)) (left : ℕ) (old new end : LineState R) (stop : CertStop) → 0 < left
     → ((others : ℕ) → Reads {T = Vec ℕ Global} remaining AreDarts (λ v. darts_lines (82 ∷ []) v.items) (rounds (suc others) 0) old new (Err stop)) → ReadsPart remaining (Rounds left) old end (Err stop)
 round_stops remaining left old new end stop some reads =
     let before : suc (left - 1) ≡ left = omega (arith, some) in
@@ -261,7 +263,7 @@ round_stops remaining left old new end stop some reads =
 end_run : Runs (walks 0 0) (end_line ∷ []) ended
 end_run = first_line (walks 0 0) ended ended end_line [] at_end (no_line ended)
 
-pub text_ends : {R : Type 0} (remaining : R → Option (List ℕ)) (old mid end : LineReader R) → TakesLines remaining old mid (end_line ∷ []) → IfSome (untaken remaining mid) (λ text. text ≡ [])
+pub text_ends : {R : Type 0} (remaining : R → Option (List ℕ)) (old mid end : LineState R) → TakesLines remaining old mid (end_line ∷ []) → IfSome (untaken remaining mid) (λ text. text ≡ [])
     → ReadsPart remaining (Walks 0) old end (Ok None)
 text_ends remaining old mid end takes none = (end_line ∷ [], ends_here, ends_behind (untaken remaining old) (untaken remaining mid) end_line [] takes.bytes none)
 
@@ -277,7 +279,7 @@ stuck_at_end (Some text) before number told some = record {
   told = omega (arith, told);
 }
 
-pub text_goes_on : {R : Type 0} (remaining : R → Option (List ℕ)) (old mid end : LineReader R) (stop : CertStop) → TakesLines remaining old mid (end_line ∷ []) → EndsText remaining mid (Err stop)
+pub text_goes_on : {R : Type 0} (remaining : R → Option (List ℕ)) (old mid end : LineState R) (stop : CertStop) → TakesLines remaining old mid (end_line ∷ []) → EndsText remaining mid (Err stop)
     → ReadsPart remaining (Walks 0) old end (Err stop)
 text_goes_on remaining old mid end (Text number) takes ends =
     stuck_later (untaken remaining old) (untaken remaining mid) (walks 0 0) ended (end_line ∷ []) (taken old) (taken mid) number takes.bytes takes.counted end_run
@@ -286,14 +288,14 @@ text_goes_on remaining old mid end Memory takes ends = absurd ends
 text_goes_on remaining old mid end Device takes ends = tt
 
 -- a line that isn't there
-pub end_missing : {R : Type 0} (remaining : R → Option (List ℕ)) (old new end : LineReader R) (stop : CertStop) → ReadsLine {V = Unit {0}} remaining (λ v. end_line) (λ v. Unit {0}) old new (Err stop)
+pub end_missing : {R : Type 0} (remaining : R → Option (List ℕ)) (old new end : LineState R) (stop : CertStop) → ReadsLine {V = Unit {0}} remaining (λ v. end_line) (λ v. Unit {0}) old new (Err stop)
     → ReadsPart remaining (Walks 0) old end (Err stop)
 end_missing remaining old new end stop reads =
     stops_part {T = ℕ} remaining (λ n. Unit {0}) (λ n. []) (Walks 0) old new end stop
     (line_missing {V = Unit {0}} {T = ℕ} remaining (λ v. end_line) (λ v. Unit {0}) (λ n. Unit {0}) (λ n. []) (walks 0 0) (walks 0 0) [] old old new new stop (no_line (walks 0 0)) (takes_none remaining old)
     (λ l u step. (tt, tt, (leads (walks 0 0) u l step).0)) (λ e. cc e) reads)
 
-pub number_missing : {R : Type 0} (remaining : R → Option (List ℕ)) (letter : ℕ) (place : Place) (old new end : LineReader R) (stop : CertStop)
+pub number_missing : {R : Type 0} (remaining : R → Option (List ℕ)) (letter : ℕ) (place : Place) (old new end : LineState R) (stop : CertStop)
     → ((l : List ℕ) (u : State) → Steps (state_at place) l u → Tells letter (λ n. IsNumber n × (0 ≤ n)) l) → (state_at place ≡ ended → ⊥)
     → ReadsLine {V = ℕ} remaining (numbered_line (letter ∷ [])) (λ n. IsNumber n × (0 ≤ n)) old new (Err stop) → ReadsPart remaining place old end (Err stop)
 number_missing remaining letter place old new end stop allowed goes reads =
@@ -302,7 +304,7 @@ number_missing remaining letter place old new end stop allowed goes reads =
     (no_line (state_at place)) (takes_none remaining old) allowed goes reads)
 
 -- the nodes of a tree
-pub tree_read : {R : Type 0} (remaining : R → Option (List ℕ)) (place : Place) (version : ℕ) (nodes : Vec TreeNode Global) (old new : LineReader R) → place ≡ Counted version → FitsPlace place (taken old)
+pub tree_read : {R : Type 0} (remaining : R → Option (List ℕ)) (place : Place) (version : ℕ) (nodes : Vec TreeNode Global) (old new : LineState R) → place ≡ Counted version → FitsPlace place (taken old)
     → IsTree version nodes.items → TakesLines remaining old new (tree_lines version nodes.items) → ReadsPart remaining place old new (Ok (Some (part.Tree nodes, Treed version)))
 tree_read remaining place version nodes old new is fits are takes =
     let before : FitsPlace (Counted version) (taken old) = subst (λ p. FitsPlace p (taken old)) is fits in
@@ -311,14 +313,16 @@ tree_read remaining place version nodes old new is fits are takes =
       takes,
       add_tree version nodes are,
       (before.0, (before.1.0, omega (arith, takes.counted, few_lines version nodes.items are.range, are.few, before.1.1))),
+      omega arith,
     )
 
 -- the counts
-pub counts_read : {R : Type 0} (remaining : R → Option (List ℕ)) (counts : Counts) (version : ℕ) (old new : LineReader R) → taken old ≤ 0
+pub counts_read : {R : Type 0} (remaining : R → Option (List ℕ)) (counts : Counts) (version : ℕ) (old new : LineState R) → taken old ≤ 0
     → AreVersionedCounts (counts, version) → TakesLines remaining old new (versioned_lines (counts, version)) → ReadsPart remaining Start old new (Ok (Some (part.Counts counts version, Counted version)))
 counts_read remaining counts version old new none are takes = (
   versioned_lines (counts, version),
   takes,
   add_counts counts version are,
   (elim are.1 [ inl one ↦ omega (arith, one) | inr two ↦ omega (arith, two) ], (elim are.1 [ inl one ↦ omega (arith, one) | inr two ↦ omega (arith, two) ], omega (arith, takes.counted, none))),
+  omega arith,
 )

@@ -3,7 +3,6 @@ use Rattle.std.proofs.Common.{◌≡◌, ℕ, ◌+◌, List, [], ◌∷◌, ◌+
 use Rattle.std.specs.Option.{IfSome}
 use Rattle.std.specs.Io.KnownBytes.{Consumes}
 use Rattle.tl_record.specs.Lines.{joined_lines}
-use Rattle.tl_cert.specs.declared.lines.LineReader.{LineReader}
 use Rattle.tl_cert.specs.declared.place.Place.{Place}
 use Rattle.tl_cert.specs.declared.place.Place.TheVariants.{Start, Counted, Treed, Rounds, Walks}
 use Rattle.tl_cert.specs.declared.place.CertPart.{CertPart}
@@ -17,7 +16,8 @@ use Rattle.tl_cert.specs.Text.{head_line, counts_line, tree_lines, rounds_lines,
 use Rattle.tl_cert.specs.Beginnings.{IsTextOf, IsRefused}
 use Rattle.tl_cert.specs.Given.{AreGiven, given_lines, with_part}
 use Rattle.tl_cert.specs.Reading.{IsBehind, GoesOn, GivesAt, Gives, whole}
-use Rattle.tl_cert.specs.Keeping.Lines.{taken, untaken}
+use Rattle.tl_cert.specs.Keeping.Lines.{LineState, taken, untaken}
+use Rattle.tl_cert.specs.Keeping.Collecting.{state_of}
 use Rattle.tl_cert.specs.Keeping.Parts.{IsStuckAfter}
 use Rattle.tl_cert.specs.Keeping.Places.{ReadsPart, state_at}
 use Rattle.tl_cert.specs.Keeping.Steps.{State, start, headed, counted, tree, rounds, walks, Steps, at_head, at_counts, at_rounds, at_walks, Runs, no_line, first_line}
@@ -65,7 +65,7 @@ goes_on (Some text) (Some rest) place next c d lines bytes adds =
     ap (λ (b : List ℕ). front ++ b) bytes ∙ sym (append_assoc front (joined_lines lines) rest)
     ∙ ap (λ (b : List ℕ). b ++ rest) (sym (joined-append (given_lines place c) lines) ∙ ap joined_lines (sym adds))
 
-pub given_part : {R : Type 0} (remaining : R → Option (List ℕ)) (place next : Place) (given : CertPart) (old new : LineReader R) → ReadsPart remaining place old new (Ok (Some (given, next)))
+pub given_part : {R : Type 0} (remaining : R → Option (List ℕ)) (place next : Place) (given : CertPart) (old new : LineState R) → ReadsPart remaining place old new (Ok (Some (given, next)))
     → (c : TheCertificate) → IsBehind (taken old) place c → IsBehind (taken new) next (with_part c given) × GoesOn (untaken remaining old) (untaken remaining new) place next c (with_part c given)
 given_part remaining place next given old new reads c behind =
     let adds = reads.2 c behind.given in (
@@ -81,10 +81,10 @@ ends_at (Some text) place c lines is made all = record {
   spelt = ap (λ (b : List ℕ). joined_lines (given_lines place c) ++ b) is ∙ sym (joined-append (given_lines place c) lines) ∙ ap joined_lines (sym all);
 }
 
-pub given_end : {R : Type 0} (remaining : R → Option (List ℕ)) (place : Place) (old new : LineReader R) → ReadsPart remaining place old new (Ok None)
-    → (c : TheCertificate) → IsBehind (taken old) place c → IfSome (untaken remaining old) (λ text. IsTextOf c (whole place c text))
+pub given_end : {R : Type 0} (remaining : R → Option (List ℕ)) (place : Place) (old new : LineState R) → ReadsPart remaining place old new (Ok None)
+    → (c : TheCertificate) → IsBehind (taken old) place c → IsCertificate c × IfSome (untaken remaining old) (λ text. IsTextOf c (whole place c text))
 given_end remaining place old new reads c behind =
-    let ends = reads.1 c behind.given in ends_at (untaken remaining old) place c reads.0 reads.2 ends.0 ends.1
+    let ends = reads.1 c behind.given in (ends.0, ends_at (untaken remaining old) place c reads.0 reads.2 ends.0 ends.1)
 
 refused_at : (left : Option (List ℕ)) (place : Place) (c : TheCertificate) (before line : ℕ) → AreGiven place c → before ≡ length (given_lines place c)
     → IfSome left (λ text. IsStuckAfter (state_at place) before text line) → IfSome left (λ text. IsRefused (whole place c text) line)
@@ -99,9 +99,9 @@ refused_at (Some text) place c before line given counts stuck =
     let number : 1 + length all ≡ line = omega (arith, stuck.told, counts, length-append (given_lines place c) stuck.lines) in
     subst (λ n. IsRefused (whole place c text) n) number (subst (λ (b : List ℕ). IsRefused b (1 + length all)) same refused)
 
-pub given_stop : {R : Type 0} (remaining : R → Option (List ℕ)) (place : Place) (old new : CertReader R) (mid : LineReader R) (stop : CertStop) → ReadsPart remaining place old.lines mid (Err stop)
+pub given_stop : {R : Type 0} (remaining : R → Option (List ℕ)) (place : Place) (old new : CertReader R) (mid : LineState R) (stop : CertStop) → ReadsPart remaining place (state_of old) mid (Err stop)
     → GivesAt remaining place old new (Err stop)
-given_stop remaining place old new mid (Text line) reads = λ c behind. refused_at (untaken remaining old.lines) place c (taken old.lines) line behind.given behind.counted reads
+given_stop remaining place old new mid (Text line) reads = λ c behind. refused_at (untaken remaining (state_of old)) place c (taken (state_of old)) line behind.given behind.counted reads
 given_stop remaining place old new mid Memory reads = tt
 given_stop remaining place old new mid Device reads = tt
 
@@ -110,6 +110,6 @@ pub at_place : {R : Type 0} (remaining : R → Option (List ℕ)) (old new : Cer
     → standing ≡ Reading place → GivesAt remaining place old new answer → Gives remaining old new answer standing
 at_place remaining old new answer standing place is gives = subst (Gives remaining old new answer) (sym is) gives
 
-pub stop_at_place : {R : Type 0} (remaining : R → Option (List ℕ)) (old new : CertReader R) (mid : LineReader R) (stop : CertStop) (standing : Standing) (place : Place)
-    → standing ≡ Reading place → ReadsPart remaining place old.lines mid (Err stop) → Gives remaining old new (Err stop) standing
+pub stop_at_place : {R : Type 0} (remaining : R → Option (List ℕ)) (old new : CertReader R) (mid : LineState R) (stop : CertStop) (standing : Standing) (place : Place)
+    → standing ≡ Reading place → ReadsPart remaining place (state_of old) mid (Err stop) → Gives remaining old new (Err stop) standing
 stop_at_place remaining old new mid stop standing place is reads = at_place remaining old new (Err stop) standing place is (given_stop remaining place old new mid stop reads)

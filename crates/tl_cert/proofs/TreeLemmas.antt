@@ -7,12 +7,11 @@ use Rattle.tl_geom.specs.declared.rect.Rect.{Rect}
 use Rattle.tl_tree.specs.declared.node.TreeNode.{TreeNode}
 use Rattle.tl_tree.specs.declared.node.TreeNode.TheVariants.{Inner, Leaf}
 use Rattle.tl_tree.specs.Preorder.{AreTrees, IsPreorder}
-use Rattle.tl_cert.specs.declared.lines.LineReader.{LineReader}
 use Rattle.tl_cert.specs.Certificates.{IsNumber, IsInRange, IsNode, IsNodeInRange}
 use Rattle.tl_cert.specs.Text.{numbered_line, nodes_lines, inner_line, leaf_line, item_lines}
 use Rattle.tl_cert.specs.declared.line_kind.NodeStart.{NodeStart}
 use Rattle.tl_cert.specs.Keeping.Kinds.{ChildrenFit, NodeFits, children_told, node_line}
-use Rattle.tl_cert.specs.Keeping.Lines.{TakesLines}
+use Rattle.tl_cert.specs.Keeping.Lines.{LineState, TakesLines}
 use Rattle.tl_cert.specs.Keeping.Parts.{AreItems, IsTreeSoFar, IsNodeRead, Stand}
 use Rattle.tl_cert.specs.Keeping.Steps.{State, counted, tree, CanHave, roots, Steps, at_nodes, at_inner, at_leaf, Runs, no_line, first_line}
 use Rattle.tl_cert.proofs.PartLemmas.{takes_more}
@@ -67,7 +66,7 @@ stand_more count p nodes node q trees one rest stand =
     subst (λ (xs : List TreeNode). Stand xs (roots count)) (sym (append_assoc nodes (node ∷ []) rest)) (trees (node ∷ rest) (one rest stand))
 
 -- a node more
-pub node_added : {R : Type 0} (remaining : R → Option (List ℕ)) (version count p r : ℕ) (nodes all : List TreeNode) (read : TreeNode × ℕ) (old mid new : LineReader R)
+pub node_added : {R : Type 0} (remaining : R → Option (List ℕ)) (version count p r : ℕ) (nodes all : List TreeNode) (read : TreeNode × ℕ) (old mid new : LineState R)
     → IsTreeSoFar remaining version count (suc p) (suc r) nodes old mid → IsNodeRead version p r read
     → TakesLines remaining mid new (nodes_lines version (read.0 ∷ [])) → all ≡ nodes ++ read.0 ∷ [] → IsTreeSoFar remaining version count (read.1 + p) r all old new
 node_added remaining version count p r nodes all read old mid new far is takes whole =
@@ -132,7 +131,7 @@ leaf_read version p r rect k items range some few can are =
     }
 
 -- the leaf's line and its items were taken
-pub leaf_takes : {R : Type 0} (remaining : R → Option (List ℕ)) (version : ℕ) (rect : Rect) (k : ℕ) (items : ArrayVec ℕ) (old mid new : LineReader R)
+pub leaf_takes : {R : Type 0} (remaining : R → Option (List ℕ)) (version : ℕ) (rect : Rect) (k : ℕ) (items : ArrayVec ℕ) (old mid new : LineState R)
     → length items.items ≡ k → TakesLines remaining old mid (leaf_line rect k ∷ []) → TakesLines remaining mid new (item_lines items.items)
     → TakesLines remaining old new (nodes_lines version (Leaf rect items ∷ []))
 leaf_takes remaining version rect k items old mid new is first takes =
@@ -140,7 +139,7 @@ leaf_takes remaining version rect k items old mid new is first takes =
     (takes_more remaining old mid new (leaf_line rect k ∷ []) (item_lines items.items) first takes)
 
 -- before any node
-pub no_node : {R : Type 0} (remaining : R → Option (List ℕ)) (version count : ℕ) (old new : LineReader R) → IsNumber count → CanHave version (roots count) count
+pub no_node : {R : Type 0} (remaining : R → Option (List ℕ)) (version count : ℕ) (old new : LineState R) → IsNumber count → CanHave version (roots count) count
     → TakesLines remaining old new (numbered_line (codes "T") count ∷ []) → IsTreeSoFar remaining version count (roots count) count [] old new
 no_node remaining version count old new small can takes = record {
   takes = takes;
@@ -155,7 +154,7 @@ no_node remaining version count old new small can takes = record {
 }
 
 -- the nodes are whole
-pub whole_tree : {R : Type 0} (remaining : R → Option (List ℕ)) (version count p : ℕ) (nodes : List TreeNode) (old new : LineReader R)
+pub whole_tree : {R : Type 0} (remaining : R → Option (List ℕ)) (version count p : ℕ) (nodes : List TreeNode) (old new : LineState R)
     → IsTreeSoFar remaining version count p 0 nodes old new → IsPreorder nodes
 whole_tree remaining version count p nodes old new far =
     let none = can_none version p far.can in
@@ -168,17 +167,17 @@ whole_tree remaining version count p nodes old new far =
     whole (node ∷ nodes) trees = inr trees
 
 -- with numbers that are the same
-pub so_far_same : {R : Type 0} (remaining : R → Option (List ℕ)) (version count p q r s : ℕ) (nodes : List TreeNode) (old new : LineReader R) → p ≡ q → r ≡ s
+pub so_far_same : {R : Type 0} (remaining : R → Option (List ℕ)) (version count p q r s : ℕ) (nodes : List TreeNode) (old new : LineState R) → p ≡ q → r ≡ s
     → IsTreeSoFar remaining version count p r nodes old new → IsTreeSoFar remaining version count q s nodes old new
 so_far_same remaining version count p q r s nodes old new trees left far =
     subst (λ n. IsTreeSoFar remaining version count n s nodes old new) trees (subst (λ n. IsTreeSoFar remaining version count p n nodes old new) left far)
 
 -- what the line of a node that was read tells
-abbrev pub ToldBy : {R : Type 0} → (R → Option (List ℕ)) → ℕ → ℕ → ℕ → LineReader R → LineReader R → NodeStart → Type 0
+abbrev pub ToldBy : {R : Type 0} → (R → Option (List ℕ)) → ℕ → ℕ → ℕ → LineState R → LineState R → NodeStart → Type 0
 ToldBy remaining version p r old new start =
     (NodeFits version start × CanHave version (children_told start + p) r) × TakesLines remaining old new (node_line version start ∷ [])
 
-pub told_as : {R : Type 0} (remaining : R → Option (List ℕ)) (version p r : ℕ) (old new : LineReader R) (start other : NodeStart) → start ≡ other
+pub told_as : {R : Type 0} (remaining : R → Option (List ℕ)) (version p r : ℕ) (old new : LineState R) (start other : NodeStart) → start ≡ other
     → ToldBy remaining version p r old new start → ToldBy remaining version p r old new other
 told_as remaining version p r old new start other is told = subst (ToldBy remaining version p r old new) is told
 

@@ -1,5 +1,5 @@
 -- The parts that were given before a place, and their lines.
-use Rattle.std.specs.Prelude.{◌≡◌, ℕ, ◌+◌, List, [], ◌∷◌, ◌++◌, length}
+use Rattle.std.specs.Prelude.{◌≡◌, ℕ, ◌+◌, ◌^◌, List, [], ◌∷◌, ◌++◌, length}
 use Rattle.tl_cert.specs.declared.place.Place.{Place}
 use Rattle.tl_cert.specs.declared.place.Place.TheVariants.{Start, Counted, Treed, Rounds, Walks}
 use Rattle.tl_cert.specs.declared.place.CertPart.{CertPart}
@@ -32,3 +32,11 @@ given_lines (Walks left) c =
     head_line c.version ∷ counts_line c.counts ∷ tree_lines c.version c.tree
     ++ rounds_lines (length c.rounds) c.rounds
     ++ walks_lines (length c.walks + left) c.walks
+
+-- at most how many parts still come, and the end
+abbrev pub parts_left : Place → ℕ
+parts_left Start = 2 ^ 34 + 2
+parts_left (Counted version) = 2 ^ 34 + 1
+parts_left (Treed version) = 2 ^ 34
+parts_left (Rounds left) = 2 ^ 33 + left
+parts_left (Walks left) = left

@@ -1,5 +1,5 @@
 -- What a reader of certificates keeps, and what each part that it gives says of the text.
-use Rattle.std.specs.Prelude.{◌≡◌, ℕ, List, ◌++◌, length, Option, None, Some, Result, Ok, Err, ⊤}
+use Rattle.std.specs.Prelude.{◌≡◌, ℕ, ◌<◌, List, ◌++◌, length, Option, None, Some, Result, Ok, Err, ⊤}
 use Rattle.std.specs.Option.{IfSome}
 use Rattle.std.specs.Io.KnownBytes.{prepend_known}
 use Rattle.tl_record.specs.Lines.{joined_lines}
@@ -11,13 +11,13 @@ use Rattle.tl_cert.specs.declared.place.Place.{Place}
 use Rattle.tl_cert.specs.declared.place.CertPart.{CertPart}
 use Rattle.tl_cert.specs.declared.stop.CertStop.{CertStop}
 use Rattle.tl_cert.specs.declared.stop.CertStop.TheVariants.{Text, Memory, Device}
-use Rattle.tl_cert.specs.Certificates.{TheCertificate}
-use Rattle.tl_cert.specs.Given.{AreGiven, given_lines, with_part}
+use Rattle.tl_cert.specs.Certificates.{TheCertificate, IsCertificate}
+use Rattle.tl_cert.specs.Given.{AreGiven, given_lines, with_part, parts_left}
 use Rattle.tl_cert.specs.Beginnings.{IsTextOf, IsRefused}
 
 -- its source, the lines that it has taken, and whether it still reads and where, or which answer it repeats
 abbrev pub source_of : {R : Type 0} → CertReader R → R
-source_of reader = reader.lines.source
+source_of reader = reader.source
 
 abbrev pub lines_of : {R : Type 0} → CertReader R → ℕ
 lines_of reader = reader.lines.lines
@@ -51,11 +51,13 @@ GoesOn (Some text) (Some rest) place next c d = whole place c text ≡ whole nex
 -- the end, and the whole text is that of c; or no certificate has the whole text, and this is the line.
 abbrev pub GivesAt : {R : Type 0} → (R → Option (List ℕ)) → Place → CertReader R → CertReader R → Answer → Type 0
 GivesAt remaining place old new (Ok (Some given)) =
-    (next : Place) × (standing_of new ≡ Reading next)
+    (next : Place) × (standing_of new ≡ Reading next) × (parts_left next < parts_left place)
     × ((c : TheCertificate) → IsBehind (lines_of old) place c
     → IsBehind (lines_of new) next (with_part c given) × GoesOn (unread remaining old) (unread remaining new) place next c (with_part c given))
-GivesAt remaining place old new (Ok None) = (c : TheCertificate) → IsBehind (lines_of old) place c → IfSome (unread remaining old) (λ text. IsTextOf c (whole place c text))
-GivesAt remaining place old new (Err (Text line)) = (c : TheCertificate) → IsBehind (lines_of old) place c → IfSome (unread remaining old) (λ text. IsRefused (whole place c text) line)
+GivesAt remaining place old new (Ok None) =
+    (c : TheCertificate) → IsBehind (lines_of old) place c → IsCertificate c × IfSome (unread remaining old) (λ text. IsTextOf c (whole place c text))
+GivesAt remaining place old new (Err (Text line)) =
+    (c : TheCertificate) → IsBehind (lines_of old) place c → IfSome (unread remaining old) (λ text. IsRefused (whole place c text) line)
 GivesAt remaining place old new (Err Memory) = ⊤
 GivesAt remaining place old new (Err Device) = ⊤
 
@@ -78,3 +80,16 @@ TellsFailure (Reading place) old new (Err Memory) = new ≡ old
 TellsFailure (Reading place) old new (Err Device) = new ≡ one_more old
 TellsFailure Ended old new answer = new ≡ old
 TellsFailure (Stopped stop) old new answer = new ≡ old
+
+-- why a text gives no certificate: no certificate has it, and this is the line; or memory lacks, or a read failed
+abbrev pub StopsReading : List ℕ → CertStop → Type 0
+StopsReading text (Text line) = IsRefused text line
+StopsReading text Memory = ⊤
+StopsReading text Device = ⊤
+
+-- `Device` is answered where a read failed, and nowhere else; the count of failures goes from old to new
+abbrev pub TellsDevice : {T : Type 0} → ℕ → ℕ → Result T CertStop → Type 0
+TellsDevice old new (Ok made) = new ≡ old
+TellsDevice old new (Err (Text line)) = new ≡ old
+TellsDevice old new (Err Memory) = new ≡ old
+TellsDevice old new (Err Device) = new ≡ one_more old

@@ -1,8 +1,11 @@
 //! A certificate: what a stranger says of a map, before anyone has checked it.
 
-ghost use Rattle.std.specs.Prelude.{◌≡◌, ◌⊎◌, ◌↔◌, IsTrue, MatchOption, All, map};
+ghost use Rattle.std.specs.Prelude.{◌≡◌, ◌⊎◌, ◌↔◌, [], IsTrue, MatchOption, OnOk, All, map};
+ghost use Rattle.tl_cert.specs.Given.{with_part};
 ghost use Rattle.tl_cert.specs.Certificates.{MakesCertificate, IsNode, IsDartList, AreDartLists, made};
 
+use crate::place::CertPart;
+use std::alloc::{AllocError, Global};
 use std::marker::Model;
 use tl_tree::{TreeNode, is_preorder};
 
@@ -67,6 +70,49 @@ impl Certificate {
             return None;
         }
         Some(certificate)
+    }
+
+    /// No part of a certificate yet: what a reader of its parts starts with.
+    pub(crate) fn empty(alloc: Global) -> Certificate
+        ensures { (result.tree ≡ []) × (result.rounds ≡ []) × (result.walks ≡ []) }
+    {
+        Certificate {
+            version: 1,
+            counts: Counts {
+                chains: 0,
+                segments: 0,
+                nodes: 0,
+                polygons: 0,
+            },
+            tree: Vec::new(alloc),
+            rounds: Vec::new(alloc),
+            walks: Vec::new(alloc),
+        }
+    }
+
+    /// Takes one more part, which is the first, or comes behind those that were taken.
+    pub(crate) fn take(&mut self, part: CertPart) -> Result<(), AllocError>
+        ensures { OnOk result (self.new ≡ with_part self.old part) }
+    {
+        match part {
+            CertPart::Counts(counts, version) => {
+                self.counts = counts;
+                self.version = version;
+                Ok(())
+            }
+            CertPart::Tree(nodes) => {
+                self.tree = nodes;
+                Ok(())
+            }
+            CertPart::Round(darts) => match self.rounds.push(darts) {
+                Ok(()) => Ok(()),
+                Err(_) => Err(AllocError),
+            },
+            CertPart::Walk(darts) => match self.walks.push(darts) {
+                Ok(()) => Ok(()),
+                Err(_) => Err(AllocError),
+            },
+        }
     }
 
     // Whether the parts make a certificate.

@@ -13,10 +13,12 @@ mod next;
 mod number;
 mod parts;
 mod place;
+mod read;
 mod reader;
 mod stop;
 
 pub use certificate::{Certificate, Counts};
 pub use place::{CertPart, Place};
+pub use read::read_cert;
 pub use reader::{CertReader, Standing};
 pub use stop::{CertStop, WriteStop};

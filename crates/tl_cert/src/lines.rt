@@ -1,6 +1,6 @@
 //! The lines of a certificate's text, one after the other.
 
-ghost use Rattle.std.specs.Prelude.{◌≡◌, ◌<◌, ◌^◌};
+ghost use Rattle.std.specs.Prelude.{◌≡◌, ◌<◌, ◌^◌, []};
 
 use crate::line_kind::LineKind;
 use crate::stop::CertStop;
@@ -9,38 +9,40 @@ use tl_record::{Fetched, LineBuffer, Source, fetch_line};
 // Room for a line with its line feed: no line of a certificate is longer.
 const ROOM: usize = 64;
 
-/// Takes lines of a source, and counts them.
+/// Takes lines of a source, which each call is given, and counts them.
 #[derive(Drop)]
-pub struct LineReader<R> {
-    source: R,
+pub struct Lines {
     buffer: LineBuffer<ROOM>,
     lines: u128,
 }
 
-impl<R: Source> LineReader<R> {
-    ghost use Rattle.tl_cert.specs.Keeping.Lines.{taken, untaken, ReadsLine, EndsText, TellsRead};
+impl Lines {
+    ghost use Rattle.tl_cert.specs.Keeping.Lines.{at, ReadsLine, EndsText, TellsRead};
 
-    /// A reader of the source's lines.
-    pub fn new(source: R) -> LineReader<R>
-        ensures bytes { untaken R.remaining result ≡ R.remaining source }
-        ensures lines { taken result ≡ 0 }
-        ensures source { result.source ≡ source }
+    /// No line taken, and no byte fetched.
+    pub fn new() -> Lines
+        ensures bytes { result.buffer ≡ [] }
+        ensures lines { result.lines ≡ 0 }
     {
-        LineReader {
-            source,
+        Lines {
             buffer: LineBuffer::new(),
             lines: 0,
         }
     }
 
     /// Takes the next line, which has to be of this kind, and gives what it spells.
-    pub fn read<K: LineKind>(&mut self, kind: &K) -> Result<K::Value, CertStop>
-        requires { taken self.old < 2 ^ 127 }
-        ensures reads { ReadsLine R.remaining (K.spelt kind.now) (K.fits kind.now) self.old self.new result }
-        ensures failures { TellsRead (R.failure_count self.old.source) (R.failure_count self.new.source) result }
-        ensures same_reference { R.reference self.new.source ≡ R.reference self.old.source }
+    pub fn read<R: Source, K: LineKind>(
+        &mut self,
+        source: &mut R,
+        kind: &K,
+    ) -> Result<K::Value, CertStop>
+        requires { self.old.lines < 2 ^ 127 }
+        ensures reads { ReadsLine R.remaining (K.spelt kind.now) (K.fits kind.now)
+            (at self.old source.old) (at self.new source.new) result }
+        ensures failures { TellsRead (R.failure_count source.old) (R.failure_count source.new) result }
+        ensures same_reference { R.reference source.new ≡ R.reference source.old }
     {
-        match fetch_line(&mut self.buffer, &mut self.source) {
+        match fetch_line(&mut self.buffer, source) {
             Fetched::Whole(len) => match kind.parse(&self.buffer.bytes()[..len]) {
                 Some(value) => {
                     self.buffer.consume(len + 1);
@@ -62,18 +64,18 @@ impl<R: Source> LineReader<R> {
     }
 
     /// Whether the source is at its end, behind the lines that were taken: a byte that is left is refused.
-    pub fn end(&mut self) -> Result<(), CertStop>
-        requires { taken self.old < 2 ^ 127 }
-        ensures ends { EndsText R.remaining self.old result }
-        ensures failures { TellsRead (R.failure_count self.old.source) (R.failure_count self.new.source) result }
-        ensures same_reference { R.reference self.new.source ≡ R.reference self.old.source }
+    pub fn end<R: Source>(&mut self, source: &mut R) -> Result<(), CertStop>
+        requires { self.old.lines < 2 ^ 127 }
+        ensures ends { EndsText R.remaining (at self.old source.old) result }
+        ensures failures { TellsRead (R.failure_count source.old) (R.failure_count source.new) result }
+        ensures same_reference { R.reference source.new ≡ R.reference source.old }
     {
         if !self.buffer.bytes().is_empty() {
             return Err(CertStop::Text {
                 line: self.lines + 1,
             });
         }
-        match self.buffer.fetch(&mut self.source) {
+        match self.buffer.fetch(source) {
             Ok(0) => Ok(()),
             Ok(_) => Err(CertStop::Text {
                 line: self.lines + 1,

@@ -1,11 +1,11 @@
 //! The part that comes next at a place.
 
 ghost use Rattle.std.specs.Prelude.{◌≡◌};
-ghost use Rattle.tl_cert.specs.Keeping.Lines.{taken, TellsRead};
+ghost use Rattle.tl_cert.specs.Keeping.Lines.{at, TellsRead};
 ghost use Rattle.tl_cert.specs.Keeping.Places.{ReadsPart, FitsPlace};
 
 use crate::line_kind::{EndLine, Numbered};
-use crate::lines::LineReader;
+use crate::lines::Lines;
 use crate::parts::{DartLists, read_counts, read_darts, read_tree};
 use crate::place::{CertPart, Place};
 use crate::stop::CertStop;
@@ -18,60 +18,68 @@ type Next = Option<(CertPart, Place)>;
 /// The part at this place, and the place behind it; or `None` at the end.
 pub fn read_part<R: Source>(
     alloc: Global,
-    lines: &mut LineReader<R>,
+    lines: &mut Lines,
+    source: &mut R,
     place: Place,
 ) -> Result<Next, CertStop>
-    requires { FitsPlace place (taken lines.old) }
-    ensures reads { ReadsPart R.remaining place lines.old lines.new result }
-    ensures failures { TellsRead (R.failure_count lines.old.source) (R.failure_count lines.new.source) result }
-    ensures same_reference { R.reference lines.new.source ≡ R.reference lines.old.source }
+    requires { FitsPlace place lines.old.lines }
+    ensures reads { ReadsPart R.remaining place (at lines.old source.old) (at lines.new source.new) result }
+    ensures failures { TellsRead (R.failure_count source.old) (R.failure_count source.new) result }
+    ensures same_reference { R.reference source.new ≡ R.reference source.old }
 {
     match place {
-        Place::Start => match read_counts(lines) {
+        Place::Start => match read_counts(lines, source) {
             Ok((counts, version)) => Ok(Some((
                 CertPart::Counts(counts, version),
                 Place::Counted(version),
             ))),
             Err(stop) => Err(stop),
         },
-        Place::Counted(version) => match read_tree(alloc, lines, version) {
+        Place::Counted(version) => match read_tree(alloc, lines, source, version) {
             Ok(nodes) => Ok(Some((CertPart::Tree(nodes), Place::Treed(version)))),
             Err(stop) => Err(stop),
         },
-        Place::Treed(_) => match lines.read(&Numbered {
-            letter: b'N',
-            least: 0,
-        }) {
-            Ok(rounds) => read_round(alloc, lines, rounds),
+        Place::Treed(_) => match lines.read(
+            source,
+            &Numbered {
+                letter: b'N',
+                least: 0,
+            },
+        ) {
+            Ok(rounds) => read_round(alloc, lines, source, rounds),
             Err(stop) => Err(stop),
         },
-        Place::Rounds(left) => read_round(alloc, lines, left),
-        Place::Walks(left) => read_walk(alloc, lines, left),
+        Place::Rounds(left) => read_round(alloc, lines, source, left),
+        Place::Walks(left) => read_walk(alloc, lines, source, left),
     }
 }
 
 /// The next of so many rounds; behind the last, the first of the walks, or the end.
 fn read_round<R: Source>(
     alloc: Global,
-    lines: &mut LineReader<R>,
+    lines: &mut Lines,
+    source: &mut R,
     left: u32,
 ) -> Result<Next, CertStop>
-    requires { FitsPlace (Place.Rounds left) (taken lines.old) }
-    ensures reads { ReadsPart R.remaining (Place.Rounds left) lines.old lines.new result }
-    ensures failures { TellsRead (R.failure_count lines.old.source) (R.failure_count lines.new.source) result }
-    ensures same_reference { R.reference lines.new.source ≡ R.reference lines.old.source }
+    requires { FitsPlace (Place.Rounds left) lines.old.lines }
+    ensures reads { ReadsPart R.remaining (Place.Rounds left) (at lines.old source.old) (at lines.new source.new) result }
+    ensures failures { TellsRead (R.failure_count source.old) (R.failure_count source.new) result }
+    ensures same_reference { R.reference source.new ≡ R.reference source.old }
 {
     if left > 0 {
-        return match read_darts(alloc, lines, DartLists::Rounds) {
+        return match read_darts(alloc, lines, source, DartLists::Rounds) {
             Ok(darts) => Ok(Some((CertPart::Round(darts), Place::Rounds(left - 1)))),
             Err(stop) => Err(stop),
         };
     }
-    match lines.read(&Numbered {
-        letter: b'W',
-        least: 0,
-    }) {
-        Ok(walks) => read_walk(alloc, lines, walks),
+    match lines.read(
+        source,
+        &Numbered {
+            letter: b'W',
+            least: 0,
+        },
+    ) {
+        Ok(walks) => read_walk(alloc, lines, source, walks),
         Err(stop) => Err(stop),
     }
 }
@@ -79,22 +87,23 @@ fn read_round<R: Source>(
 /// The next of so many walks; behind the last, the end.
 fn read_walk<R: Source>(
     alloc: Global,
-    lines: &mut LineReader<R>,
+    lines: &mut Lines,
+    source: &mut R,
     left: u32,
 ) -> Result<Next, CertStop>
-    requires { FitsPlace (Place.Walks left) (taken lines.old) }
-    ensures reads { ReadsPart R.remaining (Place.Walks left) lines.old lines.new result }
-    ensures failures { TellsRead (R.failure_count lines.old.source) (R.failure_count lines.new.source) result }
-    ensures same_reference { R.reference lines.new.source ≡ R.reference lines.old.source }
+    requires { FitsPlace (Place.Walks left) lines.old.lines }
+    ensures reads { ReadsPart R.remaining (Place.Walks left) (at lines.old source.old) (at lines.new source.new) result }
+    ensures failures { TellsRead (R.failure_count source.old) (R.failure_count source.new) result }
+    ensures same_reference { R.reference source.new ≡ R.reference source.old }
 {
     if left > 0 {
-        return match read_darts(alloc, lines, DartLists::Walks) {
+        return match read_darts(alloc, lines, source, DartLists::Walks) {
             Ok(darts) => Ok(Some((CertPart::Walk(darts), Place::Walks(left - 1)))),
             Err(stop) => Err(stop),
         };
     }
-    match lines.read(&EndLine) {
-        Ok(()) => match lines.end() {
+    match lines.read(source, &EndLine) {
+        Ok(()) => match lines.end(source) {
             Ok(()) => Ok(None),
             Err(stop) => Err(stop),
         },

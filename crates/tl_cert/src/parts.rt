@@ -2,14 +2,14 @@
 
 ghost use Rattle.std.specs.Prelude.{◌≡◌, ◌⊎◌, ◌<◌, ◌≤◌, ◌^◌, ◌∷◌, [], ℕ, suc};
 ghost use Rattle.tl_cert.specs.Text.{item_lines, nodes_lines, tree_lines, darts_lines};
-ghost use Rattle.tl_cert.specs.Keeping.Lines.{taken, TellsRead};
+ghost use Rattle.tl_cert.specs.Keeping.Lines.{at, TellsRead};
 ghost use Rattle.tl_cert.specs.Keeping.Steps.{start, counted, tree};
 ghost use Rattle.tl_cert.specs.Keeping.Parts.{Reads, AreItems, AreVersionedCounts, versioned_lines, IsTree};
 ghost use Rattle.tl_cert.specs.Keeping.Parts.{AreDarts, letter_of, among, IsNodeRead};
 
 use crate::certificate::Counts;
 use crate::line_kind::{CountsLine, Head, NodeLine, NodeStart, Numbered, TreeSize, roots_of};
-use crate::lines::LineReader;
+use crate::lines::Lines;
 use crate::stop::CertStop;
 use arrayvec::ArrayVec;
 use std::alloc::Global;
@@ -34,37 +34,44 @@ fn letter(lists: DartLists) -> u8
 }
 
 /// Reads the head and the counts, and gives the counts and the version.
-pub fn read_counts<R: Source>(lines: &mut LineReader<R>) -> Result<(Counts, u8), CertStop>
-    requires { taken lines.old < 2 ^ 126 }
-    ensures reads { Reads R.remaining AreVersionedCounts versioned_lines start lines.old lines.new result }
-    ensures failures { TellsRead (R.failure_count lines.old.source) (R.failure_count lines.new.source) result }
-    ensures same_reference { R.reference lines.new.source ≡ R.reference lines.old.source }
+pub fn read_counts<R: Source>(lines: &mut Lines, source: &mut R) -> Result<(Counts, u8), CertStop>
+    requires { lines.old.lines < 2 ^ 126 }
+    ensures reads { Reads R.remaining AreVersionedCounts versioned_lines start (at lines.old source.old) (at lines.new source.new) result }
+    ensures failures { TellsRead (R.failure_count source.old) (R.failure_count source.new) result }
+    ensures same_reference { R.reference source.new ≡ R.reference source.old }
 {
-    let version = match lines.read(&Head) {
+    let version = match lines.read(source, &Head) {
         Ok(version) => version,
         Err(stop) => return Err(stop),
     };
-    match lines.read(&CountsLine) {
+    match lines.read(source, &CountsLine) {
         Ok(counts) => Ok((counts, version)),
         Err(stop) => Err(stop),
     }
 }
 
 /// Reads so many items of a leaf.
-fn read_items<R: Source>(lines: &mut LineReader<R>, count: u8) -> Result<ArrayVec<u32, 8>, CertStop>
-    requires lines { taken lines.old < 2 ^ 126 }
+fn read_items<R: Source>(
+    lines: &mut Lines,
+    source: &mut R,
+    count: u8,
+) -> Result<ArrayVec<u32, 8>, CertStop>
+    requires lines { lines.old.lines < 2 ^ 126 }
     requires count { count ≤ 8 }
     ensures reads { (v p r : ℕ) →
-        Reads R.remaining (AreItems count) (λ v. item_lines v.items) (tree v p r count) lines.old lines.new result }
-    ensures failures { TellsRead (R.failure_count lines.old.source) (R.failure_count lines.new.source) result }
-    ensures same_reference { R.reference lines.new.source ≡ R.reference lines.old.source }
+        Reads R.remaining (AreItems count) (λ v. item_lines v.items) (tree v p r count) (at lines.old source.old) (at lines.new source.new) result }
+    ensures failures { TellsRead (R.failure_count source.old) (R.failure_count source.new) result }
+    ensures same_reference { R.reference source.new ≡ R.reference source.old }
 {
     let mut items = ArrayVec::new();
     for index in 0..count {
-        match lines.read(&Numbered {
-            letter: b'S',
-            least: 0,
-        }) {
+        match lines.read(
+            source,
+            &Numbered {
+                letter: b'S',
+                least: 0,
+            },
+        ) {
             Ok(item) => items.push(item),
             Err(stop) => return Err(stop),
         }
@@ -75,28 +82,35 @@ fn read_items<R: Source>(lines: &mut LineReader<R>, count: u8) -> Result<ArrayVe
 /// Reads a list of darts with their number.
 pub fn read_darts<R: Source>(
     alloc: Global,
-    lines: &mut LineReader<R>,
+    lines: &mut Lines,
+    source: &mut R,
     lists: DartLists,
 ) -> Result<Vec<u32>, CertStop>
-    requires { taken lines.old < 2 ^ 126 }
+    requires { lines.old.lines < 2 ^ 126 }
     ensures reads { (others : ℕ) → Reads R.remaining AreDarts (λ v. darts_lines (letter_of lists ∷ []) v.items)
-        (among lists (suc others) 0) lines.old lines.new result }
-    ensures failures { TellsRead (R.failure_count lines.old.source) (R.failure_count lines.new.source) result }
-    ensures same_reference { R.reference lines.new.source ≡ R.reference lines.old.source }
+        (among lists (suc others) 0) (at lines.old source.old) (at lines.new source.new) result }
+    ensures failures { TellsRead (R.failure_count source.old) (R.failure_count source.new) result }
+    ensures same_reference { R.reference source.new ≡ R.reference source.old }
 {
-    let count = match lines.read(&Numbered {
-        letter: letter(lists),
-        least: 1,
-    }) {
+    let count = match lines.read(
+        source,
+        &Numbered {
+            letter: letter(lists),
+            least: 1,
+        },
+    ) {
         Ok(count) => count,
         Err(stop) => return Err(stop),
     };
     let mut darts = Vec::new(alloc);
     for index in 0..count {
-        match lines.read(&Numbered {
-            letter: b'D',
-            least: 0,
-        }) {
+        match lines.read(
+            source,
+            &Numbered {
+                letter: b'D',
+                least: 0,
+            },
+        ) {
             Ok(dart) => match darts.push(dart) {
                 Ok(()) => {}
                 Err(_) => return Err(CertStop::Memory),
@@ -110,25 +124,29 @@ pub fn read_darts<R: Source>(
 /// Reads a node, where so many subtrees and nodes are to come besides it and its children, and gives its number of
 /// children too.
 fn read_node<R: Source>(
-    lines: &mut LineReader<R>,
+    lines: &mut Lines,
+    source: &mut R,
     version: u8,
     subtrees: u32,
     left: u32,
 ) -> Result<(TreeNode, u8), CertStop>
-    requires lines { taken lines.old < 2 ^ 125 }
+    requires lines { lines.old.lines < 2 ^ 125 }
     requires version { (version ≡ 1) ⊎ (version ≡ 2) }
     ensures reads { Reads R.remaining (IsNodeRead version subtrees left) (λ read. nodes_lines version (read.0 ∷ []))
-        (tree version (suc subtrees) (suc left) 0) lines.old lines.new result }
-    ensures failures { TellsRead (R.failure_count lines.old.source) (R.failure_count lines.new.source) result }
-    ensures same_reference { R.reference lines.new.source ≡ R.reference lines.old.source }
+        (tree version (suc subtrees) (suc left) 0) (at lines.old source.old) (at lines.new source.new) result }
+    ensures failures { TellsRead (R.failure_count source.old) (R.failure_count source.new) result }
+    ensures same_reference { R.reference source.new ≡ R.reference source.old }
 {
-    match lines.read(&NodeLine {
-        version,
-        subtrees,
-        nodes: left,
-    }) {
+    match lines.read(
+        source,
+        &NodeLine {
+            version,
+            subtrees,
+            nodes: left,
+        },
+    ) {
         Ok(NodeStart::Inner(rect, children)) => Ok((TreeNode::Inner(rect, children), children)),
-        Ok(NodeStart::Leaf(rect, count)) => match read_items(lines, count) {
+        Ok(NodeStart::Leaf(rect, count)) => match read_items(lines, source, count) {
             Ok(items) => Ok((TreeNode::Leaf(rect, items), 0)),
             Err(stop) => Err(stop),
         },
@@ -139,17 +157,18 @@ fn read_node<R: Source>(
 /// Reads the nodes of a tree with their number.
 pub fn read_tree<R: Source>(
     alloc: Global,
-    lines: &mut LineReader<R>,
+    lines: &mut Lines,
+    source: &mut R,
     version: u8,
 ) -> Result<Vec<TreeNode>, CertStop>
-    requires lines { taken lines.old < 2 ^ 124 }
+    requires lines { lines.old.lines < 2 ^ 124 }
     requires version { (version ≡ 1) ⊎ (version ≡ 2) }
     ensures reads { Reads R.remaining (λ v. IsTree version v.items) (λ v. tree_lines version v.items) (counted version)
-        lines.old lines.new result }
-    ensures failures { TellsRead (R.failure_count lines.old.source) (R.failure_count lines.new.source) result }
-    ensures same_reference { R.reference lines.new.source ≡ R.reference lines.old.source }
+        (at lines.old source.old) (at lines.new source.new) result }
+    ensures failures { TellsRead (R.failure_count source.old) (R.failure_count source.new) result }
+    ensures same_reference { R.reference source.new ≡ R.reference source.old }
 {
-    let count = match lines.read(&TreeSize { version }) {
+    let count = match lines.read(source, &TreeSize { version }) {
         Ok(count) => count,
         Err(stop) => return Err(stop),
     };
@@ -159,7 +178,7 @@ pub fn read_tree<R: Source>(
     while left > 0 {
         left -= 1;
         subtrees -= 1;
-        match read_node(lines, version, subtrees, left) {
+        match read_node(lines, source, version, subtrees, left) {
             Ok((node, children)) => {
                 subtrees += u32::from(children);
                 match nodes.push(node) {

@@ -1,10 +1,9 @@
 //! The parts of a certificate's text, one after the other.
 
 ghost use Rattle.std.specs.Prelude.{◌≡◌};
-ghost use Rattle.tl_cert.specs.Keeping.Lines.{taken};
 ghost use Rattle.tl_cert.specs.Keeping.Places.{FitsStanding, FitsStanding-prop};
 
-use crate::lines::LineReader;
+use crate::lines::Lines;
 use crate::next::read_part;
 use crate::place::{CertPart, Place};
 use crate::stop::CertStop;
@@ -29,10 +28,11 @@ pub enum Standing {
 /// number that a line announces.
 #[derive(Drop)]
 pub struct CertReader<R> {
-    lines: LineReader<R>,
+    source: R,
+    lines: Lines,
     standing: Standing,
     alloc: Global,
-    ghost few_lines: { FitsStanding standing (taken lines) } by { FitsStanding-prop standing (taken lines) },
+    ghost few_lines: { FitsStanding standing lines.lines } by { FitsStanding-prop standing lines.lines },
 }
 
 impl<R: Source> CertReader<R> {
@@ -46,7 +46,8 @@ impl<R: Source> CertReader<R> {
         ensures standing { standing_of result ≡ Standing.Reading Place.Start }
     {
         CertReader {
-            lines: LineReader::new(source),
+            source,
+            lines: Lines::new(),
             standing: Standing::Reading(Place::Start),
             alloc,
         }
@@ -73,7 +74,7 @@ impl<R: Source> CertReader<R> {
             Standing::Ended => return Ok(None),
             Standing::Stopped(stop) => return Err(stop),
         };
-        match read_part(self.alloc, &mut self.lines, place) {
+        match read_part(self.alloc, &mut self.lines, &mut self.source, place) {
             Ok(Some((part, next))) => {
                 self.standing = Standing::Reading(next);
                 Ok(Some(part))

@@ -4,16 +4,25 @@ use Rattle.std.specs.Option.{IfSome}
 use Rattle.std.specs.Io.KnownBytes.{Consumes, prepend_known}
 use Rattle.tl_record.specs.Lines.{line_feed, line_feeds, joined_lines}
 use Rattle.tl_record.specs.Failures.{one_more}
-use Rattle.tl_cert.specs.declared.lines.LineReader.{LineReader}
+use Rattle.tl_cert.specs.declared.lines.Lines.{Lines}
 use Rattle.tl_cert.specs.declared.stop.CertStop.{CertStop}
 use Rattle.tl_cert.specs.declared.stop.CertStop.TheVariants.{Text, Memory, Device}
 
+-- a source, the bytes that were fetched and not taken yet, and how many lines were taken
+pub record LineState (R : Type 0) : Type 0 where
+  pub source : R
+  pub buffer : List ℕ
+  pub lines : ℕ
+
+abbrev pub at : {R : Type 0} → Lines → R → LineState R
+at lines source = record { source = source; buffer = lines.buffer; lines = lines.lines }
+
 -- how many lines were taken
-abbrev pub taken : {R : Type 0} → LineReader R → ℕ
+abbrev pub taken : {R : Type 0} → LineState R → ℕ
 taken reader = reader.lines
 
 -- the bytes that weren't taken yet, fetched or not, where those that the source has left are known
-abbrev pub untaken : {R : Type 0} → (R → Option (List ℕ)) → LineReader R → Option (List ℕ)
+abbrev pub untaken : {R : Type 0} → (R → Option (List ℕ)) → LineState R → Option (List ℕ)
 untaken remaining reader = prepend_known reader.buffer (remaining reader.source)
 
 -- no line of a certificate is longer, and none has a line feed in it
@@ -26,12 +35,12 @@ abbrev pub NoLineBegins : (List ℕ → Type 0) → List ℕ → Type 0
 NoLineBegins P text = (line rest : List ℕ) → P line → IsShort line → ¬ (text ≡ line ++ line_feed ∷ rest)
 
 -- the lines were taken, and no other
-pub record TakesLines {R : Type 0} (remaining : R → Option (List ℕ)) (old new : LineReader R) (lines : List (List ℕ)) : Type 0 where
+pub record TakesLines {R : Type 0} (remaining : R → Option (List ℕ)) (old new : LineState R) (lines : List (List ℕ)) : Type 0 where
   pub bytes : Consumes (untaken remaining old) (untaken remaining new) (joined_lines lines)
   pub counted : taken new ≡ taken old + length lines
 
 -- the value of a line that was taken; or no line that spells one comes next
-abbrev pub ReadsLine : {R V : Type 0} → (R → Option (List ℕ)) → (V → List ℕ) → (V → Type 0) → LineReader R → LineReader R → Result V CertStop → Type 0
+abbrev pub ReadsLine : {R V : Type 0} → (R → Option (List ℕ)) → (V → List ℕ) → (V → Type 0) → LineState R → LineState R → Result V CertStop → Type 0
 ReadsLine remaining spelt fits old new (Ok value) = fits value × TakesLines remaining old new (spelt value ∷ [])
 ReadsLine {R} {V} remaining spelt fits old new (Err (Text line)) =
     (line ≡ 1 + taken old) × IfSome (untaken remaining old) (NoLineBegins (λ line. (value : V) × fits value × (line ≡ spelt value)))
@@ -46,7 +55,7 @@ TellsRead old new (Err Memory) = new ≡ old
 TellsRead old new (Err Device) = new ≡ one_more old
 
 -- the text is at its end, or has a byte more
-abbrev pub EndsText : {R : Type 0} → (R → Option (List ℕ)) → LineReader R → Result Unit CertStop → Type 0
+abbrev pub EndsText : {R : Type 0} → (R → Option (List ℕ)) → LineState R → Result Unit CertStop → Type 0
 EndsText remaining old (Ok value) = IfSome (untaken remaining old) (λ text. text ≡ [])
 EndsText remaining old (Err (Text line)) = (line ≡ 1 + taken old) × IfSome (untaken remaining old) (λ text. ¬ (text ≡ []))
 EndsText remaining old (Err Memory) = ⊥

@@ -8,14 +8,13 @@ use Rattle.tl_tree.specs.declared.node.TreeNode.{TreeNode}
 use Rattle.tl_tree.specs.declared.node.TreeNode.TheVariants.{Inner, Leaf}
 use Rattle.tl_tree.specs.Preorder.{IsPreorder}
 use Rattle.tl_cert.specs.declared.certificate.Counts.{Counts}
-use Rattle.tl_cert.specs.declared.lines.LineReader.{LineReader}
 use Rattle.tl_cert.specs.declared.parts.DartLists.{DartLists}
 use Rattle.tl_cert.specs.declared.parts.DartLists.TheVariants.{Rounds, Walks}
 use Rattle.tl_cert.specs.declared.stop.CertStop.{CertStop}
 use Rattle.tl_cert.specs.declared.stop.CertStop.TheVariants.{Text, Memory, Device}
 use Rattle.tl_cert.specs.Certificates.{IsNumber, IsCounted, IsDartList, IsNode, IsNodeInRange, AreCountsInRange}
 use Rattle.tl_cert.specs.Text.{head_line, counts_line, tree_lines, nodes_lines, item_lines, darts_lines, numbered_line}
-use Rattle.tl_cert.specs.Keeping.Lines.{taken, untaken, TakesLines}
+use Rattle.tl_cert.specs.Keeping.Lines.{LineState, taken, untaken, TakesLines}
 use Rattle.tl_cert.specs.Keeping.Steps.{State, start, headed, counted, tree, rounds, walks, CanHave, roots, Runs, IsStuck}
 
 -- the nodes are p trees, by what follows each
@@ -36,11 +35,11 @@ pub record IsStuckAfter (s : State) (before : ℕ) (text : List ℕ) (answer : �
   pub told : answer ≡ 1 + (before + length lines)
 
 -- so it is of what the reader hasn't taken, where that is known
-abbrev pub Sticks : {R : Type 0} → (R → Option (List ℕ)) → State → LineReader R → ℕ → Type 0
+abbrev pub Sticks : {R : Type 0} → (R → Option (List ℕ)) → State → LineState R → ℕ → Type 0
 Sticks remaining s reader answer = IfSome (untaken remaining reader) (λ text. IsStuckAfter s (taken reader) text answer)
 
 -- a part was read, or the text is refused behind this state; memory may lack, and reads may fail
-abbrev pub Reads : {R T : Type 0} → (R → Option (List ℕ)) → (T → Type 0) → (T → List (List ℕ)) → State → LineReader R → LineReader R → Result T CertStop → Type 0
+abbrev pub Reads : {R T : Type 0} → (R → Option (List ℕ)) → (T → Type 0) → (T → List (List ℕ)) → State → LineState R → LineState R → Result T CertStop → Type 0
 Reads remaining fits lines s old new (Ok part) = fits part × TakesLines remaining old new (lines part)
 Reads remaining fits lines s old new (Err (Text line)) = Sticks remaining s old line
 Reads remaining fits lines s old new (Err Memory) = ⊤
@@ -78,7 +77,7 @@ among Rounds others darts = rounds others darts
 among Walks others darts = walks others darts
 
 -- the nodes of a tree that were read, where so many subtrees and nodes are still to come
-pub record IsTreeSoFar {R : Type 0} (remaining : R → Option (List ℕ)) (version count subtrees left : ℕ) (nodes : List TreeNode) (old new : LineReader R) : Type 0 where
+pub record IsTreeSoFar {R : Type 0} (remaining : R → Option (List ℕ)) (version count subtrees left : ℕ) (nodes : List TreeNode) (old new : LineState R) : Type 0 where
   pub takes : TakesLines remaining old new (numbered_line (codes "T") count ∷ nodes_lines version nodes)
   pub runs : Runs (counted version) (numbered_line (codes "T") count ∷ nodes_lines version nodes) (tree version subtrees left 0)
   pub can : CanHave version subtrees left

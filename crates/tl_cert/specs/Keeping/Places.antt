@@ -1,10 +1,9 @@
 -- What a reader of parts keeps at each place, and what a part adds.
-use Rattle.std.specs.Prelude.{◌≡◌, ℕ, ◌+◌, ◌*◌, ◌^◌, ◌≤◌, ◌⊎◌, List, ◌++◌, length, Option, None, Some, Result, Ok, Err, ⊤}
+use Rattle.std.specs.Prelude.{◌≡◌, ℕ, ◌+◌, ◌*◌, ◌^◌, ◌<◌, ◌≤◌, ◌⊎◌, List, ◌++◌, length, Option, None, Some, Result, Ok, Err, ⊤}
 use mathlib.Core.HLevel.{×_prop, Unit-prop}
 use native.Mathlib.Bridge.{le_prop}
 use Rattle.std.specs.Option.{IfSome}
 use Rattle.tl_record.specs.Lines.{joined_lines}
-use Rattle.tl_cert.specs.declared.lines.LineReader.{LineReader}
 use Rattle.tl_cert.specs.declared.place.Place.{Place}
 use Rattle.tl_cert.specs.declared.place.Place.TheVariants.{Start, Counted, Treed, Rounds, Walks}
 use Rattle.tl_cert.specs.declared.place.CertPart.{CertPart}
@@ -14,8 +13,8 @@ use Rattle.tl_cert.specs.declared.stop.CertStop.{CertStop}
 use Rattle.tl_cert.specs.declared.stop.CertStop.TheVariants.{Text, Memory, Device}
 use Rattle.tl_cert.specs.Certificates.{TheCertificate, IsCertificate}
 use Rattle.tl_cert.specs.Text.{certificate_lines}
-use Rattle.tl_cert.specs.Given.{AreGiven, given_lines, with_part}
-use Rattle.tl_cert.specs.Keeping.Lines.{taken, untaken, TakesLines}
+use Rattle.tl_cert.specs.Given.{AreGiven, given_lines, with_part, parts_left}
+use Rattle.tl_cert.specs.Keeping.Lines.{LineState, taken, untaken, TakesLines}
 use Rattle.tl_cert.specs.Keeping.Parts.{Sticks}
 use Rattle.tl_cert.specs.Keeping.Steps.{State, start, counted, tree, rounds, walks}
 
@@ -62,9 +61,9 @@ abbrev pub Ends : Place → List (List ℕ) → Type 0
 Ends place lines = (c : TheCertificate) → AreGiven place c → IsCertificate c × (certificate_lines c ≡ given_lines place c ++ lines)
 
 -- a part with the place behind it; or the end; or the text is refused
-abbrev pub ReadsPart : {R : Type 0} → (R → Option (List ℕ)) → Place → LineReader R → LineReader R → Result (Option (CertPart × Place)) CertStop → Type 0
+abbrev pub ReadsPart : {R : Type 0} → (R → Option (List ℕ)) → Place → LineState R → LineState R → Result (Option (CertPart × Place)) CertStop → Type 0
 ReadsPart remaining place old new (Ok (Some (given, next))) =
-    (lines : List (List ℕ)) × TakesLines remaining old new lines × Adds place next given lines × FitsPlace next (taken new)
+    (lines : List (List ℕ)) × TakesLines remaining old new lines × Adds place next given lines × FitsPlace next (taken new) × (parts_left next < parts_left place)
 ReadsPart remaining place old new (Ok None) = (lines : List (List ℕ)) × Ends place lines × IfSome (untaken remaining old) (λ text. text ≡ joined_lines lines)
 ReadsPart remaining place old new (Err (Text line)) = Sticks remaining (state_at place) old line
 ReadsPart remaining place old new (Err Memory) = ⊤

@@ -3,6 +3,7 @@ use Rattle.tl_cert.specs.declared.place.Place.TheVariants.{Counted, Treed, Round
 use Rattle.tl_cert.specs.Text.{numbered_line, tree_lines}
 use Rattle.tl_cert.specs.Keeping.Places.{ReadsPart}
 use Rattle.tl_cert.specs.Keeping.Steps.{at_rounds}
+use Rattle.tl_cert.specs.Keeping.Lines.{at}
 use Rattle.tl_cert.proofs.AllowedLemmas.{allowed_rounds}
 use Rattle.tl_cert.proofs.PlaceLemmas.{passed, pass_rounds, number_missing, tree_read}
 use Rattle.tl_cert.proofs.next.read_part.Goals as goal
@@ -10,16 +11,16 @@ use Rattle.tl_cert.proofs.next.read_part.Goals as goal
 pub returns-in-Ok-read_tree-clause-reads : goal.returns-in-Ok-read_tree-clause-reads
 returns-in-Ok-read_tree-clause-reads g c =
     let nodes = c.in-Ok-read_tree.ensures.reads in
-    tree_read g.R.Source.remaining c.args.place c.in-Counted.version c.in-Ok-read_tree.nodes c.args.lines.now c.read_tree.new.lines c.in-Counted.is c.requires nodes.0 nodes.1
+    tree_read g.R.Source.remaining c.args.place c.in-Counted.version c.in-Ok-read_tree.nodes (at c.args.lines.now c.args.source.now) (at c.read_tree.new.lines c.read_tree.new.source) c.in-Counted.is c.requires nodes.0 nodes.1
 
 pub returns-in-Ok-read-clause-reads : goal.returns-in-Ok-read-clause-reads
 returns-in-Ok-read-clause-reads g c =
     let small = c.in-Ok-read.ensures.reads.0.0 in
-    subst (λ p. ReadsPart g.R.Source.remaining p c.args.lines.now c.read_round.new.lines c.read_round.result) (sym c.in-Treed.is)
-    (passed g.R.Source.remaining (Treed c.in-Treed.field-0) (Rounds c.in-Ok-read.rounds) (numbered_line (78 ∷ []) c.in-Ok-read.rounds) c.args.lines.now c.read.new.self c.read_round.new.lines c.read_round.result
-    (pass_rounds c.in-Treed.field-0 c.in-Ok-read.rounds small) (at_rounds c.in-Treed.field-0 c.in-Ok-read.rounds small) c.in-Ok-read.ensures.reads.1 c.read_round.ensures.reads)
+    subst (λ p. ReadsPart g.R.Source.remaining p (at c.args.lines.now c.args.source.now) (at c.read_round.new.lines c.read_round.new.source) c.read_round.result) (sym c.in-Treed.is)
+    (passed g.R.Source.remaining (Treed c.in-Treed.field-0) (Rounds c.in-Ok-read.rounds) (numbered_line (78 ∷ []) c.in-Ok-read.rounds) (at c.args.lines.now c.args.source.now) (at c.read.new.self c.read.new.source) (at c.read_round.new.lines c.read_round.new.source) c.read_round.result
+    (pass_rounds c.in-Treed.field-0 c.in-Ok-read.rounds small) (omega (arith, small)) (at_rounds c.in-Treed.field-0 c.in-Ok-read.rounds small) c.in-Ok-read.ensures.reads.1 c.read_round.ensures.reads)
 
 pub returns-in-Err-read-clause-reads : goal.returns-in-Err-read-clause-reads
 returns-in-Err-read-clause-reads g c =
-    subst (λ p. ReadsPart g.R.Source.remaining p c.args.lines.now c.read.new.self (Err c.in-Err-read.stop)) (sym c.in-Treed.is)
-    (number_missing g.R.Source.remaining 78 (Treed c.in-Treed.field-0) c.args.lines.now c.read.new.self c.read.new.self c.in-Err-read.stop (allowed_rounds c.in-Treed.field-0) (λ e. cc e) c.in-Err-read.ensures.reads)
+    subst (λ p. ReadsPart g.R.Source.remaining p (at c.args.lines.now c.args.source.now) (at c.read.new.self c.read.new.source) (Err c.in-Err-read.stop)) (sym c.in-Treed.is)
+    (number_missing g.R.Source.remaining 78 (Treed c.in-Treed.field-0) (at c.args.lines.now c.args.source.now) (at c.read.new.self c.read.new.source) (at c.read.new.self c.read.new.source) c.in-Err-read.stop (allowed_rounds c.in-Treed.field-0) (λ e. cc e) c.in-Err-read.ensures.reads)

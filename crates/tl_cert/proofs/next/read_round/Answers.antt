@@ -3,6 +3,7 @@ use Rattle.tl_cert.specs.declared.place.Place.TheVariants.{Rounds, Walks}
 use Rattle.tl_cert.specs.Text.{numbered_line}
 use Rattle.tl_cert.specs.Keeping.Places.{ReadsPart}
 use Rattle.tl_cert.specs.Keeping.Steps.{at_walks}
+use Rattle.tl_cert.specs.Keeping.Lines.{at}
 use Rattle.tl_cert.proofs.AllowedLemmas.{allowed_walks}
 use Rattle.tl_cert.proofs.PlaceLemmas.{round_read, round_stops, passed, pass_walks, number_missing}
 use Rattle.tl_cert.proofs.next.read_round.Goals as goal
@@ -10,22 +11,22 @@ use Rattle.tl_cert.proofs.next.read_round.Goals as goal
 pub returns-in-Ok-clause-reads : goal.returns-in-Ok-clause-reads
 returns-in-Ok-clause-reads g c =
     let darts = c.in-Ok.ensures.reads 0 in
-    round_read g.R.Source.remaining c.args.left c.in-Ok.darts c.args.lines.now c.read_darts.new.lines c.if-left-gt0.true darts.0 darts.1 c.requires
+    round_read g.R.Source.remaining c.args.left c.in-Ok.darts (at c.args.lines.now c.args.source.now) (at c.read_darts.new.lines c.read_darts.new.source) c.if-left-gt0.true darts.0 darts.1 c.requires
 
 pub returns-in-Err-clause-reads : goal.returns-in-Err-clause-reads
 returns-in-Err-clause-reads g c =
-    round_stops g.R.Source.remaining c.args.left c.args.lines.now c.read_darts.new.lines c.read_darts.new.lines c.in-Err.stop c.if-left-gt0.true c.in-Err.ensures.reads
+    round_stops g.R.Source.remaining c.args.left (at c.args.lines.now c.args.source.now) (at c.read_darts.new.lines c.read_darts.new.source) (at c.read_darts.new.lines c.read_darts.new.source) c.in-Err.stop c.if-left-gt0.true c.in-Err.ensures.reads
 
 pub returns-in-Ok-read-clause-reads : goal.returns-in-Ok-read-clause-reads
 returns-in-Ok-read-clause-reads g c =
     let none : 0 ≡ c.args.left = omega (arith, c.if-left-gt0.false) in
     let small = c.in-Ok-read.ensures.reads.0.0 in
-    subst (λ n. ReadsPart g.R.Source.remaining (Rounds n) c.args.lines.now c.read_walk.new.lines c.read_walk.result) none
-    (passed g.R.Source.remaining (Rounds 0) (Walks c.in-Ok-read.walks) (numbered_line (87 ∷ []) c.in-Ok-read.walks) c.args.lines.now c.read.new.self c.read_walk.new.lines c.read_walk.result
-    (pass_walks c.in-Ok-read.walks small) (at_walks c.in-Ok-read.walks small) c.in-Ok-read.ensures.reads.1 c.read_walk.ensures.reads)
+    subst (λ n. ReadsPart g.R.Source.remaining (Rounds n) (at c.args.lines.now c.args.source.now) (at c.read_walk.new.lines c.read_walk.new.source) c.read_walk.result) none
+    (passed g.R.Source.remaining (Rounds 0) (Walks c.in-Ok-read.walks) (numbered_line (87 ∷ []) c.in-Ok-read.walks) (at c.args.lines.now c.args.source.now) (at c.read.new.self c.read.new.source) (at c.read_walk.new.lines c.read_walk.new.source) c.read_walk.result
+    (pass_walks c.in-Ok-read.walks small) (omega (arith, small)) (at_walks c.in-Ok-read.walks small) c.in-Ok-read.ensures.reads.1 c.read_walk.ensures.reads)
 
 pub returns-in-Err-read-clause-reads : goal.returns-in-Err-read-clause-reads
 returns-in-Err-read-clause-reads g c =
     let none : 0 ≡ c.args.left = omega (arith, c.if-left-gt0.false) in
-    subst (λ n. ReadsPart g.R.Source.remaining (Rounds n) c.args.lines.now c.read.new.self (Err c.in-Err-read.stop)) none
-    (number_missing g.R.Source.remaining 87 (Rounds 0) c.args.lines.now c.read.new.self c.read.new.self c.in-Err-read.stop allowed_walks (λ e. cc e) c.in-Err-read.ensures.reads)
+    subst (λ n. ReadsPart g.R.Source.remaining (Rounds n) (at c.args.lines.now c.args.source.now) (at c.read.new.self c.read.new.source) (Err c.in-Err-read.stop)) none
+    (number_missing g.R.Source.remaining 87 (Rounds 0) (at c.args.lines.now c.args.source.now) (at c.read.new.self c.read.new.source) (at c.read.new.self c.read.new.source) c.in-Err-read.stop allowed_walks (λ e. cc e) c.in-Err-read.ensures.reads)

@@ -1,32 +1,33 @@
 use Rattle.std.proofs.Common.{◌≡◌, ◌∷◌, [], Ok, Err, None, arith, subst}
 use Rattle.tl_cert.specs.declared.place.Place.TheVariants.{Walks}
 use Rattle.tl_cert.specs.Keeping.Places.{ReadsPart}
+use Rattle.tl_cert.specs.Keeping.Lines.{at}
 use Rattle.tl_cert.proofs.PlaceLemmas.{walk_read, walk_stops, text_ends, text_goes_on, end_missing}
 use Rattle.tl_cert.proofs.next.read_walk.Goals as goal
 
 pub returns-in-Ok-clause-reads : goal.returns-in-Ok-clause-reads
 returns-in-Ok-clause-reads g c =
     let darts = c.in-Ok.ensures.reads 0 in
-    walk_read g.R.Source.remaining c.args.left c.in-Ok.darts c.args.lines.now c.read_darts.new.lines c.if-left-gt0.true darts.0 darts.1 c.requires
+    walk_read g.R.Source.remaining c.args.left c.in-Ok.darts (at c.args.lines.now c.args.source.now) (at c.read_darts.new.lines c.read_darts.new.source) c.if-left-gt0.true darts.0 darts.1 c.requires
 
 pub returns-in-Err-clause-reads : goal.returns-in-Err-clause-reads
 returns-in-Err-clause-reads g c =
-    walk_stops g.R.Source.remaining c.args.left c.args.lines.now c.read_darts.new.lines c.read_darts.new.lines c.in-Err.stop c.if-left-gt0.true c.in-Err.ensures.reads
+    walk_stops g.R.Source.remaining c.args.left (at c.args.lines.now c.args.source.now) (at c.read_darts.new.lines c.read_darts.new.source) (at c.read_darts.new.lines c.read_darts.new.source) c.in-Err.stop c.if-left-gt0.true c.in-Err.ensures.reads
 
 pub returns-in-Ok-end-clause-reads : goal.returns-in-Ok-end-clause-reads
 returns-in-Ok-end-clause-reads g c =
     let none : 0 ≡ c.args.left = omega (arith, c.if-left-gt0.false) in
-    subst (λ n. ReadsPart g.R.Source.remaining (Walks n) c.args.lines.now c.end.new.self (Ok None)) none
-    (text_ends g.R.Source.remaining c.args.lines.now c.read.new.self c.end.new.self c.in-Ok-read.ensures.reads.1 c.in-Ok-end.ensures.ends)
+    subst (λ n. ReadsPart g.R.Source.remaining (Walks n) (at c.args.lines.now c.args.source.now) (at c.end.new.self c.end.new.source) (Ok None)) none
+    (text_ends g.R.Source.remaining (at c.args.lines.now c.args.source.now) (at c.read.new.self c.read.new.source) (at c.end.new.self c.end.new.source) c.in-Ok-read.ensures.reads.1 c.in-Ok-end.ensures.ends)
 
 pub returns-in-Err-end-clause-reads : goal.returns-in-Err-end-clause-reads
 returns-in-Err-end-clause-reads g c =
     let none : 0 ≡ c.args.left = omega (arith, c.if-left-gt0.false) in
-    subst (λ n. ReadsPart g.R.Source.remaining (Walks n) c.args.lines.now c.end.new.self (Err c.in-Err-end.stop)) none
-    (text_goes_on g.R.Source.remaining c.args.lines.now c.read.new.self c.end.new.self c.in-Err-end.stop c.in-Ok-read.ensures.reads.1 c.in-Err-end.ensures.ends)
+    subst (λ n. ReadsPart g.R.Source.remaining (Walks n) (at c.args.lines.now c.args.source.now) (at c.end.new.self c.end.new.source) (Err c.in-Err-end.stop)) none
+    (text_goes_on g.R.Source.remaining (at c.args.lines.now c.args.source.now) (at c.read.new.self c.read.new.source) (at c.end.new.self c.end.new.source) c.in-Err-end.stop c.in-Ok-read.ensures.reads.1 c.in-Err-end.ensures.ends)
 
 pub returns-in-Err-read-clause-reads : goal.returns-in-Err-read-clause-reads
 returns-in-Err-read-clause-reads g c =
     let none : 0 ≡ c.args.left = omega (arith, c.if-left-gt0.false) in
-    subst (λ n. ReadsPart g.R.Source.remaining (Walks n) c.args.lines.now c.read.new.self (Err c.in-Err-read.stop)) none
-    (end_missing g.R.Source.remaining c.args.lines.now c.read.new.self c.read.new.self c.in-Err-read.stop c.in-Err-read.ensures.reads)
+    subst (λ n. ReadsPart g.R.Source.remaining (Walks n) (at c.args.lines.now c.args.source.now) (at c.read.new.self c.read.new.source) (Err c.in-Err-read.stop)) none
+    (end_missing g.R.Source.remaining (at c.args.lines.now c.args.source.now) (at c.read.new.self c.read.new.source) (at c.read.new.self c.read.new.source) c.in-Err-read.stop c.in-Err-read.ensures.reads)

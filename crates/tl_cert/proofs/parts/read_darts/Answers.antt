@@ -5,6 +5,7 @@ use Rattle.tl_cert.specs.Text.{numbered_line, dart_lines, darts_lines}
 use Rattle.tl_cert.specs.Keeping.Lines.{TakesLines}
 use Rattle.tl_cert.specs.Keeping.Parts.{AreDarts, letter_of, among}
 use Rattle.tl_cert.specs.Keeping.Steps.{no_line}
+use Rattle.tl_cert.specs.Keeping.Lines.{at}
 use Rattle.tl_cert.proofs.PartLemmas.{takes_none, takes_more, line_missing, lines_more, numbers_more, list_run}
 use Rattle.tl_cert.proofs.AllowedLemmas.{allowed_list, allowed_dart, never_ended, Tells}
 use Rattle.tl_cert.proofs.parts.read_darts.Goals as goal
@@ -12,8 +13,8 @@ use Rattle.tl_cert.proofs.parts.read_darts.Goals as goal
 pub returns-in-Err-clause-reads : goal.returns-in-Err-clause-reads
 returns-in-Err-clause-reads g c = λ others.
     line_missing {T = Vec ℕ Global} g.R.Source.remaining (numbered_line (c.letter.result ∷ [])) _ AreDarts (λ v. darts_lines (letter_of c.args.lists ∷ []) v.items)
-    (among c.args.lists (suc others) 0) (among c.args.lists (suc others) 0) [] c.args.lines.now c.args.lines.now c.read.new.self c.read.new.self c.in-Err.stop
-    (no_line (among c.args.lists (suc others) 0)) (takes_none g.R.Source.remaining c.args.lines.now)
+    (among c.args.lists (suc others) 0) (among c.args.lists (suc others) 0) [] (at c.args.lines.now c.args.source.now) (at c.args.lines.now c.args.source.now) (at c.read.new.self c.read.new.source) (at c.read.new.self c.read.new.source) c.in-Err.stop
+    (no_line (among c.args.lists (suc others) 0)) (takes_none g.R.Source.remaining (at c.args.lines.now c.args.source.now))
     (λ l u step. subst (λ n. Tells n (λ m. IsNumber m × (1 ≤ m)) l) (sym c.letter.ensures) (allowed_list c.args.lists others l u step))
     (never_ended c.args.lists (suc others) 0) c.in-Err.ensures.reads
 
@@ -22,7 +23,7 @@ returns-in-Err-read-clause-reads g c = λ others.
     let left : ℕ = c.in-Ok.count - c.loop-index.index in
     line_missing {T = Vec ℕ Global} g.R.Source.remaining (numbered_line (68 ∷ [])) _ AreDarts (λ v. darts_lines (letter_of c.args.lists ∷ []) v.items)
     (among c.args.lists (suc others) 0) (among c.args.lists others left) (numbered_line (letter_of c.args.lists ∷ []) c.in-Ok.count ∷ dart_lines c.loop-index.darts.items)
-    c.args.lines.now c.loop-index.lines c.read-in-loop-index.new.self c.read-in-loop-index.new.self c.in-Err-read.stop
+    (at c.args.lines.now c.args.source.now) (at c.loop-index.lines c.loop-index.source) (at c.read-in-loop-index.new.self c.read-in-loop-index.new.source) (at c.read-in-loop-index.new.self c.read-in-loop-index.new.source) c.in-Err-read.stop
     (list_run c.args.lists others c.in-Ok.count left c.loop-index.darts.items (omega (arith, c.in-Ok.ensures.reads.0.1)) c.in-Ok.ensures.reads.0.0
     (omega (arith, c.loop-index.invariant.size)) c.loop-index.invariant.numbers)
     c.loop-index.invariant.takes (allowed_dart c.args.lists others left (omega arith)) (never_ended c.args.lists others left) c.in-Err-read.ensures.reads
@@ -36,8 +37,8 @@ loop-index-preserved g c =
     record {
       size = omega (arith, c.loop-index.invariant.size, ap length items, length-append darts (c.in-Ok-read.dart ∷ []));
       numbers = numbers_more darts c.push.new.self.items c.in-Ok-read.dart items c.loop-index.invariant.numbers c.in-Ok-read.ensures.reads.0.0;
-      takes = subst (λ xs. TakesLines g.R.Source.remaining c.args.lines.now c.read-in-loop-index.new.self (front ∷ xs)) (sym more)
-          (takes_more g.R.Source.remaining c.args.lines.now c.loop-index.lines c.read-in-loop-index.new.self (front ∷ dart_lines darts) (numbered_line (68 ∷ []) c.in-Ok-read.dart ∷ []) c.loop-index.invariant.takes c.in-Ok-read.ensures.reads.1);
+      takes = subst (λ xs. TakesLines g.R.Source.remaining (at c.args.lines.now c.args.source.now) (at c.read-in-loop-index.new.self c.read-in-loop-index.new.source) (front ∷ xs)) (sym more)
+          (takes_more g.R.Source.remaining (at c.args.lines.now c.args.source.now) (at c.loop-index.lines c.loop-index.source) (at c.read-in-loop-index.new.self c.read-in-loop-index.new.source) (front ∷ dart_lines darts) (numbered_line (68 ∷ []) c.in-Ok-read.dart ∷ []) c.loop-index.invariant.takes c.in-Ok-read.ensures.reads.1);
       failures = c.in-Ok-read.ensures.failures ∙ c.loop-index.invariant.failures;
       same = c.in-Ok-read.ensures.same_reference ∙ c.loop-index.invariant.same;
     }

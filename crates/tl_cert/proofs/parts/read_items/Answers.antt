@@ -4,6 +4,7 @@ use Rattle.tl_cert.specs.Text.{numbered_line, item_lines}
 use Rattle.tl_cert.specs.Keeping.Lines.{TakesLines}
 use Rattle.tl_cert.specs.Keeping.Parts.{AreItems}
 use Rattle.tl_cert.specs.Keeping.Steps.{tree, Runs}
+use Rattle.tl_cert.specs.Keeping.Lines.{at}
 use Rattle.tl_cert.proofs.PartLemmas.{takes_more, line_missing, lines_more, numbers_more, items_run_on}
 use Rattle.tl_cert.proofs.AllowedLemmas.{allowed_item}
 use Rattle.tl_cert.proofs.parts.read_items.Goals as goal
@@ -13,7 +14,7 @@ returns-in-Err-clause-reads g c = λ v p r.
     let left : ℕ = c.args.count - c.loop-index.index in
     let whole : length c.loop-index.items.items + left ≡ c.args.count = omega (arith, c.loop-index.invariant.size) in
     line_missing {T = ArrayVec ℕ} g.R.Source.remaining (numbered_line (83 ∷ [])) _ (AreItems c.args.count) (λ v. item_lines v.items)
-    (tree v p r c.args.count) (tree v p r left) (item_lines c.loop-index.items.items) c.args.lines.now c.loop-index.lines c.read.new.self c.read.new.self c.in-Err.stop
+    (tree v p r c.args.count) (tree v p r left) (item_lines c.loop-index.items.items) (at c.args.lines.now c.args.source.now) (at c.loop-index.lines c.loop-index.source) (at c.read.new.self c.read.new.source) (at c.read.new.self c.read.new.source) c.in-Err.stop
     (subst (λ n. Runs (tree v p r n) (item_lines c.loop-index.items.items) (tree v p r left)) whole (items_run_on v p r left c.loop-index.items.items c.loop-index.invariant.numbers))
     c.loop-index.invariant.takes (allowed_item v p r left (omega arith)) (λ e. cc e) c.in-Err.ensures.reads
 
@@ -24,8 +25,8 @@ loop-index-preserved g c =
     record {
       size = omega (arith, c.loop-index.invariant.size, ap length c.push.ensures.items, length-append items (c.in-Ok.item ∷ []));
       numbers = numbers_more items c.push.new.self.items c.in-Ok.item c.push.ensures.items c.loop-index.invariant.numbers c.in-Ok.ensures.reads.0.0;
-      takes = subst (TakesLines g.R.Source.remaining c.args.lines.now c.read.new.self) (sym more)
-          (takes_more g.R.Source.remaining c.args.lines.now c.loop-index.lines c.read.new.self (item_lines items) (numbered_line (83 ∷ []) c.in-Ok.item ∷ []) c.loop-index.invariant.takes c.in-Ok.ensures.reads.1);
+      takes = subst (TakesLines g.R.Source.remaining (at c.args.lines.now c.args.source.now) (at c.read.new.self c.read.new.source)) (sym more)
+          (takes_more g.R.Source.remaining (at c.args.lines.now c.args.source.now) (at c.loop-index.lines c.loop-index.source) (at c.read.new.self c.read.new.source) (item_lines items) (numbered_line (83 ∷ []) c.in-Ok.item ∷ []) c.loop-index.invariant.takes c.in-Ok.ensures.reads.1);
       failures = c.in-Ok.ensures.failures ∙ c.loop-index.invariant.failures;
       same = c.in-Ok.ensures.same_reference ∙ c.loop-index.invariant.same;
     }

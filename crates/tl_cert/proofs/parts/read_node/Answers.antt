@@ -6,6 +6,7 @@ use Rattle.tl_cert.specs.Text.{leaf_line, item_lines, nodes_lines}
 use Rattle.tl_cert.specs.Keeping.Kinds.{node_line}
 use Rattle.tl_cert.specs.Keeping.Parts.{AreItems, IsNodeRead}
 use Rattle.tl_cert.specs.Keeping.Steps.{tree, no_line}
+use Rattle.tl_cert.specs.Keeping.Lines.{at}
 use Rattle.tl_cert.proofs.PartLemmas.{takes_none, stops_later, line_missing}
 use Rattle.tl_cert.proofs.TreeLemmas.{inner_read, leaf_read, leaf_run, leaf_takes, told_as}
 use Rattle.tl_cert.proofs.AllowedLemmas.{allowed_node}
@@ -13,24 +14,24 @@ use Rattle.tl_cert.proofs.parts.read_node.Goals as goal
 
 pub returns-in-Ok-Inner-clause-reads : goal.returns-in-Ok-Inner-clause-reads
 returns-in-Ok-Inner-clause-reads g c =
-    let reads = told_as g.R.Source.remaining c.args.version c.args.subtrees c.args.left c.args.lines.now c.read.new.self c.in-Ok-Inner.field-0 (Inner c.in-Ok-Inner.rect c.in-Ok-Inner.children) c.in-Ok-Inner.field-0-is c.in-Ok-Inner.ensures.reads in
+    let reads = told_as g.R.Source.remaining c.args.version c.args.subtrees c.args.left (at c.args.lines.now c.args.source.now) (at c.read.new.self c.read.new.source) c.in-Ok-Inner.field-0 (Inner c.in-Ok-Inner.rect c.in-Ok-Inner.children) c.in-Ok-Inner.field-0-is c.in-Ok-Inner.ensures.reads in
     (inner_read c.args.version c.args.subtrees c.args.left c.in-Ok-Inner.rect c.in-Ok-Inner.children reads.0.0.0 reads.0.0.1 reads.0.1, reads.1)
 
 pub returns-in-Ok-clause-reads : goal.returns-in-Ok-clause-reads
 returns-in-Ok-clause-reads g c =
-    let start = told_as g.R.Source.remaining c.args.version c.args.subtrees c.args.left c.args.lines.now c.read.new.self c.in-Ok-Leaf.field-0 (Leaf c.in-Ok-Leaf.rect c.in-Ok-Leaf.count) c.in-Ok-Leaf.field-0-is c.in-Ok-Leaf.ensures.reads in
+    let start = told_as g.R.Source.remaining c.args.version c.args.subtrees c.args.left (at c.args.lines.now c.args.source.now) (at c.read.new.self c.read.new.source) c.in-Ok-Leaf.field-0 (Leaf c.in-Ok-Leaf.rect c.in-Ok-Leaf.count) c.in-Ok-Leaf.field-0-is c.in-Ok-Leaf.ensures.reads in
     let items = c.in-Ok.ensures.reads c.args.version c.args.subtrees c.args.left in (
       leaf_read c.args.version c.args.subtrees c.args.left c.in-Ok-Leaf.rect c.in-Ok-Leaf.count c.in-Ok.items start.0.0.0 start.0.0.1 start.0.0.2 start.0.1 items.0,
-      leaf_takes g.R.Source.remaining c.args.version c.in-Ok-Leaf.rect c.in-Ok-Leaf.count c.in-Ok.items c.args.lines.now c.read.new.self c.read_items.new.lines items.0.0 start.1 items.1,
+      leaf_takes g.R.Source.remaining c.args.version c.in-Ok-Leaf.rect c.in-Ok-Leaf.count c.in-Ok.items (at c.args.lines.now c.args.source.now) (at c.read.new.self c.read.new.source) (at c.read_items.new.lines c.read_items.new.source) items.0.0 start.1 items.1,
     )
 
 pub returns-in-Err-read_items-clause-reads : goal.returns-in-Err-read_items-clause-reads
 returns-in-Err-read_items-clause-reads g c =
-    let start = told_as g.R.Source.remaining c.args.version c.args.subtrees c.args.left c.args.lines.now c.read.new.self c.in-Ok-Leaf.field-0 (Leaf c.in-Ok-Leaf.rect c.in-Ok-Leaf.count) c.in-Ok-Leaf.field-0-is c.in-Ok-Leaf.ensures.reads in
+    let start = told_as g.R.Source.remaining c.args.version c.args.subtrees c.args.left (at c.args.lines.now c.args.source.now) (at c.read.new.self c.read.new.source) c.in-Ok-Leaf.field-0 (Leaf c.in-Ok-Leaf.rect c.in-Ok-Leaf.count) c.in-Ok-Leaf.field-0-is c.in-Ok-Leaf.ensures.reads in
     stops_later {S = ArrayVec ℕ} {T = TreeNode × ℕ} g.R.Source.remaining (AreItems c.in-Ok-Leaf.count) (λ v. item_lines v.items)
     (IsNodeRead c.args.version c.args.subtrees c.args.left) (λ read. nodes_lines c.args.version (read.0 ∷ []))
     (tree c.args.version (suc c.args.subtrees) (suc c.args.left) 0) (tree c.args.version c.args.subtrees c.args.left c.in-Ok-Leaf.count) (leaf_line c.in-Ok-Leaf.rect c.in-Ok-Leaf.count ∷ [])
-    c.args.lines.now c.read.new.self c.read_items.new.lines c.read_items.new.lines c.in-Err-read_items.stop
+    (at c.args.lines.now c.args.source.now) (at c.read.new.self c.read.new.source) (at c.read_items.new.lines c.read_items.new.source) (at c.read_items.new.lines c.read_items.new.source) c.in-Err-read_items.stop
     (leaf_run c.args.version c.args.subtrees c.args.left c.in-Ok-Leaf.rect c.in-Ok-Leaf.count start.0.0.0 start.0.0.1 start.0.0.2 start.0.1)
     start.1 (c.in-Err-read_items.ensures.reads c.args.version c.args.subtrees c.args.left)
 
@@ -38,5 +39,5 @@ pub returns-in-Err-clause-reads : goal.returns-in-Err-clause-reads
 returns-in-Err-clause-reads g c =
     let here = tree c.args.version (suc c.args.subtrees) (suc c.args.left) 0 in
     line_missing {T = TreeNode × ℕ} g.R.Source.remaining (node_line c.args.version) _ (IsNodeRead c.args.version c.args.subtrees c.args.left) (λ read. nodes_lines c.args.version (read.0 ∷ []))
-    here here [] c.args.lines.now c.args.lines.now c.read.new.self c.read.new.self c.in-Err.stop
-    (no_line here) (takes_none g.R.Source.remaining c.args.lines.now) (allowed_node c.args.version c.args.subtrees c.args.left c.requires.version) (λ e. cc e) c.in-Err.ensures.reads
+    here here [] (at c.args.lines.now c.args.source.now) (at c.args.lines.now c.args.source.now) (at c.read.new.self c.read.new.source) (at c.read.new.self c.read.new.source) c.in-Err.stop
+    (no_line here) (takes_none g.R.Source.remaining (at c.args.lines.now c.args.source.now)) (allowed_node c.args.version c.args.subtrees c.args.left c.requires.version) (λ e. cc e) c.in-Err.ensures.reads

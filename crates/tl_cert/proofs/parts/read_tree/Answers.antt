@@ -5,6 +5,7 @@ use Rattle.tl_cert.specs.Text.{numbered_line, nodes_lines, tree_lines}
 use Rattle.tl_cert.specs.Keeping.Lines.{TakesLines}
 use Rattle.tl_cert.specs.Keeping.Parts.{IsTree, IsNodeRead, IsTreeSoFar}
 use Rattle.tl_cert.specs.Keeping.Steps.{counted, tree, roots, no_line}
+use Rattle.tl_cert.specs.Keeping.Lines.{at}
 use Rattle.tl_cert.proofs.PartLemmas.{takes_none, stops_later, line_missing}
 use Rattle.tl_cert.proofs.TreeLemmas.{node_added, no_node, whole_tree, so_far_same, can_some, again}
 use Rattle.tl_cert.proofs.AllowedLemmas.{allowed_size}
@@ -13,14 +14,14 @@ use Rattle.tl_cert.proofs.parts.read_tree.Goals as goal
 pub returns-in-Err-clause-reads : goal.returns-in-Err-clause-reads
 returns-in-Err-clause-reads g c =
     line_missing {T = Vec TreeNode Global} g.R.Source.remaining (numbered_line (84 ∷ [])) _ (λ v. IsTree c.args.version v.items) (λ v. tree_lines c.args.version v.items)
-    (counted c.args.version) (counted c.args.version) [] c.args.lines.now c.args.lines.now c.read.new.self c.read.new.self c.in-Err.stop
-    (no_line (counted c.args.version)) (takes_none g.R.Source.remaining c.args.lines.now) (allowed_size c.args.version) (λ e. cc e) c.in-Err.ensures.reads
+    (counted c.args.version) (counted c.args.version) [] (at c.args.lines.now c.args.source.now) (at c.args.lines.now c.args.source.now) (at c.read.new.self c.read.new.source) (at c.read.new.self c.read.new.source) c.in-Err.stop
+    (no_line (counted c.args.version)) (takes_none g.R.Source.remaining (at c.args.lines.now c.args.source.now)) (allowed_size c.args.version) (λ e. cc e) c.in-Err.ensures.reads
 
 pub loop-left-init : goal.loop-left-init
 loop-left-init g c = record {
-  far = subst (λ n. IsTreeSoFar g.R.Source.remaining c.args.version c.in-Ok.count n c.in-Ok.count c.new-nodes.result.items c.args.lines.now c.read.new.self) (sym c.roots_of-subtrees.ensures)
-      (subst (λ xs. IsTreeSoFar g.R.Source.remaining c.args.version c.in-Ok.count (roots c.in-Ok.count) c.in-Ok.count xs c.args.lines.now c.read.new.self) (sym c.new-nodes.ensures.items)
-      (no_node g.R.Source.remaining c.args.version c.in-Ok.count c.args.lines.now c.read.new.self c.in-Ok.ensures.reads.0.0 c.in-Ok.ensures.reads.0.1 c.in-Ok.ensures.reads.1));
+  far = subst (λ n. IsTreeSoFar g.R.Source.remaining c.args.version c.in-Ok.count n c.in-Ok.count c.new-nodes.result.items (at c.args.lines.now c.args.source.now) (at c.read.new.self c.read.new.source)) (sym c.roots_of-subtrees.ensures)
+      (subst (λ xs. IsTreeSoFar g.R.Source.remaining c.args.version c.in-Ok.count (roots c.in-Ok.count) c.in-Ok.count xs (at c.args.lines.now c.args.source.now) (at c.read.new.self c.read.new.source)) (sym c.new-nodes.ensures.items)
+      (no_node g.R.Source.remaining c.args.version c.in-Ok.count (at c.args.lines.now c.args.source.now) (at c.read.new.self c.read.new.source) c.in-Ok.ensures.reads.0.0 c.in-Ok.ensures.reads.0.1 c.in-Ok.ensures.reads.1));
   failures = c.in-Ok.ensures.failures;
   same = c.in-Ok.ensures.same_reference;
 }
@@ -31,13 +32,13 @@ loop-left-preserved g c =
     let p : ℕ = c.loop-left.subtrees - 1 in
     let r : ℕ = c.loop-left.left - 1 in
     let some = can_some c.args.version c.loop-left.subtrees c.loop-left.left far.can c.loop-left-test.true in
-    let before = so_far_same g.R.Source.remaining c.args.version c.in-Ok.count c.loop-left.subtrees (suc p) c.loop-left.left (suc r) c.loop-left.nodes.items c.args.lines.now c.loop-left.lines
+    let before = so_far_same g.R.Source.remaining c.args.version c.in-Ok.count c.loop-left.subtrees (suc p) c.loop-left.left (suc r) c.loop-left.nodes.items (at c.args.lines.now c.args.source.now) (at c.loop-left.lines c.loop-left.source)
     (again c.loop-left.subtrees some) (again c.loop-left.left c.loop-left-test.true) far in
     let node = c.in-Ok-read_node.ensures.reads in
     let sum : c.in-Ok-read_node.children + p ≡ p + c.from-subtrees.result = omega (arith, c.from-subtrees.ensures) in
     record {
-      far = so_far_same g.R.Source.remaining c.args.version c.in-Ok.count (c.in-Ok-read_node.children + p) (p + c.from-subtrees.result) r r c.push.new.self.items c.args.lines.now c.read_node.new.lines sum refl
-          (node_added g.R.Source.remaining c.args.version c.in-Ok.count p r c.loop-left.nodes.items c.push.new.self.items (c.in-Ok-read_node.node, c.in-Ok-read_node.children) c.args.lines.now c.loop-left.lines c.read_node.new.lines
+      far = so_far_same g.R.Source.remaining c.args.version c.in-Ok.count (c.in-Ok-read_node.children + p) (p + c.from-subtrees.result) r r c.push.new.self.items (at c.args.lines.now c.args.source.now) (at c.read_node.new.lines c.read_node.new.source) sum refl
+          (node_added g.R.Source.remaining c.args.version c.in-Ok.count p r c.loop-left.nodes.items c.push.new.self.items (c.in-Ok-read_node.node, c.in-Ok-read_node.children) (at c.args.lines.now c.args.source.now) (at c.loop-left.lines c.loop-left.source) (at c.read_node.new.lines c.read_node.new.source)
           before node.0 node.1 c.in-Ok-push.ensures.items);
       failures = c.in-Ok-read_node.ensures.failures ∙ c.loop-left.invariant.failures;
       same = c.in-Ok-read_node.ensures.same_reference ∙ c.loop-left.invariant.same;
@@ -49,25 +50,25 @@ returns-in-Err-read_node-clause-reads g c =
     let p : ℕ = c.loop-left.subtrees - 1 in
     let r : ℕ = c.loop-left.left - 1 in
     let some = can_some c.args.version c.loop-left.subtrees c.loop-left.left far.can c.loop-left-test.true in
-    let before = so_far_same g.R.Source.remaining c.args.version c.in-Ok.count c.loop-left.subtrees (suc p) c.loop-left.left (suc r) c.loop-left.nodes.items c.args.lines.now c.loop-left.lines
+    let before = so_far_same g.R.Source.remaining c.args.version c.in-Ok.count c.loop-left.subtrees (suc p) c.loop-left.left (suc r) c.loop-left.nodes.items (at c.args.lines.now c.args.source.now) (at c.loop-left.lines c.loop-left.source)
     (again c.loop-left.subtrees some) (again c.loop-left.left c.loop-left-test.true) far in
     stops_later {S = TreeNode × ℕ} {T = Vec TreeNode Global} g.R.Source.remaining (IsNodeRead c.args.version p r) (λ read. nodes_lines c.args.version (read.0 ∷ []))
     (λ v. IsTree c.args.version v.items) (λ v. tree_lines c.args.version v.items) (counted c.args.version) (tree c.args.version (suc p) (suc r) 0)
     (numbered_line (84 ∷ []) c.in-Ok.count ∷ nodes_lines c.args.version c.loop-left.nodes.items)
-    c.args.lines.now c.loop-left.lines c.read_node.new.lines c.read_node.new.lines c.in-Err-read_node.stop before.runs before.takes c.in-Err-read_node.ensures.reads
+    (at c.args.lines.now c.args.source.now) (at c.loop-left.lines c.loop-left.source) (at c.read_node.new.lines c.read_node.new.source) (at c.read_node.new.lines c.read_node.new.source) c.in-Err-read_node.stop before.runs before.takes c.in-Err-read_node.ensures.reads
 
 pub returns-clause-reads : goal.returns-clause-reads
 returns-clause-reads g c =
     let far = c.loop-left.invariant.far in
     let nodes = c.loop-left.nodes.items in
     let done : c.loop-left.left ≡ 0 = omega (arith, c.loop-left-test.false) in
-    let whole = so_far_same g.R.Source.remaining c.args.version c.in-Ok.count c.loop-left.subtrees c.loop-left.subtrees c.loop-left.left 0 nodes c.args.lines.now c.loop-left.lines refl done far in
+    let whole = so_far_same g.R.Source.remaining c.args.version c.in-Ok.count c.loop-left.subtrees c.loop-left.subtrees c.loop-left.left 0 nodes (at c.args.lines.now c.args.source.now) (at c.loop-left.lines c.loop-left.source) refl done far in
     let size : c.in-Ok.count ≡ length nodes = omega (arith, whole.size) in (
       record {
-        preorder = whole_tree g.R.Source.remaining c.args.version c.in-Ok.count c.loop-left.subtrees nodes c.args.lines.now c.loop-left.lines whole;
+        preorder = whole_tree g.R.Source.remaining c.args.version c.in-Ok.count c.loop-left.subtrees nodes (at c.args.lines.now c.args.source.now) (at c.loop-left.lines c.loop-left.source) whole;
         few = omega (arith, size, c.in-Ok.ensures.reads.0.0);
         each = far.each;
         range = far.range;
       },
-      subst (λ n. TakesLines g.R.Source.remaining c.args.lines.now c.loop-left.lines (numbered_line (84 ∷ []) n ∷ nodes_lines c.args.version nodes)) size far.takes,
+      subst (λ n. TakesLines g.R.Source.remaining (at c.args.lines.now c.args.source.now) (at c.loop-left.lines c.loop-left.source) (numbered_line (84 ∷ []) n ∷ nodes_lines c.args.version nodes)) size far.takes,
     )

@@ -1,6 +1,6 @@
 use Rattle.std.proofs.Common.{◌≡◌, ◌+◌, ap, ◌∙◌, take, arith}
 use Rattle.tl_cert.proofs.LineLemmas.{found_other, none_left, too_long, line_taken}
-use Rattle.tl_cert.proofs.lines.LineReader.read.Goals as goal
+use Rattle.tl_cert.proofs.lines.Lines.read.Goals as goal
 
 pub returns-in-None-clause-reads : goal.returns-in-None-clause-reads
 returns-in-None-clause-reads g c =
