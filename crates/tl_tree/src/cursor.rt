@@ -12,7 +12,7 @@ pub struct Cursor<'a> {
     pub nodes: &'a [TreeNode],
     pub sizes: &'a [u32],
     pub at: usize,
-    pub count: u8,
+    pub count: usize,
     ghost sized: { AreSizesFrom 0 nodes.now sizes.now },
 }
 
@@ -39,7 +39,7 @@ impl Trees for Cursor<'_> {
                     nodes: self.nodes,
                     sizes: self.sizes,
                     at: self.at + 1,
-                    count: *children,
+                    count: *children as usize,
                 });
                 Some((Tree { rect: *rect, below }, rest))
             }

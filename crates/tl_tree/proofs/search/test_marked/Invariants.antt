@@ -1,4 +1,4 @@
-use Rattle.std.proofs.Common.{◌≡◌, ◌+◌, drop}
+use Rattle.std.proofs.Common.{None, ◌≡◌, ◌+◌, drop}
 use Rattle.tl_tree.specs.Keeping.Marking.{Includes, MeetsAt}
 use Rattle.tl_tree.specs.Pairs.{meeting, AreFree, row_sum, AllRow}
 use Rattle.tl_tree.proofs.search.test_marked.Given as goal
@@ -9,7 +9,8 @@ invariant-loop-j g l =
     let meet = row_sum (meeting (g.I.Items.bounds_of l.items)) l.i in
     let free = AllRow (AreFree (g.I.Items.tells l.items)) l.i in
     record {
-      left : l.rest + meet l.others ≡ l.left + meet (drop l.j-index l.others);
+      left : l.progress.left + meet l.others ≡ l.fn.progress.left + meet (drop l.j-index l.others);
       free : free (drop l.j-index l.others) → free l.others;
+      nothing_found : l.progress.found ≡ None;
       marks : Includes l.later (λ k. MeetsAt (g.I.Items.bounds_of l.items) (g.I.Items.bounds_of l.items l.i) l.others (k + l.j-index));
     }

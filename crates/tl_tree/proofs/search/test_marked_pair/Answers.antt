@@ -8,4 +8,4 @@ returns-else-marked g c =
     let b = g.I.Items.bounds_of c.args.items.now in
     let no = c.requires.unmarked c.if-marked.false in
     let e = one-none b c.args.i c.args.j no in
-    (omega (arith, e), one-none_free n (g.I.Items.tells c.args.items.now) b (g.met.I.Items.apart c.args.items.now) c.args.i c.args.j c.requires.first c.requires.second no)
+    record { left = omega (arith, e); free = one-none_free n (g.I.Items.tells c.args.items.now) b (g.met.I.Items.apart c.args.items.now) c.args.i c.args.j c.requires.first c.requires.second no; nothing_found = c.requires.nothing_found }
