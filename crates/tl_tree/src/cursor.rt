@@ -45,4 +45,8 @@ impl Trees for Cursor<'_> {
             }
         }
     }
+
+    fn are_few(&self) -> bool {
+        self.count <= 4
+    }
 }

@@ -68,10 +68,14 @@ fn fill_roots<W: Trees>(trees: &W, rects: &mut [Rect], from: usize)
     fill_roots(&rest, rects, from + 1);
 }
 
-/// Which of the first eight trees have rectangles that meet a rectangle: those that aren't marked have not.
+/// Which of the first eight trees may have rectangles that meet a rectangle: those that aren't marked have not. Of few
+/// trees all are marked, since to gather their rectangles takes longer than to test each.
 pub fn meeting_roots<W: Trees>(trees: &W, rect: Rect) -> u8
     ensures { Includes result (RootMeets (W.forest trees.now) rect) }
 {
+    if trees.are_few() {
+        return u8::MAX;
+    }
     let mut rects = [NOTHING; 8];
     fill_roots(trees, &mut rects, 0);
     Rect8::gather(&rects).meets8(rect)
