@@ -36,7 +36,7 @@ module _ (b : ℕ → Rect) where
 abbrev pub Meets : (ℕ → Rect) → ℕ → List ℕ → ℕ → Type 0
 Meets b x ys k = AreMeeting (b (get_or ys k 0)) (b x)
 
-turned : (r q : Rect) → AreMeeting r q → AreMeeting q r
+pub turned : (r q : Rect) → AreMeeting r q → AreMeeting q r
 turned r q m = record { point = m.point; in_first = m.in_second; in_second = m.in_first }
 
 -- none of the items does

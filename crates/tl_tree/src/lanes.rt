@@ -37,18 +37,6 @@ pub fn later_marks(marks: u8) -> u8
     marks / 2 + 128
 }
 
-/// The marks without the first `count` ones. Behind the eighth all are marked.
-pub fn marks_behind(marks: u8, count: usize) -> u8
-    ensures moved { (k : ℕ) → k < 8 → k + count < 8 → bit_at result k ≡ bit_at marks (k + count) }
-    ensures last { (k : ℕ) → k < 8 → 8 ≤ k + count → bit_at result k ≡ 1 }
-{
-    let mut rest = marks;
-    for _i in 0..count {
-        rest = later_marks(rest);
-    }
-    rest
-}
-
 /// Puts the rectangles of some trees into an array of eight, from a place on.
 fn fill_roots<W: Trees>(trees: &W, rects: &mut [Rect], from: usize)
     requires eight { length rects.old ≡ 8 }

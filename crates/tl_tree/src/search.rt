@@ -2,13 +2,13 @@
 ghost use Rattle.std.specs.Prelude.{◌≡◌, ◌<◌, ◌+◌, length, get_or, drop, IsFalse};
 ghost use Rattle.tl_geom.specs.Rectangle.{AreMeeting};
 ghost use Rattle.tl_tree.specs.Fits.{AreBelow, CoversAll, Fits};
-ghost use Rattle.tl_tree.specs.Keeping.Marking.{Includes, MeetsAt, RootMeets, AreBoundsOf};
+ghost use Rattle.tl_tree.specs.Keeping.Marking.{Includes, AreMarksOf, RootMeets, AreBoundsOf};
 ghost use Rattle.tl_tree.specs.Pairs.{meeting, row_sum, cross_sum, pair_sum, AllRow, AllCross, AllPairs, AreFree};
 ghost use Rattle.tl_tree.specs.Searches.{MayAnswer};
 ghost use Rattle.tl_tree.specs.Trees.{leaf_items};
 ghost use Rattle.tl_tree.specs.Keeping.Walking.{MayLeave, answer_of, items_below, IsSound, AreSound};
 
-use crate::lanes::{bounds_of_eight, is_first_marked, later_marks, marks_behind, meeting_roots};
+use crate::lanes::{bounds_of_eight, is_first_marked, later_marks, meeting_roots};
 use crate::walk::{Below, Tree, Trees};
 use crate::{Items, Search};
 use tl_geom::{Rect, Rect8};
@@ -39,17 +39,18 @@ fn keep_conflict<C>(progress: &mut Progress<C>, conflict: Conflict<C>)
     }
 }
 
-/// Tests two items, of which the same one is no pair.
+/// Tests two items whose bounds meet, of which the same one is no pair.
 #[inline]
-pub fn test_pair<I: Items>(items: &I, i: u32, j: u32, progress: &mut Progress<I::C>) -> bool
+fn test_meeting<I: Items>(items: &I, i: u32, j: u32, progress: &mut Progress<I::C>) -> bool
     requires first { i < I.count items.now }
     requires second { j < I.count items.now }
+    requires meeting { AreMeeting (I.bounds_of items.now j) (I.bounds_of items.now i) }
     requires nothing_found { progress.old.found ≡ None }
     ensures { MayLeave (I.count items.now) (I.tells items.now)
         (meeting (I.bounds_of items.now) i j) (AreFree (I.tells items.now) i j) progress.old progress.new result }
 {
     let (low, high) = (i.min(j), i.max(j));
-    if low == high || !items.bounds(i).meets(items.bounds(j)) {
+    if low == high {
         return true;
     }
     if progress.left == 0 {
@@ -67,60 +68,73 @@ pub fn test_pair<I: Items>(items: &I, i: u32, j: u32, progress: &mut Progress<I:
     }
 }
 
-/// Tests two items, unless it is known that their bounds don't meet.
-fn test_marked_pair<I: Items>(
-    items: &I,
-    i: u32,
-    j: u32,
-    marked: bool,
-    progress: &mut Progress<I::C>,
-) -> bool
+/// Tests two items, of which the same one is no pair.
+pub fn test_pair<I: Items>(items: &I, i: u32, j: u32, progress: &mut Progress<I::C>) -> bool
     requires first { i < I.count items.now }
     requires second { j < I.count items.now }
-    requires unmarked { IsFalse marked → ¬ AreMeeting (I.bounds_of items.now j) (I.bounds_of items.now i) }
     requires nothing_found { progress.old.found ≡ None }
     ensures { MayLeave (I.count items.now) (I.tells items.now)
         (meeting (I.bounds_of items.now) i j) (AreFree (I.tells items.now) i j) progress.old progress.new result }
 {
-    if marked {
-        test_pair(items, i, j, progress)
+    if items.bounds(j).meets(items.bounds(i)) {
+        test_meeting(items, i, j, progress)
     } else {
         true
     }
 }
 
-/// Tests an item against some items, of which marks tell that the bounds of others than the marked ones don't meet its
-/// own.
-fn test_marked<I: Items>(
-    items: &I,
-    i: u32,
-    others: &[u32],
-    marks: u8,
-    progress: &mut Progress<I::C>,
-) -> bool
+/// Tests an item against each of some items.
+#[inline(never)]
+fn test_each<I: Items>(items: &I, i: u32, others: &[u32], progress: &mut Progress<I::C>) -> bool
     requires item { i < I.count items.now }
     requires others { AreBelow (I.count items.now) others.now }
-    requires marks { Includes marks (MeetsAt (I.bounds_of items.now) (I.bounds_of items.now i) others.now) }
     requires nothing_found { progress.old.found ≡ None }
     ensures { MayLeave (I.count items.now) (I.tells items.now)
         (row_sum (meeting (I.bounds_of items.now)) i others.now)
         (AllRow (AreFree (I.tells items.now)) i others.now) progress.old progress.new result }
 {
-    if marks == 0 && others.len() <= 8 {
-        return true;
-    }
-    let mut later = marks;
     for j in others {
-        if !test_marked_pair(items, i, *j, is_first_marked(later), progress) {
+        if !test_pair(items, i, *j, progress) {
             return false;
         }
-        later = later_marks(later);
     }
     true
 }
 
-/// Tests an item against each of some items, of whose first eight the bounds are given. Where its own bounds don't meet
-/// a rectangle around all of them, nothing is tested.
+/// Tests an item against those of some items that are marked, which are those whose bounds meet its own.
+fn test_marked<I: Items>(
+    items: &I,
+    i: u32,
+    others: &[u32],
+    marks: u32,
+    progress: &mut Progress<I::C>,
+) -> bool
+    requires item { i < I.count items.now }
+    requires others { AreBelow (I.count items.now) others.now }
+    requires marks { AreMarksOf (I.bounds_of items.now) (I.bounds_of items.now i) others.now marks }
+    requires nothing_found { progress.old.found ≡ None }
+    ensures { MayLeave (I.count items.now) (I.tells items.now)
+        (row_sum (meeting (I.bounds_of items.now)) i others.now)
+        (AllRow (AreFree (I.tells items.now)) i others.now) progress.old progress.new result }
+{
+    let (mut later, mut place) = (marks, 0);
+    while later != 0 {
+        let passed = later.trailing_zeros();
+        if others.len() - place <= passed as usize {
+            return true;
+        }
+        place += passed as usize;
+        if !test_meeting(items, i, others[place], progress) {
+            return false;
+        }
+        later = (later >> passed) / 2;
+        place += 1;
+    }
+    true
+}
+
+/// Tests an item against each of some items, of which the bounds of the first eight are given, and a rectangle that is
+/// around all of them. Where its own bounds don't meet that one, nothing is tested.
 fn test_row<I: Items>(
     items: &I,
     i: u32,
@@ -142,7 +156,10 @@ fn test_row<I: Items>(
     if !own.meets(around) {
         return true;
     }
-    test_marked(items, i, others, bounds.meets8(own), progress)
+    if others.len() > 8 {
+        return test_each(items, i, others, progress);
+    }
+    test_marked(items, i, others, u32::from(bounds.meets8(own)), progress)
 }
 
 /// Tests each of some items against each of some others, which a rectangle is around.
@@ -186,8 +203,17 @@ fn test_behind<I: Items>(
         (row_sum (meeting (I.bounds_of items.now)) (get_or some.now k 0) (drop (k + 1) some.now))
         (AllRow (AreFree (I.tells items.now)) (get_or some.now k 0) (drop (k + 1) some.now)) progress.old progress.new result }
 {
-    let marks = marks_behind(bounds.meets8(items.bounds(some[k])), k + 1);
-    test_marked(items, some[k], &some[k + 1..], marks, progress)
+    if some.len() > 8 {
+        return test_each(items, some[k], &some[k + 1..], progress);
+    }
+    let marks = u32::from(bounds.meets8(items.bounds(some[k])));
+    test_marked(
+        items,
+        some[k],
+        &some[k + 1..],
+        marks >> (k as u32 + 1),
+        progress,
+    )
 }
 
 /// Tests the pairs of some items.

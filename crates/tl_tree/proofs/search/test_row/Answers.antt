@@ -3,7 +3,7 @@ use Rattle.std.proofs.lemmas.Bool.{false≢true}
 use Rattle.tl_geom.specs.Rectangle.{AreMeeting}
 use Rattle.tl_tree.specs.Pairs.{meeting, row_sum}
 use Rattle.tl_tree.proofs.Apart.{row-apart, row-free}
-use Rattle.tl_tree.proofs.Marks8.{includes-meets}
+use Rattle.tl_tree.proofs.Rows.{marks-of}
 use Rattle.tl_tree.proofs.search.test_row.Goals as goal
 
 pub returns-then-not-meets : goal.returns-then-not-meets
@@ -18,4 +18,5 @@ returns-then-not-meets g c =
 
 pub test_marked-requires-clause-marks : goal.test_marked-requires-clause-marks
 test_marked-requires-clause-marks g c =
-    includes-meets (g.I.Items.bounds_of c.args.items.now) (g.I.Items.bounds_of c.args.items.now c.args.i) c.args.others.now c.args.bounds.now c.bounds-own.result c.meets8.result c.requires.bounds c.bounds-own.ensures c.meets8.ensures
+    let b = g.I.Items.bounds_of c.args.items.now in
+    rw c.from.ensures (marks-of b (b c.args.i) c.args.others.now c.args.bounds.now c.meets8.result c.bounds-own.result c.requires.bounds c.if-others-gt8.false c.bounds-own.ensures c.meets8.ensures)
