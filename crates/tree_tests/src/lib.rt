@@ -3,8 +3,8 @@
 #![tactic(auto)]
 
 #[cfg(test)]
-mod counting;
+mod indexes;
 #[cfg(test)]
-mod index;
+mod items;
 #[cfg(test)]
 mod segments;
