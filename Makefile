@@ -4,7 +4,7 @@
 # make full-size           asks for each answer once with a million chains
 # make memory              refuses each allocation of the program in its turn
 # make examples            runs the commands of examples/README.md and compares what they print
-# make bench               measures the program on record files of 1,000 to 1,000,000 chains
+# make bench               measures the program on record files of 1,000 to 1,000,000 chains, and searches in trees
 # make install PREFIX=..   installs the program as PREFIX/bin/tigertopo
 
 PREFIX = /usr/local
@@ -32,6 +32,7 @@ memory: build
 
 bench: build
 	cd crates/count_records && rt run >/dev/null
+	cd crates/bench_tree && rt run >/dev/null
 	python3 bench/run.py
 
 install: build

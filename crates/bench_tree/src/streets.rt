@@ -48,7 +48,9 @@ impl Streets {
 
     /// How many pairs were tested since the last call.
     pub fn tests(&self) -> u64 {
-        self.tests.replace(0)
+        let tests = self.tests.get();
+        self.tests.set(0);
+        tests
     }
 }
 
