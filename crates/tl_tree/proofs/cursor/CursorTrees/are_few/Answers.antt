@@ -5,4 +5,4 @@ use Rattle.tl_tree.proofs.Roots.{roots-first}
 use Rattle.tl_tree.proofs.cursor.CursorTrees.are_few.Goals as goal
 
 pub returns : goal.returns
-returns c = let self = c.args.self.now in let h = roots-first self.count (trees_of (drop self.at self.nodes.now)) in λ yes. grind (arith, nat_tests, h, yes)
+returns c = let self = c.args.self.now in let h = roots-first self.count (trees_of (drop self.at self.lists.now.nodes.now)) in λ yes. grind (arith, nat_tests, h, yes)
