@@ -1,11 +1,11 @@
 -- Two segments with a common end whose directions differ share that end alone.
-use Rattle.std.proofs.Common.{◌≡◌, ◌≢◌, ◌⊎◌, inl, inr, ⊎_elim, ℤ, pos, ◌-ℤ◌, neg_ℤ, ◌<ℤ◌, ◌≤ℤ◌, ap, sym, ◌∙◌, refl, arith}
+use Rattle.std.proofs.Common.{◌≡◌, ◌≢◌, inl, inr, ⊎_elim, ℤ, pos, neg_ℤ, ◌<ℤ◌, ◌≤ℤ◌, ap, sym, ◌∙◌, refl, arith}
 use Rattle.std.proofs.lemmas.Int.{ints}
 use Rattle.tl_geom.specs.declared.point.Point.{Point}
 use Rattle.tl_geom.specs.declared.segment.Segment.{Segment}
 use Rattle.tl_geom.specs.Plane.{step_cross}
 use Rattle.tl_geom.specs.Contact.{MeetAtEnds}
-use Rattle.tl_geom.specs.Keeping.Lines.{AreShares, AreCrosses, IsEndAt, IsEndOfBoth}
+use Rattle.tl_geom.specs.Keeping.Lines.{AreShares, IsEndAt, IsEndOfBoth}
 use Rattle.tl_geom.proofs.Polynomials.{num, ◌⊖◌, ◌⊗◌, same}
 use Rattle.tl_geom.proofs.Signs.{sign}
 use Rattle.tl_geom.proofs.Crossings.{at_ends}

@@ -1,4 +1,4 @@
-use Rattle.std.proofs.Common.{◌≡◌, inr, ⊎_elim, sym, ◌∙◌}
+use Rattle.std.proofs.Common.{inr, ⊎_elim, sym, ◌∙◌}
 use Rattle.std.proofs.lemmas.Bool.{false≢true}
 use Rattle.tl_geom.proofs.common_end.is_end.Goals as goal
 

@@ -1,4 +1,4 @@
-use Rattle.std.proofs.Common.{◌≡◌, ◌+◌, ◌/◌, ◌^◌, List, ℕ, get_or, drop, sym, subst}
+use Rattle.std.proofs.Common.{◌+◌, ◌/◌, ◌^◌, List, ℕ, get_or, sym, subst}
 use Rattle.tl_tree.specs.Keeping.Marking.{AreMarksOf}
 use Rattle.tl_tree.proofs.Rows.{marks-of, marks-behind}
 use Rattle.tl_tree.proofs.Steps.{below-at, below-drop, rest-of}

@@ -2,7 +2,7 @@ use Rattle.std.proofs.Common.{◌≡◌, ℕ, ◌+◌, ◌<◌, ◌≤◌, ◌^�
 use Rattle.std.specs.Int.{bit_at, trailing_zeros}
 use Rattle.std.proofs.lemmas.Nat.Bits.{bit_at-trailing_zeros}
 use Rattle.tl_tree.specs.Keeping.Marking.{AreMarksOf}
-use Rattle.tl_tree.specs.Pairs.{meeting, row_sum, AreFree, AllRow}
+use Rattle.tl_tree.specs.Pairs.{meeting, AreFree}
 use Rattle.tl_tree.proofs.Leaving.{stops, goes}
 use Rattle.tl_tree.proofs.Rows.{marks-next, marked-meets, row-passed, free-passed, row-unmarked, free-unmarked}
 use Rattle.tl_tree.proofs.Steps.{row-step, row-end, all_row-step, all_row-end, below-at, below-drop}

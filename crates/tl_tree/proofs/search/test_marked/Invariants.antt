@@ -1,4 +1,4 @@
-use Rattle.std.proofs.Common.{None, ◌≡◌, ◌+◌, ◌-◌, ◌≤◌, ◌<◌, ◌^◌, length, drop}
+use Rattle.std.proofs.Common.{None, ◌≡◌, ◌+◌, ◌-◌, ◌≤◌, length, drop}
 use Rattle.tl_tree.specs.Keeping.Marking.{AreMarksOf}
 use Rattle.tl_tree.specs.Pairs.{meeting, AreFree, row_sum, AllRow}
 use Rattle.tl_tree.proofs.search.test_marked.Given as goal
