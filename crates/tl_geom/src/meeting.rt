@@ -28,7 +28,8 @@ pub fn contact(s: Segment, t: Segment) -> Contact
     meeting(s, t)
 }
 
-/// What two segments share. Neighbours in a chain and around a node, the commonest pairs, are told by one cross product.
+/// What two segments share. Neighbours in a chain and around a node, the commonest pairs, are told by one cross
+/// product.
 #[inline]
 fn meeting(s: Segment, t: Segment) -> Contact
     ensures { IsContact s t result }

@@ -201,7 +201,8 @@ fn test_behind<I: Items>(
     requires nothing_found { progress.old.found ≡ None }
     ensures { MayLeave (I.count items.now) (I.tells items.now)
         (row_sum (meeting (I.bounds_of items.now)) (get_or some.now k 0) (drop (k + 1) some.now))
-        (AllRow (AreFree (I.tells items.now)) (get_or some.now k 0) (drop (k + 1) some.now)) progress.old progress.new result }
+        (AllRow (AreFree (I.tells items.now)) (get_or some.now k 0) (drop (k + 1) some.now))
+        progress.old progress.new result }
 {
     if some.len() > 8 {
         return test_each(items, some[k], &some[k + 1..], progress);
@@ -355,7 +356,8 @@ pub fn search_one<I: Items, W: Trees>(
     requires nothing_found { progress.old.found ≡ None }
     ensures { MayLeave (I.count items.now) (I.tells items.now)
         (pair_sum (meeting (I.bounds_of items.now)) (items_below W.forest tree.now.below))
-        (AllPairs (AreFree (I.tells items.now)) (items_below W.forest tree.now.below)) progress.old progress.new result }
+        (AllPairs (AreFree (I.tells items.now)) (items_below W.forest tree.now.below))
+        progress.old progress.new result }
 {
     match &tree.below {
         Below::Items(some) => test_pairs(items, some, progress),

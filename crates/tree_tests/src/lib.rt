@@ -1,5 +1,5 @@
-//! Tests of the search, by items that count what they are asked and by segments. They stand beside `tl_tree`, so that it
-//! is proved once and not once more with its tests.
+//! Tests of the search, by items that count what they are asked and by segments. They stand beside `tl_tree`, so that
+//! it is proved once and not once more with its tests.
 #![tactic(auto)]
 
 #[cfg(test)]

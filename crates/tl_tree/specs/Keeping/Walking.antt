@@ -49,8 +49,8 @@ pub record IsSound {W : Type 0} (n : ℕ) (bounds : ℕ → Rect) (see : W → F
   pub covers : CoversAll bounds t.rect (items_below see t.below)
   pub below : CoveredBelow bounds see t.below
 
--- a part of a search goes on, over pairs of which `meet` have bounds that meet: they are free of conflicts, and that many
--- of the budget are spent
+-- a part of a search goes on, over pairs of which `meet` have bounds that meet: they are free of conflicts, and that
+-- many of the budget are spent
 pub record GoesOn {C : Type 0} (meet : ℕ) (claim : Type 0) (old new : Progress C) : Type 0 where
   pub left : new.left + meet ≡ old.left
   pub free : claim
@@ -62,7 +62,7 @@ Stops n tells meet left None = left < meet
 Stops n tells meet left (Some k) = IsConflict n tells k.i k.j k.c
 
 -- what a part of a search does, by whether it goes on
-abbrev pub MayLeave : {C : Type 0} → ℕ → (ℕ → ℕ → Option C → Type 0) → ℕ → Type 0 → Progress C → Progress C → Bool → Type 0
+abbrev pub MayLeave : {C : Type 0} → ℕ → (ℕ → ℕ → Option C → Type 0) → ℕ → Type 0 → (p q : Progress C) → Bool → Type 0
 MayLeave n tells meet free old new true = GoesOn meet free old new
 MayLeave n tells meet free old new false = Stops n tells meet old.left new.found
 
