@@ -2,9 +2,9 @@
 # make check               the merge gate: every proof, must-fail edit, test and stored run, from nothing
 # make rows                plays the rows of tests/ over the program
 # make full-size           asks for each answer once with a million chains
-# make memory              refuses each allocation of the program in its turn
+# make memory              refuses each allocation of the program, and of bench_tree, in its turn
 # make examples            runs the commands of examples/README.md and compares what they print
-# make bench               measures the program on record files of 1,000 to 1,000,000 chains
+# make bench               measures the program on record files of 1,000 to 1,000,000 chains, and searches in trees
 # make install PREFIX=..   installs the program as PREFIX/bin/tigertopo
 
 PREFIX = /usr/local
@@ -29,9 +29,12 @@ full-size: build
 
 memory: build
 	python3 tests/memory.py
+	cd crates/bench_tree && rt run >/dev/null
+	python3 tests/tree_memory.py
 
 bench: build
 	cd crates/count_records && rt run >/dev/null
+	cd crates/bench_tree && rt run >/dev/null
 	python3 bench/run.py
 
 install: build

@@ -1,14 +1,15 @@
 #!/usr/bin/env python3
-"""Measures `tigertopo show` and `landmarks`, and a program that only counts records, beside `wc -l` of the same files.
+"""Measures `tigertopo show` and `landmarks`, and a program that only counts records, beside `wc -l` of the same files;
+and `bench_tree`, which makes the segments of a county and searches them, in a table of its own.
 
-usage: run.py [--sizes N,N,..] [--counties N,N,..] [--keys N] [--runs N]
+usage: run.py [--sizes N,N,..] [--counties N,N,..] [--keys N] [--segments N,N,..] [--runs N]
 
 The files of --sizes hold types 1 and 2; those of --counties are whole counties of all six types, by rising TLID and, in a
 second row of files, in random order. Those of --keys have as many polygons as chains, with ordinary keys and, in a second
 row, with keys that were chosen against a hash function.
 
 Each program runs once for its peak of memory and then RUNS times for its seconds, in turn with the others, with its
-output thrown away. The table has medians. Files are made in bench/out, once. `make bench` builds the programs first.
+output thrown away. The tables have medians. Files are made in bench/out, once. `make bench` builds the programs first.
 """
 
 import argparse
@@ -22,6 +23,7 @@ BENCH = Path(__file__).resolve().parent
 CRATES = BENCH.parent / "crates"
 PROGRAM = CRATES / "tigertopo" / "out" / "tigertopo"
 COUNT = CRATES / "count_records" / "out" / "count_records"
+TREE = CRATES / "bench_tree" / "out" / "bench_tree"
 NAMES = {
     "streets": "streets alone",
     "county": "a county",
@@ -84,11 +86,32 @@ def rows(chains, kind, runs):
                f"{seconds / base:.1f}", f"{lines / seconds / 1e6:.2f}", f"{peaks[name]:.1f}" if peaks[name] >= 0.1 else "-")
 
 
+def searched(segments):
+    """What one run of `bench_tree` prints: the microseconds of each step, in order, and the pairs that were tested."""
+    done = subprocess.run([TREE, str(segments)], capture_output=True, text=True, check=True)
+    taken = [(line.split(": ")[0], int(line.split()[-2])) for line in done.stderr.splitlines()]
+    tests = [int(line.split("=")[-1]) for line in done.stdout.splitlines() if line.startswith("clear=true")]
+    if len(tests) != 4 or len(taken) != 9:
+        sys.exit(f"{TREE} found a conflict")
+    return taken, tests[0]
+
+
+def tree_rows(segments, runs):
+    found = [searched(segments) for _ in range(runs)]
+    steps = [statistics.median(taken[k][1] for taken, _ in found) for k in range(9)]
+    made, tests = steps[0], found[0][1]
+    for children, (_, check, flat, boxes) in ((2, steps[1:5]), (8, steps[5:9])):
+        for name, search, checked in (("flat", flat, f"{check * 1e3 / segments:.1f}"), ("boxes", boxes, "-")):
+            yield (f"{segments:,}", f"{children}", name, f"{made / 1e3:.1f}", f"{search / 1e3:.1f}", f"{search / made:.1f}",
+                   f"{tests / segments:.2f}", checked)
+
+
 def main():
     parser = argparse.ArgumentParser()
     parser.add_argument("--sizes", default="1000,10000,100000")
     parser.add_argument("--counties", default="10000,100000,1000000")
     parser.add_argument("--keys", default="100000")
+    parser.add_argument("--segments", default="27500,275000,2750000")
     parser.add_argument("--runs", type=int, default=5)
     words = parser.parse_args()
     print("| Chains | Lines | MB | Program | ms | times `wc -l` | million lines a second | peak MB |")
@@ -97,6 +120,12 @@ def main():
     parts += [("keys", words.keys), ("hostile", words.keys)]
     for kind, chains in ((kind, int(it)) for kind, sizes in parts for it in sizes.split(",") if it):
         for row in rows(chains, kind, words.runs):
+            print("| " + " | ".join(row) + " |", flush=True)
+    print()
+    print("| Segments | Children | Tree | rectangles made and sorted, ms | search, ms | times | tests a segment | check, ns an item |")
+    print("|---|---|---|---|---|---|---|---|")
+    for segments in (int(it) for it in words.segments.split(",") if it):
+        for row in tree_rows(segments, words.runs):
             print("| " + " | ".join(row) + " |", flush=True)
 
 

@@ -6,7 +6,7 @@ use tl_geom::Rect;
 use tl_tree::{Items, TreeNode};
 
 /// A segment, by which it is sorted: its middle along the side that is halved, doubled, and its number.
-#[derive(Clone, Copy, Debug, PartialEq, Eq, PartialOrd, Ord)]
+#[derive(Clone, Copy, PartialEq, Eq, PartialOrd, Ord)]
 struct Entry {
     middle: i64,
     item: u32,

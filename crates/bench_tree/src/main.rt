@@ -1,7 +1,11 @@
 //! How fast trees are: makes the streets of a county, as many segments as the first argument says, 2.75 to a chain, and
-//! trees over them by halving along the longer side, with leaves of eight and two or eight children a node. It prints
-//! how many pairs of a search were tested and, on the error output, the milliseconds that each step takes.
+//! trees over them by halving along the longer side, with leaves of eight and two or eight children a node, flat and
+//! in boxes. It prints how many pairs of a search were tested and, on the error output, the microseconds that each step
+//! takes.
 #![tactic(auto)]
+
+ghost use Rattle.std.specs.Prelude.{◌<◌, ◌^◌, length};
+ghost use Rattle.tl_tree.specs.Preorder.{IsPreorder};
 
 mod county;
 mod halving;
@@ -13,7 +17,7 @@ use crate::streets::Streets;
 use std::error::Error;
 use std::time::{Duration, Instant};
 use std::{env, fmt};
-use tl_tree::{BoxIndex, FlatTree, Search, TreeNode, is_preorder};
+use tl_tree::{BoxIndex, BoxTree, FlatTree, Items, Search, TreeNode, is_preorder};
 
 /// What ends the program early.
 #[derive(Debug, Drop)]
@@ -52,32 +56,58 @@ fn sort_rectangles(rt: &HostRuntime, streets: &Streets) -> anyhow::Result<()> {
     tell(rt, "rectangles made and sorted", begun.elapsed(rt)?)
 }
 
-/// Makes a tree with two children a node, or up to eight, checks it and searches with it.
-fn search(rt: &HostRuntime, streets: &Streets, eight: bool) -> anyhow::Result<()> {
-    let nodes = tree_of(rt.alloc(), streets, eight)?;
-    if nodes.len() > 1 << 31 || !is_preorder(&nodes) {
-        return Err(Stop::Tree.into());
-    }
+/// Looks for a conflict, and tells how long it took and how many pairs were tested.
+fn search<X: BoxIndex>(rt: &HostRuntime, index: &X, streets: &Streets) -> anyhow::Result<()>
+    requires { X.fits index.now (⟦<Streets as Items>⟧.count streets.now) (⟦<Streets as Items>⟧.bounds_of streets.now) }
+{
     let begun = Instant::now(rt)?;
-    let tree = FlatTree::from_nodes(rt.alloc(), &nodes).map_err(|_| Stop::Memory)?;
+    let found = index.first_conflict(streets, u64::MAX);
+    tell(rt, "conflicts searched", begun.elapsed(rt)?)?;
+    let clear = matches!(found, Search::Clear);
+    println!(rt; "clear={clear} tests={}", streets.tests())?;
+    Ok(())
+}
+
+/// Takes nodes as a flat tree, checks it and searches with it.
+fn search_flat(rt: &HostRuntime, streets: &Streets, nodes: &[TreeNode]) -> anyhow::Result<()>
+    requires whole { IsPreorder nodes.now }
+    requires numbered { length nodes.now < 2 ^ 32 }
+{
+    let begun = Instant::now(rt)?;
+    let tree = FlatTree::from_nodes(rt.alloc(), nodes).map_err(|_| Stop::Memory)?;
     tell(rt, "tree taken", begun.elapsed(rt)?)?;
     let begun = Instant::now(rt)?;
+    let fault = tree.check(rt.alloc(), streets).map_err(|_| Stop::Memory)?;
+    tell(rt, "tree checked", begun.elapsed(rt)?)?;
+    if fault.is_some() {
+        return Err(Stop::Tree.into());
+    }
+    search(rt, &tree, streets)
+}
+
+/// Puts nodes into boxes, and searches with them.
+fn search_boxes(rt: &HostRuntime, streets: &Streets, nodes: &[TreeNode]) -> anyhow::Result<()>
+    requires whole { IsPreorder nodes.now }
+    requires numbered { length nodes.now < 2 ^ 32 }
+{
+    let tree = BoxTree::from_nodes(rt.alloc(), nodes).map_err(|_| Stop::Memory)?;
     let fault = tree.check(rt.alloc(), streets).map_err(|_| Stop::Memory)?;
     if fault.is_some() {
         return Err(Stop::Tree.into());
     }
-    tell(rt, "tree checked", begun.elapsed(rt)?)?;
-    let begun = Instant::now(rt)?;
-    let found = tree.first_conflict(streets, u64::MAX);
-    tell(rt, "conflicts searched", begun.elapsed(rt)?)?;
-    let clear = matches!(found, Search::Clear);
-    println!(rt;
-        "children={} nodes={} clear={clear} tests={}",
-        if eight { 8 } else { 2 },
-        nodes.len(),
-        streets.tests()
-    )?;
-    Ok(())
+    search(rt, &tree, streets)
+}
+
+/// Makes a tree with two children a node, or up to eight, and searches with it.
+fn measure(rt: &HostRuntime, streets: &Streets, eight: bool) -> anyhow::Result<()> {
+    let nodes = tree_of(rt.alloc(), streets, eight)?;
+    if nodes.len() > 1 << 31 || !is_preorder(&nodes) {
+        return Err(Stop::Tree.into());
+    }
+    let children = if eight { 8 } else { 2 };
+    println!(rt; "children={children} nodes={}", nodes.len())?;
+    search_flat(rt, streets, &nodes)?;
+    search_boxes(rt, streets, &nodes)
 }
 
 fn main(rt: HostRuntime) -> anyhow::Result<()> {
@@ -88,7 +118,7 @@ fn main(rt: HostRuntime) -> anyhow::Result<()> {
     let streets = county(rt.alloc(), segments)?;
     println!(rt; "segments={}", streets.count())?;
     sort_rectangles(&rt, &streets)?;
-    search(&rt, &streets, false)?;
-    search(&rt, &streets, true)?;
+    measure(&rt, &streets, false)?;
+    measure(&rt, &streets, true)?;
     Ok(())
 }

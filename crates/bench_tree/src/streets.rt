@@ -4,13 +4,12 @@ use std::cell::Cell;
 use tl_geom::{Contact, Point, Rect, Segment, contact};
 use tl_tree::Items;
 
-/// Segments and their rectangles, fewer than 2,147,483,648, and how many pairs were tested.
+/// Segments, fewer than 2,147,483,648, and how many pairs were tested.
 #[derive(Drop)]
 pub struct Streets {
     segments: Vec<Segment>,
-    rects: Vec<Rect>,
     tests: Cell<u64>,
-    ghost few: { length rects.items < 2 ^ 32 },
+    ghost few: { length segments.items < 2 ^ 32 },
 }
 
 ghost use Rattle.std.specs.Prelude.{◌<◌, ◌^◌, length};
@@ -19,22 +18,20 @@ impl Streets {
     pub fn new(alloc: Global) -> Streets {
         Streets {
             segments: Vec::new(alloc),
-            rects: Vec::new(alloc),
             tests: Cell::new(0),
         }
     }
 
     /// How many segments there are.
     pub fn count(&self) -> usize {
-        self.rects.len()
+        self.segments.len()
     }
 
     /// Adds the segment between two points, if they differ and there is room.
     pub fn add(&mut self, a: Point, b: Point) -> Result<(), AllocError> {
         if let Some(s) = Segment::new(a, b) {
-            if self.rects.len() < 1 << 31 {
+            if self.segments.len() < 1 << 31 {
                 self.segments.push(s)?;
-                self.rects.push(Rect::of(s))?;
             }
         }
         Ok(())
@@ -51,37 +48,37 @@ impl Streets {
 
     /// How many pairs were tested since the last call.
     pub fn tests(&self) -> u64 {
-        self.tests.replace(0)
+        let tests = self.tests.get();
+        self.tests.set(0);
+        tests
     }
 }
 
 impl Items for Streets {
-    ghost use Rattle.std.specs.Prelude.{length, slice_index_or, pos};
+    ghost use Rattle.std.specs.Prelude.{length};
+    ghost use Rattle.bench_tree.specs.Bounds.{rect_at};
 
     type C = Contact;
 
-    ghost count = { λ streets. length streets.rects.items };
+    ghost count = { λ streets. length streets.segments.items };
 
-    ghost bounds_of = { λ streets i. slice_index_or streets.rects.items i
-        (record { xmin = pos 0; ymin = pos 0; xmax = pos 0; ymax = pos 0 }) };
+    ghost bounds_of = { λ streets. rect_at streets.segments.items };
 
     ghost tells = { λ _ _ _ _. Unit {0} };
 
     ghost apart = { λ _ _ _ _ _ _. tt };
 
     fn len(&self) -> u32 {
-        self.rects.len() as u32
+        self.segments.len() as u32
     }
 
     fn bounds(&self, i: u32) -> Rect {
-        self.rects[i as usize]
+        Rect::of(self.segments[i as usize])
     }
 
     fn conflict(&self, i: u32, j: u32) -> Option<Contact> {
         self.tests.set(self.tests.get().wrapping_add(1));
-        let s = self.segments.get(i as usize)?;
-        let t = self.segments.get(j as usize)?;
-        match contact(*s, *t) {
+        match contact(self.segments[i as usize], self.segments[j as usize]) {
             Contact::Crossing(at) => Some(Contact::Crossing(at)),
             _ => None,
         }

@@ -11,5 +11,6 @@ pub mod Order
 pub mod Within
 pub mod Overlaps
 pub mod Contacts
+pub mod Ends
 pub mod Meetings
 pub mod Masks

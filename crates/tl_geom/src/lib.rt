@@ -5,6 +5,7 @@
 //! to the north. Every call answers for all `i32` coordinates. Nothing here rounds, allocates or fails.
 #![tactic(auto)]
 
+mod common_end;
 mod difference;
 mod direction;
 pub mod laws;

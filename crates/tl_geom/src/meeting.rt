@@ -8,6 +8,7 @@ ghost use Rattle.tl_geom.specs.Contact.{IsContact};
 ghost use Rattle.tl_geom.specs.Keeping.Lines.{AreShares, IsEndAt, IsInside, AreInLine, AreInOrder, AreEndsInOrder};
 ghost use Rattle.tl_geom.specs.Keeping.Lines.{IsLater, IsEarlier};
 
+use crate::common_end::end_alone;
 use crate::difference::{cross_of_steps, difference};
 use crate::{Contact, Point, Rational, Segment};
 
@@ -16,6 +17,7 @@ use crate::{Contact, Point, Rational, Segment};
 /// The point of a crossing is not reduced. For an overlap of positive length it is the middle, as the sum of the overlap's
 /// ends over 2; for an end of one segment inside the other it is that end over 1; for a proper crossing it is over the
 /// absolute cross product of the two directions.
+#[inline]
 pub fn contact(s: Segment, t: Segment) -> Contact
     ensures apart { (result ≡ Contact.Apart) ↔ AreApart s t }
     ensures at_ends { (p : Point) → (result ≡ Contact.AtEnds p) ↔ MeetAtEnds s t p }
@@ -26,8 +28,21 @@ pub fn contact(s: Segment, t: Segment) -> Contact
     meeting(s, t)
 }
 
-/// What two segments share, by the crossing of their lines.
+/// What two segments share. Neighbours in a chain and around a node, the commonest pairs, are told by one cross
+/// product.
+#[inline]
 fn meeting(s: Segment, t: Segment) -> Contact
+    ensures { IsContact s t result }
+{
+    match end_alone(s, t) {
+        Some(end) => Contact::AtEnds(end),
+        None => meeting_by_lines(s, t),
+    }
+}
+
+/// What two segments share, by the crossing of their lines.
+#[inline(never)]
+fn meeting_by_lines(s: Segment, t: Segment) -> Contact
     ensures { IsContact s t result }
 {
     let (a, b) = (s.a(), s.b());

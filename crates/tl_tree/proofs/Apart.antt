@@ -11,7 +11,7 @@ wider-meet : (r q s t : Rect) → Covers r s → Covers q t → AreMeeting s t �
 wider-meet r q s t h k m = record { point = m.point; in_first = h m.point m.in_first; in_second = k m.point m.in_second }
 
 module _ (b : ℕ → Rect) where
-  row-apart : (r q : Rect) (x : ℕ) (ys : List ℕ) → (AreMeeting r q → ⊥) → Covers r (b x) → CoversAll b q ys → row_sum (meeting b) x ys ≡ 0
+  pub row-apart : (r q : Rect) (x : ℕ) (ys : List ℕ) → (AreMeeting r q → ⊥) → Covers r (b x) → CoversAll b q ys → row_sum (meeting b) x ys ≡ 0
   row-apart r q x [] ne h k = refl
   row-apart r q x (y ∷ ys) ne h k =
       omega (arith, meeting-apart b x y (λ m. ne (wider-meet r q (b x) (b y) h k.0 m)), row-apart r q x ys ne h k.1)
@@ -21,7 +21,7 @@ module _ (b : ℕ → Rect) where
   cross-apart r q (x ∷ xs) ys ne h k = omega (arith, row-apart r q x ys ne h.0 k, cross-apart r q xs ys ne h.1 k)
 
   module _ {C : Type 0} (n : ℕ) (tells : ℕ → ℕ → Option C → Type 0) where
-    row-free : KeepsLaw tells n b → (r q : Rect) (x : ℕ) (ys : List ℕ) → (AreMeeting r q → ⊥) → x < n → AreBelow n ys → Covers r (b x) → CoversAll b q ys → AllRow (AreFree tells) x ys
+    pub row-free : KeepsLaw tells n b → (r q : Rect) (x : ℕ) (ys : List ℕ) → (AreMeeting r q → ⊥) → x < n → AreBelow n ys → Covers r (b x) → CoversAll b q ys → AllRow (AreFree tells) x ys
     row-free law r q x [] ne k l c d = tt
     row-free law r q x (y ∷ ys) ne k l c d =
         (free-apart tells n b law x y k l.0 (λ m. ne (wider-meet r q (b x) (b y) c d.0 m)), row-free law r q x ys ne k l.1 c d.1)
@@ -36,7 +36,7 @@ module _ (b : ℕ → Rect) where
 abbrev pub Meets : (ℕ → Rect) → ℕ → List ℕ → ℕ → Type 0
 Meets b x ys k = AreMeeting (b (get_or ys k 0)) (b x)
 
-turned : (r q : Rect) → AreMeeting r q → AreMeeting q r
+pub turned : (r q : Rect) → AreMeeting r q → AreMeeting q r
 turned r q m = record { point = m.point; in_first = m.in_second; in_second = m.in_first }
 
 -- none of the items does

@@ -15,4 +15,5 @@ pub mod Marks
 pub mod Checks
 pub mod Whole
 mod Marks8
+mod Rows
 mod Roots

@@ -1,12 +1,12 @@
 -- Marks of the first eight of a list, and what stands behind some of them.
-use Rattle.std.proofs.Common.{◌≡◌, ℕ, zero, suc, ◌+◌, ◌/◌, ◌<◌, ◌≤◌, ◌⊎◌, inl, inr, ⊎_elim, ◌↔◌, List, [], ◌∷◌, length, get_or, drop, subst, refl, sym, ap, ◌∙◌, arith}
+use Rattle.std.proofs.Common.{◌≡◌, ℕ, zero, suc, ◌+◌, ◌/◌, ◌<◌, ◌≤◌, ◌⊎◌, inl, inr, ⊎_elim, ◌↔◌, List, [], ◌∷◌, length, get_or, drop, refl, sym, ap, ◌∙◌, arith}
 use Rattle.std.specs.Int.{bit_at}
 use Rattle.tl_geom.specs.declared.rect.Rect.{Rect}
 use Rattle.tl_geom.specs.declared.rect8.Rect8.{Rect8}
 use Rattle.tl_geom.specs.EightRectangles.{lane}
 use Rattle.tl_geom.specs.Rectangle.{AreMeeting}
 use Rattle.tl_tree.specs.Keeping.Marking.{Includes, MeetsAt, AreBoundsOf}
-use Rattle.std.proofs.lemmas.Nat.Bits.{bit_at-suc, bit_at-zero}
+use Rattle.std.proofs.lemmas.Nat.Bits.{bit_at-suc}
 
 by_test : (k n : ℕ) → (k < n) ⊎ (n ≤ k)
 by_test k zero = inr (omega arith)
@@ -29,21 +29,6 @@ moved m k h =
     let e : k + 1 ≡ suc k = omega arith in
     with_top (m / 2) k h ∙ sym (bit_at-suc m k) ∙ ap (bit_at m) (sym e)
 
--- one more is passed
-pub moved-more : (m rest later k i : ℕ) → ((k : ℕ) → k < 7 → bit_at later k ≡ bit_at rest (k + 1)) → ((k : ℕ) → k < 8 → k + i < 8 → bit_at rest k ≡ bit_at m (k + i))
-    → k < 8 → k + (i + 1) < 8 → bit_at later k ≡ bit_at m (k + (i + 1))
-moved-more m rest later k i step before lt within =
-    let e : k + 1 + i ≡ k + (i + 1) = omega arith in
-    step k (omega (arith, within)) ∙ before (k + 1) (omega (arith, within)) (omega (arith, within)) ∙ ap (bit_at m) e
-
-pub last-more : (rest later k i : ℕ) → ((k : ℕ) → k < 7 → bit_at later k ≡ bit_at rest (k + 1)) → bit_at later 7 ≡ 1 → ((k : ℕ) → k < 8 → 8 ≤ k + i → bit_at rest k ≡ 1)
-    → k < 8 → 8 ≤ k + (i + 1) → bit_at later k ≡ 1
-last-more rest later k i step last before lt beyond = by_last (by_test k 7)
-  where
-    by_last : (k < 7) ⊎ (7 ≤ k) → bit_at later k ≡ 1
-    by_last (inl h) = step k h ∙ before (k + 1) (omega (arith, h)) (omega (arith, h, beyond))
-    by_last (inr h) = let e : k ≡ 7 = omega (arith, h, lt) in ap (bit_at later) e ∙ last
-
 -- marks that include the numbers of which P is true include, without the first, those of which it is true one further
 pub includes-later : (P : ℕ → Type 0) (m later : ℕ) → ((k : ℕ) → k < 7 → bit_at later k ≡ bit_at m (k + 1)) → bit_at later 7 ≡ 1 → Includes m P → Includes later (λ k. P (k + 1))
 includes-later P m later step last h k lt p = by_last (by_test k 7)
@@ -52,20 +37,9 @@ includes-later P m later step last h k lt p = by_last (by_test k 7)
     by_last (inl l) = step k l ∙ h (k + 1) (omega (arith, l)) p
     by_last (inr l) = let e : k ≡ 7 = omega (arith, l, lt) in ap (bit_at later) e ∙ last
 
-pub includes-behind : (P : ℕ → Type 0) (m behind c : ℕ) → ((k : ℕ) → k < 8 → k + c < 8 → bit_at behind k ≡ bit_at m (k + c)) → ((k : ℕ) → k < 8 → 8 ≤ k + c → bit_at behind k ≡ 1) → Includes m P → Includes behind (λ k. P (k + c))
-includes-behind P m behind c moved last h k lt p = by_last (by_test (k + c) 8)
-  where
-    by_last : (k + c < 8) ⊎ (8 ≤ k + c) → bit_at behind k ≡ 1
-    by_last (inl l) = moved k lt l ∙ h (k + c) l p
-    by_last (inr l) = last k lt l
-
 -- the same of numbers that are true for another reason
 pub includes-same : (P Q : ℕ → Type 0) (m : ℕ) → ((k : ℕ) → k < 8 → Q k → P k) → Includes m P → Includes m Q
 includes-same P Q m s h k lt q = h k lt (s k lt q)
-
--- where no number is marked, P is true of none of them
-pub includes-none : (P : ℕ → Type 0) (m : ℕ) → Includes m P → m ≡ 0 → (k : ℕ) → k < 8 → P k → ⊥
-includes-none P m h e k lt p = absurd (omega (arith, sym (bit_at-zero k) ∙ ap (λ n. bit_at n k) (sym e) ∙ h k lt p))
 
 -- ---- the bounds of the first eight of a list
 
@@ -73,19 +47,12 @@ includes-none P m h e k lt p = absurd (omega (arith, sym (bit_at-zero k) ∙ ap 
 pub includes-meets : (b : ℕ → Rect) (q : Rect) (xs : List ℕ) (e : Rect8) (r : Rect) (m : ℕ) → AreBoundsOf b xs e → r ≡ q → ((k : ℕ) → k < 8 → (bit_at m k ≡ 1) ↔ AreMeeting (lane e k) r) → Includes m (MeetsAt b q xs)
 includes-meets b q xs e r m lanes same bits k lt p = (bits k lt).1 (rw (lanes k lt p.within, same) p.meets)
 
-at-drop : (xs : List ℕ) (c k : ℕ) → get_or (drop c xs) k 0 ≡ get_or xs (k + c) 0
+pub at-drop : (xs : List ℕ) (c k : ℕ) → get_or (drop c xs) k 0 ≡ get_or xs (k + c) 0
 at-drop xs zero k = let e : k ≡ k + 0 = omega arith in ap (λ i. get_or xs i 0) e
 at-drop [] (suc c) k = refl
 at-drop (x ∷ xs) (suc c) k = let e : suc (k + c) ≡ k + suc c = omega arith in at-drop xs c k ∙ ap (λ i. get_or (x ∷ xs) i 0) e
 
-length-behind : (xs : List ℕ) (c k : ℕ) → k < length (drop c xs) → k + c < length xs
+pub length-behind : (xs : List ℕ) (c k : ℕ) → k < length (drop c xs) → k + c < length xs
 length-behind xs zero k h = omega (arith, h)
 length-behind [] (suc c) k h = absurd (omega (arith, h))
 length-behind (x ∷ xs) (suc c) k h = omega (arith, length-behind xs c k h)
-
--- an item behind the first c ones is an item of the list
-pub meets-behind : (b : ℕ → Rect) (q : Rect) (xs ys : List ℕ) (c k : ℕ) → ys ≡ drop c xs → MeetsAt b q ys k → MeetsAt b q xs (k + c)
-meets-behind b q xs ys c k e p =
-    let P : List ℕ → Type 0 = λ zs. MeetsAt b q zs k in
-    let m : MeetsAt b q (drop c xs) k = subst P e p in
-    record { within = length-behind xs c k m.within; meets = rw (← at-drop xs c k) m.meets }

@@ -1,12 +1,12 @@
 -- The rectangles of the roots of trees that split into a first one and the others.
-use Rattle.std.proofs.Common.{◌≡◌, ℕ, suc, ◌+◌, ◌<◌, ◌∷◌, refl, ap, subst, ◌∙◌, arith}
+use Rattle.std.proofs.Common.{◌≡◌, ℕ, zero, suc, ◌≤◌, length, ◌+◌, ◌<◌, ◌∷◌, refl, ap, subst, ◌∙◌, arith}
 use Rattle.std.specs.Int.{bit_at}
 use Rattle.tl_geom.specs.declared.rect.Rect.{Rect}
 use Rattle.tl_geom.specs.Rectangle.{AreMeeting}
 use Rattle.tl_tree.specs.declared.walk.Below.{Below}
 use Rattle.tl_tree.specs.declared.walk.Below.TheVariants.{Items, Children}
 use Rattle.tl_tree.specs.Keeping.Marking.{Includes, roots, RootMeets}
-use Rattle.tl_tree.specs.Trees.{Forest}
+use Rattle.tl_tree.specs.Trees.{Forest, none, leaf, inner, first_trees}
 use Rattle.tl_tree.specs.Keeping.Walking.{followed}
 use Rattle.tl_tree.proofs.Marks8.{includes-later, includes-same}
 
@@ -36,3 +36,22 @@ module _ {W : Type 0} (see : W → Forest) where
       → ((k : ℕ) → k < 7 → bit_at later k ≡ bit_at marks (k + 1)) → bit_at later 7 ≡ 1 → Includes marks (RootMeets f q) → Includes later (RootMeets others q)
   includes-roots f r t others q marks later e step last h =
       includes-same (λ k. RootMeets f q (k + 1)) (RootMeets others q) later (λ k lt p. later-root f r t others q k e p) (includes-later (RootMeets f q) marks later step last h)
+
+-- the first k trees have at most k roots
+pub roots-first : (k : ℕ) (f : Forest) → length (roots (first_trees k f)) ≤ k
+roots-first zero f = omega arith
+roots-first (suc k) none = omega arith
+roots-first (suc k) (leaf r xs others) = omega (arith, roots-first k others)
+roots-first (suc k) (inner r children others) = omega (arith, roots-first k others)
+
+-- each of the first eight is marked
+pub all-marked : (k : ℕ) → k < 8 → bit_at 255 k ≡ 1
+all-marked zero h = refl
+all-marked (suc zero) h = refl
+all-marked (suc (suc zero)) h = refl
+all-marked (suc (suc (suc zero))) h = refl
+all-marked (suc (suc (suc (suc zero)))) h = refl
+all-marked (suc (suc (suc (suc (suc zero))))) h = refl
+all-marked (suc (suc (suc (suc (suc (suc zero)))))) h = refl
+all-marked (suc (suc (suc (suc (suc (suc (suc zero))))))) h = refl
+all-marked (suc (suc (suc (suc (suc (suc (suc (suc k)))))))) h = absurd (omega (arith, h))

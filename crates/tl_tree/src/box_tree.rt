@@ -33,7 +33,7 @@ impl BoxTree {
         ensures deep { IfErr result (λ stop. stop ≡ TooDeep → 64 < depth (tree_of nodes.now)) }
     {
         let flat = FlatTree::from_nodes(alloc, nodes)?;
-        match copy_trees(alloc, &flat.root()) {
+        match copy_trees(alloc, &flat.lists().root()) {
             Ok(root) => Ok(BoxTree { root }),
             Err(_) => Err(TreeStop::Memory),
         }

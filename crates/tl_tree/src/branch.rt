@@ -30,6 +30,10 @@ impl Trees for &Branch {
             }
         }
     }
+
+    fn are_few(&self) -> bool {
+        matches!(*self, Branch::End)
+    }
 }
 
 /// The same trees, each node with its children in boxes.

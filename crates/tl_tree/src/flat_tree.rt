@@ -1,5 +1,5 @@
 //! The flat tree: a list of nodes in preorder, lent, and the size of each subtree.
-ghost use Rattle.std.specs.Prelude.{◌≡◌, ◌<◌, ◌≤◌, ◌+◌, ◌^◌, ◌↔◌, None, length, drop, IfOk, IfErr};
+ghost use Rattle.std.specs.Prelude.{◌≡◌, ◌<◌, ◌≤◌, ◌+◌, ◌^◌, ◌↔◌, None, IsTrue, length, drop, IfOk, IfErr};
 ghost use Rattle.tl_tree.specs.declared.fault.TreeStop.TheVariants.{TooDeep};
 ghost use Rattle.tl_tree.specs.Fits.{Fits, MayFind};
 ghost use Rattle.tl_tree.specs.Preorder.{IsPreorder};
@@ -7,7 +7,7 @@ ghost use Rattle.tl_tree.specs.Keeping.Sizes.{AreSizesFrom};
 ghost use Rattle.tl_tree.specs.Trees.{depth, tree_of, first_trees, trees_of, node_count};
 
 use crate::check::check_all;
-use crate::cursor::Cursor;
+use crate::cursor::Lists;
 use crate::depth::is_within_depth;
 use crate::hits::collect_all;
 use crate::search::search_trees;
@@ -49,7 +49,7 @@ impl<'a> FlatTree<'a> {
             return Err(TreeStop::Memory);
         };
         let tree = FlatTree { nodes, sizes };
-        if is_within_depth(&tree.root(), 64) {
+        if tree.is_shallow() {
             Ok(tree)
         } else {
             Err(TreeStop::TooDeep)
@@ -64,19 +64,24 @@ impl<'a> FlatTree<'a> {
         ensures exact { IfOk result (λ found.
             found ≡ None ↔ Fits (tree_of self.now) (I.count items.now) (I.bounds_of items.now)) }
     {
-        check_all(alloc, items, &self.root())
+        check_all(alloc, items, &self.lists().root())
     }
 
-    /// The walk over the whole tree.
-    pub(crate) fn root(&self) -> Cursor<'_>
-        ensures whole { first_trees result.count (trees_of (drop result.at result.nodes.now)) ≡ tree_of self.now }
+    /// Whether no node has a depth above 64.
+    fn is_shallow(&self) -> bool
+        ensures { IsTrue result ↔ depth (tree_of self.now) ≤ 64 }
+    {
+        is_within_depth(&self.lists().root(), 64)
+    }
+
+    /// The nodes, and the sizes of their trees.
+    pub(crate) fn lists(&self) -> Lists<'_>
+        ensures nodes { result.nodes.now ≡ self.now }
         ensures numbered { node_count (tree_of self.now) < 2 ^ 32 }
     {
-        Cursor {
+        Lists {
             nodes: self.nodes,
             sizes: self.sizes.as_slice(),
-            at: 0,
-            count: 1,
         }
     }
 }
@@ -121,7 +126,7 @@ impl BoxIndex for FlatTree<'_> {
     ghost fits = { λ tree n bounds. Fits (tree_of tree) n bounds };
 
     fn first_conflict<I: Items>(&self, items: &I, budget: u64) -> Search<I::C> {
-        search_trees(items, &self.root(), budget)
+        search_trees(items, &self.lists().root(), budget)
     }
 
     fn collect_hits<I: Items, P: Probe<I>>(
@@ -130,6 +135,6 @@ impl BoxIndex for FlatTree<'_> {
         probe: &P,
         out: &mut Vec<u32>,
     ) -> Result<(), Memory> {
-        collect_all(items, probe, &self.root(), out)
+        collect_all(items, probe, &self.lists().root(), out)
     }
 }

@@ -37,18 +37,6 @@ pub fn later_marks(marks: u8) -> u8
     marks / 2 + 128
 }
 
-/// The marks without the first `count` ones. Behind the eighth all are marked.
-pub fn marks_behind(marks: u8, count: usize) -> u8
-    ensures moved { (k : ℕ) → k < 8 → k + count < 8 → bit_at result k ≡ bit_at marks (k + count) }
-    ensures last { (k : ℕ) → k < 8 → 8 ≤ k + count → bit_at result k ≡ 1 }
-{
-    let mut rest = marks;
-    for _i in 0..count {
-        rest = later_marks(rest);
-    }
-    rest
-}
-
 /// Puts the rectangles of some trees into an array of eight, from a place on.
 fn fill_roots<W: Trees>(trees: &W, rects: &mut [Rect], from: usize)
     requires eight { length rects.old ≡ 8 }
@@ -68,10 +56,14 @@ fn fill_roots<W: Trees>(trees: &W, rects: &mut [Rect], from: usize)
     fill_roots(&rest, rects, from + 1);
 }
 
-/// Which of the first eight trees have rectangles that meet a rectangle: those that aren't marked have not.
+/// Which of the first eight trees may have rectangles that meet a rectangle: those that aren't marked have not. Of few
+/// trees all are marked, since to gather their rectangles takes longer than to test each.
 pub fn meeting_roots<W: Trees>(trees: &W, rect: Rect) -> u8
     ensures { Includes result (RootMeets (W.forest trees.now) rect) }
 {
+    if trees.are_few() {
+        return u8::MAX;
+    }
     let mut rects = [NOTHING; 8];
     fill_roots(trees, &mut rects, 0);
     Rect8::gather(&rects).meets8(rect)

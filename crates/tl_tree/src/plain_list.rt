@@ -3,7 +3,7 @@ ghost use Rattle.std.specs.Prelude.{◌≡◌, ◌<◌, ◌≤◌};
 ghost use Rattle.tl_tree.specs.Pairs.{meeting, row_sum, AllRow, AreFree, indices};
 ghost use Rattle.tl_tree.specs.Keeping.Walking.{MayLeave};
 
-use crate::search::{Stop, test_pair};
+use crate::search::{Progress, answer, test_pair};
 use crate::{BoxIndex, Items, Memory, Probe, Search};
 use std::marker::Model;
 
@@ -31,32 +31,35 @@ impl PlainList {
 }
 
 /// Tests an item against each item below it.
-fn test_below<I: Items>(items: &I, j: u32, left: u64) -> Result<u64, Stop<I::C>>
-    requires { j < I.count items.now }
+fn test_below<I: Items>(items: &I, j: u32, progress: &mut Progress<I::C>) -> bool
+    requires known { j < I.count items.now }
+    requires nothing_found { progress.old.found ≡ None }
     ensures { MayLeave (I.count items.now) (I.tells items.now)
         (row_sum (meeting (I.bounds_of items.now)) j (indices j))
-        (AllRow (AreFree (I.tells items.now)) j (indices j)) left result }
+        (AllRow (AreFree (I.tells items.now)) j (indices j)) progress.old progress.new result }
 {
-    let mut rest = left;
     for i in 0..j {
-        rest = test_pair(items, j, i, rest)?;
+        if !test_pair(items, j, i, progress) {
+            return false;
+        }
     }
-    Ok(rest)
+    true
 }
 
 impl BoxIndex for PlainList {
     ghost fits = { λ list n _. list ≡ n };
 
     fn first_conflict<I: Items>(&self, items: &I, budget: u64) -> Search<I::C> {
-        let mut rest = budget;
+        let mut progress = Progress {
+            left: budget,
+            found: None,
+        };
         for j in 0..self.len {
-            match test_below(items, j, rest) {
-                Ok(left) => rest = left,
-                Err(Stop::Found { i, j, c }) => return Search::Found { i, j, c },
-                Err(Stop::Spent) => return Search::Budget,
+            if !test_below(items, j, &mut progress) {
+                return answer(false, progress);
             }
         }
-        Search::Clear
+        answer(true, progress)
     }
 
     fn collect_hits<I: Items, P: Probe<I>>(

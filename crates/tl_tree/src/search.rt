@@ -1,129 +1,190 @@
 //! The search for two items that conflict.
-ghost use Rattle.std.specs.Prelude.{◌<◌, ◌+◌, length, get_or, drop, IsFalse};
+ghost use Rattle.std.specs.Prelude.{◌≡◌, ◌<◌, ◌+◌, length, get_or, drop, IsFalse};
 ghost use Rattle.tl_geom.specs.Rectangle.{AreMeeting};
-ghost use Rattle.tl_tree.specs.Fits.{AreBelow, Fits};
-ghost use Rattle.tl_tree.specs.Keeping.Marking.{Includes, MeetsAt, RootMeets, AreBoundsOf};
+ghost use Rattle.tl_tree.specs.Fits.{AreBelow, CoversAll, Fits};
+ghost use Rattle.tl_tree.specs.Keeping.Marking.{Includes, AreMarksOf, RootMeets, AreBoundsOf};
 ghost use Rattle.tl_tree.specs.Pairs.{meeting, row_sum, cross_sum, pair_sum, AllRow, AllCross, AllPairs, AreFree};
 ghost use Rattle.tl_tree.specs.Searches.{MayAnswer};
 ghost use Rattle.tl_tree.specs.Trees.{leaf_items};
-ghost use Rattle.tl_tree.specs.Keeping.Walking.{MayLeave, items_below, IsSound, AreSound};
+ghost use Rattle.tl_tree.specs.Keeping.Walking.{MayLeave, answer_of, items_below, IsSound, AreSound};
 
-use crate::lanes::{bounds_of_eight, is_first_marked, later_marks, marks_behind, meeting_roots};
+use crate::lanes::{bounds_of_eight, is_first_marked, later_marks, meeting_roots};
 use crate::walk::{Below, Tree, Trees};
 use crate::{Items, Search};
-use tl_geom::Rect8;
+use tl_geom::{Rect, Rect8};
 
-/// Why a part of a search stops.
-pub enum Stop<C> {
-    Found { i: u32, j: u32, c: C },
-    Spent,
+/// Two items that conflict, and what is told of them.
+pub struct Conflict<C> {
+    pub i: u32,
+    pub j: u32,
+    pub c: C,
 }
 
-/// Tests two items, of which the same one is no pair, and gives what is left of the budget.
-pub fn test_pair<I: Items>(items: &I, i: u32, j: u32, left: u64) -> Result<u64, Stop<I::C>>
+/// How far a search is. Each part of it tells whether it goes on; where it doesn't, a conflict was found or the budget
+/// is spent.
+pub struct Progress<C> {
+    pub left: u64,
+    pub found: Option<Conflict<C>>,
+}
+
+/// Keeps the conflict that ends a search.
+#[inline(never)]
+fn keep_conflict<C>(progress: &mut Progress<C>, conflict: Conflict<C>)
+    requires { progress.old.found ≡ None }
+    ensures { progress.new.found ≡ Some conflict }
+{
+    match progress.found.replace(conflict) {
+        None => {}
+        Some(_) => unreachable!(),
+    }
+}
+
+/// Tests two items whose bounds meet, of which the same one is no pair.
+#[inline]
+fn test_meeting<I: Items>(items: &I, i: u32, j: u32, progress: &mut Progress<I::C>) -> bool
     requires first { i < I.count items.now }
     requires second { j < I.count items.now }
+    requires meeting { AreMeeting (I.bounds_of items.now j) (I.bounds_of items.now i) }
+    requires nothing_found { progress.old.found ≡ None }
     ensures { MayLeave (I.count items.now) (I.tells items.now)
-        (meeting (I.bounds_of items.now) i j) (AreFree (I.tells items.now) i j) left result }
+        (meeting (I.bounds_of items.now) i j) (AreFree (I.tells items.now) i j) progress.old progress.new result }
 {
     let (low, high) = (i.min(j), i.max(j));
-    if low == high || !items.bounds(i).meets(items.bounds(j)) {
-        return Ok(left);
+    if low == high {
+        return true;
     }
-    if left == 0 {
-        return Err(Stop::Spent);
+    if progress.left == 0 {
+        return false;
     }
     match items.conflict(low, high) {
-        None => Ok(left - 1),
-        Some(c) => Err(Stop::Found { i: low, j: high, c }),
+        None => {
+            progress.left -= 1;
+            true
+        }
+        Some(c) => {
+            keep_conflict(progress, Conflict { i: low, j: high, c });
+            false
+        }
     }
 }
 
-/// Tests two items, unless it is known that their bounds don't meet.
-fn test_marked_pair<I: Items>(
-    items: &I,
-    i: u32,
-    j: u32,
-    marked: bool,
-    left: u64,
-) -> Result<u64, Stop<I::C>>
+/// Tests two items, of which the same one is no pair.
+pub fn test_pair<I: Items>(items: &I, i: u32, j: u32, progress: &mut Progress<I::C>) -> bool
     requires first { i < I.count items.now }
     requires second { j < I.count items.now }
-    requires unmarked { IsFalse marked → ¬ AreMeeting (I.bounds_of items.now j) (I.bounds_of items.now i) }
+    requires nothing_found { progress.old.found ≡ None }
     ensures { MayLeave (I.count items.now) (I.tells items.now)
-        (meeting (I.bounds_of items.now) i j) (AreFree (I.tells items.now) i j) left result }
+        (meeting (I.bounds_of items.now) i j) (AreFree (I.tells items.now) i j) progress.old progress.new result }
 {
-    if marked {
-        test_pair(items, i, j, left)
+    if items.bounds(j).meets(items.bounds(i)) {
+        test_meeting(items, i, j, progress)
     } else {
-        Ok(left)
+        true
     }
 }
 
-/// Tests an item against some items, of which marks tell that the bounds of others than the marked ones don't meet its
-/// own.
+/// Tests an item against each of some items.
+#[inline(never)]
+fn test_each<I: Items>(items: &I, i: u32, others: &[u32], progress: &mut Progress<I::C>) -> bool
+    requires item { i < I.count items.now }
+    requires others { AreBelow (I.count items.now) others.now }
+    requires nothing_found { progress.old.found ≡ None }
+    ensures { MayLeave (I.count items.now) (I.tells items.now)
+        (row_sum (meeting (I.bounds_of items.now)) i others.now)
+        (AllRow (AreFree (I.tells items.now)) i others.now) progress.old progress.new result }
+{
+    for j in others {
+        if !test_pair(items, i, *j, progress) {
+            return false;
+        }
+    }
+    true
+}
+
+/// Tests an item against those of some items that are marked, which are those whose bounds meet its own.
 fn test_marked<I: Items>(
     items: &I,
     i: u32,
     others: &[u32],
-    marks: u8,
-    left: u64,
-) -> Result<u64, Stop<I::C>>
+    marks: u32,
+    progress: &mut Progress<I::C>,
+) -> bool
     requires item { i < I.count items.now }
     requires others { AreBelow (I.count items.now) others.now }
-    requires marks { Includes marks (MeetsAt (I.bounds_of items.now) (I.bounds_of items.now i) others.now) }
+    requires marks { AreMarksOf (I.bounds_of items.now) (I.bounds_of items.now i) others.now marks }
+    requires nothing_found { progress.old.found ≡ None }
     ensures { MayLeave (I.count items.now) (I.tells items.now)
         (row_sum (meeting (I.bounds_of items.now)) i others.now)
-        (AllRow (AreFree (I.tells items.now)) i others.now) left result }
+        (AllRow (AreFree (I.tells items.now)) i others.now) progress.old progress.new result }
 {
-    if marks == 0 && others.len() <= 8 {
-        return Ok(left);
+    let (mut later, mut place) = (marks, 0);
+    while later != 0 {
+        let passed = later.trailing_zeros();
+        if others.len() - place <= passed as usize {
+            return true;
+        }
+        place += passed as usize;
+        if !test_meeting(items, i, others[place], progress) {
+            return false;
+        }
+        later = (later >> passed) / 2;
+        place += 1;
     }
-    let (mut rest, mut later) = (left, marks);
-    for j in others {
-        rest = test_marked_pair(items, i, *j, is_first_marked(later), rest)?;
-        later = later_marks(later);
-    }
-    Ok(rest)
+    true
 }
 
-/// Tests an item against each of some items, of whose first eight the bounds are given.
+/// Tests an item against each of some items, of which the bounds of the first eight are given, and a rectangle that is
+/// around all of them. Where its own bounds don't meet that one, nothing is tested.
 fn test_row<I: Items>(
     items: &I,
     i: u32,
     others: &[u32],
+    around: Rect,
     bounds: &Rect8,
-    left: u64,
-) -> Result<u64, Stop<I::C>>
+    progress: &mut Progress<I::C>,
+) -> bool
     requires item { i < I.count items.now }
     requires others { AreBelow (I.count items.now) others.now }
+    requires around { CoversAll (I.bounds_of items.now) around others.now }
     requires bounds { AreBoundsOf (I.bounds_of items.now) others.now bounds.now }
+    requires nothing_found { progress.old.found ≡ None }
     ensures { MayLeave (I.count items.now) (I.tells items.now)
         (row_sum (meeting (I.bounds_of items.now)) i others.now)
-        (AllRow (AreFree (I.tells items.now)) i others.now) left result }
+        (AllRow (AreFree (I.tells items.now)) i others.now) progress.old progress.new result }
 {
-    test_marked(items, i, others, bounds.meets8(items.bounds(i)), left)
+    let own = items.bounds(i);
+    if !own.meets(around) {
+        return true;
+    }
+    if others.len() > 8 {
+        return test_each(items, i, others, progress);
+    }
+    test_marked(items, i, others, u32::from(bounds.meets8(own)), progress)
 }
 
-/// Tests each of some items against each of some others.
+/// Tests each of some items against each of some others, which a rectangle is around.
 pub fn test_cross<I: Items>(
     items: &I,
     some: &[u32],
     others: &[u32],
-    left: u64,
-) -> Result<u64, Stop<I::C>>
+    around: Rect,
+    progress: &mut Progress<I::C>,
+) -> bool
     requires some { AreBelow (I.count items.now) some.now }
     requires others { AreBelow (I.count items.now) others.now }
+    requires around { CoversAll (I.bounds_of items.now) around others.now }
+    requires nothing_found { progress.old.found ≡ None }
     ensures { MayLeave (I.count items.now) (I.tells items.now)
         (cross_sum (meeting (I.bounds_of items.now)) some.now others.now)
-        (AllCross (AreFree (I.tells items.now)) some.now others.now) left result }
+        (AllCross (AreFree (I.tells items.now)) some.now others.now) progress.old progress.new result }
 {
     let bounds = bounds_of_eight(items, others);
-    let mut rest = left;
     for i in some {
-        rest = test_row(items, *i, others, &bounds, rest)?;
+        if !test_row(items, *i, others, around, &bounds, progress) {
+            return false;
+        }
     }
-    Ok(rest)
+    true
 }
 
 /// Tests an item against those that stand behind it among some items, of whose first eight the bounds are given.
@@ -132,32 +193,45 @@ fn test_behind<I: Items>(
     some: &[u32],
     k: usize,
     bounds: &Rect8,
-    left: u64,
-) -> Result<u64, Stop<I::C>>
+    progress: &mut Progress<I::C>,
+) -> bool
     requires some { AreBelow (I.count items.now) some.now }
     requires within { k < length some.now }
     requires bounds { AreBoundsOf (I.bounds_of items.now) some.now bounds.now }
+    requires nothing_found { progress.old.found ≡ None }
     ensures { MayLeave (I.count items.now) (I.tells items.now)
         (row_sum (meeting (I.bounds_of items.now)) (get_or some.now k 0) (drop (k + 1) some.now))
-        (AllRow (AreFree (I.tells items.now)) (get_or some.now k 0) (drop (k + 1) some.now)) left result }
+        (AllRow (AreFree (I.tells items.now)) (get_or some.now k 0) (drop (k + 1) some.now))
+        progress.old progress.new result }
 {
-    let marks = marks_behind(bounds.meets8(items.bounds(some[k])), k + 1);
-    test_marked(items, some[k], &some[k + 1..], marks, left)
+    if some.len() > 8 {
+        return test_each(items, some[k], &some[k + 1..], progress);
+    }
+    let marks = u32::from(bounds.meets8(items.bounds(some[k])));
+    test_marked(
+        items,
+        some[k],
+        &some[k + 1..],
+        marks >> (k as u32 + 1),
+        progress,
+    )
 }
 
 /// Tests the pairs of some items.
-pub fn test_pairs<I: Items>(items: &I, some: &[u32], left: u64) -> Result<u64, Stop<I::C>>
-    requires { AreBelow (I.count items.now) some.now }
+pub fn test_pairs<I: Items>(items: &I, some: &[u32], progress: &mut Progress<I::C>) -> bool
+    requires some { AreBelow (I.count items.now) some.now }
+    requires nothing_found { progress.old.found ≡ None }
     ensures { MayLeave (I.count items.now) (I.tells items.now)
         (pair_sum (meeting (I.bounds_of items.now)) some.now)
-        (AllPairs (AreFree (I.tells items.now)) some.now) left result }
+        (AllPairs (AreFree (I.tells items.now)) some.now) progress.old progress.new result }
 {
     let bounds = bounds_of_eight(items, some);
-    let mut rest = left;
     for k in 0..some.len() {
-        rest = test_behind(items, some, k, &bounds, rest)?;
+        if !test_behind(items, some, k, &bounds, progress) {
+            return false;
+        }
     }
-    Ok(rest)
+    true
 }
 
 /// Tests each item of a tree against each item of another. Where their rectangles don't meet, nothing is tested.
@@ -166,23 +240,26 @@ pub fn search_two<I: Items, W: Trees>(
     items: &I,
     tree: &Tree<'_, W>,
     other: &Tree<'_, W>,
-    left: u64,
-) -> Result<u64, Stop<I::C>>
+    progress: &mut Progress<I::C>,
+) -> bool
     requires tree { IsSound (I.count items.now) (I.bounds_of items.now) W.forest tree.now }
     requires other { IsSound (I.count items.now) (I.bounds_of items.now) W.forest other.now }
+    requires nothing_found { progress.old.found ≡ None }
     ensures { MayLeave (I.count items.now) (I.tells items.now)
         (cross_sum (meeting (I.bounds_of items.now))
         (items_below W.forest tree.now.below) (items_below W.forest other.now.below))
         (AllCross (AreFree (I.tells items.now))
-        (items_below W.forest tree.now.below) (items_below W.forest other.now.below)) left result }
+        (items_below W.forest tree.now.below) (items_below W.forest other.now.below)) progress.old progress.new result }
 {
     if !tree.rect.meets(other.rect) {
-        return Ok(left);
+        return true;
     }
     match (&tree.below, &other.below) {
-        (Below::Items(some), Below::Items(others)) => test_cross(items, some, others, left),
-        (Below::Children(children), _) => search_between(items, other, children, left),
-        (_, Below::Children(children)) => search_between(items, tree, children, left),
+        (Below::Items(some), Below::Items(others)) => {
+            test_cross(items, some, others, other.rect, progress)
+        }
+        (Below::Children(children), _) => search_between(items, other, children, progress),
+        (_, Below::Children(children)) => search_between(items, tree, children, progress),
     }
 }
 
@@ -193,17 +270,24 @@ pub fn search_between<I: Items, W: Trees>(
     items: &I,
     tree: &Tree<'_, W>,
     others: &W,
-    left: u64,
-) -> Result<u64, Stop<I::C>>
+    progress: &mut Progress<I::C>,
+) -> bool
     requires tree { IsSound (I.count items.now) (I.bounds_of items.now) W.forest tree.now }
     requires others { AreSound (I.count items.now) (I.bounds_of items.now) (W.forest others.now) }
+    requires nothing_found { progress.old.found ≡ None }
     ensures { MayLeave (I.count items.now) (I.tells items.now)
         (cross_sum (meeting (I.bounds_of items.now))
         (items_below W.forest tree.now.below) (leaf_items (W.forest others.now)))
         (AllCross (AreFree (I.tells items.now))
-        (items_below W.forest tree.now.below) (leaf_items (W.forest others.now))) left result }
+        (items_below W.forest tree.now.below) (leaf_items (W.forest others.now))) progress.old progress.new result }
 {
-    search_marked(items, tree, others, meeting_roots(others, tree.rect), left)
+    search_marked(
+        items,
+        tree,
+        others,
+        meeting_roots(others, tree.rect),
+        progress,
+    )
 }
 
 /// Tests each item of a tree against each item of some trees, of which marks tell that the rectangles of others than
@@ -214,22 +298,25 @@ fn search_marked<I: Items, W: Trees>(
     tree: &Tree<'_, W>,
     others: &W,
     marks: u8,
-    left: u64,
-) -> Result<u64, Stop<I::C>>
+    progress: &mut Progress<I::C>,
+) -> bool
     requires tree { IsSound (I.count items.now) (I.bounds_of items.now) W.forest tree.now }
     requires others { AreSound (I.count items.now) (I.bounds_of items.now) (W.forest others.now) }
     requires marks { Includes marks (RootMeets (W.forest others.now) tree.now.rect) }
+    requires nothing_found { progress.old.found ≡ None }
     ensures { MayLeave (I.count items.now) (I.tells items.now)
         (cross_sum (meeting (I.bounds_of items.now))
         (items_below W.forest tree.now.below) (leaf_items (W.forest others.now)))
         (AllCross (AreFree (I.tells items.now))
-        (items_below W.forest tree.now.below) (leaf_items (W.forest others.now))) left result }
+        (items_below W.forest tree.now.below) (leaf_items (W.forest others.now))) progress.old progress.new result }
 {
     let Some((other, rest)) = others.split_first() else {
-        return Ok(left);
+        return true;
     };
-    let left_then = search_if_marked(items, tree, &other, is_first_marked(marks), left)?;
-    search_marked(items, tree, &rest, later_marks(marks), left_then)
+    if !search_if_marked(items, tree, &other, is_first_marked(marks), progress) {
+        return false;
+    }
+    search_marked(items, tree, &rest, later_marks(marks), progress)
 }
 
 /// Tests each item of a tree against each item of another, unless it is known that their rectangles don't meet.
@@ -239,21 +326,22 @@ fn search_if_marked<I: Items, W: Trees>(
     tree: &Tree<'_, W>,
     other: &Tree<'_, W>,
     marked: bool,
-    left: u64,
-) -> Result<u64, Stop<I::C>>
+    progress: &mut Progress<I::C>,
+) -> bool
     requires tree { IsSound (I.count items.now) (I.bounds_of items.now) W.forest tree.now }
     requires other { IsSound (I.count items.now) (I.bounds_of items.now) W.forest other.now }
     requires unmarked { IsFalse marked → ¬ AreMeeting other.now.rect tree.now.rect }
+    requires nothing_found { progress.old.found ≡ None }
     ensures { MayLeave (I.count items.now) (I.tells items.now)
         (cross_sum (meeting (I.bounds_of items.now))
         (items_below W.forest tree.now.below) (items_below W.forest other.now.below))
         (AllCross (AreFree (I.tells items.now))
-        (items_below W.forest tree.now.below) (items_below W.forest other.now.below)) left result }
+        (items_below W.forest tree.now.below) (items_below W.forest other.now.below)) progress.old progress.new result }
 {
     if marked {
-        search_two(items, tree, other, left)
+        search_two(items, tree, other, progress)
     } else {
-        Ok(left)
+        true
     }
 }
 
@@ -262,33 +350,61 @@ fn search_if_marked<I: Items, W: Trees>(
 pub fn search_one<I: Items, W: Trees>(
     items: &I,
     tree: &Tree<'_, W>,
-    left: u64,
-) -> Result<u64, Stop<I::C>>
-    requires { IsSound (I.count items.now) (I.bounds_of items.now) W.forest tree.now }
+    progress: &mut Progress<I::C>,
+) -> bool
+    requires tree { IsSound (I.count items.now) (I.bounds_of items.now) W.forest tree.now }
+    requires nothing_found { progress.old.found ≡ None }
     ensures { MayLeave (I.count items.now) (I.tells items.now)
         (pair_sum (meeting (I.bounds_of items.now)) (items_below W.forest tree.now.below))
-        (AllPairs (AreFree (I.tells items.now)) (items_below W.forest tree.now.below)) left result }
+        (AllPairs (AreFree (I.tells items.now)) (items_below W.forest tree.now.below))
+        progress.old progress.new result }
 {
     match &tree.below {
-        Below::Items(some) => test_pairs(items, some, left),
-        Below::Children(children) => search_within(items, children, left),
+        Below::Items(some) => test_pairs(items, some, progress),
+        Below::Children(children) => search_within(items, children, progress),
     }
 }
 
 /// Tests the pairs of items of some trees.
 #[cycle(within)]
-pub fn search_within<I: Items, W: Trees>(items: &I, trees: &W, left: u64) -> Result<u64, Stop<I::C>>
-    requires { AreSound (I.count items.now) (I.bounds_of items.now) (W.forest trees.now) }
+pub fn search_within<I: Items, W: Trees>(
+    items: &I,
+    trees: &W,
+    progress: &mut Progress<I::C>,
+) -> bool
+    requires trees { AreSound (I.count items.now) (I.bounds_of items.now) (W.forest trees.now) }
+    requires nothing_found { progress.old.found ≡ None }
     ensures { MayLeave (I.count items.now) (I.tells items.now)
         (pair_sum (meeting (I.bounds_of items.now)) (leaf_items (W.forest trees.now)))
-        (AllPairs (AreFree (I.tells items.now)) (leaf_items (W.forest trees.now))) left result }
+        (AllPairs (AreFree (I.tells items.now)) (leaf_items (W.forest trees.now))) progress.old progress.new result }
 {
     let Some((tree, rest)) = trees.split_first() else {
-        return Ok(left);
+        return true;
     };
-    let left_then = search_one(items, &tree, left)?;
-    let left_last = search_between(items, &tree, &rest, left_then)?;
-    search_within(items, &rest, left_last)
+    if !search_one(items, &tree, progress) {
+        return false;
+    }
+    if !search_between(items, &tree, &rest, progress) {
+        return false;
+    }
+    search_within(items, &rest, progress)
+}
+
+/// The answer of a search, from whether it goes on at its end and how far it is.
+pub fn answer<C>(goes_on: bool, progress: Progress<C>) -> Search<C>
+    ensures { result ≡ answer_of goes_on progress.found }
+{
+    let Progress { left: _, found } = progress;
+    match found {
+        Some(Conflict { i, j, c }) => Search::Found { i, j, c },
+        None => {
+            if goes_on {
+                Search::Clear
+            } else {
+                Search::Budget
+            }
+        }
+    }
 }
 
 /// Looks for two items that conflict, by trees that fit the items.
@@ -296,9 +412,10 @@ pub fn search_trees<I: Items, W: Trees>(items: &I, trees: &W, budget: u64) -> Se
     requires { Fits (W.forest trees.now) (I.count items.now) (I.bounds_of items.now) }
     ensures { MayAnswer (I.count items.now) (I.bounds_of items.now) (I.tells items.now) budget result }
 {
-    match search_within(items, trees, budget) {
-        Ok(_) => Search::Clear,
-        Err(Stop::Found { i, j, c }) => Search::Found { i, j, c },
-        Err(Stop::Spent) => Search::Budget,
-    }
+    let mut progress = Progress {
+        left: budget,
+        found: None,
+    };
+    let goes_on = search_within(items, trees, &mut progress);
+    answer(goes_on, progress)
 }

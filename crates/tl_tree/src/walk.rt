@@ -19,6 +19,8 @@ pub enum Below<'a, W> {
 
 /// Some trees in order.
 pub trait Trees: Drop {
+    ghost use Rattle.std.specs.Prelude.{◌≤◌, IsTrue, length};
+    ghost use Rattle.tl_tree.specs.Keeping.Marking.{roots};
     ghost use Rattle.tl_tree.specs.Keeping.Walking.{Splits};
 
     // The trees.
@@ -27,4 +29,8 @@ pub trait Trees: Drop {
     /// The first tree and the others.
     fn split_first(&self) -> Option<(Tree<'_, Self>, Self)>
         ensures { Splits forest (forest self.now) result };
+
+    /// Whether it is known, with no walk, that there are at most four trees.
+    fn are_few(&self) -> bool
+        ensures { IsTrue result → length (roots (forest self.now)) ≤ 4 };
 }

@@ -1,10 +1,10 @@
-//! Tests of the search, by items that count what they are asked and by segments. They stand beside `tl_tree`, so that it
-//! is proved once and not once more with its tests.
+//! Tests of the search, by items that count what they are asked and by segments. They stand beside `tl_tree`, so that
+//! it is proved once and not once more with its tests.
 #![tactic(auto)]
 
 #[cfg(test)]
-mod counting;
+mod indexes;
 #[cfg(test)]
-mod index;
+mod items;
 #[cfg(test)]
 mod segments;

@@ -48,3 +48,7 @@ pub record IsEarlier (p q earlier : Point) : Type 0 where
   pub one : (earlier ≡ p) ⊎ (earlier ≡ q)
   pub before_first : AreInOrder earlier p
   pub before_second : AreInOrder earlier q
+
+-- the point is an end of both segments
+abbrev pub IsEndOfBoth : (s t : Segment) → Point → Type 0
+IsEndOfBoth s t p = ((p ≡ s.a) ⊎ (p ≡ s.b)) × ((p ≡ t.a) ⊎ (p ≡ t.b))

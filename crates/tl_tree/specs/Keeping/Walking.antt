@@ -1,11 +1,13 @@
 -- What a search keeps on its way: how a walk over trees splits, and what a part of a search leaves of the budget.
-use Rattle.std.specs.Prelude.{◌≡◌, ℕ, ◌<◌, ◌≤◌, ◌+◌, List, ◌++◌, Option, Some, None, Result, Ok, Err}
+use Rattle.std.specs.Prelude.{◌≡◌, ℕ, ◌<◌, ◌≤◌, ◌+◌, List, ◌++◌, Bool, true, false, Option, Some, None}
 use Rattle.tl_geom.specs.declared.rect.Rect.{Rect}
 use Rattle.tl_tree.specs.declared.walk.Tree.{Tree}
 use Rattle.tl_tree.specs.declared.walk.Below.{Below}
 use Rattle.tl_tree.specs.declared.walk.Below.TheVariants.{Items, Children}
-use Rattle.tl_tree.specs.declared.search.Stop.{Stop}
-use Rattle.tl_tree.specs.declared.search.Stop.TheVariants.{Found, Spent}
+use Rattle.tl_tree.specs.declared.items.Search.{Search}
+use Rattle.tl_tree.specs.declared.items.Search.TheVariants.{Found, Clear, Budget}
+use Rattle.tl_tree.specs.declared.search.Conflict.{Conflict}
+use Rattle.tl_tree.specs.declared.search.Progress.{Progress}
 use Rattle.tl_tree.specs.Searches.{IsConflict}
 use Rattle.tl_tree.specs.Hits.{times}
 use Rattle.tl_tree.specs.Fits.{AreBelow, CoversAll, CoversBelow}
@@ -47,12 +49,28 @@ pub record IsSound {W : Type 0} (n : ℕ) (bounds : ℕ → Rect) (see : W → F
   pub covers : CoversAll bounds t.rect (items_below see t.below)
   pub below : CoveredBelow bounds see t.below
 
--- what a part of a search may answer with `left` of the budget, over pairs of which `meet` have bounds that meet: what is
--- left then, where they are free of conflicts, or why it stops
-abbrev pub MayLeave : {C : Type 0} → ℕ → (ℕ → ℕ → Option C → Type 0) → ℕ → Type 0 → ℕ → Result ℕ (Stop C) → Type 0
-MayLeave n tells meet free left (Ok rest) = (rest + meet ≡ left) × free
-MayLeave n tells meet free left (Err (Found i j c)) = IsConflict n tells i j c
-MayLeave n tells meet free left (Err Spent) = left < meet
+-- a part of a search goes on, over pairs of which `meet` have bounds that meet: they are free of conflicts, and that
+-- many of the budget are spent
+pub record GoesOn {C : Type 0} (meet : ℕ) (claim : Type 0) (old new : Progress C) : Type 0 where
+  pub left : new.left + meet ≡ old.left
+  pub free : claim
+  pub nothing_found : new.found ≡ None
+
+-- a part of a search stops: a conflict was found, or more pairs have bounds that meet than are left of the budget
+abbrev pub Stops : {C : Type 0} → ℕ → (ℕ → ℕ → Option C → Type 0) → ℕ → ℕ → Option (Conflict C) → Type 0
+Stops n tells meet left None = left < meet
+Stops n tells meet left (Some k) = IsConflict n tells k.i k.j k.c
+
+-- what a part of a search does, by whether it goes on
+abbrev pub MayLeave : {C : Type 0} → ℕ → (ℕ → ℕ → Option C → Type 0) → ℕ → Type 0 → (p q : Progress C) → Bool → Type 0
+MayLeave n tells meet free old new true = GoesOn meet free old new
+MayLeave n tells meet free old new false = Stops n tells meet old.left new.found
+
+-- what is answered in the end, by whether the whole search goes on and the conflict that was found
+abbrev pub answer_of : {C : Type 0} → Bool → Option (Conflict C) → Search C
+answer_of goes_on (Some k) = Found k.i k.j k.c
+answer_of true None = Clear
+answer_of false None = Budget
 
 -- new is old with something appended
 pub record Grows (old new : List ℕ) : Type 0 where

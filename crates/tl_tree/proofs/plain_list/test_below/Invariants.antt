@@ -1,4 +1,4 @@
-use Rattle.std.proofs.Common.{◌≡◌, ◌+◌}
+use Rattle.std.proofs.Common.{None, ◌≡◌, ◌+◌}
 use Rattle.tl_tree.specs.Pairs.{meeting, row_sum, AreFree, AllRow, indices}
 use Rattle.tl_tree.proofs.plain_list.test_below.Given as goal
 
@@ -6,6 +6,7 @@ use Rattle.tl_tree.proofs.plain_list.test_below.Given as goal
 abbrev pub invariant-loop-i : goal.invariant-loop-i
 invariant-loop-i g l =
     record {
-      left : l.rest + row_sum (meeting (g.I.Items.bounds_of l.items)) l.j (indices l.i) ≡ l.left;
+      left : l.progress.left + row_sum (meeting (g.I.Items.bounds_of l.items)) l.j (indices l.i) ≡ l.fn.progress.left;
       free : AllRow (AreFree (g.I.Items.tells l.items)) l.j (indices l.i);
+      nothing_found : l.progress.found ≡ None;
     }

@@ -1,11 +1,17 @@
-use Rattle.std.proofs.Common.{◌+◌, get_or}
-use Rattle.tl_tree.specs.Keeping.Marking.{MeetsAt}
-use Rattle.tl_tree.proofs.Marks8.{includes-meets, includes-behind, includes-same, meets-behind}
+use Rattle.std.proofs.Common.{◌+◌, ◌/◌, ◌^◌, List, ℕ, get_or, sym, subst}
+use Rattle.tl_tree.specs.Keeping.Marking.{AreMarksOf}
+use Rattle.tl_tree.proofs.Rows.{marks-of, marks-behind}
 use Rattle.tl_tree.proofs.Steps.{below-at, below-drop, rest-of}
 use Rattle.tl_tree.proofs.search.test_behind.Goals as goal
 
 pub bounds-requires : goal.bounds-requires
 bounds-requires g c = below-at _ _ c.args.k c.requires.within c.requires.some
+
+pub test_each-requires-clause-item : goal.test_each-requires-clause-item
+test_each-requires-clause-item g c = below-at _ _ c.args.k c.requires.within c.requires.some
+
+pub test_each-requires-clause-others : goal.test_each-requires-clause-others
+test_each-requires-clause-others g c = rw rest-of (below-drop _ _ (c.args.k + 1) c.requires.some)
 
 pub test_marked-requires-clause-item : goal.test_marked-requires-clause-item
 test_marked-requires-clause-item g c = below-at _ _ c.args.k c.requires.within c.requires.some
@@ -16,8 +22,8 @@ test_marked-requires-clause-others g c = rw rest-of (below-drop _ _ (c.args.k + 
 pub test_marked-requires-clause-marks : goal.test_marked-requires-clause-marks
 test_marked-requires-clause-marks g c =
     let b = g.I.Items.bounds_of c.args.items.now in
-    let some = c.args.some.now in
-    let q = b (get_or some c.args.k 0) in
-    let all = includes-meets b q some c.args.bounds.now c.bounds.result c.meets8.result c.requires.bounds c.bounds.ensures c.meets8.ensures in
-    includes-same _ _ _ (λ k lt p. meets-behind b q some _ (c.args.k + 1) k (rest-of some (c.args.k + 1)) p)
-    (includes-behind (MeetsAt b q some) c.meets8.result c.marks_behind-marks.result (c.args.k + 1) c.marks_behind-marks.ensures.moved c.marks_behind-marks.ensures.last all)
+    let xs = c.args.some.now in
+    let r = b (get_or xs c.args.k 0) in
+    let h : AreMarksOf b r xs c.from-marks.result = rw c.from-marks.ensures (marks-of b r xs c.args.bounds.now c.meets8.result c.bounds.result c.requires.bounds c.if-some-gt8.false c.bounds.ensures c.meets8.ensures) in
+    let P : List ℕ → Type 0 = λ ys. AreMarksOf b r ys (c.from-marks.result / 2 ^ (c.args.k + 1)) in
+    subst P (sym (rest-of xs (c.args.k + 1))) (marks-behind b r xs c.from-marks.result (c.args.k + 1) h)

@@ -1,7 +1,6 @@
 use Rattle.std.proofs.Common.{arith}
-use Rattle.std.proofs.lemmas.Result.{err_from_is_err_and}
 use Rattle.tl_tree.specs.Pairs.{meeting, AreFree}
-use Rattle.tl_tree.proofs.Leaving.{stops}
+use Rattle.tl_tree.proofs.Leaving.{stops, goes}
 use Rattle.tl_tree.proofs.Steps.{cross-step, cross-end, all_cross-step, all_cross-end, below-at}
 use Rattle.tl_tree.proofs.search.test_cross.Goals as goal
 
@@ -9,23 +8,24 @@ pub test_row-requires-clause-item : goal.test_row-requires-clause-item
 test_row-requires-clause-item g c = below-at _ _ c.loop-i.i-index c.loop-i-test.true c.requires.some
 
 pub loop-i-init : goal.loop-i-init
-loop-i-init g c = record { left = omega arith; free = λ h. h }
+loop-i-init g c = record { left = omega arith; free = λ h. h; nothing_found = c.requires.nothing_found }
 
-pub returns-in_err-rest : goal.returns-in_err-rest
-returns-in_err-rest g c =
-    let p = err_from_is_err_and c.from_residual.result c.from_residual.ensures.1 in
+pub returns-then-not-test_row : goal.returns-then-not-test_row
+returns-then-not-test_row g c =
     let s = cross-step (meeting (g.I.Items.bounds_of c.args.items.now)) c.args.some.now c.args.others.now c.loop-i.i-index c.loop-i-test.true in
-    rw (p.1, p.2) (stops _ _ _ (Unit {0}) _ _ (Unit {0}) _ _ c.in_err-rest.ensures (λ h. omega (arith, h, s, c.loop-i.invariant.left)))
+    stops _ _ _ _ _ _ _ _ _ c.test_row.ensures c.if-not-test_row.true (λ h. omega (arith, h, s, c.loop-i.invariant.left))
 
 pub loop-i-preserved : goal.loop-i-preserved
 loop-i-preserved g c =
     let s = cross-step (meeting (g.I.Items.bounds_of c.args.items.now)) c.args.some.now c.args.others.now c.loop-i.i-index c.loop-i-test.true in
+    let k = goes _ _ _ _ _ _ _ c.test_row.ensures c.if-not-test_row.false in
     record {
-      left = omega (arith, s, c.in_ok-rest.ensures.0, c.loop-i.invariant.left);
-      free = λ h. c.loop-i.invariant.free (all_cross-step (AreFree (g.I.Items.tells c.args.items.now)) c.args.some.now c.args.others.now c.loop-i.i-index c.loop-i-test.true c.in_ok-rest.ensures.1 h);
+      left = omega (arith, s, k.left, c.loop-i.invariant.left);
+      free = λ h. c.loop-i.invariant.free (all_cross-step (AreFree (g.I.Items.tells c.args.items.now)) c.args.some.now c.args.others.now c.loop-i.i-index c.loop-i-test.true k.free h);
+      nothing_found = k.nothing_found;
     }
 
 pub returns : goal.returns
 returns g c =
     let s = cross-end (meeting (g.I.Items.bounds_of c.args.items.now)) c.args.some.now c.args.others.now c.loop-i.i-index c.loop-i-test.false in
-    (omega (arith, s, c.loop-i.invariant.left), c.loop-i.invariant.free (all_cross-end (AreFree (g.I.Items.tells c.args.items.now)) c.args.some.now c.args.others.now c.loop-i.i-index c.loop-i-test.false))
+    record { left = omega (arith, s, c.loop-i.invariant.left); free = c.loop-i.invariant.free (all_cross-end (AreFree (g.I.Items.tells c.args.items.now)) c.args.some.now c.args.others.now c.loop-i.i-index c.loop-i-test.false); nothing_found = c.loop-i.invariant.nothing_found }

@@ -1,4 +1,4 @@
-use Rattle.std.proofs.Common.{◌≡◌, ◌+◌, ℕ, List, drop}
+use Rattle.std.proofs.Common.{None, ◌≡◌, ◌+◌, ℕ, List, drop}
 use Rattle.tl_tree.specs.Pairs.{meeting, AreFree, cross_sum, AllCross}
 use Rattle.tl_tree.proofs.search.test_cross.Given as goal
 
@@ -8,6 +8,7 @@ invariant-loop-i g l =
     let meet = λ (xs : List ℕ). cross_sum (meeting (g.I.Items.bounds_of l.items)) xs l.others in
     let free = λ (xs : List ℕ). AllCross (AreFree (g.I.Items.tells l.items)) xs l.others in
     record {
-      left : l.rest + meet l.some ≡ l.left + meet (drop l.i-index l.some);
+      left : l.progress.left + meet l.some ≡ l.fn.progress.left + meet (drop l.i-index l.some);
       free : free (drop l.i-index l.some) → free l.some;
+      nothing_found : l.progress.found ≡ None;
     }

@@ -1,67 +1,102 @@
-use Rattle.std.proofs.Common.{◌≡◌, ℕ, ◌+◌, ◌<◌, length, get_or, sym, subst, ◌∙◌, arith}
-use Rattle.std.proofs.lemmas.Bool.{false≢true}
-use Rattle.std.proofs.lemmas.Result.{err_from_is_err_and}
-use Rattle.tl_geom.specs.Rectangle.{AreMeeting}
-use Rattle.tl_tree.specs.Keeping.Marking.{MeetsAt}
-use Rattle.tl_tree.specs.Pairs.{meeting, row_sum, AreFree}
-use Rattle.tl_tree.proofs.Leaving.{stops}
-use Rattle.tl_tree.proofs.Apart.{row-none, row-none_free}
-use Rattle.tl_tree.proofs.Marks8.{includes-later, includes-same, includes-none}
-use Rattle.tl_tree.proofs.Steps.{row-step, row-end, all_row-step, all_row-end, below-at}
+use Rattle.std.proofs.Common.{◌≡◌, ℕ, ◌+◌, ◌<◌, ◌≤◌, ◌^◌, length, drop, w32, subst, arith}
+use Rattle.std.specs.Int.{bit_at, trailing_zeros}
+use Rattle.std.proofs.lemmas.Nat.Bits.{bit_at-trailing_zeros}
+use Rattle.tl_tree.specs.Keeping.Marking.{AreMarksOf}
+use Rattle.tl_tree.specs.Pairs.{meeting, AreFree}
+use Rattle.tl_tree.proofs.Leaving.{stops, goes}
+use Rattle.tl_tree.proofs.Rows.{marks-next, marked-meets, row-passed, free-passed, row-unmarked, free-unmarked}
+use Rattle.tl_tree.proofs.Steps.{row-step, row-end, all_row-step, all_row-end, below-at, below-drop}
 use Rattle.tl_tree.proofs.search.test_marked.Goals as goal
 
-pub test_marked_pair-requires-clause-second : goal.test_marked_pair-requires-clause-second
-test_marked_pair-requires-clause-second g c = below-at _ _ c.loop-j.j-index c.loop-j-test.true c.requires.others
+-- what is known of the first mark of a number that isn't 0
+first : (m : ℕ) → (m ≡ 0 → ⊥) → m < 2 ^ 32 → (bit_at m (trailing_zeros w32 m) ≡ 1) × ((i : ℕ) → i < trailing_zeros w32 m → bit_at m i ≡ 0)
+first m ne l = let h = bit_at-trailing_zeros w32 m (omega (arith, ne)) l in (h.1, h.2)
 
-pub loop-j-init : goal.loop-j-init
-loop-j-init g c =
+pub loop-later-init : goal.loop-later-init
+loop-later-init g c = record { left = omega arith; free = λ h. h; nothing_found = c.requires.nothing_found; within = omega arith; marks = c.requires.marks }
+
+pub overflow_sub-others : goal.overflow_sub-others
+overflow_sub-others g c = c.loop-later.invariant.within
+
+pub returns-then-others-place : goal.returns-then-others-place
+returns-then-others-place g c =
+    let n = g.I.Items.count c.args.items.now in
     let b = g.I.Items.bounds_of c.args.items.now in
-    let none_passed : (k : ℕ) → k + 0 ≡ k = λ k. omega arith in
+    let tells = g.I.Items.tells c.args.items.now in
+    let i = c.args.i in
+    let xs = c.args.others.now in
+    let m = c.loop-later.later in
+    let p = c.loop-later.place in
+    let t = trailing_zeros w32 m in
+    let none = (first m c.loop-later-test.true c.loop-later.auto.later-fits.fits).1 in
+    let beyond : length xs ≤ p + t = omega (arith, c.if-others-place.true, c.loop-later.invariant.within) in
+    let s = row-passed b i xs m p t c.loop-later.invariant.marks none in
+    let e = row-end (meeting b) i xs (p + t) beyond in
     record {
-      left = omega arith;
-      free = λ h. h;
-      marks = includes-same (MeetsAt b (b c.args.i) c.args.others.now) _ c.args.marks (λ k lt m. subst (MeetsAt b (b c.args.i) c.args.others.now) (none_passed k) m) c.requires.marks;
+      left = omega (arith, s, e, c.loop-later.invariant.left);
+      free = c.loop-later.invariant.free (free-passed b i n tells (g.met.I.Items.apart c.args.items.now) c.requires.item xs m p t (below-drop n xs p c.requires.others) c.loop-later.invariant.marks none (all_row-end (AreFree tells) i xs (p + t) beyond));
+      nothing_found = c.loop-later.invariant.nothing_found;
     }
 
-pub returns-in_err-rest : goal.returns-in_err-rest
-returns-in_err-rest g c =
-    let p = err_from_is_err_and c.from_residual.result c.from_residual.ensures.1 in
-    let s = row-step (meeting (g.I.Items.bounds_of c.args.items.now)) c.args.i c.args.others.now c.loop-j.j-index c.loop-j-test.true in
-    rw (p.1, p.2) (stops _ _ _ (Unit {0}) _ _ (Unit {0}) _ _ c.in_err-rest.ensures (λ h. omega (arith, h, s, c.loop-j.invariant.left)))
+pub test_meeting-requires-clause-second : goal.test_meeting-requires-clause-second
+test_meeting-requires-clause-second g c = below-at _ _ (c.loop-later.place + trailing_zeros w32 c.loop-later.later) (omega (arith, c.if-others-place.false)) c.requires.others
 
-pub loop-j-preserved : goal.loop-j-preserved
-loop-j-preserved g c =
+pub test_meeting-requires-clause-meeting : goal.test_meeting-requires-clause-meeting
+test_meeting-requires-clause-meeting g c =
     let b = g.I.Items.bounds_of c.args.items.now in
-    let passed : (k : ℕ) → k + (c.loop-j.j-index + 1) ≡ k + 1 + c.loop-j.j-index = λ k. omega arith in
-    let s = row-step (meeting (g.I.Items.bounds_of c.args.items.now)) c.args.i c.args.others.now c.loop-j.j-index c.loop-j-test.true in
+    let m = c.loop-later.later in
+    marked-meets b (b c.args.i) c.args.others.now m c.loop-later.place (trailing_zeros w32 m) c.loop-later.invariant.marks (first m c.loop-later-test.true c.loop-later.auto.later-fits.fits).0 (omega (arith, c.if-others-place.false))
+
+pub test_meeting-requires-clause-nothing_found : goal.test_meeting-requires-clause-nothing_found
+test_meeting-requires-clause-nothing_found g c = c.loop-later.invariant.nothing_found
+
+pub returns-then-not-test_meeting : goal.returns-then-not-test_meeting
+returns-then-not-test_meeting g c =
+    let b = g.I.Items.bounds_of c.args.items.now in
+    let i = c.args.i in
+    let xs = c.args.others.now in
+    let m = c.loop-later.later in
+    let p = c.loop-later.place in
+    let t = trailing_zeros w32 m in
+    let s = row-passed b i xs m p t c.loop-later.invariant.marks (first m c.loop-later-test.true c.loop-later.auto.later-fits.fits).1 in
+    let e = row-step (meeting b) i xs (p + t) (omega (arith, c.if-others-place.false)) in
+    stops _ _ _ _ _ _ _ _ _ c.test_meeting.ensures c.if-not-test_meeting.true (λ h. omega (arith, h, s, e, c.loop-later.invariant.left))
+
+pub loop-later-preserved : goal.loop-later-preserved
+loop-later-preserved g c =
+    let n = g.I.Items.count c.args.items.now in
+    let b = g.I.Items.bounds_of c.args.items.now in
+    let tells = g.I.Items.tells c.args.items.now in
+    let i = c.args.i in
+    let xs = c.args.others.now in
+    let m = c.loop-later.later in
+    let p = c.loop-later.place in
+    let t = trailing_zeros w32 m in
+    let none = (first m c.loop-later-test.true c.loop-later.auto.later-fits.fits).1 in
+    let within : p + t < length xs = omega (arith, c.if-others-place.false) in
+    let s = row-passed b i xs m p t c.loop-later.invariant.marks none in
+    let e = row-step (meeting b) i xs (p + t) within in
+    let k = goes _ _ _ _ _ _ _ c.test_meeting.ensures c.if-not-test_meeting.false in
     record {
-      left = omega (arith, s, c.in_ok-rest.ensures.0, c.loop-j.invariant.left);
-      free = λ h. c.loop-j.invariant.free (all_row-step (AreFree (g.I.Items.tells c.args.items.now)) c.args.i c.args.others.now c.loop-j.j-index c.loop-j-test.true c.in_ok-rest.ensures.1 h);
-      marks = includes-same _ _ _ (λ k lt m. subst (MeetsAt b (b c.args.i) c.args.others.now) (passed k) m) (includes-later (λ k. MeetsAt b (b c.args.i) c.args.others.now (k + c.loop-j.j-index)) _ _ c.later_marks-later.ensures.moved c.later_marks-later.ensures.last c.loop-j.invariant.marks);
+      left = omega (arith, s, e, k.left, c.loop-later.invariant.left);
+      free = λ h. c.loop-later.invariant.free (free-passed b i n tells (g.met.I.Items.apart c.args.items.now) c.requires.item xs m p t (below-drop n xs p c.requires.others) c.loop-later.invariant.marks none (all_row-step (AreFree tells) i xs (p + t) within k.free h));
+      nothing_found = k.nothing_found;
+      within = omega (arith, within);
+      marks = marks-next b (b i) xs m p t c.loop-later.invariant.marks;
     }
 
 pub returns : goal.returns
 returns g c =
-    let s = row-end (meeting (g.I.Items.bounds_of c.args.items.now)) c.args.i c.args.others.now c.loop-j.j-index c.loop-j-test.false in
-    (omega (arith, s, c.loop-j.invariant.left), c.loop-j.invariant.free (all_row-end (AreFree (g.I.Items.tells c.args.items.now)) c.args.i c.args.others.now c.loop-j.j-index c.loop-j-test.false))
-
-pub test_marked_pair-requires-clause-unmarked : goal.test_marked_pair-requires-clause-unmarked
-test_marked_pair-requires-clause-unmarked g c =
-    let b = g.I.Items.bounds_of c.args.items.now in
-    let i = c.args.i in
-    let others = c.args.others.now in
-    let e : c.loop-j.j-index ≡ 0 + c.loop-j.j-index = omega arith in
-    λ no m.
-    let here : MeetsAt b (b i) others c.loop-j.j-index = record { within = c.loop-j-test.true; meets = m } in
-    false≢true (sym no ∙ c.is_first_marked.ensures.1 (c.loop-j.invariant.marks 0 (omega arith) (subst (MeetsAt b (b i) others) e here)))
-
-pub returns-then-others-le8 : goal.returns-then-others-le8
-returns-then-others-le8 g c =
     let n = g.I.Items.count c.args.items.now in
     let b = g.I.Items.bounds_of c.args.items.now in
+    let tells = g.I.Items.tells c.args.items.now in
     let i = c.args.i in
-    let others = c.args.others.now in
-    let none : (k : ℕ) → k < length others → AreMeeting (b (get_or others k 0)) (b i) → ⊥ =
-    λ k l m. includes-none (MeetsAt b (b i) others) c.args.marks c.requires.marks c.if-marks-eq0.true k (omega (arith, l, c.if-others-le8.true)) (record { within = l; meets = m }) in
-    let e : row_sum (meeting b) i others ≡ 0 = row-none b i others none in
-    (omega (arith, e), row-none_free n (g.I.Items.tells c.args.items.now) b (g.met.I.Items.apart c.args.items.now) i others c.requires.item c.requires.others none)
+    let ys = drop c.loop-later.place c.args.others.now in
+    let P : ℕ → Type 0 = AreMarksOf b (b i) ys in
+    let h : AreMarksOf b (b i) ys 0 = subst P c.loop-later-test.false c.loop-later.invariant.marks in
+    let e = row-unmarked b i ys h in
+    record {
+      left = omega (arith, e, c.loop-later.invariant.left);
+      free = c.loop-later.invariant.free (free-unmarked b i n tells (g.met.I.Items.apart c.args.items.now) ys c.requires.item (below-drop n c.args.others.now c.loop-later.place c.requires.others) h);
+      nothing_found = c.loop-later.invariant.nothing_found;
+    }

@@ -1,34 +1,16 @@
-use Rattle.std.proofs.Common.{◌≡◌, arith, sym, ◌∙◌}
+use Rattle.std.proofs.Common.{sym, ◌∙◌, arith}
 use Rattle.std.proofs.lemmas.Bool.{false≢true}
 use Rattle.tl_geom.specs.Rectangle.{AreMeeting}
-use Rattle.tl_tree.specs.Pairs.{meeting}
-use Rattle.tl_tree.proofs.PairTests.{meeting-equal, meeting-0, meeting-1, free-equal, free-apart, free-told}
+use Rattle.tl_tree.proofs.Apart.{one-none, one-none_free}
 use Rattle.tl_tree.proofs.search.test_pair.Goals as goal
-use Rattle.tl_tree.proofs.search.test_pair.Goals.{then-low-high-via-then-low-high, then-low-high-via-else-low-high+then-not-meets}
 
-pub returns-then-low-high : goal.returns-then-low-high
-returns-then-low-high g c =
-    let b = g.I.Items.bounds_of c.args.items.now in
-    let tells = g.I.Items.tells c.args.items.now in
-    elim c.then-low-high.branch [
-      | then-low-high-via-then-low-high w ↦
-          let e : c.args.i ≡ c.args.j = omega (arith, w.if-low-high.true, c.min-low.ensures, c.max-high.ensures) in
-          (omega (arith, meeting-equal b c.args.i c.args.j e), free-equal tells c.args.i c.args.j e)
-      | then-low-high-via-else-low-high+then-not-meets w ↦
-          let m : meeting b c.args.i c.args.j ≡ 0 = meeting-0 b c.args.i c.args.j w.meets.result (rw (← w.bounds.ensures, ← w.bounds-else-low-high.ensures) w.meets.ensures) w.if-not-meets.true in
-          let no : AreMeeting (b c.args.i) (b c.args.j) → ⊥ = λ h. false≢true (sym w.if-not-meets.true ∙ w.meets.ensures.1 (rw (w.bounds.ensures, w.bounds-else-low-high.ensures) h)) in
-          (omega (arith, m), free-apart tells (g.I.Items.count c.args.items.now) b (g.met.I.Items.apart c.args.items.now) c.args.i c.args.j c.requires.first c.requires.second no)
-    ]
+pub test_meeting-requires-clause-meeting : goal.test_meeting-requires-clause-meeting
+test_meeting-requires-clause-meeting g c = rw (← c.bounds.ensures, ← c.bounds-2.ensures) (c.meets.ensures.0 c.if-meets.true)
 
-pub returns-then-left-eq0 : goal.returns-then-left-eq0
-returns-then-left-eq0 g c =
+pub returns-else-meets : goal.returns-else-meets
+returns-else-meets g c =
+    let n = g.I.Items.count c.args.items.now in
     let b = g.I.Items.bounds_of c.args.items.now in
-    let m : meeting b c.args.i c.args.j ≡ 1 = meeting-1 b c.args.i c.args.j (λ e. c.if-low-high.false (omega (arith, e))) (rw (← c.bounds.ensures, ← c.bounds-else-low-high.ensures) (c.meets.ensures.0 c.if-not-meets.false)) in
-    omega (arith, m)
-
-pub returns-in-None : goal.returns-in-None
-returns-in-None g c =
-    let b = g.I.Items.bounds_of c.args.items.now in
-    let tells = g.I.Items.tells c.args.items.now in
-    let m : meeting b c.args.i c.args.j ≡ 1 = meeting-1 b c.args.i c.args.j (λ e. c.if-low-high.false (omega (arith, e))) (rw (← c.bounds.ensures, ← c.bounds-else-low-high.ensures) (c.meets.ensures.0 c.if-not-meets.false)) in
-    (omega (arith, m), free-told tells c.args.i c.args.j (rw (← c.min-low.ensures, ← c.max-high.ensures) c.in-None.ensures))
+    let no : AreMeeting (b c.args.j) (b c.args.i) → ⊥ = λ h. false≢true (sym c.if-meets.false ∙ c.meets.ensures.1 (rw (c.bounds.ensures, c.bounds-2.ensures) h)) in
+    let e = one-none b c.args.i c.args.j no in
+    record { left = omega (arith, e); free = one-none_free n (g.I.Items.tells c.args.items.now) b (g.met.I.Items.apart c.args.items.now) c.args.i c.args.j c.requires.first c.requires.second no; nothing_found = c.requires.nothing_found }

@@ -1,4 +1,4 @@
-use Rattle.std.proofs.Common.{◌≡◌, ◌+◌, drop}
+use Rattle.std.proofs.Common.{None, ◌≡◌, ◌+◌, drop}
 use Rattle.tl_tree.specs.Pairs.{meeting, AreFree, pair_sum, AllPairs}
 use Rattle.tl_tree.proofs.search.test_pairs.Given as goal
 
@@ -8,6 +8,7 @@ invariant-loop-k g l =
     let meet = pair_sum (meeting (g.I.Items.bounds_of l.items)) in
     let free = AllPairs (AreFree (g.I.Items.tells l.items)) in
     record {
-      left : l.rest + meet l.some ≡ l.left + meet (drop l.k l.some);
+      left : l.progress.left + meet l.some ≡ l.fn.progress.left + meet (drop l.k l.some);
       free : free (drop l.k l.some) → free l.some;
+      nothing_found : l.progress.found ≡ None;
     }

@@ -1,4 +1,4 @@
-use Rattle.std.proofs.Common.{◌≡◌, ◌+◌}
+use Rattle.std.proofs.Common.{None, ◌≡◌, ◌+◌}
 use Rattle.tl_tree.specs.Pairs.{meeting, pair_sum, AreFree, AllPairs, indices}
 use Rattle.tl_tree.proofs.plain_list.PlainListBoxIndex.first_conflict.Given as goal
 
@@ -6,6 +6,7 @@ use Rattle.tl_tree.proofs.plain_list.PlainListBoxIndex.first_conflict.Given as g
 abbrev pub invariant-loop-j : goal.invariant-loop-j
 invariant-loop-j g l =
     record {
-      left : l.rest + pair_sum (meeting (g.I.Items.bounds_of l.items)) (indices l.j) ≡ l.budget;
+      left : l.progress.left + pair_sum (meeting (g.I.Items.bounds_of l.items)) (indices l.j) ≡ l.budget;
       free : AllPairs (AreFree (g.I.Items.tells l.items)) (indices l.j);
+      nothing_found : l.progress.found ≡ None;
     }

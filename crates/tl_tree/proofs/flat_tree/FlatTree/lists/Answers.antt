@@ -2,7 +2,7 @@ use Rattle.std.proofs.Common.{List, ap, arith}
 use Rattle.tl_tree.specs.declared.node.TreeNode.{TreeNode}
 use Rattle.tl_tree.specs.Trees.{node_count, tree_of}
 use Rattle.tl_tree.proofs.Flat.{end-bound}
-use Rattle.tl_tree.proofs.flat_tree.FlatTree.root.Goals as goal
+use Rattle.tl_tree.proofs.flat_tree.FlatTree.lists.Goals as goal
 
 pub returns-clause-numbered : goal.returns-clause-numbered
 returns-clause-numbered c =

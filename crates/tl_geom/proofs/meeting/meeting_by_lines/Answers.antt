@@ -3,7 +3,7 @@ use Rattle.std.proofs.lemmas.Int.{ints}
 use mir.Syntax.{w128}
 use mir.Val.{of_z}
 use Rattle.tl_geom.proofs.Meetings.{shares_down, in_line, beside}
-use Rattle.tl_geom.proofs.meeting.meeting.Goals as goal
+use Rattle.tl_geom.proofs.meeting.meeting_by_lines.Goals as goal
 
 pub meeting_of_lines-requires-then-across-lt0-clause-shares : goal.meeting_of_lines-requires-then-across-lt0-clause-shares
 meeting_of_lines-requires-then-across-lt0-clause-shares c =

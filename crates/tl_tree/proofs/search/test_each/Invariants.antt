@@ -1,0 +1,14 @@
+use Rattle.std.proofs.Common.{None, ◌≡◌, ◌+◌, drop}
+use Rattle.tl_tree.specs.Pairs.{meeting, AreFree, row_sum, AllRow}
+use Rattle.tl_tree.proofs.search.test_each.Given as goal
+
+-- what is left covers what was met so far, and so far nothing conflicted
+abbrev pub invariant-loop-j : goal.invariant-loop-j
+invariant-loop-j g l =
+    let meet = row_sum (meeting (g.I.Items.bounds_of l.items)) l.i in
+    let free = AllRow (AreFree (g.I.Items.tells l.items)) l.i in
+    record {
+      left : l.progress.left + meet l.others ≡ l.fn.progress.left + meet (drop l.j-index l.others);
+      free : free (drop l.j-index l.others) → free l.others;
+      nothing_found : l.progress.found ≡ None;
+    }
