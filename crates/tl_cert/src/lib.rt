@@ -1,8 +1,9 @@
 //! Certificates of maps: what a stranger says of a map, so that it can be checked.
 //!
 //! A [`Certificate`] holds a map's counts, a tree of rectangles over its segments, the darts that start at each node in
-//! their order round it, and the rings of darts. What its text is, and on which line a text is no certificate's, is
-//! defined in `specs/`; nothing here reads or writes one yet.
+//! their order round it, and the rings of darts. Its text is defined in `specs/Text`; a [`CertReader`] gives the parts of
+//! a text one after the other, as its lines come, and tells the line that no certificate has; [`read_cert`] reads a whole
+//! certificate.
 #![tactic(auto)]
 
 mod certificate;
