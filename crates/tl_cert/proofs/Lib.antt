@@ -17,3 +17,4 @@ pub mod Completing
 pub mod JoinedLines
 pub mod Stuck
 pub mod OneText
+pub mod WriteLemmas

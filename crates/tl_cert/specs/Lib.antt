@@ -2,4 +2,5 @@
 pub mod Certificates
 pub mod Text
 pub mod Beginnings
+pub mod Writing
 pub mod Keeping

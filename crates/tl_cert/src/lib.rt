@@ -2,7 +2,7 @@
 //!
 //! A [`Certificate`] holds a map's counts, a tree of rectangles over its segments, the darts that start at each node in
 //! their order round it, and the rings of darts. What its text is, and on which line a text is no certificate's, is
-//! defined in `specs/`; nothing here reads or writes one yet.
+//! defined in `specs/`. [`write_cert`] writes the text; nothing here reads one yet.
 #![tactic(auto)]
 
 mod certificate;
@@ -11,6 +11,8 @@ mod line_kind;
 mod lines;
 mod number;
 mod stop;
+mod write;
 
 pub use certificate::{Certificate, Counts};
 pub use stop::{CertStop, WriteStop};
+pub use write::write_cert;
