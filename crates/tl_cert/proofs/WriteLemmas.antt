@@ -1,8 +1,8 @@
 -- A certificate's text, passed on piece by piece.
-use Rattle.std.proofs.Common.{◌≡◌, ℕ, zero, suc, ◌+◌, ◌<◌, ◌≤◌, List, [], ◌∷◌, ◌++◌, length, take, drop, map, get_or, Result, Ok, Err, OnOk, refl, sym, ap, subst, ◌∙◌, arith}
-use Rattle.std.proofs.Common.{append_assoc, append-nil, add-one, take-append-drop}
+use Rattle.std.proofs.Common.{◌≡◌, ℕ, zero, suc, ◌+◌, ◌-◌, ◌<◌, ◌≤◌, List, [], ◌∷◌, ◌++◌, length, take, drop, map, get_or, Result, Ok, Err, OnOk, refl, sym, ap, subst, ◌∙◌, arith}
+use Rattle.std.proofs.Common.{append_assoc, append-nil, add-one, take-append-drop, decimal, set, length-set, length-drop}
 use Rattle.std.proofs.Math.Seq.{take-suc}
-use Rattle.std.proofs.lemmas.List.{take_all, map-append, length-map}
+use Rattle.std.proofs.lemmas.List.{take_all, map-append, length-map, drop-set}
 use lib.Seq.{take-append_seam}
 use Rattle.std.specs.Global.{Global}
 use Rattle.std.specs.Io.KnownBytes.{Appends}
@@ -107,6 +107,29 @@ lists_joins word xs ys =
 
 pub line_first : (line : List ℕ) (lines : List (List ℕ)) → line_of line ++ joined_lines lines ≡ joined_lines (line ∷ lines)
 line_first line lines = append_assoc line (line_feed ∷ []) (joined_lines lines)
+
+-- a letter and a space put before the digits of a number
+pub line_put : (letter start n : ℕ) (line : List ℕ) → 2 ≤ start → start ≤ length line → drop start line ≡ decimal n ++ line_feed ∷ []
+    → drop (start - 2) (set (set line (start - 1) 32) (start - 2) letter) ≡ line_of (numbered_line (letter ∷ []) n)
+line_put letter start n line room within digits =
+    let second : start - 2 + 1 ≡ start - 1 = omega (arith, room) in
+    let third : start - 1 + 1 ≡ start = omega (arith, room) in
+    drop-set (set line (start - 1) 32) (start - 2) letter (omega (arith, room, within, length-set line (start - 1) 32))
+    ∙ ap (λ i. letter ∷ drop i (set line (start - 1) 32)) second
+    ∙ ap (λ l. letter ∷ l) (drop-set line (start - 1) 32 (omega (arith, room, within)))
+    ∙ ap (λ i. letter ∷ 32 ∷ drop i line) third
+    ∙ ap (λ l. letter ∷ 32 ∷ l) digits
+
+-- the same, as a slice to the end
+pub line_slice : (letter start n size : ℕ) (line : List ℕ) → length line ≡ size → 2 ≤ start → start ≤ size
+    → drop start line ≡ decimal n ++ line_feed ∷ []
+    → take (size - (start - 2)) (drop (start - 2) (set (set line (start - 1) 32) (start - 2) letter)) ≡ line_of (numbered_line (letter ∷ []) n)
+line_slice letter start n size line long room within digits =
+    let put = set (set line (start - 1) 32) (start - 2) letter in
+    let same : length put ≡ size = length-set (set line (start - 1) 32) (start - 2) letter ∙ length-set line (start - 1) 32 ∙ long in
+    let few = length-drop (start - 2) put in
+    take_all (size - (start - 2)) (drop (start - 2) put) (omega (arith, few, same))
+    ∙ line_put letter start n line room (omega (arith, within, long)) digits
 
 -- a list of darts alone
 pub list_alone : (word darts : List ℕ) (list : Vec ℕ Global) → darts ≡ list.items → joined_lines (darts_lines word darts) ≡ lists_text word (list ∷ [])

@@ -4,14 +4,14 @@ ghost use Rattle.std.specs.Prelude.{◌≡◌, ◌≤◌, ◌∷◌, [], ◌++�
 ghost use Rattle.tl_record.specs.Lines.{joined_lines};
 ghost use Rattle.tl_output.specs.Writing.{CountsFailure, TriesToPassOn, line_of};
 ghost use Rattle.tl_cert.specs.Text;
-ghost use Rattle.tl_cert.specs.Text.{rectangle, head_line, numbered_line, nodes_lines, tree_lines, darts_lines};
+ghost use Rattle.tl_cert.specs.Text.{rectangle, numbered_line, nodes_lines, tree_lines, darts_lines};
 ghost use Rattle.tl_cert.specs.Text.{all_darts_lines, certificate_text};
 ghost use Rattle.tl_cert.specs.Writing.{WritesCertificate};
 
 use crate::certificate::{Certificate, Counts};
 use crate::stop::WriteStop;
 use arrayvec::ArrayString;
-use itoa::Buffer;
+use itoa::{Buffer, write_digits};
 use std::io;
 use tl_geom::Rect;
 use tl_output::OutputBuffer;
@@ -20,6 +20,9 @@ use tl_tree::TreeNode;
 
 // Room for a line with its line feed: no line of a certificate is longer.
 const ROOM: usize = 64;
+
+// Room for a letter, a space, a number of up to twenty digits and a line feed.
+const NUMBER_ROOM: usize = 23;
 
 // Room for a rectangle: four times a space and a number with a sign and ten digits.
 const RECTANGLE_ROOM: usize = 48;
@@ -57,8 +60,8 @@ fn write_parts<W: Sink>(
     let version = certificate.version();
     write_head(version, certificate.counts(), buffer, out)?;
     write_tree(version, certificate.tree(), buffer, out)?;
-    write_dart_lists("N", "R", certificate.rounds(), buffer, out)?;
-    write_dart_lists("W", "K", certificate.walks(), buffer, out)?;
+    write_dart_lists(b'N', b'R', certificate.rounds(), buffer, out)?;
+    write_dart_lists(b'W', b'K', certificate.walks(), buffer, out)?;
     buffer.add(b"END\n", out)
 }
 
@@ -70,10 +73,10 @@ fn write_head<W: Sink>(
     out: &mut W,
 ) -> io::Result<()>
     ensures bytes { TriesToPassOn (W.contents out.old) (W.contents out.new) buffer.old buffer.new
-        (joined_lines (head_line version ∷ Text.counts_line counts ∷ [])) result }
+        (joined_lines (Text.head_line version ∷ Text.counts_line counts ∷ [])) result }
     ensures failures { CountsFailure (W.failure_count out.old) (W.failure_count out.new) result }
 {
-    write_number("TIGERCERT", version as usize, buffer, out)?;
+    buffer.add(head_line(version).as_str().as_bytes(), out)?;
     buffer.add(counts_line(counts).as_str().as_bytes(), out)
 }
 
@@ -88,7 +91,7 @@ fn write_tree<W: Sink>(
         (joined_lines (tree_lines version nodes.now)) result }
     ensures failures { CountsFailure (W.failure_count out.old) (W.failure_count out.new) result }
 {
-    write_number("T", nodes.len(), buffer, out)?;
+    write_number(b'T', nodes.len(), buffer, out)?;
     write_nodes(version, nodes, buffer, out)
 }
 
@@ -127,105 +130,101 @@ fn write_node<W: Sink>(
         }
         TreeNode::Leaf(rect, items) => {
             buffer.add(leaf_line(*rect, items.len()).as_str().as_bytes(), out)?;
-            write_numbers("S", items.as_slice(), buffer, out)
+            write_numbers(b'S', items.as_slice(), buffer, out)
         }
     }
 }
 
-// Writes the number of lists behind one word, and the lists, each behind the other word.
+// Writes the number of lists behind one letter, and the lists, each behind the other letter.
 fn write_dart_lists<W: Sink>(
-    word: &str,
-    each: &str,
+    letter: u8,
+    each: u8,
     lists: &[Vec<u32>],
     buffer: &mut OutputBuffer,
     out: &mut W,
 ) -> io::Result<()>
-    requires word { length word.now ≤ 9 }
-    requires each { length each.now ≤ 9 }
     ensures bytes { let all = map (λ l. l.items) lists.now in
         TriesToPassOn (W.contents out.old) (W.contents out.new) buffer.old buffer.new
-        (joined_lines (numbered_line word.now (length all) ∷ all_darts_lines each.now all)) result }
+        (joined_lines (numbered_line (letter ∷ []) (length all) ∷ all_darts_lines (each ∷ []) all)) result }
     ensures failures { CountsFailure (W.failure_count out.old) (W.failure_count out.new) result }
 {
-    write_number(word, lists.len(), buffer, out)?;
+    write_number(letter, lists.len(), buffer, out)?;
     write_each_dart_list(each, lists, buffer, out)
 }
 
 fn write_each_dart_list<W: Sink>(
-    word: &str,
+    letter: u8,
     lists: &[Vec<u32>],
     buffer: &mut OutputBuffer,
     out: &mut W,
 ) -> io::Result<()>
-    requires { length word.now ≤ 9 }
     ensures bytes { TriesToPassOn (W.contents out.old) (W.contents out.new) buffer.old buffer.new
-        (joined_lines (all_darts_lines word.now (map (λ l. l.items) lists.now))) result }
+        (joined_lines (all_darts_lines (letter ∷ []) (map (λ l. l.items) lists.now))) result }
     ensures failures { CountsFailure (W.failure_count out.old) (W.failure_count out.new) result }
 {
     for darts in lists {
-        write_dart_list(word, darts.as_slice(), buffer, out)?;
+        write_dart_list(letter, darts.as_slice(), buffer, out)?;
     }
     Ok(())
 }
 
-// Writes the number of darts behind the word, and the darts.
+// Writes the number of darts behind the letter, and the darts.
 fn write_dart_list<W: Sink>(
-    word: &str,
+    letter: u8,
     darts: &[u32],
     buffer: &mut OutputBuffer,
     out: &mut W,
 ) -> io::Result<()>
-    requires { length word.now ≤ 9 }
     ensures bytes { TriesToPassOn (W.contents out.old) (W.contents out.new) buffer.old buffer.new
-        (joined_lines (darts_lines word.now darts.now)) result }
+        (joined_lines (darts_lines (letter ∷ []) darts.now)) result }
     ensures failures { CountsFailure (W.failure_count out.old) (W.failure_count out.new) result }
 {
-    write_number(word, darts.len(), buffer, out)?;
-    write_numbers("D", darts, buffer, out)
+    write_number(letter, darts.len(), buffer, out)?;
+    write_numbers(b'D', darts, buffer, out)
 }
 
-// Writes a line for each number: the word and the number.
+// Writes a line for each number: the letter and the number.
 fn write_numbers<W: Sink>(
-    word: &str,
+    letter: u8,
     numbers: &[u32],
     buffer: &mut OutputBuffer,
     out: &mut W,
 ) -> io::Result<()>
-    requires { length word.now ≤ 9 }
     ensures bytes { TriesToPassOn (W.contents out.old) (W.contents out.new) buffer.old buffer.new
-        (joined_lines (map (numbered_line word.now) numbers.now)) result }
+        (joined_lines (map (numbered_line (letter ∷ [])) numbers.now)) result }
     ensures failures { CountsFailure (W.failure_count out.old) (W.failure_count out.new) result }
 {
     for number in numbers {
-        write_number(word, *number as usize, buffer, out)?;
+        write_number(letter, *number as usize, buffer, out)?;
     }
     Ok(())
 }
 
-// Writes a line of a word and a number.
+// Writes a line of a letter and a number.
 fn write_number<W: Sink>(
-    word: &str,
+    letter: u8,
     number: usize,
     buffer: &mut OutputBuffer,
     out: &mut W,
 ) -> io::Result<()>
-    requires { length word.now ≤ 9 }
     ensures bytes { TriesToPassOn (W.contents out.old) (W.contents out.new) buffer.old buffer.new
-        (line_of (numbered_line word.now number)) result }
+        (line_of (numbered_line (letter ∷ []) number)) result }
     ensures failures { CountsFailure (W.failure_count out.old) (W.failure_count out.new) result }
 {
-    buffer.add(numbered_line(word, number).as_str().as_bytes(), out)
+    let mut line = [b'\n'; NUMBER_ROOM];
+    let digits = write_digits(number as u64, &mut line, NUMBER_ROOM - 1);
+    line[digits - 1] = b' ';
+    line[digits - 2] = letter;
+    buffer.add(&line[digits - 2..], out)
 }
 
-fn numbered_line(word: &str, number: usize) -> ArrayString<ROOM>
-    requires { length word.now ≤ 9 }
-    ensures { result.bytes ≡ line_of (Text.numbered_line word.now number) }
+fn head_line(version: u8) -> ArrayString<ROOM>
+    ensures { result.bytes ≡ line_of (Text.head_line version) }
 {
     let mut line = ArrayString::new();
     let mut digits = Buffer::new();
-    line.push_str(word);
-    line.push_str(" ");
-    line.push_str(digits.format(number));
+    line.push_str("TIGERCERT ");
+    line.push_str(digits.format(version));
     line.push_str("\n");
     line
 }
