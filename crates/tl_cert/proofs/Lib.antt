@@ -23,3 +23,4 @@ pub mod TreeLemmas
 pub mod PlaceLemmas
 pub mod ReaderLemmas
 pub mod CollectLemmas
+pub mod WriteLemmas

@@ -4,4 +4,5 @@ pub mod Text
 pub mod Beginnings
 pub mod Given
 pub mod Reading
+pub mod Writing
 pub mod Keeping

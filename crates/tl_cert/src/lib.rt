@@ -3,7 +3,7 @@
 //! A [`Certificate`] holds a map's counts, a tree of rectangles over its segments, the darts that start at each node in
 //! their order round it, and the rings of darts. Its text is defined in `specs/Text`; a [`CertReader`] gives the parts of
 //! a text one after the other, as its lines come, and tells the line that no certificate has; [`read_cert`] reads a whole
-//! certificate.
+//! certificate, and [`write_cert`] writes one.
 #![tactic(auto)]
 
 mod certificate;
@@ -17,9 +17,11 @@ mod place;
 mod read;
 mod reader;
 mod stop;
+mod write;
 
 pub use certificate::{Certificate, Counts};
 pub use place::{CertPart, Place};
 pub use read::read_cert;
 pub use reader::{CertReader, Standing};
 pub use stop::{CertStop, WriteStop};
+pub use write::write_cert;

@@ -1,8 +1,12 @@
--- What a write tells of failures.
-use Rattle.std.proofs.Common.{◌≡◌, ℕ, refl, arith, false}
+-- What writes tell of failures and of what the sink took.
+use Rattle.std.proofs.Common.{◌≡◌, ℕ, List, [], ◌++◌, Result, Ok, Err, refl, sym, ap, ◌∙◌, arith, false, take, drop}
+use Rattle.std.proofs.Common.{append_assoc, append-nil, take-append-drop}
+use Rattle.std.specs.Io.KnownBytes.{Appends}
+use Rattle.std.proofs.KnownBytes.{Appends-nil, Appends-trans}
 use Rattle.std.proofs.lemmas.Bool.Decides.{nat_tests}
-use Rattle.std.specs.Prelude.{◌==◌, ◌&&◌, ◌≢◌, not, if◌then◌else◌}
+use Rattle.std.specs.Prelude.{◌==◌, ◌&&◌, ◌≢◌, not, if◌then◌else◌, Option}
 use Rattle.tl_record.specs.Failures.{one_more}
+use Rattle.tl_output.specs.Writing.{PassesOn, PassesSome, TriesToPassOn}
 
 -- a write that took some bytes has not failed
 pub no_failure : (taken count size : ℕ) → taken ≢ 0
@@ -10,3 +14,51 @@ pub no_failure : (taken count size : ℕ) → taken ≢ 0
 no_failure taken count size some =
     let other : (taken == 0) ≡ false = grind (arith, nat_tests) in
     rw other refl
+
+-- the sink took nothing of what is held
+pub holds_more : (old : Option (List ℕ)) (held text : List ℕ) → PassesOn old old held (held ++ text) text
+holds_more old held text = record { taken = []; grown = Appends-nil old; whole = refl }
+
+-- the sink took the front of a text
+pub passes_front : (old new : Option (List ℕ)) (n : ℕ) (text : List ℕ) → Appends old new (take n text) → PassesSome old new [] text
+passes_front old new n text grown =
+    record { lost = drop n text; passes = record { taken = take n text; grown = grown; whole = take-append-drop n text } }
+
+-- what was held is gone, and the text behind it too
+pub passes_some_more : (old new : Option (List ℕ)) (held text more : List ℕ) → PassesSome old new held text → PassesSome old new held (text ++ more)
+passes_some_more old new held text more some =
+    let p = some.passes in
+    record {
+      lost = some.lost ++ more;
+      passes = record {
+        taken = p.taken;
+        grown = p.grown;
+        whole = sym (append_assoc p.taken some.lost more) ∙ ap (λ l. l ++ more) p.whole ∙ append_assoc held text more;
+      };
+    }
+
+-- what is held is a text of its own
+pub passes_held : (old new : Option (List ℕ)) (held kept : List ℕ) → PassesOn old new [] kept held → PassesOn old new held kept []
+passes_held old new held kept p = record { taken = p.taken; grown = p.grown; whole = p.whole ∙ sym (append-nil held) }
+
+-- one text is passed on behind another
+pub passes_both : (old mid new : Option (List ℕ)) (held kept last front behind : List ℕ) → PassesOn old mid held kept front
+    → PassesOn mid new kept last behind → PassesOn old new held last (front ++ behind)
+passes_both old mid new held kept last front behind p q =
+    record {
+      taken = p.taken ++ q.taken;
+      grown = Appends-trans old mid new p.taken q.taken p.grown q.grown;
+      whole =
+          append_assoc p.taken q.taken last
+          ∙ ap (λ l. p.taken ++ l) q.whole
+          ∙ sym (append_assoc p.taken kept behind)
+          ∙ ap (λ l. l ++ behind) p.whole
+          ∙ append_assoc held front behind;
+    }
+
+-- the same, where the second may fail
+pub passes_then : {T E : Type 0} (r : Result T E) (old mid new : Option (List ℕ)) (held kept last front behind : List ℕ)
+    → PassesOn old mid held kept front → TriesToPassOn mid new kept last behind r → TriesToPassOn old new held last (front ++ behind) r
+passes_then (Ok x) old mid new held kept last front behind p q = passes_both old mid new held kept last front behind p q
+passes_then (Err e) old mid new held kept last front behind p q =
+    record { lost = q.lost; passes = passes_both old mid new held kept q.lost front behind p q.passes }

@@ -20,6 +20,21 @@ pub record Writes {S : Type 0} (contents : S → Option (List ℕ)) (failures : 
 abbrev pub TriesToWrite : {S : Type 0} → (S → Option (List ℕ)) → (S → ℕ) → S → S → List ℕ → Type 0
 TriesToWrite contents failures old new text = Writes contents failures old new text ⊎ FailsToWrite failures old new
 
+-- of what was held and the text behind it the sink took the front, and this is kept
+pub record PassesOn (old new : Option (List ℕ)) (held kept text : List ℕ) : Type 0 where
+  pub taken : List ℕ
+  pub grown : Appends old new taken
+  pub whole : taken ++ kept ≡ held ++ text
+
+-- the same, and whatever the sink didn't take is lost
+pub record PassesSome (old new : Option (List ℕ)) (held text : List ℕ) : Type 0 where
+  pub lost : List ℕ
+  pub passes : PassesOn old new held lost text
+
+-- an error says that the rest is lost
+abbrev pub TriesToPassOn : {T E : Type 0} → Option (List ℕ) → Option (List ℕ) → List ℕ → List ℕ → List ℕ → Result T E → Type 0
+TriesToPassOn old new held kept text r = MatchResult r (λ _. PassesOn old new held kept text) (λ _. PassesSome old new held text)
+
 -- a text as a line: a line feed stands behind it
 abbrev pub line_of : List ℕ → List ℕ
 line_of text = text ++ 10 ∷ []

@@ -2,7 +2,7 @@
 
 ghost use Rattle.std.specs.Prelude.{◌≡◌, [], OnOk};
 ghost use Rattle.std.specs.Io.KnownBytes.{Appends, Keeps, append_known};
-ghost use Rattle.tl_output.specs.Writing.{CountsFailure};
+ghost use Rattle.tl_output.specs.Writing.{CountsFailure, TriesToPassOn};
 
 use arrayvec::ArrayVec;
 use std::io;
@@ -38,10 +38,11 @@ impl OutputBuffer {
     }
 
     /// Adds bytes to the output. Where the buffer has no room for them, what it holds is written first. An error says
-    /// that a write failed.
+    /// that a write failed: the sink took some of what was held and of the bytes, from the front.
     pub fn add<S: Sink>(&mut self, bytes: &[u8], out: &mut S) -> io::Result<()>
         ensures bytes { OnOk result (Appends (append_known (S.contents out.old) self.old)
             (append_known (S.contents out.new) self.new) bytes.now) }
+        ensures passes { TriesToPassOn (S.contents out.old) (S.contents out.new) self.old self.new bytes.now result }
         ensures failures { CountsFailure (S.failure_count out.old) (S.failure_count out.new) result }
     {
         if self.bytes.try_extend_from_slice(bytes).is_ok() {
@@ -54,11 +55,12 @@ impl OutputBuffer {
         write_all(bytes, out)
     }
 
-    /// Writes what the buffer holds. An error says that a write failed.
+    /// Writes what the buffer holds. An error says that a write failed: the sink took some of it, from the front.
     pub fn flush<S: Sink>(&mut self, out: &mut S) -> io::Result<()>
         ensures bytes { OnOk result (Appends (S.contents out.old) (S.contents out.new) self.old) }
         ensures moved { OnOk result (Keeps (append_known (S.contents out.old) self.old)
             (append_known (S.contents out.new) self.new)) }
+        ensures passes { TriesToPassOn (S.contents out.old) (S.contents out.new) self.old self.new [] result }
         ensures empty { OnOk result (self.new ≡ []) }
         ensures failures { CountsFailure (S.failure_count out.old) (S.failure_count out.new) result }
     {
@@ -68,10 +70,11 @@ impl OutputBuffer {
     }
 }
 
-/// Writes all of the bytes. An error says that a write failed: one that answered an error, an interrupted one too, or
+/// Writes all of the bytes. Where it fails, the sink took some of them, from the front. An error says that a write failed: one that answered an error, an interrupted one too, or
 /// one that took nothing.
 pub fn write_all<S: Sink>(bytes: &[u8], out: &mut S) -> io::Result<()>
     ensures bytes { OnOk result (Appends (S.contents out.old) (S.contents out.new) bytes.now) }
+    ensures passes { TriesToPassOn (S.contents out.old) (S.contents out.new) [] [] bytes.now result }
     ensures failures { CountsFailure (S.failure_count out.old) (S.failure_count out.new) result }
 {
     let mut written = 0;

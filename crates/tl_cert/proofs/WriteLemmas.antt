@@ -1,0 +1,240 @@
+-- A certificate's text, passed on piece by piece.
+use Rattle.std.proofs.Common.{◌≡◌, ℕ, zero, suc, ◌+◌, ◌-◌, ◌<◌, ◌≤◌, List, [], ◌∷◌, ◌++◌, length, take, drop, map, get_or, Result, Ok, Err, OnOk, refl, sym, ap, subst, ◌∙◌, arith}
+use Rattle.std.proofs.Common.{append_assoc, append-nil, add-one, take-append-drop, decimal, set, length-set, length-drop}
+use Rattle.std.proofs.Math.Seq.{take-suc}
+use Rattle.std.proofs.lemmas.List.{take_all, map-append, length-map, drop-set}
+use lib.Seq.{take-append_seam}
+use Rattle.std.specs.Global.{Global}
+use Rattle.std.specs.Io.KnownBytes.{Appends}
+use Rattle.std.specs.Prelude.{codes, Option, Vec}
+use Rattle.tl_output.specs.Writing.{PassesOn, PassesSome, TriesToPassOn, Writes, FailsToWrite, line_of}
+use Rattle.tl_output.proofs.WritingLemmas.{passes_both, passes_some_more, passes_then}
+use Rattle.tl_record.specs.Lines.{line_feed, joined_lines}
+use Rattle.arrayvec.specs.ArrayVec.{ArrayVec}
+use Rattle.tl_geom.specs.declared.rect.Rect.{Rect}
+use Rattle.tl_tree.specs.declared.node.TreeNode.{TreeNode}
+use Rattle.tl_tree.specs.declared.node.TreeNode.TheVariants.{Inner, Leaf}
+use Rattle.tl_cert.specs.Certificates.{TheCertificate}
+use Rattle.tl_cert.specs.declared.certificate.Counts.{Counts}
+use Rattle.tl_cert.specs.Text.{number, children, numbered_line, head_line, counts_line, nodes_lines, tree_lines, leaf_line, inner_line, item_lines}
+use Rattle.tl_cert.specs.Text.{darts_lines, all_darts_lines, rounds_lines, walks_lines, end_line, certificate_text}
+use Rattle.tl_cert.specs.Writing.{WritesSome}
+use Rattle.tl_cert.proofs.Completing.{joined-append}
+
+-- one text is passed on whole, and another behind it isn't
+pub passes_some_then : (old mid new : Option (List ℕ)) (held kept front behind : List ℕ) → PassesOn old mid held kept front
+    → PassesSome mid new kept behind → PassesSome old new held (front ++ behind)
+passes_some_then old mid new held kept front behind p q =
+    record { lost = q.lost; passes = passes_both old mid new held kept q.lost front behind p q.passes }
+
+-- the same, and there is more behind it
+pub passes_some_of : (old mid new : Option (List ℕ)) (held kept front behind more : List ℕ) → PassesOn old mid held kept front
+    → PassesSome mid new kept behind → PassesSome old new held (front ++ behind ++ more)
+passes_some_of old mid new held kept front behind more p q =
+    passes_some_more old new held (front ++ behind) more (passes_some_then old mid new held kept front behind p q)
+
+-- ---- the text of a list is the texts of its elements, one behind the other
+module _ {X : Type 0} (text : List X → List ℕ) (joins : (xs ys : List X) → text (xs ++ ys) ≡ text xs ++ text ys) where
+  text_next : (xs : List X) (i : ℕ) (d x : X) → i < length xs → get_or xs i d ≡ x → text (take (i + 1) xs) ≡ text (take i xs) ++ text (x ∷ [])
+  text_next xs i d x within here = rw (add-one, take-suc xs i d within, here) (joins (take i xs) (x ∷ []))
+
+  -- one element more is passed on
+  pub passes_next : (xs : List X) (i : ℕ) (d x : X) (old mid new : Option (List ℕ)) (held kept last : List ℕ) → i < length xs
+      → get_or xs i d ≡ x → PassesOn old mid held kept (text (take i xs)) → PassesOn mid new kept last (text (x ∷ []))
+      → PassesOn old new held last (text (take (i + 1) xs))
+  passes_next xs i d x old mid new held kept last within here p q =
+      subst (PassesOn old new held last) (sym (text_next xs i d x within here))
+      (passes_both old mid new held kept last (text (take i xs)) (text (x ∷ [])) p q)
+
+  -- an element isn't
+  pub passes_some_next : (xs : List X) (i : ℕ) (d x : X) (old mid new : Option (List ℕ)) (held kept : List ℕ) → i < length xs
+      → get_or xs i d ≡ x → PassesOn old mid held kept (text (take i xs)) → PassesSome mid new kept (text (x ∷ []))
+      → PassesSome old new held (text xs)
+  passes_some_next xs i d x old mid new held kept within here p q =
+      let some = passes_some_of old mid new held kept (text (take i xs)) (text (x ∷ [])) (text (drop (i + 1) xs)) p q in
+      let whole : text (take i xs) ++ text (x ∷ []) ++ text (drop (i + 1) xs) ≡ text xs =
+      ap (λ l. l ++ text (drop (i + 1) xs)) (sym (text_next xs i d x within here))
+      ∙ sym (joins (take (i + 1) xs) (drop (i + 1) xs))
+      ∙ ap text (take-append-drop (i + 1) xs) in
+      subst (PassesSome old new held) whole some
+
+  -- all are
+  pub passes_all : (xs : List X) (i : ℕ) (old new : Option (List ℕ)) (held kept : List ℕ) → length xs ≤ i
+      → PassesOn old new held kept (text (take i xs)) → PassesOn old new held kept (text xs)
+  passes_all xs i old new held kept most p = subst (PassesOn old new held kept) (ap text (take_all i xs most)) p
+
+-- ---- such texts
+
+abbrev pub numbers_text : List ℕ → List ℕ → List ℕ
+numbers_text word numbers = joined_lines (map (numbered_line word) numbers)
+
+abbrev pub nodes_text : ℕ → List TreeNode → List ℕ
+nodes_text version nodes = joined_lines (nodes_lines version nodes)
+
+abbrev pub lists_text : List ℕ → List (Vec ℕ Global) → List ℕ
+lists_text word lists = joined_lines (all_darts_lines word (map (λ l. l.items) lists))
+
+pub numbers_joins : (word xs ys : List ℕ) → numbers_text word (xs ++ ys) ≡ numbers_text word xs ++ numbers_text word ys
+numbers_joins word xs ys =
+    ap joined_lines (map-append (numbered_line word) xs ys)
+    ∙ joined-append (map (numbered_line word) xs) (map (numbered_line word) ys)
+
+nodes_lines-append : (version : ℕ) (xs ys : List TreeNode) → nodes_lines version (xs ++ ys) ≡ nodes_lines version xs ++ nodes_lines version ys
+nodes_lines-append version [] ys = refl
+nodes_lines-append version (Inner r k ∷ xs) ys = ap (λ (l : List (List ℕ)). inner_line version r k ∷ l) (nodes_lines-append version xs ys)
+nodes_lines-append version (Leaf r v ∷ xs) ys =
+    ap (λ (l : List (List ℕ)). leaf_line r (length v.items) ∷ item_lines v.items ++ l) (nodes_lines-append version xs ys)
+    ∙ ap (λ (l : List (List ℕ)). leaf_line r (length v.items) ∷ l)
+    (sym (append_assoc (item_lines v.items) (nodes_lines version xs) (nodes_lines version ys)))
+
+pub nodes_joins : (version : ℕ) (xs ys : List TreeNode) → nodes_text version (xs ++ ys) ≡ nodes_text version xs ++ nodes_text version ys
+nodes_joins version xs ys =
+    ap joined_lines (nodes_lines-append version xs ys) ∙ joined-append (nodes_lines version xs) (nodes_lines version ys)
+
+all_darts_lines-append : (word : List ℕ) (xs ys : List (List ℕ)) → all_darts_lines word (xs ++ ys) ≡ all_darts_lines word xs ++ all_darts_lines word ys
+all_darts_lines-append word [] ys = refl
+all_darts_lines-append word (darts ∷ xs) ys =
+    ap (λ (l : List (List ℕ)). darts_lines word darts ++ l) (all_darts_lines-append word xs ys)
+    ∙ sym (append_assoc (darts_lines word darts) (all_darts_lines word xs) (all_darts_lines word ys))
+
+pub lists_joins : (word : List ℕ) (xs ys : List (Vec ℕ Global)) → lists_text word (xs ++ ys) ≡ lists_text word xs ++ lists_text word ys
+lists_joins word xs ys =
+    ap (λ (l : List (List ℕ)). joined_lines (all_darts_lines word l)) (map-append (λ (l : Vec ℕ Global). l.items) xs ys)
+    ∙ ap joined_lines (all_darts_lines-append word (map (λ l. l.items) xs) (map (λ l. l.items) ys))
+    ∙ joined-append (all_darts_lines word (map (λ l. l.items) xs)) (all_darts_lines word (map (λ l. l.items) ys))
+
+-- ---- lines behind a line
+
+pub line_first : (line : List ℕ) (lines : List (List ℕ)) → line_of line ++ joined_lines lines ≡ joined_lines (line ∷ lines)
+line_first line lines = append_assoc line (line_feed ∷ []) (joined_lines lines)
+
+-- a letter and a space put before the digits of a number
+pub line_put : (letter start n : ℕ) (line : List ℕ) → 2 ≤ start → start ≤ length line → drop start line ≡ decimal n ++ line_feed ∷ []
+    → drop (start - 2) (set (set line (start - 1) 32) (start - 2) letter) ≡ line_of (numbered_line (letter ∷ []) n)
+line_put letter start n line room within digits =
+    let second : start - 2 + 1 ≡ start - 1 = omega (arith, room) in
+    let third : start - 1 + 1 ≡ start = omega (arith, room) in
+    drop-set (set line (start - 1) 32) (start - 2) letter (omega (arith, room, within, length-set line (start - 1) 32))
+    ∙ ap (λ i. letter ∷ drop i (set line (start - 1) 32)) second
+    ∙ ap (λ l. letter ∷ l) (drop-set line (start - 1) 32 (omega (arith, room, within)))
+    ∙ ap (λ i. letter ∷ 32 ∷ drop i line) third
+    ∙ ap (λ l. letter ∷ 32 ∷ l) digits
+
+-- the same, as a slice to the end
+pub line_slice : (letter start n size : ℕ) (line : List ℕ) → length line ≡ size → 2 ≤ start → start ≤ size
+    → drop start line ≡ decimal n ++ line_feed ∷ []
+    → take (size - (start - 2)) (drop (start - 2) (set (set line (start - 1) 32) (start - 2) letter)) ≡ line_of (numbered_line (letter ∷ []) n)
+line_slice letter start n size line long room within digits =
+    let put = set (set line (start - 1) 32) (start - 2) letter in
+    let same : length put ≡ size = length-set (set line (start - 1) 32) (start - 2) letter ∙ length-set line (start - 1) 32 ∙ long in
+    let few = length-drop (start - 2) put in
+    take_all (size - (start - 2)) (drop (start - 2) put) (omega (arith, few, same))
+    ∙ line_put letter start n line room (omega (arith, within, long)) digits
+
+-- a list of darts alone
+pub list_alone : (word darts : List ℕ) (list : Vec ℕ Global) → darts ≡ list.items → joined_lines (darts_lines word darts) ≡ lists_text word (list ∷ [])
+list_alone word darts list same =
+    ap (λ l. joined_lines (darts_lines word l)) same ∙ ap joined_lines (sym (append-nil (darts_lines word list.items)))
+
+-- lists behind the line of their number
+pub lists_counted : (word each : List ℕ) (lists : List (Vec ℕ Global)) → line_of (numbered_line word (length lists)) ++ lists_text each lists
+    ≡ joined_lines (numbered_line word (length (map (λ l. l.items) lists)) ∷ all_darts_lines each (map (λ l. l.items) lists))
+lists_counted word each lists =
+    let all = map (λ (l : Vec ℕ Global). l.items) lists in
+    ap (λ n. line_of (numbered_line word n) ++ lists_text each lists) (sym (length-map lists (λ (l : Vec ℕ Global). l.items)))
+    ∙ line_first (numbered_line word (length all)) (all_darts_lines each all)
+
+-- a leaf alone
+pub leaf_alone : (version : ℕ) (r : Rect) (v : ArrayVec ℕ) (items : List ℕ) → items ≡ v.items
+    → line_of (leaf_line r (length v.items)) ++ numbers_text (codes "S") items ≡ nodes_text version (Leaf r v ∷ [])
+leaf_alone version r v items same =
+    ap (λ l. line_of (leaf_line r (length v.items)) ++ numbers_text (codes "S") l) same
+    ∙ line_first (leaf_line r (length v.items)) (item_lines v.items)
+    ∙ ap (λ (l : List (List ℕ)). joined_lines (leaf_line r (length v.items) ∷ l)) (sym (append-nil (item_lines v.items)))
+
+-- how many children an inner node has is told behind version 1
+pub children_told : (version k : ℕ) → 1 < version → children version k ≡ number k
+children_told zero k more = absurd (omega (arith, more))
+children_told (suc zero) k more = absurd (omega (arith, more))
+children_told (suc (suc version)) k more = refl
+
+pub children_untold : (version k : ℕ) → version ≤ 1 → children version k ≡ []
+children_untold zero k few = refl
+children_untold (suc zero) k few = refl
+children_untold (suc (suc version)) k few = absurd (omega (arith, few))
+
+-- four words, each behind a space
+pub spaced : (space a b c d : List ℕ) → space ++ a ++ space ++ b ++ space ++ c ++ space ++ d
+    ≡ (space ++ a) ++ (space ++ b) ++ (space ++ c) ++ (space ++ d)
+spaced space a b c d = simp append_assoc
+
+-- the text of these parts
+abbrev pub parts_text : ℕ → Counts → List TreeNode → List (List ℕ) → List (List ℕ) → List ℕ
+parts_text version counts nodes rounds walks =
+    joined_lines (head_line version ∷ counts_line counts ∷ []) ++ joined_lines (tree_lines version nodes)
+    ++ joined_lines (rounds_lines (length rounds) rounds) ++ joined_lines (walks_lines (length walks) walks) ++ codes "END\n"
+
+whole_text : (c : TheCertificate) → parts_text c.version c.counts c.tree c.rounds c.walks ≡ certificate_text c
+whole_text c =
+    let front : List (List ℕ) = head_line c.version ∷ counts_line c.counts ∷ [] in
+    let nodes = tree_lines c.version c.tree in
+    let rounds = rounds_lines (length c.rounds) c.rounds in
+    let walks = walks_lines (length c.walks) c.walks in
+    sym
+    (joined-append (front ++ nodes ++ rounds ++ walks) (end_line ∷ [])
+    ∙ ap (λ l. l ++ joined_lines (end_line ∷ []))
+    (joined-append (front ++ nodes ++ rounds) walks
+    ∙ ap (λ l. l ++ joined_lines walks)
+    (joined-append (front ++ nodes) rounds ∙ ap (λ l. l ++ joined_lines rounds) (joined-append front nodes))))
+
+-- the text of a certificate from its parts
+pub parts_of : (c : TheCertificate) (version : ℕ) (counts : Counts) (nodes : List TreeNode) (rounds walks : List (List ℕ))
+    → version ≡ c.version → counts ≡ c.counts → nodes ≡ c.tree → rounds ≡ c.rounds → walks ≡ c.walks
+    → parts_text version counts nodes rounds walks ≡ certificate_text c
+parts_of c version counts nodes rounds walks v k n r w =
+    ap (λ x. parts_text x counts nodes rounds walks) v
+    ∙ ap (λ x. parts_text c.version x nodes rounds walks) k
+    ∙ ap (λ x. parts_text c.version c.counts x rounds walks) n
+    ∙ ap (λ x. parts_text c.version c.counts c.tree x walks) r
+    ∙ ap (λ x. parts_text c.version c.counts c.tree c.rounds x) w
+    ∙ whole_text c
+
+-- ---- what a call passes on
+
+-- the last part of a whole
+pub passes_last : {T E : Type 0} (r : Result T E) (old mid new : Option (List ℕ)) (held kept last front behind whole : List ℕ)
+    → PassesOn old mid held kept front → TriesToPassOn mid new kept last behind r → front ++ behind ≡ whole
+    → TriesToPassOn old new held last whole r
+passes_last r old mid new held kept last front behind whole p q same =
+    subst (λ l. TriesToPassOn old new held last l r) same (passes_then r old mid new held kept last front behind p q)
+
+-- the first part of a whole got lost
+pub passes_some_first : (old new : Option (List ℕ)) (held front more whole : List ℕ) → PassesSome old new held front → front ++ more ≡ whole
+    → PassesSome old new held whole
+passes_some_first old new held front more whole p same =
+    subst (PassesSome old new held) same (passes_some_more old new held front more p)
+
+-- nothing is kept at the end
+pub passes_emptied : {T E : Type 0} (r : Result T E) (old new : Option (List ℕ)) (held kept text : List ℕ)
+    → OnOk r (kept ≡ []) → TriesToPassOn old new held kept text r → TriesToPassOn old new held [] text r
+passes_emptied (Ok x) old new held kept text empty p = subst (λ l. PassesOn old new held l text) empty p
+passes_emptied (Err e) old new held kept text empty p = p
+
+-- ---- what is written
+
+pub writes_whole : {S : Type 0} (contents : S → Option (List ℕ)) (failures : S → ℕ) (old new : S) (text : List ℕ)
+    → PassesOn (contents old) (contents new) [] [] text → failures new ≡ failures old → Writes contents failures old new text
+writes_whole contents failures old new text p same =
+    record { grown = subst (Appends (contents old) (contents new)) (sym (append-nil p.taken) ∙ p.whole) p.grown; no_failure = same }
+
+pub writes_some : {S : Type 0} (contents : S → Option (List ℕ)) (failures : S → ℕ) (old new : S) (text : List ℕ)
+    → PassesSome (contents old) (contents new) [] text → FailsToWrite failures old new → WritesSome contents failures old new text
+writes_some contents failures old new text some failure =
+    let p = some.passes in
+    record {
+      len = length p.taken;
+      grown =
+          subst (Appends (contents old) (contents new))
+          (sym (take-append_seam p.taken some.lost) ∙ ap (take (length p.taken)) p.whole) p.grown;
+      failure = failure;
+    }

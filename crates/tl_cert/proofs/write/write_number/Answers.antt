@@ -1,0 +1,36 @@
+use Rattle.std.proofs.Common.{◌≡◌, length, arith, subst, rules}
+use Rattle.std.proofs.lemmas.Fmt.{length-decimal-le}
+use Rattle.tl_output.specs.Writing.{TriesToPassOn}
+use Rattle.tl_cert.proofs.WriteLemmas.{line_slice}
+use Rattle.tl_cert.proofs.write.write_number.Goals as goal
+
+pub write_digits-digits-requires : goal.write_digits-digits-requires
+write_digits-digits-requires g c =
+    let short = length-decimal-le 20 c.args.number (omega arith) (omega (arith, c.ranges.number.fits)) c.ranges.number.fits in
+    (omega (arith, short), omega arith)
+
+pub overflow_sub-line : goal.overflow_sub-line
+overflow_sub-line g c =
+    let short = length-decimal-le 20 c.args.number (omega arith) (omega (arith, c.ranges.number.fits)) c.ranges.number.fits in
+    omega (arith, short, c.write_digits-digits.ensures.start)
+
+pub overflow_sub-line-2 : goal.overflow_sub-line-2
+overflow_sub-line-2 g c =
+    let short = length-decimal-le 20 c.args.number (omega arith) (omega (arith, c.ranges.number.fits)) c.ranges.number.fits in
+    omega (arith, short, c.write_digits-digits.ensures.start)
+
+pub overflow_sub-digits : goal.overflow_sub-digits
+overflow_sub-digits g c =
+    let short = length-decimal-le 20 c.args.number (omega arith) (omega (arith, c.ranges.number.fits)) c.ranges.number.fits in
+    omega (arith, short, c.write_digits-digits.ensures.start)
+
+pub returns-clause-bytes : goal.returns-clause-bytes
+returns-clause-bytes g c =
+    let short = length-decimal-le 20 c.args.number (omega arith) (omega (arith, c.ranges.number.fits)) c.ranges.number.fits in
+    let size : length c.write_digits-digits.new.buf ≡ 23 = search rules in
+    let line = line_slice c.args.letter c.write_digits-digits.result c.args.number 23 c.write_digits-digits.new.buf size
+    (omega (arith, short, c.write_digits-digits.ensures.start)) (omega (arith, c.write_digits-digits.ensures.start))
+    c.write_digits-digits.ensures.written in
+    subst
+    (λ l. TriesToPassOn (g.W.Sink.contents c.args.out.now) (g.W.Sink.contents c.add.new.out) c.args.buffer.now c.add.new.self l c.add.result)
+    line c.add.ensures.passes

@@ -1,0 +1,57 @@
+use Rattle.std.proofs.Common.{refl, subst, rules, length, codes}
+use Rattle.tl_record.specs.Lines.{joined_lines}
+use Rattle.tl_output.specs.Writing.{PassesSome}
+use Rattle.tl_output.proofs.WritingLemmas.{passes_both, passes_some_more}
+use Rattle.tl_cert.specs.Text.{tree_lines, rounds_lines, walks_lines}
+use Rattle.tl_cert.proofs.WriteLemmas.{parts_of, passes_last, passes_some_then}
+use Rattle.tl_cert.proofs.write.write_parts.Goals as goal
+
+pub returns-in_err-write_head-clause-bytes : goal.returns-in_err-write_head-clause-bytes
+returns-in_err-write_head-clause-bytes g c =
+    let all = c.args.certificate.now in
+    let head = c.in_err-write_head.ensures.bytes in
+    let tree = passes_some_more _ _ _ _ (joined_lines (tree_lines c.version-version.result all.tree)) head in
+    let rounds = passes_some_more _ _ _ _ (joined_lines (rounds_lines (length all.rounds) all.rounds)) tree in
+    let walks = passes_some_more _ _ _ _ (joined_lines (walks_lines (length all.walks) all.walks)) rounds in
+    let end = passes_some_more _ _ _ _ (codes "END\n") walks in
+    let whole = subst (PassesSome _ _ _) (parts_of all _ _ _ _ _ c.version-version.ensures c.counts.ensures refl refl refl) end in
+    search (rules, whole)
+
+pub returns-in_err-write_tree-clause-bytes : goal.returns-in_err-write_tree-clause-bytes
+returns-in_err-write_tree-clause-bytes g c =
+    let all = c.args.certificate.now in
+    let tree = passes_some_then _ _ _ _ _ _ _ c.in_ok-write_head.ensures.bytes c.in_err-write_tree.ensures.bytes in
+    let rounds = passes_some_more _ _ _ _ (joined_lines (rounds_lines (length all.rounds) all.rounds)) tree in
+    let walks = passes_some_more _ _ _ _ (joined_lines (walks_lines (length all.walks) all.walks)) rounds in
+    let end = passes_some_more _ _ _ _ (codes "END\n") walks in
+    let whole = subst (PassesSome _ _ _) (parts_of all _ _ _ _ _ c.version-version.ensures c.counts.ensures c.tree.ensures refl refl) end in
+    search (rules, whole)
+
+pub returns-in_err-write_dart_lists-clause-bytes : goal.returns-in_err-write_dart_lists-clause-bytes
+returns-in_err-write_dart_lists-clause-bytes g c =
+    let all = c.args.certificate.now in
+    let tree = passes_both _ _ _ _ _ _ _ _ c.in_ok-write_head.ensures.bytes c.in_ok-write_tree.ensures.bytes in
+    let rounds = passes_some_then _ _ _ _ _ _ _ tree c.in_err-write_dart_lists.ensures.bytes in
+    let walks = passes_some_more _ _ _ _ (joined_lines (walks_lines (length all.walks) all.walks)) rounds in
+    let end = passes_some_more _ _ _ _ (codes "END\n") walks in
+    let whole = subst (PassesSome _ _ _) (parts_of all _ _ _ _ _ c.version-version.ensures c.counts.ensures c.tree.ensures c.rounds.ensures refl) end in
+    search (rules, whole)
+
+pub returns-in_err-write_dart_lists-2-clause-bytes : goal.returns-in_err-write_dart_lists-2-clause-bytes
+returns-in_err-write_dart_lists-2-clause-bytes g c =
+    let all = c.args.certificate.now in
+    let tree = passes_both _ _ _ _ _ _ _ _ c.in_ok-write_head.ensures.bytes c.in_ok-write_tree.ensures.bytes in
+    let rounds = passes_both _ _ _ _ _ _ _ _ tree c.in_ok-write_dart_lists.ensures.bytes in
+    let walks = passes_some_then _ _ _ _ _ _ _ rounds c.in_err-write_dart_lists-2.ensures.bytes in
+    let end = passes_some_more _ _ _ _ (codes "END\n") walks in
+    let whole = subst (PassesSome _ _ _) (parts_of all _ _ _ _ _ c.version-version.ensures c.counts.ensures c.tree.ensures c.rounds.ensures c.walks.ensures) end in
+    search (rules, whole)
+
+pub returns-clause-bytes : goal.returns-clause-bytes
+returns-clause-bytes g c =
+    let all = c.args.certificate.now in
+    let tree = passes_both _ _ _ _ _ _ _ _ c.in_ok-write_head.ensures.bytes c.in_ok-write_tree.ensures.bytes in
+    let rounds = passes_both _ _ _ _ _ _ _ _ tree c.in_ok-write_dart_lists.ensures.bytes in
+    let walks = passes_both _ _ _ _ _ _ _ _ rounds c.in_ok-write_dart_lists-2.ensures.bytes in
+    passes_last c.add.result _ _ _ _ _ _ _ _ _ walks c.add.ensures.passes
+    (parts_of all _ _ _ _ _ c.version-version.ensures c.counts.ensures c.tree.ensures c.rounds.ensures c.walks.ensures)

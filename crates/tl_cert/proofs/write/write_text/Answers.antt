@@ -1,0 +1,10 @@
+use Rattle.std.proofs.Common.{append-nil}
+use Rattle.tl_cert.specs.Text.{certificate_text}
+use Rattle.tl_cert.proofs.WriteLemmas.{passes_last, passes_emptied}
+use Rattle.tl_cert.proofs.write.write_text.Goals as goal
+
+pub returns-clause-bytes : goal.returns-clause-bytes
+returns-clause-bytes g c =
+    passes_last c.flush.result _ _ _ _ _ _ _ _ _ (rw c.new-buffer.ensures at c.in_ok-write_parts.ensures.bytes)
+    (passes_emptied c.flush.result _ _ _ _ _ c.flush.ensures.empty c.flush.ensures.passes)
+    (append-nil (certificate_text c.args.certificate.now))
