@@ -1,5 +1,5 @@
-//! Tests of certificates: what is written of them, also to sinks that take little or fail. They stand beside `tl_cert`, so
-//! that it is proved once and not once more with its tests.
+//! Tests of certificates: what is written of them, also to sinks that take little or fail. They stand beside `tl_cert`,
+//! so that it is proved once and not once more with its tests.
 #![tactic(auto)]
 
 #[cfg(test)]

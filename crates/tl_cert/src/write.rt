@@ -40,7 +40,8 @@ pub fn write_cert<W: Sink>(certificate: &Certificate, out: &mut W) -> Result<(),
 
 // Writes the text by way of a buffer.
 fn write_text<W: Sink>(certificate: &Certificate, out: &mut W) -> io::Result<()>
-    ensures bytes { TriesToPassOn (W.contents out.old) (W.contents out.new) [] [] (certificate_text certificate.now) result }
+    ensures bytes { TriesToPassOn (W.contents out.old) (W.contents out.new) [] []
+        (certificate_text certificate.now) result }
     ensures failures { CountsFailure (W.failure_count out.old) (W.failure_count out.new) result }
 {
     let mut buffer = OutputBuffer::new();

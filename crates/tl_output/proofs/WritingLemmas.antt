@@ -1,8 +1,8 @@
 -- What writes tell of failures and of what the sink took.
 use Rattle.std.proofs.Common.{◌≡◌, ℕ, List, [], ◌++◌, Result, Ok, Err, refl, sym, ap, ◌∙◌, arith, false, take, drop}
-use Rattle.std.proofs.Common.{append_assoc, append-nil, take-append-drop}
+use Rattle.std.proofs.Common.{append_assoc, take-append-drop}
 use Rattle.std.specs.Io.KnownBytes.{Appends}
-use Rattle.std.proofs.KnownBytes.{Appends-nil, Appends-trans}
+use Rattle.std.proofs.KnownBytes.{Appends-trans}
 use Rattle.std.proofs.lemmas.Bool.Decides.{nat_tests}
 use Rattle.std.specs.Prelude.{◌==◌, ◌&&◌, ◌≢◌, not, if◌then◌else◌, Option}
 use Rattle.tl_record.specs.Failures.{one_more}
@@ -14,10 +14,6 @@ pub no_failure : (taken count size : ℕ) → taken ≢ 0
 no_failure taken count size some =
     let other : (taken == 0) ≡ false = grind (arith, nat_tests) in
     rw other refl
-
--- the sink took nothing of what is held
-pub holds_more : (old : Option (List ℕ)) (held text : List ℕ) → PassesOn old old held (held ++ text) text
-holds_more old held text = record { taken = []; grown = Appends-nil old; whole = refl }
 
 -- the sink took the front of a text
 pub passes_front : (old new : Option (List ℕ)) (n : ℕ) (text : List ℕ) → Appends old new (take n text) → PassesSome old new [] text
@@ -36,10 +32,6 @@ passes_some_more old new held text more some =
         whole = sym (append_assoc p.taken some.lost more) ∙ ap (λ l. l ++ more) p.whole ∙ append_assoc held text more;
       };
     }
-
--- what is held is a text of its own
-pub passes_held : (old new : Option (List ℕ)) (held kept : List ℕ) → PassesOn old new [] kept held → PassesOn old new held kept []
-passes_held old new held kept p = record { taken = p.taken; grown = p.grown; whole = p.whole ∙ sym (append-nil held) }
 
 -- one text is passed on behind another
 pub passes_both : (old mid new : Option (List ℕ)) (held kept last front behind : List ℕ) → PassesOn old mid held kept front

@@ -70,8 +70,8 @@ impl OutputBuffer {
     }
 }
 
-/// Writes all of the bytes. Where it fails, the sink took some of them, from the front. An error says that a write failed: one that answered an error, an interrupted one too, or
-/// one that took nothing.
+/// Writes all of the bytes. An error says that a write failed: one that answered an error, an interrupted one too, or
+/// one that took nothing. The sink then took some of the bytes, from the front.
 pub fn write_all<S: Sink>(bytes: &[u8], out: &mut S) -> io::Result<()>
     ensures bytes { OnOk result (Appends (S.contents out.old) (S.contents out.new) bytes.now) }
     ensures passes { TriesToPassOn (S.contents out.old) (S.contents out.new) [] [] bytes.now result }
