@@ -3,7 +3,7 @@
 use arrayvec::ArrayVec;
 use std::alloc::Global;
 use std::io;
-use std::io::{ErrorKind, Write};
+use std::io::{ErrorKind, Read, Write};
 use std::test::Fail;
 use tl_cert::{Certificate, Counts};
 use tl_geom::Rect;
@@ -114,6 +114,13 @@ impl Kept {
     pub fn bytes(&self) -> &[u8] {
         self.bytes.as_slice()
     }
+
+    /// Keeps one byte more, where there is room.
+    pub fn keep(&mut self, byte: u8) {
+        if self.bytes.len() < 256 {
+            self.bytes.push(byte);
+        }
+    }
 }
 
 impl Write for Kept {
@@ -135,5 +142,42 @@ impl Write for Kept {
 
     fn flush(&mut self) -> io::Result<()> {
         Ok(())
+    }
+}
+
+/// A reader that gives at most `most` bytes of the rest a call, and fails where `fails_at` bytes are left.
+#[derive(Drop)]
+pub struct Pieces<'a> {
+    rest: &'a [u8],
+    most: usize,
+    fails_at: Option<usize>,
+}
+
+impl<'a> Pieces<'a> {
+    pub fn whole(text: &'a [u8], most: usize) -> Pieces<'a> {
+        Pieces {
+            rest: text,
+            most,
+            fails_at: None,
+        }
+    }
+
+    /// A reader that gives one byte a call, and fails behind so many.
+    pub fn failing(text: &'a [u8], before: u8) -> Pieces<'a> {
+        Pieces {
+            rest: text,
+            most: 1,
+            fails_at: Some(text.len().saturating_sub(before as usize)),
+        }
+    }
+}
+
+impl Read for Pieces<'_> {
+    fn read(&mut self, buf: &mut [u8]) -> io::Result<usize> {
+        if self.fails_at == Some(self.rest.len()) {
+            return Err(io::Error::from(ErrorKind::Interrupted));
+        }
+        let count = self.most.min(buf.len());
+        self.rest.read(&mut buf[..count])
     }
 }
