@@ -21,7 +21,7 @@ pub const POLYGON_LIMIT: u32 = 1_048_576;
 pub const LANDMARK_LIMIT: u32 = 1_048_576;
 
 /// What there can be too many of.
-#[derive(Clone, Copy, Debug, PartialEq, Eq, Hash)]
+#[derive(Clone, Copy, Debug, PartialEq, Eq)]
 pub enum Limited {
     Chains,
     Segments,
@@ -46,7 +46,7 @@ impl fmt::Display for Limited {
 }
 
 /// A fault of the records: no line is refused, and yet they have no map.
-#[derive(Clone, Copy, Debug, PartialEq, Eq, Hash)]
+#[derive(Clone, Copy, Debug, PartialEq, Eq)]
 pub enum MapFault {
     /// M1: two type 1 records have the TLID.
     DuplicateChain { tlid: u64 },
@@ -130,7 +130,7 @@ impl fmt::Display for MapFault {
 }
 
 /// Why no map is handed out.
-#[derive(Clone, Copy, Debug, PartialEq, Eq, Hash)]
+#[derive(Clone, Copy, Debug, PartialEq, Eq)]
 pub enum MapStop {
     /// This line, counted from 1, is the first that is refused.
     Refused { line: u64, cause: Cause },

@@ -21,7 +21,7 @@ use crate::stop::{Cause, ReadStop};
 use memchr::memchr;
 
 /// What a search for the end of the next line shows.
-#[derive(Clone, Copy, Debug)]
+#[derive(Clone, Copy)]
 enum Fetched {
     /// The line's length: its line feed is fetched.
     Whole(usize),
@@ -34,7 +34,7 @@ enum Fetched {
 }
 
 /// The next line, judged.
-#[derive(Clone, Copy, Debug)]
+#[derive(Clone, Copy)]
 enum NextLine {
     /// A line that ends in a line feed.
     Line(Judgement),
@@ -47,7 +47,7 @@ enum NextLine {
 }
 
 /// Whether a reader still reads.
-#[derive(Clone, Copy, Debug, PartialEq, Eq)]
+#[derive(Clone, Copy)]
 pub enum Standing {
     /// It judges the next line when it is asked.
     Reading,
