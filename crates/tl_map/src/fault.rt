@@ -37,10 +37,10 @@ impl fmt::Display for Limited {
 
     fn fmt<W: fmt::Write>(&self, f: &mut fmt::Formatter<W>) -> fmt::Result {
         match self {
-            Limited::Chains => write!(f, "chains"),
-            Limited::Segments => write!(f, "segments"),
-            Limited::Polygons => write!(f, "polygons"),
-            Limited::Landmarks => write!(f, "landmarks"),
+            Limited::Chains => f.write_str("chains"),
+            Limited::Segments => f.write_str("segments"),
+            Limited::Polygons => f.write_str("polygons"),
+            Limited::Landmarks => f.write_str("landmarks"),
         }
     }
 }
@@ -151,8 +151,8 @@ impl fmt::Display for MapStop {
     fn fmt<W: fmt::Write>(&self, f: &mut fmt::Formatter<W>) -> fmt::Result {
         match self {
             MapStop::Refused { line, cause } => write!(f, "refused line {line} {cause}"),
-            MapStop::Device => write!(f, "stopped Device"),
-            MapStop::Memory => write!(f, "stopped Memory"),
+            MapStop::Device => f.write_str("stopped Device"),
+            MapStop::Memory => f.write_str("stopped Memory"),
             MapStop::Fault(fault) => write!(f, "{fault}"),
         }
     }

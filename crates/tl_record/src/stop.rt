@@ -86,11 +86,11 @@ impl fmt::Display for Cause {
 
     fn fmt<W: fmt::Write>(&self, f: &mut fmt::Formatter<W>) -> fmt::Result {
         match self {
-            Cause::LineTooLong => write!(f, "L1 LineTooLong"),
+            Cause::LineTooLong => f.write_str("L1 LineTooLong"),
             Cause::Missing(field) => write!(f, "L2 Missing {field}"),
             Cause::BadField(field) => write!(f, "L3 BadField {field}"),
             Cause::OutOfRange(field) => write!(f, "L4 OutOfRange {field}"),
-            Cause::TooManyLines => write!(f, "L5 TooManyLines"),
+            Cause::TooManyLines => f.write_str("L5 TooManyLines"),
         }
     }
 }
@@ -113,7 +113,7 @@ impl fmt::Display for ReadStop {
     fn fmt<W: fmt::Write>(&self, f: &mut fmt::Formatter<W>) -> fmt::Result {
         match self {
             ReadStop::Refused { line, cause } => write!(f, "refused line {line} {cause}"),
-            ReadStop::Device => write!(f, "stopped Device"),
+            ReadStop::Device => f.write_str("stopped Device"),
         }
     }
 }
