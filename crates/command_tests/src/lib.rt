@@ -5,10 +5,10 @@
 #[cfg(test)]
 mod failures;
 #[cfg(test)]
-mod files;
-#[cfg(test)]
 mod records;
 #[cfg(test)]
 mod show;
+#[cfg(test)]
+mod start;
 #[cfg(test)]
 mod support;

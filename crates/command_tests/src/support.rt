@@ -3,6 +3,7 @@
 use arrayvec::ArrayVec;
 use std::alloc::Global;
 use std::io::{ErrorKind, Read, Write};
+use std::process::Abort;
 use std::{io, str};
 use tl_command::run::run;
 use tl_plan::words::plan;
@@ -61,7 +62,7 @@ pub enum Failure {
 pub struct Kept {
     bytes: ArrayVec<u8, 2048>,
     most: usize,
-    fails_at: u64,
+    pub fails_at: u64,
     failure: Failure,
     pub calls: u64,
 }
@@ -108,31 +109,47 @@ impl Write for Kept {
     }
 }
 
+/// What `show` answers: its status and what it wrote to both outputs.
+#[derive(Clone, Copy)]
+pub struct Answer<'a> {
+    pub status: u8,
+    pub out: &'a str,
+    pub err: &'a str,
+}
+
+/// Runs `show` over a reader, and compares the answer.
+pub fn check<R: Read + Drop>(
+    rt: &impl Abort,
+    alloc: Global,
+    records: R,
+    wanted: Answer<'_>,
+) -> Result<(), PlanStop> {
+    let (mut out, mut err) = (Kept::new(), Kept::new());
+    let status = show(alloc, records, &mut out, &mut err)?;
+    assert!(rt; status == wanted.status);
+    assert!(rt; out.text() == wanted.out);
+    assert!(rt; err.text() == wanted.err);
+    Ok(())
+}
+
 /// Runs `show` over a reader, and gives the status.
-pub fn show<R: Read>(
+pub fn show<R: Read + Drop>(
     alloc: Global,
     records: R,
     out: &mut Kept,
     err: &mut Kept,
-) -> Result<u8, PlanStop>
-where
-    R: Drop,
-{
+) -> Result<u8, PlanStop> {
     let plan = plan(alloc, ["show", "records"].as_slice())?;
     Ok(run_plan(alloc, &plan, records, out, err))
 }
 
-/// Does a plan over a reader, and gives the status.
-pub fn run_plan<R: Read>(
+fn run_plan<R: Read + Drop>(
     alloc: Global,
     plan: &Plan,
     records: R,
     out: &mut Kept,
     err: &mut Kept,
-) -> u8
-where
-    R: Drop,
-{
+) -> u8 {
     run(
         alloc,
         plan,

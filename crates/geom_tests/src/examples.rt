@@ -47,101 +47,137 @@ fn directions_go_from_point_to_point(rt: HostRuntime) -> Result<(), Fail> {
 
 #[test]
 fn turns(rt: HostRuntime) {
-    assert_eq!(rt;
-        turn(point(0, 0), point(1, 0), point(1, 1)),
-        Ordering::Greater
-    );
-    assert_eq!(rt;
-        turn(point(0, 0), point(1, 0), point(1, -1)),
-        Ordering::Less
-    );
-    assert_eq!(rt;
-        turn(point(0, 0), point(1, 0), point(-7, 0)),
-        Ordering::Equal
-    );
-    assert_eq!(rt;
-        turn(point(5, 5), point(5, 5), point(1, 2)),
-        Ordering::Equal
-    );
-    assert_eq!(rt;
-        turn(point(LEAST, LEAST), point(MOST, MOST), point(LEAST, MOST)),
-        Ordering::Greater
-    );
-    assert_eq!(rt;
-        turn(
-            point(LEAST, LEAST),
-            point(MOST, MOST),
-            point(MOST, MOST - 1)
+    for (a, b, c, turned) in [
+        ((0, 0), (1, 0), (1, 1), Ordering::Greater),
+        ((0, 0), (1, 0), (1, -1), Ordering::Less),
+        ((0, 0), (1, 0), (-7, 0), Ordering::Equal),
+        ((5, 5), (5, 5), (1, 2), Ordering::Equal),
+        (
+            (LEAST, LEAST),
+            (MOST, MOST),
+            (LEAST, MOST),
+            Ordering::Greater,
         ),
-        Ordering::Less
-    );
-    assert_eq!(rt;
-        turn(point(LEAST, LEAST), point(MOST, MOST), point(0, 0)),
-        Ordering::Equal
-    );
+        (
+            (LEAST, LEAST),
+            (MOST, MOST),
+            (MOST, MOST - 1),
+            Ordering::Less,
+        ),
+        ((LEAST, LEAST), (MOST, MOST), (0, 0), Ordering::Equal),
+    ] {
+        let found = turn(point(a.0, a.1), point(b.0, b.1), point(c.0, c.1));
+        assert!(rt; found == turned);
+    }
 }
 
 #[test]
 fn points_on_segments(rt: HostRuntime) -> Result<(), Fail> {
-    let s = segment((0, 0), (4, 2))?;
-    assert!(rt; on(s, point(0, 0)));
-    assert!(rt; on(s, point(4, 2)));
-    assert!(rt; on(s, point(2, 1)));
-    assert!(rt; !on(s, point(3, 1)));
-    assert!(rt; !on(s, point(6, 3)));
-    assert!(rt; !on(s, point(-2, -1)));
-    let whole = segment((LEAST, LEAST), (MOST, MOST))?;
-    assert!(rt; on(whole, point(17, 17)));
-    assert!(rt; !on(whole, point(17, 18)));
+    let (low, high) = ((LEAST, LEAST), (MOST, MOST));
+    for (a, b, p, is_on) in [
+        ((0, 0), (4, 2), (0, 0), true),
+        ((0, 0), (4, 2), (4, 2), true),
+        ((0, 0), (4, 2), (2, 1), true),
+        ((0, 0), (4, 2), (3, 1), false),
+        ((0, 0), (4, 2), (6, 3), false),
+        ((0, 0), (4, 2), (-2, -1), false),
+        (low, high, (17, 17), true),
+        (low, high, (17, 18), false),
+    ] {
+        assert!(rt; on(segment(a, b)?, point(p.0, p.1)) == is_on);
+    }
     Ok(())
 }
 
 #[test]
 fn contacts_that_are_no_crossing(rt: HostRuntime) -> Result<(), Fail> {
-    assert_eq!(rt; contact_of((0, 0), (2, 2), (3, 3), (5, 5))?, Contact::Apart);
-    assert_eq!(rt; contact_of((0, 0), (4, 0), (0, 1), (4, 1))?, Contact::Apart);
-    assert_eq!(rt;
-        contact_of((0, 0), (4, 0), (5, 1), (5, -1))?,
-        Contact::Apart
-    );
-    assert_eq!(rt;
-        contact_of((0, 0), (4, 0), (4, 0), (9, 0))?,
-        Contact::AtEnds(point(4, 0))
-    );
-    assert_eq!(rt;
-        contact_of((0, 0), (4, 0), (4, 0), (4, 7))?,
-        Contact::AtEnds(point(4, 0))
-    );
-    assert_eq!(rt;
-        contact_of((LEAST, MOST), (0, 0), (0, 0), (MOST, LEAST))?,
-        Contact::AtEnds(point(0, 0))
-    );
+    let at = |x, y| Contact::AtEnds(point(x, y));
+    for (a, b, p, q, wanted) in [
+        ((0, 0), (2, 2), (3, 3), (5, 5), Contact::Apart),
+        ((0, 0), (4, 0), (0, 1), (4, 1), Contact::Apart),
+        ((0, 0), (4, 0), (5, 1), (5, -1), Contact::Apart),
+        ((0, 0), (4, 0), (4, 0), (9, 0), at(4, 0)),
+        ((0, 0), (4, 0), (4, 0), (4, 7), at(4, 0)),
+        ((LEAST, MOST), (0, 0), (0, 0), (MOST, LEAST), at(0, 0)),
+    ] {
+        assert!(rt; contact_of(a, b, p, q)? == wanted);
+    }
     Ok(())
 }
 
 #[test]
 fn crossings(rt: HostRuntime) -> Result<(), Fail> {
-    let proper = Contact::Crossing(Rational {
-        x: 176,
-        y: 168,
-        d: 16,
-    });
-    assert_eq!(rt; contact_of((10, 10), (14, 12), (10, 12), (12, 9))?, proper);
-    let overlap = Contact::Crossing(Rational { x: 5, y: 0, d: 2 });
-    assert_eq!(rt; contact_of((0, 0), (4, 0), (1, 0), (9, 0))?, overlap);
-    let from_one_end = Contact::Crossing(Rational { x: 4, y: 0, d: 2 });
-    assert_eq!(rt; contact_of((0, 0), (4, 0), (0, 0), (9, 0))?, from_one_end);
-    let touch = Contact::Crossing(Rational { x: 2, y: 0, d: 1 });
-    assert_eq!(rt; contact_of((0, 0), (4, 0), (2, 0), (2, 5))?, touch);
-    let diagonals = Contact::Crossing(Rational {
+    let middle = Contact::Crossing(Rational {
         x: -18446744065119617025,
         y: -18446744065119617025,
         d: 36893488130239234050,
     });
-    assert_eq!(rt;
-        contact_of((LEAST, LEAST), (MOST, MOST), (LEAST, MOST), (MOST, LEAST))?,
-        diagonals
-    );
+    let (low, high) = ((LEAST, LEAST), (MOST, MOST));
+    for (a, b, p, q, wanted) in [
+        // a proper one
+        (
+            (10, 10),
+            (14, 12),
+            (10, 12),
+            (12, 9),
+            Contact::Crossing(Rational {
+                x: 176,
+                y: 168,
+                d: 16,
+            }),
+        ),
+        // overlaps
+        (
+            (0, 0),
+            (4, 0),
+            (1, 0),
+            (9, 0),
+            Contact::Crossing(Rational { x: 5, y: 0, d: 2 }),
+        ),
+        (
+            (0, 0),
+            (4, 0),
+            (0, 0),
+            (9, 0),
+            Contact::Crossing(Rational { x: 4, y: 0, d: 2 }),
+        ),
+        // an end inside
+        (
+            (0, 0),
+            (4, 0),
+            (2, 0),
+            (2, 5),
+            Contact::Crossing(Rational { x: 2, y: 0, d: 1 }),
+        ),
+        // diagonals
+        (low, high, (LEAST, MOST), (MOST, LEAST), middle),
+        // sides of the plane
+        (
+            low,
+            (MOST, LEAST),
+            (MOST, LEAST),
+            low,
+            Contact::Crossing(Rational {
+                x: -1,
+                y: -4294967296,
+                d: 2,
+            }),
+        ),
+        (
+            (MOST, LEAST),
+            high,
+            (MOST, 0),
+            high,
+            Contact::Crossing(Rational {
+                x: 4294967294,
+                y: 2147483647,
+                d: 2,
+            }),
+        ),
+        (low, (LEAST, MOST), (MOST, LEAST), high, Contact::Apart),
+    ] {
+        assert!(rt; contact_of(a, b, p, q)? == wanted);
+    }
     Ok(())
 }
 
@@ -180,111 +216,46 @@ fn near_crossings(rt: HostRuntime) -> Result<(), Fail> {
 }
 
 #[test]
-fn extreme_contacts(rt: HostRuntime) -> Result<(), Fail> {
-    let whole_side = Contact::Crossing(Rational {
-        x: -1,
-        y: -4294967296,
-        d: 2,
-    });
-    assert_eq!(rt;
-        contact_of((LEAST, LEAST), (MOST, LEAST), (MOST, LEAST), (LEAST, LEAST))?,
-        whole_side
-    );
-    let upright = Contact::Crossing(Rational {
-        x: 4294967294,
-        y: 2147483647,
-        d: 2,
-    });
-    assert_eq!(rt;
-        contact_of((MOST, LEAST), (MOST, MOST), (MOST, 0), (MOST, MOST))?,
-        upright
-    );
-    assert_eq!(rt;
-        contact_of((LEAST, LEAST), (LEAST, MOST), (MOST, LEAST), (MOST, MOST))?,
-        Contact::Apart
-    );
+fn rays(rt: HostRuntime) -> Result<(), Fail> {
+    for (a, b, q, is_crossed) in [
+        ((20, 10), (30, 20), (20, 20), false),
+        ((30, 20), (20, 30), (20, 20), true),
+        ((30, 20), (40, 20), (20, 20), false),
+        ((10, 10), (10, 30), (20, 20), false),
+        ((20, 10), (20, 30), (20, 20), false),
+        ((30, 30), (30, 10), (20, 20), true),
+        ((MOST, LEAST), (MOST, MOST), (LEAST, MOST - 1), true),
+        ((MOST, LEAST), (LEAST, MOST), (MOST, MOST - 1), false),
+    ] {
+        assert!(rt; crosses_ray(segment(a, b)?, point(q.0, q.1)) == is_crossed);
+    }
     Ok(())
 }
 
-#[test]
-fn rays(rt: HostRuntime) -> Result<(), Fail> {
-    let q = point(20, 20);
-    assert!(rt; !crosses_ray(segment((20, 10), (30, 20))?, q));
-    assert!(rt; crosses_ray(segment((30, 20), (20, 30))?, q));
-    assert!(rt; !crosses_ray(segment((30, 20), (40, 20))?, q));
-    assert!(rt; !crosses_ray(segment((10, 10), (10, 30))?, q));
-    assert!(rt; !crosses_ray(segment((20, 10), (20, 30))?, q));
-    assert!(rt; crosses_ray(segment((30, 30), (30, 10))?, q));
-    assert!(rt;
-        crosses_ray(
-            segment((MOST, LEAST), (MOST, MOST))?,
-            point(LEAST, MOST - 1)
-        )
-    );
-    assert!(rt;
-        !crosses_ray(
-            segment((MOST, LEAST), (LEAST, MOST))?,
-            point(MOST, MOST - 1)
-        )
-    );
-    Ok(())
+fn rect(xmin: i32, ymin: i32, xmax: i32, ymax: i32) -> Rect {
+    Rect {
+        xmin,
+        ymin,
+        xmax,
+        ymax,
+    }
 }
 
 #[test]
 fn rectangles(rt: HostRuntime) -> Result<(), Fail> {
     let r = Rect::of(segment((4, -2), (1, 7))?);
-    assert_eq!(rt;
-        r,
-        Rect {
-            xmin: 1,
-            ymin: -2,
-            xmax: 4,
-            ymax: 7
-        }
-    );
-    assert!(rt; r.holds(point(1, 7)));
-    assert!(rt; !r.holds(point(0, 7)));
-    assert!(rt;
-        r.meets(Rect {
-            xmin: 4,
-            ymin: 7,
-            xmax: 9,
-            ymax: 9
-        })
-    );
-    assert!(rt;
-        !r.meets(Rect {
-            xmin: 5,
-            ymin: -2,
-            xmax: 9,
-            ymax: 7
-        })
-    );
-    assert!(rt;
-        !r.meets(Rect {
-            xmin: 3,
-            ymin: 0,
-            xmax: 2,
-            ymax: 0
-        })
-    );
-    assert_eq!(rt;
-        r.join(Rect {
-            xmin: 9,
-            ymin: 0,
-            xmax: 12,
-            ymax: 1
-        }),
-        Rect {
-            xmin: 1,
-            ymin: -2,
-            xmax: 12,
-            ymax: 7
-        }
-    );
+    assert!(rt; r == rect(1, -2, 4, 7));
+    assert!(rt; r.holds(point(1, 7)) && !r.holds(point(0, 7)));
+    for (other, is_met) in [
+        (rect(4, 7, 9, 9), true),
+        (rect(5, -2, 9, 7), false),
+        (rect(3, 0, 2, 0), false),
+    ] {
+        assert!(rt; r.meets(other) == is_met);
+    }
+    assert!(rt; r.join(rect(9, 0, 12, 1)) == rect(1, -2, 12, 7));
     let whole = Rect::of(segment((LEAST, MOST), (MOST, LEAST))?);
-    assert!(rt; whole.holds(point(MOST, LEAST)));
-    assert_eq!(rt; whole.join(r), whole);
+    assert!(rt; whole.holds(point(MOST, LEAST)) && whole.join(r) == whole);
     Ok(())
 }
 

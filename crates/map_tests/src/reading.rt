@@ -10,6 +10,18 @@ use tl_geom::Point;
 use tl_map::{Chains, MapStop, read_chains};
 use tl_record::{Meter, Record, RecordReader};
 
+/// A record line by its fields. Polygons of type I and type 8 have the CENID `A0001`, and on a side 0 is outside.
+#[derive(Clone, Copy)]
+enum Line<'a> {
+    Chain(u64, Point, Point),
+    Shape(u64, u16, &'a [Point]),
+    Sides(u64, u64, u64),
+    ReleasedSides(u64, u64),
+    Polygon(&'a str, u64, Point),
+    Landmark(u64, Option<Point>),
+    Link(u64, u64),
+}
+
 /// Record lines, written field by field.
 #[derive(Drop)]
 struct Text {
@@ -17,9 +29,25 @@ struct Text {
 }
 
 impl Text {
-    fn new(alloc: Global) -> Text {
-        Text {
+    fn of(alloc: Global, lines: &[Line<'_>]) -> Result<Text, AllocError> {
+        let mut text = Text {
             text: String::new(alloc),
+        };
+        for line in lines {
+            text.add(line)?;
+        }
+        Ok(text)
+    }
+
+    fn add(&mut self, line: &Line<'_>) -> Result<(), AllocError> {
+        match line {
+            Line::Chain(tlid, from, to) => self.chain(*tlid, *from, *to),
+            Line::Shape(tlid, rtsq, pairs) => self.shape(*tlid, *rtsq, pairs),
+            Line::Sides(tlid, left, right) => self.sides(*tlid, *left, *right),
+            Line::ReleasedSides(tlid, start_cell) => self.released_sides(*tlid, *start_cell),
+            Line::Polygon(cenid, polyid, point) => self.polygon(cenid, *polyid, *point),
+            Line::Landmark(land, point) => self.landmark(*land, *point),
+            Line::Link(polyid, land) => self.link(*polyid, *land),
         }
     }
 
@@ -110,9 +138,11 @@ impl<'a> Read for OneByte<'a> {
 
 #[test]
 fn one_byte_a_read(rt: HostRuntime) -> Result<(), Fail> {
-    let mut text = Text::new(rt.alloc());
-    text.chain(1, at(10, 10), at(10, 10))?;
-    text.shape(1, 1, &[at(30, 10), at(30, 30)])?;
+    let ring = [
+        Line::Chain(1, at(10, 10), at(10, 10)),
+        Line::Shape(1, 1, &[at(30, 10), at(30, 30)]),
+    ];
+    let text = Text::of(rt.alloc(), &ring)?;
     let bytes = text.text.as_bytes();
     let mut whole = Meter::new(OneByte {
         bytes,
@@ -156,28 +186,27 @@ fn agrees(alloc: Global, records: &[Record], chains: &Chains) -> Result<bool, Fa
 
 #[test]
 fn agrees_with_the_plain_program(rt: HostRuntime) -> Result<(), Fail> {
-    let mut text = Text::new(rt.alloc());
-    text.shape(30, 2, &[at(7, 7), at(7, 7)])?;
-    text.chain(30, at(5, 5), at(5, 5))?;
-    text.shape(10, 1, &[at(1, 1), at(2, 2), at(2, 2), at(1, 1)])?;
-    text.chain(20, at(-5, 5), at(6, -6))?;
-    text.chain(10, at(1, 1), at(1, 1))?;
-    text.shape(
-        30,
-        1,
-        &[
-            at(1, 1),
-            at(1, 1),
-            at(1, 2),
-            at(1, 3),
-            at(1, 4),
-            at(1, 5),
-            at(1, 6),
-            at(1, 7),
-            at(1, 8),
-            at(7, 7),
-        ],
-    )?;
+    let ten = [
+        at(1, 1),
+        at(1, 1),
+        at(1, 2),
+        at(1, 3),
+        at(1, 4),
+        at(1, 5),
+        at(1, 6),
+        at(1, 7),
+        at(1, 8),
+        at(7, 7),
+    ];
+    let lines = [
+        Line::Shape(30, 2, &[at(7, 7), at(7, 7)]),
+        Line::Chain(30, at(5, 5), at(5, 5)),
+        Line::Shape(10, 1, &[at(1, 1), at(2, 2), at(2, 2), at(1, 1)]),
+        Line::Chain(20, at(-5, 5), at(6, -6)),
+        Line::Chain(10, at(1, 1), at(1, 1)),
+        Line::Shape(30, 1, &ten),
+    ];
+    let text = Text::of(rt.alloc(), &lines)?;
     let chains = text.read(rt.alloc())?;
     assert_counts(&rt, &chains, 3, 13, 0);
     let records = records_of(&text, rt.alloc())?;

@@ -3,8 +3,12 @@
 use crate::lines::{agrees, map_b, read_all};
 use crate::plain::plain_records;
 use crate::readers::Pieces;
+use std::alloc::{AllocError, Global};
+use std::process::Abort;
 use std::test::Fail;
-use tl_record::{Cause, Field, Meter, MeterOut, Options, ReadStop, RecordReader, Sink, Source};
+use tl_record::{
+    Cause, Field, Meter, MeterOut, Options, ReadStop, Record, RecordReader, Sink, Source,
+};
 
 const MAP_B: &str =
     "Ok(Some((1, Chain { tlid: 1, from: Point { x: 10, y: 10 }, to: Point { x: 10, y: 10 } })))
@@ -12,18 +16,25 @@ Ok(Some((2, Shape { tlid: 1, rtsq: 1, pairs: [Some(Point { x: 30, y: 10 }), Some
 Ok(Some((3, Sides { tlid: 1, start_cell: None, end_cell: None, left: Some(PolyKey { cenid: [65, 48, 48, 48, 49], polyid: 1 }), right: None })))
 Ok(Some((4, PolyPoint { key: PolyKey { cenid: [65, 48, 48, 48, 49], polyid: 1 }, point: Point { x: 20, y: 20 } })))
 Ok(None)
+0 passed over
 ";
+
+/// What a reader of the text answers at so many calls, a line each, and how many lines it passed over.
+fn answers_of(alloc: Global, text: &[u8], calls: u32) -> Result<String, AllocError> {
+    let mut reader = RecordReader::new(Meter::new(text));
+    let mut given = String::new(alloc);
+    for _ in 0..calls {
+        writeln!(given, "{:?}", reader.next_record())?;
+    }
+    writeln!(given, "{} passed over", reader.skipped())?;
+    Ok(given)
+}
 
 #[test]
 fn map_b_is_read(rt: HostRuntime) -> Result<(), Fail> {
     let text = map_b(rt.alloc())?;
-    let mut reader = RecordReader::new(Meter::new(text.as_slice()));
-    let mut given = String::new(rt.alloc());
-    for _ in 0..5 {
-        given.push_str(format!(in rt.alloc(); "{:?}\n", reader.next_record())?.as_str())?;
-    }
-    assert_eq!(rt; given.as_str(), MAP_B);
-    assert_eq!(rt; reader.skipped(), 0);
+    let given = answers_of(rt.alloc(), &text, 5)?;
+    assert!(rt; given.as_str() == MAP_B);
     Ok(())
 }
 
@@ -57,30 +68,41 @@ fn line_ends_are_found(rt: HostRuntime) -> Result<(), Fail> {
     Ok(())
 }
 
+/// Is the text's one line refused, as it is longer than a line may be?
+fn check_length(
+    rt: &impl Abort,
+    alloc: Global,
+    text: &[u8],
+    is_refused: bool,
+) -> Result<(), AllocError> {
+    agrees(rt, alloc, text, Options::default())?;
+    let given = read_all(alloc, Pieces::new(text, 600, 0), Options::default())?;
+    let stop = ReadStop::Refused {
+        line: 1,
+        cause: Cause::LineTooLong,
+    };
+    assert!(rt; given.stop == if is_refused { Some(stop) } else { None });
+    Ok(())
+}
+
 #[test]
 fn long_lines_are_refused(rt: HostRuntime) -> Result<(), Fail> {
-    for (len, refused) in [(1_023, false), (1_024, false), (1_025, true), (3_000, true)] {
+    // A carriage return counts, and a line feed doesn't.
+    for (len, end, is_refused) in [
+        (1_023, "", false),
+        (1_023, "\r\n", false),
+        (1_024, "", false),
+        (1_024, "\n", false),
+        (1_024, "\r\n", true),
+        (1_025, "", true),
+        (1_025, "\n", true),
+        (3_000, "", true),
+        (3_000, "\n", true),
+    ] {
         let mut text = vec![in rt.alloc(); b'4'; len]?;
-        for _ in 0..2 {
-            agrees(&rt, rt.alloc(), &text, Options::default())?;
-            let given = read_all(rt.alloc(), Pieces::new(&text, 600, 0), Options::default())?;
-            let stop = ReadStop::Refused {
-                line: 1,
-                cause: Cause::LineTooLong,
-            };
-            assert!(rt; given.stop == if refused { Some(stop) } else { None });
-            text.push(b'\n')?;
-        }
+        text.extend_from_slice(end.as_bytes())?;
+        check_length(&rt, rt.alloc(), &text, is_refused)?;
     }
-    // A carriage return counts.
-    let mut text = vec![in rt.alloc(); b'4'; 1_024]?;
-    text.extend_from_slice(b"\r\n")?;
-    agrees(&rt, rt.alloc(), &text, Options::default())?;
-    assert!(rt;
-        read_all(rt.alloc(), Pieces::new(&text, 600, 0), Options::default())?
-            .stop
-            .is_some()
-    );
     Ok(())
 }
 
@@ -101,33 +123,32 @@ fn a_failed_read_is_no_end(rt: HostRuntime) -> Result<(), Fail> {
     Ok(())
 }
 
-#[test]
-fn a_stop_is_answered_again(rt: HostRuntime) -> Result<(), Fail> {
-    let mut source = Pieces::new(b"1\n10000         1\n", 4, 3);
+/// A reader of these bytes, four at a time, gives this answer twice, with so many reads and lines passed over.
+fn answers_twice(
+    rt: &impl Abort,
+    text: &[u8],
+    fails_at: u64,
+    answer: Result<Option<(u64, Record)>, ReadStop>,
+    (reads, skipped): (u64, u64),
+) {
+    let mut source = Pieces::new(text, 4, fails_at);
     let mut reader = RecordReader::new(&mut source);
-    let first = reader.next_record();
-    let again = reader.next_record();
-    assert!(rt; first == again);
+    for _ in 0..2 {
+        assert!(rt; reader.next_record() == answer);
+    }
+    assert!(rt; reader.skipped() == skipped);
+    assert!(rt; source.reads() == reads);
+}
+
+#[test]
+fn a_stop_is_answered_again(rt: HostRuntime) {
     let stop = ReadStop::Refused {
         line: 1,
         cause: Cause::Missing(Field::Tlid),
     };
-    assert!(rt; first == Err(stop));
-    assert_eq!(rt; source.reads(), 1);
-
-    let mut source = Pieces::new(b"10000         1\n", 4, 2);
-    let mut reader = RecordReader::new(&mut source);
-    assert!(rt; reader.next_record() == Err(ReadStop::Device));
-    assert!(rt; reader.next_record() == Err(ReadStop::Device));
-    assert_eq!(rt; source.reads(), 2);
-
-    let mut source = Pieces::new(b"4", 4, 3);
-    let mut reader = RecordReader::new(&mut source);
-    assert!(rt; reader.next_record() == Ok(None));
-    assert!(rt; reader.next_record() == Ok(None));
-    assert_eq!(rt; reader.skipped(), 1);
-    assert_eq!(rt; source.reads(), 2);
-    Ok(())
+    answers_twice(&rt, b"1\n10000         1\n", 3, Err(stop), (1, 0));
+    answers_twice(&rt, b"10000         1\n", 2, Err(ReadStop::Device), (2, 0));
+    answers_twice(&rt, b"4", 3, Ok(None), (2, 1));
 }
 
 #[test]

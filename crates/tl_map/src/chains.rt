@@ -8,7 +8,7 @@ use std::marker::Model;
 use tl_geom::Point;
 
 /// Where the points of a chain stand among those of all chains.
-#[derive(Clone, Copy, Debug)]
+#[derive(Clone, Copy)]
 pub struct ChainRow {
     pub tlid: u64,
     pub first: u32,

@@ -4,7 +4,7 @@ use tl_geom::Point;
 use tl_record::PolyKey;
 
 /// A type 1 record.
-#[derive(Clone, Copy, Debug)]
+#[derive(Clone, Copy)]
 pub struct ChainEntry {
     pub tlid: u64,
     pub from: Point,
@@ -12,7 +12,7 @@ pub struct ChainEntry {
 }
 
 /// How the used pairs of a type 2 record lie among the unused ones.
-#[derive(Clone, Copy, Debug, PartialEq, Eq)]
+#[derive(Clone, Copy)]
 pub enum Fill {
     /// Each pair is used.
     Full,
@@ -23,7 +23,7 @@ pub enum Fill {
 }
 
 /// A type 2 record, whose used points stand in a list that all records share: `used` of them from `first` on.
-#[derive(Clone, Copy, Debug)]
+#[derive(Clone, Copy)]
 pub struct ShapeEntry {
     pub tlid: u64,
     pub first: usize,
@@ -33,7 +33,7 @@ pub struct ShapeEntry {
 }
 
 /// A type I record.
-#[derive(Clone, Copy, Debug)]
+#[derive(Clone, Copy)]
 pub struct SidesEntry {
     pub tlid: u64,
     pub start_cell: Option<u64>,
@@ -43,14 +43,14 @@ pub struct SidesEntry {
 }
 
 /// A type 7 record.
-#[derive(Clone, Copy, Debug)]
+#[derive(Clone, Copy)]
 pub struct LandmarkEntry {
     pub land: u64,
     pub point: Option<Point>,
 }
 
 /// A type 8 record.
-#[derive(Clone, Copy, Debug)]
+#[derive(Clone, Copy)]
 pub struct LinkEntry {
     pub key: PolyKey,
     pub land: u64,

@@ -21,7 +21,7 @@ pub const POLYGON_LIMIT: u32 = 1_048_576;
 pub const LANDMARK_LIMIT: u32 = 1_048_576;
 
 /// What there can be too many of.
-#[derive(Clone, Copy, Debug, PartialEq, Eq, Hash)]
+#[derive(Clone, Copy, Debug, PartialEq, Eq)]
 pub enum Limited {
     Chains,
     Segments,
@@ -37,16 +37,16 @@ impl fmt::Display for Limited {
 
     fn fmt<W: fmt::Write>(&self, f: &mut fmt::Formatter<W>) -> fmt::Result {
         match self {
-            Limited::Chains => write!(f, "chains"),
-            Limited::Segments => write!(f, "segments"),
-            Limited::Polygons => write!(f, "polygons"),
-            Limited::Landmarks => write!(f, "landmarks"),
+            Limited::Chains => f.write_str("chains"),
+            Limited::Segments => f.write_str("segments"),
+            Limited::Polygons => f.write_str("polygons"),
+            Limited::Landmarks => f.write_str("landmarks"),
         }
     }
 }
 
 /// A fault of the records: no line is refused, and yet they have no map.
-#[derive(Clone, Copy, Debug, PartialEq, Eq, Hash)]
+#[derive(Clone, Copy, Debug, PartialEq, Eq)]
 pub enum MapFault {
     /// M1: two type 1 records have the TLID.
     DuplicateChain { tlid: u64 },
@@ -130,7 +130,7 @@ impl fmt::Display for MapFault {
 }
 
 /// Why no map is handed out.
-#[derive(Clone, Copy, Debug, PartialEq, Eq, Hash)]
+#[derive(Clone, Copy, Debug, PartialEq, Eq)]
 pub enum MapStop {
     /// This line, counted from 1, is the first that is refused.
     Refused { line: u64, cause: Cause },
@@ -151,8 +151,8 @@ impl fmt::Display for MapStop {
     fn fmt<W: fmt::Write>(&self, f: &mut fmt::Formatter<W>) -> fmt::Result {
         match self {
             MapStop::Refused { line, cause } => write!(f, "refused line {line} {cause}"),
-            MapStop::Device => write!(f, "stopped Device"),
-            MapStop::Memory => write!(f, "stopped Memory"),
+            MapStop::Device => f.write_str("stopped Device"),
+            MapStop::Memory => f.write_str("stopped Memory"),
             MapStop::Fault(fault) => write!(f, "{fault}"),
         }
     }

@@ -46,7 +46,7 @@ pub fn first_landmarks(alloc: Global, entries: &[LandmarkEntry]) -> Result<First
 }
 
 /// A polygon that is linked to a landmark, both by number.
-#[derive(Clone, Copy, Debug)]
+#[derive(Clone, Copy)]
 pub struct Link {
     pub landmark: u32,
     pub polygon: u32,
@@ -104,7 +104,7 @@ fn sort_links(links: &mut Vec<Link>) -> Result<(), AllocError>
 }
 
 /// A landmark, and where its polygons stand among those of all landmarks.
-#[derive(Clone, Copy, Debug)]
+#[derive(Clone, Copy)]
 pub struct LandmarkRow {
     pub land: u64,
     pub point: Option<Point>,

@@ -18,7 +18,7 @@ pub struct Nodes {
 }
 
 /// The point where a dart starts.
-#[derive(Clone, Copy, Debug)]
+#[derive(Clone, Copy)]
 pub struct DartStart {
     pub point: Point,
     pub dart: u32,

@@ -18,6 +18,12 @@ use crate::map::Map;
 use std::alloc::Global;
 use tl_record::{Options, RecordReader, Source};
 
+/// The default of [`Options`]: nothing is chosen.
+const PLAIN: Options = Options {
+    zero_cells: false,
+    released: false,
+};
+
 /// Collects all records that a reader has to give.
 fn collect_records<R: Source>(
     alloc: Global,
@@ -81,9 +87,7 @@ pub fn read_chains<R: Source>(alloc: Global, records: &mut R) -> Result<Chains, 
     // `Device` is answered where a read failed in this call, and nowhere else.
     ensures failures { TellsDevice (R.failure_count records.old) (R.failure_count records.new) result }
 {
-    let mut reader = RecordReader::new(records);
-    let collected = collect_records(alloc, &mut reader)?;
-    build_chains(alloc, collected, reader.skipped())
+    read_chains_with(alloc, records, PLAIN)
 }
 
 /// Reads the chains of a county as [`read_chains`] does, with the columns that the options choose of type I.
@@ -116,9 +120,7 @@ pub fn read_map<R: Source>(alloc: Global, records: &mut R) -> Result<Map, MapSto
     // `Device` is answered where a read failed in this call, and nowhere else.
     ensures failures { TellsDevice (R.failure_count records.old) (R.failure_count records.new) result }
 {
-    let mut reader = RecordReader::new(records);
-    let (collected, areas) = collect_all(alloc, &mut reader)?;
-    build_map(alloc, collected, areas, reader.skipped())
+    read_map_with(alloc, records, PLAIN)
 }
 
 /// Reads the map of a county as [`read_map`] does, with the columns that the options choose of type I.

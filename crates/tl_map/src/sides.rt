@@ -28,7 +28,7 @@ pub enum Side {
 }
 
 /// What lies on both sides of a chain, seen from its start to its end, and the zero-cell ids of its start and its end.
-#[derive(Clone, Copy, Debug)]
+#[derive(Clone, Copy)]
 pub struct ChainSides {
     pub left: Side,
     pub right: Side,

@@ -3,7 +3,7 @@
 ghost use Rattle.std.specs.Prelude.{◌≡◌, ◌↔◌, false, IfOk, IfErr, IsTrue, [], codes, map, option_map, unwrap_or};
 ghost use Rattle.std.specs.Prelude.{string_bytes};
 ghost use Rattle.clap.specs.Values.{kind_of};
-ghost use Rattle.clap.specs.Simple.{app_of, subcommand_rows_of};
+ghost use Rattle.clap.specs.Simple.{app_of, subcommand_rows_of, with_subcommand};
 ghost use Rattle.clap.specs.Walk.{rule_of, rows_of, all_of, first_of};
 ghost use Rattle.clap.specs.Matches.{found_of};
 ghost use Rattle.clap.specs.declared.builder.command.Command.TheViews.{out-Command as fields_of};
@@ -66,16 +66,36 @@ pub fn plan<S: AsStr>(alloc: Global, words: &[S]) -> Result<Plan, PlanStop>
     ensures texts { IfErr result ShowsNoEscape }
 {
     let mut command = command(alloc)?;
+    plan_by(alloc, &mut command, words)
+}
+
+// The plan of the words by this command line.
+fn plan_by<'a, S: AsStr>(
+    alloc: Global,
+    command: &mut Command<'a>,
+    words: &'a [S],
+) -> Result<Plan, PlanStop>
+    requires { app_of command.old ≡ command_line }
+    ensures plan { IfOk result (AskFor (map S.text words.now)) }
+    ensures stops { IfErr result (StopsPlanning (map S.text words.now)) }
+    ensures texts { IfErr result ShowsNoEscape }
+{
     let matches = match command.try_get_matches_from_mut(words) {
         Ok(matches) => matches,
         Err(error) => return Err(stop_of(alloc, &error)),
     };
-    if let Some(plan) = plan_of(alloc, &matches)? {
-        return Ok(plan);
+    match plan_of(alloc, &matches)? {
+        Some(plan) => Ok(plan),
+        // clap has refused such words before.
+        None => Err(PlanStop::Usage(usage_of(alloc, command)?)),
     }
-    // clap has refused such words before.
+}
+
+fn usage_of(alloc: Global, command: &mut Command<'_>) -> Result<String, AllocError>
+    ensures { IfOk result HasNoEscape }
+{
     let usage = command.render_usage()?;
-    Err(PlanStop::Usage(without_escapes(alloc, usage.as_str())?))
+    without_escapes(alloc, usage.as_str())
 }
 
 // The plan that the matches stand for, where they name a command with files.
@@ -132,9 +152,30 @@ fn is_set(value: Option<&str>) -> bool
 fn command<'a>(alloc: Global) -> Result<Command<'a>, AllocError>
     ensures { IfOk result (λ command. app_of command ≡ command_line) }
 {
-    let show = command_on_files(alloc, "show", SHOW_ABOUT, SHOW_EXAMPLE)?;
-    let landmarks = command_on_files(alloc, "landmarks", LANDMARKS_ABOUT, LANDMARKS_EXAMPLE)?;
-    program(alloc)?.subcommand(show)?.subcommand(landmarks)
+    let program = program(alloc)?;
+    let shows = with_files(alloc, program, "show", SHOW_ABOUT, SHOW_EXAMPLE)?;
+    with_files(
+        alloc,
+        shows,
+        "landmarks",
+        LANDMARKS_ABOUT,
+        LANDMARKS_EXAMPLE,
+    )
+}
+
+// The program with one more command, which takes files.
+fn with_files<'a>(
+    alloc: Global,
+    program: Command<'a>,
+    name: &'a str,
+    about: &'a str,
+    example: &'a str,
+) -> Result<Command<'a>, AllocError>
+    ensures { IfOk result (λ command.
+        app_of command ≡ with_subcommand (app_of program.entry) (app_on_files name.entry.now).top) }
+{
+    let command = command_on_files(alloc, name, about, example)?;
+    program.subcommand(command)
 }
 
 fn program<'a>(alloc: Global) -> Result<Command<'a>, AllocError>

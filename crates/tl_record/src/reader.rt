@@ -20,7 +20,7 @@ use crate::source::Source;
 use crate::stop::{Cause, ReadStop};
 
 /// The next line, judged.
-#[derive(Clone, Copy, Debug)]
+#[derive(Clone, Copy)]
 enum NextLine {
     /// A line that ends in a line feed.
     Line(Judgement),
@@ -33,7 +33,7 @@ enum NextLine {
 }
 
 /// Whether a reader still reads.
-#[derive(Clone, Copy, Debug, PartialEq, Eq)]
+#[derive(Clone, Copy)]
 pub enum Standing {
     /// It judges the next line when it is asked.
     Reading,

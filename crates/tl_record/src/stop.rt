@@ -3,7 +3,7 @@
 use std::fmt;
 
 /// The fields that are read, by the names of the TIGER/Line technical documentation.
-#[derive(Clone, Copy, Debug, PartialEq, Eq, Hash)]
+#[derive(Clone, Copy, Debug, PartialEq, Eq)]
 pub enum Field {
     Tlid,
     FrLong,
@@ -38,33 +38,33 @@ impl fmt::Display for Field {
 
     fn fmt<W: fmt::Write>(&self, f: &mut fmt::Formatter<W>) -> fmt::Result {
         match self {
-            Field::Tlid => write!(f, "TLID"),
-            Field::FrLong => write!(f, "FRLONG"),
-            Field::FrLat => write!(f, "FRLAT"),
-            Field::ToLong => write!(f, "TOLONG"),
-            Field::ToLat => write!(f, "TOLAT"),
-            Field::Rtsq => write!(f, "RTSQ"),
+            Field::Tlid => f.write_str("TLID"),
+            Field::FrLong => f.write_str("FRLONG"),
+            Field::FrLat => f.write_str("FRLAT"),
+            Field::ToLong => f.write_str("TOLONG"),
+            Field::ToLat => f.write_str("TOLAT"),
+            Field::Rtsq => f.write_str("RTSQ"),
             Field::Long(pair) => write!(f, "LONG{pair}"),
             Field::Lat(pair) => write!(f, "LAT{pair}"),
-            Field::Tzids => write!(f, "TZIDS"),
-            Field::Tzide => write!(f, "TZIDE"),
-            Field::CenidL => write!(f, "CENIDL"),
-            Field::PolyidL => write!(f, "POLYIDL"),
-            Field::CenidR => write!(f, "CENIDR"),
-            Field::PolyidR => write!(f, "POLYIDR"),
-            Field::Cenid => write!(f, "CENID"),
-            Field::Polyid => write!(f, "POLYID"),
-            Field::PolyLong => write!(f, "POLYLONG"),
-            Field::PolyLat => write!(f, "POLYLAT"),
-            Field::Land => write!(f, "LAND"),
-            Field::LaLong => write!(f, "LALONG"),
-            Field::LaLat => write!(f, "LALAT"),
+            Field::Tzids => f.write_str("TZIDS"),
+            Field::Tzide => f.write_str("TZIDE"),
+            Field::CenidL => f.write_str("CENIDL"),
+            Field::PolyidL => f.write_str("POLYIDL"),
+            Field::CenidR => f.write_str("CENIDR"),
+            Field::PolyidR => f.write_str("POLYIDR"),
+            Field::Cenid => f.write_str("CENID"),
+            Field::Polyid => f.write_str("POLYID"),
+            Field::PolyLong => f.write_str("POLYLONG"),
+            Field::PolyLat => f.write_str("POLYLAT"),
+            Field::Land => f.write_str("LAND"),
+            Field::LaLong => f.write_str("LALONG"),
+            Field::LaLat => f.write_str("LALAT"),
         }
     }
 }
 
 /// Why a line is refused.
-#[derive(Clone, Copy, Debug, PartialEq, Eq, Hash)]
+#[derive(Clone, Copy, Debug, PartialEq, Eq)]
 pub enum Cause {
     /// L1: more than 1,024 bytes stand before the line's end.
     LineTooLong,
@@ -86,17 +86,17 @@ impl fmt::Display for Cause {
 
     fn fmt<W: fmt::Write>(&self, f: &mut fmt::Formatter<W>) -> fmt::Result {
         match self {
-            Cause::LineTooLong => write!(f, "L1 LineTooLong"),
+            Cause::LineTooLong => f.write_str("L1 LineTooLong"),
             Cause::Missing(field) => write!(f, "L2 Missing {field}"),
             Cause::BadField(field) => write!(f, "L3 BadField {field}"),
             Cause::OutOfRange(field) => write!(f, "L4 OutOfRange {field}"),
-            Cause::TooManyLines => write!(f, "L5 TooManyLines"),
+            Cause::TooManyLines => f.write_str("L5 TooManyLines"),
         }
     }
 }
 
 /// Why a reader gives no more records.
-#[derive(Clone, Copy, Debug, PartialEq, Eq, Hash)]
+#[derive(Clone, Copy, Debug, PartialEq, Eq)]
 pub enum ReadStop {
     /// This line, counted from 1, is the first that is refused.
     Refused { line: u64, cause: Cause },
@@ -113,7 +113,7 @@ impl fmt::Display for ReadStop {
     fn fmt<W: fmt::Write>(&self, f: &mut fmt::Formatter<W>) -> fmt::Result {
         match self {
             ReadStop::Refused { line, cause } => write!(f, "refused line {line} {cause}"),
-            ReadStop::Device => write!(f, "stopped Device"),
+            ReadStop::Device => f.write_str("stopped Device"),
         }
     }
 }

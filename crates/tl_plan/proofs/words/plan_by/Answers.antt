@@ -6,12 +6,12 @@ use Rattle.clap.specs.Faults.{fault_of, is_simple_and_free}
 use Rattle.clap.specs.Kinds.{HasKind}
 use Rattle.clap.specs.declared.error.kind.ErrorKind.TheVariants.{OutOfMemory}
 use Rattle.tl_plan.proofs.WordsLemmas.{stops_for, is_free-command_line}
-use Rattle.tl_plan.proofs.words.plan.Goals as goal
+use Rattle.tl_plan.proofs.words.plan_by.Goals as goal
 
 pub returns-in-Err-clause-stops : goal.returns-in-Err-clause-stops
 returns-in-Err-clause-stops g c =
     let words = map g.S.AsStr.text c.args.words.now in
-    let same = c.in_ok-command.ensures in
+    let same = c.requires in
     let error = c.in-Err.error in
     stops_for words (kind_of error) _ c.stop_of.ensures.stop
     (subst (λ (app : App). takes app words ≡ true → kind_of error ≡ OutOfMemory) same c.in-Err.ensures.passes)
