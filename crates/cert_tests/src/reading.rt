@@ -20,9 +20,9 @@ fn has_text(certificate: &Certificate, text: &[u8]) -> bool {
 
 /// The line in which the text ends, counted from 1.
 fn last_line(text: &[u8]) -> u128 {
-    let mut line = 1;
+    let mut line: u128 = 1;
     for byte in text {
-        line += u128::from(*byte == b'\n');
+        line = line.saturating_add(u128::from(*byte == b'\n'));
     }
     line
 }
