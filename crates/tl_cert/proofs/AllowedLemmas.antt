@@ -6,11 +6,11 @@ use Rattle.tl_cert.specs.declared.line_kind.NodeStart.TheVariants.{Inner, Leaf}
 use Rattle.tl_cert.specs.declared.parts.DartLists.{DartLists}
 use Rattle.tl_cert.specs.declared.parts.DartLists.TheVariants.{Rounds, Walks}
 use Rattle.tl_cert.specs.Certificates.{IsNumber, AreCountsInRange}
-use Rattle.tl_cert.specs.Text.{head_line, counts_line, numbered_line, end_line}
+use Rattle.tl_cert.specs.Text.{head_line, counts_line, numbered_line}
 use Rattle.tl_cert.specs.Keeping.Kinds.{node_line, NodeFits, children_told}
 use Rattle.tl_cert.specs.Keeping.Parts.{letter_of, among}
 use Rattle.tl_cert.specs.Keeping.Steps.{State, start, headed, counted, tree, rounds, walks, ended, Steps, CanHave, roots}
-use Rattle.tl_cert.proofs.StepLemmas.{leads, IsNumberStep}
+use Rattle.tl_cert.proofs.StepLemmas.{leads}
 
 -- a number behind a letter, of which this holds
 abbrev pub Tells : ℕ → (ℕ → Type 0) → List ℕ → Type 0

@@ -1,5 +1,5 @@
 -- Parts that are collected one after the other.
-use Rattle.std.proofs.Common.{◌≡◌, ℕ, ◌<◌, List, [], ◌∷◌, ◌++◌, Option, None, Some, Result, Ok, Err, refl, sym, ap, subst, ◌∙◌, arith}
+use Rattle.std.proofs.Common.{◌≡◌, ℕ, List, [], Option, None, Some, Result, Ok, Err, refl, sym, subst, ◌∙◌}
 use Rattle.std.specs.Option.{IfSome}
 use Rattle.tl_cert.specs.declared.place.Place.{Place}
 use Rattle.tl_cert.specs.declared.place.Place.TheVariants.{Start}
@@ -11,9 +11,9 @@ use Rattle.tl_cert.specs.declared.stop.CertStop.{CertStop}
 use Rattle.tl_cert.specs.declared.stop.CertStop.TheVariants.{Text, Memory, Device}
 use Rattle.tl_cert.specs.Certificates.{TheCertificate, IsCertificate}
 use Rattle.tl_cert.specs.Beginnings.{IsTextOf, IsRefused}
-use Rattle.tl_cert.specs.Given.{with_part, parts_left}
-use Rattle.tl_cert.specs.Reading.{GivesAt, Gives, GoesOn, StopsReading, unread, lines_of, standing_of, source_of, whole, TellsFailure}
-use Rattle.tl_cert.specs.Keeping.Collecting.{Collects, Follows, left_of}
+use Rattle.tl_cert.specs.Given.{with_part}
+use Rattle.tl_cert.specs.Reading.{GivesAt, Gives, GoesOn, StopsReading, unread, lines_of, standing_of, whole, TellsFailure}
+use Rattle.tl_cert.specs.Keeping.Collecting.{Collects, Follows}
 
 -- where the reader reads
 pub gives_here : {R : Type 0} (remaining : R → Option (List ℕ)) (old new : CertReader R) (answer : Result (Option CertPart) CertStop) (place : Place)

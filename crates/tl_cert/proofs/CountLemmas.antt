@@ -1,7 +1,6 @@
 -- Which numbers of nodes trees can have.
-use Rattle.std.proofs.Common.{◌≡◌, ◌⊎◌, inl, inr, ℕ, zero, suc, ◌+◌, ◌-◌, ◌*◌, ◌<◌, ◌≤◌, ◌%◌, ◌/◌, refl, sym, ◌∙◌, arith, IsTrue, nat_eq}
-use Rattle.std.proofs.lemmas.Bool.Decides.{nat_tests}
-use Rattle.tl_cert.specs.Keeping.Steps.{CanHave, roots}
+use Rattle.std.proofs.Common.{◌≡◌, inl, inr, ℕ, zero, suc, ◌-◌, ◌<◌, ◌≤◌, ◌%◌, ◌/◌, arith}
+use Rattle.tl_cert.specs.Keeping.Steps.{CanHave}
 
 -- in version 1, where the others are an even number
 pub by_halves : (version p r : ℕ) → version < 2 → (p ≡ r → ⊥) → (p ≡ 0 → ⊥) → p ≤ r → (r - p) % 2 ≡ 0 → CanHave version p r

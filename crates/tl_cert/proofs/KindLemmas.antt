@@ -1,10 +1,10 @@
 -- What a line spells, and that it spells nothing else.
-use Rattle.std.proofs.Common.{◌≡◌, ◌⊎◌, inl, inr, ℕ, zero, suc, List, [], ◌∷◌, ◌++◌, ◌<◌, ◌≤◌, refl, sym, ap, ◌∙◌, arith, decimal, append_assoc, append-nil}
+use Rattle.std.proofs.Common.{◌≡◌, ℕ, zero, suc, List, [], ◌∷◌, ◌++◌, refl, sym, ◌∙◌, arith, append_assoc, append-nil}
 use Rattle.std.specs.Fmt.{digits}
 use Rattle.tl_geom.specs.declared.rect.Rect.{Rect}
 use Rattle.tl_cert.specs.declared.certificate.Counts.{Counts}
 use Rattle.tl_cert.specs.Certificates.{IsNumber, IsInRange, AreCountsInRange}
-use Rattle.tl_cert.specs.Text.{number, coordinate, rectangle, head_line, numbered_line, children}
+use Rattle.tl_cert.specs.Text.{number, rectangle, head_line, numbered_line, children}
 use Rattle.tl_cert.specs.Keeping.Words.{StartsWord, counts_words}
 use Rattle.tl_cert.proofs.WordLemmas.{number_only, coordinate_only_32, numbered_only}
 use Rattle.tl_cert.proofs.RectangleLemmas.{rectangle_before}

@@ -1,12 +1,14 @@
 -- A line that was found in a buffer, and lines that can't be there.
-use Rattle.std.proofs.Common.{◌≡◌, ℕ, ◌+◌, ◌-◌, ◌<◌, ◌≤◌, suc, List, [], ◌∷◌, ◌++◌, length, take, drop, Option, None, Some, refl, sym, ap, subst, ◌∙◌, arith, append_assoc, append-nil, length-append, slice_index, take_all}
+use Rattle.std.proofs.Common.{◌≡◌, ℕ, ◌+◌, ◌-◌, ◌<◌, suc, List, [], ◌∷◌, ◌++◌, length, take, drop, Option, None, Some, Err, sym, ap, subst, ◌∙◌, arith, append_assoc, append-nil, length-append, slice_index, take_all}
 use Rattle.std.specs.Option.{IfSome}
 use Rattle.std.specs.Io.KnownBytes.{Keeps, Consumes, IsAtEnd, prepend_known}
 use Rattle.std.proofs.lemmas.List.{take-append-le}
 use Rattle.std.proofs.Math.Seq.{take-append-add}
 use Rattle.tl_record.specs.Lines.{line_feed, line_feeds, first_line, joined_lines}
-use Rattle.tl_record.proofs.LineLemmas.{first_line_before, split_at_feed, feeds-split, feeds-append}
-use Rattle.tl_cert.specs.Keeping.Lines.{NoLineBegins, IsShort}
+use Rattle.tl_record.proofs.LineLemmas.{first_line_before, split_at_feed, feeds-split}
+use Rattle.tl_cert.specs.declared.stop.CertStop.{CertStop}
+use Rattle.tl_cert.specs.declared.stop.CertStop.TheVariants.{Text}
+use Rattle.tl_cert.specs.Keeping.Lines.{NoLineBegins, LineState, ReadsLine, EndsText}
 
 -- the first line of a text is one
 pub first_only : (front other x y : List ℕ) → line_feeds front ≡ 0 → line_feeds other ≡ 0 → front ++ line_feed ∷ x ≡ other ++ line_feed ∷ y → front ≡ other
@@ -68,3 +70,12 @@ line_taken (Some text) (Some xs) bytes after line len kept within feed rest is =
 pub some_left : (bytes : List ℕ) (left : Option (List ℕ)) → (length bytes ≡ 0 → ⊥) → IfSome (prepend_known bytes left) (λ text. text ≡ [] → ⊥)
 some_left bytes None some = tt
 some_left bytes (Some xs) some = λ none. some (let sizes = ap length none in omega (arith, sizes, length-append bytes xs))
+
+-- a stop with this line
+pub stops_with : {R V : Type 0} (remaining : R → Option (List ℕ)) (spelt : V → List ℕ) (fits : V → Type 0) (old new : LineState R) (stop : CertStop) (line : ℕ) → stop ≡ Text line
+    → ReadsLine remaining spelt fits old new (Err (Text line)) → ReadsLine remaining spelt fits old new (Err stop)
+stops_with remaining spelt fits old new stop line is reads = subst (λ s. ReadsLine remaining spelt fits old new (Err s)) (sym is) reads
+
+pub ends_with : {R : Type 0} (remaining : R → Option (List ℕ)) (old : LineState R) (stop : CertStop) (line : ℕ) → stop ≡ Text line
+    → EndsText remaining old (Err (Text line)) → EndsText remaining old (Err stop)
+ends_with remaining old stop line is ends = subst (λ s. EndsText remaining old (Err s)) (sym is) ends

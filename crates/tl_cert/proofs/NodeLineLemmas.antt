@@ -1,5 +1,5 @@
 -- The first line of a leaf, where it is no inner node's.
-use Rattle.std.proofs.Common.{◌≡◌, ◌<◌, ◌≤◌, ℕ, zero, suc, arith, List, ◌∷◌, ◌++◌, Option, None, Some, MatchOption, refl, sym, ap, ◌∙◌}
+use Rattle.std.proofs.Common.{◌≡◌, ◌≤◌, ℕ, zero, suc, arith, List, ◌∷◌, ◌++◌, Option, None, Some, MatchOption, refl, sym, ◌∙◌}
 use Rattle.tl_geom.specs.declared.rect.Rect.{Rect}
 use Rattle.tl_cert.specs.declared.line_kind.NodeStart.{NodeStart}
 use Rattle.tl_cert.specs.declared.line_kind.NodeStart.TheVariants.{Inner, Leaf}

@@ -1,5 +1,5 @@
 -- Lines that are taken one after the other, and texts that are refused behind some of them.
-use Rattle.std.proofs.Common.{◌≡◌, ◌⊎◌, inl, inr, ℕ, zero, suc, ◌+◌, ◌-◌, ◌<◌, ◌≤◌, List, [], ◌∷◌, ◌++◌, length, map, All, Option, None, Some, Result, Err, refl, sym, ap, subst, ◌∙◌, arith, append_assoc, length-append, codes}
+use Rattle.std.proofs.Common.{◌≡◌, ℕ, suc, ◌+◌, ◌<◌, List, [], ◌∷◌, ◌++◌, length, map, All, Option, None, Some, Err, refl, sym, ap, subst, ◌∙◌, arith, append_assoc, length-append, codes}
 use Rattle.std.specs.Option.{IfSome}
 use Rattle.std.specs.Io.KnownBytes.{Consumes}
 use Rattle.std.proofs.KnownBytes.{Consumes-trans, Consumes-nil}
@@ -13,8 +13,8 @@ use Rattle.tl_cert.specs.declared.stop.CertStop.TheVariants.{Text, Memory, Devic
 use Rattle.tl_cert.specs.Certificates.{IsNumber}
 use Rattle.tl_cert.specs.Text.{numbered_line, item_lines, dart_lines}
 use Rattle.tl_cert.specs.Keeping.Lines.{LineState, NoLineBegins, TakesLines, ReadsLine, taken, untaken}
-use Rattle.tl_cert.specs.Keeping.Parts.{IsStuckAfter, Sticks, Reads, letter_of, among}
-use Rattle.tl_cert.specs.Keeping.Steps.{State, tree, rounds, walks, ended, Steps, at_item, at_round, at_round_dart, at_walk, at_walk_dart, Runs, no_line, first_line, IsStuck}
+use Rattle.tl_cert.specs.Keeping.Parts.{IsStuckAfter, Reads, letter_of, among}
+use Rattle.tl_cert.specs.Keeping.Steps.{State, tree, ended, Steps, at_item, at_round, at_round_dart, at_walk, at_walk_dart, Runs, no_line, first_line}
 use Rattle.tl_cert.proofs.StepLemmas.{step_short}
 use Rattle.tl_cert.proofs.RunLemmas.{runs-append}
 use Rattle.tl_cert.proofs.Completing.{joined-append}

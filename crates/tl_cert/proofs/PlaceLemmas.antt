@@ -15,8 +15,8 @@ use Rattle.tl_cert.specs.declared.place.CertPart.{CertPart}
 use Rattle.tl_cert.specs.declared.place.CertPart.TheVariants as part
 use Rattle.tl_cert.specs.declared.stop.CertStop.{CertStop}
 use Rattle.tl_cert.specs.declared.stop.CertStop.TheVariants.{Text, Memory, Device}
-use Rattle.tl_cert.specs.Certificates.{TheCertificate, IsCertificate, MakesCertificate, HasNumbersInRange, IsNumber, IsNode, IsNodeInRange, IsDartList, AreDartLists}
-use Rattle.tl_cert.specs.Text.{numbered_line, item_lines, nodes_lines, tree_lines, rounds_lines, walks_lines, darts_lines, all_darts_lines, end_line, head_line, counts_line, certificate_lines}
+use Rattle.tl_cert.specs.Certificates.{TheCertificate, IsCertificate, IsNumber, IsNode, IsNodeInRange, IsDartList, AreDartLists}
+use Rattle.tl_cert.specs.Text.{numbered_line, item_lines, nodes_lines, tree_lines, rounds_lines, walks_lines, darts_lines, all_darts_lines, end_line, head_line, counts_line}
 use Rattle.tl_cert.specs.Given.{AreGiven, given_lines, with_part, parts_left}
 use Rattle.tl_cert.specs.Keeping.Lines.{LineState, taken, untaken, TakesLines, ReadsLine, EndsText}
 use Rattle.tl_cert.specs.Keeping.Parts.{IsTree, AreDarts, AreVersionedCounts, versioned_lines, IsStuckAfter, Reads}

@@ -1,5 +1,5 @@
 -- What a part, an end or a stop says of the whole text, whatever parts were given before.
-use Rattle.std.proofs.Common.{◌≡◌, ℕ, ◌+◌, List, [], ◌∷◌, ◌++◌, length, length-append, Option, None, Some, Result, Ok, Err, refl, sym, ap, subst, ◌∙◌, arith, append_assoc, codes}
+use Rattle.std.proofs.Common.{◌≡◌, ℕ, ◌+◌, List, [], ◌∷◌, ◌++◌, length, length-append, Option, None, Some, Result, Ok, Err, sym, ap, subst, ◌∙◌, arith, append_assoc, codes}
 use Rattle.std.specs.Option.{IfSome}
 use Rattle.std.specs.Io.KnownBytes.{Consumes}
 use Rattle.tl_record.specs.Lines.{joined_lines}
@@ -20,7 +20,7 @@ use Rattle.tl_cert.specs.Keeping.Lines.{LineState, taken, untaken}
 use Rattle.tl_cert.specs.Keeping.Collecting.{state_of}
 use Rattle.tl_cert.specs.Keeping.Parts.{IsStuckAfter}
 use Rattle.tl_cert.specs.Keeping.Places.{ReadsPart, state_at}
-use Rattle.tl_cert.specs.Keeping.Steps.{State, start, headed, counted, tree, rounds, walks, Steps, at_head, at_counts, at_rounds, at_walks, Runs, no_line, first_line}
+use Rattle.tl_cert.specs.Keeping.Steps.{start, headed, counted, tree, rounds, walks, at_head, at_counts, at_rounds, at_walks, Runs, no_line, first_line}
 use Rattle.tl_cert.proofs.RunLemmas.{runs-append, tree_runs, rounds_run, walks_run, all_rounds_run}
 use Rattle.tl_cert.proofs.Completing.{joined-append}
 use Rattle.tl_cert.proofs.Stuck.{stuck_is_refused}

@@ -1,5 +1,5 @@
 -- Nodes of a tree that are read one after the other.
-use Rattle.std.proofs.Common.{◌≡◌, ◌⊎◌, inl, inr, ℕ, zero, suc, ◌+◌, ◌-◌, ◌*◌, ◌<◌, ◌≤◌, List, [], ◌∷◌, ◌++◌, length, length-append, All, Option, refl, sym, ap, subst, ◌∙◌, arith, append_assoc, append-nil, codes}
+use Rattle.std.proofs.Common.{◌≡◌, inl, inr, ℕ, zero, suc, ◌+◌, ◌-◌, ◌<◌, ◌≤◌, List, [], ◌∷◌, ◌++◌, length, length-append, Option, refl, sym, ap, subst, ◌∙◌, arith, append_assoc, append-nil, codes}
 use Rattle.std.proofs.lemmas.List.{length-map}
 use Rattle.std.proofs.lemmas.List.Elements.{All-nil, All-cons, All-append}
 use Rattle.arrayvec.specs.ArrayVec.{ArrayVec}
@@ -13,7 +13,7 @@ use Rattle.tl_cert.specs.declared.line_kind.NodeStart.{NodeStart}
 use Rattle.tl_cert.specs.Keeping.Kinds.{ChildrenFit, NodeFits, children_told, node_line}
 use Rattle.tl_cert.specs.Keeping.Lines.{LineState, TakesLines}
 use Rattle.tl_cert.specs.Keeping.Parts.{AreItems, IsTreeSoFar, IsNodeRead, Stand}
-use Rattle.tl_cert.specs.Keeping.Steps.{State, counted, tree, CanHave, roots, Steps, at_nodes, at_inner, at_leaf, Runs, no_line, first_line}
+use Rattle.tl_cert.specs.Keeping.Steps.{counted, tree, CanHave, roots, at_nodes, at_inner, at_leaf, Runs, no_line, first_line}
 use Rattle.tl_cert.proofs.PartLemmas.{takes_more}
 use Rattle.tl_cert.proofs.RunLemmas.{runs-append, items_run}
 use Rattle.tl_cert.proofs.StandingTrees.{standing_trees}

@@ -1,6 +1,6 @@
 //! The lines of a certificate's text, one after the other.
 
-ghost use Rattle.std.specs.Prelude.{◌≡◌, ◌<◌, ◌^◌, []};
+ghost use Rattle.std.specs.Prelude.{◌≡◌, ◌+◌, ◌<◌, ◌^◌, []};
 
 use crate::line_kind::LineKind;
 use crate::stop::CertStop;
@@ -30,6 +30,16 @@ impl Lines {
         }
     }
 
+    // The stop where no line follows those that were taken.
+    fn refusal(&self) -> CertStop
+        requires { self.now.lines < 2 ^ 127 }
+        ensures { result ≡ CertStop.Text (self.now.lines + 1) }
+    {
+        CertStop::Text {
+            line: self.lines + 1,
+        }
+    }
+
     /// Takes the next line, which has to be of this kind, and gives what it spells.
     pub fn read<R: Source, K: LineKind>(
         &mut self,
@@ -49,16 +59,10 @@ impl Lines {
                     self.lines += 1;
                     Ok(value)
                 }
-                None => Err(CertStop::Text {
-                    line: self.lines + 1,
-                }),
+                None => Err(self.refusal()),
             },
-            Fetched::Rest => Err(CertStop::Text {
-                line: self.lines + 1,
-            }),
-            Fetched::Full => Err(CertStop::Text {
-                line: self.lines + 1,
-            }),
+            Fetched::Rest => Err(self.refusal()),
+            Fetched::Full => Err(self.refusal()),
             Fetched::Failed => Err(CertStop::Device),
         }
     }
@@ -71,15 +75,11 @@ impl Lines {
         ensures same_reference { R.reference source.new ≡ R.reference source.old }
     {
         if !self.buffer.bytes().is_empty() {
-            return Err(CertStop::Text {
-                line: self.lines + 1,
-            });
+            return Err(self.refusal());
         }
         match self.buffer.fetch(source) {
             Ok(0) => Ok(()),
-            Ok(_) => Err(CertStop::Text {
-                line: self.lines + 1,
-            }),
+            Ok(_) => Err(self.refusal()),
             Err(_) => Err(CertStop::Device),
         }
     }

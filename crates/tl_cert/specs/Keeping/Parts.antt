@@ -1,5 +1,5 @@
 -- What reading a part takes, and where a text is refused on the way.
-use Rattle.std.specs.Prelude.{◌≡◌, ℕ, suc, ◌+◌, ◌*◌, ◌<◌, ◌≤◌, ◌⊎◌, List, [], ◌∷◌, ◌++◌, length, All, Vec, Option, Result, Ok, Err, codes, ⊤}
+use Rattle.std.specs.Prelude.{◌≡◌, ℕ, suc, ◌+◌, ◌*◌, ◌≤◌, ◌⊎◌, List, [], ◌∷◌, ◌++◌, length, All, Vec, Option, Result, Ok, Err, codes, ⊤}
 use Rattle.std.specs.Global.{Global}
 use Rattle.std.specs.Option.{IfSome}
 use Rattle.arrayvec.specs.ArrayVec.{ArrayVec}
@@ -13,9 +13,9 @@ use Rattle.tl_cert.specs.declared.parts.DartLists.TheVariants.{Rounds, Walks}
 use Rattle.tl_cert.specs.declared.stop.CertStop.{CertStop}
 use Rattle.tl_cert.specs.declared.stop.CertStop.TheVariants.{Text, Memory, Device}
 use Rattle.tl_cert.specs.Certificates.{IsNumber, IsCounted, IsDartList, IsNode, IsNodeInRange, AreCountsInRange}
-use Rattle.tl_cert.specs.Text.{head_line, counts_line, tree_lines, nodes_lines, item_lines, darts_lines, numbered_line}
+use Rattle.tl_cert.specs.Text.{head_line, counts_line, nodes_lines, numbered_line}
 use Rattle.tl_cert.specs.Keeping.Lines.{LineState, taken, untaken, TakesLines}
-use Rattle.tl_cert.specs.Keeping.Steps.{State, start, headed, counted, tree, rounds, walks, CanHave, roots, Runs, IsStuck}
+use Rattle.tl_cert.specs.Keeping.Steps.{State, counted, tree, rounds, walks, CanHave, roots, Runs, IsStuck}
 
 -- the nodes are p trees, by what follows each
 abbrev pub Stand : List TreeNode → ℕ → Type 0

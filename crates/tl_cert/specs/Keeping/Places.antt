@@ -1,5 +1,5 @@
 -- What a reader of parts keeps at each place, and what a part adds.
-use Rattle.std.specs.Prelude.{◌≡◌, ℕ, ◌+◌, ◌*◌, ◌^◌, ◌<◌, ◌≤◌, ◌⊎◌, List, ◌++◌, length, Option, None, Some, Result, Ok, Err, ⊤}
+use Rattle.std.specs.Prelude.{◌≡◌, ℕ, ◌+◌, ◌*◌, ◌^◌, ◌<◌, ◌≤◌, List, ◌++◌, Option, None, Some, Result, Ok, Err, ⊤}
 use mathlib.Core.HLevel.{×_prop, Unit-prop}
 use native.Mathlib.Bridge.{le_prop}
 use Rattle.std.specs.Option.{IfSome}

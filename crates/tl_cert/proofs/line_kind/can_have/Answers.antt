@@ -1,4 +1,4 @@
-use Rattle.std.proofs.Common.{◌≡◌, arith}
+use Rattle.std.proofs.Common.{arith}
 use Rattle.std.proofs.lemmas.Bool.Decides.{nat_tests}
 use Rattle.tl_cert.proofs.CountLemmas.{by_halves, even_others}
 use Rattle.tl_cert.proofs.line_kind.can_have.Goals as goal

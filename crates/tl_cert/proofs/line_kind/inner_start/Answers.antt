@@ -1,4 +1,4 @@
-use Rattle.std.proofs.Common.{◌≡◌, ◌++◌, ◌∙◌, refl, sym}
+use Rattle.std.proofs.Common.{◌++◌, ◌∙◌, sym}
 use Rattle.tl_cert.specs.Text.{rectangle, children}
 use Rattle.tl_cert.proofs.KindLemmas.{behind_rectangle, children_start}
 use Rattle.tl_cert.proofs.WordLemmas.{same_rest}

@@ -1,4 +1,4 @@
-use Rattle.std.proofs.Common.{◌≡◌, ◌++◌, ◌∙◌, refl, sym}
+use Rattle.std.proofs.Common.{◌++◌, ◌∙◌, refl, sym}
 use Rattle.tl_cert.specs.Text.{rectangle, number}
 use Rattle.tl_cert.proofs.KindLemmas.{behind_rectangle}
 use Rattle.tl_cert.proofs.WordLemmas.{same_rest}

@@ -1,4 +1,4 @@
-use Rattle.std.proofs.Common.{◌≡◌, arith}
+use Rattle.std.proofs.Common.{arith}
 use Rattle.tl_cert.proofs.KindLemmas.{number_is}
 use Rattle.tl_cert.proofs.line_kind.small_number.Goals as goal
 

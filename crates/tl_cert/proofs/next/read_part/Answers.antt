@@ -1,6 +1,6 @@
-use Rattle.std.proofs.Common.{◌≡◌, ◌∷◌, [], Ok, Err, None, arith, sym, subst}
-use Rattle.tl_cert.specs.declared.place.Place.TheVariants.{Counted, Treed, Rounds, Walks}
-use Rattle.tl_cert.specs.Text.{numbered_line, tree_lines}
+use Rattle.std.proofs.Common.{◌∷◌, [], Err, arith, sym, subst}
+use Rattle.tl_cert.specs.declared.place.Place.TheVariants.{Treed, Rounds}
+use Rattle.tl_cert.specs.Text.{numbered_line}
 use Rattle.tl_cert.specs.Keeping.Places.{ReadsPart}
 use Rattle.tl_cert.specs.Keeping.Steps.{at_rounds}
 use Rattle.tl_cert.specs.Keeping.Lines.{at}

@@ -1,4 +1,4 @@
-use Rattle.std.proofs.Common.{◌≡◌, ◌∷◌, [], Ok, Err, None, arith, subst}
+use Rattle.std.proofs.Common.{◌≡◌, ◌∷◌, [], Err, arith, subst}
 use Rattle.tl_cert.specs.declared.place.Place.TheVariants.{Rounds, Walks}
 use Rattle.tl_cert.specs.Text.{numbered_line}
 use Rattle.tl_cert.specs.Keeping.Places.{ReadsPart}

@@ -1,4 +1,4 @@
-use Rattle.std.proofs.Common.{◌≡◌, ◌∷◌, [], Ok, Err, None, arith, subst}
+use Rattle.std.proofs.Common.{◌≡◌, Ok, Err, None, arith, subst}
 use Rattle.tl_cert.specs.declared.place.Place.TheVariants.{Walks}
 use Rattle.tl_cert.specs.Keeping.Places.{ReadsPart}
 use Rattle.tl_cert.specs.Keeping.Lines.{at}

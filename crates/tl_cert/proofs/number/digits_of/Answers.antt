@@ -1,5 +1,5 @@
-use Rattle.std.proofs.Common.{◌≡◌, ◌≤◌, ◌<◌, ◌^◌, refl, sym, arith}
-use Rattle.tl_cert.proofs.NumberLemmas.{decimal_may, decimal_digits, digit_read, digit_kept, digit_gone, no_digit, value_grows, value_small, value_is, digits_spell}
+use Rattle.std.proofs.Common.{refl, sym, arith}
+use Rattle.tl_cert.proofs.NumberLemmas.{decimal_may, decimal_digits, no_digit, value_is, digits_spell}
 use Rattle.tl_cert.proofs.number.digits_of.Goals as goal
 
 pub returns-then-not-may_spell : goal.returns-then-not-may_spell

@@ -1,10 +1,10 @@
-use Rattle.std.proofs.Common.{◌≡◌, ◌∷◌, [], ℕ}
+use Rattle.std.proofs.Common.{◌∷◌, [], ℕ}
 use Rattle.tl_cert.specs.declared.certificate.Counts.{Counts}
 use Rattle.tl_cert.specs.Keeping.Parts.{AreVersionedCounts, versioned_lines}
 use Rattle.tl_cert.specs.Text.{head_line, counts_line}
 use Rattle.tl_cert.specs.Keeping.Steps.{start, headed, no_line, first_line, at_head}
 use Rattle.tl_cert.specs.Keeping.Lines.{at}
-use Rattle.tl_cert.proofs.PartLemmas.{takes_none, takes_more, line_missing}
+use Rattle.tl_cert.proofs.PartLemmas.{takes_none, line_missing}
 use Rattle.tl_cert.proofs.AllowedLemmas.{allowed_head, allowed_counts}
 use Rattle.tl_cert.proofs.parts.read_counts.Goals as goal
 

@@ -1,4 +1,4 @@
-use Rattle.std.proofs.Common.{◌≡◌, ◌∷◌, [], ◌+◌, ◌-◌, ◌<◌, ◌≤◌, ◌++◌, ℕ, suc, List, Vec, length, length-append, subst, sym, ap, ◌∙◌, codes, arith}
+use Rattle.std.proofs.Common.{◌≡◌, ◌∷◌, [], ◌-◌, ◌≤◌, ◌++◌, ℕ, suc, Vec, length, length-append, subst, sym, ap, ◌∙◌, arith}
 use Rattle.std.specs.Global.{Global}
 use Rattle.tl_cert.specs.Certificates.{IsNumber}
 use Rattle.tl_cert.specs.Text.{numbered_line, dart_lines, darts_lines}

@@ -1,4 +1,4 @@
-use Rattle.std.proofs.Common.{◌≡◌, ◌∷◌, [], ◌+◌, ◌-◌, ◌<◌, ◌++◌, ℕ, List, length, length-append, subst, sym, ap, ◌∙◌, codes, arith}
+use Rattle.std.proofs.Common.{◌≡◌, ◌∷◌, [], ◌+◌, ◌-◌, ℕ, length, length-append, subst, sym, ap, ◌∙◌, arith}
 use Rattle.arrayvec.specs.ArrayVec.{ArrayVec}
 use Rattle.tl_cert.specs.Text.{numbered_line, item_lines}
 use Rattle.tl_cert.specs.Keeping.Lines.{TakesLines}

@@ -1,4 +1,4 @@
-use Rattle.std.proofs.Common.{◌≡◌, ◌∷◌, [], ◌+◌, ℕ, suc, List}
+use Rattle.std.proofs.Common.{◌∷◌, [], ℕ, suc}
 use Rattle.arrayvec.specs.ArrayVec.{ArrayVec}
 use Rattle.tl_tree.specs.declared.node.TreeNode.{TreeNode}
 use Rattle.tl_cert.specs.declared.line_kind.NodeStart.TheVariants.{Inner, Leaf}

@@ -1,4 +1,4 @@
-use Rattle.std.proofs.Common.{◌≡◌, ◌∷◌, [], ◌+◌, ◌-◌, ◌++◌, ℕ, suc, List, Vec, refl, sym, ap, subst, ◌∙◌, length, arith}
+use Rattle.std.proofs.Common.{◌≡◌, ◌∷◌, [], ◌+◌, ◌-◌, ℕ, suc, Vec, refl, sym, subst, ◌∙◌, length, arith}
 use Rattle.std.specs.Global.{Global}
 use Rattle.tl_tree.specs.declared.node.TreeNode.{TreeNode}
 use Rattle.tl_cert.specs.Text.{numbered_line, nodes_lines, tree_lines}

@@ -1,4 +1,4 @@
-use Rattle.std.proofs.Common.{◌≡◌, ◌++◌, ◌∷◌, [], ◌∙◌, refl, sym, ap, append-nil, length, arith}
+use Rattle.std.proofs.Common.{◌≡◌, [], ◌∙◌, sym, ap, append-nil, length, arith}
 use Rattle.tl_cert.specs.Keeping.Words.{counts_words}
 use Rattle.tl_cert.proofs.KindLemmas.{behind_counts}
 use Rattle.tl_cert.proofs.WordLemmas.{same_rest}

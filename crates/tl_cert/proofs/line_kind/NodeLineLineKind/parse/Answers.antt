@@ -1,4 +1,4 @@
-use Rattle.std.proofs.Common.{◌≡◌, ◌+◌, ◌∙◌, arith}
+use Rattle.std.proofs.Common.{◌≡◌, ◌+◌, arith}
 use Rattle.std.proofs.lemmas.Bool.{false≢true}
 use Rattle.tl_cert.specs.Keeping.Kinds.{children_told}
 use Rattle.tl_cert.proofs.CountLemmas.{can_same}

@@ -1,4 +1,4 @@
-use Rattle.std.proofs.Common.{◌≡◌, Ok, Err, Some, None, refl, sym, subst}
+use Rattle.std.proofs.Common.{Ok, Some, None, refl, subst}
 use Rattle.tl_cert.specs.Keeping.Places.{ReadsPart}
 use Rattle.tl_cert.specs.Keeping.Lines.{at}
 use Rattle.tl_cert.proofs.ReaderLemmas.{given_part, given_end, at_place, stop_at_place}
