@@ -78,9 +78,11 @@ impl Items for Streets {
 
     fn conflict(&self, i: u32, j: u32) -> Option<Contact> {
         self.tests.set(self.tests.get().wrapping_add(1));
-        match contact(self.segments[i as usize], self.segments[j as usize]) {
-            Contact::Crossing(at) => Some(Contact::Crossing(at)),
-            _ => None,
+        let told = contact(self.segments[i as usize], self.segments[j as usize]);
+        if matches!(told, Contact::Crossing(_)) {
+            Some(told)
+        } else {
+            None
         }
     }
 }

@@ -17,3 +17,4 @@ pub mod Whole
 mod Marks8
 mod Rows
 mod Roots
+mod Crosses

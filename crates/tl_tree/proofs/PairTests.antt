@@ -54,6 +54,15 @@ meeting-overlaps r q e =
       in_second = record { west = omega (arith, ints, clamps); east = omega (arith, ints, clamps, h); south = omega (arith, ints, clamps); north = omega (arith, ints, clamps, k) };
     }
 
+-- the same of the tests in either direction
+pub meeting_by : (r q : Rect) → int_max r.xmin q.xmin ≤ℤ int_min r.xmax q.xmax → int_max r.ymin q.ymin ≤ℤ int_min r.ymax q.ymax → AreMeeting r q
+meeting_by r q h k = meeting-overlaps r q (both-true _ _ (le-true _ _ h) (le-true _ _ k))
+
+pub by_meeting : (r q : Rect) → AreMeeting r q → (int_max r.xmin q.xmin ≤ℤ int_min r.xmax q.xmax) × (int_max r.ymin q.ymin ≤ℤ int_min r.ymax q.ymax)
+by_meeting r q m =
+    let e = overlaps-meeting r q m in
+    (true-le _ _ (first-true _ _ e), true-le _ _ (second-true (int_le (int_max r.xmin q.xmin) (int_min r.xmax q.xmax)) _ e))
+
 -- ---- meeting
 
 pub meeting-equal : (b : ℕ → Rect) (i j : ℕ) → i ≡ j → meeting b i j ≡ 0

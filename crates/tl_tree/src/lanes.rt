@@ -15,11 +15,33 @@ pub fn bounds_of_eight<I: Items>(items: &I, some: &[u32]) -> Rect8
     requires { AreBelow (I.count items.now) some.now }
     ensures { AreBoundsOf (I.bounds_of items.now) some.now result }
 {
+    if some.len() == 8 {
+        return bounds_of_whole(items, some);
+    }
     let mut rects = [NOTHING; 8];
     for k in 0..some.len().min(8) {
         rects[k] = items.bounds(some[k]);
     }
     Rect8::gather(&rects)
+}
+
+/// The bounds of eight items, as a full leaf has them.
+#[inline]
+fn bounds_of_whole<I: Items>(items: &I, some: &[u32]) -> Rect8
+    requires some { AreBelow (I.count items.now) some.now }
+    requires eight { length some.now ≡ 8 }
+    ensures { AreBoundsOf (I.bounds_of items.now) some.now result }
+{
+    Rect8::gather(&[
+        items.bounds(some[0]),
+        items.bounds(some[1]),
+        items.bounds(some[2]),
+        items.bounds(some[3]),
+        items.bounds(some[4]),
+        items.bounds(some[5]),
+        items.bounds(some[6]),
+        items.bounds(some[7]),
+    ])
 }
 
 /// Whether the first one is marked.
@@ -58,12 +80,21 @@ fn fill_roots<W: Trees>(trees: &W, rects: &mut [Rect], from: usize)
 
 /// Which of the first eight trees may have rectangles that meet a rectangle: those that aren't marked have not. Of few
 /// trees all are marked, since to gather their rectangles takes longer than to test each.
+#[inline]
 pub fn meeting_roots<W: Trees>(trees: &W, rect: Rect) -> u8
     ensures { Includes result (RootMeets (W.forest trees.now) rect) }
 {
     if trees.are_few() {
         return u8::MAX;
     }
+    eight_meeting_roots(trees, rect)
+}
+
+/// The same, with the rectangles gathered.
+#[inline(never)]
+fn eight_meeting_roots<W: Trees>(trees: &W, rect: Rect) -> u8
+    ensures { Includes result (RootMeets (W.forest trees.now) rect) }
+{
     let mut rects = [NOTHING; 8];
     fill_roots(trees, &mut rects, 0);
     Rect8::gather(&rects).meets8(rect)

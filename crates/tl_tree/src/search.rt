@@ -1,5 +1,7 @@
 //! The search for two items that conflict.
-ghost use Rattle.std.specs.Prelude.{◌≡◌, ◌<◌, ◌+◌, length, get_or, drop, IsFalse};
+ghost use Rattle.std.specs.Prelude.{◌≡◌, ◌<◌, ◌≤◌, ◌+◌, ◌↔◌, length, get_or, drop, IsFalse, IsTrue};
+ghost use Rattle.std.specs.Prelude.{◌≤ℤ◌};
+ghost use Rattle.std.specs.Int.{int_max, int_min};
 ghost use Rattle.tl_geom.specs.Rectangle.{AreMeeting};
 ghost use Rattle.tl_tree.specs.Fits.{AreBelow, CoversAll, Fits};
 ghost use Rattle.tl_tree.specs.Keeping.Marking.{Includes, AreMarksOf, RootMeets, AreBoundsOf};
@@ -29,11 +31,11 @@ pub struct Progress<C> {
 
 /// Keeps the conflict that ends a search.
 #[inline(never)]
-fn keep_conflict<C>(progress: &mut Progress<C>, conflict: Conflict<C>)
+fn keep_conflict<C>(progress: &mut Progress<C>, i: u32, j: u32, c: C)
     requires { progress.old.found ≡ None }
-    ensures { progress.new.found ≡ Some conflict }
+    ensures { progress.new.found ≡ Some (record { i = i; j = j; c = c }) }
 {
-    match progress.found.replace(conflict) {
+    match progress.found.replace(Conflict { i, j, c }) {
         None => {}
         Some(_) => unreachable!(),
     }
@@ -62,7 +64,7 @@ fn test_meeting<I: Items>(items: &I, i: u32, j: u32, progress: &mut Progress<I::
             true
         }
         Some(c) => {
-            keep_conflict(progress, Conflict { i: low, j: high, c });
+            keep_conflict(progress, low, high, c);
             false
         }
     }
@@ -133,19 +135,18 @@ fn test_marked<I: Items>(
     true
 }
 
-/// Tests an item against each of some items, of which the bounds of the first eight are given, and a rectangle that is
-/// around all of them. Where its own bounds don't meet that one, nothing is tested.
+/// Tests an item against each of some items, at most eight, whose bounds are given.
+#[inline]
 fn test_row<I: Items>(
     items: &I,
     i: u32,
     others: &[u32],
-    around: Rect,
     bounds: &Rect8,
     progress: &mut Progress<I::C>,
 ) -> bool
     requires item { i < I.count items.now }
     requires others { AreBelow (I.count items.now) others.now }
-    requires around { CoversAll (I.bounds_of items.now) around others.now }
+    requires few { length others.now ≤ 8 }
     requires bounds { AreBoundsOf (I.bounds_of items.now) others.now bounds.now }
     requires nothing_found { progress.old.found ≡ None }
     ensures { MayLeave (I.count items.now) (I.tells items.now)
@@ -153,16 +154,34 @@ fn test_row<I: Items>(
         (AllRow (AreFree (I.tells items.now)) i others.now) progress.old progress.new result }
 {
     let own = items.bounds(i);
-    if !own.meets(around) {
-        return true;
-    }
-    if others.len() > 8 {
-        return test_each(items, i, others, progress);
-    }
     test_marked(items, i, others, u32::from(bounds.meets8(own)), progress)
 }
 
-/// Tests each of some items against each of some others, which a rectangle is around.
+/// Tests each of some items against each of some others, one by one.
+#[inline(never)]
+fn test_all<I: Items>(
+    items: &I,
+    some: &[u32],
+    others: &[u32],
+    progress: &mut Progress<I::C>,
+) -> bool
+    requires some { AreBelow (I.count items.now) some.now }
+    requires others { AreBelow (I.count items.now) others.now }
+    requires nothing_found { progress.old.found ≡ None }
+    ensures { MayLeave (I.count items.now) (I.tells items.now)
+        (cross_sum (meeting (I.bounds_of items.now)) some.now others.now)
+        (AllCross (AreFree (I.tells items.now)) some.now others.now) progress.old progress.new result }
+{
+    for i in some {
+        if !test_each(items, *i, others, progress) {
+            return false;
+        }
+    }
+    true
+}
+
+/// Tests each of some items against each of some others, which a rectangle is around. Items whose own bounds don't meet
+/// that one are passed over, all of a leaf at once.
 pub fn test_cross<I: Items>(
     items: &I,
     some: &[u32],
@@ -178,11 +197,25 @@ pub fn test_cross<I: Items>(
         (cross_sum (meeting (I.bounds_of items.now)) some.now others.now)
         (AllCross (AreFree (I.tells items.now)) some.now others.now) progress.old progress.new result }
 {
+    if some.len() > 8 || others.len() > 8 {
+        return test_all(items, some, others, progress);
+    }
+    let (mut near, mut place) = (u32::from(bounds_of_eight(items, some).meets8(around)), 0);
+    if near == 0 {
+        return true;
+    }
     let bounds = bounds_of_eight(items, others);
-    for i in some {
-        if !test_row(items, *i, others, around, &bounds, progress) {
+    while near != 0 {
+        let passed = near.trailing_zeros();
+        if some.len() - place <= passed as usize {
+            return true;
+        }
+        place += passed as usize;
+        if !test_row(items, some[place], others, &bounds, progress) {
             return false;
         }
+        near = (near >> passed) / 2;
+        place += 1;
     }
     true
 }
@@ -204,6 +237,9 @@ fn test_behind<I: Items>(
         (AllRow (AreFree (I.tells items.now)) (get_or some.now k 0) (drop (k + 1) some.now))
         progress.old progress.new result }
 {
+    if some.len() - k == 1 {
+        return true;
+    }
     if some.len() > 8 {
         return test_each(items, some[k], &some[k + 1..], progress);
     }
@@ -234,6 +270,34 @@ pub fn test_pairs<I: Items>(items: &I, some: &[u32], progress: &mut Progress<I::
     true
 }
 
+/// Whether some point is in both rectangles, told without a branch: in a walk no one foresees whether it is so.
+#[inline]
+#[tactic(auto, using(crate::proofs::PairTests::meeting_by, crate::proofs::PairTests::by_meeting))]
+fn do_meet(r: Rect, q: Rect) -> bool
+    ensures { IsTrue result ↔ AreMeeting r q }
+{
+    are_both(
+        do_overlap(r.xmin, r.xmax, q.xmin, q.xmax),
+        do_overlap(r.ymin, r.ymax, q.ymin, q.ymax),
+    )
+}
+
+/// Whether both are so.
+#[inline]
+fn are_both(first: bool, second: bool) -> bool
+    ensures { IsTrue result ↔ (IsTrue first × IsTrue second) }
+{
+    first & second
+}
+
+/// Whether some number lies from `low` to `high` and from `low2` to `high2`.
+#[inline]
+fn do_overlap(low: i32, high: i32, low2: i32, high2: i32) -> bool
+    ensures { IsTrue result ↔ (int_max low low2 ≤ℤ int_min high high2) }
+{
+    low.max(low2) <= high.min(high2)
+}
+
 /// Tests each item of a tree against each item of another. Where their rectangles don't meet, nothing is tested.
 #[cycle(between)]
 pub fn search_two<I: Items, W: Trees>(
@@ -251,7 +315,7 @@ pub fn search_two<I: Items, W: Trees>(
         (AllCross (AreFree (I.tells items.now))
         (items_below W.forest tree.now.below) (items_below W.forest other.now.below)) progress.old progress.new result }
 {
-    if !tree.rect.meets(other.rect) {
+    if !do_meet(tree.rect, other.rect) {
         return true;
     }
     match (&tree.below, &other.below) {

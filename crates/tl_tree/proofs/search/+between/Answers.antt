@@ -61,15 +61,15 @@ search_marked-returns g t c =
     (λ h. all_cross-split see (AreFree tells) xs (see c.args.others.now) c.in-Some.other.rect c.in-Some.other.below (see c.in-Some.rest) c.in-Some.ensures h.0 h.1)
     (leaves_both n tells _ _ _ _ _ _ _ c.search_marked.result (goes _ _ _ _ _ _ _ c.search_if_marked.ensures c.if-not-search_if_marked.false) c.search_marked.ensures)
 
-pub search_two-returns-then-not-meets : goal.search_two-returns-then-not-meets
-search_two-returns-then-not-meets g t c =
+pub search_two-returns-then-not-do_meet : goal.search_two-returns-then-not-do_meet
+search_two-returns-then-not-do_meet g t c =
     let b = g.I.Items.bounds_of c.args.items.now in
     let tree = c.args.tree.now in
     let other = c.args.other.now in
     let see = g.W.Trees.forest in
     let xs = items_below see tree.below in
     let ys = items_below see other.below in
-    let no : AreMeeting tree.rect other.rect → ⊥ = λ h. false≢true (sym c.if-not-meets.true ∙ c.meets.ensures.1 h) in
+    let no : AreMeeting tree.rect other.rect → ⊥ = λ h. false≢true (sym c.if-not-do_meet.true ∙ c.do_meet.ensures.1 h) in
     let m : cross_sum (meeting b) xs ys ≡ 0 = cross-apart b tree.rect other.rect xs ys no c.requires.tree.covers c.requires.other.covers in
     record { left = omega (arith, m); free = cross-free b (g.I.Items.count c.args.items.now) (g.I.Items.tells c.args.items.now) (g.met.I.Items.apart c.args.items.now) tree.rect other.rect xs ys no c.requires.tree.known c.requires.other.known c.requires.tree.covers c.requires.other.covers; nothing_found = c.requires.nothing_found }
 

@@ -1,0 +1,10 @@
+use Rattle.std.proofs.Common.{arith}
+use Rattle.std.proofs.lemmas.Int.{ints, clamps}
+use Rattle.tl_tree.proofs.PairTests.{meeting_by, by_meeting}
+use Rattle.tl_tree.proofs.search.do_meet.Goals as goal
+
+pub returns : goal.returns
+returns c = (
+  λ h. let k = c.are_both.ensures.0 h in meeting_by c.args.r c.args.q (omega (arith, ints, clamps, c.do_overlap.ensures.0 k.0)) (omega (arith, ints, clamps, c.do_overlap-2.ensures.0 k.1)),
+  λ m. let k = by_meeting c.args.r c.args.q m in c.are_both.ensures.1 (c.do_overlap.ensures.1 (omega (arith, ints, clamps, k.0)), c.do_overlap-2.ensures.1 (omega (arith, ints, clamps, k.1))),
+)
