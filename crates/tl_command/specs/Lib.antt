@@ -2,3 +2,4 @@
 pub mod Running
 pub mod Starting
 pub mod Stops
+pub mod Certificates

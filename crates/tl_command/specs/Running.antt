@@ -6,7 +6,7 @@ use Rattle.std.specs.Prelude.{◌≡◌, ◌⊎◌, ℕ, List, Option, None, Som
 use Rattle.tl_record.specs.declared.stop.Cause.{Cause}
 use Rattle.tl_record.specs.Failures.{one_more}
 use Rattle.tl_record.specs.declared.layout.Layout.{Layout}
-use Rattle.tl_record.specs.Layout.{layout_with}
+use Rattle.tl_record.specs.Layout.{tiger_2006, layout_with}
 use Rattle.tl_record.specs.Messages.{refusal_text}
 use Rattle.tl_record.specs.Records.{records_of}
 use Rattle.tl_map.specs.declared.fault.MapFault.{MapFault}
@@ -21,10 +21,13 @@ use Rattle.tl_text.specs.Printing.{shown_text, listing_text}
 use Rattle.tl_output.specs.Writing.{line_of}
 use Rattle.tl_command.specs.declared.stop.Stop.{Stop}
 use Rattle.tl_command.specs.declared.stop.Stop.TheVariants.{Refused, Memory, Device}
-use Rattle.tl_command.specs.declared.stop.TheConstants.{DONE, MAP_FAULT, REFUSED, STOPPED}
+use Rattle.tl_command.specs.declared.stop.TheConstants.{DONE, MAP_FAULT, CERT_FAULT, REFUSED, STOPPED}
 use Rattle.tl_plan.specs.declared.plan.Plan.{Plan}
-use Rattle.tl_plan.specs.declared.plan.Plan.TheVariants.{Show, Landmarks}
-use Rattle.tl_plan.specs.CommandLine.{options_of}
+use Rattle.tl_plan.specs.declared.plan.Plan.TheVariants.{Show, Landmarks, Convert}
+use Rattle.tl_cert.specs.Certificates.{TheCertificate, IsCertificate}
+use Rattle.tl_cert.specs.Text.{certificate_text}
+use Rattle.tl_cert.specs.Beginnings.{IsTextOf, IsRefused}
+use Rattle.tl_command.specs.Certificates.{converted_text, text_fault_text}
 use Rattle.tl_command.specs.Stops.{stop_text}
 
 -- no line of the text is refused, and the fault is true of its records
@@ -49,14 +52,45 @@ pub record IsListed (layout : Layout) (known : Option (List ℕ)) (wrote : List 
   pub written : wrote (listing_text map)
   pub drawn : IfSome known (λ text. IsReadFrom (records_of layout text) map)
 
--- the column table that a plan's records are read by
-abbrev pub layout_of : Plan → Layout
-layout_of plan = layout_with (options_of plan)
+-- the line of a conversion was written, and into the other certificate, of which `made` says that a text was written, the
+-- text of the certificate that was read, in version 2
+pub record IsConverted (known : Option (List ℕ)) (made wrote : List ℕ → Type 0) : Type 0 where
+  pub certificate : TheCertificate
+  pub is : IsCertificate certificate
+  pub read : IfSome known (λ text. IsTextOf certificate text)
+  pub kept : made (certificate_text (record certificate { version = 2 }))
+  pub written : wrote (line_of (converted_text certificate))
 
--- what the plan asks for was written
-abbrev pub IsAnswered : Plan → Option (List ℕ) → (List ℕ → Type 0) → Type 0
-IsAnswered (Show options files) known wrote = IsShown (layout_with options) known wrote
-IsAnswered (Landmarks options files) known wrote = IsListed (layout_with options) known wrote
+-- no certificate has the text, and the line that none has was named
+pub record NamesBadLine (known : Option (List ℕ)) (wrote : List ℕ → Type 0) : Type 0 where
+  pub line : ℕ
+  pub written : wrote (line_of (text_fault_text line))
+  pub holds : IfSome known (λ text. IsRefused text line)
+
+-- the column table that a plan's records are read by; a conversion reads none
+abbrev pub layout_of : Plan → Layout
+layout_of (Show options files) = layout_with options
+layout_of (Landmarks options files) = layout_with options
+layout_of (Convert cert made) = tiger_2006
+
+-- the plan's command leaves certificates alone
+abbrev pub ReadsNoCertificate : Plan → Type 0
+ReadsNoCertificate (Show options files) = ⊤
+ReadsNoCertificate (Landmarks options files) = ⊤
+ReadsNoCertificate (Convert cert made) = ⊥
+
+-- the answer of a plan whose command reads records was written
+abbrev pub AnswersRecords : Plan → Option (List ℕ) → (List ℕ → Type 0) → Type 0
+AnswersRecords (Show options files) records wrote = IsShown (layout_with options) records wrote
+AnswersRecords (Landmarks options files) records wrote = IsListed (layout_with options) records wrote
+AnswersRecords (Convert cert made) records wrote = ⊤
+
+-- what the plan asks for was written: `records` and `cert` are the texts of the records and of the certificate, where they
+-- are known
+abbrev pub IsAnswered : Plan → Option (List ℕ) → Option (List ℕ) → (List ℕ → Type 0) → (List ℕ → Type 0) → Type 0
+IsAnswered (Show options files) records cert made wrote = IsShown (layout_with options) records wrote
+IsAnswered (Landmarks options files) records cert made wrote = IsListed (layout_with options) records wrote
+IsAnswered (Convert from to) records cert made wrote = IsConverted cert made wrote
 
 -- the line of a fault was written, and it is true
 pub record NamesFault (layout : Layout) (known : Option (List ℕ)) (wrote : List ℕ → Type 0) : Type 0 where
@@ -71,13 +105,19 @@ pub record NamesRefusal (layout : Layout) (known : Option (List ℕ)) (wrote : L
   pub written : wrote (line_of (refusal_text line cause))
   pub first : IfSome known (λ text. IsFirstRefusal layout text line cause)
 
+-- the plan's command reads a certificate, and no certificate has its text
+abbrev pub FaultsCertificate : Plan → Option (List ℕ) → (List ℕ → Type 0) → Type 0
+FaultsCertificate (Show options files) known wrote = ⊥
+FaultsCertificate (Landmarks options files) known wrote = ⊥
+FaultsCertificate (Convert cert made) known wrote = NamesBadLine known wrote
+
 -- the line of a stop was written: of a want of memory, or of a device where one failed
 abbrev pub NamesStop : (List ℕ → Type 0) → Type 0 → Type 0
 NamesStop wrote failed = wrote (line_of (stop_text Memory)) ⊎ (wrote (line_of (stop_text Device)) × failed)
 
 -- the statuses that a run answers with
 abbrev pub IsRunStatus : ℕ → Type 0
-IsRunStatus status = ((status ≡ DONE) ⊎ (status ≡ MAP_FAULT)) ⊎ ((status ≡ REFUSED) ⊎ (status ≡ STOPPED))
+IsRunStatus status = ((status ≡ DONE) ⊎ (status ≡ MAP_FAULT)) ⊎ ((status ≡ CERT_FAULT) ⊎ ((status ≡ REFUSED) ⊎ (status ≡ STOPPED)))
 
 -- a read failed: the source counted it
 abbrev pub FailsToRead : {S : Type 0} → (S → ℕ) → S → S → Type 0

@@ -8,7 +8,7 @@ use Rattle.tl_command.specs.declared.stop.Stop.TheVariants.{Refused, Memory, Dev
 use Rattle.tl_command.specs.declared.stop.TheConstants.{USAGE}
 use Rattle.tl_plan.specs.CommandLine.{command_line, AskFor, AreAUse, HasMistake, HasAnswer}
 use Rattle.tl_plan.specs.Plans.{escape}
-use Rattle.tl_command.specs.Running.{IsRunStatus, IsAnswered, NamesFault, NamesRefusal, layout_of}
+use Rattle.tl_command.specs.Running.{IsRunStatus, IsAnswered, NamesFault, NamesRefusal, FaultsCertificate, layout_of}
 
 -- the statuses of the program
 abbrev pub IsStartStatus : ℕ → Type 0
@@ -16,11 +16,15 @@ IsStartStatus status = IsRunStatus status ⊎ (status ≡ USAGE)
 
 -- the words ask for a plan, and its answer was written
 abbrev pub AnswersSome : List Text → (List ℕ → Type 0) → Type 0
-AnswersSome words wrote = (plan : Plan) × AskFor words plan × IsAnswered plan None wrote
+AnswersSome words wrote = (plan : Plan) × AskFor words plan × IsAnswered plan None None (λ text. ⊤) wrote
 
 -- the words ask for a plan, and a fault of its records was named
 abbrev pub FaultsSome : List Text → (List ℕ → Type 0) → Type 0
 FaultsSome words wrote = (plan : Plan) × AskFor words plan × NamesFault (layout_of plan) None wrote
+
+-- the words ask for a plan, and the line of its certificate's text that no certificate has was named
+abbrev pub FaultsText : List Text → (List ℕ → Type 0) → Type 0
+FaultsText words wrote = (plan : Plan) × AskFor words plan × FaultsCertificate plan None wrote
 
 -- the words ask for a plan, and the first refusal of its records was told
 abbrev pub RefusesSome : List Text → (List ℕ → Type 0) → Type 0

@@ -4,6 +4,8 @@
 //! of records, and [`stop`] says why where it can't. The program's `main` only collects the words.
 #![tactic(auto)]
 
+pub mod convert;
+mod made;
 pub mod open;
 pub mod run;
 pub mod stop;

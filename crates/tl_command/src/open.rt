@@ -3,12 +3,14 @@
 ghost use Rattle.std.specs.Prelude.{◌≡◌, ◌⊎◌, false, ⊤, None, IfOk, IfErr, length, vec_len, map, string_bytes};
 ghost use Rattle.tl_text.specs.Joining.{joined_bytes};
 ghost use Rattle.tl_output.specs.Writing.{Writes, TriesToWrite, FailsToWrite};
-ghost use Rattle.tl_command.specs.declared.stop.TheConstants.{DONE, MAP_FAULT, REFUSED, STOPPED, USAGE};
+ghost use Rattle.tl_command.specs.declared.stop.TheConstants.{DONE, MAP_FAULT, CERT_FAULT, REFUSED, STOPPED, USAGE};
 ghost use Rattle.tl_command.specs.declared.stop.Stop.TheVariants.{Memory, Device};
 ghost use Rattle.tl_command.specs.Running.{IsAnswered, NamesFault, NamesRefusal, NamesStop, IsRunStatus, layout_of};
+ghost use Rattle.tl_command.specs.Running.{FaultsCertificate, ReadsNoCertificate};
 ghost use Rattle.tl_command.specs.Starting.{IsStartStatus, ShowsUsage, ShowsHelp, AnswersSome, FaultsSome, RefusesSome};
-ghost use Rattle.tl_command.specs.Starting.{StopsOpening};
+ghost use Rattle.tl_command.specs.Starting.{StopsOpening, FaultsText};
 
+use crate::made::MadeFile;
 use crate::run::run;
 use crate::stop::{DONE, Stop, USAGE, stopped};
 use std::alloc::Global;
@@ -43,12 +45,14 @@ pub fn start<R: Files, W: Sink, E: Sink>(
     // The words ask for a plan, and the output or `err` grew by the line that its run writes.
     ensures fault { result ≡ MAP_FAULT
         → FaultsSome (map string_bytes words.now) (Writes W.contents W.failure_count out.old out.new) }
+    ensures bad_text { result ≡ CERT_FAULT
+        → FaultsText (map string_bytes words.now) (Writes W.contents W.failure_count out.old out.new) }
     ensures refused { result ≡ REFUSED
         → RefusesSome (map string_bytes words.now) (TriesToWrite E.contents E.failure_count err.old err.new) }
     ensures stopped { result ≡ STOPPED
         → NamesStop (TriesToWrite E.contents E.failure_count err.old err.new) ⊤ }
     // The other stream stays as it was.
-    ensures err_stays { (result ≡ DONE) ⊎ (result ≡ MAP_FAULT) → err.new ≡ err.old }
+    ensures err_stays { (result ≡ DONE) ⊎ ((result ≡ MAP_FAULT) ⊎ (result ≡ CERT_FAULT)) → err.new ≡ err.old }
     ensures out_stays { (result ≡ REFUSED) ⊎ (result ≡ USAGE) → out.new ≡ out.old }
 {
     match words::plan(alloc, words) {
@@ -93,23 +97,71 @@ pub fn open_and_run<R: Files, W: Sink, E: Sink>(
     err: &mut E,
 ) -> u8
     ensures status { IsRunStatus result }
-    ensures answered { result ≡ DONE → IsAnswered plan.now None (Writes W.contents W.failure_count out.old out.new) }
+    ensures answered { result ≡ DONE
+        → IsAnswered plan.now None None (λ text. ⊤) (Writes W.contents W.failure_count out.old out.new) }
     ensures fault { result ≡ MAP_FAULT
         → NamesFault (layout_of plan.now) None (Writes W.contents W.failure_count out.old out.new) }
+    ensures bad_text { result ≡ CERT_FAULT
+        → FaultsCertificate plan.now None (Writes W.contents W.failure_count out.old out.new) }
     ensures refused { result ≡ REFUSED
         → NamesRefusal (layout_of plan.now) None (TriesToWrite E.contents E.failure_count err.old err.new) }
     ensures stopped { result ≡ STOPPED
         → NamesStop (TriesToWrite E.contents E.failure_count err.old err.new) ⊤ }
-    ensures err_stays { (result ≡ DONE) ⊎ (result ≡ MAP_FAULT) → err.new ≡ err.old }
+    ensures err_stays { (result ≡ DONE) ⊎ ((result ≡ MAP_FAULT) ⊎ (result ≡ CERT_FAULT)) → err.new ≡ err.old }
     ensures out_stays { result ≡ REFUSED → out.new ≡ out.old }
 {
     let readers = match open_all(rt, alloc, plan.files()) {
         Ok(readers) => readers,
         Err(stop) => return stopped(&stop, err),
     };
+    if let Plan::Convert { cert, made } = plan {
+        return open_and_convert(rt, alloc, plan, readers, (cert, made), out, err);
+    }
     let mut cert = Meter::new(io::empty());
     let mut made = MeterOut::new(io::sink());
     run_on_readers(alloc, plan, readers, &mut cert, &mut made, out, err)
+}
+
+// Opens the certificate that is read, and makes the file of the other name when its first byte is written.
+fn open_and_convert<R: Files, W: Sink, E: Sink>(
+    rt: &R,
+    alloc: Global,
+    plan: &Plan,
+    readers: Vec<R::File>,
+    names: (&String, &String),
+    out: &mut W,
+    err: &mut E,
+) -> u8
+    ensures status { IsRunStatus result }
+    ensures answered { result ≡ DONE
+        → IsAnswered plan.now None None (λ text. ⊤) (Writes W.contents W.failure_count out.old out.new) }
+    ensures fault { result ≡ MAP_FAULT
+        → NamesFault (layout_of plan.now) None (Writes W.contents W.failure_count out.old out.new) }
+    ensures bad_text { result ≡ CERT_FAULT
+        → FaultsCertificate plan.now None (Writes W.contents W.failure_count out.old out.new) }
+    ensures refused { result ≡ REFUSED
+        → NamesRefusal (layout_of plan.now) None (TriesToWrite E.contents E.failure_count err.old err.new) }
+    ensures stopped { result ≡ STOPPED
+        → NamesStop (TriesToWrite E.contents E.failure_count err.old err.new) ⊤ }
+    ensures err_stays { (result ≡ DONE) ⊎ ((result ≡ MAP_FAULT) ⊎ (result ≡ CERT_FAULT)) → err.new ≡ err.old }
+    ensures out_stays { result ≡ REFUSED → out.new ≡ out.old }
+{
+    let Ok(file) = File::open(rt, names.0.as_str()) else {
+        return stopped(&Stop::Device, err);
+    };
+    let Ok(reader) = BufReader::with_capacity(alloc, INPUT_BUFFER, file) else {
+        return stopped(&Stop::Memory, err);
+    };
+    let mut made = MadeFile::new(rt, names.1.as_str());
+    run_on_readers(
+        alloc,
+        plan,
+        readers,
+        &mut Meter::new(reader),
+        &mut made,
+        out,
+        err,
+    )
 }
 
 /// Does what the plan asks over these readers, which are read one after the other as one text, and gives the program's
@@ -125,8 +177,10 @@ pub fn run_on_readers<F: Read + Drop, S: Source, C: Sink, W: Sink, E: Sink>(
 ) -> u8
     ensures status { IsRunStatus result }
     ensures answered { result ≡ DONE
-        → IsAnswered plan.now (joined_bytes F.remaining false readers.items)
-        (Writes W.contents W.failure_count out.old out.new) }
+        → IsAnswered plan.now (joined_bytes F.remaining false readers.items) (S.remaining cert.old)
+        (Writes C.contents C.failure_count made.old made.new) (Writes W.contents W.failure_count out.old out.new) }
+    ensures bad_text { result ≡ CERT_FAULT
+        → FaultsCertificate plan.now (S.remaining cert.old) (Writes W.contents W.failure_count out.old out.new) }
     ensures fault { result ≡ MAP_FAULT
         → NamesFault (layout_of plan.now) (joined_bytes F.remaining false readers.items)
         (Writes W.contents W.failure_count out.old out.new) }
@@ -135,10 +189,10 @@ pub fn run_on_readers<F: Read + Drop, S: Source, C: Sink, W: Sink, E: Sink>(
         (TriesToWrite E.contents E.failure_count err.old err.new) }
     ensures stopped { result ≡ STOPPED
         → NamesStop (TriesToWrite E.contents E.failure_count err.old err.new) ⊤ }
-    ensures err_stays { (result ≡ DONE) ⊎ (result ≡ MAP_FAULT) → err.new ≡ err.old }
+    ensures err_stays { (result ≡ DONE) ⊎ ((result ≡ MAP_FAULT) ⊎ (result ≡ CERT_FAULT)) → err.new ≡ err.old }
     ensures out_stays { result ≡ REFUSED → out.new ≡ out.old }
-    ensures cert { cert.new ≡ cert.old }
-    ensures made { made.new ≡ made.old }
+    ensures cert { ReadsNoCertificate plan.now → cert.new ≡ cert.old }
+    ensures made { ReadsNoCertificate plan.now → made.new ≡ made.old }
 {
     let Ok(mut records) = joined_source(alloc, readers) else {
         return stopped(&Stop::Memory, err);

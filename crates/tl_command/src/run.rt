@@ -6,10 +6,12 @@ ghost use Rattle.tl_record.specs.Layout.{layout_with};
 ghost use Rattle.tl_text.specs.Printing.{shown_text, listing_text};
 ghost use Rattle.tl_output.specs.Writing.{Writes, TriesToWrite, FailsToWrite, CountsFailure, line_of};
 ghost use Rattle.std.specs.Io.KnownBytes.{Appends};
-ghost use Rattle.tl_command.specs.declared.stop.TheConstants.{DONE, MAP_FAULT, REFUSED, STOPPED};
-ghost use Rattle.tl_command.specs.Running.{IsAnswered, IsShown, IsListed, NamesFault, NamesRefusal, NamesStop};
+ghost use Rattle.tl_command.specs.declared.stop.TheConstants.{DONE, MAP_FAULT, CERT_FAULT, REFUSED, STOPPED};
+ghost use Rattle.tl_command.specs.Running.{IsAnswered, AnswersRecords, IsShown, IsListed, NamesFault, NamesRefusal, NamesStop};
+ghost use Rattle.tl_command.specs.Running.{FaultsCertificate, ReadsNoCertificate};
 ghost use Rattle.tl_command.specs.Running.{IsRunStatus, FailsToRead, StopsAnswer, KeepsReads, layout_of};
 
+use crate::convert::convert;
 use crate::stop::{DONE, MAP_FAULT, Stop, stopped};
 use std::alloc::Global;
 use std::io;
@@ -21,7 +23,7 @@ use tl_text::{print_chains, print_landmarks};
 
 /// Does what the plan asks and gives the program's exit status. Answers and faults go to `out`, refusals and stops to
 /// `err`. `cert` is the certificate that is read, and `made` takes the one that is written; a command that has none
-/// leaves them alone.
+/// leaves them alone, and one that reads no records leaves those alone.
 pub fn run<R: Source, S: Source, C: Sink, W: Sink, E: Sink>(
     alloc: Global,
     plan: &Plan,
@@ -35,27 +37,61 @@ pub fn run<R: Source, S: Source, C: Sink, W: Sink, E: Sink>(
 
     // The output grew by the answer.
     ensures answered { result ≡ DONE
-        → IsAnswered plan.now (R.remaining records.old) (Writes W.contents W.failure_count out.old out.new) }
+        → IsAnswered plan.now (R.remaining records.old) (S.remaining cert.old)
+        (Writes C.contents C.failure_count made.old made.new) (Writes W.contents W.failure_count out.old out.new) }
     // The output grew by the line of a fault that is true.
     ensures fault { result ≡ MAP_FAULT
         → NamesFault (layout_of plan.now) (R.remaining records.old) (Writes W.contents W.failure_count out.old out.new) }
+    // The output grew by the line of the certificate's text that no certificate has.
+    ensures bad_text { result ≡ CERT_FAULT
+        → FaultsCertificate plan.now (S.remaining cert.old) (Writes W.contents W.failure_count out.old out.new) }
     // The line of the first refusal was written to `err`, or the write of it failed.
     ensures refused { result ≡ REFUSED
         → NamesRefusal (layout_of plan.now) (R.remaining records.old) (TriesToWrite E.contents E.failure_count err.old err.new) }
     // The line of a stop was, or the write of it failed; of a device only where a read or a write failed.
     ensures stopped { result ≡ STOPPED
         → NamesStop (TriesToWrite E.contents E.failure_count err.old err.new)
-        (FailsToRead R.failure_count records.old records.new ⊎ FailsToWrite W.failure_count out.old out.new) }
+        ((FailsToRead R.failure_count records.old records.new ⊎ FailsToRead S.failure_count cert.old cert.new)
+        ⊎ (FailsToWrite C.failure_count made.old made.new ⊎ FailsToWrite W.failure_count out.old out.new)) }
 
     // The other stream stays as it was.
-    ensures err_stays { (result ≡ DONE) ⊎ (result ≡ MAP_FAULT) → err.new ≡ err.old }
+    ensures err_stays { (result ≡ DONE) ⊎ ((result ≡ MAP_FAULT) ⊎ (result ≡ CERT_FAULT)) → err.new ≡ err.old }
     ensures out_stays { result ≡ REFUSED → out.new ≡ out.old }
-    // No read failed where the run didn't stop.
+    // No read of records failed where the run didn't stop.
     ensures read_whole { result ≢ STOPPED → R.failure_count records.new ≡ R.failure_count records.old }
 
-    // No command reads or makes a certificate yet.
-    ensures cert { cert.new ≡ cert.old }
-    ensures made { made.new ≡ made.old }
+    // A command that reads records leaves certificates alone, and the other way round.
+    ensures cert { ReadsNoCertificate plan.now → cert.new ≡ cert.old }
+    ensures made { ReadsNoCertificate plan.now → made.new ≡ made.old }
+    ensures records { ¬ ReadsNoCertificate plan.now → records.new ≡ records.old }
+{
+    if let Plan::Convert { .. } = plan {
+        return convert(alloc, cert, made, out, err);
+    }
+    run_on_records(alloc, plan, records, out, err)
+}
+
+// Does what the plan asks of records.
+fn run_on_records<R: Source, W: Sink, E: Sink>(
+    alloc: Global,
+    plan: &Plan,
+    records: &mut R,
+    out: &mut W,
+    err: &mut E,
+) -> u8
+    ensures status { ((result ≡ DONE) ⊎ (result ≡ MAP_FAULT)) ⊎ ((result ≡ REFUSED) ⊎ (result ≡ STOPPED)) }
+    ensures answered { result ≡ DONE
+        → AnswersRecords plan.now (R.remaining records.old) (Writes W.contents W.failure_count out.old out.new) }
+    ensures fault { result ≡ MAP_FAULT
+        → NamesFault (layout_of plan.now) (R.remaining records.old) (Writes W.contents W.failure_count out.old out.new) }
+    ensures refused { result ≡ REFUSED
+        → NamesRefusal (layout_of plan.now) (R.remaining records.old) (TriesToWrite E.contents E.failure_count err.old err.new) }
+    ensures stopped { result ≡ STOPPED
+        → NamesStop (TriesToWrite E.contents E.failure_count err.old err.new)
+        (FailsToRead R.failure_count records.old records.new ⊎ FailsToWrite W.failure_count out.old out.new) }
+    ensures err_stays { (result ≡ DONE) ⊎ (result ≡ MAP_FAULT) → err.new ≡ err.old }
+    ensures out_stays { result ≡ REFUSED → out.new ≡ out.old }
+    ensures read_whole { result ≢ STOPPED → R.failure_count records.new ≡ R.failure_count records.old }
 {
     match answer(alloc, plan, records, out) {
         Ok(()) => DONE,
@@ -66,14 +102,14 @@ pub fn run<R: Source, S: Source, C: Sink, W: Sink, E: Sink>(
     }
 }
 
-// Writes the answer to what the plan asks for.
+// Writes the answer to what the plan asks of records.
 fn answer<R: Source, W: Sink>(
     alloc: Global,
     plan: &Plan,
     records: &mut R,
     out: &mut W,
 ) -> Result<(), MapStop>
-    ensures answered { OnOk result (IsAnswered plan.now (R.remaining records.old)
+    ensures answered { OnOk result (AnswersRecords plan.now (R.remaining records.old)
         (Writes W.contents W.failure_count out.old out.new)) }
     ensures stops { IfErr result (StopsAnswer (layout_of plan.now) (R.remaining records.old)
         (FailsToRead R.failure_count records.old records.new ⊎ FailsToWrite W.failure_count out.old out.new)
@@ -83,6 +119,8 @@ fn answer<R: Source, W: Sink>(
     match plan {
         Plan::Show { options, .. } => show(alloc, *options, records, out),
         Plan::Landmarks { options, .. } => landmarks(alloc, *options, records, out),
+        // It asks nothing of records.
+        Plan::Convert { .. } => Ok(()),
     }
 }
 

@@ -16,6 +16,9 @@ pub const DONE: u8 = 0;
 /// The status where the map has a fault.
 pub const MAP_FAULT: u8 = 1;
 
+/// The status where the certificate has a fault.
+pub const CERT_FAULT: u8 = 2;
+
 /// The status where a record is refused.
 pub const REFUSED: u8 = 3;
 

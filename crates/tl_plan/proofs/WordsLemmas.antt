@@ -1,7 +1,7 @@
 -- What words make a plan, and why others don't.
-use Rattle.std.proofs.Common.{◌≡◌, ◌≢◌, ◌⊎◌, inl, inr, true, List, [], Option, Some, None, refl, ap, ◌∙◌, map, option_map, unwrap_or, Global, Bor}
-use Rattle.clap.specs.Walk.{Text}
-use Rattle.clap.specs.Simple.{is_simple, subcommand_rows, subcommand_rows_of}
+use Rattle.std.proofs.Common.{◌≡◌, ◌≢◌, ◌⊎◌, inl, inr, true, List, [], Option, Some, None, refl, sym, ap, subst, ◌∙◌, map, option_map, unwrap_or, codes, Global, Bor}
+use Rattle.clap.specs.Walk.{Text, Row, first_of}
+use Rattle.clap.specs.Simple.{is_simple, subcommand_of, subcommand_rows, subcommand_rows_of}
 use Rattle.clap.specs.Matches.{subcommand_name_of}
 use Rattle.clap.specs.declared.parser.matches.ArgMatches.{ArgMatches}
 use Rattle.clap.specs.declared.parser.matches.SubCommand.{SubCommand}
@@ -16,7 +16,9 @@ use Rattle.clap.specs.declared.error.kind.ErrorKind.TheVariants.{OutOfMemory}
 use Rattle.clap.proofs.OnLiterals.{clap_on_literals}
 use Rattle.tl_plan.specs.declared.plan.PlanStop.{PlanStop}
 use Rattle.tl_plan.specs.declared.plan.PlanStop.TheVariants.{Usage, Help, Memory}
-use Rattle.tl_plan.specs.CommandLine.{command_line, IsStopOf, StopsPlanning}
+use Rattle.tl_plan.specs.CommandLine.{command_line, IsStopOf, StopsPlanning, Request, request_in, named_in, convert_name, show_name, landmarks_name, IsConversionOf, IsPlanOf, IsWhole, AreAUse, HasMistake}
+use Rattle.tl_plan.specs.declared.plan.Plan.{Plan}
+use Rattle.tl_plan.specs.declared.plan.Plan.TheVariants.{Show, Landmarks, Convert}
 
 pub is_simple-command_line : is_simple command_line ≡ true
 unfolding clap_on_literals
@@ -52,3 +54,45 @@ pub given_texts : (o : Option (Bor (List (Bor Text)))) (given : Option (List Tex
     → option_map (λ s. map (λ v. v.now) s.now) o ≡ given → none.now ≡ [] → map (λ v. v.now) (unwrap_or o none).now ≡ unwrap_or given []
 given_texts None given none e empty = ap (map (λ v. v.now)) empty ∙ ap (λ (g : Option (List Text)). unwrap_or g []) e
 given_texts (Some s) given none e empty = ap (λ (g : Option (List Text)). unwrap_or g []) e
+
+-- a text that was not given, and one that was
+pub not_given : (o : Option (Bor Text)) (given : Option Text) (text : Text) → option_map (λ v. v.now) o ≡ given → o ≡ None → given ≡ Some text → ⊥
+not_given o given text same none is = cc (ap (option_map (λ v. v.now)) none, same, is)
+
+pub is_given : (o : Option (Bor Text)) (given : Option Text) (v : Bor Text) → option_map (λ v. v.now) o ≡ given → o ≡ Some v → given ≡ Some v.now
+is_given o given v same is = sym same ∙ ap (option_map (λ v. v.now)) is
+
+-- the command that was found, with its rows
+both_found : (found : Option (Text × List Row)) (name : Text) (rows : List Row) → option_map (λ p. p.0) found ≡ Some name → option_map (λ p. p.1) found ≡ Some rows → found ≡ Some (name, rows)
+both_found None name rows named has = absurd (no_name name named)
+  where
+    no_name : (name : Text) → option_map (λ (p : Text × List Row). p.0) None ≡ Some name → ⊥
+    no_name name e = cc
+both_found (Some (n, r)) name rows named has = cc (named, has)
+
+-- no conversion has files
+files_differ : (r : Request) (name : Text) → r.command ≡ convert_name → r.command ≡ name → (name ≡ show_name) ⊎ (name ≡ landmarks_name) → ⊥
+files_differ r name one two (inl shows) = cc (one, two, shows)
+files_differ r name one two (inr lists) = cc (one, two, lists)
+
+-- what a conversion's arguments make of the request
+pub conversion_plan : (found : Option (Text × List Row)) (rows : List Row) (plan : Option Plan) → option_map (λ p. p.0) found ≡ Some convert_name → option_map (λ p. p.1) found ≡ Some rows
+    → IsConversionOf (first_of (codes "cert") rows) (first_of (codes "out") rows) plan → IsPlanOf (named_in found) plan
+conversion_plan found rows (Some (Convert from to)) named has is =
+    record { given = request_in (convert_name, rows); same = ap named_in (both_found found convert_name rows named has); named = refl; from = is.0; to = is.1 }
+conversion_plan found rows (Some (Show options files)) named has is = absurd is
+conversion_plan found rows (Some (Landmarks options files)) named has is = absurd is
+conversion_plan found rows None named has is = λ whole. elim whole [
+  | inl files ↦
+      let same : Some files.given ≡ Some (request_in (convert_name, rows)) = sym files.same ∙ ap named_in (both_found found convert_name rows named has) in
+      files_differ files.given files.given.command (let e : files.given ≡ request_in (convert_name, rows) = cc (same) in ap (λ r. r.command) e) refl files.named
+  | inr both ↦
+      let same : Some both.2.given ≡ Some (request_in (convert_name, rows)) = sym both.2.same ∙ ap named_in (both_found found convert_name rows named has) in
+      let e : both.2.given ≡ request_in (convert_name, rows) = cc (same) in
+      is both.0 both.1 (sym (ap (λ r. r.cert) e) ∙ both.2.from) (sym (ap (λ r. r.out) e) ∙ both.2.to)
+]
+
+-- words that clap takes, and that name no plan
+pub no_plan : (words : List Text) (found : Option (Text × List Row)) → found ≡ subcommand_of command_line words → IsPlanOf (named_in found) None → fault_of command_line words ≡ []
+    → (AreAUse words → ⊥) × (HasMistake (fault_of command_line words) ⊎ (fault_of command_line words ≡ []))
+no_plan words found is none right = (λ use_of. none (subst (λ f. IsWhole (named_in f)) (sym is) use_of.whole), inr right)

@@ -13,7 +13,7 @@ use Rattle.clap.specs.declared.error.kind.ErrorKind.{ErrorKind}
 use Rattle.clap.specs.declared.error.kind.ErrorKind.TheVariants.{DisplayHelp, DisplayVersion, OutOfMemory}
 use Rattle.tl_plan.specs.declared.plan.Plan.{Plan}
 use Rattle.tl_record.specs.declared.options.Options.{Options}
-use Rattle.tl_plan.specs.declared.plan.Plan.TheVariants.{Show, Landmarks}
+use Rattle.tl_plan.specs.declared.plan.Plan.TheVariants.{Show, Landmarks, Convert}
 use Rattle.tl_plan.specs.declared.plan.PlanStop.{PlanStop}
 use Rattle.tl_plan.specs.declared.plan.PlanStop.TheVariants.{Usage, Help, Memory}
 
@@ -42,19 +42,33 @@ show_name = codes "show"
 abbrev pub landmarks_name : Text
 landmarks_name = codes "landmarks"
 
+-- CERT and OUT: one name each
+abbrev pub name_argument : Text → Rule
+name_argument id = record (new_rule id) { value_names = 1; required = true }
+
+-- convert CERT OUT
+abbrev pub convert_name : Text
+convert_name = codes "convert"
+
+abbrev pub conversion_app : App
+conversion_app = with_rule (with_rule (new_app convert_name) (name_argument (codes "cert"))) (name_argument (codes "out"))
+
 -- the program, whose words begin behind its own name, and which wants a command
 abbrev pub program : App
 program = on_top (λ top. record top { no_binary_name = true; subcommand_required = true }) (new_app (codes "tigertopo"))
 
 abbrev pub command_line : App
-command_line = with_subcommand (with_subcommand program (command_on_files show_name).top) (command_on_files landmarks_name).top
+command_line =
+    with_subcommand (with_subcommand (with_subcommand program (command_on_files show_name).top) (command_on_files landmarks_name).top) conversion_app.top
 
--- a command, what was given for its FILES, if anything was, and the value of its --released, which is the word true where
--- the switch is given
+-- a command; what was given for its FILES, if anything was, and the value of its --released, which is the word true where
+-- the switch is given; and what was given for its CERT and its OUT
 pub record Request : Type 0 where
   pub command : Text
   pub files : Option (List Text)
   pub released : Option Text
+  pub cert : Option Text
+  pub out : Option Text
 
 -- a command that was found, with its arguments
 abbrev pub request_in : Text × List Row → Request
@@ -62,6 +76,8 @@ request_in found = record {
   command = found.0;
   files = all_of (codes "files") found.1;
   released = first_of (codes "released") found.1;
+  cert = first_of (codes "cert") found.1;
+  out = first_of (codes "out") found.1;
 }
 
 abbrev pub named_in : Option (Text × List Row) → Option Request
@@ -75,42 +91,66 @@ named_command words = named_in (subcommand_of command_line words)
 abbrev pub command_of : Plan → Text
 command_of (Show options files) = show_name
 command_of (Landmarks options files) = landmarks_name
+command_of (Convert cert made) = convert_name
 
 -- the names of the plan's files, in their order
 abbrev pub files_of : Plan → List Text
 files_of (Show options files) = map string_bytes files.items
 files_of (Landmarks options files) = map string_bytes files.items
-
--- what the plan chooses of the columns
-abbrev pub options_of : Plan → Options
-options_of (Show options files) = options
-options_of (Landmarks options files) = options
+files_of (Convert cert made) = []
 
 -- the switch is given, and says what is chosen of the columns; no command has one for zero-cell ids yet
 pub record AreChosen (released : Option Text) (options : Options) : Type 0 where
   pub switch : IsTrue options.released ↔ (released ≡ Some (codes "true"))
   pub no_cells : options.zero_cells ≡ false
 
--- the request is one for the plan: its command, its files word for word and in their order, and its switch
-pub record IsFor (request : Option Request) (plan : Plan) : Type 0 where
-  pub released : Option Text
-  pub same : request ≡ Some (record { command = command_of plan; files = Some (files_of plan); released = released })
-  pub chosen : AreChosen released (options_of plan)
-  pub some_file : 0 < length (files_of plan)
-
--- the request names a command of the program, and files
-pub record IsWhole (request : Option Request) : Type 0 where
-  pub command : Text
-  pub files : List Text
-  pub released : Option Text
-  pub same : request ≡ Some (record { command = command; files = Some files; released = released })
-  pub known : (command ≡ show_name) ⊎ (command ≡ landmarks_name)
+-- the request names a command with files: this one, these files word for word and in their order, and the switch
+pub record AsksOfFiles (request : Option Request) (command : Text) (options : Options) (files : List Text) : Type 0 where
+  pub given : Request
+  pub same : request ≡ Some given
+  pub named : given.command ≡ command
+  pub are : given.files ≡ Some files
+  pub chosen : AreChosen given.released options
   pub some_file : 0 < length files
+
+-- the request names a conversion of this certificate to that one, word for word
+pub record AsksToConvert (request : Option Request) (cert made : Text) : Type 0 where
+  pub given : Request
+  pub same : request ≡ Some given
+  pub named : given.command ≡ convert_name
+  pub from : given.cert ≡ Some cert
+  pub to : given.out ≡ Some made
+
+-- the request is one for the plan
+abbrev pub IsFor : Option Request → Plan → Type 0
+IsFor request (Show options files) = AsksOfFiles request show_name options (map string_bytes files.items)
+IsFor request (Landmarks options files) = AsksOfFiles request landmarks_name options (map string_bytes files.items)
+IsFor request (Convert cert made) = AsksToConvert request (string_bytes cert) (string_bytes made)
+
+-- the request names a command of the program with files, and some file
+pub record HasFiles (request : Option Request) : Type 0 where
+  pub given : Request
+  pub files : List Text
+  pub same : request ≡ Some given
+  pub named : (given.command ≡ show_name) ⊎ (given.command ≡ landmarks_name)
+  pub are : given.files ≡ Some files
+  pub some_file : 0 < length files
+
+-- the request names a command of the program, and what it wants: files, or two certificates
+abbrev pub IsWhole : Option Request → Type 0
+IsWhole request = HasFiles request ⊎ ((cert : Text) × (made : Text) × AsksToConvert request cert made)
 
 -- the plan that a request is for, if it is for one
 abbrev pub IsPlanOf : Option Request → Option Plan → Type 0
 IsPlanOf request (Some plan) = IsFor request plan
 IsPlanOf request None = ¬ IsWhole request
+
+-- the conversion of what was given for CERT and OUT, if both were
+abbrev pub IsConversionOf : Option Text → Option Text → Option Plan → Type 0
+IsConversionOf cert out (Some (Convert from to)) = (cert ≡ Some (string_bytes from)) × (out ≡ Some (string_bytes to))
+IsConversionOf cert out (Some (Show options files)) = ⊥
+IsConversionOf cert out (Some (Landmarks options files)) = ⊥
+IsConversionOf cert out None = (from to : Text) → cert ≡ Some from → out ≡ Some to → ⊥
 
 -- the words ask for the plan
 abbrev pub AskFor : List Text → Plan → Type 0

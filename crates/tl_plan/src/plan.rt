@@ -6,8 +6,8 @@ ghost use Rattle.tl_plan.specs.declared.plan.PlanStop.TheVariants.{Memory};
 use std::alloc::AllocError;
 use tl_record::Options;
 
-/// What the program is asked to do with record files, which are read one after the other as one text, by the columns
-/// that the options choose.
+/// What the program is asked to do: with record files, which are read one after the other as one text, by the columns
+/// that the options choose, or with a certificate.
 #[derive(Debug, Drop)]
 pub enum Plan {
     /// To print the chains.
@@ -19,6 +19,11 @@ pub enum Plan {
     Landmarks {
         options: Options,
         files: Vec<String>,
+    },
+    /// To read the certificate of this name, and to make one of the other name, in version 2.
+    Convert {
+        cert: String,
+        made: String,
     },
 }
 
@@ -33,6 +38,7 @@ impl Plan {
         match self {
             Plan::Show { files, .. } => files.as_slice(),
             Plan::Landmarks { files, .. } => files.as_slice(),
+            Plan::Convert { .. } => &[],
         }
     }
 }

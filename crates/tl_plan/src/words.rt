@@ -9,7 +9,8 @@ ghost use Rattle.clap.specs.Matches.{found_of};
 ghost use Rattle.clap.specs.declared.builder.command.Command.TheViews.{out-Command as fields_of};
 ghost use Rattle.tl_plan.specs.CommandLine.{program, command_line, command_on_files as app_on_files};
 ghost use Rattle.tl_plan.specs.CommandLine.{released_argument as released_rule, files_argument as files_rule};
-ghost use Rattle.tl_plan.specs.CommandLine.{AreChosen, AskFor, StopsPlanning, IsStopOf, IsPlanOf, named_in};
+ghost use Rattle.tl_plan.specs.CommandLine.{conversion_app, name_argument as name_rule};
+ghost use Rattle.tl_plan.specs.CommandLine.{AreChosen, AskFor, StopsPlanning, IsStopOf, IsPlanOf, IsConversionOf, named_in};
 ghost use Rattle.tl_plan.specs.Plans.{plain_text, HasNoEscape, ShowsNoEscape};
 
 use crate::plan::{Plan, PlanStop};
@@ -25,6 +26,7 @@ const EXAMPLES: &str = "\
 Examples:
   tigertopo show TGR24001.RT1 TGR24001.RT2    prints each chain's TLID and points
   tigertopo landmarks --released TGR24001.RT* prints each landmark and its polygons
+  tigertopo convert OLD.CERT NEW.CERT         writes a certificate anew in version 2
 
 Exit status:
   0   done, or help was asked for
@@ -54,6 +56,16 @@ is `landmarks=K`.
 
 Example:
   tigertopo landmarks --released TGR24001.RT*";
+
+const CONVERT_ABOUT: &str = "Reads a certificate and writes it in version 2";
+
+const CONVERT_EXAMPLE: &str = "\
+OUT is made when CERT was read whole, and a file of that name is written over. The last line is
+`converted nodes=N rounds=M walks=W`; of a text that is no certificate's, `certificate fault K1
+Text line N` with the line that none has.
+
+Example:
+  tigertopo convert OLD.CERT NEW.CERT";
 
 /// The plan that the words after the program's name stand for. `PlanStop::Usage` comes for words that are no command
 /// of the program, no words among them, and `PlanStop::Help` for those that ask for help; both come with the text that
@@ -118,7 +130,27 @@ fn plan_of(alloc: Global, matches: &ArgMatches<'_>) -> Result<Option<Plan>, Allo
         let options = options_of(landmarks);
         return Ok(Some(Plan::Landmarks { options, files }));
     }
+    if let Some(convert) = matches.subcommand_matches("convert") {
+        return conversion_of(alloc, convert);
+    }
     Ok(None)
+}
+
+// The conversion that the command's words name, where they name both certificates.
+fn conversion_of(alloc: Global, command: &ArgMatches<'_>) -> Result<Option<Plan>, AllocError>
+    ensures { IfOk result (IsConversionOf (first_of (codes "cert") (rows_of (found_of command.now)))
+        (first_of (codes "out") (rows_of (found_of command.now)))) }
+{
+    let Some(cert) = command.get_str("cert") else {
+        return Ok(None);
+    };
+    let Some(made) = command.get_str("out") else {
+        return Ok(None);
+    };
+    Ok(Some(Plan::Convert {
+        cert: String::from_str(alloc, cert)?,
+        made: String::from_str(alloc, made)?,
+    }))
 }
 
 // The names that were given for the command's FILES.
@@ -154,13 +186,15 @@ fn command<'a>(alloc: Global) -> Result<Command<'a>, AllocError>
 {
     let program = program(alloc)?;
     let shows = with_files(alloc, program, "show", SHOW_ABOUT, SHOW_EXAMPLE)?;
-    with_files(
+    let lists = with_files(
         alloc,
         shows,
         "landmarks",
         LANDMARKS_ABOUT,
         LANDMARKS_EXAMPLE,
-    )
+    )?;
+    let converts = conversion(alloc)?;
+    lists.subcommand(converts)
 }
 
 // The program with one more command, which takes files.
@@ -205,6 +239,29 @@ fn command_on_files<'a>(
         .after_help(example)
         .arg(released)?
         .arg(files)
+}
+
+fn conversion<'a>(alloc: Global) -> Result<Command<'a>, AllocError>
+    ensures shape { IfOk result (λ command. app_of command ≡ conversion_app) }
+    ensures local { IfOk result (λ command. (fields_of command).has_globals ≡ false) }
+{
+    let cert = name_argument(alloc, "cert", "CERT", "The certificate that is read");
+    let out = name_argument(alloc, "out", "OUT", "The certificate that is made");
+    Command::new(alloc, "convert")
+        .about(CONVERT_ABOUT)
+        .after_help(CONVERT_EXAMPLE)
+        .arg(cert)?
+        .arg(out)
+}
+
+fn name_argument<'a>(alloc: Global, id: &'a str, shown: &'a str, help: &'a str) -> Arg<'a>
+    ensures rule { rule_of result ≡ name_rule id.entry.now }
+    ensures local { result.global ≡ false }
+{
+    Arg::new(alloc, id)
+        .value_name(shown)
+        .help(help)
+        .required(true)
 }
 
 fn released_argument<'a>(alloc: Global) -> Arg<'a>

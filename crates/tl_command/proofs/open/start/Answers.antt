@@ -9,3 +9,6 @@ returns-in-Ok-clause-fault g c = λ fault. (c.in-Ok.plan, c.in-Ok.ensures.plan, 
 
 pub returns-in-Ok-clause-refused : goal.returns-in-Ok-clause-refused
 returns-in-Ok-clause-refused g c = λ refused. (c.in-Ok.plan, c.in-Ok.ensures.plan, c.open_and_run.ensures.refused refused)
+
+pub returns-in-Ok-clause-bad_text : goal.returns-in-Ok-clause-bad_text
+returns-in-Ok-clause-bad_text g c = λ is. (c.in-Ok.plan, c.in-Ok.ensures.plan, c.open_and_run.ensures.bad_text is)

@@ -1,11 +1,12 @@
-use Rattle.std.proofs.Common.{◌≡◌, true, ap, subst, ◌∙◌, map}
+use Rattle.std.proofs.Common.{◌≡◌, true, [], ap, subst, ◌∙◌, map}
 use Rattle.clap.specs.Values.{kind_of}
-use Rattle.clap.specs.Simple.{App}
+use Rattle.clap.specs.Simple.{App, is_simple, subcommand_of, subcommand_rows_of}
 use Rattle.clap.specs.Takes.{takes}
 use Rattle.clap.specs.Faults.{fault_of, is_simple_and_free}
 use Rattle.clap.specs.Kinds.{HasKind}
 use Rattle.clap.specs.declared.error.kind.ErrorKind.TheVariants.{OutOfMemory}
-use Rattle.tl_plan.proofs.WordsLemmas.{stops_for, is_free-command_line}
+use Rattle.tl_plan.specs.CommandLine.{IsPlanOf, named_in}
+use Rattle.tl_plan.proofs.WordsLemmas.{stops_for, no_plan, is_free-command_line, is_simple-command_line}
 use Rattle.tl_plan.proofs.words.plan_by.Goals as goal
 
 pub returns-in-Err-clause-stops : goal.returns-in-Err-clause-stops
@@ -17,3 +18,12 @@ returns-in-Err-clause-stops g c =
     (subst (λ (app : App). takes app words ≡ true → kind_of error ≡ OutOfMemory) same c.in-Err.ensures.passes)
     (subst (λ (app : App). HasKind (fault_of app words) error) same
     (c.in-Err.ensures.kinds (ap is_simple_and_free same ∙ is_free-command_line)))
+
+pub returns-clause-stops : goal.returns-clause-stops
+returns-clause-stops g c =
+    let words = map g.S.AsStr.text c.args.words.now in
+    let same = c.requires in
+    no_plan words (subcommand_rows_of c.in-Ok.matches)
+    (subst (λ (app : App). is_simple app ≡ true → subcommand_rows_of c.in-Ok.matches ≡ subcommand_of app words) same (λ simple. (c.in-Ok.ensures.ok.2 simple).1) is_simple-command_line)
+    (subst (IsPlanOf (named_in (subcommand_rows_of c.in-Ok.matches))) c.in-None.is c.in_ok-plan.ensures)
+    (subst (λ (app : App). fault_of app words ≡ []) same (c.in-Ok.ensures.kinds (ap is_simple_and_free same ∙ is_free-command_line)))
