@@ -1,6 +1,7 @@
 # make                     proves and builds the program
 # make check               the merge gate: every proof, must-fail edit, test and stored run, from nothing
 # make rows                plays the rows of tests/ over the program
+# make certificates         converts certificates and compares with a plain reader
 # make full-size           asks for each answer once with a million chains
 # make memory              refuses each allocation of the program, and of bench_tree, in its turn
 # make examples            runs the commands of examples/README.md and compares what they print
@@ -10,7 +11,7 @@
 PREFIX = /usr/local
 PROGRAM = crates/tigertopo/out/tigertopo
 
-.PHONY: build check rows full-size memory examples bench install
+.PHONY: build check rows certificates full-size memory examples bench install
 
 build:
 	cd crates/tigertopo && rt run -- --help >/dev/null
@@ -23,6 +24,9 @@ examples: build
 
 rows: build
 	python3 tests/rows.py
+
+certificates: build
+	python3 tests/certificates.py
 
 full-size: build
 	python3 tests/full_size.py

@@ -25,6 +25,7 @@ def prove():
 
 
 def main():
+    import certificates
     import full_size
     import memory
     import rows
@@ -41,6 +42,7 @@ def main():
     proofs = ("proofs, edits and tests", prove)
     parts = [
         ("rows", rows.play_all),
+        ("certificates", certificates.play_all),
         ("answers at full size", full_size.play_all),
         ("refused allocations", memory.play_all),
         ("examples", examples.play_all),

@@ -24,6 +24,7 @@ RUNS = [
     ["landmarks", TOP / "examples" / "island"],
     ["landmarks", TOP / "examples" / "faults" / "M9"],
     ["landmarks", TOP / "examples" / "faults" / "M10"],
+    ["convert", TOP / "examples" / "square.CERT", "/dev/null"],
     ["show", "--help"],
     ["show"],
     ["shown", "a"],

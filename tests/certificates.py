@@ -1,0 +1,205 @@
+#!/usr/bin/env python3
+"""Converts certificates by the built program and compares its answers with those of a plain reader.
+
+usage: certificates.py [PROGRAM]
+
+The plain reader below knows the grammar of docs/certificate.md and nothing of the program. Played are the texts of the
+tables, each beginning of a certificate, and each text that differs from it in one byte.
+"""
+
+import subprocess
+import sys
+import tempfile
+from concurrent.futures import ThreadPoolExecutor
+from pathlib import Path
+
+TOP = Path(__file__).resolve().parent.parent
+PROGRAM = TOP / "crates" / "tigertopo" / "out" / "tigertopo"
+
+SQUARE = (
+    b"TIGERCERT 1\nC 1 4 1 1\nT 1\nL 10 10 30 30 4\nS 0\nS 1\nS 2\nS 3\nN 1\nR 2\nD 0\nD 1\n"
+    b"W 2\nK 1\nD 0\nK 1\nD 1\nEND\n"
+)
+THREE = (
+    b"TIGERCERT 2\nC 1 4 1 1\nT 4\nB 10 10 30 30 3\nL 10 10 30 10 1\nS 0\nL 30 10 30 30 1\nS 1\n"
+    b"L 10 10 30 30 2\nS 2\nS 3\nN 1\nR 2\nD 0\nD 1\nW 2\nK 1\nD 0\nK 1\nD 1\nEND\n"
+)
+EMPTY = b"TIGERCERT 1\nC 0 0 0 0\nT 0\nN 0\nW 0\nEND\n"
+HEAD = b"TIGERCERT 1\nC 0 0 0 0\n"
+
+# Texts with the line that is refused, or none.
+TABLE = [
+    (b"", 1),
+    (EMPTY, None),
+    (SQUARE, None),
+    (THREE, None),
+    (HEAD + b"T 4294967295\n", 4),
+    (HEAD + b"T 4294967296\n", 3),
+    (HEAD + b"T 1\nB 0 0 0 0\n", 4),
+    (HEAD + b"T 3\nB 0 0 0 0\nB 0 0 0 0\n", 5),
+    (HEAD + b"T 3\nB 0 0 0 0 2\n", 4),
+    (HEAD + b"T 2\n", 3),
+    (HEAD.replace(b" 1\n", b" 2\n") + b"T 2\n", 3),
+    (SQUARE[:-4], 18),
+    (SQUARE + b"x", 19),
+    (SQUARE + b"\n", 19),
+    (SQUARE[:-1], 18),
+    (SQUARE.replace(b"S 3", b"S 03"), 8),
+    (SQUARE.replace(b"T 1", b"T 2"), 3),
+    (SQUARE.replace(b"S 3", b"S +3"), 8),
+    (SQUARE.replace(b"S 3", b"S  3"), 8),
+    (SQUARE.replace(b"S 3", b"S 3 "), 8),
+    (SQUARE.replace(b"S 3\n", b"S 3\r\n"), 8),
+    (SQUARE.replace(b"S 3", b"S -0"), 8),
+    (SQUARE.replace(b"L 10", b"L -0"), 4),
+    (SQUARE.replace(b"L 10", b"L -2147483648"), None),
+    (SQUARE.replace(b"L 10", b"L -2147483649"), 4),
+    (SQUARE.replace(b"L 10", b"L 2147483648"), 4),
+    (SQUARE.replace(b"30 30 4", b"30 30 0"), 4),
+    (SQUARE.replace(b"30 30 4", b"30 30 9"), 4),
+    (SQUARE.replace(b"R 2", b"R 0"), 10),
+    (SQUARE.replace(b"TIGERCERT 1", b"TIGERCERT 3"), 1),
+    (THREE.replace(b"30 30 3\n", b"30 30 2\n", 1), 4),
+    (THREE.replace(b"30 30 3\n", b"30 30 4\n", 1), 4),
+    (THREE.replace(b"TIGERCERT 2", b"TIGERCERT 1"), 3),
+]
+
+
+def number(word, low, high):
+    """The number that a word spells, or none: no leading zero, no plus and no -0."""
+    digits = word[1:] if word[:1] == b"-" else word
+    if not digits or any(byte not in b"0123456789" for byte in digits):
+        return None
+    value = int(word)
+    return value if str(value).encode() == word and low <= value <= high else None
+
+
+def can_have(version, trees, nodes):
+    """Whether so many trees can have so many nodes in all."""
+    more = nodes - trees
+    return more == 0 or trees > 0 and (more >= 2 if version == 2 else more > 0 and more % 2 == 0)
+
+
+class Refused(Exception):
+    """The text is that of no certificate: the line that none has."""
+
+
+class Lines:
+    """The lines of a text, taken one after the other."""
+
+    def __init__(self, text):
+        self.text, self.taken = text, 0
+
+    def take(self, letter, *ranges):
+        """The numbers of the next line, which has this letter and as many numbers in these ranges."""
+        line, feed, rest = self.text.partition(b"\n")
+        words = line.split(b" ")
+        values = [number(word, *span) for word, span in zip(words[1:], ranges)]
+        if not feed or words[0] != letter or len(words) != 1 + len(ranges) or None in values:
+            raise Refused(self.taken + 1)
+        self.text, self.taken = rest, self.taken + 1
+        return values
+
+    def refuse_last(self):
+        raise Refused(self.taken)
+
+
+COUNT = (0, 2**32 - 1)
+PLACE = (-(2**31), 2**31 - 1)
+
+
+def read(text):
+    """How many nodes, rounds and walks the certificate has; or the line that is refused is raised."""
+    lines = Lines(text)
+    (version,) = lines.take(b"TIGERCERT", (1, 2))
+    lines.take(b"C", COUNT, COUNT, COUNT, COUNT)
+    (nodes,) = lines.take(b"T", COUNT)
+    trees, left = min(nodes, 1), nodes
+    if not can_have(version, trees, left):
+        lines.refuse_last()
+    while left:
+        if lines.text[:1] == b"B":
+            extra = [(2, 8)] if version == 2 else []
+            children = (lines.take(b"B", *[PLACE] * 4, *extra) + [2])[4]
+            trees, left = trees - 1 + children, left - 1
+        else:
+            children, items = 0, lines.take(b"L", *[PLACE] * 4, (1, 8))[4]
+            trees, left = trees - 1, left - 1
+        if not can_have(version, trees, left):
+            lines.refuse_last()
+        if not children:
+            for _ in range(items):
+                lines.take(b"S", COUNT)
+    lists = []
+    for letter, each in ((b"N", b"R"), (b"W", b"K")):
+        lists += lines.take(letter, COUNT)
+        for _ in range(lists[-1]):
+            (darts,) = lines.take(each, (1, 2**32 - 1))
+            for _ in range(darts):
+                lines.take(b"D", COUNT)
+    lines.take(b"END")
+    if lines.text:
+        raise Refused(lines.taken + 1)
+    return [nodes, *lists]
+
+
+def wanted(text):
+    """The status, the output, and the certificate that is made."""
+    try:
+        nodes, rounds, walks = read(text)
+    except Refused as refused:
+        return 2, b"certificate fault K1 Text line %d\n" % refused.args, None
+    made = text.replace(b"TIGERCERT 1\n", b"TIGERCERT 2\n", 1)
+    if text.startswith(b"TIGERCERT 1\n"):
+        # In version 2 an inner node tells its children.
+        made = b"".join(
+            line[:-1] + b" 2\n" if line[:2] == b"B " else line for line in made.splitlines(keepends=True)
+        )
+    return 0, b"converted nodes=%d rounds=%d walks=%d\n" % (nodes, rounds, walks), made
+
+
+def answer(program, folder, text):
+    old, new = Path(folder) / "old", Path(folder) / "new"
+    old.write_bytes(text)
+    new.unlink(missing_ok=True)
+    ran = subprocess.run([program, "convert", old, new], capture_output=True, check=False)
+    made = new.read_bytes() if new.exists() else None
+    return (ran.returncode, ran.stdout, made) if not ran.stderr else (ran.returncode, ran.stderr, made)
+
+
+def play(program, texts):
+    """How many of the texts are answered well, and how many ill."""
+    ill = 0
+    with tempfile.TemporaryDirectory(dir="/dev/shm" if Path("/dev/shm").is_dir() else None) as folder:
+        for text in texts:
+            if answer(program, folder, text) != wanted(text):
+                ill += 1
+                sys.stdout.write(f"certificates: another answer for {text!r}\n")
+    return len(texts) - ill, ill
+
+
+def changed(text):
+    """Each text that differs from this one in one byte."""
+    for index, byte in enumerate(text):
+        for other in range(256):
+            if other != byte:
+                yield text[:index] + bytes([other]) + text[index + 1 :]
+
+
+def play_all(program=PROGRAM):
+    for text, line in TABLE:
+        status, out, _ = wanted(text)
+        told = None if status == 0 else int(out.split()[-1])
+        if told != line:
+            sys.exit(f"certificates: the plain reader says {told} of {text!r}, and the table {line}")
+    texts = [text for text, _ in TABLE] + [SQUARE[:size] for size in range(len(SQUARE))] + list(changed(SQUARE))
+    shares = [texts[part::4] for part in range(4)]
+    with ThreadPoolExecutor(4) as pool:
+        counts = list(pool.map(lambda share: play(program, share), shares))
+    return sum(well for well, _ in counts), sum(ill for _, ill in counts)
+
+
+if __name__ == "__main__":
+    passed, failed = play_all(*sys.argv[1:2])
+    print(f"certificates: {passed} of {passed + failed}")
+    sys.exit(failed > 0)
