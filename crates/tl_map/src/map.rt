@@ -130,6 +130,13 @@ impl Map {
         self.chains.len()
     }
 
+    /// How many darts there are: two of each chain.
+    pub fn darts(&self) -> u32
+        ensures { result ≡ 2 * length self.now.chains }
+    {
+        self.chains.darts()
+    }
+
     /// How many segments the chains have together.
     pub fn segments(&self) -> u32
         ensures { result ≡ segments_before self.now.chains (length self.now.chains) }

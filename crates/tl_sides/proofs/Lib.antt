@@ -1,0 +1,12 @@
+pub mod MarkLemmas
+pub mod ListLemmas
+pub mod Headings
+pub mod WholeRounds
+pub mod Ends
+pub mod NodeFacts
+pub mod RisingFacts
+pub mod LinkFacts
+pub mod TakeFacts
+pub mod FollowFacts
+pub mod WalkFacts
+pub mod Boundaries

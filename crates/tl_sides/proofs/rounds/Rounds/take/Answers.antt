@@ -1,0 +1,73 @@
+use Rattle.std.proofs.Common.{◌≡◌, ◌<◌, length, true, false, ◌+◌, slice_index_or, subst, sym, ap, refl, ◌∙◌, arith}
+use Rattle.std.specs.Prelude.{slice_index}
+use Rattle.std.proofs.lemmas.List.{get_or_default, with_items_is}
+use Rattle.tl_sides.specs.Sides.{dart_count}
+use Rattle.tl_sides.specs.Keeping.Marked.{AddMarks, IsMarkFault}
+use Rattle.tl_sides.specs.declared.rounds.Rounds.{Rounds}
+use Rattle.std.specs.Vec.{with_items, with_item}
+use Rattle.tl_sides.proofs.MarkLemmas.{count-within}
+use Rattle.tl_sides.proofs.TakeFacts.{unknown_in, twice_in, added_below, repeated, taken_more}
+use Rattle.tl_sides.proofs.rounds.Rounds.take.Goals as goal
+
+pub returns-in-Err-Unknown-clause-fault : goal.returns-in-Err-Unknown-clause-fault
+returns-in-Err-Unknown-clause-fault c = λ rounds taken.
+    unknown_in (dart_count c.args.map.now.chains) rounds c.args.self.now.marks.items c.args.round.now c.in-Err-Unknown.dart c.requires.sized.marks
+    (rw (← c.deref_mut.ensures.value) (subst (λ f. IsMarkFault c.deref_mut.result.now c.args.round.now f) c.in-Err-Unknown.field-0-is c.in-Err-Unknown.ensures.fault))
+
+pub returns-in-Err-Twice-clause-fault : goal.returns-in-Err-Twice-clause-fault
+returns-in-Err-Twice-clause-fault c = λ rounds taken.
+    twice_in (dart_count c.args.map.now.chains) rounds c.args.self.now.marks.items c.args.round.now c.in-Err-Twice.dart taken.marks
+    (rw (← c.deref_mut.ensures.value) (subst (λ f. IsMarkFault c.deref_mut.result.now c.args.round.now f) c.in-Err-Twice.field-0-is c.in-Err-Twice.ensures.fault))
+
+pub has_one_node-requires-clause-darts : goal.has_one_node-requires-clause-darts
+has_one_node-requires-clause-darts c =
+    let added : AddMarks c.args.self.now.marks.items c.args.round.now c.mark_darts.new.marks = rw (← c.deref_mut.ensures.value) c.in-Ok.ensures.marked in
+    added_below c.args.self.now.marks.items c.args.round.now c.mark_darts.new.marks (dart_count c.args.map.now.chains) added c.requires.sized.marks
+
+pub dart_node-node-requires : goal.dart_node-node-requires
+dart_node-node-requires c =
+    let added : AddMarks c.args.self.now.marks.items c.args.round.now c.mark_darts.new.marks = rw (← c.deref_mut.ensures.value) c.in-Ok.ensures.marked in
+    added_below c.args.self.now.marks.items c.args.round.now c.mark_darts.new.marks (dart_count c.args.map.now.chains) added c.requires.sized.marks 0 c.requires.some
+
+pub returns-then-index-clause-fault : goal.returns-then-index-clause-fault
+returns-then-index-clause-fault c = λ rounds taken.
+    let within = c.dart_node-node.ensures.within c.requires.sized.points c.requires.sized.are in
+    let here : c.dart_node-node.result < length c.args.self.now.nodes.items = omega (arith, within, c.requires.sized.nodes) in
+    let marked : slice_index_or c.args.self.now.nodes.items c.dart_node-node.result false ≡ true = get_or_default c.args.self.now.nodes.items c.dart_node-node.result false c.index.result.now here ∙ sym c.index.ensures ∙ c.if-index.true in
+    repeated c.args.map.now.chains rounds c.args.round.now c.args.self.now.taken c.args.self.now.nodes.items taken.nodes.points c.dart_node-node.result taken.taken c.requires.some taken.nodes c.dart_node-node.ensures.start c.dart_node-node.ensures.within marked
+
+pub is_rising-requires-clause-darts : goal.is_rising-requires-clause-darts
+is_rising-requires-clause-darts c =
+    let added : AddMarks c.args.self.now.marks.items c.args.round.now c.mark_darts.new.marks = rw (← c.deref_mut.ensures.value) c.in-Ok.ensures.marked in
+    added_below c.args.self.now.marks.items c.args.round.now c.mark_darts.new.marks (dart_count c.args.map.now.chains) added c.requires.sized.marks
+
+pub link-requires-clause-darts : goal.link-requires-clause-darts
+link-requires-clause-darts c = λ k h.
+    let added : AddMarks c.args.self.now.marks.items c.args.round.now c.mark_darts.new.marks = rw (← c.deref_mut.ensures.value) c.in-Ok.ensures.marked in
+    let below : slice_index c.args.round.now k < dart_count c.args.map.now.chains = added_below c.args.self.now.marks.items c.args.round.now c.mark_darts.new.marks (dart_count c.args.map.now.chains) added c.requires.sized.marks k h in
+    rw (c.deref_mut-2.ensures.value, c.requires.sized.next) below
+
+pub overflow_add-self : goal.overflow_add-self
+overflow_add-self c =
+    let added : AddMarks c.args.self.now.marks.items c.args.round.now c.mark_darts.new.marks = rw (← c.deref_mut.ensures.value) c.in-Ok.ensures.marked in
+    let some = c.requires.some in
+    let sized = c.requires.sized in
+    omega (arith, added.count, added.long, count-within c.mark_darts.new.marks, sized.taken, sized.few, sized.marks, some)
+
+pub returns-clause-taken : goal.returns-clause-taken
+returns-clause-taken c = λ rounds taken.
+    let added : AddMarks c.args.self.now.marks.items c.args.round.now c.mark_darts.new.marks = rw (← c.deref_mut.ensures.value) c.in-Ok.ensures.marked in
+    let new : Rounds = record {
+      next = with_items c.args.self.now.next c.link.new.next;
+      marks = with_items c.args.self.now.marks c.mark_darts.new.marks;
+      nodes = with_item c.args.self.now.nodes c.dart_node-node.result true;
+      taken = c.args.self.now.taken + 1;
+    } in
+    let within = c.dart_node-node.ensures.within c.requires.sized.points c.requires.sized.are in
+    let here : c.dart_node-node.result < length c.args.self.now.nodes.items = omega (arith, within, c.requires.sized.nodes) in
+    let unmarked : slice_index_or c.args.self.now.nodes.items c.dart_node-node.result false ≡ false = get_or_default c.args.self.now.nodes.items c.dart_node-node.result false c.index.result.now here ∙ sym c.index.ensures ∙ c.if-index.false in
+    let marks_are : new.marks.items ≡ c.mark_darts.new.marks = with_items_is c.args.self.now.marks c.mark_darts.new.marks (added.long ∙ sym c.args.self.now.marks.ok.0) in
+    let next_are : new.next.items ≡ c.link.new.next = with_items_is c.args.self.now.next c.link.new.next (c.link.ensures.long ∙ ap length c.deref_mut-2.ensures.value ∙ sym c.args.self.now.next.ok.0) in
+    taken_more c.args.map.now.chains rounds c.args.round.now c.args.self.now new c.dart_node-node.result taken c.requires.some (rw marks_are added) refl refl c.dart_node-node.ensures.start c.dart_node-node.ensures.within unmarked
+    (c.has_one_node.ensures.one c.if-not-has_one_node.false) (c.is_rising.ensures.rising c.if-not-is_rising.false) (c.is_rising.ensures.headed c.if-not-is_rising.false)
+    (rw next_are c.link.ensures.linked) (rw (next_are, ← c.deref_mut-2.ensures.value) c.link.ensures.others)

@@ -1,0 +1,43 @@
+use Rattle.std.proofs.Common.{◌≡◌, ◌+◌, subst, sym, refl, ◌∙◌, arith}
+use Rattle.std.specs.Vec.{with_items}
+use Rattle.std.proofs.lemmas.List.{with_items_is}
+use Rattle.tl_sides.specs.declared.walks.Walks.{Walks}
+use Rattle.tl_sides.specs.Sides.{dart_count}
+use Rattle.tl_sides.specs.Keeping.Marked.{AddMarks, IsMarkFault}
+use Rattle.tl_sides.proofs.MarkLemmas.{count-within}
+use Rattle.tl_sides.proofs.TakeFacts.{unknown_in, twice_in, added_below}
+use Rattle.tl_sides.proofs.WalkFacts.{walked_more}
+use Rattle.tl_sides.proofs.walks.Walks.take.Goals as goal
+
+pub returns-in-Err-Unknown-clause-fault : goal.returns-in-Err-Unknown-clause-fault
+returns-in-Err-Unknown-clause-fault c = λ walks taken.
+    unknown_in (dart_count c.args.map.now.chains) walks c.args.self.now.marks.items c.args.walk.now c.in-Err-Unknown.dart c.requires.ready.marks
+    (rw (← c.deref_mut.ensures.value) (subst (λ f. IsMarkFault c.deref_mut.result.now c.args.walk.now f) c.in-Err-Unknown.field-0-is c.in-Err-Unknown.ensures.fault))
+
+pub returns-in-Err-Twice-clause-fault : goal.returns-in-Err-Twice-clause-fault
+returns-in-Err-Twice-clause-fault c = λ walks taken.
+    twice_in (dart_count c.args.map.now.chains) walks c.args.self.now.marks.items c.args.walk.now c.in-Err-Twice.dart taken.marks
+    (rw (← c.deref_mut.ensures.value) (subst (λ f. IsMarkFault c.deref_mut.result.now c.args.walk.now f) c.in-Err-Twice.field-0-is c.in-Err-Twice.ensures.fault))
+
+pub step_round-requires-clause-darts : goal.step_round-requires-clause-darts
+step_round-requires-clause-darts c =
+    let added : AddMarks c.args.self.now.marks.items c.args.walk.now c.mark_darts.new.marks = rw (← c.deref_mut.ensures.value) c.in-Ok.ensures.marked in
+    added_below c.args.self.now.marks.items c.args.walk.now c.mark_darts.new.marks (dart_count c.args.map.now.chains) added c.requires.ready.marks
+
+pub overflow_add-self : goal.overflow_add-self
+overflow_add-self c =
+    let added : AddMarks c.args.self.now.marks.items c.args.walk.now c.mark_darts.new.marks = rw (← c.deref_mut.ensures.value) c.in-Ok.ensures.marked in
+    let some = c.requires.some in
+    let ready = c.requires.ready in
+    omega (arith, added.count, added.long, count-within c.mark_darts.new.marks, ready.taken, ready.few, ready.marks, some)
+
+pub returns-clause-taken : goal.returns-clause-taken
+returns-clause-taken c = λ walks taken.
+    let added : AddMarks c.args.self.now.marks.items c.args.walk.now c.mark_darts.new.marks = rw (← c.deref_mut.ensures.value) c.in-Ok.ensures.marked in
+    let new : Walks = record {
+      next = c.args.self.now.next;
+      marks = with_items c.args.self.now.marks c.mark_darts.new.marks;
+      taken = c.args.self.now.taken + 1;
+    } in
+    let marks_are : new.marks.items ≡ c.mark_darts.new.marks = with_items_is c.args.self.now.marks c.mark_darts.new.marks (added.long ∙ sym c.args.self.now.marks.ok.0) in
+    walked_more c.args.map.now.chains walks c.args.walk.now c.args.self.now new taken (rw marks_are added) refl c.in-Ok-step_round.ensures.ring

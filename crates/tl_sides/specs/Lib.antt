@@ -1,0 +1,6 @@
+-- What the contracts of sides, rounds and walks cite.
+pub mod Lists
+pub mod Sides
+pub mod Rounds
+pub mod Walks
+pub mod Keeping

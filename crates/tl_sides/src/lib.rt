@@ -1,0 +1,19 @@
+//! Sides that agree: the darts about each node, and the rings that they make.
+//!
+//! A stranger lists the darts that start at each node in their order round it ([`Rounds`]), and rings of darts
+//! ([`Walks`]). Both are taken list by list, against a map, and each is told exactly to be right as a whole, or why it
+//! isn't. Rounds that are right give the next dart about its node of each dart ([`Next`]), which decides whether sides
+//! agree. What sides, rings and boundaries are is defined in `specs/Sides`, without any list of a stranger's.
+#![tactic(auto)]
+
+mod fault;
+pub mod laws;
+mod marks;
+mod next;
+mod rounds;
+mod walks;
+
+pub use fault::{Disagreement, RoundFault, WalkFault};
+pub use next::Next;
+pub use rounds::Rounds;
+pub use walks::Walks;

@@ -1,0 +1,65 @@
+//! The next dart about its node of each dart.
+
+ghost use Rattle.std.specs.Prelude.{◌≡◌, ◌≢◌, ◌<◌, ◌↔◌, IsTrue, IsFalse, IsNone, IfSome};
+ghost use Rattle.tl_map.specs.Darts.{reverse_dart, dart_left};
+ghost use Rattle.tl_sides.specs.Sides.{dart_count, dart_right, IsNext, SidesAgree, Follows};
+ghost use Rattle.tl_sides.specs.Keeping.Rounded.{KeepNext};
+
+use crate::fault::Disagreement;
+use tl_map::{Map, Side};
+
+/// Of each dart of a map the next one about the node where it starts.
+#[derive(Drop)]
+pub struct Next {
+    next: Vec<u32>,
+}
+
+impl Next {
+    /// Of each dart the next one.
+    pub(crate) fn new(next: Vec<u32>) -> Next
+        ensures { result.next.items ≡ next.items }
+    {
+        Next { next }
+    }
+
+    /// Two darts whose sides disagree, if sides don't agree.
+    pub fn disagreement(&self, map: &Map) -> Option<Disagreement>
+        requires { KeepNext map.now.chains self.now }
+        ensures none { IsNone result → SidesAgree map.now.chains }
+        ensures some { IfSome result (λ found. IsNext map.now.chains found.first found.next
+            × (dart_left map.now.chains found.first ≢ dart_right map.now.chains found.next)) }
+    {
+        for dart in 0..map.darts() {
+            let next = self.next[dart as usize];
+            if !is_one_side(map.dart_left(dart), map.dart_left(reverse(next))) {
+                return Some(Disagreement { first: dart, next });
+            }
+        }
+        None
+    }
+
+    /// Whether dart `e` follows dart `d`.
+    pub fn follows(&self, map: &Map, d: u32, e: u32) -> bool
+        requires next { KeepNext map.now.chains self.now }
+        requires d { d < dart_count map.now.chains }
+        requires e { e < dart_count map.now.chains }
+        ensures { IsTrue result ↔ Follows map.now.chains d e }
+    {
+        self.next[e as usize] == reverse(d)
+    }
+}
+
+/// The reverse of a dart: the other dart of its chain.
+pub fn reverse(dart: u32) -> u32
+    ensures { result ≡ reverse_dart dart }
+{
+    if dart % 2 == 0 { dart + 1 } else { dart - 1 }
+}
+
+/// Whether two sides are one.
+fn is_one_side(a: Side, b: Side) -> bool
+    ensures same { IsTrue result → a ≡ b }
+    ensures other { IsFalse result → a ≢ b }
+{
+    a == b
+}
