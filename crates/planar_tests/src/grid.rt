@@ -1,16 +1,18 @@
 //! All pairs of segments on a grid of three by three points, and small chains drawn at random, compared with the plain
-//! program.
-use crate::maps::{at, meeting_of};
+//! programs.
+use crate::maps::{at, map_of, meeting_of};
+use crate::pairs::is_planar_map;
 use crate::plain::{LOW, is_planar};
 use std::alloc::Global;
 use std::test::Fail;
 use tl_geom::Point;
 use tl_planar::Meeting;
 
-/// Whether the chains are planar, where the search and the plain program say the same.
+/// Whether the chains are planar, where the search and both plain programs say the same.
 fn agreed(alloc: Global, chains: &[&[Point]]) -> Result<Option<bool>, Fail> {
     let clear = meeting_of(alloc, chains)? == Meeting::Clear;
-    Ok(if clear == is_planar(chains) {
+    let by_pairs = is_planar_map(&map_of(alloc, chains)?);
+    Ok(if clear == is_planar(chains) && clear == by_pairs {
         Some(clear)
     } else {
         None

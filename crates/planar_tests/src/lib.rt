@@ -9,4 +9,6 @@ mod grid;
 #[cfg(test)]
 mod maps;
 #[cfg(test)]
+mod pairs;
+#[cfg(test)]
 mod plain;
