@@ -3,7 +3,8 @@ use std::cmp::Ordering;
 use std::process::Abort;
 use std::test::Fail;
 use tl_geom::{
-    Contact, Direction, Point, Rational, Rect, Segment, contact, crosses_ray, on, round_cmp, turn,
+    Contact, Direction, Point, Rational, Rect, Segment, contact, crosses_ray, on, overlap,
+    round_cmp, turn,
 };
 
 const LEAST: i32 = i32::MIN;
@@ -101,6 +102,40 @@ fn contacts_that_are_no_crossing(rt: HostRuntime) -> Result<(), Fail> {
         ((LEAST, MOST), (0, 0), (0, 0), (MOST, LEAST), at(0, 0)),
     ] {
         assert!(rt; contact_of(a, b, p, q)? == wanted);
+    }
+    Ok(())
+}
+
+/// The ends of an overlap, in either order.
+fn has_ends(found: Option<Segment>, wanted: Option<((i32, i32), (i32, i32))>) -> bool {
+    match (found, wanted) {
+        (Some(o), Some((a, b))) => {
+            let (first, last) = (point(a.0, a.1), point(b.0, b.1));
+            (o.a(), o.b()) == (first, last) || (o.a(), o.b()) == (last, first)
+        }
+        (None, None) => true,
+        _ => false,
+    }
+}
+
+#[test]
+fn overlaps(rt: HostRuntime) -> Result<(), Fail> {
+    for (a, b, p, q, wanted) in [
+        ((0, 0), (4, 0), (1, 0), (9, 0), Some(((1, 0), (4, 0)))),
+        ((0, 9), (0, 0), (0, 2), (0, 7), Some(((0, 2), (0, 7)))),
+        (
+            (LEAST, LEAST),
+            (MOST, MOST),
+            (MOST, MOST),
+            (LEAST, LEAST),
+            Some(((LEAST, LEAST), (MOST, MOST))),
+        ),
+        ((0, 0), (4, 0), (4, 0), (9, 0), None),
+        ((0, 0), (2, 2), (3, 3), (5, 5), None),
+        ((0, 0), (4, 0), (0, 1), (4, 1), None),
+        ((0, 0), (4, 0), (2, -1), (2, 5), None),
+    ] {
+        assert!(rt; has_ends(overlap(segment(a, b)?, segment(p, q)?), wanted));
     }
     Ok(())
 }

@@ -14,3 +14,4 @@ pub mod Contacts
 pub mod Ends
 pub mod Meetings
 pub mod Masks
+pub mod NoOverlaps

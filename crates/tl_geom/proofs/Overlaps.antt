@@ -6,7 +6,7 @@ use Rattle.tl_geom.specs.declared.point.Point.{Point}
 use Rattle.tl_geom.specs.declared.rational.Rational.{Rational}
 use Rattle.tl_geom.specs.declared.segment.Segment.{Segment}
 use Rattle.tl_geom.specs.Plane.{IsOn, IsSame, IsBetween, cross, whole, turn_of}
-use Rattle.tl_geom.specs.Contact.{IsShared, IsEnd, AreApart, MeetAtEnds, IsMiddle}
+use Rattle.tl_geom.specs.Contact.{IsShared, IsEnd, AreApart, IsOverlap, MeetAtEnds, IsMiddle}
 use Rattle.tl_geom.specs.Keeping.Lines.{AreInLine, AreInOrder, AreEndsInOrder, IsLater, IsEarlier}
 use Rattle.tl_geom.proofs.Polynomials.{num, ◌⊖◌, ◌⊗◌, same, same_by, same_by_two}
 use Rattle.tl_geom.proofs.Signs.{mono, cancel_le, zero_product, times_zero, square_above, square, product_at_least, at_least_of_product, between_product, product_between}
@@ -326,27 +326,37 @@ in_line_at_ends s t a b p q first last k e =
     last_of s a b o p e = ⊎_elim (λ w. inr (e ∙ w.1)) (λ w. inl (e ∙ w.1)) o.ends
 
 -- the first comes before the last: the segment between them is shared
+pub in_line_overlap : (s t : Segment) (a b p q : Point) (o : Segment) → AreFound s t a b p q o.a o.b → AreInOrder o.a o.b → IsOverlap s t o
+in_line_overlap s t a b p q o k order =
+    let x : (up : Bool) × IsAxis s up = axis s in
+    let w : AreSpans s t x.0 o.a o.b = found s t a b p q o.a o.b k x.0 x.1 in
+    let rise : key x.0 o.a ≤ℤ key x.0 o.b = key_order s x.0 x.1 o.a o.b w.first_lies w.last_lies order in
+    record {
+      points = λ r. (
+        λ shared.
+            let n : ((r.d *ℤ key x.0 o.a) ≤ℤ place_key x.0 r) × (place_key x.0 r ≤ℤ (r.d *ℤ key x.0 o.b)) = w.from_shared r shared in
+            on_by_key s x.0 x.1 o r w.first_lies w.last_lies shared.on_first.straight (inl n),
+        λ on.
+            let n : ((r.d *ℤ key x.0 o.a) ≤ℤ place_key x.0 r) × (place_key x.0 r ≤ℤ (r.d *ℤ key x.0 o.b)) =
+            between_ends (key x.0 o.a) (key x.0 o.b) (key x.0 o.a) (key x.0 o.b) r.d (place_key x.0 r) r.above_zero (inl (refl, refl)) rise (key_by_on x.0 o r on) in
+            w.to_shared r (along_by_on s o r w.first_lies w.last_lies on) n.0 n.1,
+      );
+    }
+
 pub in_line_middle : (s t : Segment) (a b p q first last : Point) → AreFound s t a b p q first last → AreInOrder first last → first ≢ last →
     (m : Rational) → m.x ≡ first.x +ℤ last.x → m.y ≡ first.y +ℤ last.y → m.d ≡ pos 2 → IsMiddle s t m
 in_line_middle s t a b p q first last k order apart m ex ey ed =
-    let x : (up : Bool) × IsAxis s up = axis s in
-    let w : AreSpans s t x.0 first last = found s t a b p q first last k x.0 x.1 in
-    let rise : key x.0 first ≤ℤ key x.0 last = key_order s x.0 x.1 first last w.first_lies w.last_lies order in
     record {
       overlap = record { a = first; b = last; different = apart };
-      is_overlap =
-          record {
-            points = λ r. (
-              λ shared.
-                  let n : ((r.d *ℤ key x.0 first) ≤ℤ place_key x.0 r) × (place_key x.0 r ≤ℤ (r.d *ℤ key x.0 last)) = w.from_shared r shared in
-                  on_by_key s x.0 x.1 (record { a = first; b = last; different = apart }) r w.first_lies w.last_lies shared.on_first.straight (inl n),
-              λ on.
-                  let n : ((r.d *ℤ key x.0 first) ≤ℤ place_key x.0 r) × (place_key x.0 r ≤ℤ (r.d *ℤ key x.0 last)) =
-                  between_ends (key x.0 first) (key x.0 last) (key x.0 first) (key x.0 last) r.d (place_key x.0 r) r.above_zero (inl (refl, refl)) rise (key_by_on x.0 (record { a = first; b = last; different = apart }) r on) in
-                  w.to_shared r (along_by_on s (record { a = first; b = last; different = apart }) r w.first_lies w.last_lies on) n.0 n.1,
-            );
-          };
+      is_overlap = in_line_overlap s t a b p q (record { a = first; b = last; different = apart }) k order;
       x = ex;
       y = ey;
       d = ed;
     }
+
+-- the segment between them, made of the two
+pub in_line_made : (s t : Segment) (a b p q first last : Point) → AreFound s t a b p q first last → AreInOrder first last → (o : Segment) → o.a ≡ first → o.b ≡ last → IsOverlap s t o
+in_line_made s t a b p q first last k order o e f =
+    in_line_overlap s t a b p q o
+    (subst (λ z. AreFound s t a b p q z o.b) (sym e) (subst (λ z. AreFound s t a b p q first z) (sym f) k))
+    (subst (λ z. AreInOrder z o.b) (sym e) (subst (λ z. AreInOrder first z) (sym f) order))

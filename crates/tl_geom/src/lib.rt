@@ -21,7 +21,7 @@ mod segment;
 mod shared;
 
 pub use direction::Direction;
-pub use meeting::contact;
+pub use meeting::{contact, overlap};
 pub use orientation::{on, turn};
 pub use point::Point;
 pub use rational::Rational;

@@ -2,9 +2,10 @@
 ghost use Rattle.std.specs.Prelude.{◌≡◌, ◌≢◌, ◌↔◌, ◌⊎◌, ◌<◌, ◌^◌, neg_ℤ, pos};
 ghost use Rattle.std.specs.Prelude.{◌≤ℤ◌, ◌<ℤ◌, ◌+ℤ◌, ◌-ℤ◌, ◌*ℤ◌};
 ghost use Rattle.std.specs.Prelude.{unsigned_abs, IfSome, IfNone, IsTrue, IsFalse};
+ghost use Rattle.tl_geom.specs.declared.segment.Segment.{Segment};
 ghost use Rattle.tl_geom.specs.Plane.{place_x, place_y, whole};
 ghost use Rattle.tl_geom.specs.Contact.{AreApart, MeetAtEnds, IsCrossing, IsShared, AreBothEnded, IfCrossing};
-ghost use Rattle.tl_geom.specs.Contact.{IsContact};
+ghost use Rattle.tl_geom.specs.Contact.{IsContact, IsOverlap};
 ghost use Rattle.tl_geom.specs.Keeping.Lines.{AreShares, IsEndAt, IsInside, AreInLine, AreInOrder, AreEndsInOrder};
 ghost use Rattle.tl_geom.specs.Keeping.Lines.{IsLater, IsEarlier};
 
@@ -26,6 +27,43 @@ pub fn contact(s: Segment, t: Segment) -> Contact
     ensures crossing { IfCrossing result (IsCrossing s t) }
 {
     meeting(s, t)
+}
+
+/// The segment of all points that two segments share, or `None` where they share one point at most.
+pub fn overlap(s: Segment, t: Segment) -> Option<Segment>
+    ensures overlap { IfSome result (IsOverlap s t) }
+    ensures none { IfNone result ((o : Segment) → ¬ IsOverlap s t o) }
+{
+    if are_in_line(s, t) {
+        overlap_in_line(s, t)
+    } else {
+        None
+    }
+}
+
+/// Whether two segments are parts of one line.
+fn are_in_line(s: Segment, t: Segment) -> bool
+    ensures { IsTrue result ↔ AreInLine s t }
+{
+    cross_of_steps(s.a(), s.b(), t.a(), t.b()) == 0
+        && cross_of_steps(s.a(), s.b(), t.a(), s.a()) == 0
+}
+
+/// The overlap of two segments of one line.
+fn overlap_in_line(s: Segment, t: Segment) -> Option<Segment>
+    requires { AreInLine s t }
+    ensures overlap { IfSome result (IsOverlap s t) }
+    ensures none { IfNone result ((o : Segment) → ¬ IsOverlap s t o) }
+{
+    let (s_first, s_last) = in_order(s);
+    let (t_first, t_last) = in_order(t);
+    let first = later(s_first, t_first);
+    let last = earlier(s_last, t_last);
+    if precedes(first, last) {
+        Segment::new(first, last)
+    } else {
+        None
+    }
 }
 
 /// What two segments share. Neighbours in a chain and around a node, the commonest pairs, are told by one cross

@@ -1,0 +1,5 @@
+pub mod Planar
+pub mod Meets
+pub mod Rectangles
+pub mod Searching
+pub mod Keeping
