@@ -10,3 +10,4 @@ pub mod TakeFacts
 pub mod FollowFacts
 pub mod WalkFacts
 pub mod Boundaries
+pub mod Lasting

@@ -74,20 +74,26 @@ two_before xs j k once hj hk e =
 
 -- ---- lists
 
-pub concat-and : (lists : List (List ℕ)) (xs : List ℕ) → concat (and_list lists xs) ≡ concat lists ++ xs
-concat-and [] xs = append-nil xs
-concat-and (ys ∷ lists) xs = ap (λ zs. ys ++ zs) (concat-and lists xs) ∙ sym (append_assoc ys (concat lists) xs)
+pub concat-more : (lists more : List (List ℕ)) → concat (lists ++ more) ≡ concat lists ++ concat more
+concat-more [] more = refl
+concat-more (ys ∷ lists) more = ap (λ zs. ys ++ zs) (concat-more lists more) ∙ sym (append_assoc ys (concat lists) (concat more))
+
+pub times-more : (d : ℕ) (lists more : List (List ℕ)) → times_in d (lists ++ more) ≡ times_in d lists + times_in d more
+times-more d lists more = ap (times d) (concat-more lists more) ∙ times-append d (concat lists) (concat more)
 
 pub times-and : (d : ℕ) (lists : List (List ℕ)) (xs : List ℕ) → times_in d (and_list lists xs) ≡ times_in d lists + times d xs
-times-and d lists xs = ap (times d) (concat-and lists xs) ∙ times-append d (concat lists) xs
+times-and d lists xs = times-more d lists (xs ∷ []) ∙ ap (λ ys. times_in d lists + times d ys) (append-nil xs)
 
 pub length-and : (lists : List (List ℕ)) (xs : List ℕ) → length (and_list lists xs) ≡ length lists + 1
 length-and lists xs = length_push lists xs
 
+pub list-kept : (lists more : List (List ℕ)) (k : ℕ) → k < length lists → list_at (lists ++ more) k ≡ list_at lists k
+list-kept [] more k h = absurd (omega (arith, h))
+list-kept (ys ∷ lists) more zero h = refl
+list-kept (ys ∷ lists) more (suc k) h = list-kept lists more k (omega (arith, h))
+
 pub list-first : (lists : List (List ℕ)) (xs : List ℕ) (k : ℕ) → k < length lists → list_at (and_list lists xs) k ≡ list_at lists k
-list-first [] xs k h = absurd (omega (arith, h))
-list-first (ys ∷ lists) xs zero h = refl
-list-first (ys ∷ lists) xs (suc k) h = list-first lists xs k (omega (arith, h))
+list-first lists xs k h = list-kept lists (xs ∷ []) k h
 
 pub list-last : (lists : List (List ℕ)) (xs : List ℕ) (k : ℕ) → length lists ≡ k → list_at (and_list lists xs) k ≡ xs
 list-last lists xs k e = get_or_push lists xs [] k e

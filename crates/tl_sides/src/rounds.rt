@@ -1,6 +1,6 @@
 //! Rounds, taken one after the other.
 
-ghost use Rattle.std.specs.Prelude.{◌≡◌, ℕ, zero, suc, ◌<◌, ◌≤◌, List, [], length, slice_index, IsTrue, IsFalse, OnOk, IfOk, IfErr};
+ghost use Rattle.std.specs.Prelude.{◌≡◌, ℕ, zero, suc, ◌<◌, ◌≤◌, ◌++◌, List, [], length, slice_index, IsTrue, IsFalse, OnOk, IfOk, IfErr};
 ghost use Rattle.tl_geom.specs.declared.point.Point.{Point};
 ghost use Rattle.tl_map.specs.Nodes.{AreNodes};
 ghost use Rattle.tl_tree.specs.Hits.{times};
@@ -51,15 +51,17 @@ impl Rounds {
         })
     }
 
-    /// Takes one round more. A fault is one of all rounds up to this one; behind it no further round should be taken.
+    /// Takes one round more. A fault is one of all rounds up to this one, whatever rounds follow; behind it none should be
+    /// taken.
     pub fn take(&mut self, map: &Map, round: &[u32]) -> Result<(), RoundFault>
         requires sized { AreSized map.now.chains self.old }
         requires some { zero < length round.now }
         ensures sized { AreSized map.now.chains self.new }
         ensures taken { OnOk result ((rounds : List (List ℕ)) →
             HaveTaken map.now.chains rounds self.old → HaveTaken map.now.chains (and_list rounds round.now) self.new) }
-        ensures fault { IfErr result (λ fault. (rounds : List (List ℕ)) →
-            HaveTaken map.now.chains rounds self.old → IsRoundFault map.now.chains (and_list rounds round.now) fault) }
+        ensures fault { IfErr result (λ fault. (rounds more : List (List ℕ)) →
+            HaveTaken map.now.chains rounds self.old →
+            IsRoundFault map.now.chains (and_list rounds round.now ++ more) fault) }
     {
         let number = self.taken;
         match mark_darts(&mut self.marks, round) {

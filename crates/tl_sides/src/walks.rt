@@ -1,6 +1,6 @@
 //! Walks, taken one after the other.
 
-ghost use Rattle.std.specs.Prelude.{◌≡◌, ℕ, zero, suc, ◌<◌, ◌≤◌, List, [], length, slice_index, OnOk, IfOk, IfErr};
+ghost use Rattle.std.specs.Prelude.{◌≡◌, ℕ, zero, suc, ◌<◌, ◌≤◌, ◌++◌, List, [], length, slice_index, OnOk, IfOk, IfErr};
 ghost use Rattle.tl_sides.specs.Lists.{and_list};
 ghost use Rattle.tl_sides.specs.Sides.{dart_count, IsRing};
 ghost use Rattle.tl_sides.specs.Walks.{AreWalks, IsWalkFault};
@@ -48,15 +48,17 @@ impl Walks {
         })
     }
 
-    /// Takes one walk more. A fault is one of all walks up to this one; behind it no further walk should be taken.
+    /// Takes one walk more. A fault is one of all walks up to this one, whatever walks follow; behind it none should be
+    /// taken.
     pub fn take(&mut self, map: &Map, walk: &[u32]) -> Result<(), WalkFault>
         requires ready { AreReady map.now.chains self.old }
         requires some { zero < length walk.now }
         ensures ready { AreReady map.now.chains self.new }
         ensures taken { OnOk result ((walks : List (List ℕ)) →
             HaveWalked map.now.chains walks self.old → HaveWalked map.now.chains (and_list walks walk.now) self.new) }
-        ensures fault { IfErr result (λ fault. (walks : List (List ℕ)) →
-            HaveWalked map.now.chains walks self.old → IsWalkFault map.now.chains (and_list walks walk.now) fault) }
+        ensures fault { IfErr result (λ fault. (walks more : List (List ℕ)) →
+            HaveWalked map.now.chains walks self.old →
+            IsWalkFault map.now.chains (and_list walks walk.now ++ more) fault) }
     {
         let number = self.taken;
         match mark_darts(&mut self.marks, walk) {

@@ -5,19 +5,22 @@ use Rattle.tl_sides.specs.Sides.{dart_count}
 use Rattle.tl_sides.specs.Keeping.Marked.{AddMarks, IsMarkFault}
 use Rattle.tl_sides.specs.declared.rounds.Rounds.{Rounds}
 use Rattle.std.specs.Vec.{with_items, with_item}
+use Rattle.tl_sides.specs.Lists.{and_list}
+use Rattle.tl_sides.specs.Rounds.{HasTwoNodes, HasFall}
+use Rattle.tl_sides.proofs.Lasting.{unknown_lasts, twice_lasts, last_lasts, repeated_lasts}
 use Rattle.tl_sides.proofs.MarkLemmas.{count-within}
 use Rattle.tl_sides.proofs.TakeFacts.{unknown_in, twice_in, added_below, repeated, taken_more}
 use Rattle.tl_sides.proofs.rounds.Rounds.take.Goals as goal
 
 pub returns-in-Err-Unknown-clause-fault : goal.returns-in-Err-Unknown-clause-fault
-returns-in-Err-Unknown-clause-fault c = λ rounds taken.
-    unknown_in (dart_count c.args.map.now.chains) rounds c.args.self.now.marks.items c.args.round.now c.in-Err-Unknown.dart c.requires.sized.marks
-    (rw (← c.deref_mut.ensures.value) (subst (λ f. IsMarkFault c.deref_mut.result.now c.args.round.now f) c.in-Err-Unknown.field-0-is c.in-Err-Unknown.ensures.fault))
+returns-in-Err-Unknown-clause-fault c = λ rounds more taken.
+    unknown_lasts (dart_count c.args.map.now.chains) c.in-Err-Unknown.dart (and_list rounds c.args.round.now) more (unknown_in (dart_count c.args.map.now.chains) rounds c.args.self.now.marks.items c.args.round.now c.in-Err-Unknown.dart c.requires.sized.marks
+    (rw (← c.deref_mut.ensures.value) (subst (λ f. IsMarkFault c.deref_mut.result.now c.args.round.now f) c.in-Err-Unknown.field-0-is c.in-Err-Unknown.ensures.fault)))
 
 pub returns-in-Err-Twice-clause-fault : goal.returns-in-Err-Twice-clause-fault
-returns-in-Err-Twice-clause-fault c = λ rounds taken.
-    twice_in (dart_count c.args.map.now.chains) rounds c.args.self.now.marks.items c.args.round.now c.in-Err-Twice.dart taken.marks
-    (rw (← c.deref_mut.ensures.value) (subst (λ f. IsMarkFault c.deref_mut.result.now c.args.round.now f) c.in-Err-Twice.field-0-is c.in-Err-Twice.ensures.fault))
+returns-in-Err-Twice-clause-fault c = λ rounds more taken.
+    twice_lasts c.in-Err-Twice.dart (and_list rounds c.args.round.now) more (twice_in (dart_count c.args.map.now.chains) rounds c.args.self.now.marks.items c.args.round.now c.in-Err-Twice.dart taken.marks
+    (rw (← c.deref_mut.ensures.value) (subst (λ f. IsMarkFault c.deref_mut.result.now c.args.round.now f) c.in-Err-Twice.field-0-is c.in-Err-Twice.ensures.fault)))
 
 pub has_one_node-requires-clause-darts : goal.has_one_node-requires-clause-darts
 has_one_node-requires-clause-darts c =
@@ -30,11 +33,19 @@ dart_node-node-requires c =
     added_below c.args.self.now.marks.items c.args.round.now c.mark_darts.new.marks (dart_count c.args.map.now.chains) added c.requires.sized.marks 0 c.requires.some
 
 pub returns-then-index-clause-fault : goal.returns-then-index-clause-fault
-returns-then-index-clause-fault c = λ rounds taken.
+returns-then-index-clause-fault c = λ rounds more taken.
     let within = c.dart_node-node.ensures.within c.requires.sized.points c.requires.sized.are in
     let here : c.dart_node-node.result < length c.args.self.now.nodes.items = omega (arith, within, c.requires.sized.nodes) in
     let marked : slice_index_or c.args.self.now.nodes.items c.dart_node-node.result false ≡ true = get_or_default c.args.self.now.nodes.items c.dart_node-node.result false c.index.result.now here ∙ sym c.index.ensures ∙ c.if-index.true in
-    repeated c.args.map.now.chains rounds c.args.round.now c.args.self.now.taken c.args.self.now.nodes.items taken.nodes.points c.dart_node-node.result taken.taken c.requires.some taken.nodes c.dart_node-node.ensures.start c.dart_node-node.ensures.within marked
+    repeated_lasts c.args.map.now.chains (and_list rounds c.args.round.now) more c.args.self.now.taken (repeated c.args.map.now.chains rounds c.args.round.now c.args.self.now.taken c.args.self.now.nodes.items taken.nodes.points c.dart_node-node.result taken.taken c.requires.some taken.nodes c.dart_node-node.ensures.start c.dart_node-node.ensures.within marked)
+
+pub returns-then-not-has_one_node-clause-fault : goal.returns-then-not-has_one_node-clause-fault
+returns-then-not-has_one_node-clause-fault c = λ rounds more taken.
+    last_lasts (HasTwoNodes c.args.map.now.chains) rounds more c.args.round.now c.args.self.now.taken taken.taken (c.has_one_node.ensures.two c.if-not-has_one_node.true)
+
+pub returns-then-not-is_rising-clause-fault : goal.returns-then-not-is_rising-clause-fault
+returns-then-not-is_rising-clause-fault c = λ rounds more taken.
+    last_lasts (HasFall c.args.map.now.chains) rounds more c.args.round.now c.args.self.now.taken taken.taken (c.is_rising.ensures.fall c.if-not-is_rising.true)
 
 pub is_rising-requires-clause-darts : goal.is_rising-requires-clause-darts
 is_rising-requires-clause-darts c =

@@ -4,20 +4,34 @@ use Rattle.std.proofs.lemmas.List.{with_items_is}
 use Rattle.tl_sides.specs.declared.walks.Walks.{Walks}
 use Rattle.tl_sides.specs.Sides.{dart_count}
 use Rattle.tl_sides.specs.Keeping.Marked.{AddMarks, IsMarkFault}
+use Rattle.tl_sides.specs.Lists.{and_list}
+use Rattle.tl_sides.specs.Walks.{HasWrongStep, IsOpen}
+use Rattle.tl_sides.specs.Keeping.Walked.{IsNoRing}
+use Rattle.tl_sides.proofs.Lasting.{unknown_lasts, twice_lasts, last_lasts}
 use Rattle.tl_sides.proofs.MarkLemmas.{count-within}
 use Rattle.tl_sides.proofs.TakeFacts.{unknown_in, twice_in, added_below}
 use Rattle.tl_sides.proofs.WalkFacts.{walked_more}
 use Rattle.tl_sides.proofs.walks.Walks.take.Goals as goal
 
 pub returns-in-Err-Unknown-clause-fault : goal.returns-in-Err-Unknown-clause-fault
-returns-in-Err-Unknown-clause-fault c = λ walks taken.
-    unknown_in (dart_count c.args.map.now.chains) walks c.args.self.now.marks.items c.args.walk.now c.in-Err-Unknown.dart c.requires.ready.marks
-    (rw (← c.deref_mut.ensures.value) (subst (λ f. IsMarkFault c.deref_mut.result.now c.args.walk.now f) c.in-Err-Unknown.field-0-is c.in-Err-Unknown.ensures.fault))
+returns-in-Err-Unknown-clause-fault c = λ walks more taken.
+    unknown_lasts (dart_count c.args.map.now.chains) c.in-Err-Unknown.dart (and_list walks c.args.walk.now) more (unknown_in (dart_count c.args.map.now.chains) walks c.args.self.now.marks.items c.args.walk.now c.in-Err-Unknown.dart c.requires.ready.marks
+    (rw (← c.deref_mut.ensures.value) (subst (λ f. IsMarkFault c.deref_mut.result.now c.args.walk.now f) c.in-Err-Unknown.field-0-is c.in-Err-Unknown.ensures.fault)))
 
 pub returns-in-Err-Twice-clause-fault : goal.returns-in-Err-Twice-clause-fault
-returns-in-Err-Twice-clause-fault c = λ walks taken.
-    twice_in (dart_count c.args.map.now.chains) walks c.args.self.now.marks.items c.args.walk.now c.in-Err-Twice.dart taken.marks
-    (rw (← c.deref_mut.ensures.value) (subst (λ f. IsMarkFault c.deref_mut.result.now c.args.walk.now f) c.in-Err-Twice.field-0-is c.in-Err-Twice.ensures.fault))
+returns-in-Err-Twice-clause-fault c = λ walks more taken.
+    twice_lasts c.in-Err-Twice.dart (and_list walks c.args.walk.now) more (twice_in (dart_count c.args.map.now.chains) walks c.args.self.now.marks.items c.args.walk.now c.in-Err-Twice.dart taken.marks
+    (rw (← c.deref_mut.ensures.value) (subst (λ f. IsMarkFault c.deref_mut.result.now c.args.walk.now f) c.in-Err-Twice.field-0-is c.in-Err-Twice.ensures.fault)))
+
+pub returns-in-Err-WrongStep-clause-fault : goal.returns-in-Err-WrongStep-clause-fault
+returns-in-Err-WrongStep-clause-fault c = λ walks more taken.
+    last_lasts (HasWrongStep c.args.map.now.chains) walks more c.args.walk.now c.args.self.now.taken taken.taken
+    (subst (λ r. IsNoRing c.args.map.now.chains c.args.walk.now r) c.in-Err-WrongStep.field-0-is c.in-Err-WrongStep.ensures.none)
+
+pub returns-in-Err-NotClosed-clause-fault : goal.returns-in-Err-NotClosed-clause-fault
+returns-in-Err-NotClosed-clause-fault c = λ walks more taken.
+    last_lasts (IsOpen c.args.map.now.chains) walks more c.args.walk.now c.args.self.now.taken taken.taken
+    (subst (λ r. IsNoRing c.args.map.now.chains c.args.walk.now r) c.in-Err-NotClosed.field-0-is c.in-Err-NotClosed.ensures.none)
 
 pub step_round-requires-clause-darts : goal.step_round-requires-clause-darts
 step_round-requires-clause-darts c =

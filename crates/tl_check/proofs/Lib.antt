@@ -1,0 +1,4 @@
+pub mod NodeCounts
+pub mod Whole
+pub mod Prefixes
+pub mod Shown

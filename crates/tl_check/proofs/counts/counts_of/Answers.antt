@@ -1,0 +1,15 @@
+use Rattle.tl_check.proofs.NodeCounts.{of_each}
+use Rattle.tl_check.proofs.counts.counts_of.Goals as goal
+
+pub returns : goal.returns
+returns c =
+    let nodes = c.nodes.ensures in
+    record {
+      counts = record {
+        chains = c.chains.ensures;
+        segments = c.segments.ensures;
+        nodes = of_each c.args.map.now.chains c.nodes.result nodes.0 nodes.1 nodes.2;
+        polygons = c.polygons.ensures;
+      };
+      nodes = (nodes.0, nodes.1);
+    }

@@ -1,0 +1,17 @@
+use Rattle.tl_check.specs.Keeping.Parts.{Holds, TakesRounds, TakesWalks}
+use Rattle.tl_check.proofs.Prefixes.{first_rounds, first_walks}
+use Rattle.tl_check.proofs.in_memory.check_map.Given as goal
+
+-- the state holds of the rounds so far
+abbrev pub invariant-loop-round : goal.invariant-loop-round
+invariant-loop-round l = record {
+  holds : Holds l.map (first_rounds l.cert l.round-index) l.state;
+  takes : TakesRounds l.state;
+}
+
+-- the state holds of the walks so far
+abbrev pub invariant-loop-walk : goal.invariant-loop-walk
+invariant-loop-walk l = record {
+  holds : Holds l.map (first_walks l.cert l.walk-index) l.state;
+  takes : TakesWalks l.state;
+}

@@ -1,0 +1,27 @@
+-- Answers and reports, before anything is shown of them.
+use Rattle.std.specs.Prelude.{◌≡◌, ℕ, List, length, Ok, Err}
+use Rattle.tl_geom.specs.declared.point.Point.{Point}
+use Rattle.tl_map.specs.TheMap.{TheMap}
+use Rattle.tl_map.specs.Nodes.{AreNodes}
+use Rattle.tl_check.specs.declared.verdict.Report.{Report}
+use Rattle.tl_check.specs.declared.verdict.Verdict.TheVariants as verdict
+use Rattle.tl_check.specs.declared.stop.Stop.TheVariants as stop
+use Rattle.tl_check.specs.declared.state.Halt.{Halt}
+use Rattle.tl_check.specs.declared.state.Halt.TheVariants as halt
+use Rattle.tl_check.specs.Valid.{segments_of}
+use Rattle.tl_check.specs.Verdicts.{Answer}
+
+-- the answer where no further part is looked at
+abbrev pub answer_of : Halt → Answer
+answer_of (halt.Fault fault) = Ok (verdict.MapFault fault)
+answer_of halt.Memory = Err stop.Memory
+answer_of halt.Budget = Err stop.Budget
+
+-- the report has the map's numbers, and so many rings
+pub record AreNumbers (m : TheMap) (rings : ℕ) (r : Report) : Type 0 where
+  pub chains : r.chains ≡ length m.chains
+  pub segments : r.segments ≡ segments_of m
+  pub nodes : (points : List Point) → AreNodes m.chains points → r.nodes ≡ length points
+  pub polygons : r.polygons ≡ length m.polygons
+  pub landmarks : r.landmarks ≡ length m.landmarks
+  pub rings_are : r.rings ≡ rings

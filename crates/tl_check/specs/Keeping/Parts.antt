@@ -1,0 +1,96 @@
+-- What was found of a certificate's rounds and walks so far, behind counts that are the map's and a tree that was taken.
+use Rattle.std.specs.Prelude.{◌≡◌, ℕ, ◌<◌, List, [], ◌++◌, length, ⊤}
+use Rattle.tl_map.specs.TheMap.{TheMap}
+use Rattle.tl_planar.specs.Planar.{IsPlanar}
+use Rattle.tl_planar.specs.Searching.{meeting_segments}
+use Rattle.tl_sides.specs.Sides.{SidesAgree}
+use Rattle.tl_sides.specs.Lists.{and_list}
+use Rattle.tl_sides.specs.Rounds.{AreRounds, IsRoundFault}
+use Rattle.tl_sides.specs.declared.rounds.Rounds.{Rounds}
+use Rattle.tl_sides.specs.declared.walks.Walks.{Walks}
+use Rattle.tl_sides.specs.Keeping.Rounded.{AreSized, HaveTaken}
+use Rattle.tl_sides.specs.Keeping.Walked.{AreReady, HaveWalked}
+use Rattle.tl_cert.specs.Certificates.{TheCertificate}
+use Rattle.tl_check.specs.declared.state.State.{State}
+use Rattle.tl_check.specs.declared.state.State.TheVariants as state
+use Rattle.tl_check.specs.declared.state.Halt.{Halt}
+use Rattle.tl_check.specs.declared.state.Halt.TheVariants as halt
+use Rattle.tl_check.specs.Valid.{AreCounts, IsTree, IsValid}
+use Rattle.tl_check.specs.Truth.{IsTrueOfMap, IsTrueOfCert}
+
+-- the certificate with a round more, or a walk
+abbrev pub with_round : TheCertificate → List ℕ → TheCertificate
+with_round c round = record c { rounds = and_list c.rounds round }
+
+abbrev pub with_walk : TheCertificate → List ℕ → TheCertificate
+with_walk c walk = record c { walks = and_list c.walks walk }
+
+-- the certificate d is c with more rounds, and more walks
+pub record Continues (c d : TheCertificate) : Type 0 where
+  pub counts : d.counts ≡ c.counts
+  pub tree : d.tree ≡ c.tree
+  pub more_rounds : List (List ℕ)
+  pub rounds : d.rounds ≡ c.rounds ++ more_rounds
+  pub more_walks : List (List ℕ)
+  pub walks : d.walks ≡ c.walks ++ more_walks
+
+-- the counts are the map's, the tree fits its segments, and its chains are planar
+pub record IsFounded (m : TheMap) (c : TheCertificate) : Type 0 where
+  pub counts : AreCounts m c.counts
+  pub tree : IsTree m c.tree
+  pub planar : IsPlanar m.chains
+
+-- so far the rounds have no fault, and there are no walks yet
+pub record AreRoundsSoFar (m : TheMap) (c : TheCertificate) (rounds : Rounds) : Type 0 where
+  pub founded : IsFounded m c
+  pub no_walks : c.walks ≡ []
+  pub sized : AreSized m.chains rounds
+  pub taken : HaveTaken m.chains c.rounds rounds
+
+-- the rounds are the map's, sides agree, and so far the walks have no fault
+pub record AreWalksSoFar (m : TheMap) (c : TheCertificate) (walks : Walks) : Type 0 where
+  pub founded : IsFounded m c
+  pub rounds : AreRounds m.chains c.rounds
+  pub sides : SidesAgree m.chains
+  pub ready : AreReady m.chains walks
+  pub walked : HaveWalked m.chains c.walks walks
+
+-- what a state says of the parts that were taken, which are those of c
+abbrev pub Holds : TheMap → TheCertificate → State → Type 0
+Holds m c (state.Rounding rounds) = AreRoundsSoFar m c rounds
+Holds m c (state.Walking walks) = AreWalksSoFar m c walks
+Holds m c (state.Unrounded fault) = IsRoundFault m.chains c.rounds fault
+Holds m c (state.Wrong fault) = (d : TheCertificate) → Continues c d → IsTrueOfCert m d fault
+
+-- further rounds may be taken
+abbrev pub TakesRounds : State → Type 0
+TakesRounds (state.Rounding rounds) = ⊤
+TakesRounds (state.Walking walks) = ⊥
+TakesRounds (state.Unrounded fault) = ⊥
+TakesRounds (state.Wrong fault) = ⊤
+
+-- walks may be taken
+abbrev pub TakesWalks : State → Type 0
+TakesWalks (state.Rounding rounds) = ⊥
+TakesWalks (state.Walking walks) = ⊤
+TakesWalks (state.Unrounded fault) = ⊤
+TakesWalks (state.Wrong fault) = ⊤
+
+-- why no further part is looked at
+abbrev pub MayHalt : TheMap → ℕ → Halt → Type 0
+MayHalt m budget (halt.Fault fault) = IsTrueOfMap m fault
+MayHalt m budget halt.Memory = ⊤
+MayHalt m budget halt.Budget = budget < meeting_segments m.chains
+
+-- the same behind the search
+abbrev pub MayEnd : TheMap → Halt → Type 0
+MayEnd m (halt.Fault fault) = IsTrueOfMap m fault
+MayEnd m halt.Memory = ⊤
+MayEnd m halt.Budget = ⊥
+
+-- what valid certificates show, with that many walks
+pub record IsShown (m : TheMap) (c : TheCertificate) (rings : ℕ) : Type 0 where
+  pub valid : IsValid m c
+  pub planar : IsPlanar m.chains
+  pub sides : SidesAgree m.chains
+  pub counted : rings ≡ length c.walks

@@ -1,0 +1,6 @@
+-- What the contracts of the checker cite.
+pub mod Sound
+pub mod Valid
+pub mod Truth
+pub mod Verdicts
+pub mod Keeping

@@ -1,0 +1,17 @@
+-- Sound maps: planar, with sides that agree, and with boundaries that are closed rings.
+use Rattle.std.specs.Prelude.{ℕ, ◌<◌, length}
+use Rattle.tl_map.specs.declared.sides.Side.TheVariants.{Outside, Polygon}
+use Rattle.tl_map.specs.TheMap.{TheMap}
+use Rattle.tl_planar.specs.Planar.{IsPlanar}
+use Rattle.tl_sides.specs.Sides.{SidesAgree, IsClosed}
+
+-- the boundary of each polygon, and that of the outside, is closed rings
+pub record AreClosed (m : TheMap) : Type 0 where
+  pub polygons : (p : ℕ) → p < length m.polygons → IsClosed m.chains (Polygon p)
+  pub outside : IsClosed m.chains Outside
+
+-- the map is sound
+pub record IsSound (m : TheMap) : Type 0 where
+  pub planar : IsPlanar m.chains
+  pub sides : SidesAgree m.chains
+  pub closed : AreClosed m

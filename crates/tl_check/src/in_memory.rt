@@ -1,0 +1,96 @@
+//! The check of a map and a certificate in memory.
+
+ghost use Rattle.std.specs.Prelude.{IfErr};
+ghost use Rattle.tl_planar.specs.Planar.{IsPlanar};
+ghost use Rattle.tl_sides.specs.Sides.{SidesAgree};
+ghost use Rattle.tl_cert.specs.Certificates.{MakesCertificate};
+ghost use Rattle.tl_check.specs.Sound.{AreClosed};
+ghost use Rattle.tl_check.specs.Valid.{IsValid};
+ghost use Rattle.tl_check.specs.Truth.{IsTrueOfMap, IsTrueOfCert};
+ghost use Rattle.tl_check.specs.Verdicts.{OnSound, IfSound, IfMapFault, IfCertFault, IsReport, MayStop};
+
+use crate::counts::are_counts;
+use crate::fault::CertFault;
+use crate::rounds::{end_rounds, take_round};
+use crate::state::Halt;
+use crate::stop::Stop;
+use crate::tree::take_tree;
+use crate::verdict::{Report, Verdict};
+use crate::walks::{end_walks, take_walk};
+use std::alloc::Global;
+use tl_cert::Certificate;
+use tl_map::Map;
+
+/// Decides whether a map is sound, by a certificate of it. `budget` is how many pairs of segments may be tested whose
+/// rectangles meet.
+///
+/// [`Stop::Memory`] and [`Stop::Budget`] are the only stops.
+pub fn check_map(alloc: Global, map: &Map, cert: &Certificate, budget: u64) -> Result<Verdict, Stop>
+    requires whole { MakesCertificate cert.now }
+    // No rational point lies on two chains but an end of both, and no chain meets itself but at its ends.
+    ensures planar { OnSound result (IsPlanar map.now.chains) }
+    // Neighbouring chains about each node name one polygon between them.
+    ensures sides { OnSound result (SidesAgree map.now.chains) }
+    // The boundary of each polygon, and that of the outside, is closed rings.
+    ensures closed { OnSound result (AreClosed map.now) }
+    // The certificate is valid for the map.
+    ensures valid { OnSound result (IsValid map.now cert.now) }
+    // The report has the map's numbers.
+    ensures report { IfSound result (IsReport map.now) }
+    // Each fault is true.
+    ensures map_fault { IfMapFault result (IsTrueOfMap map.now) }
+    ensures cert_fault { IfCertFault result (IsTrueOfCert map.now cert.now) }
+    // It stops where memory was refused, or more than the budget had to be tested.
+    ensures stops { IfErr result (MayStop map.now budget) }
+{
+    if !are_counts(map, cert.counts()) {
+        return Ok(Verdict::CertFault(CertFault::Counts));
+    }
+    let mut state = match take_tree(alloc, map, cert.tree(), budget) {
+        Ok(state) => state,
+        Err(halt) => return answer(halt),
+    };
+    for round in cert.rounds() {
+        state = take_round(map, state, round);
+    }
+    state = match end_rounds(alloc, map, state) {
+        Ok(state) => state,
+        Err(halt) => return answer(halt),
+    };
+    for walk in cert.walks() {
+        state = take_walk(map, state, walk);
+    }
+    match end_walks(map, state) {
+        Ok(rings) => Ok(Verdict::Sound(report(map, rings))),
+        Err(fault) => Ok(Verdict::CertFault(fault)),
+    }
+}
+
+ghost use Rattle.std.specs.Prelude.{◌≡◌};
+ghost use Rattle.tl_check.specs.Keeping.Parts.{MayHalt};
+ghost use Rattle.tl_check.specs.Keeping.Answers.{answer_of, AreNumbers};
+
+/// The answer where no further part is looked at.
+fn answer(halt: Halt) -> Result<Verdict, Stop>
+    ensures { result ≡ answer_of halt }
+{
+    match halt {
+        Halt::Fault(fault) => Ok(Verdict::MapFault(fault)),
+        Halt::Memory => Err(Stop::Memory),
+        Halt::Budget => Err(Stop::Budget),
+    }
+}
+
+/// The report of a sound map with so many rings.
+fn report(map: &Map, rings: u32) -> Report
+    ensures { AreNumbers map.now rings result }
+{
+    Report {
+        chains: map.chains(),
+        segments: map.segments(),
+        nodes: map.nodes(),
+        polygons: map.polygons(),
+        landmarks: map.landmarks(),
+        rings,
+    }
+}

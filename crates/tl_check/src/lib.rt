@@ -1,0 +1,21 @@
+//! The checker: whether a map is sound, by a certificate that nobody need trust.
+//!
+//! [`check_map`] answers that a map is sound only where it is: its chains are planar, its sides agree, and the boundary
+//! of each polygon and that of the outside is closed rings (`specs/Sound`). Each fault that it names is true
+//! (`specs/Truth`), of the map or of the certificate.
+#![tactic(auto)]
+
+mod counts;
+mod fault;
+mod in_memory;
+mod rounds;
+mod state;
+mod stop;
+mod tree;
+mod verdict;
+mod walks;
+
+pub use fault::{CertFault, MapFault};
+pub use in_memory::check_map;
+pub use stop::Stop;
+pub use verdict::{Report, Verdict};

@@ -1,0 +1,73 @@
+//! The rounds of a certificate, and the sides about each node.
+
+ghost use Rattle.std.specs.Prelude.{◌<◌, zero, length, IfOk, IfErr};
+ghost use Rattle.tl_cert.specs.Certificates.{TheCertificate};
+ghost use Rattle.tl_check.specs.Keeping.Parts.{with_round, Holds, TakesRounds, TakesWalks, MayEnd};
+
+use crate::fault::{CertFault, MapFault};
+use crate::state::{Halt, State};
+use std::alloc::Global;
+use tl_map::Map;
+use tl_sides::{Rounds, Walks};
+
+/// Takes one round more.
+pub fn take_round(map: &Map, state: State, round: &[u32]) -> State
+    requires some { zero < length round.now }
+    requires held { (c : TheCertificate) × Holds map.now c state }
+    requires takes { TakesRounds state }
+    ensures holds { (c : TheCertificate) → Holds map.now c state → Holds map.now (with_round c round.now) result }
+    ensures takes { TakesRounds result }
+{
+    match state {
+        State::Rounding(mut rounds) => match rounds.take(map, round) {
+            Ok(()) => State::Rounding(rounds),
+            Err(fault) => State::Wrong(CertFault::Round(fault)),
+        },
+        State::Wrong(fault) => State::Wrong(fault),
+        State::Walking(_) | State::Unrounded(_) => unreachable!(),
+    }
+}
+
+/// Ends the rounds, unless they have ended already: where they are the map's and sides agree, walks are taken next.
+pub fn end_rounds(alloc: Global, map: &Map, state: State) -> Result<State, Halt>
+    requires held { (c : TheCertificate) × Holds map.now c state }
+    ensures holds { IfOk result (λ next. (c : TheCertificate) → Holds map.now c state → Holds map.now c next) }
+    ensures walks { IfOk result TakesWalks }
+    ensures halts { IfErr result (MayEnd map.now) }
+{
+    match state {
+        State::Rounding(rounds) => begin_walks(alloc, map, rounds),
+        State::Walking(walks) => Ok(State::Walking(walks)),
+        State::Unrounded(fault) => Ok(State::Unrounded(fault)),
+        State::Wrong(fault) => Ok(State::Wrong(fault)),
+    }
+}
+
+ghost use Rattle.tl_check.specs.Keeping.Parts.{AreRoundsSoFar};
+
+/// Begins the walks behind rounds that had no fault so far.
+fn begin_walks(alloc: Global, map: &Map, rounds: Rounds) -> Result<State, Halt>
+    requires held { (c : TheCertificate) × AreRoundsSoFar map.now c rounds }
+    ensures holds { IfOk result (λ next. (c : TheCertificate) → AreRoundsSoFar map.now c rounds → Holds map.now c next) }
+    ensures walks { IfOk result TakesWalks }
+    ensures halts { IfErr result (MayEnd map.now) }
+{
+    let next = match rounds.end(map) {
+        Ok(next) => next,
+        Err(fault) => return Ok(State::Unrounded(fault)),
+    };
+    match next.disagreement(map) {
+        None => {}
+        Some(found) => {
+            return Err(Halt::Fault(MapFault::Side {
+                node: map.dart_start(found.first),
+                first: found.first,
+                next: found.next,
+            }));
+        }
+    }
+    match Walks::new(alloc, map, next) {
+        Ok(walks) => Ok(State::Walking(walks)),
+        Err(_) => Err(Halt::Memory),
+    }
+}

@@ -1,0 +1,28 @@
+//! What the checker keeps of a certificate's parts.
+
+use crate::fault::{CertFault, MapFault};
+use tl_sides::{RoundFault, Rounds, Walks};
+
+/// What was found of the rounds and walks so far, behind counts that are the map's and a tree. No part is kept.
+#[derive(Drop)]
+pub enum State {
+    /// The tree fits, the chains are planar, and the rounds have no fault so far.
+    Rounding(Rounds),
+    /// The rounds are the map's, sides agree, and the walks have no fault so far.
+    Walking(Walks),
+    /// The rounds have ended, and have this fault.
+    Unrounded(RoundFault),
+    /// Each certificate that begins so has this fault.
+    Wrong(CertFault),
+}
+
+/// Why no further part is looked at.
+#[derive(Clone, Copy)]
+pub enum Halt {
+    /// The map has this fault.
+    Fault(MapFault),
+    /// Memory was refused.
+    Memory,
+    /// More pairs of segments than the budget have rectangles that meet.
+    Budget,
+}

@@ -1,0 +1,45 @@
+//! The tree of a certificate, and the search for a place where chains meet that they may not.
+
+ghost use Rattle.std.specs.Prelude.{◌≡◌, ◌<◌, ◌^◌, [], length, IfOk, IfErr};
+ghost use Rattle.tl_tree.specs.Preorder.{IsPreorder};
+ghost use Rattle.tl_cert.specs.Certificates.{TheCertificate};
+ghost use Rattle.tl_check.specs.Valid.{AreCounts};
+ghost use Rattle.tl_check.specs.Keeping.Parts.{Holds, TakesRounds, MayHalt};
+
+use crate::fault::{CertFault, MapFault};
+use crate::state::{Halt, State};
+use std::alloc::Global;
+use tl_map::Map;
+use tl_planar::{Meeting, Segments, first_meet};
+use tl_sides::Rounds;
+use tl_tree::{FlatTree, TreeNode, TreeStop};
+
+/// Takes the tree, behind counts that are the map's: it fits the map's segments and the chains are planar, or it is wrong,
+/// or no further part is looked at.
+pub fn take_tree(alloc: Global, map: &Map, nodes: &[TreeNode], budget: u64) -> Result<State, Halt>
+    requires whole { IsPreorder nodes.now }
+    requires numbered { length nodes.now < 2 ^ 32 }
+    ensures holds { IfOk result (λ state. (c : TheCertificate) → AreCounts map.now c.counts →
+        c.tree ≡ nodes.now → c.rounds ≡ [] → c.walks ≡ [] → Holds map.now c state) }
+    ensures rounds { IfOk result TakesRounds }
+    ensures halts { IfErr result (MayHalt map.now budget) }
+{
+    let tree = match FlatTree::from_nodes(alloc, nodes) {
+        Ok(tree) => tree,
+        Err(TreeStop::TooDeep) => return Ok(State::Wrong(CertFault::TooDeep)),
+        Err(TreeStop::Memory) => return Err(Halt::Memory),
+    };
+    match tree.check(alloc, &Segments::new(map)) {
+        Ok(None) => {}
+        Ok(Some(fault)) => return Ok(State::Wrong(CertFault::Tree(fault))),
+        Err(_) => return Err(Halt::Memory),
+    }
+    match first_meet(map, &tree, budget) {
+        Meeting::Found(meet) => Err(Halt::Fault(MapFault::Meet(meet))),
+        Meeting::Budget => Err(Halt::Budget),
+        Meeting::Clear => match Rounds::new(alloc, map) {
+            Ok(rounds) => Ok(State::Rounding(rounds)),
+            Err(_) => Err(Halt::Memory),
+        },
+    }
+}
