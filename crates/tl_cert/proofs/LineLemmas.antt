@@ -76,6 +76,6 @@ pub stops_with : {R V : Type 0} (remaining : R → Option (List ℕ)) (spelt : V
     → ReadsLine remaining spelt fits old new (Err (Text line)) → ReadsLine remaining spelt fits old new (Err stop)
 stops_with remaining spelt fits old new stop line is reads = subst (λ s. ReadsLine remaining spelt fits old new (Err s)) (sym is) reads
 
-pub ends_with : {R : Type 0} (remaining : R → Option (List ℕ)) (old : LineState R) (stop : CertStop) (line : ℕ) → stop ≡ Text line
-    → EndsText remaining old (Err (Text line)) → EndsText remaining old (Err stop)
-ends_with remaining old stop line is ends = subst (λ s. EndsText remaining old (Err s)) (sym is) ends
+pub ends_with : {R : Type 0} (remaining : R → Option (List ℕ)) (old new : LineState R) (stop : CertStop) (line : ℕ) → stop ≡ Text line
+    → EndsText remaining old new (Err (Text line)) → EndsText remaining old new (Err stop)
+ends_with remaining old new stop line is ends = subst (λ s. EndsText remaining old new (Err s)) (sym is) ends

@@ -70,7 +70,7 @@ impl Lines {
     /// Whether the source is at its end, behind the lines that were taken: a byte that is left is refused.
     pub fn end<R: Source>(&mut self, source: &mut R) -> Result<(), CertStop>
         requires { self.old.lines < 2 ^ 127 }
-        ensures ends { EndsText R.remaining (at self.old source.old) result }
+        ensures ends { EndsText R.remaining (at self.old source.old) (at self.new source.new) result }
         ensures failures { TellsRead (R.failure_count source.old) (R.failure_count source.new) result }
         ensures same_reference { R.reference source.new ≡ R.reference source.old }
     {
