@@ -7,7 +7,7 @@ use crate::stop::CertStop;
 use tl_record::{Fetched, LineBuffer, Source, fetch_line};
 
 // Room for a line with its line feed: no line of a certificate is longer.
-const ROOM: usize = 64;
+const ROOM: usize = 1024;
 
 /// Takes lines of a source, which each call is given, and counts them.
 #[derive(Drop)]
@@ -52,6 +52,11 @@ impl Lines {
         ensures failures { TellsRead (R.failure_count source.old) (R.failure_count source.new) result }
         ensures same_reference { R.reference source.new ≡ R.reference source.old }
     {
+        if let Some((value, len)) = kind.front(self.buffer.bytes()) {
+            self.buffer.consume(len + 1);
+            self.lines += 1;
+            return Ok(value);
+        }
         match fetch_line(&mut self.buffer, source) {
             Fetched::Whole(len) => match kind.parse(&self.buffer.bytes()[..len]) {
                 Some(value) => {

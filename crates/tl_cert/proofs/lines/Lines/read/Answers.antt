@@ -9,7 +9,7 @@ returns-in-None-clause-reads g c =
     stops_with g.R.Source.remaining _ _ (at c.args.self.now c.args.source.now) (at c.args.self.now c.fetch_line.new.source) c.refusal.result (c.args.self.now.lines + 1) c.refusal.ensures (
       omega arith,
       found_other _ _ (g.R.Source.remaining c.fetch_line.new.source) c.fetch_line.new.buffer c.in-Whole.len c.in-Whole.ensures.bytes shows.0 shows.1 shows.2
-          (λ told. c.in-None.ensures told.0 told.1 (ap (take c.in-Whole.len) c.bytes.ensures.value ∙ told.2)),
+          (λ told. c.in-None.ensures told.0 told.1 (ap (take c.in-Whole.len) c.bytes-in-Whole.ensures.value ∙ told.2)),
     )
 
 pub returns-in-Rest-clause-reads : goal.returns-in-Rest-clause-reads
