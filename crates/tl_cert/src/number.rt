@@ -103,13 +103,32 @@ pub fn last_number(bytes: &[u8]) -> Option<u32>
     number_of(word)
 }
 
+/// The value of the four digits that stand first, and that they are four; or 0 and none.
+fn four_digits(bytes: &[u8]) -> (u64, usize)
+    ensures first { AreDigits bytes.now result.1 result.0 }
+    ensures small { result.0 < 10 ^ result.1 }
+    ensures few { result.1 ≤ 4 }
+{
+    let [a, b, c, d, ..] = bytes else {
+        return (0, 0);
+    };
+    if !(a.is_ascii_digit() && b.is_ascii_digit() && c.is_ascii_digit() && d.is_ascii_digit()) {
+        return (0, 0);
+    }
+    let value = u64::from(*a - b'0') * 1000
+        + u64::from(*b - b'0') * 100
+        + u64::from(*c - b'0') * 10
+        + u64::from(*d - b'0');
+    (value, 4)
+}
+
 /// The number of 32 bits whose digits stand first, with a line feed behind them, and how many digits it has. None says
 /// nothing.
 fn first_number(bytes: &[u8]) -> Option<(u32, usize)>
     ensures { IfSome result (λ first. IsNumber first.0 × StandsFirst bytes.now (decimal first.0) first.1) }
 {
-    let mut value: u64 = 0;
-    for index in 0..bytes.len().min(MOST_DIGITS + 1) {
+    let (mut value, read) = four_digits(bytes);
+    for index in read..bytes.len().min(MOST_DIGITS + 1) {
         let byte = bytes[index];
         if !byte.is_ascii_digit() {
             if byte != b'\n' || !may_spell(&bytes[..index]) || value >= NUMBERS {

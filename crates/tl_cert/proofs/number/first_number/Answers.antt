@@ -7,12 +7,14 @@ use Rattle.tl_cert.proofs.number.first_number.Goals as goal
 pub returns-then-not-is_ascii_digit : goal.returns-then-not-is_ascii_digit
 returns-then-not-is_ascii_digit c =
     let read = c.loop-index.invariant.read in
-    let may = c.if-not-may_spell.ensures.0 refl in
-    (omega (arith, c.if-value-ge-NUMBERS.false), record {
-      within = omega arith;
-      feed = omega (arith, c.if-byte-ne10.false);
-      spelt = digits_of_value (take c.loop-index.index c.args.bytes.now) c.loop-index.value may.some may.lead read.digits read.worth (omega (arith, c.if-value-ge-NUMBERS.false));
-    })
+    let may = c.if-not-may_spell.ensures.0 refl in (
+      omega (arith, c.if-value-ge-NUMBERS.false),
+      record {
+        within = omega arith;
+        feed = omega (arith, c.if-byte-ne10.false);
+        spelt = digits_of_value (take c.loop-index.index c.args.bytes.now) c.loop-index.value may.some may.lead read.digits read.worth (omega (arith, c.if-value-ge-NUMBERS.false));
+      },
+    )
 
 pub loop-index-preserved : goal.loop-index-preserved
 loop-index-preserved c =
