@@ -41,6 +41,7 @@ impl Lines {
     }
 
     /// Takes the next line, which has to be of this kind, and gives what it spells.
+    #[inline(always)]
     pub fn read<R: Source, K: LineKind>(
         &mut self,
         source: &mut R,
@@ -57,6 +58,22 @@ impl Lines {
             self.lines += 1;
             return Ok(value);
         }
+        self.read_fetched(source, kind)
+    }
+
+    // Takes the next line as soon as it is fetched.
+    #[inline(never)]
+    fn read_fetched<R: Source, K: LineKind>(
+        &mut self,
+        source: &mut R,
+        kind: &K,
+    ) -> Result<K::Value, CertStop>
+        requires { self.old.lines < 2 ^ 127 }
+        ensures reads { ReadsLine R.remaining (K.spelt kind.now) (K.fits kind.now)
+            (at self.old source.old) (at self.new source.new) result }
+        ensures failures { TellsRead (R.failure_count source.old) (R.failure_count source.new) result }
+        ensures same_reference { R.reference source.new ≡ R.reference source.old }
+    {
         match fetch_line(&mut self.buffer, source) {
             Fetched::Whole(len) => match kind.parse(&self.buffer.bytes()[..len]) {
                 Some(value) => {

@@ -1,7 +1,7 @@
 use Rattle.std.proofs.Common.{◌+◌, ap, ◌∙◌, take, arith}
 use Rattle.tl_cert.specs.Keeping.Lines.{at}
 use Rattle.tl_cert.proofs.LineLemmas.{found_other, none_left, too_long, stops_with}
-use Rattle.tl_cert.proofs.lines.Lines.read.Goals as goal
+use Rattle.tl_cert.proofs.lines.Lines.read_fetched.Goals as goal
 
 pub returns-in-None-clause-reads : goal.returns-in-None-clause-reads
 returns-in-None-clause-reads g c =
@@ -9,7 +9,7 @@ returns-in-None-clause-reads g c =
     stops_with g.R.Source.remaining _ _ (at c.args.self.now c.args.source.now) (at c.args.self.now c.fetch_line.new.source) c.refusal.result (c.args.self.now.lines + 1) c.refusal.ensures (
       omega arith,
       found_other _ _ (g.R.Source.remaining c.fetch_line.new.source) c.fetch_line.new.buffer c.in-Whole.len c.in-Whole.ensures.bytes shows.0 shows.1 shows.2
-          (λ told. c.in-None.ensures told.0 told.1 (ap (take c.in-Whole.len) c.bytes-in-Whole.ensures.value ∙ told.2)),
+          (λ told. c.in-None.ensures told.0 told.1 (ap (take c.in-Whole.len) c.bytes.ensures.value ∙ told.2)),
     )
 
 pub returns-in-Rest-clause-reads : goal.returns-in-Rest-clause-reads
