@@ -65,6 +65,7 @@ impl LineKind for Numbered {
         Some(n)
     }
 
+    #[inline(always)]
     fn front(&self, bytes: &[u8]) -> Option<(u32, usize)> {
         let Some((n, len)) = front_number(bytes, self.letter) else {
             return None;

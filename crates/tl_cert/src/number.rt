@@ -104,6 +104,7 @@ pub fn last_number(bytes: &[u8]) -> Option<u32>
 }
 
 /// The value of the four digits that stand first, and that they are four; or 0 and none.
+#[inline(always)]
 fn four_digits(bytes: &[u8]) -> (u64, usize)
     ensures first { AreDigits bytes.now result.1 result.0 }
     ensures small { result.0 < 10 ^ result.1 }
@@ -124,6 +125,7 @@ fn four_digits(bytes: &[u8]) -> (u64, usize)
 
 /// The number of 32 bits whose digits stand first, with a line feed behind them, and how many digits it has. None says
 /// nothing.
+#[inline(always)]
 fn first_number(bytes: &[u8]) -> Option<(u32, usize)>
     ensures { IfSome result (λ first. IsNumber first.0 × StandsFirst bytes.now (decimal first.0) first.1) }
 {
@@ -143,6 +145,7 @@ fn first_number(bytes: &[u8]) -> Option<(u32, usize)>
 
 /// The number of a line that has one behind this letter and stands whole at the front of the bytes, and the line's
 /// length. None says nothing.
+#[inline(always)]
 pub fn front_number(bytes: &[u8], letter: u8) -> Option<(u32, usize)>
     ensures { IfSome result (λ front. IsNumber front.0
         × StandsFirst bytes.now (numbered_line (letter ∷ []) front.0) front.1) }
@@ -236,6 +239,7 @@ fn long_number(bytes: &[u8]) -> Option<(u64, &[u8])>
 }
 
 /// The signed number of eight or nine digits that stands first behind a space, and the bytes behind it. None says nothing.
+#[inline(always)]
 fn long_coordinate(bytes: &[u8]) -> Option<(i32, &[u8])>
     ensures { IfSome result (λ split. (bytes.now ≡ coordinate split.0 ++ split.1.now) × StartsWord split.1.now
         × FitsSigned w32 split.0) }
@@ -256,6 +260,7 @@ fn long_coordinate(bytes: &[u8]) -> Option<(i32, &[u8])>
 }
 
 /// The signed number of 32 bits that stands first behind a space, and the bytes behind it: its word is found first.
+#[inline(never)]
 fn word_coordinate(bytes: &[u8]) -> Option<(i32, &[u8])>
     ensures { MatchOption result
         ((z : ℤ) (others : List ℕ) → FitsSigned w32 z → StartsWord others → ¬ (bytes.now ≡ coordinate z ++ others))
