@@ -5,7 +5,7 @@ use Rattle.std.specs.Char.{is_ascii_digit}
 use Rattle.std.specs.List.{list_all}
 use Rattle.std.specs.Io.KnownBytes.{Keeps, Consumes, prepend_known}
 use Rattle.std.proofs.lemmas.Fmt.{decimal-digits_value, decimal_digit}
-use Rattle.std.proofs.lemmas.List.{length-take-le, get_or-take, take-append-drop}
+use Rattle.std.proofs.lemmas.List.{length-take-le, get_or-take, take-append-drop, take-take}
 use Rattle.std.proofs.lemmas.Str.Parse.{IsNumeralModel, numerals_by_weight}
 use Rattle.tl_record.specs.Lines.{joined_lines}
 use Rattle.tl_record.specs.Fields.{decimal}
@@ -21,6 +21,13 @@ pub digits_of_value : (bytes : List ℕ) (value : ℕ) → 0 < length bytes → 
     → value < 2 ^ 64 → bytes ≡ std.decimal value
 digits_of_value bytes value some lead all worth small =
     sym (ap std.decimal (sym worth) ∙ decimal-digits_value spelling bytes all some lead (omega (arith, worth, small)))
+
+-- digits among the first eight bytes
+pub short_spelt : (bytes eight : List ℕ) (len value : ℕ) → eight ≡ take 8 bytes → len < 8 → 0 < length (take len bytes) → (get_or (take len bytes) 0 0 ≡ 48 → length (take len bytes) ≡ 1)
+    → list_all is_ascii_digit (take len eight) ≡ true → decimal (take len eight) ≡ value → value < 2 ^ 64 → take len bytes ≡ std.decimal value
+short_spelt bytes eight len value is few some lead all worth small =
+    let same : take len eight ≡ take len bytes = ap (take len) is ∙ take-take len 8 bytes (omega arith) in
+    digits_of_value (take len bytes) value some lead (rw (← same) all) (rw (← same) worth) small
 
 -- digits that begin with no 0 are a number's above 0
 above_zero : (value : ℕ) (bytes : List ℕ) → bytes ≡ std.decimal value → (get_or bytes 0 0 ≡ 48 → ⊥) → 0 < value

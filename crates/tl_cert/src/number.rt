@@ -9,7 +9,7 @@ ghost use Rattle.tl_cert.specs.Text.{number, numbered_line, coordinate, rectangl
 ghost use Rattle.tl_cert.specs.Keeping.Words.{MaySpell, StartsWord, StandsFirst, AreDigits, IsSplit};
 
 use tl_geom::Rect;
-use tl_record::eight_digits;
+use tl_record::{eight_digits, leading_digits};
 
 // The most digits that are read of a number: 4,294,967,295 has ten.
 const MOST_DIGITS: usize = 10;
@@ -103,44 +103,25 @@ pub fn last_number(bytes: &[u8]) -> Option<u32>
     number_of(word)
 }
 
-/// The value of the four digits that stand first, and that they are four; or 0 and none.
-#[inline(always)]
-fn four_digits(bytes: &[u8]) -> (u64, usize)
-    ensures first { AreDigits bytes.now result.1 result.0 }
-    ensures small { result.0 < 10 ^ result.1 }
-    ensures few { result.1 ≤ 4 }
-{
-    let [a, b, c, d, ..] = bytes else {
-        return (0, 0);
-    };
-    if !(a.is_ascii_digit() && b.is_ascii_digit() && c.is_ascii_digit() && d.is_ascii_digit()) {
-        return (0, 0);
-    }
-    let value = u64::from(*a - b'0') * 1000
-        + u64::from(*b - b'0') * 100
-        + u64::from(*c - b'0') * 10
-        + u64::from(*d - b'0');
-    (value, 4)
-}
-
-/// The number of 32 bits whose digits stand first, with a line feed behind them, and how many digits it has. None says
+/// The number of fewer than eight digits that stand first, with a line feed behind them, and how many they are. None says
 /// nothing.
 #[inline(always)]
-fn first_number(bytes: &[u8]) -> Option<(u32, usize)>
+fn short_number(bytes: &[u8]) -> Option<(u32, usize)>
     ensures { IfSome result (λ first. IsNumber first.0 × StandsFirst bytes.now (decimal first.0) first.1) }
 {
-    let (mut value, read) = four_digits(bytes);
-    for index in read..bytes.len().min(MOST_DIGITS + 1) {
-        let byte = bytes[index];
-        if !byte.is_ascii_digit() {
-            if byte != b'\n' || !may_spell(&bytes[..index]) || value >= NUMBERS {
-                return None;
-            }
-            return Some((value as u32, index));
-        }
-        value = value * 10 + u64::from(byte - b'0');
+    if bytes.len() < 8 {
+        return None;
     }
-    None
+    let Ok(eight) = <[u8; 8]>::try_from(&bytes[..8]) else {
+        return None;
+    };
+    let Some((value, len)) = leading_digits(eight) else {
+        return None;
+    };
+    if bytes[len] != b'\n' || !may_spell(&bytes[..len]) {
+        return None;
+    }
+    Some((value as u32, len))
 }
 
 /// The number of a line that has one behind this letter and stands whole at the front of the bytes, and the line's
@@ -156,7 +137,7 @@ pub fn front_number(bytes: &[u8], letter: u8) -> Option<(u32, usize)>
     let Some(digits) = behind(word, b' ') else {
         return None;
     };
-    let Some((n, len)) = first_number(digits) else {
+    let Some((n, len)) = short_number(digits) else {
         return None;
     };
     Some((n, len + 2))
