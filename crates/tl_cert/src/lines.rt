@@ -6,7 +6,8 @@ use crate::line_kind::LineKind;
 use crate::stop::CertStop;
 use tl_record::{Fetched, LineBuffer, Source, fetch_line};
 
-// Room for a line with its line feed: no line of a certificate is longer.
+// How many bytes are kept: a line with its line feed has at most 64, so where these hold no line feed, no line of a
+// certificate begins them.
 const ROOM: usize = 1024;
 
 /// Takes lines of a source, which each call is given, and counts them.
