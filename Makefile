@@ -5,7 +5,8 @@
 # make full-size           asks for each answer once with a million chains
 # make memory              refuses each allocation of the program, and of bench_tree, in its turn
 # make examples            runs the commands of examples/README.md and compares what they print
-# make bench               measures the program on record files of 1,000 to 1,000,000 chains, and searches in trees
+# make bench               measures the program on record files of 1,000 to 1,000,000 chains, searches in trees, and
+#                          certificates written and read
 # make install PREFIX=..   installs the program as PREFIX/bin/tigertopo
 
 PREFIX = /usr/local
@@ -39,6 +40,7 @@ memory: build
 bench: build
 	cd crates/count_records && rt run >/dev/null
 	cd crates/bench_tree && rt run >/dev/null
+	cd crates/bench_cert && rt run >/dev/null
 	python3 bench/run.py
 
 install: build

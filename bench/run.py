@@ -1,8 +1,9 @@
 #!/usr/bin/env python3
 """Measures `tigertopo show` and `landmarks`, and a program that only counts records, beside `wc -l` of the same files;
-and `bench_tree`, which makes the segments of a county and searches them, in a table of its own.
+`bench_tree`, which makes the segments of a county and searches them, in a table of its own; and `bench_cert`, which writes
+and reads certificates, beside `wc -l` of the same file, in a third.
 
-usage: run.py [--sizes N,N,..] [--counties N,N,..] [--keys N] [--segments N,N,..] [--runs N]
+usage: run.py [--sizes N,N,..] [--counties N,N,..] [--keys N] [--segments N,N,..] [--certificates N,N,..] [--runs N]
 
 The files of --sizes hold types 1 and 2; those of --counties are whole counties of all six types, by rising TLID and, in a
 second row of files, in random order. Those of --keys have as many polygons as chains, with ordinary keys and, in a second
@@ -24,6 +25,7 @@ CRATES = BENCH.parent / "crates"
 PROGRAM = CRATES / "tigertopo" / "out" / "tigertopo"
 COUNT = CRATES / "count_records" / "out" / "count_records"
 TREE = CRATES / "bench_tree" / "out" / "bench_tree"
+CERT = CRATES / "bench_cert" / "out" / "bench_cert"
 NAMES = {
     "streets": "streets alone",
     "county": "a county",
@@ -106,12 +108,38 @@ def tree_rows(segments, runs):
                    f"{tests / segments:.2f}", checked)
 
 
+def told(words):
+    """The microseconds that `bench_cert` tells of its work."""
+    done = subprocess.run(words, capture_output=True, text=True, check=True)
+    return int(done.stderr.split()[-2])
+
+
+def certificate_rows(chains, runs):
+    file = BENCH / "out" / f"{chains}-certificate"
+    file.parent.mkdir(exist_ok=True)
+    make, read, count = [CERT, "make", f"{chains}", file], [CERT, "read", file], ["wc", "-l", file]
+    peaks = {"written": peak_of(make), "read": peak_of(read), "wc -l": peak_of(count)}
+    lines, size = int(subprocess.check_output(count).split()[0]), file.stat().st_size
+    # The file stays as it is while it is read and counted.
+    taken = {"written": [told(make) / 1e6 for _ in range(runs)], "wc -l": [], "read": []}
+    subprocess.run(["sync"], check=True)
+    for _ in range(runs):
+        taken["wc -l"].append(seconds_of(count))
+        taken["read"].append(told(read) / 1e6)
+    base = statistics.median(taken["wc -l"])
+    for name, found in taken.items():
+        seconds = statistics.median(found)
+        yield (f"{chains:,}", f"{lines:,}", f"{size / 1e6:.1f}", name, f"{seconds * 1e3:.1f}", f"{seconds / base:.1f}",
+               f"{seconds / lines * 1e9:.1f}", f"{peaks[name]:.1f}" if peaks[name] >= 0.1 else "-")
+
+
 def main():
     parser = argparse.ArgumentParser()
     parser.add_argument("--sizes", default="1000,10000,100000")
     parser.add_argument("--counties", default="10000,100000,1000000")
     parser.add_argument("--keys", default="100000")
     parser.add_argument("--segments", default="27500,275000,2750000")
+    parser.add_argument("--certificates", default="10000,100000,1000000")
     parser.add_argument("--runs", type=int, default=5)
     words = parser.parse_args()
     print("| Chains | Lines | MB | Program | ms | times `wc -l` | million lines a second | peak MB |")
@@ -126,6 +154,12 @@ def main():
     print("|---|---|---|---|---|---|---|---|")
     for segments in (int(it) for it in words.segments.split(",") if it):
         for row in tree_rows(segments, words.runs):
+            print("| " + " | ".join(row) + " |", flush=True)
+    print()
+    print("| Chains | Lines | MB | Certificate | ms | times `wc -l` | ns a line | peak MB |")
+    print("|---|---|---|---|---|---|---|---|")
+    for chains in (int(it) for it in words.certificates.split(",") if it):
+        for row in certificate_rows(chains, words.runs):
             print("| " + " | ".join(row) + " |", flush=True)
 
 

@@ -50,7 +50,7 @@ whole_of (Some text) (Some rest) place c so is = subst (IsTextOf c) (sym so) is
 pub collects_all : {R : Type 0} (remaining : R → Option (List ℕ)) (place : Place) (first old new : CertReader R) (c : TheCertificate) → Collects remaining place first old c
     → GivesAt remaining place old new (Ok None) → IsCertificate c × IfSome (unread remaining first) (λ text. IsTextOf c text)
 collects_all remaining place first old new c so gives =
-    let last = gives c so.behind in (last.0, whole_of (unread remaining first) (unread remaining old) place c so.text last.1)
+    let last = gives.1 c so.behind in (last.0, whole_of (unread remaining first) (unread remaining old) place c so.text last.1)
 
 -- a stop
 refused_of : (first left : Option (List ℕ)) (place : Place) (c : TheCertificate) (line : ℕ) → Follows first left place c → IfSome left (λ text. IsRefused (whole place c text) line)

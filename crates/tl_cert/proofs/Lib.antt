@@ -8,6 +8,7 @@ pub mod KindLemmas
 pub mod NodeLineLemmas
 pub mod CountLemmas
 pub mod LineLemmas
+pub mod FrontLemmas
 pub mod LineWords
 pub mod StepLemmas
 pub mod StandingTrees

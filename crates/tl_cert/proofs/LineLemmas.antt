@@ -38,7 +38,7 @@ none_left P (Some text) (Some xs) bytes kept none ended = λ line rest is short 
     let all : line_feeds text ≡ 0 = ap line_feeds (sym kept ∙ ap (λ (l : List ℕ). bytes ++ l) ended ∙ append-nil bytes) ∙ none in
     omega (arith, all, ap line_feeds same, feeds-split line rest short.none)
 
--- a line's line feed stands within 64 bytes
+-- a line's line feed stands within so many bytes
 feed_within : (line rest : List ℕ) (n : ℕ) → length line < n → (more : List ℕ) × (take n (line ++ line_feed ∷ rest) ≡ line ++ line_feed ∷ more)
 feed_within line rest n short =
     let next : n - length line - 1 + 1 ≡ suc (n - length line - 1) = omega arith in (
@@ -47,14 +47,14 @@ feed_within line rest n short =
           ∙ ap (λ (l : List ℕ). line ++ l) (ap (λ m. take m (line_feed ∷ rest)) next),
     )
 
-pub too_long : (P : List ℕ → Type 0) (old left : Option (List ℕ)) (bytes : List ℕ) → Keeps old (prepend_known bytes left) → line_feeds bytes ≡ 0 → length bytes ≡ 64
+pub too_long : (P : List ℕ → Type 0) (old left : Option (List ℕ)) (bytes : List ℕ) → Keeps old (prepend_known bytes left) → line_feeds bytes ≡ 0 → length bytes ≡ 1024
     → IfSome old (NoLineBegins P)
 too_long P None left bytes kept none full = tt
 too_long P (Some text) None bytes kept none full = absurd kept
 too_long P (Some text) (Some xs) bytes kept none full = λ line rest is short same.
-    let front : take 64 text ≡ bytes = ap (take 64) (sym kept) ∙ take-append-le 64 bytes xs (omega (arith, full)) ∙ ap (λ n. take n bytes) (sym full) ∙ take_all (length bytes) bytes (omega arith) in
-    let more = feed_within line rest 64 (omega (arith, short.few)) in
-    let has : line_feeds bytes ≡ line_feeds more.0 + 1 = ap line_feeds (sym front ∙ ap (take 64) same ∙ more.1) ∙ feeds-split line more.0 short.none in
+    let front : take 1024 text ≡ bytes = ap (take 1024) (sym kept) ∙ take-append-le 1024 bytes xs (omega (arith, full)) ∙ ap (λ n. take n bytes) (sym full) ∙ take_all (length bytes) bytes (omega arith) in
+    let more = feed_within line rest 1024 (omega (arith, short.few)) in
+    let has : line_feeds bytes ≡ line_feeds more.0 + 1 = ap line_feeds (sym front ∙ ap (take 1024) same ∙ more.1) ∙ feeds-split line more.0 short.none in
     omega (arith, none, has)
 
 -- the line is taken off
@@ -76,6 +76,6 @@ pub stops_with : {R V : Type 0} (remaining : R → Option (List ℕ)) (spelt : V
     → ReadsLine remaining spelt fits old new (Err (Text line)) → ReadsLine remaining spelt fits old new (Err stop)
 stops_with remaining spelt fits old new stop line is reads = subst (λ s. ReadsLine remaining spelt fits old new (Err s)) (sym is) reads
 
-pub ends_with : {R : Type 0} (remaining : R → Option (List ℕ)) (old : LineState R) (stop : CertStop) (line : ℕ) → stop ≡ Text line
-    → EndsText remaining old (Err (Text line)) → EndsText remaining old (Err stop)
-ends_with remaining old stop line is ends = subst (λ s. EndsText remaining old (Err s)) (sym is) ends
+pub ends_with : {R : Type 0} (remaining : R → Option (List ℕ)) (old new : LineState R) (stop : CertStop) (line : ℕ) → stop ≡ Text line
+    → EndsText remaining old new (Err (Text line)) → EndsText remaining old new (Err stop)
+ends_with remaining old new stop line is ends = subst (λ s. EndsText remaining old new (Err s)) (sym is) ends

@@ -186,6 +186,7 @@ passed remaining place next line old mid new (Ok None) passes fewer step takes r
       let more = reads.1 c here.0 in
       (more.0, more.1 ∙ ap (λ (ls : List (List ℕ)). ls ++ reads.0) here.1 ∙ append_assoc (given_lines place c) (line ∷ []) reads.0),
   ends_behind (untaken remaining old) (untaken remaining mid) line reads.0 takes.bytes reads.2,
+  reads.3,
 )
 passed remaining place next line old mid new (Err (Text number)) passes fewer step takes reads =
     stuck_later (untaken remaining old) (untaken remaining mid) (state_at place) (state_at next) (line ∷ []) (taken old) (taken mid) number takes.bytes takes.counted
@@ -263,9 +264,9 @@ round_stops remaining left old new end stop some reads =
 end_run : Runs (walks 0 0) (end_line ∷ []) ended
 end_run = first_line (walks 0 0) ended ended end_line [] at_end (no_line ended)
 
-pub text_ends : {R : Type 0} (remaining : R → Option (List ℕ)) (old mid end : LineState R) → TakesLines remaining old mid (end_line ∷ []) → IfSome (untaken remaining mid) (λ text. text ≡ [])
+pub text_ends : {R : Type 0} (remaining : R → Option (List ℕ)) (old mid end : LineState R) → TakesLines remaining old mid (end_line ∷ []) → EndsText remaining mid end (Ok tt)
     → ReadsPart remaining (Walks 0) old end (Ok None)
-text_ends remaining old mid end takes none = (end_line ∷ [], ends_here, ends_behind (untaken remaining old) (untaken remaining mid) end_line [] takes.bytes none)
+text_ends remaining old mid end takes ends = (end_line ∷ [], ends_here, ends_behind (untaken remaining old) (untaken remaining mid) end_line [] takes.bytes ends.0, ends.1)
 
 stuck_at_end : (left : Option (List ℕ)) (before number : ℕ) → number ≡ 1 + before → IfSome left (λ text. text ≡ [] → ⊥) → IfSome left (λ text. IsStuckAfter ended before text number)
 stuck_at_end None before number told some = tt
@@ -279,7 +280,7 @@ stuck_at_end (Some text) before number told some = record {
   told = omega (arith, told);
 }
 
-pub text_goes_on : {R : Type 0} (remaining : R → Option (List ℕ)) (old mid end : LineState R) (stop : CertStop) → TakesLines remaining old mid (end_line ∷ []) → EndsText remaining mid (Err stop)
+pub text_goes_on : {R : Type 0} (remaining : R → Option (List ℕ)) (old mid end : LineState R) (stop : CertStop) → TakesLines remaining old mid (end_line ∷ []) → EndsText remaining mid end (Err stop)
     → ReadsPart remaining (Walks 0) old end (Err stop)
 text_goes_on remaining old mid end (Text number) takes ends =
     stuck_later (untaken remaining old) (untaken remaining mid) (walks 0 0) ended (end_line ∷ []) (taken old) (taken mid) number takes.bytes takes.counted end_run

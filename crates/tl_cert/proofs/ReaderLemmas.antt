@@ -1,7 +1,7 @@
 -- What a part, an end or a stop says of the whole text, whatever parts were given before.
 use Rattle.std.proofs.Common.{◌≡◌, ℕ, ◌+◌, List, [], ◌∷◌, ◌++◌, length, length-append, Option, None, Some, Result, Ok, Err, sym, ap, subst, ◌∙◌, arith, append_assoc, codes}
 use Rattle.std.specs.Option.{IfSome}
-use Rattle.std.specs.Io.KnownBytes.{Consumes}
+use Rattle.std.specs.Io.KnownBytes.{Consumes, IsAtEnd}
 use Rattle.tl_record.specs.Lines.{joined_lines}
 use Rattle.tl_cert.specs.declared.place.Place.{Place}
 use Rattle.tl_cert.specs.declared.place.Place.TheVariants.{Start, Counted, Treed, Rounds, Walks}
@@ -82,9 +82,11 @@ ends_at (Some text) place c lines is made all = record {
 }
 
 pub given_end : {R : Type 0} (remaining : R → Option (List ℕ)) (place : Place) (old new : LineState R) → ReadsPart remaining place old new (Ok None)
-    → (c : TheCertificate) → IsBehind (taken old) place c → IsCertificate c × IfSome (untaken remaining old) (λ text. IsTextOf c (whole place c text))
-given_end remaining place old new reads c behind =
-    let ends = reads.1 c behind.given in (ends.0, ends_at (untaken remaining old) place c reads.0 reads.2 ends.0 ends.1)
+    → IsAtEnd (remaining new.source) × ((c : TheCertificate) → IsBehind (taken old) place c → IsCertificate c × IfSome (untaken remaining old) (λ text. IsTextOf c (whole place c text)))
+given_end remaining place old new reads = (
+  reads.3,
+  λ c behind. let ends = reads.1 c behind.given in (ends.0, ends_at (untaken remaining old) place c reads.0 reads.2 ends.0 ends.1),
+)
 
 refused_at : (left : Option (List ℕ)) (place : Place) (c : TheCertificate) (before line : ℕ) → AreGiven place c → before ≡ length (given_lines place c)
     → IfSome left (λ text. IsStuckAfter (state_at place) before text line) → IfSome left (λ text. IsRefused (whole place c text) line)

@@ -1,7 +1,7 @@
 -- What a reader of certificates keeps, and what each part that it gives says of the text.
 use Rattle.std.specs.Prelude.{◌≡◌, ℕ, ◌<◌, List, ◌++◌, length, Option, None, Some, Result, Ok, Err, ⊤}
 use Rattle.std.specs.Option.{IfSome}
-use Rattle.std.specs.Io.KnownBytes.{prepend_known}
+use Rattle.std.specs.Io.KnownBytes.{IsAtEnd, prepend_known}
 use Rattle.tl_record.specs.Lines.{joined_lines}
 use Rattle.tl_record.specs.Failures.{one_more}
 use Rattle.tl_cert.specs.declared.reader.CertReader.{CertReader}
@@ -48,14 +48,15 @@ GoesOn (Some text) None place next c d = ⊥
 GoesOn (Some text) (Some rest) place next c d = whole place c text ≡ whole next d rest
 
 -- What an answer says, whatever parts c were given before: it is a part more, and the text behind it is what is left; or
--- the end, and the whole text is that of c; or no certificate has the whole text, and this is the line.
+-- the end, of the source too, and the whole text is that of c; or no certificate has the whole text, and this is the line.
 abbrev pub GivesAt : {R : Type 0} → (R → Option (List ℕ)) → Place → CertReader R → CertReader R → Answer → Type 0
 GivesAt remaining place old new (Ok (Some given)) =
     (next : Place) × (standing_of new ≡ Reading next) × (parts_left next < parts_left place)
     × ((c : TheCertificate) → IsBehind (lines_of old) place c
     → IsBehind (lines_of new) next (with_part c given) × GoesOn (unread remaining old) (unread remaining new) place next c (with_part c given))
 GivesAt remaining place old new (Ok None) =
-    (c : TheCertificate) → IsBehind (lines_of old) place c → IsCertificate c × IfSome (unread remaining old) (λ text. IsTextOf c (whole place c text))
+    IsAtEnd (remaining (source_of new))
+    × ((c : TheCertificate) → IsBehind (lines_of old) place c → IsCertificate c × IfSome (unread remaining old) (λ text. IsTextOf c (whole place c text)))
 GivesAt remaining place old new (Err (Text line)) =
     (c : TheCertificate) → IsBehind (lines_of old) place c → IfSome (unread remaining old) (λ text. IsRefused (whole place c text) line)
 GivesAt remaining place old new (Err Memory) = ⊤

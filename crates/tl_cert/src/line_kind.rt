@@ -1,14 +1,14 @@
 //! The kinds of lines that a certificate has.
 
-ghost use Rattle.std.specs.Prelude.{◌≡◌, ◌⊎◌, ◌<◌, ◌≤◌, ◌+◌, ◌^◌, ◌↔◌, ◌∷◌, ◌++◌, [], ℕ, List, IsTrue, MatchOption, ⊤};
+ghost use Rattle.std.specs.Prelude.{◌≡◌, ◌⊎◌, ◌<◌, ◌≤◌, ◌+◌, ◌^◌, ◌↔◌, ◌∷◌, ◌++◌, [], ℕ, List, IsTrue, MatchOption, IfSome, ⊤};
 ghost use Rattle.tl_cert.specs.Certificates.{IsNumber, IsInRange, AreCountsInRange};
 ghost use Rattle.tl_cert.specs.Text.{number, numbered_line, head_line, counts_line, children, end_line};
-ghost use Rattle.tl_cert.specs.Keeping.Words.{StartsWord, counts_words};
+ghost use Rattle.tl_cert.specs.Keeping.Words.{StartsWord, StandsFirst, counts_words};
 ghost use Rattle.tl_cert.specs.Keeping.Kinds.{node_line, NodeFits, ChildrenFit, children_told};
 ghost use Rattle.tl_cert.specs.Keeping.Steps.{CanHave, roots};
 
 use crate::certificate::Counts;
-use crate::number::{behind, last_number, split_number, split_rectangle};
+use crate::number::{behind, front_number, last_number, split_number, split_rectangle};
 use tl_geom::Rect;
 
 // How many children or items a node has at most, and how many children at least.
@@ -31,6 +31,14 @@ pub trait LineKind {
     fn parse(&self, line: &[u8]) -> Option<Self::Value>
         ensures { MatchOption result ((value : Self.Value) → fits self.now value → ¬ (line.now ≡ spelt self.now value))
             (λ value. fits self.now value × (line.now ≡ spelt self.now value)) };
+
+    /// The value of the line that stands whole at the front of the bytes, and the line's length, where that is seen at
+    /// once. None says nothing.
+    fn front(&self, bytes: &[u8]) -> Option<(Self::Value, usize)>
+        ensures { IfSome result (λ front. fits self.now front.0 × StandsFirst bytes.now (spelt self.now front.0) front.1) }
+    {
+        None
+    }
 }
 
 /// A letter and a number that is not below `least`.
@@ -55,6 +63,17 @@ impl LineKind for Numbered {
             return None;
         }
         Some(n)
+    }
+
+    #[inline(always)]
+    fn front(&self, bytes: &[u8]) -> Option<(u32, usize)> {
+        let Some((n, len)) = front_number(bytes, self.letter) else {
+            return None;
+        };
+        if n < self.least {
+            return None;
+        }
+        Some((n, len))
     }
 }
 

@@ -6,8 +6,9 @@ use crate::line_kind::LineKind;
 use crate::stop::CertStop;
 use tl_record::{Fetched, LineBuffer, Source, fetch_line};
 
-// Room for a line with its line feed: no line of a certificate is longer.
-const ROOM: usize = 64;
+// How many bytes are kept: a line with its line feed has at most 64, so where these hold no line feed, no line of a
+// certificate begins them.
+const ROOM: usize = 1024;
 
 /// Takes lines of a source, which each call is given, and counts them.
 #[derive(Drop)]
@@ -41,7 +42,29 @@ impl Lines {
     }
 
     /// Takes the next line, which has to be of this kind, and gives what it spells.
+    #[inline(always)]
     pub fn read<R: Source, K: LineKind>(
+        &mut self,
+        source: &mut R,
+        kind: &K,
+    ) -> Result<K::Value, CertStop>
+        requires { self.old.lines < 2 ^ 127 }
+        ensures reads { ReadsLine R.remaining (K.spelt kind.now) (K.fits kind.now)
+            (at self.old source.old) (at self.new source.new) result }
+        ensures failures { TellsRead (R.failure_count source.old) (R.failure_count source.new) result }
+        ensures same_reference { R.reference source.new ≡ R.reference source.old }
+    {
+        if let Some((value, len)) = kind.front(self.buffer.bytes()) {
+            self.buffer.consume(len + 1);
+            self.lines += 1;
+            return Ok(value);
+        }
+        self.read_fetched(source, kind)
+    }
+
+    // Takes the next line as soon as it is fetched.
+    #[inline(never)]
+    fn read_fetched<R: Source, K: LineKind>(
         &mut self,
         source: &mut R,
         kind: &K,
@@ -70,7 +93,7 @@ impl Lines {
     /// Whether the source is at its end, behind the lines that were taken: a byte that is left is refused.
     pub fn end<R: Source>(&mut self, source: &mut R) -> Result<(), CertStop>
         requires { self.old.lines < 2 ^ 127 }
-        ensures ends { EndsText R.remaining (at self.old source.old) result }
+        ensures ends { EndsText R.remaining (at self.old source.old) (at self.new source.new) result }
         ensures failures { TellsRead (R.failure_count source.old) (R.failure_count source.new) result }
         ensures same_reference { R.reference source.new ≡ R.reference source.old }
     {

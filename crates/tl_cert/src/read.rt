@@ -1,6 +1,7 @@
 //! A whole certificate from its text.
 
 ghost use Rattle.std.specs.Prelude.{◌≡◌, IfOk, IfErr, IfSome};
+ghost use Rattle.std.specs.Io.KnownBytes.{IsAtEnd};
 ghost use Rattle.tl_cert.specs.declared.reader.Standing.TheVariants.{Reading};
 ghost use Rattle.tl_cert.specs.declared.place.Place.TheVariants.{Start};
 ghost use Rattle.tl_cert.specs.Certificates.{IsCertificate};
@@ -24,6 +25,7 @@ fn collect_parts<R: Source>(
     ensures certificate { IfOk result IsCertificate }
     ensures text { IfOk result (λ c. IfSome (unread R.remaining reader.old) (λ text. IsTextOf c text)) }
     ensures stops { IfErr result (λ stop. IfSome (unread R.remaining reader.old) (λ text. StopsReading text stop)) }
+    ensures ended { IfOk result (λ _. IsAtEnd (R.remaining (source_of reader.new))) }
     ensures failures { TellsDevice (R.failure_count (source_of reader.old))
         (R.failure_count (source_of reader.new)) result }
     ensures same_reference { R.reference (source_of reader.new) ≡ R.reference (source_of reader.old) }
@@ -51,6 +53,8 @@ pub fn read_cert<R: Source>(alloc: Global, source: &mut R) -> Result<Certificate
     ensures text { IfOk result (λ c. IfSome (R.remaining source.old) (λ text. IsTextOf c text)) }
     // Where no certificate has the text, the line that none has.
     ensures stops { IfErr result (λ stop. IfSome (R.remaining source.old) (λ text. StopsReading text stop)) }
+    // What is read was read to the source's end.
+    ensures ended { IfOk result (λ _. IsAtEnd (R.remaining source.new)) }
     // `Device` is answered where a read failed in this call, and nowhere else.
     ensures failures { TellsDevice (R.failure_count source.old) (R.failure_count source.new) result }
 {

@@ -24,7 +24,7 @@ pub enum Standing {
 /// Gives the parts of a certificate one after the other, as its lines come from a source: the counts, the tree, each
 /// round and each walk.
 ///
-/// It keeps at most one line of the text and no part that it gave. It takes memory for what was read, and never for a
+/// It keeps at most 1,024 bytes of the text and no part that it gave. It takes memory for what was read, and never for a
 /// number that a line announces.
 #[derive(Drop)]
 pub struct CertReader<R> {

@@ -12,3 +12,4 @@ pub mod ReadOn
 pub mod Filled
 pub mod Lanes
 pub mod EightDigits
+pub mod MovedDigits

@@ -2,6 +2,7 @@ pub mod Failures
 pub mod Fetching
 pub mod Limits
 pub mod Lines
+pub mod Word
 pub mod Range
 pub mod Fields
 pub mod Layout

@@ -1,7 +1,7 @@
 -- What reading a line takes from a source, and what it says where no such line comes.
 use Rattle.std.specs.Prelude.{◌≡◌, ℕ, ◌+◌, ◌≤◌, List, [], ◌∷◌, ◌++◌, length, Option, Result, Ok, Err, ⊤}
 use Rattle.std.specs.Option.{IfSome}
-use Rattle.std.specs.Io.KnownBytes.{Consumes, prepend_known}
+use Rattle.std.specs.Io.KnownBytes.{Consumes, IsAtEnd, prepend_known}
 use Rattle.tl_record.specs.Lines.{line_feed, line_feeds, joined_lines}
 use Rattle.tl_record.specs.Failures.{one_more}
 use Rattle.tl_cert.specs.declared.lines.Lines.{Lines}
@@ -54,9 +54,9 @@ TellsRead old new (Err (Text line)) = new ≡ old
 TellsRead old new (Err Memory) = new ≡ old
 TellsRead old new (Err Device) = new ≡ one_more old
 
--- the text is at its end, or has a byte more
-abbrev pub EndsText : {R : Type 0} → (R → Option (List ℕ)) → LineState R → Result Unit CertStop → Type 0
-EndsText remaining old (Ok value) = IfSome (untaken remaining old) (λ text. text ≡ [])
-EndsText remaining old (Err (Text line)) = (line ≡ 1 + taken old) × IfSome (untaken remaining old) (λ text. ¬ (text ≡ []))
-EndsText remaining old (Err Memory) = ⊥
-EndsText remaining old (Err Device) = ⊤
+-- the text is at its end, and its source with it; or it has a byte more
+abbrev pub EndsText : {R : Type 0} → (R → Option (List ℕ)) → LineState R → LineState R → Result Unit CertStop → Type 0
+EndsText remaining old new (Ok value) = IfSome (untaken remaining old) (λ text. text ≡ []) × IsAtEnd (remaining new.source)
+EndsText remaining old new (Err (Text line)) = (line ≡ 1 + taken old) × IfSome (untaken remaining old) (λ text. ¬ (text ≡ []))
+EndsText remaining old new (Err Memory) = ⊥
+EndsText remaining old new (Err Device) = ⊤

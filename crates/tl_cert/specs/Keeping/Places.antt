@@ -3,6 +3,7 @@ use Rattle.std.specs.Prelude.{◌≡◌, ℕ, ◌+◌, ◌*◌, ◌^◌, ◌<◌
 use mathlib.Core.HLevel.{×_prop, Unit-prop}
 use native.Mathlib.Bridge.{le_prop}
 use Rattle.std.specs.Option.{IfSome}
+use Rattle.std.specs.Io.KnownBytes.{IsAtEnd}
 use Rattle.tl_record.specs.Lines.{joined_lines}
 use Rattle.tl_cert.specs.declared.place.Place.{Place}
 use Rattle.tl_cert.specs.declared.place.Place.TheVariants.{Start, Counted, Treed, Rounds, Walks}
@@ -60,11 +61,12 @@ Adds place next given lines =
 abbrev pub Ends : Place → List (List ℕ) → Type 0
 Ends place lines = (c : TheCertificate) → AreGiven place c → IsCertificate c × (certificate_lines c ≡ given_lines place c ++ lines)
 
--- a part with the place behind it; or the end; or the text is refused
+-- a part with the place behind it; or the end, also of the source; or the text is refused
 abbrev pub ReadsPart : {R : Type 0} → (R → Option (List ℕ)) → Place → LineState R → LineState R → Result (Option (CertPart × Place)) CertStop → Type 0
 ReadsPart remaining place old new (Ok (Some (given, next))) =
     (lines : List (List ℕ)) × TakesLines remaining old new lines × Adds place next given lines × FitsPlace next (taken new) × (parts_left next < parts_left place)
-ReadsPart remaining place old new (Ok None) = (lines : List (List ℕ)) × Ends place lines × IfSome (untaken remaining old) (λ text. text ≡ joined_lines lines)
+ReadsPart remaining place old new (Ok None) =
+    (lines : List (List ℕ)) × Ends place lines × IfSome (untaken remaining old) (λ text. text ≡ joined_lines lines) × IsAtEnd (remaining new.source)
 ReadsPart remaining place old new (Err (Text line)) = Sticks remaining (state_at place) old line
 ReadsPart remaining place old new (Err Memory) = ⊤
 ReadsPart remaining place old new (Err Device) = ⊤

@@ -1,5 +1,9 @@
 -- The words of a line, each of which stands behind a space.
-use Rattle.std.specs.Prelude.{◌≡◌, ◌≢◌, ℕ, ◌<◌, ◌≤◌, List, [], ◌∷◌, ◌++◌, length, slice_index, All, ⊤}
+use Rattle.std.specs.Prelude.{◌≡◌, ◌≢◌, ℕ, ◌<◌, ◌≤◌, List, [], ◌∷◌, ◌++◌, length, slice_index, true, take, All, ⊤}
+use Rattle.std.specs.List.{list_all}
+use Rattle.std.specs.Char.{is_ascii_digit}
+use Rattle.tl_record.specs.Lines.{line_feed}
+use Rattle.tl_record.specs.Fields.{decimal}
 use Rattle.tl_cert.specs.declared.certificate.Counts.{Counts}
 use Rattle.tl_cert.specs.Text.{number}
 
@@ -13,6 +17,18 @@ pub record IsSplit (bytes word others : List ℕ) : Type 0 where
   pub joined : bytes ≡ 32 ∷ (word ++ others)
   pub inside : All (λ byte. byte ≢ 32) word
   pub behind : StartsWord others
+
+-- the line stands whole at the front of the bytes, with its line feed behind it
+pub record StandsFirst (bytes line : List ℕ) (len : ℕ) : Type 0 where
+  pub within : len < length bytes
+  pub feed : slice_index bytes len ≡ line_feed
+  pub spelt : take len bytes ≡ line
+
+-- so many bytes at the front are digits of this value
+pub record AreDigits (bytes : List ℕ) (len n : ℕ) : Type 0 where
+  pub within : len ≤ length bytes
+  pub digits : list_all is_ascii_digit (take len bytes) ≡ true
+  pub worth : decimal (take len bytes) ≡ n
 
 -- as many bytes as a number has digits, with no leading zero
 pub record MaySpell (bytes : List ℕ) : Type 0 where

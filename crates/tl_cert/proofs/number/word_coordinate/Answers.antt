@@ -1,5 +1,5 @@
 use Rattle.tl_cert.proofs.SplitLemmas.{coordinate_split}
-use Rattle.tl_cert.proofs.number.split_coordinate.Goals as goal
+use Rattle.tl_cert.proofs.number.word_coordinate.Goals as goal
 
 pub returns-in_default-coordinate_of : goal.returns-in_default-coordinate_of
 returns-in_default-coordinate_of c = λ z others fits starts is.

@@ -1,7 +1,7 @@
 use Rattle.std.proofs.Common.{◌+◌, ap, ◌∙◌, take, arith}
 use Rattle.tl_cert.specs.Keeping.Lines.{at}
 use Rattle.tl_cert.proofs.LineLemmas.{found_other, none_left, too_long, stops_with}
-use Rattle.tl_cert.proofs.lines.Lines.read.Goals as goal
+use Rattle.tl_cert.proofs.lines.Lines.read_fetched.Goals as goal
 
 pub returns-in-None-clause-reads : goal.returns-in-None-clause-reads
 returns-in-None-clause-reads g c =

@@ -1,0 +1,64 @@
+-- A line of a number that stands whole at the front of some bytes.
+use Rattle.std.proofs.Common.{rules, ◌≡◌, ℕ, zero, suc, ◌+◌, ◌^◌, ◌<◌, ◌≤◌, true, List, [], ◌∷◌, ◌++◌, length, take, drop, get_or, Option, None, Some, refl, sym, ap, ◌∙◌, arith}
+use Rattle.std.proofs.Common as std
+use Rattle.std.specs.Char.{is_ascii_digit}
+use Rattle.std.specs.List.{list_all}
+use Rattle.std.specs.Io.KnownBytes.{Keeps, Consumes, prepend_known}
+use Rattle.std.proofs.lemmas.Fmt.{decimal-digits_value, decimal_digit}
+use Rattle.std.proofs.lemmas.List.{length-take-le, get_or-take, take-append-drop, take-take}
+use Rattle.std.proofs.lemmas.Str.Parse.{IsNumeralModel, numerals_by_weight}
+use Rattle.tl_record.specs.Lines.{joined_lines}
+use Rattle.tl_record.specs.Fields.{decimal}
+use Rattle.tl_cert.specs.Text.{numbered_line}
+use Rattle.tl_cert.specs.Keeping.Words.{StandsFirst, AreDigits}
+use Rattle.tl_cert.proofs.LineLemmas.{line_taken}
+
+-- digits, as records spell them too, are those of their value
+spelling : IsNumeralModel (λ ds. list_all is_ascii_digit ds ≡ true) decimal
+spelling = numerals_by_weight (λ ds. list_all is_ascii_digit ds ≡ true) (search rules) decimal (search rules)
+
+pub digits_of_value : (bytes : List ℕ) (value : ℕ) → 0 < length bytes → (get_or bytes 0 0 ≡ 48 → length bytes ≡ 1) → list_all is_ascii_digit bytes ≡ true → decimal bytes ≡ value
+    → value < 2 ^ 64 → bytes ≡ std.decimal value
+digits_of_value bytes value some lead all worth small =
+    sym (ap std.decimal (sym worth) ∙ decimal-digits_value spelling bytes all some lead (omega (arith, worth, small)))
+
+-- digits among the first eight bytes
+pub short_spelt : (bytes eight : List ℕ) (len value : ℕ) → eight ≡ take 8 bytes → len < 8 → 0 < length (take len bytes) → (get_or (take len bytes) 0 0 ≡ 48 → length (take len bytes) ≡ 1)
+    → list_all is_ascii_digit (take len eight) ≡ true → decimal (take len eight) ≡ value → value < 2 ^ 64 → take len bytes ≡ std.decimal value
+short_spelt bytes eight len value is few some lead all worth small =
+    let same : take len eight ≡ take len bytes = ap (take len) is ∙ take-take len 8 bytes (omega arith) in
+    digits_of_value (take len bytes) value some lead (rw (← same) all) (rw (← same) worth) small
+
+-- digits that begin with no 0 are a number's above 0
+above_zero : (value : ℕ) (bytes : List ℕ) → bytes ≡ std.decimal value → (get_or bytes 0 0 ≡ 48 → ⊥) → 0 < value
+above_zero zero bytes is none = absurd (none (ap (λ (l : List ℕ). get_or l 0 0) (is ∙ decimal_digit 0 (omega arith))))
+above_zero (suc value) bytes is none = omega arith
+
+pub long_spelt : (bytes others : List ℕ) (len value : ℕ) → AreDigits bytes len value → 8 ≤ len → (get_or bytes 0 0 ≡ 48 → ⊥) → value < 10 ^ 9 → drop len bytes ≡ others
+    → (bytes ≡ std.decimal value ++ others) × (0 < value)
+long_spelt bytes others len value are long none small rest =
+    let size = length-take-le len bytes are.within in
+    let first = get_or-take len bytes 0 0 (omega (arith, long)) in
+    let same = digits_of_value (take len bytes) value (omega (arith, size, long)) (λ e. absurd (none (sym first ∙ e))) are.digits are.worth (omega (arith, small)) in
+    (sym (take-append-drop len bytes) ∙ rw (same, rest) refl, above_zero value (take len bytes) same (λ e. none (sym first ∙ e)))
+
+-- behind a letter and a space
+pub behind_letter : (bytes word digits : List ℕ) (letter n len : ℕ) → bytes ≡ letter ∷ word → word ≡ 32 ∷ digits → StandsFirst digits (std.decimal n) len
+    → StandsFirst bytes (numbered_line (letter ∷ []) n) (len + 2)
+behind_letter bytes word digits letter n len is space first =
+    let whole : bytes ≡ letter ∷ 32 ∷ digits = is ∙ ap (λ (l : List ℕ). letter ∷ l) space in
+    let two : len + 2 ≡ suc (suc len) = omega arith in
+    rw (whole, two) record {
+      within = omega (arith, first.within);
+      feed = first.feed;
+      spelt = ap (λ (l : List ℕ). letter ∷ 32 ∷ l) first.spelt;
+    }
+
+-- the line is taken off
+kept : (known : Option (List ℕ)) → Keeps known known
+kept None = tt
+kept (Some bytes) = refl
+
+pub front_taken : (left : Option (List ℕ)) (bytes after line : List ℕ) (len : ℕ) → StandsFirst bytes line len → after ≡ drop (len + 1) bytes
+    → Consumes (prepend_known bytes left) (prepend_known after left) (joined_lines (line ∷ []))
+front_taken left bytes after line len first rest = line_taken (prepend_known bytes left) left bytes after line len (kept (prepend_known bytes left)) first.within first.feed rest first.spelt
