@@ -111,7 +111,7 @@ fn an_overlap_with_an_allowed_middle(rt: HostRuntime) -> Result<(), Fail> {
         ],
     )?;
     let segments = Segments::new(&map);
-    assert!(rt; segments.len() == 6);
+    assert!(rt; segments.len() == 6 && segments.map().chains() == 2);
     let told = segments.conflict(2, 5);
     assert!(rt; told == Some(Rational::from(at(10, 10))));
     Ok(())

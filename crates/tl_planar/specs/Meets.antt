@@ -27,11 +27,11 @@ MayShare c i points d j others r =
 abbrev pub IsAllowed : (chains : List MapChain) (s t : ℕ) (r : Rational) → IsSharedBy chains s t r → Type 0
 IsAllowed chains s t r m = MayShare m.c m.i m.first.chain.points m.d m.j m.second.chain.points r
 
--- segments s and t conflict: they share the rational point, and it isn't allowed
+-- segments s and t, s below t, conflict: they share the rational point, and it isn't allowed
 pub record IsMeet (chains : List MapChain) (s t : ℕ) (r : Rational) : Type 0 where
   pub shared : IsSharedBy chains s t r
   pub refused : ¬ IsAllowed chains s t r shared
 
--- segments s and t don't conflict: each rational point that they share is allowed
+-- segments s and t, s below t, don't conflict: each rational point that they share is allowed
 abbrev pub AreFree : List MapChain → (s t : ℕ) → Type 0
 AreFree chains s t = (r : Rational) (m : IsSharedBy chains s t r) → IsAllowed chains s t r m

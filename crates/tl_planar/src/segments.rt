@@ -33,6 +33,13 @@ impl<'a> Segments<'a> {
     {
         Segments { map }
     }
+
+    /// The map whose segments they are.
+    pub fn map(&self) -> &'a Map
+        ensures { result.now.chains ≡ self.now }
+    {
+        self.map
+    }
 }
 
 impl<'a> Items for Segments<'a> {
