@@ -34,12 +34,17 @@ above_zero : (value : ℕ) (bytes : List ℕ) → bytes ≡ std.decimal value �
 above_zero zero bytes is none = absurd (none (ap (λ (l : List ℕ). get_or l 0 0) (is ∙ decimal_digit 0 (omega arith))))
 above_zero (suc value) bytes is none = omega arith
 
+pub long_value : (bytes : List ℕ) (len value : ℕ) → AreDigits bytes len value → 8 ≤ len → (get_or bytes 0 0 ≡ 48 → ⊥) → value < 10 ^ 9 → take len bytes ≡ std.decimal value
+long_value bytes len value are long none small =
+    let size = length-take-le len bytes are.within in
+    let first = get_or-take len bytes 0 0 (omega (arith, long)) in
+    digits_of_value (take len bytes) value (omega (arith, size, long)) (λ e. absurd (none (sym first ∙ e))) are.digits are.worth (omega (arith, small))
+
 pub long_spelt : (bytes others : List ℕ) (len value : ℕ) → AreDigits bytes len value → 8 ≤ len → (get_or bytes 0 0 ≡ 48 → ⊥) → value < 10 ^ 9 → drop len bytes ≡ others
     → (bytes ≡ std.decimal value ++ others) × (0 < value)
 long_spelt bytes others len value are long none small rest =
-    let size = length-take-le len bytes are.within in
     let first = get_or-take len bytes 0 0 (omega (arith, long)) in
-    let same = digits_of_value (take len bytes) value (omega (arith, size, long)) (λ e. absurd (none (sym first ∙ e))) are.digits are.worth (omega (arith, small)) in
+    let same = long_value bytes len value are long none small in
     (sym (take-append-drop len bytes) ∙ rw (same, rest) refl, above_zero value (take len bytes) same (λ e. none (sym first ∙ e)))
 
 -- behind a letter and a space

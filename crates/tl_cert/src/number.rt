@@ -124,6 +124,58 @@ fn short_number(bytes: &[u8]) -> Option<(u32, usize)>
     Some((value as u32, len))
 }
 
+/// The value of the eight or nine digits that stand first, and how many they are, where there are so many.
+fn long_digits(bytes: &[u8]) -> Option<(u64, usize)>
+    ensures { IfSome result (λ first. AreDigits bytes.now first.1 first.0 × (first.0 < 10 ^ 9) × (8 ≤ first.1)) }
+{
+    if bytes.len() < 8 {
+        return None;
+    }
+    let Ok(eight) = <[u8; 8]>::try_from(&bytes[..8]) else {
+        return None;
+    };
+    let Some(value) = eight_digits(eight) else {
+        return None;
+    };
+    if bytes.len() == 8 || !bytes[8].is_ascii_digit() {
+        return Some((value, 8));
+    }
+    Some((value * 10 + u64::from(bytes[8] - b'0'), 9))
+}
+
+/// The number of eight or nine digits that stand first, with a line feed behind them, and how many they are. None says
+/// nothing.
+#[inline(never)]
+fn long_line_number(bytes: &[u8]) -> Option<(u32, usize)>
+    ensures { IfSome result (λ first. IsNumber first.0 × StandsFirst bytes.now (decimal first.0) first.1) }
+{
+    let Some((value, len)) = long_digits(bytes) else {
+        return None;
+    };
+    if bytes[0] == b'0' {
+        return None;
+    }
+    if len == bytes.len() {
+        return None;
+    }
+    if bytes[len] != b'\n' {
+        return None;
+    }
+    Some((value as u32, len))
+}
+
+/// The number of fewer than ten digits that stand first, with a line feed behind them, and how many they are. None says
+/// nothing.
+#[inline(always)]
+fn first_number(bytes: &[u8]) -> Option<(u32, usize)>
+    ensures { IfSome result (λ first. IsNumber first.0 × StandsFirst bytes.now (decimal first.0) first.1) }
+{
+    if let Some(first) = short_number(bytes) {
+        return Some(first);
+    }
+    long_line_number(bytes)
+}
+
 /// The number of a line that has one behind this letter and stands whole at the front of the bytes, and the line's
 /// length. None says nothing.
 #[inline(always)]
@@ -137,7 +189,7 @@ pub fn front_number(bytes: &[u8], letter: u8) -> Option<(u32, usize)>
     let Some(digits) = behind(word, b' ') else {
         return None;
     };
-    let Some((n, len)) = short_number(digits) else {
+    let Some((n, len)) = first_number(digits) else {
         return None;
     };
     Some((n, len + 2))
@@ -172,25 +224,6 @@ pub fn split_number(bytes: &[u8]) -> Option<(u32, &[u8])>
         return None;
     };
     Some((n, others))
-}
-
-/// The value of the eight or nine digits that stand first, and how many they are, where there are so many.
-fn long_digits(bytes: &[u8]) -> Option<(u64, usize)>
-    ensures { IfSome result (λ first. AreDigits bytes.now first.1 first.0 × (first.0 < 10 ^ 9) × (8 ≤ first.1)) }
-{
-    if bytes.len() < 8 {
-        return None;
-    }
-    let Ok(eight) = <[u8; 8]>::try_from(&bytes[..8]) else {
-        return None;
-    };
-    let Some(value) = eight_digits(eight) else {
-        return None;
-    };
-    if bytes.len() == 8 || !bytes[8].is_ascii_digit() {
-        return Some((value, 8));
-    }
-    Some((value * 10 + u64::from(bytes[8] - b'0'), 9))
 }
 
 /// Whether a word ends before these bytes.

@@ -56,7 +56,7 @@ TellsRead old new (Err Device) = new ≡ one_more old
 
 -- the text is at its end, and its source with it; or it has a byte more
 abbrev pub EndsText : {R : Type 0} → (R → Option (List ℕ)) → LineState R → LineState R → Result Unit CertStop → Type 0
-EndsText remaining old new (Ok value) = IfSome (untaken remaining old) (λ text. text ≡ []) × IsAtEnd (remaining new.source)
+EndsText remaining old new (Ok value) = IfSome (untaken remaining old) (λ text. text ≡ []) × IsAtEnd (remaining new.source) × (taken new ≡ taken old)
 EndsText remaining old new (Err (Text line)) = (line ≡ 1 + taken old) × IfSome (untaken remaining old) (λ text. ¬ (text ≡ []))
 EndsText remaining old new (Err Memory) = ⊥
 EndsText remaining old new (Err Device) = ⊤

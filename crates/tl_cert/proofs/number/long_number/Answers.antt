@@ -1,4 +1,4 @@
-use Rattle.std.proofs.Common.{◌≡◌, ◌-◌, ℕ, length, take, drop, take_all, length-drop, refl, sym, arith}
+use Rattle.std.proofs.Common.{◌≡◌, ◌-◌, length, take, drop, take_all, length-drop, refl, sym, arith}
 use Rattle.tl_cert.proofs.FrontLemmas.{long_spelt}
 use Rattle.tl_cert.proofs.number.long_number.Goals as goal
 

@@ -1,4 +1,4 @@
-use Rattle.std.proofs.Common.{rules, ◌<◌, ◌≤◌, refl, arith}
+use Rattle.std.proofs.Common.{rules, refl, arith}
 use Rattle.tl_cert.proofs.FrontLemmas.{short_spelt}
 use Rattle.tl_cert.proofs.number.short_number.Goals as goal
 

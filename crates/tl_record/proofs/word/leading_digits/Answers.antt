@@ -1,4 +1,4 @@
-use Rattle.std.proofs.Common.{rules, ◌<◌, ◌≤◌, arith}
+use Rattle.std.proofs.Common.{rules}
 use Rattle.tl_record.specs.Word.{IsWordOf}
 use Rattle.tl_record.proofs.MovedDigits.{behind_zeros, digits_behind, value_behind}
 use Rattle.tl_record.proofs.word.leading_digits.Goals as goal
