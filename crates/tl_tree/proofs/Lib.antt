@@ -18,3 +18,4 @@ mod Marks8
 mod Rows
 mod Roots
 mod Crosses
+mod CellRows

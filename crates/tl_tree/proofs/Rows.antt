@@ -17,7 +17,7 @@ use Rattle.tl_tree.proofs.Apart.{one-none, one-none_free, row-none, row-none_fre
 use Rattle.tl_tree.proofs.Marks8.{at-drop, length-behind}
 
 -- marks behind some others
-bit-behind : (m t k : ℕ) → bit_at (m / 2 ^ t) k ≡ bit_at m (k + t)
+pub bit-behind : (m t k : ℕ) → bit_at (m / 2 ^ t) k ≡ bit_at m (k + t)
 bit-behind m t k =
     let e : 2 ^ t * 2 ^ k ≡ 2 ^ (k + t) = sym (pow-add 2 t k) ∙ ap (λ n. 2 ^ n) (omega arith) in
     ap (λ n. n % 2) (div-div-eq-div-mul m (2 ^ t) (2 ^ k) ∙ ap (λ n. m / n) e)

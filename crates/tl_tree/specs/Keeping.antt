@@ -5,3 +5,4 @@ pub mod Checking
 pub mod Branches
 pub mod Boxed
 pub mod Marking
+pub mod Cells

@@ -8,6 +8,7 @@
 
 mod box_tree;
 mod branch;
+mod cells;
 mod check;
 mod cursor;
 mod depth;

@@ -1,19 +1,21 @@
 //! The search for two items that conflict.
-ghost use Rattle.std.specs.Prelude.{◌≡◌, ◌<◌, ◌≤◌, ◌+◌, ◌↔◌, length, get_or, drop, IsFalse, IsTrue};
+ghost use Rattle.std.specs.Prelude.{◌≡◌, ◌<◌, ◌≤◌, ◌+◌, ◌↔◌, length, get_or, drop, take, IsFalse, IsTrue};
 ghost use Rattle.std.specs.Prelude.{◌≤ℤ◌};
 ghost use Rattle.std.specs.Int.{int_max, int_min};
 ghost use Rattle.tl_geom.specs.Rectangle.{AreMeeting};
-ghost use Rattle.tl_tree.specs.Fits.{AreBelow, CoversAll, Fits};
-ghost use Rattle.tl_tree.specs.Keeping.Marking.{Includes, AreMarksOf, RootMeets, AreBoundsOf};
+ghost use Rattle.tl_tree.specs.Fits.{AreBelow, Fits};
+ghost use Rattle.tl_tree.specs.Keeping.Cells.{sum_from, AllFrom, AreCellsOf};
+ghost use Rattle.tl_tree.specs.Keeping.Marking.{Includes, RootMeets};
 ghost use Rattle.tl_tree.specs.Pairs.{meeting, row_sum, cross_sum, pair_sum, AllRow, AllCross, AllPairs, AreFree};
 ghost use Rattle.tl_tree.specs.Searches.{MayAnswer};
 ghost use Rattle.tl_tree.specs.Trees.{leaf_items};
 ghost use Rattle.tl_tree.specs.Keeping.Walking.{MayLeave, answer_of, items_below, IsSound, AreSound};
 
+use crate::cells::{cells_of, first_of};
 use crate::lanes::{bounds_of_eight, is_first_marked, later_marks, meeting_roots};
 use crate::walk::{Below, Tree, Trees};
 use crate::{Items, Search};
-use tl_geom::{Rect, Rect8};
+use tl_geom::Rect;
 
 /// Two items that conflict, and what is told of them.
 pub struct Conflict<C> {
@@ -103,58 +105,68 @@ fn test_each<I: Items>(items: &I, i: u32, others: &[u32], progress: &mut Progres
     true
 }
 
-/// Tests an item against those of some items that are marked, which are those whose bounds meet its own.
-fn test_marked<I: Items>(
+/// Tests an item against the one of some others at a place, if there is one.
+#[inline]
+fn test_cell<I: Items>(
     items: &I,
     i: u32,
     others: &[u32],
-    marks: u32,
+    at: usize,
     progress: &mut Progress<I::C>,
 ) -> bool
     requires item { i < I.count items.now }
     requires others { AreBelow (I.count items.now) others.now }
-    requires marks { AreMarksOf (I.bounds_of items.now) (I.bounds_of items.now i) others.now marks }
+    requires meeting { at < length others.now →
+        AreMeeting (I.bounds_of items.now (get_or others.now at 0)) (I.bounds_of items.now i) }
     requires nothing_found { progress.old.found ≡ None }
     ensures { MayLeave (I.count items.now) (I.tells items.now)
-        (row_sum (meeting (I.bounds_of items.now)) i others.now)
-        (AllRow (AreFree (I.tells items.now)) i others.now) progress.old progress.new result }
+        (row_sum (meeting (I.bounds_of items.now)) i (take 1 (drop at others.now)))
+        (AllRow (AreFree (I.tells items.now)) i (take 1 (drop at others.now))) progress.old progress.new result }
 {
-    let (mut later, mut place) = (marks, 0);
+    if others.len() <= at {
+        return true;
+    }
+    test_meeting(items, i, others[at], progress)
+}
+
+/// Tests the pairs whose cells are marked, which are those whose bounds meet: of some items and others, or of the items
+/// themselves and those behind each.
+#[inline(never)]
+fn test_cells<I: Items>(
+    items: &I,
+    some: &[u32],
+    others: &[u32],
+    behind: bool,
+    cells: u64,
+    progress: &mut Progress<I::C>,
+) -> bool
+    requires some { AreBelow (I.count items.now) some.now }
+    requires others { AreBelow (I.count items.now) others.now }
+    requires few { length some.now ≤ 8 }
+    requires few_others { length others.now ≤ 8 }
+    requires same { IsTrue behind → others.now ≡ some.now }
+    requires cells { AreCellsOf behind (I.bounds_of items.now) some.now others.now cells }
+    requires nothing_found { progress.old.found ≡ None }
+    ensures { MayLeave (I.count items.now) (I.tells items.now)
+        (sum_from (meeting (I.bounds_of items.now)) behind some.now others.now 0)
+        (AllFrom (AreFree (I.tells items.now)) behind some.now others.now 0) progress.old progress.new result }
+{
+    let (mut later, mut place) = (cells, 0usize);
     while later != 0 {
-        let passed = later.trailing_zeros();
-        if others.len() - place <= passed as usize {
+        let empty = later.trailing_zeros();
+        place += empty as usize;
+        let (row, column) = (place / 8, place % 8);
+        if some.len() <= row {
             return true;
         }
-        place += passed as usize;
-        if !test_meeting(items, i, others[place], progress) {
+        let at = first_of(behind, row) + column;
+        if !test_cell(items, some[row], others, at, progress) {
             return false;
         }
-        later = (later >> passed) / 2;
+        later = (later >> empty) / 2;
         place += 1;
     }
     true
-}
-
-/// Tests an item against each of some items, at most eight, whose bounds are given.
-#[inline]
-fn test_row<I: Items>(
-    items: &I,
-    i: u32,
-    others: &[u32],
-    bounds: &Rect8,
-    progress: &mut Progress<I::C>,
-) -> bool
-    requires item { i < I.count items.now }
-    requires others { AreBelow (I.count items.now) others.now }
-    requires few { length others.now ≤ 8 }
-    requires bounds { AreBoundsOf (I.bounds_of items.now) others.now bounds.now }
-    requires nothing_found { progress.old.found ≡ None }
-    ensures { MayLeave (I.count items.now) (I.tells items.now)
-        (row_sum (meeting (I.bounds_of items.now)) i others.now)
-        (AllRow (AreFree (I.tells items.now)) i others.now) progress.old progress.new result }
-{
-    let own = items.bounds(i);
-    test_marked(items, i, others, u32::from(bounds.meets8(own)), progress)
 }
 
 /// Tests each of some items against each of some others, one by one.
@@ -180,18 +192,15 @@ fn test_all<I: Items>(
     true
 }
 
-/// Tests each of some items against each of some others, which a rectangle is around. Items whose own bounds don't meet
-/// that one are passed over, all of a leaf at once.
+/// Tests each of some items against each of some others: of leaves all pairs at once.
 pub fn test_cross<I: Items>(
     items: &I,
     some: &[u32],
     others: &[u32],
-    around: Rect,
     progress: &mut Progress<I::C>,
 ) -> bool
     requires some { AreBelow (I.count items.now) some.now }
     requires others { AreBelow (I.count items.now) others.now }
-    requires around { CoversAll (I.bounds_of items.now) around others.now }
     requires nothing_found { progress.old.found ≡ None }
     ensures { MayLeave (I.count items.now) (I.tells items.now)
         (cross_sum (meeting (I.bounds_of items.now)) some.now others.now)
@@ -200,60 +209,47 @@ pub fn test_cross<I: Items>(
     if some.len() > 8 || others.len() > 8 {
         return test_all(items, some, others, progress);
     }
-    let (mut near, mut place) = (u32::from(bounds_of_eight(items, some).meets8(around)), 0);
-    if near == 0 {
-        return true;
-    }
     let bounds = bounds_of_eight(items, others);
-    while near != 0 {
-        let passed = near.trailing_zeros();
-        if some.len() - place <= passed as usize {
-            return true;
-        }
-        place += passed as usize;
-        if !test_row(items, some[place], others, &bounds, progress) {
-            return false;
-        }
-        near = (near >> passed) / 2;
-        place += 1;
-    }
-    true
+    let cells = cells_of(items, some, &bounds, false);
+    test_cells(items, some, others, false, cells, progress)
 }
 
-/// Tests an item against those that stand behind it among some items, of whose first eight the bounds are given.
+/// Tests an item against those that stand behind it among some items.
 fn test_behind<I: Items>(
     items: &I,
     some: &[u32],
     k: usize,
-    bounds: &Rect8,
     progress: &mut Progress<I::C>,
 ) -> bool
     requires some { AreBelow (I.count items.now) some.now }
     requires within { k < length some.now }
-    requires bounds { AreBoundsOf (I.bounds_of items.now) some.now bounds.now }
     requires nothing_found { progress.old.found ≡ None }
     ensures { MayLeave (I.count items.now) (I.tells items.now)
         (row_sum (meeting (I.bounds_of items.now)) (get_or some.now k 0) (drop (k + 1) some.now))
         (AllRow (AreFree (I.tells items.now)) (get_or some.now k 0) (drop (k + 1) some.now))
         progress.old progress.new result }
 {
-    if some.len() - k == 1 {
-        return true;
-    }
-    if some.len() > 8 {
-        return test_each(items, some[k], &some[k + 1..], progress);
-    }
-    let marks = u32::from(bounds.meets8(items.bounds(some[k])));
-    test_marked(
-        items,
-        some[k],
-        &some[k + 1..],
-        marks >> (k as u32 + 1),
-        progress,
-    )
+    test_each(items, some[k], &some[k + 1..], progress)
 }
 
-/// Tests the pairs of some items.
+/// Tests the pairs of some items, one by one.
+#[inline(never)]
+fn test_all_pairs<I: Items>(items: &I, some: &[u32], progress: &mut Progress<I::C>) -> bool
+    requires some { AreBelow (I.count items.now) some.now }
+    requires nothing_found { progress.old.found ≡ None }
+    ensures { MayLeave (I.count items.now) (I.tells items.now)
+        (pair_sum (meeting (I.bounds_of items.now)) some.now)
+        (AllPairs (AreFree (I.tells items.now)) some.now) progress.old progress.new result }
+{
+    for k in 0..some.len() {
+        if !test_behind(items, some, k, progress) {
+            return false;
+        }
+    }
+    true
+}
+
+/// Tests the pairs of some items: of a leaf all at once.
 pub fn test_pairs<I: Items>(items: &I, some: &[u32], progress: &mut Progress<I::C>) -> bool
     requires some { AreBelow (I.count items.now) some.now }
     requires nothing_found { progress.old.found ≡ None }
@@ -261,13 +257,12 @@ pub fn test_pairs<I: Items>(items: &I, some: &[u32], progress: &mut Progress<I::
         (pair_sum (meeting (I.bounds_of items.now)) some.now)
         (AllPairs (AreFree (I.tells items.now)) some.now) progress.old progress.new result }
 {
-    let bounds = bounds_of_eight(items, some);
-    for k in 0..some.len() {
-        if !test_behind(items, some, k, &bounds, progress) {
-            return false;
-        }
+    if some.len() > 8 {
+        return test_all_pairs(items, some, progress);
     }
-    true
+    let bounds = bounds_of_eight(items, some);
+    let cells = cells_of(items, some, &bounds, true);
+    test_cells(items, some, some, true, cells, progress)
 }
 
 /// Whether some point is in both rectangles, told without a branch: in a walk no one foresees whether it is so.
@@ -319,9 +314,7 @@ pub fn search_two<I: Items, W: Trees>(
         return true;
     }
     match (&tree.below, &other.below) {
-        (Below::Items(some), Below::Items(others)) => {
-            test_cross(items, some, others, other.rect, progress)
-        }
+        (Below::Items(some), Below::Items(others)) => { test_cross(items, some, others, progress) }
         (Below::Children(children), _) => search_between(items, other, children, progress),
         (_, Below::Children(children)) => search_between(items, tree, children, progress),
     }
