@@ -19,3 +19,4 @@ mod Rows
 mod Roots
 mod Crosses
 mod CellRows
+mod Listing

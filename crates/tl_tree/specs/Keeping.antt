@@ -6,3 +6,4 @@ pub mod Branches
 pub mod Boxed
 pub mod Marking
 pub mod Cells
+pub mod Listing

@@ -1,10 +1,11 @@
 //! The search for two items that conflict.
-ghost use Rattle.std.specs.Prelude.{◌≡◌, ◌<◌, ◌≤◌, ◌+◌, ◌↔◌, length, get_or, drop, take, IsFalse, IsTrue};
+ghost use Rattle.std.specs.Prelude.{◌≡◌, ◌<◌, ◌≤◌, ◌+◌, ◌++◌, ◌↔◌, length, get_or, drop, take, IsFalse, IsTrue};
 ghost use Rattle.std.specs.Prelude.{◌≤ℤ◌};
 ghost use Rattle.std.specs.Int.{int_max, int_min};
 ghost use Rattle.tl_geom.specs.Rectangle.{AreMeeting};
 ghost use Rattle.tl_tree.specs.Fits.{AreBelow, Fits};
 ghost use Rattle.tl_tree.specs.Keeping.Cells.{sum_from, AllFrom, AreCellsOf};
+ghost use Rattle.tl_tree.specs.Keeping.Listing.{first_items, listed_items, AllSound, sum_beside, AllBeside};
 ghost use Rattle.tl_tree.specs.Keeping.Marking.{Includes, RootMeets};
 ghost use Rattle.tl_tree.specs.Pairs.{meeting, row_sum, cross_sum, pair_sum, AllRow, AllCross, AllPairs, AreFree};
 ghost use Rattle.tl_tree.specs.Searches.{MayAnswer};
@@ -13,9 +14,9 @@ ghost use Rattle.tl_tree.specs.Keeping.Walking.{MayLeave, answer_of, items_below
 
 use crate::cells::{cells_of, first_of};
 use crate::lanes::{bounds_of_eight, is_first_marked, later_marks, meeting_roots};
+use crate::near::{LIST, do_meet, list_near};
 use crate::walk::{Below, Tree, Trees};
 use crate::{Items, Search};
-use tl_geom::Rect;
 
 /// Two items that conflict, and what is told of them.
 pub struct Conflict<C> {
@@ -215,12 +216,7 @@ pub fn test_cross<I: Items>(
 }
 
 /// Tests an item against those that stand behind it among some items.
-fn test_behind<I: Items>(
-    items: &I,
-    some: &[u32],
-    k: usize,
-    progress: &mut Progress<I::C>,
-) -> bool
+fn test_behind<I: Items>(items: &I, some: &[u32], k: usize, progress: &mut Progress<I::C>) -> bool
     requires some { AreBelow (I.count items.now) some.now }
     requires within { k < length some.now }
     requires nothing_found { progress.old.found ≡ None }
@@ -263,34 +259,6 @@ pub fn test_pairs<I: Items>(items: &I, some: &[u32], progress: &mut Progress<I::
     let bounds = bounds_of_eight(items, some);
     let cells = cells_of(items, some, &bounds, true);
     test_cells(items, some, some, true, cells, progress)
-}
-
-/// Whether some point is in both rectangles, told without a branch: in a walk no one foresees whether it is so.
-#[inline]
-#[tactic(auto, using(crate::proofs::PairTests::meeting_by, crate::proofs::PairTests::by_meeting))]
-fn do_meet(r: Rect, q: Rect) -> bool
-    ensures { IsTrue result ↔ AreMeeting r q }
-{
-    are_both(
-        do_overlap(r.xmin, r.xmax, q.xmin, q.xmax),
-        do_overlap(r.ymin, r.ymax, q.ymin, q.ymax),
-    )
-}
-
-/// Whether both are so.
-#[inline]
-fn are_both(first: bool, second: bool) -> bool
-    ensures { IsTrue result ↔ (IsTrue first × IsTrue second) }
-{
-    first & second
-}
-
-/// Whether some number lies from `low` to `high` and from `low2` to `high2`.
-#[inline]
-fn do_overlap(low: i32, high: i32, low2: i32, high2: i32) -> bool
-    ensures { IsTrue result ↔ (int_max low low2 ≤ℤ int_min high high2) }
-{
-    low.max(low2) <= high.min(high2)
 }
 
 /// Tests each item of a tree against each item of another. Where their rectangles don't meet, nothing is tested.
@@ -402,49 +370,167 @@ fn search_if_marked<I: Items, W: Trees>(
     }
 }
 
-/// Tests the pairs of items of a tree.
+/// Tests each item of a tree against each item of the first of some trees.
+fn search_first<I: Items, W: Trees>(
+    items: &I,
+    tree: &Tree<'_, W>,
+    at: &W,
+    progress: &mut Progress<I::C>,
+) -> bool
+    requires tree { IsSound (I.count items.now) (I.bounds_of items.now) W.forest tree.now }
+    requires at { AreSound (I.count items.now) (I.bounds_of items.now) (W.forest at.now) }
+    requires nothing_found { progress.old.found ≡ None }
+    ensures { MayLeave (I.count items.now) (I.tells items.now)
+        (cross_sum (meeting (I.bounds_of items.now))
+        (items_below W.forest tree.now.below) (first_items (W.forest at.now)))
+        (AllCross (AreFree (I.tells items.now))
+        (items_below W.forest tree.now.below) (first_items (W.forest at.now))) progress.old progress.new result }
+{
+    let Some((first, _)) = at.split_first() else {
+        return true;
+    };
+    search_two(items, tree, &first, progress)
+}
+
+/// Tests each item of a tree against each item of the trees of a list.
+fn search_listed<I: Items, W: Trees>(
+    items: &I,
+    tree: &Tree<'_, W>,
+    near: &[W],
+    progress: &mut Progress<I::C>,
+) -> bool
+    requires tree { IsSound (I.count items.now) (I.bounds_of items.now) W.forest tree.now }
+    requires near { AllSound (I.count items.now) (I.bounds_of items.now) W.forest near.now }
+    requires nothing_found { progress.old.found ≡ None }
+    ensures { MayLeave (I.count items.now) (I.tells items.now)
+        (cross_sum (meeting (I.bounds_of items.now))
+        (items_below W.forest tree.now.below) (listed_items W.forest near.now))
+        (AllCross (AreFree (I.tells items.now))
+        (items_below W.forest tree.now.below) (listed_items W.forest near.now)) progress.old progress.new result }
+{
+    let Some((at, rest)) = near.split_first() else {
+        return true;
+    };
+    if !search_first(items, tree, at, progress) {
+        return false;
+    }
+    search_listed(items, tree, rest, progress)
+}
+
+/// Tests the pairs of items of a tree, and each of them against each item of the trees of a list.
 #[cycle(within)]
 pub fn search_one<I: Items, W: Trees>(
     items: &I,
     tree: &Tree<'_, W>,
+    near: &[W],
+    room: &mut [W],
     progress: &mut Progress<I::C>,
 ) -> bool
     requires tree { IsSound (I.count items.now) (I.bounds_of items.now) W.forest tree.now }
+    requires near { AllSound (I.count items.now) (I.bounds_of items.now) W.forest near.now }
     requires nothing_found { progress.old.found ≡ None }
     ensures { MayLeave (I.count items.now) (I.tells items.now)
-        (pair_sum (meeting (I.bounds_of items.now)) (items_below W.forest tree.now.below))
-        (AllPairs (AreFree (I.tells items.now)) (items_below W.forest tree.now.below))
-        progress.old progress.new result }
+        (sum_beside (meeting (I.bounds_of items.now))
+        (items_below W.forest tree.now.below) (listed_items W.forest near.now))
+        (AllBeside (AreFree (I.tells items.now))
+        (items_below W.forest tree.now.below) (listed_items W.forest near.now)) progress.old progress.new result }
 {
     match &tree.below {
-        Below::Items(some) => test_pairs(items, some, progress),
-        Below::Children(children) => search_within(items, children, progress),
+        Below::Items(some) => {
+            if !test_pairs(items, some, progress) {
+                return false;
+            }
+            search_listed(items, tree, near, progress)
+        }
+        Below::Children(children) => search_within(items, children, near, room, progress),
     }
 }
 
-/// Tests the pairs of items of some trees.
+/// The same, where those behind the tree and those of another list are still to be listed.
+#[cycle(within)]
+fn search_among<I: Items, W: Trees>(
+    items: &I,
+    tree: &Tree<'_, W>,
+    rest: &W,
+    others: &[W],
+    room: &mut [W],
+    progress: &mut Progress<I::C>,
+) -> bool
+    requires tree { IsSound (I.count items.now) (I.bounds_of items.now) W.forest tree.now }
+    requires rest { AreSound (I.count items.now) (I.bounds_of items.now) (W.forest rest.now) }
+    requires others { AllSound (I.count items.now) (I.bounds_of items.now) W.forest others.now }
+    requires nothing_found { progress.old.found ≡ None }
+    ensures { MayLeave (I.count items.now) (I.tells items.now)
+        (sum_beside (meeting (I.bounds_of items.now)) (items_below W.forest tree.now.below)
+        (leaf_items (W.forest rest.now) ++ listed_items W.forest others.now))
+        (AllBeside (AreFree (I.tells items.now)) (items_below W.forest tree.now.below)
+        (leaf_items (W.forest rest.now) ++ listed_items W.forest others.now)) progress.old progress.new result }
+{
+    if room.len() < LIST {
+        return search_unlisted(items, tree, rest, others, room, progress);
+    }
+    let (near, deeper) = room.split_at_mut(LIST);
+    match list_near(items, tree, *rest, others, near) {
+        Some(len) => search_one(items, tree, &near[..len], deeper, progress),
+        None => search_unlisted(items, tree, rest, others, deeper, progress),
+    }
+}
+
+/// The same, where a list has no room for them.
+#[cycle(within)]
+#[inline(never)]
+fn search_unlisted<I: Items, W: Trees>(
+    items: &I,
+    tree: &Tree<'_, W>,
+    rest: &W,
+    others: &[W],
+    room: &mut [W],
+    progress: &mut Progress<I::C>,
+) -> bool
+    requires tree { IsSound (I.count items.now) (I.bounds_of items.now) W.forest tree.now }
+    requires rest { AreSound (I.count items.now) (I.bounds_of items.now) (W.forest rest.now) }
+    requires others { AllSound (I.count items.now) (I.bounds_of items.now) W.forest others.now }
+    requires nothing_found { progress.old.found ≡ None }
+    ensures { MayLeave (I.count items.now) (I.tells items.now)
+        (sum_beside (meeting (I.bounds_of items.now)) (items_below W.forest tree.now.below)
+        (leaf_items (W.forest rest.now) ++ listed_items W.forest others.now))
+        (AllBeside (AreFree (I.tells items.now)) (items_below W.forest tree.now.below)
+        (leaf_items (W.forest rest.now) ++ listed_items W.forest others.now)) progress.old progress.new result }
+{
+    if !search_between(items, tree, rest, progress) {
+        return false;
+    }
+    if !search_listed(items, tree, others, progress) {
+        return false;
+    }
+    search_one(items, tree, &[], room, progress)
+}
+
+/// Tests the pairs of items of some trees, and each of them against each item of the trees of a list.
 #[cycle(within)]
 pub fn search_within<I: Items, W: Trees>(
     items: &I,
     trees: &W,
+    others: &[W],
+    room: &mut [W],
     progress: &mut Progress<I::C>,
 ) -> bool
     requires trees { AreSound (I.count items.now) (I.bounds_of items.now) (W.forest trees.now) }
+    requires others { AllSound (I.count items.now) (I.bounds_of items.now) W.forest others.now }
     requires nothing_found { progress.old.found ≡ None }
     ensures { MayLeave (I.count items.now) (I.tells items.now)
-        (pair_sum (meeting (I.bounds_of items.now)) (leaf_items (W.forest trees.now)))
-        (AllPairs (AreFree (I.tells items.now)) (leaf_items (W.forest trees.now))) progress.old progress.new result }
+        (sum_beside (meeting (I.bounds_of items.now))
+        (leaf_items (W.forest trees.now)) (listed_items W.forest others.now))
+        (AllBeside (AreFree (I.tells items.now))
+        (leaf_items (W.forest trees.now)) (listed_items W.forest others.now)) progress.old progress.new result }
 {
     let Some((tree, rest)) = trees.split_first() else {
         return true;
     };
-    if !search_one(items, &tree, progress) {
+    if !search_among(items, &tree, &rest, others, room, progress) {
         return false;
     }
-    if !search_between(items, &tree, &rest, progress) {
-        return false;
-    }
-    search_within(items, &rest, progress)
+    search_within(items, &rest, others, room, progress)
 }
 
 /// The answer of a search, from whether it goes on at its end and how far it is.
@@ -464,8 +550,13 @@ pub fn answer<C>(goes_on: bool, progress: Progress<C>) -> Search<C>
     }
 }
 
-/// Looks for two items that conflict, by trees that fit the items.
-pub fn search_trees<I: Items, W: Trees>(items: &I, trees: &W, budget: u64) -> Search<I::C>
+/// Looks for two items that conflict, by trees that fit the items, with room for its lists.
+pub fn search_trees<I: Items, W: Trees>(
+    items: &I,
+    trees: &W,
+    room: &mut [W],
+    budget: u64,
+) -> Search<I::C>
     requires { Fits (W.forest trees.now) (I.count items.now) (I.bounds_of items.now) }
     ensures { MayAnswer (I.count items.now) (I.bounds_of items.now) (I.tells items.now) budget result }
 {
@@ -473,6 +564,6 @@ pub fn search_trees<I: Items, W: Trees>(items: &I, trees: &W, budget: u64) -> Se
         left: budget,
         found: None,
     };
-    let goes_on = search_within(items, trees, &mut progress);
+    let goes_on = search_within(items, trees, &[], room, &mut progress);
     answer(goes_on, progress)
 }
