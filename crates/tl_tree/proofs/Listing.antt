@@ -6,14 +6,12 @@ use Rattle.tl_tree.specs.declared.walk.Tree.{Tree}
 use Rattle.tl_tree.specs.declared.walk.Below.{Below}
 use Rattle.tl_tree.specs.declared.walk.Below.TheVariants.{Items, Children}
 use Rattle.tl_tree.specs.Pairs.{meeting, cross_sum, AllRow, AllCross, AreFree}
-use Rattle.tl_tree.specs.Fits.{AreBelow}
-use Rattle.tl_tree.specs.Trees.{Forest, none, leaf_items}
+use Rattle.tl_tree.specs.Trees.{Forest}
 use Rattle.tl_tree.specs.Keeping.Listing.{first_items, listed_items, AllSound, IsFirst, StandsFor}
 use Rattle.tl_tree.specs.Keeping.Walking.{followed, items_below, AreSound, IsSound}
 use Rattle.tl_tree.proofs.Apart.{cross-apart, cross-free}
 use Rattle.tl_tree.proofs.PairLemmas.{cross-nil, cross-append_right, all_cross-nil, all_cross-join}
 use Rattle.tl_tree.proofs.PairTests.{KeepsLaw}
-use Rattle.tl_tree.proofs.Walks.{items-followed, sound-first}
 
 -- what is said of an answer, from what else is said of it
 pub map-some : {P Q : ℕ → Type 0} (o : Option ℕ) → ((m : ℕ) → P m → Q m) → IfSome o P → IfSome o Q

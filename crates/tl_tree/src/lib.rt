@@ -20,6 +20,7 @@ mod index;
 mod items;
 mod lanes;
 pub mod laws;
+mod leaf;
 mod near;
 mod node;
 mod plain_list;

@@ -14,6 +14,7 @@ ghost use Rattle.tl_tree.specs.Keeping.Walking.{MayLeave, answer_of, items_below
 
 use crate::cells::{cells_of, first_of};
 use crate::lanes::{bounds_of_eight, is_first_marked, later_marks, meeting_roots};
+use crate::leaf::test_leaf;
 use crate::near::{LIST, do_meet, list_near};
 use crate::walk::{Below, Tree, Trees};
 use crate::{Items, Search};
@@ -45,7 +46,7 @@ fn keep_conflict<C>(progress: &mut Progress<C>, i: u32, j: u32, c: C)
 }
 
 /// Tests two items whose bounds meet, of which the same one is no pair.
-#[inline]
+#[inline(always)]
 fn test_meeting<I: Items>(items: &I, i: u32, j: u32, progress: &mut Progress<I::C>) -> bool
     requires first { i < I.count items.now }
     requires second { j < I.count items.now }
@@ -133,7 +134,7 @@ fn test_cell<I: Items>(
 /// Tests the pairs whose cells are marked, which are those whose bounds meet: of some items and others, or of the items
 /// themselves and those behind each.
 #[inline(never)]
-fn test_cells<I: Items>(
+pub fn test_cells<I: Items>(
     items: &I,
     some: &[u32],
     others: &[u32],
@@ -172,7 +173,7 @@ fn test_cells<I: Items>(
 
 /// Tests each of some items against each of some others, one by one.
 #[inline(never)]
-fn test_all<I: Items>(
+pub fn test_all<I: Items>(
     items: &I,
     some: &[u32],
     others: &[u32],
@@ -230,7 +231,7 @@ fn test_behind<I: Items>(items: &I, some: &[u32], k: usize, progress: &mut Progr
 
 /// Tests the pairs of some items, one by one.
 #[inline(never)]
-fn test_all_pairs<I: Items>(items: &I, some: &[u32], progress: &mut Progress<I::C>) -> bool
+pub fn test_all_pairs<I: Items>(items: &I, some: &[u32], progress: &mut Progress<I::C>) -> bool
     requires some { AreBelow (I.count items.now) some.now }
     requires nothing_found { progress.old.found ≡ None }
     ensures { MayLeave (I.count items.now) (I.tells items.now)
@@ -243,22 +244,6 @@ fn test_all_pairs<I: Items>(items: &I, some: &[u32], progress: &mut Progress<I::
         }
     }
     true
-}
-
-/// Tests the pairs of some items: of a leaf all at once.
-pub fn test_pairs<I: Items>(items: &I, some: &[u32], progress: &mut Progress<I::C>) -> bool
-    requires some { AreBelow (I.count items.now) some.now }
-    requires nothing_found { progress.old.found ≡ None }
-    ensures { MayLeave (I.count items.now) (I.tells items.now)
-        (pair_sum (meeting (I.bounds_of items.now)) some.now)
-        (AllPairs (AreFree (I.tells items.now)) some.now) progress.old progress.new result }
-{
-    if some.len() > 8 {
-        return test_all_pairs(items, some, progress);
-    }
-    let bounds = bounds_of_eight(items, some);
-    let cells = cells_of(items, some, &bounds, true);
-    test_cells(items, some, some, true, cells, progress)
 }
 
 /// Tests each item of a tree against each item of another. Where their rectangles don't meet, nothing is tested.
@@ -436,12 +421,7 @@ pub fn search_one<I: Items, W: Trees>(
         (items_below W.forest tree.now.below) (listed_items W.forest near.now)) progress.old progress.new result }
 {
     match &tree.below {
-        Below::Items(some) => {
-            if !test_pairs(items, some, progress) {
-                return false;
-            }
-            search_listed(items, tree, near, progress)
-        }
+        Below::Items(some) => test_leaf(items, some, tree.rect, near, progress),
         Below::Children(children) => search_within(items, children, near, room, progress),
     }
 }
