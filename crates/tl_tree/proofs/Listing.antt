@@ -1,11 +1,13 @@
 -- Lists of trees that a tree is searched against.
-use Rattle.std.proofs.Common.{◌≡◌, ℕ, ◌+◌, List, [], ◌∷◌, ◌++◌, length, Option, Some, None, IfSome, refl, sym, ap, subst, ◌∙◌, arith}
+use Rattle.std.proofs.Common.{◌≡◌, ℕ, ◌+◌, ◌<◌, List, [], ◌∷◌, ◌++◌, length, drop, get_or, Option, Some, None, IfSome, refl, sym, ap, subst, ◌∙◌, arith}
 use Rattle.tl_geom.specs.declared.rect.Rect.{Rect}
-use Rattle.tl_geom.specs.Rectangle.{AreMeeting}
+use Rattle.std.proofs.lemmas.List.{at_drop_more}
+use Rattle.tl_geom.specs.Rectangle.{AreMeeting, Covers}
 use Rattle.tl_tree.specs.declared.walk.Tree.{Tree}
 use Rattle.tl_tree.specs.declared.walk.Below.{Below}
 use Rattle.tl_tree.specs.declared.walk.Below.TheVariants.{Items, Children}
 use Rattle.tl_tree.specs.Pairs.{meeting, cross_sum, AllRow, AllCross, AreFree}
+use Rattle.tl_tree.specs.Fits.{AreBelow, CoversAll}
 use Rattle.tl_tree.specs.Trees.{Forest}
 use Rattle.tl_tree.specs.Keeping.Listing.{first_items, listed_items, AllSound, IsFirst, StandsFor}
 use Rattle.tl_tree.specs.Keeping.Walking.{followed, items_below, AreSound, IsSound}
@@ -110,3 +112,49 @@ listed-none see (w ∷ ws) e = absurd (omega (arith, e))
 pub all_cross-append : (P : ℕ → ℕ → Type 0) (xs ys zs : List ℕ) → AllCross P xs zs → AllCross P ys zs → AllCross P (xs ++ ys) zs
 all_cross-append P [] ys zs h k = k
 all_cross-append P (x ∷ xs) ys zs h k = (h.0, all_cross-append P xs ys zs h.1 k)
+
+-- ---- items that are listed
+
+-- what is known where one more item was listed or passed over
+pub record Lists {C : Type 0} (n : ℕ) (b : ℕ → Rect) (tells : ℕ → ℕ → Option C → Type 0) (xs : List ℕ) (y : ℕ) (old new : List ℕ) : Type 0 where
+  pub sum : cross_sum (meeting b) xs new ≡ cross_sum (meeting b) xs old + cross_sum (meeting b) xs (y ∷ [])
+  pub free : AllCross (AreFree tells) xs new → AllCross (AreFree tells) xs old × AllCross (AreFree tells) xs (y ∷ [])
+  pub known : AreBelow n old → AreBelow n new
+
+below-more : (n : ℕ) (ys : List ℕ) (y : ℕ) → y < n → AreBelow n ys → AreBelow n (ys ++ y ∷ [])
+below-more n [] y h k = (h, tt)
+below-more n (x ∷ ys) y h k = (k.0, below-more n ys y h k.1)
+
+covers-self : (r : Rect) → Covers r r
+covers-self r p h = h
+
+module _ {C : Type 0} (n : ℕ) (b : ℕ → Rect) (tells : ℕ → ℕ → Option C → Type 0) (xs : List ℕ) where
+  pub item-listed : (old : List ℕ) (y : ℕ) → y < n → Lists n b tells xs y old (old ++ y ∷ [])
+  item-listed old y h =
+      record {
+        sum = cross-append_right (meeting b) xs old (y ∷ []);
+        free = all_cross-parts (AreFree tells) xs old (y ∷ []);
+        known = below-more n old y h;
+      }
+
+  pub item-apart : KeepsLaw tells n b → (around : Rect) → CoversAll b around xs → AreBelow n xs → (old : List ℕ) (y : ℕ) → y < n → (AreMeeting (b y) around → ⊥) → Lists n b tells xs y old old
+  item-apart law around covers below old y h ne =
+      let no : AreMeeting around (b y) → ⊥ = λ m. ne (record { point = m.point; in_first = m.in_second; in_second = m.in_first }) in
+      let e = cross-apart b around (b y) xs (y ∷ []) no covers (covers-self (b y), tt) in
+      record {
+        sum = omega (arith, e);
+        free = λ f. (f, cross-free b n tells law around (b y) xs (y ∷ []) no below (h, tt) covers (covers-self (b y), tt));
+        known = λ k. k;
+      }
+
+  -- a step of a loop over others
+  pub item-sum : (others : List ℕ) (k : ℕ) → k < length others → cross_sum (meeting b) xs (drop k others) ≡ cross_sum (meeting b) xs (get_or others k 0 ∷ []) + cross_sum (meeting b) xs (drop (k + 1) others)
+  item-sum others k h =
+      let e = at_drop_more (λ (zs : List ℕ). cross_sum (meeting b) xs zs) others k 0 h in
+      omega (arith, e, cross-append_right (meeting b) xs (get_or others k 0 ∷ []) (drop (k + 1) others))
+
+  pub item-free : (others : List ℕ) (k : ℕ) → k < length others → AllCross (AreFree tells) xs (get_or others k 0 ∷ []) → AllCross (AreFree tells) xs (drop (k + 1) others) → AllCross (AreFree tells) xs (drop k others)
+  item-free others k h p q =
+      let e = at_drop_more (λ (zs : List ℕ). zs) others k 0 h in
+      let P : List ℕ → Type 0 = AllCross (AreFree tells) xs in
+      subst P (sym e) (all_cross-join (AreFree tells) xs (get_or others k 0 ∷ []) (drop (k + 1) others) p q)

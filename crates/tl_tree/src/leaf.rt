@@ -1,7 +1,7 @@
 //! The search of a leaf, whose bounds are gathered once: its own pairs, and against each leaf below other trees.
-ghost use Rattle.std.specs.Prelude.{◌≡◌, ◌<◌, ◌≤◌, None, length};
+ghost use Rattle.std.specs.Prelude.{◌≡◌, ◌<◌, ◌≤◌, None, length, take};
 ghost use Rattle.tl_tree.specs.Fits.{AreBelow, CoversAll};
-ghost use Rattle.tl_tree.specs.Keeping.Listing.{first_items, listed_items, AllSound, sum_beside, AllBeside};
+ghost use Rattle.tl_tree.specs.Keeping.Listing.{first_items, listed_items, AllSound, HasNear, sum_beside, AllBeside};
 ghost use Rattle.tl_tree.specs.Keeping.Marking.{AreBoundsOf};
 ghost use Rattle.tl_tree.specs.Keeping.Walking.{MayLeave, items_below, IsSound, AreSound};
 ghost use Rattle.tl_tree.specs.Pairs.{meeting, cross_sum, pair_sum, AllCross, AllPairs, AreFree};
@@ -15,6 +15,37 @@ use crate::search::{Progress, test_all, test_all_pairs, test_cells};
 use crate::walk::{Below, Tree, Trees};
 use tl_geom::{Rect, Rect8};
 
+/// Lists those of some others whose bounds meet a rectangle that is around some items, and tells how many they are. Each
+/// is written in any case, since a branch would be foreseen wrong.
+#[inline]
+fn list_items<I: Items>(
+    items: &I,
+    some: &[u32],
+    around: Rect,
+    others: &[u32],
+    near: &mut [u32],
+) -> usize
+    requires some { AreBelow (I.count items.now) some.now }
+    requires around { CoversAll (I.bounds_of items.now) around some.now }
+    requires others { AreBelow (I.count items.now) others.now }
+    requires room { length others.now ≤ length near.old }
+    ensures complete { length near.new ≡ length near.old }
+    ensures fits { result ≤ length others.now }
+    ensures listed { HasNear (I.count items.now) (I.bounds_of items.now) (I.tells items.now)
+        some.now others.now (take result near.new) }
+{
+    let mut len = 0;
+    for other in others {
+        near[len] = *other;
+        len = if do_meet(items.bounds(*other), around) {
+            len + 1
+        } else {
+            len
+        };
+    }
+    len
+}
+
 /// Tests the items of a leaf, whose bounds are given, against each of some others: all pairs at once.
 #[inline]
 fn test_rows<I: Items>(
@@ -25,6 +56,32 @@ fn test_rows<I: Items>(
     progress: &mut Progress<I::C>,
 ) -> bool
     requires some { AreBelow (I.count items.now) some.now }
+    requires few { length some.now ≤ 8 }
+    requires bounds { AreBoundsOf (I.bounds_of items.now) some.now bounds.now }
+    requires others { AreBelow (I.count items.now) others.now }
+    requires few_others { length others.now ≤ 8 }
+    requires nothing_found { progress.old.found ≡ None }
+    ensures { MayLeave (I.count items.now) (I.tells items.now)
+        (cross_sum (meeting (I.bounds_of items.now)) some.now others.now)
+        (AllCross (AreFree (I.tells items.now)) some.now others.now) progress.old progress.new result }
+{
+    let cells = cells_of(items, others, bounds, false);
+    test_cells(items, others, some, false, cells, progress)
+}
+
+/// Tests the items of a leaf, which a rectangle is around and whose bounds are given, against each item of another: those
+/// alone whose bounds meet the rectangle.
+#[inline]
+fn test_cross<I: Items>(
+    items: &I,
+    some: &[u32],
+    around: Rect,
+    bounds: &Rect8,
+    others: &[u32],
+    progress: &mut Progress<I::C>,
+) -> bool
+    requires some { AreBelow (I.count items.now) some.now }
+    requires around { CoversAll (I.bounds_of items.now) around some.now }
     requires bounds { AreBoundsOf (I.bounds_of items.now) some.now bounds.now }
     requires others { AreBelow (I.count items.now) others.now }
     requires nothing_found { progress.old.found ≡ None }
@@ -35,8 +92,9 @@ fn test_rows<I: Items>(
     if some.len() > 8 || others.len() > 8 {
         return test_all(items, some, others, progress);
     }
-    let cells = cells_of(items, others, bounds, false);
-    test_cells(items, others, some, false, cells, progress)
+    let mut near = [0u32; 8];
+    let len = list_items(items, some, around, others, &mut near);
+    test_rows(items, some, bounds, &near[..len], progress)
 }
 
 /// Tests the pairs of the items of a leaf, whose bounds are given.
@@ -85,7 +143,7 @@ fn test_tree<I: Items, W: Trees>(
         return true;
     }
     match &other.below {
-        Below::Items(others) => test_rows(items, some, bounds, others, progress),
+        Below::Items(others) => test_cross(items, some, around, bounds, others, progress),
         Below::Children(children) => { test_trees(items, some, around, bounds, children, progress) }
     }
 }
@@ -143,7 +201,7 @@ fn test_first<I: Items, W: Trees>(
         return true;
     };
     match &first.below {
-        Below::Items(others) => test_rows(items, some, bounds, others, progress),
+        Below::Items(others) => test_cross(items, some, around, bounds, others, progress),
         Below::Children(children) => { test_trees(items, some, around, bounds, children, progress) }
     }
 }

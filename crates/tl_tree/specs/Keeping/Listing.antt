@@ -3,6 +3,7 @@ use Rattle.std.specs.Prelude.{◌≡◌, ℕ, ◌+◌, List, [], ◌∷◌, ◌+
 use Rattle.tl_geom.specs.declared.rect.Rect.{Rect}
 use Rattle.tl_tree.specs.declared.walk.Tree.{Tree}
 use Rattle.tl_tree.specs.Pairs.{meeting, cross_sum, pair_sum, AllCross, AllPairs, AreFree}
+use Rattle.tl_tree.specs.Fits.{AreBelow}
 use Rattle.tl_tree.specs.Trees.{Forest, none, leaf, inner, leaf_items}
 use Rattle.tl_tree.specs.Keeping.Walking.{followed, AreSound}
 
@@ -40,3 +41,9 @@ sum_beside f xs ys = pair_sum f xs + cross_sum f xs ys
 -- those pairs are related
 abbrev pub AllBeside : (ℕ → ℕ → Type 0) → List ℕ → List ℕ → Type 0
 AllBeside P xs ys = AllPairs P xs × AllCross P xs ys
+
+-- for pairs with the items of xs, some of others stand for all of them
+pub record HasNear {C : Type 0} (n : ℕ) (bounds : ℕ → Rect) (tells : ℕ → ℕ → Option C → Type 0) (xs others near : List ℕ) : Type 0 where
+  pub sum : cross_sum (meeting bounds) xs near ≡ cross_sum (meeting bounds) xs others
+  pub free : AllCross (AreFree tells) xs near → AllCross (AreFree tells) xs others
+  pub known : AreBelow n near

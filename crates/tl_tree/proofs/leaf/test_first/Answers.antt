@@ -21,8 +21,8 @@ returns-in_default g c =
       nothing_found = c.requires.nothing_found;
     }
 
-pub test_rows-requires-clause-others : goal.test_rows-requires-clause-others
-test_rows-requires-clause-others g c =
+pub test_cross-requires-clause-others : goal.test_cross-requires-clause-others
+test_cross-requires-clause-others g c =
     let see = g.W.Trees.forest in
     let n = g.I.Items.count c.args.items.now in
     let b = g.I.Items.bounds_of c.args.items.now in
