@@ -35,8 +35,8 @@ loop-other-preserved g c =
     let no : c.do_meet.result ≡ false → AreMeeting (b y) c.args.around → ⊥ = λ f m. false≢true (sym f ∙ c.do_meet.ensures.1 (rw c.bounds.ensures m)) in
     let step : Lists n b tells xs y (take len near) (take c.if-do_meet.len (slice_set near len y)) =
     elim c.if-do_meet.branch [
-      then-do_meet w ↦ subst P (sym w.len-is) (subst Q (sym (take_more_set near len y within)) (item-listed n b tells xs (take len near) y known))
-    | else-do_meet w ↦ subst P (sym w.len-is) (subst Q (sym (take-set near len y)) (item-apart n b tells xs (g.met.I.Items.apart c.args.items.now) c.args.around c.requires.around c.requires.some (take len near) y known (no w.if-do_meet.false)))
+      | then-do_meet w ↦ subst P (sym w.len-is) (subst Q (sym (take_more_set near len y within)) (item-listed n b tells xs (take len near) y known))
+      | else-do_meet w ↦ subst P (sym w.len-is) (subst Q (sym (take-set near len y)) (item-apart n b tells xs (g.met.I.Items.apart c.args.items.now) c.args.around c.requires.around c.requires.some (take len near) y known (no w.if-do_meet.false)))
     ] in
     let fits : c.if-do_meet.len < len + 2 = elim c.if-do_meet.branch [ then-do_meet w ↦ omega (arith, w.len-is) | else-do_meet w ↦ omega (arith, w.len-is) ] in
     record {
