@@ -15,6 +15,6 @@ pub mod Marks
 pub mod Checks
 pub mod Whole
 mod Marks8
-mod Rows
 mod Roots
-mod Crosses
+mod CellRows
+mod Listing

@@ -5,3 +5,5 @@ pub mod Checking
 pub mod Branches
 pub mod Boxed
 pub mod Marking
+pub mod Cells
+pub mod Listing

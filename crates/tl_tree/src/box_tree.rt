@@ -9,6 +9,7 @@ ghost use Rattle.tl_tree.specs.Trees.{depth, tree_of, node_count};
 use crate::branch::{Branch, copy_trees};
 use crate::check::check_all;
 use crate::hits::collect_all;
+use crate::near::ROOM;
 use crate::search::search_trees;
 use crate::{BoxIndex, FlatTree, Items, Memory, Probe, Search, TreeFault, TreeNode, TreeStop};
 use std::alloc::Global;
@@ -57,7 +58,8 @@ impl BoxIndex for BoxTree {
     ghost fits = { λ tree n bounds. Fits (unboxed tree) n bounds };
 
     fn first_conflict<I: Items>(&self, items: &I, budget: u64) -> Search<I::C> {
-        search_trees(items, &&self.root, budget)
+        let mut room = [&self.root; ROOM];
+        search_trees(items, &&self.root, &mut room, budget)
     }
 
     fn collect_hits<I: Items, P: Probe<I>>(

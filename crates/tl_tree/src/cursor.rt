@@ -29,7 +29,7 @@ impl Lists<'_> {
 }
 
 /// The first `count` trees from node `at` on, or as many as there are.
-#[derive(Drop)]
+#[derive(Clone, Copy)]
 pub struct Cursor<'a> {
     pub lists: &'a Lists<'a>,
     pub at: usize,

@@ -4,12 +4,14 @@ ghost use Rattle.tl_tree.specs.declared.fault.TreeStop.TheVariants.{TooDeep};
 ghost use Rattle.tl_tree.specs.Fits.{Fits, MayFind};
 ghost use Rattle.tl_tree.specs.Preorder.{IsPreorder};
 ghost use Rattle.tl_tree.specs.Keeping.Sizes.{AreSizesFrom};
+ghost use Rattle.tl_tree.specs.Searches.{MayAnswer};
 ghost use Rattle.tl_tree.specs.Trees.{depth, tree_of, first_trees, trees_of, node_count};
 
 use crate::check::check_all;
-use crate::cursor::Lists;
+use crate::cursor::{Cursor, Lists};
 use crate::depth::is_within_depth;
 use crate::hits::collect_all;
+use crate::near::ROOM;
 use crate::search::search_trees;
 use crate::{BoxIndex, Items, Memory, Probe, Search, TreeFault, TreeNode, TreeStop};
 use std::alloc::{AllocError, Global};
@@ -119,6 +121,16 @@ fn trees_end(nodes: &[TreeNode], sizes: &[u32], first: usize, count: u8) -> usiz
     at
 }
 
+/// Looks for two items that conflict, by a walk over trees that fit the items.
+fn search_walk<I: Items>(items: &I, root: Cursor<'_>, budget: u64) -> Search<I::C>
+    requires { Fits (first_trees root.count (trees_of (drop root.at root.lists.now.nodes.now)))
+        (I.count items.now) (I.bounds_of items.now) }
+    ensures { MayAnswer (I.count items.now) (I.bounds_of items.now) (I.tells items.now) budget result }
+{
+    let mut room = [root; ROOM];
+    search_trees(items, &root, &mut room, budget)
+}
+
 impl BoxIndex for FlatTree<'_> {
     ghost use Rattle.tl_tree.specs.Fits.{Fits};
     ghost use Rattle.tl_tree.specs.Trees.{tree_of};
@@ -126,7 +138,7 @@ impl BoxIndex for FlatTree<'_> {
     ghost fits = { λ tree n bounds. Fits (tree_of tree) n bounds };
 
     fn first_conflict<I: Items>(&self, items: &I, budget: u64) -> Search<I::C> {
-        search_trees(items, &self.lists().root(), budget)
+        search_walk(items, self.lists().root(), budget)
     }
 
     fn collect_hits<I: Items, P: Probe<I>>(

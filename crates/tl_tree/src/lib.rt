@@ -8,6 +8,7 @@
 
 mod box_tree;
 mod branch;
+mod cells;
 mod check;
 mod cursor;
 mod depth;
@@ -19,6 +20,8 @@ mod index;
 mod items;
 mod lanes;
 pub mod laws;
+mod leaf;
+mod near;
 mod node;
 mod plain_list;
 mod preorder;

@@ -1,19 +1,23 @@
 //! The search for two items that conflict.
-ghost use Rattle.std.specs.Prelude.{◌≡◌, ◌<◌, ◌≤◌, ◌+◌, ◌↔◌, length, get_or, drop, IsFalse, IsTrue};
+ghost use Rattle.std.specs.Prelude.{◌≡◌, ◌<◌, ◌≤◌, ◌+◌, ◌++◌, ◌↔◌, length, get_or, drop, take, IsFalse, IsTrue};
 ghost use Rattle.std.specs.Prelude.{◌≤ℤ◌};
 ghost use Rattle.std.specs.Int.{int_max, int_min};
 ghost use Rattle.tl_geom.specs.Rectangle.{AreMeeting};
-ghost use Rattle.tl_tree.specs.Fits.{AreBelow, CoversAll, Fits};
-ghost use Rattle.tl_tree.specs.Keeping.Marking.{Includes, AreMarksOf, RootMeets, AreBoundsOf};
+ghost use Rattle.tl_tree.specs.Fits.{AreBelow, Fits};
+ghost use Rattle.tl_tree.specs.Keeping.Cells.{sum_from, AllFrom, AreCellsOf};
+ghost use Rattle.tl_tree.specs.Keeping.Listing.{first_items, listed_items, AllSound, sum_beside, AllBeside};
+ghost use Rattle.tl_tree.specs.Keeping.Marking.{Includes, RootMeets};
 ghost use Rattle.tl_tree.specs.Pairs.{meeting, row_sum, cross_sum, pair_sum, AllRow, AllCross, AllPairs, AreFree};
 ghost use Rattle.tl_tree.specs.Searches.{MayAnswer};
 ghost use Rattle.tl_tree.specs.Trees.{leaf_items};
 ghost use Rattle.tl_tree.specs.Keeping.Walking.{MayLeave, answer_of, items_below, IsSound, AreSound};
 
+use crate::cells::{cells_of, first_of};
 use crate::lanes::{bounds_of_eight, is_first_marked, later_marks, meeting_roots};
+use crate::leaf::test_leaf;
+use crate::near::{LIST, do_meet, list_near};
 use crate::walk::{Below, Tree, Trees};
 use crate::{Items, Search};
-use tl_geom::{Rect, Rect8};
 
 /// Two items that conflict, and what is told of them.
 pub struct Conflict<C> {
@@ -103,63 +107,73 @@ fn test_each<I: Items>(items: &I, i: u32, others: &[u32], progress: &mut Progres
     true
 }
 
-/// Tests an item against those of some items that are marked, which are those whose bounds meet its own.
-fn test_marked<I: Items>(
+/// Tests an item against the one of some others at a place, if there is one.
+#[inline]
+fn test_cell<I: Items>(
     items: &I,
     i: u32,
     others: &[u32],
-    marks: u32,
+    at: usize,
     progress: &mut Progress<I::C>,
 ) -> bool
     requires item { i < I.count items.now }
     requires others { AreBelow (I.count items.now) others.now }
-    requires marks { AreMarksOf (I.bounds_of items.now) (I.bounds_of items.now i) others.now marks }
+    requires meeting { at < length others.now →
+        AreMeeting (I.bounds_of items.now (get_or others.now at 0)) (I.bounds_of items.now i) }
     requires nothing_found { progress.old.found ≡ None }
     ensures { MayLeave (I.count items.now) (I.tells items.now)
-        (row_sum (meeting (I.bounds_of items.now)) i others.now)
-        (AllRow (AreFree (I.tells items.now)) i others.now) progress.old progress.new result }
+        (row_sum (meeting (I.bounds_of items.now)) i (take 1 (drop at others.now)))
+        (AllRow (AreFree (I.tells items.now)) i (take 1 (drop at others.now))) progress.old progress.new result }
 {
-    let (mut later, mut place) = (marks, 0);
+    if others.len() <= at {
+        return true;
+    }
+    test_meeting(items, i, others[at], progress)
+}
+
+/// Tests the pairs whose cells are marked, which are those whose bounds meet: of some items and others, or of the items
+/// themselves and those behind each.
+#[inline(never)]
+pub fn test_cells<I: Items>(
+    items: &I,
+    some: &[u32],
+    others: &[u32],
+    behind: bool,
+    cells: u64,
+    progress: &mut Progress<I::C>,
+) -> bool
+    requires some { AreBelow (I.count items.now) some.now }
+    requires others { AreBelow (I.count items.now) others.now }
+    requires few { length some.now ≤ 8 }
+    requires few_others { length others.now ≤ 8 }
+    requires same { IsTrue behind → others.now ≡ some.now }
+    requires cells { AreCellsOf behind (I.bounds_of items.now) some.now others.now cells }
+    requires nothing_found { progress.old.found ≡ None }
+    ensures { MayLeave (I.count items.now) (I.tells items.now)
+        (sum_from (meeting (I.bounds_of items.now)) behind some.now others.now 0)
+        (AllFrom (AreFree (I.tells items.now)) behind some.now others.now 0) progress.old progress.new result }
+{
+    let (mut later, mut place) = (cells, 0usize);
     while later != 0 {
-        let passed = later.trailing_zeros();
-        if others.len() - place <= passed as usize {
+        let empty = later.trailing_zeros();
+        place += empty as usize;
+        let (row, column) = (place / 8, place % 8);
+        if some.len() <= row {
             return true;
         }
-        place += passed as usize;
-        if !test_meeting(items, i, others[place], progress) {
+        let at = first_of(behind, row) + column;
+        if !test_cell(items, some[row], others, at, progress) {
             return false;
         }
-        later = (later >> passed) / 2;
+        later = (later >> empty) / 2;
         place += 1;
     }
     true
 }
 
-/// Tests an item against each of some items, at most eight, whose bounds are given.
-#[inline]
-fn test_row<I: Items>(
-    items: &I,
-    i: u32,
-    others: &[u32],
-    bounds: &Rect8,
-    progress: &mut Progress<I::C>,
-) -> bool
-    requires item { i < I.count items.now }
-    requires others { AreBelow (I.count items.now) others.now }
-    requires few { length others.now ≤ 8 }
-    requires bounds { AreBoundsOf (I.bounds_of items.now) others.now bounds.now }
-    requires nothing_found { progress.old.found ≡ None }
-    ensures { MayLeave (I.count items.now) (I.tells items.now)
-        (row_sum (meeting (I.bounds_of items.now)) i others.now)
-        (AllRow (AreFree (I.tells items.now)) i others.now) progress.old progress.new result }
-{
-    let own = items.bounds(i);
-    test_marked(items, i, others, u32::from(bounds.meets8(own)), progress)
-}
-
 /// Tests each of some items against each of some others, one by one.
 #[inline(never)]
-fn test_all<I: Items>(
+pub fn test_all<I: Items>(
     items: &I,
     some: &[u32],
     others: &[u32],
@@ -180,18 +194,15 @@ fn test_all<I: Items>(
     true
 }
 
-/// Tests each of some items against each of some others, which a rectangle is around. Items whose own bounds don't meet
-/// that one are passed over, all of a leaf at once.
+/// Tests each of some items against each of some others: of leaves all pairs at once.
 pub fn test_cross<I: Items>(
     items: &I,
     some: &[u32],
     others: &[u32],
-    around: Rect,
     progress: &mut Progress<I::C>,
 ) -> bool
     requires some { AreBelow (I.count items.now) some.now }
     requires others { AreBelow (I.count items.now) others.now }
-    requires around { CoversAll (I.bounds_of items.now) around others.now }
     requires nothing_found { progress.old.found ≡ None }
     ensures { MayLeave (I.count items.now) (I.tells items.now)
         (cross_sum (meeting (I.bounds_of items.now)) some.now others.now)
@@ -200,102 +211,39 @@ pub fn test_cross<I: Items>(
     if some.len() > 8 || others.len() > 8 {
         return test_all(items, some, others, progress);
     }
-    let (mut near, mut place) = (u32::from(bounds_of_eight(items, some).meets8(around)), 0);
-    if near == 0 {
-        return true;
-    }
     let bounds = bounds_of_eight(items, others);
-    while near != 0 {
-        let passed = near.trailing_zeros();
-        if some.len() - place <= passed as usize {
-            return true;
-        }
-        place += passed as usize;
-        if !test_row(items, some[place], others, &bounds, progress) {
-            return false;
-        }
-        near = (near >> passed) / 2;
-        place += 1;
-    }
-    true
+    let cells = cells_of(items, some, &bounds, false);
+    test_cells(items, some, others, false, cells, progress)
 }
 
-/// Tests an item against those that stand behind it among some items, of whose first eight the bounds are given.
-fn test_behind<I: Items>(
-    items: &I,
-    some: &[u32],
-    k: usize,
-    bounds: &Rect8,
-    progress: &mut Progress<I::C>,
-) -> bool
+/// Tests an item against those that stand behind it among some items.
+fn test_behind<I: Items>(items: &I, some: &[u32], k: usize, progress: &mut Progress<I::C>) -> bool
     requires some { AreBelow (I.count items.now) some.now }
     requires within { k < length some.now }
-    requires bounds { AreBoundsOf (I.bounds_of items.now) some.now bounds.now }
     requires nothing_found { progress.old.found ≡ None }
     ensures { MayLeave (I.count items.now) (I.tells items.now)
         (row_sum (meeting (I.bounds_of items.now)) (get_or some.now k 0) (drop (k + 1) some.now))
         (AllRow (AreFree (I.tells items.now)) (get_or some.now k 0) (drop (k + 1) some.now))
         progress.old progress.new result }
 {
-    if some.len() - k == 1 {
-        return true;
-    }
-    if some.len() > 8 {
-        return test_each(items, some[k], &some[k + 1..], progress);
-    }
-    let marks = u32::from(bounds.meets8(items.bounds(some[k])));
-    test_marked(
-        items,
-        some[k],
-        &some[k + 1..],
-        marks >> (k as u32 + 1),
-        progress,
-    )
+    test_each(items, some[k], &some[k + 1..], progress)
 }
 
-/// Tests the pairs of some items.
-pub fn test_pairs<I: Items>(items: &I, some: &[u32], progress: &mut Progress<I::C>) -> bool
+/// Tests the pairs of some items, one by one.
+#[inline(never)]
+pub fn test_all_pairs<I: Items>(items: &I, some: &[u32], progress: &mut Progress<I::C>) -> bool
     requires some { AreBelow (I.count items.now) some.now }
     requires nothing_found { progress.old.found ≡ None }
     ensures { MayLeave (I.count items.now) (I.tells items.now)
         (pair_sum (meeting (I.bounds_of items.now)) some.now)
         (AllPairs (AreFree (I.tells items.now)) some.now) progress.old progress.new result }
 {
-    let bounds = bounds_of_eight(items, some);
     for k in 0..some.len() {
-        if !test_behind(items, some, k, &bounds, progress) {
+        if !test_behind(items, some, k, progress) {
             return false;
         }
     }
     true
-}
-
-/// Whether some point is in both rectangles, told without a branch: in a walk no one foresees whether it is so.
-#[inline]
-#[tactic(auto, using(crate::proofs::PairTests::meeting_by, crate::proofs::PairTests::by_meeting))]
-fn do_meet(r: Rect, q: Rect) -> bool
-    ensures { IsTrue result ↔ AreMeeting r q }
-{
-    are_both(
-        do_overlap(r.xmin, r.xmax, q.xmin, q.xmax),
-        do_overlap(r.ymin, r.ymax, q.ymin, q.ymax),
-    )
-}
-
-/// Whether both are so.
-#[inline]
-fn are_both(first: bool, second: bool) -> bool
-    ensures { IsTrue result ↔ (IsTrue first × IsTrue second) }
-{
-    first & second
-}
-
-/// Whether some number lies from `low` to `high` and from `low2` to `high2`.
-#[inline]
-fn do_overlap(low: i32, high: i32, low2: i32, high2: i32) -> bool
-    ensures { IsTrue result ↔ (int_max low low2 ≤ℤ int_min high high2) }
-{
-    low.max(low2) <= high.min(high2)
 }
 
 /// Tests each item of a tree against each item of another. Where their rectangles don't meet, nothing is tested.
@@ -319,9 +267,7 @@ pub fn search_two<I: Items, W: Trees>(
         return true;
     }
     match (&tree.below, &other.below) {
-        (Below::Items(some), Below::Items(others)) => {
-            test_cross(items, some, others, other.rect, progress)
-        }
+        (Below::Items(some), Below::Items(others)) => { test_cross(items, some, others, progress) }
         (Below::Children(children), _) => search_between(items, other, children, progress),
         (_, Below::Children(children)) => search_between(items, tree, children, progress),
     }
@@ -409,49 +355,162 @@ fn search_if_marked<I: Items, W: Trees>(
     }
 }
 
-/// Tests the pairs of items of a tree.
+/// Tests each item of a tree against each item of the first of some trees.
+fn search_first<I: Items, W: Trees>(
+    items: &I,
+    tree: &Tree<'_, W>,
+    at: &W,
+    progress: &mut Progress<I::C>,
+) -> bool
+    requires tree { IsSound (I.count items.now) (I.bounds_of items.now) W.forest tree.now }
+    requires at { AreSound (I.count items.now) (I.bounds_of items.now) (W.forest at.now) }
+    requires nothing_found { progress.old.found ≡ None }
+    ensures { MayLeave (I.count items.now) (I.tells items.now)
+        (cross_sum (meeting (I.bounds_of items.now))
+        (items_below W.forest tree.now.below) (first_items (W.forest at.now)))
+        (AllCross (AreFree (I.tells items.now))
+        (items_below W.forest tree.now.below) (first_items (W.forest at.now))) progress.old progress.new result }
+{
+    let Some((first, _)) = at.split_first() else {
+        return true;
+    };
+    search_two(items, tree, &first, progress)
+}
+
+/// Tests each item of a tree against each item of the trees of a list.
+fn search_listed<I: Items, W: Trees>(
+    items: &I,
+    tree: &Tree<'_, W>,
+    near: &[W],
+    progress: &mut Progress<I::C>,
+) -> bool
+    requires tree { IsSound (I.count items.now) (I.bounds_of items.now) W.forest tree.now }
+    requires near { AllSound (I.count items.now) (I.bounds_of items.now) W.forest near.now }
+    requires nothing_found { progress.old.found ≡ None }
+    ensures { MayLeave (I.count items.now) (I.tells items.now)
+        (cross_sum (meeting (I.bounds_of items.now))
+        (items_below W.forest tree.now.below) (listed_items W.forest near.now))
+        (AllCross (AreFree (I.tells items.now))
+        (items_below W.forest tree.now.below) (listed_items W.forest near.now)) progress.old progress.new result }
+{
+    let Some((at, rest)) = near.split_first() else {
+        return true;
+    };
+    if !search_first(items, tree, at, progress) {
+        return false;
+    }
+    search_listed(items, tree, rest, progress)
+}
+
+/// Tests the pairs of items of a tree, and each of them against each item of the trees of a list.
 #[cycle(within)]
 pub fn search_one<I: Items, W: Trees>(
     items: &I,
     tree: &Tree<'_, W>,
+    near: &[W],
+    room: &mut [W],
     progress: &mut Progress<I::C>,
 ) -> bool
     requires tree { IsSound (I.count items.now) (I.bounds_of items.now) W.forest tree.now }
+    requires near { AllSound (I.count items.now) (I.bounds_of items.now) W.forest near.now }
     requires nothing_found { progress.old.found ≡ None }
     ensures { MayLeave (I.count items.now) (I.tells items.now)
-        (pair_sum (meeting (I.bounds_of items.now)) (items_below W.forest tree.now.below))
-        (AllPairs (AreFree (I.tells items.now)) (items_below W.forest tree.now.below))
-        progress.old progress.new result }
+        (sum_beside (meeting (I.bounds_of items.now))
+        (items_below W.forest tree.now.below) (listed_items W.forest near.now))
+        (AllBeside (AreFree (I.tells items.now))
+        (items_below W.forest tree.now.below) (listed_items W.forest near.now)) progress.old progress.new result }
 {
     match &tree.below {
-        Below::Items(some) => test_pairs(items, some, progress),
-        Below::Children(children) => search_within(items, children, progress),
+        Below::Items(some) => test_leaf(items, some, tree.rect, near, progress),
+        Below::Children(children) => search_within(items, children, near, room, progress),
     }
 }
 
-/// Tests the pairs of items of some trees.
+/// The same, where those behind the tree and those of another list are still to be listed.
+#[cycle(within)]
+fn search_among<I: Items, W: Trees>(
+    items: &I,
+    tree: &Tree<'_, W>,
+    rest: &W,
+    others: &[W],
+    room: &mut [W],
+    progress: &mut Progress<I::C>,
+) -> bool
+    requires tree { IsSound (I.count items.now) (I.bounds_of items.now) W.forest tree.now }
+    requires rest { AreSound (I.count items.now) (I.bounds_of items.now) (W.forest rest.now) }
+    requires others { AllSound (I.count items.now) (I.bounds_of items.now) W.forest others.now }
+    requires nothing_found { progress.old.found ≡ None }
+    ensures { MayLeave (I.count items.now) (I.tells items.now)
+        (sum_beside (meeting (I.bounds_of items.now)) (items_below W.forest tree.now.below)
+        (leaf_items (W.forest rest.now) ++ listed_items W.forest others.now))
+        (AllBeside (AreFree (I.tells items.now)) (items_below W.forest tree.now.below)
+        (leaf_items (W.forest rest.now) ++ listed_items W.forest others.now)) progress.old progress.new result }
+{
+    if room.len() < LIST {
+        return search_unlisted(items, tree, rest, others, room, progress);
+    }
+    let (near, deeper) = room.split_at_mut(LIST);
+    match list_near(items, tree, *rest, others, near) {
+        Some(len) => search_one(items, tree, &near[..len], deeper, progress),
+        None => search_unlisted(items, tree, rest, others, deeper, progress),
+    }
+}
+
+/// The same, where a list has no room for them.
+#[cycle(within)]
+#[inline(never)]
+fn search_unlisted<I: Items, W: Trees>(
+    items: &I,
+    tree: &Tree<'_, W>,
+    rest: &W,
+    others: &[W],
+    room: &mut [W],
+    progress: &mut Progress<I::C>,
+) -> bool
+    requires tree { IsSound (I.count items.now) (I.bounds_of items.now) W.forest tree.now }
+    requires rest { AreSound (I.count items.now) (I.bounds_of items.now) (W.forest rest.now) }
+    requires others { AllSound (I.count items.now) (I.bounds_of items.now) W.forest others.now }
+    requires nothing_found { progress.old.found ≡ None }
+    ensures { MayLeave (I.count items.now) (I.tells items.now)
+        (sum_beside (meeting (I.bounds_of items.now)) (items_below W.forest tree.now.below)
+        (leaf_items (W.forest rest.now) ++ listed_items W.forest others.now))
+        (AllBeside (AreFree (I.tells items.now)) (items_below W.forest tree.now.below)
+        (leaf_items (W.forest rest.now) ++ listed_items W.forest others.now)) progress.old progress.new result }
+{
+    if !search_between(items, tree, rest, progress) {
+        return false;
+    }
+    if !search_listed(items, tree, others, progress) {
+        return false;
+    }
+    search_one(items, tree, &[], room, progress)
+}
+
+/// Tests the pairs of items of some trees, and each of them against each item of the trees of a list.
 #[cycle(within)]
 pub fn search_within<I: Items, W: Trees>(
     items: &I,
     trees: &W,
+    others: &[W],
+    room: &mut [W],
     progress: &mut Progress<I::C>,
 ) -> bool
     requires trees { AreSound (I.count items.now) (I.bounds_of items.now) (W.forest trees.now) }
+    requires others { AllSound (I.count items.now) (I.bounds_of items.now) W.forest others.now }
     requires nothing_found { progress.old.found ≡ None }
     ensures { MayLeave (I.count items.now) (I.tells items.now)
-        (pair_sum (meeting (I.bounds_of items.now)) (leaf_items (W.forest trees.now)))
-        (AllPairs (AreFree (I.tells items.now)) (leaf_items (W.forest trees.now))) progress.old progress.new result }
+        (sum_beside (meeting (I.bounds_of items.now))
+        (leaf_items (W.forest trees.now)) (listed_items W.forest others.now))
+        (AllBeside (AreFree (I.tells items.now))
+        (leaf_items (W.forest trees.now)) (listed_items W.forest others.now)) progress.old progress.new result }
 {
     let Some((tree, rest)) = trees.split_first() else {
         return true;
     };
-    if !search_one(items, &tree, progress) {
+    if !search_among(items, &tree, &rest, others, room, progress) {
         return false;
     }
-    if !search_between(items, &tree, &rest, progress) {
-        return false;
-    }
-    search_within(items, &rest, progress)
+    search_within(items, &rest, others, room, progress)
 }
 
 /// The answer of a search, from whether it goes on at its end and how far it is.
@@ -471,8 +530,13 @@ pub fn answer<C>(goes_on: bool, progress: Progress<C>) -> Search<C>
     }
 }
 
-/// Looks for two items that conflict, by trees that fit the items.
-pub fn search_trees<I: Items, W: Trees>(items: &I, trees: &W, budget: u64) -> Search<I::C>
+/// Looks for two items that conflict, by trees that fit the items, with room for its lists.
+pub fn search_trees<I: Items, W: Trees>(
+    items: &I,
+    trees: &W,
+    room: &mut [W],
+    budget: u64,
+) -> Search<I::C>
     requires { Fits (W.forest trees.now) (I.count items.now) (I.bounds_of items.now) }
     ensures { MayAnswer (I.count items.now) (I.bounds_of items.now) (I.tells items.now) budget result }
 {
@@ -480,6 +544,6 @@ pub fn search_trees<I: Items, W: Trees>(items: &I, trees: &W, budget: u64) -> Se
         left: budget,
         found: None,
     };
-    let goes_on = search_within(items, trees, &mut progress);
+    let goes_on = search_within(items, trees, &[], room, &mut progress);
     answer(goes_on, progress)
 }

@@ -18,7 +18,7 @@ pub enum Below<'a, W> {
 }
 
 /// Some trees in order.
-pub trait Trees: Drop {
+pub trait Trees: Copy {
     ghost use Rattle.std.specs.Prelude.{◌≤◌, IsTrue, length};
     ghost use Rattle.tl_tree.specs.Keeping.Marking.{roots};
     ghost use Rattle.tl_tree.specs.Keeping.Walking.{Splits};

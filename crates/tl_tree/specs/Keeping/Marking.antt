@@ -1,5 +1,5 @@
 -- What a search keeps of eight rectangles at once: marks of those that may meet another one, and beyond the eighth all.
-use Rattle.std.specs.Prelude.{◌≡◌, ℕ, ◌<◌, ◌↔◌, List, [], ◌∷◌, length, get_or}
+use Rattle.std.specs.Prelude.{◌≡◌, ℕ, ◌<◌, List, [], ◌∷◌, length, get_or}
 use Rattle.std.specs.Int.{bit_at}
 use Rattle.tl_geom.specs.declared.rect.Rect.{Rect}
 use Rattle.tl_geom.specs.declared.rect8.Rect8.{Rect8}
@@ -19,10 +19,6 @@ pub record MeetsAt (bounds : ℕ → Rect) (r : Rect) (xs : List ℕ) (k : ℕ) 
 -- the lanes are the bounds of the first eight items of the list
 abbrev pub AreBoundsOf : (ℕ → Rect) → List ℕ → Rect8 → Type 0
 AreBoundsOf bounds xs eight = (k : ℕ) → k < 8 → k < length xs → lane eight k ≡ bounds (get_or xs k 0)
-
--- the marked ones of the items of the list are those whose bounds meet a rectangle
-abbrev pub AreMarksOf : (ℕ → Rect) → Rect → List ℕ → ℕ → Type 0
-AreMarksOf bounds r xs marks = (k : ℕ) → k < length xs → (bit_at marks k ≡ 1) ↔ AreMeeting (bounds (get_or xs k 0)) r
 
 -- the rectangles of the roots
 abbrev pub roots : Forest → List Rect

@@ -1,87 +1,114 @@
-use Rattle.std.proofs.Common.{◌≡◌, ℕ, ◌+◌, ◌<◌, arith, rules, sym}
-use Rattle.tl_tree.specs.Pairs.{meeting, AreFree, AllPairs, AllCross}
+use Rattle.std.proofs.Common.{◌≡◌, ℕ, ◌+◌, ◌<◌, ◌++◌, List, [], ap, arith, rules, sym, subst, ◌∙◌}
+use Rattle.tl_tree.specs.Pairs.{meeting, AreFree, AllCross, cross_sum}
 use Rattle.tl_tree.specs.Trees.{leaf_items, node_count}
+use Rattle.tl_tree.specs.Keeping.Listing.{listed_items, sum_beside, AllBeside}
 use Rattle.tl_tree.specs.Keeping.Walking.{items_below, size_of, IsSound, AreSound}
 use Rattle.tl_tree.proofs.Leaving.{stops, goes, leaves_same, leaves_both}
-use Rattle.tl_tree.proofs.Walks.{pair-none, pair-split, all_pairs-none, all_pairs-split, nodes-split, sound-first, sound-others, size-above_0}
+use Rattle.tl_tree.proofs.Listing.{all_cross-parts, all_cross-append}
+use Rattle.tl_tree.proofs.PairLemmas.{cross-nil, cross-append, cross-append_right, all_cross-join}
+use Rattle.tl_tree.proofs.Walks.{pair-split, all_pairs-split, items-followed, nodes-split, sound-first, sound-others, size-above_0}
 use Rattle.tl_tree.proofs.search.+within.Goals as goal
 
-pub search_within-returns-in_default : goal.search_within-returns-in_default
-search_within-returns-in_default g t c =
+pub search_among-returns-in-Some : goal.search_among-returns-in-Some
+search_among-returns-in-Some g t c =
     let see = g.W.Trees.forest in
     let n = g.I.Items.count c.args.items.now in
-    let b = g.I.Items.bounds_of c.args.items.now in
-    let m = pair-none (meeting b) (see c.args.trees.now) c.in_default.ensures in
-    record { left = omega (arith, m); free = all_pairs-none (AreFree (g.I.Items.tells c.args.items.now)) (see c.args.trees.now) c.in_default.ensures; nothing_found = c.requires.nothing_found }
+    let tells = g.I.Items.tells c.args.items.now in
+    let meet = meeting (g.I.Items.bounds_of c.args.items.now) in
+    let xs = items_below see c.args.tree.now.below in
+    let s = c.in-Some.ensures.listed in
+    leaves_same n tells _ _ _ _ _ _ c.search_one.result
+    (omega (arith, s.sum, cross-nil meet xs))
+    (λ h. (h.0, (s.free h.1).1))
+    c.search_one.ensures
 
-pub search_within-search_one-requires : goal.search_within-search_one-requires
-search_within-search_one-requires g t c =
+pub search_unlisted-returns-then-not-search_between : goal.search_unlisted-returns-then-not-search_between
+search_unlisted-returns-then-not-search_between g t c =
+    let see = g.W.Trees.forest in
+    let meet = meeting (g.I.Items.bounds_of c.args.items.now) in
+    let xs = items_below see c.args.tree.now.below in
+    let s = cross-append_right meet xs (leaf_items (see c.args.rest.now)) (listed_items see c.args.others.now) in
+    stops _ _ _ _ _ _ _ _ _ c.search_between.ensures c.if-not-search_between.true (λ h. omega (arith, h, s))
+
+pub search_unlisted-returns-then-not-search_listed : goal.search_unlisted-returns-then-not-search_listed
+search_unlisted-returns-then-not-search_listed g t c =
+    let see = g.W.Trees.forest in
+    let meet = meeting (g.I.Items.bounds_of c.args.items.now) in
+    let xs = items_below see c.args.tree.now.below in
+    let s = cross-append_right meet xs (leaf_items (see c.args.rest.now)) (listed_items see c.args.others.now) in
+    let k = goes _ _ _ _ _ _ _ c.search_between.ensures c.if-not-search_between.false in
+    stops _ _ _ _ _ _ _ _ _ c.search_listed.ensures c.if-not-search_listed.true (λ h. omega (arith, h, s, k.left))
+
+pub search_unlisted-returns : goal.search_unlisted-returns
+search_unlisted-returns g t c =
+    let see = g.W.Trees.forest in
+    let n = g.I.Items.count c.args.items.now in
+    let tells = g.I.Items.tells c.args.items.now in
+    let free = AreFree tells in
+    let meet = meeting (g.I.Items.bounds_of c.args.items.now) in
+    let xs = items_below see c.args.tree.now.below in
+    let ys = leaf_items (see c.args.rest.now) in
+    let zs = listed_items see c.args.others.now in
+    let s = cross-append_right meet xs ys zs in
+    let h = goes _ _ _ _ _ _ _ c.search_between.ensures c.if-not-search_between.false in
+    let k = goes _ _ _ _ _ _ _ c.search_listed.ensures c.if-not-search_listed.false in
+    leaves_same n tells _ _ _ _ _ _ c.search_one.result
+    (omega (arith, s, cross-nil meet xs))
+    (λ (f : (AllCross free xs ys × AllCross free xs zs) × AllBeside free xs []). (f.1.0, all_cross-join free xs ys zs f.0.0 f.0.1))
+    (leaves_both n tells (cross_sum meet xs ys + cross_sum meet xs zs) (AllCross free xs ys × AllCross free xs zs) _ _ _ _ (AllBeside free xs []) c.search_one.result
+    (record { left = omega (arith, h.left, k.left); free = (h.free, k.free); nothing_found = k.nothing_found }) c.search_one.ensures)
+
+pub search_within-search_among-requires : goal.search_within-search_among-requires
+search_within-search_among-requires g t c =
     let see = g.W.Trees.forest in
     let n = g.I.Items.count c.args.items.now in
     let b = g.I.Items.bounds_of c.args.items.now in
     let h : IsSound n b see c.in-Some.tree = sound-first see n b (see c.args.trees.now) c.in-Some.tree (see c.in-Some.rest) c.in-Some.ensures c.requires.trees in
+    let l : AreSound n b (see c.in-Some.rest) = sound-others see n b (see c.args.trees.now) c.in-Some.tree (see c.in-Some.rest) c.in-Some.ensures c.requires.trees in
     let e : node_count (see c.args.trees.now) ≡ size_of see c.in-Some.tree.below + node_count (see c.in-Some.rest) = nodes-split see (see c.args.trees.now) c.in-Some.tree.rect c.in-Some.tree.below (see c.in-Some.rest) c.in-Some.ensures in
     let k : 0 < size_of see c.in-Some.tree.below = size-above_0 see c.in-Some.tree.below in
     search rules
-
-pub search_within-search_between-requires-clause-tree : goal.search_within-search_between-requires-clause-tree
-search_within-search_between-requires-clause-tree g t c =
-    let see = g.W.Trees.forest in
-    let n = g.I.Items.count c.args.items.now in
-    let b = g.I.Items.bounds_of c.args.items.now in
-    sound-first see n b (see c.args.trees.now) c.in-Some.tree (see c.in-Some.rest) c.in-Some.ensures c.requires.trees
-
-pub search_within-search_between-requires-clause-others : goal.search_within-search_between-requires-clause-others
-search_within-search_between-requires-clause-others g t c =
-    let see = g.W.Trees.forest in
-    let n = g.I.Items.count c.args.items.now in
-    let b = g.I.Items.bounds_of c.args.items.now in
-    sound-others see n b (see c.args.trees.now) c.in-Some.tree (see c.in-Some.rest) c.in-Some.ensures c.requires.trees
 
 pub search_within-search_within-requires : goal.search_within-search_within-requires
 search_within-search_within-requires g t c =
     let see = g.W.Trees.forest in
     let n = g.I.Items.count c.args.items.now in
     let b = g.I.Items.bounds_of c.args.items.now in
-    let h : AreSound n b (see c.in-Some.rest) = sound-others see n b (see c.args.trees.now) c.in-Some.tree (see c.in-Some.rest) c.in-Some.ensures c.requires.trees in
+    let l : AreSound n b (see c.in-Some.rest) = sound-others see n b (see c.args.trees.now) c.in-Some.tree (see c.in-Some.rest) c.in-Some.ensures c.requires.trees in
     let e : node_count (see c.args.trees.now) ≡ size_of see c.in-Some.tree.below + node_count (see c.in-Some.rest) = nodes-split see (see c.args.trees.now) c.in-Some.tree.rect c.in-Some.tree.below (see c.in-Some.rest) c.in-Some.ensures in
     let k : 0 < size_of see c.in-Some.tree.below = size-above_0 see c.in-Some.tree.below in
     search rules
 
-pub search_within-returns-then-not-search_one : goal.search_within-returns-then-not-search_one
-search_within-returns-then-not-search_one g t c =
+pub search_within-returns-then-not-search_among : goal.search_within-returns-then-not-search_among
+search_within-returns-then-not-search_among g t c =
     let see = g.W.Trees.forest in
-    let n = g.I.Items.count c.args.items.now in
-    let b = g.I.Items.bounds_of c.args.items.now in
-    let tells = g.I.Items.tells c.args.items.now in
-    let split = λ (f : ℕ → ℕ → ℕ). pair-split see f (see c.args.trees.now) c.in-Some.tree.rect c.in-Some.tree.below (see c.in-Some.rest) c.in-Some.ensures in
-    let m = split (meeting b) in
-    stops _ _ _ _ _ _ _ _ _ c.search_one.ensures c.if-not-search_one.true (λ h. omega (arith, h, m))
-
-pub search_within-returns-then-not-search_between : goal.search_within-returns-then-not-search_between
-search_within-returns-then-not-search_between g t c =
-    let see = g.W.Trees.forest in
-    let n = g.I.Items.count c.args.items.now in
-    let b = g.I.Items.bounds_of c.args.items.now in
-    let tells = g.I.Items.tells c.args.items.now in
-    let split = λ (f : ℕ → ℕ → ℕ). pair-split see f (see c.args.trees.now) c.in-Some.tree.rect c.in-Some.tree.below (see c.in-Some.rest) c.in-Some.ensures in
-    let m = split (meeting b) in
-    let k = goes _ _ _ _ _ _ _ c.search_one.ensures c.if-not-search_one.false in
-    stops _ _ _ _ _ _ _ _ _ c.search_between.ensures c.if-not-search_between.true (λ h. omega (arith, h, m, k.left))
+    let meet = meeting (g.I.Items.bounds_of c.args.items.now) in
+    let xs = items_below see c.in-Some.tree.below in
+    let ys = leaf_items (see c.in-Some.rest) in
+    let zs = listed_items see c.args.others.now in
+    let m = pair-split see meet (see c.args.trees.now) c.in-Some.tree.rect c.in-Some.tree.below (see c.in-Some.rest) c.in-Some.ensures in
+    let e : leaf_items (see c.args.trees.now) ≡ xs ++ ys = ap leaf_items c.in-Some.ensures ∙ items-followed see c.in-Some.tree.rect c.in-Some.tree.below (see c.in-Some.rest) in
+    let s = ap (λ ws. cross_sum meet ws zs) e ∙ cross-append meet xs ys zs in
+    stops _ _ _ _ _ _ _ _ _ c.search_among.ensures c.if-not-search_among.true (λ h. omega (arith, h, m, s, cross-append_right meet xs ys zs))
 
 pub search_within-returns : goal.search_within-returns
 search_within-returns g t c =
     let see = g.W.Trees.forest in
     let n = g.I.Items.count c.args.items.now in
-    let b = g.I.Items.bounds_of c.args.items.now in
     let tells = g.I.Items.tells c.args.items.now in
-    let split = λ (f : ℕ → ℕ → ℕ). pair-split see f (see c.args.trees.now) c.in-Some.tree.rect c.in-Some.tree.below (see c.in-Some.rest) c.in-Some.ensures in
     let free = AreFree tells in
+    let meet = meeting (g.I.Items.bounds_of c.args.items.now) in
     let xs = items_below see c.in-Some.tree.below in
     let ys = leaf_items (see c.in-Some.rest) in
-    let h = goes _ _ _ _ _ _ _ c.search_one.ensures c.if-not-search_one.false in
-    let k = goes _ _ _ _ _ _ _ c.search_between.ensures c.if-not-search_between.false in
-    leaves_same n tells _ _ _ _ _ _ c.search_within.result (sym (split (meeting b)))
-    (λ (h : (AllPairs free xs × AllCross free xs ys) × AllPairs free ys). all_pairs-split see free (see c.args.trees.now) c.in-Some.tree.rect c.in-Some.tree.below (see c.in-Some.rest) c.in-Some.ensures h.0.0 h.0.1 h.1)
-    (leaves_both n tells _ (AllPairs free xs × AllCross free xs ys) _ _ _ _ (AllPairs free ys) c.search_within.result
-    (record { left = omega (arith, h.left, k.left); free = (h.free, k.free); nothing_found = k.nothing_found }) c.search_within.ensures)
+    let zs = listed_items see c.args.others.now in
+    let m = pair-split see meet (see c.args.trees.now) c.in-Some.tree.rect c.in-Some.tree.below (see c.in-Some.rest) c.in-Some.ensures in
+    let e : leaf_items (see c.args.trees.now) ≡ xs ++ ys = ap leaf_items c.in-Some.ensures ∙ items-followed see c.in-Some.tree.rect c.in-Some.tree.below (see c.in-Some.rest) in
+    let s = ap (λ ws. cross_sum meet ws zs) e ∙ cross-append meet xs ys zs in
+    let P : List ℕ → Type 0 = λ ws. AllCross free ws zs in
+    let h = goes _ _ _ _ _ _ _ c.search_among.ensures c.if-not-search_among.false in
+    leaves_same n tells _ _ _ _ _ _ c.search_within.result
+    (omega (arith, m, s, cross-append_right meet xs ys zs))
+    (λ (f : AllBeside free xs (ys ++ zs) × AllBeside free ys zs).
+    let p = all_cross-parts free xs ys zs f.0.1 in
+    (all_pairs-split see free (see c.args.trees.now) c.in-Some.tree.rect c.in-Some.tree.below (see c.in-Some.rest) c.in-Some.ensures f.0.0 p.0 f.1.0, subst P (sym e) (all_cross-append free xs ys zs p.1 f.1.1)))
+    (leaves_both n tells (sum_beside meet xs (ys ++ zs)) (AllBeside free xs (ys ++ zs)) _ _ _ _ (AllBeside free ys zs) c.search_within.result h c.search_within.ensures)

@@ -2,7 +2,7 @@ use Rattle.std.proofs.Common.{arith}
 use Rattle.tl_tree.specs.Pairs.{meeting, AreFree}
 use Rattle.tl_tree.proofs.Leaving.{stops, goes}
 use Rattle.tl_tree.proofs.Steps.{pair-step, pair-end, all_pairs-step, all_pairs-end}
-use Rattle.tl_tree.proofs.search.test_pairs.Goals as goal
+use Rattle.tl_tree.proofs.search.test_all_pairs.Goals as goal
 
 pub loop-k-init : goal.loop-k-init
 loop-k-init g c = record { left = omega arith; free = λ h. h; nothing_found = c.requires.nothing_found }

@@ -1,6 +1,6 @@
 use Rattle.std.proofs.Common.{None, ◌≡◌, ◌+◌, drop}
 use Rattle.tl_tree.specs.Pairs.{meeting, AreFree, pair_sum, AllPairs}
-use Rattle.tl_tree.proofs.search.test_pairs.Given as goal
+use Rattle.tl_tree.proofs.search.test_all_pairs.Given as goal
 
 -- what is left covers what was met so far, and so far nothing conflicted
 abbrev pub invariant-loop-k : goal.invariant-loop-k

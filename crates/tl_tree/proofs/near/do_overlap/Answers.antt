@@ -3,7 +3,7 @@ use Rattle.std.proofs.lemmas.Int.{ints, clamps}
 use borrow.Author.Differences.{true_is_le}
 use mir.Syntax.{w32}
 use mir.Val.{to_z, of_z}
-use Rattle.tl_tree.proofs.search.do_overlap.Goals as goal
+use Rattle.tl_tree.proofs.near.do_overlap.Goals as goal
 
 pub returns : goal.returns
 returns c = (

@@ -1,0 +1,62 @@
+use Rattle.std.proofs.Common.{◌≡◌, ℕ, ◌+◌, ◌<◌, false, List, get_or, length, take, slice_set, sym, subst, ◌∙◌, arith}
+use Rattle.std.proofs.lemmas.Bool.{false≢true}
+use Rattle.std.proofs.lemmas.List.{length-set, take-set, take_more_set, at_drop_all}
+use Rattle.tl_geom.specs.Rectangle.{AreMeeting}
+use Rattle.tl_tree.specs.Pairs.{meeting, cross_sum, AreFree, AllCross}
+use Rattle.tl_tree.proofs.Listing.{Lists, item-listed, item-apart, item-sum, item-free}
+use Rattle.tl_tree.proofs.PairLemmas.{cross-nil, all_cross-nil}
+use Rattle.tl_tree.proofs.Steps.{below-at}
+use Rattle.tl_tree.proofs.leaf.list_items.Goals as goal
+use Rattle.tl_tree.proofs.leaf.list_items.Goals.{then-do_meet, else-do_meet}
+
+pub loop-other-init : goal.loop-other-init
+loop-other-init g c =
+    let e = cross-nil (meeting (g.I.Items.bounds_of c.args.items.now)) c.args.some.now in
+    record { sum = omega (arith, e); free = λ f h. h; known = tt; fits = omega arith; complete = omega arith }
+
+pub bounds-requires : goal.bounds-requires
+bounds-requires g c = below-at _ _ c.loop-other.other-index c.loop-other-test.true c.requires.others
+
+pub loop-other-preserved : goal.loop-other-preserved
+loop-other-preserved g c =
+    let n = g.I.Items.count c.args.items.now in
+    let b = g.I.Items.bounds_of c.args.items.now in
+    let tells = g.I.Items.tells c.args.items.now in
+    let xs = c.args.some.now in
+    let ys = c.args.others.now in
+    let k = c.loop-other.other-index in
+    let len = c.loop-other.len in
+    let near = c.loop-other.near in
+    let y = get_or ys k 0 in
+    let known : y < n = below-at n ys k c.loop-other-test.true c.requires.others in
+    let within : len < length near = omega (arith, c.loop-other.invariant.fits, c.loop-other.invariant.complete, c.loop-other-test.true, c.requires.room) in
+    let P : ℕ → Type 0 = λ m. Lists n b tells xs y (take len near) (take m (slice_set near len y)) in
+    let Q : List ℕ → Type 0 = Lists n b tells xs y (take len near) in
+    let no : c.do_meet.result ≡ false → AreMeeting (b y) c.args.around → ⊥ = λ f m. false≢true (sym f ∙ c.do_meet.ensures.1 (rw c.bounds.ensures m)) in
+    let step : Lists n b tells xs y (take len near) (take c.if-do_meet.len (slice_set near len y)) =
+    elim c.if-do_meet.branch [
+      | then-do_meet w ↦ subst P (sym w.len-is) (subst Q (sym (take_more_set near len y within)) (item-listed n b tells xs (take len near) y known))
+      | else-do_meet w ↦ subst P (sym w.len-is) (subst Q (sym (take-set near len y)) (item-apart n b tells xs (g.met.I.Items.apart c.args.items.now) c.args.around c.requires.around c.requires.some (take len near) y known (no w.if-do_meet.false)))
+    ] in
+    let fits : c.if-do_meet.len < len + 2 = elim c.if-do_meet.branch [ then-do_meet w ↦ omega (arith, w.len-is) | else-do_meet w ↦ omega (arith, w.len-is) ] in
+    record {
+      sum = omega (arith, step.sum, item-sum n b tells xs ys k c.loop-other-test.true, c.loop-other.invariant.sum);
+      free = λ f h. let p = step.free f in c.loop-other.invariant.free p.0 (item-free n b tells xs ys k c.loop-other-test.true p.1 h);
+      known = step.known c.loop-other.invariant.known;
+      fits = omega (arith, fits, c.loop-other.invariant.fits);
+      complete = length-set near len y ∙ c.loop-other.invariant.complete;
+    }
+
+pub returns-clause-listed : goal.returns-clause-listed
+returns-clause-listed g c =
+    let tells = g.I.Items.tells c.args.items.now in
+    let meet = meeting (g.I.Items.bounds_of c.args.items.now) in
+    let xs = c.args.some.now in
+    let e = at_drop_all (λ (zs : List ℕ). zs) c.args.others.now c.loop-other.other-index (omega (arith, c.loop-other-test.false)) in
+    let s = at_drop_all (λ (zs : List ℕ). cross_sum meet xs zs) c.args.others.now c.loop-other.other-index (omega (arith, c.loop-other-test.false)) in
+    let P : List ℕ → Type 0 = AllCross (AreFree tells) xs in
+    record {
+      sum = omega (arith, s, cross-nil meet xs, c.loop-other.invariant.sum);
+      free = λ f. c.loop-other.invariant.free f (subst P (sym e) (all_cross-nil (AreFree tells) xs));
+      known = c.loop-other.invariant.known;
+    }

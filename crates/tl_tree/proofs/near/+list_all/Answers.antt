@@ -1,0 +1,20 @@
+use Rattle.std.proofs.Common.{take, ap}
+use Rattle.tl_tree.specs.Keeping.Listing.{first_items, listed_items}
+use Rattle.tl_tree.specs.Keeping.Walking.{items_below}
+use Rattle.tl_tree.proofs.Listing.{map-some, none-listed, both-listed, listed-none}
+use Rattle.tl_tree.proofs.near.+list_all.Goals as goal
+
+pub returns-in_default-clause-listed : goal.returns-in_default-clause-listed
+returns-in_default-clause-listed g t c =
+    let see = g.W.Trees.forest in
+    none-listed see (g.I.Items.count c.args.items.now) (g.I.Items.bounds_of c.args.items.now) (g.I.Items.tells c.args.items.now) (items_below see c.args.tree.now.below) (take c.args.len c.args.near.now) (listed_items see c.args.others.now) (listed-none see c.args.others.now c.in_default.ensures.cases)
+
+pub returns-in-Some-list_below-clause-listed : goal.returns-in-Some-list_below-clause-listed
+returns-in-Some-list_below-clause-listed g t c =
+    let see = g.W.Trees.forest in
+    let xs = items_below see c.args.tree.now.below in
+    let more = first_items (see c.in-Some.first.now) in
+    let rest = listed_items see c.in-Some.rest.now in
+    map-some c.list_all.result
+    (λ m h. both-listed see (g.I.Items.count c.args.items.now) (g.I.Items.bounds_of c.args.items.now) (g.I.Items.tells c.args.items.now) xs (take c.args.len c.args.near.now) (take c.in-Some-list_below.more c.list_below.new.near) (take m c.list_all.new.near) more rest (listed_items see c.args.others.now) (ap (listed_items see) c.in-Some.ensures.cases.0) c.in-Some-list_below.ensures.listed h)
+    c.list_all.ensures.listed

@@ -1,0 +1,25 @@
+use Rattle.std.proofs.Common.{ap, sym, subst, List, ℕ, arith}
+use Rattle.tl_tree.specs.Pairs.{meeting, cross_sum, AllCross, AreFree}
+use Rattle.tl_tree.specs.Keeping.Listing.{first_items}
+use Rattle.tl_tree.specs.Keeping.Walking.{items_below}
+use Rattle.tl_tree.proofs.PairLemmas.{cross-nil, all_cross-nil}
+use Rattle.tl_tree.proofs.Walks.{sound-first}
+use Rattle.tl_tree.proofs.search.search_first.Goals as goal
+
+pub returns-in_default : goal.returns-in_default
+returns-in_default g c =
+    let see = g.W.Trees.forest in
+    let xs = items_below see c.args.tree.now.below in
+    let meet = meeting (g.I.Items.bounds_of c.args.items.now) in
+    let e = ap first_items c.in_default.ensures in
+    let P : List ℕ → Type 0 = AllCross (AreFree (g.I.Items.tells c.args.items.now)) xs in
+    record {
+      left = omega (arith, ap (cross_sum meet xs) e, cross-nil meet xs);
+      free = subst P (sym e) (all_cross-nil (AreFree (g.I.Items.tells c.args.items.now)) xs);
+      nothing_found = c.requires.nothing_found;
+    }
+
+pub search_two-requires-clause-other : goal.search_two-requires-clause-other
+search_two-requires-clause-other g c =
+    let see = g.W.Trees.forest in
+    sound-first see (g.I.Items.count c.args.items.now) (g.I.Items.bounds_of c.args.items.now) (see c.args.at.now) c.in-Some.first _ c.in-Some.ensures c.requires.at

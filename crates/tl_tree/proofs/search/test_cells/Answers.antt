@@ -1,0 +1,123 @@
+use Rattle.std.proofs.Common.{◌≡◌, ℕ, suc, ◌+◌, ◌/◌, ◌%◌, ◌^◌, ◌<◌, ◌≤◌, length, get_or, take, drop, w64, sym, ap, subst, ◌∙◌, arith}
+use Rattle.std.specs.Int.{bit_at, trailing_zeros}
+use Rattle.std.proofs.lemmas.Nat.Bits.{bit_at-suc, bit_at-zero, bit_at-trailing_zeros}
+use Rattle.tl_geom.specs.Rectangle.{AreMeeting}
+use Rattle.tl_tree.specs.Pairs.{meeting, row_sum, AllRow, AreFree}
+use Rattle.tl_tree.proofs.CellRows.{bit-behind, rest-start, rest-end, cell-step, all-rest-start, all-rest-end, all-cell-step, marked-meets, skip-unmarked, free-skip}
+use Rattle.tl_tree.proofs.Leaving.{stops, goes}
+use Rattle.tl_tree.proofs.Steps.{below-at}
+use Rattle.tl_tree.proofs.search.test_cells.Goals as goal
+
+-- what is known of the first mark of a number that isn't 0
+first : (m : ℕ) → (m ≡ 0 → ⊥) → m < 2 ^ 64 → (bit_at m (trailing_zeros w64 m) ≡ 1) × ((i : ℕ) → i < trailing_zeros w64 m → bit_at m i ≡ 0)
+first m ne l = let h = bit_at-trailing_zeros w64 m (omega (arith, ne)) l in (h.1, h.2)
+
+pub loop-later-init : goal.loop-later-init
+loop-later-init g c =
+    let meet = meeting (g.I.Items.bounds_of c.args.items.now) in
+    let free = AreFree (g.I.Items.tells c.args.items.now) in
+    let e = rest-start meet c.args.behind c.args.some.now c.args.others.now c.requires.same in
+    record {
+      left = omega (arith, e);
+      free = all-rest-start free c.args.behind c.args.some.now c.args.others.now c.requires.same;
+      nothing_found = c.requires.nothing_found;
+      within = omega arith;
+      marks = λ k. let z : k ≡ 0 + k = omega arith in ap (bit_at c.args.cells) z;
+    }
+
+pub returns-then-some-row : goal.returns-then-some-row
+returns-then-some-row g c =
+    let n = g.I.Items.count c.args.items.now in
+    let b = g.I.Items.bounds_of c.args.items.now in
+    let tells = g.I.Items.tells c.args.items.now in
+    let xs = c.args.some.now in
+    let ys = c.args.others.now in
+    let m = c.loop-later.later in
+    let p = c.loop-later.place in
+    let t = trailing_zeros w64 m in
+    let none : (k : ℕ) → k < t → bit_at c.args.cells (p + k) ≡ 0 = λ k l. sym (c.loop-later.invariant.marks k) ∙ (first m c.loop-later-test.true c.loop-later.auto.later-fits.fits).1 k l in
+    let s = skip-unmarked c.args.behind b xs ys c.args.cells c.requires.cells c.requires.same c.requires.few_others t p none in
+    let e = rest-end (meeting b) c.args.behind xs ys c.requires.same (p + t) c.if-some-row.true in
+    record {
+      left = omega (arith, s, e, c.loop-later.invariant.left);
+      free = c.loop-later.invariant.free (free-skip c.args.behind b xs ys c.args.cells c.requires.cells c.requires.same c.requires.few_others n tells (g.met.I.Items.apart c.args.items.now) c.requires.some c.requires.others t p none (all-rest-end (AreFree tells) c.args.behind xs ys c.requires.same (p + t) c.if-some-row.true));
+      nothing_found = c.loop-later.invariant.nothing_found;
+    }
+
+pub test_cell-requires-clause-item : goal.test_cell-requires-clause-item
+test_cell-requires-clause-item g c =
+    below-at _ _ ((c.loop-later.place + trailing_zeros w64 c.loop-later.later) / 8) (omega (arith, c.if-some-row.false)) c.requires.some
+
+pub test_cell-requires-clause-meeting : goal.test_cell-requires-clause-meeting
+test_cell-requires-clause-meeting g c =
+    let b = g.I.Items.bounds_of c.args.items.now in
+    let xs = c.args.some.now in
+    let ys = c.args.others.now in
+    let m = c.loop-later.later in
+    let t = trailing_zeros w64 m in
+    let q = c.loop-later.place + t in
+    let one : bit_at c.args.cells q ≡ 1 = sym (c.loop-later.invariant.marks t) ∙ (first m c.loop-later-test.true c.loop-later.auto.later-fits.fits).0 in
+    let P : ℕ → Type 0 = λ v. v + q % 8 < length ys → AreMeeting (b (get_or ys (v + q % 8) 0)) (b (get_or xs (q / 8) 0)) in
+    subst P (sym c.first_of.ensures) (marked-meets c.args.behind b xs ys c.args.cells c.requires.cells q (omega (arith, c.if-some-row.false)) one)
+
+pub test_cell-requires-clause-nothing_found : goal.test_cell-requires-clause-nothing_found
+test_cell-requires-clause-nothing_found g c = c.loop-later.invariant.nothing_found
+
+pub returns-then-not-test_cell : goal.returns-then-not-test_cell
+returns-then-not-test_cell g c =
+    let b = g.I.Items.bounds_of c.args.items.now in
+    let xs = c.args.some.now in
+    let ys = c.args.others.now in
+    let m = c.loop-later.later in
+    let p = c.loop-later.place in
+    let t = trailing_zeros w64 m in
+    let q = p + t in
+    let none : (k : ℕ) → k < t → bit_at c.args.cells (p + k) ≡ 0 = λ k l. sym (c.loop-later.invariant.marks k) ∙ (first m c.loop-later-test.true c.loop-later.auto.later-fits.fits).1 k l in
+    let s = skip-unmarked c.args.behind b xs ys c.args.cells c.requires.cells c.requires.same c.requires.few_others t p none in
+    let e = cell-step (meeting b) c.args.behind xs ys c.requires.same q (omega (arith, c.if-some-row.false)) c.requires.few_others in
+    let o = ap (λ v. row_sum (meeting b) (get_or xs (q / 8) 0) (take 1 (drop (v + q % 8) ys))) c.first_of.ensures in
+    stops _ _ _ _ _ _ _ _ _ c.test_cell.ensures c.if-not-test_cell.true (λ h. omega (arith, h, s, e, o, c.loop-later.invariant.left))
+
+pub loop-later-preserved : goal.loop-later-preserved
+loop-later-preserved g c =
+    let n = g.I.Items.count c.args.items.now in
+    let b = g.I.Items.bounds_of c.args.items.now in
+    let tells = g.I.Items.tells c.args.items.now in
+    let xs = c.args.some.now in
+    let ys = c.args.others.now in
+    let m = c.loop-later.later in
+    let p = c.loop-later.place in
+    let t = trailing_zeros w64 m in
+    let q = p + t in
+    let none : (k : ℕ) → k < t → bit_at c.args.cells (p + k) ≡ 0 = λ k l. sym (c.loop-later.invariant.marks k) ∙ (first m c.loop-later-test.true c.loop-later.auto.later-fits.fits).1 k l in
+    let row : q / 8 < length xs = omega (arith, c.if-some-row.false) in
+    let s = skip-unmarked c.args.behind b xs ys c.args.cells c.requires.cells c.requires.same c.requires.few_others t p none in
+    let e = cell-step (meeting b) c.args.behind xs ys c.requires.same q row c.requires.few_others in
+    let o = ap (λ v. row_sum (meeting b) (get_or xs (q / 8) 0) (take 1 (drop (v + q % 8) ys))) c.first_of.ensures in
+    let k = goes _ _ _ _ _ _ _ c.test_cell.ensures c.if-not-test_cell.false in
+    let P : ℕ → Type 0 = λ v. AllRow (AreFree tells) (get_or xs (q / 8) 0) (take 1 (drop (v + q % 8) ys)) in
+    record {
+      left = omega (arith, s, e, o, k.left, c.loop-later.invariant.left);
+      free = λ h. c.loop-later.invariant.free (free-skip c.args.behind b xs ys c.args.cells c.requires.cells c.requires.same c.requires.few_others n tells (g.met.I.Items.apart c.args.items.now) c.requires.some c.requires.others t p none (all-cell-step (AreFree tells) c.args.behind xs ys c.requires.same q row c.requires.few_others (subst P c.first_of.ensures k.free) h));
+      nothing_found = k.nothing_found;
+      within = omega (arith, row, c.requires.few);
+      marks = λ j. let a : p + (suc j + t) ≡ q + 1 + j = omega arith in sym (bit_at-suc (m / 2 ^ t) j) ∙ bit-behind m t (suc j) ∙ c.loop-later.invariant.marks (suc j + t) ∙ ap (bit_at c.args.cells) a;
+    }
+
+pub returns : goal.returns
+returns g c =
+    let n = g.I.Items.count c.args.items.now in
+    let b = g.I.Items.bounds_of c.args.items.now in
+    let tells = g.I.Items.tells c.args.items.now in
+    let xs = c.args.some.now in
+    let ys = c.args.others.now in
+    let p = c.loop-later.place in
+    let none : (k : ℕ) → k < 64 → bit_at c.args.cells (p + k) ≡ 0 = λ k l. sym (c.loop-later.invariant.marks k) ∙ ap (λ v. bit_at v k) c.loop-later-test.false ∙ bit_at-zero k in
+    let beyond : length xs ≤ (p + 64) / 8 = omega (arith, c.requires.few) in
+    let s = skip-unmarked c.args.behind b xs ys c.args.cells c.requires.cells c.requires.same c.requires.few_others 64 p none in
+    let e = rest-end (meeting b) c.args.behind xs ys c.requires.same (p + 64) beyond in
+    record {
+      left = omega (arith, s, e, c.loop-later.invariant.left);
+      free = c.loop-later.invariant.free (free-skip c.args.behind b xs ys c.args.cells c.requires.cells c.requires.same c.requires.few_others n tells (g.met.I.Items.apart c.args.items.now) c.requires.some c.requires.others 64 p none (all-rest-end (AreFree tells) c.args.behind xs ys c.requires.same (p + 64) beyond));
+      nothing_found = c.loop-later.invariant.nothing_found;
+    }

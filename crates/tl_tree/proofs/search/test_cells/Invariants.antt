@@ -1,0 +1,23 @@
+use Rattle.std.proofs.Common.{None, ◌≡◌, ℕ, ◌+◌, ◌-◌, ◌≤◌}
+use Rattle.std.specs.Int.{bit_at}
+use Rattle.tl_tree.specs.Keeping.Cells.{sum_from, AllFrom}
+use Rattle.tl_tree.specs.Pairs.{meeting, AreFree}
+use Rattle.tl_tree.proofs.CellRows.{rest, RestAll}
+use Rattle.tl_tree.proofs.search.test_cells.Given as goal
+
+-- what is left covers what was met so far, and so far nothing conflicted; the marks are those of the cells that are left
+abbrev pub invariant-loop-later : goal.invariant-loop-later
+invariant-loop-later g l =
+    let meet = meeting (g.I.Items.bounds_of l.items) in
+    let free = AreFree (g.I.Items.tells l.items) in
+    record {
+      left : l.progress.left + sum_from meet l.behind l.some l.others 0 ≡ l.fn.progress.left + rest meet l.behind l.some l.others l.place;
+      free : RestAll free l.behind l.some l.others l.place → AllFrom free l.behind l.some l.others 0;
+      nothing_found : l.progress.found ≡ None;
+      within : l.place ≤ 64;
+      marks : (k : ℕ) → bit_at l.later k ≡ bit_at l.cells (l.place + k);
+    }
+
+-- the cells that are left
+abbrev pub decreases-loop-later : goal.decreases-loop-later
+decreases-loop-later g l = 64 - l.place

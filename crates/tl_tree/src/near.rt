@@ -1,0 +1,193 @@
+//! Lists of the trees that a tree is searched against: of those that come behind it, those whose rectangles meet its own.
+ghost use Rattle.std.specs.Prelude.{◌≡◌, ◌≤◌, ◌<◌, ◌+◌, ◌↔◌, ◌≤ℤ◌, ◌++◌, [], length, take, IsTrue, IfSome};
+ghost use Rattle.std.specs.Int.{int_max, int_min};
+ghost use Rattle.tl_geom.specs.Rectangle.{AreMeeting};
+ghost use Rattle.tl_tree.specs.Trees.{leaf_items};
+ghost use Rattle.tl_tree.specs.Keeping.Listing.{first_items, listed_items, AllSound, IsFirst, StandsFor};
+ghost use Rattle.tl_tree.specs.Keeping.Walking.{items_below, IsSound, AreSound};
+
+use crate::Items;
+use crate::walk::{Below, Tree, Trees};
+use tl_geom::Rect;
+
+/// How many trees a list has room for. Over 2,750,000 segments in a tree that was made by halving no list has over eight.
+pub const LIST: usize = 12;
+
+/// How much room a search lends to its lists: one for each depth that a tree may have.
+pub const ROOM: usize = 768;
+
+/// Whether some point is in both rectangles, told without a branch: in a walk no one foresees whether it is so.
+#[inline]
+#[tactic(auto, using(crate::proofs::PairTests::meeting_by, crate::proofs::PairTests::by_meeting))]
+pub fn do_meet(r: Rect, q: Rect) -> bool
+    ensures { IsTrue result ↔ AreMeeting r q }
+{
+    are_both(
+        do_overlap(r.xmin, r.xmax, q.xmin, q.xmax),
+        do_overlap(r.ymin, r.ymax, q.ymin, q.ymax),
+    )
+}
+
+/// Whether both are so.
+#[inline]
+fn are_both(first: bool, second: bool) -> bool
+    ensures { IsTrue result ↔ (IsTrue first × IsTrue second) }
+{
+    first & second
+}
+
+/// Whether some number lies from `low` to `high` and from `low2` to `high2`.
+#[inline]
+fn do_overlap(low: i32, high: i32, low2: i32, high2: i32) -> bool
+    ensures { IsTrue result ↔ (int_max low low2 ≤ℤ int_min high high2) }
+{
+    low.max(low2) <= high.min(high2)
+}
+
+/// Lists a tree, the first of those at `at`, behind the first `len` of a list, where its rectangle meets that of the
+/// searched tree, and tells how many are listed then. It is written in any case, since a branch would be foreseen wrong.
+#[inline]
+fn list_one<I: Items, W: Trees>(
+    items: &I,
+    tree: &Tree<'_, W>,
+    at: W,
+    first: &Tree<'_, W>,
+    near: &mut [W],
+    len: usize,
+) -> usize
+    requires tree { IsSound (I.count items.now) (I.bounds_of items.now) W.forest tree.now }
+    requires at { AreSound (I.count items.now) (I.bounds_of items.now) (W.forest at) }
+    requires first { IsFirst W.forest first.now (W.forest at) }
+    requires room { len < length near.old }
+    ensures complete { length near.new ≡ length near.old }
+    ensures fits { result ≤ len + 1 }
+    ensures listed { StandsFor (I.count items.now) (I.bounds_of items.now) (I.tells items.now) W.forest
+        (items_below W.forest tree.now.below) (take len near.old)
+        (items_below W.forest first.now.below) (take result near.new) }
+{
+    near[len] = at;
+    if do_meet(first.rect, tree.rect) {
+        len + 1
+    } else {
+        len
+    }
+}
+
+/// Lists some trees in the same way. There is no answer where the list has no room for them.
+fn list_trees<I: Items, W: Trees>(
+    items: &I,
+    tree: &Tree<'_, W>,
+    others: W,
+    near: &mut [W],
+    len: usize,
+) -> Option<usize>
+    requires tree { IsSound (I.count items.now) (I.bounds_of items.now) W.forest tree.now }
+    requires others { AreSound (I.count items.now) (I.bounds_of items.now) (W.forest others) }
+    requires fits { len ≤ length near.old }
+    ensures complete { length near.new ≡ length near.old }
+    ensures fits { IfSome result (λ m. m ≤ length near.old) }
+    ensures listed { IfSome result (λ m.
+        StandsFor (I.count items.now) (I.bounds_of items.now) (I.tells items.now) W.forest
+        (items_below W.forest tree.now.below) (take len near.old)
+        (leaf_items (W.forest others)) (take m near.new)) }
+{
+    let Some((first, rest)) = others.split_first() else {
+        return Some(len);
+    };
+    if near.len() <= len {
+        return None;
+    }
+    let more = list_one(items, tree, others, &first, near, len);
+    list_trees(items, tree, rest, near, more)
+}
+
+/// Lists a tree, the first of those at `at`, or, where it is an inner one whose rectangle meets that of the searched
+/// tree, its children.
+#[inline]
+fn list_below<I: Items, W: Trees>(
+    items: &I,
+    tree: &Tree<'_, W>,
+    at: W,
+    near: &mut [W],
+    len: usize,
+) -> Option<usize>
+    requires tree { IsSound (I.count items.now) (I.bounds_of items.now) W.forest tree.now }
+    requires at { AreSound (I.count items.now) (I.bounds_of items.now) (W.forest at) }
+    requires fits { len ≤ length near.old }
+    ensures complete { length near.new ≡ length near.old }
+    ensures fits { IfSome result (λ m. m ≤ length near.old) }
+    ensures listed { IfSome result (λ m.
+        StandsFor (I.count items.now) (I.bounds_of items.now) (I.tells items.now) W.forest
+        (items_below W.forest tree.now.below) (take len near.old)
+        (first_items (W.forest at)) (take m near.new)) }
+{
+    let Some((first, _)) = at.split_first() else {
+        return Some(len);
+    };
+    match &first.below {
+        Below::Items(_) => {
+            if near.len() <= len {
+                return None;
+            }
+            Some(list_one(items, tree, at, &first, near, len))
+        }
+        Below::Children(children) => {
+            if do_meet(first.rect, tree.rect) {
+                list_trees(items, tree, *children, near, len)
+            } else {
+                Some(len)
+            }
+        }
+    }
+}
+
+/// Lists the trees of another list, or their children.
+fn list_all<I: Items, W: Trees>(
+    items: &I,
+    tree: &Tree<'_, W>,
+    others: &[W],
+    near: &mut [W],
+    len: usize,
+) -> Option<usize>
+    requires tree { IsSound (I.count items.now) (I.bounds_of items.now) W.forest tree.now }
+    requires others { AllSound (I.count items.now) (I.bounds_of items.now) W.forest others.now }
+    requires fits { len ≤ length near.old }
+    ensures complete { length near.new ≡ length near.old }
+    ensures fits { IfSome result (λ m. m ≤ length near.old) }
+    ensures listed { IfSome result (λ m.
+        StandsFor (I.count items.now) (I.bounds_of items.now) (I.tells items.now) W.forest
+        (items_below W.forest tree.now.below) (take len near.old)
+        (listed_items W.forest others.now) (take m near.new)) }
+{
+    let Some((first, rest)) = others.split_first() else {
+        return Some(len);
+    };
+    match list_below(items, tree, *first, near, len) {
+        Some(more) => list_all(items, tree, rest, near, more),
+        None => None,
+    }
+}
+
+/// Lists what a tree is searched against: of the trees behind it and of those of another list.
+pub fn list_near<I: Items, W: Trees>(
+    items: &I,
+    tree: &Tree<'_, W>,
+    rest: W,
+    others: &[W],
+    near: &mut [W],
+) -> Option<usize>
+    requires tree { IsSound (I.count items.now) (I.bounds_of items.now) W.forest tree.now }
+    requires rest { AreSound (I.count items.now) (I.bounds_of items.now) (W.forest rest) }
+    requires others { AllSound (I.count items.now) (I.bounds_of items.now) W.forest others.now }
+    ensures complete { length near.new ≡ length near.old }
+    ensures fits { IfSome result (λ m. m ≤ length near.old) }
+    ensures listed { IfSome result (λ m.
+        StandsFor (I.count items.now) (I.bounds_of items.now) (I.tells items.now) W.forest
+        (items_below W.forest tree.now.below) []
+        (leaf_items (W.forest rest) ++ listed_items W.forest others.now) (take m near.new)) }
+{
+    match list_trees(items, tree, rest, near, 0) {
+        Some(len) => list_all(items, tree, others, near, len),
+        None => None,
+    }
+}
