@@ -17,7 +17,7 @@ use Rattle.tl_cert.specs.declared.stop.CertStop.{CertStop}
 use Rattle.tl_cert.specs.declared.stop.CertStop.TheVariants.{Text, Memory, Device}
 use Rattle.tl_cert.specs.Certificates.{TheCertificate, IsCertificate, IsNumber, IsNode, IsNodeInRange, IsDartList, AreDartLists}
 use Rattle.tl_cert.specs.Text.{numbered_line, item_lines, nodes_lines, tree_lines, rounds_lines, walks_lines, darts_lines, all_darts_lines, end_line, head_line, counts_line}
-use Rattle.tl_cert.specs.Given.{AreGiven, given_lines, with_part, parts_left}
+use Rattle.tl_cert.specs.Given.{AreGiven, given_lines, with_part, parts_left, IsRoundOrWalk, IsWalk, LeadsTo, MayEnd}
 use Rattle.tl_cert.specs.Keeping.Lines.{LineState, taken, untaken, TakesLines, ReadsLine, EndsText}
 use Rattle.tl_cert.specs.Keeping.Parts.{IsTree, AreDarts, AreVersionedCounts, versioned_lines, IsStuckAfter, Reads}
 use Rattle.tl_cert.specs.Keeping.Places.{Adds, Ends, ReadsPart, FitsPlace, state_at}
@@ -168,10 +168,18 @@ ends_behind (Some text) None line lines bytes is = absurd bytes
 ends_behind (Some text) (Some rest) line lines bytes is =
     bytes ∙ ap (λ (b : List ℕ). (line ++ 10 ∷ []) ++ b) is ∙ append_assoc line (10 ∷ []) (joined_lines lines)
 
+-- a walk may come where a round may
+pub walk_for_round : (given : CertPart) (next : Place) → IsWalk given next → IsRoundOrWalk given next
+walk_for_round (part.Counts counts version) next h = h
+walk_for_round (part.Tree nodes) next h = h
+walk_for_round (part.Round darts) next h = absurd h
+walk_for_round (part.Walk darts) next h = h
+
 pub passed : {R : Type 0} (remaining : R → Option (List ℕ)) (place next : Place) (line : List ℕ) (old mid new : LineState R) (answer : Result (Option (CertPart × Place)) CertStop)
-    → Passes place next line → parts_left next ≤ parts_left place → Steps (state_at place) line (state_at next) → TakesLines remaining old mid (line ∷ []) → ReadsPart remaining next mid new answer
+    → Passes place next line → parts_left next ≤ parts_left place → ((given : CertPart) (then : Place) → LeadsTo next given then → LeadsTo place given then) → MayEnd place
+    → Steps (state_at place) line (state_at next) → TakesLines remaining old mid (line ∷ []) → ReadsPart remaining next mid new answer
     → ReadsPart remaining place old new answer
-passed remaining place next line old mid new (Ok (Some (given, then))) passes fewer step takes reads = (
+passed remaining place next line old mid new (Ok (Some (given, then))) passes fewer leads ends step takes reads = (
   line ∷ reads.0,
   takes_more remaining old mid new (line ∷ []) reads.0 takes reads.1,
   λ c are. let here = passes c are in
@@ -179,20 +187,22 @@ passed remaining place next line old mid new (Ok (Some (given, then))) passes fe
       (more.0, more.1 ∙ ap (λ (ls : List (List ℕ)). ls ++ reads.0) here.1 ∙ append_assoc (given_lines place c) (line ∷ []) reads.0),
   reads.3,
   omega (arith, reads.4, fewer),
+  leads given then reads.5,
 )
-passed remaining place next line old mid new (Ok None) passes fewer step takes reads = (
+passed remaining place next line old mid new (Ok None) passes fewer leads ends step takes reads = (
   line ∷ reads.0,
   λ c are. let here = passes c are in
       let more = reads.1 c here.0 in
       (more.0, more.1 ∙ ap (λ (ls : List (List ℕ)). ls ++ reads.0) here.1 ∙ append_assoc (given_lines place c) (line ∷ []) reads.0),
   ends_behind (untaken remaining old) (untaken remaining mid) line reads.0 takes.bytes reads.2,
   reads.3,
+  ends,
 )
-passed remaining place next line old mid new (Err (Text number)) passes fewer step takes reads =
+passed remaining place next line old mid new (Err (Text number)) passes fewer leads ends step takes reads =
     stuck_later (untaken remaining old) (untaken remaining mid) (state_at place) (state_at next) (line ∷ []) (taken old) (taken mid) number takes.bytes takes.counted
     (first_line (state_at place) (state_at next) (state_at next) line [] step (no_line (state_at next))) reads
-passed remaining place next line old mid new (Err Memory) passes fewer step takes reads = tt
-passed remaining place next line old mid new (Err Device) passes fewer step takes reads = tt
+passed remaining place next line old mid new (Err Memory) passes fewer leads ends step takes reads = tt
+passed remaining place next line old mid new (Err Device) passes fewer leads ends step takes reads = tt
 
 -- a stop while a part is read
 pub stops_part : {R T : Type 0} (remaining : R → Option (List ℕ)) (fits : T → Type 0) (lines : T → List (List ℕ)) (place : Place) (old new end : LineState R) (stop : CertStop)
@@ -231,6 +241,7 @@ walk_read remaining left darts old new some are takes fits =
       subst (λ n. Adds (Walks n) (Walks (left - 1)) (part.Walk darts) (darts_lines (75 ∷ []) darts.items)) before (add_walk (left - 1) darts are),
       omega (arith, takes.counted, few_darts 75 darts.items are.0, fits, some),
       omega (arith, some),
+      (left - 1, refl),
     )
 
 pub round_read : {R : Type 0} (remaining : R → Option (List ℕ)) (left : ℕ) (darts : Vec ℕ Global) (old new : LineState R) → 0 < left → AreDarts darts
@@ -243,6 +254,7 @@ round_read remaining left darts old new some are takes fits =
       subst (λ n. Adds (Rounds n) (Rounds (left - 1)) (part.Round darts) (darts_lines (82 ∷ []) darts.items)) before (add_round (left - 1) darts are),
       omega (arith, takes.counted, few_darts 82 darts.items are.0, fits, some),
       omega (arith, some),
+      (left - 1, refl),
     )
 
 -- a list of darts that isn't there
@@ -266,7 +278,7 @@ end_run = first_line (walks 0 0) ended ended end_line [] at_end (no_line ended)
 
 pub text_ends : {R : Type 0} (remaining : R → Option (List ℕ)) (old mid end : LineState R) → TakesLines remaining old mid (end_line ∷ []) → EndsText remaining mid end (Ok tt)
     → ReadsPart remaining (Walks 0) old end (Ok None)
-text_ends remaining old mid end takes ends = (end_line ∷ [], ends_here, ends_behind (untaken remaining old) (untaken remaining mid) end_line [] takes.bytes ends.0, ends.1)
+text_ends remaining old mid end takes ends = (end_line ∷ [], ends_here, ends_behind (untaken remaining old) (untaken remaining mid) end_line [] takes.bytes ends.0, ends.1, tt)
 
 stuck_at_end : (left : Option (List ℕ)) (before number : ℕ) → number ≡ 1 + before → IfSome left (λ text. text ≡ [] → ⊥) → IfSome left (λ text. IsStuckAfter ended before text number)
 stuck_at_end None before number told some = tt
@@ -315,6 +327,7 @@ tree_read remaining place version nodes old new is fits are takes =
       add_tree version nodes are,
       (before.0, (before.1.0, omega (arith, takes.counted, few_lines version nodes.items are.range, are.few, before.1.1))),
       omega arith,
+      refl,
     )
 
 -- the counts
@@ -326,4 +339,5 @@ counts_read remaining counts version old new none are takes = (
   add_counts counts version are,
   (elim are.1 [ inl one ↦ omega (arith, one) | inr two ↦ omega (arith, two) ], (elim are.1 [ inl one ↦ omega (arith, one) | inr two ↦ omega (arith, two) ], omega (arith, takes.counted, none))),
   omega arith,
+  refl,
 )

@@ -14,7 +14,7 @@ use Rattle.tl_cert.specs.declared.stop.CertStop.TheVariants.{Text, Memory, Devic
 use Rattle.tl_cert.specs.Certificates.{TheCertificate, IsCertificate}
 use Rattle.tl_cert.specs.Text.{head_line, counts_line, tree_lines, rounds_lines, walks_lines, all_darts_lines, numbered_line, certificate_lines}
 use Rattle.tl_cert.specs.Beginnings.{IsTextOf, IsRefused}
-use Rattle.tl_cert.specs.Given.{AreGiven, given_lines, with_part}
+use Rattle.tl_cert.specs.Given.{AreGiven, given_lines, with_part, MayEnd}
 use Rattle.tl_cert.specs.Reading.{IsBehind, GoesOn, GivesAt, Gives, whole}
 use Rattle.tl_cert.specs.Keeping.Lines.{LineState, taken, untaken}
 use Rattle.tl_cert.specs.Keeping.Collecting.{state_of}
@@ -82,10 +82,11 @@ ends_at (Some text) place c lines is made all = record {
 }
 
 pub given_end : {R : Type 0} (remaining : R → Option (List ℕ)) (place : Place) (old new : LineState R) → ReadsPart remaining place old new (Ok None)
-    → IsAtEnd (remaining new.source) × ((c : TheCertificate) → IsBehind (taken old) place c → IsCertificate c × IfSome (untaken remaining old) (λ text. IsTextOf c (whole place c text)))
+    → IsAtEnd (remaining new.source) × ((c : TheCertificate) → IsBehind (taken old) place c → IsCertificate c × IfSome (untaken remaining old) (λ text. IsTextOf c (whole place c text))) × MayEnd place
 given_end remaining place old new reads = (
   reads.3,
   λ c behind. let ends = reads.1 c behind.given in (ends.0, ends_at (untaken remaining old) place c reads.0 reads.2 ends.0 ends.1),
+  reads.4,
 )
 
 refused_at : (left : Option (List ℕ)) (place : Place) (c : TheCertificate) (before line : ℕ) → AreGiven place c → before ≡ length (given_lines place c)

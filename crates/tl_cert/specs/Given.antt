@@ -1,5 +1,5 @@
 -- The parts that were given before a place, and their lines.
-use Rattle.std.specs.Prelude.{◌≡◌, ℕ, ◌+◌, ◌^◌, List, [], ◌∷◌, ◌++◌, length}
+use Rattle.std.specs.Prelude.{◌≡◌, ℕ, ◌+◌, ◌^◌, List, [], ◌∷◌, ◌++◌, length, ⊤}
 use Rattle.tl_cert.specs.declared.place.Place.{Place}
 use Rattle.tl_cert.specs.declared.place.Place.TheVariants.{Start, Counted, Treed, Rounds, Walks}
 use Rattle.tl_cert.specs.declared.place.CertPart.{CertPart}
@@ -32,6 +32,38 @@ given_lines (Walks left) c =
     head_line c.version ∷ counts_line c.counts ∷ tree_lines c.version c.tree
     ++ rounds_lines (length c.rounds) c.rounds
     ++ walks_lines (length c.walks + left) c.walks
+
+-- a round that leads on to rounds, or a walk
+abbrev pub IsRoundOrWalk : CertPart → Place → Type 0
+IsRoundOrWalk (part.Counts counts version) next = ⊥
+IsRoundOrWalk (part.Tree nodes) next = ⊥
+IsRoundOrWalk (part.Round darts) next = (left : ℕ) × (next ≡ Rounds left)
+IsRoundOrWalk (part.Walk darts) next = (left : ℕ) × (next ≡ Walks left)
+
+-- a walk that leads on to walks
+abbrev pub IsWalk : CertPart → Place → Type 0
+IsWalk (part.Counts counts version) next = ⊥
+IsWalk (part.Tree nodes) next = ⊥
+IsWalk (part.Round darts) next = ⊥
+IsWalk (part.Walk darts) next = (left : ℕ) × (next ≡ Walks left)
+
+-- which part comes at a place, and the place behind it
+abbrev pub LeadsTo : Place → CertPart → Place → Type 0
+LeadsTo Start (part.Counts counts version) next = next ≡ Counted version
+LeadsTo Start other next = ⊥
+LeadsTo (Counted version) (part.Tree nodes) next = next ≡ Treed version
+LeadsTo (Counted version) other next = ⊥
+LeadsTo (Treed version) given next = IsRoundOrWalk given next
+LeadsTo (Rounds left) given next = IsRoundOrWalk given next
+LeadsTo (Walks left) given next = IsWalk given next
+
+-- the end comes behind the tree
+abbrev pub MayEnd : Place → Type 0
+MayEnd Start = ⊥
+MayEnd (Counted version) = ⊥
+MayEnd (Treed version) = ⊤
+MayEnd (Rounds left) = ⊤
+MayEnd (Walks left) = ⊤
 
 -- at most how many parts still come, and the end
 abbrev pub parts_left : Place → ℕ

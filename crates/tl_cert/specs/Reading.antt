@@ -12,7 +12,7 @@ use Rattle.tl_cert.specs.declared.place.CertPart.{CertPart}
 use Rattle.tl_cert.specs.declared.stop.CertStop.{CertStop}
 use Rattle.tl_cert.specs.declared.stop.CertStop.TheVariants.{Text, Memory, Device}
 use Rattle.tl_cert.specs.Certificates.{TheCertificate, IsCertificate}
-use Rattle.tl_cert.specs.Given.{AreGiven, given_lines, with_part, parts_left}
+use Rattle.tl_cert.specs.Given.{AreGiven, given_lines, with_part, parts_left, LeadsTo, MayEnd}
 use Rattle.tl_cert.specs.Beginnings.{IsTextOf, IsRefused}
 
 -- its source, the lines that it has taken, and whether it still reads and where, or which answer it repeats
@@ -54,9 +54,11 @@ GivesAt remaining place old new (Ok (Some given)) =
     (next : Place) × (standing_of new ≡ Reading next) × (parts_left next < parts_left place)
     × ((c : TheCertificate) → IsBehind (lines_of old) place c
     → IsBehind (lines_of new) next (with_part c given) × GoesOn (unread remaining old) (unread remaining new) place next c (with_part c given))
+    × LeadsTo place given next
 GivesAt remaining place old new (Ok None) =
     IsAtEnd (remaining (source_of new))
     × ((c : TheCertificate) → IsBehind (lines_of old) place c → IsCertificate c × IfSome (unread remaining old) (λ text. IsTextOf c (whole place c text)))
+    × MayEnd place
 GivesAt remaining place old new (Err (Text line)) =
     (c : TheCertificate) → IsBehind (lines_of old) place c → IfSome (unread remaining old) (λ text. IsRefused (whole place c text) line)
 GivesAt remaining place old new (Err Memory) = ⊤

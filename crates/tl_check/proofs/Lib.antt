@@ -2,3 +2,5 @@ pub mod NodeCounts
 pub mod Whole
 pub mod Prefixes
 pub mod Shown
+pub mod Streaming
+pub mod Recorded

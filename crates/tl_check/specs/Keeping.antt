@@ -1,3 +1,4 @@
 -- What the checker keeps on its way. No public contract cites a file of this folder.
 pub mod Parts
 pub mod Answers
+pub mod Streams

@@ -3,4 +3,6 @@ pub mod Sound
 pub mod Valid
 pub mod Truth
 pub mod Verdicts
+pub mod Texts
+pub mod Records
 pub mod Keeping

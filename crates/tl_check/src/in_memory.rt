@@ -9,13 +9,13 @@ ghost use Rattle.tl_check.specs.Valid.{IsValid};
 ghost use Rattle.tl_check.specs.Truth.{IsTrueOfMap, IsTrueOfCert};
 ghost use Rattle.tl_check.specs.Verdicts.{OnSound, IfSound, IfMapFault, IfCertFault, IsReport, MayStop};
 
+use crate::answer::{answer, report};
 use crate::counts::are_counts;
 use crate::fault::CertFault;
 use crate::rounds::{end_rounds, take_round};
-use crate::state::Halt;
 use crate::stop::Stop;
 use crate::tree::take_tree;
-use crate::verdict::{Report, Verdict};
+use crate::verdict::Verdict;
 use crate::walks::{end_walks, take_walk};
 use std::alloc::Global;
 use tl_cert::Certificate;
@@ -63,34 +63,5 @@ pub fn check_map(alloc: Global, map: &Map, cert: &Certificate, budget: u64) -> R
     match end_walks(map, state) {
         Ok(rings) => Ok(Verdict::Sound(report(map, rings))),
         Err(fault) => Ok(Verdict::CertFault(fault)),
-    }
-}
-
-ghost use Rattle.std.specs.Prelude.{◌≡◌};
-ghost use Rattle.tl_check.specs.Keeping.Parts.{MayHalt};
-ghost use Rattle.tl_check.specs.Keeping.Answers.{answer_of, AreNumbers};
-
-/// The answer where no further part is looked at.
-fn answer(halt: Halt) -> Result<Verdict, Stop>
-    ensures { result ≡ answer_of halt }
-{
-    match halt {
-        Halt::Fault(fault) => Ok(Verdict::MapFault(fault)),
-        Halt::Memory => Err(Stop::Memory),
-        Halt::Budget => Err(Stop::Budget),
-    }
-}
-
-/// The report of a sound map with so many rings.
-fn report(map: &Map, rings: u32) -> Report
-    ensures { AreNumbers map.now rings result }
-{
-    Report {
-        chains: map.chains(),
-        segments: map.segments(),
-        nodes: map.nodes(),
-        polygons: map.polygons(),
-        landmarks: map.landmarks(),
-        rings,
     }
 }

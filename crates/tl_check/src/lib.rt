@@ -5,9 +5,12 @@
 //! (`specs/Truth`), of the map or of the certificate.
 #![tactic(auto)]
 
+mod answer;
+mod as_read;
 mod counts;
 mod fault;
 mod in_memory;
+mod of_records;
 mod rounds;
 mod state;
 mod stop;
@@ -15,7 +18,9 @@ mod tree;
 mod verdict;
 mod walks;
 
+pub use as_read::check_cert;
 pub use fault::{CertFault, MapFault};
 pub use in_memory::check_map;
+pub use of_records::check;
 pub use stop::Stop;
 pub use verdict::{Report, Verdict};

@@ -14,7 +14,7 @@ use Rattle.tl_cert.specs.declared.stop.CertStop.{CertStop}
 use Rattle.tl_cert.specs.declared.stop.CertStop.TheVariants.{Text, Memory, Device}
 use Rattle.tl_cert.specs.Certificates.{TheCertificate, IsCertificate}
 use Rattle.tl_cert.specs.Text.{certificate_lines}
-use Rattle.tl_cert.specs.Given.{AreGiven, given_lines, with_part, parts_left}
+use Rattle.tl_cert.specs.Given.{AreGiven, given_lines, with_part, parts_left, LeadsTo, MayEnd}
 use Rattle.tl_cert.specs.Keeping.Lines.{LineState, taken, untaken, TakesLines}
 use Rattle.tl_cert.specs.Keeping.Parts.{Sticks}
 use Rattle.tl_cert.specs.Keeping.Steps.{State, start, counted, tree, rounds, walks}
@@ -64,9 +64,9 @@ Ends place lines = (c : TheCertificate) → AreGiven place c → IsCertificate c
 -- a part with the place behind it; or the end, also of the source; or the text is refused
 abbrev pub ReadsPart : {R : Type 0} → (R → Option (List ℕ)) → Place → LineState R → LineState R → Result (Option (CertPart × Place)) CertStop → Type 0
 ReadsPart remaining place old new (Ok (Some (given, next))) =
-    (lines : List (List ℕ)) × TakesLines remaining old new lines × Adds place next given lines × FitsPlace next (taken new) × (parts_left next < parts_left place)
+    (lines : List (List ℕ)) × TakesLines remaining old new lines × Adds place next given lines × FitsPlace next (taken new) × (parts_left next < parts_left place) × LeadsTo place given next
 ReadsPart remaining place old new (Ok None) =
-    (lines : List (List ℕ)) × Ends place lines × IfSome (untaken remaining old) (λ text. text ≡ joined_lines lines) × IsAtEnd (remaining new.source)
+    (lines : List (List ℕ)) × Ends place lines × IfSome (untaken remaining old) (λ text. text ≡ joined_lines lines) × IsAtEnd (remaining new.source) × MayEnd place
 ReadsPart remaining place old new (Err (Text line)) = Sticks remaining (state_at place) old line
 ReadsPart remaining place old new (Err Memory) = ⊤
 ReadsPart remaining place old new (Err Device) = ⊤

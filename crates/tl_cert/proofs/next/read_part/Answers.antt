@@ -18,7 +18,7 @@ returns-in-Ok-read-clause-reads g c =
     let small = c.in-Ok-read.ensures.reads.0.0 in
     subst (λ p. ReadsPart g.R.Source.remaining p (at c.args.lines.now c.args.source.now) (at c.read_round.new.lines c.read_round.new.source) c.read_round.result) (sym c.in-Treed.is)
     (passed g.R.Source.remaining (Treed c.in-Treed.field-0) (Rounds c.in-Ok-read.rounds) (numbered_line (78 ∷ []) c.in-Ok-read.rounds) (at c.args.lines.now c.args.source.now) (at c.read.new.self c.read.new.source) (at c.read_round.new.lines c.read_round.new.source) c.read_round.result
-    (pass_rounds c.in-Treed.field-0 c.in-Ok-read.rounds small) (omega (arith, small)) (at_rounds c.in-Treed.field-0 c.in-Ok-read.rounds small) c.in-Ok-read.ensures.reads.1 c.read_round.ensures.reads)
+    (pass_rounds c.in-Treed.field-0 c.in-Ok-read.rounds small) (omega (arith, small)) (λ given then h. h) tt (at_rounds c.in-Treed.field-0 c.in-Ok-read.rounds small) c.in-Ok-read.ensures.reads.1 c.read_round.ensures.reads)
 
 pub returns-in-Err-read-clause-reads : goal.returns-in-Err-read-clause-reads
 returns-in-Err-read-clause-reads g c =

@@ -5,7 +5,7 @@ use Rattle.tl_cert.specs.Keeping.Places.{ReadsPart}
 use Rattle.tl_cert.specs.Keeping.Steps.{at_walks}
 use Rattle.tl_cert.specs.Keeping.Lines.{at}
 use Rattle.tl_cert.proofs.AllowedLemmas.{allowed_walks}
-use Rattle.tl_cert.proofs.PlaceLemmas.{round_read, round_stops, passed, pass_walks, number_missing}
+use Rattle.tl_cert.proofs.PlaceLemmas.{round_read, round_stops, passed, walk_for_round, pass_walks, number_missing}
 use Rattle.tl_cert.proofs.next.read_round.Goals as goal
 
 pub returns-in-Ok-clause-reads : goal.returns-in-Ok-clause-reads
@@ -23,7 +23,7 @@ returns-in-Ok-read-clause-reads g c =
     let small = c.in-Ok-read.ensures.reads.0.0 in
     subst (λ n. ReadsPart g.R.Source.remaining (Rounds n) (at c.args.lines.now c.args.source.now) (at c.read_walk.new.lines c.read_walk.new.source) c.read_walk.result) none
     (passed g.R.Source.remaining (Rounds 0) (Walks c.in-Ok-read.walks) (numbered_line (87 ∷ []) c.in-Ok-read.walks) (at c.args.lines.now c.args.source.now) (at c.read.new.self c.read.new.source) (at c.read_walk.new.lines c.read_walk.new.source) c.read_walk.result
-    (pass_walks c.in-Ok-read.walks small) (omega (arith, small)) (at_walks c.in-Ok-read.walks small) c.in-Ok-read.ensures.reads.1 c.read_walk.ensures.reads)
+    (pass_walks c.in-Ok-read.walks small) (omega (arith, small)) walk_for_round tt (at_walks c.in-Ok-read.walks small) c.in-Ok-read.ensures.reads.1 c.read_walk.ensures.reads)
 
 pub returns-in-Err-read-clause-reads : goal.returns-in-Err-read-clause-reads
 returns-in-Err-read-clause-reads g c =

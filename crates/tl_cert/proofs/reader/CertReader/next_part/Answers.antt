@@ -8,7 +8,7 @@ pub returns-in-Ok-Some-clause-gives : goal.returns-in-Ok-Some-clause-gives
 returns-in-Ok-Some-clause-gives g c =
     let reads = subst (λ a. ReadsPart g.R.Source.remaining c.in-Reading.place (at c.args.self.now.lines c.args.self.now.source) (at c.read_part.new.lines c.read_part.new.source) (Ok a)) c.in-Ok-Some.field-0-is c.in-Ok-Some.ensures.reads in
     at_place g.R.Source.remaining c.args.self.now _ (Ok (Some c.in-Ok-Some.part)) c.args.self.now.standing c.in-Reading.place c.in-Reading.is
-    (c.in-Ok-Some.next, refl, reads.4, given_part g.R.Source.remaining c.in-Reading.place c.in-Ok-Some.next c.in-Ok-Some.part (at c.args.self.now.lines c.args.self.now.source) (at c.read_part.new.lines c.read_part.new.source) reads)
+    (c.in-Ok-Some.next, refl, reads.4, given_part g.R.Source.remaining c.in-Reading.place c.in-Ok-Some.next c.in-Ok-Some.part (at c.args.self.now.lines c.args.self.now.source) (at c.read_part.new.lines c.read_part.new.source) reads, reads.5)
 
 pub returns-in-Ok-None-clause-gives : goal.returns-in-Ok-None-clause-gives
 returns-in-Ok-None-clause-gives g c =

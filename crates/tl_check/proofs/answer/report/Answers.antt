@@ -1,6 +1,6 @@
 use Rattle.std.proofs.Common.{refl}
 use Rattle.tl_check.proofs.NodeCounts.{of_each}
-use Rattle.tl_check.proofs.in_memory.report.Goals as goal
+use Rattle.tl_check.proofs.answer.report.Goals as goal
 
 pub returns : goal.returns
 returns c =

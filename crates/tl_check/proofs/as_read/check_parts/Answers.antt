@@ -1,0 +1,127 @@
+use Rattle.std.proofs.Common.{Ok, sym, subst, ◌∙◌}
+use Rattle.tl_cert.specs.declared.place.Place.TheVariants.{Start, Counted, Treed, Rounds, Walks}
+use Rattle.tl_cert.specs.declared.place.CertPart.TheVariants as part
+use Rattle.tl_cert.specs.Reading.{Gives, source_of, standing_of}
+use Rattle.tl_check.specs.Keeping.Parts.{Holds, TakesRounds, with_round, with_walk}
+use Rattle.tl_check.proofs.Streaming.{stop_decides, nothing, begun, counts_read, tree_read, round_read, walk_read, end_decides, no_device, wrong_counts, gives_as}
+use Rattle.std.proofs.lemmas.Bool.{false≢true}
+use Rattle.tl_cert.proofs.CollectLemmas.{tells_here}
+use Rattle.tl_check.specs.Valid.{AreCounts}
+use Rattle.tl_check.proofs.as_read.check_parts.Goals.{then-are_counts+in-Ok-take_tree, else-are_counts}
+use Rattle.tl_check.proofs.as_read.check_parts.Goals as goal
+
+pub returns-in-Err-clause-decides : goal.returns-in-Err-clause-decides
+returns-in-Err-clause-decides g c =
+    rw c.stopped.ensures
+    (stop_decides g.R.Source.remaining c.args.map.now c.args.budget c.args.reader.now Start c.args.reader.now c.next_part.new.self (nothing g.R.Source.remaining c.args.map.now c.args.budget c.args.reader.now) c.in-Err.stop
+    (begun g.R.Source.remaining c.args.map.now c.args.budget c.args.reader.now c.requires.standing c.requires.lines) c.in-Err.ensures.gives)
+
+pub returns-in-Err-next_part-clause-decides : goal.returns-in-Err-next_part-clause-decides
+returns-in-Err-next_part-clause-decides g c =
+    let first = gives_as g.R.Source.remaining c.args.reader.now c.next_part.new.self c.in-Ok-Some-Counts.field-0 c.in-Ok-Some-Counts.field-0-0 (part.Counts c.in-Ok-Some-Counts.counts c.in-Ok-Some-Counts.field-0-0-1) c.in-Ok-Some-Counts.field-0-is c.in-Ok-Some-Counts.field-0-0-is c.in-Ok-Some-Counts.ensures.gives in
+    let r = counts_read g.R.Source.remaining c.args.map.now c.args.budget c.args.reader.now c.next_part.new.self c.in-Ok-Some-Counts.counts c.in-Ok-Some-Counts.field-0-0-1 c.requires.standing c.requires.lines first in
+    rw c.stopped-in-Err-next_part.ensures
+    (stop_decides g.R.Source.remaining c.args.map.now c.args.budget c.args.reader.now (Counted r.version) c.next_part.new.self c.next_part-2.new.self r.cert c.in-Err-next_part.stop r.collects c.in-Err-next_part.ensures.gives)
+
+pub take_tree-requires-clause-whole : goal.take_tree-requires-clause-whole
+take_tree-requires-clause-whole g c =
+    let first = gives_as g.R.Source.remaining c.args.reader.now c.next_part.new.self c.in-Ok-Some-Counts.field-0 c.in-Ok-Some-Counts.field-0-0 (part.Counts c.in-Ok-Some-Counts.counts c.in-Ok-Some-Counts.field-0-0-1) c.in-Ok-Some-Counts.field-0-is c.in-Ok-Some-Counts.field-0-0-is c.in-Ok-Some-Counts.ensures.gives in
+    let r = counts_read g.R.Source.remaining c.args.map.now c.args.budget c.args.reader.now c.next_part.new.self c.in-Ok-Some-Counts.counts c.in-Ok-Some-Counts.field-0-0-1 c.requires.standing c.requires.lines first in
+    let second = gives_as g.R.Source.remaining c.next_part.new.self c.next_part-2.new.self c.in-Ok-Some-Tree.field-0 c.in-Ok-Some-Tree.field-0-0 (part.Tree c.in-Ok-Some-Tree.nodes) c.in-Ok-Some-Tree.field-0-is c.in-Ok-Some-Tree.field-0-0-is c.in-Ok-Some-Tree.ensures.gives in
+    let t = tree_read g.R.Source.remaining c.args.map.now c.args.budget c.args.reader.now c.next_part.new.self c.next_part-2.new.self c.in-Ok-Some-Counts.counts c.in-Ok-Some-Tree.nodes r second in
+    rw c.deref.ensures.value t.preorder
+
+pub take_tree-requires-clause-numbered : goal.take_tree-requires-clause-numbered
+take_tree-requires-clause-numbered g c =
+    let first = gives_as g.R.Source.remaining c.args.reader.now c.next_part.new.self c.in-Ok-Some-Counts.field-0 c.in-Ok-Some-Counts.field-0-0 (part.Counts c.in-Ok-Some-Counts.counts c.in-Ok-Some-Counts.field-0-0-1) c.in-Ok-Some-Counts.field-0-is c.in-Ok-Some-Counts.field-0-0-is c.in-Ok-Some-Counts.ensures.gives in
+    let r = counts_read g.R.Source.remaining c.args.map.now c.args.budget c.args.reader.now c.next_part.new.self c.in-Ok-Some-Counts.counts c.in-Ok-Some-Counts.field-0-0-1 c.requires.standing c.requires.lines first in
+    let second = gives_as g.R.Source.remaining c.next_part.new.self c.next_part-2.new.self c.in-Ok-Some-Tree.field-0 c.in-Ok-Some-Tree.field-0-0 (part.Tree c.in-Ok-Some-Tree.nodes) c.in-Ok-Some-Tree.field-0-is c.in-Ok-Some-Tree.field-0-0-is c.in-Ok-Some-Tree.ensures.gives in
+    let t = tree_read g.R.Source.remaining c.args.map.now c.args.budget c.args.reader.now c.next_part.new.self c.next_part-2.new.self c.in-Ok-Some-Counts.counts c.in-Ok-Some-Tree.nodes r second in
+    rw c.deref.ensures.value t.few
+
+pub parts-init : goal.parts-init
+parts-init g c =
+    let first = gives_as g.R.Source.remaining c.args.reader.now c.next_part.new.self c.in-Ok-Some-Counts.field-0 c.in-Ok-Some-Counts.field-0-0 (part.Counts c.in-Ok-Some-Counts.counts c.in-Ok-Some-Counts.field-0-0-1) c.in-Ok-Some-Counts.field-0-is c.in-Ok-Some-Counts.field-0-0-is c.in-Ok-Some-Counts.ensures.gives in
+    let r = counts_read g.R.Source.remaining c.args.map.now c.args.budget c.args.reader.now c.next_part.new.self c.in-Ok-Some-Counts.counts c.in-Ok-Some-Counts.field-0-0-1 c.requires.standing c.requires.lines first in
+    let second = gives_as g.R.Source.remaining c.next_part.new.self c.next_part-2.new.self c.in-Ok-Some-Tree.field-0 c.in-Ok-Some-Tree.field-0-0 (part.Tree c.in-Ok-Some-Tree.nodes) c.in-Ok-Some-Tree.field-0-is c.in-Ok-Some-Tree.field-0-0-is c.in-Ok-Some-Tree.ensures.gives in
+    let t = tree_read g.R.Source.remaining c.args.map.now c.args.budget c.args.reader.now c.next_part.new.self c.next_part-2.new.self c.in-Ok-Some-Counts.counts c.in-Ok-Some-Tree.nodes r second in
+    let held : Holds c.args.map.now t.cert c.if-are_counts.state × TakesRounds c.if-are_counts.state = elim c.if-are_counts.branch [
+      | then-are_counts+in-Ok-take_tree w ↦ rw w.state-is (
+        w.in-Ok-take_tree.ensures.holds t.cert (subst (AreCounts c.args.map.now) (sym t.counts_are) (c.are_counts.ensures.0 w.if-are_counts.true)) (t.tree_is ∙ sym w.deref.ensures.value) t.no_rounds t.no_walks,
+        w.in-Ok-take_tree.ensures.rounds,
+      )
+      | else-are_counts w ↦ rw w.state-is (
+        wrong_counts c.args.map.now t.cert c.in-Ok-Some-Counts.counts t.counts_are (λ are. false≢true (sym w.if-are_counts.false ∙ c.are_counts.ensures.1 are)),
+        tt,
+      )
+    ] in
+    record {
+      stands = record { place = Treed t.version; cert = t.cert; collects = t.collects; holds = held.0; suits = held.1 };
+      failures =
+          tells_here (standing_of c.next_part.new.self) (Counted r.version) (g.R.Source.failure_count (source_of c.next_part.new.self)) (g.R.Source.failure_count (source_of c.next_part-2.new.self)) (Ok c.in-Ok-Some-Tree.field-0) r.collects.standing c.in-Ok-Some-Tree.ensures.failures
+          ∙ tells_here (standing_of c.args.reader.now) Start (g.R.Source.failure_count (source_of c.args.reader.now)) (g.R.Source.failure_count (source_of c.next_part.new.self)) (Ok c.in-Ok-Some-Counts.field-0) c.requires.standing c.in-Ok-Some-Counts.ensures.failures;
+      same = c.next_part-2.ensures.same_reference ∙ c.next_part.ensures.same_reference;
+    }
+
+pub take_round-state-requires-clause-some : goal.take_round-state-requires-clause-some
+take_round-state-requires-clause-some g c =
+    let gives = gives_as g.R.Source.remaining c.parts.reader c.next_part-in-parts.new.self c.in-Ok-Some-Round.field-0 c.in-Ok-Some-Round.field-0-0 (part.Round c.in-Ok-Some-Round.darts) c.in-Ok-Some-Round.field-0-is c.in-Ok-Some-Round.field-0-0-is c.in-Ok-Some-Round.ensures.gives in
+    let r = round_read g.R.Source.remaining c.args.map.now c.args.budget c.args.reader.now c.parts.reader c.next_part-in-parts.new.self c.parts.state c.in-Ok-Some-Round.darts c.parts.invariant.stands gives in
+    rw c.deref-in-Ok-Some-Round.ensures.value r.0.some
+
+pub parts-preserved-in-Ok-Some-Round : goal.parts-preserved-in-Ok-Some-Round
+parts-preserved-in-Ok-Some-Round g c =
+    let gives = gives_as g.R.Source.remaining c.parts.reader c.next_part-in-parts.new.self c.in-Ok-Some-Round.field-0 c.in-Ok-Some-Round.field-0-0 (part.Round c.in-Ok-Some-Round.darts) c.in-Ok-Some-Round.field-0-is c.in-Ok-Some-Round.field-0-0-is c.in-Ok-Some-Round.ensures.gives in
+    let st = c.parts.invariant.stands in
+    let r = round_read g.R.Source.remaining c.args.map.now c.args.budget c.args.reader.now c.parts.reader c.next_part-in-parts.new.self c.parts.state c.in-Ok-Some-Round.darts st gives in
+    record {
+      stands = record {
+        place = Rounds r.0.left;
+        cert = with_round st.cert c.in-Ok-Some-Round.darts.items;
+        collects = r.0.collects;
+        holds = rw (← c.deref-in-Ok-Some-Round.ensures.value) (c.take_round-state.ensures.holds st.cert st.holds);
+        suits = c.take_round-state.ensures.takes;
+      };
+      failures = tells_here (standing_of c.parts.reader) st.place (g.R.Source.failure_count (source_of c.parts.reader)) (g.R.Source.failure_count (source_of c.next_part-in-parts.new.self)) (Ok c.in-Ok-Some-Round.field-0) st.collects.standing c.in-Ok-Some-Round.ensures.failures ∙ c.parts.invariant.failures;
+      same = c.next_part-in-parts.ensures.same_reference ∙ c.parts.invariant.same;
+    }
+
+pub take_walk-state-requires-clause-some : goal.take_walk-state-requires-clause-some
+take_walk-state-requires-clause-some g c =
+    let gives = gives_as g.R.Source.remaining c.parts.reader c.next_part-in-parts.new.self c.in-Ok-Some-Walk.field-0 c.in-Ok-Some-Walk.field-0-0 (part.Walk c.in-Ok-Some-Walk.darts) c.in-Ok-Some-Walk.field-0-is c.in-Ok-Some-Walk.field-0-0-is c.in-Ok-Some-Walk.ensures.gives in
+    let r = walk_read g.R.Source.remaining c.args.map.now c.args.budget c.args.reader.now c.parts.reader c.next_part-in-parts.new.self c.parts.state c.in-Ok-Some-Walk.darts c.parts.invariant.stands gives in
+    rw c.deref-in-Ok-end_rounds.ensures.value r.some
+
+pub take_walk-state-requires-clause-held : goal.take_walk-state-requires-clause-held
+take_walk-state-requires-clause-held g c =
+    let st = c.parts.invariant.stands in
+    (st.cert, c.in-Ok-end_rounds.ensures.holds st.cert st.holds)
+
+pub parts-preserved : goal.parts-preserved
+parts-preserved g c =
+    let gives = gives_as g.R.Source.remaining c.parts.reader c.next_part-in-parts.new.self c.in-Ok-Some-Walk.field-0 c.in-Ok-Some-Walk.field-0-0 (part.Walk c.in-Ok-Some-Walk.darts) c.in-Ok-Some-Walk.field-0-is c.in-Ok-Some-Walk.field-0-0-is c.in-Ok-Some-Walk.ensures.gives in
+    let st = c.parts.invariant.stands in
+    let r = walk_read g.R.Source.remaining c.args.map.now c.args.budget c.args.reader.now c.parts.reader c.next_part-in-parts.new.self c.parts.state c.in-Ok-Some-Walk.darts st gives in
+    record {
+      stands = record {
+        place = Walks r.left;
+        cert = with_walk st.cert c.in-Ok-Some-Walk.darts.items;
+        collects = r.collects;
+        holds = rw (← c.deref-in-Ok-end_rounds.ensures.value) (c.take_walk-state.ensures.holds st.cert (c.in-Ok-end_rounds.ensures.holds st.cert st.holds));
+        suits = c.take_walk-state.ensures.takes;
+      };
+      failures = tells_here (standing_of c.parts.reader) st.place (g.R.Source.failure_count (source_of c.parts.reader)) (g.R.Source.failure_count (source_of c.next_part-in-parts.new.self)) (Ok c.in-Ok-Some-Walk.field-0) st.collects.standing c.in-Ok-Some-Walk.ensures.failures ∙ c.parts.invariant.failures;
+      same = c.next_part-in-parts.ensures.same_reference ∙ c.parts.invariant.same;
+    }
+
+pub returns-in-Ok-None-clause-decides : goal.returns-in-Ok-None-clause-decides
+returns-in-Ok-None-clause-decides g c =
+    let st = c.parts.invariant.stands in
+    let gives = subst (λ a. Gives g.R.Source.remaining c.parts.reader c.next_part-in-parts.new.self (Ok a) (standing_of c.parts.reader)) c.in-Ok-None.field-0-is c.in-Ok-None.ensures.gives in
+    end_decides g.R.Source.remaining c.args.map.now c.args.budget c.args.reader.now c.parts.reader c.next_part-in-parts.new.self c.parts.state c.conclude.result st gives (c.conclude.ensures st.cert st.holds)
+
+pub returns-in-Ok-None-clause-failures : goal.returns-in-Ok-None-clause-failures
+returns-in-Ok-None-clause-failures g c =
+    let st = c.parts.invariant.stands in
+    no_device c.args.map.now st.cert c.conclude.result (g.R.Source.failure_count (source_of c.args.reader.now)) (g.R.Source.failure_count (source_of c.next_part-in-parts.new.self)) (c.conclude.ensures st.cert st.holds)
+    (tells_here (standing_of c.parts.reader) st.place (g.R.Source.failure_count (source_of c.parts.reader)) (g.R.Source.failure_count (source_of c.next_part-in-parts.new.self)) (Ok c.in-Ok-None.field-0) st.collects.standing c.in-Ok-None.ensures.failures ∙ c.parts.invariant.failures)

@@ -1,0 +1,66 @@
+-- What is kept of a certificate that is checked as its parts come.
+use Rattle.std.specs.Prelude.{ℕ, ◌<◌, List, Option, Ok, Err, ⊤}
+use Rattle.std.specs.Option.{IfSome}
+use Rattle.tl_map.specs.TheMap.{TheMap}
+use Rattle.tl_planar.specs.Planar.{IsPlanar}
+use Rattle.tl_planar.specs.Searching.{meeting_segments}
+use Rattle.tl_sides.specs.Sides.{SidesAgree}
+use Rattle.tl_cert.specs.declared.place.Place.{Place}
+use Rattle.tl_cert.specs.declared.place.Place.TheVariants as place
+use Rattle.tl_cert.specs.declared.reader.CertReader.{CertReader}
+use Rattle.tl_cert.specs.Certificates.{TheCertificate}
+use Rattle.tl_cert.specs.Keeping.Collecting.{Collects}
+use Rattle.tl_check.specs.declared.verdict.Report.{Report}
+use Rattle.tl_check.specs.declared.verdict.Verdict.TheVariants as verdict
+use Rattle.tl_check.specs.declared.stop.Stop.TheVariants.{Record, Memory, Device, Budget}
+use Rattle.tl_check.specs.declared.state.State.{State}
+use Rattle.tl_check.specs.Sound.{AreClosed}
+use Rattle.tl_check.specs.Truth.{IsTrueOfMap, IsTrueOfCert}
+use Rattle.tl_check.specs.Texts.{IsTrueOfText, IsValidText}
+use Rattle.tl_check.specs.Verdicts.{Answer, IsReport}
+use Rattle.tl_check.specs.Keeping.Answers.{AreNumbers}
+use Rattle.tl_check.specs.Keeping.Parts.{Holds, TakesRounds, TakesWalks, IsShown}
+
+-- at this place the state takes what may come
+abbrev pub Suits : Place → State → Type 0
+Suits place.Start state = ⊥
+Suits (place.Counted version) state = ⊥
+Suits (place.Treed version) state = TakesRounds state
+Suits (place.Rounds left) state = TakesRounds state
+Suits (place.Walks left) state = TakesWalks state
+
+-- the reader stands behind parts of which the state holds
+pub record Stands {R : Type 0} (remaining : R → Option (List ℕ)) (m : TheMap) (first now : CertReader R) (state : State) : Type 0 where
+  pub place : Place
+  pub cert : TheCertificate
+  pub collects : Collects remaining place first now cert
+  pub holds : Holds m cert state
+  pub suits : Suits place state
+
+-- the map is sound by a certificate's text, where that is known
+pub record IsSoundBy (m : TheMap) (text : Option (List ℕ)) (r : Report) : Type 0 where
+  pub planar : IsPlanar m.chains
+  pub sides : SidesAgree m.chains
+  pub closed : AreClosed m
+  pub report : IsReport m r
+  pub valid : IfSome text (IsValidText m)
+
+-- what an answer says of a map and the text of a certificate
+abbrev pub Decides : TheMap → ℕ → Option (List ℕ) → Answer → Type 0
+Decides m budget text (Ok (verdict.Sound report)) = IsSoundBy m text report
+Decides m budget text (Ok (verdict.MapFault fault)) = IsTrueOfMap m fault
+Decides m budget text (Ok (verdict.CertFault fault)) = IfSome text (λ t. IsTrueOfText m t fault)
+Decides m budget text (Err (Record line cause)) = ⊥
+Decides m budget text (Err Memory) = ⊤
+Decides m budget text (Err Device) = ⊤
+Decides m budget text (Err Budget) = budget < meeting_segments m.chains
+
+-- what is concluded of a map and a whole certificate
+abbrev pub Concludes : TheMap → TheCertificate → Answer → Type 0
+Concludes m c (Ok (verdict.Sound report)) = (rings : ℕ) × IsShown m c rings × AreNumbers m rings report
+Concludes m c (Ok (verdict.MapFault fault)) = IsTrueOfMap m fault
+Concludes m c (Ok (verdict.CertFault fault)) = IsTrueOfCert m c fault
+Concludes m c (Err (Record line cause)) = ⊥
+Concludes m c (Err Memory) = ⊤
+Concludes m c (Err Device) = ⊥
+Concludes m c (Err Budget) = ⊥

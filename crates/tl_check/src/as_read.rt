@@ -1,0 +1,122 @@
+//! The check of a map by a certificate that is checked as its parts come.
+
+ghost use Rattle.std.specs.Prelude.{◌≡◌, IfErr};
+ghost use Rattle.std.specs.Option.{IfSome};
+ghost use Rattle.tl_planar.specs.Planar.{IsPlanar};
+ghost use Rattle.tl_sides.specs.Sides.{SidesAgree};
+ghost use Rattle.tl_cert.specs.declared.reader.Standing.TheVariants.{Reading};
+ghost use Rattle.tl_cert.specs.declared.place.Place.TheVariants.{Start};
+ghost use Rattle.tl_cert.specs.Certificates.{TheCertificate};
+ghost use Rattle.tl_cert.specs.Reading.{source_of, lines_of, standing_of, unread};
+ghost use Rattle.tl_check.specs.Sound.{AreClosed};
+ghost use Rattle.tl_check.specs.Truth.{IsTrueOfMap};
+ghost use Rattle.tl_check.specs.Verdicts.{OnSound, IfSound, IfMapFault, IfCertFault, IsReport};
+ghost use Rattle.tl_check.specs.Texts.{IsTrueOfText, IsValidText, MayStopReading, TellsDevice};
+ghost use Rattle.tl_check.specs.Keeping.Parts.{Holds};
+ghost use Rattle.tl_check.specs.Keeping.Streams.{Stands, Decides, Concludes};
+
+use crate::answer::{answer, report, stopped};
+use crate::counts::are_counts;
+use crate::fault::CertFault;
+use crate::rounds::{end_rounds, take_round};
+use crate::state::State;
+use crate::stop::Stop;
+use crate::tree::take_tree;
+use crate::verdict::Verdict;
+use crate::walks::{end_walks, take_walk};
+use std::alloc::Global;
+use tl_cert::{CertPart, CertReader};
+use tl_map::Map;
+use tl_record::Source;
+
+/// Decides whether a map is sound, by the text of a certificate of it, read to its end unless segments meet that may not
+/// or a stop comes first. No part of the certificate is kept beside the tree, and that no longer than its search.
+pub fn check_cert<S: Source>(
+    alloc: Global,
+    map: &Map,
+    cert: &mut S,
+    budget: u64,
+) -> Result<Verdict, Stop>
+    // No rational point lies on two chains but an end of both, and no chain meets itself but at its ends.
+    ensures planar { OnSound result (IsPlanar map.now.chains) }
+    // Neighbouring chains about each node name one polygon between them.
+    ensures sides { OnSound result (SidesAgree map.now.chains) }
+    // The boundary of each polygon, and that of the outside, is closed rings.
+    ensures closed { OnSound result (AreClosed map.now) }
+    // The text is that of a certificate that is valid for the map.
+    ensures valid { OnSound result (IfSome (S.remaining cert.old) (IsValidText map.now)) }
+    // The report has the map's numbers.
+    ensures report { IfSound result (IsReport map.now) }
+    // Each fault is true.
+    ensures map_fault { IfMapFault result (IsTrueOfMap map.now) }
+    ensures cert_fault { IfCertFault result (λ fault.
+        IfSome (S.remaining cert.old) (λ text. IsTrueOfText map.now text fault)) }
+    // It stops where memory was refused, a read failed, or more than the budget had to be tested.
+    ensures stops { IfErr result (MayStopReading map.now budget) }
+    // `Device` is answered where a read failed in this call, and nowhere else.
+    ensures failures { TellsDevice (S.failure_count cert.old) (S.failure_count cert.new) result }
+{
+    let mut reader = CertReader::new(alloc, cert);
+    check_parts(alloc, map, &mut reader, budget)
+}
+
+/// Checks a certificate of which no part was read yet.
+fn check_parts<R: Source>(
+    alloc: Global,
+    map: &Map,
+    reader: &mut CertReader<R>,
+    budget: u64,
+) -> Result<Verdict, Stop>
+    requires standing { standing_of reader.old ≡ Reading Start }
+    requires lines { lines_of reader.old ≡ 0 }
+    ensures decides { Decides map.now budget (unread R.remaining reader.old) result }
+    ensures failures { TellsDevice (R.failure_count (source_of reader.old))
+        (R.failure_count (source_of reader.new)) result }
+    ensures same_reference { R.reference (source_of reader.new) ≡ R.reference (source_of reader.old) }
+{
+    let counts = match reader.next_part() {
+        Ok(Some(CertPart::Counts(counts, _))) => counts,
+        Ok(_) => unreachable!(),
+        Err(stop) => return stopped(stop),
+    };
+    let nodes = match reader.next_part() {
+        Ok(Some(CertPart::Tree(nodes))) => nodes,
+        Ok(_) => unreachable!(),
+        Err(stop) => return stopped(stop),
+    };
+    let mut state = if are_counts(map, counts) {
+        match take_tree(alloc, map, &nodes, budget) {
+            Ok(state) => state,
+            Err(halt) => return answer(halt),
+        }
+    } else {
+        State::Wrong(CertFault::Counts)
+    };
+    'parts: loop {
+        match reader.next_part() {
+            Ok(Some(CertPart::Round(darts))) => state = take_round(map, state, &darts),
+            Ok(Some(CertPart::Walk(darts))) => match end_rounds(alloc, map, state) {
+                Ok(next) => state = take_walk(map, next, &darts),
+                Err(halt) => return answer(halt),
+            },
+            Ok(Some(_)) => unreachable!(),
+            Ok(None) => return conclude(alloc, map, state),
+            Err(stop) => return stopped(stop),
+        }
+    }
+}
+
+/// The answer behind the last part.
+fn conclude(alloc: Global, map: &Map, state: State) -> Result<Verdict, Stop>
+    requires held { (c : TheCertificate) × Holds map.now c state }
+    ensures { (c : TheCertificate) → Holds map.now c state → Concludes map.now c result }
+{
+    let ended = match end_rounds(alloc, map, state) {
+        Ok(ended) => ended,
+        Err(halt) => return answer(halt),
+    };
+    match end_walks(map, ended) {
+        Ok(rings) => Ok(Verdict::Sound(report(map, rings))),
+        Err(fault) => Ok(Verdict::CertFault(fault)),
+    }
+}

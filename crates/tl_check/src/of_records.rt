@@ -1,0 +1,80 @@
+//! The check of records by the text of a certificate.
+
+ghost use Rattle.std.specs.Prelude.{◌≡◌, IfErr};
+ghost use Rattle.std.specs.Option.{IfSome};
+ghost use Rattle.tl_record.specs.Layout.{tiger_2006};
+ghost use Rattle.tl_record.specs.Records.{records_of};
+ghost use Rattle.tl_planar.specs.Planar.{IsPlanar};
+ghost use Rattle.tl_sides.specs.Sides.{SidesAgree};
+ghost use Rattle.tl_check.specs.Sound.{AreClosed};
+ghost use Rattle.tl_check.specs.Verdicts.{OnSound, IfSound, IfMapFault, IfCertFault, IsReport};
+ghost use Rattle.tl_check.specs.Texts.{IsTrueOfText, IsValidText};
+ghost use Rattle.tl_check.specs.Records.{HaveMap, IsTrueOfRecords, MayStopOn, TellsEither, LeavesUnread};
+ghost use Rattle.tl_check.specs.Keeping.Answers.{refusal_of};
+
+use crate::as_read::check_cert;
+use crate::fault::MapFault;
+use crate::stop::Stop;
+use crate::verdict::Verdict;
+use std::alloc::Global;
+use tl_map::{MapStop, read_map};
+use tl_record::Source;
+
+/// Decides whether the map of a county is sound, from the text of its record files and the text of a certificate.
+///
+/// The records are read whole first. Where a line is refused or the records have no map, that is the answer, and the
+/// certificate isn't read. `budget` is how many pairs of segments may be tested whose rectangles meet.
+pub fn check<R: Source, S: Source>(
+    alloc: Global,
+    records: &mut R,
+    cert: &mut S,
+    budget: u64,
+) -> Result<Verdict, Stop>
+    // No rational point lies on two chains but an end of both, and no chain meets itself but at its ends.
+    ensures planar { OnSound result (IfSome (R.remaining records.old) (λ text.
+        HaveMap (records_of tiger_2006 text) (λ m. IsPlanar m.chains))) }
+    // Neighbouring chains about each node name one polygon between them.
+    ensures sides { OnSound result (IfSome (R.remaining records.old) (λ text.
+        HaveMap (records_of tiger_2006 text) (λ m. SidesAgree m.chains))) }
+    // The boundary of each polygon, and that of the outside, is closed rings.
+    ensures closed { OnSound result (IfSome (R.remaining records.old) (λ text.
+        HaveMap (records_of tiger_2006 text) AreClosed)) }
+    // The certificate's text is that of a certificate that is valid for the map.
+    ensures valid { OnSound result (IfSome (R.remaining records.old) (λ text. IfSome (S.remaining cert.old) (λ spelt.
+        HaveMap (records_of tiger_2006 text) (λ m. IsValidText m spelt)))) }
+    // The report has the map's numbers.
+    ensures report { IfSound result (λ report. IfSome (R.remaining records.old) (λ text.
+        HaveMap (records_of tiger_2006 text) (λ m. IsReport m report))) }
+    // Each fault is true.
+    ensures map_fault { IfMapFault result (λ fault. IfSome (R.remaining records.old) (λ text.
+        IsTrueOfRecords (records_of tiger_2006 text) fault)) }
+    ensures cert_fault { IfCertFault result (λ fault. IfSome (R.remaining records.old) (λ text.
+        IfSome (S.remaining cert.old) (λ spelt.
+        HaveMap (records_of tiger_2006 text) (λ m. IsTrueOfText m spelt fault)))) }
+    // It stops at the first line that is refused, where memory was refused, a read failed, or more than the budget had to
+    // be tested.
+    ensures stops { IfErr result (λ stop. IfSome (R.remaining records.old) (λ text.
+        MayStopOn (records_of tiger_2006 text) budget stop)) }
+    // Where a line is refused or the records have no map, nothing of the certificate is read.
+    ensures unread { LeavesUnread result (cert.new ≡ cert.old) }
+    // `Device` is answered where a read failed in this call, and nowhere else.
+    ensures failures { TellsEither (R.failure_count records.old) (R.failure_count records.new)
+        (S.failure_count cert.old) (S.failure_count cert.new) result }
+{
+    match read_map(alloc, records) {
+        Ok(map) => check_cert(alloc, &map, cert, budget),
+        Err(stop) => refused(stop),
+    }
+}
+
+/// The answer where the records have no map.
+fn refused(stop: MapStop) -> Result<Verdict, Stop>
+    ensures { result ≡ refusal_of stop }
+{
+    match stop {
+        MapStop::Refused { line, cause } => Err(Stop::Record { line, cause }),
+        MapStop::Device => Err(Stop::Device),
+        MapStop::Memory => Err(Stop::Memory),
+        MapStop::Fault(fault) => Ok(Verdict::MapFault(MapFault::Records(fault))),
+    }
+}
