@@ -1,6 +1,6 @@
 //! The file of a certificate that is made.
 
-ghost use Rattle.std.specs.Prelude.{◌≡◌, ◌≤◌, None, IfOk, length};
+ghost use Rattle.std.specs.Prelude.{◌≡◌, ◌≤◌, None, IfOk, IsSome, OnOk, length};
 
 use std::fs::File;
 use std::io;
@@ -21,7 +21,8 @@ pub struct MadeFile<'a, R: Files> {
 impl<'a, R: Files> MadeFile<'a, R> {
     /// No file yet.
     pub fn new(rt: &'a R, name: &'a str) -> MadeFile<'a, R>
-        ensures { result.failures ≡ 0 }
+        ensures no_failure { result.failures ≡ 0 }
+        ensures named { result.name.now ≡ name.now }
     {
         MadeFile {
             rt,
@@ -33,7 +34,9 @@ impl<'a, R: Files> MadeFile<'a, R> {
 
     // Makes the file where it isn't made yet.
     fn make(&mut self) -> io::Result<()>
-        ensures { self.new.failures ≡ self.old.failures }
+        ensures made { OnOk result (IsSome self.new.file) }
+        ensures named { self.new.name ≡ self.old.name }
+        ensures failures { self.new.failures ≡ self.old.failures }
     {
         if self.file.is_none() {
             self.file = Some(File::create(self.rt, self.name)?);
@@ -43,6 +46,8 @@ impl<'a, R: Files> MadeFile<'a, R> {
 
     // Makes the file where it isn't made yet, and writes.
     fn write(&mut self, bytes: &[u8]) -> io::Result<usize>
+        ensures made { OnOk result (IsSome self.new.file) }
+        ensures named { self.new.name ≡ self.old.name }
         ensures failures { self.new.failures ≡ self.old.failures }
         ensures bound { IfOk result (λ taken. taken ≤ length bytes.now) }
     {

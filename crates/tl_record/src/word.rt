@@ -1,6 +1,6 @@
 //! Eight digits at once, with no branch for each.
 
-ghost use Rattle.std.specs.Prelude.{◌≡◌, ℕ, List, ◌++◌, ◌-◌, ◌<◌, ◌^◌, true, take, replicate, IfSome};
+ghost use Rattle.std.specs.Prelude.{◌≡◌, ℕ, List, ◌++◌, ◌-◌, ◌<◌, ◌≤◌, ◌^◌, true, take, replicate, IfSome};
 ghost use Rattle.std.specs.List.{list_all};
 ghost use Rattle.std.specs.Char.{is_ascii_digit};
 ghost use Rattle.tl_record.specs.Fields.{decimal};
@@ -57,7 +57,9 @@ fn moved_behind_zeros(word: u64, count: usize) -> u64
 
 /// How many bytes at the front of a word are digits, if it is fewer than eight: what it answers has to be tested.
 #[inline(always)]
-fn count_digits(word: u64) -> usize {
+fn count_digits(word: u64) -> usize
+    ensures { result ≤ 8 }
+{
     let others = ((word ^ ZEROS).wrapping_add(SIXES) | (word ^ ZEROS)) & UPPER_HALVES;
     (others.trailing_zeros() / 8) as usize
 }
