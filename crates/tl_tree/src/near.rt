@@ -91,14 +91,15 @@ fn list_trees<I: Items, W: Trees>(
         (items_below W.forest tree.now.below) (take len near.old)
         (leaf_items (W.forest others)) (take m near.new)) }
 {
-    let Some((first, rest)) = others.split_first() else {
-        return Some(len);
-    };
-    if near.len() <= len {
-        return None;
+    let (mut left, mut more) = (others, len);
+    while let Some((first, rest)) = left.split_first() {
+        if near.len() <= more {
+            return None;
+        }
+        more = list_one(items, tree, left, &first, near, more);
+        left = rest;
     }
-    let more = list_one(items, tree, others, &first, near, len);
-    list_trees(items, tree, rest, near, more)
+    Some(more)
 }
 
 /// Lists a tree, the first of those at `at`, or, where it is an inner one whose rectangle meets that of the searched

@@ -1,0 +1,37 @@
+use Rattle.std.proofs.Common.{arith}
+use Rattle.tl_tree.specs.Pairs.{meeting, AreFree}
+use Rattle.tl_tree.specs.Keeping.Walking.{items_below}
+use Rattle.tl_tree.proofs.Walks.{cross-none, cross-split, all_cross-none, all_cross-split, sound-others}
+use Rattle.tl_tree.proofs.near.list_trees.Goals as goal
+
+pub loop-first-preserved : goal.loop-first-preserved
+loop-first-preserved g c =
+    let see = g.W.Trees.forest in
+    let n = g.I.Items.count c.args.items.now in
+    let b = g.I.Items.bounds_of c.args.items.now in
+    let free = AreFree (g.I.Items.tells c.args.items.now) in
+    let xs = items_below see c.args.tree.now.below in
+    let first = c.in-Some.first in
+    let s = c.list_one-more.ensures.listed in
+    let m = cross-split see (meeting b) xs (see c.loop-first.left) first.rect first.below (see c.in-Some.rest) c.in-Some.ensures in
+    record {
+      sum = omega (arith, s.sum, m, c.loop-first.invariant.sum);
+      free = λ f h. let p = s.free f in c.loop-first.invariant.free p.0 (all_cross-split see free xs (see c.loop-first.left) first.rect first.below (see c.in-Some.rest) c.in-Some.ensures p.1 h);
+      sound = λ k. s.sound (c.loop-first.invariant.sound k);
+      left = sound-others see n b (see c.loop-first.left) first (see c.in-Some.rest) c.in-Some.ensures c.loop-first.invariant.left;
+      fits = omega (arith, c.list_one-more.ensures.fits, c.if-near-more.false, c.loop-first.invariant.complete);
+      complete = omega (arith, c.list_one-more.ensures.complete, c.loop-first.invariant.complete);
+    }
+
+pub returns-clause-listed : goal.returns-clause-listed
+returns-clause-listed g c =
+    let see = g.W.Trees.forest in
+    let meet = meeting (g.I.Items.bounds_of c.args.items.now) in
+    let free = AreFree (g.I.Items.tells c.args.items.now) in
+    let xs = items_below see c.args.tree.now.below in
+    let m = cross-none meet xs (see c.loop-first.left) c.in_default.ensures in
+    record {
+      sum = omega (arith, m, c.loop-first.invariant.sum);
+      free = λ f. c.loop-first.invariant.free f (all_cross-none free xs (see c.loop-first.left) c.in_default.ensures);
+      sound = c.loop-first.invariant.sound;
+    }
