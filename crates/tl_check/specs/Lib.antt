@@ -4,5 +4,6 @@ pub mod Valid
 pub mod Truth
 pub mod Verdicts
 pub mod Texts
+pub mod Messages
 pub mod Records
 pub mod Keeping

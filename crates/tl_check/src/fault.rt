@@ -1,6 +1,7 @@
 //! What can be wrong with a map, and with a certificate.
 
-use tl_geom::Point;
+use std::fmt;
+use tl_geom::{Point, Rational};
 use tl_planar::Meet;
 use tl_sides::{RoundFault, WalkFault};
 use tl_tree::TreeFault;
@@ -15,6 +16,69 @@ pub enum MapFault {
     /// G2: about the node, the second dart is next after the first, and what lies on the left of the first isn't what
     /// lies on the right of the second.
     Side { node: Point, first: u32, next: u32 },
+}
+
+impl fmt::Display for MapFault {
+    ghost use Rattle.std.specs.Prelude.{Some};
+    ghost use Rattle.tl_check.specs.Messages.{map_fault_text};
+
+    ghost output = { λ fault. Some (map_fault_text fault) };
+
+    fn fmt<W: fmt::Write>(&self, f: &mut fmt::Formatter<W>) -> fmt::Result {
+        match self {
+            MapFault::Records(fault) => write!(f, "{fault}"),
+            MapFault::Meet(meet) => {
+                let first = SegmentName {
+                    tlid: meet.tlid,
+                    segment: meet.s,
+                };
+                let second = SegmentName {
+                    tlid: meet.other,
+                    segment: meet.t,
+                };
+                let at = RationalText(meet.at);
+                write!(f, "map fault G1 Meet {first} {second} at {at}")
+            }
+            MapFault::Side { node, first, next } => {
+                let (x, y) = (node.x, node.y);
+                write!(f, "map fault G2 Side at {x} {y} darts {first} {next}")
+            }
+        }
+    }
+}
+
+// How a segment is printed: the TLID of its chain, and its number.
+#[derive(Clone, Copy)]
+struct SegmentName {
+    tlid: u64,
+    segment: u32,
+}
+
+impl fmt::Display for SegmentName {
+    ghost use Rattle.std.specs.Prelude.{Some};
+    ghost use Rattle.tl_check.specs.Messages.{segment_text};
+
+    ghost output = { λ name. Some (segment_text name.tlid name.segment) };
+
+    fn fmt<W: fmt::Write>(&self, f: &mut fmt::Formatter<W>) -> fmt::Result {
+        write!(f, "tlid {} segment {}", self.tlid, self.segment)
+    }
+}
+
+// How a rational point is printed: its two numerators and its denominator.
+#[derive(Clone, Copy)]
+struct RationalText(Rational);
+
+impl fmt::Display for RationalText {
+    ghost use Rattle.std.specs.Prelude.{Some};
+    ghost use Rattle.tl_check.specs.Messages.{rational_text};
+
+    ghost output = { λ point. Some (rational_text point.0) };
+
+    fn fmt<W: fmt::Write>(&self, f: &mut fmt::Formatter<W>) -> fmt::Result {
+        let at = self.0;
+        write!(f, "{} {} {}", at.x, at.y, at.d)
+    }
 }
 
 /// Why a certificate isn't valid for a map.
@@ -32,4 +96,94 @@ pub enum CertFault {
     Round(RoundFault),
     /// K5: the walks aren't rings in which each dart of the map stands once.
     Walk(WalkFault),
+}
+
+impl fmt::Display for CertFault {
+    ghost use Rattle.std.specs.Prelude.{Some};
+    ghost use Rattle.tl_check.specs.Messages.{cert_fault_text};
+
+    ghost output = { λ fault. Some (cert_fault_text fault) };
+
+    fn fmt<W: fmt::Write>(&self, f: &mut fmt::Formatter<W>) -> fmt::Result {
+        match self {
+            CertFault::Text { line } => write!(f, "certificate fault K1 Text line {line}"),
+            CertFault::Counts => f.write_str("certificate fault K2 Counts"),
+            CertFault::Tree(fault) => {
+                let cause = TreeCause(*fault);
+                write!(f, "certificate fault K3 Tree {cause}")
+            }
+            CertFault::TooDeep => f.write_str("certificate fault K3 Tree TooDeep"),
+            CertFault::Round(fault) => {
+                let cause = RoundCause(*fault);
+                write!(f, "certificate fault K4 Round {cause}")
+            }
+            CertFault::Walk(fault) => {
+                let cause = WalkCause(*fault);
+                write!(f, "certificate fault K5 Walk {cause}")
+            }
+        }
+    }
+}
+
+// How a tree's fault is printed: its name and its number.
+#[derive(Clone, Copy)]
+struct TreeCause(TreeFault);
+
+impl fmt::Display for TreeCause {
+    ghost use Rattle.std.specs.Prelude.{Some};
+    ghost use Rattle.tl_check.specs.Messages.{tree_text};
+
+    ghost output = { λ cause. Some (tree_text cause.0) };
+
+    fn fmt<W: fmt::Write>(&self, f: &mut fmt::Formatter<W>) -> fmt::Result {
+        match self.0 {
+            TreeFault::UnknownIndex(index) => write!(f, "UnknownIndex {index}"),
+            TreeFault::IndexTwice(index) => write!(f, "IndexTwice {index}"),
+            TreeFault::IndexMissing(index) => write!(f, "IndexMissing {index}"),
+            TreeFault::RectTooSmall(node) => write!(f, "RectTooSmall {node}"),
+        }
+    }
+}
+
+// How a fault of rounds is printed: its name and its number.
+#[derive(Clone, Copy)]
+struct RoundCause(RoundFault);
+
+impl fmt::Display for RoundCause {
+    ghost use Rattle.std.specs.Prelude.{Some};
+    ghost use Rattle.tl_check.specs.Messages.{round_text};
+
+    ghost output = { λ cause. Some (round_text cause.0) };
+
+    fn fmt<W: fmt::Write>(&self, f: &mut fmt::Formatter<W>) -> fmt::Result {
+        match self.0 {
+            RoundFault::UnknownDart(dart) => write!(f, "UnknownDart {dart}"),
+            RoundFault::DartTwice(dart) => write!(f, "DartTwice {dart}"),
+            RoundFault::DartMissing(dart) => write!(f, "DartMissing {dart}"),
+            RoundFault::StartsElsewhere(round) => write!(f, "StartsElsewhere {round}"),
+            RoundFault::NodeRepeated(round) => write!(f, "NodeRepeated {round}"),
+            RoundFault::OrderNotRising(round) => write!(f, "OrderNotRising {round}"),
+        }
+    }
+}
+
+// How a fault of walks is printed: its name and its number.
+#[derive(Clone, Copy)]
+struct WalkCause(WalkFault);
+
+impl fmt::Display for WalkCause {
+    ghost use Rattle.std.specs.Prelude.{Some};
+    ghost use Rattle.tl_check.specs.Messages.{walk_text};
+
+    ghost output = { λ cause. Some (walk_text cause.0) };
+
+    fn fmt<W: fmt::Write>(&self, f: &mut fmt::Formatter<W>) -> fmt::Result {
+        match self.0 {
+            WalkFault::UnknownDart(dart) => write!(f, "UnknownDart {dart}"),
+            WalkFault::DartTwice(dart) => write!(f, "DartTwice {dart}"),
+            WalkFault::DartMissing(dart) => write!(f, "DartMissing {dart}"),
+            WalkFault::WrongStep(walk) => write!(f, "WrongStep {walk}"),
+            WalkFault::NotClosed(walk) => write!(f, "NotClosed {walk}"),
+        }
+    }
 }

@@ -1,6 +1,7 @@
 //! Verdicts.
 
 use crate::fault::{CertFault, MapFault};
+use std::fmt;
 
 /// What is decided of a map by a certificate.
 #[derive(Clone, Copy, Debug, PartialEq, Eq)]
@@ -23,4 +24,19 @@ pub struct Report {
     pub polygons: u32,
     pub landmarks: u32,
     pub rings: u32,
+}
+
+impl fmt::Display for Report {
+    ghost use Rattle.std.specs.Prelude.{Some};
+    ghost use Rattle.tl_check.specs.Messages.{report_text};
+
+    ghost output = { λ report. Some (report_text report) };
+
+    fn fmt<W: fmt::Write>(&self, f: &mut fmt::Formatter<W>) -> fmt::Result {
+        write!(
+            f,
+            "chains={} segments={} nodes={} polygons={} landmarks={} rings={}",
+            self.chains, self.segments, self.nodes, self.polygons, self.landmarks, self.rings
+        )
+    }
 }
