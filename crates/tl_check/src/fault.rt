@@ -6,7 +6,8 @@ use tl_planar::Meet;
 use tl_sides::{RoundFault, WalkFault};
 use tl_tree::TreeFault;
 
-/// Why a map isn't sound, or why records have no map.
+/// Why a map isn't sound, or why records have no map. It is printed as `map fault`, its code and name, and what it is
+/// about: points in millionths of a degree, that of a meet as two numerators and their denominator.
 #[derive(Clone, Copy, Debug, PartialEq, Eq)]
 pub enum MapFault {
     /// The records have no map: M1 to M13.
@@ -81,7 +82,7 @@ impl fmt::Display for RationalText {
     }
 }
 
-/// Why a certificate isn't valid for a map.
+/// Why a certificate isn't valid for a map. It is printed as `certificate fault`, its code and name, and what it is about.
 #[derive(Clone, Copy, Debug, PartialEq, Eq)]
 pub enum CertFault {
     /// K1: no certificate has the text. The line is that of [`tl_cert::CertStop::Text`].

@@ -15,7 +15,7 @@ pub enum Verdict {
 }
 
 /// How many chains, segments, nodes, polygons and landmarks a sound map has, and how many rings its sides' boundaries have
-/// together, that of the outside too.
+/// together, that of the outside too. It is printed as `chains=C segments=S nodes=N polygons=P landmarks=L rings=R`.
 #[derive(Clone, Copy, Debug, PartialEq, Eq)]
 pub struct Report {
     pub chains: u32,
