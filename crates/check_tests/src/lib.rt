@@ -8,3 +8,5 @@ mod cases;
 mod certs;
 #[cfg(test)]
 mod maps;
+#[cfg(test)]
+mod plain;
