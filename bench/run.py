@@ -133,6 +133,18 @@ def certificate_rows(chains, runs):
                f"{seconds / lines * 1e9:.1f}", f"{peaks[name]:.1f}" if peaks[name] >= 0.1 else "-")
 
 
+def print_table(head, found):
+    """Prints a table, each row as it is found."""
+    print("| " + " | ".join(head) + " |")
+    print("|" + "---|" * len(head))
+    for row in found:
+        print("| " + " | ".join(row) + " |", flush=True)
+
+
+def numbers(words):
+    return [int(it) for it in words.split(",") if it]
+
+
 def main():
     parser = argparse.ArgumentParser()
     parser.add_argument("--sizes", default="1000,10000,100000")
@@ -142,25 +154,20 @@ def main():
     parser.add_argument("--certificates", default="10000,100000,1000000")
     parser.add_argument("--runs", type=int, default=5)
     words = parser.parse_args()
-    print("| Chains | Lines | MB | Program | ms | times `wc -l` | million lines a second | peak MB |")
-    print("|---|---|---|---|---|---|---|---|")
     parts = [("streets", words.sizes), ("county", words.counties), ("shuffled", words.counties)]
     parts += [("keys", words.keys), ("hostile", words.keys)]
-    for kind, chains in ((kind, int(it)) for kind, sizes in parts for it in sizes.split(",") if it):
-        for row in rows(chains, kind, words.runs):
-            print("| " + " | ".join(row) + " |", flush=True)
+    print_table(
+        ("Chains", "Lines", "MB", "Program", "ms", "times `wc -l`", "million lines a second", "peak MB"),
+        (row for kind, sizes in parts for chains in numbers(sizes) for row in rows(chains, kind, words.runs)))
     print()
-    print("| Segments | Children | Tree | rectangles made and sorted, ms | search, ms | times | tests a segment | check, ns an item |")
-    print("|---|---|---|---|---|---|---|---|")
-    for segments in (int(it) for it in words.segments.split(",") if it):
-        for row in tree_rows(segments, words.runs):
-            print("| " + " | ".join(row) + " |", flush=True)
+    print_table(
+        ("Segments", "Children", "Tree", "rectangles made and sorted, ms", "search, ms", "times", "tests a segment",
+         "check, ns an item"),
+        (row for segments in numbers(words.segments) for row in tree_rows(segments, words.runs)))
     print()
-    print("| Chains | Lines | MB | Certificate | ms | times `wc -l` | ns a line | peak MB |")
-    print("|---|---|---|---|---|---|---|---|")
-    for chains in (int(it) for it in words.certificates.split(",") if it):
-        for row in certificate_rows(chains, words.runs):
-            print("| " + " | ".join(row) + " |", flush=True)
+    print_table(
+        ("Chains", "Lines", "MB", "Certificate", "ms", "times `wc -l`", "ns a line", "peak MB"),
+        (row for chains in numbers(words.certificates) for row in certificate_rows(chains, words.runs)))
 
 
 if __name__ == "__main__":

@@ -1,6 +1,7 @@
 //! The kinds of lines that a certificate has.
 
-ghost use Rattle.std.specs.Prelude.{◌≡◌, ◌⊎◌, ◌<◌, ◌≤◌, ◌+◌, ◌^◌, ◌↔◌, ◌∷◌, ◌++◌, [], ℕ, List, IsTrue, MatchOption, IfSome, ⊤};
+ghost use Rattle.std.specs.Prelude.{◌≡◌, ◌⊎◌, ◌<◌, ◌≤◌, ◌+◌, ◌^◌, ◌↔◌, ◌∷◌, ◌++◌, [], ℕ, List, ⊤};
+ghost use Rattle.std.specs.Prelude.{IsTrue, MatchOption, IfSome};
 ghost use Rattle.tl_cert.specs.Certificates.{IsNumber, IsInRange, AreCountsInRange};
 ghost use Rattle.tl_cert.specs.Text.{number, numbered_line, head_line, counts_line, children, end_line};
 ghost use Rattle.tl_cert.specs.Keeping.Words.{StartsWord, StandsFirst, counts_words};

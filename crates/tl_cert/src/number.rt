@@ -1,6 +1,7 @@
 //! The numbers of a line.
 
-ghost use Rattle.std.specs.Prelude.{◌≡◌, ◌<◌, ◌≤◌, ◌^◌, ◌∷◌, [], ◌++◌, ℕ, ℤ, List, ◌↔◌, IsTrue, MatchOption, IfSome, FitsSigned, decimal};
+ghost use Rattle.std.specs.Prelude.{◌≡◌, ◌<◌, ◌≤◌, ◌^◌, ◌∷◌, [], ◌++◌, ℕ, ℤ, List, ◌↔◌, FitsSigned, decimal};
+ghost use Rattle.std.specs.Prelude.{IsTrue, MatchOption, IfSome};
 ghost use Rattle.std.specs.Int.{w32};
 ghost use Rattle.std.specs.Fmt.{signed_decimal};
 ghost use Rattle.tl_geom.specs.declared.rect.Rect.{Rect};
