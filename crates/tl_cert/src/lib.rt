@@ -7,6 +7,7 @@
 #![tactic(auto)]
 
 mod certificate;
+mod collected;
 pub mod laws;
 mod line_kind;
 mod lines;

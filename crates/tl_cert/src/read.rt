@@ -10,6 +10,7 @@ ghost use Rattle.tl_cert.specs.Reading.{source_of, lines_of, standing_of, unread
 ghost use Rattle.tl_cert.specs.Keeping.Collecting.{Collects};
 
 use crate::certificate::Certificate;
+use crate::collected::Parts;
 use crate::reader::CertReader;
 use crate::stop::CertStop;
 use std::alloc::Global;
@@ -30,14 +31,14 @@ fn collect_parts<R: Source>(
         (R.failure_count (source_of reader.new)) result }
     ensures same_reference { R.reference (source_of reader.new) ≡ R.reference (source_of reader.old) }
 {
-    let mut certificate = Certificate::empty(alloc);
+    let mut parts = Parts::empty(alloc);
     'parts: loop {
         match reader.next_part() {
-            Ok(Some(part)) => match certificate.take(part) {
+            Ok(Some(part)) => match parts.take(part) {
                 Ok(()) => {}
                 Err(_) => return Err(CertStop::Memory),
             },
-            Ok(None) => return Ok(certificate),
+            Ok(None) => return Ok(Certificate::of_parts(parts)),
             Err(stop) => return Err(stop),
         }
     }

@@ -3,7 +3,6 @@
 ghost use Rattle.std.specs.Prelude.{IfErr};
 ghost use Rattle.tl_planar.specs.Planar.{IsPlanar};
 ghost use Rattle.tl_sides.specs.Sides.{SidesAgree};
-ghost use Rattle.tl_cert.specs.Certificates.{MakesCertificate};
 ghost use Rattle.tl_check.specs.Sound.{AreClosed};
 ghost use Rattle.tl_check.specs.Valid.{IsValid};
 ghost use Rattle.tl_check.specs.Truth.{IsTrueOfMap, IsTrueOfCert};
@@ -26,7 +25,6 @@ use tl_map::Map;
 ///
 /// [`Stop::Memory`] and [`Stop::Budget`] are the only stops.
 pub fn check_map(alloc: Global, map: &Map, cert: &Certificate, budget: u64) -> Result<Verdict, Stop>
-    requires whole { MakesCertificate cert.now }
     // No rational point lies on two chains but an end of both, and no chain meets itself but at its ends.
     ensures planar { OnSound result (IsPlanar map.now.chains) }
     // Neighbouring chains about each node name one polygon between them.

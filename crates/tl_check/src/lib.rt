@@ -21,6 +21,6 @@ mod walks;
 pub use as_read::check_cert;
 pub use fault::{CertFault, MapFault};
 pub use in_memory::check_map;
-pub use of_records::check;
+pub use of_records::{check, check_with};
 pub use stop::Stop;
 pub use verdict::{Report, Verdict};

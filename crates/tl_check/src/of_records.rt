@@ -2,7 +2,7 @@
 
 ghost use Rattle.std.specs.Prelude.{◌≡◌, IfErr};
 ghost use Rattle.std.specs.Option.{IfSome};
-ghost use Rattle.tl_record.specs.Layout.{tiger_2006};
+ghost use Rattle.tl_record.specs.Layout.{tiger_2006, layout_with};
 ghost use Rattle.tl_record.specs.Records.{records_of};
 ghost use Rattle.tl_planar.specs.Planar.{IsPlanar};
 ghost use Rattle.tl_sides.specs.Sides.{SidesAgree};
@@ -17,8 +17,14 @@ use crate::fault::MapFault;
 use crate::stop::Stop;
 use crate::verdict::Verdict;
 use std::alloc::Global;
-use tl_map::{MapStop, read_map};
-use tl_record::Source;
+use tl_map::{MapStop, read_map_with};
+use tl_record::{Options, Source};
+
+// Neither choice of columns.
+const PLAIN: Options = Options {
+    zero_cells: false,
+    released: false,
+};
 
 /// Decides whether the map of a county is sound, from the text of its record files and the text of a certificate.
 ///
@@ -61,7 +67,40 @@ pub fn check<R: Source, S: Source>(
     ensures failures { TellsEither (R.failure_count records.old) (R.failure_count records.new)
         (S.failure_count cert.old) (S.failure_count cert.new) result }
 {
-    match read_map(alloc, records) {
+    check_with(alloc, records, cert, budget, PLAIN)
+}
+
+/// Decides whether the map of a county is sound as [`check`] does, with the columns that the options choose of type I.
+/// Where zero-cell ids are read, they have to agree in a sound map.
+pub fn check_with<R: Source, S: Source>(
+    alloc: Global,
+    records: &mut R,
+    cert: &mut S,
+    budget: u64,
+    options: Options,
+) -> Result<Verdict, Stop>
+    ensures planar { OnSound result (IfSome (R.remaining records.old) (λ text.
+        HaveMap (records_of (layout_with options) text) (λ m. IsPlanar m.chains))) }
+    ensures sides { OnSound result (IfSome (R.remaining records.old) (λ text.
+        HaveMap (records_of (layout_with options) text) (λ m. SidesAgree m.chains))) }
+    ensures closed { OnSound result (IfSome (R.remaining records.old) (λ text.
+        HaveMap (records_of (layout_with options) text) AreClosed)) }
+    ensures valid { OnSound result (IfSome (R.remaining records.old) (λ text. IfSome (S.remaining cert.old) (λ spelt.
+        HaveMap (records_of (layout_with options) text) (λ m. IsValidText m spelt)))) }
+    ensures report { IfSound result (λ report. IfSome (R.remaining records.old) (λ text.
+        HaveMap (records_of (layout_with options) text) (λ m. IsReport m report))) }
+    ensures map_fault { IfMapFault result (λ fault. IfSome (R.remaining records.old) (λ text.
+        IsTrueOfRecords (records_of (layout_with options) text) fault)) }
+    ensures cert_fault { IfCertFault result (λ fault. IfSome (R.remaining records.old) (λ text.
+        IfSome (S.remaining cert.old) (λ spelt.
+        HaveMap (records_of (layout_with options) text) (λ m. IsTrueOfText m spelt fault)))) }
+    ensures stops { IfErr result (λ stop. IfSome (R.remaining records.old) (λ text.
+        MayStopOn (records_of (layout_with options) text) budget stop)) }
+    ensures unread { LeavesUnread result (cert.new ≡ cert.old) }
+    ensures failures { TellsEither (R.failure_count records.old) (R.failure_count records.new)
+        (S.failure_count cert.old) (S.failure_count cert.new) result }
+{
+    match read_map_with(alloc, records, options) {
         Ok(map) => check_cert(alloc, &map, cert, budget),
         Err(stop) => refused(stop),
     }

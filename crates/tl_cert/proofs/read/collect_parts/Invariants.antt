@@ -7,7 +7,7 @@ use Rattle.tl_cert.proofs.read.collect_parts.Given as goal
 abbrev pub invariant-parts : goal.invariant-parts
 invariant-parts g l = record {
   place : Place;
-  collects : Collects g.R.Source.remaining place l.fn.reader l.reader l.certificate;
+  collects : Collects g.R.Source.remaining place l.fn.reader l.reader l.parts;
   failures : g.R.Source.failure_count (source_of l.reader) ≡ g.R.Source.failure_count (source_of l.fn.reader);
   same : g.R.Source.reference (source_of l.reader) ≡ g.R.Source.reference (source_of l.fn.reader);
 }

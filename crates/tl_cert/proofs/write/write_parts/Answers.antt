@@ -14,7 +14,7 @@ returns-in_err-write_head-clause-bytes g c =
     let rounds = passes_some_more _ _ _ _ (joined_lines (rounds_lines (length all.rounds) all.rounds)) tree in
     let walks = passes_some_more _ _ _ _ (joined_lines (walks_lines (length all.walks) all.walks)) rounds in
     let end = passes_some_more _ _ _ _ (codes "END\n") walks in
-    let whole = subst (PassesSome _ _ _) (parts_of all _ _ _ _ _ c.version-version.ensures c.counts.ensures refl refl refl) end in
+    let whole = subst (PassesSome _ _ _) (parts_of all _ _ _ _ _ c.version-version.ensures.version c.counts.ensures refl refl refl) end in
     search (rules, whole)
 
 pub returns-in_err-write_tree-clause-bytes : goal.returns-in_err-write_tree-clause-bytes
@@ -24,7 +24,7 @@ returns-in_err-write_tree-clause-bytes g c =
     let rounds = passes_some_more _ _ _ _ (joined_lines (rounds_lines (length all.rounds) all.rounds)) tree in
     let walks = passes_some_more _ _ _ _ (joined_lines (walks_lines (length all.walks) all.walks)) rounds in
     let end = passes_some_more _ _ _ _ (codes "END\n") walks in
-    let whole = subst (PassesSome _ _ _) (parts_of all _ _ _ _ _ c.version-version.ensures c.counts.ensures c.tree.ensures refl refl) end in
+    let whole = subst (PassesSome _ _ _) (parts_of all _ _ _ _ _ c.version-version.ensures.version c.counts.ensures c.tree.ensures.tree refl refl) end in
     search (rules, whole)
 
 pub returns-in_err-write_dart_lists-clause-bytes : goal.returns-in_err-write_dart_lists-clause-bytes
@@ -34,7 +34,7 @@ returns-in_err-write_dart_lists-clause-bytes g c =
     let rounds = passes_some_then _ _ _ _ _ _ _ tree c.in_err-write_dart_lists.ensures.bytes in
     let walks = passes_some_more _ _ _ _ (joined_lines (walks_lines (length all.walks) all.walks)) rounds in
     let end = passes_some_more _ _ _ _ (codes "END\n") walks in
-    let whole = subst (PassesSome _ _ _) (parts_of all _ _ _ _ _ c.version-version.ensures c.counts.ensures c.tree.ensures c.rounds.ensures refl) end in
+    let whole = subst (PassesSome _ _ _) (parts_of all _ _ _ _ _ c.version-version.ensures.version c.counts.ensures c.tree.ensures.tree c.rounds.ensures.rounds refl) end in
     search (rules, whole)
 
 pub returns-in_err-write_dart_lists-2-clause-bytes : goal.returns-in_err-write_dart_lists-2-clause-bytes
@@ -44,7 +44,7 @@ returns-in_err-write_dart_lists-2-clause-bytes g c =
     let rounds = passes_both _ _ _ _ _ _ _ _ tree c.in_ok-write_dart_lists.ensures.bytes in
     let walks = passes_some_then _ _ _ _ _ _ _ rounds c.in_err-write_dart_lists-2.ensures.bytes in
     let end = passes_some_more _ _ _ _ (codes "END\n") walks in
-    let whole = subst (PassesSome _ _ _) (parts_of all _ _ _ _ _ c.version-version.ensures c.counts.ensures c.tree.ensures c.rounds.ensures c.walks.ensures) end in
+    let whole = subst (PassesSome _ _ _) (parts_of all _ _ _ _ _ c.version-version.ensures.version c.counts.ensures c.tree.ensures.tree c.rounds.ensures.rounds c.walks.ensures.walks) end in
     search (rules, whole)
 
 pub returns-clause-bytes : goal.returns-clause-bytes
@@ -54,4 +54,4 @@ returns-clause-bytes g c =
     let rounds = passes_both _ _ _ _ _ _ _ _ tree c.in_ok-write_dart_lists.ensures.bytes in
     let walks = passes_both _ _ _ _ _ _ _ _ rounds c.in_ok-write_dart_lists-2.ensures.bytes in
     passes_last c.add.result _ _ _ _ _ _ _ _ _ walks c.add.ensures.passes
-    (parts_of all _ _ _ _ _ c.version-version.ensures c.counts.ensures c.tree.ensures c.rounds.ensures c.walks.ensures)
+    (parts_of all _ _ _ _ _ c.version-version.ensures.version c.counts.ensures c.tree.ensures.tree c.rounds.ensures.rounds c.walks.ensures.walks)

@@ -7,7 +7,7 @@ use Rattle.tl_check.proofs.in_memory.check_map.Goals as goal
 
 pub loop-round-init : goal.loop-round-init
 loop-round-init c = record {
-  holds = c.in-Ok.ensures.holds (first_rounds c.args.cert.now 0) (rw (← c.counts.ensures) (c.are_counts.ensures.0 c.if-not-are_counts.false)) (sym c.tree.ensures) refl refl;
+  holds = c.in-Ok.ensures.holds (first_rounds c.args.cert.now 0) (rw (← c.counts.ensures) (c.are_counts.ensures.0 c.if-not-are_counts.false)) (sym c.tree.ensures.tree) refl refl;
   takes = c.in-Ok.ensures.rounds;
 }
 
@@ -16,9 +16,9 @@ take_round-state-requires-clause-some c =
     let vs = c.rounds-round-items.result.now in
     let i = c.loop-round.round-index in
     let test = c.loop-round-test.true in
-    let many : length vs ≡ length c.args.cert.now.rounds = as_many vs c.args.cert.now.rounds c.rounds-round-items.ensures in
-    has_some c.args.cert.now.rounds i c.deref.result.now c.requires.whole.rounds
-    (list_is vs c.args.cert.now.rounds i c.round-item.result c.deref.result.now c.rounds-round-items.ensures test c.round-item.is c.deref.ensures.value)
+    let many : length vs ≡ length c.args.cert.now.rounds = as_many vs c.args.cert.now.rounds c.rounds-round-items.ensures.rounds in
+    has_some c.args.cert.now.rounds i c.deref.result.now c.rounds-round-items.ensures.each
+    (list_is vs c.args.cert.now.rounds i c.round-item.result c.deref.result.now c.rounds-round-items.ensures.rounds test c.round-item.is c.deref.ensures.value)
     (omega (arith, many, test))
 
 pub loop-round-preserved : goal.loop-round-preserved
@@ -26,10 +26,10 @@ loop-round-preserved c =
     let vs = c.rounds-round-items.result.now in
     let i = c.loop-round.round-index in
     let test = c.loop-round-test.true in
-    let many : length vs ≡ length c.args.cert.now.rounds = as_many vs c.args.cert.now.rounds c.rounds-round-items.ensures in
+    let many : length vs ≡ length c.args.cert.now.rounds = as_many vs c.args.cert.now.rounds c.rounds-round-items.ensures.rounds in
     record {
       holds = round_taken c.args.map.now c.args.cert.now i c.deref.result.now c.take_round-state.result
-          (list_is vs c.args.cert.now.rounds i c.round-item.result c.deref.result.now c.rounds-round-items.ensures test c.round-item.is c.deref.ensures.value)
+          (list_is vs c.args.cert.now.rounds i c.round-item.result c.deref.result.now c.rounds-round-items.ensures.rounds test c.round-item.is c.deref.ensures.value)
           (omega (arith, many, test))
           (c.take_round-state.ensures.holds (first_rounds c.args.cert.now i) c.loop-round.invariant.holds);
       takes = c.take_round-state.ensures.takes;
@@ -40,7 +40,7 @@ loop-walk-init c =
     let vs = c.rounds-round-items.result.now in
     let i = c.loop-round.round-index in
     let test = c.loop-round-test.false in
-    let many : length vs ≡ length c.args.cert.now.rounds = as_many vs c.args.cert.now.rounds c.rounds-round-items.ensures in
+    let many : length vs ≡ length c.args.cert.now.rounds = as_many vs c.args.cert.now.rounds c.rounds-round-items.ensures.rounds in
     record {
       holds = subst (λ d. Holds c.args.map.now d c.in-Ok-end_rounds.state) (all_rounds c.args.cert.now i (omega (arith, many, test)))
           (c.in-Ok-end_rounds.ensures.holds (first_rounds c.args.cert.now i) c.loop-round.invariant.holds);
@@ -52,9 +52,9 @@ take_walk-state-requires-clause-some c =
     let vs = c.walks-walk-items.result.now in
     let i = c.loop-walk.walk-index in
     let test = c.loop-walk-test.true in
-    let many : length vs ≡ length c.args.cert.now.walks = as_many vs c.args.cert.now.walks c.walks-walk-items.ensures in
-    has_some c.args.cert.now.walks i c.deref-in-loop-walk.result.now c.requires.whole.walks
-    (list_is vs c.args.cert.now.walks i c.walk-item.result c.deref-in-loop-walk.result.now c.walks-walk-items.ensures test c.walk-item.is c.deref-in-loop-walk.ensures.value)
+    let many : length vs ≡ length c.args.cert.now.walks = as_many vs c.args.cert.now.walks c.walks-walk-items.ensures.walks in
+    has_some c.args.cert.now.walks i c.deref-in-loop-walk.result.now c.walks-walk-items.ensures.each
+    (list_is vs c.args.cert.now.walks i c.walk-item.result c.deref-in-loop-walk.result.now c.walks-walk-items.ensures.walks test c.walk-item.is c.deref-in-loop-walk.ensures.value)
     (omega (arith, many, test))
 
 pub loop-walk-preserved : goal.loop-walk-preserved
@@ -62,10 +62,10 @@ loop-walk-preserved c =
     let vs = c.walks-walk-items.result.now in
     let i = c.loop-walk.walk-index in
     let test = c.loop-walk-test.true in
-    let many : length vs ≡ length c.args.cert.now.walks = as_many vs c.args.cert.now.walks c.walks-walk-items.ensures in
+    let many : length vs ≡ length c.args.cert.now.walks = as_many vs c.args.cert.now.walks c.walks-walk-items.ensures.walks in
     record {
       holds = walk_taken c.args.map.now c.args.cert.now i c.deref-in-loop-walk.result.now c.take_walk-state.result
-          (list_is vs c.args.cert.now.walks i c.walk-item.result c.deref-in-loop-walk.result.now c.walks-walk-items.ensures test c.walk-item.is c.deref-in-loop-walk.ensures.value)
+          (list_is vs c.args.cert.now.walks i c.walk-item.result c.deref-in-loop-walk.result.now c.walks-walk-items.ensures.walks test c.walk-item.is c.deref-in-loop-walk.ensures.value)
           (omega (arith, many, test))
           (c.take_walk-state.ensures.holds (first_walks c.args.cert.now i) c.loop-walk.invariant.holds);
       takes = c.take_walk-state.ensures.takes;
@@ -77,7 +77,7 @@ shown c =
     let vs = c.walks-walk-items.result.now in
     let i = c.loop-walk.walk-index in
     let test = c.loop-walk-test.false in
-    let many : length vs ≡ length c.args.cert.now.walks = as_many vs c.args.cert.now.walks c.walks-walk-items.ensures in
+    let many : length vs ≡ length c.args.cert.now.walks = as_many vs c.args.cert.now.walks c.walks-walk-items.ensures.walks in
     subst (λ d. IsShown c.args.map.now d c.in-Ok-end_walks.rings) (all_walks c.args.cert.now i (omega (arith, many, test)))
     (c.in-Ok-end_walks.ensures.shown (first_walks c.args.cert.now i) c.loop-walk.invariant.holds)
 
@@ -101,6 +101,6 @@ returns-in-Err-end_walks-clause-cert_fault c =
     let vs = c.walks-walk-items.result.now in
     let i = c.loop-walk.walk-index in
     let test = c.loop-walk-test.false in
-    let many : length vs ≡ length c.args.cert.now.walks = as_many vs c.args.cert.now.walks c.walks-walk-items.ensures in
+    let many : length vs ≡ length c.args.cert.now.walks = as_many vs c.args.cert.now.walks c.walks-walk-items.ensures.walks in
     subst (λ d. IsTrueOfCert c.args.map.now d c.in-Err-end_walks.fault) (all_walks c.args.cert.now i (omega (arith, many, test)))
     (c.in-Err-end_walks.ensures.fault (first_walks c.args.cert.now i) c.loop-walk.invariant.holds)

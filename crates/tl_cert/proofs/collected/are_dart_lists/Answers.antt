@@ -1,9 +1,8 @@
 use Rattle.std.proofs.Common.{ℕ, arith, Vec, Global}
 use Rattle.std.proofs.lemmas.List.{length-map}
 use Rattle.tl_cert.proofs.Lists.{each_list, each_vector}
-use Rattle.tl_cert.proofs.certificate.are_dart_lists.Goals as goal
+use Rattle.tl_cert.proofs.collected.are_dart_lists.Goals as goal
 
--- src/certificate.rt:157:1
 pub returns-then-lists-le-MOST : goal.returns-then-lists-le-MOST
 returns-then-lists-le-MOST c =
     let lists = c.args.lists.now in (
