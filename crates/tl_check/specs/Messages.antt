@@ -11,7 +11,7 @@ use Rattle.tl_sides.specs.declared.fault.RoundFault.TheVariants as round
 use Rattle.tl_sides.specs.declared.fault.WalkFault.{WalkFault}
 use Rattle.tl_sides.specs.declared.fault.WalkFault.TheVariants as walk
 use Rattle.tl_check.specs.declared.fault.MapFault.{MapFault}
-use Rattle.tl_check.specs.declared.fault.MapFault.TheVariants.{Records, Meet, Side}
+use Rattle.tl_check.specs.declared.fault.MapFault.TheVariants.{Records, Meet, Side, Cell}
 use Rattle.tl_check.specs.declared.fault.CertFault.{CertFault}
 use Rattle.tl_check.specs.declared.fault.CertFault.TheVariants.{Text, Counts, Tree, TooDeep, Round, Walk}
 use Rattle.tl_check.specs.declared.verdict.Report.{Report}
@@ -33,6 +33,8 @@ abbrev pub map_fault_text : MapFault → List ℕ
 map_fault_text (Records fault) = fault_text fault
 map_fault_text (Meet meet) = codes "map fault G1 Meet " ++ segment_text meet.tlid meet.s ++ codes " " ++ segment_text meet.other meet.t ++ codes " at " ++ rational_text meet.at
 map_fault_text (Side node first next) = codes "map fault G2 Side at " ++ node_text node ++ codes " darts " ++ decimal first ++ codes " " ++ decimal next
+map_fault_text (Cell odds) = codes "map fault G6 Cell darts " ++ decimal odds.first ++ codes " " ++ decimal odds.second
+    ++ codes " ids " ++ decimal odds.first_id ++ codes " " ++ decimal odds.second_id
 
 -- what is wrong with a tree, and at which index or node
 abbrev pub tree_text : TreeFault → List ℕ

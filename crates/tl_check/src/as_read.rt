@@ -4,6 +4,7 @@ ghost use Rattle.std.specs.Prelude.{◌≡◌, IfErr};
 ghost use Rattle.std.specs.Option.{IfSome};
 ghost use Rattle.tl_planar.specs.Planar.{IsPlanar};
 ghost use Rattle.tl_sides.specs.Sides.{SidesAgree};
+ghost use Rattle.tl_cells.specs.Cells.{CellsAgree};
 ghost use Rattle.tl_cert.specs.declared.reader.Standing.TheVariants.{Reading};
 ghost use Rattle.tl_cert.specs.declared.place.Place.TheVariants.{Start};
 ghost use Rattle.tl_cert.specs.Certificates.{TheCertificate};
@@ -43,6 +44,8 @@ pub fn check_cert<S: Source>(
     ensures sides { OnSound result (SidesAgree map.now.chains) }
     // The boundary of each polygon, and that of the outside, is closed rings.
     ensures closed { OnSound result (AreClosed map.now) }
+    // Zero-cell ids agree, where they were read: two darts that have ids have one id exactly where they start at one point.
+    ensures cells { OnSound result (CellsAgree map.now.chains) }
     // The text is that of a certificate that is valid for the map.
     ensures valid { OnSound result (IfSome (S.remaining cert.old) (IsValidText map.now)) }
     // The report has the map's numbers.

@@ -1,6 +1,7 @@
 //! What can be wrong with a map, and with a certificate.
 
 use std::fmt;
+use tl_cells::CellsAtOdds;
 use tl_geom::{Point, Rational};
 use tl_planar::Meet;
 use tl_sides::{RoundFault, WalkFault};
@@ -17,6 +18,8 @@ pub enum MapFault {
     /// G2: about the node, the second dart is next after the first, and what lies on the left of the first isn't what
     /// lies on the right of the second.
     Side { node: Point, first: u32, next: u32 },
+    /// G6: two darts have one zero-cell id and start at two points, or have two ids and start at one.
+    Cell(CellsAtOdds),
 }
 
 impl fmt::Display for MapFault {
@@ -43,6 +46,11 @@ impl fmt::Display for MapFault {
             MapFault::Side { node, first, next } => {
                 let (x, y) = (node.x, node.y);
                 write!(f, "map fault G2 Side at {x} {y} darts {first} {next}")
+            }
+            MapFault::Cell(odds) => {
+                let (a, b) = (odds.first, odds.second);
+                let (i, j) = (odds.first_id, odds.second_id);
+                write!(f, "map fault G6 Cell darts {a} {b} ids {i} {j}")
             }
         }
     }

@@ -3,6 +3,7 @@
 ghost use Rattle.std.specs.Prelude.{IfErr};
 ghost use Rattle.tl_planar.specs.Planar.{IsPlanar};
 ghost use Rattle.tl_sides.specs.Sides.{SidesAgree};
+ghost use Rattle.tl_cells.specs.Cells.{CellsAgree};
 ghost use Rattle.tl_check.specs.Sound.{AreClosed};
 ghost use Rattle.tl_check.specs.Valid.{IsValid};
 ghost use Rattle.tl_check.specs.Truth.{IsTrueOfMap, IsTrueOfCert};
@@ -31,6 +32,8 @@ pub fn check_map(alloc: Global, map: &Map, cert: &Certificate, budget: u64) -> R
     ensures sides { OnSound result (SidesAgree map.now.chains) }
     // The boundary of each polygon, and that of the outside, is closed rings.
     ensures closed { OnSound result (AreClosed map.now) }
+    // Zero-cell ids agree, where they were read: two darts that have ids have one id exactly where they start at one point.
+    ensures cells { OnSound result (CellsAgree map.now.chains) }
     // The certificate is valid for the map.
     ensures valid { OnSound result (IsValid map.now cert.now) }
     // The report has the map's numbers.

@@ -6,6 +6,7 @@ ghost use Rattle.tl_record.specs.Layout.{tiger_2006, layout_with};
 ghost use Rattle.tl_record.specs.Records.{records_of};
 ghost use Rattle.tl_planar.specs.Planar.{IsPlanar};
 ghost use Rattle.tl_sides.specs.Sides.{SidesAgree};
+ghost use Rattle.tl_cells.specs.Cells.{CellsAgree};
 ghost use Rattle.tl_check.specs.Sound.{AreClosed};
 ghost use Rattle.tl_check.specs.Verdicts.{OnSound, IfSound, IfMapFault, IfCertFault, IsReport};
 ghost use Rattle.tl_check.specs.Texts.{IsTrueOfText, IsValidText};
@@ -45,6 +46,9 @@ pub fn check<R: Source, S: Source>(
     // The boundary of each polygon, and that of the outside, is closed rings.
     ensures closed { OnSound result (IfSome (R.remaining records.old) (λ text.
         HaveMap (records_of tiger_2006 text) AreClosed)) }
+    // Zero-cell ids agree, none of which is read.
+    ensures cells { OnSound result (IfSome (R.remaining records.old) (λ text.
+        HaveMap (records_of tiger_2006 text) (λ m. CellsAgree m.chains))) }
     // The certificate's text is that of a certificate that is valid for the map.
     ensures valid { OnSound result (IfSome (R.remaining records.old) (λ text. IfSome (S.remaining cert.old) (λ spelt.
         HaveMap (records_of tiger_2006 text) (λ m. IsValidText m spelt)))) }
@@ -85,6 +89,9 @@ pub fn check_with<R: Source, S: Source>(
         HaveMap (records_of (layout_with options) text) (λ m. SidesAgree m.chains))) }
     ensures closed { OnSound result (IfSome (R.remaining records.old) (λ text.
         HaveMap (records_of (layout_with options) text) AreClosed)) }
+    // Zero-cell ids agree, where they are read: two darts that have ids have one id exactly where they start at one point.
+    ensures cells { OnSound result (IfSome (R.remaining records.old) (λ text.
+        HaveMap (records_of (layout_with options) text) (λ m. CellsAgree m.chains))) }
     ensures valid { OnSound result (IfSome (R.remaining records.old) (λ text. IfSome (S.remaining cert.old) (λ spelt.
         HaveMap (records_of (layout_with options) text) (λ m. IsValidText m spelt)))) }
     ensures report { IfSound result (λ report. IfSome (R.remaining records.old) (λ text.

@@ -1,14 +1,17 @@
 //! The tree of a certificate, and the search for a place where chains meet that they may not.
 
-ghost use Rattle.std.specs.Prelude.{◌≡◌, ◌<◌, ◌^◌, [], length, IfOk, IfErr};
+ghost use Rattle.std.specs.Prelude.{◌≡◌, ◌<◌, ◌^◌, [], length, OnOk, IfOk, IfErr};
 ghost use Rattle.tl_tree.specs.Preorder.{IsPreorder};
+ghost use Rattle.tl_sides.specs.Keeping.Rounded.{AreSized, HaveTaken};
+ghost use Rattle.tl_cells.specs.Cells.{CellsAgree};
 ghost use Rattle.tl_cert.specs.Certificates.{TheCertificate};
 ghost use Rattle.tl_check.specs.Valid.{AreCounts};
-ghost use Rattle.tl_check.specs.Keeping.Parts.{Holds, TakesRounds, MayHalt};
+ghost use Rattle.tl_check.specs.Keeping.Parts.{Holds, TakesRounds, MayHalt, MayEnd};
 
 use crate::fault::{CertFault, MapFault};
 use crate::state::{Halt, State};
 use std::alloc::Global;
+use tl_cells::find_cells_at_odds;
 use tl_map::Map;
 use tl_planar::{Meeting, Segments, first_meet};
 use tl_sides::Rounds;
@@ -37,9 +40,27 @@ pub fn take_tree(alloc: Global, map: &Map, nodes: &[TreeNode], budget: u64) -> R
     match first_meet(map, &tree, budget) {
         Meeting::Found(meet) => Err(Halt::Fault(MapFault::Meet(meet))),
         Meeting::Budget => Err(Halt::Budget),
-        Meeting::Clear => match Rounds::new(alloc, map) {
+        Meeting::Clear => match begin_rounds(alloc, map) {
             Ok(rounds) => Ok(State::Rounding(rounds)),
-            Err(_) => Err(Halt::Memory),
+            Err(halt) => Err(halt),
         },
+    }
+}
+
+/// Begins the rounds of a map, whose zero-cell ids have to agree.
+fn begin_rounds(alloc: Global, map: &Map) -> Result<Rounds, Halt>
+    ensures agree { OnOk result (CellsAgree map.now.chains) }
+    ensures sized { IfOk result (AreSized map.now.chains) }
+    ensures none { IfOk result (HaveTaken map.now.chains []) }
+    ensures halts { IfErr result (MayEnd map.now) }
+{
+    match find_cells_at_odds(alloc, map) {
+        Ok(None) => {}
+        Ok(Some(odds)) => return Err(Halt::Fault(MapFault::Cell(odds))),
+        Err(_) => return Err(Halt::Memory),
+    }
+    match Rounds::new(alloc, map) {
+        Ok(rounds) => Ok(rounds),
+        Err(_) => Err(Halt::Memory),
     }
 }

@@ -5,6 +5,7 @@ use Rattle.tl_map.specs.TheMap.{TheMap}
 use Rattle.tl_planar.specs.Planar.{IsPlanar}
 use Rattle.tl_planar.specs.Searching.{meeting_segments}
 use Rattle.tl_sides.specs.Sides.{SidesAgree}
+use Rattle.tl_cells.specs.Cells.{CellsAgree}
 use Rattle.tl_cert.specs.declared.place.Place.{Place}
 use Rattle.tl_cert.specs.declared.place.Place.TheVariants as place
 use Rattle.tl_cert.specs.declared.reader.CertReader.{CertReader}
@@ -42,6 +43,7 @@ pub record IsSoundBy (m : TheMap) (text : Option (List ℕ)) (r : Report) : Type
   pub planar : IsPlanar m.chains
   pub sides : SidesAgree m.chains
   pub closed : AreClosed m
+  pub cells : CellsAgree m.chains
   pub report : IsReport m r
   pub valid : IfSome text (IsValidText m)
 

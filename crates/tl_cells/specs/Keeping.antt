@@ -1,0 +1,2 @@
+-- What is kept on the way: the first id at each node, and these by rising id.
+pub mod Kept
