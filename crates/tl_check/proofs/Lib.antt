@@ -4,3 +4,4 @@ pub mod Prefixes
 pub mod Shown
 pub mod Streaming
 pub mod Recorded
+pub mod Denials

@@ -10,6 +10,7 @@ mod as_read;
 mod counts;
 mod fault;
 mod in_memory;
+pub mod laws;
 mod of_records;
 mod rounds;
 mod state;
