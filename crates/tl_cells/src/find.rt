@@ -10,8 +10,11 @@ use std::alloc::Global;
 use tl_map::Map;
 use tl_tree::Memory;
 
-/// Two darts whose ids are at odds, if the zero-cell ids of a map don't agree. `Memory` comes where memory was refused: of
-/// a map in which a dart has an id, up to 24 bytes for each node are held until the answer; of any other map, none.
+/// Two darts whose zero-cell ids are at odds, if those of a map don't agree. Where there are several such pairs, which
+/// one is found is open.
+///
+/// Of a map in which a dart has an id it holds 24 bytes for each node until it answers, and `Memory` comes where those
+/// were refused. Of any other map it takes no memory.
 pub fn find_cells_at_odds(alloc: Global, map: &Map) -> Result<Option<CellsAtOdds>, Memory>
     ensures agree { IfOk result (λ found. IsNone found → CellsAgree map.now.chains) }
     ensures at_odds { IfOk result (λ found. IfSome found (λ odds.

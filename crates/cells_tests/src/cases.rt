@@ -1,0 +1,82 @@
+//! Worked examples.
+use crate::maps::{BEHIND, DEAD_END, Pair, SQUARE, map_of, records_of};
+use crate::plain::{do_agree, do_cells_agree};
+use std::alloc::Global;
+use std::test::Fail;
+use tl_cells::{CellsAtOdds, find_cells_at_odds};
+use tl_map::Map;
+
+/// What is found of a map of chains with these ids of their darts.
+fn found(
+    alloc: Global,
+    chains: &[&[Pair]],
+    ids: &[u32],
+    zero_cells: bool,
+) -> Result<Option<CellsAtOdds>, Fail> {
+    let map = map_of(alloc, &records_of(alloc, chains, ids)?, zero_cells)?;
+    Ok(find_cells_at_odds(alloc, &map)?)
+}
+
+/// Two darts that are at odds.
+fn odds(first: u32, second: u32, first_id: u64, second_id: u64) -> Option<CellsAtOdds> {
+    Some(CellsAtOdds {
+        first,
+        second,
+        first_id,
+        second_id,
+    })
+}
+
+#[test]
+fn worked_examples(rt: HostRuntime) -> Result<(), Fail> {
+    let alloc = rt.alloc();
+    let square: &[&[Pair]] = &[SQUARE];
+    assert!(rt; found(alloc, square, &[5, 5], true)? == None);
+    assert!(rt; found(alloc, square, &[5, 7], true)? == odds(0, 1, 5, 7));
+    assert!(rt; found(alloc, square, &[5, 7], false)? == None);
+    let dead_end: &[&[Pair]] = &[SQUARE, DEAD_END];
+    let twice = found(alloc, dead_end, &[5, 5, 5, 5], true)?;
+    assert!(rt;
+        twice == odds(0, 3, 5, 5) || twice == odds(1, 3, 5, 5) || twice == odds(2, 3, 5, 5)
+    );
+    assert!(rt; found(alloc, dead_end, &[5, 5, 0, 9], true)? == None);
+    // The lower dart comes first, whichever node comes first.
+    assert!(rt;
+        found(alloc, &[DEAD_END, &[(5, 5), (9, 5)]], &[0, 3, 3, 0], true)? == odds(1, 2, 3, 3)
+    );
+    Ok(())
+}
+
+/// Whether what is found of a map is what all pairs of darts say, and names two darts that are at odds by their ids.
+fn as_plainly(alloc: Global, map: &Map) -> Result<bool, Fail> {
+    Ok(match find_cells_at_odds(alloc, map)? {
+        None => do_cells_agree(map),
+        Some(odds) => {
+            !do_cells_agree(map)
+                && odds.first < odds.second
+                && odds.second < map.darts()
+                && !do_agree(map, odds.first, odds.second)
+                && map.dart_cell(odds.first) == Some(odds.first_id)
+                && map.dart_cell(odds.second) == Some(odds.second_id)
+        }
+    })
+}
+
+#[test]
+fn ids_by_all_pairs(rt: HostRuntime) -> Result<(), Fail> {
+    let alloc = rt.alloc();
+    for number in 0..243u32 {
+        // Each dart but the first has no id, 1 or 2, in each way.
+        let ids = [
+            2,
+            number % 3,
+            number / 3 % 3,
+            number / 9 % 3,
+            number / 27 % 3,
+            number / 81,
+        ];
+        let records = records_of(alloc, &[DEAD_END, BEHIND, SQUARE], &ids)?;
+        assert!(rt; as_plainly(alloc, &map_of(alloc, &records, true)?)?);
+    }
+    Ok(())
+}
