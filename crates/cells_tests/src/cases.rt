@@ -3,8 +3,34 @@ use crate::maps::{BEHIND, DEAD_END, Pair, SQUARE, map_of, records_of};
 use crate::plain::{do_agree, do_cells_agree};
 use std::alloc::Global;
 use std::test::Fail;
-use tl_cells::{CellsAtOdds, find_cells_at_odds};
+use tl_cells::find_cells_at_odds;
 use tl_map::Map;
+
+/// Two darts and their ids.
+type Odds = (u32, u32, u64, u64);
+
+/// A map's chains, the ids of its darts, where 0 is none, whether they are read, and the answers that are right.
+type Row<'a> = (&'a [&'a [Pair]], &'a [u32], bool, &'a [Option<Odds>]);
+
+const ROWS: &[Row<'_>] = &[
+    (&[SQUARE], &[5, 5], true, &[None]),
+    (&[SQUARE], &[5, 7], true, &[Some((0, 1, 5, 7))]),
+    (&[SQUARE], &[5, 7], false, &[None]),
+    (
+        &[SQUARE, DEAD_END],
+        &[5, 5, 5, 5],
+        true,
+        &[Some((0, 3, 5, 5)), Some((1, 3, 5, 5)), Some((2, 3, 5, 5))],
+    ),
+    (&[SQUARE, DEAD_END], &[5, 5, 0, 9], true, &[None]),
+    // The lower dart comes first, whichever node comes first.
+    (
+        &[DEAD_END, &[(5, 5), (9, 5)]],
+        &[0, 3, 3, 0],
+        true,
+        &[Some((1, 2, 3, 3))],
+    ),
+];
 
 /// What is found of a map of chains with these ids of their darts.
 fn found(
@@ -12,38 +38,20 @@ fn found(
     chains: &[&[Pair]],
     ids: &[u32],
     zero_cells: bool,
-) -> Result<Option<CellsAtOdds>, Fail> {
+) -> Result<Option<Odds>, Fail> {
     let map = map_of(alloc, &records_of(alloc, chains, ids)?, zero_cells)?;
-    Ok(find_cells_at_odds(alloc, &map)?)
-}
-
-/// Two darts that are at odds.
-fn odds(first: u32, second: u32, first_id: u64, second_id: u64) -> Option<CellsAtOdds> {
-    Some(CellsAtOdds {
-        first,
-        second,
-        first_id,
-        second_id,
+    Ok(match find_cells_at_odds(alloc, &map)? {
+        Some(odds) => Some((odds.first, odds.second, odds.first_id, odds.second_id)),
+        None => None,
     })
 }
 
 #[test]
 fn worked_examples(rt: HostRuntime) -> Result<(), Fail> {
-    let alloc = rt.alloc();
-    let square: &[&[Pair]] = &[SQUARE];
-    assert!(rt; found(alloc, square, &[5, 5], true)? == None);
-    assert!(rt; found(alloc, square, &[5, 7], true)? == odds(0, 1, 5, 7));
-    assert!(rt; found(alloc, square, &[5, 7], false)? == None);
-    let dead_end: &[&[Pair]] = &[SQUARE, DEAD_END];
-    let twice = found(alloc, dead_end, &[5, 5, 5, 5], true)?;
-    assert!(rt;
-        twice == odds(0, 3, 5, 5) || twice == odds(1, 3, 5, 5) || twice == odds(2, 3, 5, 5)
-    );
-    assert!(rt; found(alloc, dead_end, &[5, 5, 0, 9], true)? == None);
-    // The lower dart comes first, whichever node comes first.
-    assert!(rt;
-        found(alloc, &[DEAD_END, &[(5, 5), (9, 5)]], &[0, 3, 3, 0], true)? == odds(1, 2, 3, 3)
-    );
+    for (chains, ids, zero_cells, answers) in ROWS {
+        let given = found(rt.alloc(), chains, ids, *zero_cells)?;
+        assert!(rt; answers.contains(&given));
+    }
     Ok(())
 }
 
