@@ -1,18 +1,19 @@
 # make                     proves and builds the program
 # make check               the merge gate: every proof, must-fail edit, test and stored run, from nothing
 # make rows                plays the rows of tests/ over the program
-# make certificates         converts certificates and compares with a plain reader
+# make certificates        converts certificates and compares with a plain reader
 # make full-size           asks for each answer once with a million chains
 # make memory              refuses each allocation of the program, and of bench_tree, in its turn
+# make devices             fails each read and each write of the program in its turn
 # make examples            runs the commands of examples/README.md and compares what they print
-# make bench               measures the program on record files of 1,000 to 1,000,000 chains, searches in trees, and
-#                          certificates written and read
+# make bench               measures the program on record files of 1,000 to 1,000,000 chains, checks of counties, searches
+#                          in trees, and certificates written and read
 # make install PREFIX=..   installs the program as PREFIX/bin/tigertopo
 
 PREFIX = /usr/local
 PROGRAM = crates/tigertopo/out/tigertopo
 
-.PHONY: build check rows certificates full-size memory examples bench install
+.PHONY: build check rows certificates full-size memory devices examples bench install
 
 build:
 	cd crates/tigertopo && rt run -- --help >/dev/null
@@ -37,10 +38,14 @@ memory: build
 	cd crates/bench_tree && rt run >/dev/null
 	python3 tests/tree_memory.py
 
+devices: build
+	python3 tests/devices.py
+
 bench: build
 	cd crates/count_records && rt run >/dev/null
 	cd crates/bench_tree && rt run >/dev/null
 	cd crates/bench_cert && rt run >/dev/null
+	cd crates/bench_check && rt run >/dev/null
 	python3 bench/run.py
 
 install: build

@@ -1,7 +1,8 @@
 #!/usr/bin/env python3
 """Measures `tigertopo show` and `landmarks`, and a program that only counts records, beside `wc -l` of the same files;
-`bench_tree`, which makes the segments of a county and searches them, in a table of its own; and `bench_cert`, which writes
-and reads certificates, beside `wc -l` of the same file, in a third.
+`check` beside `show`, with the parts of a check as `bench_check` tells them, in a second table; `bench_tree`, which makes the
+segments of a county and searches them, in a third; and `bench_cert`, which writes and reads certificates, beside `wc -l` of
+the same file, in a fourth.
 
 usage: run.py [--sizes N,N,..] [--counties N,N,..] [--keys N] [--segments N,N,..] [--certificates N,N,..] [--runs N]
 
@@ -26,6 +27,7 @@ PROGRAM = CRATES / "tigertopo" / "out" / "tigertopo"
 COUNT = CRATES / "count_records" / "out" / "count_records"
 TREE = CRATES / "bench_tree" / "out" / "bench_tree"
 CERT = CRATES / "bench_cert" / "out" / "bench_cert"
+CHECK = CRATES / "bench_check" / "out" / "bench_check"
 NAMES = {
     "streets": "streets alone",
     "county": "a county",
@@ -44,6 +46,16 @@ def files_of(chains, kind):
         subprocess.run([sys.executable, BENCH / maker, folder, str(chains), *choices], check=True)
         (folder / "done").touch()
     return sorted(folder.glob("*.RT*"))
+
+
+def certificate_of(chains):
+    """A certificate of a whole county, and its records in one file."""
+    files = files_of(chains, "county")
+    certificate, records = (BENCH / "out" / f"{chains}-county" / name for name in ("certificate", "records"))
+    if not certificate.exists():
+        records.write_bytes(b"".join(file.read_bytes() for file in files))
+        subprocess.run([sys.executable, BENCH / "certificate.py", certificate, *files], check=True)
+    return certificate, records
 
 
 def seconds_of(words):
@@ -86,6 +98,22 @@ def rows(chains, kind, runs):
         seconds = statistics.median(found)
         yield (f"{chains:,} {NAMES[kind]}", f"{lines:,}", f"{size / 1e6:.1f}", name, f"{seconds * 1e3:.1f}",
                f"{seconds / base:.1f}", f"{lines / seconds / 1e6:.2f}", f"{peaks[name]:.1f}" if peaks[name] >= 0.1 else "-")
+
+
+def steps_of(words):
+    """The milliseconds of each step that a program tells of."""
+    done = subprocess.run(words, capture_output=True, text=True, check=True)
+    return [int(line.split()[-2]) / 1e3 for line in done.stderr.splitlines()]
+
+
+def check_rows(chains, runs):
+    files, (certificate, records) = files_of(chains, "county"), certificate_of(chains)
+    show, check = [PROGRAM, "show", *files], [PROGRAM, "check", "--cert", certificate, *files]
+    peak = peak_of(check)
+    found = [(seconds_of(show) * 1e3, seconds_of(check) * 1e3, *steps_of([CHECK, certificate, records])) for _ in range(runs)]
+    shown, checked, *parts = (statistics.median(column) for column in zip(*found))
+    yield (f"{chains:,}", f"{shown:.1f}", f"{checked:.1f}", f"{checked / shown:.1f}", *(f"{part:.1f}" for part in parts),
+           f"{parts[3] / shown:.2f}", f"{peak:.1f}", f"{peak * 2 ** 20 / chains:.0f}")
 
 
 def searched(segments):
@@ -159,6 +187,11 @@ def main():
     print_table(
         ("Chains", "Lines", "MB", "Program", "ms", "times `wc -l`", "million lines a second", "peak MB"),
         (row for kind, sizes in parts for chains in numbers(sizes) for row in rows(chains, kind, words.runs)))
+    print()
+    print_table(
+        ("Chains", "`show`, ms", "`check`, ms", "times `show`", "records read, ms", "certificate read, ms", "tree checked, ms",
+         "conflicts searched, ms", "all checked in memory, ms", "search, times `show`", "peak MB", "bytes a chain"),
+        (row for chains in numbers(words.counties) for row in check_rows(chains, words.runs)))
     print()
     print_table(
         ("Segments", "Children", "Tree", "rectangles made and sorted, ms", "search, ms", "times", "tests a segment",

@@ -26,6 +26,7 @@ def prove():
 
 def main():
     import certificates
+    import devices
     import full_size
     import memory
     import rows
@@ -45,6 +46,7 @@ def main():
         ("certificates", certificates.play_all),
         ("answers at full size", full_size.play_all),
         ("refused allocations", memory.play_all),
+        ("failed reads and writes", devices.play_all),
         ("examples", examples.play_all),
     ]
     counts = [timed(proofs)]

@@ -61,10 +61,17 @@ int posix_memalign(void **p, size_t a, size_t n) { return refused() ? 12 : (*p =
 """
 
 
-def answer_of(words, library, which):
-    """The answer with that allocation refused, and whether the program came to it."""
+def library_of(folder, source):
+    """A library that stands before the C library's calls, built from its source."""
+    library = f"{folder}/before.so"
+    subprocess.run(["cc", "-shared", "-fPIC", "-O1", "-o", library, "-x", "c", "-"], input=source, text=True, check=True)
+    return library
+
+
+def answer_of(words, library, which, asked="REFUSED_ALLOCATION"):
+    """The answer with that allocation refused, or the call that is asked for failed, and whether the program came to it."""
     reached, told = os.pipe()
-    environment = {**os.environ, "LD_PRELOAD": library, "REFUSED_ALLOCATION": str(which)}
+    environment = {**os.environ, "LD_PRELOAD": library, asked: str(which)}
 
     def lend():
         os.dup2(told, 9)
@@ -81,8 +88,7 @@ def answer_of(words, library, which):
 def play_all(program=PROGRAM):
     """How many refused allocations were answered well, and how many weren't."""
     with tempfile.TemporaryDirectory() as folder:
-        library = f"{folder}/refuse.so"
-        subprocess.run(["cc", "-shared", "-fPIC", "-O1", "-o", library, "-x", "c", "-"], input=REFUSE, text=True, check=True)
+        library = library_of(folder, REFUSE)
         count = failed = 0
         for words in RUNS:
             usual, _ = answer_of([program, *words], library, 0)
