@@ -15,7 +15,10 @@ import tempfile
 from pathlib import Path
 
 from layout import line_of
-from rows import PROGRAM
+from rows import PROGRAM, TOP
+
+sys.path.append(str(TOP / "bench"))
+from certificate import tree_of
 
 CHAIN_LIMIT = 1_048_576
 POLYGON_LIMIT = 1_048_576
@@ -111,7 +114,48 @@ def play_all(program=PROGRAM):
         refusal = f"refused line {lines + 1} L4 OutOfRange TOLAT\n"
         plays.play("a late refusal", [county_file, late], 3, "", refusal)
         play_maps(plays, county_file, tlids)
+        play_checks(plays)
     return plays.passed, plays.failed
+
+
+def single_streets(count):
+    """So many streets of one segment that touch no other, each of two millionths, and the rectangles of their segments."""
+    rects = [(3 * (k % 1_000), 2 * (k // 1_000), 3 * (k % 1_000) + 2, 2 * (k // 1_000)) for k in range(count)]
+    numbered = lambda k, rect: chain(k + 1, rect[:2], rect[2:])[0].encode() + line_of("sides 7 - -").replace(b"%10d" % 7, b"%10d" % (k + 1))
+    return [numbered(k, rect) for k, rect in enumerate(rects)], rects
+
+
+def certificate_of_streets(rects, walks):
+    """The lines of a certificate of such streets, up to the tree, and those behind it, with so many walks."""
+    tree, count = [], len(rects)
+    _, nodes = tree_of(rects, range(count), tree)
+    head = ["TIGERCERT 2", f"C {count} {count} {2 * count} 0", f"T {nodes}", *tree]
+    tail = [f"N {2 * count}"] + [f"R 1\nD {d}" for d in range(2 * count)]
+    tail += [f"W {walks}"] + [f"K 2\nD {2 * c}\nD {2 * c + 1}" for c in range(walks)] + ["END"]
+    return [("\n".join(lines) + "\n").encode() for lines in (head, tail)]
+
+
+def play_checks(plays):
+    """Answers of `check` with as many chains as the limit allows."""
+    lines, rects = single_streets(CHAIN_LIMIT)
+    checked = lambda title, names, status, out="", err="": plays.play(title, ["--cert", *names], status, out, err, command="check")
+    streets = plays.file("streets", b"".join(lines))
+    head, tail = certificate_of_streets(rects, CHAIN_LIMIT)
+    numbers = f"chains={CHAIN_LIMIT} segments={CHAIN_LIMIT} nodes={2 * CHAIN_LIMIT} polygons=0 landmarks=0 rings={CHAIN_LIMIT}"
+    checked("the most chains, sound", [plays.file("cert", head + tail), streets], 0, f"sound {numbers}\n")
+    # Without its last line, the line that begins there is the one that no certificate has.
+    cut = (head + tail).removesuffix(b"END\n")
+    fault = f"certificate fault K1 Text line {cut.count(bytes([10])) + 1}\n"
+    checked("a certificate without its end", [plays.file("cut", cut), streets], 2, fault)
+
+    # The last street starts in the middle of the one before it.
+    x, y = rects[-2][0] + 1, rects[-2][1]
+    rects[-1] = (x, y, x, y + 1)
+    last = chain(CHAIN_LIMIT, (x, y), (x, y + 1))[0].encode() + lines[-1].split(b"\n", 1)[1]
+    touched = plays.file("touched", b"".join(lines[:-1]) + last)
+    head, _ = certificate_of_streets(rects, 0)
+    meet = f"tlid {CHAIN_LIMIT - 1} segment {CHAIN_LIMIT - 2} tlid {CHAIN_LIMIT} segment {CHAIN_LIMIT - 1} at {x} {y} 1"
+    checked("two streets that meet", [plays.file("tree", head), touched], 1, f"map fault G1 Meet {meet}\n")
 
 
 def play_maps(plays, county_file, tlids):

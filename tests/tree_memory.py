@@ -8,12 +8,11 @@ refused, and end with status 1; or print all of it, where it can do without that
 needs.
 """
 
-import subprocess
 import sys
 import tempfile
 from pathlib import Path
 
-from memory import REFUSE, answer_of
+from memory import REFUSE, answer_of, library_of
 
 PROGRAM = Path(__file__).resolve().parent.parent / "crates" / "bench_tree" / "out" / "bench_tree"
 SEGMENTS = "300"
@@ -22,8 +21,7 @@ SEGMENTS = "300"
 def play_all(program=PROGRAM):
     """How many refused allocations were answered well, and how many weren't."""
     with tempfile.TemporaryDirectory() as folder:
-        library = f"{folder}/refuse.so"
-        subprocess.run(["cc", "-shared", "-fPIC", "-O1", "-o", library, "-x", "c", "-"], input=REFUSE, text=True, check=True)
+        library = library_of(folder, REFUSE)
         (_, usual, _), _ = answer_of([program, SEGMENTS], library, 0)
         count = failed = 0
         for which in range(1, 100_000):
