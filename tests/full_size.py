@@ -115,6 +115,7 @@ def play_all(program=PROGRAM):
         plays.play("a late refusal", [county_file, late], 3, "", refusal)
         play_maps(plays, county_file, tlids)
         play_checks(plays)
+        play_path(plays)
     return plays.passed, plays.failed
 
 
@@ -156,6 +157,35 @@ def play_checks(plays):
     head, _ = certificate_of_streets(rects, 0)
     meet = f"tlid {CHAIN_LIMIT - 1} segment {CHAIN_LIMIT - 2} tlid {CHAIN_LIMIT} segment {CHAIN_LIMIT - 1} at {x} {y} 1"
     checked("two streets that meet", [plays.file("tree", head), touched], 1, f"map fault G1 Meet {meet}\n")
+
+
+def path_of(count):
+    """The records of so many chains along a parallel, each from the end of the one before, and a certificate of their map,
+    whose one ring runs east and back."""
+    records = "".join(chain(k + 1, (k, 0), (k + 1, 0))[0] for k in range(count))
+    side = line_of("sides 7777777777 - -").decode()
+    records += "".join(side.replace("7777777777", f"{k + 1:10}") for k in range(count))
+    tree = []
+    _, nodes = tree_of([(k, 0, k + 1, 0) for k in range(count)], range(count), tree)
+    between = [f"R 2\nD {2 * k}\nD {2 * k - 1}" for k in range(1, count)]
+    ring = [*range(0, 2 * count, 2), *range(2 * count - 1, 0, -2)]
+    lines = ["TIGERCERT 2", f"C {count} {count} {count + 1} 0", f"T {nodes}", *tree, f"N {count + 1}", "R 1\nD 0", *between]
+    lines += [f"R 1\nD {2 * count - 1}", "W 1", f"K {2 * count}", *(f"D {dart}" for dart in ring), "END"]
+    return records, ("\n".join(lines) + "\n").encode()
+
+
+def play_path(plays):
+    """Answers of `check` with as many chains as the limit allows, of which each two neighbours meet, and no others."""
+    records, certificate = path_of(CHAIN_LIMIT)
+    path, cert = plays.file("path", records), plays.file("cert", certificate)
+    checked = lambda title, words, status, out="", err="": plays.play(title, words, status, out, err, command="check")
+    pairs, node, darts = CHAIN_LIMIT - 1, CHAIN_LIMIT // 2, b"D %d\nD %d\n"
+    sound = f"sound chains={CHAIN_LIMIT} segments={CHAIN_LIMIT} nodes={CHAIN_LIMIT + 1} polygons=0 landmarks=0 rings=1\n"
+    checked("as many tests as pairs", ["--cert", cert, "--tests", str(pairs), path], 0, sound)
+    checked("one test less", ["--cert", cert, "--tests", str(pairs - 1), path], 4, err="stopped Budget\n")
+    falling = certificate.replace(darts % (2 * node, 2 * node - 1), darts % (2 * node - 1, 2 * node), 1)
+    fault = f"certificate fault K4 Round OrderNotRising {node}\n"
+    checked("a round that falls", ["--cert", plays.file("falling", falling), path], 2, fault)
 
 
 def play_maps(plays, county_file, tlids):

@@ -20,3 +20,17 @@ pub const LINE: &str = "10000         2\
 
 /// What `show` prints for it.
 pub const LINE_SHOWN: &str = "tlid 2 1,-2 3,4\nchains=1 segments=1 skipped=0\n";
+
+/// Its sides: polygon 1 on the left, nothing on the right.
+pub const SQUARE_SIDES: &str = "I0000         1                         A0001         1";
+
+/// The polygon's point (20,20).
+pub const SQUARE_POINT: &str = "P0000     A0001         1+000000020+00000020";
+
+/// The certificate of its map.
+pub const SQUARE_CERT: &str = "TIGERCERT 1\nC 1 4 1 1\nT 1\nL 10 10 30 30 4\nS 0\nS 1\nS 2\nS 3\n\
+    N 1\nR 2\nD 0\nD 1\nW 2\nK 1\nD 0\nK 1\nD 1\nEND\n";
+
+/// What `check` prints for it.
+pub const SQUARE_REPORT: &str =
+    "sound chains=1 segments=4 nodes=1 polygons=1 landmarks=0 rings=2\n";

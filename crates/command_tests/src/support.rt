@@ -140,13 +140,27 @@ pub fn show<R: Read + Drop>(
     err: &mut Kept,
 ) -> Result<u8, PlanStop> {
     let plan = plan(alloc, ["show", "records"].as_slice())?;
-    Ok(run_plan(alloc, &plan, records, out, err))
+    Ok(run_plan(alloc, &plan, records, io::empty(), out, err))
 }
 
-fn run_plan<R: Read + Drop>(
+/// Runs `check` over readers of records and of a certificate, and gives the status.
+pub fn decide<R: Read + Drop, S: Read + Drop>(
+    alloc: Global,
+    records: R,
+    cert: S,
+    out: &mut Kept,
+    err: &mut Kept,
+) -> Result<u8, PlanStop> {
+    let words = ["check", "--cert", "certificate", "records"];
+    let plan = plan(alloc, words.as_slice())?;
+    Ok(run_plan(alloc, &plan, records, cert, out, err))
+}
+
+fn run_plan<R: Read + Drop, S: Read + Drop>(
     alloc: Global,
     plan: &Plan,
     records: R,
+    cert: S,
     out: &mut Kept,
     err: &mut Kept,
 ) -> u8 {
@@ -154,7 +168,7 @@ fn run_plan<R: Read + Drop>(
         alloc,
         plan,
         &mut Meter::new(records),
-        &mut Meter::new(io::empty()),
+        &mut Meter::new(cert),
         &mut MeterOut::new(io::sink()),
         &mut MeterOut::new(out),
         &mut MeterOut::new(err),

@@ -1,1 +1,2 @@
+pub mod CheckLemmas
 pub mod RunLemmas

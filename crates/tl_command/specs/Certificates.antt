@@ -2,10 +2,6 @@
 use Rattle.std.specs.Prelude.{ℕ, List, ◌++◌, length, codes, decimal}
 use Rattle.tl_cert.specs.Certificates.{TheCertificate}
 
--- the line of a text that no certificate has
-abbrev pub text_fault_text : ℕ → List ℕ
-text_fault_text line = codes "certificate fault K1 Text line " ++ decimal line
-
 -- the counts of a conversion
 abbrev pub counts_text : ℕ → ℕ → ℕ → List ℕ
 counts_text nodes rounds walks = codes "converted nodes=" ++ decimal nodes ++ codes " rounds=" ++ decimal rounds ++ codes " walks=" ++ decimal walks

@@ -3,3 +3,4 @@ pub mod Running
 pub mod Starting
 pub mod Stops
 pub mod Certificates
+pub mod Verdicts

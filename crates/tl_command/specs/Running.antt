@@ -1,15 +1,15 @@
 -- What a run may answer: for each exit status, what was written and what is true of the records.
 --
--- `layout` is the column table that the records are read by; `known` is the text of the record files, where it is known;
--- `wrote` says of a text that it was written.
-use Rattle.std.specs.Prelude.{◌≡◌, ◌⊎◌, ℕ, List, Option, None, Some, IfSome, Result, Ok, Err, ⊤}
+-- `layout` is the column table that the records are read by; `known` is the text of the record files, where it is known, and
+-- `spelt` that of the certificate; `wrote` says of a text that it was written.
+use Rattle.std.specs.Prelude.{◌≡◌, ◌⊎◌, ◌<◌, ℕ, List, Option, None, Some, IfSome, Result, Ok, Err, ⊤}
 use Rattle.tl_record.specs.declared.stop.Cause.{Cause}
 use Rattle.tl_record.specs.Failures.{one_more}
 use Rattle.tl_record.specs.declared.layout.Layout.{Layout}
 use Rattle.tl_record.specs.Layout.{tiger_2006, layout_with}
 use Rattle.tl_record.specs.Messages.{refusal_text}
 use Rattle.tl_record.specs.Records.{records_of}
-use Rattle.tl_map.specs.declared.fault.MapFault.{MapFault}
+use Rattle.tl_map.specs.declared.fault.MapFault.{MapFault as RecordFault}
 use Rattle.tl_map.specs.declared.fault.MapStop.{MapStop}
 use Rattle.tl_map.specs.declared.fault.MapStop.TheVariants as map_stop
 use Rattle.tl_map.specs.Chains.{ChainList}
@@ -20,18 +20,30 @@ use Rattle.tl_map.specs.Reading.{AreReadFrom, IsReadFrom, records_in}
 use Rattle.tl_text.specs.Printing.{shown_text, listing_text}
 use Rattle.tl_output.specs.Writing.{line_of}
 use Rattle.tl_command.specs.declared.stop.Stop.{Stop}
-use Rattle.tl_command.specs.declared.stop.Stop.TheVariants.{Refused, Memory, Device}
+use Rattle.tl_command.specs.declared.stop.Stop.TheVariants.{Refused, Memory, Device, Budget}
 use Rattle.tl_command.specs.declared.stop.TheConstants.{DONE, MAP_FAULT, CERT_FAULT, REFUSED, STOPPED}
 use Rattle.tl_plan.specs.declared.plan.Plan.{Plan}
-use Rattle.tl_plan.specs.declared.plan.Plan.TheVariants.{Show, Landmarks, Convert}
+use Rattle.tl_plan.specs.declared.plan.Plan.TheVariants.{Show, Landmarks, Convert, Check}
 use Rattle.tl_cert.specs.Certificates.{TheCertificate, IsCertificate}
 use Rattle.tl_cert.specs.Text.{certificate_text}
 use Rattle.tl_cert.specs.Beginnings.{IsTextOf, IsRefused}
-use Rattle.tl_command.specs.Certificates.{converted_text, text_fault_text}
+use Rattle.tl_planar.specs.Searching.{meeting_segments}
+use Rattle.tl_check.specs.declared.fault.MapFault.{MapFault}
+use Rattle.tl_check.specs.declared.fault.CertFault.{CertFault}
+use Rattle.tl_check.specs.declared.fault.CertFault.TheVariants as cert_fault
+use Rattle.tl_check.specs.declared.verdict.Report.{Report}
+use Rattle.tl_check.specs.declared.verdict.Verdict.TheVariants as verdict
+use Rattle.tl_check.specs.Sound.{IsSound}
+use Rattle.tl_check.specs.Verdicts.{IsReport}
+use Rattle.tl_check.specs.Texts.{IsValidText, IsTrueOfText}
+use Rattle.tl_check.specs.Records.{HaveMap, IsTrueOfRecords, LeavesUnread}
+use Rattle.tl_check.specs.Messages.{map_fault_text, cert_fault_text}
+use Rattle.tl_command.specs.Certificates.{converted_text}
+use Rattle.tl_command.specs.Verdicts.{sound_text}
 use Rattle.tl_command.specs.Stops.{stop_text}
 
 -- no line of the text is refused, and the fault is true of its records
-abbrev pub HasFault : Layout → List ℕ → MapFault → Type 0
+abbrev pub HasFault : Layout → List ℕ → RecordFault → Type 0
 HasFault layout text fault = ((records_of layout text).refusal ≡ None) × IsTrueOf (records_in (records_of layout text)) fault
 
 -- this is the first line of the text that is refused, and why it is
@@ -64,39 +76,92 @@ pub record IsConverted (known : Option (List ℕ)) (made wrote : List ℕ → Ty
 -- no certificate has the text, and the line that none has was named
 pub record NamesBadLine (known : Option (List ℕ)) (wrote : List ℕ → Type 0) : Type 0 where
   pub line : ℕ
-  pub written : wrote (line_of (text_fault_text line))
+  pub written : wrote (line_of (cert_fault_text (cert_fault.Text line)))
   pub holds : IfSome known (λ text. IsRefused text line)
+
+-- the map is sound, the report is its report, and the certificate's text, where it is known, is that of a certificate that is
+-- valid for it
+pub record IsDecided (report : Report) (spelt : Option (List ℕ)) (m : TheMap) : Type 0 where
+  pub sound : IsSound m
+  pub reported : IsReport m report
+  pub valid : IfSome spelt (λ text. IsValidText m text)
+
+-- the line of a sound map was written, and the map of the records is sound: no line is refused and they have one
+pub record IsChecked (layout : Layout) (known spelt : Option (List ℕ)) (wrote : List ℕ → Type 0) : Type 0 where
+  pub report : Report
+  pub written : wrote (line_of (sound_text report))
+  pub decided : IfSome known (λ text. HaveMap (records_of layout text) (IsDecided report spelt))
+
+-- the line of a fault of a certificate was written, and it is true of the certificate's text, beside the map of the records
+pub record NamesCertFault (layout : Layout) (known spelt : Option (List ℕ)) (wrote : List ℕ → Type 0) : Type 0 where
+  pub fault : CertFault
+  pub written : wrote (line_of (cert_fault_text fault))
+  pub holds :
+      IfSome known (λ text. IfSome spelt (λ certificate. HaveMap (records_of layout text) (λ m. IsTrueOfText m certificate fault)))
 
 -- the column table that a plan's records are read by; a conversion reads none
 abbrev pub layout_of : Plan → Layout
 layout_of (Show options files) = layout_with options
 layout_of (Landmarks options files) = layout_with options
 layout_of (Convert cert made) = tiger_2006
+layout_of (Check cert budget options files) = layout_with options
 
--- the plan's command leaves certificates alone
+-- the plan's command leaves the certificate alone that is read
 abbrev pub ReadsNoCertificate : Plan → Type 0
 ReadsNoCertificate (Show options files) = ⊤
 ReadsNoCertificate (Landmarks options files) = ⊤
 ReadsNoCertificate (Convert cert made) = ⊥
+ReadsNoCertificate (Check cert budget options files) = ⊥
 
--- the answer of a plan whose command reads records was written
+-- the plan's command leaves the certificate alone that is made
+abbrev pub MakesNoCertificate : Plan → Type 0
+MakesNoCertificate (Show options files) = ⊤
+MakesNoCertificate (Landmarks options files) = ⊤
+MakesNoCertificate (Convert cert made) = ⊥
+MakesNoCertificate (Check cert budget options files) = ⊤
+
+-- the plan's command leaves records alone
+abbrev pub ReadsNoRecords : Plan → Type 0
+ReadsNoRecords (Show options files) = ⊥
+ReadsNoRecords (Landmarks options files) = ⊥
+ReadsNoRecords (Convert cert made) = ⊤
+ReadsNoRecords (Check cert budget options files) = ⊥
+
+-- the answer of a plan whose command reads records, and no certificate, was written
 abbrev pub AnswersRecords : Plan → Option (List ℕ) → (List ℕ → Type 0) → Type 0
 AnswersRecords (Show options files) records wrote = IsShown (layout_with options) records wrote
 AnswersRecords (Landmarks options files) records wrote = IsListed (layout_with options) records wrote
 AnswersRecords (Convert cert made) records wrote = ⊤
+AnswersRecords (Check cert budget options files) records wrote = ⊤
 
--- what the plan asks for was written: `records` and `cert` are the texts of the records and of the certificate, where they
+-- what the plan asks for was written: `records` and `spelt` are the texts of the records and of the certificate, where they
 -- are known
 abbrev pub IsAnswered : Plan → Option (List ℕ) → Option (List ℕ) → (List ℕ → Type 0) → (List ℕ → Type 0) → Type 0
-IsAnswered (Show options files) records cert made wrote = IsShown (layout_with options) records wrote
-IsAnswered (Landmarks options files) records cert made wrote = IsListed (layout_with options) records wrote
-IsAnswered (Convert from to) records cert made wrote = IsConverted cert made wrote
+IsAnswered (Show options files) records spelt made wrote = IsShown (layout_with options) records wrote
+IsAnswered (Landmarks options files) records spelt made wrote = IsListed (layout_with options) records wrote
+IsAnswered (Convert from to) records spelt made wrote = IsConverted spelt made wrote
+IsAnswered (Check cert budget options files) records spelt made wrote = IsChecked (layout_with options) records spelt wrote
 
--- the line of a fault was written, and it is true
-pub record NamesFault (layout : Layout) (known : Option (List ℕ)) (wrote : List ℕ → Type 0) : Type 0 where
-  pub fault : MapFault
+-- the line of a fault of the records was written, and it is true
+pub record NamesRecordFault (layout : Layout) (known : Option (List ℕ)) (wrote : List ℕ → Type 0) : Type 0 where
+  pub fault : RecordFault
   pub written : wrote (line_of (fault_text fault))
   pub holds : IfSome known (λ text. HasFault layout text fault)
+
+-- the line of a fault of the records or of their map was written, and it is true; where the records have no map, `unread`,
+-- which says that nothing of the certificate was read
+pub record NamesFault (layout : Layout) (known : Option (List ℕ)) (unread : Type 0) (wrote : List ℕ → Type 0) : Type 0 where
+  pub fault : MapFault
+  pub written : wrote (line_of (map_fault_text fault))
+  pub holds : IfSome known (λ text. IsTrueOfRecords (records_of layout text) fault)
+  pub alone : LeavesUnread (Ok (verdict.MapFault fault)) unread
+
+-- a fault was named that the plan's command looks for
+abbrev pub FaultsMap : Plan → Option (List ℕ) → Type 0 → (List ℕ → Type 0) → Type 0
+FaultsMap (Show options files) known unread wrote = NamesRecordFault (layout_with options) known wrote
+FaultsMap (Landmarks options files) known unread wrote = NamesRecordFault (layout_with options) known wrote
+FaultsMap (Convert cert made) known unread wrote = ⊥
+FaultsMap (Check cert budget options files) known unread wrote = NamesFault (layout_with options) known unread wrote
 
 -- the line of the first refusal was written
 pub record NamesRefusal (layout : Layout) (known : Option (List ℕ)) (wrote : List ℕ → Type 0) : Type 0 where
@@ -105,15 +170,32 @@ pub record NamesRefusal (layout : Layout) (known : Option (List ℕ)) (wrote : L
   pub written : wrote (line_of (refusal_text line cause))
   pub first : IfSome known (λ text. IsFirstRefusal layout text line cause)
 
--- the plan's command reads a certificate, and no certificate has its text
-abbrev pub FaultsCertificate : Plan → Option (List ℕ) → (List ℕ → Type 0) → Type 0
-FaultsCertificate (Show options files) known wrote = ⊥
-FaultsCertificate (Landmarks options files) known wrote = ⊥
-FaultsCertificate (Convert cert made) known wrote = NamesBadLine known wrote
+-- the plan's command reads a certificate, and a fault of it was named: of a conversion, that no certificate has its text
+abbrev pub FaultsCertificate : Plan → Option (List ℕ) → Option (List ℕ) → (List ℕ → Type 0) → Type 0
+FaultsCertificate (Show options files) records spelt wrote = ⊥
+FaultsCertificate (Landmarks options files) records spelt wrote = ⊥
+FaultsCertificate (Convert cert made) records spelt wrote = NamesBadLine spelt wrote
+FaultsCertificate (Check cert budget options files) records spelt wrote = NamesCertFault (layout_with options) records spelt wrote
 
 -- the line of a stop was written: of a want of memory, or of a device where one failed
 abbrev pub NamesStop : (List ℕ → Type 0) → Type 0 → Type 0
 NamesStop wrote failed = wrote (line_of (stop_text Memory)) ⊎ (wrote (line_of (stop_text Device)) × failed)
+
+-- the line of a spent budget was written, and more pairs of the map's segments than the budget have rectangles that meet
+pub record NamesBudget (layout : Layout) (budget : ℕ) (known : Option (List ℕ)) (wrote : List ℕ → Type 0) : Type 0 where
+  pub written : wrote (line_of (stop_text Budget))
+  pub spent : IfSome known (λ text. HaveMap (records_of layout text) (λ m. budget < meeting_segments m.chains))
+
+-- the plan has a budget, and it was spent
+abbrev pub SpendsBudget : Plan → Option (List ℕ) → (List ℕ → Type 0) → Type 0
+SpendsBudget (Show options files) known wrote = ⊥
+SpendsBudget (Landmarks options files) known wrote = ⊥
+SpendsBudget (Convert cert made) known wrote = ⊥
+SpendsBudget (Check cert budget options files) known wrote = NamesBudget (layout_with options) budget known wrote
+
+-- why the plan's command stopped was written
+abbrev pub StopsRun : Plan → Option (List ℕ) → (List ℕ → Type 0) → Type 0 → Type 0
+StopsRun plan known wrote failed = NamesStop wrote failed ⊎ SpendsBudget plan known wrote
 
 -- the statuses that a run answers with
 abbrev pub IsRunStatus : ℕ → Type 0
@@ -129,6 +211,7 @@ IsTold (Refused line cause) status wrote =
     ((status ≡ REFUSED) × wrote (line_of (refusal_text line cause))) ⊎ ((status ≡ STOPPED) × wrote (line_of (stop_text Memory)))
 IsTold Memory status wrote = (status ≡ STOPPED) × wrote (line_of (stop_text Memory))
 IsTold Device status wrote = (status ≡ STOPPED) × (wrote (line_of (stop_text Memory)) ⊎ wrote (line_of (stop_text Device)))
+IsTold Budget status wrote = (status ≡ STOPPED) × (wrote (line_of (stop_text Memory)) ⊎ wrote (line_of (stop_text Budget)))
 
 -- why nothing was answered: `failed` says that a read or a write failed, `stays` that the output is as it was
 abbrev pub StopsAnswer : Layout → Option (List ℕ) → Type 0 → Type 0 → MapStop → Type 0

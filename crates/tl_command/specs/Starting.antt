@@ -4,11 +4,11 @@ use Rattle.clap.specs.Faults.{fault_of}
 use Rattle.clap.specs.Walk.{Text}
 use Rattle.tl_plan.specs.declared.plan.Plan.{Plan}
 use Rattle.tl_command.specs.declared.stop.Stop.{Stop}
-use Rattle.tl_command.specs.declared.stop.Stop.TheVariants.{Refused, Memory, Device}
+use Rattle.tl_command.specs.declared.stop.Stop.TheVariants.{Refused, Memory, Device, Budget}
 use Rattle.tl_command.specs.declared.stop.TheConstants.{USAGE}
 use Rattle.tl_plan.specs.CommandLine.{command_line, AskFor, AreAUse, HasMistake, HasAnswer}
 use Rattle.tl_plan.specs.Plans.{escape}
-use Rattle.tl_command.specs.Running.{IsRunStatus, IsAnswered, NamesFault, NamesRefusal, FaultsCertificate, layout_of}
+use Rattle.tl_command.specs.Running.{IsRunStatus, IsAnswered, FaultsMap, NamesRefusal, FaultsCertificate, NamesStop, StopsRun, layout_of}
 
 -- the statuses of the program
 abbrev pub IsStartStatus : ℕ → Type 0
@@ -18,17 +18,21 @@ IsStartStatus status = IsRunStatus status ⊎ (status ≡ USAGE)
 abbrev pub AnswersSome : List Text → (List ℕ → Type 0) → Type 0
 AnswersSome words wrote = (plan : Plan) × AskFor words plan × IsAnswered plan None None (λ text. ⊤) wrote
 
--- the words ask for a plan, and a fault of its records was named
+-- the words ask for a plan, and a fault of its records or of their map was named
 abbrev pub FaultsSome : List Text → (List ℕ → Type 0) → Type 0
-FaultsSome words wrote = (plan : Plan) × AskFor words plan × NamesFault (layout_of plan) None wrote
+FaultsSome words wrote = (plan : Plan) × AskFor words plan × FaultsMap plan None ⊤ wrote
 
--- the words ask for a plan, and the line of its certificate's text that no certificate has was named
+-- the words ask for a plan, and a fault of its certificate was named
 abbrev pub FaultsText : List Text → (List ℕ → Type 0) → Type 0
-FaultsText words wrote = (plan : Plan) × AskFor words plan × FaultsCertificate plan None wrote
+FaultsText words wrote = (plan : Plan) × AskFor words plan × FaultsCertificate plan None None wrote
 
 -- the words ask for a plan, and the first refusal of its records was told
 abbrev pub RefusesSome : List Text → (List ℕ → Type 0) → Type 0
 RefusesSome words wrote = (plan : Plan) × AskFor words plan × NamesRefusal (layout_of plan) None wrote
+
+-- the words make no plan for want of memory, or they ask for one that is stopped, and why was written
+abbrev pub StopsSome : List Text → (List ℕ → Type 0) → Type 0
+StopsSome words wrote = NamesStop wrote ⊤ ⊎ ((plan : Plan) × AskFor words plan × StopsRun plan None wrote ⊤)
 
 -- the words are no use of a command, and a text without an escape was written
 pub record ShowsUsage (words : List Text) (wrote : List ℕ → Type 0) : Type 0 where
@@ -38,7 +42,7 @@ pub record ShowsUsage (words : List Text) (wrote : List ℕ → Type 0) : Type 0
   pub no_escape : All (λ byte. byte ≢ escape) text
   pub written : wrote text
 
--- the words wish for help, and a text without an escape was written
+-- the words wish for help or for the version, and a text without an escape was written
 pub record ShowsHelp (words : List Text) (wrote : List ℕ → Type 0) : Type 0 where
   pub no_use : ¬ AreAUse words
   pub wish : HasAnswer (fault_of command_line words)
@@ -51,3 +55,4 @@ abbrev pub StopsOpening : Stop → Type 0
 StopsOpening (Refused line cause) = ⊥
 StopsOpening Memory = ⊤
 StopsOpening Device = ⊤
+StopsOpening Budget = ⊥

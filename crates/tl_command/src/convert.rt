@@ -1,33 +1,18 @@
 //! Certificates in version 2.
 
-ghost use Rattle.std.specs.Prelude.{◌≡◌, ◌⊎◌};
+ghost use Rattle.std.specs.Prelude.{◌≡◌, ◌≢◌, ◌⊎◌};
 ghost use Rattle.tl_output.specs.Writing.{Writes, TriesToWrite, FailsToWrite, line_of};
 ghost use Rattle.tl_command.specs.declared.stop.TheConstants.{DONE, CERT_FAULT, STOPPED};
-ghost use Rattle.tl_command.specs.Certificates.{text_fault_text, counts_text, converted_text};
+ghost use Rattle.tl_command.specs.Certificates.{counts_text, converted_text};
 ghost use Rattle.tl_command.specs.Running.{IsConverted, NamesBadLine, NamesStop, FailsToRead};
 
 use crate::stop::{CERT_FAULT, DONE, Stop, stopped};
+use crate::tell::tell_line;
 use std::alloc::Global;
 use std::fmt;
 use tl_cert::{CertStop, Certificate, read_cert, write_cert};
-use tl_output::{LineStop, print_line};
+use tl_check::CertFault;
 use tl_record::{Sink, Source};
-
-// No certificate has the text, and none has this line.
-#[derive(Clone, Copy)]
-struct TextFault {
-    line: u128,
-}
-
-impl fmt::Display for TextFault {
-    ghost use Rattle.std.specs.Prelude.{Some};
-
-    ghost output = { λ fault. Some (text_fault_text fault.line) };
-
-    fn fmt<W: fmt::Write>(&self, f: &mut fmt::Formatter<W>) -> fmt::Result {
-        write!(f, "certificate fault K1 Text line {}", self.line)
-    }
-}
 
 // What was converted.
 #[derive(Clone, Copy)]
@@ -71,33 +56,19 @@ pub fn convert<S: Source, C: Sink, W: Sink, E: Sink>(
         ⊎ (FailsToWrite C.failure_count made.old made.new ⊎ FailsToWrite W.failure_count out.old out.new)) }
     ensures err_stays { (result ≡ DONE) ⊎ (result ≡ CERT_FAULT) → err.new ≡ err.old }
     ensures made_stays { result ≡ CERT_FAULT → made.new ≡ made.old }
+    ensures read_whole { result ≢ STOPPED → S.failure_count cert.new ≡ S.failure_count cert.old }
 {
     let certificate = match read_cert(alloc, cert) {
         Ok(certificate) => certificate.to_v2(),
-        Err(CertStop::Text { line }) => return name_text_fault(line, out, err),
+        Err(CertStop::Text { line }) => {
+            return tell_line(&CertFault::Text { line }, CERT_FAULT, out, err);
+        }
         Err(CertStop::Memory) => return stopped(&Stop::Memory, err),
         Err(CertStop::Device) => return stopped(&Stop::Device, err),
     };
     match write_cert(&certificate, made) {
         Ok(()) => tell_converted(&certificate, out, err),
         Err(_) => stopped(&Stop::Device, err),
-    }
-}
-
-// Names the line that no certificate has.
-fn name_text_fault<W: Sink, E: Sink>(line: u128, out: &mut W, err: &mut E) -> u8
-    ensures status { (result ≡ CERT_FAULT) ⊎ (result ≡ STOPPED) }
-    ensures named { result ≡ CERT_FAULT
-        → Writes W.contents W.failure_count out.old out.new (line_of (text_fault_text line)) }
-    ensures err_stays { result ≡ CERT_FAULT → err.new ≡ err.old }
-    ensures stopped { result ≡ STOPPED
-        → NamesStop (TriesToWrite E.contents E.failure_count err.old err.new)
-        (FailsToWrite W.failure_count out.old out.new) }
-{
-    match print_line(&TextFault { line }, out) {
-        Ok(()) => CERT_FAULT,
-        Err(LineStop::Failed) => stopped(&Stop::Device, err),
-        Err(LineStop::NoRoom) => stopped(&Stop::Memory, err),
     }
 }
 
@@ -116,9 +87,5 @@ fn tell_converted<W: Sink, E: Sink>(certificate: &Certificate, out: &mut W, err:
         rounds: certificate.rounds().len(),
         walks: certificate.walks().len(),
     };
-    match print_line(&counts, out) {
-        Ok(()) => DONE,
-        Err(LineStop::Failed) => stopped(&Stop::Device, err),
-        Err(LineStop::NoRoom) => stopped(&Stop::Memory, err),
-    }
+    tell_line(&counts, DONE, out, err)
 }

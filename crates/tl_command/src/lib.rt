@@ -5,7 +5,9 @@
 #![tactic(auto)]
 
 pub mod convert;
+pub mod deciding;
 mod made;
 pub mod open;
 pub mod run;
 pub mod stop;
+mod tell;

@@ -5,10 +5,10 @@ ghost use Rattle.tl_text.specs.Joining.{joined_bytes};
 ghost use Rattle.tl_output.specs.Writing.{Writes, TriesToWrite, FailsToWrite};
 ghost use Rattle.tl_command.specs.declared.stop.TheConstants.{DONE, MAP_FAULT, CERT_FAULT, REFUSED, STOPPED, USAGE};
 ghost use Rattle.tl_command.specs.declared.stop.Stop.TheVariants.{Memory, Device};
-ghost use Rattle.tl_command.specs.Running.{IsAnswered, NamesFault, NamesRefusal, NamesStop, IsRunStatus, layout_of};
-ghost use Rattle.tl_command.specs.Running.{FaultsCertificate, ReadsNoCertificate};
+ghost use Rattle.tl_command.specs.Running.{IsAnswered, FaultsMap, NamesRefusal, NamesStop, StopsRun, IsRunStatus, layout_of};
+ghost use Rattle.tl_command.specs.Running.{FaultsCertificate, ReadsNoCertificate, MakesNoCertificate};
 ghost use Rattle.tl_command.specs.Starting.{IsStartStatus, ShowsUsage, ShowsHelp, AnswersSome, FaultsSome, RefusesSome};
-ghost use Rattle.tl_command.specs.Starting.{StopsOpening, FaultsText};
+ghost use Rattle.tl_command.specs.Starting.{StopsOpening, FaultsText, StopsSome};
 
 use crate::made::MadeFile;
 use crate::run::run;
@@ -23,7 +23,7 @@ use tl_plan::{Plan, PlanStop, words};
 use tl_record::{Meter, MeterOut, Sink, Source};
 use tl_text::Joined;
 
-// How many bytes of the record files are read at a time.
+// How many bytes are read at a time, of the record files and of a certificate.
 const INPUT_BUFFER: usize = 131_072;
 
 /// Does what the words after the program's name ask, and gives the program's exit status.
@@ -45,12 +45,12 @@ pub fn start<R: Files, W: Sink, E: Sink>(
     // The words ask for a plan, and the output or `err` grew by the line that its run writes.
     ensures fault { result ≡ MAP_FAULT
         → FaultsSome (map string_bytes words.now) (Writes W.contents W.failure_count out.old out.new) }
-    ensures bad_text { result ≡ CERT_FAULT
+    ensures cert_fault { result ≡ CERT_FAULT
         → FaultsText (map string_bytes words.now) (Writes W.contents W.failure_count out.old out.new) }
     ensures refused { result ≡ REFUSED
         → RefusesSome (map string_bytes words.now) (TriesToWrite E.contents E.failure_count err.old err.new) }
     ensures stopped { result ≡ STOPPED
-        → NamesStop (TriesToWrite E.contents E.failure_count err.old err.new) ⊤ }
+        → StopsSome (map string_bytes words.now) (TriesToWrite E.contents E.failure_count err.old err.new) }
     // The other stream stays as it was.
     ensures err_stays { (result ≡ DONE) ⊎ ((result ≡ MAP_FAULT) ⊎ (result ≡ CERT_FAULT)) → err.new ≡ err.old }
     ensures out_stays { (result ≡ REFUSED) ⊎ (result ≡ USAGE) → out.new ≡ out.old }
@@ -100,13 +100,13 @@ pub fn open_and_run<R: Files, W: Sink, E: Sink>(
     ensures answered { result ≡ DONE
         → IsAnswered plan.now None None (λ text. ⊤) (Writes W.contents W.failure_count out.old out.new) }
     ensures fault { result ≡ MAP_FAULT
-        → NamesFault (layout_of plan.now) None (Writes W.contents W.failure_count out.old out.new) }
-    ensures bad_text { result ≡ CERT_FAULT
-        → FaultsCertificate plan.now None (Writes W.contents W.failure_count out.old out.new) }
+        → FaultsMap plan.now None ⊤ (Writes W.contents W.failure_count out.old out.new) }
+    ensures cert_fault { result ≡ CERT_FAULT
+        → FaultsCertificate plan.now None None (Writes W.contents W.failure_count out.old out.new) }
     ensures refused { result ≡ REFUSED
         → NamesRefusal (layout_of plan.now) None (TriesToWrite E.contents E.failure_count err.old err.new) }
     ensures stopped { result ≡ STOPPED
-        → NamesStop (TriesToWrite E.contents E.failure_count err.old err.new) ⊤ }
+        → StopsRun plan.now None (TriesToWrite E.contents E.failure_count err.old err.new) ⊤ }
     ensures err_stays { (result ≡ DONE) ⊎ ((result ≡ MAP_FAULT) ⊎ (result ≡ CERT_FAULT)) → err.new ≡ err.old }
     ensures out_stays { result ≡ REFUSED → out.new ≡ out.old }
 {
@@ -114,12 +114,17 @@ pub fn open_and_run<R: Files, W: Sink, E: Sink>(
         Ok(readers) => readers,
         Err(stop) => return stopped(&stop, err),
     };
-    if let Plan::Convert { cert, made } = plan {
-        return open_and_convert(rt, alloc, plan, readers, (cert, made), out, err);
+    match plan {
+        Plan::Convert { cert, made } => {
+            open_and_convert(rt, alloc, plan, readers, (cert, made), out, err)
+        }
+        Plan::Check { cert, .. } => open_and_check(rt, alloc, plan, readers, cert, out, err),
+        _ => {
+            let mut cert = Meter::new(io::empty());
+            let mut made = MeterOut::new(io::sink());
+            run_on_readers(alloc, plan, readers, &mut cert, &mut made, out, err)
+        }
     }
-    let mut cert = Meter::new(io::empty());
-    let mut made = MeterOut::new(io::sink());
-    run_on_readers(alloc, plan, readers, &mut cert, &mut made, out, err)
 }
 
 // Opens the certificate that is read, and makes the file of the other name when its first byte is written.
@@ -136,32 +141,71 @@ fn open_and_convert<R: Files, W: Sink, E: Sink>(
     ensures answered { result ≡ DONE
         → IsAnswered plan.now None None (λ text. ⊤) (Writes W.contents W.failure_count out.old out.new) }
     ensures fault { result ≡ MAP_FAULT
-        → NamesFault (layout_of plan.now) None (Writes W.contents W.failure_count out.old out.new) }
-    ensures bad_text { result ≡ CERT_FAULT
-        → FaultsCertificate plan.now None (Writes W.contents W.failure_count out.old out.new) }
+        → FaultsMap plan.now None ⊤ (Writes W.contents W.failure_count out.old out.new) }
+    ensures cert_fault { result ≡ CERT_FAULT
+        → FaultsCertificate plan.now None None (Writes W.contents W.failure_count out.old out.new) }
     ensures refused { result ≡ REFUSED
         → NamesRefusal (layout_of plan.now) None (TriesToWrite E.contents E.failure_count err.old err.new) }
     ensures stopped { result ≡ STOPPED
-        → NamesStop (TriesToWrite E.contents E.failure_count err.old err.new) ⊤ }
+        → StopsRun plan.now None (TriesToWrite E.contents E.failure_count err.old err.new) ⊤ }
     ensures err_stays { (result ≡ DONE) ⊎ ((result ≡ MAP_FAULT) ⊎ (result ≡ CERT_FAULT)) → err.new ≡ err.old }
     ensures out_stays { result ≡ REFUSED → out.new ≡ out.old }
 {
-    let Ok(file) = File::open(rt, names.0.as_str()) else {
-        return stopped(&Stop::Device, err);
-    };
-    let Ok(reader) = BufReader::with_capacity(alloc, INPUT_BUFFER, file) else {
-        return stopped(&Stop::Memory, err);
+    let mut cert = match open_certificate(rt, alloc, names.0) {
+        Ok(cert) => cert,
+        Err(stop) => return stopped(&stop, err),
     };
     let mut made = MadeFile::new(rt, names.1.as_str());
-    run_on_readers(
-        alloc,
-        plan,
-        readers,
-        &mut Meter::new(reader),
-        &mut made,
-        out,
-        err,
-    )
+    run_on_readers(alloc, plan, readers, &mut cert, &mut made, out, err)
+}
+
+// Opens the certificate that is read.
+fn open_and_check<R: Files, W: Sink, E: Sink>(
+    rt: &R,
+    alloc: Global,
+    plan: &Plan,
+    readers: Vec<R::File>,
+    name: &String,
+    out: &mut W,
+    err: &mut E,
+) -> u8
+    ensures status { IsRunStatus result }
+    ensures answered { result ≡ DONE
+        → IsAnswered plan.now None None (λ text. ⊤) (Writes W.contents W.failure_count out.old out.new) }
+    ensures fault { result ≡ MAP_FAULT
+        → FaultsMap plan.now None ⊤ (Writes W.contents W.failure_count out.old out.new) }
+    ensures cert_fault { result ≡ CERT_FAULT
+        → FaultsCertificate plan.now None None (Writes W.contents W.failure_count out.old out.new) }
+    ensures refused { result ≡ REFUSED
+        → NamesRefusal (layout_of plan.now) None (TriesToWrite E.contents E.failure_count err.old err.new) }
+    ensures stopped { result ≡ STOPPED
+        → StopsRun plan.now None (TriesToWrite E.contents E.failure_count err.old err.new) ⊤ }
+    ensures err_stays { (result ≡ DONE) ⊎ ((result ≡ MAP_FAULT) ⊎ (result ≡ CERT_FAULT)) → err.new ≡ err.old }
+    ensures out_stays { result ≡ REFUSED → out.new ≡ out.old }
+{
+    let mut cert = match open_certificate(rt, alloc, name) {
+        Ok(cert) => cert,
+        Err(stop) => return stopped(&stop, err),
+    };
+    let mut made = MeterOut::new(io::sink());
+    run_on_readers(alloc, plan, readers, &mut cert, &mut made, out, err)
+}
+
+// A source of the certificate's bytes, many of which are read at a time.
+fn open_certificate<R: Files>(
+    rt: &R,
+    alloc: Global,
+    name: &String,
+) -> Result<Meter<BufReader<R::File>>, Stop>
+    ensures { IfErr result StopsOpening }
+{
+    let Ok(file) = File::open(rt, name.as_str()) else {
+        return Err(Stop::Device);
+    };
+    match BufReader::with_capacity(alloc, INPUT_BUFFER, file) {
+        Ok(reader) => Ok(Meter::new(reader)),
+        Err(_) => Err(Stop::Memory),
+    }
 }
 
 /// Does what the plan asks over these readers, which are read one after the other as one text, and gives the program's
@@ -179,20 +223,23 @@ pub fn run_on_readers<F: Read + Drop, S: Source, C: Sink, W: Sink, E: Sink>(
     ensures answered { result ≡ DONE
         → IsAnswered plan.now (joined_bytes F.remaining false readers.items) (S.remaining cert.old)
         (Writes C.contents C.failure_count made.old made.new) (Writes W.contents W.failure_count out.old out.new) }
-    ensures bad_text { result ≡ CERT_FAULT
-        → FaultsCertificate plan.now (S.remaining cert.old) (Writes W.contents W.failure_count out.old out.new) }
     ensures fault { result ≡ MAP_FAULT
-        → NamesFault (layout_of plan.now) (joined_bytes F.remaining false readers.items)
+        → FaultsMap plan.now (joined_bytes F.remaining false readers.items) (cert.new ≡ cert.old)
+        (Writes W.contents W.failure_count out.old out.new) }
+    ensures cert_fault { result ≡ CERT_FAULT
+        → FaultsCertificate plan.now (joined_bytes F.remaining false readers.items) (S.remaining cert.old)
         (Writes W.contents W.failure_count out.old out.new) }
     ensures refused { result ≡ REFUSED
         → NamesRefusal (layout_of plan.now) (joined_bytes F.remaining false readers.items)
         (TriesToWrite E.contents E.failure_count err.old err.new) }
     ensures stopped { result ≡ STOPPED
-        → NamesStop (TriesToWrite E.contents E.failure_count err.old err.new) ⊤ }
+        → StopsRun plan.now (joined_bytes F.remaining false readers.items)
+        (TriesToWrite E.contents E.failure_count err.old err.new) ⊤ }
     ensures err_stays { (result ≡ DONE) ⊎ ((result ≡ MAP_FAULT) ⊎ (result ≡ CERT_FAULT)) → err.new ≡ err.old }
     ensures out_stays { result ≡ REFUSED → out.new ≡ out.old }
     ensures cert { ReadsNoCertificate plan.now → cert.new ≡ cert.old }
-    ensures made { ReadsNoCertificate plan.now → made.new ≡ made.old }
+    ensures made { MakesNoCertificate plan.now → made.new ≡ made.old }
+    ensures unread { result ≡ REFUSED → cert.new ≡ cert.old }
 {
     let Ok(mut records) = joined_source(alloc, readers) else {
         return stopped(&Stop::Memory, err);

@@ -1,22 +1,25 @@
 //! Doing what a plan asks.
 
 ghost use Rattle.std.specs.Prelude.{◌≡◌, ◌≢◌, ◌⊎◌, [], OnOk, IfErr};
-ghost use Rattle.tl_map.specs.Messages.{fault_text};
 ghost use Rattle.tl_record.specs.Layout.{layout_with};
 ghost use Rattle.tl_text.specs.Printing.{shown_text, listing_text};
 ghost use Rattle.tl_output.specs.Writing.{Writes, TriesToWrite, FailsToWrite, CountsFailure, line_of};
 ghost use Rattle.std.specs.Io.KnownBytes.{Appends};
 ghost use Rattle.tl_command.specs.declared.stop.TheConstants.{DONE, MAP_FAULT, CERT_FAULT, REFUSED, STOPPED};
-ghost use Rattle.tl_command.specs.Running.{IsAnswered, AnswersRecords, IsShown, IsListed, NamesFault, NamesRefusal, NamesStop};
-ghost use Rattle.tl_command.specs.Running.{FaultsCertificate, ReadsNoCertificate};
+ghost use Rattle.tl_command.specs.Running.{IsAnswered, AnswersRecords, IsShown, IsListed, NamesRecordFault, NamesRefusal};
+ghost use Rattle.tl_command.specs.Running.{NamesStop, StopsRun, FaultsMap, FaultsCertificate};
+ghost use Rattle.tl_command.specs.Running.{ReadsNoCertificate, MakesNoCertificate, ReadsNoRecords};
 ghost use Rattle.tl_command.specs.Running.{IsRunStatus, FailsToRead, StopsAnswer, KeepsReads, layout_of};
 
 use crate::convert::convert;
+use crate::deciding::decide;
 use crate::stop::{DONE, MAP_FAULT, Stop, stopped};
+use crate::tell::tell_line;
 use std::alloc::Global;
 use std::io;
-use tl_map::{Chains, Map, MapFault, MapStop, read_chains_with, read_map_with};
-use tl_output::{LineStop, OutputBuffer, print_line};
+use tl_check::MapFault;
+use tl_map::{Chains, Map, MapStop, read_chains_with, read_map_with};
+use tl_output::OutputBuffer;
 use tl_plan::Plan;
 use tl_record::{Options, Sink, Source};
 use tl_text::{print_chains, print_landmarks};
@@ -39,39 +42,50 @@ pub fn run<R: Source, S: Source, C: Sink, W: Sink, E: Sink>(
     ensures answered { result ≡ DONE
         → IsAnswered plan.now (R.remaining records.old) (S.remaining cert.old)
         (Writes C.contents C.failure_count made.old made.new) (Writes W.contents W.failure_count out.old out.new) }
-    // The output grew by the line of a fault that is true.
+    // The output grew by the line of a fault that is true of the records or of their map. Where the records have no map,
+    // nothing of the certificate was read.
     ensures fault { result ≡ MAP_FAULT
-        → NamesFault (layout_of plan.now) (R.remaining records.old) (Writes W.contents W.failure_count out.old out.new) }
-    // The output grew by the line of the certificate's text that no certificate has.
-    ensures bad_text { result ≡ CERT_FAULT
-        → FaultsCertificate plan.now (S.remaining cert.old) (Writes W.contents W.failure_count out.old out.new) }
+        → FaultsMap plan.now (R.remaining records.old) (cert.new ≡ cert.old)
+        (Writes W.contents W.failure_count out.old out.new) }
+    // The output grew by the line of a fault that is true of the certificate.
+    ensures cert_fault { result ≡ CERT_FAULT
+        → FaultsCertificate plan.now (R.remaining records.old) (S.remaining cert.old)
+        (Writes W.contents W.failure_count out.old out.new) }
     // The line of the first refusal was written to `err`, or the write of it failed.
     ensures refused { result ≡ REFUSED
         → NamesRefusal (layout_of plan.now) (R.remaining records.old) (TriesToWrite E.contents E.failure_count err.old err.new) }
-    // The line of a stop was, or the write of it failed; of a device only where a read or a write failed.
+    // The line of a stop was, or the write of it failed; of a device only where a read or a write failed, and of a spent
+    // budget only where more pairs of segments have rectangles that meet.
     ensures stopped { result ≡ STOPPED
-        → NamesStop (TriesToWrite E.contents E.failure_count err.old err.new)
+        → StopsRun plan.now (R.remaining records.old) (TriesToWrite E.contents E.failure_count err.old err.new)
         ((FailsToRead R.failure_count records.old records.new ⊎ FailsToRead S.failure_count cert.old cert.new)
         ⊎ (FailsToWrite C.failure_count made.old made.new ⊎ FailsToWrite W.failure_count out.old out.new)) }
 
     // The other stream stays as it was.
     ensures err_stays { (result ≡ DONE) ⊎ ((result ≡ MAP_FAULT) ⊎ (result ≡ CERT_FAULT)) → err.new ≡ err.old }
     ensures out_stays { result ≡ REFUSED → out.new ≡ out.old }
-    // No read of records failed where the run didn't stop.
+    // No read failed where the run didn't stop.
     ensures read_whole { result ≢ STOPPED → R.failure_count records.new ≡ R.failure_count records.old }
+    ensures cert_whole { result ≢ STOPPED → S.failure_count cert.new ≡ S.failure_count cert.old }
 
-    // A command that reads records leaves certificates alone, and the other way round.
+    // What the command has no use for it leaves alone, and the certificate where a line is refused.
     ensures cert { ReadsNoCertificate plan.now → cert.new ≡ cert.old }
-    ensures made { ReadsNoCertificate plan.now → made.new ≡ made.old }
-    ensures records { ¬ ReadsNoCertificate plan.now → records.new ≡ records.old }
+    ensures made { MakesNoCertificate plan.now → made.new ≡ made.old }
+    ensures records { ReadsNoRecords plan.now → records.new ≡ records.old }
+    ensures unread { result ≡ REFUSED → cert.new ≡ cert.old }
 {
-    if let Plan::Convert { .. } = plan {
-        return convert(alloc, cert, made, out, err);
+    match plan {
+        Plan::Convert { .. } => convert(alloc, cert, made, out, err),
+        Plan::Check {
+            budget,
+            options,
+            ..
+        } => decide(alloc, records, cert, *budget, *options, out, err),
+        _ => run_on_records(alloc, plan, records, out, err),
     }
-    run_on_records(alloc, plan, records, out, err)
 }
 
-// Does what the plan asks of records.
+// Does what the plan asks of records alone.
 fn run_on_records<R: Source, W: Sink, E: Sink>(
     alloc: Global,
     plan: &Plan,
@@ -83,7 +97,7 @@ fn run_on_records<R: Source, W: Sink, E: Sink>(
     ensures answered { result ≡ DONE
         → AnswersRecords plan.now (R.remaining records.old) (Writes W.contents W.failure_count out.old out.new) }
     ensures fault { result ≡ MAP_FAULT
-        → NamesFault (layout_of plan.now) (R.remaining records.old) (Writes W.contents W.failure_count out.old out.new) }
+        → NamesRecordFault (layout_of plan.now) (R.remaining records.old) (Writes W.contents W.failure_count out.old out.new) }
     ensures refused { result ≡ REFUSED
         → NamesRefusal (layout_of plan.now) (R.remaining records.old) (TriesToWrite E.contents E.failure_count err.old err.new) }
     ensures stopped { result ≡ STOPPED
@@ -95,7 +109,7 @@ fn run_on_records<R: Source, W: Sink, E: Sink>(
 {
     match answer(alloc, plan, records, out) {
         Ok(()) => DONE,
-        Err(MapStop::Fault(fault)) => name_fault(&fault, out, err),
+        Err(MapStop::Fault(fault)) => tell_line(&MapFault::Records(fault), MAP_FAULT, out, err),
         Err(MapStop::Refused { line, cause }) => stopped(&Stop::Refused { line, cause }, err),
         Err(MapStop::Memory) => stopped(&Stop::Memory, err),
         Err(MapStop::Device) => stopped(&Stop::Device, err),
@@ -119,8 +133,8 @@ fn answer<R: Source, W: Sink>(
     match plan {
         Plan::Show { options, .. } => show(alloc, *options, records, out),
         Plan::Landmarks { options, .. } => landmarks(alloc, *options, records, out),
-        // It asks nothing of records.
-        Plan::Convert { .. } => Ok(()),
+        // They ask nothing of records alone.
+        Plan::Convert { .. } | Plan::Check { .. } => Ok(()),
     }
 }
 
@@ -186,21 +200,4 @@ fn print_all_landmarks<W: Sink>(map: &Map, buffer: &mut OutputBuffer, out: &mut 
 {
     print_landmarks(map, buffer, out)?;
     buffer.flush(out)
-}
-
-// Says which fault the map has. Where that can't be written, the command is stopped.
-fn name_fault<W: Sink, E: Sink>(fault: &MapFault, out: &mut W, err: &mut E) -> u8
-    ensures status { (result ≡ MAP_FAULT) ⊎ (result ≡ STOPPED) }
-    ensures named { result ≡ MAP_FAULT
-        → Writes W.contents W.failure_count out.old out.new (line_of (fault_text fault.now)) }
-    ensures err_stays { result ≡ MAP_FAULT → err.new ≡ err.old }
-    ensures stopped { result ≡ STOPPED
-        → NamesStop (TriesToWrite E.contents E.failure_count err.old err.new)
-        (FailsToWrite W.failure_count out.old out.new) }
-{
-    match print_line(fault, out) {
-        Ok(()) => MAP_FAULT,
-        Err(LineStop::Failed) => stopped(&Stop::Device, err),
-        Err(LineStop::NoRoom) => stopped(&Stop::Memory, err),
-    }
 }

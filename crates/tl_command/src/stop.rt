@@ -22,7 +22,7 @@ pub const CERT_FAULT: u8 = 2;
 /// The status where a record is refused.
 pub const REFUSED: u8 = 3;
 
-/// The status where memory was refused, or a file or the output failed.
+/// The status where memory was refused, a file or the output failed, or the budget is spent.
 pub const STOPPED: u8 = 4;
 
 /// The status where the words are no command.
@@ -40,6 +40,8 @@ pub enum Stop {
     Memory,
     /// A file couldn't be opened, a read failed, or a write of the output.
     Device,
+    /// More pairs of segments than the budget would have to be tested.
+    Budget,
 }
 
 impl fmt::Display for Stop {
@@ -53,6 +55,7 @@ impl fmt::Display for Stop {
             Stop::Refused { line, cause } => write!(f, "refused line {line} {cause}"),
             Stop::Memory => write!(f, "stopped Memory"),
             Stop::Device => write!(f, "stopped Device"),
+            Stop::Budget => write!(f, "stopped Budget"),
         }
     }
 }
@@ -69,6 +72,7 @@ pub fn stopped<E: Sink>(stop: &Stop, err: &mut E) -> u8
         Stop::Refused { .. } => REFUSED,
         Stop::Memory => STOPPED,
         Stop::Device => STOPPED,
+        Stop::Budget => STOPPED,
     }
 }
 

@@ -1,5 +1,6 @@
 -- What words make a plan, and why others don't.
-use Rattle.std.proofs.Common.{◌≡◌, ◌≢◌, ◌⊎◌, inl, inr, true, List, [], Option, Some, None, refl, sym, ap, subst, ◌∙◌, map, option_map, unwrap_or, codes, Global, Bor}
+use Rattle.std.proofs.Common.{◌≡◌, ◌≢◌, ◌⊎◌, ℕ, ◌<◌, inl, inr, true, length, List, [], Option, Some, None, refl, sym}
+use Rattle.std.proofs.Common.{ap, subst, ◌∙◌, map, option_map, unwrap_or, codes, arith, Global, Bor}
 use Rattle.clap.specs.Walk.{Text, Row, first_of}
 use Rattle.clap.specs.Simple.{is_simple, subcommand_of, subcommand_rows, subcommand_rows_of}
 use Rattle.clap.specs.Matches.{subcommand_name_of}
@@ -16,9 +17,10 @@ use Rattle.clap.specs.declared.error.kind.ErrorKind.TheVariants.{OutOfMemory}
 use Rattle.clap.proofs.OnLiterals.{clap_on_literals}
 use Rattle.tl_plan.specs.declared.plan.PlanStop.{PlanStop}
 use Rattle.tl_plan.specs.declared.plan.PlanStop.TheVariants.{Usage, Help, Memory}
-use Rattle.tl_plan.specs.CommandLine.{command_line, IsStopOf, StopsPlanning, Request, request_in, named_in, convert_name, show_name, landmarks_name, IsConversionOf, IsPlanOf, IsWhole, AreAUse, HasMistake}
+use Rattle.tl_plan.specs.CommandLine.{command_line, IsStopOf, StopsPlanning, Request, request_in, named_in, convert_name, check_name, show_name, landmarks_name}
+use Rattle.tl_plan.specs.CommandLine.{IsConversionOf, IsPlanOf, IsWhole, IsBudget, AreAUse, HasMistake}
 use Rattle.tl_plan.specs.declared.plan.Plan.{Plan}
-use Rattle.tl_plan.specs.declared.plan.Plan.TheVariants.{Show, Landmarks, Convert}
+use Rattle.tl_plan.specs.declared.plan.Plan.TheVariants.{Show, Landmarks, Convert, Check}
 
 pub is_simple-command_line : is_simple command_line ≡ true
 unfolding clap_on_literals
@@ -55,6 +57,11 @@ pub given_texts : (o : Option (Bor (List (Bor Text)))) (given : Option (List Tex
 given_texts None given none e empty = ap (map (λ v. v.now)) empty ∙ ap (λ (g : Option (List Text)). unwrap_or g []) e
 given_texts (Some s) given none e empty = ap (λ (g : Option (List Text)). unwrap_or g []) e
 
+-- texts of which there are some were given
+pub were_given : (given : Option (List Text)) (texts : List Text) → texts ≡ unwrap_or given [] → 0 < length texts → given ≡ Some texts
+were_given None texts same some = absurd (omega (arith, some, ap length same))
+were_given (Some t) texts same some = ap Some (sym same)
+
 -- a text that was not given, and one that was
 pub not_given : (o : Option (Bor Text)) (given : Option Text) (text : Text) → option_map (λ v. v.now) o ≡ given → o ≡ None → given ≡ Some text → ⊥
 not_given o given text same none is = cc (ap (option_map (λ v. v.now)) none, same, is)
@@ -70,27 +77,59 @@ both_found None name rows named has = absurd (no_name name named)
     no_name name e = cc
 both_found (Some (n, r)) name rows named has = cc (named, has)
 
+-- requests that are the same
+is_request : (r s : Request) → Some r ≡ Some s → r ≡ s
+is_request r s e = cc e
+
 -- no conversion has files
 files_differ : (r : Request) (name : Text) → r.command ≡ convert_name → r.command ≡ name → (name ≡ show_name) ⊎ (name ≡ landmarks_name) → ⊥
 files_differ r name one two (inl shows) = cc (one, two, shows)
 files_differ r name one two (inr lists) = cc (one, two, lists)
 
 -- what a conversion's arguments make of the request
-pub conversion_plan : (found : Option (Text × List Row)) (rows : List Row) (plan : Option Plan) → option_map (λ p. p.0) found ≡ Some convert_name → option_map (λ p. p.1) found ≡ Some rows
+pub conversion_plan : (found : Option (Text × List Row)) (rows : List Row) (plan : Option Plan)
+    → option_map (λ p. p.0) found ≡ Some convert_name → option_map (λ p. p.1) found ≡ Some rows
     → IsConversionOf (first_of (codes "cert") rows) (first_of (codes "out") rows) plan → IsPlanOf (named_in found) plan
 conversion_plan found rows (Some (Convert from to)) named has is =
     record { given = request_in (convert_name, rows); same = ap named_in (both_found found convert_name rows named has); named = refl; from = is.0; to = is.1 }
 conversion_plan found rows (Some (Show options files)) named has is = absurd is
 conversion_plan found rows (Some (Landmarks options files)) named has is = absurd is
-conversion_plan found rows None named has is = λ whole. elim whole [
-  | inl files ↦
-      let same : Some files.given ≡ Some (request_in (convert_name, rows)) = sym files.same ∙ ap named_in (both_found found convert_name rows named has) in
-      files_differ files.given files.given.command (let e : files.given ≡ request_in (convert_name, rows) = cc (same) in ap (λ r. r.command) e) refl files.named
-  | inr both ↦
-      let same : Some both.2.given ≡ Some (request_in (convert_name, rows)) = sym both.2.same ∙ ap named_in (both_found found convert_name rows named has) in
-      let e : both.2.given ≡ request_in (convert_name, rows) = cc (same) in
-      is both.0 both.1 (sym (ap (λ r. r.cert) e) ∙ both.2.from) (sym (ap (λ r. r.out) e) ∙ both.2.to)
-]
+conversion_plan found rows (Some (Check from budget options files)) named has is = absurd is
+conversion_plan found rows None named has is = λ whole.
+    let same = ap named_in (both_found found convert_name rows named has) in
+    let whole : IsWhole (Some (request_in (convert_name, rows))) = subst IsWhole same whole in
+    elim whole [
+      | inl files ↦ files_differ files.given files.given.command (let e = is_request _ _ files.same in sym (ap (λ r. r.command) e)) refl files.named
+      | inr (inl both) ↦
+          let e = is_request _ _ both.2.same in
+          is both.0 both.1 (ap (λ r. r.cert) e ∙ both.2.from) (ap (λ r. r.out) e ∙ both.2.to)
+      | inr (inr check) ↦
+          let e = is_request _ _ check.same in
+          cc (ap (λ r. r.command) e, check.named)
+    ]
+
+-- the plan of the command that was found
+pub found_plan : (found : Option (Text × List Row)) (name : Text) (rows : List Row) (plan : Option Plan)
+    → option_map (λ p. p.0) found ≡ Some name → option_map (λ p. p.1) found ≡ Some rows
+    → IsPlanOf (Some (request_in (name, rows))) plan → IsPlanOf (named_in found) plan
+found_plan found name rows plan named has is = subst (λ request. IsPlanOf request plan) (sym (ap named_in (both_found found name rows named has))) is
+
+-- a check lacks its certificate, or a number of tests that is spelt as one, or a file
+pub no_check : (given : Request) → given.command ≡ check_name
+    → ((cert : Text) (budget : ℕ) (files : List Text) → given.cert ≡ Some cert → IsBudget given.tests budget → given.files ≡ Some files → 0 < length files → ⊥)
+    → IsWhole (Some given) → ⊥
+no_check given named lacks (inl files) = named_otherwise given.command named (ap (λ r. r.command) (is_request _ _ files.same)) files.named
+  where
+    named_otherwise : (name : Text) → name ≡ check_name → name ≡ files.given.command
+        → (files.given.command ≡ show_name) ⊎ (files.given.command ≡ landmarks_name) → ⊥
+    named_otherwise name is same (inl shows) = cc (is, same, shows)
+    named_otherwise name is same (inr lists) = cc (is, same, lists)
+no_check given named lacks (inr (inl both)) = cc (ap (λ r. r.command) (is_request _ _ both.2.same), both.2.named, named)
+no_check given named lacks (inr (inr check)) =
+    let e = is_request _ _ check.same in
+    lacks check.cert check.budget check.files (ap (λ r. r.cert) e ∙ check.by)
+    (subst (λ (tests : Option Text). IsBudget tests check.budget) (sym (ap (λ r. r.tests) e)) check.tests)
+    (ap (λ r. r.files) e ∙ check.are) check.some_file
 
 -- words that clap takes, and that name no plan
 pub no_plan : (words : List Text) (found : Option (Text × List Row)) → found ≡ subcommand_of command_line words → IsPlanOf (named_in found) None → fault_of command_line words ≡ []

@@ -1,7 +1,8 @@
 -- The program's command line: the commands that it tells `clap` of, and what words mean by them. How a simple command's
 -- words are read is clap's own definition: `subcommand_of` (the command that the words name, with its arguments),
 -- `takes` (whether the words are a use of it) and `fault_of` (which kinds of error they are, if they aren't).
-use Rattle.std.specs.Prelude.{◌≡◌, ◌≢◌, ◌<◌, ◌↔◌, ◌⊎◌, true, false, IsTrue, List, [], Option, Some, None, length, codes, map, option_map, string_bytes, ⊤}
+use Rattle.std.specs.Prelude.{◌≡◌, ◌≢◌, ◌<◌, ◌≤◌, ◌↔◌, ◌⊎◌, ℕ, true, IsTrue, List, [], Option, Some, None, length, map, option_map, ⊤}
+use Rattle.std.specs.Prelude.{codes, decimal, string_bytes}
 use Rattle.clap.specs.Lexer.{usize_max}
 use Rattle.clap.specs.Simple.{App, new_app, new_rule, with_rule, with_subcommand, on_top, subcommand_of}
 use Rattle.clap.specs.Walk.{Row, Rule, Text, all_of, first_of}
@@ -13,7 +14,7 @@ use Rattle.clap.specs.declared.error.kind.ErrorKind.{ErrorKind}
 use Rattle.clap.specs.declared.error.kind.ErrorKind.TheVariants.{DisplayHelp, DisplayVersion, OutOfMemory}
 use Rattle.tl_plan.specs.declared.plan.Plan.{Plan}
 use Rattle.tl_record.specs.declared.options.Options.{Options}
-use Rattle.tl_plan.specs.declared.plan.Plan.TheVariants.{Show, Landmarks, Convert}
+use Rattle.tl_plan.specs.declared.plan.Plan.TheVariants.{Show, Landmarks, Convert, Check}
 use Rattle.tl_plan.specs.declared.plan.PlanStop.{PlanStop}
 use Rattle.tl_plan.specs.declared.plan.PlanStop.TheVariants.{Usage, Help, Memory}
 
@@ -29,6 +30,18 @@ files_argument = record (new_rule (codes "files")) {
 -- --released: type I lines have the columns of the files that the Census Bureau released
 abbrev pub released_argument : Rule
 released_argument = record (new_rule (codes "released")) { long = Some (codes "released"); action = Some SetTrue }
+
+-- --zero-cells: the ids of zero-cells are read
+abbrev pub zero_cells_argument : Rule
+zero_cells_argument = record (new_rule (codes "zero-cells")) { long = Some (codes "zero-cells"); action = Some SetTrue }
+
+-- --cert CERT: one name, which has to be given
+abbrev pub cert_argument : Rule
+cert_argument = record (new_rule (codes "cert")) { long = Some (codes "cert"); value_names = 1; required = true }
+
+-- --tests N: one number
+abbrev pub tests_argument : Rule
+tests_argument = record (new_rule (codes "tests")) { long = Some (codes "tests"); value_names = 1 }
 
 -- a command of this name, with --released and FILES..
 abbrev pub command_on_files : Text → App
@@ -53,22 +66,40 @@ convert_name = codes "convert"
 abbrev pub conversion_app : App
 conversion_app = with_rule (with_rule (new_app convert_name) (name_argument (codes "cert"))) (name_argument (codes "out"))
 
--- the program, whose words begin behind its own name, and which wants a command
+-- check --cert CERT [--tests N] [--zero-cells] [--released] FILES..
+abbrev pub check_name : Text
+check_name = codes "check"
+
+-- check with what stands before its --released and FILES..
+abbrev pub check_options : App
+check_options = with_rule (with_rule (with_rule (new_app check_name) cert_argument) tests_argument) zero_cells_argument
+
+abbrev pub check_app : App
+check_app = with_rule (with_rule check_options released_argument) files_argument
+
+-- the program, whose words begin behind its own name, which has a version, and which wants a command
 abbrev pub program : App
-program = on_top (λ top. record top { no_binary_name = true; subcommand_required = true }) (new_app (codes "tigertopo"))
+program =
+    on_top (λ top. record top { no_binary_name = true; has_version = true; subcommand_required = true })
+    (new_app (codes "tigertopo"))
+
+-- the commands that take files and nothing else but --released
+abbrev pub with_listings : App
+with_listings = with_subcommand (with_subcommand program (command_on_files show_name).top) (command_on_files landmarks_name).top
 
 abbrev pub command_line : App
-command_line =
-    with_subcommand (with_subcommand (with_subcommand program (command_on_files show_name).top) (command_on_files landmarks_name).top) conversion_app.top
+command_line = with_subcommand (with_subcommand with_listings check_app.top) conversion_app.top
 
--- a command; what was given for its FILES, if anything was, and the value of its --released, which is the word true where
--- the switch is given; and what was given for its CERT and its OUT
+-- a command; what was given for its FILES, if anything was, and the values of its --released and its --zero-cells, each of
+-- which is the word true where the switch is given; and what was given for its CERT, its OUT and its --tests
 pub record Request : Type 0 where
   pub command : Text
   pub files : Option (List Text)
   pub released : Option Text
+  pub zero_cells : Option Text
   pub cert : Option Text
   pub out : Option Text
+  pub tests : Option Text
 
 -- a command that was found, with its arguments
 abbrev pub request_in : Text × List Row → Request
@@ -76,8 +107,10 @@ request_in found = record {
   command = found.0;
   files = all_of (codes "files") found.1;
   released = first_of (codes "released") found.1;
+  zero_cells = first_of (codes "zero-cells") found.1;
   cert = first_of (codes "cert") found.1;
   out = first_of (codes "out") found.1;
+  tests = first_of (codes "tests") found.1;
 }
 
 abbrev pub named_in : Option (Text × List Row) → Option Request
@@ -92,25 +125,37 @@ abbrev pub command_of : Plan → Text
 command_of (Show options files) = show_name
 command_of (Landmarks options files) = landmarks_name
 command_of (Convert cert made) = convert_name
+command_of (Check cert budget options files) = check_name
 
 -- the names of the plan's files, in their order
 abbrev pub files_of : Plan → List Text
 files_of (Show options files) = map string_bytes files.items
 files_of (Landmarks options files) = map string_bytes files.items
 files_of (Convert cert made) = []
+files_of (Check cert budget options files) = map string_bytes files.items
 
--- the switch is given, and says what is chosen of the columns; no command has one for zero-cell ids yet
-pub record AreChosen (released : Option Text) (options : Options) : Type 0 where
-  pub switch : IsTrue options.released ↔ (released ≡ Some (codes "true"))
-  pub no_cells : options.zero_cells ≡ false
+-- the values of the two switches say what is chosen of the columns
+pub record AreChosen (released zero_cells : Option Text) (options : Options) : Type 0 where
+  pub columns : IsTrue options.released ↔ (released ≡ Some (codes "true"))
+  pub cells : IsTrue options.zero_cells ↔ (zero_cells ≡ Some (codes "true"))
 
--- the request names a command with files: this one, these files word for word and in their order, and the switch
+-- the greatest budget, which is the one where none is given
+abbrev pub greatest_budget : ℕ
+greatest_budget = 18446744073709551615
+
+-- what was given for --tests, if anything was, is this number, with no sign and no leading zero
+abbrev pub IsBudget : Option Text → ℕ → Type 0
+IsBudget None budget = budget ≡ greatest_budget
+IsBudget (Some text) budget = (text ≡ decimal budget) × (budget ≤ greatest_budget)
+
+-- the request names a command with files: this one, these files word for word and in their order, and the switch; it has
+-- no switch for zero-cell ids
 pub record AsksOfFiles (request : Option Request) (command : Text) (options : Options) (files : List Text) : Type 0 where
   pub given : Request
   pub same : request ≡ Some given
   pub named : given.command ≡ command
   pub are : given.files ≡ Some files
-  pub chosen : AreChosen given.released options
+  pub chosen : AreChosen given.released None options
   pub some_file : 0 < length files
 
 -- the request names a conversion of this certificate to that one, word for word
@@ -121,11 +166,25 @@ pub record AsksToConvert (request : Option Request) (cert made : Text) : Type 0 
   pub from : given.cert ≡ Some cert
   pub to : given.out ≡ Some made
 
+-- the request names a check by this certificate, word for word, of these files, word for word and in their order, with this
+-- budget and these switches
+pub record AsksToCheck (request : Option Request) (cert : Text) (budget : ℕ) (options : Options) (files : List Text) : Type 0 where
+  pub given : Request
+  pub same : request ≡ Some given
+  pub named : given.command ≡ check_name
+  pub by : given.cert ≡ Some cert
+  pub tests : IsBudget given.tests budget
+  pub chosen : AreChosen given.released given.zero_cells options
+  pub are : given.files ≡ Some files
+  pub some_file : 0 < length files
+
 -- the request is one for the plan
 abbrev pub IsFor : Option Request → Plan → Type 0
 IsFor request (Show options files) = AsksOfFiles request show_name options (map string_bytes files.items)
 IsFor request (Landmarks options files) = AsksOfFiles request landmarks_name options (map string_bytes files.items)
 IsFor request (Convert cert made) = AsksToConvert request (string_bytes cert) (string_bytes made)
+IsFor request (Check cert budget options files) =
+    AsksToCheck request (string_bytes cert) budget options (map string_bytes files.items)
 
 -- the request names a command of the program with files, and some file
 pub record HasFiles (request : Option Request) : Type 0 where
@@ -136,9 +195,22 @@ pub record HasFiles (request : Option Request) : Type 0 where
   pub are : given.files ≡ Some files
   pub some_file : 0 < length files
 
--- the request names a command of the program, and what it wants: files, or two certificates
+-- the request names a check by a certificate, of some file, with a budget that is a number
+pub record IsCheck (request : Option Request) : Type 0 where
+  pub given : Request
+  pub cert : Text
+  pub budget : ℕ
+  pub files : List Text
+  pub same : request ≡ Some given
+  pub named : given.command ≡ check_name
+  pub by : given.cert ≡ Some cert
+  pub tests : IsBudget given.tests budget
+  pub are : given.files ≡ Some files
+  pub some_file : 0 < length files
+
+-- the request names a command of the program, and what it wants: files, two certificates, or a certificate and files
 abbrev pub IsWhole : Option Request → Type 0
-IsWhole request = HasFiles request ⊎ ((cert : Text) × (made : Text) × AsksToConvert request cert made)
+IsWhole request = HasFiles request ⊎ (((cert : Text) × (made : Text) × AsksToConvert request cert made) ⊎ IsCheck request)
 
 -- the plan that a request is for, if it is for one
 abbrev pub IsPlanOf : Option Request → Option Plan → Type 0
@@ -150,13 +222,14 @@ abbrev pub IsConversionOf : Option Text → Option Text → Option Plan → Type
 IsConversionOf cert out (Some (Convert from to)) = (cert ≡ Some (string_bytes from)) × (out ≡ Some (string_bytes to))
 IsConversionOf cert out (Some (Show options files)) = ⊥
 IsConversionOf cert out (Some (Landmarks options files)) = ⊥
+IsConversionOf cert out (Some (Check from budget options files)) = ⊥
 IsConversionOf cert out None = (from to : Text) → cert ≡ Some from → out ≡ Some to → ⊥
 
 -- the words ask for the plan
 abbrev pub AskFor : List Text → Plan → Type 0
 AskFor words plan = IsFor (named_command words) plan
 
--- the words are a use of a command: they are taken, and name a command of the program, and files
+-- the words are a use of a command: they are taken, and name a command of the program and what it wants
 pub record AreAUse (words : List Text) : Type 0 where
   pub taken : takes command_line words ≡ true
   pub whole : IsWhole (named_command words)
@@ -179,8 +252,8 @@ HasMistake kinds = (kind : ErrorKind) × IsAmong kind kinds × (¬ IsAnswer kind
 abbrev pub HasAnswer : Kinds → Type 0
 HasAnswer kinds = (kind : ErrorKind) × IsAmong kind kinds × IsAnswer kind
 
--- Why the words make no plan: they are no use of a command, and either a mistake or a wish for help; or memory was
--- refused.
+-- Why the words make no plan: they are no use of a command, and either a mistake, a wish for help or for the version, or
+-- taken by clap, as those with a budget that is no number; or memory was refused.
 abbrev pub StopsPlanning : List Text → PlanStop → Type 0
 StopsPlanning words (Usage text) = (¬ AreAUse words) × (HasMistake (fault_of command_line words) ⊎ (fault_of command_line words ≡ []))
 StopsPlanning words (Help text) = (¬ AreAUse words) × HasAnswer (fault_of command_line words)

@@ -1,6 +1,8 @@
 //! What the words of the command line ask for: a [`Plan`], which [`words::plan`] makes of them by `clap`'s reading.
 #![tactic(auto)]
 
+mod budget;
+mod command_line;
 mod plan;
 pub mod words;
 

@@ -25,6 +25,14 @@ pub enum Plan {
         cert: String,
         made: String,
     },
+    /// To decide by the certificate of this name whether the map is sound. The budget is how many pairs of segments may
+    /// be tested whose rectangles meet.
+    Check {
+        cert: String,
+        budget: u64,
+        options: Options,
+        files: Vec<String>,
+    },
 }
 
 impl Plan {
@@ -39,6 +47,7 @@ impl Plan {
             Plan::Show { files, .. } => files.as_slice(),
             Plan::Landmarks { files, .. } => files.as_slice(),
             Plan::Convert { .. } => &[],
+            Plan::Check { files, .. } => files.as_slice(),
         }
     }
 }
@@ -48,7 +57,7 @@ impl Plan {
 pub enum PlanStop {
     /// They don't name a command as it is used. The text says what is wrong.
     Usage(String),
-    /// They ask for help. The text is the help.
+    /// They ask for help or for the version. The text is the answer.
     Help(String),
     /// Memory was refused.
     Memory,

@@ -1,77 +1,33 @@
 //! What the words of the command line ask for.
 
-ghost use Rattle.std.specs.Prelude.{◌≡◌, ◌↔◌, false, IfOk, IfErr, IsTrue, [], codes, map, option_map, unwrap_or};
-ghost use Rattle.std.specs.Prelude.{string_bytes};
+ghost use Rattle.std.specs.Prelude.{◌≡◌, ◌↔◌, IfOk, IfErr, IsTrue, [], codes, map, option_map, unwrap_or, string_bytes};
 ghost use Rattle.clap.specs.Values.{kind_of};
-ghost use Rattle.clap.specs.Simple.{app_of, subcommand_rows_of, with_subcommand};
-ghost use Rattle.clap.specs.Walk.{rule_of, rows_of, all_of, first_of};
+ghost use Rattle.clap.specs.Simple.{app_of, subcommand_rows_of};
+ghost use Rattle.clap.specs.Walk.{rows_of, all_of, first_of};
 ghost use Rattle.clap.specs.Matches.{found_of};
-ghost use Rattle.clap.specs.declared.builder.command.Command.TheViews.{out-Command as fields_of};
-ghost use Rattle.tl_plan.specs.CommandLine.{program, command_line, command_on_files as app_on_files};
-ghost use Rattle.tl_plan.specs.CommandLine.{released_argument as released_rule, files_argument as files_rule};
-ghost use Rattle.tl_plan.specs.CommandLine.{conversion_app, name_argument as name_rule};
-ghost use Rattle.tl_plan.specs.CommandLine.{AreChosen, AskFor, StopsPlanning, IsStopOf, IsPlanOf, IsConversionOf, named_in};
+ghost use Rattle.tl_plan.specs.CommandLine.{command_line, check_name, request_in, named_in};
+ghost use Rattle.tl_plan.specs.CommandLine.{AreChosen, AskFor, StopsPlanning, IsStopOf, IsPlanOf, IsConversionOf};
 ghost use Rattle.tl_plan.specs.Plans.{plain_text, HasNoEscape, ShowsNoEscape};
 
+use crate::budget::budget_of;
+use crate::command_line::{check, command};
 use crate::plan::{Plan, PlanStop};
 use clap::error::ErrorKind;
-use clap::{Arg, ArgAction, ArgMatches, Command, Error};
+use clap::{ArgMatches, Command, Error};
 use std::alloc::{AllocError, Global};
 use std::convert::AsStr;
 use tl_record::Options;
 
-const ABOUT: &str = "Checks the topology of TIGER/Line 2006 record files";
-
-const EXAMPLES: &str = "\
-Examples:
-  tigertopo show TGR24001.RT1 TGR24001.RT2    prints each chain's TLID and points
-  tigertopo landmarks --released TGR24001.RT* prints each landmark and its polygons
-  tigertopo convert OLD.CERT NEW.CERT         writes a certificate anew in version 2
-
-Exit status:
-  0   done, or help was asked for
-  1   the map has a fault
-  2   the certificate has a fault
-  3   a record is refused
-  4   memory ran out, a file or the output failed, or the budget is used up
-  64  the words are no command";
-
-const SHOW_ABOUT: &str =
-    "Prints the TLID and the points of each chain, by rising TLID, and then their counts";
-
-const SHOW_EXAMPLE: &str = "\
-Each chain is a line `tlid T X,Y X,Y ..`, in millionths of a degree, and the last line is
-`chains=C segments=S skipped=K`, where K counts the lines that hold no record.
-
-Example:
-  tigertopo show TGR24001.RT1 TGR24001.RT2";
-
-const LANDMARKS_ABOUT: &str =
-    "Prints each landmark with its polygons, in the order of the landmarks' first records";
-
-const LANDMARKS_EXAMPLE: &str = "\
-Each landmark is a line `land N area polygons P P ..` or `land N point X,Y polygons P ..`, where a
-polygon is its CENID (each blank as _), `/` and its POLYID, and no polygon is `none`. The last line
-is `landmarks=K`.
-
-Example:
-  tigertopo landmarks --released TGR24001.RT*";
-
-const CONVERT_ABOUT: &str = "Reads a certificate and writes it in version 2";
-
-const CONVERT_EXAMPLE: &str = "\
-OUT is made when CERT was read whole, and a file of that name is written over. The last line is
-`converted nodes=N rounds=M walks=W`; of a text that is no certificate's, `certificate fault K1
-Text line N` with the line that none has.
-
-Example:
-  tigertopo convert OLD.CERT NEW.CERT";
+// How a number of tests is spelt.
+const SPELLING: &str =
+    "a number from 0 to 18446744073709551615 is wanted, with no sign and no leading zero";
 
 /// The plan that the words after the program's name stand for. `PlanStop::Usage` comes for words that are no command
-/// of the program, no words among them, and `PlanStop::Help` for those that ask for help; both come with the text that
-/// `clap` has for them.
+/// of the program, no words among them, and `PlanStop::Help` for those that ask for help or for the version; both come
+/// with the text that `clap` has for them.
 pub fn plan<S: AsStr>(alloc: Global, words: &[S]) -> Result<Plan, PlanStop>
-    // The plan is what the words ask for: its command, and the names of its files, word for word and in their order.
+    // The plan is what the words ask for: its command, its switches, its budget, and the names of its files, word for
+    // word and in their order.
     ensures plan { IfOk result (AskFor (map S.text words.now)) }
     // Words that are a use of a command are refused for want of memory alone.
     ensures stops { IfErr result (StopsPlanning (map S.text words.now)) }
@@ -98,16 +54,36 @@ fn plan_by<'a, S: AsStr>(
     };
     match plan_of(alloc, &matches)? {
         Some(plan) => Ok(plan),
-        // clap has refused such words before.
-        None => Err(PlanStop::Usage(usage_of(alloc, command)?)),
+        // The words name a check with a number that isn't spelt so: clap has refused others before.
+        None => Err(PlanStop::Usage(usage_of(alloc, command, &matches)?)),
     }
 }
 
-fn usage_of(alloc: Global, command: &mut Command<'_>) -> Result<String, AllocError>
+// What is wrong with words that `clap` takes and that are no plan.
+fn usage_of(
+    alloc: Global,
+    command: &mut Command<'_>,
+    matches: &ArgMatches<'_>,
+) -> Result<String, AllocError>
     ensures { IfOk result HasNoEscape }
 {
+    if let Some(check) = matches.subcommand_matches("check") {
+        if let Some(tests) = check.get_str("tests") {
+            return misspelt(alloc, tests);
+        }
+    }
     let usage = command.render_usage()?;
     without_escapes(alloc, usage.as_str())
+}
+
+// What is wrong with a number of tests that isn't spelt as one.
+fn misspelt(alloc: Global, tests: &str) -> Result<String, AllocError>
+    ensures { IfOk result HasNoEscape }
+{
+    let wrong = format!(in alloc; "invalid value '{tests}' for '--tests <N>': {SPELLING}")?;
+    let mut command = check(alloc)?.bin_name("tigertopo check")?;
+    let error = command.error(ErrorKind::ValueValidation, wrong.as_str())?;
+    text_of(alloc, &error)
 }
 
 // The plan that the matches stand for, where they name a command with files.
@@ -119,7 +95,7 @@ fn plan_of(alloc: Global, matches: &ArgMatches<'_>) -> Result<Option<Plan>, Allo
         if files.is_empty() {
             return Ok(None);
         }
-        let options = options_of(show);
+        let options = options_of(show, None);
         return Ok(Some(Plan::Show { options, files }));
     }
     if let Some(landmarks) = matches.subcommand_matches("landmarks") {
@@ -127,8 +103,11 @@ fn plan_of(alloc: Global, matches: &ArgMatches<'_>) -> Result<Option<Plan>, Allo
         if files.is_empty() {
             return Ok(None);
         }
-        let options = options_of(landmarks);
+        let options = options_of(landmarks, None);
         return Ok(Some(Plan::Landmarks { options, files }));
+    }
+    if let Some(check) = matches.subcommand_matches("check") {
+        return check_of(alloc, check);
     }
     if let Some(convert) = matches.subcommand_matches("convert") {
         return conversion_of(alloc, convert);
@@ -153,6 +132,28 @@ fn conversion_of(alloc: Global, command: &ArgMatches<'_>) -> Result<Option<Plan>
     }))
 }
 
+// The check that the command's words name, where their number of tests is spelt as one.
+fn check_of(alloc: Global, command: &ArgMatches<'_>) -> Result<Option<Plan>, AllocError>
+    ensures { IfOk result (IsPlanOf (Some (request_in (check_name, rows_of (found_of command.now))))) }
+{
+    let Some(cert) = command.get_str("cert") else {
+        return Ok(None);
+    };
+    let Some(budget) = budget_of(command.get_str("tests")) else {
+        return Ok(None);
+    };
+    let files = files_of(alloc, command)?;
+    if files.is_empty() {
+        return Ok(None);
+    }
+    Ok(Some(Plan::Check {
+        cert: String::from_str(alloc, cert)?,
+        budget,
+        options: options_of(command, command.get_str("zero-cells")),
+        files,
+    }))
+}
+
 // The names that were given for the command's FILES.
 fn files_of(alloc: Global, command: &ArgMatches<'_>) -> Result<Vec<String>, AllocError>
     ensures { IfOk result (λ files. map string_bytes files.items
@@ -161,12 +162,13 @@ fn files_of(alloc: Global, command: &ArgMatches<'_>) -> Result<Vec<String>, Allo
     copied(alloc, command.get_strs("files").unwrap_or(&[]))
 }
 
-// What the command's switches choose of the columns.
-fn options_of(command: &ArgMatches<'_>) -> Options
-    ensures { AreChosen (first_of (codes "released") (rows_of (found_of command.now))) result }
+// What the command's switches choose of the columns: its --released, and its --zero-cells, where it has one.
+fn options_of(command: &ArgMatches<'_>, zero_cells: Option<&str>) -> Options
+    ensures { AreChosen (first_of (codes "released") (rows_of (found_of command.now)))
+        (option_map (λ text. text.now) zero_cells.entry) result }
 {
     Options {
-        zero_cells: false,
+        zero_cells: is_set(zero_cells),
         released: is_set(command.get_str("released")),
     }
 }
@@ -179,113 +181,6 @@ fn is_set(value: Option<&str>) -> bool
         Some(text) => text == "true",
         None => false,
     }
-}
-
-fn command<'a>(alloc: Global) -> Result<Command<'a>, AllocError>
-    ensures { IfOk result (λ command. app_of command ≡ command_line) }
-{
-    let program = program(alloc)?;
-    let shows = with_files(alloc, program, "show", SHOW_ABOUT, SHOW_EXAMPLE)?;
-    let lists = with_files(
-        alloc,
-        shows,
-        "landmarks",
-        LANDMARKS_ABOUT,
-        LANDMARKS_EXAMPLE,
-    )?;
-    let converts = conversion(alloc)?;
-    lists.subcommand(converts)
-}
-
-// The program with one more command, which takes files.
-fn with_files<'a>(
-    alloc: Global,
-    program: Command<'a>,
-    name: &'a str,
-    about: &'a str,
-    example: &'a str,
-) -> Result<Command<'a>, AllocError>
-    ensures { IfOk result (λ command.
-        app_of command ≡ with_subcommand (app_of program.entry) (app_on_files name.entry.now).top) }
-{
-    let command = command_on_files(alloc, name, about, example)?;
-    program.subcommand(command)
-}
-
-fn program<'a>(alloc: Global) -> Result<Command<'a>, AllocError>
-    ensures { IfOk result (λ command. app_of command ≡ program) }
-{
-    let named = Command::new(alloc, "tigertopo")
-        .about(ABOUT)
-        .after_help(EXAMPLES)
-        .no_binary_name(true)
-        .bin_name("tigertopo")?;
-    Ok(named.subcommand_required(true))
-}
-
-fn command_on_files<'a>(
-    alloc: Global,
-    name: &'a str,
-    about: &'a str,
-    example: &'a str,
-) -> Result<Command<'a>, AllocError>
-    ensures shape { IfOk result (λ command. app_of command ≡ app_on_files name.entry.now) }
-    ensures local { IfOk result (λ command. (fields_of command).has_globals ≡ false) }
-{
-    let released = released_argument(alloc);
-    let files = files_argument(alloc);
-    Command::new(alloc, name)
-        .about(about)
-        .after_help(example)
-        .arg(released)?
-        .arg(files)
-}
-
-fn conversion<'a>(alloc: Global) -> Result<Command<'a>, AllocError>
-    ensures shape { IfOk result (λ command. app_of command ≡ conversion_app) }
-    ensures local { IfOk result (λ command. (fields_of command).has_globals ≡ false) }
-{
-    let cert = name_argument(alloc, "cert", "CERT", "The certificate that is read");
-    let out = name_argument(alloc, "out", "OUT", "The certificate that is made");
-    Command::new(alloc, "convert")
-        .about(CONVERT_ABOUT)
-        .after_help(CONVERT_EXAMPLE)
-        .arg(cert)?
-        .arg(out)
-}
-
-fn name_argument<'a>(alloc: Global, id: &'a str, shown: &'a str, help: &'a str) -> Arg<'a>
-    ensures rule { rule_of result ≡ name_rule id.entry.now }
-    ensures local { result.global ≡ false }
-{
-    Arg::new(alloc, id)
-        .value_name(shown)
-        .help(help)
-        .required(true)
-}
-
-fn released_argument<'a>(alloc: Global) -> Arg<'a>
-    ensures rule { rule_of result ≡ released_rule }
-    ensures local { result.global ≡ false }
-{
-    Arg::new(alloc, "released")
-        .long("released")
-        .help(
-            "Reads type I lines by the columns of the released files, FILE in 6-10 and TLID in 11-20",
-        )
-        .action(ArgAction::SetTrue)
-}
-
-fn files_argument<'a>(alloc: Global) -> Arg<'a>
-    ensures rule { rule_of result ≡ files_rule }
-    ensures local { result.global ≡ false }
-{
-    Arg::new(alloc, "files")
-        .value_name("FILES")
-        .help("Record files, which are read one after the other as one text")
-        .required(true)
-        .num_args(1..)
-        .action(ArgAction::Append)
 }
 
 // Why there is no plan where clap gives this error.

@@ -1,4 +1,4 @@
-use Rattle.std.proofs.Common.{inl}
+use Rattle.std.proofs.Common.{inl, inr}
 use Rattle.tl_command.proofs.open.start.Goals as goal
 
 pub returns-in-Ok-clause-done : goal.returns-in-Ok-clause-done
@@ -10,5 +10,8 @@ returns-in-Ok-clause-fault g c = λ fault. (c.in-Ok.plan, c.in-Ok.ensures.plan, 
 pub returns-in-Ok-clause-refused : goal.returns-in-Ok-clause-refused
 returns-in-Ok-clause-refused g c = λ refused. (c.in-Ok.plan, c.in-Ok.ensures.plan, c.open_and_run.ensures.refused refused)
 
-pub returns-in-Ok-clause-bad_text : goal.returns-in-Ok-clause-bad_text
-returns-in-Ok-clause-bad_text g c = λ is. (c.in-Ok.plan, c.in-Ok.ensures.plan, c.open_and_run.ensures.bad_text is)
+pub returns-in-Ok-clause-cert_fault : goal.returns-in-Ok-clause-cert_fault
+returns-in-Ok-clause-cert_fault g c = λ is. (c.in-Ok.plan, c.in-Ok.ensures.plan, c.open_and_run.ensures.cert_fault is)
+
+pub returns-in-Ok-clause-stopped : goal.returns-in-Ok-clause-stopped
+returns-in-Ok-clause-stopped g c = λ stopped. inr (c.in-Ok.plan, c.in-Ok.ensures.plan, c.open_and_run.ensures.stopped stopped)

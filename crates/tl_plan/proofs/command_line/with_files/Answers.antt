@@ -1,7 +1,7 @@
 use Rattle.std.proofs.Common.{ap, ◌∙◌}
 use Rattle.std.proofs.lemmas.Result.{IfOk-weaker}
 use Rattle.clap.specs.Simple.{App, app_of, with_subcommand}
-use Rattle.tl_plan.proofs.words.with_files.Goals as goal
+use Rattle.tl_plan.proofs.command_line.with_files.Goals as goal
 
 pub returns : goal.returns
 returns c =

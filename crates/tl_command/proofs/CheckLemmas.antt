@@ -1,0 +1,123 @@
+-- What the claims of a check make of a run.
+use Rattle.std.proofs.Common.{◌≡◌, ◌≢◌, ◌⊎◌, inl, inr, ℕ, List, Option, Some, None, Ok, sym, ap₂, subst, ◌∙◌}
+use Rattle.std.specs.Option.{IfSome}
+use Rattle.tl_record.specs.declared.layout.Layout.{Layout}
+use Rattle.tl_record.specs.Records.{Records, records_of}
+use Rattle.tl_map.specs.TheMap.{TheMap}
+use Rattle.tl_map.specs.Reading.{IsReadFrom, records_in}
+use Rattle.tl_map.proofs.OneMapLemmas.{one_map}
+use Rattle.tl_planar.specs.Planar.{IsPlanar}
+use Rattle.tl_sides.specs.Sides.{SidesAgree}
+use Rattle.tl_cells.specs.Cells.{CellsAgree}
+use Rattle.tl_check.specs.declared.verdict.Report.{Report}
+use Rattle.tl_check.specs.declared.verdict.Verdict.{Verdict}
+use Rattle.tl_check.specs.declared.verdict.Verdict.TheVariants.{Sound, MapFault, CertFault}
+use Rattle.tl_check.specs.Sound.{AreClosed}
+use Rattle.tl_check.specs.Texts.{IsValidText, IsTrueOfText}
+use Rattle.tl_check.specs.Records.{HaveMap, IsTrueOfRecords, LeavesUnread}
+use Rattle.tl_check.specs.Verdicts.{Answer, OnSound, IfSound, IfMapFault, IfCertFault, IsReport}
+use Rattle.tl_output.specs.Writing.{line_of}
+use Rattle.tl_command.specs.declared.stop.TheConstants.{DONE, MAP_FAULT, CERT_FAULT, STOPPED}
+use Rattle.tl_command.specs.Verdicts.{verdict_text, verdict_status}
+use Rattle.tl_command.specs.Running.{IsDecided, IsChecked, NamesFault, NamesCertFault}
+
+-- records draw one map
+same_map : (all : Records) (m n : TheMap) → IsReadFrom all m → IsReadFrom all n → m ≡ n
+same_map all m n one other =
+    let same = one_map (records_in all) m n one.no_fault one.map other.map in
+    ap₂ (λ cs ps. record m { chains = cs; polygons = ps }) same.0 same.1
+    ∙ ap₂ (λ ls k. record n { landmarks = ls; skipped = k }) same.2 (one.skipped_lines ∙ sym other.skipped_lines)
+
+-- two claims of the map of the same records hold of one map
+both : (all : Records) (P Q : TheMap → Type 0) → HaveMap all P → HaveMap all Q → HaveMap all (λ m. P m × Q m)
+both all P Q one other = record {
+  map = one.map;
+  is_read = one.is_read;
+  so = (one.so, subst Q (same_map all other.map one.map other.is_read one.is_read) other.so);
+}
+
+weaker : (all : Records) (P Q : TheMap → Type 0) → ((m : TheMap) → P m → Q m) → HaveMap all P → HaveMap all Q
+weaker all P Q leads have = record { map = have.map; is_read = have.is_read; so = leads have.map have.so }
+
+-- the claims of a sound map
+sound_map : (all : Records) (spelt : Option (List ℕ)) (report : Report) → HaveMap all (λ m. IsPlanar m.chains) → HaveMap all (λ m. SidesAgree m.chains)
+    → HaveMap all AreClosed → HaveMap all (λ m. CellsAgree m.chains) → IfSome spelt (λ text. HaveMap all (λ m. IsValidText m text))
+    → HaveMap all (λ m. IsReport m report) → HaveMap all (IsDecided report spelt)
+sound_map all None report planar sides closed cells valid reported =
+    weaker all _ _
+    (λ m so. record { sound = record { planar = so.0.0; sides = so.0.1; closed = so.1.0.0; cells = so.1.0.1 }; reported = so.1.1; valid = tt })
+    (both all _ _ (both all _ _ planar sides) (both all _ _ (both all _ _ closed cells) reported))
+sound_map all (Some text) report planar sides closed cells valid reported =
+    weaker all _ _
+    (λ m so. record { sound = record { planar = so.0.0; sides = so.0.1; closed = so.1.0.0; cells = so.1.0.1 }; reported = so.1.1.0; valid = so.1.1.1 })
+    (both all _ _ (both all _ _ planar sides) (both all _ _ (both all _ _ closed cells) (both all _ _ reported valid)))
+
+-- what is known of the records is known of their map
+decided : (layout : Layout) (known spelt : Option (List ℕ)) (report : Report)
+    → IfSome known (λ text. HaveMap (records_of layout text) (λ m. IsPlanar m.chains))
+    → IfSome known (λ text. HaveMap (records_of layout text) (λ m. SidesAgree m.chains))
+    → IfSome known (λ text. HaveMap (records_of layout text) AreClosed)
+    → IfSome known (λ text. HaveMap (records_of layout text) (λ m. CellsAgree m.chains))
+    → IfSome known (λ text. IfSome spelt (λ certificate. HaveMap (records_of layout text) (λ m. IsValidText m certificate)))
+    → IfSome known (λ text. HaveMap (records_of layout text) (λ m. IsReport m report))
+    → IfSome known (λ text. HaveMap (records_of layout text) (IsDecided report spelt))
+decided layout None spelt report planar sides closed cells valid reported = tt
+decided layout (Some text) spelt report planar sides closed cells valid reported =
+    sound_map (records_of layout text) spelt report planar sides closed cells valid reported
+
+-- a verdict with the status of a sound map is that of one
+pub is_checked : (layout : Layout) (known spelt : Option (List ℕ)) (wrote : List ℕ → Type 0) (answer : Answer) (verdict : Verdict) → answer ≡ Ok verdict
+    → OnSound answer (IfSome known (λ text. HaveMap (records_of layout text) (λ m. IsPlanar m.chains)))
+    → OnSound answer (IfSome known (λ text. HaveMap (records_of layout text) (λ m. SidesAgree m.chains)))
+    → OnSound answer (IfSome known (λ text. HaveMap (records_of layout text) AreClosed))
+    → OnSound answer (IfSome known (λ text. HaveMap (records_of layout text) (λ m. CellsAgree m.chains)))
+    → OnSound answer (IfSome known (λ text. IfSome spelt (λ certificate. HaveMap (records_of layout text) (λ m. IsValidText m certificate))))
+    → IfSound answer (λ report. IfSome known (λ text. HaveMap (records_of layout text) (λ m. IsReport m report)))
+    → DONE ≡ verdict_status verdict → wrote (line_of (verdict_text verdict)) → IsChecked layout known spelt wrote
+is_checked layout known spelt wrote answer (Sound report) is planar sides closed cells valid reported done written = record {
+  report = report;
+  written = written;
+  decided = decided layout known spelt report
+      (subst (λ a. OnSound a (IfSome known (λ text. HaveMap (records_of layout text) (λ m. IsPlanar m.chains)))) is planar)
+      (subst (λ a. OnSound a (IfSome known (λ text. HaveMap (records_of layout text) (λ m. SidesAgree m.chains)))) is sides)
+      (subst (λ a. OnSound a (IfSome known (λ text. HaveMap (records_of layout text) AreClosed))) is closed)
+      (subst (λ a. OnSound a (IfSome known (λ text. HaveMap (records_of layout text) (λ m. CellsAgree m.chains)))) is cells)
+      (subst (λ a. OnSound a (IfSome known (λ text. IfSome spelt (λ certificate. HaveMap (records_of layout text) (λ m. IsValidText m certificate))))) is valid)
+      (subst (λ a. IfSound a (λ report. IfSome known (λ text. HaveMap (records_of layout text) (λ m. IsReport m report)))) is reported);
+}
+is_checked layout known spelt wrote answer (MapFault fault) is planar sides closed cells valid reported done written = cc done
+is_checked layout known spelt wrote answer (CertFault fault) is planar sides closed cells valid reported done written = cc done
+
+-- a verdict with the status of a map's fault is that of one
+pub names_fault : (layout : Layout) (known : Option (List ℕ)) (unread : Type 0) (wrote : List ℕ → Type 0) (answer : Answer) (verdict : Verdict)
+    → answer ≡ Ok verdict
+    → IfMapFault answer (λ fault. IfSome known (λ text. IsTrueOfRecords (records_of layout text) fault)) → LeavesUnread answer unread
+    → MAP_FAULT ≡ verdict_status verdict → wrote (line_of (verdict_text verdict)) → NamesFault layout known unread wrote
+names_fault layout known unread wrote answer (MapFault fault) is true_of alone status written = record {
+  fault = fault;
+  written = written;
+  holds = subst (λ a. IfMapFault a (λ fault. IfSome known (λ text. IsTrueOfRecords (records_of layout text) fault))) is true_of;
+  alone = subst (λ a. LeavesUnread a unread) is alone;
+}
+names_fault layout known unread wrote answer (Sound report) is true_of alone status written = cc status
+names_fault layout known unread wrote answer (CertFault fault) is true_of alone status written = cc status
+
+-- a verdict with the status of a certificate's fault is that of one
+pub names_cert_fault : (layout : Layout) (known spelt : Option (List ℕ)) (wrote : List ℕ → Type 0) (answer : Answer) (verdict : Verdict) → answer ≡ Ok verdict
+    → IfCertFault answer (λ fault. IfSome known (λ text. IfSome spelt (λ certificate.
+    HaveMap (records_of layout text) (λ m. IsTrueOfText m certificate fault))))
+    → CERT_FAULT ≡ verdict_status verdict → wrote (line_of (verdict_text verdict)) → NamesCertFault layout known spelt wrote
+names_cert_fault layout known spelt wrote answer (CertFault fault) is true_of status written = record {
+  fault = fault;
+  written = written;
+  holds = subst (λ a. IfCertFault a (λ fault. IfSome known (λ text. IfSome spelt (λ certificate.
+      HaveMap (records_of layout text) (λ m. IsTrueOfText m certificate fault))))) is true_of;
+}
+names_cert_fault layout known spelt wrote answer (Sound report) is true_of status written = cc status
+names_cert_fault layout known spelt wrote answer (MapFault fault) is true_of status written = cc status
+
+-- a status that isn't a stop's is the verdict's
+pub told_status : (status n : ℕ) (verdict : Verdict) → (status ≡ verdict_status verdict) ⊎ (status ≡ STOPPED) → status ≡ n → n ≢ STOPPED
+    → status ≡ verdict_status verdict
+told_status status n verdict (inl told) is other = told
+told_status status n verdict (inr stopped) is other = absurd (other (sym is ∙ stopped))

@@ -1,0 +1,89 @@
+//! Whether a map is sound, by a certificate.
+
+ghost use Rattle.std.specs.Prelude.{◌≡◌, ◌≢◌, ◌⊎◌};
+ghost use Rattle.tl_record.specs.Layout.{layout_with};
+ghost use Rattle.tl_output.specs.Writing.{Writes, TriesToWrite, FailsToWrite, line_of};
+ghost use Rattle.tl_command.specs.declared.stop.TheConstants.{DONE, MAP_FAULT, CERT_FAULT, REFUSED, STOPPED};
+ghost use Rattle.tl_command.specs.Verdicts.{verdict_text, verdict_status};
+ghost use Rattle.tl_command.specs.Running.{IsChecked, NamesFault, NamesCertFault, NamesRefusal, NamesStop, NamesBudget};
+ghost use Rattle.tl_command.specs.Running.{IsRunStatus, FailsToRead};
+
+use crate::stop::{CERT_FAULT, DONE, MAP_FAULT, Stop, stopped};
+use crate::tell::tell_line;
+use std::alloc::Global;
+use std::fmt;
+use tl_check::{Report, Verdict, check_with};
+use tl_record::{Options, Sink, Source};
+
+// A sound map, with its numbers.
+#[derive(Clone, Copy)]
+struct SoundMap(Report);
+
+impl fmt::Display for SoundMap {
+    ghost use Rattle.std.specs.Prelude.{Some};
+    ghost use Rattle.tl_command.specs.Verdicts.{sound_text};
+
+    ghost output = { λ map. Some (sound_text map.0) };
+
+    fn fmt<W: fmt::Write>(&self, f: &mut fmt::Formatter<W>) -> fmt::Result {
+        write!(f, "sound {}", self.0)
+    }
+}
+
+/// Decides by a certificate whether the map of the records is sound, and gives the program's exit status. Where a line is
+/// refused or the records have no map, nothing of the certificate is read.
+pub fn decide<R: Source, S: Source, W: Sink, E: Sink>(
+    alloc: Global,
+    records: &mut R,
+    cert: &mut S,
+    budget: u64,
+    options: Options,
+    out: &mut W,
+    err: &mut E,
+) -> u8
+    ensures status { IsRunStatus result }
+    ensures checked { result ≡ DONE → IsChecked (layout_with options) (R.remaining records.old) (S.remaining cert.old)
+        (Writes W.contents W.failure_count out.old out.new) }
+    ensures map_fault { result ≡ MAP_FAULT → NamesFault (layout_with options) (R.remaining records.old)
+        (cert.new ≡ cert.old) (Writes W.contents W.failure_count out.old out.new) }
+    ensures cert_fault { result ≡ CERT_FAULT → NamesCertFault (layout_with options) (R.remaining records.old)
+        (S.remaining cert.old) (Writes W.contents W.failure_count out.old out.new) }
+    ensures refused { result ≡ REFUSED → NamesRefusal (layout_with options) (R.remaining records.old)
+        (TriesToWrite E.contents E.failure_count err.old err.new) }
+    ensures stopped { result ≡ STOPPED
+        → NamesStop (TriesToWrite E.contents E.failure_count err.old err.new)
+        ((FailsToRead R.failure_count records.old records.new ⊎ FailsToRead S.failure_count cert.old cert.new)
+        ⊎ FailsToWrite W.failure_count out.old out.new)
+        ⊎ NamesBudget (layout_with options) budget (R.remaining records.old)
+        (TriesToWrite E.contents E.failure_count err.old err.new) }
+    ensures err_stays { (result ≡ DONE) ⊎ ((result ≡ MAP_FAULT) ⊎ (result ≡ CERT_FAULT)) → err.new ≡ err.old }
+    ensures out_stays { result ≡ REFUSED → out.new ≡ out.old }
+    ensures unread { result ≡ REFUSED → cert.new ≡ cert.old }
+    ensures records_whole { result ≢ STOPPED → R.failure_count records.new ≡ R.failure_count records.old }
+    ensures cert_whole { result ≢ STOPPED → S.failure_count cert.new ≡ S.failure_count cert.old }
+{
+    match check_with(alloc, records, cert, budget, options) {
+        Ok(verdict) => tell_verdict(&verdict, out, err),
+        Err(tl_check::Stop::Record { line, cause }) => stopped(&Stop::Refused { line, cause }, err),
+        Err(tl_check::Stop::Memory) => stopped(&Stop::Memory, err),
+        Err(tl_check::Stop::Device) => stopped(&Stop::Device, err),
+        Err(tl_check::Stop::Budget) => stopped(&Stop::Budget, err),
+    }
+}
+
+// Tells a verdict: the numbers of a sound map, or which fault the map or the certificate has.
+fn tell_verdict<W: Sink, E: Sink>(verdict: &Verdict, out: &mut W, err: &mut E) -> u8
+    ensures status { (result ≡ verdict_status verdict.now) ⊎ (result ≡ STOPPED) }
+    ensures told { result ≡ verdict_status verdict.now
+        → Writes W.contents W.failure_count out.old out.new (line_of (verdict_text verdict.now)) }
+    ensures err_stays { result ≡ verdict_status verdict.now → err.new ≡ err.old }
+    ensures stopped { result ≡ STOPPED
+        → NamesStop (TriesToWrite E.contents E.failure_count err.old err.new)
+        (FailsToWrite W.failure_count out.old out.new) }
+{
+    match verdict {
+        Verdict::Sound(report) => tell_line(&SoundMap(*report), DONE, out, err),
+        Verdict::MapFault(fault) => tell_line(fault, MAP_FAULT, out, err),
+        Verdict::CertFault(fault) => tell_line(fault, CERT_FAULT, out, err),
+    }
+}
