@@ -25,3 +25,4 @@ pub mod PlaceLemmas
 pub mod ReaderLemmas
 pub mod CollectLemmas
 pub mod WriteLemmas
+pub mod PutLemmas

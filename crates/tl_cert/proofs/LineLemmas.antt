@@ -47,14 +47,14 @@ feed_within line rest n short =
           ∙ ap (λ (l : List ℕ). line ++ l) (ap (λ m. take m (line_feed ∷ rest)) next),
     )
 
-pub too_long : (P : List ℕ → Type 0) (old left : Option (List ℕ)) (bytes : List ℕ) → Keeps old (prepend_known bytes left) → line_feeds bytes ≡ 0 → length bytes ≡ 1024
+pub too_long : (P : List ℕ → Type 0) (old left : Option (List ℕ)) (bytes : List ℕ) → Keeps old (prepend_known bytes left) → line_feeds bytes ≡ 0 → length bytes ≡ 4096
     → IfSome old (NoLineBegins P)
 too_long P None left bytes kept none full = tt
 too_long P (Some text) None bytes kept none full = absurd kept
 too_long P (Some text) (Some xs) bytes kept none full = λ line rest is short same.
-    let front : take 1024 text ≡ bytes = ap (take 1024) (sym kept) ∙ take-append-le 1024 bytes xs (omega (arith, full)) ∙ ap (λ n. take n bytes) (sym full) ∙ take_all (length bytes) bytes (omega arith) in
-    let more = feed_within line rest 1024 (omega (arith, short.few)) in
-    let has : line_feeds bytes ≡ line_feeds more.0 + 1 = ap line_feeds (sym front ∙ ap (take 1024) same ∙ more.1) ∙ feeds-split line more.0 short.none in
+    let front : take 4096 text ≡ bytes = ap (take 4096) (sym kept) ∙ take-append-le 4096 bytes xs (omega (arith, full)) ∙ ap (λ n. take n bytes) (sym full) ∙ take_all (length bytes) bytes (omega arith) in
+    let more = feed_within line rest 4096 (omega (arith, short.few)) in
+    let has : line_feeds bytes ≡ line_feeds more.0 + 1 = ap line_feeds (sym front ∙ ap (take 4096) same ∙ more.1) ∙ feeds-split line more.0 short.none in
     omega (arith, none, has)
 
 -- the line is taken off

@@ -8,7 +8,7 @@ use tl_record::{Fetched, LineBuffer, Source, fetch_line};
 
 // How many bytes are kept: a line with its line feed has at most 64, so where these hold no line feed, no line of a
 // certificate begins them.
-const ROOM: usize = 1024;
+const ROOM: usize = 4096;
 
 /// Takes lines of a source, which each call is given, and counts them.
 #[derive(Drop)]

@@ -126,6 +126,7 @@ fn short_number(bytes: &[u8]) -> Option<(u32, usize)>
 }
 
 /// The value of the eight or nine digits that stand first, and how many they are, where there are so many.
+#[inline(always)]
 fn long_digits(bytes: &[u8]) -> Option<(u64, usize)>
     ensures { IfSome result (λ first. AreDigits bytes.now first.1 first.0 × (first.0 < 10 ^ 9) × (8 ≤ first.1)) }
 {
@@ -184,6 +185,10 @@ pub fn front_number(bytes: &[u8], letter: u8) -> Option<(u32, usize)>
     ensures { IfSome result (λ front. IsNumber front.0
         × StandsFirst bytes.now (numbered_line (letter ∷ []) front.0) front.1) }
 {
+    // Fewer bytes hold no letter, space and eight others.
+    if bytes.len() < 10 {
+        return None;
+    }
     let Some(word) = behind(bytes, letter) else {
         return None;
     };
@@ -236,6 +241,7 @@ fn ends_word(bytes: &[u8]) -> bool
 
 /// The number of eight or nine digits that stands first, up to the end of a word, and the bytes behind it. None says
 /// nothing.
+#[inline(always)]
 fn long_number(bytes: &[u8]) -> Option<(u64, &[u8])>
     ensures { IfSome result (λ split. (bytes.now ≡ decimal split.0 ++ split.1.now) × StartsWord split.1.now
         × (split.0 < 10 ^ 9) × (0 < split.0)) }
@@ -291,6 +297,7 @@ fn word_coordinate(bytes: &[u8]) -> Option<(i32, &[u8])>
 }
 
 /// The signed number of 32 bits that stands first behind a space, and the bytes behind it.
+#[inline(always)]
 fn split_coordinate(bytes: &[u8]) -> Option<(i32, &[u8])>
     ensures { MatchOption result
         ((z : ℤ) (others : List ℕ) → FitsSigned w32 z → StartsWord others → ¬ (bytes.now ≡ coordinate z ++ others))

@@ -16,6 +16,9 @@ use std::alloc::Global;
 use tl_record::Source;
 use tl_tree::TreeNode;
 
+// For how many darts there is room before they are read, at most: nearly all lists are no longer.
+const FEW: usize = 8;
+
 /// The two kinds of lists of darts.
 #[derive(Clone, Copy)]
 pub enum DartLists {
@@ -102,7 +105,11 @@ pub fn read_darts<R: Source>(
         Ok(count) => count,
         Err(stop) => return Err(stop),
     };
-    let mut darts = Vec::new(alloc);
+    let room = (count as usize).min(FEW);
+    let mut darts = match Vec::with_capacity(alloc, room) {
+        Ok(darts) => darts,
+        Err(_) => return Err(CertStop::Memory),
+    };
     for index in 0..count {
         match lines.read(
             source,

@@ -24,8 +24,8 @@ pub enum Standing {
 /// Gives the parts of a certificate one after the other, as its lines come from a source: the counts, the tree, each
 /// round and each walk.
 ///
-/// It keeps at most 1,024 bytes of the text and no part that it gave. It takes memory for what was read, and never for a
-/// number that a line announces.
+/// It keeps at most 4,096 bytes of the text and no part that it gave. It takes memory for what was read, and ahead of the
+/// darts of a list for eight of them at most: never for a greater number that a line announces.
 #[derive(Drop)]
 pub struct CertReader<R> {
     source: R,

@@ -1,6 +1,6 @@
 //! The text of a certificate, on its way to a sink.
 
-ghost use Rattle.std.specs.Prelude.{◌≡◌, ◌≤◌, ◌∷◌, [], ◌++◌, codes, length, map};
+ghost use Rattle.std.specs.Prelude.{◌≡◌, ◌+◌, ◌*◌, ◌≤◌, ◌∷◌, [], ◌++◌, codes, drop, length, map};
 ghost use Rattle.tl_record.specs.Lines.{joined_lines};
 ghost use Rattle.tl_output.specs.Writing.{CountsFailure, TriesToPassOn, line_of};
 ghost use Rattle.tl_cert.specs.Text;
@@ -23,6 +23,15 @@ const ROOM: usize = 64;
 
 // Room for a letter, a space, a number of up to twenty digits and a line feed.
 const NUMBER_ROOM: usize = 23;
+
+// How many lines of a number of 32 bits are put together before they are handed on.
+const BATCH: usize = 16;
+
+// Room for as many, each of a letter, a space, up to ten digits and a line feed.
+const BATCH_ROOM: usize = 208;
+
+// Room for as many and the line before them.
+const LIST_ROOM: usize = 221;
 
 // Room for a rectangle: four times a space and a number with a sign and ten digits.
 const RECTANGLE_ROOM: usize = 48;
@@ -180,8 +189,29 @@ fn write_dart_list<W: Sink>(
         (joined_lines (darts_lines (letter ∷ []) darts.now)) result }
     ensures failures { CountsFailure (W.failure_count out.old) (W.failure_count out.new) result }
 {
+    if darts.len() <= BATCH {
+        return write_short_list(letter, darts, buffer, out);
+    }
     write_number(letter, darts.len(), buffer, out)?;
     write_numbers(b'D', darts, buffer, out)
+}
+
+// Writes the number of a few darts behind the letter, and the darts, all of them at once.
+fn write_short_list<W: Sink>(
+    letter: u8,
+    darts: &[u32],
+    buffer: &mut OutputBuffer,
+    out: &mut W,
+) -> io::Result<()>
+    requires { length darts.now ≤ 16 }
+    ensures bytes { TriesToPassOn (W.contents out.old) (W.contents out.new) buffer.old buffer.new
+        (joined_lines (darts_lines (letter ∷ []) darts.now)) result }
+    ensures failures { CountsFailure (W.failure_count out.old) (W.failure_count out.new) result }
+{
+    let mut text = [0; LIST_ROOM];
+    let behind = put_numbers(b'D', darts, &mut text, LIST_ROOM);
+    let start = put_number(letter, darts.len() as u32, &mut text, behind);
+    buffer.add(&text[start..], out)
 }
 
 // Writes a line for each number: the letter and the number.
@@ -195,10 +225,65 @@ fn write_numbers<W: Sink>(
         (joined_lines (map (numbered_line (letter ∷ [])) numbers.now)) result }
     ensures failures { CountsFailure (W.failure_count out.old) (W.failure_count out.new) result }
 {
-    for number in numbers {
-        write_number(letter, *number as usize, buffer, out)?;
+    let mut written = 0;
+    while written < numbers.len() {
+        let count = (numbers.len() - written).min(BATCH);
+        write_batch(letter, &numbers[written..written + count], buffer, out)?;
+        written += count;
     }
     Ok(())
+}
+
+// Writes a line for each of a few numbers, all of them at once.
+fn write_batch<W: Sink>(
+    letter: u8,
+    numbers: &[u32],
+    buffer: &mut OutputBuffer,
+    out: &mut W,
+) -> io::Result<()>
+    requires { length numbers.now ≤ 16 }
+    ensures bytes { TriesToPassOn (W.contents out.old) (W.contents out.new) buffer.old buffer.new
+        (joined_lines (map (numbered_line (letter ∷ [])) numbers.now)) result }
+    ensures failures { CountsFailure (W.failure_count out.old) (W.failure_count out.new) result }
+{
+    let mut text = [0; BATCH_ROOM];
+    let start = put_numbers(letter, numbers, &mut text, BATCH_ROOM);
+    buffer.add(&text[start..], out)
+}
+
+// Puts a line for each number, one behind the other, before what stands at `end`, and tells where they start.
+#[inline(always)]
+fn put_numbers(letter: u8, numbers: &[u32], text: &mut [u8], end: usize) -> usize
+    requires room { 13 * length numbers.now ≤ end }
+    requires within { end ≤ length text.old }
+    ensures start { (result ≤ end) × (end ≤ result + 13 * length numbers.now) }
+    ensures written { drop result text.new
+        ≡ joined_lines (map (numbered_line (letter ∷ [])) numbers.now) ++ drop end text.old }
+    ensures size { length text.new ≡ length text.old }
+{
+    let mut start = end;
+    let mut left = numbers.len();
+    while left > 0 {
+        left -= 1;
+        start = put_number(letter, numbers[left], text, start);
+    }
+    start
+}
+
+// Puts a line of a letter and a number before what stands at `end`, and tells where it starts.
+#[inline(always)]
+fn put_number(letter: u8, number: u32, text: &mut [u8], end: usize) -> usize
+    requires room { 13 ≤ end }
+    requires within { end ≤ length text.old }
+    ensures start { (result ≤ end) × (end ≤ result + 13) }
+    ensures written { drop result text.new ≡ line_of (numbered_line (letter ∷ []) number) ++ drop end text.old }
+    ensures size { length text.new ≡ length text.old }
+{
+    text[end - 1] = b'\n';
+    let digits = write_digits(number as u64, text, end - 1);
+    text[digits - 1] = b' ';
+    text[digits - 2] = letter;
+    digits - 2
 }
 
 // Writes a line of a letter and a number.
