@@ -3,12 +3,10 @@ use crate::certs::{
     DEAD_END, SQUARE, by_bytes, decided, decided_in_memory, first, nested as nested_cert,
 };
 use crate::maps::{Drawn, dead_end, nested, records_of, square};
-use crate::plain::do_sides_agree;
 use std::alloc::Global;
 use std::test::Fail;
 use tl_check::{CertFault, MapFault, Report, Stop, Verdict, check};
 use tl_geom::Point;
-use tl_map::read_map;
 use tl_record::Meter;
 use tl_sides::{RoundFault, WalkFault};
 use tl_tree::TreeFault;
@@ -304,32 +302,5 @@ fn trees_of_the_greatest_depth(rt: HostRuntime) -> Result<(), Fail> {
     assert!(rt; is_sound(alloc, &records, &cert, (1, 64, 2, 0, 1))?);
     let (longer, deeper) = deep(alloc, 65)?;
     assert!(rt; cert_fault(alloc, &longer, &deeper)? == Some(CertFault::TooDeep));
-    Ok(())
-}
-
-/// Whether a map is sound by a certificate exactly where its sides agree by all pairs of darts, and else has a fault of
-/// its sides.
-fn as_plainly(alloc: Global, records: &str, cert: &str) -> Result<bool, Fail> {
-    let map = read_map(alloc, &mut Meter::new(records.as_bytes()))?;
-    Ok(match decided(alloc, records.as_bytes(), cert.as_bytes())? {
-        Verdict::Sound(_) => do_sides_agree(&map),
-        Verdict::MapFault(MapFault::Side { .. }) => !do_sides_agree(&map),
-        _ => false,
-    })
-}
-
-#[test]
-fn sides_by_all_pairs(rt: HostRuntime) -> Result<(), Fail> {
-    let alloc = rt.alloc();
-    let cert = nested_cert(alloc, 2)?;
-    for left in 0..3 {
-        for right in 0..3 {
-            if left < 2 && right < 2 {
-                assert!(rt; as_plainly(alloc, &dead_end(alloc, left, right)?, DEAD_END)?);
-            }
-            let two = nested(alloc, left, right, &[(20, 20), (16, 16)])?;
-            assert!(rt; as_plainly(alloc, &two, &cert)?);
-        }
-    }
     Ok(())
 }

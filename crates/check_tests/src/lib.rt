@@ -8,5 +8,3 @@ mod cases;
 mod certs;
 #[cfg(test)]
 mod maps;
-#[cfg(test)]
-mod plain;

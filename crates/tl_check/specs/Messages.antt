@@ -31,7 +31,9 @@ rational_text r = signed_decimal r.x ++ codes " " ++ signed_decimal r.y ++ codes
 -- the code and the name of a map's fault, with what it is about
 abbrev pub map_fault_text : MapFault → List ℕ
 map_fault_text (Records fault) = fault_text fault
-map_fault_text (Meet meet) = codes "map fault G1 Meet " ++ segment_text meet.tlid meet.s ++ codes " " ++ segment_text meet.other meet.t ++ codes " at " ++ rational_text meet.at
+map_fault_text (Meet meet) =
+    codes "map fault G1 Meet " ++ segment_text meet.tlid meet.s ++ codes " " ++ segment_text meet.other meet.t
+    ++ codes " at " ++ rational_text meet.at
 map_fault_text (Side node first next) = codes "map fault G2 Side at " ++ node_text node ++ codes " darts " ++ decimal first ++ codes " " ++ decimal next
 map_fault_text (Cell odds) = codes "map fault G6 Cell darts " ++ decimal odds.first ++ codes " " ++ decimal odds.second
     ++ codes " ids " ++ decimal odds.first_id ++ codes " " ++ decimal odds.second_id

@@ -1,8 +1,9 @@
 //! The check of a map by a certificate that is checked as its parts come.
 
-ghost use Rattle.std.specs.Prelude.{◌≡◌, IfErr};
+ghost use Rattle.std.specs.Prelude.{◌≡◌, ℕ, ◌≤◌, IfErr};
 ghost use Rattle.std.specs.Option.{IfSome};
 ghost use Rattle.tl_planar.specs.Planar.{IsPlanar};
+ghost use Rattle.tl_planar.specs.Searching.{meeting_segments};
 ghost use Rattle.tl_sides.specs.Sides.{SidesAgree};
 ghost use Rattle.tl_cells.specs.Cells.{CellsAgree};
 ghost use Rattle.tl_cert.specs.declared.reader.Standing.TheVariants.{Reading};
@@ -13,7 +14,7 @@ ghost use Rattle.tl_check.specs.Sound.{AreClosed};
 ghost use Rattle.tl_check.specs.Truth.{IsTrueOfMap};
 ghost use Rattle.tl_check.specs.Verdicts.{OnSound, IfSound, IfMapFault, IfCertFault, IsReport};
 ghost use Rattle.tl_check.specs.Texts.{IsTrueOfText, IsValidText, MayStopReading, TellsDevice};
-ghost use Rattle.tl_check.specs.Keeping.Parts.{Holds};
+ghost use Rattle.tl_check.specs.Keeping.Parts.{Holds, IsSearched};
 ghost use Rattle.tl_check.specs.Keeping.Streams.{Stands, Decides, Concludes};
 
 use crate::answer::{answer, report, stopped};
@@ -48,6 +49,8 @@ pub fn check_cert<S: Source>(
     ensures cells { OnSound result (CellsAgree map.now.chains) }
     // The text is that of a certificate that is valid for the map.
     ensures valid { OnSound result (IfSome (S.remaining cert.old) (IsValidText map.now)) }
+    // At most as many pairs of segments as the budget have rectangles that meet.
+    ensures within { OnSound result (meeting_segments map.now.chains ≤ budget) }
     // The report has the map's numbers.
     ensures report { IfSound result (IsReport map.now) }
     // Each fault is true.
@@ -73,6 +76,7 @@ fn check_parts<R: Source>(
     requires standing { standing_of reader.old ≡ Reading Start }
     requires lines { lines_of reader.old ≡ 0 }
     ensures decides { Decides map.now budget (unread R.remaining reader.old) result }
+    ensures within { OnSound result (meeting_segments map.now.chains ≤ budget) }
     ensures failures { TellsDevice (R.failure_count (source_of reader.old))
         (R.failure_count (source_of reader.new)) result }
     ensures same_reference { R.reference (source_of reader.new) ≡ R.reference (source_of reader.old) }
@@ -112,7 +116,8 @@ fn check_parts<R: Source>(
 /// The answer behind the last part.
 fn conclude(alloc: Global, map: &Map, state: State) -> Result<Verdict, Stop>
     requires held { (c : TheCertificate) × Holds map.now c state }
-    ensures { (c : TheCertificate) → Holds map.now c state → Concludes map.now c result }
+    ensures concludes { (c : TheCertificate) → Holds map.now c state → Concludes map.now c result }
+    ensures within { (n : ℕ) → IsSearched map.now n state → OnSound result (meeting_segments map.now.chains ≤ n) }
 {
     let ended = match end_rounds(alloc, map, state) {
         Ok(ended) => ended,

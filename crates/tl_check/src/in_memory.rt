@@ -1,7 +1,8 @@
 //! The check of a map and a certificate in memory.
 
-ghost use Rattle.std.specs.Prelude.{IfErr};
+ghost use Rattle.std.specs.Prelude.{◌≤◌, IfErr};
 ghost use Rattle.tl_planar.specs.Planar.{IsPlanar};
+ghost use Rattle.tl_planar.specs.Searching.{meeting_segments};
 ghost use Rattle.tl_sides.specs.Sides.{SidesAgree};
 ghost use Rattle.tl_cells.specs.Cells.{CellsAgree};
 ghost use Rattle.tl_check.specs.Sound.{AreClosed};
@@ -36,6 +37,8 @@ pub fn check_map(alloc: Global, map: &Map, cert: &Certificate, budget: u64) -> R
     ensures cells { OnSound result (CellsAgree map.now.chains) }
     // The certificate is valid for the map.
     ensures valid { OnSound result (IsValid map.now cert.now) }
+    // At most as many pairs of segments as the budget have rectangles that meet.
+    ensures within { OnSound result (meeting_segments map.now.chains ≤ budget) }
     // The report has the map's numbers.
     ensures report { IfSound result (IsReport map.now) }
     // Each fault is true.

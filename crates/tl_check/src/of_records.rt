@@ -1,10 +1,11 @@
 //! The check of records by the text of a certificate.
 
-ghost use Rattle.std.specs.Prelude.{◌≡◌, IfErr};
+ghost use Rattle.std.specs.Prelude.{◌≡◌, ◌≤◌, IfErr};
 ghost use Rattle.std.specs.Option.{IfSome};
 ghost use Rattle.tl_record.specs.Layout.{tiger_2006, layout_with};
 ghost use Rattle.tl_record.specs.Records.{records_of};
 ghost use Rattle.tl_planar.specs.Planar.{IsPlanar};
+ghost use Rattle.tl_planar.specs.Searching.{meeting_segments};
 ghost use Rattle.tl_sides.specs.Sides.{SidesAgree};
 ghost use Rattle.tl_cells.specs.Cells.{CellsAgree};
 ghost use Rattle.tl_check.specs.Sound.{AreClosed};
@@ -52,6 +53,9 @@ pub fn check<R: Source, S: Source>(
     // The certificate's text is that of a certificate that is valid for the map.
     ensures valid { OnSound result (IfSome (R.remaining records.old) (λ text. IfSome (S.remaining cert.old) (λ spelt.
         HaveMap (records_of tiger_2006 text) (λ m. IsValidText m spelt)))) }
+    // At most as many pairs of segments as the budget have rectangles that meet.
+    ensures within { OnSound result (IfSome (R.remaining records.old) (λ text.
+        HaveMap (records_of tiger_2006 text) (λ m. meeting_segments m.chains ≤ budget))) }
     // The report has the map's numbers.
     ensures report { IfSound result (λ report. IfSome (R.remaining records.old) (λ text.
         HaveMap (records_of tiger_2006 text) (λ m. IsReport m report))) }
@@ -94,6 +98,8 @@ pub fn check_with<R: Source, S: Source>(
         HaveMap (records_of (layout_with options) text) (λ m. CellsAgree m.chains))) }
     ensures valid { OnSound result (IfSome (R.remaining records.old) (λ text. IfSome (S.remaining cert.old) (λ spelt.
         HaveMap (records_of (layout_with options) text) (λ m. IsValidText m spelt)))) }
+    ensures within { OnSound result (IfSome (R.remaining records.old) (λ text.
+        HaveMap (records_of (layout_with options) text) (λ m. meeting_segments m.chains ≤ budget))) }
     ensures report { IfSound result (λ report. IfSome (R.remaining records.old) (λ text.
         HaveMap (records_of (layout_with options) text) (λ m. IsReport m report))) }
     ensures map_fault { IfMapFault result (λ fault. IfSome (R.remaining records.old) (λ text.

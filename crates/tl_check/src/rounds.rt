@@ -1,8 +1,9 @@
 //! The rounds of a certificate, and the sides about each node.
 
-ghost use Rattle.std.specs.Prelude.{◌<◌, zero, length, IfOk, IfErr};
+ghost use Rattle.std.specs.Prelude.{ℕ, ◌<◌, ◌≤◌, zero, length, IfOk, IfErr};
+ghost use Rattle.tl_planar.specs.Searching.{meeting_segments};
 ghost use Rattle.tl_cert.specs.Certificates.{TheCertificate};
-ghost use Rattle.tl_check.specs.Keeping.Parts.{with_round, Holds, TakesRounds, TakesWalks, MayEnd};
+ghost use Rattle.tl_check.specs.Keeping.Parts.{with_round, Holds, TakesRounds, TakesWalks, IsSearched, MayEnd};
 
 use crate::fault::{CertFault, MapFault};
 use crate::state::{Halt, State};
@@ -17,6 +18,7 @@ pub fn take_round(map: &Map, state: State, round: &[u32]) -> State
     requires takes { TakesRounds state }
     ensures holds { (c : TheCertificate) → Holds map.now c state → Holds map.now (with_round c round.now) result }
     ensures takes { TakesRounds result }
+    ensures searched { (n : ℕ) → IsSearched map.now n state → IsSearched map.now n result }
 {
     match state {
         State::Rounding(mut rounds) => match rounds.take(map, round) {
@@ -33,6 +35,7 @@ pub fn end_rounds(alloc: Global, map: &Map, state: State) -> Result<State, Halt>
     requires held { (c : TheCertificate) × Holds map.now c state }
     ensures holds { IfOk result (λ next. (c : TheCertificate) → Holds map.now c state → Holds map.now c next) }
     ensures walks { IfOk result TakesWalks }
+    ensures searched { IfOk result (λ next. (n : ℕ) → IsSearched map.now n state → IsSearched map.now n next) }
     ensures halts { IfErr result (MayEnd map.now) }
 {
     match state {
@@ -50,6 +53,7 @@ fn begin_walks(alloc: Global, map: &Map, rounds: Rounds) -> Result<State, Halt>
     requires held { (c : TheCertificate) × AreRoundsSoFar map.now c rounds }
     ensures holds { IfOk result (λ next. (c : TheCertificate) → AreRoundsSoFar map.now c rounds → Holds map.now c next) }
     ensures walks { IfOk result TakesWalks }
+    ensures searched { IfOk result (λ next. (n : ℕ) → meeting_segments map.now.chains ≤ n → IsSearched map.now n next) }
     ensures halts { IfErr result (MayEnd map.now) }
 {
     let next = match rounds.end(map) {

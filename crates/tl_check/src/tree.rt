@@ -6,7 +6,7 @@ ghost use Rattle.tl_sides.specs.Keeping.Rounded.{AreSized, HaveTaken};
 ghost use Rattle.tl_cells.specs.Cells.{CellsAgree};
 ghost use Rattle.tl_cert.specs.Certificates.{TheCertificate};
 ghost use Rattle.tl_check.specs.Valid.{AreCounts};
-ghost use Rattle.tl_check.specs.Keeping.Parts.{Holds, TakesRounds, MayHalt, MayEnd};
+ghost use Rattle.tl_check.specs.Keeping.Parts.{Holds, TakesRounds, IsSearched, MayHalt, MayEnd};
 
 use crate::fault::{CertFault, MapFault};
 use crate::state::{Halt, State};
@@ -25,6 +25,7 @@ pub fn take_tree(alloc: Global, map: &Map, nodes: &[TreeNode], budget: u64) -> R
     ensures holds { IfOk result (λ state. (c : TheCertificate) → AreCounts map.now c.counts →
         c.tree ≡ nodes.now → c.rounds ≡ [] → c.walks ≡ [] → Holds map.now c state) }
     ensures rounds { IfOk result TakesRounds }
+    ensures searched { IfOk result (IsSearched map.now budget) }
     ensures halts { IfErr result (MayHalt map.now budget) }
 {
     let tree = match FlatTree::from_nodes(alloc, nodes) {

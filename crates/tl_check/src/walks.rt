@@ -1,9 +1,10 @@
 //! The walks of a certificate.
 
-ghost use Rattle.std.specs.Prelude.{◌<◌, zero, length, IfOk, IfErr};
+ghost use Rattle.std.specs.Prelude.{ℕ, ◌<◌, ◌≤◌, zero, length, OnOk, IfOk, IfErr};
+ghost use Rattle.tl_planar.specs.Searching.{meeting_segments};
 ghost use Rattle.tl_cert.specs.Certificates.{TheCertificate};
 ghost use Rattle.tl_check.specs.Truth.{IsTrueOfCert};
-ghost use Rattle.tl_check.specs.Keeping.Parts.{with_walk, Holds, TakesWalks, IsShown};
+ghost use Rattle.tl_check.specs.Keeping.Parts.{with_walk, Holds, TakesWalks, IsSearched, IsShown};
 
 use crate::fault::CertFault;
 use crate::state::State;
@@ -16,6 +17,7 @@ pub fn take_walk(map: &Map, state: State, walk: &[u32]) -> State
     requires takes { TakesWalks state }
     ensures holds { (c : TheCertificate) → Holds map.now c state → Holds map.now (with_walk c walk.now) result }
     ensures takes { TakesWalks result }
+    ensures searched { (n : ℕ) → IsSearched map.now n state → IsSearched map.now n result }
 {
     match state {
         State::Walking(mut walks) => match walks.take(map, walk) {
@@ -33,6 +35,7 @@ pub fn end_walks(map: &Map, state: State) -> Result<u32, CertFault>
     requires held { (c : TheCertificate) × Holds map.now c state }
     requires takes { TakesWalks state }
     ensures shown { IfOk result (λ rings. (c : TheCertificate) → Holds map.now c state → IsShown map.now c rings) }
+    ensures searched { OnOk result ((n : ℕ) → IsSearched map.now n state → meeting_segments map.now.chains ≤ n) }
     ensures fault { IfErr result (λ fault. (c : TheCertificate) → Holds map.now c state → IsTrueOfCert map.now c fault) }
 {
     match state {

@@ -2,7 +2,7 @@
 --
 -- `layout` is the column table that the records are read by; `known` is the text of the record files, where it is known, and
 -- `spelt` that of the certificate; `wrote` says of a text that it was written.
-use Rattle.std.specs.Prelude.{◌≡◌, ◌⊎◌, ◌<◌, ℕ, List, Option, None, Some, IfSome, Result, Ok, Err, ⊤}
+use Rattle.std.specs.Prelude.{◌≡◌, ◌⊎◌, ◌<◌, ◌≤◌, ℕ, List, Option, None, Some, IfSome, Result, Ok, Err, ⊤}
 use Rattle.tl_record.specs.declared.stop.Cause.{Cause}
 use Rattle.tl_record.specs.Failures.{one_more}
 use Rattle.tl_record.specs.declared.layout.Layout.{Layout}
@@ -79,18 +79,19 @@ pub record NamesBadLine (known : Option (List ℕ)) (wrote : List ℕ → Type 0
   pub written : wrote (line_of (cert_fault_text (cert_fault.Text line)))
   pub holds : IfSome known (λ text. IsRefused text line)
 
--- the map is sound, the report is its report, and the certificate's text, where it is known, is that of a certificate that is
--- valid for it
-pub record IsDecided (report : Report) (spelt : Option (List ℕ)) (m : TheMap) : Type 0 where
+-- the map is sound, at most as many pairs of its segments as the budget have rectangles that meet, the report is its report,
+-- and the certificate's text, where it is known, is that of a certificate that is valid for it
+pub record IsDecided (report : Report) (budget : ℕ) (spelt : Option (List ℕ)) (m : TheMap) : Type 0 where
   pub sound : IsSound m
+  pub within : meeting_segments m.chains ≤ budget
   pub reported : IsReport m report
   pub valid : IfSome spelt (λ text. IsValidText m text)
 
 -- the line of a sound map was written, and the map of the records is sound: no line is refused and they have one
-pub record IsChecked (layout : Layout) (known spelt : Option (List ℕ)) (wrote : List ℕ → Type 0) : Type 0 where
+pub record IsChecked (layout : Layout) (budget : ℕ) (known spelt : Option (List ℕ)) (wrote : List ℕ → Type 0) : Type 0 where
   pub report : Report
   pub written : wrote (line_of (sound_text report))
-  pub decided : IfSome known (λ text. HaveMap (records_of layout text) (IsDecided report spelt))
+  pub decided : IfSome known (λ text. HaveMap (records_of layout text) (IsDecided report budget spelt))
 
 -- the line of a fault of a certificate was written, and it is true of the certificate's text, beside the map of the records
 pub record NamesCertFault (layout : Layout) (known spelt : Option (List ℕ)) (wrote : List ℕ → Type 0) : Type 0 where
@@ -140,7 +141,7 @@ abbrev pub IsAnswered : Plan → Option (List ℕ) → Option (List ℕ) → (Li
 IsAnswered (Show options files) records spelt made wrote = IsShown (layout_with options) records wrote
 IsAnswered (Landmarks options files) records spelt made wrote = IsListed (layout_with options) records wrote
 IsAnswered (Convert from to) records spelt made wrote = IsConverted spelt made wrote
-IsAnswered (Check cert budget options files) records spelt made wrote = IsChecked (layout_with options) records spelt wrote
+IsAnswered (Check cert budget options files) records spelt made wrote = IsChecked (layout_with options) budget records spelt wrote
 
 -- the line of a fault of the records was written, and it is true
 pub record NamesRecordFault (layout : Layout) (known : Option (List ℕ)) (wrote : List ℕ → Type 0) : Type 0 where

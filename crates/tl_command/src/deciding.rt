@@ -42,7 +42,7 @@ pub fn decide<R: Source, S: Source, W: Sink, E: Sink>(
     err: &mut E,
 ) -> u8
     ensures status { IsRunStatus result }
-    ensures checked { result ≡ DONE → IsChecked (layout_with options) (R.remaining records.old) (S.remaining cert.old)
+    ensures checked { result ≡ DONE → IsChecked (layout_with options) budget (R.remaining records.old) (S.remaining cert.old)
         (Writes W.contents W.failure_count out.old out.new) }
     ensures map_fault { result ≡ MAP_FAULT → NamesFault (layout_with options) (R.remaining records.old)
         (cert.new ≡ cert.old) (Writes W.contents W.failure_count out.old out.new) }

@@ -1,5 +1,5 @@
 -- What was found of a certificate's rounds and walks so far, behind counts that are the map's and a tree that was taken.
-use Rattle.std.specs.Prelude.{◌≡◌, ℕ, ◌<◌, List, [], ◌++◌, length, ⊤}
+use Rattle.std.specs.Prelude.{◌≡◌, ℕ, ◌<◌, ◌≤◌, List, [], ◌++◌, length, ⊤}
 use Rattle.tl_map.specs.TheMap.{TheMap}
 use Rattle.tl_planar.specs.Planar.{IsPlanar}
 use Rattle.tl_planar.specs.Searching.{meeting_segments}
@@ -77,6 +77,13 @@ TakesWalks (state.Rounding rounds) = ⊥
 TakesWalks (state.Walking walks) = ⊤
 TakesWalks (state.Unrounded fault) = ⊤
 TakesWalks (state.Wrong fault) = ⊤
+
+-- unless the parts are wrong, the search was made, and at most n pairs of segments have rectangles that meet
+abbrev pub IsSearched : TheMap → ℕ → State → Type 0
+IsSearched m n (state.Rounding rounds) = meeting_segments m.chains ≤ n
+IsSearched m n (state.Walking walks) = meeting_segments m.chains ≤ n
+IsSearched m n (state.Unrounded fault) = meeting_segments m.chains ≤ n
+IsSearched m n (state.Wrong fault) = ⊤
 
 -- why no further part is looked at
 abbrev pub MayHalt : TheMap → ℕ → Halt → Type 0

@@ -2,7 +2,7 @@ use Rattle.std.proofs.Common.{Ok, sym, subst, ◌∙◌}
 use Rattle.tl_cert.specs.declared.place.Place.TheVariants.{Start, Counted, Treed, Rounds, Walks}
 use Rattle.tl_cert.specs.declared.place.CertPart.TheVariants as part
 use Rattle.tl_cert.specs.Reading.{Gives, source_of, standing_of}
-use Rattle.tl_check.specs.Keeping.Parts.{Holds, TakesRounds, with_round, with_walk}
+use Rattle.tl_check.specs.Keeping.Parts.{Holds, TakesRounds, IsSearched, with_round, with_walk}
 use Rattle.tl_check.proofs.Streaming.{stop_decides, nothing, begun, counts_read, tree_read, round_read, walk_read, end_decides, no_device, wrong_counts, gives_as}
 use Rattle.std.proofs.lemmas.Bool.{false≢true}
 use Rattle.tl_cert.proofs.CollectLemmas.{tells_here}
@@ -45,18 +45,21 @@ parts-init g c =
     let r = counts_read g.R.Source.remaining c.args.map.now c.args.budget c.args.reader.now c.next_part.new.self c.in-Ok-Some-Counts.counts c.in-Ok-Some-Counts.field-0-0-1 c.requires.standing c.requires.lines first in
     let second = gives_as g.R.Source.remaining c.next_part.new.self c.next_part-2.new.self c.in-Ok-Some-Tree.field-0 c.in-Ok-Some-Tree.field-0-0 (part.Tree c.in-Ok-Some-Tree.nodes) c.in-Ok-Some-Tree.field-0-is c.in-Ok-Some-Tree.field-0-0-is c.in-Ok-Some-Tree.ensures.gives in
     let t = tree_read g.R.Source.remaining c.args.map.now c.args.budget c.args.reader.now c.next_part.new.self c.next_part-2.new.self c.in-Ok-Some-Counts.counts c.in-Ok-Some-Tree.nodes r second in
-    let held : Holds c.args.map.now t.cert c.if-are_counts.state × TakesRounds c.if-are_counts.state = elim c.if-are_counts.branch [
+    let held : Holds c.args.map.now t.cert c.if-are_counts.state × TakesRounds c.if-are_counts.state × IsSearched c.args.map.now c.args.budget c.if-are_counts.state = elim c.if-are_counts.branch [
       | then-are_counts+in-Ok-take_tree w ↦ rw w.state-is (
         w.in-Ok-take_tree.ensures.holds t.cert (subst (AreCounts c.args.map.now) (sym t.counts_are) (c.are_counts.ensures.0 w.if-are_counts.true)) (t.tree_is ∙ sym w.deref.ensures.value) t.no_rounds t.no_walks,
         w.in-Ok-take_tree.ensures.rounds,
+        w.in-Ok-take_tree.ensures.searched,
       )
       | else-are_counts w ↦ rw w.state-is (
         wrong_counts c.args.map.now t.cert c.in-Ok-Some-Counts.counts t.counts_are (λ are. false≢true (sym w.if-are_counts.false ∙ c.are_counts.ensures.1 are)),
+        tt,
         tt,
       )
     ] in
     record {
       stands = record { place = Treed t.version; cert = t.cert; collects = t.collects; holds = held.0; suits = held.1 };
+      searched = held.2;
       failures =
           tells_here (standing_of c.next_part.new.self) (Counted r.version) (g.R.Source.failure_count (source_of c.next_part.new.self)) (g.R.Source.failure_count (source_of c.next_part-2.new.self)) (Ok c.in-Ok-Some-Tree.field-0) r.collects.standing c.in-Ok-Some-Tree.ensures.failures
           ∙ tells_here (standing_of c.args.reader.now) Start (g.R.Source.failure_count (source_of c.args.reader.now)) (g.R.Source.failure_count (source_of c.next_part.new.self)) (Ok c.in-Ok-Some-Counts.field-0) c.requires.standing c.in-Ok-Some-Counts.ensures.failures;
@@ -82,6 +85,7 @@ parts-preserved-in-Ok-Some-Round g c =
         holds = rw (← c.deref-in-Ok-Some-Round.ensures.value) (c.take_round-state.ensures.holds st.cert st.holds);
         suits = c.take_round-state.ensures.takes;
       };
+      searched = c.take_round-state.ensures.searched c.args.budget c.parts.invariant.searched;
       failures = tells_here (standing_of c.parts.reader) st.place (g.R.Source.failure_count (source_of c.parts.reader)) (g.R.Source.failure_count (source_of c.next_part-in-parts.new.self)) (Ok c.in-Ok-Some-Round.field-0) st.collects.standing c.in-Ok-Some-Round.ensures.failures ∙ c.parts.invariant.failures;
       same = c.next_part-in-parts.ensures.same_reference ∙ c.parts.invariant.same;
     }
@@ -110,6 +114,7 @@ parts-preserved g c =
         holds = rw (← c.deref-in-Ok-end_rounds.ensures.value) (c.take_walk-state.ensures.holds st.cert (c.in-Ok-end_rounds.ensures.holds st.cert st.holds));
         suits = c.take_walk-state.ensures.takes;
       };
+      searched = c.take_walk-state.ensures.searched c.args.budget (c.in-Ok-end_rounds.ensures.searched c.args.budget c.parts.invariant.searched);
       failures = tells_here (standing_of c.parts.reader) st.place (g.R.Source.failure_count (source_of c.parts.reader)) (g.R.Source.failure_count (source_of c.next_part-in-parts.new.self)) (Ok c.in-Ok-Some-Walk.field-0) st.collects.standing c.in-Ok-Some-Walk.ensures.failures ∙ c.parts.invariant.failures;
       same = c.next_part-in-parts.ensures.same_reference ∙ c.parts.invariant.same;
     }
@@ -118,10 +123,13 @@ pub returns-in-Ok-None-clause-decides : goal.returns-in-Ok-None-clause-decides
 returns-in-Ok-None-clause-decides g c =
     let st = c.parts.invariant.stands in
     let gives = subst (λ a. Gives g.R.Source.remaining c.parts.reader c.next_part-in-parts.new.self (Ok a) (standing_of c.parts.reader)) c.in-Ok-None.field-0-is c.in-Ok-None.ensures.gives in
-    end_decides g.R.Source.remaining c.args.map.now c.args.budget c.args.reader.now c.parts.reader c.next_part-in-parts.new.self c.parts.state c.conclude.result st gives (c.conclude.ensures st.cert st.holds)
+    end_decides g.R.Source.remaining c.args.map.now c.args.budget c.args.reader.now c.parts.reader c.next_part-in-parts.new.self c.parts.state c.conclude.result st gives (c.conclude.ensures.concludes st.cert st.holds)
 
 pub returns-in-Ok-None-clause-failures : goal.returns-in-Ok-None-clause-failures
 returns-in-Ok-None-clause-failures g c =
     let st = c.parts.invariant.stands in
-    no_device c.args.map.now st.cert c.conclude.result (g.R.Source.failure_count (source_of c.args.reader.now)) (g.R.Source.failure_count (source_of c.next_part-in-parts.new.self)) (c.conclude.ensures st.cert st.holds)
+    no_device c.args.map.now st.cert c.conclude.result (g.R.Source.failure_count (source_of c.args.reader.now)) (g.R.Source.failure_count (source_of c.next_part-in-parts.new.self)) (c.conclude.ensures.concludes st.cert st.holds)
     (tells_here (standing_of c.parts.reader) st.place (g.R.Source.failure_count (source_of c.parts.reader)) (g.R.Source.failure_count (source_of c.next_part-in-parts.new.self)) (Ok c.in-Ok-None.field-0) st.collects.standing c.in-Ok-None.ensures.failures ∙ c.parts.invariant.failures)
+
+pub returns-in-Ok-None-clause-within : goal.returns-in-Ok-None-clause-within
+returns-in-Ok-None-clause-within g c = c.conclude.ensures.within c.args.budget c.parts.invariant.searched

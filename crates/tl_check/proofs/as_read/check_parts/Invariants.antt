@@ -1,6 +1,7 @@
 use Rattle.std.proofs.Common.{◌≡◌}
 use Rattle.tl_cert.specs.Reading.{source_of, standing_of}
 use Rattle.tl_cert.specs.Keeping.Collecting.{left_of}
+use Rattle.tl_check.specs.Keeping.Parts.{IsSearched}
 use Rattle.tl_check.specs.Keeping.Streams.{Stands}
 use Rattle.tl_check.proofs.as_read.check_parts.Given as goal
 
@@ -8,6 +9,7 @@ use Rattle.tl_check.proofs.as_read.check_parts.Given as goal
 abbrev pub invariant-parts : goal.invariant-parts
 invariant-parts g l = record {
   stands : Stands g.R.Source.remaining l.map l.fn.reader l.reader l.state;
+  searched : IsSearched l.map l.budget l.state;
   failures : g.R.Source.failure_count (source_of l.reader) ≡ g.R.Source.failure_count (source_of l.fn.reader);
   same : g.R.Source.reference (source_of l.reader) ≡ g.R.Source.reference (source_of l.fn.reader);
 }

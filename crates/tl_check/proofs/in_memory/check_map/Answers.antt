@@ -9,6 +9,7 @@ pub loop-round-init : goal.loop-round-init
 loop-round-init c = record {
   holds = c.in-Ok.ensures.holds (first_rounds c.args.cert.now 0) (rw (← c.counts.ensures) (c.are_counts.ensures.0 c.if-not-are_counts.false)) (sym c.tree.ensures.tree) refl refl;
   takes = c.in-Ok.ensures.rounds;
+  searched = c.in-Ok.ensures.searched;
 }
 
 pub take_round-state-requires-clause-some : goal.take_round-state-requires-clause-some
@@ -33,6 +34,7 @@ loop-round-preserved c =
           (omega (arith, many, test))
           (c.take_round-state.ensures.holds (first_rounds c.args.cert.now i) c.loop-round.invariant.holds);
       takes = c.take_round-state.ensures.takes;
+      searched = c.take_round-state.ensures.searched c.args.budget c.loop-round.invariant.searched;
     }
 
 pub loop-walk-init : goal.loop-walk-init
@@ -45,6 +47,7 @@ loop-walk-init c =
       holds = subst (λ d. Holds c.args.map.now d c.in-Ok-end_rounds.state) (all_rounds c.args.cert.now i (omega (arith, many, test)))
           (c.in-Ok-end_rounds.ensures.holds (first_rounds c.args.cert.now i) c.loop-round.invariant.holds);
       takes = c.in-Ok-end_rounds.ensures.walks;
+      searched = c.in-Ok-end_rounds.ensures.searched c.args.budget c.loop-round.invariant.searched;
     }
 
 pub take_walk-state-requires-clause-some : goal.take_walk-state-requires-clause-some
@@ -69,6 +72,7 @@ loop-walk-preserved c =
           (omega (arith, many, test))
           (c.take_walk-state.ensures.holds (first_walks c.args.cert.now i) c.loop-walk.invariant.holds);
       takes = c.take_walk-state.ensures.takes;
+      searched = c.take_walk-state.ensures.searched c.args.budget c.loop-walk.invariant.searched;
     }
 
 -- what is shown once all walks were taken
@@ -107,3 +111,6 @@ returns-in-Err-end_walks-clause-cert_fault c =
     let many : length vs ≡ length c.args.cert.now.walks = as_many vs c.args.cert.now.walks c.walks-walk-items.ensures.walks in
     subst (λ d. IsTrueOfCert c.args.map.now d c.in-Err-end_walks.fault) (all_walks c.args.cert.now i (omega (arith, many, test)))
     (c.in-Err-end_walks.ensures.fault (first_walks c.args.cert.now i) c.loop-walk.invariant.holds)
+
+pub returns-in-Ok-end_walks-clause-within : goal.returns-in-Ok-end_walks-clause-within
+returns-in-Ok-end_walks-clause-within c = c.in-Ok-end_walks.ensures.searched c.args.budget c.loop-walk.invariant.searched
