@@ -1,0 +1,4 @@
+pub mod Hitting
+pub mod Sides
+pub mod Tallying
+pub mod Holding

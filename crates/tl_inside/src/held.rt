@@ -1,0 +1,48 @@
+//! The chain that holds a point.
+
+ghost use Rattle.std.specs.Prelude.{◌≡◌, length, IfOk, MatchOption};
+ghost use Rattle.tl_map.specs.Segments.{segments_before};
+ghost use Rattle.tl_planar.specs.Rectangles.{segment_rect};
+ghost use Rattle.tl_inside.specs.Places.{IsLowestOn, IsOffChains};
+ghost use Rattle.tl_inside.specs.Keeping.Listed.{IsLeastOf};
+
+use crate::probes::Spot;
+use std::alloc::Global;
+use tl_geom::{Point, on};
+use tl_map::Map;
+use tl_planar::Segments;
+use tl_tree::{BoxIndex, Memory};
+
+/// The lowest chain that holds a point, if one does.
+pub fn chain_at<X: BoxIndex>(
+    alloc: Global,
+    map: &Map,
+    index: &X,
+    point: Point,
+) -> Result<Option<u32>, Memory>
+    requires fits { X.fits index.now (segments_before map.now.chains (length map.now.chains)) (segment_rect map.now.chains) }
+    ensures { IfOk result (λ found. MatchOption found (IsOffChains map.now.chains point) (IsLowestOn map.now.chains point)) }
+{
+    let mut hits = Vec::new(alloc);
+    index.collect_hits(&Segments::new(map), &Spot(point), &mut hits)?;
+    match least(&hits) {
+        // It is hit, as all that are listed are.
+        Some(s) if on(map.segment(s), point) => Ok(Some(map.segment_chain(s))),
+        Some(_) => unreachable!(),
+        None => Ok(None),
+    }
+}
+
+/// The least of some numbers, if there is one.
+fn least(numbers: &[u32]) -> Option<u32>
+    ensures { MatchOption result (length numbers.now ≡ 0) (IsLeastOf numbers.now (length numbers.now)) }
+{
+    let mut least = None;
+    for number in numbers {
+        match least {
+            Some(before) if before <= *number => {}
+            _ => least = Some(*number),
+        }
+    }
+    least
+}

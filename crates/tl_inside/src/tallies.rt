@@ -1,0 +1,40 @@
+//! How often each polygon is near and far over crossed segments.
+
+ghost use Rattle.std.specs.Prelude.{◌≡◌, ℕ, ◌+◌, ◌<◌, ◌^◌, if◌then◌else◌, length, slice_index, All};
+ghost use Rattle.tl_map.specs.Segments.{segments_before};
+ghost use Rattle.tl_inside.specs.Inside.{is_polygon};
+ghost use Rattle.tl_inside.specs.Keeping.Tallies.{AreTallies};
+
+use crate::flanks::flanks_of;
+use tl_map::{Map, Side};
+
+/// Counts of each polygon how many of the crossed segments have it near, and how many have it far; no count is there yet.
+pub fn tally(map: &Map, crossed: &[u32], near: &mut [u64], far: &mut [u64])
+    requires known { All (λ s. s < segments_before map.now.chains (length map.now.chains)) crossed.now }
+    requires no_near { (p : ℕ) → p < length near.old → slice_index near.old p ≡ 0 }
+    requires no_far { (p : ℕ) → p < length far.old → slice_index far.old p ≡ 0 }
+    ensures nears { length near.new ≡ length near.old }
+    ensures fars { length far.new ≡ length far.old }
+    ensures tallies { AreTallies map.now.chains crossed.now near.new far.new }
+{
+    for place in 0..crossed.len() {
+        let flanks = flanks_of(map, crossed[place]);
+        count(near, flanks.near);
+        count(far, flanks.far);
+    }
+}
+
+/// Counts a side, if it is a polygon that there is a count of.
+fn count(counts: &mut [u64], side: Side)
+    requires room { (p : ℕ) → p < length counts.old → slice_index counts.old p + 1 < 2 ^ 64 }
+    ensures long { length counts.new ≡ length counts.old }
+    ensures counted { (p : ℕ) → p < length counts.old → slice_index counts.new p
+        ≡ slice_index counts.old p + (if is_polygon p side then 1 else 0) }
+{
+    if let Side::Polygon(polygon) = side {
+        let polygon = polygon as usize;
+        if polygon < counts.len() {
+            counts[polygon] += 1;
+        }
+    }
+}
