@@ -1,8 +1,9 @@
 //! How fast certificates are written and read.
 //!
 //! `make N FILE` makes the certificate of a county of N chains, ten lines a chain, and writes it into FILE; `read FILE`
-//! reads the one that stands in FILE. Either prints how many nodes, rounds and walks there are and, on the error output,
-//! the microseconds that writing or reading takes.
+//! reads the one that stands in FILE, and `parts FILE` its parts one after the other, each of which is let go before the
+//! next is read. Each prints how many nodes, rounds and walks there are and, on the error output, the microseconds that
+//! writing or reading takes.
 #![tactic(auto)]
 
 mod county;
@@ -13,7 +14,7 @@ use std::fs::File;
 use std::io::BufReader;
 use std::time::{Duration, Instant};
 use std::{env, fmt};
-use tl_cert::{CertStop, Certificate, WriteStop, read_cert, write_cert};
+use tl_cert::{CertPart, CertReader, CertStop, Certificate, WriteStop, read_cert, write_cert};
 use tl_record::{Meter, MeterOut};
 
 // As many bytes at a time as tigertopo reads.
@@ -35,7 +36,9 @@ enum Stop {
 impl fmt::Display for Stop {
     fn fmt<W: fmt::Write>(&self, f: &mut fmt::Formatter<W>) -> fmt::Result {
         match self {
-            Stop::Usage => f.write_str("usage: bench_cert make CHAINS FILE | read FILE"),
+            Stop::Usage => f.write_str(
+                "usage: bench_cert make CHAINS FILE | read FILE | parts FILE",
+            ),
             Stop::Made => f.write_str("the parts make no certificate"),
             Stop::Written(stop) => write!(f, "not written: {stop:?}"),
             Stop::Read(stop) => write!(f, "not read: {stop:?}"),
@@ -51,13 +54,43 @@ fn tell(rt: &HostRuntime, step: &str, taken: Duration) -> anyhow::Result<()> {
     Ok(())
 }
 
-/// Prints how many nodes, rounds and walks a certificate has.
-fn show(rt: &HostRuntime, certificate: &Certificate) -> anyhow::Result<()> {
-    let (nodes, rounds) = (certificate.tree().len(), certificate.rounds().len());
-    println!(rt;
-        "nodes={nodes} rounds={rounds} walks={}",
-        certificate.walks().len()
-    )?;
+/// How many nodes, rounds and walks there are.
+#[derive(Drop)]
+struct Lengths {
+    nodes: usize,
+    rounds: usize,
+    walks: usize,
+}
+
+impl Lengths {
+    /// Those of a certificate.
+    fn of(certificate: &Certificate) -> Lengths {
+        Lengths {
+            nodes: certificate.tree().len(),
+            rounds: certificate.rounds().len(),
+            walks: certificate.walks().len(),
+        }
+    }
+
+    /// Counts a part.
+    fn count(&mut self, part: &CertPart) {
+        match part {
+            CertPart::Counts(_, _) => {}
+            CertPart::Tree(nodes) => self.nodes = nodes.len(),
+            CertPart::Round(_) => self.rounds = self.rounds.wrapping_add(1),
+            CertPart::Walk(_) => self.walks = self.walks.wrapping_add(1),
+        }
+    }
+}
+
+/// Prints how many nodes, rounds and walks there are.
+fn show(rt: &HostRuntime, lengths: &Lengths) -> anyhow::Result<()> {
+    let Lengths {
+        nodes,
+        rounds,
+        walks,
+    } = lengths;
+    println!(rt; "nodes={nodes} rounds={rounds} walks={walks}")?;
     Ok(())
 }
 
@@ -68,7 +101,7 @@ fn make(rt: &HostRuntime, chains: u32, name: &str) -> anyhow::Result<()> {
     let begun = Instant::now(rt)?;
     write_cert(&certificate, &mut out).map_err(|stop| Stop::Written(stop))?;
     tell(rt, "written", begun.elapsed(rt)?)?;
-    show(rt, &certificate)
+    show(rt, &Lengths::of(&certificate))
 }
 
 /// Reads a certificate.
@@ -78,13 +111,35 @@ fn read(rt: &HostRuntime, name: &str) -> anyhow::Result<()> {
     let mut source = Meter::new(BufReader::with_capacity(rt.alloc(), INPUT_BUFFER, file)?);
     let certificate = read_cert(rt.alloc(), &mut source).map_err(|stop| Stop::Read(stop))?;
     tell(rt, "read", begun.elapsed(rt)?)?;
-    show(rt, &certificate)
+    show(rt, &Lengths::of(&certificate))
+}
+
+/// Reads the parts of a certificate, and keeps none.
+fn read_parts(rt: &HostRuntime, name: &str) -> anyhow::Result<()> {
+    let file = File::open(rt, name)?;
+    let begun = Instant::now(rt)?;
+    let source = Meter::new(BufReader::with_capacity(rt.alloc(), INPUT_BUFFER, file)?);
+    let mut reader = CertReader::new(rt.alloc(), source);
+    let mut lengths = Lengths {
+        nodes: 0,
+        rounds: 0,
+        walks: 0,
+    };
+    for _ in 0..u64::MAX {
+        match reader.next_part().map_err(|stop| Stop::Read(stop))? {
+            Some(part) => lengths.count(&part),
+            None => break,
+        }
+    }
+    tell(rt, "parts", begun.elapsed(rt)?)?;
+    show(rt, &lengths)
 }
 
 fn main(rt: HostRuntime) -> anyhow::Result<()> {
     let words: Vec<String> = env::args(&rt)?.skip(1).collect(rt.alloc())?;
     match words.as_slice() {
         [command, name] if command.as_str() == "read" => read(&rt, name.as_str()),
+        [command, name] if command.as_str() == "parts" => read_parts(&rt, name.as_str()),
         [command, chains, name] if command.as_str() == "make" => {
             let chains: u32 = chains.as_str().parse().map_err(|_| Stop::Usage)?;
             make(&rt, chains, name.as_str())

@@ -1,7 +1,7 @@
 -- Lines that are taken one after the other, and texts that are refused behind some of them.
 use Rattle.std.proofs.Common.{◌≡◌, ℕ, suc, ◌+◌, ◌<◌, List, [], ◌∷◌, ◌++◌, length, map, All, Option, None, Some, Err, refl, sym, ap, subst, ◌∙◌, arith, append_assoc, length-append, codes}
 use Rattle.std.specs.Option.{IfSome}
-use Rattle.std.specs.Io.KnownBytes.{Consumes}
+use Rattle.std.specs.Io.KnownBytes.{Consumes, prepend_known}
 use Rattle.std.proofs.KnownBytes.{Consumes-trans, Consumes-nil}
 use Rattle.std.proofs.lemmas.List.{map-append}
 use Rattle.std.proofs.lemmas.List.Elements.{All-head, All-tail, All-nil, All-cons, All-append}
@@ -12,7 +12,8 @@ use Rattle.tl_cert.specs.declared.stop.CertStop.{CertStop}
 use Rattle.tl_cert.specs.declared.stop.CertStop.TheVariants.{Text, Memory, Device}
 use Rattle.tl_cert.specs.Certificates.{IsNumber}
 use Rattle.tl_cert.specs.Text.{numbered_line, item_lines, dart_lines}
-use Rattle.tl_cert.specs.Keeping.Lines.{LineState, NoLineBegins, TakesLines, ReadsLine, taken, untaken}
+use Rattle.tl_cert.specs.declared.lines.Lines.{Lines}
+use Rattle.tl_cert.specs.Keeping.Lines.{LineState, NoLineBegins, TakesLines, TakesFetched, ReadsLine, at, taken, untaken}
 use Rattle.tl_cert.specs.Keeping.Parts.{IsStuckAfter, Reads, letter_of, among}
 use Rattle.tl_cert.specs.Keeping.Steps.{State, tree, ended, Steps, at_item, at_round, at_round_dart, at_walk, at_walk_dart, Runs, no_line, first_line}
 use Rattle.tl_cert.proofs.StepLemmas.{step_short}
@@ -31,6 +32,15 @@ takes_more remaining old mid new xs ys first second = record {
       (Consumes-trans (untaken remaining old) (untaken remaining mid) (untaken remaining new) (joined_lines xs) (joined_lines ys) first.bytes second.bytes);
   counted = omega (arith, first.counted, second.counted, length-append xs ys);
 }
+
+-- lines that were taken from what was fetched
+pub takes_fetched : {R : Type 0} (remaining : R → Option (List ℕ)) (source : R) (old new : Lines) (lines : List (List ℕ)) → TakesFetched old new lines
+    → TakesLines remaining (at old source) (at new source) lines
+takes_fetched remaining source old new lines takes = record { bytes = by_source (remaining source); counted = takes.counted }
+  where
+    by_source : (left : Option (List ℕ)) → Consumes (prepend_known old.buffer left) (prepend_known new.buffer left) (joined_lines lines)
+    by_source None = tt
+    by_source (Some xs) = ap (λ (l : List ℕ). l ++ xs) takes.bytes ∙ append_assoc (joined_lines lines) new.buffer xs
 
 -- the text is refused where no line leads on
 stuck_here : (left : Option (List ℕ)) (s : State) (P : List ℕ → Type 0) (before line : ℕ) → ((l : List ℕ) (u : State) → Steps s l u → P l) → (s ≡ ended → ⊥)

@@ -1,7 +1,7 @@
 -- Lines that are put one before the other, from the last to the first.
 use Rattle.std.proofs.Common.{◌≡◌, ℕ, ◌+◌, ◌-◌, ◌<◌, ◌≤◌, ◌^◌, List, [], ◌∷◌, ◌++◌, length, take, drop, map, get_or, refl, sym, ap, subst, ◌∙◌, arith, Option}
-use Rattle.std.proofs.Common.{append_assoc, add-one, decimal, set, length-set, take-add, take-append-drop, drop-cons}
-use Rattle.std.proofs.lemmas.List.{drop-set}
+use Rattle.std.proofs.Common.{append_assoc, append-nil, add-one, decimal, set, length-set, length-drop, take_all, take-add, take-append-drop, drop-cons}
+use Rattle.std.proofs.lemmas.List.{drop-set, drop_all}
 use Rattle.std.proofs.lemmas.Fmt.{length-decimal-le}
 use Rattle.tl_output.specs.Writing.{PassesOn, PassesSome, line_of}
 use Rattle.tl_output.proofs.WritingLemmas.{passes_both}
@@ -37,6 +37,15 @@ pub line_put : (letter n start end : ℕ) (text digits : List ℕ) → 1 ≤ end
 line_put letter n start end text digits some within room inside behind =
     word_put letter start digits (decimal n ++ 10 ∷ drop end text) room inside (behind ∙ ap (λ l. decimal n ++ l) (feed_put end text some within))
     ∙ ap (λ l. letter ∷ 32 ∷ l) (sym (append_assoc (decimal n) (10 ∷ []) (drop end text)))
+
+-- what was put before an array's end is the slice from there to the end
+pub put_slice : (start size : ℕ) (old new put : List ℕ) → length old ≡ size → length new ≡ length old → drop start new ≡ put ++ drop size old
+    → take (size - start) (drop start new) ≡ put
+put_slice start size old new put long same is =
+    take_all (size - start) (drop start new) (omega (arith, length-drop start new, long, same))
+    ∙ is
+    ∙ ap (λ l. put ++ l) (drop_all size old (omega (arith, long)))
+    ∙ append-nil put
 
 -- a line more before those of the numbers behind it
 pub number_before : (letter : ℕ) (numbers : List ℕ) (place : ℕ) (text behind rest : List ℕ) → place < length numbers

@@ -1,5 +1,5 @@
 -- A certificate's text, passed on piece by piece.
-use Rattle.std.proofs.Common.{◌≡◌, ℕ, zero, suc, ◌+◌, ◌-◌, ◌<◌, ◌≤◌, List, [], ◌∷◌, ◌++◌, length, take, drop, map, get_or, Result, Ok, Err, OnOk, refl, sym, ap, subst, ◌∙◌, arith}
+use Rattle.std.proofs.Common.{◌≡◌, ℕ, ◌+◌, ◌-◌, ◌<◌, ◌≤◌, List, [], ◌∷◌, ◌++◌, length, take, drop, map, get_or, Result, Ok, Err, OnOk, refl, sym, ap, subst, ◌∙◌, arith}
 use Rattle.std.proofs.Common.{append_assoc, append-nil, add-one, take-append-drop, decimal, set, length-set, length-drop}
 use Rattle.std.proofs.Math.Seq.{take-suc}
 use Rattle.std.proofs.lemmas.List.{take_all, map-append, length-map, drop-set}
@@ -10,13 +10,11 @@ use Rattle.std.specs.Prelude.{codes, Option, Vec}
 use Rattle.tl_output.specs.Writing.{PassesOn, PassesSome, TriesToPassOn, Writes, FailsToWrite, line_of}
 use Rattle.tl_output.proofs.WritingLemmas.{passes_both, passes_some_more, passes_then}
 use Rattle.tl_record.specs.Lines.{line_feed, joined_lines}
-use Rattle.arrayvec.specs.ArrayVec.{ArrayVec}
-use Rattle.tl_geom.specs.declared.rect.Rect.{Rect}
 use Rattle.tl_tree.specs.declared.node.TreeNode.{TreeNode}
 use Rattle.tl_tree.specs.declared.node.TreeNode.TheVariants.{Inner, Leaf}
 use Rattle.tl_cert.specs.Certificates.{TheCertificate}
 use Rattle.tl_cert.specs.declared.certificate.Counts.{Counts}
-use Rattle.tl_cert.specs.Text.{number, children, numbered_line, head_line, counts_line, nodes_lines, tree_lines, leaf_line, inner_line, item_lines}
+use Rattle.tl_cert.specs.Text.{numbered_line, head_line, counts_line, nodes_lines, tree_lines, leaf_line, inner_line, item_lines}
 use Rattle.tl_cert.specs.Text.{darts_lines, all_darts_lines, rounds_lines, walks_lines, end_line, certificate_text}
 use Rattle.tl_cert.specs.Writing.{WritesSome}
 use Rattle.tl_cert.proofs.Completing.{joined-append}
@@ -143,30 +141,6 @@ lists_counted word each lists =
     let all = map (λ (l : Vec ℕ Global). l.items) lists in
     ap (λ n. line_of (numbered_line word n) ++ lists_text each lists) (sym (length-map lists (λ (l : Vec ℕ Global). l.items)))
     ∙ line_first (numbered_line word (length all)) (all_darts_lines each all)
-
--- a leaf alone
-pub leaf_alone : (version : ℕ) (r : Rect) (v : ArrayVec ℕ) (items : List ℕ) → items ≡ v.items
-    → line_of (leaf_line r (length v.items)) ++ numbers_text (codes "S") items ≡ nodes_text version (Leaf r v ∷ [])
-leaf_alone version r v items same =
-    ap (λ l. line_of (leaf_line r (length v.items)) ++ numbers_text (codes "S") l) same
-    ∙ line_first (leaf_line r (length v.items)) (item_lines v.items)
-    ∙ ap (λ (l : List (List ℕ)). joined_lines (leaf_line r (length v.items) ∷ l)) (sym (append-nil (item_lines v.items)))
-
--- how many children an inner node has is told behind version 1
-pub children_told : (version k : ℕ) → 1 < version → children version k ≡ number k
-children_told zero k more = absurd (omega (arith, more))
-children_told (suc zero) k more = absurd (omega (arith, more))
-children_told (suc (suc version)) k more = refl
-
-pub children_untold : (version k : ℕ) → version ≤ 1 → children version k ≡ []
-children_untold zero k few = refl
-children_untold (suc zero) k few = refl
-children_untold (suc (suc version)) k few = absurd (omega (arith, few))
-
--- four words, each behind a space
-pub spaced : (space a b c d : List ℕ) → space ++ a ++ space ++ b ++ space ++ c ++ space ++ d
-    ≡ (space ++ a) ++ (space ++ b) ++ (space ++ c) ++ (space ++ d)
-spaced space a b c d = simp append_assoc
 
 -- the text of these parts
 abbrev pub parts_text : ℕ → Counts → List TreeNode → List (List ℕ) → List (List ℕ) → List ℕ

@@ -8,13 +8,16 @@
 
 mod certificate;
 mod collected;
+mod front;
 pub mod laws;
 mod line_kind;
 mod lines;
 mod next;
 mod number;
+mod numbers;
 mod parts;
 mod place;
+mod put;
 mod read;
 mod reader;
 mod stop;

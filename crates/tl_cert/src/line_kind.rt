@@ -9,13 +9,18 @@ ghost use Rattle.tl_cert.specs.Keeping.Kinds.{node_line, NodeFits, ChildrenFit, 
 ghost use Rattle.tl_cert.specs.Keeping.Steps.{CanHave, roots};
 
 use crate::certificate::Counts;
-use crate::number::{behind, front_number, last_number, split_number, split_rectangle};
+use crate::front::{front_number, front_rectangle, front_small};
+use crate::number::{behind, last_number, split_number, split_rectangle};
 use tl_geom::Rect;
 
 // How many children or items a node has at most, and how many children at least.
 const MOST: u8 = 8;
 
 const LEAST_CHILDREN: u8 = 2;
+
+// How many bytes a node's line has at most: a letter, four coordinates of up to twelve bytes each with their space, another
+// space, a digit and a line feed.
+const MOST_BYTES: usize = 52;
 
 /// A kind of lines, each of which spells a value.
 pub trait LineKind {
@@ -302,6 +307,71 @@ fn node_start(version: u8, line: &[u8]) -> Option<NodeStart>
     leaf_start(others)
 }
 
+/// The leaf whose line stands whole at the front of the bytes, and the line's length. None says nothing.
+#[inline(always)]
+fn front_leaf(bytes: &[u8]) -> Option<(NodeStart, usize)>
+    ensures { IfSome result (λ front. (version : ℕ) → NodeFits version front.0
+        × StandsFirst bytes.now (node_line version front.0) front.1) }
+{
+    let Some(words) = behind(bytes, b'L') else {
+        return None;
+    };
+    let Some((rect, others)) = front_rectangle(words) else {
+        return None;
+    };
+    let Some((items, rest)) = front_small(others, 1) else {
+        return None;
+    };
+    Some((NodeStart::Leaf(rect, items), bytes.len() - rest.len() - 1))
+}
+
+/// How many children the bytes tell of, up to the line's end, and the bytes behind it. None says nothing.
+#[inline(always)]
+fn front_children(version: u8, bytes: &[u8]) -> Option<(u8, &[u8])>
+    ensures { IfSome result (λ front. (bytes.now ≡ children version front.0 ++ (10 ∷ front.1.now))
+        × ChildrenFit version front.0) }
+{
+    if version >= 2 {
+        return front_small(bytes, LEAST_CHILDREN);
+    }
+    let Some(rest) = behind(bytes, b'\n') else {
+        return None;
+    };
+    Some((LEAST_CHILDREN, rest))
+}
+
+/// The inner node whose line stands whole at the front of the bytes, and the line's length. None says nothing.
+#[inline(always)]
+fn front_inner(version: u8, bytes: &[u8]) -> Option<(NodeStart, usize)>
+    ensures { IfSome result (λ front. NodeFits version front.0 × StandsFirst bytes.now (node_line version front.0) front.1) }
+{
+    let Some(words) = behind(bytes, b'B') else {
+        return None;
+    };
+    let Some((rect, others)) = front_rectangle(words) else {
+        return None;
+    };
+    let Some((k, rest)) = front_children(version, others) else {
+        return None;
+    };
+    Some((NodeStart::Inner(rect, k), bytes.len() - rest.len() - 1))
+}
+
+/// The node whose line stands whole at the front of the bytes, and the line's length. None says nothing.
+#[inline(always)]
+fn front_node(version: u8, bytes: &[u8]) -> Option<(NodeStart, usize)>
+    ensures { IfSome result (λ front. NodeFits version front.0 × StandsFirst bytes.now (node_line version front.0) front.1) }
+{
+    // A node's line is no longer: behind this nothing is short of bytes.
+    if bytes.len() < MOST_BYTES {
+        return None;
+    }
+    if bytes[0] == b'L' {
+        return front_leaf(bytes);
+    }
+    front_inner(version, bytes)
+}
+
 /// How many children a node has.
 fn children_of(node: &NodeStart) -> u8
     ensures { result ≡ children_told node.now }
@@ -321,6 +391,18 @@ pub struct NodeLine {
     pub nodes: u32,
 }
 
+impl NodeLine {
+    /// Whether the trees can still have so many nodes, where this node comes next.
+    #[inline(always)]
+    fn can_begin(&self, node: &NodeStart) -> bool
+        ensures { IsTrue result
+            ↔ CanHave self.now.version (children_told node.now + self.now.subtrees) self.now.nodes }
+    {
+        let trees = u64::from(children_of(node)) + u64::from(self.subtrees);
+        can_have(self.version, trees, u64::from(self.nodes))
+    }
+}
+
 impl LineKind for NodeLine {
     type Value = NodeStart;
 
@@ -333,11 +415,21 @@ impl LineKind for NodeLine {
         let Some(node) = node_start(self.version, line) else {
             return None;
         };
-        let trees = u64::from(children_of(&node)) + u64::from(self.subtrees);
-        if !can_have(self.version, trees, u64::from(self.nodes)) {
+        if !self.can_begin(&node) {
             return None;
         }
         Some(node)
+    }
+
+    #[inline(always)]
+    fn front(&self, bytes: &[u8]) -> Option<(NodeStart, usize)> {
+        let Some((node, len)) = front_node(self.version, bytes) else {
+            return None;
+        };
+        if !self.can_begin(&node) {
+            return None;
+        }
+        Some((node, len))
     }
 }
 

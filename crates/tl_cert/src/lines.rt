@@ -1,9 +1,14 @@
 //! The lines of a certificate's text, one after the other.
 
-ghost use Rattle.std.specs.Prelude.{◌≡◌, ◌+◌, ◌<◌, ◌^◌, []};
+ghost use Rattle.std.specs.Prelude.{◌≡◌, ◌+◌, ◌<◌, ◌≤◌, ◌^◌, [], length, All, IfOk};
+ghost use Rattle.tl_cert.specs.Certificates.{IsNumber};
+ghost use Rattle.tl_cert.specs.Text.{item_lines, dart_lines};
 
 use crate::line_kind::LineKind;
+use crate::numbers::{front_darts, front_items};
 use crate::stop::CertStop;
+use arrayvec::ArrayVec;
+use std::alloc::{AllocError, Global};
 use tl_record::{Fetched, LineBuffer, Source, fetch_line};
 
 // How many bytes are kept: a line with its line feed has at most 64, so where these hold no line feed, no line of a
@@ -18,7 +23,7 @@ pub struct Lines {
 }
 
 impl Lines {
-    ghost use Rattle.tl_cert.specs.Keeping.Lines.{at, ReadsLine, EndsText, TellsRead};
+    ghost use Rattle.tl_cert.specs.Keeping.Lines.{at, ReadsLine, TakesFetched, EndsText, TellsRead};
 
     /// No line taken, and no byte fetched.
     pub fn new() -> Lines
@@ -88,6 +93,35 @@ impl Lines {
             Fetched::Full => Err(self.refusal()),
             Fetched::Failed => Err(CertStop::Device),
         }
+    }
+
+    /// Takes the lines of items that come next and are seen at once, `count` at most, and gives their items.
+    #[inline(always)]
+    pub fn items_at_once(&mut self, count: u8) -> ArrayVec<u32, 8>
+        requires few { count ≤ 8 }
+        requires lines { self.old.lines < 2 ^ 127 }
+        ensures few { length result.items ≤ count }
+        ensures numbers { All IsNumber result.items }
+        ensures takes { TakesFetched self.old self.new (item_lines result.items) }
+    {
+        let (items, len) = front_items(self.buffer.bytes(), count);
+        self.buffer.consume(len);
+        self.lines += items.len() as u128;
+        items
+    }
+
+    /// Takes the lines of darts that come next and are seen at once, `count` at most, and gives their darts.
+    #[inline(always)]
+    pub fn darts_at_once(&mut self, alloc: Global, count: u32) -> Result<Vec<u32>, AllocError>
+        requires { self.old.lines < 2 ^ 127 }
+        ensures few { IfOk result (λ darts. length darts.items ≤ count) }
+        ensures numbers { IfOk result (λ darts. All IsNumber darts.items) }
+        ensures takes { IfOk result (λ darts. TakesFetched self.old self.new (dart_lines darts.items)) }
+    {
+        let (darts, len) = front_darts(alloc, self.buffer.bytes(), count)?;
+        self.buffer.consume(len);
+        self.lines += darts.len() as u128;
+        Ok(darts)
     }
 
     /// Whether the source is at its end, behind the lines that were taken: a byte that is left is refused.

@@ -55,6 +55,7 @@ pub fn read_part<R: Source>(
 }
 
 /// The next of so many rounds; behind the last, the first of the walks, or the end.
+#[inline(always)]
 fn read_round<R: Source>(
     alloc: Global,
     lines: &mut Lines,
@@ -85,6 +86,7 @@ fn read_round<R: Source>(
 }
 
 /// The next of so many walks; behind the last, the end.
+#[inline(always)]
 fn read_walk<R: Source>(
     alloc: Global,
     lines: &mut Lines,

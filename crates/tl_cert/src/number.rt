@@ -6,11 +6,11 @@ ghost use Rattle.std.specs.Int.{w32};
 ghost use Rattle.std.specs.Fmt.{signed_decimal};
 ghost use Rattle.tl_geom.specs.declared.rect.Rect.{Rect};
 ghost use Rattle.tl_cert.specs.Certificates.{IsNumber, IsInRange};
-ghost use Rattle.tl_cert.specs.Text.{number, numbered_line, coordinate, rectangle};
-ghost use Rattle.tl_cert.specs.Keeping.Words.{MaySpell, StartsWord, StandsFirst, AreDigits, IsSplit};
+ghost use Rattle.tl_cert.specs.Text.{number, coordinate, rectangle};
+ghost use Rattle.tl_cert.specs.Keeping.Words.{MaySpell, StartsWord, IsSplit};
 
+use crate::front::front_coordinate;
 use tl_geom::Rect;
-use tl_record::{eight_digits, leading_digits};
 
 // The most digits that are read of a number: 4,294,967,295 has ten.
 const MOST_DIGITS: usize = 10;
@@ -104,103 +104,6 @@ pub fn last_number(bytes: &[u8]) -> Option<u32>
     number_of(word)
 }
 
-/// The number of fewer than eight digits that stand first, with a line feed behind them, and how many they are. None says
-/// nothing.
-#[inline(always)]
-fn short_number(bytes: &[u8]) -> Option<(u32, usize)>
-    ensures { IfSome result (λ first. IsNumber first.0 × StandsFirst bytes.now (decimal first.0) first.1) }
-{
-    if bytes.len() < 8 {
-        return None;
-    }
-    let Ok(eight) = <[u8; 8]>::try_from(&bytes[..8]) else {
-        return None;
-    };
-    let Some((value, len)) = leading_digits(eight) else {
-        return None;
-    };
-    if bytes[len] != b'\n' || !may_spell(&bytes[..len]) {
-        return None;
-    }
-    Some((value as u32, len))
-}
-
-/// The value of the eight or nine digits that stand first, and how many they are, where there are so many.
-#[inline(always)]
-fn long_digits(bytes: &[u8]) -> Option<(u64, usize)>
-    ensures { IfSome result (λ first. AreDigits bytes.now first.1 first.0 × (first.0 < 10 ^ 9) × (8 ≤ first.1)) }
-{
-    if bytes.len() < 8 {
-        return None;
-    }
-    let Ok(eight) = <[u8; 8]>::try_from(&bytes[..8]) else {
-        return None;
-    };
-    let Some(value) = eight_digits(eight) else {
-        return None;
-    };
-    if bytes.len() == 8 || !bytes[8].is_ascii_digit() {
-        return Some((value, 8));
-    }
-    Some((value * 10 + u64::from(bytes[8] - b'0'), 9))
-}
-
-/// The number of eight or nine digits that stand first, with a line feed behind them, and how many they are. None says
-/// nothing.
-#[inline(never)]
-fn long_line_number(bytes: &[u8]) -> Option<(u32, usize)>
-    ensures { IfSome result (λ first. IsNumber first.0 × StandsFirst bytes.now (decimal first.0) first.1) }
-{
-    let Some((value, len)) = long_digits(bytes) else {
-        return None;
-    };
-    if bytes[0] == b'0' {
-        return None;
-    }
-    if len == bytes.len() {
-        return None;
-    }
-    if bytes[len] != b'\n' {
-        return None;
-    }
-    Some((value as u32, len))
-}
-
-/// The number of fewer than ten digits that stand first, with a line feed behind them, and how many they are. None says
-/// nothing.
-#[inline(always)]
-fn first_number(bytes: &[u8]) -> Option<(u32, usize)>
-    ensures { IfSome result (λ first. IsNumber first.0 × StandsFirst bytes.now (decimal first.0) first.1) }
-{
-    if let Some(first) = short_number(bytes) {
-        return Some(first);
-    }
-    long_line_number(bytes)
-}
-
-/// The number of a line that has one behind this letter and stands whole at the front of the bytes, and the line's
-/// length. None says nothing.
-#[inline(always)]
-pub fn front_number(bytes: &[u8], letter: u8) -> Option<(u32, usize)>
-    ensures { IfSome result (λ front. IsNumber front.0
-        × StandsFirst bytes.now (numbered_line (letter ∷ []) front.0) front.1) }
-{
-    // Fewer bytes hold no letter, space and eight others.
-    if bytes.len() < 10 {
-        return None;
-    }
-    let Some(word) = behind(bytes, letter) else {
-        return None;
-    };
-    let Some(digits) = behind(word, b' ') else {
-        return None;
-    };
-    let Some((n, len)) = first_number(digits) else {
-        return None;
-    };
-    Some((n, len + 2))
-}
-
 /// The first word behind a space, and the bytes behind it.
 fn split_word(bytes: &[u8]) -> Option<(&[u8], &[u8])>
     ensures { MatchOption result ((others : List ℕ) → ¬ (bytes.now ≡ 32 ∷ others))
@@ -239,45 +142,20 @@ fn ends_word(bytes: &[u8]) -> bool
     bytes.is_empty() || bytes[0] == b' '
 }
 
-/// The number of eight or nine digits that stands first, up to the end of a word, and the bytes behind it. None says
-/// nothing.
-#[inline(always)]
-fn long_number(bytes: &[u8]) -> Option<(u64, &[u8])>
-    ensures { IfSome result (λ split. (bytes.now ≡ decimal split.0 ++ split.1.now) × StartsWord split.1.now
-        × (split.0 < 10 ^ 9) × (0 < split.0)) }
-{
-    let Some((value, len)) = long_digits(bytes) else {
-        return None;
-    };
-    if bytes[0] == b'0' {
-        return None;
-    }
-    let others = &bytes[len..];
-    if !ends_word(others) {
-        return None;
-    }
-    Some((value, others))
-}
-
-/// The signed number of eight or nine digits that stands first behind a space, and the bytes behind it. None says nothing.
+/// The signed number of eight or nine digits that stands first behind a space, up to the end of a word, and the bytes
+/// behind it. None says nothing.
 #[inline(always)]
 fn long_coordinate(bytes: &[u8]) -> Option<(i32, &[u8])>
     ensures { IfSome result (λ split. (bytes.now ≡ coordinate split.0 ++ split.1.now) × StartsWord split.1.now
         × FitsSigned w32 split.0) }
 {
-    let Some(word) = behind(bytes, b' ') else {
+    let Some((z, others)) = front_coordinate(bytes) else {
         return None;
     };
-    if let Some(digits) = behind(word, b'-') {
-        let Some((value, others)) = long_number(digits) else {
-            return None;
-        };
-        return Some(((0 - value as i64) as i32, others));
+    if !ends_word(others) {
+        return None;
     }
-    let Some((value, others)) = long_number(word) else {
-        return None;
-    };
-    Some((value as i32, others))
+    Some((z, others))
 }
 
 /// The signed number of 32 bits that stands first behind a space, and the bytes behind it: its word is found first.
@@ -311,7 +189,7 @@ fn split_coordinate(bytes: &[u8]) -> Option<(i32, &[u8])>
 }
 
 /// The rectangle of these coordinates.
-fn rect_of(xmin: i32, ymin: i32, xmax: i32, ymax: i32) -> Rect
+pub fn rect_of(xmin: i32, ymin: i32, xmax: i32, ymax: i32) -> Rect
     ensures { result ≡ record { xmin = xmin; ymin = ymin; xmax = xmax; ymax = ymax } }
 {
     Rect {

@@ -16,9 +16,6 @@ use std::alloc::Global;
 use tl_record::Source;
 use tl_tree::TreeNode;
 
-// For how many darts there is room before they are read, at most: nearly all lists are no longer.
-const FEW: usize = 8;
-
 /// The two kinds of lists of darts.
 #[derive(Clone, Copy)]
 pub enum DartLists {
@@ -66,8 +63,9 @@ fn read_items<R: Source>(
     ensures failures { TellsRead (R.failure_count source.old) (R.failure_count source.new) result }
     ensures same_reference { R.reference source.new ≡ R.reference source.old }
 {
-    let mut items = ArrayVec::new();
-    for index in 0..count {
+    let mut items = lines.items_at_once(count);
+    let taken = items.len() as u8;
+    for index in taken..count {
         match lines.read(
             source,
             &Numbered {
@@ -83,6 +81,7 @@ fn read_items<R: Source>(
 }
 
 /// Reads a list of darts with their number.
+#[inline(always)]
 pub fn read_darts<R: Source>(
     alloc: Global,
     lines: &mut Lines,
@@ -105,12 +104,12 @@ pub fn read_darts<R: Source>(
         Ok(count) => count,
         Err(stop) => return Err(stop),
     };
-    let room = (count as usize).min(FEW);
-    let mut darts = match Vec::with_capacity(alloc, room) {
+    let mut darts = match lines.darts_at_once(alloc, count) {
         Ok(darts) => darts,
         Err(_) => return Err(CertStop::Memory),
     };
-    for index in 0..count {
+    let taken = darts.len() as u32;
+    for index in taken..count {
         match lines.read(
             source,
             &Numbered {

@@ -1,24 +1,24 @@
 //! The text of a certificate, on its way to a sink.
 
-ghost use Rattle.std.specs.Prelude.{◌≡◌, ◌+◌, ◌*◌, ◌≤◌, ◌∷◌, [], ◌++◌, codes, drop, length, map};
+ghost use Rattle.std.specs.Prelude.{◌≡◌, ◌≤◌, ◌∷◌, [], length, map};
 ghost use Rattle.tl_record.specs.Lines.{joined_lines};
 ghost use Rattle.tl_output.specs.Writing.{CountsFailure, TriesToPassOn, line_of};
 ghost use Rattle.tl_cert.specs.Text;
-ghost use Rattle.tl_cert.specs.Text.{rectangle, numbered_line, nodes_lines, tree_lines, darts_lines};
+ghost use Rattle.tl_cert.specs.Text.{numbered_line, nodes_lines, tree_lines, darts_lines};
 ghost use Rattle.tl_cert.specs.Text.{all_darts_lines, certificate_text};
 ghost use Rattle.tl_cert.specs.Writing.{WritesCertificate};
 
 use crate::certificate::{Certificate, Counts};
+use crate::put::{put_node, put_number, put_numbers};
 use crate::stop::WriteStop;
 use arrayvec::ArrayString;
 use itoa::{Buffer, write_digits};
 use std::io;
-use tl_geom::Rect;
 use tl_output::OutputBuffer;
 use tl_record::Sink;
 use tl_tree::TreeNode;
 
-// Room for a line with its line feed: no line of a certificate is longer.
+// Room for the head or the line of the counts, with its line feed.
 const ROOM: usize = 64;
 
 // Room for a letter, a space, a number of up to twenty digits and a line feed.
@@ -33,8 +33,9 @@ const BATCH_ROOM: usize = 208;
 // Room for as many and the line before them.
 const LIST_ROOM: usize = 221;
 
-// Room for a rectangle: four times a space and a number with a sign and ten digits.
-const RECTANGLE_ROOM: usize = 48;
+// Room for a node's line and those of eight items: a letter, four coordinates of up to twelve bytes each with their space,
+// a number and a line feed, and eight lines of up to 13 bytes.
+const NODE_ROOM: usize = 165;
 
 /// Writes the text of the certificate, and takes no memory. An error says that a write failed: what was written then is
 /// a beginning of the text.
@@ -115,15 +116,18 @@ fn write_nodes<W: Sink>(
         (joined_lines (nodes_lines version nodes.now)) result }
     ensures failures { CountsFailure (W.failure_count out.old) (W.failure_count out.new) result }
 {
+    let mut text = [0; NODE_ROOM];
     for node in nodes {
-        write_node(version, node, buffer, out)?;
+        write_node(version, node, &mut text, buffer, out)?;
     }
     Ok(())
 }
 
+// Writes a node's lines, which are put together in this array.
 fn write_node<W: Sink>(
     version: u8,
     node: &TreeNode,
+    text: &mut [u8; NODE_ROOM],
     buffer: &mut OutputBuffer,
     out: &mut W,
 ) -> io::Result<()>
@@ -131,18 +135,8 @@ fn write_node<W: Sink>(
         (joined_lines (nodes_lines version (node.now ∷ []))) result }
     ensures failures { CountsFailure (W.failure_count out.old) (W.failure_count out.new) result }
 {
-    match node {
-        TreeNode::Inner(rect, children) => {
-            buffer.add(
-                inner_line(version, *rect, *children).as_str().as_bytes(),
-                out,
-            )
-        }
-        TreeNode::Leaf(rect, items) => {
-            buffer.add(leaf_line(*rect, items.len()).as_str().as_bytes(), out)?;
-            write_numbers(b'S', items.as_slice(), buffer, out)
-        }
-    }
+    let start = put_node(version, node, text, NODE_ROOM);
+    buffer.add(&text[start..], out)
 }
 
 // Writes the number of lists behind one letter, and the lists, each behind the other letter.
@@ -172,16 +166,18 @@ fn write_each_dart_list<W: Sink>(
         (joined_lines (all_darts_lines (letter ∷ []) (map (λ l. l.items) lists.now))) result }
     ensures failures { CountsFailure (W.failure_count out.old) (W.failure_count out.new) result }
 {
+    let mut text = [0; LIST_ROOM];
     for darts in lists {
-        write_dart_list(letter, darts.as_slice(), buffer, out)?;
+        write_dart_list(letter, darts.as_slice(), &mut text, buffer, out)?;
     }
     Ok(())
 }
 
-// Writes the number of darts behind the letter, and the darts.
+// Writes the number of darts behind the letter, and the darts. A few of them are put together in this array.
 fn write_dart_list<W: Sink>(
     letter: u8,
     darts: &[u32],
+    text: &mut [u8; LIST_ROOM],
     buffer: &mut OutputBuffer,
     out: &mut W,
 ) -> io::Result<()>
@@ -190,7 +186,7 @@ fn write_dart_list<W: Sink>(
     ensures failures { CountsFailure (W.failure_count out.old) (W.failure_count out.new) result }
 {
     if darts.len() <= BATCH {
-        return write_short_list(letter, darts, buffer, out);
+        return write_short_list(letter, darts, text, buffer, out);
     }
     write_number(letter, darts.len(), buffer, out)?;
     write_numbers(b'D', darts, buffer, out)
@@ -200,6 +196,7 @@ fn write_dart_list<W: Sink>(
 fn write_short_list<W: Sink>(
     letter: u8,
     darts: &[u32],
+    text: &mut [u8; LIST_ROOM],
     buffer: &mut OutputBuffer,
     out: &mut W,
 ) -> io::Result<()>
@@ -208,9 +205,8 @@ fn write_short_list<W: Sink>(
         (joined_lines (darts_lines (letter ∷ []) darts.now)) result }
     ensures failures { CountsFailure (W.failure_count out.old) (W.failure_count out.new) result }
 {
-    let mut text = [0; LIST_ROOM];
-    let behind = put_numbers(b'D', darts, &mut text, LIST_ROOM);
-    let start = put_number(letter, darts.len() as u32, &mut text, behind);
+    let behind = put_numbers(b'D', darts, text, LIST_ROOM);
+    let start = put_number(letter, darts.len() as u32, text, behind);
     buffer.add(&text[start..], out)
 }
 
@@ -249,41 +245,6 @@ fn write_batch<W: Sink>(
     let mut text = [0; BATCH_ROOM];
     let start = put_numbers(letter, numbers, &mut text, BATCH_ROOM);
     buffer.add(&text[start..], out)
-}
-
-// Puts a line for each number, one behind the other, before what stands at `end`, and tells where they start.
-#[inline(always)]
-fn put_numbers(letter: u8, numbers: &[u32], text: &mut [u8], end: usize) -> usize
-    requires room { 13 * length numbers.now ≤ end }
-    requires within { end ≤ length text.old }
-    ensures start { (result ≤ end) × (end ≤ result + 13 * length numbers.now) }
-    ensures written { drop result text.new
-        ≡ joined_lines (map (numbered_line (letter ∷ [])) numbers.now) ++ drop end text.old }
-    ensures size { length text.new ≡ length text.old }
-{
-    let mut start = end;
-    let mut left = numbers.len();
-    while left > 0 {
-        left -= 1;
-        start = put_number(letter, numbers[left], text, start);
-    }
-    start
-}
-
-// Puts a line of a letter and a number before what stands at `end`, and tells where it starts.
-#[inline(always)]
-fn put_number(letter: u8, number: u32, text: &mut [u8], end: usize) -> usize
-    requires room { 13 ≤ end }
-    requires within { end ≤ length text.old }
-    ensures start { (result ≤ end) × (end ≤ result + 13) }
-    ensures written { drop result text.new ≡ line_of (numbered_line (letter ∷ []) number) ++ drop end text.old }
-    ensures size { length text.new ≡ length text.old }
-{
-    text[end - 1] = b'\n';
-    let digits = write_digits(number as u64, text, end - 1);
-    text[digits - 1] = b' ';
-    text[digits - 2] = letter;
-    digits - 2
 }
 
 // Writes a line of a letter and a number.
@@ -330,52 +291,4 @@ fn counts_line(counts: Counts) -> ArrayString<ROOM>
     line.push_str(digits.format(counts.polygons));
     line.push_str("\n");
     line
-}
-
-// An inner node's line: version 1 doesn't say how many children it has.
-fn inner_line(version: u8, rect: Rect, children: u8) -> ArrayString<ROOM>
-    ensures { result.bytes ≡ line_of (Text.inner_line version rect children) }
-{
-    let mut line = ArrayString::new();
-    let mut digits = Buffer::new();
-    line.push_str("B");
-    line.push_str(rectangle_text(rect).as_str());
-    if version > 1 {
-        line.push_str(" ");
-        line.push_str(digits.format(children));
-    }
-    line.push_str("\n");
-    line
-}
-
-// A leaf's line, with the number of its items.
-fn leaf_line(rect: Rect, items: usize) -> ArrayString<ROOM>
-    requires { items ≤ 8 }
-    ensures { result.bytes ≡ line_of (Text.leaf_line rect items) }
-{
-    let mut line = ArrayString::new();
-    let mut digits = Buffer::new();
-    line.push_str("L");
-    line.push_str(rectangle_text(rect).as_str());
-    line.push_str(" ");
-    line.push_str(digits.format(items as u8));
-    line.push_str("\n");
-    line
-}
-
-// The rectangle's four coordinates, each behind a space.
-fn rectangle_text(rect: Rect) -> ArrayString<RECTANGLE_ROOM>
-    ensures { result.bytes ≡ rectangle rect }
-{
-    let mut text = ArrayString::new();
-    let mut digits = Buffer::new();
-    text.push_str(" ");
-    text.push_str(digits.format(rect.xmin));
-    text.push_str(" ");
-    text.push_str(digits.format(rect.ymin));
-    text.push_str(" ");
-    text.push_str(digits.format(rect.xmax));
-    text.push_str(" ");
-    text.push_str(digits.format(rect.ymax));
-    text
 }

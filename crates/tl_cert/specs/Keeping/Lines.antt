@@ -39,6 +39,11 @@ pub record TakesLines {R : Type 0} (remaining : R → Option (List ℕ)) (old ne
   pub bytes : Consumes (untaken remaining old) (untaken remaining new) (joined_lines lines)
   pub counted : taken new ≡ taken old + length lines
 
+-- the lines were taken from the bytes that were fetched, and nothing was fetched
+pub record TakesFetched (old new : Lines) (lines : List (List ℕ)) : Type 0 where
+  pub bytes : old.buffer ≡ joined_lines lines ++ new.buffer
+  pub counted : new.lines ≡ old.lines + length lines
+
 -- the value of a line that was taken; or no line that spells one comes next
 abbrev pub ReadsLine : {R V : Type 0} → (R → Option (List ℕ)) → (V → List ℕ) → (V → Type 0) → LineState R → LineState R → Result V CertStop → Type 0
 ReadsLine remaining spelt fits old new (Ok value) = fits value × TakesLines remaining old new (spelt value ∷ [])

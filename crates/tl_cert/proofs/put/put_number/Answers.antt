@@ -1,6 +1,6 @@
 use Rattle.std.proofs.Common.{◌≡◌, ◌-◌, length, length-set, arith, rules}
 use Rattle.tl_cert.proofs.PutLemmas.{few_digits, line_put}
-use Rattle.tl_cert.proofs.write.put_number.Goals as goal
+use Rattle.tl_cert.proofs.put.put_number.Goals as goal
 
 pub write_digits-digits-requires : goal.write_digits-digits-requires
 write_digits-digits-requires c =

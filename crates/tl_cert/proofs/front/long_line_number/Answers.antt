@@ -1,6 +1,6 @@
 use Rattle.std.proofs.Common.{arith}
 use Rattle.tl_cert.proofs.FrontLemmas.{long_value}
-use Rattle.tl_cert.proofs.number.long_line_number.Goals as goal
+use Rattle.tl_cert.proofs.front.long_line_number.Goals as goal
 
 pub returns : goal.returns
 returns c =

@@ -1,6 +1,6 @@
 use Rattle.std.proofs.Common.{◌≡◌, ◌≤◌, ◌+◌, ◌*◌, ◌++◌, ◌∷◌, [], drop, length}
 use Rattle.tl_cert.proofs.WriteLemmas.{numbers_text}
-use Rattle.tl_cert.proofs.write.put_numbers.Given as goal
+use Rattle.tl_cert.proofs.put.put_numbers.Given as goal
 
 abbrev pub invariant-loop-left : goal.invariant-loop-left
 invariant-loop-left l = record {

@@ -1,6 +1,6 @@
-use Rattle.std.proofs.Common.{◌≡◌, ◌-◌, length, take, drop, take_all, length-drop, refl, sym, arith}
+use Rattle.std.proofs.Common.{◌≡◌, ◌-◌, length, take, drop, take_all, length-drop, sym, arith}
 use Rattle.tl_cert.proofs.FrontLemmas.{long_spelt}
-use Rattle.tl_cert.proofs.number.long_number.Goals as goal
+use Rattle.tl_cert.proofs.front.long_number.Goals as goal
 
 pub returns : goal.returns
 returns c =
@@ -8,4 +8,4 @@ returns c =
     let first = c.in-Some.ensures in
     let rest : drop c.in-Some.len bytes ≡ take (length bytes - c.in-Some.len) (drop c.in-Some.len bytes) = sym (take_all (length bytes - c.in-Some.len) (drop c.in-Some.len bytes) (omega (arith, length-drop c.in-Some.len bytes))) in
     let spelt = long_spelt bytes (take (length bytes - c.in-Some.len) (drop c.in-Some.len bytes)) c.in-Some.len c.in-Some.value first.0 first.2 c.if-bytes-eq48.false first.1 rest in
-    (spelt.0, c.if-not-ends_word.ensures.0 refl, first.1, spelt.1)
+    (spelt.0, first.1, spelt.1)

@@ -1,0 +1,14 @@
+use Rattle.std.proofs.Common.{rules, arith}
+use Rattle.tl_cert.proofs.FrontLemmas.{short_spelt}
+use Rattle.tl_cert.proofs.front.short_number.Goals as goal
+
+pub returns : goal.returns
+returns c =
+    let first = c.in-Some.ensures in (
+      omega (arith, first.fits),
+      record {
+        within = omega (arith, first.count.1, c.if-bytes-lt8.false);
+        feed = omega (arith, c.if-bytes-len-ne10.false);
+        spelt = short_spelt c.args.bytes.now c.in-Ok.eight c.in-Some.len c.in-Some.value (search rules) first.count.0 first.count.1 (omega (arith, first.count.1, c.if-bytes-lt8.false)) (λ e. omega (arith, e, c.else-bytes-eq48.either)) first.digits first.value (omega (arith, first.fits));
+      },
+    )

@@ -1,0 +1,199 @@
+//! What stands first among the bytes that were fetched, where it is seen at once.
+
+ghost use Rattle.std.specs.Prelude.{◌≡◌, ◌<◌, ◌≤◌, ◌^◌, ◌∷◌, [], ◌++◌, FitsSigned, decimal, IfSome};
+ghost use Rattle.std.specs.Int.{w32};
+ghost use Rattle.tl_cert.specs.Certificates.{IsNumber, IsInRange};
+ghost use Rattle.tl_cert.specs.Text.{number, numbered_line, coordinate, rectangle};
+ghost use Rattle.tl_cert.specs.Keeping.Words.{StandsFirst, AreDigits};
+
+use crate::number::{behind, rect_of};
+use tl_geom::Rect;
+use tl_record::{eight_digits, leading_digits};
+
+/// The number of fewer than eight digits that stand first, with a line feed behind them, and how many they are. None says
+/// nothing.
+#[inline(always)]
+fn short_number(bytes: &[u8]) -> Option<(u32, usize)>
+    ensures { IfSome result (λ first. IsNumber first.0 × StandsFirst bytes.now (decimal first.0) first.1) }
+{
+    if bytes.len() < 8 {
+        return None;
+    }
+    let Ok(eight) = <[u8; 8]>::try_from(&bytes[..8]) else {
+        return None;
+    };
+    let Some((value, len)) = leading_digits(eight) else {
+        return None;
+    };
+    if bytes[len] != b'\n' {
+        return None;
+    }
+    if bytes[0] == b'0' && len > 1 {
+        return None;
+    }
+    Some((value as u32, len))
+}
+
+/// The value of the eight or nine digits that stand first, and how many they are, where there are so many.
+#[inline(always)]
+fn long_digits(bytes: &[u8]) -> Option<(u64, usize)>
+    ensures { IfSome result (λ first. AreDigits bytes.now first.1 first.0 × (first.0 < 10 ^ 9) × (8 ≤ first.1)) }
+{
+    if bytes.len() < 8 {
+        return None;
+    }
+    let Ok(eight) = <[u8; 8]>::try_from(&bytes[..8]) else {
+        return None;
+    };
+    let Some(value) = eight_digits(eight) else {
+        return None;
+    };
+    if bytes.len() == 8 || !bytes[8].is_ascii_digit() {
+        return Some((value, 8));
+    }
+    Some((value * 10 + u64::from(bytes[8] - b'0'), 9))
+}
+
+/// The number of eight or nine digits that stand first, with a line feed behind them, and how many they are. None says
+/// nothing.
+#[inline(always)]
+fn long_line_number(bytes: &[u8]) -> Option<(u32, usize)>
+    ensures { IfSome result (λ first. IsNumber first.0 × StandsFirst bytes.now (decimal first.0) first.1) }
+{
+    let Some((value, len)) = long_digits(bytes) else {
+        return None;
+    };
+    if bytes[0] == b'0' {
+        return None;
+    }
+    if len == bytes.len() {
+        return None;
+    }
+    if bytes[len] != b'\n' {
+        return None;
+    }
+    Some((value as u32, len))
+}
+
+/// The number of fewer than eight digits of a line that has one behind this letter and stands whole at the front of the
+/// bytes, and the line's length. None says nothing.
+#[inline(always)]
+pub fn front_short(bytes: &[u8], letter: u8) -> Option<(u32, usize)>
+    ensures { IfSome result (λ front. IsNumber front.0
+        × StandsFirst bytes.now (numbered_line (letter ∷ []) front.0) front.1) }
+{
+    // Fewer bytes hold no letter, space and eight others.
+    if bytes.len() < 10 {
+        return None;
+    }
+    let Some(word) = behind(bytes, letter) else {
+        return None;
+    };
+    let Some(digits) = behind(word, b' ') else {
+        return None;
+    };
+    let Some((n, len)) = short_number(digits) else {
+        return None;
+    };
+    Some((n, len + 2))
+}
+
+/// The same with eight or nine digits.
+#[inline(never)]
+fn front_long(bytes: &[u8], letter: u8) -> Option<(u32, usize)>
+    ensures { IfSome result (λ front. IsNumber front.0
+        × StandsFirst bytes.now (numbered_line (letter ∷ []) front.0) front.1) }
+{
+    let Some(word) = behind(bytes, letter) else {
+        return None;
+    };
+    let Some(digits) = behind(word, b' ') else {
+        return None;
+    };
+    let Some((n, len)) = long_line_number(digits) else {
+        return None;
+    };
+    Some((n, len + 2))
+}
+
+/// The same with fewer than ten digits.
+#[inline(always)]
+pub fn front_number(bytes: &[u8], letter: u8) -> Option<(u32, usize)>
+    ensures { IfSome result (λ front. IsNumber front.0
+        × StandsFirst bytes.now (numbered_line (letter ∷ []) front.0) front.1) }
+{
+    if let Some(front) = front_short(bytes, letter) {
+        return Some(front);
+    }
+    front_long(bytes, letter)
+}
+
+/// The number of eight or nine digits that stands first, and the bytes behind it. None says nothing.
+#[inline(always)]
+fn long_number(bytes: &[u8]) -> Option<(u64, &[u8])>
+    ensures { IfSome result (λ first. (bytes.now ≡ decimal first.0 ++ first.1.now) × (first.0 < 10 ^ 9) × (0 < first.0)) }
+{
+    let Some((value, len)) = long_digits(bytes) else {
+        return None;
+    };
+    if bytes[0] == b'0' {
+        return None;
+    }
+    Some((value, &bytes[len..]))
+}
+
+/// The signed number of eight or nine digits that stands first behind a space, and the bytes behind it. None says nothing.
+#[inline(always)]
+pub fn front_coordinate(bytes: &[u8]) -> Option<(i32, &[u8])>
+    ensures { IfSome result (λ first. (bytes.now ≡ coordinate first.0 ++ first.1.now) × FitsSigned w32 first.0) }
+{
+    let Some(word) = behind(bytes, b' ') else {
+        return None;
+    };
+    if let Some(digits) = behind(word, b'-') {
+        let Some((value, others)) = long_number(digits) else {
+            return None;
+        };
+        return Some(((0 - value as i64) as i32, others));
+    }
+    let Some((value, others)) = long_number(word) else {
+        return None;
+    };
+    Some((value as i32, others))
+}
+
+/// The rectangle of such coordinates that stands first, and the bytes behind it. None says nothing.
+#[inline(always)]
+pub fn front_rectangle(bytes: &[u8]) -> Option<(Rect, &[u8])>
+    ensures { IfSome result (λ first. (bytes.now ≡ rectangle first.0 ++ first.1.now) × IsInRange first.0) }
+{
+    let Some((xmin, others)) = front_coordinate(bytes) else {
+        return None;
+    };
+    let Some((ymin, others)) = front_coordinate(others) else {
+        return None;
+    };
+    let Some((xmax, others)) = front_coordinate(others) else {
+        return None;
+    };
+    let Some((ymax, others)) = front_coordinate(others) else {
+        return None;
+    };
+    Some((rect_of(xmin, ymin, xmax, ymax), others))
+}
+
+/// The number from `least` to 8 that stands first behind a space, and the bytes behind the line feed that follows it. None
+/// says nothing.
+#[inline(always)]
+pub fn front_small(bytes: &[u8], least: u8) -> Option<(u8, &[u8])>
+    ensures { IfSome result (λ first. (bytes.now ≡ number first.0 ++ (10 ∷ first.1.now)) × (least ≤ first.0) × (first.0 ≤ 8)) }
+{
+    if bytes.len() < 3 || bytes[0] != b' ' || bytes[2] != b'\n' {
+        return None;
+    }
+    let digit = bytes[1];
+    if digit < b'0' || digit > b'8' || digit - b'0' < least {
+        return None;
+    }
+    Some((digit - b'0', &bytes[3..]))
+}
