@@ -1,5 +1,5 @@
 #!/usr/bin/env python3
-"""Measures `tigertopo show` and `landmarks`, and a program that only counts records, beside `wc -l` of the same files;
+"""Measures `tigertopo show`, `landmarks` and `locate`, and a program that only counts records, beside `wc -l` of the same files;
 `check` beside `show`, with the parts of a check as `bench_check` tells them, in a second table; `bench_tree`, which makes the
 segments of a county and searches them, in a third; and `bench_cert`, which writes and reads certificates, beside `wc -l` of
 the same file, in a fourth.
@@ -87,6 +87,7 @@ def rows(chains, kind, runs):
     programs = {"wc -l": ["wc", "-l", *files], "count_records": [COUNT, *files], "show": [PROGRAM, "show", *files]}
     if kind != "streets":
         programs["landmarks"] = [PROGRAM, "landmarks", *files]
+        programs["locate"] = [PROGRAM, "locate", "@-78762000,39652000", *files]
     programs = {name: words for name, words in programs.items() if name == "wc -l" or words[0].exists()}
     peaks = {name: peak_of(words) for name, words in programs.items()}
     taken = {name: [] for name in programs}
@@ -113,7 +114,7 @@ def check_rows(chains, runs):
     found = [(seconds_of(show) * 1e3, seconds_of(check) * 1e3, *steps_of([CHECK, certificate, records])) for _ in range(runs)]
     shown, checked, *parts = (statistics.median(column) for column in zip(*found))
     yield (f"{chains:,}", f"{shown:.1f}", f"{checked:.1f}", f"{checked / shown:.1f}", *(f"{part:.1f}" for part in parts),
-           f"{parts[3] / shown:.2f}", f"{peak:.1f}", f"{peak * 2 ** 20 / chains:.0f}")
+           f"{parts[3] / shown:.2f}", f"{parts[4] / shown:.2f}", f"{peak:.1f}", f"{peak * 2 ** 20 / chains:.0f}")
 
 
 def searched(segments):
@@ -145,15 +146,16 @@ def told(words):
 def certificate_rows(chains, runs):
     file = BENCH / "out" / f"{chains}-certificate"
     file.parent.mkdir(exist_ok=True)
-    make, read, count = [CERT, "make", f"{chains}", file], [CERT, "read", file], ["wc", "-l", file]
-    peaks = {"written": peak_of(make), "read": peak_of(read), "wc -l": peak_of(count)}
+    make, read, parts, count = [CERT, "make", f"{chains}", file], [CERT, "read", file], [CERT, "parts", file], ["wc", "-l", file]
+    peaks = {"written": peak_of(make), "read": peak_of(read), "read by parts": peak_of(parts), "wc -l": peak_of(count)}
     lines, size = int(subprocess.check_output(count).split()[0]), file.stat().st_size
     # The file stays as it is while it is read and counted.
-    taken = {"written": [told(make) / 1e6 for _ in range(runs)], "wc -l": [], "read": []}
+    taken = {"written": [told(make) / 1e6 for _ in range(runs)], "wc -l": [], "read": [], "read by parts": []}
     subprocess.run(["sync"], check=True)
     for _ in range(runs):
         taken["wc -l"].append(seconds_of(count))
         taken["read"].append(told(read) / 1e6)
+        taken["read by parts"].append(told(parts) / 1e6)
     base = statistics.median(taken["wc -l"])
     for name, found in taken.items():
         seconds = statistics.median(found)
@@ -190,7 +192,8 @@ def main():
     print()
     print_table(
         ("Chains", "`show`, ms", "`check`, ms", "times `show`", "records read, ms", "certificate read, ms", "tree checked, ms",
-         "conflicts searched, ms", "all checked in memory, ms", "search, times `show`", "peak MB", "bytes a chain"),
+         "conflicts searched, ms", "points looked at, ms", "all checked in memory, ms", "search, times `show`",
+         "points, times `show`", "peak MB", "bytes a chain"),
         (row for chains in numbers(words.counties) for row in check_rows(chains, words.runs)))
     print()
     print_table(

@@ -19,6 +19,8 @@ RUNS = [
     ["show", EXAMPLES / "square.RT1", EXAMPLES / "square.RT2"],
     ["show", EXAMPLES / "gap.RT1", EXAMPLES / "gap.RT2"],
     ["landmarks", EXAMPLES / "island"],
+    ["locate", "@10,12", EXAMPLES / "island"],
+    ["locate", "@16,16", EXAMPLES / "island"],
     ["convert", EXAMPLES / "square.CERT", "/dev/null"],
     ["check", "--cert", EXAMPLES / "county.CERT", EXAMPLES / "county"],
     ["check", "--cert", EXAMPLES / "faults" / "G1.CERT", EXAMPLES / "faults" / "G1"],

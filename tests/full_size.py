@@ -116,6 +116,7 @@ def play_all(program=PROGRAM):
         play_maps(plays, county_file, tlids)
         play_checks(plays)
         play_path(plays)
+        play_places(plays)
     return plays.passed, plays.failed
 
 
@@ -186,6 +187,22 @@ def play_path(plays):
     falling = certificate.replace(darts % (2 * node, 2 * node - 1), darts % (2 * node - 1, 2 * node), 1)
     fault = f"certificate fault K4 Round OrderNotRising {node}\n"
     checked("a round that falls", ["--cert", plays.file("falling", falling), path], 2, fault)
+
+
+def play_places(plays):
+    """Answers of `locate` with as many chains, polygons and landmarks as the limits allow: chains that are one line, each
+    with a polygon of its own on its west, and a landmark for each polygon."""
+    key, number = "A0001/7777777777", 7_777_777_777
+    lines = [f"sides {number} {key} -", f"point {key} 1,1", f"land {number}", f"link {key} {number}"]
+    lines = b"".join(map(line_of, lines))
+    numbered = lambda k: chain(k, (20, 10), (20, 30))[0].encode() + lines.replace(b"7777777777", b"%10d" % k)
+    fence = plays.file("fence", b"".join(map(numbered, range(1, CHAIN_LIMIT + 1))))
+    located = lambda title, point, out: plays.play(title, [point, fence], 0, out, command="locate")
+    polygons = " ".join(f"A0001/{k}" for k in range(1, CHAIN_LIMIT + 1))
+    landmarks = " ".join(map(str, range(1, CHAIN_LIMIT + 1)))
+    located("a point in the most polygons and landmarks", "@15,20", f"in polygons {polygons} landmarks {landmarks}\n")
+    located("a point on the most chains", "@20,20", "on tlid 1\n")
+    located("a point in none of the most polygons", "@25,20", "in polygons none landmarks none\n")
 
 
 def play_maps(plays, county_file, tlids):

@@ -92,8 +92,12 @@ const DEAD_END: &[Pair] = &[(10, 10), (15, 15)];
 
 const INNER: &[Pair] = &[(14, 14), (18, 14), (18, 18), (14, 18), (14, 14)];
 
-/// The points of two polygons, one in the square and one in the inner square.
-const POLYGONS: &[Pair] = &[(20, 20), (16, 16)];
+/// A square that is far east of all other chains, and that no other is level with but in part.
+const FAR: &[Pair] = &[(40, 10), (50, 10), (50, 20), (40, 20), (40, 10)];
+
+/// The points of two polygons, one in the square and one in the square far away: whatever the others say of their sides,
+/// each is inside its polygon and clear of the other.
+const POLYGONS: &[Pair] = &[(20, 20), (45, 15)];
 
 /// Whether all is as it is by all darts on a map of chains, for right rounds and walks and for 12 changes of them.
 fn is_plain_on(
@@ -115,7 +119,7 @@ fn worked_examples(rt: HostRuntime) -> Result<(), Fail> {
     for within in [DEAD_END, INNER] {
         for left in 0..3 {
             for right in 0..3 {
-                let chains = [(SQUARE, 1, 0), (within, left, right)];
+                let chains = [(SQUARE, 1, 0), (FAR, 2, 0), (within, left, right)];
                 assert!(rt; is_plain_on(alloc, &chains, POLYGONS, &mut numbers)?);
             }
         }
@@ -126,7 +130,11 @@ fn worked_examples(rt: HostRuntime) -> Result<(), Fail> {
 #[test]
 fn boundaries_of_a_ring_in_a_ring(rt: HostRuntime) -> Result<(), Fail> {
     let alloc = rt.alloc();
-    let map = map_of(alloc, &[(SQUARE, 1, 0), (INNER, 2, 1)], POLYGONS)?;
+    let map = map_of(
+        alloc,
+        &[(SQUARE, 1, 0), (INNER, 2, 1)],
+        &[(20, 20), (16, 16)],
+    )?;
     let rings: [(Side, &[u32], bool); 7] = [
         (Side::Polygon(0), &[0, 3], true),
         (Side::Polygon(0), &[3, 0], true),
@@ -177,12 +185,13 @@ fn maps_at_random(rt: HostRuntime) -> Result<(), Fail> {
     for round in 0..48 {
         let sides = if round % 3 == 2 { 2 } else { 1 };
         let mut chains = Vec::new(rt.alloc());
+        chains.push((FAR, 1, 0))?;
         for points in CHAINS {
             if numbers.below(3) == 0 {
                 chains.push((*points, numbers.below(sides), numbers.below(sides)))?;
             }
         }
-        let map = map_of(rt.alloc(), &chains, &[(25, 28)])?;
+        let map = map_of(rt.alloc(), &chains, &[(45, 15)])?;
         let (all, bad) = agree_by_changes(rt.alloc(), &map, &mut numbers, 3)?;
         assert!(rt; all, "round {round}");
         wrong = wrong.wrapping_add(bad);

@@ -1,6 +1,7 @@
 -- What is true of a fault and of what it faults can't be true of one map and one certificate.
 use Rattle.std.proofs.Common.{◌≡◌, ℕ, zero, suc, ◌-◌, ◌<◌, ◌≤◌, inl, inr, Some, List, sym, ◌∙◌, arith}
 use Rattle.std.proofs.lemmas.Bool.{cases_lt}
+use Rattle.std.proofs.lemmas.Option.{slice_get_within}
 use Rattle.tl_geom.specs.declared.rect.Rect.{Rect}
 use Rattle.tl_map.specs.TheMap.{TheMap, MapChain}
 use Rattle.tl_tree.specs.declared.fault.TreeFault.{TreeFault}
@@ -17,10 +18,13 @@ use Rattle.tl_sides.specs.Lists.{HoldOnce, times_in, list_at}
 use Rattle.tl_sides.specs.Rounds.{AreRounds, HasTwoNodes, HasFall, IsRoundFault, HasOneNode, AreRising}
 use Rattle.tl_sides.specs.Walks.{AreWalks, IsWalkFault}
 use Rattle.tl_sides.proofs.Headings.{with_heads}
+use Rattle.tl_inside.specs.declared.misplaced.Misplaced.{Misplaced}
+use Rattle.tl_inside.specs.declared.misplaced.Misplaced.TheVariants.{OnChain, Outside, InOther}
+use Rattle.tl_inside.specs.Placed.{ArePlaced, IsTrueMisplaced}
 use Rattle.tl_cells.specs.Cells.{CellsAgree, AreCellsAtOdds}
 use Rattle.tl_cert.specs.Certificates.{TheCertificate}
 use Rattle.tl_check.specs.declared.fault.MapFault.{MapFault}
-use Rattle.tl_check.specs.declared.fault.MapFault.TheVariants.{Records, Meet, Side, Cell}
+use Rattle.tl_check.specs.declared.fault.MapFault.TheVariants.{Records, Meet, Side, PolygonPoint, Cell}
 use Rattle.tl_check.specs.declared.fault.CertFault.{CertFault}
 use Rattle.tl_check.specs.declared.fault.CertFault.TheVariants as fault
 use Rattle.tl_check.specs.Sound.{IsSound}
@@ -34,10 +38,19 @@ odds_deny chains a b id_a id_b odds agree = elim odds.odd [
   | inr start ↦ start.1 ((agree a b id_a id_b odds.a_has odds.b_has).1 start.0)
 ]
 
+-- what is wrong with a polygon's point denies that points are where they have to be
+misplaced_denies : (m : TheMap) (fault : Misplaced) → IsTrueMisplaced m fault → ¬ ArePlaced m
+misplaced_denies m (OnChain polygon tlid) true placed = (placed true.p (record { key = polygon; point = true.point }) true.of).off true.c true.held
+misplaced_denies m (Outside polygon) true placed = true.outside (placed true.p (record { key = polygon; point = true.point }) true.of).inside
+misplaced_denies m (InOther polygon other) true placed =
+    let lt = slice_get_within m.polygons true.q (record { key = other; point = true.other_point }) true.other_of in
+    true.within ((placed true.p (record { key = polygon; point = true.point }) true.of).clear true.q lt true.two)
+
 pub not_sound : (m : TheMap) (f : MapFault) → IsTrueOfMap m f → ¬ IsSound m
 not_sound m (Records f) true sound = absurd true
 not_sound m (Meet meet) true sound = meet_not_planar m.chains meet.s meet.t meet.at true.ordered true.told.meet sound.planar
 not_sound m (Side node first next) true sound = true.differ (sound.sides first next true.is_next)
+not_sound m (PolygonPoint fault) true sound = misplaced_denies m fault true sound.points
 not_sound m (Cell odds) true sound = odds_deny m.chains odds.first odds.second odds.first_id odds.second_id true sound.cells
 
 -- a rectangle that is too small doesn't cover what is below it

@@ -6,7 +6,7 @@ use Rattle.tl_record.specs.Records.{Records as AllRecords}
 use Rattle.tl_map.specs.TheMap.{TheMap}
 use Rattle.tl_map.specs.Reading.{IsReadFrom}
 use Rattle.tl_check.specs.declared.fault.MapFault.{MapFault}
-use Rattle.tl_check.specs.declared.fault.MapFault.TheVariants.{Records, Meet, Side, Cell}
+use Rattle.tl_check.specs.declared.fault.MapFault.TheVariants.{Records, Meet, Side, PolygonPoint, Cell}
 use Rattle.tl_check.specs.declared.verdict.Verdict.TheVariants as verdict
 use Rattle.tl_check.specs.Truth.{IsTrueOfMap}
 use Rattle.tl_check.specs.Verdicts.{Answer, IfMapFault}
@@ -16,6 +16,7 @@ true_of_records : (all : AllRecords) (m : TheMap) (f : MapFault) → IsReadFrom 
 true_of_records all m (Records fault) is true = absurd true
 true_of_records all m (Meet meet) is true = record { map = m; is_read = is; so = true }
 true_of_records all m (Side node first next) is true = record { map = m; is_read = is; so = true }
+true_of_records all m (PolygonPoint fault) is true = record { map = m; is_read = is; so = true }
 true_of_records all m (Cell odds) is true = record { map = m; is_read = is; so = true }
 
 pub map_fault : (of : List ℕ → AllRecords) (text : Option (List ℕ)) (m : TheMap) (answer : Answer) → IfSome text (λ t. IsReadFrom (of t) m) → IfMapFault answer (IsTrueOfMap m) → IfMapFault answer (λ f. IfSome text (λ t. IsTrueOfRecords (of t) f))

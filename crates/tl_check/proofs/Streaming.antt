@@ -169,6 +169,7 @@ module _ {R : Type 0} (remaining : R → Option (List ℕ)) (m : TheMap) (budget
   concluded : (c : TheCertificate) (answer : Answer) → IfSome (unread remaining first) (λ text. IsTextOf c text) → Concludes m c answer → Decides m budget (unread remaining first) answer
   concluded c (Ok (verdict.Sound report)) is (rings, shown, numbers) = record {
     planar = shown.planar;
+    points = shown.points;
     cells = shown.cells;
     sides = shown.sides;
     closed = are_closed m c rings shown;

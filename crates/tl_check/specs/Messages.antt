@@ -3,7 +3,10 @@ use Rattle.std.specs.Prelude.{ℕ, List, ◌++◌, codes, decimal}
 use Rattle.std.specs.Fmt.{signed_decimal}
 use Rattle.tl_geom.specs.declared.point.Point.{Point}
 use Rattle.tl_geom.specs.declared.rational.Rational.{Rational}
+use Rattle.tl_record.specs.KeyText.{key_text}
 use Rattle.tl_map.specs.Messages.{fault_text}
+use Rattle.tl_inside.specs.declared.misplaced.Misplaced.{Misplaced}
+use Rattle.tl_inside.specs.declared.misplaced.Misplaced.TheVariants.{OnChain, Outside, InOther}
 use Rattle.tl_tree.specs.declared.fault.TreeFault.{TreeFault}
 use Rattle.tl_tree.specs.declared.fault.TreeFault.TheVariants.{UnknownIndex, IndexTwice, IndexMissing, RectTooSmall}
 use Rattle.tl_sides.specs.declared.fault.RoundFault.{RoundFault}
@@ -11,7 +14,7 @@ use Rattle.tl_sides.specs.declared.fault.RoundFault.TheVariants as round
 use Rattle.tl_sides.specs.declared.fault.WalkFault.{WalkFault}
 use Rattle.tl_sides.specs.declared.fault.WalkFault.TheVariants as walk
 use Rattle.tl_check.specs.declared.fault.MapFault.{MapFault}
-use Rattle.tl_check.specs.declared.fault.MapFault.TheVariants.{Records, Meet, Side, Cell}
+use Rattle.tl_check.specs.declared.fault.MapFault.TheVariants.{Records, Meet, Side, PolygonPoint, Cell}
 use Rattle.tl_check.specs.declared.fault.CertFault.{CertFault}
 use Rattle.tl_check.specs.declared.fault.CertFault.TheVariants.{Text, Counts, Tree, TooDeep, Round, Walk}
 use Rattle.tl_check.specs.declared.verdict.Report.{Report}
@@ -28,6 +31,12 @@ node_text p = signed_decimal p.x ++ codes " " ++ signed_decimal p.y
 abbrev pub rational_text : Rational → List ℕ
 rational_text r = signed_decimal r.x ++ codes " " ++ signed_decimal r.y ++ codes " " ++ signed_decimal r.d
 
+-- what is wrong with where a polygon's point lies
+abbrev pub misplaced_text : Misplaced → List ℕ
+misplaced_text (OnChain polygon tlid) = codes "G3 PointOnChain polygon " ++ key_text polygon ++ codes " tlid " ++ decimal tlid
+misplaced_text (Outside polygon) = codes "G4 PointOutside polygon " ++ key_text polygon
+misplaced_text (InOther polygon other) = codes "G5 PointInOther polygon " ++ key_text polygon ++ codes " other " ++ key_text other
+
 -- the code and the name of a map's fault, with what it is about
 abbrev pub map_fault_text : MapFault → List ℕ
 map_fault_text (Records fault) = fault_text fault
@@ -35,6 +44,7 @@ map_fault_text (Meet meet) =
     codes "map fault G1 Meet " ++ segment_text meet.tlid meet.s ++ codes " " ++ segment_text meet.other meet.t
     ++ codes " at " ++ rational_text meet.at
 map_fault_text (Side node first next) = codes "map fault G2 Side at " ++ node_text node ++ codes " darts " ++ decimal first ++ codes " " ++ decimal next
+map_fault_text (PolygonPoint fault) = codes "map fault " ++ misplaced_text fault
 map_fault_text (Cell odds) = codes "map fault G6 Cell darts " ++ decimal odds.first ++ codes " " ++ decimal odds.second
     ++ codes " ids " ++ decimal odds.first_id ++ codes " " ++ decimal odds.second_id
 

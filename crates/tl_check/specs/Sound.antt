@@ -1,10 +1,11 @@
--- Sound maps: planar, with sides that agree, with boundaries that are closed rings, and with zero-cell ids that agree
--- where they were read.
+-- Sound maps: planar, with sides that agree, with boundaries that are closed rings, with each polygon's point inside its
+-- own rings alone, and with zero-cell ids that agree where they were read.
 use Rattle.std.specs.Prelude.{ℕ, ◌<◌, length}
 use Rattle.tl_map.specs.declared.sides.Side.TheVariants.{Outside, Polygon}
 use Rattle.tl_map.specs.TheMap.{TheMap}
 use Rattle.tl_planar.specs.Planar.{IsPlanar}
 use Rattle.tl_sides.specs.Sides.{SidesAgree, IsClosed}
+use Rattle.tl_inside.specs.Placed.{ArePlaced}
 use Rattle.tl_cells.specs.Cells.{CellsAgree}
 
 -- the boundary of each polygon, and that of the outside, is closed rings
@@ -17,4 +18,5 @@ pub record IsSound (m : TheMap) : Type 0 where
   pub planar : IsPlanar m.chains
   pub sides : SidesAgree m.chains
   pub closed : AreClosed m
+  pub points : ArePlaced m
   pub cells : CellsAgree m.chains

@@ -10,10 +10,11 @@ use Rattle.tl_planar.specs.Searching.{IsTrueMeet}
 use Rattle.tl_sides.specs.Sides.{IsNext, dart_right}
 use Rattle.tl_sides.specs.Rounds.{IsRoundFault}
 use Rattle.tl_sides.specs.Walks.{IsWalkFault}
+use Rattle.tl_inside.specs.Placed.{IsTrueMisplaced}
 use Rattle.tl_cells.specs.Cells.{AreCellsAtOdds}
 use Rattle.tl_cert.specs.Certificates.{TheCertificate}
 use Rattle.tl_check.specs.declared.fault.MapFault.{MapFault}
-use Rattle.tl_check.specs.declared.fault.MapFault.TheVariants.{Records, Meet, Side, Cell}
+use Rattle.tl_check.specs.declared.fault.MapFault.TheVariants.{Records, Meet, Side, PolygonPoint, Cell}
 use Rattle.tl_check.specs.declared.fault.CertFault.{CertFault}
 use Rattle.tl_check.specs.declared.fault.CertFault.TheVariants.{Text, Counts, Tree, TooDeep, Round, Walk}
 use Rattle.tl_check.specs.Valid.{segments_of, AreCounts, greatest_depth}
@@ -25,12 +26,13 @@ pub record AreAtOdds (m : TheMap) (node : Point) (first next : ℕ) : Type 0 whe
   pub is_next : IsNext m.chains first next
   pub differ : dart_left m.chains first ≢ dart_right m.chains next
 
--- what a fault says of a map: two segments meet where they may not, sides don't agree, or zero-cell ids don't; that its
--- records have a fault is never true of a map
+-- what a fault says of a map: two segments meet where they may not, sides don't agree, a polygon's point is misplaced, or
+-- zero-cell ids don't agree; that its records have a fault is never true of a map
 abbrev pub IsTrueOfMap : TheMap → MapFault → Type 0
 IsTrueOfMap m (Records fault) = ⊥
 IsTrueOfMap m (Meet meet) = IsTrueMeet m.chains meet
 IsTrueOfMap m (Side node first next) = AreAtOdds m node first next
+IsTrueOfMap m (PolygonPoint fault) = IsTrueMisplaced m fault
 IsTrueOfMap m (Cell odds) = AreCellsAtOdds m.chains odds.first odds.second odds.first_id odds.second_id
 
 -- what a fault says of a certificate beside a map; that no certificate has the text is never true of a certificate

@@ -47,6 +47,15 @@ pub record IsReport (m : TheMap) (r : Report) : Type 0 where
   pub rings : AreWalks m.chains walks
   pub counted : r.rings ≡ length walks
 
+-- the report has the map's numbers, and this number of rings
+pub record AreNumbers (m : TheMap) (rings : ℕ) (r : Report) : Type 0 where
+  pub chains : r.chains ≡ length m.chains
+  pub segments : r.segments ≡ segments_of m
+  pub nodes : (points : List Point) → AreNodes m.chains points → r.nodes ≡ length points
+  pub polygons : r.polygons ≡ length m.polygons
+  pub landmarks : r.landmarks ≡ length m.landmarks
+  pub rings_are : r.rings ≡ rings
+
 -- why a map in memory is not decided: memory was refused, or more pairs of its segments than the budget have rectangles
 -- that meet
 abbrev pub MayStop : TheMap → ℕ → Stop → Type 0

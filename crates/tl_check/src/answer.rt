@@ -1,7 +1,8 @@
 //! Answers, and reports of sound maps.
 
 ghost use Rattle.std.specs.Prelude.{◌≡◌};
-ghost use Rattle.tl_check.specs.Keeping.Answers.{answer_of, stop_of, AreNumbers};
+ghost use Rattle.tl_check.specs.Verdicts.{AreNumbers};
+ghost use Rattle.tl_check.specs.Keeping.Answers.{answer_of, stop_of};
 
 use crate::fault::CertFault;
 use crate::state::Halt;
@@ -21,7 +22,8 @@ pub fn answer(halt: Halt) -> Result<Verdict, Stop>
     }
 }
 
-/// The report of a sound map with so many rings.
+/// The report of a sound map whose sides' boundaries have so many rings together: as many as a valid certificate of it has
+/// walks.
 pub fn report(map: &Map, rings: u32) -> Report
     ensures { AreNumbers map.now rings result }
 {

@@ -5,6 +5,7 @@ ghost use Rattle.std.specs.Option.{IfSome};
 ghost use Rattle.tl_planar.specs.Planar.{IsPlanar};
 ghost use Rattle.tl_planar.specs.Searching.{meeting_segments};
 ghost use Rattle.tl_sides.specs.Sides.{SidesAgree};
+ghost use Rattle.tl_inside.specs.Placed.{ArePlaced};
 ghost use Rattle.tl_cells.specs.Cells.{CellsAgree};
 ghost use Rattle.tl_cert.specs.declared.reader.Standing.TheVariants.{Reading};
 ghost use Rattle.tl_cert.specs.declared.place.Place.TheVariants.{Start};
@@ -45,6 +46,8 @@ pub fn check_cert<S: Source>(
     ensures sides { OnSound result (SidesAgree map.now.chains) }
     // The boundary of each polygon, and that of the outside, is closed rings.
     ensures closed { OnSound result (AreClosed map.now) }
+    // Each polygon's point is on no chain, inside its own rings, and clear of every other polygon.
+    ensures points { OnSound result (ArePlaced map.now) }
     // Zero-cell ids agree, where they were read: two darts that have ids have one id exactly where they start at one point.
     ensures cells { OnSound result (CellsAgree map.now.chains) }
     // The text is that of a certificate that is valid for the map.

@@ -3,6 +3,7 @@
 use std::fmt;
 use tl_cells::CellsAtOdds;
 use tl_geom::{Point, Rational};
+use tl_inside::Misplaced;
 use tl_planar::Meet;
 use tl_sides::{RoundFault, WalkFault};
 use tl_tree::TreeFault;
@@ -18,6 +19,8 @@ pub enum MapFault {
     /// G2: about the node, the second dart is next after the first, and what lies on the left of the first isn't what
     /// lies on the right of the second.
     Side { node: Point, first: u32, next: u32 },
+    /// G3, G4, G5: a polygon's point is on a chain, isn't inside its polygon, or isn't clear of another.
+    PolygonPoint(Misplaced),
     /// G6: two darts have one zero-cell id and start at two points, or have two ids and start at one.
     Cell(CellsAtOdds),
 }
@@ -47,6 +50,10 @@ impl fmt::Display for MapFault {
                 let (x, y) = (node.x, node.y);
                 write!(f, "map fault G2 Side at {x} {y} darts {first} {next}")
             }
+            MapFault::PolygonPoint(fault) => {
+                let cause = PointCause(*fault);
+                write!(f, "map fault {cause}")
+            }
             MapFault::Cell(odds) => {
                 let (a, b) = (odds.first, odds.second);
                 let (i, j) = (odds.first_id, odds.second_id);
@@ -71,6 +78,29 @@ impl fmt::Display for SegmentName {
 
     fn fmt<W: fmt::Write>(&self, f: &mut fmt::Formatter<W>) -> fmt::Result {
         write!(f, "tlid {} segment {}", self.tlid, self.segment)
+    }
+}
+
+// How it is printed what is wrong with where a polygon's point lies: the fault's code and name, and the keys.
+#[derive(Clone, Copy)]
+struct PointCause(Misplaced);
+
+impl fmt::Display for PointCause {
+    ghost use Rattle.std.specs.Prelude.{Some};
+    ghost use Rattle.tl_check.specs.Messages.{misplaced_text};
+
+    ghost output = { λ cause. Some (misplaced_text cause.0) };
+
+    fn fmt<W: fmt::Write>(&self, f: &mut fmt::Formatter<W>) -> fmt::Result {
+        match self.0 {
+            Misplaced::OnChain { polygon, tlid } => {
+                write!(f, "G3 PointOnChain polygon {polygon} tlid {tlid}")
+            }
+            Misplaced::Outside { polygon } => write!(f, "G4 PointOutside polygon {polygon}"),
+            Misplaced::InOther { polygon, other } => {
+                write!(f, "G5 PointInOther polygon {polygon} other {other}")
+            }
+        }
     }
 }
 

@@ -4,6 +4,7 @@ ghost use Rattle.std.specs.Prelude.{◌≤◌, IfErr};
 ghost use Rattle.tl_planar.specs.Planar.{IsPlanar};
 ghost use Rattle.tl_planar.specs.Searching.{meeting_segments};
 ghost use Rattle.tl_sides.specs.Sides.{SidesAgree};
+ghost use Rattle.tl_inside.specs.Placed.{ArePlaced};
 ghost use Rattle.tl_cells.specs.Cells.{CellsAgree};
 ghost use Rattle.tl_check.specs.Sound.{AreClosed};
 ghost use Rattle.tl_check.specs.Valid.{IsValid};
@@ -33,6 +34,8 @@ pub fn check_map(alloc: Global, map: &Map, cert: &Certificate, budget: u64) -> R
     ensures sides { OnSound result (SidesAgree map.now.chains) }
     // The boundary of each polygon, and that of the outside, is closed rings.
     ensures closed { OnSound result (AreClosed map.now) }
+    // Each polygon's point is on no chain, inside its own rings, and clear of every other polygon.
+    ensures points { OnSound result (ArePlaced map.now) }
     // Zero-cell ids agree, where they were read: two darts that have ids have one id exactly where they start at one point.
     ensures cells { OnSound result (CellsAgree map.now.chains) }
     // The certificate is valid for the map.

@@ -1,7 +1,8 @@
 //! The checker: whether a map is sound, by a certificate that nobody need trust.
 //!
-//! [`check_map`] answers that a map is sound only where it is: its chains are planar, its sides agree, and the boundary
-//! of each polygon and that of the outside is closed rings (`specs/Sound`). Each fault that it names is true
+//! [`check_map`] answers that a map is sound only where it is: its chains are planar, its sides agree, the boundary of each
+//! polygon and that of the outside is closed rings, and the points of polygons lie inside their own rings alone
+//! (`specs/Sound`). Each fault that it names is true
 //! (`specs/Truth`), of the map or of the certificate.
 #![tactic(auto)]
 
@@ -19,6 +20,7 @@ mod tree;
 mod verdict;
 mod walks;
 
+pub use answer::report;
 pub use as_read::check_cert;
 pub use fault::{CertFault, MapFault};
 pub use in_memory::check_map;

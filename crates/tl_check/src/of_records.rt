@@ -7,6 +7,7 @@ ghost use Rattle.tl_record.specs.Records.{records_of};
 ghost use Rattle.tl_planar.specs.Planar.{IsPlanar};
 ghost use Rattle.tl_planar.specs.Searching.{meeting_segments};
 ghost use Rattle.tl_sides.specs.Sides.{SidesAgree};
+ghost use Rattle.tl_inside.specs.Placed.{ArePlaced};
 ghost use Rattle.tl_cells.specs.Cells.{CellsAgree};
 ghost use Rattle.tl_check.specs.Sound.{AreClosed};
 ghost use Rattle.tl_check.specs.Verdicts.{OnSound, IfSound, IfMapFault, IfCertFault, IsReport};
@@ -47,6 +48,9 @@ pub fn check<R: Source, S: Source>(
     // The boundary of each polygon, and that of the outside, is closed rings.
     ensures closed { OnSound result (IfSome (R.remaining records.old) (λ text.
         HaveMap (records_of tiger_2006 text) AreClosed)) }
+    // Each polygon's point is on no chain, inside its own rings, and clear of every other polygon.
+    ensures points { OnSound result (IfSome (R.remaining records.old) (λ text.
+        HaveMap (records_of tiger_2006 text) ArePlaced)) }
     // Zero-cell ids agree, none of which is read.
     ensures cells { OnSound result (IfSome (R.remaining records.old) (λ text.
         HaveMap (records_of tiger_2006 text) (λ m. CellsAgree m.chains))) }
@@ -93,6 +97,8 @@ pub fn check_with<R: Source, S: Source>(
         HaveMap (records_of (layout_with options) text) (λ m. SidesAgree m.chains))) }
     ensures closed { OnSound result (IfSome (R.remaining records.old) (λ text.
         HaveMap (records_of (layout_with options) text) AreClosed)) }
+    ensures points { OnSound result (IfSome (R.remaining records.old) (λ text.
+        HaveMap (records_of (layout_with options) text) ArePlaced)) }
     // Zero-cell ids agree, where they are read: two darts that have ids have one id exactly where they start at one point.
     ensures cells { OnSound result (IfSome (R.remaining records.old) (λ text.
         HaveMap (records_of (layout_with options) text) (λ m. CellsAgree m.chains))) }

@@ -9,6 +9,7 @@ use Rattle.tl_map.proofs.OneMapLemmas.{one_map}
 use Rattle.tl_planar.specs.Planar.{IsPlanar}
 use Rattle.tl_planar.specs.Searching.{meeting_segments}
 use Rattle.tl_sides.specs.Sides.{SidesAgree}
+use Rattle.tl_inside.specs.Placed.{ArePlaced}
 use Rattle.tl_cells.specs.Cells.{CellsAgree}
 use Rattle.tl_check.specs.declared.verdict.Report.{Report}
 use Rattle.tl_check.specs.declared.verdict.Verdict.{Verdict}
@@ -42,55 +43,58 @@ weaker all P Q leads have = record { map = have.map; is_read = have.is_read; so 
 
 -- the claims of a sound map
 sound_map : (all : Records) (budget : ℕ) (spelt : Option (List ℕ)) (report : Report) → HaveMap all (λ m. IsPlanar m.chains) → HaveMap all (λ m. SidesAgree m.chains)
-    → HaveMap all AreClosed → HaveMap all (λ m. CellsAgree m.chains) → HaveMap all (λ m. meeting_segments m.chains ≤ budget) → IfSome spelt (λ text. HaveMap all (λ m. IsValidText m text))
+    → HaveMap all AreClosed → HaveMap all ArePlaced → HaveMap all (λ m. CellsAgree m.chains) → HaveMap all (λ m. meeting_segments m.chains ≤ budget) → IfSome spelt (λ text. HaveMap all (λ m. IsValidText m text))
     → HaveMap all (λ m. IsReport m report) → HaveMap all (IsDecided report budget spelt)
-sound_map all budget None report planar sides closed cells within valid reported =
+sound_map all budget None report planar sides closed points cells within valid reported =
     weaker all _ _
-    (λ m so. record { sound = record { planar = so.0.0; sides = so.0.1; closed = so.1.0.0; cells = so.1.0.1 }; reported = so.1.1.0; within = so.1.1.1; valid = tt })
-    (both all _ _ (both all _ _ planar sides) (both all _ _ (both all _ _ closed cells) (both all _ _ reported within)))
-sound_map all budget (Some text) report planar sides closed cells within valid reported =
+    (λ m so. record { sound = record { planar = so.0.0; sides = so.0.1; closed = so.1.0.0.0; points = so.1.0.0.1; cells = so.1.0.1 }; reported = so.1.1.0; within = so.1.1.1; valid = tt })
+    (both all _ _ (both all _ _ planar sides) (both all _ _ (both all _ _ (both all _ _ closed points) cells) (both all _ _ reported within)))
+sound_map all budget (Some text) report planar sides closed points cells within valid reported =
     weaker all _ _
-    (λ m so. record { sound = record { planar = so.0.0; sides = so.0.1; closed = so.1.0.0; cells = so.1.0.1 }; reported = so.1.1.0.0; within = so.1.1.0.1; valid = so.1.1.1 })
-    (both all _ _ (both all _ _ planar sides) (both all _ _ (both all _ _ closed cells) (both all _ _ (both all _ _ reported within) valid)))
+    (λ m so. record { sound = record { planar = so.0.0; sides = so.0.1; closed = so.1.0.0.0; points = so.1.0.0.1; cells = so.1.0.1 }; reported = so.1.1.0.0; within = so.1.1.0.1; valid = so.1.1.1 })
+    (both all _ _ (both all _ _ planar sides) (both all _ _ (both all _ _ (both all _ _ closed points) cells) (both all _ _ (both all _ _ reported within) valid)))
 
 -- what is known of the records is known of their map
 decided : (layout : Layout) (budget : ℕ) (known spelt : Option (List ℕ)) (report : Report)
     → IfSome known (λ text. HaveMap (records_of layout text) (λ m. IsPlanar m.chains))
     → IfSome known (λ text. HaveMap (records_of layout text) (λ m. SidesAgree m.chains))
     → IfSome known (λ text. HaveMap (records_of layout text) AreClosed)
+    → IfSome known (λ text. HaveMap (records_of layout text) ArePlaced)
     → IfSome known (λ text. HaveMap (records_of layout text) (λ m. CellsAgree m.chains))
     → IfSome known (λ text. HaveMap (records_of layout text) (λ m. meeting_segments m.chains ≤ budget))
     → IfSome known (λ text. IfSome spelt (λ certificate. HaveMap (records_of layout text) (λ m. IsValidText m certificate)))
     → IfSome known (λ text. HaveMap (records_of layout text) (λ m. IsReport m report))
     → IfSome known (λ text. HaveMap (records_of layout text) (IsDecided report budget spelt))
-decided layout budget None spelt report planar sides closed cells within valid reported = tt
-decided layout budget (Some text) spelt report planar sides closed cells within valid reported =
-    sound_map (records_of layout text) budget spelt report planar sides closed cells within valid reported
+decided layout budget None spelt report planar sides closed points cells within valid reported = tt
+decided layout budget (Some text) spelt report planar sides closed points cells within valid reported =
+    sound_map (records_of layout text) budget spelt report planar sides closed points cells within valid reported
 
 -- a verdict with the status of a sound map is that of one
 pub is_checked : (layout : Layout) (budget : ℕ) (known spelt : Option (List ℕ)) (wrote : List ℕ → Type 0) (answer : Answer) (verdict : Verdict) → answer ≡ Ok verdict
     → OnSound answer (IfSome known (λ text. HaveMap (records_of layout text) (λ m. IsPlanar m.chains)))
     → OnSound answer (IfSome known (λ text. HaveMap (records_of layout text) (λ m. SidesAgree m.chains)))
     → OnSound answer (IfSome known (λ text. HaveMap (records_of layout text) AreClosed))
+    → OnSound answer (IfSome known (λ text. HaveMap (records_of layout text) ArePlaced))
     → OnSound answer (IfSome known (λ text. HaveMap (records_of layout text) (λ m. CellsAgree m.chains)))
     → OnSound answer (IfSome known (λ text. HaveMap (records_of layout text) (λ m. meeting_segments m.chains ≤ budget)))
     → OnSound answer (IfSome known (λ text. IfSome spelt (λ certificate. HaveMap (records_of layout text) (λ m. IsValidText m certificate))))
     → IfSound answer (λ report. IfSome known (λ text. HaveMap (records_of layout text) (λ m. IsReport m report)))
     → DONE ≡ verdict_status verdict → wrote (line_of (verdict_text verdict)) → IsChecked layout budget known spelt wrote
-is_checked layout budget known spelt wrote answer (Sound report) is planar sides closed cells within valid reported done written = record {
+is_checked layout budget known spelt wrote answer (Sound report) is planar sides closed points cells within valid reported done written = record {
   report = report;
   written = written;
   decided = decided layout budget known spelt report
       (subst (λ a. OnSound a (IfSome known (λ text. HaveMap (records_of layout text) (λ m. IsPlanar m.chains)))) is planar)
       (subst (λ a. OnSound a (IfSome known (λ text. HaveMap (records_of layout text) (λ m. SidesAgree m.chains)))) is sides)
       (subst (λ a. OnSound a (IfSome known (λ text. HaveMap (records_of layout text) AreClosed))) is closed)
+      (subst (λ a. OnSound a (IfSome known (λ text. HaveMap (records_of layout text) ArePlaced))) is points)
       (subst (λ a. OnSound a (IfSome known (λ text. HaveMap (records_of layout text) (λ m. CellsAgree m.chains)))) is cells)
       (subst (λ a. OnSound a (IfSome known (λ text. HaveMap (records_of layout text) (λ m. meeting_segments m.chains ≤ budget)))) is within)
       (subst (λ a. OnSound a (IfSome known (λ text. IfSome spelt (λ certificate. HaveMap (records_of layout text) (λ m. IsValidText m certificate))))) is valid)
       (subst (λ a. IfSound a (λ report. IfSome known (λ text. HaveMap (records_of layout text) (λ m. IsReport m report)))) is reported);
 }
-is_checked layout budget known spelt wrote answer (MapFault fault) is planar sides closed cells within valid reported done written = cc done
-is_checked layout budget known spelt wrote answer (CertFault fault) is planar sides closed cells within valid reported done written = cc done
+is_checked layout budget known spelt wrote answer (MapFault fault) is planar sides closed points cells within valid reported done written = cc done
+is_checked layout budget known spelt wrote answer (CertFault fault) is planar sides closed points cells within valid reported done written = cc done
 
 -- a verdict with the status of a map's fault is that of one
 pub names_fault : (layout : Layout) (known : Option (List ℕ)) (unread : Type 0) (wrote : List ℕ → Type 0) (answer : Answer) (verdict : Verdict)

@@ -8,7 +8,7 @@ use Rattle.tl_output.specs.Writing.{line_of}
 use Rattle.tl_command.specs.Certificates.{converted_text}
 use Rattle.tl_record.specs.declared.layout.Layout.{Layout}
 use Rattle.tl_plan.specs.declared.plan.Plan.{Plan}
-use Rattle.tl_plan.specs.declared.plan.Plan.TheVariants.{Show, Landmarks, Convert, Check}
+use Rattle.tl_plan.specs.declared.plan.Plan.TheVariants.{Show, Landmarks, Locate, Convert, Check}
 use Rattle.tl_command.specs.Running.{NamesRefusal, FaultsCertificate, IsConverted}
 
 pub refusal_unknown : (layout : Layout) (known : Option (List ℕ)) (wrote : List ℕ → Type 0) → NamesRefusal layout known wrote → NamesRefusal layout None wrote
@@ -17,6 +17,7 @@ refusal_unknown layout known wrote names = record { line = names.line; cause = n
 pub cert_fault_unknown : (plan : Plan) (known spelt : Option (List ℕ)) (wrote : List ℕ → Type 0) → FaultsCertificate plan known spelt wrote → FaultsCertificate plan None None wrote
 cert_fault_unknown (Show options files) known spelt wrote names = names
 cert_fault_unknown (Landmarks options files) known spelt wrote names = names
+cert_fault_unknown (Locate point options files) known spelt wrote names = names
 cert_fault_unknown (Convert cert made) known spelt wrote names = record { line = names.line; written = names.written; holds = tt }
 cert_fault_unknown (Check cert budget options files) known spelt wrote names = record { fault = names.fault; written = names.written; holds = tt }
 

@@ -4,3 +4,4 @@ pub mod Starting
 pub mod Stops
 pub mod Certificates
 pub mod Verdicts
+pub mod Places

@@ -9,6 +9,7 @@ use Rattle.tl_record.specs.declared.layout.Layout.{Layout}
 use Rattle.tl_record.specs.Layout.{tiger_2006, layout_with}
 use Rattle.tl_record.specs.Messages.{refusal_text}
 use Rattle.tl_record.specs.Records.{records_of}
+use Rattle.tl_geom.specs.declared.point.Point.{Point}
 use Rattle.tl_map.specs.declared.fault.MapFault.{MapFault as RecordFault}
 use Rattle.tl_map.specs.declared.fault.MapStop.{MapStop}
 use Rattle.tl_map.specs.declared.fault.MapStop.TheVariants as map_stop
@@ -23,11 +24,13 @@ use Rattle.tl_command.specs.declared.stop.Stop.{Stop}
 use Rattle.tl_command.specs.declared.stop.Stop.TheVariants.{Refused, Memory, Device, Budget}
 use Rattle.tl_command.specs.declared.stop.TheConstants.{DONE, MAP_FAULT, CERT_FAULT, REFUSED, STOPPED}
 use Rattle.tl_plan.specs.declared.plan.Plan.{Plan}
-use Rattle.tl_plan.specs.declared.plan.Plan.TheVariants.{Show, Landmarks, Convert, Check}
+use Rattle.tl_plan.specs.declared.plan.Plan.TheVariants.{Show, Landmarks, Locate, Convert, Check}
 use Rattle.tl_cert.specs.Certificates.{TheCertificate, IsCertificate}
 use Rattle.tl_cert.specs.Text.{certificate_text}
 use Rattle.tl_cert.specs.Beginnings.{IsTextOf, IsRefused}
 use Rattle.tl_planar.specs.Searching.{meeting_segments}
+use Rattle.tl_inside.specs.declared.place.Place.{Place}
+use Rattle.tl_inside.specs.Places.{IsPlaceOf}
 use Rattle.tl_check.specs.declared.fault.MapFault.{MapFault}
 use Rattle.tl_check.specs.declared.fault.CertFault.{CertFault}
 use Rattle.tl_check.specs.declared.fault.CertFault.TheVariants as cert_fault
@@ -40,6 +43,7 @@ use Rattle.tl_check.specs.Records.{HaveMap, IsTrueOfRecords, LeavesUnread}
 use Rattle.tl_check.specs.Messages.{map_fault_text, cert_fault_text}
 use Rattle.tl_command.specs.Certificates.{converted_text}
 use Rattle.tl_command.specs.Verdicts.{sound_text}
+use Rattle.tl_command.specs.Places.{place_text}
 use Rattle.tl_command.specs.Stops.{stop_text}
 
 -- no line of the text is refused, and the fault is true of its records
@@ -62,6 +66,15 @@ pub record IsShown (layout : Layout) (known : Option (List ℕ)) (wrote : List �
 pub record IsListed (layout : Layout) (known : Option (List ℕ)) (wrote : List ℕ → Type 0) : Type 0 where
   pub map : TheMap
   pub written : wrote (listing_text map)
+  pub drawn : IfSome known (λ text. IsReadFrom (records_of layout text) map)
+
+-- the line of a place was written: where the point lies in the map that the records draw, where no line is refused and no
+-- fault is true
+pub record IsLocated (layout : Layout) (point : Point) (known : Option (List ℕ)) (wrote : List ℕ → Type 0) : Type 0 where
+  pub map : TheMap
+  pub place : Place
+  pub lies : IsPlaceOf map point place
+  pub written : wrote (place_text map place)
   pub drawn : IfSome known (λ text. IsReadFrom (records_of layout text) map)
 
 -- the line of a conversion was written, and into the other certificate, of which `made` says that a text was written, the
@@ -104,6 +117,7 @@ pub record NamesCertFault (layout : Layout) (known spelt : Option (List ℕ)) (w
 abbrev pub layout_of : Plan → Layout
 layout_of (Show options files) = layout_with options
 layout_of (Landmarks options files) = layout_with options
+layout_of (Locate point options files) = layout_with options
 layout_of (Convert cert made) = tiger_2006
 layout_of (Check cert budget options files) = layout_with options
 
@@ -111,6 +125,7 @@ layout_of (Check cert budget options files) = layout_with options
 abbrev pub ReadsNoCertificate : Plan → Type 0
 ReadsNoCertificate (Show options files) = ⊤
 ReadsNoCertificate (Landmarks options files) = ⊤
+ReadsNoCertificate (Locate point options files) = ⊤
 ReadsNoCertificate (Convert cert made) = ⊥
 ReadsNoCertificate (Check cert budget options files) = ⊥
 
@@ -118,6 +133,7 @@ ReadsNoCertificate (Check cert budget options files) = ⊥
 abbrev pub MakesNoCertificate : Plan → Type 0
 MakesNoCertificate (Show options files) = ⊤
 MakesNoCertificate (Landmarks options files) = ⊤
+MakesNoCertificate (Locate point options files) = ⊤
 MakesNoCertificate (Convert cert made) = ⊥
 MakesNoCertificate (Check cert budget options files) = ⊤
 
@@ -125,6 +141,7 @@ MakesNoCertificate (Check cert budget options files) = ⊤
 abbrev pub ReadsNoRecords : Plan → Type 0
 ReadsNoRecords (Show options files) = ⊥
 ReadsNoRecords (Landmarks options files) = ⊥
+ReadsNoRecords (Locate point options files) = ⊥
 ReadsNoRecords (Convert cert made) = ⊤
 ReadsNoRecords (Check cert budget options files) = ⊥
 
@@ -132,6 +149,7 @@ ReadsNoRecords (Check cert budget options files) = ⊥
 abbrev pub AnswersRecords : Plan → Option (List ℕ) → (List ℕ → Type 0) → Type 0
 AnswersRecords (Show options files) records wrote = IsShown (layout_with options) records wrote
 AnswersRecords (Landmarks options files) records wrote = IsListed (layout_with options) records wrote
+AnswersRecords (Locate point options files) records wrote = IsLocated (layout_with options) point records wrote
 AnswersRecords (Convert cert made) records wrote = ⊤
 AnswersRecords (Check cert budget options files) records wrote = ⊤
 
@@ -140,6 +158,7 @@ AnswersRecords (Check cert budget options files) records wrote = ⊤
 abbrev pub IsAnswered : Plan → Option (List ℕ) → Option (List ℕ) → (List ℕ → Type 0) → (List ℕ → Type 0) → Type 0
 IsAnswered (Show options files) records spelt made wrote = IsShown (layout_with options) records wrote
 IsAnswered (Landmarks options files) records spelt made wrote = IsListed (layout_with options) records wrote
+IsAnswered (Locate point options files) records spelt made wrote = IsLocated (layout_with options) point records wrote
 IsAnswered (Convert from to) records spelt made wrote = IsConverted spelt made wrote
 IsAnswered (Check cert budget options files) records spelt made wrote = IsChecked (layout_with options) budget records spelt wrote
 
@@ -161,6 +180,7 @@ pub record NamesFault (layout : Layout) (known : Option (List ℕ)) (unread : Ty
 abbrev pub FaultsMap : Plan → Option (List ℕ) → Type 0 → (List ℕ → Type 0) → Type 0
 FaultsMap (Show options files) known unread wrote = NamesRecordFault (layout_with options) known wrote
 FaultsMap (Landmarks options files) known unread wrote = NamesRecordFault (layout_with options) known wrote
+FaultsMap (Locate point options files) known unread wrote = NamesRecordFault (layout_with options) known wrote
 FaultsMap (Convert cert made) known unread wrote = ⊥
 FaultsMap (Check cert budget options files) known unread wrote = NamesFault (layout_with options) known unread wrote
 
@@ -175,6 +195,7 @@ pub record NamesRefusal (layout : Layout) (known : Option (List ℕ)) (wrote : L
 abbrev pub FaultsCertificate : Plan → Option (List ℕ) → Option (List ℕ) → (List ℕ → Type 0) → Type 0
 FaultsCertificate (Show options files) records spelt wrote = ⊥
 FaultsCertificate (Landmarks options files) records spelt wrote = ⊥
+FaultsCertificate (Locate point options files) records spelt wrote = ⊥
 FaultsCertificate (Convert cert made) records spelt wrote = NamesBadLine spelt wrote
 FaultsCertificate (Check cert budget options files) records spelt wrote = NamesCertFault (layout_with options) records spelt wrote
 
@@ -191,6 +212,7 @@ pub record NamesBudget (layout : Layout) (budget : ℕ) (known : Option (List �
 abbrev pub SpendsBudget : Plan → Option (List ℕ) → (List ℕ → Type 0) → Type 0
 SpendsBudget (Show options files) known wrote = ⊥
 SpendsBudget (Landmarks options files) known wrote = ⊥
+SpendsBudget (Locate point options files) known wrote = ⊥
 SpendsBudget (Convert cert made) known wrote = ⊥
 SpendsBudget (Check cert budget options files) known wrote = NamesBudget (layout_with options) budget known wrote
 

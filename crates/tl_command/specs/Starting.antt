@@ -6,7 +6,8 @@ use Rattle.tl_plan.specs.declared.plan.Plan.{Plan}
 use Rattle.tl_command.specs.declared.stop.Stop.{Stop}
 use Rattle.tl_command.specs.declared.stop.Stop.TheVariants.{Refused, Memory, Device, Budget}
 use Rattle.tl_command.specs.declared.stop.TheConstants.{USAGE}
-use Rattle.tl_plan.specs.CommandLine.{command_line, AskFor, AreAUse, HasMistake, HasAnswer}
+use Rattle.tl_plan.specs.Commands.{command_line}
+use Rattle.tl_plan.specs.CommandLine.{AskFor, AreAUse, HasMistake, HasAnswer}
 use Rattle.tl_plan.specs.Plans.{escape}
 use Rattle.tl_command.specs.Running.{IsRunStatus, IsAnswered, FaultsMap, NamesRefusal, FaultsCertificate, NamesStop, StopsRun, layout_of}
 

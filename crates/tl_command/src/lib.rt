@@ -6,6 +6,7 @@
 
 pub mod convert;
 pub mod deciding;
+pub mod locating;
 mod made;
 pub mod open;
 pub mod run;

@@ -13,6 +13,7 @@ ghost use Rattle.tl_command.specs.Running.{IsRunStatus, FailsToRead, StopsAnswer
 
 use crate::convert::convert;
 use crate::deciding::decide;
+use crate::locating::tell_place;
 use crate::stop::{DONE, MAP_FAULT, Stop, stopped};
 use crate::tell::tell_line;
 use std::alloc::Global;
@@ -133,6 +134,7 @@ fn answer<R: Source, W: Sink>(
     match plan {
         Plan::Show { options, .. } => show(alloc, *options, records, out),
         Plan::Landmarks { options, .. } => landmarks(alloc, *options, records, out),
+        Plan::Locate { point, options, .. } => tell_place(alloc, *point, *options, records, out),
         // They ask nothing of records alone.
         Plan::Convert { .. } | Plan::Check { .. } => Ok(()),
     }

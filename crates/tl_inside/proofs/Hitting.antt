@@ -4,6 +4,7 @@ use Rattle.std.specs.Prelude.{slice_get}
 use Rattle.std.specs.Bool.{IsTrue}
 use Rattle.tl_geom.specs.declared.point.Point.{Point}
 use Rattle.tl_geom.specs.declared.rational.Rational.{Rational}
+use Rattle.tl_geom.specs.declared.rect.Rect.{Rect}
 use Rattle.tl_geom.specs.declared.segment.Segment.{Segment}
 use Rattle.tl_geom.specs.Plane.{IsOn, whole}
 use Rattle.tl_geom.specs.Ray.{Crosses}
@@ -15,7 +16,7 @@ use Rattle.tl_planar.specs.Keeping.Apart.{one_found}
 use Rattle.tl_planar.proofs.Numbering.{one_chain, one_place}
 use Rattle.tl_planar.proofs.Rects.{rect_by_number}
 use Rattle.tl_inside.specs.Inside.{IsCrossed}
-use Rattle.tl_inside.specs.Keeping.Probing.{IsHolding, IsReached}
+use Rattle.tl_inside.specs.Keeping.Probing.{IsHolding, IsReached, IsTouching}
 
 -- two segments of one number have the same ends
 pub record HaveSameEnds (one other : Segment) : Type 0 where
@@ -55,7 +56,7 @@ spot_hit own chains q s c k segment hits same number joins told =
       (λ h. told.1 (on_same h.segment segment (whole q) (same_ends own s h.c h.k c k h.segment segment h.number h.joins number joins) h.on)),
     )
 
-meets_back : (chains : List MapChain) (q : Point) (s c k : ℕ) (segment : Segment) → IsSegmentOf chains s c k → Joins chains c k segment → AreMeeting (rect_of segment) (ray_rect q) → AreMeeting (ray_rect q) (segment_rect chains s)
+pub meets_back : (chains : List MapChain) (q : Point) (s c k : ℕ) (segment : Segment) → IsSegmentOf chains s c k → Joins chains c k segment → AreMeeting (rect_of segment) (ray_rect q) → AreMeeting (ray_rect q) (segment_rect chains s)
 meets_back chains q s c k segment number joins m = record {
   point = m.point;
   in_first = m.in_second;
@@ -73,3 +74,14 @@ ray_hit own chains q s c k segment hits same number joins meets told =
           let x : IsCrossed own q s = h.crossed in
           told.1 (crosses_same x.segment segment q (same_ends own s x.c x.k c k x.segment segment x.number x.joins number joins) x.crosses)),
     )
+
+pub strip_hit : (own chains : List MapChain) (strip rect : Rect) (s c k : ℕ) (segment : Segment) (hits : Bool) → own ≡ chains → IsSegmentOf own s c k → Joins own c k segment → rect ≡ rect_of segment → (IsTrue hits ↔ AreMeeting strip rect) → IsTrue hits ↔ IsTouching chains strip s
+strip_hit own chains strip rect s c k segment hits same number joins is told =
+    subst (λ cs. IsTrue hits ↔ IsTouching cs strip s) same
+    (subst (λ r. IsTrue hits ↔ AreMeeting strip r) (is ∙ sym (rect_by_number own s c k segment number joins)) told)
+
+pub is_crossed : (chains : List MapChain) (q : Point) (s c k : ℕ) (segment : Segment) (told : Bool) → IsSegmentOf chains s c k → Joins chains c k segment → (IsTrue told ↔ Crosses segment q) → IsTrue told ↔ IsCrossed chains q s
+is_crossed chains q s c k segment told number joins is = (
+  (λ true. record { c = c; k = k; segment = segment; number = number; joins = joins; crosses = is.0 true }),
+  (λ x. is.1 (crosses_same x.segment segment q (same_ends chains s x.c x.k c k x.segment segment x.number x.joins number joins) x.crosses)),
+)

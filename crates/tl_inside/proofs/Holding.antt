@@ -17,12 +17,12 @@ use Rattle.tl_inside.specs.Keeping.Listed.{IsLeastOf}
 use Rattle.tl_inside.specs.Keeping.Probing.{IsHolding}
 
 -- a number that stands in a list stands at some place
-record IsAt (xs : List ℕ) (x : ℕ) : Type 0 where
-  place : ℕ
-  within : place < length xs
-  is : slice_index xs place ≡ x
+pub record IsAt (xs : List ℕ) (x : ℕ) : Type 0 where
+  pub place : ℕ
+  pub within : place < length xs
+  pub is : slice_index xs place ≡ x
 
-place_of : (x : ℕ) (xs : List ℕ) → 1 ≤ times x xs → IsAt xs x
+pub place_of : (x : ℕ) (xs : List ℕ) → 1 ≤ times x xs → IsAt xs x
 place_of x [] h = absurd (let no : 1 ≤ 0 = h in omega (arith, no))
 place_of x (y ∷ xs) h = elim (cases_order x y) [
   | inl same ↦ record { place = 0; within = omega arith; is = sym same }
@@ -37,8 +37,27 @@ hits_of items chains q old new slice adds same none is =
     subst (λ cs. AreHits (segments_before cs (length cs)) (IsHolding cs q) slice) same
     (subst (AreHits (segments_before items (length items)) (IsHolding items q)) (sym (is ∙ adds.appended ∙ ap (λ xs. xs ++ adds.found) none)) adds.hits)
 
+-- a chain that holds the point has a segment that does
+pub record HasHolder (chains : List MapChain) (q : Point) (d : ℕ) : Type 0 where
+  pub s : ℕ
+  pub j : ℕ
+  pub number : IsSegmentOf chains s d j
+  pub holding : IsHolding chains q s
+
+pub holder_of : (chains : List MapChain) (q : Point) (d : ℕ) → IsHeldBy chains q d → HasHolder chains q d
+holder_of chains q d h =
+    let on = h.on.1 in
+    let j : ℕ = h.on.0 in
+    let number : IsSegmentOf chains (segments_before chains d + j) d j = record { chain = h.chain; is = h.is; place = slice_get_within h.chain.points (j + 1) on.segment.b on.to; number = refl } in
+    record {
+      s = segments_before chains d + j;
+      j = j;
+      number = number;
+      holding = record { c = d; k = j; segment = on.segment; number = number; joins = record { chain = h.chain; is = h.is; from = on.from; to = on.to }; on = on.on };
+    }
+
 module _ (chains : List MapChain) (q : Point) (hits : List ℕ) (a : AreHits (segments_before chains (length chains)) (IsHolding chains q) hits) where
-  -- a chain that holds the point has a segment that is hit
+  -- and it is hit
   record HasHit (d : ℕ) : Type 0 where
     s : ℕ
     j : ℕ
@@ -47,12 +66,9 @@ module _ (chains : List MapChain) (q : Point) (hits : List ℕ) (a : AreHits (se
 
   hit_of : (d : ℕ) → IsHeldBy chains q d → HasHit d
   hit_of d h =
-      let on = h.on.1 in
-      let j : ℕ = h.on.0 in
-      let number : IsSegmentOf chains (segments_before chains d + j) d j = record { chain = h.chain; is = h.is; place = slice_get_within h.chain.points (j + 1) on.segment.b on.to; number = refl } in
-      let holding : IsHolding chains q (segments_before chains d + j) = record { c = d; k = j; segment = on.segment; number = number; joins = record { chain = h.chain; is = h.is; from = on.from; to = on.to }; on = on.on } in
-      let once = a.once (segments_before chains d + j) (below_total chains (segments_before chains d + j) d j number) holding in
-      record { s = segments_before chains d + j; j = j; number = number; at = place_of (segments_before chains d + j) hits (omega (arith, once)) }
+      let holder = holder_of chains q d h in
+      let once = a.once holder.s (below_total chains holder.s d holder.j holder.number) holder.holding in
+      record { s = holder.s; j = holder.j; number = holder.number; at = place_of holder.s hits (omega (arith, once)) }
 
   pub none_held : length hits ≡ 0 → IsOffChains chains q
   none_held empty d h = let w = (hit_of d h).at.within in omega (arith, w, empty)

@@ -1,4 +1,14 @@
 pub mod Hitting
+pub mod Reaching
+pub mod Stripping
+pub mod SiftLemmas
+pub mod Sites
 pub mod Sides
 pub mod Tallying
+pub mod Counting
+pub mod Misplacing
+pub mod Passing
+pub mod Summing
+pub mod Placing
+pub mod Totals
 pub mod Holding

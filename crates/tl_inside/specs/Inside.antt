@@ -1,6 +1,6 @@
 -- What lies about a point: how often the ray that runs from it to the east comes out of a polygon, or of a landmark, and how
 -- often it goes in.
-use Rattle.std.specs.Prelude.{◌≡◌, ℕ, Bool, false, ◌==◌, if◌then◌else◌, ℤ, pos, ◌-ℤ◌, int_lt}
+use Rattle.std.specs.Prelude.{◌≡◌, ℕ, Bool, false, ◌==◌, if◌then◌else◌, ℤ, pos, ◌+ℤ◌, ◌-ℤ◌, int_lt}
 use Rattle.std.specs.Prelude.{List, [], ◌∷◌, ◌++◌, length, map, count_by, slice_index_or}
 use Rattle.std.specs.List.{list_any}
 use Rattle.tl_geom.specs.declared.point.Point.{Point}
@@ -49,6 +49,10 @@ pub record IsCrossed (chains : List MapChain) (q : Point) (s : ℕ) : Type 0 whe
   pub joins : Joins chains c k segment
   pub crosses : Crosses segment q
 
+-- the segments that it crosses, each once
+abbrev pub AreCrossed : List MapChain → Point → List ℕ → Type 0
+AreCrossed chains q crossed = AreHits (segments_before chains (length chains)) (IsCrossed chains q) crossed
+
 -- of these crossed segments, how many have such a side near, less how many have one far
 abbrev pub balance : (Side → Bool) → List Flanks → ℤ
 balance S crossed = pos (count_by (λ f. S f.near) crossed) -ℤ pos (count_by (λ f. S f.far) crossed)
@@ -56,7 +60,7 @@ balance S crossed = pos (count_by (λ f. S f.near) crossed) -ℤ pos (count_by (
 -- the count of such sides at q: over all segments that the ray from q to the east crosses, each once
 pub record IsCount (chains : List MapChain) (q : Point) (S : Side → Bool) (n : ℤ) : Type 0 where
   pub crossed : List ℕ
-  pub are : AreHits (segments_before chains (length chains)) (IsCrossed chains q) crossed
+  pub are : AreCrossed chains q crossed
   pub counted : n ≡ balance S (map (flanks_at chains) crossed)
 
 -- the side is polygon p
@@ -68,6 +72,11 @@ is_polygon p (Polygon other) = other == p
 abbrev pub is_among : List ℕ → Side → Bool
 is_among polygons Outside = false
 is_among polygons (Polygon other) = list_any (λ p. other == p) polygons
+
+-- the sum of the counts of these polygons
+abbrev pub total : (ℕ → ℤ) → List ℕ → ℤ
+total counts [] = pos 0
+total counts (p ∷ polygons) = counts p +ℤ total counts polygons
 
 -- the count of polygon p at q, and that of a landmark that these polygons are linked to
 abbrev pub IsPolygonCount : List MapChain → Point → ℕ → ℤ → Type 0

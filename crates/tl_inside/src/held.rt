@@ -7,25 +7,24 @@ ghost use Rattle.tl_inside.specs.Places.{IsLowestOn, IsOffChains};
 ghost use Rattle.tl_inside.specs.Keeping.Listed.{IsLeastOf};
 
 use crate::probes::Spot;
-use std::alloc::Global;
 use tl_geom::{Point, on};
 use tl_map::Map;
 use tl_planar::Segments;
 use tl_tree::{BoxIndex, Memory};
 
-/// The lowest chain that holds a point, if one does.
+/// The lowest chain that holds a point, if one does. The hits on the way take the place of those that stood there.
 pub fn chain_at<X: BoxIndex>(
-    alloc: Global,
     map: &Map,
     index: &X,
     point: Point,
+    hits: &mut Vec<u32>,
 ) -> Result<Option<u32>, Memory>
     requires fits { X.fits index.now (segments_before map.now.chains (length map.now.chains)) (segment_rect map.now.chains) }
     ensures { IfOk result (λ found. MatchOption found (IsOffChains map.now.chains point) (IsLowestOn map.now.chains point)) }
 {
-    let mut hits = Vec::new(alloc);
-    index.collect_hits(&Segments::new(map), &Spot(point), &mut hits)?;
-    match least(&hits) {
+    hits.clear();
+    index.collect_hits(&Segments::new(map), &Spot(point), hits)?;
+    match least(hits) {
         // It is hit, as all that are listed are.
         Some(s) if on(map.segment(s), point) => Ok(Some(map.segment_chain(s))),
         Some(_) => unreachable!(),

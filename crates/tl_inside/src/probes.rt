@@ -37,6 +37,30 @@ impl<'a> Probe<Segments<'a>> for Spot {
     }
 }
 
+/// The segments whose rectangles meet a rectangle.
+#[derive(Clone, Copy)]
+pub struct Strip(pub Rect);
+
+impl<'a> Probe<Segments<'a>> for Strip {
+    ghost use Rattle.tl_inside.specs.Keeping.Probing.{IsTouching, touching_meets};
+
+    ghost region_of = { λ strip. strip.0 };
+
+    ghost hit = { λ strip chains. IsTouching chains strip.0 };
+
+    ghost hits_meet = { λ strip chains. touching_meets chains strip.0 };
+
+    fn region(&self) -> Rect
+        ensures { result ≡ self.now.0 }
+    {
+        self.0
+    }
+
+    fn hits(&self, items: &Segments<'a>, i: u32) -> bool {
+        self.0.meets(Rect::of(items.map().segment(i)))
+    }
+}
+
 /// The segments that the ray from a point to the east crosses.
 #[derive(Clone, Copy)]
 pub struct Ray(pub Point);

@@ -1,18 +1,31 @@
 //! How often each polygon is near and far over crossed segments.
 
-ghost use Rattle.std.specs.Prelude.{◌≡◌, ℕ, ◌+◌, ◌<◌, ◌^◌, if◌then◌else◌, length, slice_index, All};
+ghost use Rattle.std.specs.Prelude.{◌≡◌, ℕ, ◌+◌, ◌<◌, ◌≤◌, ◌^◌, if◌then◌else◌, length, slice_index, All, IfOk};
 ghost use Rattle.tl_map.specs.Segments.{segments_before};
 ghost use Rattle.tl_inside.specs.Inside.{is_polygon};
-ghost use Rattle.tl_inside.specs.Keeping.Tallies.{AreTallies};
+ghost use Rattle.tl_inside.specs.Keeping.Tallies.{AreTallies, AreNone};
 
 use crate::flanks::flanks_of;
+use std::alloc::Global;
 use tl_map::{Map, Side};
+use tl_tree::Memory;
+
+/// So many counts of nothing.
+pub fn no_counts(alloc: Global, polygons: usize) -> Result<Vec<u64>, Memory>
+    ensures long { IfOk result (λ counts. length counts.items ≡ polygons) }
+    ensures none { IfOk result (λ counts. AreNone counts.items) }
+{
+    match vec![in alloc; 0u64; polygons] {
+        Ok(counts) => Ok(counts),
+        Err(_) => Err(Memory),
+    }
+}
 
 /// Counts of each polygon how many of the crossed segments have it near, and how many have it far; no count is there yet.
 pub fn tally(map: &Map, crossed: &[u32], near: &mut [u64], far: &mut [u64])
     requires known { All (λ s. s < segments_before map.now.chains (length map.now.chains)) crossed.now }
-    requires no_near { (p : ℕ) → p < length near.old → slice_index near.old p ≡ 0 }
-    requires no_far { (p : ℕ) → p < length far.old → slice_index far.old p ≡ 0 }
+    requires no_near { AreNone near.old }
+    requires no_far { AreNone far.old }
     ensures nears { length near.new ≡ length near.old }
     ensures fars { length far.new ≡ length far.old }
     ensures tallies { AreTallies map.now.chains crossed.now near.new far.new }
@@ -21,6 +34,22 @@ pub fn tally(map: &Map, crossed: &[u32], near: &mut [u64], far: &mut [u64])
         let flanks = flanks_of(map, crossed[place]);
         count(near, flanks.near);
         count(far, flanks.far);
+    }
+}
+
+/// Takes back what was counted.
+pub fn take_back(map: &Map, crossed: &[u32], near: &mut [u64], far: &mut [u64])
+    requires known { All (λ s. s < segments_before map.now.chains (length map.now.chains)) crossed.now }
+    requires tallies { AreTallies map.now.chains crossed.now near.old far.old }
+    ensures nears { length near.new ≡ length near.old }
+    ensures fars { length far.new ≡ length far.old }
+    ensures no_near { AreNone near.new }
+    ensures no_far { AreNone far.new }
+{
+    for place in 0..crossed.len() {
+        let flanks = flanks_of(map, crossed[place]);
+        discount(near, flanks.near);
+        discount(far, flanks.far);
     }
 }
 
@@ -35,6 +64,21 @@ fn count(counts: &mut [u64], side: Side)
         let polygon = polygon as usize;
         if polygon < counts.len() {
             counts[polygon] += 1;
+        }
+    }
+}
+
+/// Counts a side no more, if it is a polygon that there is a count of.
+fn discount(counts: &mut [u64], side: Side)
+    requires counted { (p : ℕ) → p < length counts.old → (if is_polygon p side then 1 else 0) ≤ slice_index counts.old p }
+    ensures long { length counts.new ≡ length counts.old }
+    ensures one_less { (p : ℕ) → p < length counts.old → slice_index counts.new p + (if is_polygon p side then 1 else 0)
+        ≡ slice_index counts.old p }
+{
+    if let Side::Polygon(polygon) = side {
+        let polygon = polygon as usize;
+        if polygon < counts.len() {
+            counts[polygon] -= 1;
         }
     }
 }

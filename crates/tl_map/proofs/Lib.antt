@@ -24,3 +24,4 @@ pub mod SegmentLemmas
 pub mod OneMapLemmas
 pub mod NodeLemmas
 pub mod NumberingLemmas
+pub mod OnceLemmas

@@ -1,5 +1,6 @@
 pub mod Chains
 pub mod TheMap
+pub mod Landmarks
 pub mod Darts
 pub mod Nodes
 pub mod Segments

@@ -53,7 +53,7 @@ impl Model for Map {
 
     ghost use Rattle.tl_map.specs.Faults.{most_polygons, most_landmarks};
     ghost use Rattle.tl_map.specs.Chains.{CompleteChain, IsProper};
-    ghost use Rattle.tl_map.specs.Keeping.Landmarks.{IsRow, landmark_in};
+    ghost use Rattle.tl_map.specs.Keeping.Landmarks.{IsRow, HasPolygonsOf, landmark_in};
     ghost use Rattle.tl_map.specs.Keeping.Mapped.{sided};
     ghost use Rattle.tl_map.specs.Keeping.Numbered.{AreNumberedSegments};
     ghost use Rattle.tl_map.specs.Keeping.Noded.{AreNumberedNodes};
@@ -71,7 +71,8 @@ impl Model for Map {
         × All (IsRow m.linked.items) m.rows.items
         × All (λ (c : CompleteChain). IsProper c.points) m.chains.chains
         × AreNumberedSegments m.chains.chains m.segments
-        × AreNumberedNodes m.chains.chains m.nodes };
+        × AreNumberedNodes m.chains.chains m.nodes
+        × All (HasPolygonsOf (length m.polygons.items) m.linked.items) m.rows.items };
 }
 
 impl Map {
@@ -82,10 +83,12 @@ impl Map {
     ghost use Rattle.tl_map.specs.Darts.{dart_left as dart_left_of, dart_cell as dart_cell_of, Heads};
     ghost use Rattle.tl_map.specs.Faults.{most_polygons, most_landmarks};
     ghost use Rattle.tl_map.specs.Chains.{CompleteChain, IsProper};
-    ghost use Rattle.tl_map.specs.Keeping.Landmarks.{IsRow, landmark_in};
+    ghost use Rattle.tl_map.specs.Keeping.Landmarks.{IsRow, HasPolygonsOf, landmark_in};
     ghost use Rattle.tl_map.specs.Keeping.Mapped.{sided};
     ghost use Rattle.tl_map.specs.Keeping.Noded.{AreNumberedNodes};
     ghost use Rattle.tl_map.specs.Nodes.{AreNodes};
+    ghost use Rattle.tl_map.specs.Landmarks.{ArePolygonsOf};
+    ghost use Rattle.tl_map.specs.TheMap.{MapLandmark};
     ghost use Rattle.tl_geom.specs.declared.point.Point.{Point};
     ghost use Rattle.std.specs.Prelude.{List};
 
@@ -105,6 +108,7 @@ impl Map {
         requires proper { All (λ (c : CompleteChain). IsProper c.points) chains.chains }
         requires segments { AreNumberedSegments chains.chains segments }
         requires nodes { AreNumberedNodes chains.chains nodes }
+        requires linked { All (HasPolygonsOf (length polygons.items) landmarks.linked.items) landmarks.rows.items }
         ensures { result ≡ record {
           chains = sided chains.chains sides.items;
           polygons = polygons.items;
@@ -153,7 +157,9 @@ impl Map {
 
     /// How many landmarks there are.
     pub fn landmarks(&self) -> u32
-        ensures { result ≡ length self.now.landmarks }
+        ensures count { result ≡ length self.now.landmarks }
+        ensures polygons { (l : ℕ) (landmark : MapLandmark) → slice_get self.now.landmarks l ≡ Some landmark →
+            ArePolygonsOf (length self.now.polygons) landmark.polygons }
     {
         self.rows.len() as u32
     }
@@ -191,8 +197,9 @@ impl Map {
     /// A landmark by its number.
     pub fn landmark(&self, l: u32) -> Landmark<'_>
         requires { l < length self.now.landmarks }
-        ensures { slice_get self.now.landmarks l ≡
+        ensures landmark { slice_get self.now.landmarks l ≡
             Some (record { land = result.land; point = result.point; polygons = result.polygons.now }) }
+        ensures polygons { ArePolygonsOf (length self.now.polygons) result.polygons.now }
     {
         let row = self.rows[l as usize];
         Landmark {

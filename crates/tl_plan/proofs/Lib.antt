@@ -1,4 +1,5 @@
 -- Lemmas on words and plans.
 pub mod BudgetLemmas
 pub mod PlansLemmas
+pub mod PointLemmas
 pub mod WordsLemmas

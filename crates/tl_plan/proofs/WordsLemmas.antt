@@ -17,10 +17,13 @@ use Rattle.clap.specs.declared.error.kind.ErrorKind.TheVariants.{OutOfMemory}
 use Rattle.clap.proofs.OnLiterals.{clap_on_literals}
 use Rattle.tl_plan.specs.declared.plan.PlanStop.{PlanStop}
 use Rattle.tl_plan.specs.declared.plan.PlanStop.TheVariants.{Usage, Help, Memory}
-use Rattle.tl_plan.specs.CommandLine.{command_line, IsStopOf, StopsPlanning, Request, request_in, named_in, convert_name, check_name, show_name, landmarks_name}
-use Rattle.tl_plan.specs.CommandLine.{IsConversionOf, IsPlanOf, IsWhole, IsBudget, AreAUse, HasMistake}
+use Rattle.tl_geom.specs.declared.point.Point.{Point}
+use Rattle.tl_plan.specs.Points.{Spells}
+use Rattle.tl_plan.specs.Commands.{command_line, convert_name, check_name, locate_name, show_name, landmarks_name}
+use Rattle.tl_plan.specs.CommandLine.{IsStopOf, StopsPlanning, Request, request_in, named_in}
+use Rattle.tl_plan.specs.CommandLine.{IsConversionOf, IsPlanOf, IsWhole, HasFiles, IsBudget, AreAUse, HasMistake, AskFor}
 use Rattle.tl_plan.specs.declared.plan.Plan.{Plan}
-use Rattle.tl_plan.specs.declared.plan.Plan.TheVariants.{Show, Landmarks, Convert, Check}
+use Rattle.tl_plan.specs.declared.plan.Plan.TheVariants.{Show, Landmarks, Locate, Convert, Check}
 
 pub is_simple-command_line : is_simple command_line ≡ true
 unfolding clap_on_literals
@@ -69,6 +72,10 @@ not_given o given text same none is = cc (ap (option_map (λ v. v.now)) none, sa
 pub is_given : (o : Option (Bor Text)) (given : Option Text) (v : Bor Text) → option_map (λ v. v.now) o ≡ given → o ≡ Some v → given ≡ Some v.now
 is_given o given v same is = sym same ∙ ap (option_map (λ v. v.now)) is
 
+-- what was given is one text
+pub same_given : (given : Option Text) (one two : Text) → given ≡ Some one → given ≡ Some two → one ≡ two
+same_given given one two first second = cc (first, second)
+
 -- the command that was found, with its rows
 both_found : (found : Option (Text × List Row)) (name : Text) (rows : List Row) → option_map (λ p. p.0) found ≡ Some name → option_map (λ p. p.1) found ≡ Some rows → found ≡ Some (name, rows)
 both_found None name rows named has = absurd (no_name name named)
@@ -94,6 +101,7 @@ conversion_plan found rows (Some (Convert from to)) named has is =
     record { given = request_in (convert_name, rows); same = ap named_in (both_found found convert_name rows named has); named = refl; from = is.0; to = is.1 }
 conversion_plan found rows (Some (Show options files)) named has is = absurd is
 conversion_plan found rows (Some (Landmarks options files)) named has is = absurd is
+conversion_plan found rows (Some (Locate point options files)) named has is = absurd is
 conversion_plan found rows (Some (Check from budget options files)) named has is = absurd is
 conversion_plan found rows None named has is = λ whole.
     let same = ap named_in (both_found found convert_name rows named has) in
@@ -103,9 +111,12 @@ conversion_plan found rows None named has is = λ whole.
       | inr (inl both) ↦
           let e = is_request _ _ both.2.same in
           is both.0 both.1 (ap (λ r. r.cert) e ∙ both.2.from) (ap (λ r. r.out) e ∙ both.2.to)
-      | inr (inr check) ↦
+      | inr (inr (inl check)) ↦
           let e = is_request _ _ check.same in
           cc (ap (λ r. r.command) e, check.named)
+      | inr (inr (inr place)) ↦
+          let e = is_request _ _ place.same in
+          cc (ap (λ r. r.command) e, place.named)
     ]
 
 -- the plan of the command that was found
@@ -114,22 +125,45 @@ pub found_plan : (found : Option (Text × List Row)) (name : Text) (rows : List 
     → IsPlanOf (Some (request_in (name, rows))) plan → IsPlanOf (named_in found) plan
 found_plan found name rows plan named has is = subst (λ request. IsPlanOf request plan) (sym (ap named_in (both_found found name rows named has))) is
 
+-- no command that takes files alone has another's name
+no_listing : (given : Request) (name : Text) → given.command ≡ name → (name ≡ show_name → ⊥) → (name ≡ landmarks_name → ⊥) → HasFiles (Some given) → ⊥
+no_listing given name named no_show no_landmarks files = go files.named
+  where
+    same : given.command ≡ files.given.command
+    same = ap (λ r. r.command) (is_request _ _ files.same)
+
+    go : (files.given.command ≡ show_name) ⊎ (files.given.command ≡ landmarks_name) → ⊥
+    go (inl shows) = no_show (sym named ∙ same ∙ shows)
+    go (inr lists) = no_landmarks (sym named ∙ same ∙ lists)
+
 -- a check lacks its certificate, or a number of tests that is spelt as one, or a file
 pub no_check : (given : Request) → given.command ≡ check_name
     → ((cert : Text) (budget : ℕ) (files : List Text) → given.cert ≡ Some cert → IsBudget given.tests budget → given.files ≡ Some files → 0 < length files → ⊥)
     → IsWhole (Some given) → ⊥
-no_check given named lacks (inl files) = named_otherwise given.command named (ap (λ r. r.command) (is_request _ _ files.same)) files.named
-  where
-    named_otherwise : (name : Text) → name ≡ check_name → name ≡ files.given.command
-        → (files.given.command ≡ show_name) ⊎ (files.given.command ≡ landmarks_name) → ⊥
-    named_otherwise name is same (inl shows) = cc (is, same, shows)
-    named_otherwise name is same (inr lists) = cc (is, same, lists)
+no_check given named lacks (inl files) = no_listing given check_name named (λ e. cc e) (λ e. cc e) files
 no_check given named lacks (inr (inl both)) = cc (ap (λ r. r.command) (is_request _ _ both.2.same), both.2.named, named)
-no_check given named lacks (inr (inr check)) =
+no_check given named lacks (inr (inr (inl check))) =
     let e = is_request _ _ check.same in
     lacks check.cert check.budget check.files (ap (λ r. r.cert) e ∙ check.by)
     (subst (λ (tests : Option Text). IsBudget tests check.budget) (sym (ap (λ r. r.tests) e)) check.tests)
     (ap (λ r. r.files) e ∙ check.are) check.some_file
+no_check given named lacks (inr (inr (inr place))) = cc (ap (λ r. r.command) (is_request _ _ place.same), place.named, named)
+
+-- a question of a point lacks a word that spells one, or a file
+pub no_locate : (given : Request) → given.command ≡ locate_name
+    → ((word : Text) (point : Point) (files : List Text) → given.point ≡ Some word → Spells word point → given.files ≡ Some files → 0 < length files → ⊥)
+    → IsWhole (Some given) → ⊥
+no_locate given named lacks (inl files) = no_listing given locate_name named (λ e. cc e) (λ e. cc e) files
+no_locate given named lacks (inr (inl both)) = cc (ap (λ r. r.command) (is_request _ _ both.2.same), both.2.named, named)
+no_locate given named lacks (inr (inr (inl check))) = cc (ap (λ r. r.command) (is_request _ _ check.same), check.named, named)
+no_locate given named lacks (inr (inr (inr place))) =
+    let e = is_request _ _ place.same in
+    lacks place.word place.point place.files (ap (λ r. r.point) e ∙ place.at) place.spelt
+    (ap (λ r. r.files) e ∙ place.are) place.some_file
+
+-- words that name a plan
+pub one_plan : (words : List Text) (found : Option (Text × List Row)) (plan : Plan) → found ≡ subcommand_of command_line words → IsPlanOf (named_in found) (Some plan) → AskFor words plan
+one_plan words found plan is made = subst (λ f. IsPlanOf (named_in f) (Some plan)) is made
 
 -- words that clap takes, and that name no plan
 pub no_plan : (words : List Text) (found : Option (Text × List Row)) → found ≡ subcommand_of command_line words → IsPlanOf (named_in found) None → fault_of command_line words ≡ []

@@ -1,102 +1,32 @@
--- The program's command line: the commands that it tells `clap` of, and what words mean by them. How a simple command's
--- words are read is clap's own definition: `subcommand_of` (the command that the words name, with its arguments),
--- `takes` (whether the words are a use of it) and `fault_of` (which kinds of error they are, if they aren't).
+-- What the words of the command line mean. How a simple command's words are read is clap's own definition: `subcommand_of`
+-- (the command that the words name, with its arguments), `takes` (whether the words are a use of it) and `fault_of` (which
+-- kinds of error they are, if they aren't).
 use Rattle.std.specs.Prelude.{◌≡◌, ◌≢◌, ◌<◌, ◌≤◌, ◌↔◌, ◌⊎◌, ℕ, true, IsTrue, List, [], Option, Some, None, length, map, option_map, ⊤}
 use Rattle.std.specs.Prelude.{codes, decimal, string_bytes}
-use Rattle.clap.specs.Lexer.{usize_max}
-use Rattle.clap.specs.Simple.{App, new_app, new_rule, with_rule, with_subcommand, on_top, subcommand_of}
-use Rattle.clap.specs.Walk.{Row, Rule, Text, all_of, first_of}
+use Rattle.clap.specs.Simple.{subcommand_of}
+use Rattle.clap.specs.Walk.{Row, Text, all_of, first_of}
 use Rattle.clap.specs.Takes.{takes}
 use Rattle.clap.specs.Faults.{fault_of}
 use Rattle.clap.specs.Kinds.{Kinds, IsAmong}
-use Rattle.clap.specs.declared.builder.action.ArgAction.TheVariants.{Append, SetTrue}
 use Rattle.clap.specs.declared.error.kind.ErrorKind.{ErrorKind}
 use Rattle.clap.specs.declared.error.kind.ErrorKind.TheVariants.{DisplayHelp, DisplayVersion, OutOfMemory}
+use Rattle.tl_geom.specs.declared.point.Point.{Point}
 use Rattle.tl_plan.specs.declared.plan.Plan.{Plan}
 use Rattle.tl_record.specs.declared.options.Options.{Options}
-use Rattle.tl_plan.specs.declared.plan.Plan.TheVariants.{Show, Landmarks, Convert, Check}
+use Rattle.tl_plan.specs.declared.plan.Plan.TheVariants.{Show, Landmarks, Locate, Convert, Check}
 use Rattle.tl_plan.specs.declared.plan.PlanStop.{PlanStop}
 use Rattle.tl_plan.specs.declared.plan.PlanStop.TheVariants.{Usage, Help, Memory}
-
--- FILES..: one name or more
-abbrev pub files_argument : Rule
-files_argument = record (new_rule (codes "files")) {
-  action = Some Append;
-  range = Some (record { start_inclusive = 1; end_inclusive = usize_max });
-  value_names = 1;
-  required = true;
-}
-
--- --released: type I lines have the columns of the files that the Census Bureau released
-abbrev pub released_argument : Rule
-released_argument = record (new_rule (codes "released")) { long = Some (codes "released"); action = Some SetTrue }
-
--- --zero-cells: the ids of zero-cells are read
-abbrev pub zero_cells_argument : Rule
-zero_cells_argument = record (new_rule (codes "zero-cells")) { long = Some (codes "zero-cells"); action = Some SetTrue }
-
--- --cert CERT: one name, which has to be given
-abbrev pub cert_argument : Rule
-cert_argument = record (new_rule (codes "cert")) { long = Some (codes "cert"); value_names = 1; required = true }
-
--- --tests N: one number
-abbrev pub tests_argument : Rule
-tests_argument = record (new_rule (codes "tests")) { long = Some (codes "tests"); value_names = 1 }
-
--- a command of this name, with --released and FILES..
-abbrev pub command_on_files : Text → App
-command_on_files name = with_rule (with_rule (new_app name) released_argument) files_argument
-
--- show [--released] FILES..
-abbrev pub show_name : Text
-show_name = codes "show"
-
--- landmarks [--released] FILES..
-abbrev pub landmarks_name : Text
-landmarks_name = codes "landmarks"
-
--- CERT and OUT: one name each
-abbrev pub name_argument : Text → Rule
-name_argument id = record (new_rule id) { value_names = 1; required = true }
-
--- convert CERT OUT
-abbrev pub convert_name : Text
-convert_name = codes "convert"
-
-abbrev pub conversion_app : App
-conversion_app = with_rule (with_rule (new_app convert_name) (name_argument (codes "cert"))) (name_argument (codes "out"))
-
--- check --cert CERT [--tests N] [--zero-cells] [--released] FILES..
-abbrev pub check_name : Text
-check_name = codes "check"
-
--- check with what stands before its --released and FILES..
-abbrev pub check_options : App
-check_options = with_rule (with_rule (with_rule (new_app check_name) cert_argument) tests_argument) zero_cells_argument
-
-abbrev pub check_app : App
-check_app = with_rule (with_rule check_options released_argument) files_argument
-
--- the program, whose words begin behind its own name, which has a version, and which wants a command
-abbrev pub program : App
-program =
-    on_top (λ top. record top { no_binary_name = true; has_version = true; subcommand_required = true })
-    (new_app (codes "tigertopo"))
-
--- the commands that take files and nothing else but --released
-abbrev pub with_listings : App
-with_listings = with_subcommand (with_subcommand program (command_on_files show_name).top) (command_on_files landmarks_name).top
-
-abbrev pub command_line : App
-command_line = with_subcommand (with_subcommand with_listings check_app.top) conversion_app.top
+use Rattle.tl_plan.specs.Commands.{command_line, show_name, landmarks_name, locate_name, convert_name, check_name}
+use Rattle.tl_plan.specs.Points.{Spells}
 
 -- a command; what was given for its FILES, if anything was, and the values of its --released and its --zero-cells, each of
--- which is the word true where the switch is given; and what was given for its CERT, its OUT and its --tests
+-- which is the word true where the switch is given; and what was given for its @X,Y, its CERT, its OUT and its --tests
 pub record Request : Type 0 where
   pub command : Text
   pub files : Option (List Text)
   pub released : Option Text
   pub zero_cells : Option Text
+  pub point : Option Text
   pub cert : Option Text
   pub out : Option Text
   pub tests : Option Text
@@ -108,6 +38,7 @@ request_in found = record {
   files = all_of (codes "files") found.1;
   released = first_of (codes "released") found.1;
   zero_cells = first_of (codes "zero-cells") found.1;
+  point = first_of (codes "point") found.1;
   cert = first_of (codes "cert") found.1;
   out = first_of (codes "out") found.1;
   tests = first_of (codes "tests") found.1;
@@ -124,6 +55,7 @@ named_command words = named_in (subcommand_of command_line words)
 abbrev pub command_of : Plan → Text
 command_of (Show options files) = show_name
 command_of (Landmarks options files) = landmarks_name
+command_of (Locate point options files) = locate_name
 command_of (Convert cert made) = convert_name
 command_of (Check cert budget options files) = check_name
 
@@ -131,6 +63,7 @@ command_of (Check cert budget options files) = check_name
 abbrev pub files_of : Plan → List Text
 files_of (Show options files) = map string_bytes files.items
 files_of (Landmarks options files) = map string_bytes files.items
+files_of (Locate point options files) = map string_bytes files.items
 files_of (Convert cert made) = []
 files_of (Check cert budget options files) = map string_bytes files.items
 
@@ -158,6 +91,18 @@ pub record AsksOfFiles (request : Option Request) (command : Text) (options : Op
   pub chosen : AreChosen given.released None options
   pub some_file : 0 < length files
 
+-- the request asks where this point lies, in these files word for word and in their order, with this switch
+pub record AsksToLocate (request : Option Request) (point : Point) (options : Options) (files : List Text) : Type 0 where
+  pub given : Request
+  pub word : Text
+  pub same : request ≡ Some given
+  pub named : given.command ≡ locate_name
+  pub at : given.point ≡ Some word
+  pub spelt : Spells word point
+  pub chosen : AreChosen given.released None options
+  pub are : given.files ≡ Some files
+  pub some_file : 0 < length files
+
 -- the request names a conversion of this certificate to that one, word for word
 pub record AsksToConvert (request : Option Request) (cert made : Text) : Type 0 where
   pub given : Request
@@ -182,6 +127,7 @@ pub record AsksToCheck (request : Option Request) (cert : Text) (budget : ℕ) (
 abbrev pub IsFor : Option Request → Plan → Type 0
 IsFor request (Show options files) = AsksOfFiles request show_name options (map string_bytes files.items)
 IsFor request (Landmarks options files) = AsksOfFiles request landmarks_name options (map string_bytes files.items)
+IsFor request (Locate point options files) = AsksToLocate request point options (map string_bytes files.items)
 IsFor request (Convert cert made) = AsksToConvert request (string_bytes cert) (string_bytes made)
 IsFor request (Check cert budget options files) =
     AsksToCheck request (string_bytes cert) budget options (map string_bytes files.items)
@@ -208,9 +154,24 @@ pub record IsCheck (request : Option Request) : Type 0 where
   pub are : given.files ≡ Some files
   pub some_file : 0 < length files
 
--- the request names a command of the program, and what it wants: files, two certificates, or a certificate and files
+-- the request asks where a point lies, in some file
+pub record IsLocate (request : Option Request) : Type 0 where
+  pub given : Request
+  pub word : Text
+  pub point : Point
+  pub files : List Text
+  pub same : request ≡ Some given
+  pub named : given.command ≡ locate_name
+  pub at : given.point ≡ Some word
+  pub spelt : Spells word point
+  pub are : given.files ≡ Some files
+  pub some_file : 0 < length files
+
+-- the request names a command of the program, and what it wants: files, two certificates, a certificate and files, or a
+-- point and files
 abbrev pub IsWhole : Option Request → Type 0
-IsWhole request = HasFiles request ⊎ (((cert : Text) × (made : Text) × AsksToConvert request cert made) ⊎ IsCheck request)
+IsWhole request =
+    HasFiles request ⊎ (((cert : Text) × (made : Text) × AsksToConvert request cert made) ⊎ (IsCheck request ⊎ IsLocate request))
 
 -- the plan that a request is for, if it is for one
 abbrev pub IsPlanOf : Option Request → Option Plan → Type 0
@@ -222,6 +183,7 @@ abbrev pub IsConversionOf : Option Text → Option Text → Option Plan → Type
 IsConversionOf cert out (Some (Convert from to)) = (cert ≡ Some (string_bytes from)) × (out ≡ Some (string_bytes to))
 IsConversionOf cert out (Some (Show options files)) = ⊥
 IsConversionOf cert out (Some (Landmarks options files)) = ⊥
+IsConversionOf cert out (Some (Locate point options files)) = ⊥
 IsConversionOf cert out (Some (Check from budget options files)) = ⊥
 IsConversionOf cert out None = (from to : Text) → cert ≡ Some from → out ≡ Some to → ⊥
 
@@ -253,7 +215,7 @@ abbrev pub HasAnswer : Kinds → Type 0
 HasAnswer kinds = (kind : ErrorKind) × IsAmong kind kinds × IsAnswer kind
 
 -- Why the words make no plan: they are no use of a command, and either a mistake, a wish for help or for the version, or
--- taken by clap, as those with a budget that is no number; or memory was refused.
+-- taken by clap, as those with a budget that is no number or a point that isn't spelt as one; or memory was refused.
 abbrev pub StopsPlanning : List Text → PlanStop → Type 0
 StopsPlanning words (Usage text) = (¬ AreAUse words) × (HasMistake (fault_of command_line words) ⊎ (fault_of command_line words ≡ []))
 StopsPlanning words (Help text) = (¬ AreAUse words) × HasAnswer (fault_of command_line words)

@@ -1,4 +1,6 @@
 -- What the contracts of plans cite.
+pub mod Commands
+pub mod Points
 pub mod CommandLine
 pub mod Plans
 pub mod Spelling

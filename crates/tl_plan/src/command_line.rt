@@ -4,74 +4,20 @@ ghost use Rattle.std.specs.Prelude.{◌≡◌, false, IfOk};
 ghost use Rattle.clap.specs.Simple.{app_of, with_subcommand};
 ghost use Rattle.clap.specs.Walk.{rule_of};
 ghost use Rattle.clap.specs.declared.builder.command.Command.TheViews.{out-Command as fields_of};
-ghost use Rattle.tl_plan.specs.CommandLine.{program, command_line, command_on_files as app_on_files};
-ghost use Rattle.tl_plan.specs.CommandLine.{released_argument as released_rule, files_argument as files_rule};
-ghost use Rattle.tl_plan.specs.CommandLine.{cert_argument as cert_rule, tests_argument as tests_rule};
-ghost use Rattle.tl_plan.specs.CommandLine.{zero_cells_argument as zero_cells_rule, check_options, check_app};
-ghost use Rattle.tl_plan.specs.CommandLine.{conversion_app, name_argument as name_rule};
+ghost use Rattle.tl_plan.specs.Commands.{program, command_line, command_on_files as app_on_files};
+ghost use Rattle.tl_plan.specs.Commands.{released_argument as released_rule, files_argument as files_rule};
+ghost use Rattle.tl_plan.specs.Commands.{cert_argument as cert_rule, tests_argument as tests_rule};
+ghost use Rattle.tl_plan.specs.Commands.{zero_cells_argument as zero_cells_rule, check_options, check_app};
+ghost use Rattle.tl_plan.specs.Commands.{locate_app, conversion_app, name_argument as name_rule};
 
+use crate::help::{
+    ABOUT, CHECK_ABOUT, CHECK_EXAMPLE, CONVERT_ABOUT, CONVERT_EXAMPLE, EXAMPLES, LANDMARKS_ABOUT,
+    LANDMARKS_EXAMPLE, LOCATE_ABOUT, LOCATE_EXAMPLE, SHOW_ABOUT, SHOW_EXAMPLE,
+};
 use clap::{Arg, ArgAction, Command};
 use std::alloc::{AllocError, Global};
 
 const VERSION: &str = "0.1.0";
-
-const ABOUT: &str = "Checks the topology of TIGER/Line 2006 record files";
-
-const EXAMPLES: &str = "\
-Examples:
-  tigertopo show TGR24001.RT1 TGR24001.RT2    prints each chain's TLID and points
-  tigertopo landmarks --released TGR24001.RT* prints each landmark and its polygons
-  tigertopo check --cert A.CERT TGR24001.RT*  decides whether the map is sound
-  tigertopo convert OLD.CERT NEW.CERT         writes a certificate anew in version 2
-
-Exit status:
-  0   done or sound, or help was asked for
-  1   the map has a fault
-  2   the certificate has a fault
-  3   a record is refused
-  4   memory ran out, a file or the output failed, or the budget is used up
-  64  the words are no command";
-
-const SHOW_ABOUT: &str =
-    "Prints the TLID and the points of each chain, by rising TLID, and then their counts";
-
-const SHOW_EXAMPLE: &str = "\
-Each chain is a line `tlid T X,Y X,Y ..`, in millionths of a degree, and the last line is
-`chains=C segments=S skipped=K`, where K counts the lines that hold no record.
-
-Example:
-  tigertopo show TGR24001.RT1 TGR24001.RT2";
-
-const LANDMARKS_ABOUT: &str =
-    "Prints each landmark with its polygons, in the order of the landmarks' first records";
-
-const LANDMARKS_EXAMPLE: &str = "\
-Each landmark is a line `land N area polygons P P ..` or `land N point X,Y polygons P ..`, where a
-polygon is its CENID (each blank as _), `/` and its POLYID, and no polygon is `none`. The last line
-is `landmarks=K`.
-
-Example:
-  tigertopo landmarks --released TGR24001.RT*";
-
-const CHECK_ABOUT: &str = "Decides by a certificate whether the map is sound";
-
-const CHECK_EXAMPLE: &str = "\
-Of a sound map the line is `sound chains=C segments=S nodes=N polygons=P landmarks=L rings=R`. Else it
-is `map fault` or `certificate fault` with a code, a name and what it is about. Nobody has to trust
-CERT: where it isn't right for the map, that is a fault of the certificate.
-
-Example:
-  tigertopo check --cert TGR24001.CERT TGR24001.RT*";
-
-const CONVERT_ABOUT: &str = "Reads a certificate and writes it in version 2";
-
-const CONVERT_EXAMPLE: &str = "\
-OUT is made when CERT was read whole, and a file of that name is written over. The last line is
-`converted nodes=N rounds=M walks=W`; of a text that is no certificate's, `certificate fault K1
-Text line N` with the line that none has.
-
-Example:
-  tigertopo convert OLD.CERT NEW.CERT";
 
 /// The program with its commands.
 pub fn command<'a>(alloc: Global) -> Result<Command<'a>, AllocError>
@@ -86,7 +32,8 @@ pub fn command<'a>(alloc: Global) -> Result<Command<'a>, AllocError>
         LANDMARKS_ABOUT,
         LANDMARKS_EXAMPLE,
     )?;
-    let checks = with_check(alloc, lists)?;
+    let locates = with_locate(alloc, lists)?;
+    let checks = with_check(alloc, locates)?;
     let converts = conversion(alloc)?;
     checks.subcommand(converts)
 }
@@ -133,6 +80,35 @@ fn command_on_files<'a>(
         .about(about)
         .after_help(example)
         .arg(released)?
+        .arg(files)
+}
+
+// The program with one more command, which locates a point.
+fn with_locate<'a>(alloc: Global, program: Command<'a>) -> Result<Command<'a>, AllocError>
+    ensures { IfOk result (λ command. app_of command ≡ with_subcommand (app_of program.entry) locate_app.top) }
+{
+    let command = locate(alloc)?;
+    program.subcommand(command)
+}
+
+/// The command that locates a point.
+pub fn locate<'a>(alloc: Global) -> Result<Command<'a>, AllocError>
+    ensures shape { IfOk result (λ command. app_of command ≡ locate_app) }
+    ensures local { IfOk result (λ command. (fields_of command).has_globals ≡ false) }
+{
+    let released = released_argument(alloc);
+    let point = name_argument(
+        alloc,
+        "point",
+        "@X,Y",
+        "The point, in millionths of a degree",
+    );
+    let files = files_argument(alloc);
+    Command::new(alloc, "locate")
+        .about(LOCATE_ABOUT)
+        .after_help(LOCATE_EXAMPLE)
+        .arg(released)?
+        .arg(point)?
         .arg(files)
 }
 

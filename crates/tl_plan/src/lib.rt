@@ -3,7 +3,10 @@
 
 mod budget;
 mod command_line;
+mod help;
 mod plan;
+mod point;
+mod refusal;
 pub mod words;
 
 pub use plan::{Plan, PlanStop};

@@ -4,6 +4,7 @@ ghost use Rattle.std.specs.Prelude.{◌≡◌};
 ghost use Rattle.tl_plan.specs.declared.plan.PlanStop.TheVariants.{Memory};
 
 use std::alloc::AllocError;
+use tl_geom::Point;
 use tl_record::Options;
 
 /// What the program is asked to do: with record files, which are read one after the other as one text, by the columns
@@ -17,6 +18,12 @@ pub enum Plan {
     },
     /// To print the landmarks with their polygons.
     Landmarks {
+        options: Options,
+        files: Vec<String>,
+    },
+    /// To tell where this point lies.
+    Locate {
+        point: Point,
         options: Options,
         files: Vec<String>,
     },
@@ -46,6 +53,7 @@ impl Plan {
         match self {
             Plan::Show { files, .. } => files.as_slice(),
             Plan::Landmarks { files, .. } => files.as_slice(),
+            Plan::Locate { files, .. } => files.as_slice(),
             Plan::Convert { .. } => &[],
             Plan::Check { files, .. } => files.as_slice(),
         }

@@ -1,26 +1,23 @@
 //! What the words of the command line ask for.
 
 ghost use Rattle.std.specs.Prelude.{◌≡◌, ◌↔◌, IfOk, IfErr, IsTrue, [], codes, map, option_map, unwrap_or, string_bytes};
-ghost use Rattle.clap.specs.Values.{kind_of};
 ghost use Rattle.clap.specs.Simple.{app_of, subcommand_rows_of};
 ghost use Rattle.clap.specs.Walk.{rows_of, all_of, first_of};
 ghost use Rattle.clap.specs.Matches.{found_of};
-ghost use Rattle.tl_plan.specs.CommandLine.{command_line, check_name, request_in, named_in};
-ghost use Rattle.tl_plan.specs.CommandLine.{AreChosen, AskFor, StopsPlanning, IsStopOf, IsPlanOf, IsConversionOf};
-ghost use Rattle.tl_plan.specs.Plans.{plain_text, HasNoEscape, ShowsNoEscape};
+ghost use Rattle.tl_plan.specs.Commands.{command_line, check_name, locate_name};
+ghost use Rattle.tl_plan.specs.CommandLine.{request_in, named_in};
+ghost use Rattle.tl_plan.specs.CommandLine.{AreChosen, AskFor, StopsPlanning, IsPlanOf, IsConversionOf};
+ghost use Rattle.tl_plan.specs.Plans.{ShowsNoEscape};
 
 use crate::budget::budget_of;
-use crate::command_line::{check, command};
+use crate::command_line::command;
 use crate::plan::{Plan, PlanStop};
-use clap::error::ErrorKind;
-use clap::{ArgMatches, Command, Error};
+use crate::point::point_of;
+use crate::refusal::{stop_of, usage_of};
+use clap::{ArgMatches, Command};
 use std::alloc::{AllocError, Global};
 use std::convert::AsStr;
 use tl_record::Options;
-
-// How a number of tests is spelt.
-const SPELLING: &str =
-    "a number from 0 to 18446744073709551615 is wanted, with no sign and no leading zero";
 
 /// The plan that the words after the program's name stand for. `PlanStop::Usage` comes for words that are no command
 /// of the program, no words among them, and `PlanStop::Help` for those that ask for help or for the version; both come
@@ -54,36 +51,9 @@ fn plan_by<'a, S: AsStr>(
     };
     match plan_of(alloc, &matches)? {
         Some(plan) => Ok(plan),
-        // The words name a check with a number that isn't spelt so: clap has refused others before.
+        // The words name a number or a point that isn't spelt so: clap has refused others before.
         None => Err(PlanStop::Usage(usage_of(alloc, command, &matches)?)),
     }
-}
-
-// What is wrong with words that `clap` takes and that are no plan.
-fn usage_of(
-    alloc: Global,
-    command: &mut Command<'_>,
-    matches: &ArgMatches<'_>,
-) -> Result<String, AllocError>
-    ensures { IfOk result HasNoEscape }
-{
-    if let Some(check) = matches.subcommand_matches("check") {
-        if let Some(tests) = check.get_str("tests") {
-            return misspelt(alloc, tests);
-        }
-    }
-    let usage = command.render_usage()?;
-    without_escapes(alloc, usage.as_str())
-}
-
-// What is wrong with a number of tests that isn't spelt as one.
-fn misspelt(alloc: Global, tests: &str) -> Result<String, AllocError>
-    ensures { IfOk result HasNoEscape }
-{
-    let wrong = format!(in alloc; "invalid value '{tests}' for '--tests <N>': {SPELLING}")?;
-    let mut command = check(alloc)?.bin_name("tigertopo check")?;
-    let error = command.error(ErrorKind::ValueValidation, wrong.as_str())?;
-    text_of(alloc, &error)
 }
 
 // The plan that the matches stand for, where they name a command with files.
@@ -105,6 +75,9 @@ fn plan_of(alloc: Global, matches: &ArgMatches<'_>) -> Result<Option<Plan>, Allo
         }
         let options = options_of(landmarks, None);
         return Ok(Some(Plan::Landmarks { options, files }));
+    }
+    if let Some(locate) = matches.subcommand_matches("locate") {
+        return locate_of(alloc, locate);
     }
     if let Some(check) = matches.subcommand_matches("check") {
         return check_of(alloc, check);
@@ -129,6 +102,27 @@ fn conversion_of(alloc: Global, command: &ArgMatches<'_>) -> Result<Option<Plan>
     Ok(Some(Plan::Convert {
         cert: String::from_str(alloc, cert)?,
         made: String::from_str(alloc, made)?,
+    }))
+}
+
+// What the command's words ask of a point, where they spell one.
+fn locate_of(alloc: Global, command: &ArgMatches<'_>) -> Result<Option<Plan>, AllocError>
+    ensures { IfOk result (IsPlanOf (Some (request_in (locate_name, rows_of (found_of command.now))))) }
+{
+    let Some(word) = command.get_str("point") else {
+        return Ok(None);
+    };
+    let Some(point) = point_of(word) else {
+        return Ok(None);
+    };
+    let files = files_of(alloc, command)?;
+    if files.is_empty() {
+        return Ok(None);
+    }
+    Ok(Some(Plan::Locate {
+        point,
+        options: options_of(command, None),
+        files,
     }))
 }
 
@@ -181,41 +175,6 @@ fn is_set(value: Option<&str>) -> bool
         Some(text) => text == "true",
         None => false,
     }
-}
-
-// Why there is no plan where clap gives this error.
-fn stop_of(alloc: Global, error: &Error) -> PlanStop
-    ensures stop { IsStopOf (kind_of error.now) result }
-    ensures texts { ShowsNoEscape result }
-{
-    if error.kind() == ErrorKind::OutOfMemory {
-        return PlanStop::Memory;
-    }
-    let Ok(text) = text_of(alloc, error) else {
-        return PlanStop::Memory;
-    };
-    if error.use_stderr() {
-        PlanStop::Usage(text)
-    } else {
-        PlanStop::Help(text)
-    }
-}
-
-fn text_of(alloc: Global, error: &Error) -> Result<String, AllocError>
-    ensures { IfOk result HasNoEscape }
-{
-    let text = error.to_string(alloc)?;
-    without_escapes(alloc, text.as_str())
-}
-
-// A word can hold an escape sequence, which a terminal would obey.
-fn without_escapes(alloc: Global, text: &str) -> Result<String, AllocError>
-    ensures text { IfOk result (λ plain. string_bytes plain ≡ plain_text text.now) }
-    ensures no_escape { IfOk result HasNoEscape }
-{
-    let mut plain = String::from_str(alloc, text)?;
-    plain.retain(|c| c != '\u{1b}');
-    Ok(plain)
 }
 
 fn copied(alloc: Global, texts: &[&str]) -> Result<Vec<String>, AllocError>

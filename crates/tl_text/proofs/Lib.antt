@@ -1,4 +1,5 @@
 -- Lemmas on texts.
 pub mod JoiningLemmas
 pub mod LandmarkLemmas
+pub mod PlaceLemmas
 pub mod PrintingLemmas

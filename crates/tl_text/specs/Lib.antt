@@ -1,3 +1,4 @@
 -- What the contracts of texts cite.
 pub mod Joining
 pub mod Printing
+pub mod Places

@@ -1,6 +1,6 @@
 //! The lines of landmarks.
 
-ghost use Rattle.std.specs.Prelude.{OnOk, encode_utf8};
+ghost use Rattle.std.specs.Prelude.{◌<◌, OnOk, All, encode_utf8, length};
 ghost use Rattle.std.specs.Io.KnownBytes.{Appends, append_known};
 ghost use Rattle.tl_record.specs.KeyText.{key_text};
 ghost use Rattle.tl_text.specs.Printing.{polygon_text, listed_text, polygons_text, place_text, landmark_text};
@@ -45,6 +45,7 @@ fn print_landmark<S: Sink>(
     buffer: &mut OutputBuffer,
     out: &mut S,
 ) -> io::Result<()>
+    requires { All (λ p. p < length map.now.polygons) landmark.now.polygons.now }
     ensures bytes { OnOk result (Appends (append_known (S.contents out.old) buffer.old)
         (append_known (S.contents out.new) buffer.new)
         (landmark_text map.now.polygons
@@ -78,12 +79,14 @@ fn print_place<S: Sink>(
     }
 }
 
-fn print_listed<S: Sink>(
+/// Writes the keys of the polygons with these numbers, or that there are none. An error says that a write failed.
+pub fn print_listed<S: Sink>(
     map: &Map,
     numbers: &[u32],
     buffer: &mut OutputBuffer,
     out: &mut S,
 ) -> io::Result<()>
+    requires { All (λ p. p < length map.now.polygons) numbers.now }
     ensures bytes { OnOk result (Appends (append_known (S.contents out.old) buffer.old)
         (append_known (S.contents out.new) buffer.new) (listed_text map.now.polygons numbers.now)) }
     ensures failures { CountsFailure (S.failure_count out.old) (S.failure_count out.new) result }
@@ -100,6 +103,7 @@ fn print_polygons<S: Sink>(
     buffer: &mut OutputBuffer,
     out: &mut S,
 ) -> io::Result<()>
+    requires { All (λ p. p < length map.now.polygons) numbers.now }
     ensures bytes { OnOk result (Appends (append_known (S.contents out.old) buffer.old)
         (append_known (S.contents out.new) buffer.new) (polygons_text map.now.polygons numbers.now)) }
     ensures failures { CountsFailure (S.failure_count out.old) (S.failure_count out.new) result }
@@ -116,14 +120,11 @@ fn print_polygon<S: Sink>(
     buffer: &mut OutputBuffer,
     out: &mut S,
 ) -> io::Result<()>
+    requires { number < length map.now.polygons }
     ensures bytes { OnOk result (Appends (append_known (S.contents out.old) buffer.old)
         (append_known (S.contents out.new) buffer.new) (polygon_text map.now.polygons number)) }
     ensures failures { CountsFailure (S.failure_count out.old) (S.failure_count out.new) result }
 {
-    // A landmark's polygons are polygons of its map.
-    if number >= map.polygons() {
-        return Ok(());
-    }
     buffer.add(b" ", out)?;
     print_key(map.polygon(number).key, buffer, out)
 }

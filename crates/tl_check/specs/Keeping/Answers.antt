@@ -1,9 +1,5 @@
--- Answers and reports, before anything is shown of them.
-use Rattle.std.specs.Prelude.{◌≡◌, ℕ, List, length, Ok, Err}
-use Rattle.tl_geom.specs.declared.point.Point.{Point}
-use Rattle.tl_map.specs.TheMap.{TheMap}
-use Rattle.tl_map.specs.Nodes.{AreNodes}
-use Rattle.tl_check.specs.declared.verdict.Report.{Report}
+-- Answers, before anything is shown of them.
+use Rattle.std.specs.Prelude.{Ok, Err}
 use Rattle.tl_check.specs.declared.verdict.Verdict.TheVariants as verdict
 use Rattle.tl_check.specs.declared.stop.Stop.TheVariants as stop
 use Rattle.tl_check.specs.declared.state.Halt.{Halt}
@@ -14,7 +10,6 @@ use Rattle.tl_check.specs.declared.fault.MapFault.TheVariants as of_map
 use Rattle.tl_cert.specs.declared.stop.CertStop.{CertStop}
 use Rattle.tl_cert.specs.declared.stop.CertStop.TheVariants as cert
 use Rattle.tl_check.specs.declared.fault.CertFault.TheVariants as fault
-use Rattle.tl_check.specs.Valid.{segments_of}
 use Rattle.tl_check.specs.Verdicts.{Answer}
 
 -- the answer where no further part is looked at
@@ -35,12 +30,3 @@ refusal_of (map.Refused line cause) = Err (stop.Record line cause)
 refusal_of map.Device = Err stop.Device
 refusal_of map.Memory = Err stop.Memory
 refusal_of (map.Fault f) = Ok (verdict.MapFault (of_map.Records f))
-
--- the report has the map's numbers, and so many rings
-pub record AreNumbers (m : TheMap) (rings : ℕ) (r : Report) : Type 0 where
-  pub chains : r.chains ≡ length m.chains
-  pub segments : r.segments ≡ segments_of m
-  pub nodes : (points : List Point) → AreNodes m.chains points → r.nodes ≡ length points
-  pub polygons : r.polygons ≡ length m.polygons
-  pub landmarks : r.landmarks ≡ length m.landmarks
-  pub rings_are : r.rings ≡ rings

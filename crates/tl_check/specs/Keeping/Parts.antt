@@ -4,6 +4,7 @@ use Rattle.tl_map.specs.TheMap.{TheMap}
 use Rattle.tl_planar.specs.Planar.{IsPlanar}
 use Rattle.tl_planar.specs.Searching.{meeting_segments}
 use Rattle.tl_sides.specs.Sides.{SidesAgree}
+use Rattle.tl_inside.specs.Placed.{ArePlaced}
 use Rattle.tl_cells.specs.Cells.{CellsAgree}
 use Rattle.tl_sides.specs.Lists.{and_list}
 use Rattle.tl_sides.specs.Rounds.{AreRounds, IsRoundFault}
@@ -35,11 +36,13 @@ pub record Continues (c d : TheCertificate) : Type 0 where
   pub more_walks : List (List ℕ)
   pub walks : d.walks ≡ c.walks ++ more_walks
 
--- the counts are the map's, the tree fits its segments, its chains are planar, and its zero-cell ids agree
+-- the counts are the map's, the tree fits its segments, its chains are planar, its polygons' points are where they have
+-- to be, and its zero-cell ids agree
 pub record IsFounded (m : TheMap) (c : TheCertificate) : Type 0 where
   pub counts : AreCounts m c.counts
   pub tree : IsTree m c.tree
   pub planar : IsPlanar m.chains
+  pub points : ArePlaced m
   pub cells : CellsAgree m.chains
 
 -- so far the rounds have no fault, and there are no walks yet
@@ -102,5 +105,6 @@ pub record IsShown (m : TheMap) (c : TheCertificate) (rings : ℕ) : Type 0 wher
   pub valid : IsValid m c
   pub planar : IsPlanar m.chains
   pub sides : SidesAgree m.chains
+  pub points : ArePlaced m
   pub cells : CellsAgree m.chains
   pub counted : rings ≡ length c.walks

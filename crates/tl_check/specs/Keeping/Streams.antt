@@ -5,6 +5,7 @@ use Rattle.tl_map.specs.TheMap.{TheMap}
 use Rattle.tl_planar.specs.Planar.{IsPlanar}
 use Rattle.tl_planar.specs.Searching.{meeting_segments}
 use Rattle.tl_sides.specs.Sides.{SidesAgree}
+use Rattle.tl_inside.specs.Placed.{ArePlaced}
 use Rattle.tl_cells.specs.Cells.{CellsAgree}
 use Rattle.tl_cert.specs.declared.place.Place.{Place}
 use Rattle.tl_cert.specs.declared.place.Place.TheVariants as place
@@ -18,8 +19,7 @@ use Rattle.tl_check.specs.declared.state.State.{State}
 use Rattle.tl_check.specs.Sound.{AreClosed}
 use Rattle.tl_check.specs.Truth.{IsTrueOfMap, IsTrueOfCert}
 use Rattle.tl_check.specs.Texts.{IsTrueOfText, IsValidText}
-use Rattle.tl_check.specs.Verdicts.{Answer, IsReport}
-use Rattle.tl_check.specs.Keeping.Answers.{AreNumbers}
+use Rattle.tl_check.specs.Verdicts.{Answer, IsReport, AreNumbers}
 use Rattle.tl_check.specs.Keeping.Parts.{Holds, TakesRounds, TakesWalks, IsShown}
 
 -- at this place the state takes what may come
@@ -43,6 +43,7 @@ pub record IsSoundBy (m : TheMap) (text : Option (List ℕ)) (r : Report) : Type
   pub planar : IsPlanar m.chains
   pub sides : SidesAgree m.chains
   pub closed : AreClosed m
+  pub points : ArePlaced m
   pub cells : CellsAgree m.chains
   pub report : IsReport m r
   pub valid : IfSome text (IsValidText m)

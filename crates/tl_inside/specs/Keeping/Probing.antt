@@ -35,9 +35,21 @@ holding_meets chains q s lt h = record {
   in_second = subst (λ r. Holds r q) (sym (rect_by_number chains s h.c h.k h.segment h.number h.joins)) (on_holds h.segment q h.on);
 }
 
+-- the rectangle of segment s meets this one
+abbrev pub IsTouching : List MapChain → Rect → ℕ → Type 0
+IsTouching chains strip s = AreMeeting strip (segment_rect chains s)
+
+pub touching_meets : (chains : List MapChain) (strip : Rect) (s : ℕ) → s < segments_before chains (length chains)
+    → IsTouching chains strip s → AreMeeting strip (segment_rect chains s)
+touching_meets chains strip s lt h = h
+
 -- no point lies east of the greatest i32
 abbrev pub AreInReach : List Point → Type 0
 AreInReach points = (k : ℕ) (p : Point) → slice_get points k ≡ Some p → p.x ≤ℤ pos 2147483647
+
+-- no point of a chain does
+abbrev pub ChainsAreInReach : List MapChain → Type 0
+ChainsAreInReach chains = (c : ℕ) (chain : MapChain) → slice_get chains c ≡ Some chain → AreInReach chain.points
 
 -- the ray crosses segment s, and meets its rectangle
 pub record IsReached (chains : List MapChain) (q : Point) (s : ℕ) : Type 0 where

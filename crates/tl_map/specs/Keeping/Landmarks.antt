@@ -16,6 +16,7 @@ use Rattle.tl_map.specs.declared.landmarks.LinkedLandmarks.{LinkedLandmarks}
 use Rattle.tl_map.specs.declared.landmarks.LandmarkRow.{LandmarkRow}
 use Rattle.tl_map.specs.TheMap.{firsts, place_of, linked_to, MapLandmark}
 use Rattle.tl_map.specs.Faults.{most_landmarks}
+use Rattle.tl_map.specs.Landmarks.{ArePolygonsOf}
 use Rattle.tl_map.specs.Keeping.Index.{Numbers}
 
 -- the LANDs of records
@@ -89,6 +90,10 @@ IsRow linked row = row.first + row.count ≤ length linked
 -- the landmark of a row
 abbrev pub landmark_in : List ℕ → LandmarkRow → MapLandmark
 landmark_in linked row = record { land = row.land; point = row.point; polygons = take row.count (drop row.first linked) }
+
+-- the polygons of a row are among n, each once
+abbrev pub HasPolygonsOf : ℕ → List ℕ → LandmarkRow → Type 0
+HasPolygonsOf n linked row = ArePolygonsOf n (landmark_in linked row).polygons
 
 -- the rows are those of the landmarks
 pub record IsLinked (landmarks : List MapLandmark) (linked : List ℕ) (rows : List LandmarkRow) : Type 0 where

@@ -10,6 +10,6 @@ returns c =
       segments = c.segments.ensures;
       nodes = of_each c.args.map.now.chains c.nodes.result nodes.0 nodes.1 nodes.2;
       polygons = c.polygons.ensures;
-      landmarks = c.landmarks.ensures;
+      landmarks = c.landmarks.ensures.count;
       rings_are = refl;
     }

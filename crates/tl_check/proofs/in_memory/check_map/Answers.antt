@@ -94,6 +94,9 @@ returns-in-Ok-end_walks-clause-sides c = (shown c).sides
 pub returns-in-Ok-end_walks-clause-closed : goal.returns-in-Ok-end_walks-clause-closed
 returns-in-Ok-end_walks-clause-closed c = are_closed c.args.map.now c.args.cert.now c.in-Ok-end_walks.rings (shown c)
 
+pub returns-in-Ok-end_walks-clause-points : goal.returns-in-Ok-end_walks-clause-points
+returns-in-Ok-end_walks-clause-points c = (shown c).points
+
 pub returns-in-Ok-end_walks-clause-cells : goal.returns-in-Ok-end_walks-clause-cells
 returns-in-Ok-end_walks-clause-cells c = (shown c).cells
 

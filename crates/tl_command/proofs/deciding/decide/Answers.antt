@@ -8,7 +8,7 @@ pub returns-in-Ok-clause-checked : goal.returns-in-Ok-clause-checked
 returns-in-Ok-clause-checked g c = λ done.
     let status = told_status c.tell_verdict.result DONE c.in-Ok.verdict c.tell_verdict.ensures.status done (λ e. cc e) in
     is_checked (layout_with c.args.options) c.args.budget _ _ _ c.check_with.result c.in-Ok.verdict c.in-Ok.is c.check_with.ensures.planar c.check_with.ensures.sides
-    c.check_with.ensures.closed c.check_with.ensures.cells c.check_with.ensures.within c.check_with.ensures.valid c.check_with.ensures.report
+    c.check_with.ensures.closed c.check_with.ensures.points c.check_with.ensures.cells c.check_with.ensures.within c.check_with.ensures.valid c.check_with.ensures.report
     (sym done ∙ status) (c.tell_verdict.ensures.told status)
 
 pub returns-in-Ok-clause-map_fault : goal.returns-in-Ok-clause-map_fault

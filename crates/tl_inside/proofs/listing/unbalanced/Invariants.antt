@@ -3,5 +3,5 @@ use Rattle.tl_inside.specs.Keeping.Listed.{passing, differ_at}
 use Rattle.tl_inside.proofs.listing.unbalanced.Given as goal
 
 -- those so far are listed
-abbrev pub invariant-loop-polygon : goal.invariant-loop-polygon
-invariant-loop-polygon l = l.listed.items ≡ passing (differ_at l.near l.far) l.polygon
+abbrev pub invariant-loop-p : goal.invariant-loop-p
+invariant-loop-p l = l.listed.items ≡ passing (differ_at l.near l.far) l.p

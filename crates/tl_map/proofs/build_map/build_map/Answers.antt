@@ -3,6 +3,7 @@ use Rattle.std.proofs.lemmas.Result.{err_from_is_err_and}
 use Rattle.tl_map.specs.TheMap.{keys}
 use Rattle.tl_map.specs.Faults.{most_polygons}
 use Rattle.tl_map.proofs.MappedLemmas.{stops_pairing, stops_index, stops_sides, stops_linked, mapped_all, as_many, few_rows}
+use Rattle.tl_map.proofs.OnceLemmas.{rows_once}
 use Rattle.tl_map.proofs.build_map.build_map.Goals as goal
 
 pub pair_sides-requires : goal.pair_sides-requires
@@ -51,6 +52,12 @@ new-requires-clause-within c =
 
 pub new-requires-clause-proper : goal.new-requires-clause-proper
 new-requires-clause-proper c = (c.in_ok-chains.ensures c.requires.0 c.requires.1).proper
+
+pub new-requires-clause-linked : goal.new-requires-clause-linked
+new-requires-clause-linked c =
+    let ks = keys c.args.areas.polygons.items in
+    let index = rw c.deref.ensures.value at c.in_ok-index.ensures.index in
+    rows_once c.args.areas.polygons.items _ _ c.in_ok-linked.linked (c.in_ok-linked.ensures ks index)
 
 pub returns : goal.returns
 returns c = λ rs h k.

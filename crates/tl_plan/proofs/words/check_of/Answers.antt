@@ -5,7 +5,8 @@ use Rattle.std.proofs.lemmas.List.{length-map}
 use Rattle.clap.specs.Walk.{rows_of, all_of, first_of}
 use Rattle.clap.specs.Matches.{found_of}
 use Rattle.clap.proofs.WalkLemmas.{first_value-rows}
-use Rattle.tl_plan.specs.CommandLine.{check_name, request_in, IsBudget, AreChosen}
+use Rattle.tl_plan.specs.Commands.{check_name}
+use Rattle.tl_plan.specs.CommandLine.{request_in, IsBudget, AreChosen}
 use Rattle.tl_plan.proofs.WordsLemmas.{not_given, is_given, were_given, no_check}
 use Rattle.tl_plan.proofs.words.check_of.Goals as goal
 

@@ -6,7 +6,7 @@ use Rattle.clap.specs.Faults.{fault_of, is_simple_and_free}
 use Rattle.clap.specs.Kinds.{HasKind}
 use Rattle.clap.specs.declared.error.kind.ErrorKind.TheVariants.{OutOfMemory}
 use Rattle.tl_plan.specs.CommandLine.{IsPlanOf, named_in}
-use Rattle.tl_plan.proofs.WordsLemmas.{stops_for, no_plan, is_free-command_line, is_simple-command_line}
+use Rattle.tl_plan.proofs.WordsLemmas.{stops_for, one_plan, no_plan, is_free-command_line, is_simple-command_line}
 use Rattle.tl_plan.proofs.words.plan_by.Goals as goal
 
 pub returns-in-Err-clause-stops : goal.returns-in-Err-clause-stops
@@ -27,3 +27,10 @@ returns-clause-stops g c =
     (subst (λ (app : App). is_simple app ≡ true → subcommand_rows_of c.in-Ok.matches ≡ subcommand_of app words) same (λ simple. (c.in-Ok.ensures.ok.2 simple).1) is_simple-command_line)
     (subst (IsPlanOf (named_in (subcommand_rows_of c.in-Ok.matches))) c.in-None.is c.in_ok-plan.ensures)
     (subst (λ (app : App). fault_of app words ≡ []) same (c.in-Ok.ensures.kinds (ap is_simple_and_free same ∙ is_free-command_line)))
+
+pub returns-in-Some-clause-plan : goal.returns-in-Some-clause-plan
+returns-in-Some-clause-plan g c =
+    let words = map g.S.AsStr.text c.args.words.now in
+    one_plan words (subcommand_rows_of c.in-Ok.matches) c.in-Some.plan
+    (subst (λ (app : App). is_simple app ≡ true → subcommand_rows_of c.in-Ok.matches ≡ subcommand_of app words) c.requires (λ simple. (c.in-Ok.ensures.ok.2 simple).1) is_simple-command_line)
+    (subst (IsPlanOf (named_in (subcommand_rows_of c.in-Ok.matches))) c.in-Some.is c.in_ok-plan.ensures)

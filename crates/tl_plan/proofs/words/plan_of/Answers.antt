@@ -3,24 +3,33 @@ use Rattle.std.proofs.lemmas.Result.{IfOk-weaker}
 use Rattle.clap.specs.Simple.{subcommand_rows_of}
 use Rattle.clap.specs.Walk.{rows_of}
 use Rattle.clap.specs.Matches.{found_of}
-use Rattle.tl_plan.specs.CommandLine.{check_name}
+use Rattle.tl_plan.specs.Commands.{check_name, locate_name}
 use Rattle.tl_plan.proofs.WordsLemmas.{conversion_plan, found_plan, name_found}
 use Rattle.tl_plan.proofs.words.plan_of.Goals as goal
 
 pub returns-in-Some-subcommand_matches-2 : goal.returns-in-Some-subcommand_matches-2
 returns-in-Some-subcommand_matches-2 c =
     let found = subcommand_rows_of c.args.matches.now in
-    let rows = rows_of (found_of c.in-Some-subcommand_matches-2.check.now) in
-    IfOk-weaker c.check_of.result _ _
-    (λ plan is. found_plan found check_name rows plan
+    let rows = rows_of (found_of c.in-Some-subcommand_matches-2.locate.now) in
+    IfOk-weaker c.locate_of.result _ _
+    (λ plan is. found_plan found locate_name rows plan
     (name_found c.args.matches.now ∙ c.in-Some-subcommand_matches-2.ensures.found.0 refl) c.in-Some-subcommand_matches-2.ensures.rows is)
-    c.check_of.ensures
+    c.locate_of.ensures
 
 pub returns-in-Some-subcommand_matches-3 : goal.returns-in-Some-subcommand_matches-3
 returns-in-Some-subcommand_matches-3 c =
     let found = subcommand_rows_of c.args.matches.now in
-    let rows = rows_of (found_of c.in-Some-subcommand_matches-3.convert.now) in
+    let rows = rows_of (found_of c.in-Some-subcommand_matches-3.check.now) in
+    IfOk-weaker c.check_of.result _ _
+    (λ plan is. found_plan found check_name rows plan
+    (name_found c.args.matches.now ∙ c.in-Some-subcommand_matches-3.ensures.found.0 refl) c.in-Some-subcommand_matches-3.ensures.rows is)
+    c.check_of.ensures
+
+pub returns-in-Some-subcommand_matches-4 : goal.returns-in-Some-subcommand_matches-4
+returns-in-Some-subcommand_matches-4 c =
+    let found = subcommand_rows_of c.args.matches.now in
+    let rows = rows_of (found_of c.in-Some-subcommand_matches-4.convert.now) in
     IfOk-weaker c.conversion_of.result _ _
     (λ plan is. conversion_plan found rows plan
-    (name_found c.args.matches.now ∙ c.in-Some-subcommand_matches-3.ensures.found.0 refl) c.in-Some-subcommand_matches-3.ensures.rows is)
+    (name_found c.args.matches.now ∙ c.in-Some-subcommand_matches-4.ensures.found.0 refl) c.in-Some-subcommand_matches-4.ensures.rows is)
     c.conversion_of.ensures

@@ -4,7 +4,7 @@ use Rattle.std.specs.Str.{encode_utf8_all}
 use Rattle.std.specs.Prelude.{string_bytes}
 use Rattle.tl_plan.specs.Plans.{escape, plain_text}
 use Rattle.tl_plan.proofs.PlansLemmas.{is_plain, plain_text-chars, All-plain_text}
-use Rattle.tl_plan.proofs.words.without_escapes.Goals as goal
+use Rattle.tl_plan.proofs.refusal.without_escapes.Goals as goal
 
 made_plain : (c : goal.After-retain) → string_bytes c.retain.new.self ≡ plain_text c.args.text.now
 made_plain c =

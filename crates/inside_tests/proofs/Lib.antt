@@ -1,0 +1,6 @@
+pub mod Among
+pub mod Crossing
+pub mod Listing
+pub mod Placing
+pub mod Running
+pub mod Saying

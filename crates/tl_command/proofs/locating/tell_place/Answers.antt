@@ -1,0 +1,4 @@
+use Rattle.tl_command.proofs.locating.tell_place.Goals as goal
+
+pub print_place-requires : goal.print_place-requires
+print_place-requires g c = (c.args.point, c.in-Ok.ensures)

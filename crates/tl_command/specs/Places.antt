@@ -1,0 +1,11 @@
+-- The line of a place.
+use Rattle.std.specs.Prelude.{ℕ, List}
+use Rattle.tl_map.specs.TheMap.{TheMap}
+use Rattle.tl_text.specs.Places.{on_text, inside_text}
+use Rattle.tl_inside.specs.declared.place.Place.{Place}
+use Rattle.tl_inside.specs.declared.place.Place.TheVariants.{OnChain, In}
+
+-- the chain that holds the point, or the polygons and the landmarks that it lies in
+abbrev pub place_text : TheMap → Place → List ℕ
+place_text m (OnChain c) = on_text m.chains c
+place_text m (In polygons landmarks) = inside_text m polygons.items landmarks.items

@@ -1,0 +1,62 @@
+//! Where a point lies.
+
+ghost use Rattle.std.specs.Prelude.{◌≡◌, ◌⊎◌, [], OnOk, IfErr};
+ghost use Rattle.std.specs.Io.KnownBytes.{Appends};
+ghost use Rattle.tl_geom.specs.declared.point.Point.{Point};
+ghost use Rattle.tl_record.specs.Layout.{layout_with};
+ghost use Rattle.tl_output.specs.Writing.{Writes, FailsToWrite, CountsFailure};
+ghost use Rattle.tl_inside.specs.Places.{IsPlaceOf};
+ghost use Rattle.tl_command.specs.Places.{place_text};
+ghost use Rattle.tl_command.specs.Running.{IsLocated, FailsToRead, StopsAnswer, KeepsReads};
+
+use std::alloc::Global;
+use std::io;
+use tl_geom::Point;
+use tl_inside::{Place, locate};
+use tl_map::{Map, MapStop, read_map_with};
+use tl_output::OutputBuffer;
+use tl_record::{Options, Sink, Source};
+use tl_text::{print_inside, print_on_chain};
+use tl_tree::PlainList;
+
+/// Writes where a point lies in the map of the records, by a pass over all segments.
+pub fn tell_place<R: Source, W: Sink>(
+    alloc: Global,
+    point: Point,
+    options: Options,
+    records: &mut R,
+    out: &mut W,
+) -> Result<(), MapStop>
+    ensures answered { OnOk result (IsLocated (layout_with options) point (R.remaining records.old)
+        (Writes W.contents W.failure_count out.old out.new)) }
+    ensures stops { IfErr result (StopsAnswer (layout_with options) (R.remaining records.old)
+        (FailsToRead R.failure_count records.old records.new ⊎ FailsToWrite W.failure_count out.old out.new)
+        (out.new ≡ out.old)) }
+    ensures reads { KeepsReads (R.failure_count records.old) (R.failure_count records.new) result }
+{
+    let map = read_map_with(alloc, records, options)?;
+    let Ok(place) = locate(alloc, &map, &PlainList::new(map.segments()), point) else {
+        return Err(MapStop::Memory);
+    };
+    match print_place(&map, &place, out) {
+        Ok(()) => Ok(()),
+        Err(_) => Err(MapStop::Device),
+    }
+}
+
+// Writes the line of a place.
+fn print_place<W: Sink>(map: &Map, place: &Place, out: &mut W) -> io::Result<()>
+    requires { (point : Point) × IsPlaceOf map.now point place.now }
+    ensures bytes { OnOk result (Appends (W.contents out.old) (W.contents out.new) (place_text map.now place.now)) }
+    ensures failures { CountsFailure (W.failure_count out.old) (W.failure_count out.new) result }
+{
+    let mut buffer = OutputBuffer::new();
+    match place {
+        Place::OnChain(chain) => print_on_chain(map, *chain, &mut buffer, out)?,
+        Place::In {
+            polygons,
+            landmarks,
+        } => print_inside(map, polygons, landmarks, &mut buffer, out)?,
+    }
+    buffer.flush(out)
+}

@@ -1,0 +1,83 @@
+-- What is sifted out of what lies in a strip.
+use Rattle.std.proofs.Common.{◌≡◌, ℕ, ◌+◌, ◌<◌, ◌≤◌, cond, eqb, inl, inr, List, [], ◌∷◌, ◌++◌, length, take, All, sym, subst, ap, ◌∙◌, refl, arith}
+use Rattle.std.specs.Prelude.{slice_index}
+use Rattle.std.proofs.lemmas.Bool.{cases_order}
+use Rattle.std.proofs.lemmas.List.{take_more, take_all}
+use Rattle.tl_geom.specs.declared.point.Point.{Point}
+use Rattle.tl_map.specs.TheMap.{MapChain}
+use Rattle.tl_map.specs.Segments.{segments_before, IsSegmentOf}
+use Rattle.tl_tree.specs.Hits.{times}
+use Rattle.tl_tree.proofs.Hitting.{times-append}
+use Rattle.tl_tree.proofs.Permuted.{times-other}
+use Rattle.tl_planar.proofs.Numbering.{below_total, one_chain}
+use Rattle.tl_inside.specs.Inside.{IsCrossed, AreCrossed}
+use Rattle.tl_inside.specs.Places.{IsHeldBy, IsOffChains}
+use Rattle.tl_inside.specs.Keeping.Probing.{IsHolding}
+use Rattle.tl_inside.specs.Keeping.Strips.{AreEnough}
+use Rattle.tl_inside.specs.Keeping.Sifted.{AreSifted, IsKept}
+use Rattle.tl_inside.proofs.Reaching.{all_below}
+use Rattle.tl_inside.proofs.Holding.{place_of, holder_of}
+
+times-one : (s x : ℕ) → times s (x ∷ []) ≡ cond (eqb s x) 1 0
+times-one s x = let r : times s (x ∷ []) ≡ cond (eqb s x) 1 0 + 0 = refl in r ∙ omega arith
+
+times-more : (s k : ℕ) (xs : List ℕ) → k < length xs → times s (take (k + 1) xs) ≡ times s (take k xs) + times s (slice_index xs k ∷ [])
+times-more s k xs lt = ap (times s) (take_more xs k 0 lt) ∙ times-append s (take k xs) (slice_index xs k ∷ [])
+
+module _ (chains : List MapChain) (q : Point) (hits crossed : List ℕ) (k : ℕ) (lt : k < length hits) (before : AreSifted chains q hits crossed k) (not : ¬ IsHolding chains q (slice_index hits k)) where
+  off_more : (j : ℕ) → j < k + 1 → ¬ IsHolding chains q (slice_index hits j)
+  off_more j less h = elim (cases_order j k) [
+    | inl same ↦ not (subst (λ i. IsHolding chains q (slice_index hits i)) same h)
+    | inr (inl under) ↦ before.off j under h
+    | inr (inr over) ↦ absurd (omega (arith, less, over))
+  ]
+
+  pushed : IsCrossed chains q (slice_index hits k) → AreSifted chains q hits (crossed ++ slice_index hits k ∷ []) (k + 1)
+  pushed is = record {
+    off = off_more;
+    crossing = λ s x. let so = before.crossing s x in let more = times-more s k hits lt in let push = times-append s crossed (slice_index hits k ∷ []) in omega (arith, so, more, push);
+    others = λ s no.
+        let so = before.others s no in
+        let push = times-append s crossed (slice_index hits k ∷ []) in
+        let none : times s (slice_index hits k ∷ []) ≡ 0 = times-other s (slice_index hits k) [] (λ e. no (subst (IsCrossed chains q) (sym e) is)) in
+        omega (arith, so, push, none);
+  }
+
+  passed : ¬ IsCrossed chains q (slice_index hits k) → AreSifted chains q hits crossed (k + 1)
+  passed uncrossed = record {
+    off = off_more;
+    crossing = λ s x.
+        let so = before.crossing s x in
+        let more = times-more s k hits lt in
+        let none : times s (slice_index hits k ∷ []) ≡ 0 = times-other s (slice_index hits k) [] (λ e. uncrossed (subst (IsCrossed chains q) e x)) in
+        omega (arith, so, more, none);
+    others = before.others;
+  }
+
+  pub sifted_more : (new : List ℕ) → IsKept chains q (slice_index hits k) crossed new → AreSifted chains q hits new (k + 1)
+  sifted_more new (inl h) = subst (λ xs. AreSifted chains q hits xs (k + 1)) (sym h.1) (pushed h.0)
+  sifted_more new (inr h) = subst (λ xs. AreSifted chains q hits xs (k + 1)) (sym h.1) (passed h.0)
+
+pub sifted_below : (chains : List MapChain) (q : Point) (hits crossed : List ℕ) (k : ℕ) → AreSifted chains q hits crossed k → All (λ s. s < segments_before chains (length chains)) crossed
+sifted_below chains q hits crossed k sifted =
+    all_below (segments_before chains (length chains)) crossed (λ s past_all. sifted.others s (λ x. let lt = below_total chains s x.c x.k x.number in omega (arith, lt, past_all)))
+
+-- what holds the point is of a chain that does
+pub held_by : (chains : List MapChain) (q : Point) (s c k : ℕ) → IsHolding chains q s → IsSegmentOf chains s c k → IsHeldBy chains q c
+held_by chains q s c k h number =
+    subst (IsHeldBy chains q) (one_chain chains s h.c h.k c k h.number number) (record { chain = h.joins.chain; is = h.joins.is; on = (h.k, record { segment = h.segment; from = h.joins.from; to = h.joins.to; on = h.on }) })
+
+module _ (chains : List MapChain) (q : Point) (hits crossed : List ℕ) (k : ℕ) (past : length hits ≤ k) (sifted : AreSifted chains q hits crossed k) (enough : AreEnough chains q hits) where
+  pub none_holds : IsOffChains chains q
+  none_holds d h =
+      let holder = holder_of chains q d h in
+      let once = enough.held holder.s holder.holding in
+      let at = place_of holder.s hits (omega (arith, once)) in
+      sifted.off at.place (let w = at.within in omega (arith, w, past)) (subst (IsHolding chains q) (sym at.is) holder.holding)
+
+  pub all_crossed : AreCrossed chains q crossed
+  all_crossed = record {
+    once = λ s lt x. sifted.crossing s x ∙ ap (times s) (take_all k hits past) ∙ enough.crossed s x;
+    others = sifted.others;
+    known = λ s past_all. sifted.others s (λ x. let lt = below_total chains s x.c x.k x.number in omega (arith, lt, past_all));
+  }

@@ -1,0 +1,71 @@
+//! Where a point lies.
+
+ghost use Rattle.std.specs.Prelude.{◌≡◌, ℕ, ◌<◌, List, length, All, IfOk};
+ghost use Rattle.tl_geom.specs.declared.point.Point.{Point};
+ghost use Rattle.tl_map.specs.Segments.{segments_before};
+ghost use Rattle.tl_planar.specs.Rectangles.{segment_rect};
+ghost use Rattle.tl_inside.specs.Inside.{AreCrossed};
+ghost use Rattle.tl_inside.specs.Places.{IsOffChains, IsPlaceOf};
+ghost use Rattle.tl_inside.specs.Keeping.Tallies.{AreTallies};
+
+use crate::crossed::list_crossed;
+use crate::held::chain_at;
+use crate::landmarks::unbalanced_landmarks;
+use crate::listing::unbalanced;
+use crate::place::Place;
+use crate::reach::look_at_points;
+use crate::tallies::{no_counts, tally};
+use std::alloc::Global;
+use tl_geom::Point;
+use tl_map::Map;
+use tl_tree::{BoxIndex, Memory};
+
+/// Where a point lies in a map, by any index that fits the map's segments: on the lowest chain that holds it, or on none,
+/// in the polygons and the landmarks whose counts aren't 0. The map need not be sound. It stops where memory was refused,
+/// and nowhere else.
+pub fn locate<X: BoxIndex>(
+    alloc: Global,
+    map: &Map,
+    index: &X,
+    point: Point,
+) -> Result<Place, Memory>
+    requires fits { X.fits index.now (segments_before map.now.chains (length map.now.chains)) (segment_rect map.now.chains) }
+    ensures { IfOk result (IsPlaceOf map.now point) }
+{
+    let mut hits = Vec::new(alloc);
+    match chain_at(map, index, point, &mut hits)? {
+        Some(c) => return Ok(Place::OnChain(c)),
+        None => {}
+    }
+    look_at_points(map);
+    list_crossed(map, index, point, &mut hits)?;
+    place_by(alloc, map, &hits)
+}
+
+/// Where a point lies that is on no chain and whose ray crosses these segments.
+fn place_by(alloc: Global, map: &Map, crossed: &[u32]) -> Result<Place, Memory>
+    requires known { All (λ s. s < segments_before map.now.chains (length map.now.chains)) crossed.now }
+    ensures { IfOk result (λ place. (q : Point) → AreCrossed map.now.chains q crossed.now → IsOffChains map.now.chains q
+        → IsPlaceOf map.now q place) }
+{
+    let polygons = map.polygons() as usize;
+    let mut near = no_counts(alloc, polygons)?;
+    let mut far = no_counts(alloc, polygons)?;
+    tally(map, crossed, &mut near, &mut far);
+    place_in(alloc, map, &near, &far)
+}
+
+/// The polygons and the landmarks that a point off all chains is in, by the counts of polygons.
+fn place_in(alloc: Global, map: &Map, near: &[u64], far: &[u64]) -> Result<Place, Memory>
+    requires nears { length near.now ≡ length map.now.polygons }
+    requires fars { length far.now ≡ length map.now.polygons }
+    ensures { IfOk result (λ place. (q : Point) (crossed : List ℕ) → AreCrossed map.now.chains q crossed
+        → AreTallies map.now.chains crossed near.now far.now → IsOffChains map.now.chains q → IsPlaceOf map.now q place) }
+{
+    let polygons = unbalanced(alloc, map, near, far)?;
+    let landmarks = unbalanced_landmarks(alloc, map, near, far)?;
+    Ok(Place::In {
+        polygons,
+        landmarks,
+    })
+}

@@ -1,0 +1,69 @@
+//! What holds a point, or is crossed by its ray, among what lies in its strip.
+
+ghost use Rattle.std.specs.Prelude.{◌<◌, ◌↔◌, IsTrue, length, All, IfOk, OnOk, MatchOption, ⊤};
+ghost use Rattle.tl_map.specs.Segments.{segments_before};
+ghost use Rattle.tl_inside.specs.Inside.{IsCrossed, AreCrossed};
+ghost use Rattle.tl_inside.specs.Places.{IsHeldBy, IsOffChains};
+ghost use Rattle.tl_inside.specs.Keeping.Probing.{IsHolding};
+ghost use Rattle.tl_inside.specs.Keeping.Strips.{AreEnough};
+ghost use Rattle.tl_inside.specs.Keeping.Sifted.{IsKept};
+
+use tl_geom::{Point, crosses_ray, on};
+use tl_map::Map;
+use tl_tree::Memory;
+
+/// A chain that holds the point, if one does; else the segments that the ray crosses are listed, in the place of those
+/// that were.
+pub fn sift(
+    map: &Map,
+    hits: &[u32],
+    point: Point,
+    crossed: &mut Vec<u32>,
+) -> Result<Option<u32>, Memory>
+    requires enough { AreEnough map.now.chains point hits.now }
+    ensures held { IfOk result (λ found.
+        MatchOption found (IsOffChains map.now.chains point) (IsHeldBy map.now.chains point)) }
+    ensures known { OnOk result
+        (All (λ s. s < segments_before map.now.chains (length map.now.chains)) crossed.new.items) }
+    ensures are { IfOk result (λ found.
+        MatchOption found (AreCrossed map.now.chains point crossed.new.items) (λ c. ⊤)) }
+{
+    crossed.clear();
+    for place in 0..hits.len() {
+        if is_holding(map, hits[place], point) {
+            return Ok(Some(map.segment_chain(hits[place])));
+        }
+        keep_if_crossed(map, hits[place], point, crossed)?;
+    }
+    Ok(None)
+}
+
+/// Whether the segment holds the point.
+fn is_holding(map: &Map, s: u32, point: Point) -> bool
+    requires { s < segments_before map.now.chains (length map.now.chains) }
+    ensures { IsTrue result ↔ IsHolding map.now.chains point s }
+{
+    on(map.segment(s), point)
+}
+
+/// Whether the ray crosses the segment.
+fn is_crossed(map: &Map, s: u32, point: Point) -> bool
+    requires { s < segments_before map.now.chains (length map.now.chains) }
+    ensures { IsTrue result ↔ IsCrossed map.now.chains point s }
+{
+    crosses_ray(map.segment(s), point)
+}
+
+/// Appends the segment, if the ray crosses it.
+fn keep_if_crossed(map: &Map, s: u32, point: Point, crossed: &mut Vec<u32>) -> Result<(), Memory>
+    requires { s < segments_before map.now.chains (length map.now.chains) }
+    ensures { OnOk result (IsKept map.now.chains point s crossed.old.items crossed.new.items) }
+{
+    if !is_crossed(map, s, point) {
+        return Ok(());
+    }
+    match crossed.push(s) {
+        Ok(()) => Ok(()),
+        Err(_) => Err(Memory),
+    }
+}

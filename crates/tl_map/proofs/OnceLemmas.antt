@@ -1,0 +1,78 @@
+use Rattle.std.proofs.Common.{◌≡◌, ◌≢◌, ℕ, zero, suc, ◌<◌, Bool, true, false, eqb, ◌||◌, inl, inr, Some, List, [], ◌∷◌, ◌++◌, length, map, filter, get_or, All, Contains, refl, sym, subst, ◌∙◌, arith}
+use Rattle.std.specs.Prelude.{slice_get}
+use Rattle.std.proofs.lemmas.Option.{same_Some}
+use Rattle.std.specs.List.{list_any}
+use Rattle.std.proofs.lemmas.Bool.{cases_Bool, eq-eqb}
+use Rattle.std.proofs.lemmas.List.{length-map, get_or-map}
+use Rattle.std.proofs.lemmas.List.Elements.{All-head, All-tail, All-push, All-map, All-filter, All-weaker}
+use Rattle.tl_record.specs.declared.record.PolyKey.{PolyKey}
+use Rattle.tl_map.specs.declared.entry.LandmarkEntry.{LandmarkEntry}
+use Rattle.tl_map.specs.declared.entry.LinkEntry.{LinkEntry}
+use Rattle.tl_map.specs.declared.polygons.Polygon.{Polygon}
+use Rattle.tl_map.specs.declared.landmarks.LinkedLandmarks.{LinkedLandmarks}
+use Rattle.tl_map.specs.declared.landmarks.LandmarkRow.{LandmarkRow}
+use Rattle.tl_map.specs.TheMap.{keys, same_key, place_of, firsts, firsts_after, linked_to, MapLandmark}
+use Rattle.tl_map.specs.Landmarks.{AreOnce, ArePolygonsOf}
+use Rattle.tl_map.specs.Keeping.Landmarks.{HasPolygonsOf, landmark_in, landmark_from, AreLinked}
+use Rattle.tl_map.proofs.IndexLemmas.{same_key-refl}
+
+-- one number more that isn't there yet
+once_push : (kept : List ℕ) (x : ℕ) → AreOnce kept → list_any (λ y. eqb y x) kept ≡ false → AreOnce (kept ++ x ∷ [])
+once_push [] x once fresh = ((λ k d lt. absurd (omega arith)), tt)
+once_push (y ∷ ys) x once fresh =
+    let both = neither (eqb y x) (list_any (λ z. eqb z x) ys) fresh in
+    (All-push (λ z. z ≢ y) ys x once.0 (λ same. absurd (let e = eq-eqb y x (sym same) in let f : true ≡ false = sym e ∙ both.0 in cc)), once_push ys x once.1 both.1)
+  where
+    neither : (a b : Bool) → (a || b) ≡ false → (a ≡ false) × (b ≡ false)
+    neither true b e = absurd (let h : true ≡ false = e in cc)
+    neither false b e = (refl, e)
+
+-- the first of each number stand once, and are numbers of the list
+firsts_once : (P : ℕ → Type 0) (kept xs : List ℕ) → AreOnce kept → All P kept → All P xs → AreOnce (firsts_after (λ p. p) kept xs) × All P (firsts_after (λ p. p) kept xs)
+firsts_once P kept [] once held all = (once, held)
+firsts_once P kept (x ∷ xs) once held all =
+    let rest : All P xs = λ k d lt. all (suc k) d (omega arith) in
+    elim (cases_Bool (list_any (λ y. eqb y x) kept)) [
+      | inl there ↦ rw there (firsts_once P kept xs once held rest)
+      | inr fresh ↦ rw fresh (firsts_once P (kept ++ x ∷ []) xs (once_push kept x once fresh) (All-push P kept x held (all 0 x (omega arith))) rest)
+    ]
+
+-- the place of a key that is one of the keys
+place_below : (ks : List PolyKey) (k : PolyKey) → Contains ks k → place_of ks k < length ks
+place_below [] k has = absurd (omega (arith, has.1))
+place_below (l ∷ ls) k has = elim (cases_Bool (same_key l k)) [
+  | inl same ↦ rw same (omega arith)
+  | inr other ↦ rw other (let h = place_below ls k (later has.0 has.1 has.2 other) in omega (arith, h))
+]
+  where
+    later : (i : ℕ) → i < length (l ∷ ls) → get_or (l ∷ ls) i k ≡ k → same_key l k ≡ false → Contains ls k
+    later zero lt at other = absurd (let here : l ≡ k = at in let one = same_key-refl k in let two : same_key k k ≡ false = rw here at other in let e : true ≡ false = sym one ∙ two in cc)
+    later (suc i) lt at other = (i, omega arith, at)
+
+-- the polygons that links with known keys link to a LAND
+linked_once : (ks : List PolyKey) (links : List LinkEntry) (n : ℕ) → All (λ (l : LinkEntry). Contains ks l.key) links → ArePolygonsOf (length ks) (linked_to ks links n)
+linked_once ks links n known =
+    let chosen = All-filter (λ (l : LinkEntry). eqb l.land n) (λ (l : LinkEntry). Contains ks l.key) links known in
+    let below = All-map (λ p. p < length ks) (λ (l : LinkEntry). place_of ks l.key) (filter (λ (l : LinkEntry). eqb l.land n) links)
+    (All-weaker (λ (l : LinkEntry). Contains ks l.key) (λ (l : LinkEntry). place_of ks l.key < length ks) (λ l h. place_below ks l.key h) (filter (λ (l : LinkEntry). eqb l.land n) links) chosen) in
+    let both = firsts_once (λ p. p < length ks) [] (map (λ (l : LinkEntry). place_of ks l.key) (filter (λ (l : LinkEntry). eqb l.land n) links)) tt (λ k d lt. absurd (omega arith)) below in
+    record { below = both.1; once = both.0 }
+
+-- the polygons of each linked landmark are polygons of the map, each once
+pub rows_once : (polygons : List Polygon) (entries : List LandmarkEntry) (links : List LinkEntry) (l : LinkedLandmarks) → AreLinked (keys polygons) entries links l → All (HasPolygonsOf (length polygons) l.linked.items) l.rows.items
+rows_once polygons entries links l linked k d lt =
+    let count : length (keys polygons) ≡ length polygons = length-map polygons (λ (p : Polygon). p.key) in
+    let known : All (λ (x : LinkEntry). Contains (keys polygons) x.key) links = λ i e within. (linked.known i e within).1 in
+    let all : All (λ (m : MapLandmark). ArePolygonsOf (length polygons) m.polygons) (map (landmark_from (keys polygons) links) (firsts (λ (e : LandmarkEntry). e.land) entries)) =
+    All-map (λ (m : MapLandmark). ArePolygonsOf (length polygons) m.polygons) (landmark_from (keys polygons) links) (firsts (λ (e : LandmarkEntry). e.land) entries) (λ i e within. rw (← count) (linked_once (keys polygons) links _ known)) in
+    let here = rw (← linked.rows.are) at all in
+    let x : MapLandmark = landmark_in l.linked.items d in
+    let within : k < length (map (landmark_in l.linked.items) l.rows.items) = let h = length-map l.rows.items (landmark_in l.linked.items) in omega arith in
+    rw (get_or-map (landmark_in l.linked.items) l.rows.items k d x lt) at (here k x within)
+
+-- what holds of the polygons of each row holds of those of each landmark
+pub of_each : (n : ℕ) (linked : List ℕ) (rows : List LandmarkRow) → All (HasPolygonsOf n linked) rows → (l : ℕ) (landmark : MapLandmark) → slice_get (map (landmark_in linked) rows) l ≡ Some landmark → ArePolygonsOf n landmark.polygons
+of_each n linked [] all l landmark is = absurd (cc)
+of_each n linked (row ∷ rows) all zero landmark is =
+    subst (λ (z : MapLandmark). ArePolygonsOf n z.polygons) (same_Some (landmark_in linked row) landmark is) (All-head (HasPolygonsOf n linked) row rows all)
+of_each n linked (row ∷ rows) all (suc l) landmark is = of_each n linked rows (All-tail (HasPolygonsOf n linked) row rows all) l landmark is

@@ -1,0 +1,73 @@
+//! What the help of the program and of each command says.
+
+pub const ABOUT: &str = "Checks the topology of TIGER/Line 2006 record files";
+
+pub const EXAMPLES: &str = "\
+Examples:
+  tigertopo show TGR24001.RT1 TGR24001.RT2    prints each chain's TLID and points
+  tigertopo landmarks --released TGR24001.RT* prints each landmark and its polygons
+  tigertopo locate @-78762000,39652000 A.RT*  tells where a point lies
+  tigertopo check --cert A.CERT TGR24001.RT*  decides whether the map is sound
+  tigertopo convert OLD.CERT NEW.CERT         writes a certificate anew in version 2
+
+Exit status:
+  0   done or sound, or help was asked for
+  1   the map has a fault
+  2   the certificate has a fault
+  3   a record is refused
+  4   memory ran out, a file or the output failed, or the budget is used up
+  64  the words are no command";
+
+pub const SHOW_ABOUT: &str =
+    "Prints the TLID and the points of each chain, by rising TLID, and then their counts";
+
+pub const SHOW_EXAMPLE: &str = "\
+Each chain is a line `tlid T X,Y X,Y ..`, in millionths of a degree, and the last line is
+`chains=C segments=S skipped=K`, where K counts the lines that hold no record.
+
+Example:
+  tigertopo show TGR24001.RT1 TGR24001.RT2";
+
+pub const LANDMARKS_ABOUT: &str =
+    "Prints each landmark with its polygons, in the order of the landmarks' first records";
+
+pub const LANDMARKS_EXAMPLE: &str = "\
+Each landmark is a line `land N area polygons P P ..` or `land N point X,Y polygons P ..`, where a
+polygon is its CENID (each blank as _), `/` and its POLYID, and no polygon is `none`. The last line
+is `landmarks=K`.
+
+Example:
+  tigertopo landmarks --released TGR24001.RT*";
+
+pub const LOCATE_ABOUT: &str =
+    "Tells where a point lies: on which chain, or in which polygons and landmarks";
+
+pub const LOCATE_EXAMPLE: &str = "\
+The point is `@`, its longitude, a comma and its latitude, in millionths of a degree, with no plus and
+no leading zero. Where a chain runs through it the line is `on tlid T`, with the least TLID of those
+that do. Else it is `in polygons P P .. landmarks N N ..`, where a polygon is its CENID (each blank as
+_), `/` and its POLYID, a landmark is its LAND number, and an empty list is `none`. Whether the map is
+sound isn't tested.
+
+Example:
+  tigertopo locate @-78762000,39652000 TGR24001.RT*";
+
+pub const CHECK_ABOUT: &str = "Decides by a certificate whether the map is sound";
+
+pub const CHECK_EXAMPLE: &str = "\
+Of a sound map the line is `sound chains=C segments=S nodes=N polygons=P landmarks=L rings=R`. Else it
+is `map fault` or `certificate fault` with a code, a name and what it is about. Nobody has to trust
+CERT: where it isn't right for the map, that is a fault of the certificate.
+
+Example:
+  tigertopo check --cert TGR24001.CERT TGR24001.RT*";
+
+pub const CONVERT_ABOUT: &str = "Reads a certificate and writes it in version 2";
+
+pub const CONVERT_EXAMPLE: &str = "\
+OUT is made when CERT was read whole, and a file of that name is written over. The last line is
+`converted nodes=N rounds=M walks=W`; of a text that is no certificate's, `certificate fault K1
+Text line N` with the line that none has.
+
+Example:
+  tigertopo convert OLD.CERT NEW.CERT";

@@ -1,0 +1,98 @@
+//! What is said where words make no plan.
+
+ghost use Rattle.std.specs.Prelude.{◌≡◌, IfOk, string_bytes};
+ghost use Rattle.clap.specs.Values.{kind_of};
+ghost use Rattle.tl_plan.specs.CommandLine.{IsStopOf};
+ghost use Rattle.tl_plan.specs.Plans.{plain_text, HasNoEscape, ShowsNoEscape};
+
+use crate::command_line::{check, locate};
+use crate::plan::PlanStop;
+use clap::error::ErrorKind;
+use clap::{ArgMatches, Command, Error};
+use std::alloc::{AllocError, Global};
+
+// How a number of tests is spelt.
+const SPELLING: &str =
+    "a number from 0 to 18446744073709551615 is wanted, with no sign and no leading zero";
+
+// How a point is spelt.
+const POINT_SPELLING: &str =
+    "@, a longitude from -180000000 to 180000000, a comma and a latitude from -90000000 to \
+    90000000 are wanted, with no plus, no leading zero and no -0";
+
+/// Why there is no plan where `clap` gives this error.
+pub fn stop_of(alloc: Global, error: &Error) -> PlanStop
+    ensures stop { IsStopOf (kind_of error.now) result }
+    ensures texts { ShowsNoEscape result }
+{
+    if error.kind() == ErrorKind::OutOfMemory {
+        return PlanStop::Memory;
+    }
+    let Ok(text) = text_of(alloc, error) else {
+        return PlanStop::Memory;
+    };
+    if error.use_stderr() {
+        PlanStop::Usage(text)
+    } else {
+        PlanStop::Help(text)
+    }
+}
+
+fn text_of(alloc: Global, error: &Error) -> Result<String, AllocError>
+    ensures { IfOk result HasNoEscape }
+{
+    let text = error.to_string(alloc)?;
+    without_escapes(alloc, text.as_str())
+}
+
+// A word can hold an escape sequence, which a terminal would obey.
+fn without_escapes(alloc: Global, text: &str) -> Result<String, AllocError>
+    ensures text { IfOk result (λ plain. string_bytes plain ≡ plain_text text.now) }
+    ensures no_escape { IfOk result HasNoEscape }
+{
+    let mut plain = String::from_str(alloc, text)?;
+    plain.retain(|c| c != '\u{1b}');
+    Ok(plain)
+}
+
+/// What is wrong with words that `clap` takes and that are no plan.
+pub fn usage_of(
+    alloc: Global,
+    command: &mut Command<'_>,
+    matches: &ArgMatches<'_>,
+) -> Result<String, AllocError>
+    ensures { IfOk result HasNoEscape }
+{
+    if let Some(check) = matches.subcommand_matches("check") {
+        if let Some(tests) = check.get_str("tests") {
+            return misspelt_tests(alloc, tests);
+        }
+    }
+    if let Some(locate) = matches.subcommand_matches("locate") {
+        if let Some(point) = locate.get_str("point") {
+            return misspelt_point(alloc, point);
+        }
+    }
+    let usage = command.render_usage()?;
+    without_escapes(alloc, usage.as_str())
+}
+
+// What is wrong with a number of tests that isn't spelt as one.
+fn misspelt_tests(alloc: Global, tests: &str) -> Result<String, AllocError>
+    ensures { IfOk result HasNoEscape }
+{
+    let wrong = format!(in alloc; "invalid value '{tests}' for '--tests <N>': {SPELLING}")?;
+    let mut command = check(alloc)?.bin_name("tigertopo check")?;
+    let error = command.error(ErrorKind::ValueValidation, wrong.as_str())?;
+    text_of(alloc, &error)
+}
+
+// What is wrong with a point that isn't spelt as one.
+fn misspelt_point(alloc: Global, point: &str) -> Result<String, AllocError>
+    ensures { IfOk result HasNoEscape }
+{
+    let wrong = format!(in alloc; "invalid value '{point}' for '<@X,Y>': {POINT_SPELLING}")?;
+    let mut command = locate(alloc)?.bin_name("tigertopo locate")?;
+    let error = command.error(ErrorKind::ValueValidation, wrong.as_str())?;
+    text_of(alloc, &error)
+}
