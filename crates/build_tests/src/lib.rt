@@ -1,0 +1,15 @@
+//! Worked examples of the builder: maps whose answers come from outside, decided by `audit` and built by `build`, whose
+//! certificates are checked in memory and by their texts. They stand beside `tl_build`, so that it is proved once and not
+//! once more with its tests.
+#![tactic(auto)]
+
+#[cfg(test)]
+mod decided;
+#[cfg(test)]
+mod faulty;
+#[cfg(test)]
+mod grids;
+#[cfg(test)]
+mod maps;
+#[cfg(test)]
+mod sound;

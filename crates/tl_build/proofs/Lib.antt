@@ -1,0 +1,9 @@
+pub mod ListLemmas
+pub mod Forests
+pub mod NodeLemmas
+pub mod Sizes
+pub mod MarkFacts
+pub mod Holding
+pub mod Proposals
+pub mod Budgets
+pub mod Recorded

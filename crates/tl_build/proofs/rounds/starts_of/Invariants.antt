@@ -1,0 +1,11 @@
+use Rattle.std.proofs.Common.{◌≡◌, ◌*◌, length}
+use Rattle.tl_build.specs.Keeping.Lists.{up, darts_in, AreDartsBelow}
+use Rattle.tl_build.proofs.rounds.starts_of.Given as goal
+
+abbrev pub invariant-loop-dart : goal.invariant-loop-dart
+invariant-loop-dart l =
+    record {
+      all : darts_in l.starts.items ≡ up l.dart;
+      known : AreDartsBelow (2 * length l.map.chains) l.starts.items;
+      long : length l.starts.items ≡ l.dart;
+    }

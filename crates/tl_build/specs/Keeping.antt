@@ -1,0 +1,5 @@
+-- What the builder keeps on its way. No public contract cites a file of this folder.
+pub mod Lists
+pub mod Nodes
+pub mod Proposed
+pub mod Judging

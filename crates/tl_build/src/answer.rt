@@ -1,0 +1,22 @@
+//! What is built of a map, and what is decided of records.
+
+use tl_cert::Certificate;
+use tl_check::{MapFault, Report};
+
+/// What is built of a map.
+#[derive(Drop)]
+pub enum Built {
+    /// The map is sound, and this certificate is valid for it.
+    Cert(Certificate),
+    /// The map has this fault.
+    Fault(MapFault),
+}
+
+/// What is decided of records.
+#[derive(Clone, Copy, Debug, PartialEq, Eq)]
+pub enum Audit {
+    /// The map of the records is sound.
+    Sound(Report),
+    /// The records have no map, or their map has this fault.
+    Fault(MapFault),
+}

@@ -1,0 +1,45 @@
+//! A certificate of a map, made with none given.
+
+ghost use Rattle.std.specs.Prelude.{◌≡◌};
+ghost use Rattle.tl_planar.specs.Planar.{IsPlanar};
+ghost use Rattle.tl_sides.specs.Sides.{SidesAgree};
+ghost use Rattle.tl_inside.specs.Placed.{ArePlaced};
+ghost use Rattle.tl_cells.specs.Cells.{CellsAgree};
+ghost use Rattle.tl_check.specs.Sound.{AreClosed};
+ghost use Rattle.tl_check.specs.Valid.{IsValid};
+ghost use Rattle.tl_check.specs.Truth.{IsTrueOfMap};
+ghost use Rattle.tl_build.specs.Building.{IfCert, OnCert, IfFault};
+
+use crate::answer::Built;
+use crate::judge::{Judged, judge};
+use crate::stop::BuildStop;
+use std::alloc::Global;
+use tl_map::Map;
+
+/// Makes a certificate of version 2 of a map that is sound, or names a fault of one that isn't. Which of several faults is
+/// named, and which valid certificate is made, is open.
+///
+/// [`BuildStop::Memory`] comes where memory was refused.
+pub fn build(alloc: Global, map: &Map) -> Result<Built, BuildStop>
+    // No rational point lies on two chains but an end of both, and no chain meets itself but at its ends.
+    ensures planar { OnCert result (IsPlanar map.now.chains) }
+    // Neighbouring chains about each node name one polygon between them.
+    ensures sides { OnCert result (SidesAgree map.now.chains) }
+    // The boundary of each polygon, and that of the outside, is closed rings.
+    ensures closed { OnCert result (AreClosed map.now) }
+    // Each polygon's point is on no chain, inside its own rings, and clear of every other polygon.
+    ensures points { OnCert result (ArePlaced map.now) }
+    // Zero-cell ids agree, where they were read: two darts that have ids have one id exactly where they start at one point.
+    ensures cells { OnCert result (CellsAgree map.now.chains) }
+    // The certificate is valid for the map, and of version 2.
+    ensures valid { IfCert result (IsValid map.now) }
+    ensures version { IfCert result (λ cert. cert.version ≡ 2) }
+    // Each fault is true.
+    ensures fault { IfFault result (IsTrueOfMap map.now) }
+{
+    match judge(alloc, map) {
+        Ok(Judged::Sound(cert, _)) => Ok(Built::Cert(cert)),
+        Ok(Judged::Fault(fault)) => Ok(Built::Fault(fault)),
+        Err(stop) => Err(stop),
+    }
+}

@@ -1,0 +1,73 @@
+//! The certificate that is proposed for a map.
+
+ghost use Rattle.std.specs.Prelude.{◌*◌, length, All, IfOk};
+ghost use Rattle.tl_tree.specs.Preorder.{IsPreorder};
+ghost use Rattle.tl_sides.specs.Lists.{HoldOnce};
+ghost use Rattle.tl_cert.specs.Certificates.{AreDartLists, IsCounted};
+ghost use Rattle.tl_check.specs.Valid.{AreCounts, IsTree};
+ghost use Rattle.tl_build.specs.Keeping.Lists.{lists_in};
+ghost use Rattle.tl_build.specs.Keeping.Nodes.{IsNewNode};
+ghost use Rattle.tl_build.specs.Keeping.Proposed.{IsProposal};
+
+use crate::order::order_segments;
+use crate::rounds::{cut_rounds, sort_starts};
+use crate::tree::tree_over;
+use crate::walks::{link_darts, trace_walks};
+use std::alloc::{AllocError, Global};
+use tl_cert::{Certificate, Counts};
+use tl_map::Map;
+use tl_tree::TreeNode;
+
+/// The certificate of version 2 that is proposed for a map.
+pub fn propose(alloc: Global, map: &Map) -> Result<Certificate, AllocError>
+    ensures { IfOk result (IsProposal map.now) }
+{
+    let counts = counts_of(map);
+    let tree = propose_tree(alloc, map)?;
+    let (rounds, walks) = propose_rings(alloc, map)?;
+    match Certificate::new(counts, tree, rounds, walks, 2) {
+        Some(certificate) => Ok(certificate),
+        None => unreachable!(),
+    }
+}
+
+/// The counts of a map.
+fn counts_of(map: &Map) -> Counts
+    ensures { AreCounts map.now result }
+{
+    Counts {
+        chains: map.chains(),
+        segments: map.segments(),
+        nodes: map.nodes(),
+        polygons: map.polygons(),
+    }
+}
+
+/// The tree over the segments of a map.
+fn propose_tree(alloc: Global, map: &Map) -> Result<Vec<TreeNode>, AllocError>
+    ensures tree { IfOk result (λ nodes. IsTree map.now nodes.items) }
+    ensures whole { IfOk result (λ nodes. IsPreorder nodes.items) }
+    ensures counted { IfOk result (λ nodes. IsCounted nodes.items) }
+    ensures each { IfOk result (λ nodes. All IsNewNode nodes.items) }
+{
+    let order = order_segments(alloc, map)?;
+    let nodes = tree_over(alloc, map, &order)?;
+    Ok(nodes)
+}
+
+/// The rounds and the walks of a map.
+fn propose_rings(alloc: Global, map: &Map) -> Result<(Vec<Vec<u32>>, Vec<Vec<u32>>), AllocError>
+    ensures rounds { IfOk result (λ made.
+        HoldOnce (2 * length map.now.chains) (lists_in made.0.items)) }
+    ensures walks { IfOk result (λ made.
+        HoldOnce (2 * length map.now.chains) (lists_in made.1.items)) }
+    ensures rounds_counted { IfOk result (λ made. AreDartLists (lists_in made.0.items)) }
+    ensures walks_counted { IfOk result (λ made. AreDartLists (lists_in made.1.items)) }
+{
+    let starts = sort_starts(alloc, map)?;
+    let rounds = cut_rounds(alloc, map.nodes(), &starts)?;
+    let following = link_darts(alloc, &starts)?;
+    drop(starts);
+    let walks = trace_walks(alloc, &following)?;
+    Ok((rounds, walks))
+}

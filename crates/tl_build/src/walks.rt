@@ -1,0 +1,114 @@
+//! The walks of a map: the rings of darts that follow one another.
+
+ghost use Rattle.std.specs.Prelude.{◌≡◌, ◌<◌, ◌≤◌, ◌%◌, ◌^◌, zero, length, map, All, IfOk, OnOk, slice_get, Some, false};
+ghost use Rattle.std.specs.List.{concat};
+ghost use Rattle.tl_map.specs.Darts.{reverse_dart};
+ghost use Rattle.tl_tree.specs.Keeping.Checking.{mark_at};
+ghost use Rattle.tl_sides.specs.Lists.{HoldOnce};
+ghost use Rattle.tl_sides.specs.Keeping.Marked.{AddMarks};
+ghost use Rattle.tl_build.specs.Keeping.Lists.{AreDartsBelow, AreUnmarked};
+
+use crate::rounds::{DartStart, first_round};
+use std::alloc::{AllocError, Global};
+
+/// Of each dart the one that follows it: about the node where the dart ends, the one whose next dart is its reverse. The
+/// darts of each node stand together and in the order of their headings.
+pub fn link_darts(alloc: Global, starts: &[DartStart]) -> Result<Vec<u32>, AllocError>
+    requires known { AreDartsBelow (length starts.now) starts.now }
+    requires paired { length starts.now % 2 ≡ 0 }
+    ensures long { IfOk result (λ following. length following.items ≡ length starts.now) }
+    ensures known { IfOk result (λ following. All (λ d. d < length starts.now) following.items) }
+{
+    let mut following = vec![in alloc; 0u32; starts.len()]?;
+    let mut rest = starts;
+    while !rest.is_empty() {
+        let (round, behind) = rest.split_at(first_round(rest));
+        link_round(&mut following, round);
+        rest = behind;
+    }
+    Ok(following)
+}
+
+/// Keeps of the reverse of each dart of a round the dart before it, which is the last one before the first.
+fn link_round(following: &mut [u32], round: &[DartStart])
+    requires some { zero < length round.now }
+    requires known { AreDartsBelow (length following.old) round.now }
+    requires paired { length following.old % 2 ≡ 0 }
+    requires kept { All (λ d. d < length following.old) following.old }
+    ensures { All (λ d. d < length following.old) following.new }
+{
+    let mut before = round[round.len() - 1].dart;
+    for start in round {
+        following[reverse(start.dart) as usize] = before;
+        before = start.dart;
+    }
+}
+
+/// The reverse of a dart: the other dart of its chain.
+fn reverse(dart: u32) -> u32
+    ensures { result ≡ reverse_dart dart }
+{
+    if dart % 2 == 0 { dart + 1 } else { dart - 1 }
+}
+
+/// The walks in which each dart stands, by the dart that follows each.
+pub fn trace_walks(alloc: Global, following: &[u32]) -> Result<Vec<Vec<u32>>, AllocError>
+    requires known { All (λ d. d < length following.now) following.now }
+    requires counted { length following.now < 2 ^ 32 }
+    ensures hold { IfOk result (λ walks. HoldOnce (length following.now) (map (λ w. w.items) walks.items)) }
+    ensures some { IfOk result (λ walks. All (λ w. zero < length w.items) walks.items) }
+    ensures counted { IfOk result (λ walks. length (concat (map (λ w. w.items) walks.items)) ≤ length following.now) }
+{
+    let mut taken = vec![in alloc; false; following.len()]?;
+    trace_all(alloc, following, &mut taken)
+}
+
+/// The walks, with marks of the darts that are taken, none of which is yet.
+fn trace_all(
+    alloc: Global,
+    following: &[u32],
+    taken: &mut [bool],
+) -> Result<Vec<Vec<u32>>, AllocError>
+    requires known { All (λ d. d < length following.now) following.now }
+    requires counted { length following.now < 2 ^ 32 }
+    requires long { length taken.old ≡ length following.now }
+    requires free { AreUnmarked taken.old }
+    ensures hold { IfOk result (λ walks. HoldOnce (length following.now) (map (λ w. w.items) walks.items)) }
+    ensures some { IfOk result (λ walks. All (λ w. zero < length w.items) walks.items) }
+    ensures counted { IfOk result (λ walks. length (concat (map (λ w. w.items) walks.items)) ≤ length following.now) }
+{
+    let mut walks = Vec::new(alloc);
+    let mut walk = Vec::new(alloc);
+    for first in 0..following.len() {
+        if taken[first] {
+            continue;
+        }
+        trace_walk(following, taken, first as u32, &mut walk)?;
+        walks.push(walk.to_vec(alloc)?)?;
+    }
+    Ok(walks)
+}
+
+/// Takes the darts that follow one another, from the first up to one that is taken.
+fn trace_walk(
+    following: &[u32],
+    taken: &mut [bool],
+    first: u32,
+    walk: &mut Vec<u32>,
+) -> Result<(), AllocError>
+    requires known { All (λ d. d < length following.now) following.now }
+    requires long { length taken.old ≡ length following.now }
+    requires first { first < length following.now }
+    requires free { slice_get taken.old first ≡ Some false }
+    ensures taken { OnOk result (AddMarks taken.old walk.new.items taken.new) }
+    ensures begun { OnOk result (mark_at taken.new first ≡ 1) }
+{
+    walk.clear();
+    let mut dart = first;
+    while !taken[dart as usize] {
+        taken[dart as usize] = true;
+        walk.push(dart)?;
+        dart = following[dart as usize];
+    }
+    Ok(())
+}
