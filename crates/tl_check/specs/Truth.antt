@@ -1,5 +1,5 @@
 -- What each fault says.
-use Rattle.std.specs.Prelude.{◌≡◌, ◌≢◌, ℕ, ◌<◌, Some}
+use Rattle.std.specs.Prelude.{⊤, ◌≡◌, ◌≢◌, ℕ, ◌<◌, Some}
 use Rattle.tl_geom.specs.declared.point.Point.{Point}
 use Rattle.tl_map.specs.TheMap.{TheMap}
 use Rattle.tl_map.specs.Darts.{dart_start, dart_left}
@@ -43,3 +43,12 @@ IsTrueOfCert m c (Tree fault) = IsFaultOf (tree_of c.tree) (segments_of m) (segm
 IsTrueOfCert m c TooDeep = greatest_depth < depth (tree_of c.tree)
 IsTrueOfCert m c (Round fault) = IsRoundFault m.chains c.rounds fault
 IsTrueOfCert m c (Walk fault) = IsWalkFault m.chains c.walks fault
+
+-- the fault is of rounds or of walks
+abbrev pub IsOfDarts : CertFault → Type 0
+IsOfDarts (Text line) = ⊥
+IsOfDarts Counts = ⊥
+IsOfDarts (Tree fault) = ⊥
+IsOfDarts TooDeep = ⊥
+IsOfDarts (Round fault) = ⊤
+IsOfDarts (Walk fault) = ⊤

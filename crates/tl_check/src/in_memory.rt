@@ -8,7 +8,7 @@ ghost use Rattle.tl_inside.specs.Placed.{ArePlaced};
 ghost use Rattle.tl_cells.specs.Cells.{CellsAgree};
 ghost use Rattle.tl_check.specs.Sound.{AreClosed};
 ghost use Rattle.tl_check.specs.Valid.{IsValid};
-ghost use Rattle.tl_check.specs.Truth.{IsTrueOfMap, IsTrueOfCert};
+ghost use Rattle.tl_check.specs.Truth.{IsTrueOfMap, IsTrueOfCert, IsOfDarts};
 ghost use Rattle.tl_check.specs.Verdicts.{OnSound, IfSound, IfMapFault, IfCertFault, IsReport, MayStop};
 
 use crate::answer::{answer, report};
@@ -47,6 +47,8 @@ pub fn check_map(alloc: Global, map: &Map, cert: &Certificate, budget: u64) -> R
     // Each fault is true.
     ensures map_fault { IfMapFault result (IsTrueOfMap map.now) }
     ensures cert_fault { IfCertFault result (IsTrueOfCert map.now cert.now) }
+    // One of rounds or of walks comes only where the chains are planar.
+    ensures behind { IfCertFault result (λ fault. IsOfDarts fault → IsPlanar map.now.chains) }
     // It stops where memory was refused, or more than the budget had to be tested.
     ensures stops { IfErr result (MayStop map.now budget) }
 {

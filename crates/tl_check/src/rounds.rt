@@ -1,9 +1,10 @@
 //! The rounds of a certificate, and the sides about each node.
 
 ghost use Rattle.std.specs.Prelude.{ℕ, ◌<◌, ◌≤◌, zero, length, IfOk, IfErr};
+ghost use Rattle.tl_planar.specs.Planar.{IsPlanar};
 ghost use Rattle.tl_planar.specs.Searching.{meeting_segments};
 ghost use Rattle.tl_cert.specs.Certificates.{TheCertificate};
-ghost use Rattle.tl_check.specs.Keeping.Parts.{with_round, Holds, TakesRounds, TakesWalks, IsSearched, MayEnd};
+ghost use Rattle.tl_check.specs.Keeping.Parts.{with_round, Holds, TakesRounds, TakesWalks, IsSearched, IsBehindSearch, MayEnd};
 
 use crate::fault::{CertFault, MapFault};
 use crate::state::{Halt, State};
@@ -19,6 +20,7 @@ pub fn take_round(map: &Map, state: State, round: &[u32]) -> State
     ensures holds { (c : TheCertificate) → Holds map.now c state → Holds map.now (with_round c round.now) result }
     ensures takes { TakesRounds result }
     ensures searched { (n : ℕ) → IsSearched map.now n state → IsSearched map.now n result }
+    ensures behind { IsBehindSearch map.now state → IsBehindSearch map.now result }
 {
     match state {
         State::Rounding(mut rounds) => match rounds.take(map, round) {
@@ -36,6 +38,7 @@ pub fn end_rounds(alloc: Global, map: &Map, state: State) -> Result<State, Halt>
     ensures holds { IfOk result (λ next. (c : TheCertificate) → Holds map.now c state → Holds map.now c next) }
     ensures walks { IfOk result TakesWalks }
     ensures searched { IfOk result (λ next. (n : ℕ) → IsSearched map.now n state → IsSearched map.now n next) }
+    ensures behind { IfOk result (λ next. IsBehindSearch map.now state → IsBehindSearch map.now next) }
     ensures halts { IfErr result (MayEnd map.now) }
 {
     match state {
@@ -54,6 +57,7 @@ fn begin_walks(alloc: Global, map: &Map, rounds: Rounds) -> Result<State, Halt>
     ensures holds { IfOk result (λ next. (c : TheCertificate) → AreRoundsSoFar map.now c rounds → Holds map.now c next) }
     ensures walks { IfOk result TakesWalks }
     ensures searched { IfOk result (λ next. (n : ℕ) → meeting_segments map.now.chains ≤ n → IsSearched map.now n next) }
+    ensures behind { IfOk result (λ next. IsPlanar map.now.chains → IsBehindSearch map.now next) }
     ensures halts { IfErr result (MayEnd map.now) }
 {
     let next = match rounds.end(map) {

@@ -11,7 +11,7 @@ ghost use Rattle.tl_inside.specs.Placed.{ArePlaced};
 ghost use Rattle.tl_cells.specs.Cells.{CellsAgree};
 ghost use Rattle.tl_cert.specs.Certificates.{TheCertificate};
 ghost use Rattle.tl_check.specs.Valid.{AreCounts};
-ghost use Rattle.tl_check.specs.Keeping.Parts.{Holds, TakesRounds, IsSearched, MayHalt, MayEnd};
+ghost use Rattle.tl_check.specs.Keeping.Parts.{Holds, TakesRounds, IsSearched, IsBehindSearch, MayHalt, MayEnd};
 
 use crate::fault::{CertFault, MapFault};
 use crate::state::{Halt, State};
@@ -32,6 +32,7 @@ pub fn take_tree(alloc: Global, map: &Map, nodes: &[TreeNode], budget: u64) -> R
         c.tree ≡ nodes.now → c.rounds ≡ [] → c.walks ≡ [] → Holds map.now c state) }
     ensures rounds { IfOk result TakesRounds }
     ensures searched { IfOk result (IsSearched map.now budget) }
+    ensures behind { IfOk result (IsBehindSearch map.now) }
     ensures halts { IfErr result (MayHalt map.now budget) }
 {
     let tree = match FlatTree::from_nodes(alloc, nodes) {

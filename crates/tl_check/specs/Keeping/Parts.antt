@@ -18,7 +18,7 @@ use Rattle.tl_check.specs.declared.state.State.TheVariants as state
 use Rattle.tl_check.specs.declared.state.Halt.{Halt}
 use Rattle.tl_check.specs.declared.state.Halt.TheVariants as halt
 use Rattle.tl_check.specs.Valid.{AreCounts, IsTree, IsValid}
-use Rattle.tl_check.specs.Truth.{IsTrueOfMap, IsTrueOfCert}
+use Rattle.tl_check.specs.Truth.{IsTrueOfMap, IsTrueOfCert, IsOfDarts}
 
 -- the certificate with a round more, or a walk
 abbrev pub with_round : TheCertificate → List ℕ → TheCertificate
@@ -87,6 +87,13 @@ IsSearched m n (state.Rounding rounds) = meeting_segments m.chains ≤ n
 IsSearched m n (state.Walking walks) = meeting_segments m.chains ≤ n
 IsSearched m n (state.Unrounded fault) = meeting_segments m.chains ≤ n
 IsSearched m n (state.Wrong fault) = ⊤
+
+-- unless the parts are wrong in another way than by rounds or walks, the search was made, and the chains are planar
+abbrev pub IsBehindSearch : TheMap → State → Type 0
+IsBehindSearch m (state.Rounding rounds) = IsPlanar m.chains
+IsBehindSearch m (state.Walking walks) = IsPlanar m.chains
+IsBehindSearch m (state.Unrounded fault) = IsPlanar m.chains
+IsBehindSearch m (state.Wrong fault) = IsOfDarts fault → IsPlanar m.chains
 
 -- why no further part is looked at
 abbrev pub MayHalt : TheMap → ℕ → Halt → Type 0

@@ -10,6 +10,7 @@ loop-round-init c = record {
   holds = c.in-Ok.ensures.holds (first_rounds c.args.cert.now 0) (rw (← c.counts.ensures) (c.are_counts.ensures.0 c.if-not-are_counts.false)) (sym c.tree.ensures.tree) refl refl;
   takes = c.in-Ok.ensures.rounds;
   searched = c.in-Ok.ensures.searched;
+  behind = c.in-Ok.ensures.behind;
 }
 
 pub take_round-state-requires-clause-some : goal.take_round-state-requires-clause-some
@@ -35,6 +36,7 @@ loop-round-preserved c =
           (c.take_round-state.ensures.holds (first_rounds c.args.cert.now i) c.loop-round.invariant.holds);
       takes = c.take_round-state.ensures.takes;
       searched = c.take_round-state.ensures.searched c.args.budget c.loop-round.invariant.searched;
+      behind = c.take_round-state.ensures.behind c.loop-round.invariant.behind;
     }
 
 pub loop-walk-init : goal.loop-walk-init
@@ -48,6 +50,7 @@ loop-walk-init c =
           (c.in-Ok-end_rounds.ensures.holds (first_rounds c.args.cert.now i) c.loop-round.invariant.holds);
       takes = c.in-Ok-end_rounds.ensures.walks;
       searched = c.in-Ok-end_rounds.ensures.searched c.args.budget c.loop-round.invariant.searched;
+      behind = c.in-Ok-end_rounds.ensures.behind c.loop-round.invariant.behind;
     }
 
 pub take_walk-state-requires-clause-some : goal.take_walk-state-requires-clause-some
@@ -73,6 +76,7 @@ loop-walk-preserved c =
           (c.take_walk-state.ensures.holds (first_walks c.args.cert.now i) c.loop-walk.invariant.holds);
       takes = c.take_walk-state.ensures.takes;
       searched = c.take_walk-state.ensures.searched c.args.budget c.loop-walk.invariant.searched;
+      behind = c.take_walk-state.ensures.behind c.loop-walk.invariant.behind;
     }
 
 -- what is shown once all walks were taken
@@ -117,3 +121,9 @@ returns-in-Err-end_walks-clause-cert_fault c =
 
 pub returns-in-Ok-end_walks-clause-within : goal.returns-in-Ok-end_walks-clause-within
 returns-in-Ok-end_walks-clause-within c = c.in-Ok-end_walks.ensures.searched c.args.budget c.loop-walk.invariant.searched
+
+pub returns-in-Err-end_walks-clause-behind : goal.returns-in-Err-end_walks-clause-behind
+returns-in-Err-end_walks-clause-behind c = c.in-Err-end_walks.ensures.behind c.loop-walk.invariant.behind
+
+pub returns-then-not-are_counts-clause-behind : goal.returns-then-not-are_counts-clause-behind
+returns-then-not-are_counts-clause-behind c = λ of_darts. absurd of_darts
