@@ -1,0 +1,3 @@
+-- What the laws cite.
+pub mod Heights
+pub mod Headings
