@@ -1,3 +1,5 @@
 pub mod Sums
 pub mod Turns
+pub mod Darts
+pub mod Nexts
 pub mod Telescoping

@@ -49,6 +49,13 @@ is_within u w v =
 not_itself : (u : Direction) → ¬ IsBelow u u
 not_itself u b = never_both u u b b
 
+-- one direction, by a third
+pub joined : (u v w : Direction) → IsOneDirection u v → IsOneDirection v w → IsOneDirection u w
+joined u v w p q = ⊎_elim
+    (λ less. absurd (never_one v w (alike_below v u w (one_back u v p) less) q))
+    (λ rest. ⊎_elim (λ one. one) (λ more. absurd (never_one w v (alike_above v u w (one_back u v p) more) (one_back v w q))) rest)
+    (order u w)
+
 -- no direction is strictly within a turn to itself
 pub not_within : (u w v : Direction) → IsOneDirection v w → ¬ IsWithin u w v
 not_within u w v same h =
@@ -59,12 +66,6 @@ not_within u w v same h =
     (λ down. ⊎_elim (λ a. never_both u v a (alike_below v w u same down)) (λ b. never_one v w b same) ((below_around u v w down).0 h))
     rest)
     (order u w)
-  where
-    joined : (a b c : Direction) → IsOneDirection a b → IsOneDirection b c → IsOneDirection a c
-    joined a b c p q = ⊎_elim
-        (λ less. absurd (never_one b c (alike_below b a c (one_back a b p) less) q))
-        (λ rest. ⊎_elim (λ one. one) (λ more. absurd (never_one c b (alike_above b a c (one_back a b p) more) (one_back b c q))) rest)
-        (order a c)
 
 -- nor within a turn from itself
 pub not_start : (u w v : Direction) → IsOneDirection u v → ¬ IsWithin u w v
@@ -124,3 +125,23 @@ one_within u v w apart not =
         ⊎_elim (λ less. absurd (not ((below_around u v w down).1 (inl less))))
         (λ rest. ⊎_elim (λ one. absurd (apart one)) (λ more. (below_around v u w down').1 (inl more)) rest)
         (order u v)
+
+-- one direction takes the place of another
+pub within_alike : (u w w' v v' : Direction) → IsOneDirection w w' → IsOneDirection v v' → IsWithin u w v → IsWithin u w' v'
+within_alike u w w' v v' p q h =
+    ⊎_elim
+    (λ up. let both = (below_between u v w up).0 h in (below_between u v' w' (after up)).1 (start both.0, finish both.1))
+    (λ rest. ⊎_elim
+    (λ one. full (joined u w w' one p) (λ same. nothing_within u w v one (joined u v' v same (one_back v v' q)) h))
+    (λ down. (below_around u v' w' (alike_below w' w u (one_back w w' p) down)).1 (⊎_elim (λ a. inl (start a)) (λ b. inr (finish b)) ((below_around u v w down).0 h)))
+    rest)
+    (order u w)
+  where
+    after : IsBelow u w → IsBelow u w'
+    after b = alike_above w' w u (one_back w w' p) b
+
+    start : IsBelow u v → IsBelow u v'
+    start b = alike_above v' v u (one_back v v' q) b
+
+    finish : IsBelow v w → IsBelow v' w'
+    finish b = alike_above w' w v' (one_back w w' p) (alike_below v' v w (one_back v v' q) b)
