@@ -75,7 +75,7 @@ pub record IsDart (chains : List MapChain) (d : ℕ) : Type 0 where
   pub starts : dart_start chains d ≡ Some points.first
   pub heads : Heads chains d heading
 
-no_chain : MapChain
+pub no_chain : MapChain
 no_chain = record { tlid = 0; points = []; left = Outside; right = Outside; start_cell = None; end_cell = None }
 
 pub direction_of : (p q : Point) → p ≢ q → Direction

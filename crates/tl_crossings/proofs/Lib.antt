@@ -3,3 +3,5 @@ pub mod Turns
 pub mod Darts
 pub mod Nexts
 pub mod Telescoping
+pub mod Ends
+pub mod Cancelling
