@@ -5,3 +5,4 @@ pub mod Nexts
 pub mod Telescoping
 pub mod Ends
 pub mod Cancelling
+pub mod OneWay
