@@ -1,5 +1,5 @@
 -- The darts of proper chains: each starts at a node and has a heading.
-use Rattle.std.proofs.Common.{◌≡◌, ◌≢◌, ℕ, zero, suc, ◌+◌, ◌-◌, ◌*◌, ◌/◌, ◌%◌, ◌<◌, ◌≤◌, Bool, true, false, ℤ, pos, ◌-ℤ◌, Some, None, List, [], ◌∷◌, length, get_or, reverse, refl, sym, ap, ◌∙◌, arith}
+use Rattle.std.proofs.Common.{◌≡◌, ◌≢◌, ◌⊎◌, inl, inr, ℕ, zero, suc, ◌+◌, ◌-◌, ◌*◌, ◌/◌, ◌%◌, ◌<◌, ◌≤◌, Bool, true, false, ℤ, pos, ◌-ℤ◌, Some, None, List, [], ◌∷◌, length, get_or, reverse, refl, sym, ap, ◌∙◌, arith}
 use Rattle.std.specs.Prelude.{slice_get}
 use Rattle.std.specs.Option.{option_and_then}
 use Rattle.std.proofs.lemmas.Int.{ints}
@@ -7,15 +7,20 @@ use Rattle.std.proofs.lemmas.List.{length-reverse, get_or-reverse}
 use Rattle.std.proofs.lemmas.Option.{slice_get-get_or}
 use Rattle.tl_geom.specs.declared.point.Point.{Point}
 use Rattle.tl_geom.specs.declared.direction.Direction.{Direction}
+use Rattle.tl_geom.specs.declared.rational.Rational.{Rational}
+use Rattle.tl_geom.specs.declared.segment.Segment.{Segment}
+use Rattle.tl_geom.specs.Plane.{IsOn}
 use Rattle.tl_geom.proofs.Places.{point_same}
 use Rattle.tl_map.specs.Chains.{IsProper}
 use Rattle.tl_map.specs.declared.sides.Side.TheVariants.{Outside}
 use Rattle.tl_map.specs.TheMap.{MapChain}
 use Rattle.tl_map.specs.Darts.{directed, is_along, dart_start, dart_second, Heads}
+use Rattle.tl_planar.specs.Planar.{IsOnSegment}
 use Rattle.tl_sides.specs.Sides.{dart_count}
+use Rattle.tl_crossings.proofs.OneWay.{flip, flip_a, flip_b, on_flip}
 use Rattle.tl_crossings.specs.Headings.{AreProper}
 
--- the first two points of a chain, from one of its ends: points k and l
+-- the first two points of a chain, from one of its ends, points k and l, and the segment between them
 pub record AreFirst (points : List Point) (along : Bool) : Type 0 where
   pub k : ℕ
   pub l : ℕ
@@ -26,6 +31,9 @@ pub record AreFirst (points : List Point) (along : Bool) : Type 0 where
   pub first_is : slice_get points k ≡ Some first
   pub second_is : slice_get points l ≡ Some second
   pub differ : first ≢ second
+  pub place : ℕ
+  pub is_end : ((along ≡ true) × (k ≡ 0) × (place ≡ 0) × (l ≡ 1)) ⊎ ((along ≡ false) × (k ≡ length points - 1) × (place + 2 ≡ length points) × (l ≡ place))
+  pub on : (s : Segment) (r : Rational) → s.a ≡ first → s.b ≡ second → IsOn s r → IsOnSegment points place r
 
 no_point : Point
 no_point = record { x = pos 0; y = pos 0 }
@@ -45,6 +53,9 @@ are_first points proper true =
       first_is = e;
       second_is = f;
       differ = proper.distinct 0 no_point (omega (arith, several));
+      place = 0;
+      is_end = inl (refl, refl, refl, refl);
+      on = λ s r a b on. record { segment = s; from = e ∙ ap Some (sym a); to = f ∙ ap Some (sym b); on = on };
     }
 are_first points proper false =
     let several = proper.several in
@@ -63,6 +74,14 @@ are_first points proper false =
       goes = f ∙ ap Some (get_or-reverse points 1 no_point (omega (arith, several)));
       first_is = slice_get-get_or points k no_point (omega (arith, several));
       second_is = slice_get-get_or points l no_point (omega (arith, several));
+      place = l;
+      is_end = inr (refl, omega arith, omega (arith, several), refl);
+      on = λ s r a b on. record {
+        segment = flip s;
+        from = slice_get-get_or points l no_point (omega (arith, several)) ∙ ap Some (sym b ∙ sym (flip_a s));
+        to = ap (slice_get points) next ∙ slice_get-get_or points k no_point (omega (arith, several)) ∙ ap Some (sym a ∙ sym (flip_b s));
+        on = on_flip s r on;
+      };
       differ = λ same. proper.distinct l no_point (omega (arith, several)) (sym same ∙ ap (λ i. get_or points i no_point) (sym next));
     }
 
@@ -73,6 +92,7 @@ pub record IsDart (chains : List MapChain) (d : ℕ) : Type 0 where
   pub points : AreFirst chain.points (is_along d)
   pub heading : Direction
   pub starts : dart_start chains d ≡ Some points.first
+  pub goes : dart_second chains d ≡ Some points.second
   pub heads : Heads chains d heading
 
 pub no_chain : MapChain
@@ -106,5 +126,6 @@ dart_of chains proper d lt =
       points = two;
       heading = direction_of two.first two.second two.differ;
       starts = starts;
+      goes = goes;
       heads = record { first = two.first; second = two.second; starts = starts; goes = goes; x = direction_x two.first two.second two.differ; y = direction_y two.first two.second two.differ };
     }

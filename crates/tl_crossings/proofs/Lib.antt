@@ -6,3 +6,4 @@ pub mod Telescoping
 pub mod Ends
 pub mod Cancelling
 pub mod OneWay
+pub mod Apart
