@@ -7,3 +7,5 @@ pub mod Ends
 pub mod Cancelling
 pub mod OneWay
 pub mod Apart
+pub mod AtHeight
+pub mod Located
