@@ -9,3 +9,4 @@ pub mod OneWay
 pub mod Apart
 pub mod AtHeight
 pub mod Located
+pub mod Listing

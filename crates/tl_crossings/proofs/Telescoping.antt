@@ -67,7 +67,7 @@ module _ (y : ℤ) (S : Side → Bool) where
   last_of p [] = p
   last_of p (q ∷ points) = last_of q points
 
-  count_from : (P : Flanks → Bool) (p q : Point) (points : List Point) (left right : Side) → count_by P (crossed_from y p (q ∷ points) left right) ≡ cond (parts y p q) (bit (P (flanks_between p q left right))) 0 + count_by P (crossed_from y q points left right)
+  pub count_from : (P : Flanks → Bool) (p q : Point) (points : List Point) (left right : Side) → count_by P (crossed_from y p (q ∷ points) left right) ≡ cond (parts y p q) (bit (P (flanks_between p q left right))) 0 + count_by P (crossed_from y q points left right)
   count_from P p q points left right = go (parts y p q) refl
     where
       rest : List Flanks
