@@ -1,5 +1,5 @@
 -- A segment that a height parts has one place there: east of a point at that height, at it, or west of it.
-use Rattle.std.proofs.Common.{◌≡◌, ◌⊎◌, inl, inr, ⊎_elim, ℤ, pos, ◌+ℤ◌, ◌-ℤ◌, ◌*ℤ◌, ◌<ℤ◌, ◌≤ℤ◌, ap, sym, ◌∙◌, arith}
+use Rattle.std.proofs.Common.{◌≡◌, ◌⊎◌, inl, inr, ⊎_elim, ℤ, pos, ◌+ℤ◌, ◌-ℤ◌, ◌*ℤ◌, ◌<ℤ◌, ◌≤ℤ◌, ap, sym, subst, ◌∙◌, arith}
 use Rattle.std.proofs.lemmas.Int.{ints}
 use Rattle.tl_geom.specs.declared.point.Point.{Point}
 use Rattle.tl_geom.specs.declared.rational.Rational.{Rational}
@@ -7,7 +7,7 @@ use Rattle.tl_geom.specs.declared.segment.Segment.{Segment}
 use Rattle.tl_geom.specs.Plane.{IsOn, cross, whole, turn_of}
 use Rattle.tl_geom.specs.Ray.{IsParted, Crosses}
 use Rattle.tl_geom.proofs.Polynomials.{num, ◌⊕◌, ◌⊖◌, ◌⊗◌, same, same_by_two}
-use Rattle.tl_geom.proofs.Signs.{mono_lt, product_above, zero_product, sign}
+use Rattle.tl_geom.proofs.Signs.{mono_lt, product_above, above_of_product, times_zero, zero_product, sign}
 use Rattle.tl_geom.proofs.Places.{place, place_on, on_same}
 use Rattle.tl_planar.proofs.Ends.{same_by_products}
 use Rattle.tl_crossings.specs.West.{CrossesWest}
@@ -75,27 +75,61 @@ one_way_off t uy e d f l p q =
     (num (pos 0) ⊖ num l) (num d ⊗ num t) (num uy ⊗ num e)
     (num d) (num l ⊗ num t) (num uy ⊗ num f) p q (omega arith)
 
+-- how far two places of a segment at the height of q are to the east
+module _ (s : Segment) (q : Point) (parted : IsParted q s.a s.b) (r w : Rational) (r_on : IsOn s r) (w_on : IsOn s w) (r_height : r.y ≡ r.d *ℤ q.y) (w_height : w.y ≡ w.d *ℤ q.y) where
+  steep : s.b.y -ℤ s.a.y ≡ pos 0 → ⊥
+  steep e = ⊎_elim (λ up. omega (arith, ints, up.0, up.1, e)) (λ down. omega (arith, ints, down.0, down.1, e)) parted
+
+  same_off : w.d *ℤ (r.x -ℤ r.d *ℤ q.x) ≡ r.d *ℤ (w.x -ℤ w.d *ℤ q.x)
+  same_off =
+      let e : r.d *ℤ turn_of s.a s.b q ≡ (s.b.y -ℤ s.a.y) *ℤ (r.x -ℤ r.d *ℤ q.x) =
+      turn_at (s.b.x -ℤ s.a.x) (s.b.y -ℤ s.a.y) s.a.x s.a.y q.x q.y r.x r.y r.d r_on.straight r_height in
+      let f : w.d *ℤ turn_of s.a s.b q ≡ (s.b.y -ℤ s.a.y) *ℤ (w.x -ℤ w.d *ℤ q.x) =
+      turn_at (s.b.x -ℤ s.a.x) (s.b.y -ℤ s.a.y) s.a.x s.a.y q.x q.y w.x w.y w.d w_on.straight w_height in
+      let zero : w.d *ℤ (r.x -ℤ r.d *ℤ q.x) -ℤ r.d *ℤ (w.x -ℤ w.d *ℤ q.x) ≡ pos 0 =
+      zero_product (s.b.y -ℤ s.a.y) (w.d *ℤ (r.x -ℤ r.d *ℤ q.x) -ℤ r.d *ℤ (w.x -ℤ w.d *ℤ q.x)) steep
+      (one_way_off (turn_of s.a s.b q) (s.b.y -ℤ s.a.y) (r.x -ℤ r.d *ℤ q.x) r.d (w.x -ℤ w.d *ℤ q.x) w.d e f) in
+      omega (arith, ints, zero)
+
+  -- where one is strictly east of q, so is the other
+  both_east : (r.d *ℤ q.x) <ℤ r.x → (w.d *ℤ q.x) <ℤ w.x
+  both_east east =
+      let h : pos 0 <ℤ (w.d *ℤ (r.x -ℤ r.d *ℤ q.x)) = product_above w.d (r.x -ℤ r.d *ℤ q.x) w.above_zero (omega (arith, ints, east)) in
+      let d : pos 0 <ℤ r.d = r.above_zero in
+      let k : pos 0 <ℤ (w.x -ℤ w.d *ℤ q.x) = above_of_product r.d (w.x -ℤ w.d *ℤ q.x) (omega (arith, ints, d)) (subst (λ z. pos 0 <ℤ z) same_off h) in
+      omega (arith, ints, k)
+
+  -- and where one is at q, so is the other
+  both_here : r.x ≡ r.d *ℤ q.x → w.x ≡ w.d *ℤ q.x
+  both_here here =
+      let none : r.x -ℤ r.d *ℤ q.x ≡ pos 0 = omega (arith, ints, here) in
+      let h : r.d *ℤ (w.x -ℤ w.d *ℤ q.x) ≡ pos 0 = sym same_off ∙ ap (λ z. w.d *ℤ z) none ∙ times_zero w.d in
+      let d : pos 0 <ℤ r.d = r.above_zero in
+      let k : w.x -ℤ w.d *ℤ q.x ≡ pos 0 = zero_product r.d (w.x -ℤ w.d *ℤ q.x) (λ e. omega (arith, ints, d, e)) h in
+      omega (arith, ints, k)
+
+one_times : (a : ℤ) → a ≡ pos 1 *ℤ a
+one_times a = same (num a) (num (pos 1) ⊗ num a) (omega arith)
+
 -- a segment doesn't cross both rays
 pub not_both : (s : Segment) (q : Point) → Crosses s q → CrossesWest s q → ⊥
 not_both s q east west =
-    let r : Rational = east.place in
-    let w : Rational = west.place in
-    let e : r.d *ℤ turn_of s.a s.b q ≡ (s.b.y -ℤ s.a.y) *ℤ (r.x -ℤ r.d *ℤ q.x) =
-    turn_at (s.b.x -ℤ s.a.x) (s.b.y -ℤ s.a.y) s.a.x s.a.y q.x q.y r.x r.y r.d east.on_segment.straight east.to_the_east.height in
-    let f : w.d *ℤ turn_of s.a s.b q ≡ (s.b.y -ℤ s.a.y) *ℤ (w.x -ℤ w.d *ℤ q.x) =
-    turn_at (s.b.x -ℤ s.a.x) (s.b.y -ℤ s.a.y) s.a.x s.a.y q.x q.y w.x w.y w.d west.on_segment.straight west.to_the_west.height in
-    let zero : w.d *ℤ (r.x -ℤ r.d *ℤ q.x) -ℤ r.d *ℤ (w.x -ℤ w.d *ℤ q.x) ≡ pos 0 =
-    zero_product (s.b.y -ℤ s.a.y) (w.d *ℤ (r.x -ℤ r.d *ℤ q.x) -ℤ r.d *ℤ (w.x -ℤ w.d *ℤ q.x)) (steep east.parted)
-    (one_way_off (turn_of s.a s.b q) (s.b.y -ℤ s.a.y) (r.x -ℤ r.d *ℤ q.x) r.d (w.x -ℤ w.d *ℤ q.x) w.d e f) in
-    let h : pos 0 <ℤ (w.d *ℤ (r.x -ℤ r.d *ℤ q.x)) = product_above w.d (r.x -ℤ r.d *ℤ q.x) w.above_zero (let p = east.to_the_east.past in omega (arith, ints, p)) in
-    let k : pos 0 <ℤ (r.d *ℤ (w.d *ℤ q.x -ℤ w.x)) = product_above r.d (w.d *ℤ q.x -ℤ w.x) r.above_zero (let p = west.to_the_west.past in omega (arith, ints, p)) in
-    let l : r.d *ℤ (w.d *ℤ q.x -ℤ w.x) ≡ pos 0 -ℤ r.d *ℤ (w.x -ℤ w.d *ℤ q.x) =
-    same (num r.d ⊗ (num w.d ⊗ num q.x ⊖ num w.x)) (num (pos 0) ⊖ num r.d ⊗ (num w.x ⊖ num w.d ⊗ num q.x)) (omega arith) in
-    omega (arith, ints, zero, h, k, l)
-  where
-    steep : IsParted q s.a s.b → s.b.y -ℤ s.a.y ≡ pos 0 → ⊥
-    steep (inl up) e = omega (arith, ints, up.0, up.1, e)
-    steep (inr down) e = omega (arith, ints, down.0, down.1, e)
+    let h = both_east s q east.parted east.place west.place east.on_segment west.on_segment east.to_the_east.height west.to_the_west.height east.to_the_east.past in
+    let k = west.to_the_west.past in
+    omega (arith, ints, h, k)
+
+-- nor one that q lies on
+pub not_east : (s : Segment) (q : Point) → IsOn s (whole q) → ¬ Crosses s q
+not_east s q on east =
+    let h = both_here s q east.parted (whole q) east.place on east.on_segment (one_times q.y) east.to_the_east.height (one_times q.x) in
+    let k = east.to_the_east.past in
+    omega (arith, ints, h, k)
+
+pub not_west : (s : Segment) (q : Point) → IsOn s (whole q) → ¬ CrossesWest s q
+not_west s q on west =
+    let h = both_here s q west.parted (whole q) west.place on west.on_segment (one_times q.y) west.to_the_west.height (one_times q.x) in
+    let k = west.to_the_west.past in
+    omega (arith, ints, h, k)
 
 -- where both ends are east of q, so is each place of the segment
 pub all_east : (s : Segment) (q : Point) (r : Rational) → q.x <ℤ s.a.x → q.x <ℤ s.b.x → IsOn s r → (r.d *ℤ q.x) <ℤ r.x

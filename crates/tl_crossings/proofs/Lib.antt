@@ -10,3 +10,4 @@ pub mod Apart
 pub mod AtHeight
 pub mod Located
 pub mod Listing
+pub mod Crossing
