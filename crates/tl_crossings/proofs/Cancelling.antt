@@ -1,0 +1,58 @@
+-- Where sides agree, next permutes the darts, so that as much counts on their left as on their right.
+use Rattle.std.proofs.Common.{◌≡◌, inl, inr, ℕ, ◌+◌, ◌<◌, ◌≤◌, ℤ, pos, ◌-ℤ◌, Bool, List, length, refl, sym, ap, subst, ◌∙◌, arith}
+use Rattle.std.proofs.lemmas.Bool.{cases_lt}
+use Rattle.std.proofs.lemmas.Int.{ints}
+use Rattle.tl_map.specs.declared.sides.Side.{Side}
+use Rattle.tl_map.specs.TheMap.{MapChain}
+use Rattle.tl_map.specs.Darts.{dart_start}
+use Rattle.tl_sides.specs.Sides.{dart_count, dart_right, IsNext, SidesAgree}
+use Rattle.tl_sides.proofs.Headings.{dart_within}
+use Rattle.tl_inside.specs.Inside.{balance}
+use Rattle.tl_crossings.specs.Heights.{crossed_at}
+use Rattle.tl_crossings.specs.Headings.{AreProper, HeadApart}
+use Rattle.tl_crossings.proofs.Sums.{sum_below, sum_same, sum_permuted}
+use Rattle.tl_crossings.proofs.Nexts.{next_of, one_next}
+use Rattle.tl_crossings.proofs.Telescoping.{near_count, far_count, left_ends, right_ends, telescoped}
+use Rattle.tl_crossings.proofs.Ends.{weight_of, left_weight, right_weight, left_sum, right_sum}
+
+module _ (chains : List MapChain) (proper : AreProper chains) (apart : HeadApart chains) (agree : SidesAgree chains) where
+  next : ℕ → ℕ
+  next d = elim (cases_lt d (dart_count chains)) [ inl lt ↦ (next_of chains proper d lt).0 | inr le ↦ d ]
+
+  is_next : (d : ℕ) → d < dart_count chains → IsNext chains d (next d)
+  unfolding next
+  is_next d lt = elim (cases_lt d (dart_count chains)) as (λ o. IsNext chains d (elim o [ inl lt ↦ (next_of chains proper d lt).0 | inr le ↦ d ])) [
+    | inl low ↦ (next_of chains proper d low).1
+    | inr le ↦ absurd (omega (arith, lt, le))
+  ]
+
+  below : (d : ℕ) → d < dart_count chains → next d < dart_count chains
+  below d lt = let n : IsNext chains d (next d) = is_next d lt in dart_within chains (next d) n.node n.b_starts
+
+  one : (d e : ℕ) → d < dart_count chains → e < dart_count chains → next d ≡ next e → d ≡ e
+  one d e lt less same =
+      let n : IsNext chains d (next d) = is_next d lt in
+      let m : IsNext chains e (next e) = is_next e less in
+      one_next chains apart d e (next d) n (subst (IsNext chains e) (sym same) m)
+
+  module _ (y : ℤ) (S : Side → Bool) where
+    step : (d : ℕ) → d < dart_count chains → left_weight y S chains d ≡ right_weight y S chains (next d)
+    unfolding left_weight right_weight
+    step d lt =
+        let n : IsNext chains d (next d) = is_next d lt in
+        let start : dart_start chains d ≡ dart_start chains (next d) = n.a_starts ∙ sym n.b_starts in
+        (λ i. weight_of y S (start i) (agree d (next d) n i))
+
+    pub as_much : left_ends y S chains ≡ right_ends y S chains
+    as_much =
+        sym (left_sum y S chains)
+        ∙ sum_same (left_weight y S chains) (λ d. right_weight y S chains (next d)) (dart_count chains) step
+        ∙ sum_permuted (dart_count chains) next below one (right_weight y S chains)
+        ∙ right_sum y S chains
+
+    pub near_is_far : near_count y S (crossed_at y chains) ≡ far_count y S (crossed_at y chains)
+    near_is_far = let both = telescoped y S chains in let ends = as_much in omega (arith, both, ends)
+
+    pub cancelled : balance S (crossed_at y chains) ≡ pos 0
+    unfolding near_count far_count
+    cancelled = let same = near_is_far in omega (arith, ints, same)

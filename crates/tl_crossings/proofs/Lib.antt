@@ -1,0 +1,13 @@
+pub mod Sums
+pub mod Turns
+pub mod Darts
+pub mod Nexts
+pub mod Telescoping
+pub mod Ends
+pub mod Cancelling
+pub mod OneWay
+pub mod Apart
+pub mod AtHeight
+pub mod Located
+pub mod Listing
+pub mod Crossing

@@ -1,0 +1,5 @@
+-- What the laws cite.
+pub mod Heights
+pub mod Headings
+pub mod West
+pub mod Boxes
