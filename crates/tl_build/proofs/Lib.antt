@@ -1,4 +1,5 @@
 pub mod ListLemmas
+pub mod SortLemmas
 pub mod Forests
 pub mod NodeLemmas
 pub mod Sizes

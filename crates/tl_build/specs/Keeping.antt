@@ -1,5 +1,6 @@
 -- What the builder keeps on its way. No public contract cites a file of this folder.
 pub mod Lists
+pub mod Sorting
 pub mod Nodes
 pub mod Proposed
 pub mod Judging

@@ -1,10 +1,11 @@
 //! The rounds of a map: the darts of each node in the order of their headings.
 
-ghost use Rattle.std.specs.Prelude.{◌≡◌, ◌≢◌, ℕ, ◌*◌, ◌-◌, ◌^◌, ◌<◌, ◌≤◌, zero, length, map, All, IfOk, slice_index_or};
+ghost use Rattle.std.specs.Prelude.{◌≡◌, ◌≢◌, ◌↔◌, ℕ, ◌*◌, ◌-◌, ◌^◌, ◌<◌, ◌≤◌, zero, length, map, All, IfOk, slice_index_or};
 ghost use Rattle.std.specs.List.{concat};
 ghost use Rattle.std.specs.List.Sorted.{IsPermutation};
 ghost use Rattle.tl_build.specs.declared.rounds.DartStart.{DartStart};
 ghost use Rattle.tl_build.specs.Keeping.Lists.{up, HoldsAll, darts_in, AreDartsBelow};
+ghost use Rattle.tl_build.specs.Keeping.Sorting.{ComesBefore, AreSorted};
 
 use std::alloc::{AllocError, Global};
 use std::cmp::Ordering;
@@ -33,9 +34,12 @@ pub fn sort_starts(alloc: Global, map: &Map) -> Result<Vec<DartStart>, AllocErro
 
 /// Sorts darts by their nodes, and about one node by their headings.
 fn sort_about(starts: &mut Vec<DartStart>)
-    ensures { IsPermutation starts.old.items starts.new.items }
+    ensures same { IsPermutation starts.old.items starts.new.items }
+    ensures sorted { AreSorted starts.new.items }
 {
-    starts.sort_unstable_by(|one, other| start_cmp(one, other));
+    starts.sort_unstable_by(|one: &DartStart, other: &DartStart| -> Ordering
+        ensures { (result ≡ Ordering.Less) ↔ ComesBefore one.now other.now }
+    { start_cmp(one, other) });
 }
 
 /// The darts of a map by their numbers.
@@ -59,7 +63,9 @@ fn starts_of(alloc: Global, map: &Map) -> Result<Vec<DartStart>, AllocError>
 }
 
 /// The order of darts by their nodes, and about one node by their headings.
-fn start_cmp(one: &DartStart, other: &DartStart) -> Ordering {
+fn start_cmp(one: &DartStart, other: &DartStart) -> Ordering
+    ensures { (result ≡ Ordering.Less) ↔ ComesBefore one.now other.now }
+{
     match one.node.cmp(&other.node) {
         Ordering::Equal => round_cmp(one.heading, other.heading),
         apart => apart,

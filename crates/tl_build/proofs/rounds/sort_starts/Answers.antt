@@ -8,14 +8,14 @@ pub returns-clause-all : goal.returns-clause-all
 returns-clause-all c =
     let number = map (λ (s : DartStart). s.dart) in
     subst (λ xs. IsPermutation xs (number c.sort_about.new.starts.items)) c.in_ok-starts.ensures.all
-    (IsPermutation-map (λ (s : DartStart). s.dart) _ _ c.sort_about.ensures)
+    (IsPermutation-map (λ (s : DartStart). s.dart) _ _ c.sort_about.ensures.same)
 
 pub returns-clause-known : goal.returns-clause-known
 returns-clause-known c =
-    All-permutation (λ (s : DartStart). s.dart < 2 * length c.args.map.now.chains) _ _ c.sort_about.ensures c.in_ok-starts.ensures.known
+    All-permutation (λ (s : DartStart). s.dart < 2 * length c.args.map.now.chains) _ _ c.sort_about.ensures.same c.in_ok-starts.ensures.known
 
 pub returns-clause-long : goal.returns-clause-long
-returns-clause-long c = length_permutation _ _ c.sort_about.ensures ∙ c.in_ok-starts.ensures.long
+returns-clause-long c = length_permutation _ _ c.sort_about.ensures.same ∙ c.in_ok-starts.ensures.long
 
 pub returns-clause-counted : goal.returns-clause-counted
-returns-clause-counted c = omega (arith, length_permutation _ _ c.sort_about.ensures, c.in_ok-starts.ensures.counted)
+returns-clause-counted c = omega (arith, length_permutation _ _ c.sort_about.ensures.same, c.in_ok-starts.ensures.counted)
