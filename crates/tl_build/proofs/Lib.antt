@@ -1,5 +1,6 @@
 pub mod ListLemmas
 pub mod SortLemmas
+pub mod CutLemmas
 pub mod Forests
 pub mod NodeLemmas
 pub mod Sizes

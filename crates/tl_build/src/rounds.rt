@@ -1,11 +1,11 @@
 //! The rounds of a map: the darts of each node in the order of their headings.
 
-ghost use Rattle.std.specs.Prelude.{◌≡◌, ◌≢◌, ◌↔◌, ℕ, ◌*◌, ◌-◌, ◌^◌, ◌<◌, ◌≤◌, zero, length, map, All, IfOk, slice_index_or};
+ghost use Rattle.std.specs.Prelude.{◌≡◌, ◌≢◌, ◌↔◌, [], ℕ, ◌*◌, ◌-◌, ◌^◌, ◌<◌, ◌≤◌, zero, length, map, All, IfOk, slice_index_or};
 ghost use Rattle.std.specs.List.{concat};
 ghost use Rattle.std.specs.List.Sorted.{IsPermutation};
 ghost use Rattle.tl_build.specs.declared.rounds.DartStart.{DartStart};
-ghost use Rattle.tl_build.specs.Keeping.Lists.{up, HoldsAll, darts_in, AreDartsBelow};
-ghost use Rattle.tl_build.specs.Keeping.Sorting.{ComesBefore, AreSorted};
+ghost use Rattle.tl_build.specs.Keeping.Lists.{up, HoldsAll, darts_in, lists_in, AreDartsBelow};
+ghost use Rattle.tl_build.specs.Keeping.Sorting.{ComesBefore, AreSorted, AreCut};
 
 use std::alloc::{AllocError, Global};
 use std::cmp::Ordering;
@@ -80,6 +80,7 @@ pub fn cut_rounds(
 ) -> Result<Vec<Vec<u32>>, AllocError>
     ensures whole { IfOk result (λ rounds. concat (map (λ r. r.items) rounds.items) ≡ darts_in starts.now) }
     ensures some { IfOk result (λ rounds. All (λ r. zero < length r.items) rounds.items) }
+    ensures cut { IfOk result (λ rounds. AreSorted starts.now → AreCut starts.now [] (lists_in rounds.items)) }
 {
     let mut rounds = Vec::with_capacity(alloc, nodes as usize)?;
     let mut rest = starts;
