@@ -5,7 +5,7 @@ ghost use Rattle.std.specs.List.{concat};
 ghost use Rattle.std.specs.List.Sorted.{IsPermutation};
 ghost use Rattle.tl_build.specs.declared.rounds.DartStart.{DartStart};
 ghost use Rattle.tl_build.specs.Keeping.Lists.{up, HoldsAll, darts_in, lists_in, AreDartsBelow};
-ghost use Rattle.tl_build.specs.Keeping.Sorting.{ComesBefore, AreSorted, AreCut};
+ghost use Rattle.tl_build.specs.Keeping.Sorting.{ComesBefore, AreSorted, AreCut, IsStartOf};
 
 use std::alloc::{AllocError, Global};
 use std::cmp::Ordering;
@@ -26,6 +26,8 @@ pub fn sort_starts(alloc: Global, map: &Map) -> Result<Vec<DartStart>, AllocErro
     ensures known { IfOk result (λ starts. AreDartsBelow (2 * length map.now.chains) starts.items) }
     ensures long { IfOk result (λ starts. length starts.items ≡ 2 * length map.now.chains) }
     ensures counted { IfOk result (λ starts. length starts.items < 2 ^ 32) }
+    ensures each { IfOk result (λ starts. All (IsStartOf map.now.chains) starts.items) }
+    ensures sorted { IfOk result (λ starts. AreSorted starts.items) }
 {
     let mut starts = starts_of(alloc, map)?;
     sort_about(&mut starts);
@@ -48,6 +50,7 @@ fn starts_of(alloc: Global, map: &Map) -> Result<Vec<DartStart>, AllocError>
     ensures known { IfOk result (λ starts. AreDartsBelow (2 * length map.now.chains) starts.items) }
     ensures long { IfOk result (λ starts. length starts.items ≡ 2 * length map.now.chains) }
     ensures counted { IfOk result (λ starts. length starts.items < 2 ^ 32) }
+    ensures each { IfOk result (λ starts. All (IsStartOf map.now.chains) starts.items) }
 {
     let mut starts = Vec::with_capacity(alloc, map.darts() as usize)?;
     for dart in 0..map.darts() {

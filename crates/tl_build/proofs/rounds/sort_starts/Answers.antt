@@ -1,6 +1,7 @@
 use Rattle.std.proofs.Common.{◌<◌, ◌*◌, length, subst, map, ◌∙◌, arith}
 use Rattle.std.specs.List.Sorted.{IsPermutation}
 use Rattle.std.proofs.lemmas.List.Sorted.{IsPermutation-map, All-permutation, length_permutation}
+use Rattle.tl_build.specs.Keeping.Sorting.{IsStartOf}
 use Rattle.tl_build.specs.declared.rounds.DartStart.{DartStart}
 use Rattle.tl_build.proofs.rounds.sort_starts.Goals as goal
 
@@ -13,6 +14,9 @@ returns-clause-all c =
 pub returns-clause-known : goal.returns-clause-known
 returns-clause-known c =
     All-permutation (λ (s : DartStart). s.dart < 2 * length c.args.map.now.chains) _ _ c.sort_about.ensures.same c.in_ok-starts.ensures.known
+
+pub returns-clause-each : goal.returns-clause-each
+returns-clause-each c = All-permutation (IsStartOf c.args.map.now.chains) _ _ c.sort_about.ensures.same c.in_ok-starts.ensures.each
 
 pub returns-clause-long : goal.returns-clause-long
 returns-clause-long c = length_permutation _ _ c.sort_about.ensures.same ∙ c.in_ok-starts.ensures.long

@@ -1,5 +1,6 @@
 use Rattle.std.proofs.Common.{◌<◌, ◌*◌, length, [], refl, sym, ◌∙◌, ap, map, length-append, arith}
 use Rattle.std.proofs.lemmas.List.Elements.{All-nil, All-push, All-same}
+use Rattle.tl_build.specs.Keeping.Sorting.{IsStartOf}
 use Rattle.tl_build.specs.declared.rounds.DartStart.{DartStart}
 use Rattle.tl_build.proofs.ListLemmas.{up_none, up_pushed}
 use Rattle.tl_build.proofs.rounds.starts_of.Goals as goal
@@ -11,6 +12,7 @@ loop-dart-init c =
       all = ap (map (λ (s : DartStart). s.dart)) c.in_ok-starts.ensures.items ∙ sym up_none;
       known = All-same (λ (s : DartStart). s.dart < n) _ [] c.in_ok-starts.ensures.items (All-nil _);
       long = ap length c.in_ok-starts.ensures.items;
+      each = All-same (IsStartOf c.args.map.now.chains) _ [] c.in_ok-starts.ensures.items (All-nil _);
     }
 
 pub loop-dart-preserved : goal.loop-dart-preserved
@@ -21,4 +23,7 @@ loop-dart-preserved c =
       all = up_pushed (λ (s : DartStart). s.dart) _ _ c.loop-dart.dart _ c.in_ok-push.ensures.items refl c.loop-dart.invariant.all;
       known = All-same (λ (s : DartStart). s.dart < n) _ _ c.in_ok-push.ensures.items (All-push (λ (s : DartStart). s.dart < n) _ _ c.loop-dart.invariant.known one);
       long = omega (arith, simp length-append at (ap length c.in_ok-push.ensures.items), c.loop-dart.invariant.long);
+      each = All-same (IsStartOf c.args.map.now.chains) _ _ c.in_ok-push.ensures.items
+          (All-push (IsStartOf c.args.map.now.chains) _ _ c.loop-dart.invariant.each
+          (record { starts = c.dart_node-node.ensures.start; within = c.dart_node-node.ensures.within; heads = c.dart_heading-heading.ensures }));
     }

@@ -1,4 +1,6 @@
 use Rattle.std.proofs.Common.{◌≡◌, ◌*◌, length}
+use Rattle.std.specs.List.{All}
+use Rattle.tl_build.specs.Keeping.Sorting.{IsStartOf}
 use Rattle.tl_build.specs.Keeping.Lists.{up, darts_in, AreDartsBelow}
 use Rattle.tl_build.proofs.rounds.starts_of.Given as goal
 
@@ -8,4 +10,5 @@ invariant-loop-dart l =
       all : darts_in l.starts.items ≡ up l.dart;
       known : AreDartsBelow (2 * length l.map.chains) l.starts.items;
       long : length l.starts.items ≡ l.dart;
+      each : All (IsStartOf l.map.chains) l.starts.items;
     }
