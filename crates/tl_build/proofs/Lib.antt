@@ -2,6 +2,7 @@ pub mod ListLemmas
 pub mod SortLemmas
 pub mod CutLemmas
 pub mod RoundLemmas
+pub mod WalkLemmas
 pub mod Forests
 pub mod NodeLemmas
 pub mod Sizes

@@ -16,7 +16,7 @@ use Rattle.tl_sides.proofs.MarkLemmas.{count-set}
 pub mark_same : (marks : List Bool) (d : ℕ) → d < length marks → mark_at (set marks d true) d ≡ 1
 mark_same marks d h = ap (λ t. cond t 1 0) (get_or-set_same marks d true false h)
 
-mark_other : (marks : List Bool) (d e : ℕ) → (e ≡ d → ⊥) → mark_at (set marks d true) e ≡ mark_at marks e
+pub mark_other : (marks : List Bool) (d e : ℕ) → (e ≡ d → ⊥) → mark_at (set marks d true) e ≡ mark_at marks e
 mark_other marks d e ne = let f : Bool → ℕ = λ t. cond t 1 0 in ap f (get_or-set_other marks d e true false ne)
 
 -- one dart more is taken

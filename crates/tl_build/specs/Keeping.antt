@@ -1,6 +1,7 @@
 -- What the builder keeps on its way. No public contract cites a file of this folder.
 pub mod Lists
 pub mod Sorting
+pub mod Following
 pub mod Nodes
 pub mod Proposed
 pub mod Judging

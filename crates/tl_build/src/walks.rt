@@ -6,6 +6,7 @@ ghost use Rattle.tl_map.specs.Darts.{reverse_dart};
 ghost use Rattle.tl_tree.specs.Keeping.Checking.{mark_at};
 ghost use Rattle.tl_sides.specs.Lists.{HoldOnce};
 ghost use Rattle.tl_sides.specs.Keeping.Marked.{AddMarks};
+ghost use Rattle.tl_build.specs.Keeping.Following.{IsOneToOne, AreFollowed, GoesBy};
 ghost use Rattle.tl_build.specs.Keeping.Lists.{AreDartsBelow, AreUnmarked};
 
 use crate::rounds::{DartStart, first_round};
@@ -58,6 +59,7 @@ pub fn trace_walks(alloc: Global, following: &[u32]) -> Result<Vec<Vec<u32>>, Al
     ensures hold { IfOk result (λ walks. HoldOnce (length following.now) (map (λ w. w.items) walks.items)) }
     ensures some { IfOk result (λ walks. All (λ w. zero < length w.items) walks.items) }
     ensures counted { IfOk result (λ walks. length (concat (map (λ w. w.items) walks.items)) ≤ length following.now) }
+    ensures goes { IfOk result (λ walks. IsOneToOne following.now → All (λ w. GoesBy following.now w.items) walks.items) }
 {
     let mut taken = vec![in alloc; false; following.len()]?;
     trace_all(alloc, following, &mut taken)
@@ -76,6 +78,7 @@ fn trace_all(
     ensures hold { IfOk result (λ walks. HoldOnce (length following.now) (map (λ w. w.items) walks.items)) }
     ensures some { IfOk result (λ walks. All (λ w. zero < length w.items) walks.items) }
     ensures counted { IfOk result (λ walks. length (concat (map (λ w. w.items) walks.items)) ≤ length following.now) }
+    ensures goes { IfOk result (λ walks. IsOneToOne following.now → All (λ w. GoesBy following.now w.items) walks.items) }
 {
     let mut walks = Vec::new(alloc);
     let mut walk = Vec::new(alloc);
@@ -102,6 +105,10 @@ fn trace_walk(
     requires free { slice_get taken.old first ≡ Some false }
     ensures taken { OnOk result (AddMarks taken.old walk.new.items taken.new) }
     ensures begun { OnOk result (mark_at taken.new first ≡ 1) }
+    ensures goes { OnOk result (IsOneToOne following.now → AreFollowed following.now taken.old →
+        GoesBy following.now walk.new.items) }
+    ensures followed { OnOk result (IsOneToOne following.now → AreFollowed following.now taken.old →
+        AreFollowed following.now taken.new) }
 {
     walk.clear();
     let mut dart = first;

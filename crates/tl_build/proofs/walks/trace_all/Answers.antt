@@ -6,6 +6,7 @@ use Rattle.tl_tree.proofs.Marks.{unmarked}
 use Rattle.tl_sides.specs.Keeping.Marked.{MarkLists}
 use Rattle.tl_sides.proofs.MarkLemmas.{count-within}
 use Rattle.tl_sides.proofs.Ends.{hold_once}
+use Rattle.tl_build.specs.Keeping.Following.{GoesBy}
 use Rattle.tl_build.proofs.ListLemmas.{all_in}
 use Rattle.tl_build.proofs.MarkFacts.{no_lists, some_taken, stay_taken, lists_more, count_more}
 use Rattle.tl_build.proofs.walks.trace_all.Goals as goal
@@ -18,6 +19,8 @@ loop-first-init c =
       marks = subst (λ l. MarkLists (length c.args.following.now) (map (λ (w : Vec ℕ Global). w.items) l) taken) (sym none) (no_lists _ taken c.requires.long c.requires.free);
       before = λ d h. absurd (omega (arith, h));
       some = All-same (λ (w : Vec ℕ Global). zero < length w.items) _ [] none (All-nil _);
+      followed = λ one_to_one x taken. absurd (omega (arith, taken, c.requires.free.each x));
+      goes = λ one_to_one. All-same (λ (w : Vec ℕ Global). GoesBy c.args.following.now w.items) _ [] none (All-nil _);
       count = ap (λ l. length (all_in l)) none ∙ sym c.requires.free.count;
     }
 
@@ -39,6 +42,10 @@ loop-first-preserved c =
         | inr last ↦ ap (mark_at new) (omega (arith, h, last)) ∙ begun
       ];
       some = All-same (λ (w : Vec ℕ Global). zero < length w.items) _ _ c.in_ok-push.ensures.items (All-push (λ (w : Vec ℕ Global). zero < length w.items) _ _ c.loop-first.invariant.some some);
+      followed = λ one_to_one. c.in_ok-trace_walk.ensures.followed one_to_one (c.loop-first.invariant.followed one_to_one);
+      goes = λ one_to_one. All-same (λ (w : Vec ℕ Global). GoesBy c.args.following.now w.items) _ _ c.in_ok-push.ensures.items
+          (All-push (λ (w : Vec ℕ Global). GoesBy c.args.following.now w.items) _ _ (c.loop-first.invariant.goes one_to_one)
+          (subst (GoesBy c.args.following.now) (sym made) (c.in_ok-trace_walk.ensures.goes one_to_one (c.loop-first.invariant.followed one_to_one))));
       count = count_more old new walk c.loop-first.walks.items _ v c.loop-first.invariant.count added made c.in_ok-push.ensures.items;
     }
 

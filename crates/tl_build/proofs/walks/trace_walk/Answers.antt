@@ -1,10 +1,12 @@
-use Rattle.std.proofs.Common.{◌≡◌, ◌<◌, true, [], ◌∷◌, ◌++◌, length, get_or, set, refl, ap, sym, subst, ◌∙◌, arith}
+use Rattle.std.proofs.Common.{◌≡◌, ◌<◌, true, false, [], ◌∷◌, ◌++◌, length, get_or, set, refl, ap, sym, subst, ◌∙◌, arith}
+use Rattle.std.proofs.lemmas.Option.{get_or_from_slice_get}
 use Rattle.tl_sides.specs.Keeping.Marked.{AddMarks}
 use Rattle.tl_sides.proofs.MarkLemmas.{none-added}
 use Rattle.tl_tree.specs.Keeping.Checking.{mark_at}
 use Rattle.tl_tree.proofs.Permuted.{same_or}
-use Rattle.tl_tree.proofs.Marks.{is-marked}
-use Rattle.tl_build.proofs.MarkFacts.{add_taken, begun_more}
+use Rattle.tl_tree.proofs.Marks.{is-marked, unmarked}
+use Rattle.tl_build.proofs.MarkFacts.{add_taken, begun_more, some_taken}
+use Rattle.tl_build.proofs.WalkLemmas.{GoesSoFar, begin, one_more, goes_round, are_followed}
 use Rattle.tl_build.proofs.walks.trace_walk.Goals as goal
 
 pub loop-taken-init : goal.loop-taken-init
@@ -13,6 +15,8 @@ loop-taken-init c =
     record {
       dart = c.requires.first;
       taken = subst (λ xs. AddMarks taken xs taken) (sym c.clear.ensures.items) (none-added taken);
+      goes = subst (λ xs. GoesSoFar c.args.following.now taken taken xs c.args.first c.args.first) (sym c.clear.ensures.items)
+          (begin c.args.following.now taken c.args.first);
       begun = λ ne. absurd (ne refl);
     }
 
@@ -26,6 +30,10 @@ loop-taken-preserved c =
     record {
       dart = c.requires.known dart 0 c.loop-taken.invariant.dart;
       taken = subst (λ xs. AddMarks c.args.taken.now xs (set taken dart true)) (sym c.in_ok-push.ensures.items) added;
+      goes = subst (λ xs. GoesSoFar c.args.following.now c.args.taken.now (set taken dart true) xs c.args.first (get_or c.args.following.now dart 0))
+          (sym c.in_ok-push.ensures.items)
+          (one_more c.args.following.now c.args.taken.now taken c.loop-taken.walk.items c.args.first dart c.loop-taken.invariant.goes
+          c.loop-taken.invariant.dart within c.loop-taken-test.true);
       begun = λ ne. begun_more taken c.args.first dart (get_or c.args.following.now dart 0) within c.loop-taken.invariant.begun ne;
     }
 
@@ -36,3 +44,17 @@ returns-clause-begun c =
     same_or c.loop-taken.dart c.args.first
     (λ e. ap (mark_at taken) (sym e) ∙ here)
     c.loop-taken.invariant.begun
+
+pub returns-clause-goes : goal.returns-clause-goes
+returns-clause-goes c = λ one_to_one followed.
+    let free = unmarked c.args.taken.now c.args.first (get_or_from_slice_get c.args.taken.now c.args.first false false c.requires.free) in
+    let some = some_taken c.args.taken.now c.loop-taken.taken c.loop-taken.walk.items c.args.first c.loop-taken.invariant.taken free (returns-clause-begun c) in
+    goes_round c.args.following.now c.args.taken.now c.loop-taken.taken c.loop-taken.walk.items c.args.first c.loop-taken.dart c.loop-taken.invariant.goes
+    some (is-marked c.loop-taken.taken c.loop-taken.dart c.loop-taken-test.false) one_to_one followed
+
+pub returns-clause-followed : goal.returns-clause-followed
+returns-clause-followed c = λ one_to_one followed.
+    let free = unmarked c.args.taken.now c.args.first (get_or_from_slice_get c.args.taken.now c.args.first false false c.requires.free) in
+    let some = some_taken c.args.taken.now c.loop-taken.taken c.loop-taken.walk.items c.args.first c.loop-taken.invariant.taken free (returns-clause-begun c) in
+    are_followed c.args.following.now c.args.taken.now c.loop-taken.taken c.loop-taken.walk.items c.args.first c.loop-taken.dart c.loop-taken.invariant.goes
+    some (is-marked c.loop-taken.taken c.loop-taken.dart c.loop-taken-test.false) one_to_one followed

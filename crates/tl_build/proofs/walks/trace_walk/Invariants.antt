@@ -3,6 +3,7 @@ use Rattle.std.specs.List.{count_by}
 use Rattle.std.specs.Prelude.{not}
 use Rattle.tl_tree.specs.Keeping.Checking.{mark_at}
 use Rattle.tl_sides.specs.Keeping.Marked.{AddMarks}
+use Rattle.tl_build.proofs.WalkLemmas.{GoesSoFar}
 use Rattle.tl_build.proofs.walks.trace_walk.Given as goal
 
 -- the darts of the walk are taken, and unless the first is the next of them, it is taken too
@@ -11,6 +12,7 @@ invariant-loop-taken l =
     record {
       dart : l.dart < length l.following;
       taken : AddMarks l.fn.taken l.walk.items l.taken;
+      goes : GoesSoFar l.following l.fn.taken l.taken l.walk.items l.first l.dart;
       begun : (l.dart ≡ l.first → ⊥) → mark_at l.taken l.first ≡ 1;
     }
 

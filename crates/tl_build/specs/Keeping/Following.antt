@@ -1,0 +1,23 @@
+-- Walks that go by a list, which has of each dart the one that follows it.
+use Rattle.std.specs.Prelude.{◌≡◌, ℕ, Bool, ◌<◌, List, length, slice_index}
+use Rattle.tl_tree.specs.Keeping.Checking.{mark_at}
+use Rattle.tl_sides.specs.Lists.{before}
+
+-- no two places of the list have one dart
+abbrev pub IsOneToOne : List ℕ → Type 0
+IsOneToOne following = (a b : ℕ) → a < length following → b < length following → slice_index following a ≡ slice_index following b → a ≡ b
+
+-- the dart follows one that is taken
+pub record FollowsTaken (following : List ℕ) (taken : List Bool) (x : ℕ) : Type 0 where
+  pub dart : ℕ
+  pub within : dart < length following
+  pub is_taken : mark_at taken dart ≡ 1
+  pub leads : slice_index following dart ≡ x
+
+-- each dart that is taken follows one that is
+abbrev pub AreFollowed : List ℕ → List Bool → Type 0
+AreFollowed following taken = (x : ℕ) → mark_at taken x ≡ 1 → FollowsTaken following taken x
+
+-- each dart of the walk follows the one before it, and the first the last
+abbrev pub GoesBy : List ℕ → List ℕ → Type 0
+GoesBy following walk = (k : ℕ) → k < length walk → slice_index walk k ≡ slice_index following (before walk k)
