@@ -3,6 +3,8 @@ pub mod SortLemmas
 pub mod CutLemmas
 pub mod RoundLemmas
 pub mod WalkLemmas
+pub mod LinkLemmas
+pub mod RingLemmas
 pub mod Forests
 pub mod NodeLemmas
 pub mod Sizes

@@ -66,8 +66,8 @@ fn propose_rings(alloc: Global, map: &Map) -> Result<(Vec<Vec<u32>>, Vec<Vec<u32
 {
     let starts = sort_starts(alloc, map)?;
     let rounds = cut_rounds(alloc, map.nodes(), &starts)?;
-    let following = link_darts(alloc, &starts)?;
     drop(starts);
+    let following = link_darts(alloc, map.darts(), &rounds)?;
     let walks = trace_walks(alloc, &following)?;
     Ok((rounds, walks))
 }

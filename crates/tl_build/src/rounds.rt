@@ -96,7 +96,7 @@ pub fn cut_rounds(
 }
 
 /// How many of some darts, the first and those behind it, start at its node.
-pub fn first_round(starts: &[DartStart]) -> usize
+fn first_round(starts: &[DartStart]) -> usize
     requires { zero < length starts.now }
     ensures some { zero < result }
     ensures within { result ≤ length starts.now }

@@ -1,47 +1,62 @@
 //! The walks of a map: the rings of darts that follow one another.
 
-ghost use Rattle.std.specs.Prelude.{◌≡◌, ◌<◌, ◌≤◌, ◌%◌, ◌^◌, zero, length, map, All, IfOk, OnOk, slice_get, Some, false};
+ghost use Rattle.std.specs.Prelude.{◌≡◌, ℕ, ◌<◌, ◌≤◌, slice_index, ◌%◌, ◌^◌, zero, length, map, All, IfOk, OnOk, slice_get, Some, false};
 ghost use Rattle.std.specs.List.{concat};
 ghost use Rattle.tl_map.specs.Darts.{reverse_dart};
 ghost use Rattle.tl_tree.specs.Keeping.Checking.{mark_at};
-ghost use Rattle.tl_sides.specs.Lists.{HoldOnce};
+ghost use Rattle.tl_tree.specs.Hits.{times};
+ghost use Rattle.tl_sides.specs.Lists.{HoldOnce, EachList};
 ghost use Rattle.tl_sides.specs.Keeping.Marked.{AddMarks};
-ghost use Rattle.tl_build.specs.Keeping.Following.{IsOneToOne, AreFollowed, GoesBy};
-ghost use Rattle.tl_build.specs.Keeping.Lists.{AreDartsBelow, AreUnmarked};
+ghost use Rattle.tl_build.specs.Keeping.Following.{IsOneToOne, IsLinkedIn, AreFollowed, GoesBy};
+ghost use Rattle.tl_build.specs.Keeping.Lists.{AreUnmarked, lists_in};
 
-use crate::rounds::{DartStart, first_round};
 use std::alloc::{AllocError, Global};
 
-/// Of each dart the one that follows it: about the node where the dart ends, the one whose next dart is its reverse. The
-/// darts of each node stand together and in the order of their headings.
-pub fn link_darts(alloc: Global, starts: &[DartStart]) -> Result<Vec<u32>, AllocError>
-    requires known { AreDartsBelow (length starts.now) starts.now }
-    requires paired { length starts.now % 2 ≡ 0 }
-    ensures long { IfOk result (λ following. length following.items ≡ length starts.now) }
-    ensures known { IfOk result (λ following. All (λ d. d < length starts.now) following.items) }
+/// Of each dart the one that follows it: about the node where the dart ends, the one before its reverse in the round.
+pub fn link_darts(alloc: Global, darts: u32, rounds: &[Vec<u32>]) -> Result<Vec<u32>, AllocError>
+    requires hold { HoldOnce darts (lists_in rounds.now) }
+    requires some { All (λ r. zero < length r.items) rounds.now }
+    requires paired { darts % 2 ≡ 0 }
+    ensures long { IfOk result (λ following. length following.items ≡ darts) }
+    ensures known { IfOk result (λ following. All (λ d. d < darts) following.items) }
+    ensures linked { IfOk result (λ following. EachList (IsLinkedIn following.items) (lists_in rounds.now)) }
 {
-    let mut following = vec![in alloc; 0u32; starts.len()]?;
-    let mut rest = starts;
-    while !rest.is_empty() {
-        let (round, behind) = rest.split_at(first_round(rest));
-        link_round(&mut following, round);
-        rest = behind;
-    }
+    let mut following = vec![in alloc; 0u32; darts as usize]?;
+    link_rounds(&mut following, rounds);
     Ok(following)
 }
 
-/// Keeps of the reverse of each dart of a round the dart before it, which is the last one before the first.
-fn link_round(following: &mut [u32], round: &[DartStart])
-    requires some { zero < length round.now }
-    requires known { AreDartsBelow (length following.old) round.now }
+/// Keeps of the reverse of each dart of the rounds the dart before it in its round.
+fn link_rounds(following: &mut [u32], rounds: &[Vec<u32>])
+    requires hold { HoldOnce (length following.old) (lists_in rounds.now) }
+    requires some { All (λ r. zero < length r.items) rounds.now }
     requires paired { length following.old % 2 ≡ 0 }
     requires kept { All (λ d. d < length following.old) following.old }
-    ensures { All (λ d. d < length following.old) following.new }
+    ensures long { length following.new ≡ length following.old }
+    ensures kept { All (λ d. d < length following.old) following.new }
+    ensures linked { EachList (IsLinkedIn following.new) (lists_in rounds.now) }
 {
-    let mut before = round[round.len() - 1].dart;
-    for start in round {
-        following[reverse(start.dart) as usize] = before;
-        before = start.dart;
+    for round in rounds {
+        link_round(following, round);
+    }
+}
+
+/// Keeps of the reverse of each dart of a round the dart before it, which is the last one before the first.
+fn link_round(following: &mut [u32], round: &[u32])
+    requires some { zero < length round.now }
+    requires known { All (λ d. d < length following.old) round.now }
+    requires once { (d : ℕ) → times d round.now ≤ 1 }
+    requires paired { length following.old % 2 ≡ 0 }
+    requires kept { All (λ d. d < length following.old) following.old }
+    ensures long { length following.new ≡ length following.old }
+    ensures kept { All (λ d. d < length following.old) following.new }
+    ensures linked { IsLinkedIn following.new round.now }
+    ensures others { (d : ℕ) → times (reverse_dart d) round.now ≡ 0 → slice_index following.new d ≡ slice_index following.old d }
+{
+    let mut before = round[round.len() - 1];
+    for dart in round {
+        following[reverse(*dart) as usize] = before;
+        before = *dart;
     }
 }
 

@@ -17,7 +17,7 @@ use Rattle.tl_sides.proofs.ListLemmas.{IsAt, place_of}
 
 -- ---- one ring
 
-back_again : (d : ℕ) → reverse_dart (reverse_dart d) ≡ d
+pub back_again : (d : ℕ) → reverse_dart (reverse_dart d) ≡ d
 back_again d = go (is_along d) refl
   where
     go : (b : Bool) → is_along d ≡ b → reverse_dart (reverse_dart d) ≡ d

@@ -25,12 +25,8 @@ hold_once n lists marks m all = record {
 
 pub whole_of : (chains : List MapChain) (rounds : List (List ℕ)) (s : Rounds) → HaveTaken chains rounds s → HoldOnce (dart_count chains) rounds → AreWhole chains rounds s.next.items
 whole_of chains rounds s t hold = record {
-  hold = hold;
-  one_node = t.one_node;
-  rising = t.rising;
-  headed = t.headed;
+  all = record { hold = hold; one_node = t.one_node; rising = t.rising; headed = t.headed; apart = t.apart };
   linked = t.linked;
-  apart = t.apart;
 }
 
 pub keep_next : (chains : List MapChain) (rounds : List (List ℕ)) (n : Next) → length n.next.items ≡ dart_count chains → AreWhole chains rounds n.next.items → KeepNext chains n

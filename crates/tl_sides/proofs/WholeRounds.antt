@@ -104,15 +104,14 @@ module _ (chains : List MapChain) (round : List ℕ) (rising : AreRising chains 
 -- ---- all rounds
 
 -- what is known of rounds in which no dart is missing
-pub record AreWhole (chains : List MapChain) (rounds : List (List ℕ)) (next : List ℕ) : Type 0 where
+pub record HoldAll (chains : List MapChain) (rounds : List (List ℕ)) : Type 0 where
   pub hold : HoldOnce (dart_count chains) rounds
   pub one_node : EachList (HasOneNode chains) rounds
   pub rising : EachList (AreRising chains) rounds
   pub headed : EachList (AreHeaded chains) rounds
-  pub linked : EachList (AreLinked next) rounds
   pub apart : (r s : ℕ) (node : Point) → r < s → s < length rounds → round_start chains (list_at rounds r) ≡ Some node → round_start chains (list_at rounds s) ≢ Some node
 
-module _ (chains : List MapChain) (rounds : List (List ℕ)) (next : List ℕ) (whole : AreWhole chains rounds next) where
+module _ (chains : List MapChain) (rounds : List (List ℕ)) (whole : HoldAll chains rounds) where
   -- each dart stands in a round
   pub found : (d : ℕ) → d < dart_count chains → IsIn rounds d
   found d h = list_of d rounds (omega (arith, whole.hold.once d h))
@@ -147,19 +146,19 @@ module _ (chains : List MapChain) (rounds : List (List ℕ)) (next : List ℕ) (
   pub record IsBehind (r j : ℕ) : Type 0 where
     pub place : ℕ
     pub within : place < length (list_at rounds r)
-    pub linked : slice_index next (slice_index (list_at rounds r) j) ≡ slice_index (list_at rounds r) place
+    pub at_place : before (list_at rounds r) place ≡ slice_index (list_at rounds r) j
     pub is : ((place ≡ suc j) × (suc j < length (list_at rounds r))) ⊎ ((place ≡ 0) × (suc j ≡ length (list_at rounds r)))
 
   behind : (r j : ℕ) → r < length rounds → j < length (list_at rounds r) → IsBehind r j
   behind r j hr hj = elim (cases_lt (suc j) (length (list_at rounds r))) [
-    | inl more ↦ record { place = suc j; within = more; linked = whole.linked r hr (suc j) more; is = inl (refl, more) }
+    | inl more ↦ record { place = suc j; within = more; at_place = refl; is = inl (refl, more) }
     | inr last ↦
         let same : suc j ≡ length (list_at rounds r) = omega (arith, hj, last) in
         let e : length (list_at rounds r) - 1 ≡ j = omega (arith, same) in
         record {
           place = 0;
           within = omega (arith, hj);
-          linked = ap (λ k. slice_index next (slice_index (list_at rounds r) k)) (sym e) ∙ whole.linked r hr 0 (omega (arith, hj));
+          at_place = ap (slice_index (list_at rounds r)) e;
           is = inr (refl, same);
         }
   ]
@@ -182,15 +181,15 @@ module _ (chains : List MapChain) (rounds : List (List ℕ)) (next : List ℕ) (
       (λ last. first_around chains round (whole.rising r hr) i j u w v hi last.1 (λ e. ne (e ∙ sym last.0)) hu (move 0 last.0) hv)
       b.is
 
-  next_at : (r j : ℕ) → r < length rounds → j < length (list_at rounds r) → IsNext chains (slice_index (list_at rounds r) j) (slice_index next (slice_index (list_at rounds r) j))
-  next_at r j hr hj =
+  -- the dart at the place behind a place is next after the one there
+  next_at : (r j : ℕ) (b : IsBehind r j) → r < length rounds → j < length (list_at rounds r) → IsNext chains (slice_index (list_at rounds r) j) (slice_index (list_at rounds r) b.place)
+  next_at r j b hr hj =
       let round = list_at rounds r in
-      let b : IsBehind r j = behind r j hr hj in
       let u = whole.headed r hr j hj in
       let w = whole.headed r hr b.place b.within in
       let d_starts : dart_start chains (slice_index round j) ≡ Some u.1.first = u.1.starts in
       let e_starts : dart_start chains (slice_index round b.place) ≡ Some u.1.first = whole.one_node r hr b.place b.within ∙ sym (whole.one_node r hr j hj) ∙ d_starts in
-      rw b.linked (record {
+      record {
         node = u.1.first;
         a_starts = d_starts;
         b_starts = e_starts;
@@ -201,18 +200,11 @@ module _ (chains : List MapChain) (rounds : List (List ℕ)) (next : List ℕ) (
         none_between = λ c heading c_starts c_heads.
             let at_c : IsBeside r c = beside r j u.1.first c hr hj d_starts c_starts in
             none_at r j at_c.place b u.0 w.0 heading hr at_c.within u.1 w.1 (subst (λ x. Heads chains x heading) (sym at_c.at_place) c_heads);
-      })
+      }
 
-  -- the dart that is kept behind another is next after it
-  pub is_next : (d : ℕ) → d < dart_count chains → IsNext chains d (slice_index next d)
-  is_next d h =
-      let t : IsIn rounds d = found d h in
-      subst (λ x. IsNext chains x (slice_index next x)) t.at (next_at t.list t.place t.within t.place_within)
-
-  only_at : (r j e : ℕ) → r < length rounds → j < length (list_at rounds r) → IsNext chains (slice_index (list_at rounds r) j) e → slice_index next (slice_index (list_at rounds r) j) ≡ e
-  only_at r j e hr hj n =
+  only_at : (r j e : ℕ) (b : IsBehind r j) → r < length rounds → j < length (list_at rounds r) → IsNext chains (slice_index (list_at rounds r) j) e → slice_index (list_at rounds r) b.place ≡ e
+  only_at r j e b hr hj n =
       let round = list_at rounds r in
-      let b : IsBehind r j = behind r j hr hj in
       let w = whole.headed r hr b.place b.within in
       let w_starts : dart_start chains (slice_index round b.place) ≡ Some n.node = whole.one_node r hr b.place b.within ∙ sym (whole.one_node r hr j hj) ∙ n.a_starts in
       let at_e : IsBeside r e = beside r j n.node e hr hj n.a_starts n.b_starts in
@@ -225,10 +217,42 @@ module _ (chains : List MapChain) (rounds : List (List ℕ)) (next : List ℕ) (
           | inr le ↦ omega (arith, ge, le)
         ]
       ] in
-      b.linked ∙ ap (λ k. slice_index round k) (sym same) ∙ at_e.at_place
+      ap (λ k. slice_index round k) (sym same) ∙ at_e.at_place
+
+  -- in a round each dart is next after the one before it, and the first after the last
+  pub next_is_behind : (r k : ℕ) → r < length rounds → k < length (list_at rounds r) → IsNext chains (before (list_at rounds r) k) (slice_index (list_at rounds r) k)
+  next_is_behind r zero hr h =
+      let round = list_at rounds r in
+      let j = length round - 1 in
+      let last : suc j ≡ length round = omega (arith, h) in
+      next_at r j (record { place = 0; within = h; at_place = refl; is = inr (refl, last) }) hr (omega (arith, last))
+  next_is_behind r (suc k) hr h =
+      next_at r k (record { place = suc k; within = h; at_place = refl; is = inl (refl, h) }) hr (omega (arith, h))
+
+-- ---- the next dart of each, as it is kept
+
+-- each dart has the next one of its round behind it
+pub record AreWhole (chains : List MapChain) (rounds : List (List ℕ)) (next : List ℕ) : Type 0 where
+  pub all : HoldAll chains rounds
+  pub linked : EachList (AreLinked next) rounds
+
+module _ (chains : List MapChain) (rounds : List (List ℕ)) (next : List ℕ) (whole : AreWhole chains rounds next) where
+  linked_at : (r j : ℕ) (b : IsBehind chains rounds whole.all r j) → r < length rounds → slice_index next (slice_index (list_at rounds r) j) ≡ slice_index (list_at rounds r) b.place
+  linked_at r j b hr = ap (slice_index next) (sym b.at_place) ∙ whole.linked r hr b.place b.within
+
+
+  -- the dart that is kept behind another is next after it
+  pub is_next : (d : ℕ) → d < dart_count chains → IsNext chains d (slice_index next d)
+  is_next d h =
+      let t : IsIn rounds d = found chains rounds whole.all d h in
+      let b = behind chains rounds whole.all t.list t.place t.within t.place_within in
+      let there = next_at chains rounds whole.all t.list t.place b t.within t.place_within in
+      subst (λ x. IsNext chains x (slice_index next x)) t.at (rw (linked_at t.list t.place b t.within) there)
 
   -- and no other is
   pub no_other : (d e : ℕ) → IsNext chains d e → slice_index next d ≡ e
   no_other d e n =
-      let t : IsIn rounds d = found d (dart_within chains d n.node n.a_starts) in
-      subst (λ x. slice_index next x ≡ e) t.at (only_at t.list t.place e t.within t.place_within (subst (λ x. IsNext chains x e) (sym t.at) n))
+      let t : IsIn rounds d = found chains rounds whole.all d (dart_within chains d n.node n.a_starts) in
+      let b = behind chains rounds whole.all t.list t.place t.within t.place_within in
+      subst (λ x. slice_index next x ≡ e) t.at
+      (linked_at t.list t.place b t.within ∙ only_at chains rounds whole.all t.list t.place e b t.within t.place_within (subst (λ x. IsNext chains x e) (sym t.at) n))

@@ -1,11 +1,16 @@
 -- Walks that go by a list, which has of each dart the one that follows it.
 use Rattle.std.specs.Prelude.{◌≡◌, ℕ, Bool, ◌<◌, List, length, slice_index}
+use Rattle.tl_map.specs.Darts.{reverse_dart}
 use Rattle.tl_tree.specs.Keeping.Checking.{mark_at}
 use Rattle.tl_sides.specs.Lists.{before}
 
 -- no two places of the list have one dart
 abbrev pub IsOneToOne : List ℕ → Type 0
 IsOneToOne following = (a b : ℕ) → a < length following → b < length following → slice_index following a ≡ slice_index following b → a ≡ b
+
+-- of each dart of the round, its reverse has behind it the dart before it in the round, and that of the first the last
+abbrev pub IsLinkedIn : List ℕ → List ℕ → Type 0
+IsLinkedIn following round = (k : ℕ) → k < length round → slice_index following (reverse_dart (slice_index round k)) ≡ before round k
 
 -- the dart follows one that is taken
 pub record FollowsTaken (following : List ℕ) (taken : List Bool) (x : ℕ) : Type 0 where

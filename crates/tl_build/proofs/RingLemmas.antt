@@ -1,0 +1,151 @@
+-- Walks that go by the darts before each in the rounds of a map are the walks of the map.
+use Rattle.std.proofs.Common.{◌≡◌, ◌⊎◌, inl, inr, ℕ, zero, suc, ◌+◌, ◌*◌, ◌%◌, ◌<◌, ◌≤◌, arith, Bool, true, false, List, [], ◌∷◌, length, map, Some, refl, ap, sym, subst, ◌∙◌, Vec, Global}
+use Rattle.std.specs.Prelude.{slice_index}
+use Rattle.std.specs.List.{All, concat}
+use Rattle.std.proofs.lemmas.Bool.{cases_lt, eqb-true, eqb-false}
+use Rattle.std.proofs.lemmas.List.{length-map, get_or-map}
+use Rattle.std.proofs.lemmas.List.Elements.{All-get_or}
+use Rattle.tl_map.specs.TheMap.{MapChain}
+use Rattle.tl_map.specs.Darts.{reverse_dart, is_along, dart_start, dart_end}
+use Rattle.tl_tree.specs.Hits.{times}
+use Rattle.tl_tree.proofs.Hitting.{times-append}
+use Rattle.tl_sides.specs.Lists.{before, HoldOnce, EachList, list_at, times_in}
+use Rattle.tl_sides.specs.Sides.{dart_count, IsNext, Follows, IsRing}
+use Rattle.tl_sides.specs.Rounds.{AreRounds, round_start}
+use Rattle.tl_sides.specs.Walks.{AreWalks}
+use Rattle.tl_sides.proofs.Boundaries.{back_again}
+use Rattle.tl_sides.proofs.FollowFacts.{reverse_starts}
+use Rattle.tl_sides.proofs.ListLemmas.{IsIn, list_of, stands, stands_in, before_at, place_before, place_before_within, before_stands, two_before}
+use Rattle.tl_sides.proofs.WholeRounds.{HoldAll, next_is_behind}
+use Rattle.tl_crossings.specs.Headings.{AreProper}
+use Rattle.tl_crossings.proofs.Darts.{dart_of}
+use Rattle.tl_build.specs.Keeping.Lists.{lists_in}
+use Rattle.tl_build.specs.Keeping.Following.{IsOneToOne, IsLinkedIn, GoesBy}
+
+-- ---- lists that hold each dart once
+
+-- a dart stands in two lists as often as in both together, at the least
+pub two_lists : (d : ℕ) (lists : List (List ℕ)) (q r : ℕ) → q < r → r < length lists → times d (list_at lists q) + times d (list_at lists r) ≤ times_in d lists
+two_lists d [] q r less h = absurd (omega (arith, h))
+two_lists d (xs ∷ lists) q zero less h = absurd (omega (arith, less))
+two_lists d (xs ∷ lists) zero (suc r) less h = omega (arith, times-append d xs (concat lists), stands_in d lists r (omega (arith, h)))
+two_lists d (xs ∷ lists) (suc q) (suc r) less h = omega (arith, times-append d xs (concat lists), two_lists d lists q r (omega (arith, less)) (omega (arith, h)))
+
+module _ (n : ℕ) (lists : List (List ℕ)) (hold : HoldOnce n lists) where
+  pub few : (d : ℕ) → times_in d lists ≤ 1
+  few d = elim (cases_lt d n) [ inl dart ↦ omega (arith, hold.once d dart) | inr other ↦ omega (arith, hold.no_other d other) ]
+
+  pub once_at : (d r : ℕ) → r < length lists → times d (list_at lists r) ≤ 1
+  once_at d r h = omega (arith, stands_in d lists r h, few d)
+
+  -- what stands in a list is below n
+  pub below : (d r : ℕ) → r < length lists → 1 ≤ times d (list_at lists r) → d < n
+  below d r h one = elim (cases_lt d n) [ inl dart ↦ dart | inr other ↦ absurd (omega (arith, hold.no_other d other, stands_in d lists r h, one)) ]
+
+  -- a dart stands in one list
+  pub one_list : (d q r : ℕ) → q < length lists → r < length lists → 1 ≤ times d (list_at lists q) → 1 ≤ times d (list_at lists r) → q ≡ r
+  one_list d q r hq hr at_q at_r = elim (cases_lt q r) [
+    | inl less ↦ absurd (omega (arith, two_lists d lists q r less hr, few d, at_q, at_r))
+    | inr not ↦ elim (cases_lt r q) [
+      | inl more ↦ absurd (omega (arith, two_lists d lists r q more hq, few d, at_q, at_r))
+      | inr same ↦ omega (arith, not, same)
+    ]
+  ]
+
+-- ---- reverses
+
+pub reverse_within : (m d : ℕ) → d < 2 * m → reverse_dart d < 2 * m
+reverse_within m d h = go (is_along d) refl
+  where
+    go : (b : Bool) → is_along d ≡ b → reverse_dart d < 2 * m
+    go true e =
+        let even : d % 2 ≡ 0 = eqb-true (d % 2) 0 e in
+        rw e (omega (arith, even, h))
+    go false e = rw e (omega (arith, h))
+
+-- ---- a list that is linked by all rounds
+
+module _ (m : ℕ) (rounds : List (List ℕ)) (following : List ℕ) (hold : HoldOnce (2 * m) rounds) (long : length following ≡ 2 * m) (linked : EachList (IsLinkedIn following) rounds) where
+  -- where the reverse of a dart stands, and what follows the dart
+  pub record IsPlaced (d : ℕ) : Type 0 where
+    pub list : ℕ
+    pub within : list < length rounds
+    pub place : ℕ
+    pub place_within : place < length (list_at rounds list)
+    pub reversed : slice_index (list_at rounds list) place ≡ reverse_dart d
+    pub leads : slice_index following d ≡ before (list_at rounds list) place
+
+  pub placed : (d : ℕ) → d < 2 * m → IsPlaced d
+  placed d h =
+      let t : IsIn rounds (reverse_dart d) = list_of (reverse_dart d) rounds (omega (arith, hold.once (reverse_dart d) (reverse_within m d h))) in
+      record {
+        list = t.list;
+        within = t.within;
+        place = t.place;
+        place_within = t.place_within;
+        reversed = t.at;
+        leads = ap (slice_index following) (sym (back_again d) ∙ ap reverse_dart (sym t.at)) ∙ linked t.list t.within t.place t.place_within;
+      }
+
+  pub one_to_one : IsOneToOne following
+  one_to_one a b ha hb same =
+      let s = placed a (omega (arith, ha, long)) in
+      let t = placed b (omega (arith, hb, long)) in
+      let stands_s = before_stands (list_at rounds s.list) s.place s.place_within in
+      let stands_t = before_stands (list_at rounds t.list) t.place t.place_within in
+      let alike : before (list_at rounds s.list) s.place ≡ before (list_at rounds t.list) t.place = sym s.leads ∙ (same ∙ t.leads) in
+      let one : s.list ≡ t.list = one_list (2 * m) rounds hold (before (list_at rounds s.list) s.place) s.list t.list s.within t.within stands_s
+          (subst (λ d. 1 ≤ times d (list_at rounds t.list)) (sym alike) stands_t) in
+      let here : t.place < length (list_at rounds s.list) = subst (λ l. t.place < length (list_at rounds l)) (sym one) t.place_within in
+      let places : s.place ≡ t.place = two_before (list_at rounds s.list) s.place t.place (λ d. once_at (2 * m) rounds hold d s.list s.within) s.place_within here
+          (alike ∙ ap (λ l. before (list_at rounds l) t.place) (sym one)) in
+      let reverses : reverse_dart a ≡ reverse_dart b = sym s.reversed ∙ (ap (λ l. slice_index (list_at rounds l) s.place) one ∙ (ap (slice_index (list_at rounds t.list)) places ∙ t.reversed)) in
+      sym (back_again a) ∙ (ap reverse_dart reverses ∙ back_again b)
+
+-- ---- the walks of a map
+
+-- what is so of each vector's list is so of each list
+pub each_of : (P : List ℕ → Type 0) (vs : List (Vec ℕ Global)) → All (λ v. P v.items) vs → EachList P (lists_in vs)
+each_of P [] all = λ k h. absurd (omega (arith, h))
+each_of P (v ∷ vs) all = λ k h.
+    let inside : k < length (v ∷ vs) = omega (arith, length-map (v ∷ vs) (λ (w : Vec ℕ Global). w.items), h) in
+    subst P (sym (get_or-map (λ (w : Vec ℕ Global). w.items) (v ∷ vs) k v [] inside)) (All-get_or (λ (w : Vec ℕ Global). P w.items) (v ∷ vs) k v inside all)
+
+module _ (chains : List MapChain) (proper : AreProper chains) (rounds : List (List ℕ)) (are : AreRounds chains rounds) (following : List ℕ)
+    (long : length following ≡ dart_count chains) (linked : EachList (IsLinkedIn following) rounds) where
+  all_held : HoldAll chains rounds
+  all_held = record {
+    hold = are.hold;
+    one_node = are.one_node;
+    rising = are.rising;
+    headed = λ r hr k h.
+        let d = slice_index (list_at rounds r) k in
+        let is = dart_of chains proper d (below (dart_count chains) rounds are.hold d r hr (stands (list_at rounds r) k d h refl)) in
+        (is.heading, is.heads);
+    apart = are.apart;
+  }
+
+  -- a dart is followed by what the list has behind it
+  pub follows : (d : ℕ) → d < dart_count chains → Follows chains d (slice_index following d)
+  follows d h =
+      let t = placed (length chains) rounds following are.hold long linked d h in
+      let round = list_at rounds t.list in
+      let next : IsNext chains (before round t.place) (slice_index round t.place) = next_is_behind chains rounds all_held t.list t.place t.within t.place_within in
+      let one : dart_start chains (slice_index round t.place) ≡ dart_start chains (before round t.place) = next.b_starts ∙ sym next.a_starts in
+      record {
+        meets = sym (reverse_starts chains d) ∙ (ap (dart_start chains) (sym t.reversed) ∙ (one ∙ ap (dart_start chains) (sym t.leads)));
+        next = subst (λ e. IsNext chains e (reverse_dart d)) (sym t.leads) (subst (λ e. IsNext chains (before round t.place) e) t.reversed next);
+      }
+
+  pub are_walks : (walks : List (List ℕ)) → HoldOnce (dart_count chains) walks → EachList (λ w. 0 < length w) walks → EachList (GoesBy following) walks → AreWalks chains walks
+  are_walks walks hold some goes = record {
+    hold = hold;
+    rings = λ w hw. record {
+      some = some w hw;
+      follows = λ k h.
+          let walk = list_at walks w in
+          let d = before walk k in
+          let dart : d < dart_count chains = below (dart_count chains) walks hold d w hw (before_stands walk k h) in
+          subst (Follows chains d) (sym (goes w hw k h)) (follows d dart);
+    };
+  }
