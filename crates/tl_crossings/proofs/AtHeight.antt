@@ -108,7 +108,7 @@ module _ (s : Segment) (q : Point) (parted : IsParted q s.a s.b) (r w : Rational
       let k : w.x -ℤ w.d *ℤ q.x ≡ pos 0 = zero_product r.d (w.x -ℤ w.d *ℤ q.x) (λ e. omega (arith, ints, d, e)) h in
       omega (arith, ints, k)
 
-one_times : (a : ℤ) → a ≡ pos 1 *ℤ a
+pub one_times : (a : ℤ) → a ≡ pos 1 *ℤ a
 one_times a = same (num a) (num (pos 1) ⊗ num a) (omega arith)
 
 -- a segment doesn't cross both rays

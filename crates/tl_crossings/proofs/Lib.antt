@@ -11,3 +11,5 @@ pub mod AtHeight
 pub mod Located
 pub mod Listing
 pub mod Crossing
+pub mod Rays
+pub mod Boxed
