@@ -34,7 +34,7 @@ alike_or false false = inl refl
 alike_or true false = inr (λ e. false≢true (sym e))
 alike_or false true = inr false≢true
 
-contained : (points : List Point) (k : ℕ) (p : Point) → slice_get points k ≡ Some p → Contains points p
+pub contained : (points : List Point) (k : ℕ) (p : Point) → slice_get points k ≡ Some p → Contains points p
 contained points k p is = (k, slice_get_within points k p is, get_or_from_slice_get points k p p is)
 
 module _ (chains : List MapChain) (S : Side → Bool) (s : ℕ) (at : IsLocated chains s) where

@@ -13,3 +13,5 @@ pub mod Listing
 pub mod Crossing
 pub mod Rays
 pub mod Boxed
+pub mod Boxes
+pub mod Telling
