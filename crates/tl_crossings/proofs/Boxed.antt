@@ -1,12 +1,11 @@
 -- A side counts nothing at a point outside of the box of its boundary.
-use Rattle.std.proofs.Common.{◌≡◌, ◌≢◌, ◌⊎◌, ◌↔◌, inl, inr, ⊎_elim, ℕ, ◌+◌, ◌*◌, ◌<◌, ℤ, pos, ◌-ℤ◌, ◌*ℤ◌, ◌<ℤ◌, Bool, true, false, cond, Some, List, length, map, get_or, count_by, Contains, refl, sym, ap, ◌∙◌, arith}
+use Rattle.std.proofs.Common.{◌≡◌, ◌≢◌, ◌⊎◌, ◌↔◌, inl, inr, ⊎_elim, ℕ, ◌+◌, ◌*◌, ◌<◌, ℤ, pos, ◌*ℤ◌, ◌<ℤ◌, Bool, true, false, cond, Some, List, length, map, count_by, Contains, refl, sym, ap, ◌∙◌, arith}
 use Rattle.std.specs.Prelude.{slice_get, int_lt}
 use Rattle.std.proofs.lemmas.Bool.{false≢true}
 use Rattle.std.proofs.lemmas.Int.{ints}
 use Rattle.std.proofs.lemmas.Option.{slice_get_within, get_or_from_slice_get}
 use Rattle.tl_geom.specs.declared.point.Point.{Point}
-use Rattle.tl_geom.specs.declared.segment.Segment.{Segment}
-use Rattle.tl_geom.specs.Plane.{IsOn, whole}
+use Rattle.tl_geom.specs.Plane.{whole}
 use Rattle.tl_geom.specs.Ray.{Crosses}
 use Rattle.tl_map.specs.declared.sides.Side.{Side}
 use Rattle.tl_map.specs.TheMap.{MapChain}
@@ -18,7 +17,6 @@ use Rattle.tl_inside.specs.Inside.{flanks_at, flanks_between, balance, AreCrosse
 use Rattle.tl_crossings.specs.Heights.{parts, crossed_at}
 use Rattle.tl_crossings.specs.Headings.{AreProper, HeadApart}
 use Rattle.tl_crossings.specs.Boxes.{IsOnBoundary, IsEastOf, IsSouthOf, IsNorthOf, IsOutsideOfBox}
-use Rattle.tl_crossings.specs.West.{CrossesWest}
 use Rattle.tl_crossings.proofs.Sums.{sum_below, sum_same, sum_both}
 use Rattle.tl_crossings.proofs.Telescoping.{bit, near_count, far_count}
 use Rattle.tl_crossings.proofs.Cancelling.{near_is_far}
@@ -138,10 +136,10 @@ module _ (chains : List MapChain) (proper : AreProper chains) (q : Point) (S : S
     all_met =
         let n : ℕ = segments_before chains (length chains) in
         let same = sum_same
-            (λ s. times s crossed * bit (S (flanks_at chains s).near) + value (λ f. S f.far) chains q s)
-            (λ s. times s crossed * bit (S (flanks_at chains s).far) + value (λ f. S f.near) chains q s) n
-            (λ s lt. let at : IsLocated chains s = located chains proper s lt in
-            ⊎_elim (λ same. alike s at same) (λ ne. met s lt at ne) (alike_or (S at.number.chain.left) (S at.number.chain.right))) in
+        (λ s. times s crossed * bit (S (flanks_at chains s).near) + value (λ f. S f.far) chains q s)
+        (λ s. times s crossed * bit (S (flanks_at chains s).far) + value (λ f. S f.near) chains q s) n
+        (λ s lt. let at : IsLocated chains s = located chains proper s lt in
+        ⊎_elim (λ same. alike s at same) (λ ne. met s lt at ne) (alike_or (S at.number.chain.left) (S at.number.chain.right))) in
         let one = sum_both (λ s. times s crossed * bit (S (flanks_at chains s).near)) (value (λ f. S f.far) chains q) n in
         let other = sum_both (λ s. times s crossed * bit (S (flanks_at chains s).far)) (value (λ f. S f.near) chains q) n in
         let near = near_total in

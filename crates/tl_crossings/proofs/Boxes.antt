@@ -1,5 +1,5 @@
 -- Boxes as rectangles, and the box of all chains.
-use Rattle.std.proofs.Common.{◌≡◌, ◌⊎◌, inl, inr, ⊎_elim, ◌<ℤ◌, ◌≤ℤ◌, ◌*ℤ◌, pos, ℤ, ℕ, ◌+◌, Bool, List, arith}
+use Rattle.std.proofs.Common.{inl, inr, ⊎_elim, ◌<ℤ◌, ℕ, ◌+◌, Bool, List, arith}
 use Rattle.std.proofs.lemmas.Int.{ints, by_lt_z}
 use Rattle.tl_geom.specs.declared.point.Point.{Point}
 use Rattle.tl_geom.specs.declared.rect.Rect.{Rect}
@@ -9,7 +9,7 @@ use Rattle.tl_geom.specs.Rectangle.{Holds}
 use Rattle.tl_map.specs.declared.sides.Side.{Side}
 use Rattle.tl_map.specs.TheMap.{MapChain}
 use Rattle.tl_inside.specs.Places.{IsHeldBy}
-use Rattle.tl_crossings.specs.Boxes.{IsOnBoundary, IsOfChains, IsWestOf, IsEastOf, IsSouthOf, IsNorthOf, IsOutsideOfBox}
+use Rattle.tl_crossings.specs.Boxes.{IsOnBoundary, IsOfChains, IsOutsideOfBox}
 use Rattle.tl_crossings.proofs.AtHeight.{all_east, all_west, one_times}
 use Rattle.tl_crossings.proofs.Boxed.{contained}
 

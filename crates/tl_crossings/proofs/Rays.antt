@@ -1,21 +1,19 @@
 -- The count by the ray to the west is the count by the ray to the east.
-use Rattle.std.proofs.Common.{◌≡◌, ◌↔◌, ℕ, ◌+◌, ◌*◌, ◌<◌, ℤ, pos, ◌-ℤ◌, Bool, true, false, cond, List, length, map, get_or, count_by, refl, sym, ap, ◌∙◌, arith}
+use Rattle.std.proofs.Common.{◌≡◌, ◌↔◌, ℕ, ◌+◌, ◌*◌, ◌<◌, ℤ, Bool, true, false, cond, List, length, map, get_or, count_by, sym, ap, ◌∙◌, arith}
 use Rattle.std.proofs.lemmas.Int.{ints}
 use Rattle.tl_geom.specs.declared.point.Point.{Point}
-use Rattle.tl_geom.specs.Plane.{IsOn, whole}
-use Rattle.tl_geom.specs.Ray.{Crosses}
 use Rattle.tl_map.specs.declared.sides.Side.{Side}
 use Rattle.tl_map.specs.TheMap.{MapChain}
 use Rattle.tl_map.specs.Segments.{segments_before}
-use Rattle.tl_tree.specs.Hits.{times, AreHits}
+use Rattle.tl_tree.specs.Hits.{times}
 use Rattle.tl_sides.specs.Sides.{SidesAgree}
 use Rattle.tl_inside.specs.declared.flanks.Flanks.{Flanks}
 use Rattle.tl_inside.specs.Inside.{flanks_at, balance, IsCrossed, AreCrossed, IsCount}
 use Rattle.tl_inside.specs.Places.{IsOffChains}
 use Rattle.tl_crossings.specs.Heights.{parts, crossed_at}
 use Rattle.tl_crossings.specs.Headings.{AreProper, HeadApart}
-use Rattle.tl_crossings.specs.West.{CrossesWest, IsCrossedWest, AreCrossedWest, west_flanks_at, IsWestCount}
-use Rattle.tl_crossings.proofs.Sums.{sum_below, sum_same, sum_both}
+use Rattle.tl_crossings.specs.West.{IsCrossedWest, AreCrossedWest, west_flanks_at, IsWestCount}
+use Rattle.tl_crossings.proofs.Sums.{sum_same, sum_both}
 use Rattle.tl_crossings.proofs.Telescoping.{bit, near_count, far_count}
 use Rattle.tl_crossings.proofs.Cancelling.{near_is_far}
 use Rattle.tl_crossings.proofs.Located.{IsLocated, located, each_of, each_at}

@@ -1,12 +1,12 @@
 -- What places list, told by the ray to the west, and at points outside of the box of all chains.
-use Rattle.std.proofs.Common.{◌≡◌, ◌≢◌, ◌↔◌, ◌⊎◌, inl, inr, ⊎_elim, ℕ, ◌<◌, ℤ, pos, List, [], ◌∷◌, length, refl, arith}
+use Rattle.std.proofs.Common.{◌≡◌, inl, inr, ⊎_elim, ℕ, ℤ, pos, List, [], ◌∷◌, length, refl, arith}
 use Rattle.tl_geom.specs.declared.point.Point.{Point}
 use Rattle.tl_map.specs.TheMap.{TheMap}
 use Rattle.tl_sides.specs.Sides.{SidesAgree}
 use Rattle.tl_inside.specs.declared.place.Place.{Place}
 use Rattle.tl_inside.specs.declared.place.Place.TheVariants.{OnChain, In}
 use Rattle.tl_inside.specs.Inside.{is_polygon, is_among, IsPolygonCount}
-use Rattle.tl_inside.specs.Places.{IsPlaceOf, AreCounted, HasCount, IsCountOf}
+use Rattle.tl_inside.specs.Places.{IsPlaceOf, AreCounted, IsCountOf}
 use Rattle.tl_crossings.specs.Headings.{AreProper, HeadApart}
 use Rattle.tl_crossings.specs.Boxes.{IsOfChains, IsOutsideOfBox}
 use Rattle.tl_crossings.specs.West.{IsWestPolygonCount}
@@ -38,7 +38,7 @@ module _ (m : TheMap) (proper : AreProper m.chains) (apart : HeadApart m.chains)
   nowhere outside (OnChain c) is = off_all m.chains q c outside is.held
   nowhere outside (In polygons landmarks) is = (
     none_counted (length m.polygons) (IsPolygonCount m.chains q) polygons.items
-    (λ p z. (counts_nothing m.chains q (is_polygon p) proper apart agree z (of_all m.chains (is_polygon p) q outside)).0) is.1,
+        (λ p z. (counts_nothing m.chains q (is_polygon p) proper apart agree z (of_all m.chains (is_polygon p) q outside)).0) is.1,
     none_counted (length m.landmarks) (IsCountOf m q) landmarks.items
-    (λ l z c. (counts_nothing m.chains q (is_among c.landmark.polygons) proper apart agree z (of_all m.chains (is_among c.landmark.polygons) q outside)).0 c.count) is.2,
+        (λ l z c. (counts_nothing m.chains q (is_among c.landmark.polygons) proper apart agree z (of_all m.chains (is_among c.landmark.polygons) q outside)).0 c.count) is.2,
   )

@@ -1,5 +1,5 @@
 -- What places list, told by the ray to the west.
-use Rattle.std.specs.Prelude.{◌≡◌, ⊤, List, [], length}
+use Rattle.std.specs.Prelude.{◌≡◌, ⊤, [], length}
 use Rattle.tl_geom.specs.declared.point.Point.{Point}
 use Rattle.tl_map.specs.TheMap.{TheMap}
 use Rattle.tl_inside.specs.declared.place.Place.{Place}

@@ -23,8 +23,8 @@ pub fn darts_of_planar_chains_head_apart()
 {}
 
 /// Where sides agree and darts head apart, over all segments that cross a height any side is as often near as far. Sides
-/// that agree aren't enough: of three chains between two nodes with one polygon on their left, two of which run alike, two
-/// lead up and one down.
+/// that agree aren't enough: where two chains run alike from one node up to another, a third leads back down, and all have
+/// one polygon on their left and another on their right, sides agree, and the first polygon is near twice and far once.
 pub fn the_crossings_of_a_height_cancel()
     ensures { (chains : List MapChain) (y : ℤ) (S : Side → Bool) → AreProper chains → HeadApart chains → SidesAgree chains →
         balance S (crossed_at y chains) ≡ pos 0 }
