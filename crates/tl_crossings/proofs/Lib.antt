@@ -15,3 +15,4 @@ pub mod Rays
 pub mod Boxed
 pub mod Boxes
 pub mod Telling
+pub mod Thrice

@@ -9,7 +9,7 @@ use Rattle.tl_inside.specs.Inside.{is_polygon, is_among, IsPolygonCount}
 use Rattle.tl_inside.specs.Places.{IsPlaceOf, AreCounted, IsCountOf}
 use Rattle.tl_crossings.specs.Headings.{AreProper, HeadApart}
 use Rattle.tl_crossings.specs.Boxes.{IsOfChains, IsOutsideOfBox}
-use Rattle.tl_crossings.specs.West.{IsWestPolygonCount}
+use Rattle.tl_crossings.specs.West.{IsWestPolygonCount, IsWestCountOf}
 use Rattle.tl_crossings.specs.Told.{ListsByWest, IsNowhere}
 use Rattle.tl_crossings.proofs.Boxed.{counts_nothing}
 use Rattle.tl_crossings.proofs.Boxes.{of_all, off_all}
@@ -30,9 +30,12 @@ none_counted n counts (p ∷ listed) zero are = absurd (let h = are.each 0 p (om
 module _ (m : TheMap) (proper : AreProper m.chains) (apart : HeadApart m.chains) (agree : SidesAgree m.chains) (q : Point) where
   pub told : (place : Place) → IsPlaceOf m q place → ListsByWest m q place
   told (OnChain c) is = tt
-  told (In polygons landmarks) is =
-      counted_by (length m.polygons) (IsPolygonCount m.chains q) (IsWestPolygonCount m.chains q) polygons.items
-      (λ p z. (east_is_west m.chains q (is_polygon p) z proper apart agree is.0).0) is.1
+  told (In polygons landmarks) is = (
+    counted_by (length m.polygons) (IsPolygonCount m.chains q) (IsWestPolygonCount m.chains q) polygons.items
+    (λ p z. (east_is_west m.chains q (is_polygon p) z proper apart agree is.0).0) is.1,
+    counted_by (length m.landmarks) (IsCountOf m q) (IsWestCountOf m q) landmarks.items
+    (λ l z c. record { landmark = c.landmark; is = c.is; count = (east_is_west m.chains q (is_among c.landmark.polygons) z proper apart agree is.0).0 c.count }) is.2,
+  )
 
   pub nowhere : IsOutsideOfBox (IsOfChains m.chains) q → (place : Place) → IsPlaceOf m q place → IsNowhere place
   nowhere outside (OnChain c) is = off_all m.chains q c outside is.held

@@ -22,9 +22,7 @@ pub fn darts_of_planar_chains_head_apart()
     ensures { (chains : List MapChain) → AreProper chains → IsPlanar chains → HeadApart chains }
 {}
 
-/// Where sides agree and darts head apart, over all segments that cross a height any side is as often near as far. Sides
-/// that agree aren't enough: where two chains run alike from one node up to another, a third leads back down, and all have
-/// one polygon on their left and another on their right, sides agree, and the first polygon is near twice and far once.
+/// Where sides agree and darts head apart, over all segments that cross a height any side is as often near as far.
 pub fn the_crossings_of_a_height_cancel()
     ensures { (chains : List MapChain) (y : ℤ) (S : Side → Bool) → AreProper chains → HeadApart chains → SidesAgree chains →
         balance S (crossed_at y chains) ≡ pos 0 }
@@ -49,14 +47,21 @@ pub fn east_is_west()
         IsOffChains chains q → IsCount chains q S n ↔ IsWestCount chains q S n }
 {}
 
-/// So there the polygons that [`tl_inside::locate`] lists at a point are those whose count by the ray to the west isn't 0.
+/// So there [`tl_inside::locate`] lists the polygons and the landmarks whose count by the ray to the west isn't 0.
 pub fn places_are_told_by_the_ray_to_the_west()
     ensures { (m : TheMap) (q : Point) (place : Place) → AreProper m.chains → IsPlanar m.chains → SidesAgree m.chains →
         IsPlaceOf m q place → ListsByWest m q place }
 {}
 
-/// And it lists none, and no landmark, at a point outside of the box of all chains, as east or west of them.
+/// And it lists no polygon and no landmark at a point outside of the box of all chains, as east or west of them.
 pub fn nothing_lies_outside_of_the_box_of_all_chains()
     ensures { (m : TheMap) (q : Point) (place : Place) → AreProper m.chains → IsPlanar m.chains → SidesAgree m.chains →
         IsOutsideOfBox (IsOfChains m.chains) q → IsPlaceOf m q place → IsNowhere place }
+{}
+
+/// Sides that agree aren't enough for it: of three chains with one polygon on their left and another on their right, two
+/// run alike from one node up to another, and the third leads back.
+pub fn sides_that_agree_are_not_enough()
+    ensures { (chains : List MapChain) × AreProper chains × SidesAgree chains
+        × (balance (is_polygon 0) (crossed_at (pos 0) chains) ≡ pos 1) }
 {}
