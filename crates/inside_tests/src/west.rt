@@ -1,19 +1,38 @@
 //! Counts by the ray to the west, segment by segment.
 
 ghost use Rattle.std.specs.Prelude.{◌↔◌, IsTrue};
+ghost use Rattle.tl_geom.specs.Plane.{end_a, end_b};
+ghost use Rattle.tl_geom.specs.Ray.{IsParted};
 ghost use Rattle.tl_crossings.specs.West.{CrossesWest, IsWestPolygonCount};
 
 use crate::sides::{flanks_at, is_polygon};
 use tl_geom::{Point, Segment, crosses_ray, on};
 use tl_map::Map;
 
+/// Whether the height of a point parts the ends of a segment.
+fn is_parted(segment: Segment, point: Point) -> bool
+    ensures { IsTrue result ↔ IsParted point (end_a segment) (end_b segment) }
+{
+    let (a, b) = (segment.a(), segment.b());
+    if a.y <= point.y {
+        point.y < b.y
+    } else {
+        b.y <= point.y
+    }
+}
+
 /// Whether the segment crosses the ray that runs from a point to the west: the point's height parts its ends, and it
 /// neither crosses the ray to the east nor holds the point.
 pub fn crosses_west(segment: Segment, point: Point) -> bool
     ensures { IsTrue result ↔ CrossesWest segment point }
 {
-    let parted = (segment.a().y > point.y) != (segment.b().y > point.y);
-    parted && !crosses_ray(segment, point) && !on(segment, point)
+    if crosses_ray(segment, point) {
+        return false;
+    }
+    if on(segment, point) {
+        return false;
+    }
+    is_parted(segment, point)
 }
 
 /// How often the ray from a point to the west comes out of the polygon of this number, less how often it goes in.
