@@ -12,7 +12,8 @@ use Rattle.tl_map.specs.TheMap.{MapChain}
 use Rattle.tl_map.specs.Segments.{segments_before, IsSegmentOf, Joins}
 use Rattle.tl_tree.specs.Hits.{AreHits}
 use Rattle.tl_tree.proofs.Permuted.{same_or, times-same, times-other}
-use Rattle.tl_inside.specs.Inside.{flanks_at, IsCrossed, IsCount}
+use Rattle.tl_inside.specs.declared.flanks.Flanks.{Flanks}
+use Rattle.tl_inside.specs.Inside.{flanks_at, IsCrossed}
 use Rattle.tl_planar.specs.Keeping.Apart.{one_found}
 use Rattle.tl_planar.proofs.Numbering.{one_chain, one_place}
 use Rattle.inside_tests.proofs.Running.{on_same}
