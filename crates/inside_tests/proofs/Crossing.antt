@@ -1,6 +1,6 @@
 -- Counts, segment by segment.
 use mir.Val.{bool_byte}
-use Rattle.std.proofs.Common.{◌≡◌, ℕ, ◌+◌, ◌≤◌, pos, ◌-ℤ◌, Bool, true, false, cond, inl, inr, List, [], ◌∷◌, length, map, count_by, sym, ap, subst, ◌∙◌, refl, arith}
+use Rattle.std.proofs.Common.{◌≡◌, ℕ, ◌+◌, ◌≤◌, Bool, true, false, cond, inl, inr, List, ◌∷◌, map, count_by, sym, ap, subst, ◌∙◌, refl, arith}
 use Rattle.std.specs.Prelude.{slice_get}
 use Rattle.std.proofs.lemmas.Bool.{cases_lt}
 use Rattle.std.proofs.lemmas.List.Sums.{sum_by-cons}
@@ -9,7 +9,7 @@ use Rattle.tl_geom.specs.declared.segment.Segment.{Segment}
 use Rattle.tl_geom.specs.Ray.{Crosses}
 use Rattle.tl_map.specs.declared.sides.Side.{Side}
 use Rattle.tl_map.specs.TheMap.{MapChain}
-use Rattle.tl_map.specs.Segments.{segments_before, IsSegmentOf, Joins}
+use Rattle.tl_map.specs.Segments.{IsSegmentOf, Joins}
 use Rattle.tl_tree.specs.Hits.{AreHits}
 use Rattle.tl_tree.proofs.Permuted.{same_or, times-same, times-other}
 use Rattle.tl_inside.specs.declared.flanks.Flanks.{Flanks}

@@ -1,6 +1,5 @@
 -- Segments that the ray to the west crosses.
-use Rattle.std.proofs.Common.{◌≡◌, ◌↔◌, ⊎_elim, ℕ, ◌+◌, Bool, false, IsTrue, Some, List, sym, ap, ◌∙◌}
-use Rattle.std.specs.Prelude.{slice_get}
+use Rattle.std.proofs.Common.{◌↔◌, ⊎_elim, ℕ, Bool, false, IsTrue, List, sym}
 use Rattle.std.proofs.lemmas.Bool.{false≢true}
 use Rattle.tl_geom.specs.declared.point.Point.{Point}
 use Rattle.tl_geom.specs.declared.segment.Segment.{Segment}
