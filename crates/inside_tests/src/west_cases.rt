@@ -11,10 +11,7 @@ use tl_map::Map;
 
 /// The counts of the first two polygons by the ray to the west.
 fn west(map: &Map, point: Pair) -> (i64, i64) {
-    (
-        west_count(map, at(point), 0),
-        west_count(map, at(point), 1),
-    )
+    (west_count(map, at(point), 0), west_count(map, at(point), 1))
 }
 
 #[test]
