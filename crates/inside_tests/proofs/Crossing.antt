@@ -1,6 +1,6 @@
 -- Counts, segment by segment.
 use mir.Val.{bool_byte}
-use Rattle.std.proofs.Common.{◌≡◌, ℕ, ◌+◌, ◌≤◌, pos, ◌-ℤ◌, Bool, true, false, cond, inl, inr, List, [], ◌∷◌, length, map, count_by, sym, ap, subst, ◌∙◌, refl, arith}
+use Rattle.std.proofs.Common.{◌≡◌, ℕ, ◌+◌, ◌≤◌, Bool, true, false, cond, inl, inr, List, ◌∷◌, map, count_by, sym, ap, subst, ◌∙◌, refl, arith}
 use Rattle.std.specs.Prelude.{slice_get}
 use Rattle.std.proofs.lemmas.Bool.{cases_lt}
 use Rattle.std.proofs.lemmas.List.Sums.{sum_by-cons}
@@ -9,22 +9,27 @@ use Rattle.tl_geom.specs.declared.segment.Segment.{Segment}
 use Rattle.tl_geom.specs.Ray.{Crosses}
 use Rattle.tl_map.specs.declared.sides.Side.{Side}
 use Rattle.tl_map.specs.TheMap.{MapChain}
-use Rattle.tl_map.specs.Segments.{segments_before, IsSegmentOf, Joins}
+use Rattle.tl_map.specs.Segments.{IsSegmentOf, Joins}
 use Rattle.tl_tree.specs.Hits.{AreHits}
 use Rattle.tl_tree.proofs.Permuted.{same_or, times-same, times-other}
-use Rattle.tl_inside.specs.Inside.{flanks_at, IsCrossed, IsCount}
+use Rattle.tl_inside.specs.declared.flanks.Flanks.{Flanks}
+use Rattle.tl_inside.specs.Inside.{flanks_at, IsCrossed}
 use Rattle.tl_planar.specs.Keeping.Apart.{one_found}
 use Rattle.tl_planar.proofs.Numbering.{one_chain, one_place}
 use Rattle.inside_tests.proofs.Running.{on_same}
 
--- of the first n segments, those that are crossed have such a side near and far so often
-pub record IsCountSoFar (chains : List MapChain) (q : Point) (S : Side → Bool) (n near far : ℕ) : Type 0 where
+-- of the first n segments, those that are hit have such a side near and far so often
+pub record IsTally (hit : ℕ → Type 0) (flanks : ℕ → Flanks) (S : Side → Bool) (n near far : ℕ) : Type 0 where
   pub crossed : List ℕ
-  pub are : AreHits n (IsCrossed chains q) crossed
-  pub nears : near ≡ count_by (λ f. S f.near) (map (flanks_at chains) crossed)
-  pub fars : far ≡ count_by (λ f. S f.far) (map (flanks_at chains) crossed)
+  pub are : AreHits n hit crossed
+  pub nears : near ≡ count_by (λ f. S f.near) (map flanks crossed)
+  pub fars : far ≡ count_by (λ f. S f.far) (map flanks crossed)
   pub few_near : near ≤ n
   pub few_far : far ≤ n
+
+-- those that are crossed
+abbrev pub IsCountSoFar : List MapChain → Point → (Side → Bool) → (n near far : ℕ) → Type 0
+IsCountSoFar chains q S n near far = IsTally (IsCrossed chains q) (flanks_at chains) S n near far
 
 at_most_one : (b : Bool) → cond b 1 0 ≤ 1
 at_most_one true = omega arith
@@ -38,25 +43,15 @@ byte_is false = refl
 pub flag : (r : ℕ) (b test : Bool) → r ≡ bool_byte b → b ≡ test → r ≡ cond test 1 0
 flag r b test e same = rw (sym same) (e ∙ byte_is b)
 
-module _ (chains : List MapChain) (q : Point) (S : Side → Bool) where
-  pub none_yet : IsCountSoFar chains q S 0 0 0
-  none_yet = record {
-    crossed = [];
-    are = record { once = λ i lt h. absurd (omega (arith, lt)); others = λ i not. refl; known = λ i le. refl };
-    nears = refl;
-    fars = refl;
-    few_near = omega arith;
-    few_far = omega arith;
-  }
-
-  module _ (n near far : ℕ) (before : IsCountSoFar chains q S n near far) where
-    pub passed_by : ¬ IsCrossed chains q n → IsCountSoFar chains q S (n + 1) near far
+module _ (hit : ℕ → Type 0) (flanks : ℕ → Flanks) (S : Side → Bool) where
+  module _ (n near far : ℕ) (before : IsTally hit flanks S n near far) where
+    pub passed_by : ¬ hit n → IsTally hit flanks S (n + 1) near far
     passed_by not = record {
       crossed = before.crossed;
       are = record {
         once = λ i lt h. elim (cases_lt i n) [
           | inl earlier ↦ before.are.once i earlier h
-          | inr last ↦ let e : i ≡ n = omega (arith, lt, last) in absurd (not (subst (IsCrossed chains q) e h))
+          | inr last ↦ let e : i ≡ n = omega (arith, lt, last) in absurd (not (subst hit e h))
         ];
         others = before.are.others;
         known = λ i le. before.are.known i (omega (arith, le));
@@ -67,27 +62,27 @@ module _ (chains : List MapChain) (q : Point) (S : Side → Bool) where
       few_far = let few = before.few_far in omega (arith, few);
     }
 
-    one_longer : IsCrossed chains q n → AreHits (n + 1) (IsCrossed chains q) (n ∷ before.crossed)
+    one_longer : hit n → AreHits (n + 1) hit (n ∷ before.crossed)
     one_longer is = record {
       once = λ i lt h. same_or i n
           (λ e. let none = before.are.known i (omega (arith, e)) in let one = times-same i n before.crossed e in omega (arith, none, one))
           (λ ne. let same = times-other i n before.crossed ne in same ∙ before.are.once i (omega (arith, lt, ne)) h);
       others = λ i not. same_or i n
-          (λ e. absurd (not (subst (IsCrossed chains q) (sym e) is)))
+          (λ e. absurd (not (subst hit (sym e) is)))
           (λ ne. times-other i n before.crossed ne ∙ before.are.others i not);
       known = λ i le. times-other i n before.crossed (λ e. omega (arith, le, e)) ∙ before.are.known i (omega (arith, le));
     }
 
-    pub crossed_one : (new_near new_far : ℕ) → IsCrossed chains q n → new_near ≡ near + cond (S (flanks_at chains n).near) 1 0 → new_far ≡ far + cond (S (flanks_at chains n).far) 1 0 → IsCountSoFar chains q S (n + 1) new_near new_far
+    pub crossed_one : (new_near new_far : ℕ) → hit n → new_near ≡ near + cond (S (flanks n).near) 1 0 → new_far ≡ far + cond (S (flanks n).far) 1 0 → IsTally hit flanks S (n + 1) new_near new_far
     crossed_one new_near new_far crossed is_near is_far =
         let nears = before.nears in
         let fars = before.fars in
         let few_near = before.few_near in
         let few_far = before.few_far in
-        let one_near = at_most_one (S (flanks_at chains n).near) in
-        let one_far = at_most_one (S (flanks_at chains n).far) in
-        let more_near = sum_by-cons (λ f. cond (S f.near) 1 0) (flanks_at chains n) (map (flanks_at chains) before.crossed) in
-        let more_far = sum_by-cons (λ f. cond (S f.far) 1 0) (flanks_at chains n) (map (flanks_at chains) before.crossed) in
+        let one_near = at_most_one (S (flanks n).near) in
+        let one_far = at_most_one (S (flanks n).far) in
+        let more_near = sum_by-cons (λ f. cond (S f.near) 1 0) (flanks n) (map flanks before.crossed) in
+        let more_far = sum_by-cons (λ f. cond (S f.far) 1 0) (flanks n) (map flanks before.crossed) in
         record {
           crossed = n ∷ before.crossed;
           are = one_longer crossed;
@@ -96,15 +91,6 @@ module _ (chains : List MapChain) (q : Point) (S : Side → Bool) where
           few_near = omega (arith, few_near, is_near, one_near);
           few_far = omega (arith, few_far, is_far, one_far);
         }
-
-    pub count_of : n ≡ segments_before chains (length chains) → IsCount chains q S (pos near -ℤ pos far)
-    count_of e = record {
-      crossed = before.crossed;
-      are = subst (λ (m : ℕ). AreHits m (IsCrossed chains q) before.crossed) e before.are;
-      counted =
-          ap (λ k. pos k -ℤ pos far) before.nears
-          ∙ ap (λ k. pos (count_by (λ f. S f.near) (map (flanks_at chains) before.crossed)) -ℤ pos k) before.fars;
-    }
 
 crosses_same : (s t : Segment) (q : Point) → s.a ≡ t.a → s.b ≡ t.b → Crosses s q → Crosses t q
 crosses_same s t q first last c = record {

@@ -4,3 +4,4 @@ pub mod Listing
 pub mod Placing
 pub mod Running
 pub mod Saying
+pub mod Westward

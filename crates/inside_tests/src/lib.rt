@@ -22,3 +22,7 @@ mod random;
 mod said;
 #[cfg(test)]
 mod sides;
+#[cfg(test)]
+mod west;
+#[cfg(test)]
+mod west_cases;

@@ -1,18 +1,16 @@
 -- Where chains are planar, darts head apart: two darts of one node and one heading share places that may not be shared.
-use Rattle.std.proofs.Common.{◌≡◌, ◌≢◌, ◌⊎◌, inl, inr, ⊎_elim, ℕ, ◌+◌, ◌-◌, ◌*◌, ◌/◌, ◌%◌, ◌<◌, ◌≤◌, pos, ◌-ℤ◌, ◌*ℤ◌, ◌+ℤ◌, ◌<ℤ◌, Bool, true, false, Some, List, length, refl, sym, ap, subst, ◌∙◌, arith}
+use Rattle.std.proofs.Common.{◌≡◌, ◌≢◌, ◌⊎◌, inl, inr, ⊎_elim, ℕ, ◌+◌, ◌-◌, ◌/◌, ◌%◌, ◌<◌, pos, ◌-ℤ◌, ◌*ℤ◌, ◌+ℤ◌, ◌<ℤ◌, Bool, true, false, Some, List, length, refl, sym, ap, subst, ◌∙◌, arith}
 use Rattle.std.specs.Prelude.{slice_get}
 use Rattle.std.proofs.lemmas.Bool.{false≢true, eqb-true, eq-eqb}
-use Rattle.std.proofs.lemmas.Int.{ints}
 use Rattle.tl_geom.specs.declared.point.Point.{Point}
 use Rattle.tl_geom.specs.declared.rational.Rational.{Rational}
 use Rattle.tl_geom.specs.declared.segment.Segment.{Segment}
-use Rattle.tl_geom.specs.declared.direction.Direction.{Direction}
 use Rattle.tl_geom.specs.Plane.{IsSame, cross, whole}
-use Rattle.tl_geom.specs.Turning.{cross_of, dot_of, IsOneDirection}
+use Rattle.tl_geom.specs.Turning.{IsOneDirection}
 use Rattle.tl_geom.proofs.Order.{one_back}
 use Rattle.tl_geom.proofs.Places.{same_sym, same_trans}
 use Rattle.tl_map.specs.TheMap.{MapChain}
-use Rattle.tl_map.specs.Darts.{is_along, dart_start, dart_second, Heads}
+use Rattle.tl_map.specs.Darts.{is_along, dart_start, dart_second}
 use Rattle.tl_tree.proofs.Permuted.{same_or}
 use Rattle.tl_planar.specs.Planar.{IsVertex, IsOnSegment, IsChainEnd, IsSimple, IsPlanar}
 use Rattle.tl_planar.specs.Keeping.Apart.{one_found}
@@ -64,10 +62,10 @@ one_way points a b f g k place l last long meet simple two =
     let before : f.place < g.place = omega (arith, place, some) in
     let start : slice_get points 0 ≡ Some f.first = ap (slice_get points) (sym k) ∙ f.first_is in
     let at : (r : Rational) → IsOnSegment points f.place r → IsOnSegment points g.place r → ¬ IsSame r (whole f.first) → IsVertex points g.place r = λ r on on_other not.
-        ⊎_elim (λ between. between.vertex) (λ closing. absurd (not_vertex points 0 f.first r start not closing.start)) (simple f.place g.place r before on on_other) in
+    ⊎_elim (λ between. between.vertex) (λ closing. absurd (not_vertex points 0 f.first r start not closing.start)) (simple f.place g.place r before on on_other) in
     two.differ (one_vertex points g.place two.one two.other
-        (at two.one (f.on (segment_of points a f) two.one refl refl two.one_first) (g.on (segment_of points b g) two.one refl refl two.one_second) two.one_inside)
-        (at two.other (f.on (segment_of points a f) two.other refl refl two.other_first) (g.on (segment_of points b g) two.other refl refl two.other_second) two.other_inside)))
+    (at two.one (f.on (segment_of points a f) two.one refl refl two.one_first) (g.on (segment_of points b g) two.one refl refl two.one_second) two.one_inside)
+    (at two.other (f.on (segment_of points a f) two.other refl refl two.other_first) (g.on (segment_of points b g) two.other refl refl two.other_second) two.other_inside)))
 
 on_one_chain : (one other : MapChain) → one ≡ other → (a b : Bool) (f : AreFirst one.points a) (g : AreFirst other.points b) → f.k ≡ 0 → f.place ≡ 0 → f.l ≡ 1 → g.k ≡ length other.points - 1 → g.place + 2 ≡ length other.points → g.l ≡ g.place → f.first ≡ g.first → IsSimple one.points → ShareTwo (segment_of one.points a f) (segment_of other.points b g) → ⊥
 on_one_chain one other same =

@@ -1,5 +1,5 @@
 -- A segment that a height parts has one place there: east of a point at that height, at it, or west of it.
-use Rattle.std.proofs.Common.{◌≡◌, ◌⊎◌, inl, inr, ⊎_elim, ℤ, pos, ◌+ℤ◌, ◌-ℤ◌, ◌*ℤ◌, ◌<ℤ◌, ◌≤ℤ◌, ap, sym, subst, ◌∙◌, arith}
+use Rattle.std.proofs.Common.{◌≡◌, ◌⊎◌, inl, inr, ⊎_elim, ℤ, pos, ◌+ℤ◌, ◌-ℤ◌, ◌*ℤ◌, ◌<ℤ◌, ap, sym, subst, ◌∙◌, arith}
 use Rattle.std.proofs.lemmas.Int.{ints}
 use Rattle.tl_geom.specs.declared.point.Point.{Point}
 use Rattle.tl_geom.specs.declared.rational.Rational.{Rational}
@@ -108,7 +108,7 @@ module _ (s : Segment) (q : Point) (parted : IsParted q s.a s.b) (r w : Rational
       let k : w.x -ℤ w.d *ℤ q.x ≡ pos 0 = zero_product r.d (w.x -ℤ w.d *ℤ q.x) (λ e. omega (arith, ints, d, e)) h in
       omega (arith, ints, k)
 
-one_times : (a : ℤ) → a ≡ pos 1 *ℤ a
+pub one_times : (a : ℤ) → a ≡ pos 1 *ℤ a
 one_times a = same (num a) (num (pos 1) ⊗ num a) (omega arith)
 
 -- a segment doesn't cross both rays

@@ -1,16 +1,16 @@
 -- Where sides agree, next permutes the darts, so that as much counts on their left as on their right.
-use Rattle.std.proofs.Common.{◌≡◌, inl, inr, ℕ, ◌+◌, ◌<◌, ◌≤◌, ℤ, pos, ◌-ℤ◌, Bool, List, length, refl, sym, ap, subst, ◌∙◌, arith}
+use Rattle.std.proofs.Common.{◌≡◌, inl, inr, ℕ, ◌<◌, ℤ, pos, Bool, List, sym, subst, ◌∙◌, arith}
 use Rattle.std.proofs.lemmas.Bool.{cases_lt}
 use Rattle.std.proofs.lemmas.Int.{ints}
 use Rattle.tl_map.specs.declared.sides.Side.{Side}
 use Rattle.tl_map.specs.TheMap.{MapChain}
 use Rattle.tl_map.specs.Darts.{dart_start}
-use Rattle.tl_sides.specs.Sides.{dart_count, dart_right, IsNext, SidesAgree}
+use Rattle.tl_sides.specs.Sides.{dart_count, IsNext, SidesAgree}
 use Rattle.tl_sides.proofs.Headings.{dart_within}
 use Rattle.tl_inside.specs.Inside.{balance}
 use Rattle.tl_crossings.specs.Heights.{crossed_at}
 use Rattle.tl_crossings.specs.Headings.{AreProper, HeadApart}
-use Rattle.tl_crossings.proofs.Sums.{sum_below, sum_same, sum_permuted}
+use Rattle.tl_crossings.proofs.Sums.{sum_same, sum_permuted}
 use Rattle.tl_crossings.proofs.Nexts.{next_of, one_next}
 use Rattle.tl_crossings.proofs.Telescoping.{near_count, far_count, left_ends, right_ends, telescoped}
 use Rattle.tl_crossings.proofs.Ends.{weight_of, left_weight, right_weight, left_sum, right_sum}

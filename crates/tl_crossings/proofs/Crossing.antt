@@ -1,7 +1,6 @@
 -- Each segment is crossed by the ray to the east, or by that to the west, or holds the point, or doesn't cross its height.
-use Rattle.std.proofs.Common.{◌≡◌, ◌⊎◌, ◌↔◌, inl, inr, ⊎_elim, ℕ, ◌+◌, ◌<◌, ◌≤◌, ◌<ℤ◌, ◌≤ℤ◌, Bool, true, false, not, cond, List, length, refl, sym, ap, ◌∙◌, arith}
+use Rattle.std.proofs.Common.{◌≡◌, ◌⊎◌, inl, inr, ⊎_elim, ℕ, ◌<◌, Bool, true, false, List, length, refl, sym, arith}
 use Rattle.std.proofs.lemmas.Int.{ints}
-use Rattle.std.specs.Prelude.{slice_get}
 use Rattle.tl_geom.specs.declared.point.Point.{Point}
 use Rattle.tl_geom.specs.declared.rational.Rational.{Rational}
 use Rattle.tl_geom.specs.declared.segment.Segment.{Segment}
@@ -9,7 +8,6 @@ use Rattle.tl_geom.specs.Plane.{IsOn, whole}
 use Rattle.tl_geom.specs.Ray.{IsParted, Crosses}
 use Rattle.tl_map.specs.TheMap.{MapChain}
 use Rattle.tl_map.specs.Segments.{segments_before}
-use Rattle.tl_planar.proofs.Numbering.{below_total}
 use Rattle.tl_inside.specs.Inside.{flanks_at, flanks_between, IsCrossed}
 use Rattle.tl_inside.proofs.Hitting.{HaveSameEnds, same_ends}
 use Rattle.tl_inside.proofs.Sides.{by_points}

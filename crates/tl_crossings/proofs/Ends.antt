@@ -1,5 +1,5 @@
 -- What counts at the ends of all chains is what counts at the starts of all darts.
-use Rattle.std.proofs.Common.{◌≡◌, ℕ, zero, suc, ◌+◌, ◌-◌, ◌*◌, ◌/◌, ◌%◌, ◌<◌, ℤ, pos, Bool, true, false, not, cond, eqb, Option, Some, None, List, [], ◌∷◌, length, get_or, reverse, refl, sym, ap, subst, ◌∙◌, arith}
+use Rattle.std.proofs.Common.{◌≡◌, ℕ, ◌+◌, ◌-◌, ◌*◌, ◌/◌, ◌%◌, ◌<◌, ℤ, Bool, true, false, cond, Option, Some, None, List, [], ◌∷◌, length, get_or, reverse, refl, sym, ap, ◌∙◌, arith}
 use Rattle.std.specs.Prelude.{slice_get}
 use Rattle.std.specs.Option.{option_map, option_and_then}
 use Rattle.std.proofs.lemmas.Bool.{eq-eqb}
@@ -7,9 +7,8 @@ use Rattle.std.proofs.lemmas.List.{length-reverse, get_or-reverse}
 use Rattle.std.proofs.lemmas.Option.{slice_get-get_or}
 use Rattle.tl_geom.specs.declared.point.Point.{Point}
 use Rattle.tl_map.specs.declared.sides.Side.{Side}
-use Rattle.tl_map.specs.declared.sides.Side.TheVariants.{Outside}
 use Rattle.tl_map.specs.TheMap.{MapChain}
-use Rattle.tl_map.specs.Darts.{directed, is_along, reverse_dart, dart_start, dart_left}
+use Rattle.tl_map.specs.Darts.{directed, is_along, dart_start, dart_left}
 use Rattle.tl_sides.specs.Sides.{dart_count, dart_right}
 use Rattle.tl_crossings.proofs.Darts.{no_chain}
 use Rattle.tl_crossings.proofs.Sums.{sum_below, sum_below-none, sum_same, sum_first, sum_pairs, eqb-other}

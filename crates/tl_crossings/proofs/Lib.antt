@@ -11,3 +11,8 @@ pub mod AtHeight
 pub mod Located
 pub mod Listing
 pub mod Crossing
+pub mod Rays
+pub mod Boxed
+pub mod Boxes
+pub mod Telling
+pub mod Thrice

@@ -1,6 +1,6 @@
 -- Counts over a list of segments, and over all segments that cross a height, as sums over the numbers of segments. And the
 -- list of those that are hit.
-use Rattle.std.proofs.Common.{◌≡◌, ◌⊎◌, inl, inr, ⊎_elim, ℕ, zero, suc, ◌+◌, ◌*◌, ◌<◌, ◌≤◌, ℤ, Bool, false, cond, eqb, List, [], ◌∷◌, ◌++◌, length, map, get_or, sum_by, count_by, refl, sym, ap, subst, ◌∙◌, arith}
+use Rattle.std.proofs.Common.{◌≡◌, ◌⊎◌, inl, inr, ℕ, zero, suc, ◌+◌, ◌*◌, ◌<◌, ◌≤◌, ℤ, Bool, false, cond, eqb, List, [], ◌∷◌, length, map, get_or, sum_by, count_by, refl, sym, ap, subst, ◌∙◌, arith}
 use Rattle.std.proofs.lemmas.Bool.{cases_lt}
 use Rattle.std.proofs.lemmas.List.Sums.{sum_by-cons, sum_by-append}
 use Rattle.tl_geom.specs.declared.point.Point.{Point}
@@ -119,9 +119,11 @@ module _ (hit : ℕ → Type 0) where
 
   pub all_hits : (n : ℕ) → ((i : ℕ) → i < n → hit i ⊎ (¬ hit i)) → (found : List ℕ) × AreHits n hit found
   all_hits n known =
-      let l : IsListed n = all_listed n known in
-      (l.list, record {
-        once = l.once;
-        others = λ i no. elim (cases_lt i n) [ inl lt ↦ l.others i lt no | inr le ↦ l.past i le ];
-        known = l.past;
-      })
+      let l : IsListed n = all_listed n known in (
+        l.list,
+        record {
+          once = l.once;
+          others = λ i no. elim (cases_lt i n) [ inl lt ↦ l.others i lt no | inr le ↦ l.past i le ];
+          known = l.past;
+        },
+      )

@@ -1,5 +1,5 @@
 -- Each segment below their number is one of a chain, and what is listed of each stands at its number.
-use Rattle.std.proofs.Common.{◌≡◌, ◌≢◌, inl, inr, ℕ, zero, suc, ◌+◌, ◌-◌, ◌<◌, ◌≤◌, pos, Some, None, List, [], ◌∷◌, ◌++◌, length, get_or, take, refl, sym, ap, subst, ◌∙◌, arith}
+use Rattle.std.proofs.Common.{◌≡◌, inl, inr, ℕ, zero, suc, ◌+◌, ◌-◌, ◌<◌, pos, Some, List, [], ◌∷◌, ◌++◌, length, get_or, take, refl, sym, ap, subst, ◌∙◌, arith}
 use Rattle.std.specs.Prelude.{slice_get}
 use Rattle.std.proofs.lemmas.Bool.{cases_lt}
 use Rattle.std.proofs.lemmas.List.{get_or_append_left, get_or-append-add, length-append}
@@ -13,7 +13,6 @@ use Rattle.tl_map.specs.TheMap.{MapChain}
 use Rattle.tl_map.specs.Segments.{segments_before, IsSegmentOf, Joins}
 use Rattle.tl_planar.specs.Keeping.Apart.{one_found}
 use Rattle.tl_crossings.specs.Headings.{AreProper}
-use Rattle.tl_crossings.proofs.Sums.{sum_below, sum_below-none, sum_first}
 
 -- ---- the chain and the place of a segment
 

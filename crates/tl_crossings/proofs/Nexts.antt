@@ -1,5 +1,5 @@
 -- Each dart of proper chains has a next one about its node, and where darts head apart no other dart has the same next one.
-use Rattle.std.proofs.Common.{◌≡◌, ◌≢◌, ◌⊎◌, inl, inr, ⊎_elim, ℕ, zero, suc, ◌<◌, ◌-ℤ◌, Some, List, refl, sym, ap, subst, ◌∙◌, arith}
+use Rattle.std.proofs.Common.{◌≡◌, ◌≢◌, ◌⊎◌, inl, inr, ⊎_elim, ℕ, zero, suc, ◌<◌, ◌-ℤ◌, Some, List, sym, ap, subst, ◌∙◌, arith}
 use Rattle.std.proofs.lemmas.Int.{ints}
 use Rattle.tl_geom.specs.declared.point.Point.{Point}
 use Rattle.tl_geom.specs.declared.direction.Direction.{Direction}
@@ -10,7 +10,7 @@ use Rattle.tl_map.specs.TheMap.{MapChain}
 use Rattle.tl_map.specs.Darts.{dart_start, Heads}
 use Rattle.tl_tree.proofs.Permuted.{same_or}
 use Rattle.tl_sides.specs.Sides.{dart_count, IsNext}
-use Rattle.tl_sides.proofs.Headings.{dart_within, heads_alike, nothing_within}
+use Rattle.tl_sides.proofs.Headings.{dart_within, heads_alike}
 use Rattle.tl_crossings.specs.Headings.{AreProper, HeadApart}
 use Rattle.tl_crossings.proofs.Darts.{IsDart, dart_of}
 use Rattle.tl_crossings.proofs.Turns.{is_within, not_within, within_longer, within_alike, one_within}
@@ -78,17 +78,19 @@ module _ (chains : List MapChain) (proper : AreProper chains) where
   pub next_of : (a : ℕ) → a < dart_count chains → (b : ℕ) × IsNext chains a b
   next_of a lt =
       let own : IsDart chains a = dart_of chains proper a lt in
-      let best : IsFirst own.points.first own.heading (dart_count chains) = first_below a own.points.first own.heading own.starts own.heads (dart_count chains) (omega arith) in
-      (best.dart, record {
-        node = own.points.first;
-        a_starts = own.starts;
-        b_starts = best.starts;
-        from = own.heading;
-        to = best.to;
-        a_heads = own.heads;
-        b_heads = best.heads;
-        none_between = λ c heading c_starts c_heads. best.none c heading (dart_within chains c own.points.first c_starts) c_starts c_heads;
-      })
+      let best : IsFirst own.points.first own.heading (dart_count chains) = first_below a own.points.first own.heading own.starts own.heads (dart_count chains) (omega arith) in (
+        best.dart,
+        record {
+          node = own.points.first;
+          a_starts = own.starts;
+          b_starts = best.starts;
+          from = own.heading;
+          to = best.to;
+          a_heads = own.heads;
+          b_heads = best.heads;
+          none_between = λ c heading c_starts c_heads. best.none c heading (dart_within chains c own.points.first c_starts) c_starts c_heads;
+        },
+      )
 
 -- no two darts have one next
 pub one_next : (chains : List MapChain) → HeadApart chains → (a b c : ℕ) → IsNext chains a c → IsNext chains b c → a ≡ b

@@ -1,7 +1,6 @@
 -- Two segments that leave one point in one direction share two places beside that point.
 use Rattle.std.proofs.Common.{◌≡◌, ◌≢◌, ⊎_elim, inl, inr, ℤ, pos, ◌+ℤ◌, ◌-ℤ◌, ◌*ℤ◌, ◌<ℤ◌, ◌≤ℤ◌, ap, sym, refl, arith}
 use Rattle.std.proofs.lemmas.Int.{ints}
-use Rattle.tl_geom.specs.declared.point.Point.{Point}
 use Rattle.tl_geom.specs.declared.rational.Rational.{Rational}
 use Rattle.tl_geom.specs.declared.segment.Segment.{Segment}
 use Rattle.tl_geom.specs.Plane.{IsOn, IsSame, cross, whole}
@@ -107,15 +106,15 @@ module _ (s t : Segment) (x : s.a.x ≡ t.a.x) (y : s.a.y ≡ t.a.y) (parallel :
   on_both d h le = (
     place_on s both d h (omega (arith, ints, same_way)) (omega (arith, ints, own_above, le)),
     on_same t (place t own d h) (place s both d h)
-    (record {
-      x = ap (λ z. z *ℤ d) (λ i. d *ℤ sym x i +ℤ sym (scaled_x (s.b.x -ℤ s.a.x) (s.b.y -ℤ s.a.y) (t.b.x -ℤ t.a.x) (t.b.y -ℤ t.a.y) parallel) i);
-      y = ap (λ z. z *ℤ d) (λ i. d *ℤ sym y i +ℤ sym (scaled_y (s.b.x -ℤ s.a.x) (s.b.y -ℤ s.a.y) (t.b.x -ℤ t.a.x) (t.b.y -ℤ t.a.y) parallel) i);
-    })
-    (place_on t own d h (omega (arith, ints, own_above)) (omega (arith, ints, same_way, le))),
+        (record {
+          x = ap (λ z. z *ℤ d) (λ i. d *ℤ sym x i +ℤ sym (scaled_x (s.b.x -ℤ s.a.x) (s.b.y -ℤ s.a.y) (t.b.x -ℤ t.a.x) (t.b.y -ℤ t.a.y) parallel) i);
+          y = ap (λ z. z *ℤ d) (λ i. d *ℤ sym y i +ℤ sym (scaled_y (s.b.x -ℤ s.a.x) (s.b.y -ℤ s.a.y) (t.b.x -ℤ t.a.x) (t.b.y -ℤ t.a.y) parallel) i);
+        })
+        (place_on t own d h (omega (arith, ints, own_above)) (omega (arith, ints, same_way, le))),
   )
 
   pub share_two : ShareTwo s t
-  share_two = from (own +ℤ both) (omega (arith, ints, own_above, same_way)) (omega (arith, ints)) 
+  share_two = from (own +ℤ both) (omega (arith, ints, own_above, same_way)) (omega (arith, ints))
     where
       from : (d : ℤ) → pos 0 <ℤ d → (own +ℤ both) ≤ℤ d → ShareTwo s t
       from d h le =

@@ -1,5 +1,5 @@
 -- What lies within turns from one direction to others.
-use Rattle.std.proofs.Common.{◌≡◌, ◌⊎◌, inl, inr, ⊎_elim, pos, ◌-ℤ◌, ◌<ℤ◌, arith}
+use Rattle.std.proofs.Common.{◌⊎◌, inl, inr, ⊎_elim, arith}
 use Rattle.std.proofs.lemmas.Int.{ints}
 use Rattle.tl_geom.specs.declared.direction.Direction.{Direction}
 use Rattle.tl_geom.specs.Turning.{cross_of, IsOneDirection, IsWithin, full, IsBelow}

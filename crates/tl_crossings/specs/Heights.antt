@@ -1,5 +1,5 @@
 -- The segments that cross a height, and what lies on their sides.
-use Rattle.std.specs.Prelude.{ℤ, int_lt, Bool, ◌&&◌, ◌||◌, not, if◌then◌else◌, List, [], ◌∷◌, ◌++◌}
+use Rattle.std.specs.Prelude.{ℤ, int_lt, Bool, not, if◌then◌else◌, List, [], ◌∷◌, ◌++◌}
 use Rattle.tl_geom.specs.declared.point.Point.{Point}
 use Rattle.tl_map.specs.declared.sides.Side.{Side}
 use Rattle.tl_map.specs.TheMap.{MapChain}

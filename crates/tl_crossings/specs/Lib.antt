@@ -3,3 +3,4 @@ pub mod Heights
 pub mod Headings
 pub mod West
 pub mod Boxes
+pub mod Told

@@ -1,16 +1,16 @@
 -- What lies about a point, told by the ray that runs from it to the west.
-use Rattle.std.specs.Prelude.{◌≡◌, ℕ, ℤ, Bool, ◌*ℤ◌, ◌<ℤ◌, List, length, map}
+use Rattle.std.specs.Prelude.{◌≡◌, ℕ, ℤ, Bool, ◌*ℤ◌, ◌<ℤ◌, Some, List, length, map, slice_get}
 use Rattle.tl_geom.specs.declared.point.Point.{Point}
 use Rattle.tl_geom.specs.declared.rational.Rational.{Rational}
 use Rattle.tl_geom.specs.declared.segment.Segment.{Segment}
 use Rattle.tl_geom.specs.Plane.{IsOn}
 use Rattle.tl_geom.specs.Ray.{IsParted}
 use Rattle.tl_map.specs.declared.sides.Side.{Side}
-use Rattle.tl_map.specs.TheMap.{MapChain}
+use Rattle.tl_map.specs.TheMap.{TheMap, MapChain, MapLandmark}
 use Rattle.tl_map.specs.Segments.{segments_before, IsSegmentOf, Joins}
 use Rattle.tl_tree.specs.Hits.{AreHits}
 use Rattle.tl_inside.specs.declared.flanks.Flanks.{Flanks}
-use Rattle.tl_inside.specs.Inside.{flanks_at, balance, is_polygon}
+use Rattle.tl_inside.specs.Inside.{flanks_at, balance, is_polygon, is_among}
 
 -- the rational point is strictly west of q, at its height
 pub record IsWest (q : Point) (r : Rational) : Type 0 where
@@ -47,6 +47,11 @@ pub record IsWestCount (chains : List MapChain) (q : Point) (S : Side → Bool) 
   pub are : AreCrossedWest chains q crossed
   pub counted : n ≡ balance S (map (west_flanks_at chains) crossed)
 
--- that of polygon p
+-- that of polygon p, and that of landmark l
 abbrev pub IsWestPolygonCount : List MapChain → Point → ℕ → ℤ → Type 0
 IsWestPolygonCount chains q p n = IsWestCount chains q (is_polygon p) n
+
+pub record IsWestCountOf (m : TheMap) (q : Point) (l : ℕ) (n : ℤ) : Type 0 where
+  pub landmark : MapLandmark
+  pub is : slice_get m.landmarks l ≡ Some landmark
+  pub count : IsWestCount m.chains q (is_among landmark.polygons) n

@@ -1,21 +1,73 @@
 //! Laws of the definitions, each the contract of a function that does nothing.
 
-ghost use Rattle.std.specs.Prelude.{◌≡◌, ℤ, pos, Bool, List};
-ghost use Rattle.tl_map.specs.TheMap.{MapChain};
+ghost use Rattle.std.specs.Prelude.{◌≡◌, ◌↔◌, ℕ, ℤ, pos, Bool, List};
+ghost use Rattle.tl_geom.specs.declared.point.Point.{Point};
+ghost use Rattle.tl_geom.specs.declared.rect.Rect.{Rect};
+ghost use Rattle.tl_geom.specs.Rectangle.{Holds};
+ghost use Rattle.tl_map.specs.TheMap.{TheMap, MapChain};
 ghost use Rattle.tl_map.specs.declared.sides.Side.{Side};
 ghost use Rattle.tl_planar.specs.Planar.{IsPlanar};
 ghost use Rattle.tl_sides.specs.Sides.{SidesAgree};
-ghost use Rattle.tl_inside.specs.Inside.{balance};
+ghost use Rattle.tl_inside.specs.declared.place.Place.{Place};
+ghost use Rattle.tl_inside.specs.Inside.{balance, is_polygon, IsCount, IsPolygonCount};
+ghost use Rattle.tl_inside.specs.Places.{IsOffChains, IsPlaceOf};
 ghost use Rattle.tl_crossings.specs.Heights.{crossed_at};
 ghost use Rattle.tl_crossings.specs.Headings.{AreProper, HeadApart};
+ghost use Rattle.tl_crossings.specs.Boxes.{IsOnBoundary, IsOfChains, IsOutsideOfBox};
+ghost use Rattle.tl_crossings.specs.West.{IsWestCount};
+ghost use Rattle.tl_crossings.specs.Told.{ListsByWest, IsNowhere};
 
-/// Where sides agree, over all segments that cross a height any side is as often near as far.
-pub fn the_crossings_of_a_height_cancel()
-    ensures { (chains : List MapChain) (y : ℤ) (S : Side → Bool) → AreProper chains → HeadApart chains → SidesAgree chains →
-        balance S (crossed_at y chains) ≡ pos 0 }
+/// At each point any sides have one count, and no other.
+pub fn sides_have_one_count()
+    ensures { (chains : List MapChain) (q : Point) (S : Side → Bool) → AreProper chains →
+        (n : ℤ) × IsCount chains q S n × ((other : ℤ) → IsCount chains q S other → other ≡ n) }
 {}
 
 /// Where chains are planar, no two darts of one node head in one direction.
 pub fn darts_of_planar_chains_head_apart()
     ensures { (chains : List MapChain) → AreProper chains → IsPlanar chains → HeadApart chains }
+{}
+
+/// Where sides agree and darts head apart, over all segments that cross a height any side is as often near as far.
+pub fn the_crossings_of_a_height_cancel()
+    ensures { (chains : List MapChain) (y : ℤ) (S : Side → Bool) → AreProper chains → HeadApart chains → SidesAgree chains →
+        balance S (crossed_at y chains) ≡ pos 0 }
+{}
+
+/// So the count of a polygon is 0, and no other number, at each point outside of the bounding box of its own boundary.
+pub fn a_polygon_counts_nothing_outside_of_its_box()
+    ensures { (chains : List MapChain) (q : Point) (p : ℕ) (n : ℤ) → AreProper chains → HeadApart chains → SidesAgree chains →
+        IsOutsideOfBox (IsOnBoundary chains (is_polygon p)) q → IsPolygonCount chains q p n ↔ (n ≡ pos 0) }
+{}
+
+/// The same of any sides, as those of a landmark, and of any rectangle that holds their boundary.
+pub fn sides_count_nothing_outside_of_a_rectangle()
+    ensures { (chains : List MapChain) (r : Rect) (q : Point) (S : Side → Bool) (n : ℤ) → AreProper chains → HeadApart chains → SidesAgree chains →
+        ((p : Point) → IsOnBoundary chains S p → Holds r p) → ¬ Holds r q → IsCount chains q S n ↔ (n ≡ pos 0) }
+{}
+
+/// Where chains are planar and sides agree, as on a sound map, the ray to the west counts at a point on no chain what the
+/// ray to the east counts.
+pub fn east_is_west()
+    ensures { (chains : List MapChain) (q : Point) (S : Side → Bool) (n : ℤ) → AreProper chains → IsPlanar chains → SidesAgree chains →
+        IsOffChains chains q → IsCount chains q S n ↔ IsWestCount chains q S n }
+{}
+
+/// So there [`tl_inside::locate`] lists the polygons and the landmarks whose count by the ray to the west isn't 0.
+pub fn places_are_told_by_the_ray_to_the_west()
+    ensures { (m : TheMap) (q : Point) (place : Place) → AreProper m.chains → IsPlanar m.chains → SidesAgree m.chains →
+        IsPlaceOf m q place → ListsByWest m q place }
+{}
+
+/// And it lists no polygon and no landmark at a point outside of the box of all chains, as east or west of them.
+pub fn nothing_lies_outside_of_the_box_of_all_chains()
+    ensures { (m : TheMap) (q : Point) (place : Place) → AreProper m.chains → IsPlanar m.chains → SidesAgree m.chains →
+        IsOutsideOfBox (IsOfChains m.chains) q → IsPlaceOf m q place → IsNowhere place }
+{}
+
+/// Sides that agree aren't enough for it: of three chains with one polygon on their left and another on their right, two
+/// run alike from one node up to another, and the third leads back.
+pub fn sides_that_agree_are_not_enough()
+    ensures { (chains : List MapChain) × AreProper chains × SidesAgree chains
+        × (balance (is_polygon 0) (crossed_at (pos 0) chains) ≡ pos 1) }
 {}
