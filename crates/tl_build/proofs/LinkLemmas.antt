@@ -1,11 +1,10 @@
 -- Darts that are linked along a round, and along the rounds one after the other.
-use Rattle.std.proofs.Common.{◌≡◌, ◌≢◌, inl, inr, ℕ, zero, suc, ◌+◌, ◌-◌, ◌*◌, ◌<◌, ◌≤◌, arith, List, length, set, get_or, refl, ap, sym, subst, ◌∙◌, length-set, get_or-set_same, get_or-set_other}
+use Rattle.std.proofs.Common.{◌≡◌, ◌≢◌, inl, inr, ℕ, suc, ◌+◌, ◌<◌, ◌≤◌, arith, List, length, set, refl, ap, sym, ◌∙◌, length-set, get_or-set_same, get_or-set_other}
 use Rattle.std.specs.Prelude.{slice_index}
 use Rattle.std.proofs.lemmas.Bool.{cases_lt}
 use Rattle.tl_map.specs.Darts.{reverse_dart}
 use Rattle.tl_tree.specs.Hits.{times}
-use Rattle.tl_tree.proofs.Permuted.{same_or}
-use Rattle.tl_sides.specs.Lists.{before, list_at}
+use Rattle.tl_sides.specs.Lists.{before}
 use Rattle.tl_sides.proofs.Boundaries.{back_again}
 use Rattle.tl_sides.proofs.ListLemmas.{one_place, stands}
 use Rattle.tl_build.specs.Keeping.Following.{IsLinkedIn}

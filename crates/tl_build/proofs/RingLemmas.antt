@@ -1,21 +1,21 @@
 -- Walks that go by the darts before each in the rounds of a map are the walks of the map.
-use Rattle.std.proofs.Common.{◌≡◌, ◌⊎◌, inl, inr, ℕ, zero, suc, ◌+◌, ◌*◌, ◌%◌, ◌<◌, ◌≤◌, arith, Bool, true, false, List, [], ◌∷◌, length, map, Some, refl, ap, sym, subst, ◌∙◌, Vec, Global}
+use Rattle.std.proofs.Common.{◌≡◌, inl, inr, ℕ, zero, suc, ◌+◌, ◌*◌, ◌%◌, ◌<◌, ◌≤◌, arith, Bool, true, false, List, [], ◌∷◌, length, refl, ap, sym, subst, ◌∙◌, Vec, Global}
 use Rattle.std.specs.Prelude.{slice_index}
 use Rattle.std.specs.List.{All, concat}
-use Rattle.std.proofs.lemmas.Bool.{cases_lt, eqb-true, eqb-false}
+use Rattle.std.proofs.lemmas.Bool.{cases_lt, eqb-true}
 use Rattle.std.proofs.lemmas.List.{length-map, get_or-map}
 use Rattle.std.proofs.lemmas.List.Elements.{All-get_or}
 use Rattle.tl_map.specs.TheMap.{MapChain}
-use Rattle.tl_map.specs.Darts.{reverse_dart, is_along, dart_start, dart_end}
+use Rattle.tl_map.specs.Darts.{reverse_dart, is_along, dart_start}
 use Rattle.tl_tree.specs.Hits.{times}
 use Rattle.tl_tree.proofs.Hitting.{times-append}
 use Rattle.tl_sides.specs.Lists.{before, HoldOnce, EachList, list_at, times_in}
-use Rattle.tl_sides.specs.Sides.{dart_count, IsNext, Follows, IsRing}
-use Rattle.tl_sides.specs.Rounds.{AreRounds, round_start}
+use Rattle.tl_sides.specs.Sides.{dart_count, IsNext, Follows}
+use Rattle.tl_sides.specs.Rounds.{AreRounds}
 use Rattle.tl_sides.specs.Walks.{AreWalks}
 use Rattle.tl_sides.proofs.Boundaries.{back_again}
 use Rattle.tl_sides.proofs.FollowFacts.{reverse_starts}
-use Rattle.tl_sides.proofs.ListLemmas.{IsIn, list_of, stands, stands_in, before_at, place_before, place_before_within, before_stands, two_before}
+use Rattle.tl_sides.proofs.ListLemmas.{IsIn, list_of, stands, stands_in, before_stands, two_before}
 use Rattle.tl_sides.proofs.WholeRounds.{HoldAll, next_is_behind}
 use Rattle.tl_crossings.specs.Headings.{AreProper}
 use Rattle.tl_crossings.proofs.Darts.{dart_of}
@@ -95,10 +95,10 @@ module _ (m : ℕ) (rounds : List (List ℕ)) (following : List ℕ) (hold : Hol
       let stands_t = before_stands (list_at rounds t.list) t.place t.place_within in
       let alike : before (list_at rounds s.list) s.place ≡ before (list_at rounds t.list) t.place = sym s.leads ∙ (same ∙ t.leads) in
       let one : s.list ≡ t.list = one_list (2 * m) rounds hold (before (list_at rounds s.list) s.place) s.list t.list s.within t.within stands_s
-          (subst (λ d. 1 ≤ times d (list_at rounds t.list)) (sym alike) stands_t) in
+      (subst (λ d. 1 ≤ times d (list_at rounds t.list)) (sym alike) stands_t) in
       let here : t.place < length (list_at rounds s.list) = subst (λ l. t.place < length (list_at rounds l)) (sym one) t.place_within in
       let places : s.place ≡ t.place = two_before (list_at rounds s.list) s.place t.place (λ d. once_at (2 * m) rounds hold d s.list s.within) s.place_within here
-          (alike ∙ ap (λ l. before (list_at rounds l) t.place) (sym one)) in
+      (alike ∙ ap (λ l. before (list_at rounds l) t.place) (sym one)) in
       let reverses : reverse_dart a ≡ reverse_dart b = sym s.reversed ∙ (ap (λ l. slice_index (list_at rounds l) s.place) one ∙ (ap (slice_index (list_at rounds t.list)) places ∙ t.reversed)) in
       sym (back_again a) ∙ (ap reverse_dart reverses ∙ back_again b)
 

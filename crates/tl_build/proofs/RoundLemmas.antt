@@ -1,5 +1,5 @@
 -- Rounds that are cut of the sorted darts of chains that head apart are the rounds of the chains.
-use Rattle.std.proofs.Common.{◌≡◌, ◌≢◌, inl, inr, ℕ, zero, suc, ◌+◌, ◌<◌, ◌≤◌, arith, List, [], length, map, Some, slice_index_or, refl, ap, sym, subst, ◌∙◌}
+use Rattle.std.proofs.Common.{◌≡◌, inl, inr, ℕ, suc, ◌+◌, ◌<◌, ◌≤◌, arith, List, [], length, Some, slice_index_or, ap, sym, subst, ◌∙◌}
 use Rattle.std.specs.Prelude.{slice_get, slice_index}
 use Rattle.std.specs.List.{All, Contains}
 use Rattle.std.proofs.lemmas.Bool.{cases_lt}
@@ -11,9 +11,9 @@ use Rattle.tl_map.specs.Darts.{dart_start, Heads}
 use Rattle.tl_map.specs.Nodes.{AreNodes}
 use Rattle.tl_map.proofs.NodeLemmas.{one_number}
 use Rattle.tl_tree.specs.Hits.{times}
-use Rattle.tl_sides.specs.Lists.{HoldOnce, list_at, times_in}
+use Rattle.tl_sides.specs.Lists.{HoldOnce, list_at}
 use Rattle.tl_sides.specs.Sides.{dart_count}
-use Rattle.tl_sides.specs.Rounds.{AreRounds, HasOneNode, AreRising, HeadsBefore, round_start}
+use Rattle.tl_sides.specs.Rounds.{AreRounds, HasOneNode, AreRising, round_start}
 use Rattle.tl_sides.proofs.ListLemmas.{one_place, stands_in}
 use Rattle.tl_sides.proofs.NodeFacts.{starts_first}
 use Rattle.tl_crossings.specs.Headings.{HeadApart}
@@ -64,12 +64,12 @@ module _ (chains : List MapChain) (nodes : List Point) (are : AreNodes chains no
         elim (compare s t) [
           | inl (inl less) ↦ absurd (omega (arith, same, less))
           | inl (inr below) ↦ record {
-              first = s.heading;
-              second = t.heading;
-              d_heads = subst (λ e. Heads chains e s.heading) (sym (dart_is k here)) (start_of k here).heads;
-              e_heads = subst (λ e. Heads chains e t.heading) (sym (dart_is (suc k) there)) (start_of (suc k) there).heads;
-              rises = below.1;
-            }
+            first = s.heading;
+            second = t.heading;
+            d_heads = subst (λ e. Heads chains e s.heading) (sym (dart_is k here)) (start_of k here).heads;
+            e_heads = subst (λ e. Heads chains e t.heading) (sym (dart_is (suc k) there)) (start_of (suc k) there).heads;
+            rises = below.1;
+          }
           | inr (inl ties) ↦
               let from = (start_of k here).heads in
               let to = (start_of (suc k) there).heads in

@@ -1,12 +1,12 @@
 -- The order in which darts are sorted is one that a sort can take.
-use Rattle.std.proofs.Common.{◌≡◌, ◌⊎◌, inl, inr, ℕ, ◌+◌, ◌<◌, arith, Bool, true, false, List, length, slice_index_or, refl, sym, ◌∙◌}
+use Rattle.std.proofs.Common.{◌≡◌, ◌⊎◌, inl, inr, ◌+◌, arith, Bool, true, false, List, slice_index_or, refl, sym, ◌∙◌}
 use Rattle.std.proofs.lemmas.Bool.{cases_lt, true≢false}
 use Rattle.std.specs.Cmp.{IsStrictWeakOrder}
 use Rattle.std.specs.List.Sorted.{IsSortedBy}
 use Rattle.std.specs.Ordering.{is_lt}
 use Rattle.std.specs.declared.cmp.Ordering.{Ordering}
 use Rattle.std.specs.declared.cmp.Ordering.TheVariants.{Less, Equal, Greater}
-use Rattle.tl_geom.specs.Turning.{IsBelow, IsOneDirection}
+use Rattle.tl_geom.specs.Turning.{IsOneDirection}
 use Rattle.tl_geom.proofs.Within.{below_trans, alike_above}
 use Rattle.tl_sides.proofs.Headings.{never_both, never_one}
 use Rattle.tl_crossings.proofs.Turns.{order}

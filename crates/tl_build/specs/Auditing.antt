@@ -7,7 +7,7 @@ use Rattle.tl_check.specs.declared.verdict.Report.{Report}
 use Rattle.tl_build.specs.declared.answer.Audit.{Audit}
 use Rattle.tl_build.specs.declared.answer.Audit.TheVariants.{Sound, Fault}
 use Rattle.tl_build.specs.declared.stop.AuditStop.{AuditStop}
-use Rattle.tl_build.specs.declared.stop.AuditStop.TheVariants.{Record, Memory, Device, Unfit}
+use Rattle.tl_build.specs.declared.stop.AuditStop.TheVariants.{Record, Memory, Device}
 
 abbrev pub Auditing : Type 0
 Auditing = Result Audit AuditStop
@@ -26,13 +26,11 @@ abbrev pub IfFaulty : Auditing → (MapFault → Type 0) → Type 0
 IfFaulty (Ok (Fault fault)) P = P fault
 IfFaulty other P = ⊤
 
--- why records aren't decided: this line is the first that is refused, memory was refused, a read failed, or the
--- certificate that was proposed isn't valid
+-- why records aren't decided: this line is the first that is refused, memory was refused, or a read failed
 abbrev pub MayStopAudit : Records → AuditStop → Type 0
 MayStopAudit all (Record line cause) = all.refusal ≡ Some (line, cause)
 MayStopAudit all Memory = ⊤
 MayStopAudit all Device = ⊤
-MayStopAudit all Unfit = ⊤
 
 -- `Device` is answered where a read failed, and nowhere else; the count of failures goes from old to new
 abbrev pub TellsDevice : ℕ → ℕ → Auditing → Type 0

@@ -1,6 +1,6 @@
 //! The decision of a map with no certificate given.
 
-ghost use Rattle.std.specs.Prelude.{◌≡◌, IfErr};
+ghost use Rattle.std.specs.Prelude.{◌≡◌};
 ghost use Rattle.tl_planar.specs.Planar.{IsPlanar};
 ghost use Rattle.tl_sides.specs.Sides.{SidesAgree};
 ghost use Rattle.tl_inside.specs.Placed.{ArePlaced};
@@ -9,7 +9,6 @@ ghost use Rattle.tl_check.specs.Sound.{AreClosed};
 ghost use Rattle.tl_check.specs.Valid.{IsValid};
 ghost use Rattle.tl_check.specs.Truth.{IsTrueOfMap};
 ghost use Rattle.tl_check.specs.Verdicts.{IsReport};
-ghost use Rattle.tl_build.specs.Keeping.Proposed.{HasUnfit};
 ghost use Rattle.tl_build.specs.Keeping.Judging.{IfJudgedSound, OnJudgedSound, IfJudgedFault};
 
 use crate::propose::propose;
@@ -17,6 +16,7 @@ use crate::stop::BuildStop;
 use std::alloc::Global;
 use tl_cert::Certificate;
 use tl_check::{MapFault, Report, Stop, Verdict, check_map};
+use tl_crossings::look_at_chains;
 use tl_map::Map;
 
 /// What is decided of a map.
@@ -39,18 +39,18 @@ pub fn judge(alloc: Global, map: &Map) -> Result<Judged, BuildStop>
     ensures version { IfJudgedSound result (λ cert report. cert.version ≡ 2) }
     ensures report { IfJudgedSound result (λ cert report. IsReport map.now report) }
     ensures fault { IfJudgedFault result (IsTrueOfMap map.now) }
-    ensures unfit { IfErr result (λ stop. stop ≡ BuildStop.Unfit → HasUnfit map.now) }
 {
     let cert = match propose(alloc, map) {
         Ok(cert) => cert,
         Err(_) => return Err(BuildStop::Memory),
     };
+    look_at_chains(map);
     // that there are fewer than 2^32 segments, and so fewer pairs of them than the budget
     let _segments = map.segments();
     match check_map(alloc, map, &cert, u64::MAX) {
         Ok(Verdict::Sound(report)) => Ok(Judged::Sound(cert, report)),
         Ok(Verdict::MapFault(fault)) => Ok(Judged::Fault(fault)),
-        Ok(Verdict::CertFault(_)) => Err(BuildStop::Unfit),
+        Ok(Verdict::CertFault(_)) => unreachable!(),
         Err(Stop::Memory) => Err(BuildStop::Memory),
         Err(Stop::Budget) => unreachable!(),
         Err(Stop::Record { .. } | Stop::Device) => unreachable!(),

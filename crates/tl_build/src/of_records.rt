@@ -111,7 +111,6 @@ fn audit_map(alloc: Global, map: &Map) -> Result<Audit, AuditStop>
         Ok(Judged::Sound(_, report)) => Ok(Audit::Sound(report)),
         Ok(Judged::Fault(fault)) => Ok(Audit::Fault(fault)),
         Err(BuildStop::Memory) => Err(AuditStop::Memory),
-        Err(BuildStop::Unfit) => Err(AuditStop::Unfit),
     }
 }
 

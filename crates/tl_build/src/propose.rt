@@ -2,7 +2,11 @@
 
 ghost use Rattle.std.specs.Prelude.{◌*◌, length, All, IfOk};
 ghost use Rattle.tl_tree.specs.Preorder.{IsPreorder};
+ghost use Rattle.tl_planar.specs.Planar.{IsPlanar};
 ghost use Rattle.tl_sides.specs.Lists.{HoldOnce};
+ghost use Rattle.tl_sides.specs.Rounds.{AreRounds};
+ghost use Rattle.tl_sides.specs.Walks.{AreWalks};
+ghost use Rattle.tl_crossings.specs.Headings.{AreProper};
 ghost use Rattle.tl_cert.specs.Certificates.{AreDartLists, IsCounted};
 ghost use Rattle.tl_check.specs.Valid.{AreCounts, IsTree};
 ghost use Rattle.tl_build.specs.Keeping.Lists.{lists_in};
@@ -61,6 +65,10 @@ fn propose_rings(alloc: Global, map: &Map) -> Result<(Vec<Vec<u32>>, Vec<Vec<u32
         HoldOnce (2 * length map.now.chains) (lists_in made.0.items)) }
     ensures walks { IfOk result (λ made.
         HoldOnce (2 * length map.now.chains) (lists_in made.1.items)) }
+    ensures are_rounds { IfOk result (λ made. AreProper map.now.chains → IsPlanar map.now.chains →
+        AreRounds map.now.chains (lists_in made.0.items)) }
+    ensures are_walks { IfOk result (λ made. AreProper map.now.chains → IsPlanar map.now.chains →
+        AreWalks map.now.chains (lists_in made.1.items)) }
     ensures rounds_counted { IfOk result (λ made. AreDartLists (lists_in made.0.items)) }
     ensures walks_counted { IfOk result (λ made. AreDartLists (lists_in made.1.items)) }
 {

@@ -39,9 +39,11 @@ fn sort_about(starts: &mut Vec<DartStart>)
     ensures same { IsPermutation starts.old.items starts.new.items }
     ensures sorted { AreSorted starts.new.items }
 {
-    starts.sort_unstable_by(|one: &DartStart, other: &DartStart| -> Ordering
-        ensures { (result ≡ Ordering.Less) ↔ ComesBefore one.now other.now }
-    { start_cmp(one, other) });
+    starts.sort_unstable_by(
+        |one: &DartStart, other: &DartStart| -> Ordering
+            ensures { (result ≡ Ordering.Less) ↔ ComesBefore one.now other.now }
+        { start_cmp(one, other) },
+    );
 }
 
 /// The darts of a map by their numbers.

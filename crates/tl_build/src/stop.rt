@@ -3,15 +3,12 @@
 use thiserror::Error;
 use tl_record::Cause;
 
-/// Why a map isn't decided. Its message is the line that the program prints.
+/// Why a map isn't decided: for want of memory, and for no other reason. Its message is the line that the program prints.
 #[derive(Clone, Copy, Debug, PartialEq, Eq, Error)]
 pub enum BuildStop {
     /// Memory was refused.
     #[error("stopped Memory")]
     Memory,
-    /// The certificate that was proposed isn't valid. No map is known of which this is answered.
-    #[error("stopped Unfit")]
-    Unfit,
 }
 
 /// Why records aren't decided. Its message is the line that the program prints.
@@ -26,7 +23,4 @@ pub enum AuditStop {
     /// A read failed.
     #[error("stopped Device")]
     Device,
-    /// The certificate that was proposed isn't valid. No records are known of which this is answered.
-    #[error("stopped Unfit")]
-    Unfit,
 }

@@ -240,7 +240,6 @@ module _ (chains : List MapChain) (rounds : List (List ℕ)) (next : List ℕ) (
   linked_at : (r j : ℕ) (b : IsBehind chains rounds whole.all r j) → r < length rounds → slice_index next (slice_index (list_at rounds r) j) ≡ slice_index (list_at rounds r) b.place
   linked_at r j b hr = ap (slice_index next) (sym b.at_place) ∙ whole.linked r hr b.place b.within
 
-
   -- the dart that is kept behind another is next after it
   pub is_next : (d : ℕ) → d < dart_count chains → IsNext chains d (slice_index next d)
   is_next d h =

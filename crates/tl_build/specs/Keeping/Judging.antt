@@ -32,7 +32,6 @@ abbrev pub IsMapStop : AuditStop → Type 0
 IsMapStop (stop.Record line cause) = ⊥
 IsMapStop stop.Memory = ⊤
 IsMapStop stop.Device = ⊥
-IsMapStop stop.Unfit = ⊤
 
 -- the answer where the records have no map
 abbrev pub refusal_of : MapStop → Auditing

@@ -28,5 +28,7 @@ returns c =
       tree = c.in_ok-tree.ensures.tree;
       rounds = c.in_ok-rounds.ensures.rounds;
       walks = c.in_ok-rounds.ensures.walks;
+      are_rounds = c.in_ok-rounds.ensures.are_rounds;
+      are_walks = c.in_ok-rounds.ensures.are_walks;
     } in
     subst P (sym c.in-Some.ensures.0) proposed

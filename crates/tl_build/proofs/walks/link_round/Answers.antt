@@ -1,4 +1,4 @@
-use Rattle.std.proofs.Common.{◌≡◌, ℕ, ◌+◌, ◌*◌, ◌/◌, ◌<◌, arith, length, sym, subst, get_or}
+use Rattle.std.proofs.Common.{◌/◌, ◌<◌, arith, length, sym, subst, get_or}
 use Rattle.std.proofs.lemmas.List.Elements.{All-get_or, All-set}
 use Rattle.tl_map.specs.Darts.{reverse_dart}
 use Rattle.tl_sides.specs.Lists.{before}
@@ -18,7 +18,7 @@ loop-dart-preserved c =
     let within : reverse_dart (get_or round place 0) < length c.loop-dart.following =
     omega (arith, reverse_within (n / 2) (get_or round place 0) (omega (arith, c.requires.paired, dart)), c.requires.paired, long) in
     let earlier : before round place < n = subst (λ d. d < n) (sym (before_at round place))
-        (All-get_or (λ d. d < n) round (place_before round place) 0 (place_before_within round place test) c.requires.known) in
+    (All-get_or (λ d. d < n) round (place_before round place) 0 (place_before_within round place test) c.requires.known) in
     record {
       before = sym (before_behind round place);
       kept = rw (c.reverse.ensures, c.loop-dart.invariant.before) (All-set (λ d. d < n) c.loop-dart.following (reverse_dart (get_or round place 0)) (before round place) earlier c.loop-dart.invariant.kept);
