@@ -74,9 +74,25 @@ class Plays:
         digest = lambda text: (len(text), hashlib.sha256(text).hexdigest())
         wanted = (status, digest(out.encode()), err.encode())
         well = (done.returncode, digest(done.stdout), done.stderr) == wanted
+        self.count(well, f"{title}: status {done.returncode}, {done.stdout[-200:]} {done.stderr[-200:]}")
+
+    def count(self, well, wrong):
         self.passed, self.failed = self.passed + well, self.failed + (not well)
         if not well:
-            print(f"{title}: status {done.returncode}, {done.stdout[-200:]} {done.stderr[-200:]}")
+            print(wrong)
+
+    def decide(self, title, name, status, numbers, fault=""):
+        """What `audit` and `build` answer to the records: the numbers of a sound map, which `check` answers to what is built,
+        or a fault, and no file is made."""
+        made = Path(self.folder, "made")
+        answer = lambda word: fault or f"{word} {numbers}\n"
+        self.play(f"{title}, by audit", [name], status, answer("sound"), command="audit")
+        self.play(f"{title}, by build", ["--out", made.name, name], status, answer("built"), command="build")
+        if fault:
+            self.count(not made.exists(), f"{title}: a file was made")
+        else:
+            self.play(f"{title}, as built", ["--cert", made.name, name], status, answer("sound"), command="check")
+            made.unlink(missing_ok=True)
 
 
 def play_all(program=PROGRAM):
@@ -138,13 +154,14 @@ def certificate_of_streets(rects, walks):
 
 
 def play_checks(plays):
-    """Answers of `check` with as many chains as the limit allows."""
+    """Answers of `check`, `audit` and `build` with as many chains as the limit allows."""
     lines, rects = single_streets(CHAIN_LIMIT)
     checked = lambda title, names, status, out="", err="": plays.play(title, ["--cert", *names], status, out, err, command="check")
     streets = plays.file("streets", b"".join(lines))
     head, tail = certificate_of_streets(rects, CHAIN_LIMIT)
     numbers = f"chains={CHAIN_LIMIT} segments={CHAIN_LIMIT} nodes={2 * CHAIN_LIMIT} polygons=0 landmarks=0 rings={CHAIN_LIMIT}"
     checked("the most chains, sound", [plays.file("cert", head + tail), streets], 0, f"sound {numbers}\n")
+    plays.decide("the most chains", streets, 0, numbers)
     # Without its last line, the line that begins there is the one that no certificate has.
     cut = (head + tail).removesuffix(b"END\n")
     fault = f"certificate fault K1 Text line {cut.count(bytes([10])) + 1}\n"
@@ -158,6 +175,7 @@ def play_checks(plays):
     head, _ = certificate_of_streets(rects, 0)
     meet = f"tlid {CHAIN_LIMIT - 1} segment {CHAIN_LIMIT - 2} tlid {CHAIN_LIMIT} segment {CHAIN_LIMIT - 1} at {x} {y} 1"
     checked("two streets that meet", [plays.file("tree", head), touched], 1, f"map fault G1 Meet {meet}\n")
+    plays.decide("two streets that meet", touched, 1, "", f"map fault G1 Meet {meet}\n")
 
 
 def path_of(count):
@@ -176,13 +194,14 @@ def path_of(count):
 
 
 def play_path(plays):
-    """Answers of `check` with as many chains as the limit allows, of which each two neighbours meet, and no others."""
+    """Answers with as many chains as the limit allows, of which each two neighbours meet, and no others."""
     records, certificate = path_of(CHAIN_LIMIT)
     path, cert = plays.file("path", records), plays.file("cert", certificate)
     checked = lambda title, words, status, out="", err="": plays.play(title, words, status, out, err, command="check")
     pairs, node, darts = CHAIN_LIMIT - 1, CHAIN_LIMIT // 2, b"D %d\nD %d\n"
-    sound = f"sound chains={CHAIN_LIMIT} segments={CHAIN_LIMIT} nodes={CHAIN_LIMIT + 1} polygons=0 landmarks=0 rings=1\n"
-    checked("as many tests as pairs", ["--cert", cert, "--tests", str(pairs), path], 0, sound)
+    numbers = f"chains={CHAIN_LIMIT} segments={CHAIN_LIMIT} nodes={CHAIN_LIMIT + 1} polygons=0 landmarks=0 rings=1"
+    checked("as many tests as pairs", ["--cert", cert, "--tests", str(pairs), path], 0, f"sound {numbers}\n")
+    plays.decide("a path of the most chains", path, 0, numbers)
     checked("one test less", ["--cert", cert, "--tests", str(pairs - 1), path], 4, err="stopped Budget\n")
     falling = certificate.replace(darts % (2 * node, 2 * node - 1), darts % (2 * node - 1, 2 * node), 1)
     fault = f"certificate fault K4 Round OrderNotRising {node}\n"
