@@ -14,6 +14,7 @@ import sys
 import tempfile
 from pathlib import Path
 
+from grids import KEY, POINT, SIDE, grid, report_of
 from layout import line_of
 from rows import PROGRAM, TOP
 
@@ -132,6 +133,7 @@ def play_all(program=PROGRAM):
         play_maps(plays, county_file, tlids)
         play_checks(plays)
         play_path(plays)
+        play_squares(plays)
         play_places(plays)
     return plays.passed, plays.failed
 
@@ -206,6 +208,18 @@ def play_path(plays):
     falling = certificate.replace(darts % (2 * node, 2 * node - 1), darts % (2 * node - 1, 2 * node), 1)
     fault = f"certificate fault K4 Round OrderNotRising {node}\n"
     checked("a round that falls", ["--cert", plays.file("falling", falling), path], 2, fault)
+
+
+def play_squares(plays):
+    """Answers to as many squares as fit the limit of chains: each of the most polygons that share their chains has its point."""
+    across = next(k for k in range(1, CHAIN_LIMIT) if 2 * (k + 1) * (k + 2) > CHAIN_LIMIT)
+    text = grid(across)
+    plays.decide("the most squares", plays.file("squares", text), 0, report_of(across))
+    # The last square's point lies west of all squares.
+    last, y = KEY % across**2, SIDE * across - SIDE // 2
+    strayed = text.replace(POINT % (last, y, y), POINT % (last, -1, y))
+    fault = f"map fault G4 PointOutside polygon A0001/{across**2}\n"
+    plays.play("a point west of the most squares", [plays.file("strayed", strayed)], 1, fault, command="audit")
 
 
 def play_places(plays):

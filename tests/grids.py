@@ -3,6 +3,15 @@
 from layout import line_of
 
 SIDE = 10
+# The lines of such a map, with a place for each number and each key. tests/layout.py would take a minute for a million.
+CHAIN = b"10000%10d" + b" " * 175 + b"%+010d%+09d%+010d%+09d\n"
+SIDES = b"I0000%10d" + b" " * 25 + b"%15b%15b\n"
+KEY = b"A0001%10d"
+POINT = b"P0000     %15b%+010d%+09d\n"
+
+assert CHAIN % (1, 2, -3, -4, 5) == line_of("chain 1 2,-3 -4,5")
+assert SIDES % (1, KEY % 2, KEY % 3) == line_of("sides 1 A0001/2 A0001/3")
+assert POINT % (KEY % 1, 2, -3) == line_of("point A0001/1 2,-3")
 
 
 def grid(count):
@@ -11,24 +20,21 @@ def grid(count):
 
     def square(column, row):
         inside = 0 <= column < count and 0 <= row < count
-        return f"A0001/{row * count + column + 1}" if inside else "-"
+        return KEY % (row * count + column + 1) if inside else b""
 
     lines, tlid = [], 0
     for row in range(count + 1):
         for column in range(count + 1):
-            x, y = SIDE * column, SIDE * row
-            here = square(column, row)
-            # The edge that runs east from here, and the one that runs north.
-            for is_edge, end, left, right in (
-                (column < count, f"{x + SIDE},{y}", here, square(column, row - 1)),
-                (row < count, f"{x},{y + SIDE}", square(column - 1, row), here),
-            ):
-                if is_edge:
-                    tlid += 1
-                    lines += [f"chain {tlid} {x},{y} {end}", f"sides {tlid} {left} {right}"]
-            if here != "-":
-                lines.append(f"point {here} {x + SIDE // 2},{y + SIDE // 2}")
-    return b"".join(map(line_of, lines))
+            x, y, here = SIDE * column, SIDE * row, square(column, row)
+            if column < count:
+                tlid += 1
+                lines += [CHAIN % (tlid, x, y, x + SIDE, y), SIDES % (tlid, here, square(column, row - 1))]
+            if row < count:
+                tlid += 1
+                lines += [CHAIN % (tlid, x, y, x, y + SIDE), SIDES % (tlid, square(column - 1, row), here)]
+            if here:
+                lines.append(POINT % (here, x + SIDE // 2, y + SIDE // 2))
+    return b"".join(lines)
 
 
 def report_of(count):
