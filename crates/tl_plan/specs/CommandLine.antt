@@ -21,7 +21,8 @@ use Rattle.tl_plan.specs.Commands.{audit_name, build_name}
 use Rattle.tl_plan.specs.Points.{Spells}
 
 -- a command; what was given for its FILES, if anything was, and the values of its --released and its --zero-cells, each of
--- which is the word true where the switch is given; and what was given for its @X,Y, its CERT, its OUT and its --tests
+-- which is the word true where the switch is given; and what was given for its @X,Y, its CERT or --cert, its OUT or --out,
+-- and its --tests
 pub record Request : Type 0 where
   pub command : Text
   pub files : Option (List Text)
@@ -181,7 +182,7 @@ pub record IsCheck (request : Option Request) : Type 0 where
   pub are : given.files ≡ Some files
   pub some_file : 0 < length files
 
--- the request asks to build a certificate, of some file
+-- the request asks to build a certificate that it names, of some file
 pub record IsBuild (request : Option Request) : Type 0 where
   pub given : Request
   pub made : Text
