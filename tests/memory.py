@@ -67,16 +67,18 @@ void *__libc_realloc(void *, size_t);
 void *__libc_memalign(size_t, size_t);
 
 static long left;
+static int told;
 
 __attribute__((constructor)) static void begin(void) {
-    const char *which = getenv("REFUSED_ALLOCATION");
+    const char *which = getenv("REFUSED_ALLOCATION"), *to = getenv("TOLD_TO");
     left = which ? atol(which) : 0;
+    told = to ? atoi(to) : -1;
 }
 
-/* Says on the descriptor 9 that the allocation was reached. */
+/* Says that the allocation was reached. */
 static int refused(void) {
     if (left == 0 || --left > 0) return 0;
-    (void)!write(9, "r", 1);
+    (void)!write(told, "r", 1);
     return 1;
 }
 
@@ -99,14 +101,8 @@ def library_of(folder, source):
 def answer_of(words, library, which, asked="REFUSED_ALLOCATION", folder=None):
     """The answer with that allocation refused, or the call that is asked for failed, and whether the program came to it."""
     reached, told = os.pipe()
-    environment = {**os.environ, "LD_PRELOAD": library, asked: str(which)}
-
-    def lend():
-        os.dup2(told, 9)
-        os.set_inheritable(9, True)
-
-    done = subprocess.run(words, env=environment, stdout=subprocess.PIPE, stderr=subprocess.PIPE,
-                          preexec_fn=lend, close_fds=False, cwd=folder)
+    environment = {**os.environ, "LD_PRELOAD": library, asked: str(which), "TOLD_TO": str(told)}
+    done = subprocess.run(words, env=environment, capture_output=True, pass_fds=[told], cwd=folder)
     os.close(told)
     was_reached = os.read(reached, 1) == b"r"
     os.close(reached)
