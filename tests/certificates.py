@@ -1,17 +1,23 @@
 #!/usr/bin/env python3
-"""Converts certificates by the built program and compares its answers with those of a plain reader.
+"""Converts certificates by the built program and compares its answers with those of a plain reader, which reads too what
+the program builds.
 
 usage: certificates.py [PROGRAM]
 
-The plain reader below knows the grammar of docs/certificate.md and nothing of the program. Played are the texts of the
-tables, each beginning of a certificate, and each text that differs from it in one byte.
+The plain reader below knows the grammar of docs/certificate.md and nothing of the program. Converted are the texts of the
+tables, each beginning of a certificate, and each text that differs from it in one byte. Built are certificates of maps of
+squares, to a file, to a named pipe and to the standard output, and each has to have a round for each node and a walk for
+each ring.
 """
 
+import os
 import subprocess
 import sys
 import tempfile
 from concurrent.futures import ThreadPoolExecutor
 from pathlib import Path
+
+from grids import grid, report_of
 
 TOP = Path(__file__).resolve().parent.parent
 PROGRAM = TOP / "crates" / "tigertopo" / "out" / "tigertopo"
@@ -186,6 +192,62 @@ def changed(text):
                 yield text[:index] + bytes([other]) + text[index + 1 :]
 
 
+def build(program, folder, name, out):
+    """What is printed where a certificate is built to this name."""
+    return subprocess.run([program, "build", "--out", out, name], cwd=folder, capture_output=True, check=False).stdout
+
+
+def to_file(program, folder, name):
+    """What is built to a file, and what is printed."""
+    printed = build(program, folder, name, "made")
+    return Path(folder, "made").read_bytes(), printed
+
+
+def to_pipe(program, folder, name):
+    """What is built to a named pipe, and what is printed."""
+    os.mkfifo(Path(folder, "pipe"))
+    with open(Path(folder, "piped"), "wb") as piped, subprocess.Popen(["cat", "pipe"], cwd=folder, stdout=piped) as reader:
+        printed = build(program, folder, name, "pipe")
+        try:
+            reader.wait(timeout=60)
+        except subprocess.TimeoutExpired:
+            reader.kill()
+    Path(folder, "pipe").unlink()
+    return Path(folder, "piped").read_bytes(), printed
+
+
+def to_output(program, folder, name):
+    """What is built to the standard output, and what is printed behind it."""
+    made, end, printed = build(program, folder, name, "/dev/stdout").partition(b"END\n")
+    return made + end, printed
+
+
+def is_built(made, printed, count):
+    """The text is that of a certificate of so many by so many squares, and their numbers are printed."""
+    try:
+        _, rounds, walks = read(made)
+    except Refused:
+        return False
+    numbers = report_of(count)
+    head = "TIGERCERT 2\nC {} {} {} {}\n".format(*(it.split("=")[1] for it in numbers.split()[:4]))
+    well = made.startswith(head.encode()) and printed == f"built {numbers}\n".encode()
+    return well and (rounds, walks) == ((count + 1) ** 2, count**2 + 1)
+
+
+def play_built(program):
+    """How many certificates are built well, and how many ill."""
+    well = ill = 0
+    with tempfile.TemporaryDirectory() as folder:
+        for count in (1, 2, 3, 8, 64):
+            Path(folder, "squares").write_bytes(grid(count))
+            for to in (to_file, to_pipe, to_output):
+                right = is_built(*to(program, folder, "squares"), count)
+                well, ill = well + right, ill + (not right)
+                if not right:
+                    sys.stdout.write(f"certificates: another one of {count} by {count} squares, {to.__name__}\n")
+    return well, ill
+
+
 def play_all(program=PROGRAM):
     for text, line in TABLE:
         status, out, _ = wanted(text)
@@ -196,6 +258,7 @@ def play_all(program=PROGRAM):
     shares = [texts[part::4] for part in range(4)]
     with ThreadPoolExecutor(4) as pool:
         counts = list(pool.map(lambda share: play(program, share), shares))
+    counts.append(play_built(program))
     return sum(well for well, _ in counts), sum(ill for _, ill in counts)
 
 

@@ -14,6 +14,7 @@ import sys
 import tempfile
 from pathlib import Path
 
+from grids import KEY, POINT, SIDE, grid, report_of
 from layout import line_of
 from rows import PROGRAM, TOP
 
@@ -74,9 +75,25 @@ class Plays:
         digest = lambda text: (len(text), hashlib.sha256(text).hexdigest())
         wanted = (status, digest(out.encode()), err.encode())
         well = (done.returncode, digest(done.stdout), done.stderr) == wanted
+        self.count(well, f"{title}: status {done.returncode}, {done.stdout[-200:]} {done.stderr[-200:]}")
+
+    def count(self, well, wrong):
         self.passed, self.failed = self.passed + well, self.failed + (not well)
         if not well:
-            print(f"{title}: status {done.returncode}, {done.stdout[-200:]} {done.stderr[-200:]}")
+            print(wrong)
+
+    def decide(self, title, name, status, numbers, fault=""):
+        """What `audit` and `build` answer to the records: the numbers of a sound map, which `check` answers to what is built,
+        or a fault, and no file is made."""
+        made = Path(self.folder, "made")
+        answer = lambda word: fault or f"{word} {numbers}\n"
+        self.play(f"{title}, by audit", [name], status, answer("sound"), command="audit")
+        self.play(f"{title}, by build", ["--out", made.name, name], status, answer("built"), command="build")
+        if fault:
+            self.count(not made.exists(), f"{title}: a file was made")
+        else:
+            self.play(f"{title}, as built", ["--cert", made.name, name], status, answer("sound"), command="check")
+            made.unlink(missing_ok=True)
 
 
 def play_all(program=PROGRAM):
@@ -116,6 +133,7 @@ def play_all(program=PROGRAM):
         play_maps(plays, county_file, tlids)
         play_checks(plays)
         play_path(plays)
+        play_squares(plays)
         play_places(plays)
     return plays.passed, plays.failed
 
@@ -138,13 +156,14 @@ def certificate_of_streets(rects, walks):
 
 
 def play_checks(plays):
-    """Answers of `check` with as many chains as the limit allows."""
+    """Answers of `check`, `audit` and `build` with as many chains as the limit allows."""
     lines, rects = single_streets(CHAIN_LIMIT)
     checked = lambda title, names, status, out="", err="": plays.play(title, ["--cert", *names], status, out, err, command="check")
     streets = plays.file("streets", b"".join(lines))
     head, tail = certificate_of_streets(rects, CHAIN_LIMIT)
     numbers = f"chains={CHAIN_LIMIT} segments={CHAIN_LIMIT} nodes={2 * CHAIN_LIMIT} polygons=0 landmarks=0 rings={CHAIN_LIMIT}"
     checked("the most chains, sound", [plays.file("cert", head + tail), streets], 0, f"sound {numbers}\n")
+    plays.decide("the most chains", streets, 0, numbers)
     # Without its last line, the line that begins there is the one that no certificate has.
     cut = (head + tail).removesuffix(b"END\n")
     fault = f"certificate fault K1 Text line {cut.count(bytes([10])) + 1}\n"
@@ -158,6 +177,7 @@ def play_checks(plays):
     head, _ = certificate_of_streets(rects, 0)
     meet = f"tlid {CHAIN_LIMIT - 1} segment {CHAIN_LIMIT - 2} tlid {CHAIN_LIMIT} segment {CHAIN_LIMIT - 1} at {x} {y} 1"
     checked("two streets that meet", [plays.file("tree", head), touched], 1, f"map fault G1 Meet {meet}\n")
+    plays.decide("two streets that meet", touched, 1, "", f"map fault G1 Meet {meet}\n")
 
 
 def path_of(count):
@@ -176,17 +196,30 @@ def path_of(count):
 
 
 def play_path(plays):
-    """Answers of `check` with as many chains as the limit allows, of which each two neighbours meet, and no others."""
+    """Answers with as many chains as the limit allows, of which each two neighbours meet, and no others."""
     records, certificate = path_of(CHAIN_LIMIT)
     path, cert = plays.file("path", records), plays.file("cert", certificate)
     checked = lambda title, words, status, out="", err="": plays.play(title, words, status, out, err, command="check")
     pairs, node, darts = CHAIN_LIMIT - 1, CHAIN_LIMIT // 2, b"D %d\nD %d\n"
-    sound = f"sound chains={CHAIN_LIMIT} segments={CHAIN_LIMIT} nodes={CHAIN_LIMIT + 1} polygons=0 landmarks=0 rings=1\n"
-    checked("as many tests as pairs", ["--cert", cert, "--tests", str(pairs), path], 0, sound)
+    numbers = f"chains={CHAIN_LIMIT} segments={CHAIN_LIMIT} nodes={CHAIN_LIMIT + 1} polygons=0 landmarks=0 rings=1"
+    checked("as many tests as pairs", ["--cert", cert, "--tests", str(pairs), path], 0, f"sound {numbers}\n")
+    plays.decide("a path of the most chains", path, 0, numbers)
     checked("one test less", ["--cert", cert, "--tests", str(pairs - 1), path], 4, err="stopped Budget\n")
     falling = certificate.replace(darts % (2 * node, 2 * node - 1), darts % (2 * node - 1, 2 * node), 1)
     fault = f"certificate fault K4 Round OrderNotRising {node}\n"
     checked("a round that falls", ["--cert", plays.file("falling", falling), path], 2, fault)
+
+
+def play_squares(plays):
+    """Answers to as many squares as fit the limit of chains: each of the most polygons that share their chains has its point."""
+    across = next(k for k in range(1, CHAIN_LIMIT) if 2 * (k + 1) * (k + 2) > CHAIN_LIMIT)
+    text = grid(across)
+    plays.decide("the most squares", plays.file("squares", text), 0, report_of(across))
+    # The last square's point lies west of all squares.
+    last, y = KEY % across**2, SIDE * across - SIDE // 2
+    strayed = text.replace(POINT % (last, y, y), POINT % (last, -1, y))
+    fault = f"map fault G4 PointOutside polygon A0001/{across**2}\n"
+    plays.play("a point west of the most squares", [plays.file("strayed", strayed)], 1, fault, command="audit")
 
 
 def play_places(plays):

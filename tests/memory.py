@@ -4,8 +4,9 @@
 usage: memory.py [PROGRAM]
 
 With each allocation refused, the program has to answer `stopped Memory` with status 4 and print nothing else, or, where
-it can do without that allocation, what it answers otherwise. It needs a C compiler, cc, and glibc, whose malloc it
-stands before.
+it can do without that allocation, what it answers otherwise. A certificate that it is to make over a file is made whole
+then, and beside `stopped Memory` it is whole or the file is as it was. It needs a C compiler, cc, and glibc, whose malloc
+it stands before.
 """
 
 import os
@@ -16,24 +17,40 @@ from pathlib import Path
 
 TOP = Path(__file__).resolve().parent.parent
 PROGRAM = TOP / "crates" / "tigertopo" / "out" / "tigertopo"
+EXAMPLES = TOP / "examples"
+# The name of what is made, and what stands under it before each run.
+MADE = "made"
+STANDS = b"a file that stands\n"
 RUNS = [
-    ["show", TOP / "examples" / "square.RT1", TOP / "examples" / "square.RT2"],
-    ["show", TOP / "examples" / "river.RT2", TOP / "examples" / "river.RT1"],
-    ["show", TOP / "examples" / "gap.RT1", TOP / "examples" / "gap.RT2"],
-    ["show", TOP / "examples" / "north.RT1"],
-    ["landmarks", TOP / "examples" / "island"],
-    ["landmarks", TOP / "examples" / "faults" / "M9"],
-    ["landmarks", TOP / "examples" / "faults" / "M10"],
-    ["locate", "@10,12", TOP / "examples" / "island"],
-    ["locate", "@16,16", TOP / "examples" / "island"],
-    ["locate", "@16,16", TOP / "examples" / "faults" / "M9"],
+    ["show", EXAMPLES / "square.RT1", EXAMPLES / "square.RT2"],
+    ["show", EXAMPLES / "river.RT2", EXAMPLES / "river.RT1"],
+    ["show", EXAMPLES / "gap.RT1", EXAMPLES / "gap.RT2"],
+    ["show", EXAMPLES / "north.RT1"],
+    ["landmarks", EXAMPLES / "island"],
+    ["landmarks", EXAMPLES / "faults" / "M9"],
+    ["landmarks", EXAMPLES / "faults" / "M10"],
+    ["locate", "@10,12", EXAMPLES / "island"],
+    ["locate", "@16,16", EXAMPLES / "island"],
+    ["locate", "@16,16", EXAMPLES / "faults" / "M9"],
     ["locate", "@180000001,0", "a"],
-    ["convert", TOP / "examples" / "square.CERT", "/dev/null"],
-    ["check", "--cert", TOP / "examples" / "county.CERT", TOP / "examples" / "county"],
-    ["check", "--cert", TOP / "examples" / "county.CERT", "--tests", "1", TOP / "examples" / "county"],
-    ["check", "--cert", TOP / "examples" / "square.CERT", TOP / "examples" / "county"],
-    ["check", "--cert", TOP / "examples" / "faults" / "G1.CERT", TOP / "examples" / "faults" / "G1"],
-    ["check", "--zero-cells", "--cert", TOP / "examples" / "square.CERT", TOP / "examples" / "faults" / "G6"],
+    ["audit", EXAMPLES / "county"],
+    ["audit", EXAMPLES / "island"],
+    ["audit", EXAMPLES / "north.RT1"],
+    ["audit", EXAMPLES / "faults" / "M9"],
+    ["audit", EXAMPLES / "faults" / "G1"],
+    ["audit", EXAMPLES / "faults" / "G2"],
+    ["audit", "--zero-cells", EXAMPLES / "faults" / "G6"],
+    ["build", "--out", MADE, EXAMPLES / "county"],
+    ["build", "--out", MADE, EXAMPLES / "island"],
+    ["build", "--out", MADE, EXAMPLES / "north.RT1"],
+    ["build", "--out", MADE, EXAMPLES / "faults" / "G1"],
+    ["build", "--out", MADE],
+    ["convert", EXAMPLES / "square.CERT", MADE],
+    ["check", "--cert", EXAMPLES / "county.CERT", EXAMPLES / "county"],
+    ["check", "--cert", EXAMPLES / "county.CERT", "--tests", "1", EXAMPLES / "county"],
+    ["check", "--cert", EXAMPLES / "square.CERT", EXAMPLES / "county"],
+    ["check", "--cert", EXAMPLES / "faults" / "G1.CERT", EXAMPLES / "faults" / "G1"],
+    ["check", "--zero-cells", "--cert", EXAMPLES / "square.CERT", EXAMPLES / "faults" / "G6"],
     ["check", "--cert", "a", "--tests", "05", "b"],
     ["--version"],
     ["show", "--help"],
@@ -50,16 +67,18 @@ void *__libc_realloc(void *, size_t);
 void *__libc_memalign(size_t, size_t);
 
 static long left;
+static int told;
 
 __attribute__((constructor)) static void begin(void) {
-    const char *which = getenv("REFUSED_ALLOCATION");
+    const char *which = getenv("REFUSED_ALLOCATION"), *to = getenv("TOLD_TO");
     left = which ? atol(which) : 0;
+    told = to ? atoi(to) : -1;
 }
 
-/* Says on the descriptor 9 that the allocation was reached. */
+/* Says that the allocation was reached. */
 static int refused(void) {
     if (left == 0 || --left > 0) return 0;
-    (void)!write(9, "r", 1);
+    (void)!write(told, "r", 1);
     return 1;
 }
 
@@ -79,38 +98,46 @@ def library_of(folder, source):
     return library
 
 
-def answer_of(words, library, which, asked="REFUSED_ALLOCATION"):
+def answer_of(words, library, which, asked="REFUSED_ALLOCATION", folder=None):
     """The answer with that allocation refused, or the call that is asked for failed, and whether the program came to it."""
     reached, told = os.pipe()
-    environment = {**os.environ, "LD_PRELOAD": library, asked: str(which)}
-
-    def lend():
-        os.dup2(told, 9)
-        os.set_inheritable(9, True)
-
-    done = subprocess.run(words, env=environment, stdout=subprocess.PIPE, stderr=subprocess.PIPE,
-                          preexec_fn=lend, close_fds=False)
+    environment = {**os.environ, "LD_PRELOAD": library, asked: str(which), "TOLD_TO": str(told)}
+    done = subprocess.run(words, env=environment, capture_output=True, pass_fds=[told], cwd=folder)
     os.close(told)
     was_reached = os.read(reached, 1) == b"r"
     os.close(reached)
     return (done.returncode, done.stdout, done.stderr), was_reached
 
 
+def answer_over_a_file(words, library, which, asked, folder):
+    """The same where a file stands under the name of what is made, and what it holds afterwards."""
+    made = Path(folder, MADE)
+    made.write_bytes(STANDS)
+    answer, was_reached = answer_of(words, library, which, asked, folder)
+    return answer, made.read_bytes(), was_reached
+
+
+def is_well(answer, left, usual, whole):
+    """Memory was refused, and what is made is whole or the file is as it was; or the program could do without."""
+    return (answer, left) == (usual, whole) or answer == (4, b"", b"stopped Memory\n") and left in (STANDS, whole)
+
+
 def play_all(program=PROGRAM):
     """How many refused allocations were answered well, and how many weren't."""
     with tempfile.TemporaryDirectory() as folder:
         library = library_of(folder, REFUSE)
+        ask = lambda words, which: answer_over_a_file([program, *words], library, which, "REFUSED_ALLOCATION", folder)
         count = failed = 0
         for words in RUNS:
-            usual, _ = answer_of([program, *words], library, 0)
+            usual, whole, _ = ask(words, 0)
             for which in range(1, 10_000):
-                answer, was_reached = answer_of([program, *words], library, which)
+                answer, left, was_reached = ask(words, which)
                 if not was_reached:
                     break
                 count += 1
-                if answer not in (usual, (4, b"", b"stopped Memory\n")):
+                if not is_well(answer, left, usual, whole):
                     failed += 1
-                    print(f"{' '.join(map(str, words))}: with allocation {which} refused: {answer}")
+                    print(f"{' '.join(map(str, words))}: with allocation {which} refused: {answer}, and the file {left[:40]}")
     return count - failed, failed
 
 

@@ -12,10 +12,20 @@ A row begins with a line `== TITLE`. Then come its files:
     swap NAME A -> B    the file with the lines B in place of the lines A, which stand in it once, each written as in `text`
     cut NAME N      the file's first N bytes alone, or with N below 0 all but so many
 
+    grid NAME K     a map of K by K squares, as tests/grids.py makes it
+
 and then `run WORD ..`, words as a shell splits them, where `\\xNN` is a byte, run in a folder that holds the files alone;
 `status N`; and `out` and `err`, whose texts follow indented, and are empty where they are left out; `or` begins another
 output that is as good. Several `run` lines in one row share its files and its answer. Each stream is compared byte for
-byte.
+byte. A run has to leave the files as they are and to make no other, but for those of a line `makes NAME ..`. A line
+`then WORD ..` has words that are run behind each run, in the same folder; what follows it is their answer.
+
+A line `decided WORD ..` has what stands behind `audit`, whose answer is the row's. The same is asked of `build`, which says
+`built` where `audit` says `sound` and makes a certificate then; `check` is run behind it, with as many tests as there are
+pairs of segments, and has to answer what `audit` does. Where the map isn't sound, no file is made.
+
+A row with a line `grids K ..` is played for a map of so many squares, or of A to B as `A..B`, and wants the answer of `audit`
+to it that tests/grids.py counts.
 
 A row with a line `refuses` has a line for each of many small files: the one line of the file, `->`, and why `show` refuses
 it. A row with a line `beginnings NAME` has a line for each of many beginnings of that file: how many bytes, or from how
@@ -23,6 +33,7 @@ many to how many, as `1..14`; `->`; and the line that is wanted, or several with
 or `not` and what its front is not.
 """
 
+import copy
 import re
 import shlex
 import subprocess
@@ -30,6 +41,7 @@ import sys
 import tempfile
 from pathlib import Path
 
+from grids import grid, report_of
 from layout import bytes_of, line_of
 
 TOP = Path(__file__).resolve().parent.parent
@@ -47,11 +59,20 @@ class Row:
         self.others = []
         self.refuses = []
         self.beginnings = []
+        self.decided = []
+        self.grids = []
+        self.makes = set()
+        self.then = None
+
+    @property
+    def outputs(self):
+        """What the standard output may hold."""
+        return [self.texts["out"], *self.others]
 
     @property
     def wanted(self):
         """The answers of which one is wanted: a status and what each stream holds."""
-        return [(self.status, out, self.texts["err"]) for out in [self.texts["out"], *self.others]]
+        return [(self.status, out, self.texts["err"]) for out in self.outputs]
 
     def is_met(self, found):
         return found in self.wanted
@@ -114,12 +135,65 @@ def plain(line):
     return line.encode() + b"\n"
 
 
+def audits(row, words):
+    """The row of `audit` with these words."""
+    row = copy.copy(row)
+    row.title, row.runs, row.decided = f"{row.title}, by audit", [["audit", *words]], []
+    return row
+
+
+def builds(row, words):
+    """The row of `build` with these words, and of `check` behind it where the map is sound."""
+    built = copy.copy(row)
+    built.title, built.runs, built.decided = f"{row.title}, by build", [["build", "--out", "made", *words]], []
+    sound = re.fullmatch(rb"sound (.* segments=(\d+) .*\n)", row.texts["out"])
+    if sound:
+        segments = int(sound[2])
+        built.texts = {**row.texts, "out": b"built " + sound[1]}
+        built.makes = {"made"}
+        built.then = copy.copy(row)
+        built.then.runs = [["check", "--cert", "made", "--tests", str(segments * (segments - 1) // 2), *words]]
+    return built
+
+
+def decided(row, words):
+    """The rows of a map that `audit` and `build` decide, the latter also where a file of that name stands."""
+    over = builds(row, words)
+    over.title, over.files = f"{over.title} over a file", {**row.files, "made": b"a file that stands\n"}
+    return [audits(row, words), builds(row, words), over]
+
+
+def gridded(title, counts):
+    """The rows of a map of squares."""
+    first, _, last = counts.partition("..")
+    rows = []
+    for count in range(int(first), int(last or first) + 1):
+        row = Row(f"{title}, {count} by {count}")
+        row.files, row.texts["out"] = {"grid": grid(count)}, f"sound {report_of(count)}\n".encode()
+        rows += decided(row, ["grid"])
+    return rows
+
+
+def words_of(line):
+    """The words of a line, as a shell splits them."""
+    return shlex.split(line.replace("\\x", "\\\\x"))
+
+
+def end_texts(row):
+    """An empty line before the next row belongs to no text."""
+    while row:
+        for name, text in row.texts.items():
+            row.texts[name] = text.rstrip(b"\n") + b"\n" if text else b""
+        row.others = [text.rstrip(b"\n") + b"\n" for text in row.others]
+        row = row.then
+
+
 def rows_of(path):
-    rows, into = [], None
+    rows, into, answer = [], None, None
     for number, line in enumerate(path.read_text().splitlines(), 1):
         if line.startswith("== "):
             rows.append(Row(line[3:]))
-            into = None
+            into, answer = None, rows[-1]
         elif line.startswith("    ") and isinstance(into, list):
             into.append(line.strip().split(" -> "))
         elif line.startswith("    ") and isinstance(into, tuple):
@@ -140,6 +214,9 @@ def rows_of(path):
                 into = (row.files, rest, text_of)
             elif word == "like":
                 row.files.update(next(it for it in rows if it.title == rest).files)
+            elif word == "grid":
+                name, count = rest.split()
+                row.files[name] = grid(int(count))
             elif word == "cut":
                 name, count = rest.split()
                 row.files[name] = row.files[name][: int(count)]
@@ -152,25 +229,34 @@ def rows_of(path):
                 row.beginnings.append((rest, []))
                 into = row.beginnings[-1][1]
             elif word == "run":
-                row.runs.append(shlex.split(rest.replace("\\x", "\\\\x")))
+                row.runs.append(words_of(rest))
+            elif word == "decided":
+                row.decided.append(words_of(rest))
+            elif word == "grids":
+                row.grids = rest.split()
+            elif word == "makes":
+                answer.makes = set(rest.split())
+            elif word == "then":
+                answer.then = Row(row.title)
+                answer = answer.then
+                answer.runs = [words_of(rest)]
             elif word == "status":
-                row.status = int(rest)
-            elif word in row.texts:
-                into = (row.texts, word, plain)
+                answer.status = int(rest)
+            elif word in answer.texts:
+                into = (answer.texts, word, plain)
             elif word == "or":
-                row.others.append(b"")
-                into = (row.others, -1, plain)
+                answer.others.append(b"")
+                into = (answer.others, -1, plain)
             else:
                 sys.exit(f"{path.name}:{number}: no such line")
     for row in rows[:]:
+        end_texts(row)
         rows += [refused(row.title, *it) for it in row.refuses]
+        rows += [it for words in row.decided for it in decided(row, words)]
+        rows += [it for counts in row.grids for it in gridded(row.title, counts)]
         for name, lines in row.beginnings:
             for line in lines:
                 rows += beginnings(row, name, *line)
-        # An empty line before the next row belongs to no text.
-        for name, text in row.texts.items():
-            row.texts[name] = text.rstrip(b"\n") + b"\n" if text else b""
-        row.others = [text.rstrip(b"\n") + b"\n" for text in row.others]
         # Of a row with beginnings each is played, and not the row.
         if row.beginnings:
             rows.remove(row)
@@ -182,9 +268,28 @@ def play(program, row, words):
     with tempfile.TemporaryDirectory() as folder:
         for name, text in row.files.items():
             Path(folder, name).write_bytes(text)
-        done = subprocess.run([program, *map(bytes_of, words)], cwd=folder, stdin=subprocess.DEVNULL, capture_output=True)
+        wrong = play_in(folder, program, row, words)
+        while row.then and not wrong:
+            row = row.then
+            wrong = play_in(folder, program, row, row.runs[0])
+    return wrong
+
+
+def play_in(folder, program, row, words):
+    """What is wrong with the answer in this folder, or with the files that are left in it."""
+    before = files_of(folder, row.makes)
+    done = subprocess.run([program, *map(bytes_of, words)], cwd=folder, stdin=subprocess.DEVNULL, capture_output=True)
     found = (done.returncode, done.stdout, done.stderr)
-    return None if row.is_met(found) else f"{row.title}: {shlex.join(words)}\n  wanted {row.wanted}\n  found  {found}"
+    if not row.is_met(found):
+        return f"{row.title}: {shlex.join(words)}\n  wanted {row.wanted}\n  found  {found}"
+    if files_of(folder, row.makes) != before or not all(Path(folder, name).is_file() for name in row.makes):
+        return f"{row.title}: {shlex.join(words)}\n  another file was made or changed, or none"
+    return None
+
+
+def files_of(folder, but):
+    """The folder's files, but for these."""
+    return {path.name: path.read_bytes() for path in Path(folder).iterdir() if path.name not in but}
 
 
 def play_all(program=PROGRAM):

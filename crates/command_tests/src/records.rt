@@ -34,3 +34,6 @@ pub const SQUARE_CERT: &str = "TIGERCERT 1\nC 1 4 1 1\nT 1\nL 10 10 30 30 4\nS 0
 /// What `check` prints for it.
 pub const SQUARE_REPORT: &str =
     "sound chains=1 segments=4 nodes=1 polygons=1 landmarks=0 rings=2\n";
+
+/// What `build` prints for it.
+pub const SQUARE_BUILT: &str = "built chains=1 segments=4 nodes=1 polygons=1 landmarks=0 rings=2\n";

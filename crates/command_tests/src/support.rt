@@ -140,7 +140,8 @@ pub fn show<R: Read + Drop>(
     err: &mut Kept,
 ) -> Result<u8, PlanStop> {
     let plan = plan(alloc, ["show", "records"].as_slice())?;
-    Ok(run_plan(alloc, &plan, records, io::empty(), out, err))
+    let (cert, made) = (io::empty(), io::sink());
+    Ok(run_plan(alloc, &plan, records, cert, made, out, err))
 }
 
 /// Runs `check` over readers of records and of a certificate, and gives the status.
@@ -153,14 +154,40 @@ pub fn decide<R: Read + Drop, S: Read + Drop>(
 ) -> Result<u8, PlanStop> {
     let words = ["check", "--cert", "certificate", "records"];
     let plan = plan(alloc, words.as_slice())?;
-    Ok(run_plan(alloc, &plan, records, cert, out, err))
+    Ok(run_plan(alloc, &plan, records, cert, io::sink(), out, err))
 }
 
-fn run_plan<R: Read + Drop, S: Read + Drop>(
+/// Runs `audit` over a reader, and gives the status.
+pub fn audit<R: Read + Drop>(
+    alloc: Global,
+    records: R,
+    out: &mut Kept,
+    err: &mut Kept,
+) -> Result<u8, PlanStop> {
+    let plan = plan(alloc, ["audit", "records"].as_slice())?;
+    let (cert, made) = (io::empty(), io::sink());
+    Ok(run_plan(alloc, &plan, records, cert, made, out, err))
+}
+
+/// Runs `build` over a reader and a writer, and gives the status.
+pub fn build<R: Read + Drop>(
+    alloc: Global,
+    records: R,
+    made: &mut Kept,
+    out: &mut Kept,
+    err: &mut Kept,
+) -> Result<u8, PlanStop> {
+    let words = ["build", "--out", "certificate", "records"];
+    let plan = plan(alloc, words.as_slice())?;
+    Ok(run_plan(alloc, &plan, records, io::empty(), made, out, err))
+}
+
+fn run_plan<R: Read + Drop, S: Read + Drop, C: Write + Drop>(
     alloc: Global,
     plan: &Plan,
     records: R,
     cert: S,
+    made: C,
     out: &mut Kept,
     err: &mut Kept,
 ) -> u8 {
@@ -169,7 +196,7 @@ fn run_plan<R: Read + Drop, S: Read + Drop>(
         plan,
         &mut Meter::new(records),
         &mut Meter::new(cert),
-        &mut MeterOut::new(io::sink()),
+        &mut MeterOut::new(made),
         &mut MeterOut::new(out),
         &mut MeterOut::new(err),
     )

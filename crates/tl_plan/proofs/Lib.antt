@@ -1,5 +1,6 @@
 -- Lemmas on words and plans.
 pub mod BudgetLemmas
+pub mod CommandsLemmas
 pub mod PlansLemmas
 pub mod PointLemmas
 pub mod WordsLemmas

@@ -1,6 +1,10 @@
 -- What words make a plan, and why others don't.
-use Rattle.std.proofs.Common.{◌≡◌, ◌≢◌, ◌⊎◌, ℕ, ◌<◌, inl, inr, true, length, List, [], Option, Some, None, refl, sym}
+use Rattle.std.proofs.Common.{◌≡◌, ◌≢◌, ◌⊎◌, ℕ, ◌<◌, inl, inr, true, false, length, List, [], Option, Some, None, refl, sym}
 use Rattle.std.proofs.Common.{ap, subst, ◌∙◌, map, option_map, unwrap_or, codes, arith, Global, Bor}
+use Rattle.std.specs.Prelude.{String, string_bytes, nat_eq}
+use Rattle.std.specs.Cmp.Lexicographic.{pointwise}
+use Rattle.std.proofs.lemmas.Cmp.{nat_list_eq_equiv}
+use Rattle.std.proofs.lemmas.List.{length-map}
 use Rattle.clap.specs.Walk.{Text, Row, first_of}
 use Rattle.clap.specs.Simple.{is_simple, subcommand_of, subcommand_rows, subcommand_rows_of}
 use Rattle.clap.specs.Matches.{subcommand_name_of}
@@ -19,7 +23,7 @@ use Rattle.tl_plan.specs.declared.plan.PlanStop.{PlanStop}
 use Rattle.tl_plan.specs.declared.plan.PlanStop.TheVariants.{Usage, Help, Memory}
 use Rattle.tl_geom.specs.declared.point.Point.{Point}
 use Rattle.tl_plan.specs.Points.{Spells}
-use Rattle.tl_plan.specs.Commands.{command_line, convert_name, check_name, locate_name, show_name, landmarks_name}
+use Rattle.tl_plan.specs.Commands.{command_line, convert_name, check_name, locate_name, show_name, landmarks_name, audit_name, build_name}
 use Rattle.tl_plan.specs.CommandLine.{IsStopOf, StopsPlanning, Request, request_in, named_in}
 use Rattle.tl_plan.specs.CommandLine.{IsConversionOf, IsPlanOf, IsWhole, HasFiles, IsBudget, AreAUse, HasMistake, AskFor}
 use Rattle.tl_plan.specs.declared.plan.Plan.{Plan}
@@ -61,9 +65,16 @@ given_texts None given none e empty = ap (map (λ v. v.now)) empty ∙ ap (λ (g
 given_texts (Some s) given none e empty = ap (λ (g : Option (List Text)). unwrap_or g []) e
 
 -- texts of which there are some were given
-pub were_given : (given : Option (List Text)) (texts : List Text) → texts ≡ unwrap_or given [] → 0 < length texts → given ≡ Some texts
+were_given : (given : Option (List Text)) (texts : List Text) → texts ≡ unwrap_or given [] → 0 < length texts → given ≡ Some texts
 were_given None texts same some = absurd (omega (arith, some, ap length same))
 were_given (Some t) texts same some = ap Some (sym same)
+
+-- files of which there are some were given, and are as many as their names
+pub are_given : (given : Option (List Text)) (files : List (String Global)) → map string_bytes files ≡ unwrap_or given [] → 0 < length files
+    → (given ≡ Some (map string_bytes files)) × (0 < length (map string_bytes files))
+are_given given files same some =
+    let named : 0 < length (map string_bytes files) = omega (arith, some, length-map files string_bytes) in
+    (were_given given (map string_bytes files) same named, named)
 
 -- a text that was not given, and one that was
 pub not_given : (o : Option (Bor Text)) (given : Option Text) (text : Text) → option_map (λ v. v.now) o ≡ given → o ≡ None → given ≡ Some text → ⊥
@@ -88,10 +99,37 @@ both_found (Some (n, r)) name rows named has = cc (named, has)
 is_request : (r s : Request) → Some r ≡ Some s → r ≡ s
 is_request r s e = cc e
 
--- no conversion has files
-files_differ : (r : Request) (name : Text) → r.command ≡ convert_name → r.command ≡ name → (name ≡ show_name) ⊎ (name ≡ landmarks_name) → ⊥
-files_differ r name one two (inl shows) = cc (one, two, shows)
-files_differ r name one two (inr lists) = cc (one, two, lists)
+-- texts that are told apart are not the same
+differ : (one two : Text) → pointwise nat_eq one two ≡ false → one ≡ two → ⊥
+differ one two apart same =
+    let equal : pointwise nat_eq one two ≡ true = subst (λ (text : Text). pointwise nat_eq one text ≡ true) same (nat_list_eq_equiv.refl one) in
+    cc (apart, equal)
+
+-- a request has one command
+one_command : (given other : Request) (name another : Text) → pointwise nat_eq name another ≡ false → given.command ≡ name
+    → Some given ≡ Some other → other.command ≡ another → ⊥
+one_command given other name another apart named same is = differ name another apart (sym named ∙ ap (λ r. r.command) (is_request given other same) ∙ is)
+
+-- no command that wants files alone has another's name
+no_listing : (given : Request) (name : Text) → given.command ≡ name → pointwise nat_eq name show_name ≡ false
+    → pointwise nat_eq name landmarks_name ≡ false → pointwise nat_eq name audit_name ≡ false → HasFiles (Some given) → ⊥
+no_listing given name named no_show no_landmarks no_audit files = go files.named
+  where
+    go : (files.given.command ≡ show_name) ⊎ ((files.given.command ≡ landmarks_name) ⊎ (files.given.command ≡ audit_name)) → ⊥
+    go (inl shows) = one_command given files.given name show_name no_show named files.same shows
+    go (inr (inl lists)) = one_command given files.given name landmarks_name no_landmarks named files.same lists
+    go (inr (inr audits)) = one_command given files.given name audit_name no_audit named files.same audits
+
+-- a conversion lacks one of its names
+no_conversion : (given : Request) → given.command ≡ convert_name → ((from to : Text) → given.cert ≡ Some from → given.out ≡ Some to → ⊥)
+    → IsWhole (Some given) → ⊥
+no_conversion given named lacks (inl files) = no_listing given convert_name named refl refl refl files
+no_conversion given named lacks (inr (inl both)) =
+    let e = is_request _ _ both.2.same in
+    lacks both.0 both.1 (ap (λ r. r.cert) e ∙ both.2.from) (ap (λ r. r.out) e ∙ both.2.to)
+no_conversion given named lacks (inr (inr (inl check))) = one_command given check.given convert_name check_name refl named check.same check.named
+no_conversion given named lacks (inr (inr (inr (inl build)))) = one_command given build.given convert_name build_name refl named build.same build.named
+no_conversion given named lacks (inr (inr (inr (inr place)))) = one_command given place.given convert_name locate_name refl named place.same place.named
 
 -- what a conversion's arguments make of the request
 pub conversion_plan : (found : Option (Text × List Row)) (rows : List Row) (plan : Option Plan)
@@ -107,19 +145,7 @@ conversion_plan found rows (Some (Audit options files)) named has is = absurd is
 conversion_plan found rows (Some (Build made options files)) named has is = absurd is
 conversion_plan found rows None named has is = λ whole.
     let same = ap named_in (both_found found convert_name rows named has) in
-    let whole : IsWhole (Some (request_in (convert_name, rows))) = subst IsWhole same whole in
-    elim whole [
-      | inl files ↦ files_differ files.given files.given.command (let e = is_request _ _ files.same in sym (ap (λ r. r.command) e)) refl files.named
-      | inr (inl both) ↦
-          let e = is_request _ _ both.2.same in
-          is both.0 both.1 (ap (λ r. r.cert) e ∙ both.2.from) (ap (λ r. r.out) e ∙ both.2.to)
-      | inr (inr (inl check)) ↦
-          let e = is_request _ _ check.same in
-          cc (ap (λ r. r.command) e, check.named)
-      | inr (inr (inr place)) ↦
-          let e = is_request _ _ place.same in
-          cc (ap (λ r. r.command) e, place.named)
-    ]
+    no_conversion (request_in (convert_name, rows)) refl is (subst IsWhole same whole)
 
 -- the plan of the command that was found
 pub found_plan : (found : Option (Text × List Row)) (name : Text) (rows : List Row) (plan : Option Plan)
@@ -127,38 +153,51 @@ pub found_plan : (found : Option (Text × List Row)) (name : Text) (rows : List 
     → IsPlanOf (Some (request_in (name, rows))) plan → IsPlanOf (named_in found) plan
 found_plan found name rows plan named has is = subst (λ request. IsPlanOf request plan) (sym (ap named_in (both_found found name rows named has))) is
 
--- no command that takes files alone has another's name
-no_listing : (given : Request) (name : Text) → given.command ≡ name → (name ≡ show_name → ⊥) → (name ≡ landmarks_name → ⊥) → HasFiles (Some given) → ⊥
-no_listing given name named no_show no_landmarks files = go files.named
-  where
-    same : given.command ≡ files.given.command
-    same = ap (λ r. r.command) (is_request _ _ files.same)
-
-    go : (files.given.command ≡ show_name) ⊎ (files.given.command ≡ landmarks_name) → ⊥
-    go (inl shows) = no_show (sym named ∙ same ∙ shows)
-    go (inr lists) = no_landmarks (sym named ∙ same ∙ lists)
+-- an audit lacks a file
+pub no_audit : (given : Request) → given.command ≡ audit_name → ((files : List Text) → given.files ≡ Some files → 0 < length files → ⊥)
+    → IsWhole (Some given) → ⊥
+no_audit given named lacks (inl files) =
+    lacks files.files (ap (λ r. r.files) (is_request _ _ files.same) ∙ files.are) files.some_file
+no_audit given named lacks (inr (inl both)) = one_command given both.2.given audit_name convert_name refl named both.2.same both.2.named
+no_audit given named lacks (inr (inr (inl check))) = one_command given check.given audit_name check_name refl named check.same check.named
+no_audit given named lacks (inr (inr (inr (inl build)))) = one_command given build.given audit_name build_name refl named build.same build.named
+no_audit given named lacks (inr (inr (inr (inr place)))) = one_command given place.given audit_name locate_name refl named place.same place.named
 
 -- a check lacks its certificate, or a number of tests that is spelt as one, or a file
 pub no_check : (given : Request) → given.command ≡ check_name
     → ((cert : Text) (budget : ℕ) (files : List Text) → given.cert ≡ Some cert → IsBudget given.tests budget → given.files ≡ Some files → 0 < length files → ⊥)
     → IsWhole (Some given) → ⊥
-no_check given named lacks (inl files) = no_listing given check_name named (λ e. cc e) (λ e. cc e) files
-no_check given named lacks (inr (inl both)) = cc (ap (λ r. r.command) (is_request _ _ both.2.same), both.2.named, named)
+no_check given named lacks (inl files) = no_listing given check_name named refl refl refl files
+no_check given named lacks (inr (inl both)) = one_command given both.2.given check_name convert_name refl named both.2.same both.2.named
 no_check given named lacks (inr (inr (inl check))) =
     let e = is_request _ _ check.same in
     lacks check.cert check.budget check.files (ap (λ r. r.cert) e ∙ check.by)
     (subst (λ (tests : Option Text). IsBudget tests check.budget) (sym (ap (λ r. r.tests) e)) check.tests)
     (ap (λ r. r.files) e ∙ check.are) check.some_file
-no_check given named lacks (inr (inr (inr place))) = cc (ap (λ r. r.command) (is_request _ _ place.same), place.named, named)
+no_check given named lacks (inr (inr (inr (inl build)))) = one_command given build.given check_name build_name refl named build.same build.named
+no_check given named lacks (inr (inr (inr (inr place)))) = one_command given place.given check_name locate_name refl named place.same place.named
+
+-- a request to build lacks a name for what is made, or a file
+pub no_build : (given : Request) → given.command ≡ build_name
+    → ((made : Text) (files : List Text) → given.out ≡ Some made → given.files ≡ Some files → 0 < length files → ⊥)
+    → IsWhole (Some given) → ⊥
+no_build given named lacks (inl files) = no_listing given build_name named refl refl refl files
+no_build given named lacks (inr (inl both)) = one_command given both.2.given build_name convert_name refl named both.2.same both.2.named
+no_build given named lacks (inr (inr (inl check))) = one_command given check.given build_name check_name refl named check.same check.named
+no_build given named lacks (inr (inr (inr (inl build)))) =
+    let e = is_request _ _ build.same in
+    lacks build.made build.files (ap (λ r. r.out) e ∙ build.to) (ap (λ r. r.files) e ∙ build.are) build.some_file
+no_build given named lacks (inr (inr (inr (inr place)))) = one_command given place.given build_name locate_name refl named place.same place.named
 
 -- a question of a point lacks a word that spells one, or a file
 pub no_locate : (given : Request) → given.command ≡ locate_name
     → ((word : Text) (point : Point) (files : List Text) → given.point ≡ Some word → Spells word point → given.files ≡ Some files → 0 < length files → ⊥)
     → IsWhole (Some given) → ⊥
-no_locate given named lacks (inl files) = no_listing given locate_name named (λ e. cc e) (λ e. cc e) files
-no_locate given named lacks (inr (inl both)) = cc (ap (λ r. r.command) (is_request _ _ both.2.same), both.2.named, named)
-no_locate given named lacks (inr (inr (inl check))) = cc (ap (λ r. r.command) (is_request _ _ check.same), check.named, named)
-no_locate given named lacks (inr (inr (inr place))) =
+no_locate given named lacks (inl files) = no_listing given locate_name named refl refl refl files
+no_locate given named lacks (inr (inl both)) = one_command given both.2.given locate_name convert_name refl named both.2.same both.2.named
+no_locate given named lacks (inr (inr (inl check))) = one_command given check.given locate_name check_name refl named check.same check.named
+no_locate given named lacks (inr (inr (inr (inl build)))) = one_command given build.given locate_name build_name refl named build.same build.named
+no_locate given named lacks (inr (inr (inr (inr place)))) =
     let e = is_request _ _ place.same in
     lacks place.word place.point place.files (ap (λ r. r.point) e ∙ place.at) place.spelt
     (ap (λ r. r.files) e ∙ place.are) place.some_file

@@ -21,7 +21,8 @@ use Rattle.tl_plan.specs.Commands.{audit_name, build_name}
 use Rattle.tl_plan.specs.Points.{Spells}
 
 -- a command; what was given for its FILES, if anything was, and the values of its --released and its --zero-cells, each of
--- which is the word true where the switch is given; and what was given for its @X,Y, its CERT, its OUT and its --tests
+-- which is the word true where the switch is given; and what was given for its @X,Y, its CERT or --cert, its OUT or --out,
+-- and its --tests
 pub record Request : Type 0 where
   pub command : Text
   pub files : Option (List Text)
@@ -159,12 +160,12 @@ IsFor request (Check cert budget options files) =
 IsFor request (Audit options files) = AsksToAudit request options (map string_bytes files.items)
 IsFor request (Build made options files) = AsksToBuild request (string_bytes made) options (map string_bytes files.items)
 
--- the request names a command of the program with files, and some file
+-- the request names a command of the program that wants files alone, and some file
 pub record HasFiles (request : Option Request) : Type 0 where
   pub given : Request
   pub files : List Text
   pub same : request ≡ Some given
-  pub named : (given.command ≡ show_name) ⊎ (given.command ≡ landmarks_name)
+  pub named : (given.command ≡ show_name) ⊎ ((given.command ≡ landmarks_name) ⊎ (given.command ≡ audit_name))
   pub are : given.files ≡ Some files
   pub some_file : 0 < length files
 
@@ -178,6 +179,17 @@ pub record IsCheck (request : Option Request) : Type 0 where
   pub named : given.command ≡ check_name
   pub by : given.cert ≡ Some cert
   pub tests : IsBudget given.tests budget
+  pub are : given.files ≡ Some files
+  pub some_file : 0 < length files
+
+-- the request asks to build a certificate that it names, of some file
+pub record IsBuild (request : Option Request) : Type 0 where
+  pub given : Request
+  pub made : Text
+  pub files : List Text
+  pub same : request ≡ Some given
+  pub named : given.command ≡ build_name
+  pub to : given.out ≡ Some made
   pub are : given.files ≡ Some files
   pub some_file : 0 < length files
 
@@ -198,7 +210,8 @@ pub record IsLocate (request : Option Request) : Type 0 where
 -- point and files
 abbrev pub IsWhole : Option Request → Type 0
 IsWhole request =
-    HasFiles request ⊎ (((cert : Text) × (made : Text) × AsksToConvert request cert made) ⊎ (IsCheck request ⊎ IsLocate request))
+    HasFiles request
+    ⊎ (((cert : Text) × (made : Text) × AsksToConvert request cert made) ⊎ (IsCheck request ⊎ (IsBuild request ⊎ IsLocate request)))
 
 -- the plan that a request is for, if it is for one
 abbrev pub IsPlanOf : Option Request → Option Plan → Type 0

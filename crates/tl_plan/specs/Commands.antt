@@ -22,9 +22,9 @@ released_argument = record (new_rule (codes "released")) { long = Some (codes "r
 abbrev pub zero_cells_argument : Rule
 zero_cells_argument = record (new_rule (codes "zero-cells")) { long = Some (codes "zero-cells"); action = Some SetTrue }
 
--- --cert CERT: one name, which has to be given
-abbrev pub cert_argument : Rule
-cert_argument = record (new_rule (codes "cert")) { long = Some (codes "cert"); value_names = 1; required = true }
+-- --cert CERT and --out CERT: one name, which has to be given
+abbrev pub certificate_argument : Text → Rule
+certificate_argument id = record (new_rule id) { long = Some id; value_names = 1; required = true }
 
 -- --tests N: one number
 abbrev pub tests_argument : Rule
@@ -53,24 +53,30 @@ convert_name = codes "convert"
 abbrev pub conversion_app : App
 conversion_app = with_rule (with_rule (new_app convert_name) (name_argument (codes "cert"))) (name_argument (codes "out"))
 
--- check --cert CERT [--tests N] [--zero-cells] [--released] FILES..
-abbrev pub check_name : Text
-check_name = codes "check"
-
--- check with what stands before its --released and FILES..
-abbrev pub check_options : App
-check_options = with_rule (with_rule (with_rule (new_app check_name) cert_argument) tests_argument) zero_cells_argument
-
-abbrev pub check_app : App
-check_app = with_rule (with_rule check_options released_argument) files_argument
+-- a command that decides whether a map is sound, with --zero-cells, --released and FILES.. behind what it has of its own
+abbrev pub on_a_map : App → App
+on_a_map app = with_rule (with_rule (with_rule app zero_cells_argument) released_argument) files_argument
 
 -- audit [--zero-cells] [--released] FILES..
 abbrev pub audit_name : Text
 audit_name = codes "audit"
 
+abbrev pub audit_app : App
+audit_app = on_a_map (new_app audit_name)
+
 -- build --out CERT [--zero-cells] [--released] FILES..
 abbrev pub build_name : Text
 build_name = codes "build"
+
+abbrev pub build_app : App
+build_app = on_a_map (with_rule (new_app build_name) (certificate_argument (codes "out")))
+
+-- check --cert CERT [--tests N] [--zero-cells] [--released] FILES..
+abbrev pub check_name : Text
+check_name = codes "check"
+
+abbrev pub check_app : App
+check_app = on_a_map (with_rule (with_rule (new_app check_name) (certificate_argument (codes "cert"))) tests_argument)
 
 -- locate [--released] @X,Y FILES..
 abbrev pub locate_name : Text
@@ -89,5 +95,9 @@ program =
 abbrev pub with_listings : App
 with_listings = with_subcommand (with_subcommand program (command_on_files show_name).top) (command_on_files landmarks_name).top
 
+-- the commands that decide whether a map is sound
+abbrev pub with_decisions : App → App
+with_decisions app = with_subcommand (with_subcommand (with_subcommand app audit_app.top) build_app.top) check_app.top
+
 abbrev pub command_line : App
-command_line = with_subcommand (with_subcommand (with_subcommand with_listings locate_app.top) check_app.top) conversion_app.top
+command_line = with_subcommand (with_decisions (with_subcommand with_listings locate_app.top)) conversion_app.top

@@ -1,18 +1,20 @@
 //! The command line that `clap` is told of.
 
 ghost use Rattle.std.specs.Prelude.{◌≡◌, false, IfOk};
-ghost use Rattle.clap.specs.Simple.{app_of, with_subcommand};
+ghost use Rattle.clap.specs.Simple.{app_of};
 ghost use Rattle.clap.specs.Walk.{rule_of};
 ghost use Rattle.clap.specs.declared.builder.command.Command.TheViews.{out-Command as fields_of};
-ghost use Rattle.tl_plan.specs.Commands.{program, command_line, command_on_files as app_on_files};
-ghost use Rattle.tl_plan.specs.Commands.{released_argument as released_rule, files_argument as files_rule};
-ghost use Rattle.tl_plan.specs.Commands.{cert_argument as cert_rule, tests_argument as tests_rule};
-ghost use Rattle.tl_plan.specs.Commands.{zero_cells_argument as zero_cells_rule, check_options, check_app};
+ghost use Rattle.tl_plan.specs.Commands.{program, with_listings, command_line, command_on_files as app_on_files};
+ghost use Rattle.tl_plan.specs.Commands.{on_a_map as app_on_a_map, audit_app, build_app, check_app};
 ghost use Rattle.tl_plan.specs.Commands.{locate_app, conversion_app, name_argument as name_rule};
+ghost use Rattle.tl_plan.specs.Commands.{released_argument as released_rule, files_argument as files_rule};
+ghost use Rattle.tl_plan.specs.Commands.{certificate_argument as certificate_rule, tests_argument as tests_rule};
+ghost use Rattle.tl_plan.specs.Commands.{zero_cells_argument as zero_cells_rule};
 
 use crate::help::{
-    ABOUT, CHECK_ABOUT, CHECK_EXAMPLE, CONVERT_ABOUT, CONVERT_EXAMPLE, EXAMPLES, LANDMARKS_ABOUT,
-    LANDMARKS_EXAMPLE, LOCATE_ABOUT, LOCATE_EXAMPLE, SHOW_ABOUT, SHOW_EXAMPLE,
+    ABOUT, AUDIT_ABOUT, AUDIT_EXAMPLE, BUILD_ABOUT, BUILD_EXAMPLE, CHECK_ABOUT, CHECK_EXAMPLE,
+    CONVERT_ABOUT, CONVERT_EXAMPLE, EXAMPLES, LANDMARKS_ABOUT, LANDMARKS_EXAMPLE, LOCATE_ABOUT,
+    LOCATE_EXAMPLE, SHOW_ABOUT, SHOW_EXAMPLE,
 };
 use clap::{Arg, ArgAction, Command};
 use std::alloc::{AllocError, Global};
@@ -23,34 +25,28 @@ const VERSION: &str = "0.1.0";
 pub fn command<'a>(alloc: Global) -> Result<Command<'a>, AllocError>
     ensures { IfOk result (λ command. app_of command ≡ command_line) }
 {
-    let program = program(alloc)?;
-    let shows = with_files(alloc, program, "show", SHOW_ABOUT, SHOW_EXAMPLE)?;
-    let lists = with_files(
-        alloc,
-        shows,
-        "landmarks",
-        LANDMARKS_ABOUT,
-        LANDMARKS_EXAMPLE,
-    )?;
-    let locates = with_locate(alloc, lists)?;
-    let checks = with_check(alloc, locates)?;
-    let converts = conversion(alloc)?;
-    checks.subcommand(converts)
+    let program = listings(alloc)?;
+    let locate = locate(alloc)?;
+    let audit = audit(alloc)?;
+    let build = build(alloc)?;
+    let check = check(alloc)?;
+    let convert = conversion(alloc)?;
+    program
+        .subcommand(locate)?
+        .subcommand(audit)?
+        .subcommand(build)?
+        .subcommand(check)?
+        .subcommand(convert)
 }
 
-// The program with one more command, which takes files.
-fn with_files<'a>(
-    alloc: Global,
-    program: Command<'a>,
-    name: &'a str,
-    about: &'a str,
-    example: &'a str,
-) -> Result<Command<'a>, AllocError>
-    ensures { IfOk result (λ command.
-        app_of command ≡ with_subcommand (app_of program.entry) (app_on_files name.entry.now).top) }
+// The program with the commands that take files and nothing else but --released.
+fn listings<'a>(alloc: Global) -> Result<Command<'a>, AllocError>
+    ensures { IfOk result (λ command. app_of command ≡ with_listings) }
 {
-    let command = command_on_files(alloc, name, about, example)?;
-    program.subcommand(command)
+    let program = program(alloc)?;
+    let show = command_on_files(alloc, "show", SHOW_ABOUT, SHOW_EXAMPLE)?;
+    let landmarks = command_on_files(alloc, "landmarks", LANDMARKS_ABOUT, LANDMARKS_EXAMPLE)?;
+    program.subcommand(show)?.subcommand(landmarks)
 }
 
 fn program<'a>(alloc: Global) -> Result<Command<'a>, AllocError>
@@ -83,14 +79,6 @@ fn command_on_files<'a>(
         .arg(files)
 }
 
-// The program with one more command, which locates a point.
-fn with_locate<'a>(alloc: Global, program: Command<'a>) -> Result<Command<'a>, AllocError>
-    ensures { IfOk result (λ command. app_of command ≡ with_subcommand (app_of program.entry) locate_app.top) }
-{
-    let command = locate(alloc)?;
-    program.subcommand(command)
-}
-
 /// The command that locates a point.
 pub fn locate<'a>(alloc: Global) -> Result<Command<'a>, AllocError>
     ensures shape { IfOk result (λ command. app_of command ≡ locate_app) }
@@ -112,12 +100,26 @@ pub fn locate<'a>(alloc: Global) -> Result<Command<'a>, AllocError>
         .arg(files)
 }
 
-// The program with one more command, which checks.
-fn with_check<'a>(alloc: Global, program: Command<'a>) -> Result<Command<'a>, AllocError>
-    ensures { IfOk result (λ command. app_of command ≡ with_subcommand (app_of program.entry) check_app.top) }
+fn audit<'a>(alloc: Global) -> Result<Command<'a>, AllocError>
+    ensures shape { IfOk result (λ command. app_of command ≡ audit_app) }
+    ensures local { IfOk result (λ command. (fields_of command).has_globals ≡ false) }
 {
-    let command = check(alloc)?;
-    program.subcommand(command)
+    let command = Command::new(alloc, "audit")
+        .about(AUDIT_ABOUT)
+        .after_help(AUDIT_EXAMPLE);
+    on_a_map(alloc, command)
+}
+
+fn build<'a>(alloc: Global) -> Result<Command<'a>, AllocError>
+    ensures shape { IfOk result (λ command. app_of command ≡ build_app) }
+    ensures local { IfOk result (λ command. (fields_of command).has_globals ≡ false) }
+{
+    let out = certificate_argument(alloc, "out", "The certificate that is made");
+    let command = Command::new(alloc, "build")
+        .about(BUILD_ABOUT)
+        .after_help(BUILD_EXAMPLE)
+        .arg(out)?;
+    on_a_map(alloc, command)
 }
 
 /// The command that checks.
@@ -125,35 +127,37 @@ pub fn check<'a>(alloc: Global) -> Result<Command<'a>, AllocError>
     ensures shape { IfOk result (λ command. app_of command ≡ check_app) }
     ensures local { IfOk result (λ command. (fields_of command).has_globals ≡ false) }
 {
-    let command = check_with_options(alloc)?;
-    let released = released_argument(alloc);
-    let files = files_argument(alloc);
-    command.arg(released)?.arg(files)
-}
-
-fn check_with_options<'a>(alloc: Global) -> Result<Command<'a>, AllocError>
-    ensures shape { IfOk result (λ command. app_of command ≡ check_options) }
-    ensures local { IfOk result (λ command. (fields_of command).has_globals ≡ false) }
-{
-    let cert = cert_argument(alloc);
+    let cert = certificate_argument(alloc, "cert", "The certificate");
     let tests = tests_argument(alloc);
-    let zero_cells = zero_cells_argument(alloc);
-    Command::new(alloc, "check")
+    let command = Command::new(alloc, "check")
         .about(CHECK_ABOUT)
         .after_help(CHECK_EXAMPLE)
         .arg(cert)?
-        .arg(tests)?
-        .arg(zero_cells)
+        .arg(tests)?;
+    on_a_map(alloc, command)
 }
 
-fn cert_argument<'a>(alloc: Global) -> Arg<'a>
-    ensures rule { rule_of result ≡ cert_rule }
+// The command with what stands last for each that decides whether a map is sound: --zero-cells, --released and FILES..
+fn on_a_map<'a>(alloc: Global, command: Command<'a>) -> Result<Command<'a>, AllocError>
+    requires { (fields_of command).has_globals ≡ false }
+    ensures shape { IfOk result (λ whole. app_of whole ≡ app_on_a_map (app_of command.entry)) }
+    ensures local { IfOk result (λ whole. (fields_of whole).has_globals ≡ false) }
+{
+    let zero_cells = zero_cells_argument(alloc);
+    let released = released_argument(alloc);
+    let files = files_argument(alloc);
+    command.arg(zero_cells)?.arg(released)?.arg(files)
+}
+
+// The name of a certificate, behind an option that has to be given.
+fn certificate_argument<'a>(alloc: Global, id: &'a str, help: &'a str) -> Arg<'a>
+    ensures rule { rule_of result ≡ certificate_rule id.entry.now }
     ensures local { result.global ≡ false }
 {
-    Arg::new(alloc, "cert")
-        .long("cert")
+    Arg::new(alloc, id)
+        .long(id)
         .value_name("CERT")
-        .help("The certificate")
+        .help(help)
         .required(true)
 }
 

@@ -7,7 +7,9 @@ Examples:
   tigertopo show TGR24001.RT1 TGR24001.RT2    prints each chain's TLID and points
   tigertopo landmarks --released TGR24001.RT* prints each landmark and its polygons
   tigertopo locate @-78762000,39652000 A.RT*  tells where a point lies
-  tigertopo check --cert A.CERT TGR24001.RT*  decides whether the map is sound
+  tigertopo audit TGR24001.RT*                decides whether the map is sound
+  tigertopo build --out A.CERT TGR24001.RT*   makes a certificate of a sound map
+  tigertopo check --cert A.CERT TGR24001.RT*  decides by a certificate whether the map is sound
   tigertopo convert OLD.CERT NEW.CERT         writes a certificate anew in version 2
 
 Exit status:
@@ -51,6 +53,30 @@ sound isn't tested.
 
 Example:
   tigertopo locate @-78762000,39652000 TGR24001.RT*";
+
+pub const AUDIT_ABOUT: &str = "Decides whether the map is sound, with no certificate given";
+
+pub const AUDIT_EXAMPLE: &str = "\
+Of a sound map the line is `sound chains=C segments=S nodes=N polygons=P landmarks=L rings=R`. Else it
+is `map fault` with a code, a name and what it is about. A certificate is made, checked and not kept.
+`stopped Unfit` on the standard error, with status 4, says that it wasn't right for the map; no map is
+known for which that comes.
+
+Example:
+  tigertopo audit TGR24001.RT*";
+
+pub const BUILD_ABOUT: &str = "Makes a certificate of a sound map, in version 2";
+
+pub const BUILD_EXAMPLE: &str = "\
+Of a sound map the line is `built chains=C segments=S nodes=N polygons=P landmarks=L rings=R`. CERT is
+made when the map was found to be sound, and a file of that name is written over. Else the line is
+`map fault` with a code, a name and what it is about. Where the map has a fault or a line is refused,
+no file is made or changed; after a failed write CERT is worth nothing. `stopped Unfit` on the standard
+error, with status 4, says that the certificate wasn't right for the map, and none is written; no map is
+known for which that comes.
+
+Example:
+  tigertopo build --out TGR24001.CERT TGR24001.RT*";
 
 pub const CHECK_ABOUT: &str = "Decides by a certificate whether the map is sound";
 

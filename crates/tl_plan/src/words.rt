@@ -4,7 +4,7 @@ ghost use Rattle.std.specs.Prelude.{◌≡◌, ◌↔◌, IfOk, IfErr, IsTrue, [
 ghost use Rattle.clap.specs.Simple.{app_of, subcommand_rows_of};
 ghost use Rattle.clap.specs.Walk.{rows_of, all_of, first_of};
 ghost use Rattle.clap.specs.Matches.{found_of};
-ghost use Rattle.tl_plan.specs.Commands.{command_line, check_name, locate_name};
+ghost use Rattle.tl_plan.specs.Commands.{command_line, audit_name, build_name, check_name, locate_name};
 ghost use Rattle.tl_plan.specs.CommandLine.{request_in, named_in};
 ghost use Rattle.tl_plan.specs.CommandLine.{AreChosen, AskFor, StopsPlanning, IsPlanOf, IsConversionOf};
 ghost use Rattle.tl_plan.specs.Plans.{ShowsNoEscape};
@@ -79,6 +79,12 @@ fn plan_of(alloc: Global, matches: &ArgMatches<'_>) -> Result<Option<Plan>, Allo
     if let Some(locate) = matches.subcommand_matches("locate") {
         return locate_of(alloc, locate);
     }
+    if let Some(audit) = matches.subcommand_matches("audit") {
+        return audit_of(alloc, audit);
+    }
+    if let Some(build) = matches.subcommand_matches("build") {
+        return build_of(alloc, build);
+    }
     if let Some(check) = matches.subcommand_matches("check") {
         return check_of(alloc, check);
     }
@@ -126,6 +132,38 @@ fn locate_of(alloc: Global, command: &ArgMatches<'_>) -> Result<Option<Plan>, Al
     }))
 }
 
+// The audit that the command's words name, where they name a file.
+fn audit_of(alloc: Global, command: &ArgMatches<'_>) -> Result<Option<Plan>, AllocError>
+    ensures { IfOk result (IsPlanOf (Some (request_in (audit_name, rows_of (found_of command.now))))) }
+{
+    let files = files_of(alloc, command)?;
+    if files.is_empty() {
+        return Ok(None);
+    }
+    Ok(Some(Plan::Audit {
+        options: options_with_zero_cells(command),
+        files,
+    }))
+}
+
+// The certificate that the command's words ask to be built, where they name it and a file.
+fn build_of(alloc: Global, command: &ArgMatches<'_>) -> Result<Option<Plan>, AllocError>
+    ensures { IfOk result (IsPlanOf (Some (request_in (build_name, rows_of (found_of command.now))))) }
+{
+    let Some(name) = command.get_str("out") else {
+        return Ok(None);
+    };
+    let files = files_of(alloc, command)?;
+    if files.is_empty() {
+        return Ok(None);
+    }
+    Ok(Some(Plan::Build {
+        made: String::from_str(alloc, name)?,
+        options: options_with_zero_cells(command),
+        files,
+    }))
+}
+
 // The check that the command's words name, where their number of tests is spelt as one.
 fn check_of(alloc: Global, command: &ArgMatches<'_>) -> Result<Option<Plan>, AllocError>
     ensures { IfOk result (IsPlanOf (Some (request_in (check_name, rows_of (found_of command.now))))) }
@@ -143,7 +181,7 @@ fn check_of(alloc: Global, command: &ArgMatches<'_>) -> Result<Option<Plan>, All
     Ok(Some(Plan::Check {
         cert: String::from_str(alloc, cert)?,
         budget,
-        options: options_of(command, command.get_str("zero-cells")),
+        options: options_with_zero_cells(command),
         files,
     }))
 }
@@ -154,6 +192,14 @@ fn files_of(alloc: Global, command: &ArgMatches<'_>) -> Result<Vec<String>, Allo
         ≡ unwrap_or (all_of (codes "files") (rows_of (found_of command.now))) []) }
 {
     copied(alloc, command.get_strs("files").unwrap_or(&[]))
+}
+
+// What the switches of a command that decides choose of the columns.
+fn options_with_zero_cells(command: &ArgMatches<'_>) -> Options
+    ensures { AreChosen (first_of (codes "released") (rows_of (found_of command.now)))
+        (first_of (codes "zero-cells") (rows_of (found_of command.now))) result }
+{
+    options_of(command, command.get_str("zero-cells"))
 }
 
 // What the command's switches choose of the columns: its --released, and its --zero-cells, where it has one.

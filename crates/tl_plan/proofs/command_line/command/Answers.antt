@@ -1,17 +1,12 @@
-use Rattle.std.proofs.Common.{ap, ◌∙◌}
+use Rattle.std.proofs.Common.{◌∙◌}
 use Rattle.std.proofs.lemmas.Result.{IfOk-weaker}
-use Rattle.clap.specs.Simple.{App, app_of, with_subcommand}
-use Rattle.tl_plan.specs.Commands.{command_on_files, show_name, landmarks_name, locate_app, check_app, conversion_app}
+use Rattle.tl_plan.proofs.CommandsLemmas.{is_added}
 use Rattle.tl_plan.proofs.command_line.command.Goals as goal
 
 pub returns : goal.returns
 returns c =
-    let shows = c.in_ok-shows.ensures ∙ ap (λ (app : App). with_subcommand app (command_on_files show_name).top) c.in_ok-program.ensures in
-    let lists = c.in_ok-lists.ensures ∙ ap (λ (app : App). with_subcommand app (command_on_files landmarks_name).top) shows in
-    let locates = c.in_ok-locates.ensures ∙ ap (λ (app : App). with_subcommand app locate_app.top) lists in
-    let checks = c.in_ok-checks.ensures ∙ ap (λ (app : App). with_subcommand app check_app.top) locates in
-    IfOk-weaker c.subcommand.result _ _
-    (λ r added.
-    added.shape c.in_ok-converts.ensures.local ∙ ap (λ (app : App). with_subcommand (app_of c.in_ok-checks.checks) app.top) c.in_ok-converts.ensures.shape
-    ∙ ap (λ (app : App). with_subcommand app conversion_app.top) checks)
-    c.subcommand.ensures
+    let locates = c.in_ok-subcommand.ensures.shape c.in_ok-locate.ensures.local ∙ is_added c.in_ok-program.ensures c.in_ok-locate.ensures.shape in
+    let audits = c.in_ok-subcommand-2.ensures.shape c.in_ok-audit.ensures.local ∙ is_added locates c.in_ok-audit.ensures.shape in
+    let builds = c.in_ok-subcommand-3.ensures.shape c.in_ok-build.ensures.local ∙ is_added audits c.in_ok-build.ensures.shape in
+    let checks = c.in_ok-subcommand-4.ensures.shape c.in_ok-check.ensures.local ∙ is_added builds c.in_ok-check.ensures.shape in
+    IfOk-weaker c.subcommand-5.result _ _ (λ r added. added.shape c.in_ok-convert.ensures.local ∙ is_added checks c.in_ok-convert.ensures.shape) c.subcommand-5.ensures

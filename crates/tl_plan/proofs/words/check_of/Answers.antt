@@ -1,13 +1,11 @@
-use Rattle.std.proofs.Common.{ℕ, ◌<◌, length, map, List, Option, Some, codes, refl, sym, ap, subst, ◌∙◌, rules, arith}
-use Rattle.std.specs.Prelude.{string_bytes}
+use Rattle.std.proofs.Common.{ℕ, ◌<◌, length, List, Option, Some, codes, refl, sym, ap, subst, ◌∙◌, rules, arith}
 use Rattle.std.proofs.lemmas.Bool.Decides.{nat_tests}
-use Rattle.std.proofs.lemmas.List.{length-map}
-use Rattle.clap.specs.Walk.{rows_of, all_of, first_of}
+use Rattle.clap.specs.Walk.{rows_of, all_of}
 use Rattle.clap.specs.Matches.{found_of}
 use Rattle.clap.proofs.WalkLemmas.{first_value-rows}
 use Rattle.tl_plan.specs.Commands.{check_name}
-use Rattle.tl_plan.specs.CommandLine.{request_in, IsBudget, AreChosen}
-use Rattle.tl_plan.proofs.WordsLemmas.{not_given, is_given, were_given, no_check}
+use Rattle.tl_plan.specs.CommandLine.{request_in, IsBudget}
+use Rattle.tl_plan.proofs.WordsLemmas.{not_given, is_given, are_given, no_check}
 use Rattle.tl_plan.proofs.words.check_of.Goals as goal
 
 pub returns-in_default : goal.returns-in_default
@@ -26,17 +24,14 @@ pub returns : goal.returns
 returns c =
     let cert = c.get_str.ensures ∙ first_value-rows (found_of c.args.command.now) (codes "cert") in
     let tests = c.get_str-2.ensures ∙ first_value-rows (found_of c.args.command.now) (codes "tests") in
-    let cells = c.get_str-3.ensures ∙ first_value-rows (found_of c.args.command.now) (codes "zero-cells") in
     let items : 0 < length c.in_ok-files.files.items = search (rules, arith, nat_tests) in
-    let some : 0 < length (map string_bytes c.in_ok-files.files.items) = omega (arith, items, length-map c.in_ok-files.files.items string_bytes) in record {
+    let files = are_given (all_of (codes "files") (rows_of (found_of c.args.command.now))) c.in_ok-files.files.items c.in_ok-files.ensures items in record {
       given = request_in (check_name, rows_of (found_of c.args.command.now));
       same = refl;
       named = refl;
       by = is_given c.get_str.result _ c.in-Some.cert cert c.in-Some.is ∙ ap Some (sym c.in_ok-from_str.ensures.ok);
       tests = subst (λ (given : Option (List ℕ)). IsBudget given c.in-Some-budget_of.budget) tests c.in-Some-budget_of.ensures;
-      chosen =
-          subst (λ (given : Option (List ℕ)). AreChosen (first_of (codes "released") (rows_of (found_of c.args.command.now))) given c.options_of.result)
-          cells c.options_of.ensures;
-      are = were_given (all_of (codes "files") (rows_of (found_of c.args.command.now))) _ c.in_ok-files.ensures some;
-      some_file = some;
+      chosen = c.options_with_zero_cells.ensures;
+      are = files.0;
+      some_file = files.1;
     }

@@ -1,14 +1,12 @@
-use Rattle.std.proofs.Common.{ℕ, ◌<◌, length, map, List, codes, refl, subst, ◌∙◌, rules, arith}
-use Rattle.std.specs.Prelude.{string_bytes}
+use Rattle.std.proofs.Common.{ℕ, ◌<◌, length, List, codes, refl, subst, ◌∙◌, rules, arith}
 use Rattle.std.proofs.lemmas.Bool.Decides.{nat_tests}
-use Rattle.std.proofs.lemmas.List.{length-map}
 use Rattle.clap.specs.Walk.{rows_of, all_of}
 use Rattle.clap.specs.Matches.{found_of}
 use Rattle.clap.proofs.WalkLemmas.{first_value-rows}
 use Rattle.tl_plan.specs.Commands.{locate_name}
 use Rattle.tl_plan.specs.CommandLine.{request_in}
 use Rattle.tl_plan.specs.Points.{Spells}
-use Rattle.tl_plan.proofs.WordsLemmas.{not_given, is_given, were_given, no_locate, same_given}
+use Rattle.tl_plan.proofs.WordsLemmas.{not_given, is_given, are_given, no_locate, same_given}
 use Rattle.tl_plan.proofs.words.locate_of.Goals as goal
 
 pub returns-in_default : goal.returns-in_default
@@ -28,7 +26,7 @@ pub returns : goal.returns
 returns c =
     let same = c.get_str.ensures ∙ first_value-rows (found_of c.args.command.now) (codes "point") in
     let items : 0 < length c.in_ok-files.files.items = search (rules, arith, nat_tests) in
-    let some : 0 < length (map string_bytes c.in_ok-files.files.items) = omega (arith, items, length-map c.in_ok-files.files.items string_bytes) in record {
+    let files = are_given (all_of (codes "files") (rows_of (found_of c.args.command.now))) c.in_ok-files.files.items c.in_ok-files.ensures items in record {
       given = request_in (locate_name, rows_of (found_of c.args.command.now));
       word = c.in-Some.word.now;
       same = refl;
@@ -36,6 +34,6 @@ returns c =
       at = is_given c.get_str.result _ c.in-Some.word same c.in-Some.is;
       spelt = c.in-Some-point_of.ensures;
       chosen = c.options_of.ensures;
-      are = were_given (all_of (codes "files") (rows_of (found_of c.args.command.now))) _ c.in_ok-files.ensures some;
-      some_file = some;
+      are = files.0;
+      some_file = files.1;
     }

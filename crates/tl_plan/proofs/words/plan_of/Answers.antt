@@ -3,7 +3,7 @@ use Rattle.std.proofs.lemmas.Result.{IfOk-weaker}
 use Rattle.clap.specs.Simple.{subcommand_rows_of}
 use Rattle.clap.specs.Walk.{rows_of}
 use Rattle.clap.specs.Matches.{found_of}
-use Rattle.tl_plan.specs.Commands.{check_name, locate_name}
+use Rattle.tl_plan.specs.Commands.{audit_name, build_name, check_name, locate_name}
 use Rattle.tl_plan.proofs.WordsLemmas.{conversion_plan, found_plan, name_found}
 use Rattle.tl_plan.proofs.words.plan_of.Goals as goal
 
@@ -19,17 +19,35 @@ returns-in-Some-subcommand_matches-2 c =
 pub returns-in-Some-subcommand_matches-3 : goal.returns-in-Some-subcommand_matches-3
 returns-in-Some-subcommand_matches-3 c =
     let found = subcommand_rows_of c.args.matches.now in
-    let rows = rows_of (found_of c.in-Some-subcommand_matches-3.check.now) in
-    IfOk-weaker c.check_of.result _ _
-    (λ plan is. found_plan found check_name rows plan
+    let rows = rows_of (found_of c.in-Some-subcommand_matches-3.audit.now) in
+    IfOk-weaker c.audit_of.result _ _
+    (λ plan is. found_plan found audit_name rows plan
     (name_found c.args.matches.now ∙ c.in-Some-subcommand_matches-3.ensures.found.0 refl) c.in-Some-subcommand_matches-3.ensures.rows is)
-    c.check_of.ensures
+    c.audit_of.ensures
 
 pub returns-in-Some-subcommand_matches-4 : goal.returns-in-Some-subcommand_matches-4
 returns-in-Some-subcommand_matches-4 c =
     let found = subcommand_rows_of c.args.matches.now in
-    let rows = rows_of (found_of c.in-Some-subcommand_matches-4.convert.now) in
+    let rows = rows_of (found_of c.in-Some-subcommand_matches-4.build.now) in
+    IfOk-weaker c.build_of.result _ _
+    (λ plan is. found_plan found build_name rows plan
+    (name_found c.args.matches.now ∙ c.in-Some-subcommand_matches-4.ensures.found.0 refl) c.in-Some-subcommand_matches-4.ensures.rows is)
+    c.build_of.ensures
+
+pub returns-in-Some-subcommand_matches-5 : goal.returns-in-Some-subcommand_matches-5
+returns-in-Some-subcommand_matches-5 c =
+    let found = subcommand_rows_of c.args.matches.now in
+    let rows = rows_of (found_of c.in-Some-subcommand_matches-5.check.now) in
+    IfOk-weaker c.check_of.result _ _
+    (λ plan is. found_plan found check_name rows plan
+    (name_found c.args.matches.now ∙ c.in-Some-subcommand_matches-5.ensures.found.0 refl) c.in-Some-subcommand_matches-5.ensures.rows is)
+    c.check_of.ensures
+
+pub returns-in-Some-subcommand_matches-6 : goal.returns-in-Some-subcommand_matches-6
+returns-in-Some-subcommand_matches-6 c =
+    let found = subcommand_rows_of c.args.matches.now in
+    let rows = rows_of (found_of c.in-Some-subcommand_matches-6.convert.now) in
     IfOk-weaker c.conversion_of.result _ _
     (λ plan is. conversion_plan found rows plan
-    (name_found c.args.matches.now ∙ c.in-Some-subcommand_matches-4.ensures.found.0 refl) c.in-Some-subcommand_matches-4.ensures.rows is)
+    (name_found c.args.matches.now ∙ c.in-Some-subcommand_matches-6.ensures.found.0 refl) c.in-Some-subcommand_matches-6.ensures.rows is)
     c.conversion_of.ensures
