@@ -6,5 +6,3 @@
 mod cases;
 #[cfg(test)]
 mod maps;
-#[cfg(test)]
-mod plain;

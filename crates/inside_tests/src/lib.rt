@@ -5,20 +5,10 @@
 #[cfg(test)]
 mod cases;
 #[cfg(test)]
-mod counts;
-#[cfg(test)]
 mod indices;
 #[cfg(test)]
 mod maps;
 #[cfg(test)]
-mod placed;
-#[cfg(test)]
-mod places;
-#[cfg(test)]
 mod points;
 #[cfg(test)]
 mod random;
-#[cfg(test)]
-mod said;
-#[cfg(test)]
-mod sides;

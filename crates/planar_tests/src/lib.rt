@@ -9,6 +9,4 @@ mod grid;
 #[cfg(test)]
 mod maps;
 #[cfg(test)]
-mod pairs;
-#[cfg(test)]
 mod plain;

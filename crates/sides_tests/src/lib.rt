@@ -3,20 +3,10 @@
 #![tactic(auto)]
 
 #[cfg(test)]
-mod boundary;
-#[cfg(test)]
 mod cases;
-#[cfg(test)]
-mod lists;
 #[cfg(test)]
 mod lists_of;
 #[cfg(test)]
 mod maps;
-#[cfg(test)]
-mod next;
-#[cfg(test)]
-mod rings;
-#[cfg(test)]
-mod rounds;
 #[cfg(test)]
 mod taken;
