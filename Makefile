@@ -6,8 +6,9 @@
 # make memory              refuses each allocation of the program, and of bench_tree, in its turn
 # make devices             fails each read and each write of the program in its turn
 # make examples            runs the commands of examples/README.md and compares what they print
-# make bench               measures the program on record files of 1,000 to 1,000,000 chains, checks of counties, searches
-#                          in trees, and certificates written and read
+# make bench               measures the program on record files of 1,000 to 1,000,000 chains, checks of counties, maps
+#                          decided and certificates built with none given, searches in trees, and certificates written
+#                          and read
 # make install PREFIX=..   installs the program as PREFIX/bin/tigertopo
 
 PREFIX = /usr/local
@@ -46,6 +47,7 @@ bench: build
 	cd crates/bench_tree && rt run >/dev/null
 	cd crates/bench_cert && rt run >/dev/null
 	cd crates/bench_check && rt run >/dev/null
+	cd crates/bench_build && rt run >/dev/null
 	python3 bench/run.py
 
 install: build
