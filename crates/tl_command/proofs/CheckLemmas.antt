@@ -31,14 +31,14 @@ same_map all m n one other =
     ∙ ap₂ (λ ls k. record n { landmarks = ls; skipped = k }) same.2 (one.skipped_lines ∙ sym other.skipped_lines)
 
 -- two claims of the map of the same records hold of one map
-both : (all : Records) (P Q : TheMap → Type 0) → HaveMap all P → HaveMap all Q → HaveMap all (λ m. P m × Q m)
+pub both : (all : Records) (P Q : TheMap → Type 0) → HaveMap all P → HaveMap all Q → HaveMap all (λ m. P m × Q m)
 both all P Q one other = record {
   map = one.map;
   is_read = one.is_read;
   so = (one.so, subst Q (same_map all other.map one.map other.is_read one.is_read) other.so);
 }
 
-weaker : (all : Records) (P Q : TheMap → Type 0) → ((m : TheMap) → P m → Q m) → HaveMap all P → HaveMap all Q
+pub weaker : (all : Records) (P Q : TheMap → Type 0) → ((m : TheMap) → P m → Q m) → HaveMap all P → HaveMap all Q
 weaker all P Q leads have = record { map = have.map; is_read = have.is_read; so = leads have.map have.so }
 
 -- the claims of a sound map

@@ -1,2 +1,4 @@
+pub mod AuditLemmas
+pub mod BuildLemmas
 pub mod CheckLemmas
 pub mod RunLemmas

@@ -8,7 +8,7 @@ use Rattle.tl_output.specs.Writing.{line_of}
 use Rattle.tl_command.specs.Certificates.{converted_text}
 use Rattle.tl_record.specs.declared.layout.Layout.{Layout}
 use Rattle.tl_plan.specs.declared.plan.Plan.{Plan}
-use Rattle.tl_plan.specs.declared.plan.Plan.TheVariants.{Show, Landmarks, Locate, Convert, Check}
+use Rattle.tl_plan.specs.declared.plan.Plan.TheVariants.{Show, Landmarks, Locate, Convert, Check, Audit, Build}
 use Rattle.tl_command.specs.Running.{NamesRefusal, FaultsCertificate, IsConverted}
 
 pub refusal_unknown : (layout : Layout) (known : Option (List ℕ)) (wrote : List ℕ → Type 0) → NamesRefusal layout known wrote → NamesRefusal layout None wrote
@@ -20,6 +20,8 @@ cert_fault_unknown (Landmarks options files) known spelt wrote names = names
 cert_fault_unknown (Locate point options files) known spelt wrote names = names
 cert_fault_unknown (Convert cert made) known spelt wrote names = record { line = names.line; written = names.written; holds = tt }
 cert_fault_unknown (Check cert budget options files) known spelt wrote names = record { fault = names.fault; written = names.written; holds = tt }
+cert_fault_unknown (Audit options files) known spelt wrote names = names
+cert_fault_unknown (Build made options files) known spelt wrote names = names
 
 -- a certificate that was read, and written in version 2
 pub was_converted : (known : Option (List ℕ)) (made wrote : List ℕ → Type 0) (c d : TheCertificate) → IsCertificate c → IfSome known (λ text. IsTextOf c text) → d ≡ record c { version = 2 }

@@ -21,10 +21,10 @@ use Rattle.tl_map.specs.Reading.{AreReadFrom, IsReadFrom, records_in}
 use Rattle.tl_text.specs.Printing.{shown_text, listing_text}
 use Rattle.tl_output.specs.Writing.{line_of}
 use Rattle.tl_command.specs.declared.stop.Stop.{Stop}
-use Rattle.tl_command.specs.declared.stop.Stop.TheVariants.{Refused, Memory, Device, Budget}
+use Rattle.tl_command.specs.declared.stop.Stop.TheVariants.{Refused, Memory, Device, Budget, Unfit}
 use Rattle.tl_command.specs.declared.stop.TheConstants.{DONE, MAP_FAULT, CERT_FAULT, REFUSED, STOPPED}
 use Rattle.tl_plan.specs.declared.plan.Plan.{Plan}
-use Rattle.tl_plan.specs.declared.plan.Plan.TheVariants.{Show, Landmarks, Locate, Convert, Check}
+use Rattle.tl_plan.specs.declared.plan.Plan.TheVariants.{Show, Landmarks, Locate, Convert, Check, Audit, Build}
 use Rattle.tl_cert.specs.Certificates.{TheCertificate, IsCertificate}
 use Rattle.tl_cert.specs.Text.{certificate_text}
 use Rattle.tl_cert.specs.Beginnings.{IsTextOf, IsRefused}
@@ -37,12 +37,14 @@ use Rattle.tl_check.specs.declared.fault.CertFault.TheVariants as cert_fault
 use Rattle.tl_check.specs.declared.verdict.Report.{Report}
 use Rattle.tl_check.specs.declared.verdict.Verdict.TheVariants as verdict
 use Rattle.tl_check.specs.Sound.{IsSound}
+use Rattle.tl_check.specs.Valid.{IsValid}
 use Rattle.tl_check.specs.Verdicts.{IsReport}
 use Rattle.tl_check.specs.Texts.{IsValidText, IsTrueOfText}
+use Rattle.tl_check.specs.Truth.{IsTrueOfMap}
 use Rattle.tl_check.specs.Records.{HaveMap, IsTrueOfRecords, LeavesUnread}
 use Rattle.tl_check.specs.Messages.{map_fault_text, cert_fault_text}
 use Rattle.tl_command.specs.Certificates.{converted_text}
-use Rattle.tl_command.specs.Verdicts.{sound_text}
+use Rattle.tl_command.specs.Verdicts.{sound_text, built_text}
 use Rattle.tl_command.specs.Places.{place_text}
 use Rattle.tl_command.specs.Stops.{stop_text}
 
@@ -106,6 +108,34 @@ pub record IsChecked (layout : Layout) (budget : ℕ) (known spelt : Option (Lis
   pub written : wrote (line_of (sound_text report))
   pub decided : IfSome known (λ text. HaveMap (records_of layout text) (IsDecided report budget spelt))
 
+-- the map is sound, and the report is its report
+pub record IsSoundWith (report : Report) (m : TheMap) : Type 0 where
+  pub sound : IsSound m
+  pub reported : IsReport m report
+
+-- the line of a sound map was written, and the map of the records is sound: no line is refused and they have one
+pub record IsAudited (layout : Layout) (known : Option (List ℕ)) (wrote : List ℕ → Type 0) : Type 0 where
+  pub report : Report
+  pub written : wrote (line_of (sound_text report))
+  pub decided : IfSome known (λ text. HaveMap (records_of layout text) (IsSoundWith report))
+
+-- the line of a certificate that was made was written, and the text of the certificate, of which `made` says that it was
+-- written; it is of version 2 and valid for the map, which is sound
+pub record IsBuiltOf (m : TheMap) (made wrote : List ℕ → Type 0) : Type 0 where
+  pub certificate : TheCertificate
+  pub report : Report
+  pub decided : IsSoundWith report m
+  pub valid : IsValid m certificate
+  pub version : certificate.version ≡ 2
+  pub kept : made (certificate_text certificate)
+  pub written : wrote (line_of (built_text report))
+
+-- they were written of the map of the records, where no line is refused and no fault is true
+pub record IsBuilt (layout : Layout) (known : Option (List ℕ)) (made wrote : List ℕ → Type 0) : Type 0 where
+  pub map : TheMap
+  pub built : IsBuiltOf map made wrote
+  pub drawn : IfSome known (λ text. IsReadFrom (records_of layout text) map)
+
 -- the line of a fault of a certificate was written, and it is true of the certificate's text, beside the map of the records
 pub record NamesCertFault (layout : Layout) (known spelt : Option (List ℕ)) (wrote : List ℕ → Type 0) : Type 0 where
   pub fault : CertFault
@@ -120,6 +150,8 @@ layout_of (Landmarks options files) = layout_with options
 layout_of (Locate point options files) = layout_with options
 layout_of (Convert cert made) = tiger_2006
 layout_of (Check cert budget options files) = layout_with options
+layout_of (Audit options files) = layout_with options
+layout_of (Build made options files) = layout_with options
 
 -- the plan's command leaves the certificate alone that is read
 abbrev pub ReadsNoCertificate : Plan → Type 0
@@ -128,6 +160,8 @@ ReadsNoCertificate (Landmarks options files) = ⊤
 ReadsNoCertificate (Locate point options files) = ⊤
 ReadsNoCertificate (Convert cert made) = ⊥
 ReadsNoCertificate (Check cert budget options files) = ⊥
+ReadsNoCertificate (Audit options files) = ⊤
+ReadsNoCertificate (Build made options files) = ⊤
 
 -- the plan's command leaves the certificate alone that is made
 abbrev pub MakesNoCertificate : Plan → Type 0
@@ -136,6 +170,8 @@ MakesNoCertificate (Landmarks options files) = ⊤
 MakesNoCertificate (Locate point options files) = ⊤
 MakesNoCertificate (Convert cert made) = ⊥
 MakesNoCertificate (Check cert budget options files) = ⊤
+MakesNoCertificate (Audit options files) = ⊤
+MakesNoCertificate (Build made options files) = ⊥
 
 -- the plan's command leaves records alone
 abbrev pub ReadsNoRecords : Plan → Type 0
@@ -144,14 +180,18 @@ ReadsNoRecords (Landmarks options files) = ⊥
 ReadsNoRecords (Locate point options files) = ⊥
 ReadsNoRecords (Convert cert made) = ⊤
 ReadsNoRecords (Check cert budget options files) = ⊥
+ReadsNoRecords (Audit options files) = ⊥
+ReadsNoRecords (Build made options files) = ⊥
 
--- the answer of a plan whose command reads records, and no certificate, was written
+-- the answer of a plan whose command asks nothing of records but what they say was written
 abbrev pub AnswersRecords : Plan → Option (List ℕ) → (List ℕ → Type 0) → Type 0
 AnswersRecords (Show options files) records wrote = IsShown (layout_with options) records wrote
 AnswersRecords (Landmarks options files) records wrote = IsListed (layout_with options) records wrote
 AnswersRecords (Locate point options files) records wrote = IsLocated (layout_with options) point records wrote
 AnswersRecords (Convert cert made) records wrote = ⊤
 AnswersRecords (Check cert budget options files) records wrote = ⊤
+AnswersRecords (Audit options files) records wrote = ⊤
+AnswersRecords (Build made options files) records wrote = ⊤
 
 -- what the plan asks for was written: `records` and `spelt` are the texts of the records and of the certificate, where they
 -- are known
@@ -161,6 +201,8 @@ IsAnswered (Landmarks options files) records spelt made wrote = IsListed (layout
 IsAnswered (Locate point options files) records spelt made wrote = IsLocated (layout_with options) point records wrote
 IsAnswered (Convert from to) records spelt made wrote = IsConverted spelt made wrote
 IsAnswered (Check cert budget options files) records spelt made wrote = IsChecked (layout_with options) budget records spelt wrote
+IsAnswered (Audit options files) records spelt made wrote = IsAudited (layout_with options) records wrote
+IsAnswered (Build to options files) records spelt made wrote = IsBuilt (layout_with options) records made wrote
 
 -- the line of a fault of the records was written, and it is true
 pub record NamesRecordFault (layout : Layout) (known : Option (List ℕ)) (wrote : List ℕ → Type 0) : Type 0 where
@@ -176,6 +218,12 @@ pub record NamesFault (layout : Layout) (known : Option (List ℕ)) (unread : Ty
   pub holds : IfSome known (λ text. IsTrueOfRecords (records_of layout text) fault)
   pub alone : LeavesUnread (Ok (verdict.MapFault fault)) unread
 
+-- the line of a fault of the map was written, and it is true
+pub record NamesMapFault (m : TheMap) (wrote : List ℕ → Type 0) : Type 0 where
+  pub fault : MapFault
+  pub written : wrote (line_of (map_fault_text fault))
+  pub holds : IsTrueOfMap m fault
+
 -- a fault was named that the plan's command looks for
 abbrev pub FaultsMap : Plan → Option (List ℕ) → Type 0 → (List ℕ → Type 0) → Type 0
 FaultsMap (Show options files) known unread wrote = NamesRecordFault (layout_with options) known wrote
@@ -183,6 +231,8 @@ FaultsMap (Landmarks options files) known unread wrote = NamesRecordFault (layou
 FaultsMap (Locate point options files) known unread wrote = NamesRecordFault (layout_with options) known wrote
 FaultsMap (Convert cert made) known unread wrote = ⊥
 FaultsMap (Check cert budget options files) known unread wrote = NamesFault (layout_with options) known unread wrote
+FaultsMap (Audit options files) known unread wrote = NamesFault (layout_with options) known ⊤ wrote
+FaultsMap (Build made options files) known unread wrote = NamesFault (layout_with options) known ⊤ wrote
 
 -- the line of the first refusal was written
 pub record NamesRefusal (layout : Layout) (known : Option (List ℕ)) (wrote : List ℕ → Type 0) : Type 0 where
@@ -198,6 +248,8 @@ FaultsCertificate (Landmarks options files) records spelt wrote = ⊥
 FaultsCertificate (Locate point options files) records spelt wrote = ⊥
 FaultsCertificate (Convert cert made) records spelt wrote = NamesBadLine spelt wrote
 FaultsCertificate (Check cert budget options files) records spelt wrote = NamesCertFault (layout_with options) records spelt wrote
+FaultsCertificate (Audit options files) records spelt wrote = ⊥
+FaultsCertificate (Build made options files) records spelt wrote = ⊥
 
 -- the line of a stop was written: of a want of memory, or of a device where one failed
 abbrev pub NamesStop : (List ℕ → Type 0) → Type 0 → Type 0
@@ -215,10 +267,26 @@ SpendsBudget (Landmarks options files) known wrote = ⊥
 SpendsBudget (Locate point options files) known wrote = ⊥
 SpendsBudget (Convert cert made) known wrote = ⊥
 SpendsBudget (Check cert budget options files) known wrote = NamesBudget (layout_with options) budget known wrote
+SpendsBudget (Audit options files) known wrote = ⊥
+SpendsBudget (Build made options files) known wrote = ⊥
+
+-- the line was written of a certificate that was proposed and isn't valid
+abbrev pub NamesUnfit : (List ℕ → Type 0) → Type 0
+NamesUnfit wrote = wrote (line_of (stop_text Unfit))
+
+-- the plan's command proposes a certificate, and it isn't valid
+abbrev pub ProposesUnfit : Plan → (List ℕ → Type 0) → Type 0
+ProposesUnfit (Show options files) wrote = ⊥
+ProposesUnfit (Landmarks options files) wrote = ⊥
+ProposesUnfit (Locate point options files) wrote = ⊥
+ProposesUnfit (Convert cert made) wrote = ⊥
+ProposesUnfit (Check cert budget options files) wrote = ⊥
+ProposesUnfit (Audit options files) wrote = NamesUnfit wrote
+ProposesUnfit (Build made options files) wrote = NamesUnfit wrote
 
 -- why the plan's command stopped was written
 abbrev pub StopsRun : Plan → Option (List ℕ) → (List ℕ → Type 0) → Type 0 → Type 0
-StopsRun plan known wrote failed = NamesStop wrote failed ⊎ SpendsBudget plan known wrote
+StopsRun plan known wrote failed = NamesStop wrote failed ⊎ (SpendsBudget plan known wrote ⊎ ProposesUnfit plan wrote)
 
 -- the statuses that a run answers with
 abbrev pub IsRunStatus : ℕ → Type 0
@@ -235,6 +303,7 @@ IsTold (Refused line cause) status wrote =
 IsTold Memory status wrote = (status ≡ STOPPED) × wrote (line_of (stop_text Memory))
 IsTold Device status wrote = (status ≡ STOPPED) × (wrote (line_of (stop_text Memory)) ⊎ wrote (line_of (stop_text Device)))
 IsTold Budget status wrote = (status ≡ STOPPED) × (wrote (line_of (stop_text Memory)) ⊎ wrote (line_of (stop_text Budget)))
+IsTold Unfit status wrote = (status ≡ STOPPED) × (wrote (line_of (stop_text Memory)) ⊎ wrote (line_of (stop_text Unfit)))
 
 -- why nothing was answered: `failed` says that a read or a write failed, `stays` that the output is as it was
 abbrev pub StopsAnswer : Layout → Option (List ℕ) → Type 0 → Type 0 → MapStop → Type 0

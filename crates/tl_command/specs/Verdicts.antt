@@ -10,6 +10,10 @@ use Rattle.tl_command.specs.declared.stop.TheConstants.{DONE, MAP_FAULT, CERT_FA
 abbrev pub sound_text : Report → List ℕ
 sound_text report = codes "sound " ++ report_text report
 
+-- a certificate that was made of a sound map, with the map's numbers
+abbrev pub built_text : Report → List ℕ
+built_text report = codes "built " ++ report_text report
+
 -- the text of a verdict
 abbrev pub verdict_text : Verdict → List ℕ
 verdict_text (Sound report) = sound_text report

@@ -8,27 +8,12 @@ ghost use Rattle.tl_command.specs.Verdicts.{verdict_text, verdict_status};
 ghost use Rattle.tl_command.specs.Running.{IsChecked, NamesFault, NamesCertFault, NamesRefusal, NamesStop, NamesBudget};
 ghost use Rattle.tl_command.specs.Running.{IsRunStatus, FailsToRead};
 
+use crate::reports::SoundMap;
 use crate::stop::{CERT_FAULT, DONE, MAP_FAULT, Stop, stopped};
 use crate::tell::tell_line;
 use std::alloc::Global;
-use std::fmt;
-use tl_check::{Report, Verdict, check_with};
+use tl_check::{Verdict, check_with};
 use tl_record::{Options, Sink, Source};
-
-// A sound map, with its numbers.
-#[derive(Clone, Copy)]
-struct SoundMap(Report);
-
-impl fmt::Display for SoundMap {
-    ghost use Rattle.std.specs.Prelude.{Some};
-    ghost use Rattle.tl_command.specs.Verdicts.{sound_text};
-
-    ghost output = { λ map. Some (sound_text map.0) };
-
-    fn fmt<W: fmt::Write>(&self, f: &mut fmt::Formatter<W>) -> fmt::Result {
-        write!(f, "sound {}", self.0)
-    }
-}
 
 /// Decides by a certificate whether the map of the records is sound, and gives the program's exit status. Where a line is
 /// refused or the records have no map, nothing of the certificate is read.

@@ -4,11 +4,14 @@
 //! of records, and [`stop`] says why where it can't. The program's `main` only collects the words.
 #![tactic(auto)]
 
+pub mod auditing;
+pub mod building;
 pub mod convert;
 pub mod deciding;
 pub mod locating;
 mod made;
 pub mod open;
+mod reports;
 pub mod run;
 pub mod stop;
 mod tell;

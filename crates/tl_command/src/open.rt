@@ -119,6 +119,11 @@ pub fn open_and_run<R: Files, W: Sink, E: Sink>(
             open_and_convert(rt, alloc, plan, readers, (cert, made), out, err)
         }
         Plan::Check { cert, .. } => open_and_check(rt, alloc, plan, readers, cert, out, err),
+        Plan::Build { made, .. } => {
+            let mut cert = Meter::new(io::empty());
+            let mut made = MadeFile::new(rt, made.as_str());
+            run_on_readers(alloc, plan, readers, &mut cert, &mut made, out, err)
+        }
         _ => {
             let mut cert = Meter::new(io::empty());
             let mut made = MeterOut::new(io::sink());
@@ -240,6 +245,7 @@ pub fn run_on_readers<F: Read + Drop, S: Source, C: Sink, W: Sink, E: Sink>(
     ensures cert { ReadsNoCertificate plan.now → cert.new ≡ cert.old }
     ensures made { MakesNoCertificate plan.now → made.new ≡ made.old }
     ensures unread { result ≡ REFUSED → cert.new ≡ cert.old }
+    ensures unmade { (result ≡ MAP_FAULT) ⊎ (result ≡ REFUSED) → made.new ≡ made.old }
 {
     let Ok(mut records) = joined_source(alloc, readers) else {
         return stopped(&Stop::Memory, err);

@@ -11,6 +11,8 @@ ghost use Rattle.tl_command.specs.Running.{NamesStop, StopsRun, FaultsMap, Fault
 ghost use Rattle.tl_command.specs.Running.{ReadsNoCertificate, MakesNoCertificate, ReadsNoRecords};
 ghost use Rattle.tl_command.specs.Running.{IsRunStatus, FailsToRead, StopsAnswer, KeepsReads, layout_of};
 
+use crate::auditing::audit;
+use crate::building::build;
 use crate::convert::convert;
 use crate::deciding::decide;
 use crate::locating::tell_place;
@@ -56,7 +58,8 @@ pub fn run<R: Source, S: Source, C: Sink, W: Sink, E: Sink>(
     ensures refused { result ≡ REFUSED
         → NamesRefusal (layout_of plan.now) (R.remaining records.old) (TriesToWrite E.contents E.failure_count err.old err.new) }
     // The line of a stop was, or the write of it failed; of a device only where a read or a write failed, and of a spent
-    // budget only where more pairs of segments have rectangles that meet.
+    // budget only where more pairs of segments have rectangles that meet. Of an unfit certificate it is for commands alone
+    // that propose one.
     ensures stopped { result ≡ STOPPED
         → StopsRun plan.now (R.remaining records.old) (TriesToWrite E.contents E.failure_count err.old err.new)
         ((FailsToRead R.failure_count records.old records.new ⊎ FailsToRead S.failure_count cert.old cert.new)
@@ -74,6 +77,8 @@ pub fn run<R: Source, S: Source, C: Sink, W: Sink, E: Sink>(
     ensures made { MakesNoCertificate plan.now → made.new ≡ made.old }
     ensures records { ReadsNoRecords plan.now → records.new ≡ records.old }
     ensures unread { result ≡ REFUSED → cert.new ≡ cert.old }
+    // No certificate is made where the records are refused, or they or their map have a fault.
+    ensures unmade { (result ≡ MAP_FAULT) ⊎ (result ≡ REFUSED) → made.new ≡ made.old }
 {
     match plan {
         Plan::Convert { .. } => convert(alloc, cert, made, out, err),
@@ -82,6 +87,8 @@ pub fn run<R: Source, S: Source, C: Sink, W: Sink, E: Sink>(
             options,
             ..
         } => decide(alloc, records, cert, *budget, *options, out, err),
+        Plan::Audit { options, .. } => audit(alloc, records, *options, out, err),
+        Plan::Build { options, .. } => build(alloc, records, made, *options, out, err),
         _ => run_on_records(alloc, plan, records, out, err),
     }
 }
@@ -136,7 +143,9 @@ fn answer<R: Source, W: Sink>(
         Plan::Landmarks { options, .. } => landmarks(alloc, *options, records, out),
         Plan::Locate { point, options, .. } => tell_place(alloc, *point, *options, records, out),
         // They ask nothing of records alone.
-        Plan::Convert { .. } | Plan::Check { .. } => Ok(()),
+        Plan::Convert { .. } | Plan::Check { .. } | Plan::Audit { .. } | Plan::Build { .. } => Ok(
+            (),
+        ),
     }
 }
 

@@ -23,7 +23,7 @@ use Rattle.tl_plan.specs.Commands.{command_line, convert_name, check_name, locat
 use Rattle.tl_plan.specs.CommandLine.{IsStopOf, StopsPlanning, Request, request_in, named_in}
 use Rattle.tl_plan.specs.CommandLine.{IsConversionOf, IsPlanOf, IsWhole, HasFiles, IsBudget, AreAUse, HasMistake, AskFor}
 use Rattle.tl_plan.specs.declared.plan.Plan.{Plan}
-use Rattle.tl_plan.specs.declared.plan.Plan.TheVariants.{Show, Landmarks, Locate, Convert, Check}
+use Rattle.tl_plan.specs.declared.plan.Plan.TheVariants.{Show, Landmarks, Locate, Convert, Check, Audit, Build}
 
 pub is_simple-command_line : is_simple command_line ≡ true
 unfolding clap_on_literals
@@ -103,6 +103,8 @@ conversion_plan found rows (Some (Show options files)) named has is = absurd is
 conversion_plan found rows (Some (Landmarks options files)) named has is = absurd is
 conversion_plan found rows (Some (Locate point options files)) named has is = absurd is
 conversion_plan found rows (Some (Check from budget options files)) named has is = absurd is
+conversion_plan found rows (Some (Audit options files)) named has is = absurd is
+conversion_plan found rows (Some (Build made options files)) named has is = absurd is
 conversion_plan found rows None named has is = λ whole.
     let same = ap named_in (both_found found convert_name rows named has) in
     let whole : IsWhole (Some (request_in (convert_name, rows))) = subst IsWhole same whole in

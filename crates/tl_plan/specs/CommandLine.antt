@@ -13,10 +13,11 @@ use Rattle.clap.specs.declared.error.kind.ErrorKind.TheVariants.{DisplayHelp, Di
 use Rattle.tl_geom.specs.declared.point.Point.{Point}
 use Rattle.tl_plan.specs.declared.plan.Plan.{Plan}
 use Rattle.tl_record.specs.declared.options.Options.{Options}
-use Rattle.tl_plan.specs.declared.plan.Plan.TheVariants.{Show, Landmarks, Locate, Convert, Check}
+use Rattle.tl_plan.specs.declared.plan.Plan.TheVariants.{Show, Landmarks, Locate, Convert, Check, Audit, Build}
 use Rattle.tl_plan.specs.declared.plan.PlanStop.{PlanStop}
 use Rattle.tl_plan.specs.declared.plan.PlanStop.TheVariants.{Usage, Help, Memory}
 use Rattle.tl_plan.specs.Commands.{command_line, show_name, landmarks_name, locate_name, convert_name, check_name}
+use Rattle.tl_plan.specs.Commands.{audit_name, build_name}
 use Rattle.tl_plan.specs.Points.{Spells}
 
 -- a command; what was given for its FILES, if anything was, and the values of its --released and its --zero-cells, each of
@@ -58,6 +59,8 @@ command_of (Landmarks options files) = landmarks_name
 command_of (Locate point options files) = locate_name
 command_of (Convert cert made) = convert_name
 command_of (Check cert budget options files) = check_name
+command_of (Audit options files) = audit_name
+command_of (Build made options files) = build_name
 
 -- the names of the plan's files, in their order
 abbrev pub files_of : Plan → List Text
@@ -66,6 +69,8 @@ files_of (Landmarks options files) = map string_bytes files.items
 files_of (Locate point options files) = map string_bytes files.items
 files_of (Convert cert made) = []
 files_of (Check cert budget options files) = map string_bytes files.items
+files_of (Audit options files) = map string_bytes files.items
+files_of (Build made options files) = map string_bytes files.items
 
 -- the values of the two switches say what is chosen of the columns
 pub record AreChosen (released zero_cells : Option Text) (options : Options) : Type 0 where
@@ -123,6 +128,26 @@ pub record AsksToCheck (request : Option Request) (cert : Text) (budget : ℕ) (
   pub are : given.files ≡ Some files
   pub some_file : 0 < length files
 
+-- the request names an audit of these files, word for word and in their order, with these switches
+pub record AsksToAudit (request : Option Request) (options : Options) (files : List Text) : Type 0 where
+  pub given : Request
+  pub same : request ≡ Some given
+  pub named : given.command ≡ audit_name
+  pub chosen : AreChosen given.released given.zero_cells options
+  pub are : given.files ≡ Some files
+  pub some_file : 0 < length files
+
+-- the request asks to build this certificate, word for word, of these files, word for word and in their order, with these
+-- switches
+pub record AsksToBuild (request : Option Request) (made : Text) (options : Options) (files : List Text) : Type 0 where
+  pub given : Request
+  pub same : request ≡ Some given
+  pub named : given.command ≡ build_name
+  pub to : given.out ≡ Some made
+  pub chosen : AreChosen given.released given.zero_cells options
+  pub are : given.files ≡ Some files
+  pub some_file : 0 < length files
+
 -- the request is one for the plan
 abbrev pub IsFor : Option Request → Plan → Type 0
 IsFor request (Show options files) = AsksOfFiles request show_name options (map string_bytes files.items)
@@ -131,6 +156,8 @@ IsFor request (Locate point options files) = AsksToLocate request point options 
 IsFor request (Convert cert made) = AsksToConvert request (string_bytes cert) (string_bytes made)
 IsFor request (Check cert budget options files) =
     AsksToCheck request (string_bytes cert) budget options (map string_bytes files.items)
+IsFor request (Audit options files) = AsksToAudit request options (map string_bytes files.items)
+IsFor request (Build made options files) = AsksToBuild request (string_bytes made) options (map string_bytes files.items)
 
 -- the request names a command of the program with files, and some file
 pub record HasFiles (request : Option Request) : Type 0 where
@@ -185,6 +212,8 @@ IsConversionOf cert out (Some (Show options files)) = ⊥
 IsConversionOf cert out (Some (Landmarks options files)) = ⊥
 IsConversionOf cert out (Some (Locate point options files)) = ⊥
 IsConversionOf cert out (Some (Check from budget options files)) = ⊥
+IsConversionOf cert out (Some (Audit options files)) = ⊥
+IsConversionOf cert out (Some (Build made options files)) = ⊥
 IsConversionOf cert out None = (from to : Text) → cert ≡ Some from → out ≡ Some to → ⊥
 
 -- the words ask for the plan

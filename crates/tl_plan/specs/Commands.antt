@@ -64,6 +64,14 @@ check_options = with_rule (with_rule (with_rule (new_app check_name) cert_argume
 abbrev pub check_app : App
 check_app = with_rule (with_rule check_options released_argument) files_argument
 
+-- audit [--zero-cells] [--released] FILES..
+abbrev pub audit_name : Text
+audit_name = codes "audit"
+
+-- build --out CERT [--zero-cells] [--released] FILES..
+abbrev pub build_name : Text
+build_name = codes "build"
+
 -- locate [--released] @X,Y FILES..
 abbrev pub locate_name : Text
 locate_name = codes "locate"

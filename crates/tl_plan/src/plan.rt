@@ -40,6 +40,17 @@ pub enum Plan {
         options: Options,
         files: Vec<String>,
     },
+    /// To decide with no certificate given whether the map is sound.
+    Audit {
+        options: Options,
+        files: Vec<String>,
+    },
+    /// To make a certificate of this name, in version 2, where the map is sound.
+    Build {
+        made: String,
+        options: Options,
+        files: Vec<String>,
+    },
 }
 
 impl Plan {
@@ -56,6 +67,8 @@ impl Plan {
             Plan::Locate { files, .. } => files.as_slice(),
             Plan::Convert { .. } => &[],
             Plan::Check { files, .. } => files.as_slice(),
+            Plan::Audit { files, .. } => files.as_slice(),
+            Plan::Build { files, .. } => files.as_slice(),
         }
     }
 }

@@ -1,0 +1,88 @@
+-- What the claims of an audit make of a run.
+use Rattle.std.proofs.Common.{◌≡◌, ℕ, List, Option, Some, None, Ok, subst}
+use Rattle.std.specs.Bool.{⊤}
+use Rattle.std.specs.Option.{IfSome}
+use Rattle.tl_record.specs.declared.layout.Layout.{Layout}
+use Rattle.tl_record.specs.Records.{Records, records_of}
+use Rattle.tl_planar.specs.Planar.{IsPlanar}
+use Rattle.tl_sides.specs.Sides.{SidesAgree}
+use Rattle.tl_inside.specs.Placed.{ArePlaced}
+use Rattle.tl_cells.specs.Cells.{CellsAgree}
+use Rattle.tl_check.specs.declared.fault.MapFault.{MapFault}
+use Rattle.tl_check.specs.declared.fault.MapFault.TheVariants as map_fault
+use Rattle.tl_check.specs.declared.verdict.Report.{Report}
+use Rattle.tl_check.specs.declared.verdict.Verdict.TheVariants as verdict
+use Rattle.tl_check.specs.Messages.{map_fault_text}
+use Rattle.tl_check.specs.Sound.{AreClosed}
+use Rattle.tl_check.specs.Records.{HaveMap, IsTrueOfRecords, LeavesUnread}
+use Rattle.tl_check.specs.Verdicts.{IsReport}
+use Rattle.tl_build.specs.Auditing.{Auditing, IfSound, OnSound, IfFaulty}
+use Rattle.tl_build.specs.declared.answer.Audit.TheVariants.{Sound, Fault}
+use Rattle.tl_output.specs.Writing.{line_of}
+use Rattle.tl_command.specs.Verdicts.{sound_text}
+use Rattle.tl_command.specs.Running.{IsSoundWith, IsAudited, NamesFault}
+use Rattle.tl_command.proofs.CheckLemmas.{both, weaker}
+
+-- the claims of a sound map
+sound_with : (all : Records) (report : Report) → HaveMap all (λ m. IsPlanar m.chains) → HaveMap all (λ m. SidesAgree m.chains)
+    → HaveMap all AreClosed → HaveMap all ArePlaced → HaveMap all (λ m. CellsAgree m.chains) → HaveMap all (λ m. IsReport m report)
+    → HaveMap all (IsSoundWith report)
+sound_with all report planar sides closed points cells reported =
+    weaker all _ _
+    (λ m so. record { sound = record { planar = so.0.0; sides = so.0.1; closed = so.1.0.0; points = so.1.0.1; cells = so.1.1.0 }; reported = so.1.1.1 })
+    (both all _ _ (both all _ _ planar sides) (both all _ _ (both all _ _ closed points) (both all _ _ cells reported)))
+
+-- what is known of the records is known of their map
+audited : (layout : Layout) (known : Option (List ℕ)) (report : Report)
+    → IfSome known (λ text. HaveMap (records_of layout text) (λ m. IsPlanar m.chains))
+    → IfSome known (λ text. HaveMap (records_of layout text) (λ m. SidesAgree m.chains))
+    → IfSome known (λ text. HaveMap (records_of layout text) AreClosed)
+    → IfSome known (λ text. HaveMap (records_of layout text) ArePlaced)
+    → IfSome known (λ text. HaveMap (records_of layout text) (λ m. CellsAgree m.chains))
+    → IfSome known (λ text. HaveMap (records_of layout text) (λ m. IsReport m report))
+    → IfSome known (λ text. HaveMap (records_of layout text) (IsSoundWith report))
+audited layout None report planar sides closed points cells reported = tt
+audited layout (Some text) report planar sides closed points cells reported =
+    sound_with (records_of layout text) report planar sides closed points cells reported
+
+-- an audit that answers a report
+pub is_audited : (layout : Layout) (known : Option (List ℕ)) (wrote : List ℕ → Type 0) (answer : Auditing) (report : Report) → answer ≡ Ok (Sound report)
+    → OnSound answer (IfSome known (λ text. HaveMap (records_of layout text) (λ m. IsPlanar m.chains)))
+    → OnSound answer (IfSome known (λ text. HaveMap (records_of layout text) (λ m. SidesAgree m.chains)))
+    → OnSound answer (IfSome known (λ text. HaveMap (records_of layout text) AreClosed))
+    → OnSound answer (IfSome known (λ text. HaveMap (records_of layout text) ArePlaced))
+    → OnSound answer (IfSome known (λ text. HaveMap (records_of layout text) (λ m. CellsAgree m.chains)))
+    → IfSound answer (λ report. IfSome known (λ text. HaveMap (records_of layout text) (λ m. IsReport m report)))
+    → wrote (line_of (sound_text report)) → IsAudited layout known wrote
+is_audited layout known wrote answer report is planar sides closed points cells reported written = record {
+  report = report;
+  written = written;
+  decided = audited layout known report
+      (subst (λ a. OnSound a (IfSome known (λ text. HaveMap (records_of layout text) (λ m. IsPlanar m.chains)))) is planar)
+      (subst (λ a. OnSound a (IfSome known (λ text. HaveMap (records_of layout text) (λ m. SidesAgree m.chains)))) is sides)
+      (subst (λ a. OnSound a (IfSome known (λ text. HaveMap (records_of layout text) AreClosed))) is closed)
+      (subst (λ a. OnSound a (IfSome known (λ text. HaveMap (records_of layout text) ArePlaced))) is points)
+      (subst (λ a. OnSound a (IfSome known (λ text. HaveMap (records_of layout text) (λ m. CellsAgree m.chains)))) is cells)
+      (subst (λ a. IfSound a (λ report. IfSome known (λ text. HaveMap (records_of layout text) (λ m. IsReport m report)))) is reported);
+}
+
+-- a command that reads no certificate leaves it unread
+unread : (fault : MapFault) → LeavesUnread (Ok (verdict.MapFault fault)) ⊤
+unread (map_fault.Records fault) = tt
+unread (map_fault.Meet meet) = tt
+unread (map_fault.Side node first next) = tt
+unread (map_fault.PolygonPoint misplaced) = tt
+unread (map_fault.Cell odds) = tt
+
+-- the line of a fault that is true of the records
+pub names_fault_alone : (layout : Layout) (known : Option (List ℕ)) (wrote : List ℕ → Type 0) (fault : MapFault)
+    → wrote (line_of (map_fault_text fault)) → IfSome known (λ text. IsTrueOfRecords (records_of layout text) fault) → NamesFault layout known ⊤ wrote
+names_fault_alone layout known wrote fault written holds = record { fault = fault; written = written; holds = holds; alone = unread fault }
+
+-- an audit that answers a fault
+pub names_audited : (layout : Layout) (known : Option (List ℕ)) (wrote : List ℕ → Type 0) (answer : Auditing) (fault : MapFault) → answer ≡ Ok (Fault fault)
+    → IfFaulty answer (λ fault. IfSome known (λ text. IsTrueOfRecords (records_of layout text) fault))
+    → wrote (line_of (map_fault_text fault)) → NamesFault layout known ⊤ wrote
+names_audited layout known wrote answer fault is true_of written =
+    names_fault_alone layout known wrote fault written
+    (subst (λ a. IfFaulty a (λ fault. IfSome known (λ text. IsTrueOfRecords (records_of layout text) fault))) is true_of)
