@@ -1,5 +1,4 @@
-//! Plain programs over all chains and all segments, whose contracts are the definitions of `tl_inside`, and what
-//! `tl_inside` says of points and small maps beside them.
+//! What `tl_inside` says of points and small maps, beside the programs of `plain_map` over all chains and all segments.
 #![tactic(auto)]
 
 #[cfg(test)]

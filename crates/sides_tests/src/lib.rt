@@ -1,5 +1,4 @@
-//! Plain programs over all darts, whose contracts are the definitions of `tl_sides`, and what `tl_sides` and `tl_check`
-//! say of small maps beside them.
+//! What `tl_sides` and `tl_check` say of small maps, beside the programs of `plain_map` over all darts.
 #![tactic(auto)]
 
 #[cfg(test)]
