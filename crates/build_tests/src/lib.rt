@@ -8,6 +8,8 @@ mod amiss;
 #[cfg(test)]
 mod decided;
 #[cfg(test)]
+mod failing;
+#[cfg(test)]
 mod faulty;
 #[cfg(test)]
 mod grids;
