@@ -147,13 +147,16 @@ def decided_rows(chains, kind, runs):
             found[name].append(seconds_of(words) * 1e3)
     shown = statistics.median(found["show"])
     for name, each in found.items():
-        taken = statistics.median(each)
-        yield (f"{chains:,} {NAMES[kind]}", name, f"{taken:.1f}", f"{taken / shown:.1f}", f"{taken * 1e3 / chains:.2f}",
-               f"{peaks[name]:.1f}", f"{peaks[name] * 2 ** 20 / chains:.0f}")
+        taken, peak = statistics.median(each), peaks[name]
+        # A program that ends at once isn't seen at work.
+        memory = (f"{peak:.1f}", f"{peak * 2 ** 20 / chains:.0f}") if peak >= 0.1 else ("-", "-")
+        yield (f"{chains:,} {NAMES[kind]}", name, f"{taken:.1f}", f"{taken / shown:.1f}", f"{taken * 1e3 / chains:.2f}", *memory)
 
 
 def part_rows(chains, kind, runs):
-    """The parts of that work, in memory."""
+    """The parts of that work, in memory, where the programs that tell of them are built."""
+    if not (BUILD.exists() and CHECK.exists()):
+        return
     files, records = files_of(chains, kind), records_of(chains, kind)
     show, built = [PROGRAM, "show", *files], files[0].parent / "built"
     found = []

@@ -40,8 +40,8 @@ def is_there(command):
 def play_all(program=PROGRAM):
     """How many ways give the table that the page prints, and how many don't."""
     # The page's 203 counties become six, of which the same two aren't sound.
-    text = PAGE.read_text().replace("seq 101 303", "seq 101 106").replace("1-203", "1-6").replace("    201 0\n", "      4 0\n")
-    commands, (wanted,) = blocks_of(text)
+    text = PAGE.read_text().replace("seq 101 303", "seq 101 106").replace("    201 0\n", "      4 0\n")
+    commands, (wanted, _) = blocks_of(text)
     make, spoil, script, *ways, table = commands
     passed = failed = 0
     for way in filter(is_there, ways):
