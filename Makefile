@@ -6,6 +6,7 @@
 # make memory              refuses each allocation of the program, and of bench_tree, in its turn
 # make devices             fails each read and each write of the program in its turn
 # make examples            runs the commands of examples/README.md and compares what they print
+# make counties            runs the commands of docs/many-counties.md on a few counties
 # make bench               measures the program on record files of 1,000 to 1,000,000 chains, checks of counties, maps
 #                          decided and certificates built with none given, searches in trees, and certificates written
 #                          and read
@@ -14,7 +15,7 @@
 PREFIX = /usr/local
 PROGRAM = crates/tigertopo/out/tigertopo
 
-.PHONY: build check rows certificates full-size memory devices examples bench install
+.PHONY: build check rows certificates full-size memory devices examples counties bench install
 
 build:
 	cd crates/tigertopo && rt run -- --help >/dev/null
@@ -41,6 +42,9 @@ memory: build
 
 devices: build
 	python3 tests/devices.py
+
+counties: build
+	python3 tests/counties.py
 
 bench: build
 	cd crates/count_records && rt run >/dev/null
