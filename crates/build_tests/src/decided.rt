@@ -4,7 +4,7 @@ use std::alloc::Global;
 use std::test::Fail;
 use tl_build::{Audit, AuditStop, Built, audit, audit_with, build};
 use tl_cert::{Certificate, write_cert};
-use tl_check::{MapFault, Report, Stop, Verdict, check_with};
+use tl_check::{MapFault, Report, Stop, Verdict, check_map, check_with};
 use tl_map::{Map, read_map_with};
 use tl_record::{Meter, MeterOut, Options};
 
@@ -73,17 +73,19 @@ fn checked(
     ))
 }
 
-/// Whether a map is sound by an audit, and by the text of the certificate that is built of it, with this report and at most
-/// so many tests of pairs of segments, but not with one less.
+/// Whether a map is sound by an audit, and by the certificate that is built of it, in memory and by its text, with this
+/// report and at most so many tests of pairs of segments; with one less a check stops.
 pub fn is_sound(
     alloc: Global,
     drawing: &Drawing,
     report: Report,
     tests: u64,
 ) -> Result<bool, Fail> {
-    let cert = certificate_of(alloc, &map_of(alloc, drawing)?)?;
+    let map = map_of(alloc, drawing)?;
+    let cert = certificate_of(alloc, &map)?;
     let sound = audited(alloc, drawing.text.as_bytes()) == Ok(Audit::Sound(report))
         && audited_with_cells(alloc, drawing) == Ok(Audit::Sound(report))
+        && check_map(alloc, &map, &cert, tests) == Ok(Verdict::Sound(report))
         && checked(alloc, drawing, &cert, tests)? == Ok(Verdict::Sound(report))
         && cert.version() == 2
         && cert.walks().len() == report.rings as usize;
