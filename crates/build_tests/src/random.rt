@@ -10,7 +10,7 @@ use std::test::Fail;
 use tl_build::Audit;
 
 /// How many towns there are of each kind.
-const TOWNS: u32 = 60;
+const TOWNS: u32 = 250;
 
 /// Whether a map is sound by the definitions.
 fn is_plainly_sound(alloc: Global, drawing: &Drawing) -> Result<bool, Fail> {
