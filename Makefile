@@ -6,14 +6,16 @@
 # make memory              refuses each allocation of the program, and of bench_tree, in its turn
 # make devices             fails each read and each write of the program in its turn
 # make examples            runs the commands of examples/README.md and compares what they print
-# make bench               measures the program on record files of 1,000 to 1,000,000 chains, checks of counties, searches
-#                          in trees, and certificates written and read
+# make counties            runs the commands of docs/many-counties.md on a few counties
+# make bench               measures the program on record files of 1,000 to 1,000,000 chains, checks of counties, maps
+#                          decided and certificates built with none given, searches in trees, and certificates written
+#                          and read
 # make install PREFIX=..   installs the program as PREFIX/bin/tigertopo
 
 PREFIX = /usr/local
 PROGRAM = crates/tigertopo/out/tigertopo
 
-.PHONY: build check rows certificates full-size memory devices examples bench install
+.PHONY: build check rows certificates full-size memory devices examples counties bench install
 
 build:
 	cd crates/tigertopo && rt run -- --help >/dev/null
@@ -41,11 +43,15 @@ memory: build
 devices: build
 	python3 tests/devices.py
 
+counties: build
+	python3 tests/counties.py
+
 bench: build
 	cd crates/count_records && rt run >/dev/null
 	cd crates/bench_tree && rt run >/dev/null
-	cd crates/bench_cert && rt run >/dev/null
-	cd crates/bench_check && rt run >/dev/null
+	cd crates/bench_cert && rt run -- read data/map_b >/dev/null
+	cd crates/bench_check && rt run -- data/county.CERT data/county >/dev/null
+	cd crates/bench_build && rt run -- data/county >/dev/null
 	python3 bench/run.py
 
 install: build

@@ -1,14 +1,17 @@
 #!/usr/bin/env python3
 """Measures `tigertopo show`, `landmarks` and `locate`, and a program that only counts records, beside `wc -l` of the same files;
-`check` beside `show`, with the parts of a check as `bench_check` tells them, in a second table; `bench_tree`, which makes the
-segments of a county and searches them, in a third; and `bench_cert`, which writes and reads certificates, beside `wc -l` of
-the same file, in a fourth.
+`check` by a plain maker's certificate beside `show`, with the parts of a check as `bench_check` tells them, in a second table;
+`audit`, `build`, `check` of what was built and `locate` beside `show` in a third, with the parts of that work as `bench_build`
+and `bench_check` tell them in a fourth; `bench_tree`, which makes the segments of a county and searches them, in a fifth; and
+`bench_cert`, which writes and reads certificates, beside `wc -l` of the same file, in a sixth.
 
-usage: run.py [--sizes N,N,..] [--counties N,N,..] [--keys N] [--segments N,N,..] [--certificates N,N,..] [--runs N]
+usage: run.py [--sizes N,N,..] [--counties N,N,..] [--keys N] [--decided N,N,..] [--segments N,N,..] [--certificates N,N,..]
+              [--runs N]
 
 The files of --sizes hold types 1 and 2; those of --counties are whole counties of all six types, by rising TLID and, in a
 second row of files, in random order. Those of --keys have as many polygons as chains, with ordinary keys and, in a second
-row, with keys that were chosen against a hash function.
+row, with keys that were chosen against a hash function. Those of --decided are such counties in both orders, and grids of
+squares. A list may be empty, which leaves its table out.
 
 Each program runs once for its peak of memory and then RUNS times for its seconds, in turn with the others, with its
 output thrown away. The tables have medians. Files are made in bench/out, once. `make bench` builds the programs first.
@@ -28,15 +31,17 @@ COUNT = CRATES / "count_records" / "out" / "count_records"
 TREE = CRATES / "bench_tree" / "out" / "bench_tree"
 CERT = CRATES / "bench_cert" / "out" / "bench_cert"
 CHECK = CRATES / "bench_check" / "out" / "bench_check"
+BUILD = CRATES / "bench_build" / "out" / "bench_build"
 NAMES = {
     "streets": "streets alone",
     "county": "a county",
     "shuffled": "a county, random order",
+    "grid": "a grid of squares",
     "keys": "ordinary keys",
     "hostile": "hostile keys",
 }
 MAKERS = {"streets": ["make_records.py"], "county": ["county.py"], "shuffled": ["county.py", "--shuffled"],
-          "keys": ["keys.py"], "hostile": ["keys.py", "--hostile"]}
+          "grid": ["grid.py"], "keys": ["keys.py"], "hostile": ["keys.py", "--hostile"]}
 
 
 def files_of(chains, kind):
@@ -48,12 +53,19 @@ def files_of(chains, kind):
     return sorted(folder.glob("*.RT*"))
 
 
+def records_of(chains, kind):
+    """The records of such files in one."""
+    records = BENCH / "out" / f"{chains}-{kind}" / "records"
+    if not records.exists():
+        records.write_bytes(b"".join(file.read_bytes() for file in files_of(chains, kind)))
+    return records
+
+
 def certificate_of(chains):
     """A certificate of a whole county, and its records in one file."""
-    files = files_of(chains, "county")
-    certificate, records = (BENCH / "out" / f"{chains}-county" / name for name in ("certificate", "records"))
+    files, records = files_of(chains, "county"), records_of(chains, "county")
+    certificate = BENCH / "out" / f"{chains}-county" / "certificate"
     if not certificate.exists():
-        records.write_bytes(b"".join(file.read_bytes() for file in files))
         subprocess.run([sys.executable, BENCH / "certificate.py", certificate, *files], check=True)
     return certificate, records
 
@@ -117,6 +129,48 @@ def check_rows(chains, runs):
            f"{parts[3] / shown:.2f}", f"{parts[4] / shown:.2f}", f"{peak:.1f}", f"{peak * 2 ** 20 / chains:.0f}")
 
 
+def decided_rows(chains, kind, runs):
+    """What each command takes of one map, `check` by the certificate that `build` made."""
+    files = files_of(chains, kind)
+    built = files[0].parent / "built"
+    programs = {
+        "show": [PROGRAM, "show", *files],
+        "audit": [PROGRAM, "audit", *files],
+        "build": [PROGRAM, "build", "--out", built, *files],
+        "check": [PROGRAM, "check", "--cert", built, *files],
+        "locate": [PROGRAM, "locate", "@-76699000,39201000", *files],
+    }
+    peaks = {name: peak_of(words) for name, words in programs.items()}
+    found = {name: [] for name in programs}
+    for _ in range(runs):
+        for name, words in programs.items():
+            found[name].append(seconds_of(words) * 1e3)
+    shown = statistics.median(found["show"])
+    for name, each in found.items():
+        taken, peak = statistics.median(each), peaks[name]
+        # A program that ends at once isn't seen at work.
+        memory = (f"{peak:.1f}", f"{peak * 2 ** 20 / chains:.0f}") if peak >= 0.1 else ("-", "-")
+        yield (f"{chains:,} {NAMES[kind]}", name, f"{taken:.1f}", f"{taken / shown:.1f}", f"{taken * 1e3 / chains:.2f}", *memory)
+
+
+def part_rows(chains, kind, runs):
+    """The parts of that work, in memory, where the programs that tell of them are built."""
+    if not (BUILD.exists() and CHECK.exists()):
+        return
+    files, records = files_of(chains, kind), records_of(chains, kind)
+    show, built = [PROGRAM, "show", *files], files[0].parent / "built"
+    found = []
+    for _ in range(runs):
+        shown = seconds_of(show) * 1e3
+        read, made, checked, sides, written = steps_of([BUILD, records, built])
+        _, reread, tree, search, points, _ = steps_of([CHECK, built, records])
+        found.append((shown, read, made - checked, tree, search, sides, points, checked, written, reread))
+    shown, *parts = (statistics.median(column) for column in zip(*found))
+    search, sides, points = parts[3:6]
+    yield (f"{chains:,} {NAMES[kind]}", f"{shown:.1f}", *(f"{part:.1f}" for part in parts), f"{search / shown:.2f}",
+           f"{sides / shown:.2f}", f"{points / shown:.2f}")
+
+
 def searched(segments):
     """What one run of `bench_tree` prints: the microseconds of each step, in order, and the pairs that were tested."""
     done = subprocess.run([TREE, str(segments)], capture_output=True, text=True, check=True)
@@ -164,11 +218,16 @@ def certificate_rows(chains, runs):
 
 
 def print_table(head, found):
-    """Prints a table, each row as it is found."""
-    print("| " + " | ".join(head) + " |")
-    print("|" + "---|" * len(head))
+    """Prints a table, if it has any rows, each as it is found."""
+    headed = False
     for row in found:
+        if not headed:
+            print("| " + " | ".join(head) + " |")
+            print("|" + "---|" * len(head))
+            headed = True
         print("| " + " | ".join(row) + " |", flush=True)
+    if headed:
+        print()
 
 
 def numbers(words):
@@ -180,27 +239,34 @@ def main():
     parser.add_argument("--sizes", default="1000,10000,100000")
     parser.add_argument("--counties", default="10000,100000,1000000")
     parser.add_argument("--keys", default="100000")
+    parser.add_argument("--decided", default="1000,10000,100000,1000000")
     parser.add_argument("--segments", default="27500,275000,2750000")
     parser.add_argument("--certificates", default="10000,100000,1000000")
     parser.add_argument("--runs", type=int, default=5)
     words = parser.parse_args()
     parts = [("streets", words.sizes), ("county", words.counties), ("shuffled", words.counties)]
     parts += [("keys", words.keys), ("hostile", words.keys)]
+    decided = [(chains, kind) for kind in ("county", "shuffled", "grid") for chains in numbers(words.decided)]
     print_table(
         ("Chains", "Lines", "MB", "Program", "ms", "times `wc -l`", "million lines a second", "peak MB"),
         (row for kind, sizes in parts for chains in numbers(sizes) for row in rows(chains, kind, words.runs)))
-    print()
     print_table(
         ("Chains", "`show`, ms", "`check`, ms", "times `show`", "records read, ms", "certificate read, ms", "tree checked, ms",
          "conflicts searched, ms", "points looked at, ms", "all checked in memory, ms", "search, times `show`",
          "points, times `show`", "peak MB", "bytes a chain"),
         (row for chains in numbers(words.counties) for row in check_rows(chains, words.runs)))
-    print()
+    print_table(
+        ("Chains", "Command", "ms", "times `show`", "us a chain", "peak MB", "bytes a chain"),
+        (row for chains, kind in decided for row in decided_rows(chains, kind, words.runs)))
+    print_table(
+        ("Chains", "`show`, ms", "records read, ms", "proposed, ms", "tree checked, ms", "conflicts searched, ms",
+         "rounds and walks taken, ms", "points looked at, ms", "all checked in memory, ms", "certificate written, ms",
+         "certificate read, ms", "search, times `show`", "rounds and walks, times `show`", "points, times `show`"),
+        (row for chains, kind in decided for row in part_rows(chains, kind, words.runs)))
     print_table(
         ("Segments", "Children", "Tree", "rectangles made and sorted, ms", "search, ms", "times", "tests a segment",
          "check, ns an item"),
         (row for segments in numbers(words.segments) for row in tree_rows(segments, words.runs)))
-    print()
     print_table(
         ("Chains", "Lines", "MB", "Certificate", "ms", "times `wc -l`", "ns a line", "peak MB"),
         (row for chains in numbers(words.certificates) for row in certificate_rows(chains, words.runs)))

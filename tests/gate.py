@@ -26,6 +26,7 @@ def prove():
 
 def main():
     import certificates
+    import counties
     import devices
     import full_size
     import memory
@@ -48,6 +49,7 @@ def main():
         ("refused allocations", memory.play_all),
         ("failed reads and writes", devices.play_all),
         ("examples", examples.play_all),
+        ("many counties", counties.play_all),
     ]
     counts = [timed(proofs)]
     # Where a proof failed, the program is not the one that was proved.

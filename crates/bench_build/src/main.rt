@@ -1,53 +1,24 @@
 //! How long building takes: `bench_build RECORDS [CERT]` reads the records, makes a certificate of their map, checks the map
-//! by it, and writes it. It prints the certificate's numbers and, on the error output, the microseconds that each step
-//! takes; that of building has a check in it.
+//! by it, takes its rounds and walks once more alone, and writes it. It prints the certificate's numbers and, on the error
+//! output, the microseconds that each step takes; that of building has a check in it.
 #![tactic(auto)]
 
-use std::error::Error;
+mod sides;
+mod stop;
+
+use crate::stop::Stop;
+use std::env;
 use std::fs::File;
 use std::io::{BufReader, BufWriter};
 use std::time::{Duration, Instant};
-use std::{env, fmt};
-use tl_build::{BuildStop, Built, build};
+use tl_build::{Built, build};
 use tl_cert::{Certificate, write_cert};
 use tl_check::{Verdict, check_map};
-use tl_map::{Map, MapStop, read_map};
+use tl_map::{Map, read_map};
 use tl_record::{Meter, MeterOut};
 
 // As many bytes at a time as tigertopo reads and writes.
 const BUFFER: usize = 131_072;
-
-/// What ends the program early.
-#[derive(Debug, Drop)]
-enum Stop {
-    /// Other words than those that it takes.
-    Usage,
-    /// Memory was refused.
-    Memory,
-    /// No map is read.
-    Records(MapStop),
-    /// Nothing is built.
-    Build(BuildStop),
-    /// The map isn't sound.
-    Unsound,
-    /// A write failed.
-    Device,
-}
-
-impl fmt::Display for Stop {
-    fn fmt<W: fmt::Write>(&self, f: &mut fmt::Formatter<W>) -> fmt::Result {
-        match self {
-            Stop::Usage => f.write_str("usage: bench_build RECORDS [CERT]"),
-            Stop::Memory => f.write_str("memory was refused"),
-            Stop::Records(stop) => write!(f, "no map: {stop:?}"),
-            Stop::Build(stop) => write!(f, "{stop}"),
-            Stop::Unsound => f.write_str("not told to be sound"),
-            Stop::Device => f.write_str("a write failed"),
-        }
-    }
-}
-
-impl Error for Stop {}
 
 /// Tells on the error output how long a step took.
 fn tell(rt: &HostRuntime, step: &str, taken: Duration) -> anyhow::Result<()> {
@@ -87,6 +58,13 @@ fn check(rt: &HostRuntime, map: &Map, certificate: &Certificate) -> anyhow::Resu
     }
 }
 
+/// Takes the certificate's rounds and walks.
+fn take_sides(rt: &HostRuntime, map: &Map, certificate: &Certificate) -> anyhow::Result<()> {
+    let begun = Instant::now(rt)?;
+    sides::take(rt.alloc(), map, certificate)?;
+    tell(rt, "rounds and walks taken", begun.elapsed(rt)?)
+}
+
 /// Writes the certificate.
 fn write(rt: &HostRuntime, certificate: &Certificate, name: &str) -> anyhow::Result<()> {
     let file = File::create(rt, name)?;
@@ -106,6 +84,7 @@ fn main(rt: HostRuntime) -> anyhow::Result<()> {
     let map = read_records(&rt, records.as_str())?;
     let certificate = certificate_of(&rt, &map)?;
     check(&rt, &map, &certificate)?;
+    take_sides(&rt, &map, &certificate)?;
     if let Some(made) = made {
         write(&rt, &certificate, made.as_str())?;
     }

@@ -2,14 +2,12 @@
 use crate::decided::{audited, fault_of};
 use crate::maps::{Drawing, Pair, dead_end, square};
 use std::alloc::Global;
-use std::io;
-use std::io::Read;
 use std::test::Fail;
-use tl_build::{Audit, AuditStop, audit};
+use tl_build::{Audit, AuditStop};
 use tl_check::MapFault;
 use tl_geom::Point;
 use tl_planar::Meet;
-use tl_record::{Cause, Field, Meter};
+use tl_record::{Cause, Field};
 
 /// The place where two chains meet that may not, where an audit and a build name one.
 fn meet_of(alloc: Global, chains: &[&[Pair]]) -> Result<Meet, Fail> {
@@ -79,25 +77,6 @@ fn sides_that_disagree(rt: HostRuntime) -> Result<(), Fail> {
     Ok(())
 }
 
-/// A reader whose first read gives some bytes, and whose second fails.
-#[derive(Drop)]
-struct Failing<'a> {
-    first: &'a [u8],
-    asked: bool,
-}
-
-impl Read for Failing<'_> {
-    fn read(&mut self, buf: &mut [u8]) -> io::Result<usize> {
-        if self.asked {
-            return Err(io::ErrorKind::Other.into());
-        }
-        self.asked = true;
-        let count = self.first.len().min(buf.len());
-        buf[..count].copy_from_slice(&self.first[..count]);
-        Ok(count)
-    }
-}
-
 #[test]
 fn records_without_a_map(rt: HostRuntime) -> Result<(), Fail> {
     let alloc = rt.alloc();
@@ -111,11 +90,6 @@ fn records_without_a_map(rt: HostRuntime) -> Result<(), Fail> {
         cause: Cause::Missing(Field::PolyLat),
     };
     assert!(rt; audited(alloc, bytes.get(..406).ok_or("a longer text")?) == Err(refused));
-    let failing = Failing {
-        first: bytes,
-        asked: false,
-    };
-    assert!(rt; audit(alloc, &mut Meter::new(failing)) == Err(AuditStop::Device));
     Ok(())
 }
 

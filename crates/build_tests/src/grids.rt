@@ -48,13 +48,30 @@ fn grid(alloc: Global, across: u8) -> Result<Drawing, AllocError> {
     Ok(drawing)
 }
 
+/// How many pairs of things there are among so many.
+fn pairs_of(many: u64) -> u64 {
+    many.wrapping_mul(many.wrapping_sub(1)) / 2
+}
+
+/// How many pairs of sides of a grid's squares meet. They do at their ends: two at each corner, three at each node of the
+/// border, four at each node within.
+fn pairs_that_meet(across: u64) -> u64 {
+    let within = across.wrapping_sub(1);
+    let border = pairs_of(3).wrapping_mul(within);
+    let inner = pairs_of(4).wrapping_mul(within.wrapping_mul(within));
+    pairs_of(2)
+        .wrapping_add(border)
+        .wrapping_mul(4)
+        .wrapping_add(inner)
+}
+
 /// Whether a grid is sound.
 fn is_grid_sound(alloc: Global, across: u8) -> Result<bool, Fail> {
     let k = u32::from(across);
     let edges = 2 * k * (k + 1);
     let sound = report(edges, edges, (k + 1) * (k + 1), k * k, k * k + 1);
-    let pairs = u64::from(edges).wrapping_mul(u64::from(edges).wrapping_sub(1)) / 2;
-    is_sound(alloc, &grid(alloc, across)?, sound, pairs)
+    let tests = pairs_that_meet(u64::from(across));
+    is_sound(alloc, &grid(alloc, across)?, sound, tests)
 }
 
 #[test]

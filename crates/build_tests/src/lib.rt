@@ -1,10 +1,14 @@
 //! Worked examples of the builder: maps whose answers come from outside, decided by `audit` and built by `build`, whose
-//! certificates are checked in memory and by their texts. They stand beside `tl_build`, so that it is proved once and not
-//! once more with its tests.
+//! certificates are checked in memory and by their texts; and maps at random, beside `plain_map`. They stand beside
+//! `tl_build`, so that it is proved once and not once more with its tests.
 #![tactic(auto)]
 
 #[cfg(test)]
+mod amiss;
+#[cfg(test)]
 mod decided;
+#[cfg(test)]
+mod failing;
 #[cfg(test)]
 mod faulty;
 #[cfg(test)]
@@ -12,4 +16,12 @@ mod grids;
 #[cfg(test)]
 mod maps;
 #[cfg(test)]
+mod numbers;
+#[cfg(test)]
+mod pairs;
+#[cfg(test)]
+mod random;
+#[cfg(test)]
 mod sound;
+#[cfg(test)]
+mod town;

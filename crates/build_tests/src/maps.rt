@@ -48,6 +48,17 @@ impl Drawing {
 
     /// Draws a chain by its points, and the polygons on its left and on its right, where 0 is outside.
     pub fn chain(&mut self, points: &[Pair], left: u32, right: u32) -> Result<(), AllocError> {
+        self.chain_at(points, left, right, (0, 0))
+    }
+
+    /// Draws a chain with the zero-cell ids of its start and its end, where 0 is none.
+    pub fn chain_at(
+        &mut self,
+        points: &[Pair],
+        left: u32,
+        right: u32,
+        cells: (u32, u32),
+    ) -> Result<(), AllocError> {
         let [from, between @ .., to] = points else {
             return Ok(());
         };
@@ -64,7 +75,11 @@ impl Drawing {
                 write_point(text, *point)?;
             }
         }
-        write!(text, "\nI0000{tlid:>10}{:25}", "")?;
+        write!(
+            text,
+            "\nI0000{tlid:>10}{:5}{:>10}{:>10}",
+            "", cells.0, cells.1
+        )?;
         write_key(text, left)?;
         write_key(text, right)?;
         text.push_str("\n")

@@ -1,6 +1,6 @@
 //! Worked examples.
 use crate::maps::{BEHIND, DEAD_END, Pair, SQUARE, map_of, records_of};
-use crate::plain::{do_agree, do_cells_agree};
+use plain_map::{do_agree, do_cells_agree};
 use std::alloc::Global;
 use std::test::Fail;
 use tl_cells::find_cells_at_odds;

@@ -1,4 +1,4 @@
-//! Worked examples of zero-cell ids, with answers from outside, and a plain program to compare with. They stand beside
+//! Worked examples of zero-cell ids, with answers from outside, and small maps beside `plain_map`. They stand beside
 //! `tl_cells`, so that it is proved once and not once more with its tests.
 #![tactic(auto)]
 
@@ -6,5 +6,3 @@
 mod cases;
 #[cfg(test)]
 mod maps;
-#[cfg(test)]
-mod plain;

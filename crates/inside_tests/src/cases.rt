@@ -1,8 +1,8 @@
 //! What `locate` says of points of small maps, with answers from outside.
 use crate::indices::is_plain;
 use crate::maps::{Drawing, Drawn, INNER, Pair, SQUARE, at, map_of};
-use crate::places::place_of;
 use crate::points::square_of;
+use plain_map::place_of;
 use std::alloc::Global;
 use std::test::Fail;
 use tl_inside::Place;

@@ -4,8 +4,8 @@ ghost use Rattle.std.specs.Prelude.{◌<◌, ◌≤◌, length};
 ghost use Rattle.tl_map.specs.Segments.{segments_before};
 ghost use Rattle.tl_planar.specs.Rectangles.{segment_rect};
 
-use crate::places::place_of;
 use arrayvec::ArrayVec;
+use plain_map::place_of;
 use std::alloc::{AllocError, Global};
 use std::test::Fail;
 use tl_geom::{Point, Rect};

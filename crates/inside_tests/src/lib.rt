@@ -1,28 +1,13 @@
-//! Plain programs over all chains and all segments, whose contracts are the definitions of `tl_inside`, and what
-//! `tl_inside` says of points and small maps beside them.
+//! What `tl_inside` says of points and small maps, beside the programs of `plain_map` over all chains and all segments.
 #![tactic(auto)]
 
 #[cfg(test)]
 mod cases;
 #[cfg(test)]
-mod counts;
-#[cfg(test)]
 mod indices;
 #[cfg(test)]
 mod maps;
 #[cfg(test)]
-mod placed;
-#[cfg(test)]
-mod places;
-#[cfg(test)]
 mod points;
 #[cfg(test)]
 mod random;
-#[cfg(test)]
-mod said;
-#[cfg(test)]
-mod sides;
-#[cfg(test)]
-mod west;
-#[cfg(test)]
-mod west_cases;

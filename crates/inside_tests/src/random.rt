@@ -2,10 +2,8 @@
 use crate::cases::ISLAND;
 use crate::indices::is_plain;
 use crate::maps::{Drawing, Drawn, Pair, at, map_of};
-use crate::placed::are_placed;
-use crate::places::place_of;
 use crate::points::{Numbers, square_of};
-use crate::said::is_true;
+use plain_map::{are_placed, is_true, place_of};
 use std::alloc::Global;
 use std::test::Fail;
 use tl_inside::{Place, find_misplaced};

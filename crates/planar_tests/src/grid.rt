@@ -1,8 +1,8 @@
 //! All pairs of segments on a grid of three by three points, and small chains drawn at random, compared with the plain
 //! programs.
 use crate::maps::{at, map_of, meeting_of};
-use crate::pairs::is_planar_map;
 use crate::plain::{LOW, is_planar};
+use plain_map::is_planar_map;
 use std::alloc::Global;
 use std::test::Fail;
 use tl_geom::Point;

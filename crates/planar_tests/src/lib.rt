@@ -1,5 +1,5 @@
-//! Worked examples of planar maps and of those that are not, with answers from outside, and a plain program to compare
-//! with. They stand beside `tl_planar`, so that it is proved once and not once more with its tests.
+//! Worked examples of planar maps and of those that are not, with answers from outside, and small maps beside
+//! `plain_map` and a program that tries all points. They stand beside `tl_planar`, so that it is proved once and not once more with its tests.
 #![tactic(auto)]
 
 #[cfg(test)]
@@ -8,7 +8,5 @@ mod examples;
 mod grid;
 #[cfg(test)]
 mod maps;
-#[cfg(test)]
-mod pairs;
 #[cfg(test)]
 mod plain;

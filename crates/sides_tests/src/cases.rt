@@ -1,11 +1,8 @@
 //! What `tl_sides` and `check_map` say of small maps beside the plain programs.
-use crate::boundary::is_boundary;
-use crate::lists_of::{Numbers, changed, rounds_of, walks_of};
+use crate::lists_of::{Numbers, changed, rounds_of};
 use crate::maps::{Drawn, Pair, decided, map_of};
-use crate::next::do_sides_agree;
-use crate::rings::are_walks;
-use crate::rounds::are_rounds;
 use crate::taken::{follow_plainly, next_by, walks_by};
+use plain_map::{are_rounds, are_walks, do_sides_agree, is_boundary, walks_of};
 use std::alloc::Global;
 use std::test::Fail;
 use tl_check::{CertFault, MapFault, Verdict};

@@ -1,22 +1,11 @@
-//! Plain programs over all darts, whose contracts are the definitions of `tl_sides`, and what `tl_sides` and `tl_check`
-//! say of small maps beside them.
+//! What `tl_sides` and `tl_check` say of small maps, beside the programs of `plain_map` over all darts.
 #![tactic(auto)]
 
 #[cfg(test)]
-mod boundary;
-#[cfg(test)]
 mod cases;
-#[cfg(test)]
-mod lists;
 #[cfg(test)]
 mod lists_of;
 #[cfg(test)]
 mod maps;
-#[cfg(test)]
-mod next;
-#[cfg(test)]
-mod rings;
-#[cfg(test)]
-mod rounds;
 #[cfg(test)]
 mod taken;

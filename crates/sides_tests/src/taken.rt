@@ -3,7 +3,7 @@
 ghost use Rattle.std.specs.Prelude.{IfOk, IfSome};
 ghost use Rattle.tl_sides.specs.Keeping.Rounded.{KeepNext};
 
-use crate::rings::does_follow;
+use plain_map::does_follow;
 use std::alloc::Global;
 use tl_map::Map;
 use tl_sides::{Next, Rounds, Walks};

@@ -1,7 +1,0 @@
-pub mod Among
-pub mod Crossing
-pub mod Listing
-pub mod Placing
-pub mod Running
-pub mod Saying
-pub mod Westward

@@ -1,0 +1,13 @@
+pub mod Told
+pub mod DartPairs
+pub mod Turns
+pub mod Times
+pub mod Steps
+pub mod Nodes
+pub mod Sorted
+pub mod Among
+pub mod Crossing
+pub mod Listing
+pub mod Placing
+pub mod Running
+pub mod Saying
