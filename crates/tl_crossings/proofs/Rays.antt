@@ -1,5 +1,5 @@
 -- The count by the ray to the west is the count by the ray to the east.
-use Rattle.std.proofs.Common.{◌≡◌, ◌↔◌, ℕ, ◌+◌, ◌*◌, ◌<◌, ℤ, Bool, true, false, cond, List, length, map, get_or, count_by, sym, ap, ◌∙◌, arith}
+use Rattle.std.proofs.Common.{◌≡◌, ◌↔◌, ℕ, ◌+◌, ◌*◌, ◌<◌, ℤ, Bool, true, false, cond, List, length, map, get_or, count_by, refl, sym, ap, ◌∙◌, arith}
 use Rattle.std.proofs.lemmas.Int.{ints}
 use Rattle.tl_geom.specs.declared.point.Point.{Point}
 use Rattle.tl_map.specs.declared.sides.Side.{Side}
@@ -10,6 +10,7 @@ use Rattle.tl_sides.specs.Sides.{SidesAgree}
 use Rattle.tl_inside.specs.declared.flanks.Flanks.{Flanks}
 use Rattle.tl_inside.specs.Inside.{flanks_at, balance, IsCrossed, AreCrossed, IsCount}
 use Rattle.tl_inside.specs.Places.{IsOffChains}
+use Rattle.tl_inside.proofs.Counting.{one_count}
 use Rattle.tl_crossings.specs.Heights.{parts, crossed_at}
 use Rattle.tl_crossings.specs.Headings.{AreProper, HeadApart}
 use Rattle.tl_crossings.specs.West.{IsCrossedWest, AreCrossedWest, west_flanks_at, IsWestCount}
@@ -111,6 +112,14 @@ module _ (chains : List MapChain) (proper : AreProper chains) (q : Point) where
         where
           as_often : near_count q.y S (crossed_at q.y chains) ≡ far_count q.y S (crossed_at q.y chains)
           as_often = near_is_far chains proper apart agree q.y S
+
+-- any sides have one count
+pub counted : (chains : List MapChain) (q : Point) (S : Side → Bool) → AreProper chains → (n : ℤ) × IsCount chains q S n × ((other : ℤ) → IsCount chains q S other → other ≡ n)
+counted chains q S proper =
+    let e = east_list chains proper q in
+    let n : ℤ = balance S (map (flanks_at chains) e.0) in
+    let own : IsCount chains q S n = record { crossed = e.0; are = e.1; counted = refl } in
+    (n, own, λ other c. one_count chains q S other n c own)
 
 -- by either ray
 pub east_is_west : (chains : List MapChain) (q : Point) (S : Side → Bool) (n : ℤ) → AreProper chains → HeadApart chains → SidesAgree chains → IsOffChains chains q → IsCount chains q S n ↔ IsWestCount chains q S n

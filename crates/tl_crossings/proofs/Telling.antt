@@ -32,9 +32,9 @@ module _ (m : TheMap) (proper : AreProper m.chains) (apart : HeadApart m.chains)
   told (OnChain c) is = tt
   told (In polygons landmarks) is = (
     counted_by (length m.polygons) (IsPolygonCount m.chains q) (IsWestPolygonCount m.chains q) polygons.items
-    (λ p z. (east_is_west m.chains q (is_polygon p) z proper apart agree is.0).0) is.1,
+        (λ p z. (east_is_west m.chains q (is_polygon p) z proper apart agree is.0).0) is.1,
     counted_by (length m.landmarks) (IsCountOf m q) (IsWestCountOf m q) landmarks.items
-    (λ l z c. record { landmark = c.landmark; is = c.is; count = (east_is_west m.chains q (is_among c.landmark.polygons) z proper apart agree is.0).0 c.count }) is.2,
+        (λ l z c. record { landmark = c.landmark; is = c.is; count = (east_is_west m.chains q (is_among c.landmark.polygons) z proper apart agree is.0).0 c.count }) is.2,
   )
 
   pub nowhere : IsOutsideOfBox (IsOfChains m.chains) q → (place : Place) → IsPlaceOf m q place → IsNowhere place

@@ -1,16 +1,15 @@
 -- Three chains between two nodes, two of which run alike: their sides agree, but what crosses a height doesn't cancel.
-use Rattle.std.proofs.Common.{◌≡◌, ◌≢◌, ◌⊎◌, inl, inr, ℕ, zero, suc, ◌+◌, ◌<◌, ◌≤◌, ℤ, pos, negsuc, ◌+ℤ◌, ◌-ℤ◌, ◌*ℤ◌, ◌<ℤ◌, Some, None, List, [], ◌∷◌, length, get_or, refl, sym, ap, subst, ◌∙◌, arith}
-use Rattle.std.specs.Prelude.{slice_get}
+use Rattle.std.proofs.Common.{◌≡◌, ◌≢◌, ℕ, zero, suc, ◌+◌, ◌<◌, pos, negsuc, ◌+ℤ◌, ◌-ℤ◌, ◌*ℤ◌, ◌<ℤ◌, Some, None, List, [], ◌∷◌, length, get_or, refl, sym, ap, subst, ◌∙◌, arith}
 use Rattle.std.proofs.lemmas.Int.{ints}
 use Rattle.tl_geom.specs.declared.point.Point.{Point}
 use Rattle.tl_geom.specs.declared.direction.Direction.{Direction}
 use Rattle.tl_geom.specs.Plane.{cross}
-use Rattle.tl_geom.specs.Turning.{cross_of, dot_of, IsOneDirection, full}
+use Rattle.tl_geom.specs.Turning.{cross_of, dot_of, full}
 use Rattle.tl_map.specs.Chains.{IsProper}
 use Rattle.tl_map.specs.declared.sides.Side.{Side}
 use Rattle.tl_map.specs.declared.sides.Side.TheVariants.{Polygon}
 use Rattle.tl_map.specs.TheMap.{MapChain}
-use Rattle.tl_map.specs.Darts.{dart_start, dart_second, dart_left, Heads}
+use Rattle.tl_map.specs.Darts.{dart_start, dart_second, dart_left}
 use Rattle.tl_planar.specs.Keeping.Apart.{one_found}
 use Rattle.tl_sides.specs.Sides.{dart_right, IsNext, SidesAgree}
 use Rattle.tl_sides.proofs.Headings.{dart_within}

@@ -17,6 +17,12 @@ ghost use Rattle.tl_crossings.specs.Boxes.{IsOnBoundary, IsOfChains, IsOutsideOf
 ghost use Rattle.tl_crossings.specs.West.{IsWestCount};
 ghost use Rattle.tl_crossings.specs.Told.{ListsByWest, IsNowhere};
 
+/// At each point any sides have one count, and no other.
+pub fn sides_have_one_count()
+    ensures { (chains : List MapChain) (q : Point) (S : Side → Bool) → AreProper chains →
+        (n : ℤ) × IsCount chains q S n × ((other : ℤ) → IsCount chains q S other → other ≡ n) }
+{}
+
 /// Where chains are planar, no two darts of one node head in one direction.
 pub fn darts_of_planar_chains_head_apart()
     ensures { (chains : List MapChain) → AreProper chains → IsPlanar chains → HeadApart chains }
