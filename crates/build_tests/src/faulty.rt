@@ -96,8 +96,8 @@ fn records_without_a_map(rt: HostRuntime) -> Result<(), Fail> {
 #[test]
 fn stops(rt: HostRuntime) -> Result<(), Fail> {
     let alloc = rt.alloc();
-    let text = format!(in alloc; "{}|{}", AuditStop::Unfit, tl_build::BuildStop::Memory)?;
-    assert!(rt; text.as_str() == "stopped Unfit|stopped Memory");
+    let text = format!(in alloc; "{}|{}", AuditStop::Device, tl_build::BuildStop::Memory)?;
+    assert!(rt; text.as_str() == "stopped Device|stopped Memory");
     let refused = AuditStop::Record {
         line: 4,
         cause: Cause::Missing(Field::PolyLat),

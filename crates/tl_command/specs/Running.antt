@@ -21,7 +21,7 @@ use Rattle.tl_map.specs.Reading.{AreReadFrom, IsReadFrom, records_in}
 use Rattle.tl_text.specs.Printing.{shown_text, listing_text}
 use Rattle.tl_output.specs.Writing.{line_of}
 use Rattle.tl_command.specs.declared.stop.Stop.{Stop}
-use Rattle.tl_command.specs.declared.stop.Stop.TheVariants.{Refused, Memory, Device, Budget, Unfit}
+use Rattle.tl_command.specs.declared.stop.Stop.TheVariants.{Refused, Memory, Device, Budget}
 use Rattle.tl_command.specs.declared.stop.TheConstants.{DONE, MAP_FAULT, CERT_FAULT, REFUSED, STOPPED}
 use Rattle.tl_plan.specs.declared.plan.Plan.{Plan}
 use Rattle.tl_plan.specs.declared.plan.Plan.TheVariants.{Show, Landmarks, Locate, Convert, Check, Audit, Build}
@@ -270,23 +270,9 @@ SpendsBudget (Check cert budget options files) known wrote = NamesBudget (layout
 SpendsBudget (Audit options files) known wrote = ⊥
 SpendsBudget (Build made options files) known wrote = ⊥
 
--- the line was written of a certificate that was proposed and isn't valid
-abbrev pub NamesUnfit : (List ℕ → Type 0) → Type 0
-NamesUnfit wrote = wrote (line_of (stop_text Unfit))
-
--- the plan's command proposes a certificate, and it isn't valid
-abbrev pub ProposesUnfit : Plan → (List ℕ → Type 0) → Type 0
-ProposesUnfit (Show options files) wrote = ⊥
-ProposesUnfit (Landmarks options files) wrote = ⊥
-ProposesUnfit (Locate point options files) wrote = ⊥
-ProposesUnfit (Convert cert made) wrote = ⊥
-ProposesUnfit (Check cert budget options files) wrote = ⊥
-ProposesUnfit (Audit options files) wrote = NamesUnfit wrote
-ProposesUnfit (Build made options files) wrote = NamesUnfit wrote
-
 -- why the plan's command stopped was written
 abbrev pub StopsRun : Plan → Option (List ℕ) → (List ℕ → Type 0) → Type 0 → Type 0
-StopsRun plan known wrote failed = NamesStop wrote failed ⊎ (SpendsBudget plan known wrote ⊎ ProposesUnfit plan wrote)
+StopsRun plan known wrote failed = NamesStop wrote failed ⊎ SpendsBudget plan known wrote
 
 -- the statuses that a run answers with
 abbrev pub IsRunStatus : ℕ → Type 0
@@ -303,7 +289,6 @@ IsTold (Refused line cause) status wrote =
 IsTold Memory status wrote = (status ≡ STOPPED) × wrote (line_of (stop_text Memory))
 IsTold Device status wrote = (status ≡ STOPPED) × (wrote (line_of (stop_text Memory)) ⊎ wrote (line_of (stop_text Device)))
 IsTold Budget status wrote = (status ≡ STOPPED) × (wrote (line_of (stop_text Memory)) ⊎ wrote (line_of (stop_text Budget)))
-IsTold Unfit status wrote = (status ≡ STOPPED) × (wrote (line_of (stop_text Memory)) ⊎ wrote (line_of (stop_text Unfit)))
 
 -- why nothing was answered: `failed` says that a read or a write failed, `stays` that the output is as it was
 abbrev pub StopsAnswer : Layout → Option (List ℕ) → Type 0 → Type 0 → MapStop → Type 0

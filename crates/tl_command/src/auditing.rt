@@ -1,11 +1,10 @@
 //! The decision of records with no certificate given.
 
-ghost use Rattle.std.specs.Prelude.{◌≡◌, ◌≢◌, ◌⊎◌};
+ghost use Rattle.std.specs.Prelude.{◌≡◌, ◌≢◌, ◌⊎◌, ⊤};
 ghost use Rattle.tl_record.specs.Layout.{layout_with};
-ghost use Rattle.std.specs.Prelude.{⊤};
 ghost use Rattle.tl_output.specs.Writing.{Writes, TriesToWrite, FailsToWrite};
 ghost use Rattle.tl_command.specs.declared.stop.TheConstants.{DONE, MAP_FAULT, REFUSED, STOPPED};
-ghost use Rattle.tl_command.specs.Running.{IsAudited, NamesFault, NamesRefusal, NamesStop, NamesUnfit, FailsToRead};
+ghost use Rattle.tl_command.specs.Running.{IsAudited, NamesFault, NamesRefusal, NamesStop, FailsToRead};
 
 use crate::reports::SoundMap;
 use crate::stop::{DONE, MAP_FAULT, Stop, stopped};
@@ -31,8 +30,7 @@ pub fn audit<R: Source, W: Sink, E: Sink>(
         (TriesToWrite E.contents E.failure_count err.old err.new) }
     ensures stopped { result ≡ STOPPED
         → NamesStop (TriesToWrite E.contents E.failure_count err.old err.new)
-        (FailsToRead R.failure_count records.old records.new ⊎ FailsToWrite W.failure_count out.old out.new)
-        ⊎ NamesUnfit (TriesToWrite E.contents E.failure_count err.old err.new) }
+        (FailsToRead R.failure_count records.old records.new ⊎ FailsToWrite W.failure_count out.old out.new) }
     ensures err_stays { (result ≡ DONE) ⊎ (result ≡ MAP_FAULT) → err.new ≡ err.old }
     ensures out_stays { result ≡ REFUSED → out.new ≡ out.old }
     ensures read_whole { result ≢ STOPPED → R.failure_count records.new ≡ R.failure_count records.old }
@@ -43,6 +41,5 @@ pub fn audit<R: Source, W: Sink, E: Sink>(
         Err(AuditStop::Record { line, cause }) => stopped(&Stop::Refused { line, cause }, err),
         Err(AuditStop::Memory) => stopped(&Stop::Memory, err),
         Err(AuditStop::Device) => stopped(&Stop::Device, err),
-        Err(AuditStop::Unfit) => stopped(&Stop::Unfit, err),
     }
 }

@@ -7,7 +7,7 @@ ghost use Rattle.tl_check.specs.Sound.{IsSound};
 ghost use Rattle.tl_check.specs.Valid.{IsValid};
 ghost use Rattle.tl_command.specs.declared.stop.TheConstants.{DONE, MAP_FAULT, REFUSED, STOPPED};
 ghost use Rattle.tl_command.specs.Running.{IsBuilt, IsBuiltOf, NamesFault, NamesMapFault, NamesRefusal, NamesStop};
-ghost use Rattle.tl_command.specs.Running.{NamesUnfit, FailsToRead};
+ghost use Rattle.tl_command.specs.Running.{FailsToRead};
 
 use crate::reports::BuiltCertificate;
 use crate::stop::{DONE, MAP_FAULT, Stop, stopped};
@@ -39,8 +39,7 @@ pub fn build<R: Source, C: Sink, W: Sink, E: Sink>(
     ensures stopped { result ≡ STOPPED
         → NamesStop (TriesToWrite E.contents E.failure_count err.old err.new)
         (FailsToRead R.failure_count records.old records.new
-        ⊎ (FailsToWrite C.failure_count made.old made.new ⊎ FailsToWrite W.failure_count out.old out.new))
-        ⊎ NamesUnfit (TriesToWrite E.contents E.failure_count err.old err.new) }
+        ⊎ (FailsToWrite C.failure_count made.old made.new ⊎ FailsToWrite W.failure_count out.old out.new)) }
     ensures err_stays { (result ≡ DONE) ⊎ (result ≡ MAP_FAULT) → err.new ≡ err.old }
     ensures out_stays { result ≡ REFUSED → out.new ≡ out.old }
     ensures unmade { (result ≡ MAP_FAULT) ⊎ (result ≡ REFUSED) → made.new ≡ made.old }
@@ -69,8 +68,7 @@ fn build_of_map<C: Sink, W: Sink, E: Sink>(
     ensures fault { result ≡ MAP_FAULT → NamesMapFault map.now (Writes W.contents W.failure_count out.old out.new) }
     ensures stopped { result ≡ STOPPED
         → NamesStop (TriesToWrite E.contents E.failure_count err.old err.new)
-        (FailsToWrite C.failure_count made.old made.new ⊎ FailsToWrite W.failure_count out.old out.new)
-        ⊎ NamesUnfit (TriesToWrite E.contents E.failure_count err.old err.new) }
+        (FailsToWrite C.failure_count made.old made.new ⊎ FailsToWrite W.failure_count out.old out.new) }
     ensures err_stays { (result ≡ DONE) ⊎ (result ≡ MAP_FAULT) → err.new ≡ err.old }
     ensures unmade { result ≡ MAP_FAULT → made.new ≡ made.old }
 {
@@ -78,7 +76,6 @@ fn build_of_map<C: Sink, W: Sink, E: Sink>(
         Ok(Built::Cert(certificate)) => keep(map, &certificate, made, out, err),
         Ok(Built::Fault(fault)) => tell_line(&fault, MAP_FAULT, out, err),
         Err(BuildStop::Memory) => stopped(&Stop::Memory, err),
-        Err(BuildStop::Unfit) => stopped(&Stop::Unfit, err),
     }
 }
 

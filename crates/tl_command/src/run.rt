@@ -58,8 +58,7 @@ pub fn run<R: Source, S: Source, C: Sink, W: Sink, E: Sink>(
     ensures refused { result ≡ REFUSED
         → NamesRefusal (layout_of plan.now) (R.remaining records.old) (TriesToWrite E.contents E.failure_count err.old err.new) }
     // The line of a stop was, or the write of it failed; of a device only where a read or a write failed, and of a spent
-    // budget only where more pairs of segments have rectangles that meet. Of an unfit certificate it is for commands alone
-    // that propose one.
+    // budget only where more pairs of segments have rectangles that meet.
     ensures stopped { result ≡ STOPPED
         → StopsRun plan.now (R.remaining records.old) (TriesToWrite E.contents E.failure_count err.old err.new)
         ((FailsToRead R.failure_count records.old records.new ⊎ FailsToRead S.failure_count cert.old cert.new)

@@ -22,7 +22,7 @@ pub const CERT_FAULT: u8 = 2;
 /// The status where a record is refused.
 pub const REFUSED: u8 = 3;
 
-/// The status where memory was refused, a file or the output failed, the budget is spent, or a proposal is unfit.
+/// The status where memory was refused, a file or the output failed, or the budget is spent.
 pub const STOPPED: u8 = 4;
 
 /// The status where the words are no command.
@@ -42,8 +42,6 @@ pub enum Stop {
     Device,
     /// More pairs of segments than the budget would have to be tested.
     Budget,
-    /// The certificate that was proposed isn't valid. No records are known of which this is said.
-    Unfit,
 }
 
 impl fmt::Display for Stop {
@@ -58,7 +56,6 @@ impl fmt::Display for Stop {
             Stop::Memory => write!(f, "stopped Memory"),
             Stop::Device => write!(f, "stopped Device"),
             Stop::Budget => write!(f, "stopped Budget"),
-            Stop::Unfit => write!(f, "stopped Unfit"),
         }
     }
 }
@@ -76,7 +73,6 @@ pub fn stopped<E: Sink>(stop: &Stop, err: &mut E) -> u8
         Stop::Memory => STOPPED,
         Stop::Device => STOPPED,
         Stop::Budget => STOPPED,
-        Stop::Unfit => STOPPED,
     }
 }
 

@@ -59,8 +59,6 @@ pub const AUDIT_ABOUT: &str = "Decides whether the map is sound, with no certifi
 pub const AUDIT_EXAMPLE: &str = "\
 Of a sound map the line is `sound chains=C segments=S nodes=N polygons=P landmarks=L rings=R`. Else it
 is `map fault` with a code, a name and what it is about. A certificate is made, checked and not kept.
-`stopped Unfit` on the standard error, with status 4, says that it wasn't right for the map; no map is
-known for which that comes.
 
 Example:
   tigertopo audit TGR24001.RT*";
@@ -71,9 +69,7 @@ pub const BUILD_EXAMPLE: &str = "\
 Of a sound map the line is `built chains=C segments=S nodes=N polygons=P landmarks=L rings=R`. CERT is
 made when the map was found to be sound, and a file of that name is written over. Else the line is
 `map fault` with a code, a name and what it is about. Where the map has a fault or a line is refused,
-no file is made or changed; after a failed write CERT is worth nothing. `stopped Unfit` on the standard
-error, with status 4, says that the certificate wasn't right for the map, and none is written; no map is
-known for which that comes.
+no file is made or changed; after a failed write CERT is worth nothing.
 
 Example:
   tigertopo build --out TGR24001.CERT TGR24001.RT*";

@@ -6,6 +6,3 @@ returns-in-Device g c = rw c.in-Device.is (refl, inr (rw c.in-Device.is at c.if-
 
 pub returns-in-Budget : goal.returns-in-Budget
 returns-in-Budget g c = rw c.in-Budget.is (refl, inr (rw c.in-Budget.is at c.if-not-tell.ensures.room))
-
-pub returns-in-Unfit : goal.returns-in-Unfit
-returns-in-Unfit g c = rw c.in-Unfit.is (refl, inr (rw c.in-Unfit.is at c.if-not-tell.ensures.room))
