@@ -1,7 +1,7 @@
 # make                     proves and builds the program
 # make check               the merge gate: every proof, must-fail edit, test and stored run, from nothing
 # make rows                plays the rows of tests/ over the program
-# make certificates        converts certificates and compares with a plain reader
+# make certificates        builds and converts certificates, and compares with a plain reader
 # make full-size           asks for each answer once with a million chains
 # make memory              refuses each allocation of the program, and of bench_tree, in its turn
 # make devices             fails each read and each write of the program in its turn
