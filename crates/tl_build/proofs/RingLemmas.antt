@@ -8,49 +8,17 @@ use Rattle.std.proofs.lemmas.List.Elements.{All-get_or}
 use Rattle.tl_map.specs.TheMap.{MapChain}
 use Rattle.tl_map.specs.Darts.{reverse_dart, is_along, dart_start}
 use Rattle.tl_tree.specs.Hits.{times}
-use Rattle.tl_tree.proofs.Hitting.{times-append}
 use Rattle.tl_sides.specs.Lists.{before, HoldOnce, EachList, list_at, times_in}
 use Rattle.tl_sides.specs.Sides.{dart_count, IsNext, Follows}
 use Rattle.tl_sides.specs.Rounds.{AreRounds}
 use Rattle.tl_sides.specs.Walks.{AreWalks}
 use Rattle.tl_sides.proofs.Boundaries.{back_again}
 use Rattle.tl_sides.proofs.FollowFacts.{reverse_starts}
-use Rattle.tl_sides.proofs.ListLemmas.{IsIn, list_of, stands, stands_in, before_stands, two_before}
-use Rattle.tl_sides.proofs.WholeRounds.{HoldAll, next_is_behind}
+use Rattle.tl_sides.proofs.ListLemmas.{IsIn, list_of, before_stands, two_before}
 use Rattle.tl_crossings.specs.Headings.{AreProper}
-use Rattle.tl_crossings.proofs.Darts.{dart_of}
+use Rattle.tl_crossings.proofs.Rounds.{below, once_at, one_list, next_in_round}
 use Rattle.tl_build.specs.Keeping.Lists.{lists_in}
 use Rattle.tl_build.specs.Keeping.Following.{IsOneToOne, IsLinkedIn, GoesBy}
-
--- ---- lists that hold each dart once
-
--- a dart stands in two lists as often as in both together, at the least
-pub two_lists : (d : ℕ) (lists : List (List ℕ)) (q r : ℕ) → q < r → r < length lists → times d (list_at lists q) + times d (list_at lists r) ≤ times_in d lists
-two_lists d [] q r less h = absurd (omega (arith, h))
-two_lists d (xs ∷ lists) q zero less h = absurd (omega (arith, less))
-two_lists d (xs ∷ lists) zero (suc r) less h = omega (arith, times-append d xs (concat lists), stands_in d lists r (omega (arith, h)))
-two_lists d (xs ∷ lists) (suc q) (suc r) less h = omega (arith, times-append d xs (concat lists), two_lists d lists q r (omega (arith, less)) (omega (arith, h)))
-
-module _ (n : ℕ) (lists : List (List ℕ)) (hold : HoldOnce n lists) where
-  pub few : (d : ℕ) → times_in d lists ≤ 1
-  few d = elim (cases_lt d n) [ inl dart ↦ omega (arith, hold.once d dart) | inr other ↦ omega (arith, hold.no_other d other) ]
-
-  pub once_at : (d r : ℕ) → r < length lists → times d (list_at lists r) ≤ 1
-  once_at d r h = omega (arith, stands_in d lists r h, few d)
-
-  -- what stands in a list is below n
-  pub below : (d r : ℕ) → r < length lists → 1 ≤ times d (list_at lists r) → d < n
-  below d r h one = elim (cases_lt d n) [ inl dart ↦ dart | inr other ↦ absurd (omega (arith, hold.no_other d other, stands_in d lists r h, one)) ]
-
-  -- a dart stands in one list
-  pub one_list : (d q r : ℕ) → q < length lists → r < length lists → 1 ≤ times d (list_at lists q) → 1 ≤ times d (list_at lists r) → q ≡ r
-  one_list d q r hq hr at_q at_r = elim (cases_lt q r) [
-    | inl less ↦ absurd (omega (arith, two_lists d lists q r less hr, few d, at_q, at_r))
-    | inr not ↦ elim (cases_lt r q) [
-      | inl more ↦ absurd (omega (arith, two_lists d lists r q more hq, few d, at_q, at_r))
-      | inr same ↦ omega (arith, not, same)
-    ]
-  ]
 
 -- ---- reverses
 
@@ -113,24 +81,12 @@ each_of P (v ∷ vs) all = λ k h.
 
 module _ (chains : List MapChain) (proper : AreProper chains) (rounds : List (List ℕ)) (are : AreRounds chains rounds) (following : List ℕ)
     (long : length following ≡ dart_count chains) (linked : EachList (IsLinkedIn following) rounds) where
-  all_held : HoldAll chains rounds
-  all_held = record {
-    hold = are.hold;
-    one_node = are.one_node;
-    rising = are.rising;
-    headed = λ r hr k h.
-        let d = slice_index (list_at rounds r) k in
-        let is = dart_of chains proper d (below (dart_count chains) rounds are.hold d r hr (stands (list_at rounds r) k d h refl)) in
-        (is.heading, is.heads);
-    apart = are.apart;
-  }
-
   -- a dart is followed by what the list has behind it
   pub follows : (d : ℕ) → d < dart_count chains → Follows chains d (slice_index following d)
   follows d h =
       let t = placed (length chains) rounds following are.hold long linked d h in
       let round = list_at rounds t.list in
-      let next : IsNext chains (before round t.place) (slice_index round t.place) = next_is_behind chains rounds all_held t.list t.place t.within t.place_within in
+      let next : IsNext chains (before round t.place) (slice_index round t.place) = next_in_round chains proper rounds are t.list t.place t.within t.place_within in
       let one : dart_start chains (slice_index round t.place) ≡ dart_start chains (before round t.place) = next.b_starts ∙ sym next.a_starts in
       record {
         meets = sym (reverse_starts chains d) ∙ (ap (dart_start chains) (sym t.reversed) ∙ (one ∙ ap (dart_start chains) (sym t.leads)));

@@ -14,9 +14,10 @@ use Rattle.tl_tree.specs.Hits.{times}
 use Rattle.tl_sides.specs.Lists.{HoldOnce, list_at}
 use Rattle.tl_sides.specs.Sides.{dart_count}
 use Rattle.tl_sides.specs.Rounds.{AreRounds, HasOneNode, AreRising, round_start}
-use Rattle.tl_sides.proofs.ListLemmas.{one_place, stands_in}
+use Rattle.tl_sides.proofs.ListLemmas.{one_place}
 use Rattle.tl_sides.proofs.NodeFacts.{starts_first}
 use Rattle.tl_crossings.specs.Headings.{HeadApart}
+use Rattle.tl_crossings.proofs.Rounds.{once_at}
 use Rattle.tl_build.specs.declared.rounds.DartStart.{DartStart}
 use Rattle.tl_build.specs.Keeping.Lists.{darts_in}
 use Rattle.tl_build.specs.Keeping.Sorting.{AreCut, IsGroup, IsStartOf, node_of}
@@ -132,7 +133,7 @@ module _ (chains : List MapChain) (nodes : List Point) (are : AreNodes chains no
           let many : r < length cut.groups = omega (arith, as_many, h) in
           let g = group_at r in
           let is = is_group r many in
-          let once : (e : ℕ) → times e (darts_in g) ≤ 1 = λ e. subst (λ xs. times e xs ≤ 1) (list_is r many) (once_at e r h) in
+          let once : (e : ℕ) → times e (darts_in g) ≤ 1 = λ e. subst (λ xs. times e xs ≤ 1) (list_is r many) (once_at (dart_count chains) rounds hold e r h) in
           subst (AreRising chains) (sym (list_is r many)) (rising g is (is_held r many) (some_of g is.some) apart once);
       apart = λ r s node less h at_r at_s.
           let many : s < length cut.groups = omega (arith, as_many, h) in
@@ -143,9 +144,3 @@ module _ (chains : List MapChain) (nodes : List Point) (are : AreNodes chains no
           (within_at r also) (sym (starts_at r also) ∙ first) (sym (starts_at s many) ∙ second)).1 (sym first ∙ (at_r ∙ (sym at_s ∙ second))) in
           omega (arith, rising_nodes r s less many, one);
     }
-      where
-        once_at : (e r : ℕ) → r < length rounds → times e (list_at rounds r) ≤ 1
-        once_at e r h = elim (cases_lt e (dart_count chains)) [
-          | inl dart ↦ omega (arith, stands_in e rounds r h, hold.once e dart)
-          | inr other ↦ omega (arith, stands_in e rounds r h, hold.no_other e other)
-        ]

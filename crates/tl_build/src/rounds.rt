@@ -1,6 +1,7 @@
 //! The rounds of a map: the darts of each node in the order of their headings.
 
-ghost use Rattle.std.specs.Prelude.{◌≡◌, ◌≢◌, ◌↔◌, [], ℕ, ◌*◌, ◌-◌, ◌^◌, ◌<◌, ◌≤◌, zero, length, map, All, IfOk, slice_index_or};
+ghost use Rattle.std.specs.Prelude.{◌≡◌, ◌≢◌, ◌↔◌, [], ℕ, ◌*◌, ◌-◌, ◌^◌, ◌<◌, ◌≤◌, zero};
+ghost use Rattle.std.specs.Prelude.{length, map, All, IfOk, slice_index_or};
 ghost use Rattle.std.specs.List.{concat};
 ghost use Rattle.std.specs.List.Sorted.{IsPermutation};
 ghost use Rattle.tl_build.specs.declared.rounds.DartStart.{DartStart};

@@ -1,6 +1,7 @@
 //! The walks of a map: the rings of darts that follow one another.
 
-ghost use Rattle.std.specs.Prelude.{◌≡◌, ℕ, ◌<◌, ◌≤◌, slice_index, ◌%◌, ◌^◌, zero, length, map, All, IfOk, OnOk, slice_get, Some, false};
+ghost use Rattle.std.specs.Prelude.{◌≡◌, ℕ, ◌<◌, ◌≤◌, ◌%◌, ◌^◌, zero, Some, false};
+ghost use Rattle.std.specs.Prelude.{length, map, All, IfOk, OnOk, slice_get, slice_index};
 ghost use Rattle.std.specs.List.{concat};
 ghost use Rattle.tl_map.specs.Darts.{reverse_dart};
 ghost use Rattle.tl_tree.specs.Keeping.Checking.{mark_at};
@@ -74,7 +75,8 @@ pub fn trace_walks(alloc: Global, following: &[u32]) -> Result<Vec<Vec<u32>>, Al
     ensures hold { IfOk result (λ walks. HoldOnce (length following.now) (map (λ w. w.items) walks.items)) }
     ensures some { IfOk result (λ walks. All (λ w. zero < length w.items) walks.items) }
     ensures counted { IfOk result (λ walks. length (concat (map (λ w. w.items) walks.items)) ≤ length following.now) }
-    ensures goes { IfOk result (λ walks. IsOneToOne following.now → All (λ w. GoesBy following.now w.items) walks.items) }
+    ensures goes { IfOk result (λ walks. IsOneToOne following.now →
+        All (λ w. GoesBy following.now w.items) walks.items) }
 {
     let mut taken = vec![in alloc; false; following.len()]?;
     trace_all(alloc, following, &mut taken)
@@ -93,7 +95,8 @@ fn trace_all(
     ensures hold { IfOk result (λ walks. HoldOnce (length following.now) (map (λ w. w.items) walks.items)) }
     ensures some { IfOk result (λ walks. All (λ w. zero < length w.items) walks.items) }
     ensures counted { IfOk result (λ walks. length (concat (map (λ w. w.items) walks.items)) ≤ length following.now) }
-    ensures goes { IfOk result (λ walks. IsOneToOne following.now → All (λ w. GoesBy following.now w.items) walks.items) }
+    ensures goes { IfOk result (λ walks. IsOneToOne following.now →
+        All (λ w. GoesBy following.now w.items) walks.items) }
 {
     let mut walks = Vec::new(alloc);
     let mut walk = Vec::new(alloc);

@@ -2,6 +2,7 @@ pub mod Sums
 pub mod Turns
 pub mod Darts
 pub mod Nexts
+pub mod Rounds
 pub mod Telescoping
 pub mod Ends
 pub mod Cancelling

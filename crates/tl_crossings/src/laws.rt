@@ -1,13 +1,15 @@
 //! Laws of the definitions, each the contract of a function that does nothing.
 
-ghost use Rattle.std.specs.Prelude.{◌≡◌, ◌↔◌, ℕ, ℤ, pos, Bool, List};
+ghost use Rattle.std.specs.Prelude.{◌≡◌, ◌↔◌, ◌<◌, ℕ, ℤ, pos, Bool, List, length, slice_index};
 ghost use Rattle.tl_geom.specs.declared.point.Point.{Point};
 ghost use Rattle.tl_geom.specs.declared.rect.Rect.{Rect};
 ghost use Rattle.tl_geom.specs.Rectangle.{Holds};
 ghost use Rattle.tl_map.specs.TheMap.{TheMap, MapChain};
 ghost use Rattle.tl_map.specs.declared.sides.Side.{Side};
 ghost use Rattle.tl_planar.specs.Planar.{IsPlanar};
-ghost use Rattle.tl_sides.specs.Sides.{SidesAgree};
+ghost use Rattle.tl_sides.specs.Lists.{before, list_at};
+ghost use Rattle.tl_sides.specs.Rounds.{AreRounds};
+ghost use Rattle.tl_sides.specs.Sides.{IsNext, SidesAgree};
 ghost use Rattle.tl_inside.specs.declared.place.Place.{Place};
 ghost use Rattle.tl_inside.specs.Inside.{balance, is_polygon, IsCount, IsPolygonCount};
 ghost use Rattle.tl_inside.specs.Places.{IsOffChains, IsPlaceOf};
@@ -26,6 +28,14 @@ pub fn sides_have_one_count()
 /// Where chains are planar, no two darts of one node head in one direction.
 pub fn darts_of_planar_chains_head_apart()
     ensures { (chains : List MapChain) → AreProper chains → IsPlanar chains → HeadApart chains }
+{}
+
+/// In the rounds of chains, the darts of each node with rising headings, each dart is next after the one before it in its
+/// round, and the first after the last.
+pub fn next_is_the_neighbour()
+    ensures { (chains : List MapChain) (rounds : List (List ℕ)) (r k : ℕ) → AreProper chains → AreRounds chains rounds →
+        r < length rounds → k < length (list_at rounds r) →
+        IsNext chains (before (list_at rounds r) k) (slice_index (list_at rounds r) k) }
 {}
 
 /// Where sides agree and darts head apart, over all segments that cross a height any side is as often near as far.

@@ -8,7 +8,7 @@ use Rattle.tl_sides.proofs.ListLemmas.{stands}
 use Rattle.tl_check.proofs.Prefixes.{list_is}
 use Rattle.tl_build.specs.Keeping.Lists.{lists_in}
 use Rattle.tl_build.specs.Keeping.Following.{IsLinkedIn}
-use Rattle.tl_build.proofs.RingLemmas.{few, once_at, below, two_lists}
+use Rattle.tl_crossings.proofs.Rounds.{few, once_at, below, two_lists}
 use Rattle.tl_build.proofs.LinkLemmas.{stays_linked}
 use Rattle.tl_build.proofs.walks.link_rounds.Goals as goal
 
