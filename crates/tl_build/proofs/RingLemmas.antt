@@ -1,14 +1,14 @@
 -- Walks that go by the darts before each in the rounds of a map are the walks of the map.
-use Rattle.std.proofs.Common.{◌≡◌, inl, inr, ℕ, zero, suc, ◌+◌, ◌*◌, ◌%◌, ◌<◌, ◌≤◌, arith, Bool, true, false, List, [], ◌∷◌, length, refl, ap, sym, subst, ◌∙◌, Vec, Global}
+use Rattle.std.proofs.Common.{◌≡◌, ℕ, ◌*◌, ◌%◌, ◌<◌, ◌≤◌, arith, Bool, true, false, List, [], ◌∷◌, length, refl, ap, sym, subst, ◌∙◌, Vec, Global}
 use Rattle.std.specs.Prelude.{slice_index}
-use Rattle.std.specs.List.{All, concat}
-use Rattle.std.proofs.lemmas.Bool.{cases_lt, eqb-true}
+use Rattle.std.specs.List.{All}
+use Rattle.std.proofs.lemmas.Bool.{eqb-true}
 use Rattle.std.proofs.lemmas.List.{length-map, get_or-map}
 use Rattle.std.proofs.lemmas.List.Elements.{All-get_or}
 use Rattle.tl_map.specs.TheMap.{MapChain}
 use Rattle.tl_map.specs.Darts.{reverse_dart, is_along, dart_start}
 use Rattle.tl_tree.specs.Hits.{times}
-use Rattle.tl_sides.specs.Lists.{before, HoldOnce, EachList, list_at, times_in}
+use Rattle.tl_sides.specs.Lists.{before, HoldOnce, EachList, list_at}
 use Rattle.tl_sides.specs.Sides.{dart_count, IsNext, Follows}
 use Rattle.tl_sides.specs.Rounds.{AreRounds}
 use Rattle.tl_sides.specs.Walks.{AreWalks}
