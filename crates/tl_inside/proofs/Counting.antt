@@ -11,8 +11,8 @@ use Rattle.tl_map.specs.TheMap.{MapChain}
 use Rattle.tl_tree.specs.Hits.{times, AreHits}
 use Rattle.tl_tree.proofs.Permuted.{same_or, times-same, times-other}
 use Rattle.tl_inside.specs.declared.flanks.Flanks.{Flanks}
-use Rattle.tl_inside.specs.Inside.{flanks_at, is_polygon, AreCrossed, IsCount, IsPolygonCount, IsInside, IsClear}
-use Rattle.tl_inside.specs.Keeping.Tallies.{AreTallies}
+use Rattle.tl_inside.specs.Inside.{flanks_at, balance, is_polygon, AreCrossed, IsCount, IsPolygonCount, IsInside, IsClear}
+use Rattle.tl_inside.specs.Keeping.Tallies.{AreTallies, TellCounts}
 
 -- the list without the first x
 removed : ℕ → List ℕ → List ℕ
@@ -88,16 +88,19 @@ one_count chains q S m n a b =
     ∙ ap (λ k. pos (count_by (λ f. S f.near) (map (flanks_at chains) b.crossed)) -ℤ pos k) (same_count chains q a.crossed b.crossed (λ f. S f.far) a.are b.are)
     ∙ sym b.counted
 
+-- the flanks of crossed segments tell the counts
+pub crossed_tell : (chains : List MapChain) (q : Point) (crossed : List ℕ) (flanks : List Flanks) → flanks ≡ map (flanks_at chains) crossed → AreCrossed chains q crossed → TellCounts chains q flanks
+crossed_tell chains q crossed flanks is are S not_outside = record { crossed = crossed; are = are; counted = ap (balance S) is }
+
 -- the counts of the polygons, by how often they are near and far
-module _ (chains : List MapChain) (q : Point) (crossed near far : List ℕ) (are : AreCrossed chains q crossed) (t : AreTallies chains crossed near far) (p : ℕ) (in_near : p < length near) (in_far : p < length far) where
+module _ (chains : List MapChain) (q : Point) (crossed : List Flanks) (near far : List ℕ) (tell : TellCounts chains q crossed) (t : AreTallies crossed near far) (p : ℕ) (in_near : p < length near) (in_far : p < length far) where
   pub counted : IsPolygonCount chains q p (pos (slice_index near p) -ℤ pos (slice_index far p))
-  counted = record {
-    crossed = crossed;
-    are = are;
-    counted =
-        ap (λ k. pos k -ℤ pos (slice_index far p)) (t.nears p in_near)
-        ∙ ap (λ k. pos (count_by (λ f. is_polygon p f.near) (map (flanks_at chains) crossed)) -ℤ pos k) (t.fars p in_far);
-  }
+  counted = subst (IsPolygonCount chains q p) (sym is) (tell (is_polygon p) refl)
+    where
+      is : pos (slice_index near p) -ℤ pos (slice_index far p) ≡ balance (is_polygon p) crossed
+      is =
+          ap (λ k. pos k -ℤ pos (slice_index far p)) (t.nears p in_near)
+          ∙ ap (λ k. pos (count_by (λ f. is_polygon p f.near) crossed) -ℤ pos k) (t.fars p in_far)
 
   pub inside : slice_index near p ≡ slice_index far p + 1 → IsInside chains q p
   inside e = subst (IsPolygonCount chains q p) (let is : pos (slice_index near p) -ℤ pos (slice_index far p) ≡ pos 1 = omega (arith, ints, e) in is) counted

@@ -7,13 +7,13 @@ use Rattle.tl_map.specs.declared.polygons.Polygon.{Polygon}
 use Rattle.tl_map.specs.declared.sides.Side.{Side}
 use Rattle.tl_map.specs.TheMap.{TheMap, MapChain, IsChain}
 use Rattle.tl_planar.specs.Keeping.Apart.{one_found}
-use Rattle.tl_inside.specs.Inside.{AreCrossed}
+use Rattle.tl_inside.specs.declared.flanks.Flanks.{Flanks}
 use Rattle.tl_inside.specs.Places.{IsHeldBy, IsOffChains}
 use Rattle.tl_inside.specs.Placed.{IsPlacedIn, IsPointOnChain, IsPointOutside, IsPointInOther}
-use Rattle.tl_inside.specs.Keeping.Tallies.{AreTallies, IsEven, IsOdd}
+use Rattle.tl_inside.specs.Keeping.Tallies.{AreTallies, TellCounts, IsEven, IsOdd}
 use Rattle.tl_inside.proofs.Counting.{inside, not_inside, clear, not_clear}
 
-module _ (m : TheMap) (p : ℕ) (polygon : Polygon) (crossed near far : List ℕ) (is : slice_get m.polygons p ≡ Some polygon) (nears : length near ≡ length m.polygons) (fars : length far ≡ length m.polygons) (are : AreCrossed m.chains polygon.point crossed) (t : AreTallies m.chains crossed near far) where
+module _ (m : TheMap) (p : ℕ) (polygon : Polygon) (crossed : List Flanks) (near far : List ℕ) (is : slice_get m.polygons p ≡ Some polygon) (nears : length near ≡ length m.polygons) (fars : length far ≡ length m.polygons) (tell : TellCounts m.chains polygon.point crossed) (t : AreTallies crossed near far) where
   within : p < length m.polygons
   within = slice_get_within m.polygons p polygon is
 
@@ -22,7 +22,7 @@ module _ (m : TheMap) (p : ℕ) (polygon : Polygon) (crossed near far : List ℕ
     p = p;
     point = polygon.point;
     of = is;
-    outside = not_inside m.chains polygon.point crossed near far are t p (omega (arith, within, nears)) (omega (arith, within, fars)) ne;
+    outside = not_inside m.chains polygon.point crossed near far tell t p (omega (arith, within, nears)) (omega (arith, within, fars)) ne;
   }
 
   pub in_other : (q : ℕ) (other : Polygon) → slice_get m.polygons q ≡ Some other → IsOdd near far p q → IsPointInOther m polygon.key other.key
@@ -34,16 +34,16 @@ module _ (m : TheMap) (p : ℕ) (polygon : Polygon) (crossed near far : List ℕ
     other_point = other.point;
     other_of = other_is;
     two = odd.other;
-    within = not_clear m.chains polygon.point crossed near far are t q odd.within (let lt = odd.within in omega (arith, lt, nears, fars)) odd.differ;
+    within = not_clear m.chains polygon.point crossed near far tell t q odd.within (let lt = odd.within in omega (arith, lt, nears, fars)) odd.differ;
   }
 
   pub placed : IsOffChains m.chains polygon.point → slice_index near p ≡ slice_index far p + 1 → ((q : ℕ) → IsEven near far p q) → IsPlacedIn m polygon.point p
   placed off one even = record {
     off = off;
-    inside = inside m.chains polygon.point crossed near far are t p (omega (arith, within, nears)) (omega (arith, within, fars)) one;
+    inside = inside m.chains polygon.point crossed near far tell t p (omega (arith, within, nears)) (omega (arith, within, fars)) one;
     clear = λ q lt other.
         let in_near : q < length near = omega (arith, lt, nears) in
-        clear m.chains polygon.point crossed near far are t q in_near (omega (arith, lt, fars)) (even q in_near other);
+        clear m.chains polygon.point crossed near far tell t q in_near (omega (arith, lt, fars)) (even q in_near other);
   }
 
 -- a chain that holds a polygon's point, by its TLID

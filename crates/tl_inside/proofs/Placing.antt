@@ -1,5 +1,5 @@
 -- The polygons and the landmarks of a point on no chain.
-use Rattle.std.proofs.Common.{◌≡◌, ◌≢◌, ℕ, ◌<◌, ℤ, pos, ◌-ℤ◌, Bool, true, false, not, eqb, Some, None, List, [], length, get_or, sym, subst, refl, arith}
+use Rattle.std.proofs.Common.{◌≡◌, ◌≢◌, ℕ, ◌<◌, ℤ, pos, ◌-ℤ◌, Bool, true, false, not, eqb, Some, None, Result, Ok, Err, IfOk, List, [], length, get_or, sym, subst, refl, arith}
 use Rattle.std.specs.Prelude.{slice_get, slice_index}
 use Rattle.std.proofs.lemmas.Bool.{eqb-true, eq-eqb, false≢true}
 use Rattle.std.proofs.lemmas.Int.{ints}
@@ -7,11 +7,12 @@ use Rattle.std.proofs.lemmas.Option.{slice_get-get_or}
 use Rattle.tl_geom.specs.declared.point.Point.{Point}
 use Rattle.tl_map.specs.TheMap.{TheMap, MapLandmark}
 use Rattle.tl_map.specs.Landmarks.{ArePolygonsOf}
-use Rattle.tl_inside.specs.Inside.{AreCrossed, IsPolygonCount}
+use Rattle.tl_inside.specs.declared.flanks.Flanks.{Flanks}
+use Rattle.tl_inside.specs.Inside.{IsPolygonCount}
 use Rattle.tl_inside.specs.Places.{AreCounted, IsCountOf}
 use Rattle.tl_inside.specs.Keeping.Listed.{passing, differ_at}
 use Rattle.tl_inside.specs.Keeping.Sums.{sum_at, polygons_of, sums_differ}
-use Rattle.tl_inside.specs.Keeping.Tallies.{AreTallies}
+use Rattle.tl_inside.specs.Keeping.Tallies.{AreTallies, TellCounts}
 use Rattle.tl_inside.proofs.Counting.{counted}
 use Rattle.tl_inside.proofs.Passing.{counted_by}
 use Rattle.tl_inside.proofs.Summing.{landmark_count}
@@ -36,7 +37,7 @@ apart m n ne e = ne (omega (arith, ints, e))
 together : (m n : ℕ) → m ≡ n → pos m -ℤ pos n ≡ pos 0
 together m n e = omega (arith, ints, e)
 
-module _ (m : TheMap) (q : Point) (crossed near far : List ℕ) (are : AreCrossed m.chains q crossed) (t : AreTallies m.chains crossed near far) (nears : length near ≡ length m.polygons) (fars : length far ≡ length m.polygons) where
+module _ (m : TheMap) (q : Point) (crossed : List Flanks) (near far : List ℕ) (tell : TellCounts m.chains q crossed) (t : AreTallies crossed near far) (nears : length near ≡ length m.polygons) (fars : length far ≡ length m.polygons) where
   pub polygons_at : AreCounted (length m.polygons) (IsPolygonCount m.chains q) (passing (differ_at near far) (length m.polygons))
   polygons_at =
       counted_by (differ_at near far) (IsPolygonCount m.chains q) (length m.polygons)
@@ -44,7 +45,7 @@ module _ (m : TheMap) (q : Point) (crossed near far : List ℕ) (are : AreCrosse
       (λ p lt e. subst (IsPolygonCount m.chains q p) (together (slice_index near p) (slice_index far p) (alike (slice_index near p) (slice_index far p) e)) (count p lt))
     where
       count : (p : ℕ) → p < length m.polygons → IsPolygonCount m.chains q p (pos (slice_index near p) -ℤ pos (slice_index far p))
-      count p lt = counted m.chains q crossed near far are t p (omega (arith, lt, nears)) (omega (arith, lt, fars))
+      count p lt = counted m.chains q crossed near far tell t p (omega (arith, lt, nears)) (omega (arith, lt, fars))
 
   module _ (of : (l : ℕ) (landmark : MapLandmark) → slice_get m.landmarks l ≡ Some landmark → ArePolygonsOf (length m.polygons) landmark.polygons) where
     pub landmarks_at : AreCounted (length m.landmarks) (IsCountOf m q) (passing (sums_differ m.landmarks near far) (length m.landmarks))
@@ -67,5 +68,9 @@ module _ (m : TheMap) (q : Point) (crossed near far : List ℕ) (are : AreCrosse
               landmark = landmark;
               is = is;
               count =
-                  rw is (landmark_count m.chains q crossed near far landmark.polygons (length m.polygons) are t nears fars (of l landmark is));
+                  rw is (landmark_count m.chains q crossed near far landmark.polygons (length m.polygons) tell t nears fars (of l landmark is));
             }
+
+pub if_ok : {X E : Type 0} {P Q : X → Type 0} (r : Result X E) → ((x : X) → P x → Q x) → IfOk r P → IfOk r Q
+if_ok (Ok x) f h = f x h
+if_ok (Err e) f h = tt

@@ -1,21 +1,23 @@
 -- What is sifted out of what lies in a strip.
-use Rattle.std.proofs.Common.{◌≡◌, ℕ, ◌+◌, ◌<◌, ◌≤◌, cond, eqb, inl, inr, List, [], ◌∷◌, ◌++◌, length, take, All, sym, subst, ap, ◌∙◌, refl, arith}
+use Rattle.std.proofs.Common.{◌≡◌, ℕ, ◌+◌, ◌<◌, ◌≤◌, cond, eqb, inl, inr, List, [], ◌∷◌, ◌++◌, length, take, sym, subst, ap, ◌∙◌, refl, arith}
 use Rattle.std.specs.Prelude.{slice_index}
 use Rattle.std.proofs.lemmas.Bool.{cases_order}
-use Rattle.std.proofs.lemmas.List.{take_more, take_all}
+use Rattle.std.proofs.lemmas.List.{map-append, take_more, take_all}
 use Rattle.tl_geom.specs.declared.point.Point.{Point}
 use Rattle.tl_map.specs.TheMap.{MapChain}
-use Rattle.tl_map.specs.Segments.{segments_before, IsSegmentOf}
+use Rattle.tl_map.specs.Segments.{IsSegmentOf}
 use Rattle.tl_tree.specs.Hits.{times}
 use Rattle.tl_tree.proofs.Hitting.{times-append}
 use Rattle.tl_tree.proofs.Permuted.{times-other}
 use Rattle.tl_planar.proofs.Numbering.{below_total, one_chain}
-use Rattle.tl_inside.specs.Inside.{IsCrossed, AreCrossed}
+use Rattle.tl_inside.specs.declared.flanks.Flanks.{Flanks}
+use Rattle.tl_inside.specs.Inside.{flanks_at, IsCrossed, AreCrossed}
 use Rattle.tl_inside.specs.Places.{IsHeldBy, IsOffChains}
 use Rattle.tl_inside.specs.Keeping.Probing.{IsHolding}
 use Rattle.tl_inside.specs.Keeping.Strips.{AreEnough}
-use Rattle.tl_inside.specs.Keeping.Sifted.{AreSifted, IsKept}
-use Rattle.tl_inside.proofs.Reaching.{all_below}
+use Rattle.tl_inside.specs.Keeping.Sifted.{AreSifted, AreSiftedFlanks, IsKept}
+use Rattle.tl_inside.specs.Keeping.Tallies.{TellCounts}
+use Rattle.tl_inside.proofs.Counting.{crossed_tell}
 use Rattle.tl_inside.proofs.Holding.{place_of, holder_of}
 
 times-one : (s x : ℕ) → times s (x ∷ []) ≡ cond (eqb s x) 1 0
@@ -54,13 +56,18 @@ module _ (chains : List MapChain) (q : Point) (hits crossed : List ℕ) (k : ℕ
     others = before.others;
   }
 
-  pub sifted_more : (new : List ℕ) → IsKept chains q (slice_index hits k) crossed new → AreSifted chains q hits new (k + 1)
-  sifted_more new (inl h) = subst (λ xs. AreSifted chains q hits xs (k + 1)) (sym h.1) (pushed h.0)
-  sifted_more new (inr h) = subst (λ xs. AreSifted chains q hits xs (k + 1)) (sym h.1) (passed h.0)
-
-pub sifted_below : (chains : List MapChain) (q : Point) (hits crossed : List ℕ) (k : ℕ) → AreSifted chains q hits crossed k → All (λ s. s < segments_before chains (length chains)) crossed
-sifted_below chains q hits crossed k sifted =
-    all_below (segments_before chains (length chains)) crossed (λ s past_all. sifted.others s (λ x. let lt = below_total chains s x.c x.k x.number in omega (arith, lt, past_all)))
+-- one hit more
+pub sifted_more : (chains : List MapChain) (q : Point) (hits : List ℕ) (flanks new : List Flanks) (k : ℕ) → k < length hits → AreSiftedFlanks chains q hits flanks k → ¬ IsHolding chains q (slice_index hits k) → IsKept chains q (slice_index hits k) flanks new → AreSiftedFlanks chains q hits new (k + 1)
+sifted_more chains q hits flanks new k lt before not (inl h) = record {
+  crossed = before.crossed ++ slice_index hits k ∷ [];
+  sifted = pushed chains q hits before.crossed k lt before.sifted not h.0;
+  are = h.1 ∙ ap (λ xs. xs ++ flanks_at chains (slice_index hits k) ∷ []) before.are ∙ sym (map-append (flanks_at chains) before.crossed (slice_index hits k ∷ []));
+}
+sifted_more chains q hits flanks new k lt before not (inr h) = record {
+  crossed = before.crossed;
+  sifted = passed chains q hits before.crossed k lt before.sifted not h.0;
+  are = h.1 ∙ before.are;
+}
 
 -- what holds the point is of a chain that does
 pub held_by : (chains : List MapChain) (q : Point) (s c k : ℕ) → IsHolding chains q s → IsSegmentOf chains s c k → IsHeldBy chains q c
@@ -75,9 +82,12 @@ module _ (chains : List MapChain) (q : Point) (hits crossed : List ℕ) (k : ℕ
       let at = place_of holder.s hits (omega (arith, once)) in
       sifted.off at.place (let w = at.within in omega (arith, w, past)) (subst (IsHolding chains q) (sym at.is) holder.holding)
 
-  pub all_crossed : AreCrossed chains q crossed
+  all_crossed : AreCrossed chains q crossed
   all_crossed = record {
     once = λ s lt x. sifted.crossing s x ∙ ap (times s) (take_all k hits past) ∙ enough.crossed s x;
     others = sifted.others;
     known = λ s past_all. sifted.others s (λ x. let lt = below_total chains s x.c x.k x.number in omega (arith, lt, past_all));
   }
+
+pub all_tell : (chains : List MapChain) (q : Point) (hits : List ℕ) (flanks : List Flanks) (k : ℕ) → length hits ≤ k → AreSiftedFlanks chains q hits flanks k → AreEnough chains q hits → TellCounts chains q flanks
+all_tell chains q hits flanks k past sifted enough = crossed_tell chains q sifted.crossed flanks sifted.are (all_crossed chains q hits sifted.crossed k past sifted.sifted enough)

@@ -6,7 +6,7 @@ use Rattle.std.proofs.lemmas.Bool.{cases_lt}
 use Rattle.std.proofs.lemmas.Option.{slice_get_within}
 use Rattle.std.proofs.lemmas.List.{map-append, length-map, get_or-map}
 use Rattle.std.proofs.lemmas.List.Elements.{All-push, Contains-append_left, Contains-append_right}
-use Rattle.std.proofs.lemmas.List.Sorted.{All-permutation, Contains-permutation, IsPermutation-map}
+use Rattle.std.proofs.lemmas.List.Sorted.{All-permutation, IsPermutation-sym}
 use Rattle.tl_map.specs.TheMap.{TheMap}
 use Rattle.tl_inside.specs.declared.strips.Site.{Site}
 use Rattle.tl_inside.specs.Placed.{ArePlaced, IsPlacedIn}
@@ -36,8 +36,8 @@ whole_more sites new site is before p lt = subst (λ ss. Contains (numbers ss) p
 pub all_moved : (m : TheMap) (old new : List Site) → IsPermutation old new → All (IsSiteOf m) old → All (IsSiteOf m) new
 all_moved m old new moved all = All-permutation (IsSiteOf m) old new moved all
 
-pub whole_moved : (n : ℕ) (old new : List Site) → IsPermutation old new → ((p : ℕ) → p < n → Contains (numbers old) p) → (p : ℕ) → p < n → Contains (numbers new) p
-whole_moved n old new moved whole p lt = Contains-permutation (numbers old) (numbers new) p (IsPermutation-map (λ (s : Site). s.polygon) old new moved) (whole p lt)
+pub placed_moved : (m : TheMap) (old new : List Site) → IsPermutation old new → All (IsPlacedSite m) new → All (IsPlacedSite m) old
+placed_moved m old new moved all = All-permutation (IsPlacedSite m) new old (IsPermutation-sym old new moved) all
 
 -- where all are placed, so are those of all polygons
 pub are_placed : (m : TheMap) (sites : List Site) → All (IsPlacedSite m) sites → ((p : ℕ) → p < length m.polygons → Contains (numbers sites) p) → ArePlaced m

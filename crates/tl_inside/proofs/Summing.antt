@@ -1,5 +1,5 @@
 -- The count of a landmark is the sum of those of its polygons, each of which stands once.
-use Rattle.std.proofs.Common.{◌≡◌, ◌≢◌, ℕ, ◌+◌, pos, ◌-ℤ◌, Bool, true, false, cond, eqb, List, [], ◌∷◌, length, map, All, sum_by, count_by, sym, ap, subst, ◌∙◌, refl, arith}
+use Rattle.std.proofs.Common.{◌≡◌, ◌≢◌, ℕ, ◌+◌, pos, ◌-ℤ◌, Bool, true, false, cond, eqb, List, [], ◌∷◌, length, All, sum_by, count_by, sym, ap, subst, ◌∙◌, refl, arith}
 use Rattle.std.specs.Prelude.{slice_index}
 use Rattle.std.specs.List.{list_any}
 use Rattle.std.proofs.lemmas.Bool.{eqb-true}
@@ -11,8 +11,8 @@ use Rattle.tl_map.specs.declared.sides.Side.TheVariants.{Outside, Polygon}
 use Rattle.tl_map.specs.TheMap.{MapChain}
 use Rattle.tl_map.specs.Landmarks.{AreOnce, ArePolygonsOf}
 use Rattle.tl_inside.specs.declared.flanks.Flanks.{Flanks}
-use Rattle.tl_inside.specs.Inside.{flanks_at, is_polygon, is_among, AreCrossed, IsLandmarkCount}
-use Rattle.tl_inside.specs.Keeping.Tallies.{near_count, far_count, AreTallies}
+use Rattle.tl_inside.specs.Inside.{balance, is_polygon, is_among, IsLandmarkCount}
+use Rattle.tl_inside.specs.Keeping.Tallies.{near_count, far_count, AreTallies, TellCounts}
 use Rattle.tl_inside.specs.Keeping.Sums.{sum_at}
 
 not_in : (other : ℕ) (ps : List ℕ) → All (λ y. y ≢ other) ps → list_any (λ p. eqb other p) ps ≡ false
@@ -73,21 +73,20 @@ same_sums f g (p ∷ ps) h =
     omega (arith, here, rest, one, other)
 
 -- the count of a landmark with these polygons, by how often each is near and far
-pub landmark_count : (chains : List MapChain) (q : Point) (crossed near far ps : List ℕ) (n : ℕ) → AreCrossed chains q crossed → AreTallies chains crossed near far → length near ≡ n → length far ≡ n → ArePolygonsOf n ps → IsLandmarkCount chains q ps (pos (sum_at near ps) -ℤ pos (sum_at far ps))
-landmark_count chains q crossed near far ps n are t nears fars of = record {
-  crossed = crossed;
-  are = are;
-  counted =
-      ap (λ k. pos k -ℤ pos (sum_at far ps)) near_is
-      ∙ ap (λ k. pos (near_count chains crossed (is_among ps)) -ℤ pos k) far_is;
-}
+pub landmark_count : (chains : List MapChain) (q : Point) (crossed : List Flanks) (near far ps : List ℕ) (n : ℕ) → TellCounts chains q crossed → AreTallies crossed near far → length near ≡ n → length far ≡ n → ArePolygonsOf n ps → IsLandmarkCount chains q ps (pos (sum_at near ps) -ℤ pos (sum_at far ps))
+landmark_count chains q crossed near far ps n tell t nears fars of = subst (IsLandmarkCount chains q ps) (sym is) (tell (is_among ps) refl)
   where
-    near_is : sum_at near ps ≡ near_count chains crossed (is_among ps)
+    near_is : sum_at near ps ≡ near_count crossed (is_among ps)
     near_is =
-        same_sums (slice_index near) (λ p. near_count chains crossed (is_polygon p)) ps (λ k d lt. let below = of.below k d lt in t.nears _ (omega (arith, below, nears)))
-        ∙ sym (among_sum (λ f. f.near) ps (map (flanks_at chains) crossed) of.once)
+        same_sums (slice_index near) (λ p. near_count crossed (is_polygon p)) ps (λ k d lt. let below = of.below k d lt in t.nears _ (omega (arith, below, nears)))
+        ∙ sym (among_sum (λ f. f.near) ps crossed of.once)
 
-    far_is : sum_at far ps ≡ far_count chains crossed (is_among ps)
+    far_is : sum_at far ps ≡ far_count crossed (is_among ps)
     far_is =
-        same_sums (slice_index far) (λ p. far_count chains crossed (is_polygon p)) ps (λ k d lt. let below = of.below k d lt in t.fars _ (omega (arith, below, fars)))
-        ∙ sym (among_sum (λ f. f.far) ps (map (flanks_at chains) crossed) of.once)
+        same_sums (slice_index far) (λ p. far_count crossed (is_polygon p)) ps (λ k d lt. let below = of.below k d lt in t.fars _ (omega (arith, below, fars)))
+        ∙ sym (among_sum (λ f. f.far) ps crossed of.once)
+
+    is : pos (sum_at near ps) -ℤ pos (sum_at far ps) ≡ balance (is_among ps) crossed
+    is =
+        ap (λ k. pos k -ℤ pos (sum_at far ps)) near_is
+        ∙ ap (λ k. pos (near_count crossed (is_among ps)) -ℤ pos k) far_is

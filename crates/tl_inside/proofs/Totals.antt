@@ -40,9 +40,9 @@ differences near far counts (p ∷ ps) h =
 pub is_total : (chains : List MapChain) (q : Point) (ps : List ℕ) (n : ℤ) (counts : ℕ → ℤ) → AreOnce ps → IsLandmarkCount chains q ps n → ((p : ℕ) → Contains ps p → IsPolygonCount chains q p (counts p)) → n ≡ total counts ps
 is_total chains q ps n counts once c each =
     c.counted
-    ∙ ap (λ k. pos k -ℤ pos (far_count chains c.crossed (is_among ps))) (among_sum (λ f. f.near) ps (map (flanks_at chains) c.crossed) once)
-    ∙ ap (λ k. pos (sum_by (λ p. near_count chains c.crossed (is_polygon p)) ps) -ℤ pos k) (among_sum (λ f. f.far) ps (map (flanks_at chains) c.crossed) once)
-    ∙ sym (differences (λ p. near_count chains c.crossed (is_polygon p)) (λ p. far_count chains c.crossed (is_polygon p)) counts ps (λ p has.
+    ∙ ap (λ k. pos k -ℤ pos (far_count (map (flanks_at chains) c.crossed) (is_among ps))) (among_sum (λ f. f.near) ps (map (flanks_at chains) c.crossed) once)
+    ∙ ap (λ k. pos (sum_by (λ p. near_count (map (flanks_at chains) c.crossed) (is_polygon p)) ps) -ℤ pos k) (among_sum (λ f. f.far) ps (map (flanks_at chains) c.crossed) once)
+    ∙ sym (differences (λ p. near_count (map (flanks_at chains) c.crossed) (is_polygon p)) (λ p. far_count (map (flanks_at chains) c.crossed) (is_polygon p)) counts ps (λ p has.
     one_count chains q (is_polygon p) (counts p) _ (each p has) (record { crossed = c.crossed; are = c.are; counted = refl })))
 
 -- ---- one polygon alone

@@ -22,6 +22,9 @@ mod strips;
 mod tallies;
 
 pub use flanks::Flanks;
+pub use held::chain_at;
 pub use locating::locate;
-pub use misplaced::{Misplaced, find_misplaced};
+pub use misplaced::{Misplaced, find_among, find_misplaced, misplaced_by, on_chain};
 pub use place::Place;
+pub use strips::{Site, push_site, sites_of};
+pub use tallies::no_counts;

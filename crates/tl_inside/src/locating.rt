@@ -1,14 +1,16 @@
 //! Where a point lies.
 
-ghost use Rattle.std.specs.Prelude.{◌≡◌, ℕ, ◌<◌, List, length, All, IfOk};
+ghost use Rattle.std.specs.Prelude.{◌≡◌, ◌<◌, List, length, All, IfOk};
 ghost use Rattle.tl_geom.specs.declared.point.Point.{Point};
 ghost use Rattle.tl_map.specs.Segments.{segments_before};
 ghost use Rattle.tl_planar.specs.Rectangles.{segment_rect};
+ghost use Rattle.tl_inside.specs.declared.flanks.Flanks.{Flanks};
 ghost use Rattle.tl_inside.specs.Inside.{AreCrossed};
 ghost use Rattle.tl_inside.specs.Places.{IsOffChains, IsPlaceOf};
-ghost use Rattle.tl_inside.specs.Keeping.Tallies.{AreTallies};
+ghost use Rattle.tl_inside.specs.Keeping.Tallies.{AreTallies, TellCounts};
 
 use crate::crossed::list_crossed;
+use crate::flanks::{Flanks, list_flanks};
 use crate::held::chain_at;
 use crate::landmarks::unbalanced_landmarks;
 use crate::listing::unbalanced;
@@ -48,10 +50,20 @@ fn place_by(alloc: Global, map: &Map, crossed: &[u32]) -> Result<Place, Memory>
     ensures { IfOk result (λ place. (q : Point) → AreCrossed map.now.chains q crossed.now → IsOffChains map.now.chains q
         → IsPlaceOf map.now q place) }
 {
+    let mut flanks = Vec::new(alloc);
+    list_flanks(map, crossed, &mut flanks)?;
+    place_by_flanks(alloc, map, &flanks)
+}
+
+/// Where a point lies that is on no chain and whose counts these flanks tell.
+fn place_by_flanks(alloc: Global, map: &Map, flanks: &[Flanks]) -> Result<Place, Memory>
+    ensures { IfOk result (λ place. (q : Point) → TellCounts map.now.chains q flanks.now → IsOffChains map.now.chains q
+        → IsPlaceOf map.now q place) }
+{
     let polygons = map.polygons() as usize;
     let mut near = no_counts(alloc, polygons)?;
     let mut far = no_counts(alloc, polygons)?;
-    tally(map, crossed, &mut near, &mut far);
+    tally(flanks, &mut near, &mut far);
     place_in(alloc, map, &near, &far)
 }
 
@@ -59,8 +71,8 @@ fn place_by(alloc: Global, map: &Map, crossed: &[u32]) -> Result<Place, Memory>
 fn place_in(alloc: Global, map: &Map, near: &[u64], far: &[u64]) -> Result<Place, Memory>
     requires nears { length near.now ≡ length map.now.polygons }
     requires fars { length far.now ≡ length map.now.polygons }
-    ensures { IfOk result (λ place. (q : Point) (crossed : List ℕ) → AreCrossed map.now.chains q crossed
-        → AreTallies map.now.chains crossed near.now far.now → IsOffChains map.now.chains q → IsPlaceOf map.now q place) }
+    ensures { IfOk result (λ place. (q : Point) (crossed : List Flanks) → TellCounts map.now.chains q crossed
+        → AreTallies crossed near.now far.now → IsOffChains map.now.chains q → IsPlaceOf map.now q place) }
 {
     let polygons = unbalanced(alloc, map, near, far)?;
     let landmarks = unbalanced_landmarks(alloc, map, near, far)?;

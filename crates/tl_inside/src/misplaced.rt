@@ -4,16 +4,16 @@ ghost use Rattle.std.specs.Prelude.{◌≡◌, ℕ, ◌<◌, true, Some, length,
 ghost use Rattle.tl_map.specs.Segments.{segments_before};
 ghost use Rattle.tl_planar.specs.Rectangles.{segment_rect};
 ghost use Rattle.tl_inside.specs.Placed.{IsPlacedIn, ArePlaced, IsTrueMisplaced};
-ghost use Rattle.tl_inside.specs.Inside.{AreCrossed, is_polygon};
-ghost use Rattle.tl_inside.specs.Places.{IsOffChains};
+ghost use Rattle.tl_inside.specs.Inside.{is_polygon};
+ghost use Rattle.tl_inside.specs.Places.{IsHeldBy, IsOffChains};
 ghost use Rattle.tl_inside.specs.Keeping.Probing.{ChainsAreInReach};
 ghost use Rattle.tl_inside.specs.Keeping.Strips.{IsSiteOf, IsPlacedSite, AreEnough};
-ghost use Rattle.tl_inside.specs.Keeping.Tallies.{AreTallies, AreNone, IsEven, IsOdd};
+ghost use Rattle.tl_inside.specs.Keeping.Tallies.{AreTallies, TellCounts, AreNone, IsEven, IsOdd};
 
-use crate::flanks::flanks_of;
+use crate::flanks::Flanks;
 use crate::reach::look_at_points;
 use crate::sifting::sift;
-use crate::strips::{Site, list_in_strip, sites_of};
+use crate::strips::{Site, list_in_strip, sites_of, sort_northward};
 use crate::tallies::{no_counts, take_back, tally};
 use std::alloc::Global;
 use tl_map::{Map, Polygon, Side};
@@ -35,8 +35,7 @@ pub enum Misplaced {
 const TOGETHER: usize = 16;
 
 /// Looks for a polygon whose point is on a chain, isn't inside its polygon or isn't clear of another, by any index that
-/// fits the map's segments. Points beside each other are looked at together, by one search for what lies east of them.
-/// Memory is taken for all points at once.
+/// fits the map's segments.
 pub fn find_misplaced<X: BoxIndex>(
     alloc: Global,
     map: &Map,
@@ -45,17 +44,33 @@ pub fn find_misplaced<X: BoxIndex>(
     requires fits { X.fits index.now (segments_before map.now.chains (length map.now.chains)) (segment_rect map.now.chains) }
     ensures { IfOk result (λ found. MatchOption found (ArePlaced map.now) (IsTrueMisplaced map.now)) }
 {
+    let mut sites = sites_of(alloc, map)?;
+    find_among(alloc, map, index, &mut sites)
+}
+
+/// Looks at the points of some polygons, which are sorted from south to north. Those beside each other are looked at
+/// together, by one search for what lies east of them. Memory is taken for all points at once.
+pub fn find_among<X: BoxIndex>(
+    alloc: Global,
+    map: &Map,
+    index: &X,
+    sites: &mut Vec<Site>,
+) -> Result<Option<Misplaced>, Memory>
+    requires fits { X.fits index.now (segments_before map.now.chains (length map.now.chains)) (segment_rect map.now.chains) }
+    requires sites { All (IsSiteOf map.now) sites.old.items }
+    ensures { IfOk result (λ found. MatchOption found (All (IsPlacedSite map.now) sites.old.items) (IsTrueMisplaced map.now)) }
+{
     look_at_points(map);
-    let sites = sites_of(alloc, map)?;
+    sort_northward(sites);
     let polygons = map.polygons() as usize;
     let mut hits = Vec::new(alloc);
     let mut crossed = Vec::new(alloc);
     let mut near = no_counts(alloc, polygons)?;
     let mut far = no_counts(alloc, polygons)?;
-    find_among(
+    find_in_order(
         map,
         index,
-        &sites,
+        sites,
         &mut hits,
         &mut crossed,
         &mut near,
@@ -63,13 +78,13 @@ pub fn find_misplaced<X: BoxIndex>(
     )
 }
 
-/// Looks at all points, where nothing is counted yet.
-fn find_among<X: BoxIndex>(
+/// Looks at these points in their order, where nothing is counted yet.
+fn find_in_order<X: BoxIndex>(
     map: &Map,
     index: &X,
     sites: &[Site],
     hits: &mut Vec<u32>,
-    crossed: &mut Vec<u32>,
+    crossed: &mut Vec<Flanks>,
     near: &mut [u64],
     far: &mut [u64],
 ) -> Result<Option<Misplaced>, Memory>
@@ -99,7 +114,7 @@ fn find_beside<X: BoxIndex>(
     index: &X,
     sites: &[Site],
     hits: &mut Vec<u32>,
-    crossed: &mut Vec<u32>,
+    crossed: &mut Vec<Flanks>,
     near: &mut [u64],
     far: &mut [u64],
 ) -> Result<Option<Misplaced>, Memory>
@@ -132,7 +147,7 @@ fn misplaced_at(
     map: &Map,
     site: Site,
     hits: &[u32],
-    crossed: &mut Vec<u32>,
+    crossed: &mut Vec<Flanks>,
     near: &mut [u64],
     far: &mut [u64],
 ) -> Result<Option<Misplaced>, Memory>
@@ -151,38 +166,66 @@ fn misplaced_at(
 {
     let polygon = map.polygon(site.polygon);
     match sift(map, hits, polygon.point, crossed)? {
-        Some(c) => {
-            return Ok(Some(Misplaced::OnChain {
-                polygon: polygon.key,
-                tlid: map.chain(c).tlid,
-            }));
-        }
-        None => {}
+        Some(c) => Ok(Some(on_chain(map, polygon, c))),
+        None => Ok(misplaced_by(map, site.polygon, polygon, crossed, near, far)),
     }
-    let crossed = &crossed[..];
-    tally(map, crossed, near, far);
-    let found = misplaced_by(map, site.polygon, polygon, crossed, near, far);
-    take_back(map, crossed, near, far);
-    Ok(found)
 }
 
-/// What is wrong with where the point of polygon `p` lies, which is on no chain, by the segments that its ray crosses and
-/// the counts of their sides.
-fn misplaced_by(
+/// That the point of a polygon lies on the chain of this number.
+pub fn on_chain(map: &Map, polygon: Polygon, c: u32) -> Misplaced
+    requires { IsHeldBy map.now.chains polygon.point c }
+    ensures { (p : ℕ) → slice_get map.now.polygons p ≡ Some polygon → IsTrueMisplaced map.now result }
+{
+    Misplaced::OnChain {
+        polygon: polygon.key,
+        tlid: map.chain(c).tlid,
+    }
+}
+
+/// What is wrong with where the point of polygon `p` lies, which is on no chain, by flanks that tell the counts there.
+/// Nothing is counted before it, and what it counts is taken back.
+pub fn misplaced_by(
     map: &Map,
     p: u32,
     polygon: Polygon,
-    crossed: &[u32],
+    crossed: &[Flanks],
+    near: &mut [u64],
+    far: &mut [u64],
+) -> Option<Misplaced>
+    requires is { slice_get map.now.polygons p ≡ Some polygon }
+    requires off { IsOffChains map.now.chains polygon.point }
+    requires tell { TellCounts map.now.chains polygon.point crossed.now }
+    requires nears { length near.old ≡ length map.now.polygons }
+    requires fars { length far.old ≡ length map.now.polygons }
+    requires no_near { AreNone near.old }
+    requires no_far { AreNone far.old }
+    ensures found { MatchOption result (IsPlacedIn map.now polygon.point p) (IsTrueMisplaced map.now) }
+    ensures nears { length near.new ≡ length near.old }
+    ensures fars { length far.new ≡ length far.old }
+    ensures no_near { AreNone near.new }
+    ensures no_far { AreNone far.new }
+{
+    tally(crossed, near, far);
+    let found = misplaced_at_counts(map, p, polygon, crossed, near, far);
+    take_back(crossed, near, far);
+    found
+}
+
+/// The same by the counts of the sides.
+fn misplaced_at_counts(
+    map: &Map,
+    p: u32,
+    polygon: Polygon,
+    crossed: &[Flanks],
     near: &[u64],
     far: &[u64],
 ) -> Option<Misplaced>
     requires is { slice_get map.now.polygons p ≡ Some polygon }
-    requires known { All (λ s. s < segments_before map.now.chains (length map.now.chains)) crossed.now }
-    requires are { AreCrossed map.now.chains polygon.point crossed.now }
     requires off { IsOffChains map.now.chains polygon.point }
+    requires tell { TellCounts map.now.chains polygon.point crossed.now }
     requires nears { length near.now ≡ length map.now.polygons }
     requires fars { length far.now ≡ length map.now.polygons }
-    requires tallies { AreTallies map.now.chains crossed.now near.now far.now }
+    requires tallies { AreTallies crossed.now near.now far.now }
     ensures { MatchOption result (IsPlacedIn map.now polygon.point p) (IsTrueMisplaced map.now) }
 {
     let own = p as usize;
@@ -191,7 +234,7 @@ fn misplaced_by(
             polygon: polygon.key,
         });
     }
-    match find_odd(map, p, crossed, near, far) {
+    match find_odd(p, crossed, near, far) {
         Some(q) => Some(Misplaced::InOther {
             polygon: polygon.key,
             other: map.polygon(q).key,
@@ -200,15 +243,14 @@ fn misplaced_by(
     }
 }
 
-/// A polygon beside the one of this number that is near and far not equally often, by these crossed segments.
-fn find_odd(map: &Map, own: u32, crossed: &[u32], near: &[u64], far: &[u64]) -> Option<u32>
-    requires known { All (λ s. s < segments_before map.now.chains (length map.now.chains)) crossed.now }
+/// A polygon beside the one of this number that is near and far not equally often, by these flanks.
+fn find_odd(own: u32, crossed: &[Flanks], near: &[u64], far: &[u64]) -> Option<u32>
     requires alike { length far.now ≡ length near.now }
-    requires tallies { AreTallies map.now.chains crossed.now near.now far.now }
+    requires tallies { AreTallies crossed.now near.now far.now }
     ensures { MatchOption result ((q : ℕ) → IsEven near.now far.now own q) (IsOdd near.now far.now own) }
 {
     for place in 0..crossed.len() {
-        let flanks = flanks_of(map, crossed[place]);
+        let flanks = crossed[place];
         match odd_side(own, flanks.near, near, far) {
             Some(q) => return Some(q),
             None => {}

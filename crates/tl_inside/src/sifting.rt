@@ -1,32 +1,32 @@
 //! What holds a point, or is crossed by its ray, among what lies in its strip.
 
-ghost use Rattle.std.specs.Prelude.{◌<◌, ◌↔◌, IsTrue, length, All, IfOk, OnOk, MatchOption, ⊤};
+ghost use Rattle.std.specs.Prelude.{◌<◌, ◌↔◌, IsTrue, length, IfOk, OnOk, MatchOption, ⊤};
 ghost use Rattle.tl_map.specs.Segments.{segments_before};
-ghost use Rattle.tl_inside.specs.Inside.{IsCrossed, AreCrossed};
+ghost use Rattle.tl_inside.specs.Inside.{IsCrossed};
 ghost use Rattle.tl_inside.specs.Places.{IsHeldBy, IsOffChains};
 ghost use Rattle.tl_inside.specs.Keeping.Probing.{IsHolding};
 ghost use Rattle.tl_inside.specs.Keeping.Strips.{AreEnough};
 ghost use Rattle.tl_inside.specs.Keeping.Sifted.{IsKept};
+ghost use Rattle.tl_inside.specs.Keeping.Tallies.{TellCounts};
 
+use crate::flanks::{Flanks, flanks_of};
 use tl_geom::{Point, crosses_ray, on};
 use tl_map::Map;
 use tl_tree::Memory;
 
-/// A chain that holds the point, if one does; else the segments that the ray crosses are listed, in the place of those
-/// that were.
+/// A chain that holds the point, if one does; else the flanks of the segments that the ray crosses are listed, in the place
+/// of those that were.
 pub fn sift(
     map: &Map,
     hits: &[u32],
     point: Point,
-    crossed: &mut Vec<u32>,
+    crossed: &mut Vec<Flanks>,
 ) -> Result<Option<u32>, Memory>
     requires enough { AreEnough map.now.chains point hits.now }
     ensures held { IfOk result (λ found.
         MatchOption found (IsOffChains map.now.chains point) (IsHeldBy map.now.chains point)) }
-    ensures known { OnOk result
-        (All (λ s. s < segments_before map.now.chains (length map.now.chains)) crossed.new.items) }
-    ensures are { IfOk result (λ found.
-        MatchOption found (AreCrossed map.now.chains point crossed.new.items) (λ c. ⊤)) }
+    ensures tell { IfOk result (λ found.
+        MatchOption found (TellCounts map.now.chains point crossed.new.items) (λ c. ⊤)) }
 {
     crossed.clear();
     for place in 0..hits.len() {
@@ -54,15 +54,15 @@ fn is_crossed(map: &Map, s: u32, point: Point) -> bool
     crosses_ray(map.segment(s), point)
 }
 
-/// Appends the segment, if the ray crosses it.
-fn keep_if_crossed(map: &Map, s: u32, point: Point, crossed: &mut Vec<u32>) -> Result<(), Memory>
+/// Appends the flanks of the segment, if the ray crosses it.
+fn keep_if_crossed(map: &Map, s: u32, point: Point, crossed: &mut Vec<Flanks>) -> Result<(), Memory>
     requires { s < segments_before map.now.chains (length map.now.chains) }
     ensures { OnOk result (IsKept map.now.chains point s crossed.old.items crossed.new.items) }
 {
     if !is_crossed(map, s, point) {
         return Ok(());
     }
-    match crossed.push(s) {
+    match crossed.push(flanks_of(map, s)) {
         Ok(()) => Ok(()),
         Err(_) => Err(Memory),
     }

@@ -22,18 +22,8 @@ pub struct Site {
     pub point: Point,
 }
 
-/// The points of all polygons, from south to north.
-pub fn sites_of(alloc: Global, map: &Map) -> Result<Vec<Site>, Memory>
-    ensures sites { IfOk result (λ sites. All (IsSiteOf map.now) sites.items) }
-    ensures whole { IfOk result (λ sites. (p : ℕ) → p < length map.now.polygons → Contains (numbers sites.items) p) }
-{
-    let mut sites = list_sites(alloc, map)?;
-    sort_northward(&mut sites);
-    Ok(sites)
-}
-
 /// The points of all polygons, by the polygons' numbers.
-fn list_sites(alloc: Global, map: &Map) -> Result<Vec<Site>, Memory>
+pub fn sites_of(alloc: Global, map: &Map) -> Result<Vec<Site>, Memory>
     ensures sites { IfOk result (λ sites. All (IsSiteOf map.now) sites.items) }
     ensures whole { IfOk result (λ sites. (p : ℕ) → p < length map.now.polygons → Contains (numbers sites.items) p) }
 {
@@ -45,7 +35,7 @@ fn list_sites(alloc: Global, map: &Map) -> Result<Vec<Site>, Memory>
     Ok(sites)
 }
 
-fn push_site(sites: &mut Vec<Site>, site: Site) -> Result<(), Memory>
+pub fn push_site(sites: &mut Vec<Site>, site: Site) -> Result<(), Memory>
     ensures { OnOk result (sites.new.items ≡ sites.old.items ++ site ∷ []) }
 {
     match sites.push(site) {
@@ -55,7 +45,7 @@ fn push_site(sites: &mut Vec<Site>, site: Site) -> Result<(), Memory>
 }
 
 /// Sorts points from south to north, in place.
-fn sort_northward(sites: &mut Vec<Site>)
+pub fn sort_northward(sites: &mut Vec<Site>)
     ensures moved { IsPermutation sites.old.items sites.new.items }
 {
     sites.sort_unstable_by_key(|site| site.point.y);

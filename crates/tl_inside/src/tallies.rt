@@ -1,13 +1,12 @@
-//! How often each polygon is near and far over crossed segments.
+//! How often each polygon is near and far, over the flanks of crossed segments.
 
-ghost use Rattle.std.specs.Prelude.{◌≡◌, ℕ, ◌+◌, ◌<◌, ◌≤◌, ◌^◌, if◌then◌else◌, length, slice_index, All, IfOk};
-ghost use Rattle.tl_map.specs.Segments.{segments_before};
+ghost use Rattle.std.specs.Prelude.{◌≡◌, ℕ, ◌+◌, ◌<◌, ◌≤◌, ◌^◌, if◌then◌else◌, length, slice_index, IfOk};
 ghost use Rattle.tl_inside.specs.Inside.{is_polygon};
 ghost use Rattle.tl_inside.specs.Keeping.Tallies.{AreTallies, AreNone};
 
-use crate::flanks::flanks_of;
+use crate::flanks::Flanks;
 use std::alloc::Global;
-use tl_map::{Map, Side};
+use tl_map::Side;
 use tl_tree::Memory;
 
 /// So many counts of nothing.
@@ -21,33 +20,31 @@ pub fn no_counts(alloc: Global, polygons: usize) -> Result<Vec<u64>, Memory>
     }
 }
 
-/// Counts of each polygon how many of the crossed segments have it near, and how many have it far; no count is there yet.
-pub fn tally(map: &Map, crossed: &[u32], near: &mut [u64], far: &mut [u64])
-    requires known { All (λ s. s < segments_before map.now.chains (length map.now.chains)) crossed.now }
+/// Counts of each polygon over how many of the flanks it is near, and over how many far; no count is there yet.
+pub fn tally(crossed: &[Flanks], near: &mut [u64], far: &mut [u64])
     requires no_near { AreNone near.old }
     requires no_far { AreNone far.old }
     ensures nears { length near.new ≡ length near.old }
     ensures fars { length far.new ≡ length far.old }
-    ensures tallies { AreTallies map.now.chains crossed.now near.new far.new }
+    ensures tallies { AreTallies crossed.now near.new far.new }
 {
     for place in 0..crossed.len() {
-        let flanks = flanks_of(map, crossed[place]);
+        let flanks = crossed[place];
         count(near, flanks.near);
         count(far, flanks.far);
     }
 }
 
 /// Takes back what was counted.
-pub fn take_back(map: &Map, crossed: &[u32], near: &mut [u64], far: &mut [u64])
-    requires known { All (λ s. s < segments_before map.now.chains (length map.now.chains)) crossed.now }
-    requires tallies { AreTallies map.now.chains crossed.now near.old far.old }
+pub fn take_back(crossed: &[Flanks], near: &mut [u64], far: &mut [u64])
+    requires tallies { AreTallies crossed.now near.old far.old }
     ensures nears { length near.new ≡ length near.old }
     ensures fars { length far.new ≡ length far.old }
     ensures no_near { AreNone near.new }
     ensures no_far { AreNone far.new }
 {
     for place in 0..crossed.len() {
-        let flanks = flanks_of(map, crossed[place]);
+        let flanks = crossed[place];
         discount(near, flanks.near);
         discount(far, flanks.far);
     }

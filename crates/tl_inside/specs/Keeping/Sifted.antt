@@ -1,9 +1,10 @@
 -- What is sifted out of the first hits.
-use Rattle.std.specs.Prelude.{◌≡◌, ◌⊎◌, ℕ, ◌<◌, List, [], ◌∷◌, ◌++◌, take, slice_index}
+use Rattle.std.specs.Prelude.{◌≡◌, ◌⊎◌, ℕ, ◌<◌, List, [], ◌∷◌, ◌++◌, map, take, slice_index}
 use Rattle.tl_geom.specs.declared.point.Point.{Point}
 use Rattle.tl_map.specs.TheMap.{MapChain}
 use Rattle.tl_tree.specs.Hits.{times}
-use Rattle.tl_inside.specs.Inside.{IsCrossed}
+use Rattle.tl_inside.specs.declared.flanks.Flanks.{Flanks}
+use Rattle.tl_inside.specs.Inside.{flanks_at, IsCrossed}
 use Rattle.tl_inside.specs.Keeping.Probing.{IsHolding}
 
 -- none of the first k hits holds the point, and those of them that its ray crosses are listed, and nothing else
@@ -12,6 +13,12 @@ pub record AreSifted (chains : List MapChain) (q : Point) (hits crossed : List �
   pub crossing : (s : ℕ) → IsCrossed chains q s → times s crossed ≡ times s (take k hits)
   pub others : (s : ℕ) → ¬ IsCrossed chains q s → times s crossed ≡ 0
 
--- the segment is appended where the ray crosses it, and else nothing
-abbrev pub IsKept : List MapChain → Point → ℕ → List ℕ → List ℕ → Type 0
-IsKept chains q s old new = (IsCrossed chains q s × (new ≡ old ++ s ∷ [])) ⊎ ((¬ IsCrossed chains q s) × (new ≡ old))
+-- and these are the flanks of those that are listed
+pub record AreSiftedFlanks (chains : List MapChain) (q : Point) (hits : List ℕ) (flanks : List Flanks) (k : ℕ) : Type 0 where
+  pub crossed : List ℕ
+  pub sifted : AreSifted chains q hits crossed k
+  pub are : flanks ≡ map (flanks_at chains) crossed
+
+-- the flanks of the segment are appended where the ray crosses it, and else nothing
+abbrev pub IsKept : List MapChain → Point → ℕ → List Flanks → List Flanks → Type 0
+IsKept chains q s old new = (IsCrossed chains q s × (new ≡ old ++ flanks_at chains s ∷ [])) ⊎ ((¬ IsCrossed chains q s) × (new ≡ old))

@@ -6,10 +6,10 @@ use Rattle.tl_inside.proofs.Placing.{polygons_at, landmarks_at}
 use Rattle.tl_inside.proofs.locating.place_in.Goals as goal
 
 pub returns : goal.returns
-returns c = λ q crossed are t off. (
+returns c = λ q crossed tell t off. (
   off,
   subst (AreCounted (length c.args.map.now.polygons) (IsPolygonCount c.args.map.now.chains q)) (sym c.in_ok-polygons.ensures)
-      (polygons_at c.args.map.now q crossed c.args.near.now c.args.far.now are t c.requires.nears c.requires.fars),
+      (polygons_at c.args.map.now q crossed c.args.near.now c.args.far.now tell t c.requires.nears c.requires.fars),
   subst (AreCounted (length c.args.map.now.landmarks) (IsCountOf c.args.map.now q)) (sym c.in_ok-landmarks.ensures.listed)
-      (landmarks_at c.args.map.now q crossed c.args.near.now c.args.far.now are t c.requires.nears c.requires.fars c.in_ok-landmarks.ensures.polygons),
+      (landmarks_at c.args.map.now q crossed c.args.near.now c.args.far.now tell t c.requires.nears c.requires.fars c.in_ok-landmarks.ensures.polygons),
 )

@@ -1,25 +1,16 @@
-use Rattle.std.proofs.Common.{◌+◌, ◌*◌, ◌∙◌, arith}
-use Rattle.tl_inside.specs.Keeping.Strips.{IsPlacedSite}
-use Rattle.tl_inside.proofs.Misplacing.{told_none}
-use Rattle.tl_inside.proofs.Stripping.{some_more, all_seen}
+use Rattle.std.proofs.Common.{All, sym, subst}
+use Rattle.tl_inside.specs.Placed.{IsTrueMisplaced}
+use Rattle.tl_inside.specs.Keeping.Strips.{IsSiteOf, IsPlacedSite}
+use Rattle.tl_inside.proofs.Sites.{all_moved, placed_moved}
+use Rattle.tl_inside.proofs.Stripping.{placed_answer}
 use Rattle.tl_inside.proofs.misplaced.find_among.Goals as goal
 
-pub loop-batch-preserved : goal.loop-batch-preserved
-loop-batch-preserved g c = record {
-  nears = c.in_ok-found.ensures.nears ∙ c.loop-batch.invariant.nears;
-  fars = c.in_ok-found.ensures.fars ∙ c.loop-batch.invariant.fars;
-  no_near = c.in_ok-found.ensures.no_near;
-  no_far = c.in_ok-found.ensures.no_far;
-  placed =
-      some_more (IsPlacedSite c.args.map.now) c.args.sites.now (c.loop-batch.batch * 16) c.min-end.result ((c.loop-batch.batch + 1) * 16)
-      (omega (arith, c.min-end.ensures, c.loop-batch-test.true, c.loop-batch.auto.batch-end, c.div_ceil-batch-end.ensures))
-      (omega (arith, c.min-end.ensures))
-      (λ k lt inside. omega (arith, c.min-end.ensures, lt, inside))
-      c.loop-batch.invariant.placed
-      (told_none _ _ c.in_ok-found.field-0 c.in-None.is c.in_ok-found.ensures.found);
-}
+pub find_in_order-requires-clause-sites : goal.find_in_order-requires-clause-sites
+find_in_order-requires-clause-sites g c =
+    subst (All (IsSiteOf c.args.map.now)) (sym c.deref.ensures.value)
+    (all_moved c.args.map.now c.args.sites.now.items c.sort_northward.new.sites.items c.sort_northward.ensures.moved c.requires.sites)
 
 pub returns : goal.returns
 returns g c =
-    all_seen (IsPlacedSite c.args.map.now) c.args.sites.now (c.loop-batch.batch * 16)
-    (omega (arith, c.loop-batch-test.false, c.loop-batch.auto.batch-end, c.div_ceil-batch-end.ensures)) c.loop-batch.invariant.placed
+    placed_answer (IsTrueMisplaced c.args.map.now) c.find_in_order.result
+    (λ all. placed_moved c.args.map.now c.args.sites.now.items c.sort_northward.new.sites.items c.sort_northward.ensures.moved (subst (All (IsPlacedSite c.args.map.now)) c.deref.ensures.value all)) c.find_in_order.ensures

@@ -1,19 +1,13 @@
 use Rattle.std.proofs.Common.{sym, ◌∙◌, arith}
 use Rattle.std.proofs.lemmas.Bool.{false≢true}
-use Rattle.tl_inside.proofs.SiftLemmas.{sifted_more, sifted_below, held_by, none_holds, all_crossed}
+use Rattle.tl_inside.proofs.SiftLemmas.{sifted_more, held_by, none_holds, all_tell}
 use Rattle.tl_inside.proofs.sifting.sift.Goals as goal
 
 pub returns-clause-held : goal.returns-clause-held
-returns-clause-held c = none_holds c.args.map.now.chains c.args.point c.args.hits.now c.loop-place.crossed.items c.loop-place.place (omega (arith, c.loop-place-test.false, c.loop-place.auto.place-end)) c.loop-place.invariant c.requires.enough
+returns-clause-held c = none_holds c.args.map.now.chains c.args.point c.args.hits.now c.loop-place.invariant.crossed c.loop-place.place (omega (arith, c.loop-place-test.false, c.loop-place.auto.place-end)) c.loop-place.invariant.sifted c.requires.enough
 
-pub returns-clause-are : goal.returns-clause-are
-returns-clause-are c = all_crossed c.args.map.now.chains c.args.point c.args.hits.now c.loop-place.crossed.items c.loop-place.place (omega (arith, c.loop-place-test.false, c.loop-place.auto.place-end)) c.loop-place.invariant c.requires.enough
-
-pub returns-clause-known : goal.returns-clause-known
-returns-clause-known c = sifted_below c.args.map.now.chains c.args.point c.args.hits.now c.loop-place.crossed.items c.loop-place.place c.loop-place.invariant
-
-pub returns-then-is_holding-clause-known : goal.returns-then-is_holding-clause-known
-returns-then-is_holding-clause-known c = sifted_below c.args.map.now.chains c.args.point c.args.hits.now c.loop-place.crossed.items c.loop-place.place c.loop-place.invariant
+pub returns-clause-tell : goal.returns-clause-tell
+returns-clause-tell c = all_tell c.args.map.now.chains c.args.point c.args.hits.now c.loop-place.crossed.items c.loop-place.place (omega (arith, c.loop-place-test.false, c.loop-place.auto.place-end)) c.loop-place.invariant c.requires.enough
 
 pub returns-then-is_holding-clause-held : goal.returns-then-is_holding-clause-held
 returns-then-is_holding-clause-held c =
@@ -21,5 +15,5 @@ returns-then-is_holding-clause-held c =
 
 pub loop-place-preserved : goal.loop-place-preserved
 loop-place-preserved c =
-    sifted_more c.args.map.now.chains c.args.point c.args.hits.now c.loop-place.crossed.items c.loop-place.place (omega (arith, c.loop-place-test.true, c.loop-place.auto.place-end)) c.loop-place.invariant
-    (λ h. false≢true (sym c.if-is_holding.false ∙ c.is_holding.ensures.1 h)) c.keep_if_crossed.new.crossed.items c.in_ok-keep_if_crossed.ensures
+    sifted_more c.args.map.now.chains c.args.point c.args.hits.now c.loop-place.crossed.items c.keep_if_crossed.new.crossed.items c.loop-place.place (omega (arith, c.loop-place-test.true, c.loop-place.auto.place-end)) c.loop-place.invariant
+    (λ h. false≢true (sym c.if-is_holding.false ∙ c.is_holding.ensures.1 h)) c.in_ok-keep_if_crossed.ensures

@@ -1,6 +1,10 @@
-use Rattle.std.proofs.Common.{length}
-use Rattle.tl_inside.proofs.Sites.{whole_moved}
+use Rattle.std.proofs.Common.{refl}
+use Rattle.tl_inside.proofs.Sites.{site_more, whole_more}
 use Rattle.tl_inside.proofs.strips.sites_of.Goals as goal
 
-pub returns-clause-whole : goal.returns-clause-whole
-returns-clause-whole c = whole_moved (length c.args.map.now.polygons) c.in_ok-sites.sites.items c.sort_northward.new.sites.items c.sort_northward.ensures.moved c.in_ok-sites.ensures.whole
+pub loop-polygon-preserved : goal.loop-polygon-preserved
+loop-polygon-preserved c = record {
+  sites = site_more c.args.map.now c.loop-polygon.sites.items c.push_site.new.sites.items (record { polygon = c.loop-polygon.polygon; point = c.polygon.result.point }) c.in_ok-push_site.ensures c.loop-polygon.invariant.sites
+      (record { polygon = c.polygon.result; is = c.polygon.ensures; point = refl });
+  whole = whole_more c.loop-polygon.sites.items c.push_site.new.sites.items (record { polygon = c.loop-polygon.polygon; point = c.polygon.result.point }) c.in_ok-push_site.ensures c.loop-polygon.invariant.whole;
+}

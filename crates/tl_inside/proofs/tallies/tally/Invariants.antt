@@ -2,10 +2,10 @@ use Rattle.std.proofs.Common.{◌≡◌, length, take}
 use Rattle.tl_inside.specs.Keeping.Tallies.{AreTallies}
 use Rattle.tl_inside.proofs.tallies.tally.Given as goal
 
--- the crossed segments so far are counted
+-- the flanks so far are counted
 abbrev pub invariant-loop-place : goal.invariant-loop-place
 invariant-loop-place l = record {
   nears : length l.near ≡ length l.fn.near;
   fars : length l.far ≡ length l.fn.far;
-  tallies : AreTallies l.map.chains (take l.place l.crossed) l.near l.far;
+  tallies : AreTallies (take l.place l.crossed) l.near l.far;
 }

@@ -2,7 +2,7 @@ use Rattle.std.proofs.Common.{◌≡◌, ℕ, ◌*◌, ◌<◌, length, get_or}
 use Rattle.tl_inside.specs.declared.strips.Site.{Site}
 use Rattle.tl_inside.specs.Keeping.Strips.{IsPlacedSite}
 use Rattle.tl_inside.specs.Keeping.Tallies.{AreNone}
-use Rattle.tl_inside.proofs.misplaced.find_among.Given as goal
+use Rattle.tl_inside.proofs.misplaced.find_in_order.Given as goal
 
 -- nothing is wrong with the points so far, and nothing is counted
 abbrev pub invariant-loop-batch : goal.invariant-loop-batch

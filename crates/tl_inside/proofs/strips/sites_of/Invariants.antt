@@ -1,6 +1,6 @@
 use Rattle.std.proofs.Common.{ℕ, ◌<◌, All, Contains}
 use Rattle.tl_inside.specs.Keeping.Strips.{IsSiteOf, numbers}
-use Rattle.tl_inside.proofs.strips.list_sites.Given as goal
+use Rattle.tl_inside.proofs.strips.sites_of.Given as goal
 
 -- the points of the polygons so far
 abbrev pub invariant-loop-polygon : goal.invariant-loop-polygon

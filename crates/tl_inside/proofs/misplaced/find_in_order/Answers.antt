@@ -1,0 +1,25 @@
+use Rattle.std.proofs.Common.{◌+◌, ◌*◌, ◌∙◌, arith}
+use Rattle.tl_inside.specs.Keeping.Strips.{IsPlacedSite}
+use Rattle.tl_inside.proofs.Misplacing.{told_none}
+use Rattle.tl_inside.proofs.Stripping.{some_more, all_seen}
+use Rattle.tl_inside.proofs.misplaced.find_in_order.Goals as goal
+
+pub loop-batch-preserved : goal.loop-batch-preserved
+loop-batch-preserved g c = record {
+  nears = c.in_ok-found.ensures.nears ∙ c.loop-batch.invariant.nears;
+  fars = c.in_ok-found.ensures.fars ∙ c.loop-batch.invariant.fars;
+  no_near = c.in_ok-found.ensures.no_near;
+  no_far = c.in_ok-found.ensures.no_far;
+  placed =
+      some_more (IsPlacedSite c.args.map.now) c.args.sites.now (c.loop-batch.batch * 16) c.min-end.result ((c.loop-batch.batch + 1) * 16)
+      (omega (arith, c.min-end.ensures, c.loop-batch-test.true, c.loop-batch.auto.batch-end, c.div_ceil-batch-end.ensures))
+      (omega (arith, c.min-end.ensures))
+      (λ k lt inside. omega (arith, c.min-end.ensures, lt, inside))
+      c.loop-batch.invariant.placed
+      (told_none _ _ c.in_ok-found.field-0 c.in-None.is c.in_ok-found.ensures.found);
+}
+
+pub returns : goal.returns
+returns g c =
+    all_seen (IsPlacedSite c.args.map.now) c.args.sites.now (c.loop-batch.batch * 16)
+    (omega (arith, c.loop-batch-test.false, c.loop-batch.auto.batch-end, c.div_ceil-batch-end.ensures)) c.loop-batch.invariant.placed

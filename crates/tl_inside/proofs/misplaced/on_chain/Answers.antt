@@ -1,0 +1,5 @@
+use Rattle.tl_inside.proofs.Misplacing.{on_chain}
+use Rattle.tl_inside.proofs.misplaced.on_chain.Goals as goal
+
+pub returns : goal.returns
+returns c = λ p is. on_chain c.args.map.now p c.args.c c.chain.result.tlid c.args.polygon c.chain.result.points.now c.chain.result.left c.chain.result.right is c.requires c.chain.ensures.chain
