@@ -17,3 +17,5 @@ pub mod Boxed
 pub mod Boxes
 pub mod Telling
 pub mod Thrice
+pub mod Across
+pub mod Weighed
