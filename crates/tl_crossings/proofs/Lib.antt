@@ -19,3 +19,4 @@ pub mod Telling
 pub mod Thrice
 pub mod Across
 pub mod Weighed
+pub mod Adding
