@@ -76,7 +76,7 @@ module _ (y : ℤ) (S : Side → Bool) where
   last_at p [] d = refl
   last_at p (q ∷ points) d = last_at q points d
 
-  last_is : (p : Point) (points : List Point) → slice_get (reverse (p ∷ points)) 0 ≡ Some (last_of y S p points)
+  pub last_is : (p : Point) (points : List Point) → slice_get (reverse (p ∷ points)) 0 ≡ Some (last_of y S p points)
   last_is p points =
       let long = length-reverse (p ∷ points) in
       slice_get-get_or (reverse (p ∷ points)) 0 p (omega (arith, long))

@@ -20,3 +20,5 @@ pub mod Thrice
 pub mod Across
 pub mod Weighed
 pub mod Adding
+pub mod Winding
+pub mod OneLeft
