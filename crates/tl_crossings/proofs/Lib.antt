@@ -22,3 +22,4 @@ pub mod Weighed
 pub mod Adding
 pub mod Winding
 pub mod OneLeft
+pub mod RingCounts
