@@ -1,5 +1,5 @@
 -- The count of any sides at a point is what the rings add whose rectangles hold it.
-use Rattle.std.proofs.Common.{◌≡◌, ◌⊎◌, ◌↔◌, inl, inr, ⊎_elim, ℕ, ◌+◌, ◌*◌, ◌/◌, ◌<◌, ℤ, pos, neg_ℤ, ◌+ℤ◌, ◌-ℤ◌, Bool, true, false, cond, Option, Some, None, List, [], ◌∷◌, length, map, get_or, refl, sym, ap, ◌∙◌, arith}
+use Rattle.std.proofs.Common.{◌≡◌, ◌⊎◌, ◌↔◌, inl, inr, ⊎_elim, ℕ, ◌+◌, ◌*◌, ◌/◌, ◌<◌, ℤ, pos, neg_ℤ, ◌+ℤ◌, Bool, true, false, cond, Option, Some, None, List, [], ◌∷◌, length, map, get_or, refl, sym, ap, ◌∙◌, arith}
 use Rattle.std.specs.Prelude.{slice_get, slice_index}
 use Rattle.std.specs.List.{concat}
 use Rattle.std.specs.Option.{option_map_or}
@@ -10,12 +10,12 @@ use Rattle.tl_geom.specs.declared.rect.Rect.{Rect}
 use Rattle.tl_geom.specs.Rectangle.{Holds}
 use Rattle.tl_map.specs.declared.sides.Side.{Side}
 use Rattle.tl_map.specs.TheMap.{MapChain}
-use Rattle.tl_map.specs.Darts.{is_along, chain_of}
+use Rattle.tl_map.specs.Darts.{is_along}
 use Rattle.tl_tree.specs.Hits.{times, AreHits}
 use Rattle.tl_sides.specs.Lists.{list_at}
 use Rattle.tl_sides.specs.Sides.{dart_count, SidesAgree, IsRing}
 use Rattle.tl_sides.specs.Walks.{AreWalks}
-use Rattle.tl_inside.specs.Inside.{flanks_at, balance, total, AreCrossed, IsCount}
+use Rattle.tl_inside.specs.Inside.{flanks_at, balance, AreCrossed, IsCount}
 use Rattle.tl_crossings.specs.Headings.{AreProper}
 use Rattle.tl_crossings.specs.Rings.{crossings, dart_crossings, winding, has_left, ring_count, rings_count, HoldsRing}
 use Rattle.tl_crossings.proofs.Darts.{no_chain}

@@ -1,10 +1,9 @@
 -- The balance of sides over the segments that the ray crosses is what the chains add, weighed by their sides.
-use Rattle.std.proofs.Common.{◌≡◌, inl, inr, ⊎_elim, ℕ, ◌+◌, ◌*◌, ◌<◌, ℤ, pos, neg_ℤ, ◌+ℤ◌, ◌-ℤ◌, Bool, true, false, ◌||◌, cond, List, [], ◌∷◌, ◌++◌, length, map, get_or, sum_by, count_by, refl, sym, ap, ◌∙◌, arith}
+use Rattle.std.proofs.Common.{◌≡◌, ⊎_elim, ℕ, ◌*◌, ◌<◌, ℤ, pos, neg_ℤ, ◌+ℤ◌, ◌-ℤ◌, Bool, true, false, ◌||◌, cond, List, [], ◌∷◌, length, map, get_or, sum_by, count_by, refl, sym, ap, ◌∙◌, arith}
 use Rattle.std.specs.Prelude.{int_lt}
 use Rattle.std.proofs.lemmas.Int.{ints}
 use Rattle.std.proofs.lemmas.List.Sums.{sum_by-cons, sum_by-append}
 use Rattle.tl_geom.specs.declared.point.Point.{Point}
-use Rattle.tl_geom.specs.Ray.{Crosses}
 use Rattle.tl_map.specs.declared.sides.Side.{Side}
 use Rattle.tl_map.specs.TheMap.{MapChain}
 use Rattle.tl_map.specs.Segments.{segments_before}
@@ -18,7 +17,7 @@ use Rattle.tl_crossings.proofs.Telescoping.{bit, int_lt-true, int_lt-false}
 use Rattle.tl_crossings.proofs.Located.{IsLocated, located, each_from, each_along, each_of, each_at, length-each}
 use Rattle.tl_crossings.proofs.Listing.{places_sum, listed_count}
 use Rattle.tl_crossings.proofs.Crossing.{crossed_there, crossed_back, flanks_are}
-use Rattle.tl_crossings.proofs.Across.{IsUpward, upward_of, upward_is, not_upward, one_way, adds_one, takes_one, adds_nothing, crossed_upward, crossed_downward, crossed_either}
+use Rattle.tl_crossings.proofs.Across.{IsUpward, upward_of, upward_is, crossed_upward, crossed_downward, crossed_either}
 
 -- ---- one segment
 

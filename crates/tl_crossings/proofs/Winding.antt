@@ -1,20 +1,17 @@
 -- A ring winds about no point outside of a rectangle that holds it.
-use Rattle.std.proofs.Common.{◌≡◌, ◌⊎◌, inl, inr, ⊎_elim, ℕ, zero, suc, ◌+◌, ◌/◌, ◌<◌, ℤ, pos, neg_ℤ, ◌+ℤ◌, ◌-ℤ◌, ◌<ℤ◌, Bool, true, false, not, cond, Option, Some, None, List, [], ◌∷◌, length, reverse, All, refl, sym, ap, ◌∙◌, arith}
+use Rattle.std.proofs.Common.{◌≡◌, ⊎_elim, ℕ, suc, ◌<◌, ℤ, pos, neg_ℤ, ◌-ℤ◌, ◌<ℤ◌, Bool, true, false, cond, Option, Some, None, List, [], ◌∷◌, length, reverse, All, refl, sym, ap, ◌∙◌, arith}
 use Rattle.std.specs.Prelude.{slice_get, slice_index}
-use Rattle.std.specs.Option.{option_map, option_and_then, option_map_or}
 use Rattle.std.proofs.lemmas.Int.{ints}
 use Rattle.tl_geom.specs.declared.point.Point.{Point}
 use Rattle.tl_geom.specs.declared.rect.Rect.{Rect}
 use Rattle.tl_geom.specs.Rectangle.{Holds}
 use Rattle.tl_map.specs.declared.sides.Side.{Side}
 use Rattle.tl_map.specs.TheMap.{MapChain}
-use Rattle.tl_map.specs.Darts.{chain_of, is_along, directed, dart_start, dart_end}
-use Rattle.tl_sides.specs.Lists.{before}
+use Rattle.tl_map.specs.Darts.{chain_of, is_along, dart_start, dart_end}
 use Rattle.tl_sides.specs.Sides.{IsRing}
-use Rattle.tl_inside.specs.Inside.{total}
 use Rattle.tl_crossings.specs.Heights.{is_above}
 use Rattle.tl_crossings.specs.Boxes.{IsOutsideOfBox}
-use Rattle.tl_crossings.specs.Rings.{crossing, crossings_from, crossings, dart_crossings, winding, HoldsDart, HoldsRing}
+use Rattle.tl_crossings.specs.Rings.{crossing, crossings_from, crossings, dart_crossings, winding, HoldsRing}
 use Rattle.tl_crossings.proofs.Telescoping.{bit, last_of}
 use Rattle.tl_crossings.proofs.Ends.{last_is}
 use Rattle.tl_crossings.proofs.Boxes.{outside_rect}

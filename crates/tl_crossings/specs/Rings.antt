@@ -12,7 +12,8 @@ use Rattle.tl_sides.specs.Lists.{list_at}
 use Rattle.tl_inside.specs.Inside.{total}
 use Rattle.tl_crossings.specs.Heights.{is_above}
 
--- the segment from a to b goes up across the ray from q to the east: a is not above the height of q, b is, and q is on the left of the way from a to b
+-- the segment from a to b goes up across the ray from q to the east: a is not above the height of q, b is, and q is on
+-- the left of the way from a to b
 abbrev pub goes_up_across : Point → (a b : Point) → Bool
 goes_up_across q a b = not (is_above q.y a) && (is_above q.y b && int_lt (pos 0) (turn_of a b q))
 
