@@ -16,14 +16,14 @@ use Rattle.tl_crossings.proofs.Telescoping.{weight, last_of, ends, left_ends, ri
 
 -- ---- the two darts of a chain
 
-even_along : (c : ℕ) → is_along (2 * c) ≡ true
+pub even_along : (c : ℕ) → is_along (2 * c) ≡ true
 even_along c = eq-eqb (2 * c % 2) 0 (omega arith)
 
-odd_against : (c : ℕ) → is_along (2 * c + 1) ≡ false
+pub odd_against : (c : ℕ) → is_along (2 * c + 1) ≡ false
 odd_against c = eqb-other ((2 * c + 1) % 2) 0 (λ e. omega (arith, e))
 
 module _ (chains : List MapChain) (c : ℕ) (chain : MapChain) (is : slice_get chains c ≡ Some chain) where
-  half : (d : ℕ) → d / 2 ≡ c → slice_get chains (d / 2) ≡ Some chain
+  pub half : (d : ℕ) → d / 2 ≡ c → slice_get chains (d / 2) ≡ Some chain
   half d e = ap (slice_get chains) e ∙ is
 
   start_by : (d : ℕ) (along : Bool) → d / 2 ≡ c → is_along d ≡ along → dart_start chains d ≡ slice_get (directed along chain.points) 0
@@ -76,7 +76,7 @@ module _ (y : ℤ) (S : Side → Bool) where
   last_at p [] d = refl
   last_at p (q ∷ points) d = last_at q points d
 
-  last_is : (p : Point) (points : List Point) → slice_get (reverse (p ∷ points)) 0 ≡ Some (last_of y S p points)
+  pub last_is : (p : Point) (points : List Point) → slice_get (reverse (p ∷ points)) 0 ≡ Some (last_of y S p points)
   last_is p points =
       let long = length-reverse (p ∷ points) in
       slice_get-get_or (reverse (p ∷ points)) 0 p (omega (arith, long))

@@ -17,3 +17,9 @@ pub mod Boxed
 pub mod Boxes
 pub mod Telling
 pub mod Thrice
+pub mod Across
+pub mod Weighed
+pub mod Adding
+pub mod Winding
+pub mod OneLeft
+pub mod RingCounts

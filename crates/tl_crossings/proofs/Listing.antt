@@ -31,7 +31,7 @@ module _ (n : ℕ) (v : ℕ → ℕ) where
       let q : cond (eqb x i) (v i) 0 ≡ 0 = cond-other x i (v i) 0 (λ e. ne (sym e)) in
       rw (p, q) (omega arith))
 
-  listed : (xs : List ℕ) → ((i : ℕ) → n ≤ i → times i xs ≡ 0) → sum_by v xs ≡ sum_below (λ i. times i xs * v i) n
+  pub listed : (xs : List ℕ) → ((i : ℕ) → n ≤ i → times i xs ≡ 0) → sum_by v xs ≡ sum_below (λ i. times i xs * v i) n
   listed [] known = sym (sum_zero (λ i. 0 * v i) n (λ i lt. omega arith))
   listed (x ∷ xs) known =
       let low : x < n = elim (cases_lt x n) [
@@ -55,7 +55,7 @@ listed_count n P g xs known = count-map P g xs ∙ listed n (λ i. bit (P (g i))
 
 -- ---- over all segments
 
-places_sum : (xs : List ℕ) → sum_by (λ x. x) xs ≡ sum_below (λ i. get_or xs i 0) (length xs)
+pub places_sum : (xs : List ℕ) → sum_by (λ x. x) xs ≡ sum_below (λ i. get_or xs i 0) (length xs)
 places_sum [] = sym (sum_below-none (λ i. get_or [] i 0))
 places_sum (x ∷ xs) = sum_by-cons (λ y. y) x xs ∙ ap (λ n. x + n) (places_sum xs) ∙ sym (sum_first (λ i. get_or (x ∷ xs) i 0) (length xs))
 

@@ -4,3 +4,4 @@ pub mod Headings
 pub mod West
 pub mod Boxes
 pub mod Told
+pub mod Rings

@@ -1,15 +1,18 @@
 //! Laws of the definitions, each the contract of a function that does nothing.
 
-ghost use Rattle.std.specs.Prelude.{◌≡◌, ◌↔◌, ◌<◌, ℕ, ℤ, pos, Bool, List, length, slice_index};
+ghost use Rattle.std.specs.Prelude.{◌≡◌, ◌↔◌, ◌<◌, ℕ, ℤ, pos, Bool, List, length, slice_index, if◌then◌else◌};
 ghost use Rattle.tl_geom.specs.declared.point.Point.{Point};
 ghost use Rattle.tl_geom.specs.declared.rect.Rect.{Rect};
 ghost use Rattle.tl_geom.specs.Rectangle.{Holds};
 ghost use Rattle.tl_map.specs.TheMap.{TheMap, MapChain};
 ghost use Rattle.tl_map.specs.declared.sides.Side.{Side};
+ghost use Rattle.tl_map.specs.Darts.{dart_left};
 ghost use Rattle.tl_planar.specs.Planar.{IsPlanar};
 ghost use Rattle.tl_sides.specs.Lists.{before, list_at};
 ghost use Rattle.tl_sides.specs.Rounds.{AreRounds};
-ghost use Rattle.tl_sides.specs.Sides.{IsNext, SidesAgree};
+ghost use Rattle.tl_sides.specs.Sides.{IsNext, IsRing, SidesAgree};
+ghost use Rattle.tl_sides.specs.Walks.{AreWalks};
+ghost use Rattle.tl_tree.specs.Hits.{AreHits};
 ghost use Rattle.tl_inside.specs.declared.place.Place.{Place};
 ghost use Rattle.tl_inside.specs.Inside.{balance, is_polygon, IsCount, IsPolygonCount};
 ghost use Rattle.tl_inside.specs.Places.{IsOffChains, IsPlaceOf};
@@ -18,6 +21,7 @@ ghost use Rattle.tl_crossings.specs.Headings.{AreProper, HeadApart};
 ghost use Rattle.tl_crossings.specs.Boxes.{IsOnBoundary, IsOfChains, IsOutsideOfBox};
 ghost use Rattle.tl_crossings.specs.West.{IsWestCount};
 ghost use Rattle.tl_crossings.specs.Told.{ListsByWest, IsNowhere};
+ghost use Rattle.tl_crossings.specs.Rings.{HoldsRing, has_left, winding, ring_count, rings_count};
 
 /// At each point any sides have one count, and no other.
 pub fn sides_have_one_count()
@@ -80,4 +84,25 @@ pub fn nothing_lies_outside_of_the_box_of_all_chains()
 pub fn sides_that_agree_are_not_enough()
     ensures { (chains : List MapChain) × AreProper chains × SidesAgree chains
         × (balance (is_polygon 0) (crossed_at (pos 0) chains) ≡ pos 1) }
+{}
+
+/// Where sides agree, all darts of a ring have one side on their left. So a ring that has such a side there adds to the
+/// count of such sides what all of its darts add, and a ring that hasn't adds nothing.
+pub fn a_ring_has_one_left()
+    ensures one_left { (chains : List MapChain) (ring : List ℕ) (k : ℕ) → SidesAgree chains → IsRing chains ring → k < length ring →
+        dart_left chains (slice_index ring k) ≡ dart_left chains (slice_index ring 0) }
+    ensures count { (chains : List MapChain) (ring : List ℕ) (q : Point) (S : Side → Bool) → SidesAgree chains → IsRing chains ring →
+        ring_count chains q S ring ≡ (if has_left chains S (slice_index ring 0) then winding chains q ring else pos 0) }
+{}
+
+/// A ring winds about no point outside of a rectangle that holds the ring. So where sides agree, the count of any sides at
+/// a point is what those of the walks add to it whose rectangles hold the point.
+pub fn rings_that_hold_a_point_count_for_all()
+    ensures outside { (chains : List MapChain) (ring : List ℕ) (r : Rect) (q : Point) → IsRing chains ring → HoldsRing chains r ring →
+        ¬ Holds r q → winding chains q ring ≡ pos 0 }
+    ensures count { (chains : List MapChain) (walks : List (List ℕ)) (rects : ℕ → Rect) (q : Point) (S : Side → Bool) (hits : List ℕ) (n : ℤ) →
+        AreProper chains → SidesAgree chains → AreWalks chains walks →
+        ((k : ℕ) → k < length walks → HoldsRing chains (rects k) (list_at walks k)) →
+        AreHits (length walks) (λ k. Holds (rects k) q) hits →
+        IsCount chains q S n ↔ (n ≡ rings_count chains q S walks hits) }
 {}
