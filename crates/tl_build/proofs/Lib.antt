@@ -5,11 +5,9 @@ pub mod RoundLemmas
 pub mod WalkLemmas
 pub mod LinkLemmas
 pub mod RingLemmas
-pub mod Forests
-pub mod NodeLemmas
-pub mod Sizes
 pub mod MarkFacts
 pub mod Holding
 pub mod Proposals
 pub mod Budgets
 pub mod Recorded
+pub mod Packed

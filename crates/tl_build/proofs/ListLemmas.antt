@@ -1,22 +1,7 @@
--- Lists that hold the numbers below n.
-use Rattle.std.proofs.Common.{◌≡◌, ℕ, ◌+◌, ◌++◌, arith, List, [], ◌∷◌, length, map, refl, ap, sym, ◌∙◌, add-one, append_assoc, append-nil, Vec, Global}
+-- Lists that are cut off another.
+use Rattle.std.proofs.Common.{◌≡◌, ℕ, ◌++◌, List, [], ◌∷◌, map, refl, ap, sym, ◌∙◌, append_assoc, append-nil, Vec, Global}
 use Rattle.std.specs.List.{concat}
 use Rattle.std.proofs.lemmas.List.{map-append}
-use Rattle.tl_build.specs.Keeping.Lists.{up}
-
-pub up_none : up 0 ≡ []
-unfolding up
-up_none = refl
-
-pub up_more : (n : ℕ) → up (n + 1) ≡ up n ++ n ∷ []
-unfolding up
-up_more n = rw (add-one) refl
-
--- one more is pushed
-pub up_pushed : {X : Type 0} (number : X → ℕ) (xs ys : List X) (n : ℕ) (x : X) →
-    ys ≡ xs ++ x ∷ [] → number x ≡ n → map number xs ≡ up n → map number ys ≡ up (n + 1)
-up_pushed number xs ys n x e at h =
-    ap (map number) e ∙ (map-append number xs (x ∷ []) ∙ (rw (at, h) (sym (up_more n))))
 
 abbrev pub all_in : List (Vec ℕ Global) → List ℕ
 all_in lists = concat (map (λ r. r.items) lists)
@@ -36,7 +21,3 @@ cut_more number lists more v rest front back all e at pushed h =
     ap (λ l. l ++ map number back) grown
     ∙ (append_assoc (all_in lists) (map number front) (map number back)
     ∙ (ap (λ l. all_in lists ++ l) (sym (ap (map number) e ∙ map-append number front back)) ∙ h))
-
-pub no_items : {X : Type 0} (xs : List X) → length xs ≡ 0 → xs ≡ []
-no_items [] e = refl
-no_items (x ∷ xs) e = absurd (omega (arith, e))

@@ -2,6 +2,5 @@
 pub mod Lists
 pub mod Sorting
 pub mod Following
-pub mod Nodes
 pub mod Proposed
 pub mod Judging

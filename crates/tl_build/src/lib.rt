@@ -2,20 +2,17 @@
 //!
 //! [`audit`] decides records, and [`build`] makes a certificate. Both propose one, and the checker of `tl_check` has the
 //! last word: a map is told to be sound only where its certificate was found to be valid, and each fault is one that the
-//! checker found. The proposal is a tree over the segments in their order along a curve, the darts sorted about their
-//! nodes, and the walks that follow from their next darts.
+//! checker found. The proposal is the tree that `tl_pack` makes over the segments, the darts sorted about their nodes,
+//! and the walks that follow from their next darts.
 #![tactic(auto)]
 
 mod answer;
-mod curve;
 mod judge;
 mod of_map;
 mod of_records;
-mod order;
 mod propose;
 mod rounds;
 mod stop;
-mod tree;
 mod walks;
 
 pub use answer::{Audit, Built};

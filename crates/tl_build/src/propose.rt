@@ -7,19 +7,18 @@ ghost use Rattle.tl_sides.specs.Lists.{HoldOnce};
 ghost use Rattle.tl_sides.specs.Rounds.{AreRounds};
 ghost use Rattle.tl_sides.specs.Walks.{AreWalks};
 ghost use Rattle.tl_crossings.specs.Headings.{AreProper};
-ghost use Rattle.tl_cert.specs.Certificates.{AreDartLists, IsCounted};
+ghost use Rattle.tl_cert.specs.Certificates.{AreDartLists, IsCounted, IsNode};
 ghost use Rattle.tl_check.specs.Valid.{AreCounts, IsTree};
 ghost use Rattle.tl_build.specs.Keeping.Lists.{lists_in};
-ghost use Rattle.tl_build.specs.Keeping.Nodes.{IsNewNode};
 ghost use Rattle.tl_build.specs.Keeping.Proposed.{IsProposal};
 
-use crate::order::order_segments;
 use crate::rounds::{cut_rounds, sort_starts};
-use crate::tree::tree_over;
 use crate::walks::{link_darts, trace_walks};
 use std::alloc::{AllocError, Global};
 use tl_cert::{Certificate, Counts};
 use tl_map::Map;
+use tl_pack::pack;
+use tl_planar::Segments;
 use tl_tree::TreeNode;
 
 /// The certificate of version 2 that is proposed for a map.
@@ -52,10 +51,9 @@ fn propose_tree(alloc: Global, map: &Map) -> Result<Vec<TreeNode>, AllocError>
     ensures tree { IfOk result (λ nodes. IsTree map.now nodes.items) }
     ensures whole { IfOk result (λ nodes. IsPreorder nodes.items) }
     ensures counted { IfOk result (λ nodes. IsCounted nodes.items) }
-    ensures each { IfOk result (λ nodes. All IsNewNode nodes.items) }
+    ensures each { IfOk result (λ nodes. All (IsNode 2) nodes.items) }
 {
-    let order = order_segments(alloc, map)?;
-    let nodes = tree_over(alloc, map, &order)?;
+    let nodes = pack(alloc, &Segments::new(map))?;
     Ok(nodes)
 }
 

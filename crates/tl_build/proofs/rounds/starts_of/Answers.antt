@@ -2,7 +2,7 @@ use Rattle.std.proofs.Common.{◌<◌, ◌*◌, length, [], refl, sym, ◌∙◌
 use Rattle.std.proofs.lemmas.List.Elements.{All-nil, All-push, All-same}
 use Rattle.tl_build.specs.Keeping.Sorting.{IsStartOf}
 use Rattle.tl_build.specs.declared.rounds.DartStart.{DartStart}
-use Rattle.tl_build.proofs.ListLemmas.{up_none, up_pushed}
+use Rattle.tl_pack.proofs.ListLemmas.{up_none, up_pushed}
 use Rattle.tl_build.proofs.rounds.starts_of.Goals as goal
 
 pub loop-dart-init : goal.loop-dart-init

@@ -1,20 +1,15 @@
 -- Nodes of trees, pushed behind others.
-use Rattle.std.specs.Prelude.{◌≡◌, ℕ, zero, suc, ◌+◌, ◌*◌, ◌≤◌, List, ◌++◌, length, All}
+use Rattle.std.specs.Prelude.{◌≡◌, ℕ, suc, ◌+◌, ◌*◌, ◌^◌, ◌<◌, ◌≤◌, List, ◌++◌, length, All}
 use Rattle.tl_geom.specs.declared.rect.Rect.{Rect}
 use Rattle.tl_tree.specs.declared.node.TreeNode.{TreeNode}
 use Rattle.tl_tree.specs.Fits.{CoversAll, CoversBelow}
 use Rattle.tl_tree.specs.Preorder.{AreTrees, IsPreorder}
 use Rattle.tl_tree.specs.Trees.{depth, leaf_items, trees_of, tree_of}
-use Rattle.tl_cert.specs.Certificates.{IsNode, IsCounted}
-
--- a node as a certificate of version 2 has it
-abbrev pub IsNewNode : TreeNode → Type 0
-IsNewNode = IsNode 2
+use Rattle.tl_pack.specs.Packed.{IsFilled, IsShallow}
 
 -- how many items a tree of this depth has at most
 unfoldable pub most_items : ℕ → ℕ
-most_items zero = 1
-most_items (suc d) = 8 * most_items d
+most_items d = 8 ^ d
 
 -- new is old with p whole trees behind it, over these items, around which the rectangle is; each of the trees has from least
 -- to most items
@@ -22,7 +17,7 @@ pub record Push (bounds : ℕ → Rect) (p least most : ℕ) (old new : List Tre
   pub pushed : List TreeNode
   pub appended : new ≡ old ++ pushed
   pub trees : AreTrees pushed p
-  pub nodes : All IsNewNode pushed
+  pub nodes : All IsFilled pushed
   pub over : leaf_items (trees_of pushed) ≡ items
   pub covers : CoversBelow bounds (trees_of pushed)
   pub covered : CoversAll bounds around items
@@ -30,12 +25,13 @@ pub record Push (bounds : ℕ → Rect) (p least most : ℕ) (old new : List Tre
   pub few : 4 ≤ least → 2 * (length pushed + p) ≤ length items
   pub leaves : most ≤ 8 → length pushed ≡ p
 
--- the nodes of a tree over these items: a whole tree in preorder, or none; fewer than a number of 32 bits counts; each rectangle
--- is around what is below it, and no node is deeper than 64
+-- the nodes of a tree over these items: a whole tree in preorder, or none; each rectangle is around what is below it, and the
+-- tree is no deeper than its items need
 pub record AreNodesOver (bounds : ℕ → Rect) (nodes : List TreeNode) (items : List ℕ) : Type 0 where
   pub whole : IsPreorder nodes
-  pub counted : IsCounted nodes
-  pub each : All IsNewNode nodes
+  pub counted : length nodes < 2 ^ 32
+  pub each : All IsFilled nodes
   pub over : leaf_items (tree_of nodes) ≡ items
   pub covers : CoversBelow bounds (tree_of nodes)
-  pub shallow : depth (tree_of nodes) ≤ 64
+  pub shallow : IsShallow (length items) (tree_of nodes)
+  pub levels : depth (tree_of nodes) ≤ 11

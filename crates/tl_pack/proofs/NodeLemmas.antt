@@ -1,5 +1,6 @@
 -- Nodes pushed behind others.
 use Rattle.std.proofs.Common.{◌≡◌, ℕ, zero, suc, ◌+◌, ◌*◌, ◌^◌, ◌<◌, ◌≤◌, ◌++◌, List, [], ◌∷◌, length, set, refl, ap, sym, subst, ◌∙◌, append_assoc, append-nil, length-append, add-one, arith, inl, inr, lit<}
+use Rattle.std.proofs.Math.Nat.{pow-succ'}
 use Rattle.std.proofs.lemmas.Bool.{cases_lt}
 use Rattle.std.proofs.lemmas.List.Elements.{All-append, All-cons, All-nil}
 use Rattle.arrayvec.specs.ArrayVec.{ArrayVec}
@@ -11,8 +12,9 @@ use Rattle.tl_tree.specs.Fits.{CoversAll, CoversBelow}
 use Rattle.tl_tree.specs.Preorder.{AreTrees, no_tree, leaf_first, inner_first}
 use Rattle.tl_tree.specs.Trees.{Forest, none, inner, depth, leaf_items, trees_of}
 use Rattle.tl_tree.proofs.Hulls.{all-append}
-use Rattle.tl_build.specs.Keeping.Nodes.{IsNewNode, most_items, Push, AreNodesOver}
-use Rattle.tl_build.proofs.Forests.{tree_whole, trees_behind, trees_inner, items_joined, depth_joined, covers_joined, covers_more}
+use Rattle.tl_pack.specs.Packed.{IsFilled, IsShallow}
+use Rattle.tl_pack.specs.Keeping.Nodes.{most_items, Push, AreNodesOver}
+use Rattle.tl_pack.proofs.Forests.{tree_whole, trees_behind, trees_inner, items_joined, depth_joined, covers_joined, covers_more}
 
 -- one tree more behind some
 trees_append : (xs ys : List TreeNode) (p : ℕ) → AreTrees xs p → AreTrees ys 1 → AreTrees (xs ++ ys) (suc p)
@@ -30,11 +32,11 @@ set_behind (z ∷ old) rest x y = ap (λ l. z ∷ l) (set_behind old rest x y)
 one_item : (d : ℕ) → 1 ≤ most_items d
 unfolding most_items
 one_item zero = omega arith
-one_item (suc d) = omega (arith, one_item d)
+one_item (suc d) = omega (arith, pow-succ' 8 d, one_item d)
 
 pub items_times : (d : ℕ) → most_items (suc d) ≡ 8 * most_items d
 unfolding most_items
-items_times d = refl
+items_times d = pow-succ' 8 d
 
 pub eight_items : (d : ℕ) → 8 ≤ most_items (suc d)
 eight_items d = omega (arith, items_times d, one_item d)
@@ -54,6 +56,12 @@ deep f r n most many below shallow (suc d) l = let s = shallow d (below d l) in 
 eleven : most_items 11 ≡ 8589934592
 unfolding most_items
 eleven = refl
+
+-- as many levels as the items need
+with_levels : (f : Forest) (n : ℕ) → ((d : ℕ) → n ≤ most_items (suc d) → depth f ≤ suc d) → IsShallow n f
+unfolding most_items
+with_levels f n h zero some l = absurd (omega (arith, some))
+with_levels f n h (suc d) some l = h d l
 
 module _ (bounds : ℕ → Rect) where
   pub push_start : (least most : ℕ) (base now : List TreeNode) (r : Rect) → now ≡ base → Push bounds 0 least most base now [] r
@@ -80,7 +88,7 @@ module _ (bounds : ℕ → Rect) where
         pushed = Leaf r v ∷ [];
         appended = e;
         trees = leaf_first r v [] 0 no_tree;
-        nodes = All-cons IsNewNode (Leaf r v) [] n (All-nil _);
+        nodes = All-cons IsFilled (Leaf r v) [] n (All-nil _);
         over = append-nil v.items ∙ same;
         covers = (subst (CoversAll bounds r) (sym same) covered, tt);
         covered = covered;
@@ -101,7 +109,7 @@ module _ (bounds : ℕ → Rect) where
         pushed = h.pushed ++ one.pushed;
         appended = one.appended ∙ (ap (λ l. l ++ one.pushed) h.appended ∙ append_assoc old h.pushed one.pushed);
         trees = subst (AreTrees (h.pushed ++ one.pushed)) (sym (add-one p)) (trees_append h.pushed one.pushed p h.trees one.trees);
-        nodes = All-append IsNewNode h.pushed one.pushed h.nodes one.nodes;
+        nodes = All-append IsFilled h.pushed one.pushed h.nodes one.nodes;
         over = ap leaf_items behind ∙ (items_joined (trees_of h.pushed) (trees_of one.pushed) ∙ (ap (λ l. l ++ leaf_items (trees_of one.pushed)) h.over ∙ (ap (λ l. items ++ l) one.over ∙ sym e)));
         covers = subst (CoversBelow bounds) (sym behind) (covers_joined bounds (trees_of h.pushed) (trees_of one.pushed) h.covers one.covers);
         covered = subst (CoversAll bounds t) (sym e) ((all-append bounds t items more).1 (covers_more bounds r t items cr h.covered, covers_more bounds s t more cs one.covered));
@@ -122,7 +130,7 @@ module _ (bounds : ℕ → Rect) where
         pushed = Inner r k ∷ h.pushed;
         appended = e ∙ (ap (λ l. set l (length old) (Inner r k)) joined' ∙ set_behind old h.pushed (Inner room k) (Inner r k));
         trees = subst (λ l. AreTrees (Inner r k ∷ l) 1) (append-nil h.pushed) (inner_first r k h.pushed [] 0 low high h.trees no_tree);
-        nodes = All-cons IsNewNode (Inner r k) h.pushed (λ e. absurd (omega (arith, e))) h.nodes;
+        nodes = All-cons IsFilled (Inner r k) h.pushed tt h.nodes;
         over = ap leaf_items forest ∙ (append-nil (leaf_items (trees_of h.pushed)) ∙ h.over);
         covers = subst (CoversBelow bounds) (sym forest) (subst (CoversAll bounds r) (sym h.over) h.covered, h.covers, tt);
         covered = h.covered;
@@ -142,7 +150,8 @@ module _ (bounds : ℕ → Rect) where
         each = All-nil _;
         over = sym f;
         covers = tt;
-        shallow = omega arith;
+        shallow = λ d some l. omega arith;
+        levels = omega arith;
       } in
       subst P (sym e) none_are
 
@@ -157,7 +166,8 @@ module _ (bounds : ℕ → Rect) where
         | inl more ↦ omega (arith, h.few (omega (arith, more)), e, small)
         | inr few ↦ omega (arith, h.leaves few)
       ] in
-      let shallow : depth (trees_of h.pushed) ≤ 11 = h.shallow 10 (omega (arith, eleven, small)) in
+      let levels : depth (trees_of h.pushed) ≤ 11 = h.shallow 10 (omega (arith, eleven, small)) in
+      let shallow : IsShallow n (trees_of h.pushed) = with_levels (trees_of h.pushed) n h.shallow in
       let over : AreNodesOver bounds h.pushed items =
       record {
         whole = inr h.trees;
@@ -165,6 +175,7 @@ module _ (bounds : ℕ → Rect) where
         each = h.nodes;
         over = ap leaf_items whole ∙ h.over;
         covers = subst (CoversBelow bounds) (sym whole) h.covers;
-        shallow = omega (arith, shallow, ap depth whole);
+        shallow = subst (λ f. IsShallow (length items) f) (sym whole) (subst (λ k. IsShallow k (trees_of h.pushed)) e shallow);
+        levels = omega (arith, levels, ap depth whole);
       } in
       subst P (sym is) over

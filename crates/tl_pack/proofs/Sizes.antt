@@ -2,8 +2,8 @@
 use Rattle.std.proofs.Common.{◌≡◌, ℕ, suc, ◌+◌, ◌-◌, ◌*◌, ◌/◌, ◌%◌, ◌<◌, ◌≤◌, min, ap, sym, subst, ◌∙◌, add-one, arith, inl, inr}
 use Rattle.std.proofs.lemmas.Nat.{div-add-mod', mul-le}
 use Rattle.std.proofs.lemmas.Bool.{cases_lt}
-use Rattle.tl_build.specs.Keeping.Nodes.{most_items}
-use Rattle.tl_build.proofs.NodeLemmas.{items_times, eight_items}
+use Rattle.tl_pack.specs.Keeping.Nodes.{most_items}
+use Rattle.tl_pack.proofs.NodeLemmas.{items_times, eight_items}
 
 -- n is m parts of p + 1, and less than one more
 record Divided (n p m : ℕ) : Type 0 where

@@ -2,22 +2,20 @@ use Rattle.std.proofs.Common.{◌≡◌, ◌<◌, ◌≤◌, ◌+◌, ◌-◌, �
 use Rattle.std.proofs.lemmas.List.{map-append, length-map}
 use Rattle.std.proofs.lemmas.List.Elements.{All-same, All-drop}
 use Rattle.tl_geom.specs.declared.rect.Rect.{Rect}
-use Rattle.tl_map.specs.Segments.{segments_before}
-use Rattle.tl_planar.specs.Rectangles.{segment_rect}
 use Rattle.tl_tree.specs.declared.node.TreeNode.TheVariants.{Inner}
-use Rattle.tl_build.specs.declared.order.Placed.{Placed}
-use Rattle.tl_build.specs.Keeping.Nodes.{Push}
-use Rattle.tl_build.proofs.ListLemmas.{no_items}
-use Rattle.tl_build.proofs.NodeLemmas.{push_start, push_more, push_root}
-use Rattle.tl_build.proofs.Sizes.{greatest_of, first_most, rest_most, first_least, rest_least, all_within, level_below}
-use Rattle.tl_build.proofs.tree.+push_tree.Goals as goal
+use Rattle.tl_pack.specs.declared.order.Placed.{Placed}
+use Rattle.tl_pack.specs.Keeping.Nodes.{Push}
+use Rattle.tl_pack.proofs.ListLemmas.{no_items}
+use Rattle.tl_pack.proofs.NodeLemmas.{push_start, push_more, push_root}
+use Rattle.tl_pack.proofs.Sizes.{greatest_of, first_most, rest_most, first_least, rest_least, all_within, level_below}
+use Rattle.tl_pack.proofs.tree.+push_tree.Goals as goal
 
 -- the rectangle of a root whose children aren't pushed yet
 abbrev nothing_yet : Rect
 nothing_yet = record { xmin = pos 2147483647; ymin = pos 2147483647; xmax = negsuc 2147483647; ymax = negsuc 2147483647 }
 
 pub loop-pushed-init : goal.loop-pushed-init
-loop-pushed-init t c =
+loop-pushed-init g t c =
     let n = length c.args.part.now in
     let k = c.child_count-children.result in
     let several : 2 ≤ k = c.child_count-children.ensures.several in
@@ -29,7 +27,7 @@ loop-pushed-init t c =
       done = [];
       room = nothing_yet;
       split = refl;
-      push = push_start (segment_rect c.args.segments.now) 4 (greatest_of n k) (c.args.nodes.now.items ++ Inner nothing_yet k ∷ []) c.push.new.self.items nothing_yet c.in_ok-push.ensures.items;
+      push = push_start (g.I.Items.bounds_of c.args.items.now) 4 (greatest_of n k) (c.args.nodes.now.items ++ Inner nothing_yet k ∷ []) c.push.new.self.items nothing_yet c.in_ok-push.ensures.items;
       most = omega (arith, within, times, whole);
       least = omega (arith, c.child_count-children.ensures.count, many);
       gone = omega arith;
@@ -37,9 +35,9 @@ loop-pushed-init t c =
     }
 
 pub loop-pushed-preserved : goal.loop-pushed-preserved
-loop-pushed-preserved t c =
-    let number = map (λ (p : Placed). p.segment) in
-    let m = segments_before c.args.segments.now (length c.args.segments.now) in
+loop-pushed-preserved g t c =
+    let number = map (λ (p : Placed). p.item) in
+    let m = g.I.Items.count c.args.items.now in
     let n = length c.args.part.now in
     let k = c.child_count-children.result in
     let most = greatest_of n k in
@@ -63,19 +61,19 @@ loop-pushed-preserved t c =
       done = done ++ child;
       room = c.loop-pushed.invariant.room;
       split = c.loop-pushed.invariant.split ∙ (ap (λ l. done ++ l) c.split_at.ensures.by_index.0 ∙ sym (append_assoc done child behind));
-      push = push_more (segment_rect c.args.segments.now) c.loop-pushed.pushed most (length child) _ _ _ (number done) (number child) (number (done ++ child)) _ _ _
+      push = push_more (g.I.Items.bounds_of c.args.items.now) c.loop-pushed.pushed most (length child) _ _ _ (number done) (number child) (number (done ++ child)) _ _ _
           c.loop-pushed.invariant.push c.in_ok-push_tree.ensures (map-append _ done child) c.join-rect.ensures.holds_first c.join-rect.ensures.holds_second
           (omega (arith, low, front)) (omega (arith, high, front));
       most = omega (arith, others, split);
       least = omega (arith, fours, split);
       gone = omega (arith, length-append done child, front, low, c.loop-pushed.invariant.gone);
-      known = All-same (λ (p : Placed). p.segment < m) behind _ c.split_at.ensures.back (All-drop (λ (p : Placed). p.segment < m) _ _ c.loop-pushed.invariant.known);
+      known = All-same (λ (p : Placed). p.item < m) behind _ c.split_at.ensures.back (All-drop (λ (p : Placed). p.item < m) _ _ c.loop-pushed.invariant.known);
     }
 
 pub returns : goal.returns
-returns t c =
-    let number = map (λ (p : Placed). p.segment) in
-    let bounds = segment_rect c.args.segments.now in
+returns g t c =
+    let number = map (λ (p : Placed). p.item) in
+    let bounds = g.I.Items.bounds_of c.args.items.now in
     let part = c.args.part.now in
     let n = length part in
     let k = c.child_count-children.result in
@@ -85,7 +83,7 @@ returns t c =
     let rest : c.loop-pushed.rest.now ≡ [] = no_items _ (omega (arith, c.loop-pushed.invariant.most, none_left)) in
     let whole : part ≡ done = c.loop-pushed.invariant.split ∙ (ap (λ l. done ++ l) rest ∙ append-nil done) in
     let base = c.args.nodes.now.items ++ Inner c.loop-pushed.invariant.room k ∷ [] in
-    let long : length (number part) ≡ n = length-map part (λ (p : Placed). p.segment) in
+    let long : length (number part) ≡ n = length-map part (λ (p : Placed). p.item) in
     let many : 8 < n = omega (arith, c.if-part-le-LEAF.false) in
     let all : Push bounds k 4 (greatest_of n k) base c.loop-pushed.nodes.items (number done) c.loop-pushed.rect =
     subst (λ p. Push bounds p 4 (greatest_of n k) base c.loop-pushed.nodes.items (number done) c.loop-pushed.rect) at c.loop-pushed.invariant.push in

@@ -1,0 +1,6 @@
+pub mod ListLemmas
+pub mod Holding
+pub mod Forests
+pub mod NodeLemmas
+pub mod Sizes
+pub mod Fitting

@@ -1,0 +1,19 @@
+use Rattle.std.proofs.Common.{◌<◌, subst, map, arith}
+use Rattle.std.specs.List.Sorted.{IsPermutation}
+use Rattle.std.proofs.lemmas.List.Sorted.{IsPermutation-map, All-permutation, length_permutation}
+use Rattle.tl_pack.specs.declared.order.Placed.{Placed}
+use Rattle.tl_pack.proofs.order.order_items.Goals as goal
+
+pub returns-clause-all : goal.returns-clause-all
+returns-clause-all g c =
+    let number = map (λ (p : Placed). p.item) in
+    subst (λ xs. IsPermutation xs (number c.sort_placed.new.placed.items)) c.in_ok-placed.ensures.all
+    (IsPermutation-map (λ (p : Placed). p.item) _ _ c.sort_placed.ensures)
+
+pub returns-clause-known : goal.returns-clause-known
+returns-clause-known g c =
+    let n = g.I.Items.count c.args.items.now in
+    All-permutation (λ (p : Placed). p.item < n) _ _ c.sort_placed.ensures c.in_ok-placed.ensures.known
+
+pub returns-clause-counted : goal.returns-clause-counted
+returns-clause-counted g c = omega (arith, length_permutation _ _ c.sort_placed.ensures, c.in_ok-placed.ensures.counted)

@@ -1,0 +1,3 @@
+-- What the packing keeps on its way. No public contract cites a file of this folder.
+pub mod Lists
+pub mod Nodes

@@ -1,0 +1,3 @@
+-- What the contract of the packing cites.
+pub mod Packed
+pub mod Keeping
