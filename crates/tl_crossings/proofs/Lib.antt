@@ -23,3 +23,4 @@ pub mod Adding
 pub mod Winding
 pub mod OneLeft
 pub mod RingCounts
+pub mod Steps
