@@ -1,0 +1,5 @@
+pub mod Laying
+pub mod Boxing
+pub mod Adding
+pub mod Upward
+pub mod Looking

@@ -1,0 +1,79 @@
+-- What the rings about a point tell.
+use Rattle.std.proofs.Common.{◌≡◌, ℕ, ◌+◌, ◌-◌, ◌<◌, ◌≤◌, ◌^◌, pos, List, [], ◌∷◌, ◌++◌, length, get_or, All, sym, subst, ap, ◌∙◌, refl, arith}
+use Rattle.std.specs.Prelude.{slice_index}
+use Rattle.std.proofs.lemmas.Int.{ints}
+use Rattle.std.proofs.lemmas.List.{length-append, get_or_default, get_or_append_left, get_or-append_right}
+use Rattle.std.proofs.lemmas.List.Elements.{All-push}
+use Rattle.tl_geom.specs.declared.point.Point.{Point}
+use Rattle.tl_map.specs.TheMap.{TheMap, MapChain}
+use Rattle.tl_tree.specs.Hits.{AreHits, Adds}
+use Rattle.tl_sides.specs.Lists.{list_at}
+use Rattle.tl_sides.specs.Sides.{dart_count, SidesAgree}
+use Rattle.tl_sides.specs.Walks.{AreWalks}
+use Rattle.tl_sides.proofs.Headings.{dart_within}
+use Rattle.tl_inside.specs.declared.flanks.Flanks.{Flanks}
+use Rattle.tl_inside.specs.declared.strips.Site.{Site}
+use Rattle.tl_inside.specs.Inside.{balance}
+use Rattle.tl_inside.specs.Keeping.Strips.{IsPlacedSite, IsSiteOf}
+use Rattle.tl_inside.specs.Keeping.Tallies.{TellCounts}
+use Rattle.tl_inside.proofs.Reaching.{all_below}
+use Rattle.tl_inside.proofs.Stripping.{one_more}
+use Rattle.tl_crossings.specs.Headings.{AreProper}
+use Rattle.tl_crossings.specs.Rings.{rings_count}
+use Rattle.tl_crossings.proofs.RingCounts.{hits_count}
+use Rattle.tl_rings.specs.Rings.{TheRings, AreBoxed, box_at}
+use Rattle.tl_rings.specs.Keeping.Spots.{ring_count, IsBoxAt}
+use Rattle.tl_rings.specs.Keeping.Looking.{AddCounts, AreOfDarts, ArePlacedBut}
+
+-- walks are of darts
+pub of_darts : (chains : List MapChain) (walks : List (List ℕ)) → AreWalks chains walks → AreOfDarts chains walks
+of_darts chains walks are k lt = λ j d inside.
+    let ring : List ℕ = list_at walks k in
+    let f = (are.rings k lt).follows j inside in
+    subst (λ x. x < dart_count chains) (get_or_default ring j 0 d inside) (dart_within chains (slice_index ring j) f.next.node f.next.a_starts)
+
+-- the rings that are counted are all rings
+pub all_counted : (r : TheRings) → length r.boxes ≡ length r.rings → length r.rings < 2 ^ 32 → ring_count r ≡ length r.rings
+all_counted r long few = omega (arith, long, few)
+
+pub hits_known : (r : TheRings) (q : Point) (hits : List ℕ) → length r.boxes ≡ length r.rings → AreHits (ring_count r) (IsBoxAt r q) hits → All (λ k. k < length r.rings) hits
+hits_known r q hits long are k d lt = let below = all_below (ring_count r) hits are.known k d lt in omega (arith, long, below)
+
+-- what is added to nothing is what is hit
+pub hits_of : (n : ℕ) (hit : ℕ → Type 0) (old new : List ℕ) → old ≡ [] → Adds n hit old new → AreHits n hit new
+hits_of n hit old new none adds = subst (AreHits n hit) (sym (adds.appended ∙ ap (λ xs. xs ++ adds.found) none)) adds.hits
+
+pub rings_tell : (chains : List MapChain) (r : TheRings) (q : Point) (hits : List ℕ) (old flanks : List Flanks) → AreProper chains → SidesAgree chains → AreWalks chains r.rings → AreBoxed chains r → length r.rings < 2 ^ 32 → AreHits (ring_count r) (IsBoxAt r q) hits → old ≡ [] → AddCounts (λ S. rings_count chains q S r.rings hits) old flanks → TellCounts chains q flanks
+rings_tell chains r q hits old flanks proper agree are boxed few hit none adds S out =
+    let all : AreHits (length r.rings) (IsBoxAt r q) hits = subst (λ n. AreHits n (IsBoxAt r q) hits) (all_counted r boxed.long few) hit in
+    (hits_count chains r.rings (box_at r.boxes) q S hits agree are boxed.each all proper (balance S flanks)).1 count
+  where
+    count : balance S flanks ≡ rings_count chains q S r.rings hits
+    count = let sum = adds S out in let zero : balance S old ≡ pos 0 = ap (balance S) none in omega (arith, ints, sum, zero)
+
+-- ---- one look more
+
+pub right_more : (m : TheMap) (left sites : List Site) (k : ℕ) (e : Site) → k < length sites → ArePlacedBut m left sites k → IsPlacedSite m (get_or sites k e) → ArePlacedBut m left sites (k + 1)
+right_more m left sites k e lt before here all = one_more (IsPlacedSite m) sites k e (before all) lt here
+
+pub left_more : (m : TheMap) (left new sites : List Site) (k : ℕ) (e : Site) → k < length sites → new ≡ left ++ get_or sites k e ∷ [] → ArePlacedBut m left sites k → ArePlacedBut m new sites (k + 1)
+left_more m left new sites k e lt is before all = one_more (IsPlacedSite m) sites k e (before first) lt last
+  where
+    pushed : All (IsPlacedSite m) (left ++ get_or sites k e ∷ [])
+    pushed = subst (All (IsPlacedSite m)) is all
+
+    first : All (IsPlacedSite m) left
+    first j d inside =
+        subst (IsPlacedSite m) (get_or_append_left left (get_or sites k e ∷ []) d j inside)
+        (pushed j d (let long = length-append left (get_or sites k e ∷ []) in omega (arith, inside, long)))
+
+    last : IsPlacedSite m (get_or sites k e)
+    last =
+        subst (IsPlacedSite m) (get_or-append_right left (get_or sites k e ∷ []) (length left) (length left) e refl (omega arith) ∙ ap (λ i. get_or (get_or sites k e ∷ []) i e) (let none : length left - length left ≡ 0 = omega arith in none))
+        (pushed (length left) e (let long = length-append left (get_or sites k e ∷ []) in omega (arith, long)))
+
+pub site_more : (m : TheMap) (left new sites : List Site) (k : ℕ) (e : Site) → k < length sites → new ≡ left ++ get_or sites k e ∷ [] → All (IsSiteOf m) left → All (IsSiteOf m) sites → All (IsSiteOf m) new
+site_more m left new sites k e lt is all are = subst (All (IsSiteOf m)) (sym is) (All-push (IsSiteOf m) left (get_or sites k e) all (are k e lt))
+
+pub all_seen : (m : TheMap) (left sites : List Site) (k : ℕ) → length sites ≤ k → ArePlacedBut m left sites k → All (IsPlacedSite m) left → All (IsPlacedSite m) sites
+all_seen m left sites k past before all j d lt = before all j d (omega (arith, lt, past))

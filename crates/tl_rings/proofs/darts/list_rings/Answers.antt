@@ -1,0 +1,16 @@
+use Rattle.std.proofs.Common.{subst}
+use Rattle.tl_sides.specs.Lists.{list_at}
+use Rattle.tl_crossings.specs.Rings.{ring_count}
+use Rattle.tl_rings.specs.Keeping.Looking.{AddCounts}
+use Rattle.tl_rings.proofs.Adding.{sum_more, sum_all}
+use Rattle.tl_rings.proofs.darts.list_rings.Goals as goal
+
+pub loop-place-preserved : goal.loop-place-preserved
+loop-place-preserved c =
+    sum_more (λ S k. ring_count c.args.map.now.chains c.args.point S (list_at c.args.rings.now.rings k)) c.args.numbers.now c.loop-place.place c.args.flanks.now.items c.loop-place.flanks.items c.list_ring.new.flanks.items
+    c.loop-place-test.true c.loop-place.invariant
+    (subst (λ ring. AddCounts (λ S. ring_count c.args.map.now.chains c.args.point S ring) c.loop-place.flanks.items c.list_ring.new.flanks.items) c.ring.ensures c.in_ok-list_ring.ensures)
+
+pub returns : goal.returns
+returns c =
+    sum_all (λ S k. ring_count c.args.map.now.chains c.args.point S (list_at c.args.rings.now.rings k)) c.args.numbers.now c.loop-place.place c.args.flanks.now.items c.loop-place.flanks.items c.loop-place-test.false c.loop-place.invariant

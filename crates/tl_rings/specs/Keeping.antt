@@ -1,0 +1,4 @@
+-- What is kept on the way.
+pub mod Laid
+pub mod Spots
+pub mod Looking

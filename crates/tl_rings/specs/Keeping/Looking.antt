@@ -1,0 +1,42 @@
+-- What is found of a polygon's point on the way.
+use Rattle.std.specs.Prelude.{◌≡◌, ℕ, ◌<◌, ℤ, pos, neg_ℤ, ◌+ℤ◌, Bool, false, if◌then◌else◌, List, slice_index_or, All, ⊤}
+use Rattle.tl_geom.specs.declared.point.Point.{Point}
+use Rattle.tl_map.specs.declared.sides.Side.{Side}
+use Rattle.tl_map.specs.declared.sides.Side.TheVariants.{Outside}
+use Rattle.tl_map.specs.TheMap.{TheMap, MapChain}
+use Rattle.tl_sides.specs.Lists.{EachList}
+use Rattle.tl_sides.specs.Sides.{dart_count}
+use Rattle.tl_inside.specs.declared.flanks.Flanks.{Flanks}
+use Rattle.tl_inside.specs.declared.strips.Site.{Site}
+use Rattle.tl_inside.specs.Inside.{balance}
+use Rattle.tl_inside.specs.Placed.{IsTrueMisplaced}
+use Rattle.tl_inside.specs.Keeping.Strips.{IsPlacedSite}
+use Rattle.tl_crossings.specs.Rings.{has_left, dart_crossings}
+use Rattle.tl_rings.specs.declared.look.Look.{Look}
+use Rattle.tl_rings.specs.declared.look.Look.TheVariants.{Right, Wrong, Costly}
+
+-- the flanks are more by these counts of any sides but the outside
+abbrev pub AddCounts : ((Side → Bool) → ℤ) → (old new : List Flanks) → Type 0
+AddCounts counts old new = (S : Side → Bool) → S Outside ≡ false → balance S new ≡ balance S old +ℤ counts S
+
+-- so much for a side if it is one of these, with the other sign against the chain
+abbrev pub on_side : Bool → Side → ℤ → (Side → Bool) → ℤ
+on_side along side n S = if S side then (if along then n else neg_ℤ n) else pos 0
+
+-- what dart d adds to the count of such sides
+abbrev pub left_count : List MapChain → Point → ℕ → (Side → Bool) → ℤ
+left_count chains q d S = if has_left chains S d then dart_crossings chains q d else pos 0
+
+-- the rings are of darts of the chains
+abbrev pub AreOfDarts : List MapChain → List (List ℕ) → Type 0
+AreOfDarts chains rings = EachList (All (λ d. d < dart_count chains)) rings
+
+-- what was found of a polygon's point
+abbrev pub IsLook : TheMap → Site → Look → Type 0
+IsLook m site Right = IsPlacedSite m site
+IsLook m site (Wrong fault) = IsTrueMisplaced m fault
+IsLook m site Costly = ⊤
+
+-- where those that are left are placed, so are the first k
+abbrev pub ArePlacedBut : TheMap → List Site → List Site → ℕ → Type 0
+ArePlacedBut m left sites k = All (IsPlacedSite m) left → (j : ℕ) (d : Site) → j < k → IsPlacedSite m (slice_index_or sites j d)

@@ -1,0 +1,3 @@
+-- What the contracts cite.
+pub mod Rings
+pub mod Keeping

@@ -1,0 +1,163 @@
+//! Polygons' points that don't lie where they have to.
+
+ghost use Rattle.std.specs.Prelude.{◌≡◌, ◌<◌, ◌^◌, [], length, All, IfOk, OnOk, MatchOption};
+ghost use Rattle.tl_map.specs.Segments.{segments_before};
+ghost use Rattle.tl_planar.specs.Rectangles.{segment_rect};
+ghost use Rattle.tl_sides.specs.Sides.{SidesAgree};
+ghost use Rattle.tl_sides.specs.Walks.{AreWalks};
+ghost use Rattle.tl_inside.specs.Placed.{ArePlaced, IsTrueMisplaced};
+ghost use Rattle.tl_inside.specs.Keeping.Strips.{IsSiteOf, IsPlacedSite};
+ghost use Rattle.tl_inside.specs.Keeping.Tallies.{AreNone};
+ghost use Rattle.tl_crossings.specs.Headings.{AreProper};
+ghost use Rattle.tl_rings.specs.Rings.{AreBoxed, box_at};
+ghost use Rattle.tl_rings.specs.Keeping.Spots.{ring_count};
+
+use crate::heights::Heights;
+use crate::look::{Look, look_at};
+use crate::rings::Rings;
+use std::alloc::Global;
+use tl_crossings::look_at_chains;
+use tl_inside::{Flanks, Misplaced, Site, find_among, no_counts, push_site, sites_of};
+use tl_map::Map;
+use tl_pack::pack;
+use tl_tree::{BoxIndex, FlatTree, Memory, TreeStop};
+
+/// Looks for a polygon whose point is on a chain, isn't inside its polygon or isn't clear of another, by any index that
+/// fits the map's segments and the rings of the map, where sides agree. A point is looked at by the rings whose boxes
+/// hold it, or, where these have more darts than a ray has chains to look at, together with others along their rays.
+/// Memory is taken for all points at once.
+pub fn find_misplaced<X: BoxIndex>(
+    alloc: Global,
+    map: &Map,
+    index: &X,
+    rings: &Rings,
+) -> Result<Option<Misplaced>, Memory>
+    requires fits { X.fits index.now (segments_before map.now.chains (length map.now.chains)) (segment_rect map.now.chains) }
+    requires sides { SidesAgree map.now.chains }
+    requires walks { AreWalks map.now.chains rings.now.rings }
+    requires boxed { AreBoxed map.now.chains rings.now }
+    requires few { length rings.now.rings < 2 ^ 32 }
+    ensures { IfOk result (λ found. MatchOption found (ArePlaced map.now) (IsTrueMisplaced map.now)) }
+{
+    let Ok(nodes) = pack(alloc, rings) else {
+        return Err(Memory);
+    };
+    match FlatTree::from_nodes(alloc, &nodes) {
+        Ok(tree) => find_by(alloc, map, index, rings, &tree),
+        Err(TreeStop::Memory) => Err(Memory),
+        Err(TreeStop::TooDeep) => unreachable!(),
+    }
+}
+
+/// The same by an index over the rings.
+fn find_by<X: BoxIndex, Y: BoxIndex>(
+    alloc: Global,
+    map: &Map,
+    index: &X,
+    rings: &Rings,
+    tree: &Y,
+) -> Result<Option<Misplaced>, Memory>
+    requires fits { X.fits index.now (segments_before map.now.chains (length map.now.chains)) (segment_rect map.now.chains) }
+    requires tree { Y.fits tree.now (ring_count rings.now) (box_at rings.now.boxes) }
+    requires sides { SidesAgree map.now.chains }
+    requires walks { AreWalks map.now.chains rings.now.rings }
+    requires boxed { AreBoxed map.now.chains rings.now }
+    requires few { length rings.now.rings < 2 ^ 32 }
+    ensures { IfOk result (λ found. MatchOption found (ArePlaced map.now) (IsTrueMisplaced map.now)) }
+{
+    look_at_chains(map);
+    let heights = Heights::of(alloc, map)?;
+    let sites = sites_of(alloc, map)?;
+    let mut left = Vec::new(alloc);
+    match find_by_rings(alloc, map, index, rings, tree, &heights, &sites, &mut left)? {
+        Some(found) => Ok(Some(found)),
+        None => find_among(alloc, map, index, &mut left),
+    }
+}
+
+/// Looks at these points, but for those that are costly: they are left.
+fn find_by_rings<X: BoxIndex, Y: BoxIndex>(
+    alloc: Global,
+    map: &Map,
+    index: &X,
+    rings: &Rings,
+    tree: &Y,
+    heights: &Heights,
+    sites: &[Site],
+    left: &mut Vec<Site>,
+) -> Result<Option<Misplaced>, Memory>
+    requires fits { X.fits index.now (segments_before map.now.chains (length map.now.chains)) (segment_rect map.now.chains) }
+    requires tree { Y.fits tree.now (ring_count rings.now) (box_at rings.now.boxes) }
+    requires proper { AreProper map.now.chains }
+    requires sides { SidesAgree map.now.chains }
+    requires walks { AreWalks map.now.chains rings.now.rings }
+    requires boxed { AreBoxed map.now.chains rings.now }
+    requires few { length rings.now.rings < 2 ^ 32 }
+    requires sites { All (IsSiteOf map.now) sites.now }
+    requires none { left.old.items ≡ [] }
+    ensures found { IfOk result (λ found. MatchOption found
+        (All (IsPlacedSite map.now) left.new.items → All (IsPlacedSite map.now) sites.now) (IsTrueMisplaced map.now)) }
+    ensures left { OnOk result (All (IsSiteOf map.now) left.new.items) }
+{
+    let polygons = map.polygons() as usize;
+    let mut hits = Vec::new(alloc);
+    let mut flanks = Vec::new(alloc);
+    let mut near = no_counts(alloc, polygons)?;
+    let mut far = no_counts(alloc, polygons)?;
+    look_at_each(
+        map,
+        index,
+        rings,
+        tree,
+        heights,
+        sites,
+        left,
+        &mut hits,
+        &mut flanks,
+        &mut near,
+        &mut far,
+    )
+}
+
+/// The same where nothing is counted yet.
+fn look_at_each<X: BoxIndex, Y: BoxIndex>(
+    map: &Map,
+    index: &X,
+    rings: &Rings,
+    tree: &Y,
+    heights: &Heights,
+    sites: &[Site],
+    left: &mut Vec<Site>,
+    hits: &mut Vec<u32>,
+    flanks: &mut Vec<Flanks>,
+    near: &mut [u64],
+    far: &mut [u64],
+) -> Result<Option<Misplaced>, Memory>
+    requires fits { X.fits index.now (segments_before map.now.chains (length map.now.chains)) (segment_rect map.now.chains) }
+    requires tree { Y.fits tree.now (ring_count rings.now) (box_at rings.now.boxes) }
+    requires proper { AreProper map.now.chains }
+    requires sides { SidesAgree map.now.chains }
+    requires walks { AreWalks map.now.chains rings.now.rings }
+    requires boxed { AreBoxed map.now.chains rings.now }
+    requires few { length rings.now.rings < 2 ^ 32 }
+    requires sites { All (IsSiteOf map.now) sites.now }
+    requires none { left.old.items ≡ [] }
+    requires nears { length near.old ≡ length map.now.polygons }
+    requires fars { length far.old ≡ length map.now.polygons }
+    requires no_near { AreNone near.old }
+    requires no_far { AreNone far.old }
+    ensures found { IfOk result (λ found. MatchOption found
+        (All (IsPlacedSite map.now) left.new.items → All (IsPlacedSite map.now) sites.now) (IsTrueMisplaced map.now)) }
+    ensures left { OnOk result (All (IsSiteOf map.now) left.new.items) }
+{
+    for k in 0..sites.len() {
+        match look_at(
+            map, index, rings, tree, heights, sites[k], hits, flanks, near, far,
+        )? {
+            Look::Right => {}
+            Look::Wrong(fault) => return Ok(Some(fault)),
+            Look::Costly => push_site(left, sites[k])?,
+        }
+    }
+    Ok(None)
+}

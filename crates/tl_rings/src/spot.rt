@@ -1,0 +1,38 @@
+//! The rings whose rectangles hold a point.
+
+ghost use Rattle.std.specs.Prelude.{◌≡◌};
+
+use crate::rings::Rings;
+use tl_geom::{Point, Rect};
+use tl_tree::{Items, Probe};
+
+/// The rings whose rectangles hold a point.
+#[derive(Clone, Copy)]
+pub struct Spot(pub Point);
+
+impl Probe<Rings> for Spot {
+    ghost use Rattle.tl_inside.specs.Keeping.Probing.{spot_rect};
+    ghost use Rattle.tl_rings.specs.Keeping.Spots.{IsBoxAt, box_meets};
+
+    ghost region_of = { λ spot. spot_rect spot.0 };
+
+    ghost hit = { λ spot rings. IsBoxAt rings spot.0 };
+
+    ghost hits_meet = { λ spot rings. box_meets rings spot.0 };
+
+    fn region(&self) -> Rect
+        ensures { result ≡ spot_rect self.now.0 }
+    {
+        let Point { x, y } = self.0;
+        Rect {
+            xmin: x,
+            ymin: y,
+            xmax: x,
+            ymax: y,
+        }
+    }
+
+    fn hits(&self, items: &Rings, i: u32) -> bool {
+        items.bounds(i).holds(self.0)
+    }
+}
