@@ -5,3 +5,4 @@ pub mod Shown
 pub mod Streaming
 pub mod Recorded
 pub mod Denials
+pub mod Walking

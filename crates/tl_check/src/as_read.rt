@@ -1,7 +1,8 @@
 //! The check of a map by a certificate that is checked as its parts come.
 
-ghost use Rattle.std.specs.Prelude.{◌≡◌, ℕ, ◌≤◌, IfErr};
+ghost use Rattle.std.specs.Prelude.{◌≡◌, ℕ, ◌<◌, ◌≤◌, ◌^◌, length, IfErr};
 ghost use Rattle.std.specs.Option.{IfSome};
+ghost use Rattle.tl_tree.specs.Preorder.{IsPreorder};
 ghost use Rattle.tl_planar.specs.Planar.{IsPlanar};
 ghost use Rattle.tl_planar.specs.Searching.{meeting_segments};
 ghost use Rattle.tl_sides.specs.Sides.{SidesAgree};
@@ -26,14 +27,15 @@ use crate::state::State;
 use crate::stop::Stop;
 use crate::tree::take_tree;
 use crate::verdict::Verdict;
-use crate::walks::{end_walks, take_walk};
+use crate::walks::{finish_walks, take_walk};
 use std::alloc::Global;
 use tl_cert::{CertPart, CertReader};
 use tl_map::Map;
 use tl_record::Source;
+use tl_tree::TreeNode;
 
 /// Decides whether a map is sound, by the text of a certificate of it, read to its end unless segments meet that may not
-/// or a stop comes first. No part of the certificate is kept beside the tree, and that no longer than its search.
+/// or a stop comes first. Of the certificate its tree is kept, and its walks as they come.
 pub fn check_cert<S: Source>(
     alloc: Global,
     map: &Map,
@@ -106,19 +108,24 @@ fn check_parts<R: Source>(
         match reader.next_part() {
             Ok(Some(CertPart::Round(darts))) => state = take_round(map, state, &darts),
             Ok(Some(CertPart::Walk(darts))) => match end_rounds(alloc, map, state) {
-                Ok(next) => state = take_walk(map, next, &darts),
+                Ok(next) => match take_walk(map, next, &darts) {
+                    Ok(next) => state = next,
+                    Err(halt) => return answer(halt),
+                },
                 Err(halt) => return answer(halt),
             },
             Ok(Some(_)) => unreachable!(),
-            Ok(None) => return conclude(alloc, map, state),
+            Ok(None) => return conclude(alloc, map, &nodes, state),
             Err(stop) => return stopped(stop),
         }
     }
 }
 
 /// The answer behind the last part.
-fn conclude(alloc: Global, map: &Map, state: State) -> Result<Verdict, Stop>
-    requires held { (c : TheCertificate) × Holds map.now c state }
+fn conclude(alloc: Global, map: &Map, nodes: &[TreeNode], state: State) -> Result<Verdict, Stop>
+    requires whole { IsPreorder nodes.now }
+    requires numbered { length nodes.now < 2 ^ 32 }
+    requires held { (c : TheCertificate) × Holds map.now c state × (c.tree ≡ nodes.now) }
     ensures concludes { (c : TheCertificate) → Holds map.now c state → Concludes map.now c result }
     ensures within { (n : ℕ) → IsSearched map.now n state → OnSound result (meeting_segments map.now.chains ≤ n) }
 {
@@ -126,8 +133,9 @@ fn conclude(alloc: Global, map: &Map, state: State) -> Result<Verdict, Stop>
         Ok(ended) => ended,
         Err(halt) => return answer(halt),
     };
-    match end_walks(map, ended) {
-        Ok(rings) => Ok(Verdict::Sound(report(map, rings))),
-        Err(fault) => Ok(Verdict::CertFault(fault)),
+    match finish_walks(alloc, map, nodes, ended) {
+        Ok(Ok(rings)) => Ok(Verdict::Sound(report(map, rings))),
+        Ok(Err(fault)) => Ok(Verdict::CertFault(fault)),
+        Err(halt) => answer(halt),
     }
 }

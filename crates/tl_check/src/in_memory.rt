@@ -18,7 +18,7 @@ use crate::rounds::{end_rounds, take_round};
 use crate::stop::Stop;
 use crate::tree::take_tree;
 use crate::verdict::Verdict;
-use crate::walks::{end_walks, take_walk};
+use crate::walks::{finish_walks, take_walk};
 use std::alloc::Global;
 use tl_cert::Certificate;
 use tl_map::Map;
@@ -67,10 +67,14 @@ pub fn check_map(alloc: Global, map: &Map, cert: &Certificate, budget: u64) -> R
         Err(halt) => return answer(halt),
     };
     for walk in cert.walks() {
-        state = take_walk(map, state, walk);
+        state = match take_walk(map, state, walk) {
+            Ok(state) => state,
+            Err(halt) => return answer(halt),
+        };
     }
-    match end_walks(map, state) {
-        Ok(rings) => Ok(Verdict::Sound(report(map, rings))),
-        Err(fault) => Ok(Verdict::CertFault(fault)),
+    match finish_walks(alloc, map, cert.tree(), state) {
+        Ok(Ok(rings)) => Ok(Verdict::Sound(report(map, rings))),
+        Ok(Err(fault)) => Ok(Verdict::CertFault(fault)),
+        Err(halt) => answer(halt),
     }
 }

@@ -13,6 +13,7 @@ mod fault;
 mod in_memory;
 pub mod laws;
 mod of_records;
+mod points;
 mod rounds;
 mod state;
 mod stop;

@@ -10,6 +10,7 @@ use crate::fault::{CertFault, MapFault};
 use crate::state::{Halt, State};
 use std::alloc::Global;
 use tl_map::Map;
+use tl_rings::Rings;
 use tl_sides::{Rounds, Walks};
 
 /// Takes one round more.
@@ -28,7 +29,7 @@ pub fn take_round(map: &Map, state: State, round: &[u32]) -> State
             Err(fault) => State::Wrong(CertFault::Round(fault)),
         },
         State::Wrong(fault) => State::Wrong(fault),
-        State::Walking(_) | State::Unrounded(_) => unreachable!(),
+        State::Walking(_, _) | State::Unrounded(_) => unreachable!(),
     }
 }
 
@@ -43,7 +44,7 @@ pub fn end_rounds(alloc: Global, map: &Map, state: State) -> Result<State, Halt>
 {
     match state {
         State::Rounding(rounds) => begin_walks(alloc, map, rounds),
-        State::Walking(walks) => Ok(State::Walking(walks)),
+        State::Walking(walks, rings) => Ok(State::Walking(walks, rings)),
         State::Unrounded(fault) => Ok(State::Unrounded(fault)),
         State::Wrong(fault) => Ok(State::Wrong(fault)),
     }
@@ -74,8 +75,11 @@ fn begin_walks(alloc: Global, map: &Map, rounds: Rounds) -> Result<State, Halt>
             }));
         }
     }
-    match Walks::new(alloc, map, next) {
-        Ok(walks) => Ok(State::Walking(walks)),
+    let Ok(walks) = Walks::new(alloc, map, next) else {
+        return Err(Halt::Memory);
+    };
+    match Rings::new(alloc, map.darts()) {
+        Ok(rings) => Ok(State::Walking(walks, rings)),
         Err(_) => Err(Halt::Memory),
     }
 }

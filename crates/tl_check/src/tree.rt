@@ -2,12 +2,7 @@
 
 ghost use Rattle.std.specs.Prelude.{◌≡◌, ◌<◌, ◌^◌, [], length, OnOk, IfOk, IfErr};
 ghost use Rattle.tl_tree.specs.Preorder.{IsPreorder};
-ghost use Rattle.tl_tree.specs.Trees.{tree_of};
-ghost use Rattle.tl_tree.specs.Fits.{Fits};
 ghost use Rattle.tl_sides.specs.Keeping.Rounded.{AreSized, HaveTaken};
-ghost use Rattle.tl_map.specs.Segments.{segments_before};
-ghost use Rattle.tl_planar.specs.Rectangles.{segment_rect};
-ghost use Rattle.tl_inside.specs.Placed.{ArePlaced};
 ghost use Rattle.tl_cells.specs.Cells.{CellsAgree};
 ghost use Rattle.tl_cert.specs.Certificates.{TheCertificate};
 ghost use Rattle.tl_check.specs.Valid.{AreCounts};
@@ -17,7 +12,6 @@ use crate::fault::{CertFault, MapFault};
 use crate::state::{Halt, State};
 use std::alloc::Global;
 use tl_cells::find_cells_at_odds;
-use tl_inside::find_misplaced;
 use tl_map::Map;
 use tl_planar::{Meeting, Segments, first_meet};
 use tl_sides::Rounds;
@@ -48,23 +42,7 @@ pub fn take_tree(alloc: Global, map: &Map, nodes: &[TreeNode], budget: u64) -> R
     match first_meet(map, &tree, budget) {
         Meeting::Found(meet) => Err(Halt::Fault(MapFault::Meet(meet))),
         Meeting::Budget => Err(Halt::Budget),
-        Meeting::Clear => {
-            look_at_points(alloc, map, &tree)?;
-            Ok(State::Rounding(begin_rounds(alloc, map)?))
-        }
-    }
-}
-
-/// Looks at the points of polygons, by a tree that fits the map's segments.
-fn look_at_points(alloc: Global, map: &Map, tree: &FlatTree) -> Result<(), Halt>
-    requires fits { Fits (tree_of tree.now) (segments_before map.now.chains (length map.now.chains)) (segment_rect map.now.chains) }
-    ensures placed { OnOk result (ArePlaced map.now) }
-    ensures halts { IfErr result (MayEnd map.now) }
-{
-    match find_misplaced(alloc, map, tree) {
-        Ok(None) => Ok(()),
-        Ok(Some(fault)) => Err(Halt::Fault(MapFault::PolygonPoint(fault))),
-        Err(_) => Err(Halt::Memory),
+        Meeting::Clear => Ok(State::Rounding(begin_rounds(alloc, map)?)),
     }
 }
 

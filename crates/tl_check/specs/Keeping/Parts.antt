@@ -6,6 +6,7 @@ use Rattle.tl_planar.specs.Searching.{meeting_segments}
 use Rattle.tl_sides.specs.Sides.{SidesAgree}
 use Rattle.tl_inside.specs.Placed.{ArePlaced}
 use Rattle.tl_cells.specs.Cells.{CellsAgree}
+use Rattle.tl_rings.specs.Rings.{TheRings, AreBoxed}
 use Rattle.tl_sides.specs.Lists.{and_list}
 use Rattle.tl_sides.specs.Rounds.{AreRounds, IsRoundFault}
 use Rattle.tl_sides.specs.declared.rounds.Rounds.{Rounds}
@@ -36,13 +37,11 @@ pub record Continues (c d : TheCertificate) : Type 0 where
   pub more_walks : List (List ℕ)
   pub walks : d.walks ≡ c.walks ++ more_walks
 
--- the counts are the map's, the tree fits its segments, its chains are planar, its polygons' points are where they have
--- to be, and its zero-cell ids agree
+-- the counts are the map's, the tree fits its segments, its chains are planar, and its zero-cell ids agree
 pub record IsFounded (m : TheMap) (c : TheCertificate) : Type 0 where
   pub counts : AreCounts m c.counts
   pub tree : IsTree m c.tree
   pub planar : IsPlanar m.chains
-  pub points : ArePlaced m
   pub cells : CellsAgree m.chains
 
 -- so far the rounds have no fault, and there are no walks yet
@@ -52,46 +51,48 @@ pub record AreRoundsSoFar (m : TheMap) (c : TheCertificate) (rounds : Rounds) : 
   pub sized : AreSized m.chains rounds
   pub taken : HaveTaken m.chains c.rounds rounds
 
--- the rounds are the map's, sides agree, and so far the walks have no fault
-pub record AreWalksSoFar (m : TheMap) (c : TheCertificate) (walks : Walks) : Type 0 where
+-- the rounds are the map's, sides agree, and so far the walks have no fault and are laid down, each with a rectangle about it
+pub record AreWalksSoFar (m : TheMap) (c : TheCertificate) (walks : Walks) (rings : TheRings) : Type 0 where
   pub founded : IsFounded m c
   pub rounds : AreRounds m.chains c.rounds
   pub sides : SidesAgree m.chains
   pub ready : AreReady m.chains walks
   pub walked : HaveWalked m.chains c.walks walks
+  pub laid : rings.rings ≡ c.walks
+  pub boxed : AreBoxed m.chains rings
 
 -- what a state says of the parts that were taken, which are those of c
 abbrev pub Holds : TheMap → TheCertificate → State → Type 0
 Holds m c (state.Rounding rounds) = AreRoundsSoFar m c rounds
-Holds m c (state.Walking walks) = AreWalksSoFar m c walks
+Holds m c (state.Walking walks rings) = AreWalksSoFar m c walks rings
 Holds m c (state.Unrounded fault) = IsRoundFault m.chains c.rounds fault
 Holds m c (state.Wrong fault) = (d : TheCertificate) → Continues c d → IsTrueOfCert m d fault
 
 -- further rounds may be taken
 abbrev pub TakesRounds : State → Type 0
 TakesRounds (state.Rounding rounds) = ⊤
-TakesRounds (state.Walking walks) = ⊥
+TakesRounds (state.Walking walks rings) = ⊥
 TakesRounds (state.Unrounded fault) = ⊥
 TakesRounds (state.Wrong fault) = ⊤
 
 -- walks may be taken
 abbrev pub TakesWalks : State → Type 0
 TakesWalks (state.Rounding rounds) = ⊥
-TakesWalks (state.Walking walks) = ⊤
+TakesWalks (state.Walking walks rings) = ⊤
 TakesWalks (state.Unrounded fault) = ⊤
 TakesWalks (state.Wrong fault) = ⊤
 
 -- unless the parts are wrong, the search was made, and at most n pairs of segments have rectangles that meet
 abbrev pub IsSearched : TheMap → ℕ → State → Type 0
 IsSearched m n (state.Rounding rounds) = meeting_segments m.chains ≤ n
-IsSearched m n (state.Walking walks) = meeting_segments m.chains ≤ n
+IsSearched m n (state.Walking walks rings) = meeting_segments m.chains ≤ n
 IsSearched m n (state.Unrounded fault) = meeting_segments m.chains ≤ n
 IsSearched m n (state.Wrong fault) = ⊤
 
 -- unless the parts are wrong in another way than by rounds or walks, the search was made, and the chains are planar
 abbrev pub IsBehindSearch : TheMap → State → Type 0
 IsBehindSearch m (state.Rounding rounds) = IsPlanar m.chains
-IsBehindSearch m (state.Walking walks) = IsPlanar m.chains
+IsBehindSearch m (state.Walking walks rings) = IsPlanar m.chains
 IsBehindSearch m (state.Unrounded fault) = IsPlanar m.chains
 IsBehindSearch m (state.Wrong fault) = IsOfDarts fault → IsPlanar m.chains
 
@@ -106,6 +107,16 @@ abbrev pub MayEnd : TheMap → Halt → Type 0
 MayEnd m (halt.Fault fault) = IsTrueOfMap m fault
 MayEnd m halt.Memory = ⊤
 MayEnd m halt.Budget = ⊥
+
+-- what the parts of valid certificates show, with that many walks, which are laid down
+pub record IsWalked (m : TheMap) (c : TheCertificate) (count : ℕ) (rings : TheRings) : Type 0 where
+  pub valid : IsValid m c
+  pub planar : IsPlanar m.chains
+  pub sides : SidesAgree m.chains
+  pub cells : CellsAgree m.chains
+  pub counted : count ≡ length c.walks
+  pub laid : rings.rings ≡ c.walks
+  pub boxed : AreBoxed m.chains rings
 
 -- what valid certificates show, with that many walks
 pub record IsShown (m : TheMap) (c : TheCertificate) (rings : ℕ) : Type 0 where

@@ -59,6 +59,7 @@ parts-init g c =
     ] in
     record {
       stands = record { place = Treed t.version; cert = t.cert; collects = t.collects; holds = held.0; suits = held.1 };
+      tree = t.tree_is;
       searched = held.2;
       failures =
           tells_here (standing_of c.next_part.new.self) (Counted r.version) (g.R.Source.failure_count (source_of c.next_part.new.self)) (g.R.Source.failure_count (source_of c.next_part-2.new.self)) (Ok c.in-Ok-Some-Tree.field-0) r.collects.standing c.in-Ok-Some-Tree.ensures.failures
@@ -85,19 +86,20 @@ parts-preserved-in-Ok-Some-Round g c =
         holds = rw (← c.deref-in-Ok-Some-Round.ensures.value) (c.take_round-state.ensures.holds st.cert st.holds);
         suits = c.take_round-state.ensures.takes;
       };
+      tree = c.parts.invariant.tree;
       searched = c.take_round-state.ensures.searched c.args.budget c.parts.invariant.searched;
       failures = tells_here (standing_of c.parts.reader) st.place (g.R.Source.failure_count (source_of c.parts.reader)) (g.R.Source.failure_count (source_of c.next_part-in-parts.new.self)) (Ok c.in-Ok-Some-Round.field-0) st.collects.standing c.in-Ok-Some-Round.ensures.failures ∙ c.parts.invariant.failures;
       same = c.next_part-in-parts.ensures.same_reference ∙ c.parts.invariant.same;
     }
 
-pub take_walk-state-requires-clause-some : goal.take_walk-state-requires-clause-some
-take_walk-state-requires-clause-some g c =
+pub take_walk-requires-clause-some : goal.take_walk-requires-clause-some
+take_walk-requires-clause-some g c =
     let gives = gives_as g.R.Source.remaining c.parts.reader c.next_part-in-parts.new.self c.in-Ok-Some-Walk.field-0 c.in-Ok-Some-Walk.field-0-0 (part.Walk c.in-Ok-Some-Walk.darts) c.in-Ok-Some-Walk.field-0-is c.in-Ok-Some-Walk.field-0-0-is c.in-Ok-Some-Walk.ensures.gives in
     let r = walk_read g.R.Source.remaining c.args.map.now c.args.budget c.args.reader.now c.parts.reader c.next_part-in-parts.new.self c.parts.state c.in-Ok-Some-Walk.darts c.parts.invariant.stands gives in
     rw c.deref-in-Ok-end_rounds.ensures.value r.some
 
-pub take_walk-state-requires-clause-held : goal.take_walk-state-requires-clause-held
-take_walk-state-requires-clause-held g c =
+pub take_walk-requires-clause-held : goal.take_walk-requires-clause-held
+take_walk-requires-clause-held g c =
     let st = c.parts.invariant.stands in
     (st.cert, c.in-Ok-end_rounds.ensures.holds st.cert st.holds)
 
@@ -111,10 +113,11 @@ parts-preserved g c =
         place = Walks r.left;
         cert = with_walk st.cert c.in-Ok-Some-Walk.darts.items;
         collects = r.collects;
-        holds = rw (← c.deref-in-Ok-end_rounds.ensures.value) (c.take_walk-state.ensures.holds st.cert (c.in-Ok-end_rounds.ensures.holds st.cert st.holds));
-        suits = c.take_walk-state.ensures.takes;
+        holds = rw (← c.deref-in-Ok-end_rounds.ensures.value) (c.in-Ok-take_walk.ensures.holds st.cert (c.in-Ok-end_rounds.ensures.holds st.cert st.holds));
+        suits = c.in-Ok-take_walk.ensures.takes;
       };
-      searched = c.take_walk-state.ensures.searched c.args.budget (c.in-Ok-end_rounds.ensures.searched c.args.budget c.parts.invariant.searched);
+      tree = c.parts.invariant.tree;
+      searched = c.in-Ok-take_walk.ensures.searched c.args.budget (c.in-Ok-end_rounds.ensures.searched c.args.budget c.parts.invariant.searched);
       failures = tells_here (standing_of c.parts.reader) st.place (g.R.Source.failure_count (source_of c.parts.reader)) (g.R.Source.failure_count (source_of c.next_part-in-parts.new.self)) (Ok c.in-Ok-Some-Walk.field-0) st.collects.standing c.in-Ok-Some-Walk.ensures.failures ∙ c.parts.invariant.failures;
       same = c.next_part-in-parts.ensures.same_reference ∙ c.parts.invariant.same;
     }
@@ -133,3 +136,24 @@ returns-in-Ok-None-clause-failures g c =
 
 pub returns-in-Ok-None-clause-within : goal.returns-in-Ok-None-clause-within
 returns-in-Ok-None-clause-within g c = c.conclude.ensures.within c.args.budget c.parts.invariant.searched
+
+pub conclude-requires-clause-whole : goal.conclude-requires-clause-whole
+conclude-requires-clause-whole g c =
+    let first = gives_as g.R.Source.remaining c.args.reader.now c.next_part.new.self c.in-Ok-Some-Counts.field-0 c.in-Ok-Some-Counts.field-0-0 (part.Counts c.in-Ok-Some-Counts.counts c.in-Ok-Some-Counts.field-0-0-1) c.in-Ok-Some-Counts.field-0-is c.in-Ok-Some-Counts.field-0-0-is c.in-Ok-Some-Counts.ensures.gives in
+    let r = counts_read g.R.Source.remaining c.args.map.now c.args.budget c.args.reader.now c.next_part.new.self c.in-Ok-Some-Counts.counts c.in-Ok-Some-Counts.field-0-0-1 c.requires.standing c.requires.lines first in
+    let second = gives_as g.R.Source.remaining c.next_part.new.self c.next_part-2.new.self c.in-Ok-Some-Tree.field-0 c.in-Ok-Some-Tree.field-0-0 (part.Tree c.in-Ok-Some-Tree.nodes) c.in-Ok-Some-Tree.field-0-is c.in-Ok-Some-Tree.field-0-0-is c.in-Ok-Some-Tree.ensures.gives in
+    let t = tree_read g.R.Source.remaining c.args.map.now c.args.budget c.args.reader.now c.next_part.new.self c.next_part-2.new.self c.in-Ok-Some-Counts.counts c.in-Ok-Some-Tree.nodes r second in
+    rw c.deref-in-Ok-None.ensures.value t.preorder
+
+pub conclude-requires-clause-numbered : goal.conclude-requires-clause-numbered
+conclude-requires-clause-numbered g c =
+    let first = gives_as g.R.Source.remaining c.args.reader.now c.next_part.new.self c.in-Ok-Some-Counts.field-0 c.in-Ok-Some-Counts.field-0-0 (part.Counts c.in-Ok-Some-Counts.counts c.in-Ok-Some-Counts.field-0-0-1) c.in-Ok-Some-Counts.field-0-is c.in-Ok-Some-Counts.field-0-0-is c.in-Ok-Some-Counts.ensures.gives in
+    let r = counts_read g.R.Source.remaining c.args.map.now c.args.budget c.args.reader.now c.next_part.new.self c.in-Ok-Some-Counts.counts c.in-Ok-Some-Counts.field-0-0-1 c.requires.standing c.requires.lines first in
+    let second = gives_as g.R.Source.remaining c.next_part.new.self c.next_part-2.new.self c.in-Ok-Some-Tree.field-0 c.in-Ok-Some-Tree.field-0-0 (part.Tree c.in-Ok-Some-Tree.nodes) c.in-Ok-Some-Tree.field-0-is c.in-Ok-Some-Tree.field-0-0-is c.in-Ok-Some-Tree.ensures.gives in
+    let t = tree_read g.R.Source.remaining c.args.map.now c.args.budget c.args.reader.now c.next_part.new.self c.next_part-2.new.self c.in-Ok-Some-Counts.counts c.in-Ok-Some-Tree.nodes r second in
+    rw c.deref-in-Ok-None.ensures.value t.few
+
+pub conclude-requires-clause-held : goal.conclude-requires-clause-held
+conclude-requires-clause-held g c =
+    let st = c.parts.invariant.stands in
+    (st.cert, st.holds, c.parts.invariant.tree ∙ sym c.deref-in-Ok-None.ensures.value)

@@ -5,10 +5,11 @@ use Rattle.tl_check.specs.Keeping.Parts.{IsSearched}
 use Rattle.tl_check.specs.Keeping.Streams.{Stands}
 use Rattle.tl_check.proofs.as_read.check_parts.Given as goal
 
--- the state holds of the parts so far, and no read has failed
+-- the state holds of the parts so far, whose tree is kept, and no read has failed
 abbrev pub invariant-parts : goal.invariant-parts
 invariant-parts g l = record {
   stands : Stands g.R.Source.remaining l.map l.fn.reader l.reader l.state;
+  tree : stands.cert.tree ≡ l.nodes.items;
   searched : IsSearched l.map l.budget l.state;
   failures : g.R.Source.failure_count (source_of l.reader) ≡ g.R.Source.failure_count (source_of l.fn.reader);
   same : g.R.Source.reference (source_of l.reader) ≡ g.R.Source.reference (source_of l.fn.reader);

@@ -2,6 +2,7 @@ use Rattle.std.proofs.Common.{◌≡◌, length, refl, sym, subst, arith}
 use Rattle.tl_check.specs.Truth.{IsTrueOfCert}
 use Rattle.tl_check.specs.Keeping.Parts.{Holds, IsShown}
 use Rattle.tl_check.proofs.Prefixes.{first_rounds, first_walks, all_rounds, all_walks, list_is, as_many, round_taken, walk_taken, has_some}
+use Rattle.tl_check.proofs.Walking.{told_ok, told_err}
 use Rattle.tl_check.proofs.Shown.{are_closed, is_report}
 use Rattle.tl_check.proofs.in_memory.check_map.Goals as goal
 
@@ -53,8 +54,8 @@ loop-walk-init c =
       behind = c.in-Ok-end_rounds.ensures.behind c.loop-round.invariant.behind;
     }
 
-pub take_walk-state-requires-clause-some : goal.take_walk-state-requires-clause-some
-take_walk-state-requires-clause-some c =
+pub take_walk-requires-clause-some : goal.take_walk-requires-clause-some
+take_walk-requires-clause-some c =
     let vs = c.walks-walk-items.result.now in
     let i = c.loop-walk.walk-index in
     let test = c.loop-walk-test.true in
@@ -70,60 +71,63 @@ loop-walk-preserved c =
     let test = c.loop-walk-test.true in
     let many : length vs ≡ length c.args.cert.now.walks = as_many vs c.args.cert.now.walks c.walks-walk-items.ensures.walks in
     record {
-      holds = walk_taken c.args.map.now c.args.cert.now i c.deref-in-loop-walk.result.now c.take_walk-state.result
+      holds = walk_taken c.args.map.now c.args.cert.now i c.deref-in-loop-walk.result.now c.in-Ok-take_walk.state
           (list_is vs c.args.cert.now.walks i c.walk-item.result c.deref-in-loop-walk.result.now c.walks-walk-items.ensures.walks test c.walk-item.is c.deref-in-loop-walk.ensures.value)
           (omega (arith, many, test))
-          (c.take_walk-state.ensures.holds (first_walks c.args.cert.now i) c.loop-walk.invariant.holds);
-      takes = c.take_walk-state.ensures.takes;
-      searched = c.take_walk-state.ensures.searched c.args.budget c.loop-walk.invariant.searched;
-      behind = c.take_walk-state.ensures.behind c.loop-walk.invariant.behind;
+          (c.in-Ok-take_walk.ensures.holds (first_walks c.args.cert.now i) c.loop-walk.invariant.holds);
+      takes = c.in-Ok-take_walk.ensures.takes;
+      searched = c.in-Ok-take_walk.ensures.searched c.args.budget c.loop-walk.invariant.searched;
+      behind = c.in-Ok-take_walk.ensures.behind c.loop-walk.invariant.behind;
     }
 
+pub finish_walks-requires-clause-held : goal.finish_walks-requires-clause-held
+finish_walks-requires-clause-held c = (first_walks c.args.cert.now c.loop-walk.walk-index, c.loop-walk.invariant.holds, sym c.tree-2.ensures.tree)
+
 -- what is shown once all walks were taken
-shown : (c : goal.After-report) → IsShown c.args.map.now c.args.cert.now c.in-Ok-end_walks.rings
+shown : (c : goal.After-report) → IsShown c.args.map.now c.args.cert.now c.in-Ok-Ok.rings
 shown c =
     let vs = c.walks-walk-items.result.now in
     let i = c.loop-walk.walk-index in
     let test = c.loop-walk-test.false in
     let many : length vs ≡ length c.args.cert.now.walks = as_many vs c.args.cert.now.walks c.walks-walk-items.ensures.walks in
-    subst (λ d. IsShown c.args.map.now d c.in-Ok-end_walks.rings) (all_walks c.args.cert.now i (omega (arith, many, test)))
-    (c.in-Ok-end_walks.ensures.shown (first_walks c.args.cert.now i) c.loop-walk.invariant.holds)
+    subst (λ d. IsShown c.args.map.now d c.in-Ok-Ok.rings) (all_walks c.args.cert.now i (omega (arith, many, test)))
+    (told_ok _ c.in-Ok-Ok.field-0 c.in-Ok-Ok.rings c.in-Ok-Ok.field-0-is c.in-Ok-Ok.ensures.shown (first_walks c.args.cert.now i) c.loop-walk.invariant.holds)
 
-pub returns-in-Ok-end_walks-clause-planar : goal.returns-in-Ok-end_walks-clause-planar
-returns-in-Ok-end_walks-clause-planar c = (shown c).planar
+pub returns-in-Ok-Ok-clause-planar : goal.returns-in-Ok-Ok-clause-planar
+returns-in-Ok-Ok-clause-planar c = (shown c).planar
 
-pub returns-in-Ok-end_walks-clause-sides : goal.returns-in-Ok-end_walks-clause-sides
-returns-in-Ok-end_walks-clause-sides c = (shown c).sides
+pub returns-in-Ok-Ok-clause-sides : goal.returns-in-Ok-Ok-clause-sides
+returns-in-Ok-Ok-clause-sides c = (shown c).sides
 
-pub returns-in-Ok-end_walks-clause-closed : goal.returns-in-Ok-end_walks-clause-closed
-returns-in-Ok-end_walks-clause-closed c = are_closed c.args.map.now c.args.cert.now c.in-Ok-end_walks.rings (shown c)
+pub returns-in-Ok-Ok-clause-points : goal.returns-in-Ok-Ok-clause-points
+returns-in-Ok-Ok-clause-points c = (shown c).points
 
-pub returns-in-Ok-end_walks-clause-points : goal.returns-in-Ok-end_walks-clause-points
-returns-in-Ok-end_walks-clause-points c = (shown c).points
+pub returns-in-Ok-Ok-clause-cells : goal.returns-in-Ok-Ok-clause-cells
+returns-in-Ok-Ok-clause-cells c = (shown c).cells
 
-pub returns-in-Ok-end_walks-clause-cells : goal.returns-in-Ok-end_walks-clause-cells
-returns-in-Ok-end_walks-clause-cells c = (shown c).cells
+pub returns-in-Ok-Ok-clause-valid : goal.returns-in-Ok-Ok-clause-valid
+returns-in-Ok-Ok-clause-valid c = (shown c).valid
 
-pub returns-in-Ok-end_walks-clause-valid : goal.returns-in-Ok-end_walks-clause-valid
-returns-in-Ok-end_walks-clause-valid c = (shown c).valid
+pub returns-in-Ok-Ok-clause-closed : goal.returns-in-Ok-Ok-clause-closed
+returns-in-Ok-Ok-clause-closed c = are_closed c.args.map.now c.args.cert.now c.in-Ok-Ok.rings (shown c)
 
-pub returns-in-Ok-end_walks-clause-report : goal.returns-in-Ok-end_walks-clause-report
-returns-in-Ok-end_walks-clause-report c = is_report c.args.map.now c.args.cert.now c.in-Ok-end_walks.rings (shown c) c.report.result c.report.ensures
+pub returns-in-Ok-Ok-clause-report : goal.returns-in-Ok-Ok-clause-report
+returns-in-Ok-Ok-clause-report c = is_report c.args.map.now c.args.cert.now c.in-Ok-Ok.rings (shown c) c.report.result c.report.ensures
 
-pub returns-in-Err-end_walks-clause-cert_fault : goal.returns-in-Err-end_walks-clause-cert_fault
-returns-in-Err-end_walks-clause-cert_fault c =
+pub returns-in-Ok-Ok-clause-within : goal.returns-in-Ok-Ok-clause-within
+returns-in-Ok-Ok-clause-within c = told_ok _ c.in-Ok-Ok.field-0 c.in-Ok-Ok.rings c.in-Ok-Ok.field-0-is c.in-Ok-Ok.ensures.searched c.args.budget c.loop-walk.invariant.searched
+
+pub returns-in-Ok-Err-clause-cert_fault : goal.returns-in-Ok-Err-clause-cert_fault
+returns-in-Ok-Err-clause-cert_fault c =
     let vs = c.walks-walk-items.result.now in
     let i = c.loop-walk.walk-index in
     let test = c.loop-walk-test.false in
     let many : length vs ≡ length c.args.cert.now.walks = as_many vs c.args.cert.now.walks c.walks-walk-items.ensures.walks in
-    subst (λ d. IsTrueOfCert c.args.map.now d c.in-Err-end_walks.fault) (all_walks c.args.cert.now i (omega (arith, many, test)))
-    (c.in-Err-end_walks.ensures.fault (first_walks c.args.cert.now i) c.loop-walk.invariant.holds)
+    subst (λ d. IsTrueOfCert c.args.map.now d c.in-Ok-Err.fault) (all_walks c.args.cert.now i (omega (arith, many, test)))
+    (told_err _ c.in-Ok-Err.field-0 c.in-Ok-Err.fault c.in-Ok-Err.field-0-is c.in-Ok-Err.ensures.fault (first_walks c.args.cert.now i) c.loop-walk.invariant.holds)
 
-pub returns-in-Ok-end_walks-clause-within : goal.returns-in-Ok-end_walks-clause-within
-returns-in-Ok-end_walks-clause-within c = c.in-Ok-end_walks.ensures.searched c.args.budget c.loop-walk.invariant.searched
-
-pub returns-in-Err-end_walks-clause-behind : goal.returns-in-Err-end_walks-clause-behind
-returns-in-Err-end_walks-clause-behind c = c.in-Err-end_walks.ensures.behind c.loop-walk.invariant.behind
+pub returns-in-Ok-Err-clause-behind : goal.returns-in-Ok-Err-clause-behind
+returns-in-Ok-Err-clause-behind c = told_err _ c.in-Ok-Err.field-0 c.in-Ok-Err.fault c.in-Ok-Err.field-0-is c.in-Ok-Err.ensures.behind c.loop-walk.invariant.behind
 
 pub returns-then-not-are_counts-clause-behind : goal.returns-then-not-are_counts-clause-behind
 returns-then-not-are_counts-clause-behind c = λ of_darts. absurd of_darts

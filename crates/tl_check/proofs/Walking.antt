@@ -1,0 +1,57 @@
+-- Walks that are laid down.
+use Rattle.std.proofs.Common.{◌≡◌, ℕ, Result, Ok, Err, IfOk, IfErr, ◌*◌, ◌<◌, List, [], length, All, refl, sym, subst, ap, ◌∙◌, arith}
+use Rattle.std.specs.Prelude.{slice_index}
+use Rattle.std.proofs.lemmas.List.{get_or_default}
+use Rattle.tl_map.specs.TheMap.{TheMap, MapChain}
+use Rattle.tl_sides.specs.Lists.{and_list, list_at}
+use Rattle.tl_sides.specs.Sides.{dart_count, IsRing}
+use Rattle.tl_sides.specs.declared.walks.Walks.{Walks}
+use Rattle.tl_sides.specs.Keeping.Walked.{AreReady, HaveWalked}
+use Rattle.tl_sides.proofs.Headings.{dart_within}
+use Rattle.tl_sides.proofs.ListLemmas.{length-and, list-last}
+use Rattle.tl_inside.specs.Placed.{ArePlaced}
+use Rattle.tl_rings.specs.Rings.{TheRings, AreBoxed}
+use Rattle.tl_cert.specs.Certificates.{TheCertificate}
+use Rattle.tl_check.specs.Keeping.Parts.{AreWalksSoFar, IsWalked, IsShown, with_walk}
+
+-- a walk that was taken is of darts
+pub darts_known : (chains : List MapChain) (walks : List (List ℕ)) (walk : List ℕ) (w : Walks) → HaveWalked chains (and_list walks walk) w → All (λ d. d < 2 * length chains) walk
+darts_known chains walks walk w have k d lt =
+    let last : list_at (and_list walks walk) (length walks) ≡ walk = list-last walks walk (length walks) refl in
+    let ring : IsRing chains walk = subst (IsRing chains) last (have.rings (length walks) (let l = length-and walks walk in omega (arith, l))) in
+    let f = ring.follows k lt in
+    subst (λ x. x < dart_count chains) (get_or_default walk k 0 d lt) (dart_within chains (slice_index walk k) f.next.node f.next.a_starts)
+
+-- one walk more
+pub walk_laid : (m : TheMap) (c : TheCertificate) (walk : List ℕ) (old new : Walks) (laid now : TheRings) → AreReady m.chains new → HaveWalked m.chains (and_list c.walks walk) new → now.rings ≡ and_list laid.rings walk → (AreBoxed m.chains laid → AreBoxed m.chains now) → AreWalksSoFar m c old laid → AreWalksSoFar m (with_walk c walk) new now
+walk_laid m c walk old new laid now ready have is boxed so = record {
+  founded = record { counts = so.founded.counts; tree = so.founded.tree; planar = so.founded.planar; cells = so.founded.cells };
+  rounds = so.rounds;
+  sides = so.sides;
+  ready = ready;
+  walked = have;
+  laid = is ∙ ap (λ ls. and_list ls walk) so.laid;
+  boxed = boxed so.boxed;
+}
+
+-- no walk yet
+pub none_boxed : (chains : List MapChain) (r : TheRings) → r ≡ record { rings = []; boxes = [] } → AreBoxed chains r
+none_boxed chains r is = subst (AreBoxed chains) (sym is) (record { long = refl; each = λ k lt. absurd (let no : k < 0 = lt in omega (arith, no)) })
+
+-- what was walked is shown, with points that are placed
+pub shown_by : (m : TheMap) (c : TheCertificate) (count : ℕ) (rings : TheRings) → IsWalked m c count rings → ArePlaced m → IsShown m c count
+shown_by m c count rings w placed = record {
+  valid = w.valid;
+  planar = w.planar;
+  sides = w.sides;
+  points = placed;
+  cells = w.cells;
+  counted = w.counted;
+}
+
+-- what is told of an answer within an answer
+pub told_ok : {X E : Type 0} (P : X → Type 0) (r : Result X E) (x : X) → r ≡ Ok x → IfOk r P → P x
+told_ok P r x is told = subst (λ z. IfOk z P) is told
+
+pub told_err : {X E : Type 0} (P : E → Type 0) (r : Result X E) (e : E) → r ≡ Err e → IfErr r P → P e
+told_err P r e is told = subst (λ z. IfErr z P) is told

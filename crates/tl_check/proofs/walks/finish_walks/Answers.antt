@@ -1,0 +1,28 @@
+use Rattle.std.proofs.Common.{length, sym, subst, ap, ◌<◌, ◌^◌, ◌∙◌}
+use Rattle.tl_sides.specs.Walks.{AreWalks}
+use Rattle.tl_check.specs.Valid.{IsTree}
+use Rattle.tl_check.specs.Keeping.Parts.{IsWalked}
+use Rattle.tl_check.proofs.Walking.{shown_by}
+use Rattle.tl_check.proofs.walks.finish_walks.Goals as goal
+
+-- what the state that is held shows
+walked : (c : goal.After-rings-in-Ok-1) → IsWalked c.args.map.now c.requires.held.0 c.in-Ok.count c.in-Ok.rings
+walked c = c.in-Ok.ensures.walked c.requires.held.0 c.requires.held.1
+
+pub look_at_points-requires-clause-tree : goal.look_at_points-requires-clause-tree
+look_at_points-requires-clause-tree c = subst (IsTree c.args.map.now) c.requires.held.2 (walked c).valid.tree
+
+pub look_at_points-requires-clause-sides : goal.look_at_points-requires-clause-sides
+look_at_points-requires-clause-sides c = (walked c).sides
+
+pub look_at_points-requires-clause-walks : goal.look_at_points-requires-clause-walks
+look_at_points-requires-clause-walks c = subst (AreWalks c.args.map.now.chains) (sym (walked c).laid) (walked c).valid.walks
+
+pub look_at_points-requires-clause-boxed : goal.look_at_points-requires-clause-boxed
+look_at_points-requires-clause-boxed c = (walked c).boxed
+
+pub look_at_points-requires-clause-few : goal.look_at_points-requires-clause-few
+look_at_points-requires-clause-few c = subst (λ n. n < 2 ^ 32) ((walked c).counted ∙ sym (ap length (walked c).laid)) c.in-Ok.ensures.few
+
+pub returns-in-Ok-look_at_points-clause-shown : goal.returns-in-Ok-look_at_points-clause-shown
+returns-in-Ok-look_at_points-clause-shown c = λ cert held. shown_by c.args.map.now cert c.in-Ok.count c.in-Ok.rings (c.in-Ok.ensures.walked cert held) c.in-Ok-look_at_points.ensures.placed
