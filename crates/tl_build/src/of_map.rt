@@ -1,6 +1,7 @@
 //! A certificate of a map, made with none given.
 
-ghost use Rattle.std.specs.Prelude.{◌≡◌};
+ghost use Rattle.std.specs.Prelude.{◌≡◌, ◌≤◌};
+ghost use Rattle.tl_tree.specs.Trees.{depth, tree_of};
 ghost use Rattle.tl_planar.specs.Planar.{IsPlanar};
 ghost use Rattle.tl_sides.specs.Sides.{SidesAgree};
 ghost use Rattle.tl_inside.specs.Placed.{ArePlaced};
@@ -34,6 +35,8 @@ pub fn build(alloc: Global, map: &Map) -> Result<Built, BuildStop>
     // The certificate is valid for the map, and of version 2.
     ensures valid { IfCert result (IsValid map.now) }
     ensures version { IfCert result (λ cert. cert.version ≡ 2) }
+    // Its tree has at most 8 levels, which hold the 8 ^ 8 segments that a map can have.
+    ensures shallow { IfCert result (λ cert. depth (tree_of cert.tree) ≤ 8) }
     // Each fault is true.
     ensures fault { IfFault result (IsTrueOfMap map.now) }
 {

@@ -1,7 +1,8 @@
 //! The certificate that is proposed for a map.
 
-ghost use Rattle.std.specs.Prelude.{◌*◌, length, All, IfOk};
+ghost use Rattle.std.specs.Prelude.{◌*◌, ◌≤◌, length, All, IfOk};
 ghost use Rattle.tl_tree.specs.Preorder.{IsPreorder};
+ghost use Rattle.tl_tree.specs.Trees.{depth, tree_of};
 ghost use Rattle.tl_planar.specs.Planar.{IsPlanar};
 ghost use Rattle.tl_sides.specs.Lists.{HoldOnce};
 ghost use Rattle.tl_sides.specs.Rounds.{AreRounds};
@@ -49,10 +50,13 @@ fn counts_of(map: &Map) -> Counts
 /// The tree over the segments of a map.
 fn propose_tree(alloc: Global, map: &Map) -> Result<Vec<TreeNode>, AllocError>
     ensures tree { IfOk result (λ nodes. IsTree map.now nodes.items) }
+    ensures shallow { IfOk result (λ nodes. depth (tree_of nodes.items) ≤ 8) }
     ensures whole { IfOk result (λ nodes. IsPreorder nodes.items) }
     ensures counted { IfOk result (λ nodes. IsCounted nodes.items) }
     ensures each { IfOk result (λ nodes. All (IsNode 2) nodes.items) }
 {
+    // that there are at most 8 ^ 8 segments, which need 8 levels
+    let _segments = map.segments();
     let nodes = pack(alloc, &Segments::new(map))?;
     Ok(nodes)
 }

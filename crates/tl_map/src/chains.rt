@@ -35,16 +35,18 @@ impl Model for Chains {
 
     ghost view = { λ c. record { chains = chains_in c.points.items c.rows.items; skipped = c.skipped } };
 
-    ghost use Rattle.tl_map.specs.declared.fault.TheConstants.{CHAIN_LIMIT};
+    ghost use Rattle.tl_map.specs.declared.fault.TheConstants.{CHAIN_LIMIT, SEGMENT_LIMIT};
 
     ghost invariant = { λ c. (length c.rows.items ≤ CHAIN_LIMIT)
         × All (IsWithin c.points.items) c.rows.items
-        × (c.segments ≡ segment_count (chains_in c.points.items c.rows.items)) };
+        × (c.segments ≡ segment_count (chains_in c.points.items c.rows.items))
+        × (c.segments ≤ SEGMENT_LIMIT) };
 }
 
 impl Chains {
     ghost use Rattle.std.specs.Prelude.{◌≡◌, ◌+◌, ◌≤◌, length};
     ghost use Rattle.tl_map.specs.declared.fault.TheConstants.{CHAIN_LIMIT, SEGMENT_LIMIT};
+    ghost use Rattle.tl_map.specs.Faults.{most_segments};
     ghost use Rattle.tl_map.specs.Keeping.Rows.{IsTable, chains_in};
 
     /// The chains of these rows.
@@ -90,7 +92,8 @@ impl Chains {
 
     /// How many segments the chains have together.
     pub fn segments(&self) -> u32
-        ensures { result ≡ segment_count self.now.chains }
+        ensures count { result ≡ segment_count self.now.chains }
+        ensures few { result ≤ most_segments }
     {
         self.segments
     }

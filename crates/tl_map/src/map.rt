@@ -81,7 +81,7 @@ impl Map {
     ghost use Rattle.tl_map.specs.Keeping.Numbered.{AreNumberedSegments};
     ghost use Rattle.tl_map.specs.Darts.{dart_start as dart_start_of, dart_end as dart_end_of};
     ghost use Rattle.tl_map.specs.Darts.{dart_left as dart_left_of, dart_cell as dart_cell_of, Heads};
-    ghost use Rattle.tl_map.specs.Faults.{most_polygons, most_landmarks};
+    ghost use Rattle.tl_map.specs.Faults.{most_segments, most_polygons, most_landmarks};
     ghost use Rattle.tl_map.specs.Chains.{CompleteChain, IsProper};
     ghost use Rattle.tl_map.specs.Keeping.Landmarks.{IsRow, HasPolygonsOf, landmark_in};
     ghost use Rattle.tl_map.specs.Keeping.Mapped.{sided};
@@ -143,7 +143,8 @@ impl Map {
 
     /// How many segments the chains have together.
     pub fn segments(&self) -> u32
-        ensures { result ≡ segments_before self.now.chains (length self.now.chains) }
+        ensures count { result ≡ segments_before self.now.chains (length self.now.chains) }
+        ensures few { result ≤ most_segments }
     {
         self.chains.segments()
     }

@@ -28,4 +28,4 @@ unreachable-requires-in-Err-Budget c =
     let n = segments_before chains (length chains) in
     let beyond : 18446744073709551615 < meeting_segments chains =
     subst (λ (s : Stop). MayStop c.args.map.now 18446744073709551615 s) c.in-Err-Budget.field-0-is c.in-Err-Budget.ensures.stops in
-    never_beyond (segment_rect chains) n 18446744073709551615 (omega (arith, c.segments-segments.ensures, c.segments-segments.type_inv)) refl beyond
+    never_beyond (segment_rect chains) n 18446744073709551615 (omega (arith, c.segments-segments.ensures.count, c.segments-segments.type_inv)) refl beyond

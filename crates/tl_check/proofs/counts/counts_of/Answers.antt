@@ -7,7 +7,7 @@ returns c =
     record {
       counts = record {
         chains = c.chains.ensures;
-        segments = c.segments.ensures;
+        segments = c.segments.ensures.count;
         nodes = of_each c.args.map.now.chains c.nodes.result nodes.0 nodes.1 nodes.2;
         polygons = c.polygons.ensures;
       };
