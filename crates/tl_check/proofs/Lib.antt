@@ -5,3 +5,5 @@ pub mod Shown
 pub mod Streaming
 pub mod Recorded
 pub mod Denials
+pub mod OneMap
+pub mod Deciding
