@@ -13,3 +13,4 @@ pub mod Holding
 pub mod Proposals
 pub mod Budgets
 pub mod Recorded
+pub mod Exactly
