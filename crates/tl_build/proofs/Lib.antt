@@ -11,3 +11,4 @@ pub mod Proposals
 pub mod Budgets
 pub mod Recorded
 pub mod Packed
+pub mod Exactly

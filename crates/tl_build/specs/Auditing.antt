@@ -26,6 +26,11 @@ abbrev pub IfFaulty : Auditing → (MapFault → Type 0) → Type 0
 IfFaulty (Ok (Fault fault)) P = P fault
 IfFaulty other P = ⊤
 
+-- the answer is that the map is sound
+abbrev pub SaysSound : Audit → Type 0
+SaysSound (Sound report) = ⊤
+SaysSound (Fault fault) = ⊥
+
 -- why records aren't decided: this line is the first that is refused, memory was refused, or a read failed
 abbrev pub MayStopAudit : Records → AuditStop → Type 0
 MayStopAudit all (Record line cause) = all.refusal ≡ Some (line, cause)

@@ -22,3 +22,8 @@ OnCert building P = IfCert building (λ cert. P)
 abbrev pub IfFault : Building → (MapFault → Type 0) → Type 0
 IfFault (Ok (Fault fault)) P = P fault
 IfFault other P = ⊤
+
+-- a certificate was built
+abbrev pub HasCert : Built → Type 0
+HasCert (Cert cert) = ⊤
+HasCert (Fault fault) = ⊥

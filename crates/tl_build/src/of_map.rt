@@ -1,15 +1,15 @@
 //! A certificate of a map, made with none given.
 
-ghost use Rattle.std.specs.Prelude.{◌≡◌, ◌≤◌};
+ghost use Rattle.std.specs.Prelude.{◌≡◌, ◌≤◌, ◌↔◌, IfOk};
 ghost use Rattle.tl_tree.specs.Trees.{depth, tree_of};
 ghost use Rattle.tl_planar.specs.Planar.{IsPlanar};
 ghost use Rattle.tl_sides.specs.Sides.{SidesAgree};
 ghost use Rattle.tl_inside.specs.Placed.{ArePlaced};
 ghost use Rattle.tl_cells.specs.Cells.{CellsAgree};
-ghost use Rattle.tl_check.specs.Sound.{AreClosed};
+ghost use Rattle.tl_check.specs.Sound.{AreClosed, IsSound};
 ghost use Rattle.tl_check.specs.Valid.{IsValid};
 ghost use Rattle.tl_check.specs.Truth.{IsTrueOfMap};
-ghost use Rattle.tl_build.specs.Building.{IfCert, OnCert, IfFault};
+ghost use Rattle.tl_build.specs.Building.{IfCert, OnCert, IfFault, HasCert};
 
 use crate::answer::Built;
 use crate::judge::{Judged, judge};
@@ -39,6 +39,8 @@ pub fn build(alloc: Global, map: &Map) -> Result<Built, BuildStop>
     ensures shallow { IfCert result (λ cert. depth (tree_of cert.tree) ≤ 8) }
     // Each fault is true.
     ensures fault { IfFault result (IsTrueOfMap map.now) }
+    // If it isn't stopped, a certificate is made exactly where the map is sound, and a fault is named where it isn't.
+    ensures exactly { IfOk result (λ built. HasCert built ↔ IsSound map.now) }
 {
     match judge(alloc, map) {
         Ok(Judged::Sound(cert, _)) => Ok(Built::Cert(cert)),

@@ -1,6 +1,6 @@
 //! The decision of records with no certificate given.
 
-ghost use Rattle.std.specs.Prelude.{◌≡◌, IfErr};
+ghost use Rattle.std.specs.Prelude.{◌≡◌, ◌↔◌, IfOk, IfErr};
 ghost use Rattle.std.specs.Option.{IfSome};
 ghost use Rattle.tl_record.specs.Layout.{tiger_2006, layout_with};
 ghost use Rattle.tl_record.specs.Records.{records_of};
@@ -8,11 +8,11 @@ ghost use Rattle.tl_planar.specs.Planar.{IsPlanar};
 ghost use Rattle.tl_sides.specs.Sides.{SidesAgree};
 ghost use Rattle.tl_inside.specs.Placed.{ArePlaced};
 ghost use Rattle.tl_cells.specs.Cells.{CellsAgree};
-ghost use Rattle.tl_check.specs.Sound.{AreClosed};
+ghost use Rattle.tl_check.specs.Sound.{AreClosed, IsSound};
 ghost use Rattle.tl_check.specs.Truth.{IsTrueOfMap};
 ghost use Rattle.tl_check.specs.Verdicts.{IsReport};
 ghost use Rattle.tl_check.specs.Records.{HaveMap, IsTrueOfRecords};
-ghost use Rattle.tl_build.specs.Auditing.{IfSound, OnSound, IfFaulty, MayStopAudit, TellsDevice};
+ghost use Rattle.tl_build.specs.Auditing.{IfSound, OnSound, IfFaulty, SaysSound, MayStopAudit, TellsDevice};
 ghost use Rattle.tl_build.specs.Keeping.Judging.{refusal_of, IsMapStop};
 
 use crate::answer::Audit;
@@ -55,6 +55,9 @@ pub fn audit<R: Source>(alloc: Global, records: &mut R) -> Result<Audit, AuditSt
     // Each fault is true.
     ensures fault { IfFaulty result (λ fault. IfSome (R.remaining records.old) (λ text.
         IsTrueOfRecords (records_of tiger_2006 text) fault)) }
+    // If it isn't stopped, it answers `Sound` exactly where the records have a map that is sound, and a fault where not.
+    ensures exactly { IfOk result (λ answer. IfSome (R.remaining records.old) (λ text.
+        SaysSound answer ↔ HaveMap (records_of tiger_2006 text) IsSound)) }
     // It stops at the first line that is refused.
     ensures stops { IfErr result (λ stop. IfSome (R.remaining records.old) (λ text.
         MayStopAudit (records_of tiger_2006 text) stop)) }
@@ -86,6 +89,8 @@ pub fn audit_with<R: Source>(
         HaveMap (records_of (layout_with options) text) (λ m. IsReport m report))) }
     ensures fault { IfFaulty result (λ fault. IfSome (R.remaining records.old) (λ text.
         IsTrueOfRecords (records_of (layout_with options) text) fault)) }
+    ensures exactly { IfOk result (λ answer. IfSome (R.remaining records.old) (λ text.
+        SaysSound answer ↔ HaveMap (records_of (layout_with options) text) IsSound)) }
     ensures stops { IfErr result (λ stop. IfSome (R.remaining records.old) (λ text.
         MayStopAudit (records_of (layout_with options) text) stop)) }
     ensures failures { TellsDevice (R.failure_count records.old) (R.failure_count records.new) result }
@@ -105,6 +110,7 @@ fn audit_map(alloc: Global, map: &Map) -> Result<Audit, AuditStop>
     ensures cells { OnSound result (CellsAgree map.now.chains) }
     ensures report { IfSound result (IsReport map.now) }
     ensures fault { IfFaulty result (IsTrueOfMap map.now) }
+    ensures exactly { IfOk result (λ answer. SaysSound answer ↔ IsSound map.now) }
     ensures stops { IfErr result IsMapStop }
 {
     match judge(alloc, map) {

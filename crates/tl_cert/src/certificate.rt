@@ -64,6 +64,13 @@ impl Certificate {
         Certificate { parts }
     }
 
+    /// What is known of each certificate: its parts make one.
+    pub(crate) fn look_at_parts(&self)
+        ensures { MakesCertificate self.now }
+    {
+        let _parts = &self.parts;
+    }
+
     /// The version, 1 or 2.
     pub fn version(&self) -> u8
         ensures version { result ≡ self.now.version }

@@ -18,6 +18,7 @@ mod numbers;
 mod parts;
 mod place;
 mod put;
+mod range;
 mod read;
 mod reader;
 mod stop;

@@ -6,10 +6,12 @@ ghost use Rattle.tl_output.specs.Writing.{CountsFailure, TriesToPassOn, line_of}
 ghost use Rattle.tl_cert.specs.Text;
 ghost use Rattle.tl_cert.specs.Text.{numbered_line, nodes_lines, tree_lines, darts_lines};
 ghost use Rattle.tl_cert.specs.Text.{all_darts_lines, certificate_text};
+ghost use Rattle.tl_cert.specs.Beginnings.{IsTextOf};
 ghost use Rattle.tl_cert.specs.Writing.{WritesCertificate};
 
 use crate::certificate::{Certificate, Counts};
 use crate::put::{put_node, put_number, put_numbers};
+use crate::range::look_at_certificate;
 use crate::stop::WriteStop;
 use arrayvec::ArrayString;
 use itoa::{Buffer, write_digits};
@@ -40,8 +42,11 @@ const NODE_ROOM: usize = 165;
 /// Writes the text of the certificate, and takes no memory. An error says that a write failed: what was written then is
 /// a beginning of the text.
 pub fn write_cert<W: Sink>(certificate: &Certificate, out: &mut W) -> Result<(), WriteStop>
-    ensures { WritesCertificate W.contents W.failure_count out.old out.new (certificate_text certificate.now) result }
+    ensures writes { WritesCertificate W.contents W.failure_count out.old out.new (certificate_text certificate.now) result }
+    // The text is that of a certificate: its numbers are in range, as those of its types are.
+    ensures text { IsTextOf certificate.now (certificate_text certificate.now) }
 {
+    look_at_certificate(certificate);
     match write_text(certificate, out) {
         Ok(()) => Ok(()),
         Err(_) => Err(WriteStop::Device),

@@ -6,3 +6,5 @@ pub mod Streaming
 pub mod Recorded
 pub mod Denials
 pub mod Walking
+pub mod OneMap
+pub mod Deciding

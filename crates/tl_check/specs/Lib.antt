@@ -6,4 +6,5 @@ pub mod Verdicts
 pub mod Texts
 pub mod Messages
 pub mod Records
+pub mod Deciding
 pub mod Keeping

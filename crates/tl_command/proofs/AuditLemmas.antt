@@ -18,10 +18,10 @@ use Rattle.tl_check.specs.Records.{HaveMap, IsTrueOfRecords, LeavesUnread}
 use Rattle.tl_check.specs.Verdicts.{IsReport}
 use Rattle.tl_build.specs.Auditing.{Auditing, IfSound, OnSound, IfFaulty}
 use Rattle.tl_build.specs.declared.answer.Audit.TheVariants.{Sound, Fault}
+use Rattle.tl_check.proofs.OneMap.{both, weaker}
 use Rattle.tl_output.specs.Writing.{line_of}
 use Rattle.tl_command.specs.Verdicts.{sound_text}
 use Rattle.tl_command.specs.Running.{IsSoundWith, IsAudited, NamesFault}
-use Rattle.tl_command.proofs.CheckLemmas.{both, weaker}
 
 -- the claims of a sound map
 sound_with : (all : Records) (report : Report) → HaveMap all (λ m. IsPlanar m.chains) → HaveMap all (λ m. SidesAgree m.chains)

@@ -15,6 +15,7 @@ use Rattle.tl_map.specs.TheMap.{TheMap}
 use Rattle.tl_map.specs.Reading.{IsReadFrom, StopsReading}
 use Rattle.tl_cert.specs.Certificates.{TheCertificate}
 use Rattle.tl_cert.specs.Text.{certificate_text}
+use Rattle.tl_cert.specs.Beginnings.{IsTextOf}
 use Rattle.tl_check.specs.declared.fault.MapFault.TheVariants.{Records}
 use Rattle.tl_check.specs.declared.verdict.Report.{Report}
 use Rattle.tl_check.specs.declared.verdict.Verdict.TheVariants as verdict
@@ -29,10 +30,11 @@ use Rattle.tl_command.specs.Running.{IsBuiltOf, IsBuilt, NamesMapFault, NamesFau
 use Rattle.tl_command.proofs.AuditLemmas.{names_fault_alone}
 
 -- a certificate that is valid for a sound map was written, and its line, with as many rings as it has walks
-pub was_built : (m : TheMap) (made wrote : List ℕ → Type 0) (c : TheCertificate) (report : Report) → IsSound m → IsValid m c → c.version ≡ 2
+pub was_built : (m : TheMap) (made wrote : List ℕ → Type 0) (c : TheCertificate) (report : Report) → IsTextOf c (certificate_text c) → IsSound m → IsValid m c → c.version ≡ 2
     → AreNumbers m (length c.walks) report → made (certificate_text c) → wrote (line_of (built_text report)) → IsBuiltOf m made wrote
-was_built m made wrote c report sound valid version numbers kept written = record {
+was_built m made wrote c report text sound valid version numbers kept written = record {
   certificate = c;
+  is = text.certificate;
   report = report;
   decided = record {
     sound = sound;

@@ -1,11 +1,8 @@
 -- What the claims of a check make of a run.
-use Rattle.std.proofs.Common.{◌≡◌, ◌≢◌, ◌⊎◌, inl, inr, ℕ, ◌≤◌, List, Option, Some, None, Ok, sym, ap₂, subst, ◌∙◌}
+use Rattle.std.proofs.Common.{◌≡◌, ◌≢◌, ◌⊎◌, inl, inr, ℕ, ◌≤◌, List, Option, Some, None, Ok, sym, subst, ◌∙◌}
 use Rattle.std.specs.Option.{IfSome}
 use Rattle.tl_record.specs.declared.layout.Layout.{Layout}
 use Rattle.tl_record.specs.Records.{Records, records_of}
-use Rattle.tl_map.specs.TheMap.{TheMap}
-use Rattle.tl_map.specs.Reading.{IsReadFrom, records_in}
-use Rattle.tl_map.proofs.OneMapLemmas.{one_map}
 use Rattle.tl_planar.specs.Planar.{IsPlanar}
 use Rattle.tl_planar.specs.Searching.{meeting_segments}
 use Rattle.tl_sides.specs.Sides.{SidesAgree}
@@ -18,28 +15,11 @@ use Rattle.tl_check.specs.Sound.{AreClosed}
 use Rattle.tl_check.specs.Texts.{IsValidText, IsTrueOfText}
 use Rattle.tl_check.specs.Records.{HaveMap, IsTrueOfRecords, LeavesUnread}
 use Rattle.tl_check.specs.Verdicts.{Answer, OnSound, IfSound, IfMapFault, IfCertFault, IsReport}
+use Rattle.tl_check.proofs.OneMap.{both, weaker}
 use Rattle.tl_output.specs.Writing.{line_of}
 use Rattle.tl_command.specs.declared.stop.TheConstants.{DONE, MAP_FAULT, CERT_FAULT, STOPPED}
 use Rattle.tl_command.specs.Verdicts.{verdict_text, verdict_status}
 use Rattle.tl_command.specs.Running.{IsDecided, IsChecked, NamesFault, NamesCertFault}
-
--- records draw one map
-same_map : (all : Records) (m n : TheMap) → IsReadFrom all m → IsReadFrom all n → m ≡ n
-same_map all m n one other =
-    let same = one_map (records_in all) m n one.no_fault one.map other.map in
-    ap₂ (λ cs ps. record m { chains = cs; polygons = ps }) same.0 same.1
-    ∙ ap₂ (λ ls k. record n { landmarks = ls; skipped = k }) same.2 (one.skipped_lines ∙ sym other.skipped_lines)
-
--- two claims of the map of the same records hold of one map
-pub both : (all : Records) (P Q : TheMap → Type 0) → HaveMap all P → HaveMap all Q → HaveMap all (λ m. P m × Q m)
-both all P Q one other = record {
-  map = one.map;
-  is_read = one.is_read;
-  so = (one.so, subst Q (same_map all other.map one.map other.is_read one.is_read) other.so);
-}
-
-pub weaker : (all : Records) (P Q : TheMap → Type 0) → ((m : TheMap) → P m → Q m) → HaveMap all P → HaveMap all Q
-weaker all P Q leads have = record { map = have.map; is_read = have.is_read; so = leads have.map have.so }
 
 -- the claims of a sound map
 sound_map : (all : Records) (budget : ℕ) (spelt : Option (List ℕ)) (report : Report) → HaveMap all (λ m. IsPlanar m.chains) → HaveMap all (λ m. SidesAgree m.chains)

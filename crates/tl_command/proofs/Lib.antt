@@ -2,3 +2,4 @@ pub mod AuditLemmas
 pub mod BuildLemmas
 pub mod CheckLemmas
 pub mod RunLemmas
+pub mod DecidingLemmas

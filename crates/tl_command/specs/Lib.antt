@@ -1,5 +1,6 @@
 -- What the command's contracts cite.
 pub mod Running
+pub mod Deciding
 pub mod Starting
 pub mod Stops
 pub mod Certificates

@@ -123,6 +123,7 @@ pub record IsAudited (layout : Layout) (known : Option (List ℕ)) (wrote : List
 -- written; it is of version 2 and valid for the map, which is sound
 pub record IsBuiltOf (m : TheMap) (made wrote : List ℕ → Type 0) : Type 0 where
   pub certificate : TheCertificate
+  pub is : IsCertificate certificate
   pub report : Report
   pub decided : IsSoundWith report m
   pub valid : IsValid m certificate

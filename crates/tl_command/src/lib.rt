@@ -8,6 +8,7 @@ pub mod auditing;
 pub mod building;
 pub mod convert;
 pub mod deciding;
+pub mod laws;
 pub mod locating;
 mod made;
 pub mod open;

@@ -7,6 +7,7 @@ ghost use Rattle.tl_command.specs.declared.stop.TheConstants.{DONE, MAP_FAULT, C
 ghost use Rattle.tl_command.specs.declared.stop.Stop.TheVariants.{Memory, Device};
 ghost use Rattle.tl_command.specs.Running.{IsAnswered, FaultsMap, NamesRefusal, NamesStop, StopsRun, IsRunStatus, layout_of};
 ghost use Rattle.tl_command.specs.Running.{FaultsCertificate, ReadsNoCertificate, MakesNoCertificate};
+ghost use Rattle.tl_command.specs.Deciding.{IsExact};
 ghost use Rattle.tl_command.specs.Starting.{IsStartStatus, ShowsUsage, ShowsHelp, AnswersSome, FaultsSome, RefusesSome};
 ghost use Rattle.tl_command.specs.Starting.{StopsOpening, FaultsText, StopsSome};
 
@@ -231,6 +232,8 @@ pub fn run_on_readers<F: Read + Drop, S: Source, C: Sink, W: Sink, E: Sink>(
     ensures fault { result ≡ MAP_FAULT
         → FaultsMap plan.now (joined_bytes F.remaining false readers.items) (cert.new ≡ cert.old)
         (Writes W.contents W.failure_count out.old out.new) }
+    ensures exactly { (result ≡ DONE) ⊎ (result ≡ MAP_FAULT)
+        → IsExact plan.now (joined_bytes F.remaining false readers.items) result }
     ensures cert_fault { result ≡ CERT_FAULT
         → FaultsCertificate plan.now (joined_bytes F.remaining false readers.items) (S.remaining cert.old)
         (Writes W.contents W.failure_count out.old out.new) }

@@ -10,6 +10,7 @@ ghost use Rattle.tl_command.specs.Running.{IsAnswered, AnswersRecords, IsShown, 
 ghost use Rattle.tl_command.specs.Running.{NamesStop, StopsRun, FaultsMap, FaultsCertificate};
 ghost use Rattle.tl_command.specs.Running.{ReadsNoCertificate, MakesNoCertificate, ReadsNoRecords};
 ghost use Rattle.tl_command.specs.Running.{IsRunStatus, FailsToRead, StopsAnswer, KeepsReads, layout_of};
+ghost use Rattle.tl_command.specs.Deciding.{IsExact};
 
 use crate::auditing::audit;
 use crate::building::build;
@@ -50,6 +51,9 @@ pub fn run<R: Source, S: Source, C: Sink, W: Sink, E: Sink>(
     ensures fault { result ≡ MAP_FAULT
         → FaultsMap plan.now (R.remaining records.old) (cert.new ≡ cert.old)
         (Writes W.contents W.failure_count out.old out.new) }
+    // Of `audit`, `build` and `check`: a status of 0 or 1 is 0 exactly where the records have a map that is sound.
+    ensures exactly { (result ≡ DONE) ⊎ (result ≡ MAP_FAULT)
+        → IsExact plan.now (R.remaining records.old) result }
     // The output grew by the line of a fault that is true of the certificate.
     ensures cert_fault { result ≡ CERT_FAULT
         → FaultsCertificate plan.now (R.remaining records.old) (S.remaining cert.old)

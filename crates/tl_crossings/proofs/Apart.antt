@@ -3,20 +3,21 @@ use Rattle.std.proofs.Common.{◌≡◌, ◌≢◌, ◌⊎◌, inl, inr, ⊎_eli
 use Rattle.std.specs.Prelude.{slice_get}
 use Rattle.std.proofs.lemmas.Bool.{false≢true, eqb-true, eq-eqb}
 use Rattle.tl_geom.specs.declared.point.Point.{Point}
+use Rattle.tl_geom.specs.declared.direction.Direction.{Direction}
 use Rattle.tl_geom.specs.declared.rational.Rational.{Rational}
 use Rattle.tl_geom.specs.declared.segment.Segment.{Segment}
-use Rattle.tl_geom.specs.Plane.{IsSame, cross, whole}
+use Rattle.tl_geom.specs.Plane.{IsOn, IsSame, cross, whole}
 use Rattle.tl_geom.specs.Turning.{IsOneDirection}
 use Rattle.tl_geom.proofs.Order.{one_back}
 use Rattle.tl_geom.proofs.Places.{same_sym, same_trans}
 use Rattle.tl_map.specs.TheMap.{MapChain}
-use Rattle.tl_map.specs.Darts.{is_along, dart_start, dart_second}
+use Rattle.tl_map.specs.Darts.{is_along, dart_start, dart_second, Heads}
 use Rattle.tl_tree.proofs.Permuted.{same_or}
 use Rattle.tl_planar.specs.Planar.{IsVertex, IsOnSegment, IsChainEnd, IsSimple, IsPlanar}
 use Rattle.tl_planar.specs.Keeping.Apart.{one_found}
 use Rattle.tl_planar.proofs.Ends.{at_vertex}
 use Rattle.tl_sides.proofs.Headings.{dart_within, heads_alike}
-use Rattle.tl_crossings.specs.Headings.{AreProper, HeadApart}
+use Rattle.tl_crossings.specs.Headings.{AreProper, HeadApart, IsOnFirst, FirstsOverlap}
 use Rattle.tl_crossings.proofs.Darts.{AreFirst, IsDart, dart_of}
 use Rattle.tl_crossings.proofs.OneWay.{ShareTwo, share_two}
 use Rattle.tl_crossings.proofs.Turns.{joined}
@@ -101,6 +102,35 @@ module _ (chains : List MapChain) where
       (sym (λ i. cross (step_x d own i) (step_y d own i) (step_x e other i) (step_y e other i)) ∙ one.parallel)
       (subst (λ z. pos 0 <ℤ z) (λ i. step_x d own i *ℤ step_x e other i +ℤ step_y d own i *ℤ step_y e other i) one.same_way)
 
+  one_node : (d e : ℕ) (node : Point) (own : IsDart chains d) (other : IsDart chains e) → dart_start chains d ≡ Some node → dart_start chains e ≡ Some node → own.points.first ≡ other.points.first
+  one_node d e node own other d_starts e_starts =
+      one_found own.points.first node (dart_start chains d) own.starts d_starts ∙ sym (one_found other.points.first node (dart_start chains e) other.starts e_starts)
+
+  one_heading : (d e : ℕ) (first second : Direction) (own : IsDart chains d) (other : IsDart chains e) → Heads chains d first → Heads chains e second → IsOneDirection first second → IsOneDirection own.heading other.heading
+  one_heading d e first second own other d_heads e_heads one =
+      joined own.heading first other.heading (heads_alike chains d own.heading first own.heads d_heads)
+      (joined first second other.heading one (heads_alike chains e second other.heading e_heads other.heads))
+
+  -- a place on the segment between a dart's first two points
+  on_first : (d : ℕ) (own : IsDart chains d) (r : Rational) → IsOn (segment_of own.chain.points (is_along d) own.points) r → IsOnFirst chains d r
+  on_first d own r on = record { segment = segment_of own.chain.points (is_along d) own.points; from = own.starts; to = own.goes; on = on }
+
+  -- the first segments of two darts of one node and one heading overlap
+  pub overlap : AreProper chains → (d e : ℕ) (node : Point) (first second : Direction) → dart_start chains d ≡ Some node → dart_start chains e ≡ Some node → Heads chains d first → Heads chains e second → IsOneDirection first second → FirstsOverlap chains d e node
+  overlap proper d e node first second d_starts e_starts d_heads e_heads one =
+      let own : IsDart chains d = dart_of chains proper d (dart_within chains d node d_starts) in
+      let other : IsDart chains e = dart_of chains proper e (dart_within chains e node e_starts) in
+      let two = shared d e own other (one_node d e node own other d_starts e_starts) (one_heading d e first second own other d_heads e_heads one) in
+      let start : own.points.first ≡ node = one_found own.points.first node (dart_start chains d) own.starts d_starts in
+      record {
+        one = two.one;
+        other = two.other;
+        differ = two.differ;
+        beside = (subst (λ p. ¬ IsSame two.one (whole p)) start two.one_inside, subst (λ p. ¬ IsSame two.other (whole p)) start two.other_inside);
+        one_on = (on_first d own two.one two.one_first, on_first e other two.one two.one_second);
+        other_on = (on_first d own two.other two.other_first, on_first e other two.other two.other_second);
+      }
+
   module _ (planar : IsPlanar chains) where
     two_chains : (d e : ℕ) (own : IsDart chains d) (other : IsDart chains e) → own.points.first ≡ other.points.first → IsOneDirection own.heading other.heading → d / 2 ≢ e / 2 → ⊥
     two_chains d e own other meet one ne =
@@ -127,11 +157,8 @@ module _ (chains : List MapChain) where
     apart proper d e node first second d_starts e_starts d_heads e_heads one =
         let own : IsDart chains d = dart_of chains proper d (dart_within chains d node d_starts) in
         let other : IsDart chains e = dart_of chains proper e (dart_within chains e node e_starts) in
-        let meet : own.points.first ≡ other.points.first =
-        one_found own.points.first node (dart_start chains d) own.starts d_starts ∙ sym (one_found other.points.first node (dart_start chains e) other.starts e_starts) in
-        let way : IsOneDirection own.heading other.heading =
-        joined own.heading first other.heading (heads_alike chains d own.heading first own.heads d_heads)
-        (joined first second other.heading one (heads_alike chains e second other.heading e_heads other.heads)) in
+        let meet : own.points.first ≡ other.points.first = one_node d e node own other d_starts e_starts in
+        let way : IsOneDirection own.heading other.heading = one_heading d e first second own other d_heads e_heads one in
         same_or d e (λ same. same) (λ ne.
         same_or (d / 2) (e / 2)
         (λ chain. by_ways d e ne chain (is_along d) (is_along e) refl refl

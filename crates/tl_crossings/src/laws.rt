@@ -1,12 +1,14 @@
 //! Laws of the definitions, each the contract of a function that does nothing.
 
-ghost use Rattle.std.specs.Prelude.{◌≡◌, ◌↔◌, ◌<◌, ℕ, ℤ, pos, Bool, List, length, slice_index, if◌then◌else◌};
+ghost use Rattle.std.specs.Prelude.{◌≡◌, ◌↔◌, ◌<◌, ℕ, ℤ, pos, Bool, Some, List, length, slice_index, if◌then◌else◌};
 ghost use Rattle.tl_geom.specs.declared.point.Point.{Point};
+ghost use Rattle.tl_geom.specs.declared.direction.Direction.{Direction};
 ghost use Rattle.tl_geom.specs.declared.rect.Rect.{Rect};
 ghost use Rattle.tl_geom.specs.Rectangle.{Holds};
+ghost use Rattle.tl_geom.specs.Turning.{IsOneDirection};
 ghost use Rattle.tl_map.specs.TheMap.{TheMap, MapChain};
+ghost use Rattle.tl_map.specs.Darts.{dart_start, dart_left, Heads};
 ghost use Rattle.tl_map.specs.declared.sides.Side.{Side};
-ghost use Rattle.tl_map.specs.Darts.{dart_left};
 ghost use Rattle.tl_planar.specs.Planar.{IsPlanar};
 ghost use Rattle.tl_sides.specs.Lists.{before, list_at};
 ghost use Rattle.tl_sides.specs.Rounds.{AreRounds};
@@ -17,7 +19,7 @@ ghost use Rattle.tl_inside.specs.declared.place.Place.{Place};
 ghost use Rattle.tl_inside.specs.Inside.{balance, is_polygon, IsCount, IsPolygonCount};
 ghost use Rattle.tl_inside.specs.Places.{IsOffChains, IsPlaceOf};
 ghost use Rattle.tl_crossings.specs.Heights.{crossed_at};
-ghost use Rattle.tl_crossings.specs.Headings.{AreProper, HeadApart};
+ghost use Rattle.tl_crossings.specs.Headings.{AreProper, HeadApart, FirstsOverlap};
 ghost use Rattle.tl_crossings.specs.Boxes.{IsOnBoundary, IsOfChains, IsOutsideOfBox};
 ghost use Rattle.tl_crossings.specs.West.{IsWestCount};
 ghost use Rattle.tl_crossings.specs.Told.{ListsByWest, IsNowhere};
@@ -29,7 +31,15 @@ pub fn sides_have_one_count()
         (n : ℤ) × IsCount chains q S n × ((other : ℤ) → IsCount chains q S other → other ≡ n) }
 {}
 
-/// Where chains are planar, no two darts of one node head in one direction.
+/// Where two darts of one node head in one direction, their first segments overlap: beside the node they share rational
+/// points that differ.
+pub fn first_segments_of_one_heading_overlap()
+    ensures { (chains : List MapChain) (d e : ℕ) (node : Point) (first second : Direction) → AreProper chains →
+        dart_start chains d ≡ Some node → dart_start chains e ≡ Some node → Heads chains d first → Heads chains e second →
+        IsOneDirection first second → FirstsOverlap chains d e node }
+{}
+
+/// So where chains are planar, no two darts of one node head in one direction.
 pub fn darts_of_planar_chains_head_apart()
     ensures { (chains : List MapChain) → AreProper chains → IsPlanar chains → HeadApart chains }
 {}
