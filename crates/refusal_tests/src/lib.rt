@@ -1,6 +1,6 @@
-//! Reads and writes that fail, each in its turn, through every public call that takes a source or a sink, over three small
-//! maps and their certificates: a square with a dead end, an island with a landmark on it, and two chains that lie on one
-//! another.
+//! Reads and writes that fail, each in its turn, through every public call that takes a source or a sink, and through every
+//! command. They are made over three small maps and their certificates: a square with a dead end, an island with a
+//! landmark on it, and two chains that lie on one another.
 #![tactic(auto)]
 
 #[cfg(test)]
@@ -9,6 +9,8 @@ mod maps;
 mod parts;
 #[cfg(test)]
 mod reads;
+#[cfg(test)]
+mod runs;
 #[cfg(test)]
 mod writers;
 #[cfg(test)]

@@ -11,9 +11,19 @@ use tl_text::{print_chains, print_inside, print_landmarks, print_on_chain};
 
 /// A writer that takes at most seven bytes a call, and `room` in all: then it takes none, as a full disk.
 #[derive(Drop)]
-struct Few {
-    bytes: Vec<u8>,
+pub struct Few {
+    pub bytes: Vec<u8>,
     room: usize,
+}
+
+impl Few {
+    /// A writer with room for all.
+    pub fn whole(alloc: Global) -> Few {
+        Few {
+            bytes: Vec::new(alloc),
+            room: usize::MAX,
+        }
+    }
 }
 
 impl Write for Few {
