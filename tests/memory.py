@@ -15,33 +15,29 @@ import sys
 import tempfile
 from pathlib import Path
 
-TOP = Path(__file__).resolve().parent.parent
-PROGRAM = TOP / "crates" / "tigertopo" / "out" / "tigertopo"
+from rows import PROGRAM, TOP
+from small_maps import MADE, write_all
+
 EXAMPLES = TOP / "examples"
-# The name of what is made, and what stands under it before each run.
-MADE = "made"
+# What stands under the name of what is made before each run.
 STANDS = b"a file that stands\n"
+# What is asked beside what is asked of the small maps.
 RUNS = [
     ["show", EXAMPLES / "square.RT1", EXAMPLES / "square.RT2"],
     ["show", EXAMPLES / "river.RT2", EXAMPLES / "river.RT1"],
     ["show", EXAMPLES / "gap.RT1", EXAMPLES / "gap.RT2"],
     ["show", EXAMPLES / "north.RT1"],
-    ["landmarks", EXAMPLES / "island"],
     ["landmarks", EXAMPLES / "faults" / "M9"],
     ["landmarks", EXAMPLES / "faults" / "M10"],
-    ["locate", "@10,12", EXAMPLES / "island"],
-    ["locate", "@16,16", EXAMPLES / "island"],
     ["locate", "@16,16", EXAMPLES / "faults" / "M9"],
     ["locate", "@180000001,0", "a"],
     ["audit", EXAMPLES / "county"],
-    ["audit", EXAMPLES / "island"],
     ["audit", EXAMPLES / "north.RT1"],
     ["audit", EXAMPLES / "faults" / "M9"],
     ["audit", EXAMPLES / "faults" / "G1"],
     ["audit", EXAMPLES / "faults" / "G2"],
     ["audit", "--zero-cells", EXAMPLES / "faults" / "G6"],
     ["build", "--out", MADE, EXAMPLES / "county"],
-    ["build", "--out", MADE, EXAMPLES / "island"],
     ["build", "--out", MADE, EXAMPLES / "north.RT1"],
     ["build", "--out", MADE, EXAMPLES / "faults" / "G1"],
     ["build", "--out", MADE],
@@ -128,7 +124,7 @@ def play_all(program=PROGRAM):
         library = library_of(folder, REFUSE)
         ask = lambda words, which: answer_over_a_file([program, *words], library, which, "REFUSED_ALLOCATION", folder)
         count = failed = 0
-        for words in RUNS:
+        for words in RUNS + write_all(folder):
             usual, whole, _ = ask(words, 0)
             for which in range(1, 10_000):
                 answer, left, was_reached = ask(words, which)

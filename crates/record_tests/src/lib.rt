@@ -4,6 +4,8 @@
 #![tactic(auto)]
 
 #[cfg(test)]
+mod failing;
+#[cfg(test)]
 mod fields;
 #[cfg(test)]
 mod lines;

@@ -49,7 +49,7 @@ pub fn agrees(
 ) -> Result<(), AllocError> {
     let plain = plain_records(alloc, text, options)?;
     for most in [1, 2, 7, 511, 1_023, 1_024, 1_025, 100_000] {
-        let given = read_all(alloc, Pieces::new(text, most, 0), options)?;
+        let given = read_all(alloc, Pieces::new(text, most), options)?;
         assert!(rt; given.entries.as_slice() == plain.entries.as_slice());
         assert!(rt; given.skipped == plain.skipped);
         let refusal = match given.stop {
@@ -80,7 +80,7 @@ pub fn line_of(alloc: Global, fields: &str) -> Result<Vec<u8>, AllocError> {
 
 /// What a reader answers of a text that is one line: the record, or the refusal as it is printed.
 pub fn answer_of(alloc: Global, line: &[u8], options: Options) -> Result<String, AllocError> {
-    let given = read_all(alloc, Pieces::new(line, 33, 0), options)?;
+    let given = read_all(alloc, Pieces::new(line, 33), options)?;
     if let Some(stop) = given.stop {
         return format!(in alloc; "{stop}");
     }

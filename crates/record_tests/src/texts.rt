@@ -4,10 +4,11 @@ use crate::lines::{agrees, map_b, read_all};
 use crate::plain::plain_records;
 use crate::readers::Pieces;
 use std::alloc::{AllocError, Global};
+use std::io::ErrorKind;
 use std::process::Abort;
 use std::test::Fail;
 use tl_record::{
-    Cause, Field, Meter, MeterOut, Options, ReadStop, Record, RecordReader, Sink, Source,
+    Cause, FailAt, Field, Meter, MeterOut, Options, ReadStop, Record, RecordReader, Sink, Source,
 };
 
 const MAP_B: &str =
@@ -45,7 +46,7 @@ fn every_cut_of_map_b_agrees(rt: HostRuntime) -> Result<(), Fail> {
         let plain = plain_records(rt.alloc(), &text[..len], Options::default())?;
         let given = read_all(
             rt.alloc(),
-            Pieces::new(&text[..len], 100, 0),
+            Pieces::new(&text[..len], 100),
             Options::default(),
         )?;
         assert!(rt; given.entries.as_slice() == plain.entries.as_slice());
@@ -61,7 +62,7 @@ fn line_ends_are_found(rt: HostRuntime) -> Result<(), Fail> {
     }
     // An empty text has no line; a text that ends in a line feed has none after it.
     for (text, lines) in [("", 0), ("4\n\n4", 3), ("4\n\n4\n", 3)] {
-        let source = Pieces::new(text.as_bytes(), 9, 0);
+        let source = Pieces::new(text.as_bytes(), 9);
         let given = read_all(rt.alloc(), source, Options::default())?;
         assert_eq!(rt; given.skipped, lines);
     }
@@ -76,7 +77,7 @@ fn check_length(
     is_refused: bool,
 ) -> Result<(), AllocError> {
     agrees(rt, alloc, text, Options::default())?;
-    let given = read_all(alloc, Pieces::new(text, 600, 0), Options::default())?;
+    let given = read_all(alloc, Pieces::new(text, 600), Options::default())?;
     let stop = ReadStop::Refused {
         line: 1,
         cause: Cause::LineTooLong,
@@ -109,35 +110,40 @@ fn long_lines_are_refused(rt: HostRuntime) -> Result<(), Fail> {
 #[test]
 fn a_failed_read_is_no_end(rt: HostRuntime) -> Result<(), Fail> {
     let text = map_b(rt.alloc())?;
-    let mut source = Pieces::new(&text, 60, 0);
+    let mut source = Pieces::new(&text, 60);
     let whole = read_all(rt.alloc(), &mut source, Options::default())?;
     assert!(rt; whole.stop.is_none());
     let reads = source.reads();
-    for fails_at in 1..reads.saturating_add(1) {
-        let mut source = Pieces::new(&text, 60, fails_at);
-        let given = read_all(rt.alloc(), &mut source, Options::default())?;
-        assert!(rt; given.stop == Some(ReadStop::Device));
-        assert_eq!(rt; source.failures(), 1);
-        assert_eq!(rt; source.reads(), fails_at);
+    for others in 0..reads {
+        for kind in [ErrorKind::Other, ErrorKind::Interrupted] {
+            let mut pieces = Pieces::new(&text, 60);
+            let mut source = FailAt::new(&mut pieces, others, kind);
+            let given = read_all(rt.alloc(), &mut source, Options::default())?;
+            assert!(rt; given.stop == Some(ReadStop::Device));
+            assert_eq!(rt; source.failures(), 1);
+            assert_eq!(rt; pieces.reads(), others);
+        }
     }
     Ok(())
 }
 
-/// A reader of these bytes, four at a time, gives this answer twice, with so many reads and lines passed over.
+/// A reader of these bytes, four at a time, of which the read behind so many others fails, gives this answer twice, with
+/// so many reads that don't fail and so many lines passed over.
 fn answers_twice(
     rt: &impl Abort,
     text: &[u8],
-    fails_at: u64,
+    others: u64,
     answer: Result<Option<(u64, Record)>, ReadStop>,
     (reads, skipped): (u64, u64),
 ) {
-    let mut source = Pieces::new(text, 4, fails_at);
+    let mut pieces = Pieces::new(text, 4);
+    let mut source = FailAt::new(&mut pieces, others, ErrorKind::Other);
     let mut reader = RecordReader::new(&mut source);
     for _ in 0..2 {
         assert!(rt; reader.next_record() == answer);
     }
     assert!(rt; reader.skipped() == skipped);
-    assert!(rt; source.reads() == reads);
+    assert!(rt; pieces.reads() == reads);
 }
 
 #[test]
@@ -146,9 +152,9 @@ fn a_stop_is_answered_again(rt: HostRuntime) {
         line: 1,
         cause: Cause::Missing(Field::Tlid),
     };
-    answers_twice(&rt, b"1\n10000         1\n", 3, Err(stop), (1, 0));
-    answers_twice(&rt, b"10000         1\n", 2, Err(ReadStop::Device), (2, 0));
-    answers_twice(&rt, b"4", 3, Ok(None), (2, 1));
+    answers_twice(&rt, b"1\n10000         1\n", 2, Err(stop), (1, 0));
+    answers_twice(&rt, b"10000         1\n", 1, Err(ReadStop::Device), (1, 0));
+    answers_twice(&rt, b"4", 2, Ok(None), (2, 1));
 }
 
 #[test]

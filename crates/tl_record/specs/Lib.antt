@@ -1,4 +1,5 @@
 pub mod Failures
+pub mod FailAt
 pub mod Fetching
 pub mod Limits
 pub mod Lines

@@ -7,6 +7,8 @@
 #![tactic(auto)]
 
 mod columns;
+mod fail_at;
+mod fail_at_out;
 mod field;
 mod judge;
 mod key_display;
@@ -24,6 +26,8 @@ mod stop;
 mod word;
 
 pub use columns::{ColumnRange, Columns, FiveColumns};
+pub use fail_at::FailAt;
+pub use fail_at_out::FailAtOut;
 pub use field::{MAX_LATITUDE, MAX_LONGITUDE};
 pub use judge::{Judgement, MAX_LINE_BYTES, MAX_LINES, judge_line};
 pub use layout::{
