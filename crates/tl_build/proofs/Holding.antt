@@ -6,7 +6,7 @@ use Rattle.std.proofs.lemmas.List.Elements.{All-nil, All-cons, All-head, All-tai
 use Rattle.tl_tree.specs.Hits.{times}
 use Rattle.tl_sides.specs.Lists.{HoldOnce}
 use Rattle.tl_cert.specs.Certificates.{IsDartList, AreDartLists}
-use Rattle.tl_pack.specs.Keeping.Lists.{HoldsAll}
+use Rattle.tl_pack.specs.Lists.{HoldsAll}
 use Rattle.tl_pack.proofs.Holding.{once_in, no_other_in}
 use Rattle.tl_build.specs.Keeping.Lists.{lists_in}
 use Rattle.tl_build.proofs.ListLemmas.{all_in}

@@ -5,7 +5,7 @@ ghost use Rattle.std.specs.Prelude.{length, map, All, IfOk, slice_index_or};
 ghost use Rattle.std.specs.List.{concat};
 ghost use Rattle.std.specs.List.Sorted.{IsPermutation};
 ghost use Rattle.tl_build.specs.declared.rounds.DartStart.{DartStart};
-ghost use Rattle.tl_pack.specs.Keeping.Lists.{up, HoldsAll};
+ghost use Rattle.tl_pack.specs.Lists.{up, HoldsAll};
 ghost use Rattle.tl_build.specs.Keeping.Lists.{darts_in, lists_in, AreDartsBelow};
 ghost use Rattle.tl_build.specs.Keeping.Sorting.{ComesBefore, AreSorted, AreCut, IsStartOf};
 

@@ -6,7 +6,7 @@ use Rattle.tl_tree.specs.Fits.{Fits, AreBelow}
 use Rattle.tl_tree.specs.Hits.{times}
 use Rattle.tl_tree.specs.Trees.{tree_of}
 use Rattle.tl_pack.specs.declared.order.Placed.{Placed}
-use Rattle.tl_pack.specs.Keeping.Lists.{HoldsAll, items_in, AreItemsBelow}
+use Rattle.tl_pack.specs.Lists.{HoldsAll, items_in, AreItemsBelow}
 use Rattle.tl_pack.specs.Keeping.Nodes.{AreNodesOver}
 use Rattle.tl_pack.specs.Packed.{IsShallow}
 use Rattle.tl_pack.proofs.Holding.{once_in, below_in, long_as}

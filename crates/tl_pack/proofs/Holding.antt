@@ -10,7 +10,7 @@ use Rattle.tl_tree.specs.Hits.{times}
 use Rattle.tl_tree.proofs.Hitting.{times-append}
 use Rattle.tl_tree.proofs.Permuted.{same_or, times-same, times-other}
 use Rattle.tl_pack.specs.declared.order.Placed.{Placed}
-use Rattle.tl_pack.specs.Keeping.Lists.{up, HoldsAll, items_in, AreItemsBelow}
+use Rattle.tl_pack.specs.Lists.{up, HoldsAll, items_in, AreItemsBelow}
 
 abbrev is_here : ℕ → ℕ → ℕ
 is_here i x = if i == x then 1 else 0

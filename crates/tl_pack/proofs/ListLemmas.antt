@@ -1,7 +1,7 @@
 -- Lists of the numbers below n, rising.
 use Rattle.std.proofs.Common.{◌≡◌, ℕ, ◌+◌, ◌++◌, arith, List, [], ◌∷◌, length, map, refl, ap, sym, ◌∙◌, add-one}
 use Rattle.std.proofs.lemmas.List.{map-append}
-use Rattle.tl_pack.specs.Keeping.Lists.{up}
+use Rattle.tl_pack.specs.Lists.{up}
 
 pub up_none : up 0 ≡ []
 unfolding up

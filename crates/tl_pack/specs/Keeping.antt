@@ -1,3 +1,2 @@
 -- What the packing keeps on its way. No public contract cites a file of this folder.
-pub mod Lists
 pub mod Nodes

@@ -1,3 +1,4 @@
--- What the contract of the packing cites.
+-- What the contracts of the packing cite.
 pub mod Packed
+pub mod Lists
 pub mod Keeping

@@ -10,4 +10,5 @@ mod order;
 mod packing;
 mod tree;
 
+pub use order::{Placed, order_items};
 pub use packing::pack;

@@ -2,7 +2,7 @@
 
 ghost use Rattle.std.specs.Prelude.{◌≡◌, ◌^◌, ◌<◌, IfOk, length};
 ghost use Rattle.std.specs.List.Sorted.{IsPermutation};
-ghost use Rattle.tl_pack.specs.Keeping.Lists.{up, HoldsAll, items_in, AreItemsBelow};
+ghost use Rattle.tl_pack.specs.Lists.{up, HoldsAll, items_in, AreItemsBelow};
 
 use crate::curve::place_along;
 use std::alloc::{AllocError, Global};

@@ -1,7 +1,7 @@
 //! The tree of rectangles over items in an order.
 
 ghost use Rattle.std.specs.Prelude.{◌≡◌, ◌+◌, ◌/◌, ◌^◌, ◌<◌, ◌≤◌, zero, min, length, IfOk};
-ghost use Rattle.tl_pack.specs.Keeping.Lists.{items_in, AreItemsBelow};
+ghost use Rattle.tl_pack.specs.Lists.{items_in, AreItemsBelow};
 ghost use Rattle.tl_pack.specs.Keeping.Nodes.{Push, AreNodesOver};
 
 use crate::order::Placed;

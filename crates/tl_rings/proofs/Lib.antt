@@ -3,3 +3,4 @@ pub mod Boxing
 pub mod Adding
 pub mod Upward
 pub mod Looking
+pub mod Ordering

@@ -11,6 +11,7 @@ mod heights;
 mod look;
 mod misplaced;
 mod rings;
+mod sites;
 mod spot;
 
 pub use misplaced::find_misplaced;

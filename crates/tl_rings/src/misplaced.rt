@@ -15,9 +15,10 @@ ghost use Rattle.tl_rings.specs.Keeping.Spots.{ring_count};
 use crate::heights::Heights;
 use crate::look::{Look, look_at};
 use crate::rings::Rings;
+use crate::sites::sites_along;
 use std::alloc::Global;
 use tl_crossings::look_at_chains;
-use tl_inside::{Flanks, Misplaced, Site, find_among, no_counts, push_site, sites_of};
+use tl_inside::{Flanks, Misplaced, Site, find_among, no_counts, push_site};
 use tl_map::Map;
 use tl_pack::pack;
 use tl_tree::{BoxIndex, FlatTree, Memory, TreeStop};
@@ -67,7 +68,7 @@ fn find_by<X: BoxIndex, Y: BoxIndex>(
 {
     look_at_chains(map);
     let heights = Heights::of(alloc, map)?;
-    let sites = sites_of(alloc, map)?;
+    let sites = sites_along(alloc, map)?;
     let mut left = Vec::new(alloc);
     match find_by_rings(alloc, map, index, rings, tree, &heights, &sites, &mut left)? {
         Some(found) => Ok(Some(found)),

@@ -1,7 +1,7 @@
 use Rattle.std.proofs.Common.{◌≡◌, ◌*◌, length}
 use Rattle.std.specs.List.{All}
 use Rattle.tl_build.specs.Keeping.Sorting.{IsStartOf}
-use Rattle.tl_pack.specs.Keeping.Lists.{up}
+use Rattle.tl_pack.specs.Lists.{up}
 use Rattle.tl_build.specs.Keeping.Lists.{darts_in, AreDartsBelow}
 use Rattle.tl_build.proofs.rounds.starts_of.Given as goal
 

@@ -1,7 +1,7 @@
 use Rattle.std.proofs.Common.{◌<◌, length, [], refl, sym, ◌∙◌, ap, map, length-append, arith}
 use Rattle.std.proofs.lemmas.List.Elements.{All-nil, All-push, All-same}
 use Rattle.tl_pack.specs.declared.order.Placed.{Placed}
-use Rattle.tl_pack.specs.Keeping.Lists.{up}
+use Rattle.tl_pack.specs.Lists.{up}
 use Rattle.tl_pack.proofs.ListLemmas.{up_none, up_pushed}
 use Rattle.tl_pack.proofs.order.place_items.Goals as goal
 

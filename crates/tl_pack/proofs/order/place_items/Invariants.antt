@@ -1,5 +1,5 @@
 use Rattle.std.proofs.Common.{◌≡◌, length}
-use Rattle.tl_pack.specs.Keeping.Lists.{up, items_in, AreItemsBelow}
+use Rattle.tl_pack.specs.Lists.{up, items_in, AreItemsBelow}
 use Rattle.tl_pack.proofs.order.place_items.Given as goal
 
 abbrev pub invariant-loop-item : goal.invariant-loop-item

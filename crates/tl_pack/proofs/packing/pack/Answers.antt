@@ -1,5 +1,5 @@
 use Rattle.std.proofs.Common.{subst}
-use Rattle.tl_pack.specs.Keeping.Lists.{items_in}
+use Rattle.tl_pack.specs.Lists.{items_in}
 use Rattle.tl_pack.specs.Keeping.Nodes.{AreNodesOver}
 use Rattle.tl_pack.proofs.Fitting.{fit, shallow}
 use Rattle.tl_pack.proofs.packing.pack.Goals as goal

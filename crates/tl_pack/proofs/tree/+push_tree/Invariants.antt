@@ -2,7 +2,7 @@ use Rattle.std.proofs.Common.{length, ◌≡◌, ◌-◌, ◌*◌, ◌≤◌, Li
 use Rattle.tl_geom.specs.declared.rect.Rect.{Rect}
 use Rattle.tl_tree.specs.declared.node.TreeNode.TheVariants.{Inner}
 use Rattle.tl_pack.specs.declared.order.Placed.{Placed}
-use Rattle.tl_pack.specs.Keeping.Lists.{items_in, AreItemsBelow}
+use Rattle.tl_pack.specs.Lists.{items_in, AreItemsBelow}
 use Rattle.tl_pack.specs.Keeping.Nodes.{Push}
 use Rattle.tl_pack.proofs.Sizes.{greatest_of}
 use Rattle.tl_pack.proofs.tree.+push_tree.Given as goal

@@ -1,6 +1,6 @@
 use Rattle.std.proofs.Common.{◌≡◌, take}
 use Rattle.tl_tree.specs.Fits.{CoversAll}
-use Rattle.tl_pack.specs.Keeping.Lists.{items_in}
+use Rattle.tl_pack.specs.Lists.{items_in}
 use Rattle.tl_pack.proofs.tree.push_leaf.Given as goal
 
 abbrev pub invariant-loop-placed : goal.invariant-loop-placed
