@@ -41,7 +41,11 @@ fn trees_are_no_deeper_than_they_need_be(rt: HostRuntime) -> Result<(), Fail> {
         (64, " 8 of 8 8 8 8 8 8 8 8"),
         (65, " 8 of 8 8 8 8 8 8 8 2 of 4 5"),
     ] {
-        assert_eq!(rt; packed(rt.alloc(), squares)?.as_str(), shape, "{squares} squares");
+        assert_eq!(rt;
+            packed(rt.alloc(), squares)?.as_str(),
+            shape,
+            "{squares} squares"
+        );
     }
     Ok(())
 }
