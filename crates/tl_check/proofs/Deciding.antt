@@ -3,7 +3,11 @@ use Rattle.std.proofs.Common.{◌≡◌, ◌↔◌, ℕ, ◌<◌, List, Ok, Err,
 use Rattle.std.specs.Result.{IfOk, IfErr}
 use Rattle.tl_record.specs.Records.{Records as AllRecords}
 use Rattle.tl_map.specs.TheMap.{TheMap}
+use Rattle.tl_planar.specs.Planar.{IsPlanar}
 use Rattle.tl_planar.specs.Searching.{meeting_segments}
+use Rattle.tl_sides.specs.Sides.{SidesAgree}
+use Rattle.tl_inside.specs.Placed.{ArePlaced}
+use Rattle.tl_cells.specs.Cells.{CellsAgree}
 use Rattle.tl_cert.specs.Certificates.{TheCertificate}
 use Rattle.tl_cert.specs.Beginnings.{IsTextOf}
 use Rattle.tl_cert.proofs.OneText.{one_by_text}
@@ -13,7 +17,7 @@ use Rattle.tl_check.specs.declared.fault.CertFault.{CertFault}
 use Rattle.tl_check.specs.declared.fault.CertFault.TheVariants.{Text, Counts, Tree, TooDeep, Round, Walk}
 use Rattle.tl_check.specs.declared.verdict.Verdict.TheVariants as verdict
 use Rattle.tl_check.specs.declared.stop.Stop.TheVariants.{Record, Memory, Device, Budget}
-use Rattle.tl_check.specs.Sound.{IsSound}
+use Rattle.tl_check.specs.Sound.{IsSound, AreClosed}
 use Rattle.tl_check.specs.Valid.{IsValid}
 use Rattle.tl_check.specs.Truth.{IsTrueOfMap, IsTrueOfCert}
 use Rattle.tl_check.specs.Texts.{IsValidText, IsTrueOfText}
@@ -63,9 +67,13 @@ passes all spelt budget (Err Memory) sound valid map_fault cert_fault stops = tt
 passes all spelt budget (Err Device) sound valid map_fault cert_fault stops = tt
 passes all spelt budget (Err Budget) sound valid map_fault cert_fault stops = stops
 
-pub decides : (m : TheMap) (c : TheCertificate) (answer : Answer) → IsValid m c → OnSound answer (IsSound m) → IfMapFault answer (IsTrueOfMap m) → IfCertFault answer (IsTrueOfCert m c)
-    → IfOk answer (λ v. SaysSound v ↔ IsSound m)
-decides m c (Ok (verdict.Sound report)) valid sound map_fault cert_fault = (λ said. sound, λ is. tt)
-decides m c (Ok (verdict.MapFault f)) valid sound map_fault cert_fault = (λ said. absurd said, λ is. not_sound m f map_fault is)
-decides m c (Ok (verdict.CertFault f)) valid sound map_fault cert_fault = absurd (not_valid m c f cert_fault valid)
-decides m c (Err stop) valid sound map_fault cert_fault = tt
+pub decides : (m : TheMap) (c : TheCertificate) (answer : Answer) → IsValid m c → OnSound answer (IsPlanar m.chains) → OnSound answer (SidesAgree m.chains)
+    → OnSound answer (AreClosed m) → OnSound answer (ArePlaced m) → OnSound answer (CellsAgree m.chains) → IfMapFault answer (IsTrueOfMap m)
+    → IfCertFault answer (IsTrueOfCert m c) → IfOk answer (λ v. SaysSound v ↔ IsSound m)
+decides m c (Ok (verdict.Sound report)) valid planar sides closed points cells map_fault cert_fault = (
+  (λ said. record { planar = planar; sides = sides; closed = closed; points = points; cells = cells }),
+  (λ is. tt),
+)
+decides m c (Ok (verdict.MapFault f)) valid planar sides closed points cells map_fault cert_fault = (λ said. absurd said, λ is. not_sound m f map_fault is)
+decides m c (Ok (verdict.CertFault f)) valid planar sides closed points cells map_fault cert_fault = absurd (not_valid m c f cert_fault valid)
+decides m c (Err stop) valid planar sides closed points cells map_fault cert_fault = tt

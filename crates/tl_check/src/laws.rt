@@ -3,11 +3,15 @@
 ghost use Rattle.std.specs.Prelude.{◌↔◌, ◌<◌, ℕ, List, IfOk, IfErr};
 ghost use Rattle.tl_record.specs.Records.{Records};
 ghost use Rattle.tl_map.specs.TheMap.{TheMap};
+ghost use Rattle.tl_planar.specs.Planar.{IsPlanar};
 ghost use Rattle.tl_planar.specs.Searching.{meeting_segments};
+ghost use Rattle.tl_sides.specs.Sides.{SidesAgree};
+ghost use Rattle.tl_inside.specs.Placed.{ArePlaced};
+ghost use Rattle.tl_cells.specs.Cells.{CellsAgree};
 ghost use Rattle.tl_cert.specs.Certificates.{TheCertificate};
 ghost use Rattle.tl_check.specs.declared.fault.MapFault.{MapFault};
 ghost use Rattle.tl_check.specs.declared.fault.CertFault.{CertFault};
-ghost use Rattle.tl_check.specs.Sound.{IsSound};
+ghost use Rattle.tl_check.specs.Sound.{IsSound, AreClosed};
 ghost use Rattle.tl_check.specs.Valid.{IsValid};
 ghost use Rattle.tl_check.specs.Truth.{IsTrueOfMap, IsTrueOfCert};
 ghost use Rattle.tl_check.specs.Texts.{IsValidText, IsTrueOfText};
@@ -37,10 +41,11 @@ pub fn a_valid_text_has_no_fault()
 {}
 
 /// So where a certificate is valid for the map, [`crate::check_map`] decides: if it isn't stopped, it answers `Sound` exactly
-/// where the map is sound. It is said of each answer that keeps its clauses, those from `planar` to `cells` as one.
+/// where the map is sound. It is said of each answer that keeps its clauses `planar` to `cells`, `map_fault` and `cert_fault`.
 pub fn a_valid_certificate_decides()
-    ensures { (m : TheMap) (c : TheCertificate) (answer : Answer) → IsValid m c → OnSound answer (IsSound m) →
-        IfMapFault answer (IsTrueOfMap m) → IfCertFault answer (IsTrueOfCert m c) →
+    ensures { (m : TheMap) (c : TheCertificate) (answer : Answer) → IsValid m c → OnSound answer (IsPlanar m.chains) →
+        OnSound answer (SidesAgree m.chains) → OnSound answer (AreClosed m) → OnSound answer (ArePlaced m) →
+        OnSound answer (CellsAgree m.chains) → IfMapFault answer (IsTrueOfMap m) → IfCertFault answer (IsTrueOfCert m c) →
         IfOk answer (λ verdict. SaysSound verdict ↔ IsSound m) }
 {}
 

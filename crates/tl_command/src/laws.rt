@@ -24,7 +24,8 @@ pub fn what_was_built_is_valid<C: Sink, W: Sink>()
 /// So of these two texts a run of `check` with the same columns gives the status 0 or 4, by what it says of each status; and
 /// it isn't stopped for a budget that is at least the number of pairs of the map's segments whose rectangles meet.
 pub fn what_was_built_passes<S: Source, W: Sink, E: Sink>()
-    ensures status { (layout : Layout) (text spelt : List ℕ) (status : ℕ) (cert_old cert_new : S) (out_old out_new : W) (err_old err_new : E) →
+    ensures status { (layout : Layout) (text spelt : List ℕ) (status : ℕ) (cert_old cert_new : S) (out_old out_new : W)
+        (err_old err_new : E) →
         AreSoundWith layout text spelt → IsRunStatus status →
         (status ≡ MAP_FAULT → NamesFault layout (Some text) (cert_new ≡ cert_old)
         (Writes W.contents W.failure_count out_old out_new)) →
