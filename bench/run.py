@@ -126,7 +126,7 @@ def check_rows(chains, runs):
     found = [(seconds_of(show) * 1e3, seconds_of(check) * 1e3, *steps_of([CHECK, certificate, records])) for _ in range(runs)]
     shown, checked, *parts = (statistics.median(column) for column in zip(*found))
     yield (f"{chains:,}", f"{shown:.1f}", f"{checked:.1f}", f"{checked / shown:.1f}", *(f"{part:.1f}" for part in parts),
-           f"{parts[3] / shown:.2f}", f"{parts[4] / shown:.2f}", f"{peak:.1f}", f"{peak * 2 ** 20 / chains:.0f}")
+           f"{parts[3] / shown:.2f}", f"{peak:.1f}", f"{peak * 2 ** 20 / chains:.0f}")
 
 
 def decided_rows(chains, kind, runs):
@@ -163,7 +163,8 @@ def part_rows(chains, kind, runs):
     for _ in range(runs):
         shown = seconds_of(show) * 1e3
         read, made, checked, sides, written = steps_of([BUILD, records, built])
-        _, reread, tree, search, points, _ = steps_of([CHECK, built, records])
+        _, reread, tree, search, _ = steps_of([CHECK, built, records])
+        points = max(0, checked - tree - search - sides)
         found.append((shown, read, made - checked, tree, search, sides, points, checked, written, reread))
     shown, *parts = (statistics.median(column) for column in zip(*found))
     search, sides, points = parts[3:6]
@@ -252,8 +253,7 @@ def main():
         (row for kind, sizes in parts for chains in numbers(sizes) for row in rows(chains, kind, words.runs)))
     print_table(
         ("Chains", "`show`, ms", "`check`, ms", "times `show`", "records read, ms", "certificate read, ms", "tree checked, ms",
-         "conflicts searched, ms", "points looked at, ms", "all checked in memory, ms", "search, times `show`",
-         "points, times `show`", "peak MB", "bytes a chain"),
+         "conflicts searched, ms", "all checked in memory, ms", "search, times `show`", "peak MB", "bytes a chain"),
         (row for chains in numbers(words.counties) for row in check_rows(chains, words.runs)))
     print_table(
         ("Chains", "Command", "ms", "times `show`", "us a chain", "peak MB", "bytes a chain"),

@@ -1,13 +1,7 @@
 //! How long the parts of a check take: `bench_check CERT RECORDS` reads the records and the certificate, checks the tree,
-//! searches for two chains that meet where they may not, looks at the polygons' points, and checks the whole. It prints the report and, on the error
+//! searches for two chains that meet where they may not, and checks the whole. It prints the report and, on the error
 //! output, the microseconds that each step takes.
 #![tactic(auto)]
-
-ghost use Rattle.std.specs.Prelude.{length};
-ghost use Rattle.tl_map.specs.Segments.{segments_before};
-ghost use Rattle.tl_tree.specs.Trees.{tree_of};
-ghost use Rattle.tl_tree.specs.Fits.{Fits};
-ghost use Rattle.tl_planar.specs.Rectangles.{segment_rect};
 
 use std::error::Error;
 use std::fs::File;
@@ -16,7 +10,6 @@ use std::time::{Duration, Instant};
 use std::{env, fmt};
 use tl_cert::{CertStop, Certificate, read_cert};
 use tl_check::{Verdict, check_map};
-use tl_inside::find_misplaced;
 use tl_map::{Map, MapStop, read_map};
 use tl_planar::{Meeting, Segments, first_meet};
 use tl_record::Meter;
@@ -95,22 +88,9 @@ fn search(rt: &HostRuntime, map: &Map, certificate: &Certificate) -> anyhow::Res
     let found = first_meet(map, &tree, u64::MAX);
     tell(rt, "conflicts searched", begun.elapsed(rt)?)?;
     match found {
-        Meeting::Clear => look_at_points(rt, map, &tree),
+        Meeting::Clear => Ok(()),
         _ => Err(Stop::Unsound.into()),
     }
-}
-
-/// Looks at the points of the polygons, by a tree that fits the map's segments.
-fn look_at_points(rt: &HostRuntime, map: &Map, tree: &FlatTree<'_>) -> anyhow::Result<()>
-    requires { Fits (tree_of tree.now) (segments_before map.now.chains (length map.now.chains)) (segment_rect map.now.chains) }
-{
-    let begun = Instant::now(rt)?;
-    let found = find_misplaced(rt.alloc(), map, tree).map_err(|_| Stop::Memory)?;
-    tell(rt, "points looked at", begun.elapsed(rt)?)?;
-    if found.is_some() {
-        return Err(Stop::Unsound.into());
-    }
-    Ok(())
 }
 
 /// Checks the map by the certificate.
