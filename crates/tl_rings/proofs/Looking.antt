@@ -1,5 +1,6 @@
 -- What the rings about a point tell.
-use Rattle.std.proofs.Common.{◌≡◌, ℕ, ◌+◌, ◌-◌, ◌<◌, ◌≤◌, ◌^◌, pos, List, [], ◌∷◌, ◌++◌, length, get_or, All, sym, subst, ap, ◌∙◌, refl, arith}
+use Rattle.std.proofs.Common.{◌≡◌, ℕ, ◌+◌, ◌-◌, ◌*◌, ◌<◌, ◌≤◌, ◌^◌, pos, List, [], ◌∷◌, ◌++◌, length, get_or, All, sym, subst, ap, ◌∙◌, refl, arith, Some, if◌then◌else◌, false}
+use Rattle.std.specs.Option.{option_map_or}
 use Rattle.std.specs.Prelude.{slice_index}
 use Rattle.std.proofs.lemmas.Int.{ints}
 use Rattle.std.proofs.lemmas.List.{length-append, get_or_default, get_or_append_left, get_or-append_right}
@@ -8,7 +9,7 @@ use Rattle.tl_geom.specs.declared.point.Point.{Point}
 use Rattle.tl_map.specs.TheMap.{TheMap, MapChain}
 use Rattle.tl_tree.specs.Hits.{AreHits, Adds}
 use Rattle.tl_sides.specs.Lists.{list_at}
-use Rattle.tl_sides.specs.Sides.{dart_count, SidesAgree}
+use Rattle.tl_sides.specs.Sides.{dart_count, IsRing, SidesAgree}
 use Rattle.tl_sides.specs.Walks.{AreWalks}
 use Rattle.tl_sides.proofs.Headings.{dart_within}
 use Rattle.tl_inside.specs.declared.flanks.Flanks.{Flanks}
@@ -19,18 +20,33 @@ use Rattle.tl_inside.specs.Keeping.Tallies.{TellCounts}
 use Rattle.tl_inside.proofs.Reaching.{all_below}
 use Rattle.tl_inside.proofs.Stripping.{one_more}
 use Rattle.tl_crossings.specs.Headings.{AreProper}
-use Rattle.tl_crossings.specs.Rings.{rings_count}
+use Rattle.tl_map.specs.declared.sides.Side.TheVariants.{Outside}
+use Rattle.tl_map.specs.Darts.{dart_left}
+use Rattle.tl_crossings.specs.Rings.{winding, rings_count, ring_count as of_ring}
+use Rattle.tl_crossings.proofs.OneLeft.{counts_whole}
 use Rattle.tl_crossings.proofs.RingCounts.{hits_count}
 use Rattle.tl_rings.specs.Rings.{TheRings, AreBoxed, box_at}
 use Rattle.tl_rings.specs.Keeping.Spots.{ring_count, IsBoxAt}
-use Rattle.tl_rings.specs.Keeping.Looking.{AddCounts, AreOfDarts, ArePlacedBut}
+use Rattle.tl_rings.specs.Keeping.Looking.{AddCounts, ArePlacedBut}
 
--- walks are of darts
-pub of_darts : (chains : List MapChain) (walks : List (List ℕ)) → AreWalks chains walks → AreOfDarts chains walks
-of_darts chains walks are k lt = λ j d inside.
-    let ring : List ℕ = list_at walks k in
-    let f = (are.rings k lt).follows j inside in
+-- the darts of a ring are darts of the chains
+pub ring_known : (chains : List MapChain) (ring : List ℕ) → IsRing chains ring → All (λ d. d < 2 * length chains) ring
+ring_known chains ring is = λ j d inside.
+    let f = is.follows j inside in
     subst (λ x. x < dart_count chains) (get_or_default ring j 0 d inside) (dart_within chains (slice_index ring j) f.next.node f.next.a_starts)
+
+pub first_known : (chains : List MapChain) (ring : List ℕ) → IsRing chains ring → slice_index ring 0 < 2 * length chains
+first_known chains ring is = ring_known chains ring is 0 0 is.some
+
+-- a walk by its number is a ring
+pub walk_is : (chains : List MapChain) (walks : List (List ℕ)) (k : ℕ) (ring : List ℕ) → AreWalks chains walks → k < length walks → ring ≡ list_at walks k → IsRing chains ring
+walk_is chains walks k ring are lt is = subst (IsRing chains) (sym is) (are.rings k lt)
+
+-- a ring with the outside on its left adds nothing
+pub outside_adds : (chains : List MapChain) (q : Point) (ring : List ℕ) (old : List Flanks) → SidesAgree chains → IsRing chains ring → dart_left chains (slice_index ring 0) ≡ Some Outside → AddCounts (λ S. of_ring chains q S ring) old old
+outside_adds chains q ring old agree is out S none =
+    let zero : of_ring chains q S ring ≡ pos 0 = counts_whole chains agree ring is q S ∙ ap (λ o. if option_map_or S o false then winding chains q ring else pos 0) out ∙ ap (λ b. if b then winding chains q ring else pos 0) none in
+    omega (arith, ints, zero)
 
 -- the rings that are counted are all rings
 pub all_counted : (r : TheRings) → length r.boxes ≡ length r.rings → length r.rings < 2 ^ 32 → ring_count r ≡ length r.rings

@@ -1,9 +1,13 @@
 //! What the darts of rings add to the counts at a point.
 
-ghost use Rattle.std.specs.Prelude.{◌≡◌, ◌↔◌, ◌<◌, ◌*◌, pos, ◌<ℤ◌, ◌≤ℤ◌, int_lt, IsTrue, length, All, OnOk};
+ghost use Rattle.std.specs.Prelude.{◌≡◌, ◌↔◌, ◌<◌, ◌*◌, pos, ◌<ℤ◌, ◌≤ℤ◌, int_lt, IsTrue, Some, length, slice_index, All, OnOk};
 ghost use Rattle.tl_geom.specs.Plane.{turn_of};
+ghost use Rattle.tl_map.specs.declared.sides.Side.TheVariants.{Outside};
+ghost use Rattle.tl_map.specs.Darts.{dart_left};
+ghost use Rattle.tl_sides.specs.Sides.{IsRing, SidesAgree};
+ghost use Rattle.tl_sides.specs.Walks.{AreWalks};
 ghost use Rattle.tl_crossings.specs.Rings.{goes_up_across, crossing, crossings, ring_count, rings_count};
-ghost use Rattle.tl_rings.specs.Keeping.Looking.{AddCounts, on_side, left_count, AreOfDarts};
+ghost use Rattle.tl_rings.specs.Keeping.Looking.{AddCounts, on_side, left_count};
 
 use crate::rings::Rings;
 use tl_geom::{Point, turn};
@@ -20,7 +24,8 @@ pub fn list_rings(
     flanks: &mut Vec<Flanks>,
 ) -> Result<(), Memory>
     requires known { All (λ k. k < length rings.now.rings) numbers.now }
-    requires darts { AreOfDarts map.now.chains rings.now.rings }
+    requires sides { SidesAgree map.now.chains }
+    requires walks { AreWalks map.now.chains rings.now.rings }
     ensures { OnOk result (AddCounts (λ S. rings_count map.now.chains point S rings.now.rings numbers.now)
         flanks.old.items flanks.new.items) }
 {
@@ -30,8 +35,33 @@ pub fn list_rings(
     Ok(())
 }
 
-/// The same of one ring.
+/// The same of one ring: one that has the outside on its left adds nothing.
 fn list_ring(map: &Map, ring: &[u32], point: Point, flanks: &mut Vec<Flanks>) -> Result<(), Memory>
+    requires sides { SidesAgree map.now.chains }
+    requires ring { IsRing map.now.chains ring.now }
+    ensures { OnOk result (AddCounts (λ S. ring_count map.now.chains point S ring.now)
+        flanks.old.items flanks.new.items) }
+{
+    if has_outside(map, ring) {
+        Ok(())
+    } else {
+        list_darts(map, ring, point, flanks)
+    }
+}
+
+/// Whether a ring has the outside on its left.
+pub fn has_outside(map: &Map, ring: &[u32]) -> bool
+    requires { IsRing map.now.chains ring.now }
+    ensures { IsTrue result → dart_left map.now.chains (slice_index ring.now 0) ≡ Some Outside }
+{
+    match map.dart_left(ring[0]) {
+        Side::Outside => true,
+        Side::Polygon(_) => false,
+    }
+}
+
+/// The same of a ring by its darts.
+fn list_darts(map: &Map, ring: &[u32], point: Point, flanks: &mut Vec<Flanks>) -> Result<(), Memory>
     requires known { All (λ d. d < 2 * length map.now.chains) ring.now }
     ensures { OnOk result (AddCounts (λ S. ring_count map.now.chains point S ring.now)
         flanks.old.items flanks.new.items) }

@@ -1,6 +1,6 @@
 //! A look at the point of one polygon.
 
-ghost use Rattle.std.specs.Prelude.{◌≡◌, ◌<◌, ◌^◌, length, IfOk, OnOk};
+ghost use Rattle.std.specs.Prelude.{◌≡◌, ◌<◌, ◌^◌, length, All, IfOk, OnOk};
 ghost use Rattle.tl_map.specs.Segments.{segments_before};
 ghost use Rattle.tl_planar.specs.Rectangles.{segment_rect};
 ghost use Rattle.tl_sides.specs.Sides.{SidesAgree};
@@ -12,7 +12,7 @@ ghost use Rattle.tl_rings.specs.Rings.{AreBoxed, box_at};
 ghost use Rattle.tl_rings.specs.Keeping.Spots.{ring_count};
 ghost use Rattle.tl_rings.specs.Keeping.Looking.{IsLook};
 
-use crate::darts::list_rings;
+use crate::darts::{has_outside, list_rings};
 use crate::heights::Heights;
 use crate::rings::Rings;
 use crate::spot::Spot;
@@ -72,7 +72,7 @@ pub fn look_at<X: BoxIndex, Y: BoxIndex>(
         None => {}
     }
     list_about(rings, tree, polygon.point, hits)?;
-    if darts_of(rings, hits) > FEW.saturating_add(heights.at(polygon.point.y) as usize) {
+    if darts_of(map, rings, hits) > FEW.saturating_add(heights.at(polygon.point.y) as usize) {
         return Ok(Look::Costly);
     }
     flanks.clear();
@@ -102,13 +102,16 @@ fn list_about<Y: BoxIndex>(
     tree.collect_hits(rings, &Spot(point), hits)
 }
 
-/// How many darts the rings of these numbers have together.
-fn darts_of(rings: &Rings, numbers: &[u32]) -> usize {
+/// How many darts the rings of these numbers have together that have a polygon on their left.
+fn darts_of(map: &Map, rings: &Rings, numbers: &[u32]) -> usize
+    requires known { All (λ k. k < length rings.now.rings) numbers.now }
+    requires walks { AreWalks map.now.chains rings.now.rings }
+{
     let mut darts = 0usize;
-    for number in numbers {
-        let number = *number as usize;
-        if number < rings.count() {
-            darts = darts.saturating_add(rings.ring(number).len());
+    for place in 0..numbers.len() {
+        let ring = rings.ring(numbers[place] as usize);
+        if !has_outside(map, ring) {
+            darts = darts.saturating_add(ring.len());
         }
     }
     darts

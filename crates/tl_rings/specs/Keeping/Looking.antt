@@ -4,8 +4,6 @@ use Rattle.tl_geom.specs.declared.point.Point.{Point}
 use Rattle.tl_map.specs.declared.sides.Side.{Side}
 use Rattle.tl_map.specs.declared.sides.Side.TheVariants.{Outside}
 use Rattle.tl_map.specs.TheMap.{TheMap, MapChain}
-use Rattle.tl_sides.specs.Lists.{EachList}
-use Rattle.tl_sides.specs.Sides.{dart_count}
 use Rattle.tl_inside.specs.declared.flanks.Flanks.{Flanks}
 use Rattle.tl_inside.specs.declared.strips.Site.{Site}
 use Rattle.tl_inside.specs.Inside.{balance}
@@ -26,10 +24,6 @@ on_side along side n S = if S side then (if along then n else neg_ℤ n) else po
 -- what dart d adds to the count of such sides
 abbrev pub left_count : List MapChain → Point → ℕ → (Side → Bool) → ℤ
 left_count chains q d S = if has_left chains S d then dart_crossings chains q d else pos 0
-
--- the rings are of darts of the chains
-abbrev pub AreOfDarts : List MapChain → List (List ℕ) → Type 0
-AreOfDarts chains rings = EachList (All (λ d. d < dart_count chains)) rings
 
 -- what was found of a polygon's point
 abbrev pub IsLook : TheMap → Site → Look → Type 0

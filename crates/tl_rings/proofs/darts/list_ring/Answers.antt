@@ -1,11 +1,8 @@
-use Rattle.tl_rings.specs.Keeping.Looking.{left_count}
-use Rattle.tl_rings.proofs.Adding.{sum_more, sum_all}
+use Rattle.tl_rings.proofs.Looking.{ring_known, outside_adds}
 use Rattle.tl_rings.proofs.darts.list_ring.Goals as goal
 
-pub loop-place-preserved : goal.loop-place-preserved
-loop-place-preserved c =
-    sum_more (λ S d. left_count c.args.map.now.chains c.args.point d S) c.args.ring.now c.loop-place.place c.args.flanks.now.items c.loop-place.flanks.items c.list_dart.new.flanks.items
-    c.loop-place-test.true c.loop-place.invariant c.in_ok-list_dart.ensures
+pub list_darts-requires : goal.list_darts-requires
+list_darts-requires c = record { known = ring_known c.args.map.now.chains c.args.ring.now c.requires.ring }
 
-pub returns : goal.returns
-returns c = sum_all (λ S d. left_count c.args.map.now.chains c.args.point d S) c.args.ring.now c.loop-place.place c.args.flanks.now.items c.loop-place.flanks.items c.loop-place-test.false c.loop-place.invariant
+pub returns-then-has_outside : goal.returns-then-has_outside
+returns-then-has_outside c = outside_adds c.args.map.now.chains c.args.point c.args.ring.now c.args.flanks.now.items c.requires.sides c.requires.ring (c.has_outside.ensures c.if-has_outside.true)

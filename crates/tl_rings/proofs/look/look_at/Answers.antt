@@ -2,16 +2,18 @@ use Rattle.std.proofs.Common.{◌<◌, length, All, sym, subst}
 use Rattle.tl_inside.specs.Keeping.Tallies.{TellCounts}
 use Rattle.tl_rings.specs.Keeping.Looking.{AddCounts}
 use Rattle.tl_crossings.specs.Rings.{rings_count}
-use Rattle.tl_rings.proofs.Looking.{of_darts, hits_known, rings_tell}
+use Rattle.tl_rings.proofs.Looking.{hits_known, rings_tell}
 use Rattle.tl_rings.proofs.look.look_at.Goals as goal
+
+pub darts_of-requires-clause-known : goal.darts_of-requires-clause-known
+darts_of-requires-clause-known g c =
+    subst (All (λ k. k < length c.args.rings.now.rings)) (sym c.deref.ensures.value)
+    (hits_known c.args.rings.now c.polygon-polygon.result.point c.list_about.new.hits.items c.requires.boxed.long c.in_ok-list_about.ensures)
 
 pub list_rings-requires-clause-known : goal.list_rings-requires-clause-known
 list_rings-requires-clause-known g c =
     subst (All (λ k. k < length c.args.rings.now.rings)) (sym c.deref-2.ensures.value)
     (hits_known c.args.rings.now c.polygon-polygon.result.point c.list_about.new.hits.items c.requires.boxed.long c.in_ok-list_about.ensures)
-
-pub list_rings-requires-clause-darts : goal.list_rings-requires-clause-darts
-list_rings-requires-clause-darts g c = of_darts c.args.map.now.chains c.args.rings.now.rings c.requires.walks
 
 pub misplaced_by-requires-clause-tell : goal.misplaced_by-requires-clause-tell
 misplaced_by-requires-clause-tell g c =

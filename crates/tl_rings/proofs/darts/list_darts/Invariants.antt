@@ -1,7 +1,7 @@
 use Rattle.std.proofs.Common.{take}
 use Rattle.tl_crossings.specs.Rings.{ring_count}
 use Rattle.tl_rings.specs.Keeping.Looking.{AddCounts}
-use Rattle.tl_rings.proofs.darts.list_ring.Given as goal
+use Rattle.tl_rings.proofs.darts.list_darts.Given as goal
 
 -- the darts so far are told
 abbrev pub invariant-loop-place : goal.invariant-loop-place
