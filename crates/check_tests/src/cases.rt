@@ -2,11 +2,12 @@
 use crate::certs::{
     DEAD_END, SQUARE, by_bytes, decided, decided_in_memory, first, nested as nested_cert,
 };
-use crate::maps::{Drawn, dead_end, nested, records_of, square};
+use crate::maps::{Drawn, SQUARE as SQUARE_RING, dead_end, nested, records_of, square};
 use std::alloc::Global;
 use std::test::Fail;
 use tl_check::{CertFault, MapFault, Report, Stop, Verdict, check};
 use tl_geom::Point;
+use tl_inside::Misplaced;
 use tl_record::Meter;
 use tl_sides::{RoundFault, WalkFault};
 use tl_tree::TreeFault;
@@ -205,6 +206,45 @@ fn sides_that_disagree(rt: HostRuntime) -> Result<(), Fail> {
     };
     let verdict = decided(alloc, records.as_bytes(), DEAD_END.as_bytes());
     assert!(rt; verdict == side(15, 15, 3, 3) || verdict == side(10, 10, 0, 2));
+    Ok(())
+}
+
+/// Points are looked at by the rings of the map, so a fault of rounds, sides or walks is told before one of them.
+#[test]
+fn misplaced_points_come_last(rt: HostRuntime) -> Result<(), Fail> {
+    let alloc = rt.alloc();
+    let ring = Drawn {
+        points: SQUARE_RING,
+        left: 1,
+        right: 0,
+    };
+    let records = records_of(alloc, &[ring], &[(5, 20)])?;
+    let told = |cert: &str| decided(alloc, records.as_bytes(), cert.as_bytes());
+    match told(SQUARE)? {
+        Verdict::MapFault(MapFault::PolygonPoint(Misplaced::Outside { .. })) => {}
+        _ => assert!(rt; false),
+    }
+    match told(&changed(alloc, SQUARE, "D 0\nD 1\n", "D 1\nD 0\n")?)? {
+        Verdict::CertFault(CertFault::Round(fault)) => {
+            assert!(rt; fault == RoundFault::OrderNotRising(0));
+        }
+        _ => assert!(rt; false),
+    }
+    let one_walk = changed(alloc, SQUARE, "W 2\nK 1\nD 0\nK 1\n", "W 1\nK 2\nD 0\n")?;
+    match told(&one_walk)? {
+        Verdict::CertFault(CertFault::Walk(_)) => {}
+        _ => assert!(rt; false),
+    }
+    let dead_end = Drawn {
+        points: &[(10, 10), (15, 15)],
+        left: 1,
+        right: 0,
+    };
+    let disagreeing = records_of(alloc, &[ring, dead_end], &[(5, 20)])?;
+    match decided(alloc, disagreeing.as_bytes(), DEAD_END.as_bytes())? {
+        Verdict::MapFault(MapFault::Side { .. }) => {}
+        _ => assert!(rt; false),
+    }
     Ok(())
 }
 
