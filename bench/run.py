@@ -37,11 +37,12 @@ NAMES = {
     "county": "a county",
     "shuffled": "a county, random order",
     "grid": "a grid of squares",
+    "nested": "islands of one polygon",
     "keys": "ordinary keys",
     "hostile": "hostile keys",
 }
 MAKERS = {"streets": ["make_records.py"], "county": ["county.py"], "shuffled": ["county.py", "--shuffled"],
-          "grid": ["grid.py"], "keys": ["keys.py"], "hostile": ["keys.py", "--hostile"]}
+          "grid": ["grid.py"], "nested": ["nested.py"], "keys": ["keys.py"], "hostile": ["keys.py", "--hostile"]}
 
 
 def files_of(chains, kind):
@@ -247,7 +248,7 @@ def main():
     words = parser.parse_args()
     parts = [("streets", words.sizes), ("county", words.counties), ("shuffled", words.counties)]
     parts += [("keys", words.keys), ("hostile", words.keys)]
-    decided = [(chains, kind) for kind in ("county", "shuffled", "grid") for chains in numbers(words.decided)]
+    decided = [(chains, kind) for kind in ("county", "shuffled", "grid", "nested") for chains in numbers(words.decided)]
     print_table(
         ("Chains", "Lines", "MB", "Program", "ms", "times `wc -l`", "million lines a second", "peak MB"),
         (row for kind, sizes in parts for chains in numbers(sizes) for row in rows(chains, kind, words.runs)))
