@@ -12,11 +12,9 @@ rising TLID, or with --shuffled in random order. With --released type I has FILE
 run with the same words makes the same bytes.
 """
 
-import argparse
 import random
-from pathlib import Path
 
-from make_records import VERSION, chain_line, padded, pair, shape_lines
+from make_records import VERSION, chain_line, padded, pair, shape_lines, words_given, write_files
 
 SIDE = 1_200
 WEST, SOUTH = -76_700_000, 39_200_000
@@ -138,18 +136,12 @@ def files_of(chains, released):
 
 
 def main():
-    parser = argparse.ArgumentParser()
-    parser.add_argument("folder", type=Path)
-    parser.add_argument("chains", type=int)
-    parser.add_argument("--shuffled", action="store_true")
-    parser.add_argument("--released", action="store_true")
-    words = parser.parse_args()
-    words.folder.mkdir(parents=True, exist_ok=True)
-    for name, lines in files_of(words.chains, words.released).items():
-        if words.shuffled:
+    words = words_given("--shuffled", "--released")
+    files = files_of(words.chains, words.released)
+    if words.shuffled:
+        for lines in files.values():
             random.Random(words.chains).shuffle(lines)
-        with open(words.folder / f"TGR24001.{name}", "w", newline="") as file:
-            file.writelines(lines)
+    write_files(words.folder, files)
 
 
 if __name__ == "__main__":

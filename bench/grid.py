@@ -8,12 +8,10 @@ is taken for about CHAINS of them. Many segments are level or upright and many r
 east meets as many chains as there are squares in its row: where a search for what lies on a ray does most.
 """
 
-import argparse
 import random
-from pathlib import Path
 
 from county import County, point_line, sides_line
-from make_records import chain_line
+from make_records import chain_line, words_given, write_files
 
 
 def files_of(across):
@@ -36,14 +34,8 @@ def files_of(across):
 
 
 def main():
-    parser = argparse.ArgumentParser()
-    parser.add_argument("folder", type=Path)
-    parser.add_argument("chains", type=int)
-    words = parser.parse_args()
-    words.folder.mkdir(parents=True, exist_ok=True)
-    for name, lines in files_of(max(1, round((words.chains / 2) ** 0.5 - 0.5))).items():
-        with open(words.folder / f"TGR24001.{name}", "w", newline="") as file:
-            file.writelines(lines)
+    words = words_given()
+    write_files(words.folder, files_of(max(1, round((words.chains / 2) ** 0.5 - 0.5))))
 
 
 if __name__ == "__main__":

@@ -76,12 +76,27 @@ def chains(rng, count):
         yield tlid, start, end, between(rng, start, end, shape_count(rng, index))
 
 
-def main():
+def words_given(*switches):
+    """The command line FOLDER CHAINS with these switches; the folder is made."""
     parser = argparse.ArgumentParser()
     parser.add_argument("folder", type=Path)
     parser.add_argument("chains", type=int)
+    for switch in switches:
+        parser.add_argument(switch, action="store_true")
     words = parser.parse_args()
     words.folder.mkdir(parents=True, exist_ok=True)
+    return words
+
+
+def write_files(folder, files):
+    """Writes the lines of each type's file."""
+    for name, lines in files.items():
+        with open(folder / f"TGR24001.{name}", "w", newline="") as file:
+            file.writelines(lines)
+
+
+def main():
+    words = words_given()
     rng = random.Random(words.chains)
     base = words.folder / "TGR24001"
     with open(f"{base}.RT1", "w", newline="") as first, open(f"{base}.RT2", "w", newline="") as second:

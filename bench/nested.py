@@ -7,12 +7,10 @@ One square holds all others, each of which is a chain of four segments, an islan
 points lie in the box of that polygon, and its boundary has a ring about each island.
 """
 
-import argparse
 import random
-from pathlib import Path
 
 from county import County, point_line, sides_line
-from make_records import chain_line, shape_lines
+from make_records import chain_line, shape_lines, words_given, write_files
 
 
 def files_of(across):
@@ -39,14 +37,8 @@ def files_of(across):
 
 
 def main():
-    parser = argparse.ArgumentParser()
-    parser.add_argument("folder", type=Path)
-    parser.add_argument("chains", type=int)
-    words = parser.parse_args()
-    words.folder.mkdir(parents=True, exist_ok=True)
-    for name, lines in files_of(max(1, round(words.chains ** 0.5))).items():
-        with open(words.folder / f"TGR24001.{name}", "w", newline="") as file:
-            file.writelines(lines)
+    words = words_given()
+    write_files(words.folder, files_of(max(1, round(words.chains ** 0.5))))
 
 
 if __name__ == "__main__":

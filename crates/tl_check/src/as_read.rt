@@ -107,7 +107,7 @@ fn check_parts<R: Source>(
     'parts: loop {
         match reader.next_part() {
             Ok(Some(CertPart::Round(darts))) => state = take_round(map, state, &darts),
-            Ok(Some(CertPart::Walk(darts))) => match end_rounds(alloc, map, state) {
+            Ok(Some(CertPart::Walk(darts))) => match end_rounds(alloc, map, state, &[]) {
                 Ok(next) => match take_walk(map, next, &darts) {
                     Ok(next) => state = next,
                     Err(halt) => return answer(halt),
@@ -126,10 +126,10 @@ fn conclude(alloc: Global, map: &Map, nodes: &[TreeNode], state: State) -> Resul
     requires whole { IsPreorder nodes.now }
     requires numbered { length nodes.now < 2 ^ 32 }
     requires held { (c : TheCertificate) × Holds map.now c state × (c.tree ≡ nodes.now) }
-    ensures concludes { (c : TheCertificate) → Holds map.now c state → Concludes map.now c result }
-    ensures within { (n : ℕ) → IsSearched map.now n state → OnSound result (meeting_segments map.now.chains ≤ n) }
+    ensures concludes { (c : TheCertificate) → Holds map.now c state.entry → Concludes map.now c result }
+    ensures within { (n : ℕ) → IsSearched map.now n state.entry → OnSound result (meeting_segments map.now.chains ≤ n) }
 {
-    let ended = match end_rounds(alloc, map, state) {
+    let ended = match end_rounds(alloc, map, state, &[]) {
         Ok(ended) => ended,
         Err(halt) => return answer(halt),
     };

@@ -62,7 +62,7 @@ pub fn check_map(alloc: Global, map: &Map, cert: &Certificate, budget: u64) -> R
     for round in cert.rounds() {
         state = take_round(map, state, round);
     }
-    state = match end_rounds(alloc, map, state) {
+    state = match end_rounds(alloc, map, state, cert.walks()) {
         Ok(state) => state,
         Err(halt) => return answer(halt),
     };

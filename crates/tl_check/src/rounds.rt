@@ -14,14 +14,14 @@ use tl_rings::Rings;
 use tl_sides::{Rounds, Walks};
 
 /// Takes one round more.
-pub fn take_round(map: &Map, state: State, round: &[u32]) -> State
+pub fn take_round<'a>(map: &Map, state: State<'a>, round: &[u32]) -> State<'a>
     requires some { zero < length round.now }
     requires held { (c : TheCertificate) × Holds map.now c state }
     requires takes { TakesRounds state }
-    ensures holds { (c : TheCertificate) → Holds map.now c state → Holds map.now (with_round c round.now) result }
+    ensures holds { (c : TheCertificate) → Holds map.now c state.entry → Holds map.now (with_round c round.now) result }
     ensures takes { TakesRounds result }
-    ensures searched { (n : ℕ) → IsSearched map.now n state → IsSearched map.now n result }
-    ensures behind { IsBehindSearch map.now state → IsBehindSearch map.now result }
+    ensures searched { (n : ℕ) → IsSearched map.now n state.entry → IsSearched map.now n result }
+    ensures behind { IsBehindSearch map.now state.entry → IsBehindSearch map.now result }
 {
     match state {
         State::Rounding(mut rounds) => match rounds.take(map, round) {
@@ -33,17 +33,23 @@ pub fn take_round(map: &Map, state: State, round: &[u32]) -> State
     }
 }
 
-/// Ends the rounds, unless they have ended already: where they are the map's and sides agree, walks are taken next.
-pub fn end_rounds(alloc: Global, map: &Map, state: State) -> Result<State, Halt>
+/// Ends the rounds, unless they have ended already: where they are the map's and sides agree, walks are taken next. Those
+/// that are lent aren't copied.
+pub fn end_rounds<'a>(
+    alloc: Global,
+    map: &Map,
+    state: State<'a>,
+    lent: &'a [Vec<u32>],
+) -> Result<State<'a>, Halt>
     requires held { (c : TheCertificate) × Holds map.now c state }
-    ensures holds { IfOk result (λ next. (c : TheCertificate) → Holds map.now c state → Holds map.now c next) }
+    ensures holds { IfOk result (λ next. (c : TheCertificate) → Holds map.now c state.entry → Holds map.now c next) }
     ensures walks { IfOk result TakesWalks }
-    ensures searched { IfOk result (λ next. (n : ℕ) → IsSearched map.now n state → IsSearched map.now n next) }
-    ensures behind { IfOk result (λ next. IsBehindSearch map.now state → IsBehindSearch map.now next) }
+    ensures searched { IfOk result (λ next. (n : ℕ) → IsSearched map.now n state.entry → IsSearched map.now n next) }
+    ensures behind { IfOk result (λ next. IsBehindSearch map.now state.entry → IsBehindSearch map.now next) }
     ensures halts { IfErr result (MayEnd map.now) }
 {
     match state {
-        State::Rounding(rounds) => begin_walks(alloc, map, rounds),
+        State::Rounding(rounds) => begin_walks(alloc, map, rounds, lent),
         State::Walking(walks, rings) => Ok(State::Walking(walks, rings)),
         State::Unrounded(fault) => Ok(State::Unrounded(fault)),
         State::Wrong(fault) => Ok(State::Wrong(fault)),
@@ -53,7 +59,12 @@ pub fn end_rounds(alloc: Global, map: &Map, state: State) -> Result<State, Halt>
 ghost use Rattle.tl_check.specs.Keeping.Parts.{AreRoundsSoFar};
 
 /// Begins the walks behind rounds that had no fault so far.
-fn begin_walks(alloc: Global, map: &Map, rounds: Rounds) -> Result<State, Halt>
+fn begin_walks<'a>(
+    alloc: Global,
+    map: &Map,
+    rounds: Rounds,
+    lent: &'a [Vec<u32>],
+) -> Result<State<'a>, Halt>
     requires held { (c : TheCertificate) × AreRoundsSoFar map.now c rounds }
     ensures holds { IfOk result (λ next. (c : TheCertificate) → AreRoundsSoFar map.now c rounds → Holds map.now c next) }
     ensures walks { IfOk result TakesWalks }
@@ -78,7 +89,7 @@ fn begin_walks(alloc: Global, map: &Map, rounds: Rounds) -> Result<State, Halt>
     let Ok(walks) = Walks::new(alloc, map, next) else {
         return Err(Halt::Memory);
     };
-    match Rings::new(alloc, map.darts()) {
+    match Rings::new(alloc, map.darts(), lent) {
         Ok(rings) => Ok(State::Walking(walks, rings)),
         Err(_) => Err(Halt::Memory),
     }

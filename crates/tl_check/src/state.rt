@@ -6,11 +6,11 @@ use tl_sides::{RoundFault, Rounds, Walks};
 
 /// What was found of the rounds and walks so far, behind counts that are the map's and a tree.
 #[derive(Drop)]
-pub enum State {
+pub enum State<'a> {
     /// The tree fits, the chains are planar, and the rounds have no fault so far.
     Rounding(Rounds),
-    /// The rounds are the map's, sides agree, and the walks have no fault so far. They are laid down as rings.
-    Walking(Walks, Rings),
+    /// The rounds are the map's, sides agree, and the walks have no fault so far. They are kept as rings.
+    Walking(Walks, Rings<'a>),
     /// The rounds have ended, and have this fault.
     Unrounded(RoundFault),
     /// Each certificate that begins so has this fault.

@@ -19,7 +19,12 @@ use tl_tree::{FlatTree, TreeNode, TreeStop};
 
 /// Takes the tree, behind counts that are the map's: it fits the map's segments and the chains are planar, or it is wrong,
 /// or no further part is looked at.
-pub fn take_tree(alloc: Global, map: &Map, nodes: &[TreeNode], budget: u64) -> Result<State, Halt>
+pub fn take_tree<'a>(
+    alloc: Global,
+    map: &Map,
+    nodes: &[TreeNode],
+    budget: u64,
+) -> Result<State<'a>, Halt>
     requires whole { IsPreorder nodes.now }
     requires numbered { length nodes.now < 2 ^ 32 }
     ensures holds { IfOk result (λ state. (c : TheCertificate) → AreCounts map.now c.counts →

@@ -16,15 +16,15 @@ use tl_map::Map;
 use tl_rings::Rings;
 use tl_tree::TreeNode;
 
-/// Takes one walk more, and lays it down.
-pub fn take_walk(map: &Map, state: State, walk: &[u32]) -> Result<State, Halt>
+/// Takes one walk more, and keeps it.
+pub fn take_walk<'a>(map: &Map, state: State<'a>, walk: &[u32]) -> Result<State<'a>, Halt>
     requires some { zero < length walk.now }
     requires held { (c : TheCertificate) × Holds map.now c state }
     requires takes { TakesWalks state }
-    ensures holds { IfOk result (λ next. (c : TheCertificate) → Holds map.now c state → Holds map.now (with_walk c walk.now) next) }
+    ensures holds { IfOk result (λ next. (c : TheCertificate) → Holds map.now c state.entry → Holds map.now (with_walk c walk.now) next) }
     ensures takes { IfOk result TakesWalks }
-    ensures searched { IfOk result (λ next. (n : ℕ) → IsSearched map.now n state → IsSearched map.now n next) }
-    ensures behind { IfOk result (λ next. IsBehindSearch map.now state → IsBehindSearch map.now next) }
+    ensures searched { IfOk result (λ next. (n : ℕ) → IsSearched map.now n state.entry → IsSearched map.now n next) }
+    ensures behind { IfOk result (λ next. IsBehindSearch map.now state.entry → IsBehindSearch map.now next) }
     ensures halts { IfErr result (MayEnd map.now) }
 {
     match state {
@@ -41,7 +41,7 @@ pub fn take_walk(map: &Map, state: State, walk: &[u32]) -> Result<State, Halt>
     }
 }
 
-/// Ends the walks, and looks at the points of polygons by the rings that were laid down: the map is sound and the certificate
+/// Ends the walks, and looks at the points of polygons by the rings that were kept: the map is sound and the certificate
 /// has so many walks, or it has a fault.
 pub fn finish_walks(
     alloc: Global,
@@ -53,10 +53,10 @@ pub fn finish_walks(
     requires numbered { length nodes.now < 2 ^ 32 }
     requires held { (c : TheCertificate) × Holds map.now c state × (c.tree ≡ nodes.now) }
     requires takes { TakesWalks state }
-    ensures shown { IfOk result (λ ended. IfOk ended (λ rings. (c : TheCertificate) → Holds map.now c state → IsShown map.now c rings)) }
-    ensures searched { IfOk result (λ ended. OnOk ended ((n : ℕ) → IsSearched map.now n state → meeting_segments map.now.chains ≤ n)) }
-    ensures fault { IfOk result (λ ended. IfErr ended (λ fault. (c : TheCertificate) → Holds map.now c state → IsTrueOfCert map.now c fault)) }
-    ensures behind { IfOk result (λ ended. IfErr ended (λ fault. IsBehindSearch map.now state → IsOfDarts fault → IsPlanar map.now.chains)) }
+    ensures shown { IfOk result (λ ended. IfOk ended (λ rings. (c : TheCertificate) → Holds map.now c state.entry → IsShown map.now c rings)) }
+    ensures searched { IfOk result (λ ended. OnOk ended ((n : ℕ) → IsSearched map.now n state.entry → meeting_segments map.now.chains ≤ n)) }
+    ensures fault { IfOk result (λ ended. IfErr ended (λ fault. (c : TheCertificate) → Holds map.now c state.entry → IsTrueOfCert map.now c fault)) }
+    ensures behind { IfOk result (λ ended. IfErr ended (λ fault. IsBehindSearch map.now state.entry → IsOfDarts fault → IsPlanar map.now.chains)) }
     ensures halts { IfErr result (MayEnd map.now) }
 {
     match end_walks(map, state) {
@@ -68,15 +68,15 @@ pub fn finish_walks(
     }
 }
 
-/// Ends the walks: the certificate is valid and has so many walks, which are laid down, or it has a fault.
-fn end_walks(map: &Map, state: State) -> Result<(u32, Rings), CertFault>
+/// Ends the walks: the certificate is valid and has so many walks, which are kept, or it has a fault.
+fn end_walks<'a>(map: &Map, state: State<'a>) -> Result<(u32, Rings<'a>), CertFault>
     requires held { (c : TheCertificate) × Holds map.now c state }
     requires takes { TakesWalks state }
-    ensures walked { IfOk result (λ ended. (c : TheCertificate) → Holds map.now c state → IsWalked map.now c ended.0 ended.1) }
+    ensures walked { IfOk result (λ ended. (c : TheCertificate) → Holds map.now c state.entry → IsWalked map.now c ended.0 ended.1) }
     ensures few { IfOk result (λ ended. ended.0 < 2 ^ 32) }
-    ensures searched { OnOk result ((n : ℕ) → IsSearched map.now n state → meeting_segments map.now.chains ≤ n) }
-    ensures fault { IfErr result (λ fault. (c : TheCertificate) → Holds map.now c state → IsTrueOfCert map.now c fault) }
-    ensures behind { IfErr result (λ fault. IsBehindSearch map.now state → IsOfDarts fault → IsPlanar map.now.chains) }
+    ensures searched { OnOk result ((n : ℕ) → IsSearched map.now n state.entry → meeting_segments map.now.chains ≤ n) }
+    ensures fault { IfErr result (λ fault. (c : TheCertificate) → Holds map.now c state.entry → IsTrueOfCert map.now c fault) }
+    ensures behind { IfErr result (λ fault. IsBehindSearch map.now state.entry → IsOfDarts fault → IsPlanar map.now.chains) }
 {
     match state {
         State::Walking(walks, rings) => match walks.end(map) {

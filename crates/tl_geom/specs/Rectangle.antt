@@ -36,6 +36,10 @@ rect_of s =
       ymax = int_max s.a.y s.b.y;
     }
 
+-- the rectangle of one point
+abbrev pub spot_rect : Point → Rect
+spot_rect q = record { xmin = q.x; ymin = q.y; xmax = q.x; ymax = q.y }
+
 -- the rectangle of the ray that runs from q to the east: as far as an i32 goes, at the height of q
 abbrev pub ray_rect : Point → Rect
 ray_rect q = record { xmin = q.x; ymin = q.y; xmax = pos 2147483647; ymax = q.y }

@@ -16,7 +16,29 @@ pub struct Rect {
 
 impl Rect {
     ghost use Rattle.tl_geom.specs.Plane.{end_a, end_b, IsBetween};
-    ghost use Rattle.tl_geom.specs.Rectangle.{Holds, AreMeeting, IsEmpty, Covers, rect_of};
+    ghost use Rattle.tl_geom.specs.Rectangle.{Holds, AreMeeting, IsEmpty, Covers, rect_of, spot_rect};
+
+    /// A rectangle that holds no point, and widens no other that it is joined to.
+    pub const NOTHING: Rect = Rect {
+        xmin: i32::MAX,
+        ymin: i32::MAX,
+        xmax: i32::MIN,
+        ymax: i32::MIN,
+    };
+
+    /// The rectangle that holds one point alone.
+    pub fn at(p: Point) -> Rect
+        ensures value { result ≡ spot_rect p }
+        ensures holds { Holds result p }
+    {
+        let Point { x, y } = p;
+        Rect {
+            xmin: x,
+            ymin: y,
+            xmax: x,
+            ymax: y,
+        }
+    }
 
     /// The least rectangle that holds the segment.
     pub fn of(s: Segment) -> Rect

@@ -5,14 +5,14 @@ use Rattle.std.proofs.lemmas.Int.{ints}
 use Rattle.std.proofs.lemmas.List.{get_or_default, length-take, length-drop, get_or-take, get_or-drop}
 use Rattle.tl_geom.specs.declared.point.Point.{Point}
 use Rattle.tl_geom.specs.declared.rect.Rect.{Rect}
-use Rattle.tl_geom.specs.Rectangle.{Holds, Covers, AreMeeting, ray_rect}
+use Rattle.tl_geom.specs.Rectangle.{Holds, Covers, AreMeeting, ray_rect, spot_rect}
 use Rattle.tl_map.specs.TheMap.{MapChain}
 use Rattle.tl_map.specs.Segments.{segments_before}
 use Rattle.tl_planar.specs.Rectangles.{segment_rect}
 use Rattle.tl_planar.proofs.Numbering.{below_total}
 use Rattle.tl_tree.specs.Hits.{AreHits, Adds}
 use Rattle.tl_inside.specs.declared.strips.Site.{Site}
-use Rattle.tl_inside.specs.Keeping.Probing.{IsReached, IsTouching, ChainsAreInReach, spot_rect, holding_meets}
+use Rattle.tl_inside.specs.Keeping.Probing.{IsReached, IsTouching, ChainsAreInReach, holding_meets}
 use Rattle.tl_inside.specs.Keeping.Strips.{IsInStrip, AreEnough}
 use Rattle.tl_inside.proofs.Reaching.{reached, all_below}
 

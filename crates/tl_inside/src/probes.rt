@@ -12,7 +12,8 @@ use tl_tree::{Items, Probe};
 pub struct Spot(pub Point);
 
 impl<'a> Probe<Segments<'a>> for Spot {
-    ghost use Rattle.tl_inside.specs.Keeping.Probing.{spot_rect, IsHolding, holding_meets};
+    ghost use Rattle.tl_geom.specs.Rectangle.{spot_rect};
+    ghost use Rattle.tl_inside.specs.Keeping.Probing.{IsHolding, holding_meets};
 
     ghost region_of = { λ spot. spot_rect spot.0 };
 
@@ -23,13 +24,7 @@ impl<'a> Probe<Segments<'a>> for Spot {
     fn region(&self) -> Rect
         ensures { result ≡ spot_rect self.now.0 }
     {
-        let Point { x, y } = self.0;
-        Rect {
-            xmin: x,
-            ymin: y,
-            xmax: x,
-            ymax: y,
-        }
+        Rect::at(self.0)
     }
 
     fn hits(&self, items: &Segments<'a>, i: u32) -> bool {

@@ -55,20 +55,12 @@ pub fn sort_northward(sites: &mut Vec<Site>)
 fn strip_of(sites: &[Site]) -> Rect
     ensures { All (λ (site : Site). IsInStrip result site.point) sites.now }
 {
-    let mut strip = NOTHING;
+    let mut strip = Rect::NOTHING;
     for site in sites {
         strip = strip.join(ray_of(site.point));
     }
     strip
 }
-
-// A rectangle that holds no point, and widens no other that it is joined to.
-const NOTHING: Rect = Rect {
-    xmin: i32::MAX,
-    ymin: i32::MAX,
-    xmax: i32::MIN,
-    ymax: i32::MIN,
-};
 
 /// The rectangle of the ray from a point to the east.
 fn ray_of(point: Point) -> Rect

@@ -15,14 +15,6 @@ const LEAF: usize = 8;
 
 const CHILDREN: usize = 8;
 
-// A rectangle that holds no point: joined with another it leaves that one.
-const NOTHING: Rect = Rect {
-    xmin: i32::MAX,
-    ymin: i32::MAX,
-    xmax: i32::MIN,
-    ymax: i32::MIN,
-};
-
 /// The tree over items in an order, its nodes in preorder.
 pub fn tree_over<I: Items>(
     alloc: Global,
@@ -57,8 +49,8 @@ fn push_tree<I: Items>(
     }
     let children = child_count(part.len());
     let root = nodes.len();
-    nodes.push(TreeNode::Inner(NOTHING, children))?;
-    let mut rect = NOTHING;
+    nodes.push(TreeNode::Inner(Rect::NOTHING, children))?;
+    let mut rect = Rect::NOTHING;
     let mut rest = part;
     for pushed in 0..children {
         let (child, behind) = rest.split_at(rest.len() / (children - pushed) as usize);
@@ -91,7 +83,7 @@ fn push_leaf<I: Items>(
     ensures { IfOk result (λ rect. Push (I.bounds_of items.now) 1 (length part.now) (length part.now)
         nodes.old.items nodes.new.items (items_in part.now) rect) }
 {
-    let mut rect = NOTHING;
+    let mut rect = Rect::NOTHING;
     let mut held = ArrayVec::new();
     for placed in part {
         held.push(placed.item);

@@ -1,4 +1,5 @@
 pub mod Laying
+pub mod Lending
 pub mod Boxing
 pub mod Adding
 pub mod Upward

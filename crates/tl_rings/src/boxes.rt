@@ -7,20 +7,12 @@ ghost use Rattle.tl_crossings.specs.Rings.{HoldsRing};
 use tl_geom::{Point, Rect};
 use tl_map::Map;
 
-// A rectangle that holds no point, and widens no other that it is joined to.
-const NOTHING: Rect = Rect {
-    xmin: i32::MAX,
-    ymin: i32::MAX,
-    xmax: i32::MIN,
-    ymax: i32::MIN,
-};
-
 /// A rectangle that holds each point of a ring.
 pub fn box_of_ring(map: &Map, ring: &[u32]) -> Rect
     requires known { All (λ d. d < 2 * length map.now.chains) ring.now }
     ensures { HoldsRing map.now.chains result ring.now }
 {
-    let mut around = NOTHING;
+    let mut around = Rect::NOTHING;
     for dart in ring {
         around = around.join(box_of_points(map.chain(*dart / 2).points));
     }
@@ -31,22 +23,9 @@ pub fn box_of_ring(map: &Map, ring: &[u32]) -> Rect
 fn box_of_points(points: &[Point]) -> Rect
     ensures { All (Holds result) points.now }
 {
-    let mut around = NOTHING;
+    let mut around = Rect::NOTHING;
     for point in points {
-        around = around.join(box_of_point(*point));
+        around = around.join(Rect::at(*point));
     }
     around
-}
-
-/// The rectangle that holds one point alone.
-fn box_of_point(point: Point) -> Rect
-    ensures { Holds result point }
-{
-    let Point { x, y } = point;
-    Rect {
-        xmin: x,
-        ymin: y,
-        xmax: x,
-        ymax: y,
-    }
 }

@@ -1,6 +1,7 @@
 //! What the darts of rings add to the counts at a point.
 
-ghost use Rattle.std.specs.Prelude.{◌≡◌, ◌↔◌, ◌<◌, ◌*◌, pos, ◌<ℤ◌, ◌≤ℤ◌, int_lt, IsTrue, Some, length, slice_index, All, OnOk};
+ghost use Rattle.std.specs.Prelude.{◌≡◌, ◌↔◌, ◌<◌, ◌*◌, pos, ◌<ℤ◌, ◌≤ℤ◌, int_lt};
+ghost use Rattle.std.specs.Prelude.{IsTrue, Some, length, slice_index, All, OnOk};
 ghost use Rattle.tl_geom.specs.Plane.{turn_of};
 ghost use Rattle.tl_map.specs.declared.sides.Side.TheVariants.{Outside};
 ghost use Rattle.tl_map.specs.Darts.{dart_left};

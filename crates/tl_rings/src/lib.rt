@@ -8,6 +8,8 @@
 mod boxes;
 mod darts;
 mod heights;
+mod laid;
+mod lent;
 mod look;
 mod misplaced;
 mod rings;

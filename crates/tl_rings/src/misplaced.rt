@@ -11,11 +11,12 @@ ghost use Rattle.tl_inside.specs.Keeping.Tallies.{AreNone};
 ghost use Rattle.tl_crossings.specs.Headings.{AreProper};
 ghost use Rattle.tl_rings.specs.Rings.{AreBoxed, box_at};
 ghost use Rattle.tl_rings.specs.Keeping.Spots.{ring_count};
+ghost use Rattle.tl_rings.specs.Keeping.Looking.{IsPlacedPolygon};
 
 use crate::heights::Heights;
 use crate::look::{Look, look_at};
 use crate::rings::Rings;
-use crate::sites::sites_along;
+use crate::sites::{polygons_along, site_of};
 use std::alloc::Global;
 use tl_crossings::look_at_chains;
 use tl_inside::{Flanks, Misplaced, Site, find_among, no_counts, push_site};
@@ -68,15 +69,15 @@ fn find_by<X: BoxIndex, Y: BoxIndex>(
 {
     look_at_chains(map);
     let heights = Heights::of(alloc, map)?;
-    let sites = sites_along(alloc, map)?;
+    let order = polygons_along(alloc, map)?;
     let mut left = Vec::new(alloc);
-    match find_by_rings(alloc, map, index, rings, tree, &heights, &sites, &mut left)? {
+    match find_by_rings(alloc, map, index, rings, tree, &heights, &order, &mut left)? {
         Some(found) => Ok(Some(found)),
         None => find_among(alloc, map, index, &mut left),
     }
 }
 
-/// Looks at these points, but for those that are costly: they are left.
+/// Looks at the points of these polygons, but for those that are costly: they are left.
 fn find_by_rings<X: BoxIndex, Y: BoxIndex>(
     alloc: Global,
     map: &Map,
@@ -84,7 +85,7 @@ fn find_by_rings<X: BoxIndex, Y: BoxIndex>(
     rings: &Rings,
     tree: &Y,
     heights: &Heights,
-    sites: &[Site],
+    order: &[u32],
     left: &mut Vec<Site>,
 ) -> Result<Option<Misplaced>, Memory>
     requires fits { X.fits index.now (segments_before map.now.chains (length map.now.chains)) (segment_rect map.now.chains) }
@@ -94,10 +95,10 @@ fn find_by_rings<X: BoxIndex, Y: BoxIndex>(
     requires walks { AreWalks map.now.chains rings.now.rings }
     requires boxed { AreBoxed map.now.chains rings.now }
     requires few { length rings.now.rings < 2 ^ 32 }
-    requires sites { All (IsSiteOf map.now) sites.now }
+    requires known { All (λ p. p < length map.now.polygons) order.now }
     requires none { left.old.items ≡ [] }
     ensures found { IfOk result (λ found. MatchOption found
-        (All (IsPlacedSite map.now) left.new.items → All (IsPlacedSite map.now) sites.now) (IsTrueMisplaced map.now)) }
+        (All (IsPlacedSite map.now) left.new.items → All (IsPlacedPolygon map.now) order.now) (IsTrueMisplaced map.now)) }
     ensures left { OnOk result (All (IsSiteOf map.now) left.new.items) }
 {
     let polygons = map.polygons() as usize;
@@ -111,7 +112,7 @@ fn find_by_rings<X: BoxIndex, Y: BoxIndex>(
         rings,
         tree,
         heights,
-        sites,
+        order,
         left,
         &mut hits,
         &mut flanks,
@@ -127,7 +128,7 @@ fn look_at_each<X: BoxIndex, Y: BoxIndex>(
     rings: &Rings,
     tree: &Y,
     heights: &Heights,
-    sites: &[Site],
+    order: &[u32],
     left: &mut Vec<Site>,
     hits: &mut Vec<u32>,
     flanks: &mut Vec<Flanks>,
@@ -141,23 +142,24 @@ fn look_at_each<X: BoxIndex, Y: BoxIndex>(
     requires walks { AreWalks map.now.chains rings.now.rings }
     requires boxed { AreBoxed map.now.chains rings.now }
     requires few { length rings.now.rings < 2 ^ 32 }
-    requires sites { All (IsSiteOf map.now) sites.now }
+    requires known { All (λ p. p < length map.now.polygons) order.now }
     requires none { left.old.items ≡ [] }
     requires nears { length near.old ≡ length map.now.polygons }
     requires fars { length far.old ≡ length map.now.polygons }
     requires no_near { AreNone near.old }
     requires no_far { AreNone far.old }
     ensures found { IfOk result (λ found. MatchOption found
-        (All (IsPlacedSite map.now) left.new.items → All (IsPlacedSite map.now) sites.now) (IsTrueMisplaced map.now)) }
+        (All (IsPlacedSite map.now) left.new.items → All (IsPlacedPolygon map.now) order.now) (IsTrueMisplaced map.now)) }
     ensures left { OnOk result (All (IsSiteOf map.now) left.new.items) }
 {
-    for k in 0..sites.len() {
+    for k in 0..order.len() {
+        let site = site_of(map, order[k]);
         match look_at(
-            map, index, rings, tree, heights, sites[k], hits, flanks, near, far,
+            map, index, rings, tree, heights, site, hits, flanks, near, far,
         )? {
             Look::Right => {}
             Look::Wrong(fault) => return Ok(Some(fault)),
-            Look::Costly => push_site(left, sites[k])?,
+            Look::Costly => push_site(left, site)?,
         }
     }
     Ok(None)

@@ -1,14 +1,13 @@
-//! The points of polygons in an order in which neighbours mostly come near each other.
+//! Polygons in an order in which neighbours mostly come near each other.
 
-ghost use Rattle.std.specs.Prelude.{◌≡◌, ℕ, ◌<◌, length, All, Contains, IfOk};
-ghost use Rattle.tl_pack.specs.Lists.{items_in, AreItemsBelow};
-ghost use Rattle.tl_inside.specs.Keeping.Probing.{spot_rect};
-ghost use Rattle.tl_inside.specs.Keeping.Strips.{IsSiteOf, numbers};
+ghost use Rattle.std.specs.Prelude.{◌≡◌, ℕ, ◌<◌, [], ◌∷◌, ◌++◌, length, All, Contains, IfOk, OnOk};
+ghost use Rattle.tl_pack.specs.Lists.{items_in};
+ghost use Rattle.tl_inside.specs.Keeping.Strips.{IsSiteOf};
 
 use std::alloc::Global;
 use std::marker::Model;
-use tl_geom::{Point, Rect};
-use tl_inside::{Site, push_site};
+use tl_geom::Rect;
+use tl_inside::Site;
 use tl_map::Map;
 use tl_pack::{Placed, order_items};
 use tl_tree::{Items, Memory};
@@ -46,7 +45,7 @@ impl<'a> Items for Points<'a> {
     }
 
     fn bounds(&self, i: u32) -> Rect {
-        spot_of(self.map.polygon(i).point)
+        Rect::at(self.map.polygon(i).point)
     }
 
     fn conflict(&self, i: u32, j: u32) -> Option<()> {
@@ -54,41 +53,45 @@ impl<'a> Items for Points<'a> {
     }
 }
 
-/// The rectangle of one point.
-fn spot_of(point: Point) -> Rect
-    ensures { result ≡ spot_rect point }
-{
-    let Point { x, y } = point;
-    Rect {
-        xmin: x,
-        ymin: y,
-        xmax: x,
-        ymax: y,
-    }
-}
-
-/// The points of all polygons, in an order along a curve.
-pub fn sites_along(alloc: Global, map: &Map) -> Result<Vec<Site>, Memory>
-    ensures sites { IfOk result (λ sites. All (IsSiteOf map.now) sites.items) }
-    ensures whole { IfOk result (λ sites. (p : ℕ) → p < length map.now.polygons → Contains (numbers sites.items) p) }
+/// All polygons, in an order along a curve through their points.
+pub fn polygons_along(alloc: Global, map: &Map) -> Result<Vec<u32>, Memory>
+    ensures known { IfOk result (λ order. All (λ p. p < length map.now.polygons) order.items) }
+    ensures whole { IfOk result (λ order. (p : ℕ) → p < length map.now.polygons → Contains order.items p) }
 {
     match order_items(alloc, &Points { map }) {
-        Ok(order) => list_sites(alloc, map, &order),
+        Ok(order) => numbers_of(alloc, &order),
         Err(_) => Err(Memory),
     }
 }
 
-/// The points of the polygons of these numbers.
-fn list_sites(alloc: Global, map: &Map, order: &[Placed]) -> Result<Vec<Site>, Memory>
-    requires known { AreItemsBelow (length map.now.polygons) order.now }
-    ensures sites { IfOk result (λ sites. All (IsSiteOf map.now) sites.items) }
-    ensures listed { IfOk result (λ sites. numbers sites.items ≡ items_in order.now) }
+/// The numbers of items, in their order.
+fn numbers_of(alloc: Global, order: &[Placed]) -> Result<Vec<u32>, Memory>
+    ensures { IfOk result (λ numbers. numbers.items ≡ items_in order.now) }
 {
-    let mut sites = Vec::new(alloc);
+    let Ok(mut numbers) = Vec::with_capacity(alloc, order.len()) else {
+        return Err(Memory);
+    };
     for k in 0..order.len() {
-        let polygon = order[k].item;
-        let point = map.polygon(polygon).point;
-        push_site(&mut sites, Site { polygon, point })?;
+        push_number(&mut numbers, order[k].item)?;
     }
-    Ok(sites)
+    Ok(numbers)
+}
+
+fn push_number(numbers: &mut Vec<u32>, number: u32) -> Result<(), Memory>
+    ensures { OnOk result (numbers.new.items ≡ numbers.old.items ++ number ∷ []) }
+{
+    match numbers.push(number) {
+        Ok(()) => Ok(()),
+        Err(_) => Err(Memory),
+    }
+}
+
+/// A polygon with its point.
+pub fn site_of(map: &Map, polygon: u32) -> Site
+    requires { polygon < length map.now.polygons }
+    ensures site { IsSiteOf map.now result }
+    ensures polygon { result.polygon ≡ polygon }
+{
+    let point = map.polygon(polygon).point;
+    Site { polygon, point }
 }

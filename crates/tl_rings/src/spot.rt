@@ -10,8 +10,8 @@ use tl_tree::{Items, Probe};
 #[derive(Clone, Copy)]
 pub struct Spot(pub Point);
 
-impl Probe<Rings> for Spot {
-    ghost use Rattle.tl_inside.specs.Keeping.Probing.{spot_rect};
+impl<'a> Probe<Rings<'a>> for Spot {
+    ghost use Rattle.tl_geom.specs.Rectangle.{spot_rect};
     ghost use Rattle.tl_rings.specs.Keeping.Spots.{IsBoxAt, box_meets};
 
     ghost region_of = { λ spot. spot_rect spot.0 };
@@ -23,16 +23,10 @@ impl Probe<Rings> for Spot {
     fn region(&self) -> Rect
         ensures { result ≡ spot_rect self.now.0 }
     {
-        let Point { x, y } = self.0;
-        Rect {
-            xmin: x,
-            ymin: y,
-            xmax: x,
-            ymax: y,
-        }
+        Rect::at(self.0)
     }
 
-    fn hits(&self, items: &Rings, i: u32) -> bool {
+    fn hits(&self, items: &Rings<'a>, i: u32) -> bool {
         items.bounds(i).holds(self.0)
     }
 }

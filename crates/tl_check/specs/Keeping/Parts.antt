@@ -51,7 +51,7 @@ pub record AreRoundsSoFar (m : TheMap) (c : TheCertificate) (rounds : Rounds) : 
   pub sized : AreSized m.chains rounds
   pub taken : HaveTaken m.chains c.rounds rounds
 
--- the rounds are the map's, sides agree, and so far the walks have no fault and are laid down, each with a rectangle about it
+-- the rounds are the map's, sides agree, and so far the walks have no fault and are kept as rings, each with a rectangle about it
 pub record AreWalksSoFar (m : TheMap) (c : TheCertificate) (walks : Walks) (rings : TheRings) : Type 0 where
   pub founded : IsFounded m c
   pub rounds : AreRounds m.chains c.rounds
@@ -108,7 +108,7 @@ MayEnd m (halt.Fault fault) = IsTrueOfMap m fault
 MayEnd m halt.Memory = ⊤
 MayEnd m halt.Budget = ⊥
 
--- what the parts of valid certificates show, with that many walks, which are laid down
+-- what the parts of valid certificates show, with that many walks, which are kept as rings
 pub record IsWalked (m : TheMap) (c : TheCertificate) (count : ℕ) (rings : TheRings) : Type 0 where
   pub valid : IsValid m c
   pub planar : IsPlanar m.chains

@@ -6,17 +6,13 @@ use Rattle.tl_geom.specs.declared.point.Point.{Point}
 use Rattle.tl_geom.specs.declared.rect.Rect.{Rect}
 use Rattle.tl_geom.specs.declared.segment.Segment.{Segment}
 use Rattle.tl_geom.specs.Plane.{IsOn, whole}
-use Rattle.tl_geom.specs.Rectangle.{Holds, AreMeeting, ray_rect}
+use Rattle.tl_geom.specs.Rectangle.{Holds, AreMeeting, ray_rect, spot_rect}
 use Rattle.tl_geom.proofs.Rectangles.{on_holds}
 use Rattle.tl_map.specs.TheMap.{MapChain}
 use Rattle.tl_map.specs.Segments.{segments_before, IsSegmentOf, Joins}
 use Rattle.tl_planar.specs.Rectangles.{segment_rect}
 use Rattle.tl_planar.proofs.Rects.{rect_by_number}
 use Rattle.tl_inside.specs.Inside.{IsCrossed}
-
--- the rectangle of one point
-abbrev pub spot_rect : Point → Rect
-spot_rect q = record { xmin = q.x; ymin = q.y; xmax = q.x; ymax = q.y }
 
 -- segment s holds the point
 pub record IsHolding (chains : List MapChain) (q : Point) (s : ℕ) : Type 0 where

@@ -1,13 +1,14 @@
 -- What is found of a polygon's point on the way.
-use Rattle.std.specs.Prelude.{◌≡◌, ℕ, ◌<◌, ℤ, pos, neg_ℤ, ◌+ℤ◌, Bool, false, if◌then◌else◌, List, slice_index_or, All, ⊤}
+use Rattle.std.specs.Prelude.{◌≡◌, ℕ, ◌<◌, ℤ, pos, neg_ℤ, ◌+ℤ◌, Bool, false, if◌then◌else◌, Some, List, slice_get, slice_index_or, All, ⊤}
 use Rattle.tl_geom.specs.declared.point.Point.{Point}
+use Rattle.tl_map.specs.declared.polygons.Polygon.{Polygon}
 use Rattle.tl_map.specs.declared.sides.Side.{Side}
 use Rattle.tl_map.specs.declared.sides.Side.TheVariants.{Outside}
 use Rattle.tl_map.specs.TheMap.{TheMap, MapChain}
 use Rattle.tl_inside.specs.declared.flanks.Flanks.{Flanks}
 use Rattle.tl_inside.specs.declared.strips.Site.{Site}
 use Rattle.tl_inside.specs.Inside.{balance}
-use Rattle.tl_inside.specs.Placed.{IsTrueMisplaced}
+use Rattle.tl_inside.specs.Placed.{IsPlacedIn, IsTrueMisplaced}
 use Rattle.tl_inside.specs.Keeping.Strips.{IsPlacedSite}
 use Rattle.tl_crossings.specs.Rings.{has_left, dart_crossings}
 use Rattle.tl_rings.specs.declared.look.Look.{Look}
@@ -31,6 +32,10 @@ IsLook m site Right = IsPlacedSite m site
 IsLook m site (Wrong fault) = IsTrueMisplaced m fault
 IsLook m site Costly = ⊤
 
--- where those that are left are placed, so are the first k
-abbrev pub ArePlacedBut : TheMap → List Site → List Site → ℕ → Type 0
-ArePlacedBut m left sites k = All (IsPlacedSite m) left → (j : ℕ) (d : Site) → j < k → IsPlacedSite m (slice_index_or sites j d)
+-- the point of polygon p lies where it has to
+abbrev pub IsPlacedPolygon : TheMap → ℕ → Type 0
+IsPlacedPolygon m p = (polygon : Polygon) → slice_get m.polygons p ≡ Some polygon → IsPlacedIn m polygon.point p
+
+-- where those that are left are placed, so are the first k of these polygons
+abbrev pub ArePlacedBut : TheMap → List Site → List ℕ → ℕ → Type 0
+ArePlacedBut m left order k = All (IsPlacedSite m) left → (j d : ℕ) → j < k → IsPlacedPolygon m (slice_index_or order j d)

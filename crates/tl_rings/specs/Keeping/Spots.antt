@@ -6,8 +6,7 @@ use Rattle.tl_map.specs.TheMap.{TheMap}
 use Rattle.std.proofs.lemmas.Int.{ints}
 use Rattle.tl_geom.specs.declared.point.Point.{Point}
 use Rattle.tl_geom.specs.declared.rect.Rect.{Rect}
-use Rattle.tl_geom.specs.Rectangle.{Holds, AreMeeting}
-use Rattle.tl_inside.specs.Keeping.Probing.{spot_rect}
+use Rattle.tl_geom.specs.Rectangle.{Holds, AreMeeting, spot_rect}
 use Rattle.tl_rings.specs.Rings.{TheRings, box_at}
 
 -- how many rings are counted: all, unless they are more than a number of 32 bits tells

@@ -1,8 +1,9 @@
-use Rattle.std.proofs.Common.{All, Vec, Global, get_or, ap, sym, subst, ◌+◌, ◌∙◌}
+use Rattle.std.proofs.Common.{All, Vec, Global, ap, sym, subst, ◌+◌, ◌∙◌}
 use Rattle.tl_inside.specs.declared.strips.Site.{Site}
 use Rattle.tl_inside.specs.Keeping.Strips.{IsSiteOf}
+use Rattle.tl_inside.proofs.Sites.{site_more}
 use Rattle.tl_rings.specs.Keeping.Looking.{IsLook, ArePlacedBut}
-use Rattle.tl_rings.proofs.Looking.{right_more, left_more, site_more, all_seen}
+use Rattle.tl_rings.proofs.Looking.{right_more, left_more, all_seen}
 use Rattle.tl_rings.proofs.misplaced.look_at_each.Goals as goal
 use Rattle.tl_rings.proofs.misplaced.look_at_each.Goals.{in-Right, in-Costly+in_ok-push_site-in-Costly}
 
@@ -15,19 +16,19 @@ loop-k-preserved g c = record {
   left = elim c.match-branch-2.branch [
     | in-Right w ↦ subst (λ (v : Vec Site Global). All (IsSiteOf c.args.map.now) v.items) (sym w.left-is) c.loop-k.invariant.left
     | in-Costly+in_ok-push_site-in-Costly w ↦
-        site_more c.args.map.now c.loop-k.left.items c.match-branch-2.left.items c.args.sites.now c.loop-k.k _ c.loop-k-test.true
-        (ap (λ (v : Vec Site Global). v.items) w.left-is ∙ w.in_ok-push_site-in-Costly.ensures) c.loop-k.invariant.left c.requires.sites
+        site_more c.args.map.now c.loop-k.left.items c.match-branch-2.left.items c.site_of-site.result
+        (ap (λ (v : Vec Site Global). v.items) w.left-is ∙ w.in_ok-push_site-in-Costly.ensures) c.loop-k.invariant.left c.site_of-site.ensures.site
   ];
   placed = elim c.match-branch-2.branch [
     | in-Right w ↦
-        subst (λ (v : Vec Site Global). ArePlacedBut c.args.map.now v.items c.args.sites.now (c.loop-k.k + 1)) (sym w.left-is)
-        (right_more c.args.map.now c.loop-k.left.items c.args.sites.now c.loop-k.k _ c.loop-k-test.true c.loop-k.invariant.placed
-        (subst (IsLook c.args.map.now (get_or c.args.sites.now c.loop-k.k _)) w.in-Right.is c.in_ok-look_at.ensures.look))
+        subst (λ (v : Vec Site Global). ArePlacedBut c.args.map.now v.items c.args.order.now (c.loop-k.k + 1)) (sym w.left-is)
+        (right_more c.args.map.now c.loop-k.left.items c.args.order.now c.loop-k.k _ c.site_of-site.result c.loop-k-test.true c.site_of-site.ensures.polygon c.loop-k.invariant.placed
+        (subst (IsLook c.args.map.now c.site_of-site.result) w.in-Right.is c.in_ok-look_at.ensures.look))
     | in-Costly+in_ok-push_site-in-Costly w ↦
-        left_more c.args.map.now c.loop-k.left.items c.match-branch-2.left.items c.args.sites.now c.loop-k.k _ c.loop-k-test.true
+        left_more c.args.map.now c.loop-k.left.items c.match-branch-2.left.items c.args.order.now c.loop-k.k _ c.site_of-site.result c.loop-k-test.true c.site_of-site.ensures.polygon
         (ap (λ (v : Vec Site Global). v.items) w.left-is ∙ w.in_ok-push_site-in-Costly.ensures) c.loop-k.invariant.placed
   ];
 }
 
 pub returns-clause-found : goal.returns-clause-found
-returns-clause-found g c = all_seen c.args.map.now c.loop-k.left.items c.args.sites.now c.loop-k.k c.loop-k-test.false c.loop-k.invariant.placed
+returns-clause-found g c = all_seen c.args.map.now c.loop-k.left.items c.args.order.now c.loop-k.k c.loop-k-test.false c.loop-k.invariant.placed

@@ -12,5 +12,5 @@ invariant-loop-k g l = record {
   no_near : AreNone l.near;
   no_far : AreNone l.far;
   left : All (IsSiteOf l.map) l.left.items;
-  placed : ArePlacedBut l.map l.left.items l.sites l.k;
+  placed : ArePlacedBut l.map l.left.items l.order l.k;
 }

@@ -10,6 +10,6 @@ returns-clause-boxed c =
     on_ok c.push_box.result
     (λ pushed before.
     boxed_more c.args.map.now.chains c.args.self.now _ c.args.ring.now c.box_of_ring-around.result before
-    (c.in_ok-lay.ensures.laid ∙ ap (λ (r : TheRings). and_list r.rings c.args.ring.now) c.self.view_is)
+    (c.in_ok-take_or_lay.ensures.lists ∙ ap (λ (r : TheRings). and_list r.rings c.args.ring.now) c.self.view_is)
     (pushed ∙ ap (λ (r : TheRings). r.boxes ++ c.box_of_ring-around.result ∷ []) c.self.view_is) c.box_of_ring-around.ensures)
     c.push_box.ensures

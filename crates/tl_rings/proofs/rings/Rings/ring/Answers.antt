@@ -1,8 +1,7 @@
-use Rattle.std.proofs.Common.{◌<◌, length, ap, sym, subst, ◌∙◌}
+use Rattle.std.proofs.Common.{ap, ◌∙◌}
+use Rattle.tl_sides.specs.Lists.{list_at}
 use Rattle.tl_rings.specs.Rings.{TheRings}
-use Rattle.tl_rings.proofs.Laying.{as_many}
 use Rattle.tl_rings.proofs.rings.Rings.ring.Goals as goal
 
-pub piece-requires-clause-known : goal.piece-requires-clause-known
-piece-requires-clause-known c =
-    subst (λ n. c.args.k < n) (sym (ap length c.deref-2.ensures.value ∙ sym (as_many c.self.inside.darts.items 0 c.self.inside.ends.items) ∙ ap (λ (r : TheRings). length r.rings) c.self.view_is)) c.requires
+pub returns : goal.returns
+returns c = c.list_among.ensures ∙ ap (λ (r : TheRings). list_at r.rings c.args.k) c.self.view_is
