@@ -1,5 +1,5 @@
 -- Lists that are lent, of which the first are taken.
-use Rattle.std.proofs.Common.{◌≡◌, ℕ, ◌+◌, ◌-◌, ◌<◌, ◌≤◌, List, [], ◌∷◌, ◌++◌, length, get_or, take, Vec, Global, sym, ap, subst, ◌∙◌, arith}
+use Rattle.std.proofs.Common.{◌≡◌, ℕ, ◌+◌, ◌-◌, ◌<◌, ◌≤◌, List, [], ◌∷◌, ◌++◌, length, Vec, Global, sym, ap, ◌∙◌, arith}
 use Rattle.std.proofs.lemmas.List.{length-map, length-take-le, length-append, take_more, append-nil, append_assoc, get_or-take, get_or_append_left, get_or-append_right}
 use Rattle.tl_sides.specs.Lists.{and_list, list_at}
 use Rattle.tl_rings.specs.Keeping.Lent.{lists_in, taken_of}

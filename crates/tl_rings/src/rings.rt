@@ -37,18 +37,21 @@ impl<'a> Model for Rings<'a> {
 }
 
 impl<'a> Rings<'a> {
-    /// No ring yet. Those that come as they are lent, from the first on, take no memory of their own; where none is lent,
+    /// No ring yet. The darts of those that come as they are lent, from the first on, take no memory; where none is lent,
     /// there is room for so many darts.
     pub fn new(alloc: Global, darts: u32, lent: &'a [Vec<u32>]) -> Result<Rings<'a>, Memory>
         ensures { IfOk result (λ rings. rings ≡ record { rings = []; boxes = [] }) }
     {
         let room = if lent.is_empty() { darts as usize } else { 0 };
         let laid = Laid::new(alloc, room)?;
+        let Ok(boxes) = Vec::with_capacity(alloc, lent.len()) else {
+            return Err(Memory);
+        };
         Ok(Rings {
             lent,
             taken: 0,
             laid,
-            boxes: Vec::new(alloc),
+            boxes,
         })
     }
 
