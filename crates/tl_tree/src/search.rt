@@ -378,7 +378,7 @@ fn search_first<I: Items, W: Trees>(
 }
 
 /// Tests each item of a tree against each item of the trees of a list.
-fn search_listed<I: Items, W: Trees>(
+pub fn search_listed<I: Items, W: Trees>(
     items: &I,
     tree: &Tree<'_, W>,
     near: &[W],
