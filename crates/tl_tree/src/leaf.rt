@@ -1,4 +1,4 @@
-//! The search of a leaf, whose bounds are gathered once: its own pairs, and against each leaf below other trees.
+//! The search of a leaf, whose bounds are gathered once: its own pairs, and against the items below other trees.
 ghost use Rattle.std.specs.Prelude.{◌≡◌, ◌≤◌, None, length};
 ghost use Rattle.tl_tree.specs.Fits.{AreBelow, CoversAll};
 ghost use Rattle.tl_tree.specs.Keeping.Listing.{listed_items, AllSound, sum_beside, AllBeside};

@@ -64,7 +64,7 @@ fn list_leaf<I: Items>(
     ensures complete { length near.new ≡ length near.old }
     ensures fits { IfSome result (λ m. m ≤ length near.old) }
     ensures listed { IfSome result (λ m. StandsForItems (I.count items.now) (I.bounds_of items.now) (I.tells items.now)
-        some.now (take len near.old) (others.now) (take m near.new)) }
+        some.now (take len near.old) others.now (take m near.new)) }
 {
     if near.len() - len < others.len() {
         return None;
