@@ -76,6 +76,7 @@ impl Items for Streets {
         Rect::of(self.segments[i as usize])
     }
 
+    #[inline]
     fn conflict(&self, i: u32, j: u32) -> Option<Contact> {
         self.tests.set(self.tests.get().wrapping_add(1));
         let told = contact(self.segments[i as usize], self.segments[j as usize]);

@@ -12,24 +12,28 @@ use crate::{Point, Segment};
 pub fn end_alone(s: Segment, t: Segment) -> Option<Point>
     ensures { IfSome result (MeetAtEnds s t) }
 {
-    match end_of_both(s, t) {
-        Some(end) if are_crossed(s, t) => Some(end),
-        _ => None,
-    }
-}
-
-/// A point that is an end of both segments, if there is one.
-#[inline]
-fn end_of_both(s: Segment, t: Segment) -> Option<Point>
-    ensures { IfSome result (IsEndOfBoth s t) }
-{
-    if is_end(t, s.a()) {
-        Some(s.a())
-    } else if is_end(t, s.b()) {
-        Some(s.b())
+    if are_joined(s, t) && are_crossed(s, t) {
+        Some(end_of_both(s, t))
     } else {
         None
     }
+}
+
+/// Whether an end of one segment is an end of the other, told without a branch: no one foresees which ends these are.
+#[inline]
+fn are_joined(s: Segment, t: Segment) -> bool
+    ensures { IsTrue result → IsEndOfBoth s t (end_a s) ⊎ IsEndOfBoth s t (end_b s) }
+{
+    is_either(is_end(t, s.a()), is_end(t, s.b()))
+}
+
+/// A point that is an end of both segments.
+#[inline]
+fn end_of_both(s: Segment, t: Segment) -> Point
+    requires joined { IsEndOfBoth s t (end_a s) ⊎ IsEndOfBoth s t (end_b s) }
+    ensures { IsEndOfBoth s t result }
+{
+    if is_end(t, s.a()) { s.a() } else { s.b() }
 }
 
 /// Whether the point is an end of the segment.
@@ -37,7 +41,15 @@ fn end_of_both(s: Segment, t: Segment) -> Option<Point>
 fn is_end(s: Segment, p: Point) -> bool
     ensures { IsTrue result ↔ ((p ≡ end_a s) ⊎ (p ≡ end_b s)) }
 {
-    is_same(p, s.a()) || is_same(p, s.b())
+    is_either(is_same(p, s.a()), is_same(p, s.b()))
+}
+
+/// Whether one of both is so.
+#[inline]
+fn is_either(first: bool, second: bool) -> bool
+    ensures { IsTrue result ↔ (IsTrue first ⊎ IsTrue second) }
+{
+    first | second
 }
 
 /// Whether two points are one.

@@ -9,7 +9,7 @@ use Rattle.tl_tree.specs.declared.walk.Below.TheVariants.{Items, Children}
 use Rattle.tl_tree.specs.Pairs.{meeting, cross_sum, AllRow, AllCross, AreFree}
 use Rattle.tl_tree.specs.Fits.{AreBelow, CoversAll}
 use Rattle.tl_tree.specs.Trees.{Forest}
-use Rattle.tl_tree.specs.Keeping.Listing.{first_items, listed_items, AllSound, IsFirst, StandsFor}
+use Rattle.tl_tree.specs.Keeping.Listing.{first_items, listed_items, AllSound, IsFirst, StandsFor, StandsForItems}
 use Rattle.tl_tree.specs.Keeping.Walking.{followed, items_below, AreSound, IsSound}
 use Rattle.tl_tree.proofs.Apart.{cross-apart, cross-free}
 use Rattle.tl_tree.proofs.PairLemmas.{cross-nil, cross-append_right, all_cross-nil, all_cross-join}
@@ -158,3 +158,33 @@ module _ {C : Type 0} (n : ℕ) (b : ℕ → Rect) (tells : ℕ → ℕ → Opti
       let e = at_drop_more (λ (zs : List ℕ). zs) others k 0 h in
       let P : List ℕ → Type 0 = AllCross (AreFree tells) xs in
       subst P (sym e) (all_cross-join (AreFree tells) xs (get_or others k 0 ∷ []) (drop (k + 1) others) p q)
+
+  -- nothing is to be listed
+  pub none-items : (old more : List ℕ) → more ≡ [] → StandsForItems n b tells xs old more old
+  none-items old more e =
+      let P : List ℕ → Type 0 = AllCross (AreFree tells) xs in
+      record {
+        sum = omega (arith, cross-nil (meeting b) xs, ap (cross_sum (meeting b) xs) e);
+        free = λ h. (h, subst P (sym e) (all_cross-nil (AreFree tells) xs));
+        known = λ k. k;
+      }
+
+  -- the items of a tree whose rectangle doesn't meet the one around those of xs aren't listed
+  pub items-apart : KeepsLaw tells n b → (around rect : Rect) → CoversAll b around xs → AreBelow n xs → (old ys : List ℕ) → CoversAll b rect ys → AreBelow n ys → (AreMeeting around rect → ⊥) → StandsForItems n b tells xs old ys old
+  items-apart law around rect covers below old ys h k ne =
+      let e = cross-apart b around rect xs ys ne covers h in
+      record {
+        sum = omega (arith, e);
+        free = λ f. (f, cross-free b n tells law around rect xs ys ne below k covers h);
+        known = λ m. m;
+      }
+
+  -- some items were listed, and then others
+  pub both-items : (old mid new ys zs more : List ℕ) → more ≡ ys ++ zs → StandsForItems n b tells xs old ys mid → StandsForItems n b tells xs mid zs new → StandsForItems n b tells xs old more new
+  both-items old mid new ys zs more e h k =
+      let P : List ℕ → Type 0 = AllCross (AreFree tells) xs in
+      record {
+        sum = omega (arith, h.sum, k.sum, ap (cross_sum (meeting b) xs) e, cross-append_right (meeting b) xs ys zs);
+        free = λ f. let m = k.free f in let l = h.free m.0 in (l.0, subst P (sym e) (all_cross-join (AreFree tells) xs ys zs l.1 m.1));
+        known = λ m. k.known (h.known m);
+      }

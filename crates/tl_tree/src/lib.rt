@@ -22,6 +22,7 @@ mod lanes;
 pub mod laws;
 mod leaf;
 mod near;
+mod near_items;
 mod node;
 mod plain_list;
 mod preorder;

@@ -34,7 +34,7 @@ pub struct Progress<C> {
 }
 
 /// Keeps the conflict that ends a search.
-#[inline(never)]
+#[inline]
 fn keep_conflict<C>(progress: &mut Progress<C>, i: u32, j: u32, c: C)
     requires { progress.old.found ≡ None }
     ensures { progress.new.found ≡ Some (record { i = i; j = j; c = c }) }
@@ -46,7 +46,7 @@ fn keep_conflict<C>(progress: &mut Progress<C>, i: u32, j: u32, c: C)
 }
 
 /// Tests two items whose bounds meet, of which the same one is no pair.
-#[inline]
+#[inline(always)]
 fn test_meeting<I: Items>(items: &I, i: u32, j: u32, progress: &mut Progress<I::C>) -> bool
     requires first { i < I.count items.now }
     requires second { j < I.count items.now }
@@ -378,7 +378,7 @@ fn search_first<I: Items, W: Trees>(
 }
 
 /// Tests each item of a tree against each item of the trees of a list.
-fn search_listed<I: Items, W: Trees>(
+pub fn search_listed<I: Items, W: Trees>(
     items: &I,
     tree: &Tree<'_, W>,
     near: &[W],

@@ -42,8 +42,8 @@ sum_beside f xs ys = pair_sum f xs + cross_sum f xs ys
 abbrev pub AllBeside : (ℕ → ℕ → Type 0) → List ℕ → List ℕ → Type 0
 AllBeside P xs ys = AllPairs P xs × AllCross P xs ys
 
--- for pairs with the items of xs, some of others stand for all of them
-pub record HasNear {C : Type 0} (n : ℕ) (bounds : ℕ → Rect) (tells : ℕ → ℕ → Option C → Type 0) (xs others near : List ℕ) : Type 0 where
-  pub sum : cross_sum (meeting bounds) xs near ≡ cross_sum (meeting bounds) xs others
-  pub free : AllCross (AreFree tells) xs near → AllCross (AreFree tells) xs others
-  pub known : AreBelow n near
+-- for pairs with the items of xs, the list new stands for the items of old and for more items
+pub record StandsForItems {C : Type 0} (n : ℕ) (bounds : ℕ → Rect) (tells : ℕ → ℕ → Option C → Type 0) (xs old more new : List ℕ) : Type 0 where
+  pub sum : cross_sum (meeting bounds) xs new ≡ cross_sum (meeting bounds) xs old + cross_sum (meeting bounds) xs more
+  pub free : AllCross (AreFree tells) xs new → AllCross (AreFree tells) xs old × AllCross (AreFree tells) xs more
+  pub known : AreBelow n old → AreBelow n new

@@ -6,13 +6,12 @@ use Rattle.tl_tree.specs.Pairs.{meeting, cross_sum, AreFree, AllCross}
 use Rattle.tl_tree.proofs.Listing.{Lists, item-listed, item-apart, item-sum, item-free}
 use Rattle.tl_tree.proofs.PairLemmas.{cross-nil, all_cross-nil}
 use Rattle.tl_tree.proofs.Steps.{below-at}
-use Rattle.tl_tree.proofs.leaf.list_items.Goals as goal
-use Rattle.tl_tree.proofs.leaf.list_items.Goals.{then-do_meet, else-do_meet}
+use Rattle.tl_tree.proofs.near_items.list_items.Goals as goal
+use Rattle.tl_tree.proofs.near_items.list_items.Goals.{then-do_meet, else-do_meet}
 
 pub loop-other-init : goal.loop-other-init
 loop-other-init g c =
-    let e = cross-nil (meeting (g.I.Items.bounds_of c.args.items.now)) c.args.some.now in
-    record { sum = omega (arith, e); free = λ f h. h; known = tt; fits = omega arith; complete = omega arith }
+    record { sum = omega arith; free = λ f h. (f, h); known = λ k. k; fits = omega arith; complete = omega arith }
 
 pub bounds-requires : goal.bounds-requires
 bounds-requires g c = below-at _ _ c.loop-other.other-index c.loop-other-test.true c.requires.others
@@ -25,7 +24,7 @@ loop-other-preserved g c =
     let xs = c.args.some.now in
     let ys = c.args.others.now in
     let k = c.loop-other.other-index in
-    let len = c.loop-other.len in
+    let len = c.loop-other.more in
     let near = c.loop-other.near in
     let y = get_or ys k 0 in
     let known : y < n = below-at n ys k c.loop-other-test.true c.requires.others in
@@ -33,16 +32,16 @@ loop-other-preserved g c =
     let P : ℕ → Type 0 = λ m. Lists n b tells xs y (take len near) (take m (slice_set near len y)) in
     let Q : List ℕ → Type 0 = Lists n b tells xs y (take len near) in
     let no : c.do_meet.result ≡ false → AreMeeting (b y) c.args.around → ⊥ = λ f m. false≢true (sym f ∙ c.do_meet.ensures.1 (rw c.bounds.ensures m)) in
-    let step : Lists n b tells xs y (take len near) (take c.if-do_meet.len (slice_set near len y)) =
+    let step : Lists n b tells xs y (take len near) (take c.if-do_meet.more (slice_set near len y)) =
     elim c.if-do_meet.branch [
-      | then-do_meet w ↦ subst P (sym w.len-is) (subst Q (sym (take_more_set near len y within)) (item-listed n b tells xs (take len near) y known))
-      | else-do_meet w ↦ subst P (sym w.len-is) (subst Q (sym (take-set near len y)) (item-apart n b tells xs (g.met.I.Items.apart c.args.items.now) c.args.around c.requires.around c.requires.some (take len near) y known (no w.if-do_meet.false)))
+      | then-do_meet w ↦ subst P (sym w.more-is) (subst Q (sym (take_more_set near len y within)) (item-listed n b tells xs (take len near) y known))
+      | else-do_meet w ↦ subst P (sym w.more-is) (subst Q (sym (take-set near len y)) (item-apart n b tells xs (g.met.I.Items.apart c.args.items.now) c.args.around c.requires.around c.requires.some (take len near) y known (no w.if-do_meet.false)))
     ] in
-    let fits : c.if-do_meet.len < len + 2 = elim c.if-do_meet.branch [ then-do_meet w ↦ omega (arith, w.len-is) | else-do_meet w ↦ omega (arith, w.len-is) ] in
+    let fits : c.if-do_meet.more < len + 2 = elim c.if-do_meet.branch [ then-do_meet w ↦ omega (arith, w.more-is) | else-do_meet w ↦ omega (arith, w.more-is) ] in
     record {
       sum = omega (arith, step.sum, item-sum n b tells xs ys k c.loop-other-test.true, c.loop-other.invariant.sum);
       free = λ f h. let p = step.free f in c.loop-other.invariant.free p.0 (item-free n b tells xs ys k c.loop-other-test.true p.1 h);
-      known = step.known c.loop-other.invariant.known;
+      known = λ k. step.known (c.loop-other.invariant.known k);
       fits = omega (arith, fits, c.loop-other.invariant.fits);
       complete = length-set near len y ∙ c.loop-other.invariant.complete;
     }

@@ -1,0 +1,18 @@
+use Rattle.std.proofs.Common.{ap, take}
+use Rattle.tl_tree.specs.Keeping.Listing.{first_items, listed_items}
+use Rattle.tl_tree.proofs.Listing.{map-some, none-items, both-items, listed-none}
+use Rattle.tl_tree.proofs.near_items.+list_near_items.Goals as goal
+
+pub returns-in_default-clause-listed : goal.returns-in_default-clause-listed
+returns-in_default-clause-listed g t c =
+    let see = g.W.Trees.forest in
+    none-items (g.I.Items.count c.args.items.now) (g.I.Items.bounds_of c.args.items.now) (g.I.Items.tells c.args.items.now) c.args.some.now (take c.args.len c.args.near.now) (listed_items see c.args.trees.now) (listed-none see c.args.trees.now c.in_default.ensures.cases)
+
+pub returns-in-Some-list_first-clause-listed : goal.returns-in-Some-list_first-clause-listed
+returns-in-Some-list_first-clause-listed g t c =
+    let see = g.W.Trees.forest in
+    let ys = first_items (see c.in-Some.at.now) in
+    let zs = listed_items see c.in-Some.rest.now in
+    map-some c.list_near_items.result
+    (λ m h. both-items (g.I.Items.count c.args.items.now) (g.I.Items.bounds_of c.args.items.now) (g.I.Items.tells c.args.items.now) c.args.some.now (take c.args.len c.args.near.now) (take c.in-Some-list_first.more c.list_first.new.near) (take m c.list_near_items.new.near) ys zs (listed_items see c.args.trees.now) (ap (listed_items see) c.in-Some.ensures.cases.0) c.in-Some-list_first.ensures.listed h)
+    c.list_near_items.ensures.listed

@@ -1,0 +1,28 @@
+use Rattle.std.proofs.Common.{ap, subst, take}
+use Rattle.tl_tree.specs.Fits.{AreBelow}
+use Rattle.tl_tree.specs.declared.walk.Below.{Below}
+use Rattle.tl_tree.specs.Keeping.Listing.{first_items}
+use Rattle.tl_tree.specs.Keeping.Walking.{items_below}
+use Rattle.tl_tree.proofs.Listing.{none-items}
+use Rattle.tl_tree.proofs.Walks.{sound-first, sound-children}
+use Rattle.tl_tree.proofs.near_items.list_first.Goals as goal
+
+pub returns-in_default-clause-listed : goal.returns-in_default-clause-listed
+returns-in_default-clause-listed g c =
+    none-items (g.I.Items.count c.args.items.now) (g.I.Items.bounds_of c.args.items.now) (g.I.Items.tells c.args.items.now) c.args.some.now (take c.args.len c.args.near.now) (first_items (g.W.Trees.forest c.args.at.now)) (ap first_items c.in_default.ensures)
+
+pub list_leaf-requires-clause-others : goal.list_leaf-requires-clause-others
+list_leaf-requires-clause-others g c =
+    let see = g.W.Trees.forest in
+    let n = g.I.Items.count c.args.items.now in
+    let b = g.I.Items.bounds_of c.args.items.now in
+    let h = sound-first see n b (see c.args.at.now) c.in-Some.first _ c.in-Some.ensures c.requires.at in
+    let P : Below g.row.W.Denot → Type 0 = λ u. AreBelow n (items_below see u) in
+    subst P c.in-Items.is h.known
+
+pub list_children-requires-clause-trees : goal.list_children-requires-clause-trees
+list_children-requires-clause-trees g c =
+    let see = g.W.Trees.forest in
+    let n = g.I.Items.count c.args.items.now in
+    let b = g.I.Items.bounds_of c.args.items.now in
+    sound-children see n b c.in-Some.first c.in-Children.children c.in-Children.is (sound-first see n b (see c.args.at.now) c.in-Some.first _ c.in-Some.ensures c.requires.at)
