@@ -1,7 +1,7 @@
 //! The kinds of lines that a certificate has.
 
 ghost use Rattle.std.specs.Prelude.{◌≡◌, ◌⊎◌, ◌<◌, ◌≤◌, ◌+◌, ◌^◌, ◌↔◌, ◌∷◌, ◌++◌, [], ℕ, List, ⊤};
-ghost use Rattle.std.specs.Prelude.{IsTrue, MatchOption, IfSome};
+ghost use Rattle.std.specs.Prelude.{IsTrue, MatchOption, IfSome, length};
 ghost use Rattle.tl_cert.specs.Certificates.{IsNumber, IsInRange, AreCountsInRange};
 ghost use Rattle.tl_cert.specs.Text.{number, numbered_line, head_line, counts_line, children, end_line};
 ghost use Rattle.tl_cert.specs.Keeping.Words.{StartsWord, StandsFirst, counts_words};
@@ -10,7 +10,7 @@ ghost use Rattle.tl_cert.specs.Keeping.Steps.{CanHave, roots};
 
 use crate::certificate::Counts;
 use crate::front::{front_number, front_rectangle, front_small};
-use crate::number::{behind, last_number, split_number, split_rectangle};
+use crate::number::{behind, next_behind, last_number, split_number, split_rectangle};
 use tl_geom::Rect;
 
 // How many children or items a node has at most, and how many children at least.
@@ -310,10 +310,11 @@ fn node_start(version: u8, line: &[u8]) -> Option<NodeStart>
 /// The leaf whose line stands whole at the front of the bytes, and the line's length. None says nothing.
 #[inline(always)]
 fn front_leaf(bytes: &[u8]) -> Option<(NodeStart, usize)>
+    requires { 52 ≤ length bytes.now }
     ensures { IfSome result (λ front. (version : ℕ) → NodeFits version front.0
         × StandsFirst bytes.now (node_line version front.0) front.1) }
 {
-    let Some(words) = behind(bytes, b'L') else {
+    let Some(words) = next_behind(bytes, b'L') else {
         return None;
     };
     let Some((rect, others)) = front_rectangle(words) else {
@@ -328,13 +329,14 @@ fn front_leaf(bytes: &[u8]) -> Option<(NodeStart, usize)>
 /// How many children the bytes tell of, up to the line's end, and the bytes behind it. None says nothing.
 #[inline(always)]
 fn front_children(version: u8, bytes: &[u8]) -> Option<(u8, &[u8])>
+    requires { 3 ≤ length bytes.now }
     ensures { IfSome result (λ front. (bytes.now ≡ children version front.0 ++ (10 ∷ front.1.now))
         × ChildrenFit version front.0) }
 {
     if version >= 2 {
         return front_small(bytes, LEAST_CHILDREN);
     }
-    let Some(rest) = behind(bytes, b'\n') else {
+    let Some(rest) = next_behind(bytes, b'\n') else {
         return None;
     };
     Some((LEAST_CHILDREN, rest))
@@ -343,9 +345,10 @@ fn front_children(version: u8, bytes: &[u8]) -> Option<(u8, &[u8])>
 /// The inner node whose line stands whole at the front of the bytes, and the line's length. None says nothing.
 #[inline(always)]
 fn front_inner(version: u8, bytes: &[u8]) -> Option<(NodeStart, usize)>
+    requires { 52 ≤ length bytes.now }
     ensures { IfSome result (λ front. NodeFits version front.0 × StandsFirst bytes.now (node_line version front.0) front.1) }
 {
-    let Some(words) = behind(bytes, b'B') else {
+    let Some(words) = next_behind(bytes, b'B') else {
         return None;
     };
     let Some((rect, others)) = front_rectangle(words) else {

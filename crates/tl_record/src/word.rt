@@ -36,6 +36,7 @@ fn word_value(word: u64) -> Option<u64>
 }
 
 /// The value of eight bytes, where all of them are digits.
+#[inline(always)]
 pub fn eight_digits(bytes: [u8; 8]) -> Option<u64>
     ensures digits { IfSome result (λ _. list_all is_ascii_digit bytes ≡ true) }
     ensures value { IfSome result (λ value. value ≡ decimal bytes) }
