@@ -10,8 +10,8 @@ use crate::number::{behind, next_behind, rect_of};
 use tl_geom::Rect;
 use tl_record::{eight_digits, leading_digits};
 
-/// The number of fewer than eight digits that stand first, with a line feed behind them, and how many they are. None says
-/// nothing.
+/// The number of fewer than eight digits, and not 0, that stand first, with a line feed behind them, and how many they are.
+/// None says nothing.
 #[inline(always)]
 fn short_number(bytes: &[u8]) -> Option<(u32, usize)>
     ensures { IfSome result (λ first. IsNumber first.0 × StandsFirst bytes.now (decimal first.0) first.1) }
@@ -28,7 +28,7 @@ fn short_number(bytes: &[u8]) -> Option<(u32, usize)>
     if bytes[len] != b'\n' {
         return None;
     }
-    if bytes[0] == b'0' && len > 1 {
+    if bytes[0] == b'0' {
         return None;
     }
     Some((value as u32, len))
@@ -75,8 +75,8 @@ fn long_line_number(bytes: &[u8]) -> Option<(u32, usize)>
     Some((value as u32, len))
 }
 
-/// The number of fewer than eight digits of a line that has one behind this letter and stands whole at the front of the
-/// bytes, and the line's length. None says nothing.
+/// The number of fewer than eight digits, and not 0, of a line that has one behind this letter and stands whole at the front
+/// of the bytes, and the line's length. None says nothing.
 #[inline(always)]
 pub fn front_short(bytes: &[u8], letter: u8) -> Option<(u32, usize)>
     ensures { IfSome result (λ front. IsNumber front.0
