@@ -2,7 +2,7 @@ use Rattle.std.proofs.Common.{rules, ◌/◌, refl, arith}
 use Rattle.std.specs.Int.{w64, trailing_zeros}
 use Rattle.std.specs.Int.Bits.{bit_xor}
 use Rattle.tl_record.specs.Word.{IsWordOf}
-use Rattle.tl_record.proofs.MovedDigits.{behind_zeros, without_zero, without, Leads, leads, value_behind}
+use Rattle.tl_record.proofs.MovedDigits.{behind_zeros, without_zero, without, leads, value_behind}
 use Rattle.tl_record.proofs.word.leading_digits.Goals as goal
 
 pub digits_value-requires : goal.digits_value-requires

@@ -1,5 +1,4 @@
-use Rattle.std.proofs.Common.{arith, ◌∙◌}
-use Rattle.tl_record.specs.Word.{IsWordOf}
+use Rattle.std.proofs.Common.{◌∙◌}
 use Rattle.tl_record.proofs.EightDigits.{tested}
 use Rattle.tl_record.proofs.word.word_value.Goals as goal
 

@@ -1,7 +1,7 @@
 use Rattle.std.proofs.Common.{◌∷◌, ◌++◌, ◌∙◌, refl, sym, ap, append_assoc}
 use Rattle.tl_cert.specs.Text.{rectangle, children}
 use Rattle.tl_cert.proofs.FrontLemmas.{stands_first}
-use Rattle.tl_cert.proofs.line_kind.front_inner.Goals as goal
+use Rattle.tl_cert.proofs.node_line.front_inner.Goals as goal
 
 pub returns : goal.returns
 returns c =
