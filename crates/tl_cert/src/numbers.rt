@@ -14,7 +14,7 @@ const FEW: usize = 8;
 
 /// The items whose lines stand first, `count` at most, up to one of eight digits or more, and how many bytes those lines
 /// have.
-#[inline(never)]
+#[inline(always)]
 pub fn front_items(bytes: &[u8], count: u8) -> (ArrayVec<u32, 8>, usize)
     requires { count ≤ 8 }
     ensures few { length result.0.items ≤ count }
@@ -36,7 +36,7 @@ pub fn front_items(bytes: &[u8], count: u8) -> (ArrayVec<u32, 8>, usize)
 
 /// The darts whose lines stand first, `count` at most, up to one of eight digits or more, and how many bytes those lines
 /// have.
-#[inline(never)]
+#[inline(always)]
 pub fn front_darts(alloc: Global, bytes: &[u8], count: u32) -> Result<(Vec<u32>, usize), AllocError>
     ensures few { IfOk result (λ front. length front.0.items ≤ count) }
     ensures numbers { IfOk result (λ front. All IsNumber front.0.items) }
