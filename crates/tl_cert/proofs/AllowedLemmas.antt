@@ -1,8 +1,8 @@
 -- Which lines lead on from a state, as the kinds of lines that are read there.
 use Rattle.std.proofs.Common.{◌≡◌, ◌⊎◌, inl, inr, ℕ, zero, suc, ◌+◌, ◌<◌, ◌≤◌, List, [], ◌∷◌, subst, arith}
 use Rattle.tl_cert.specs.declared.certificate.Counts.{Counts}
-use Rattle.tl_cert.specs.declared.line_kind.NodeStart.{NodeStart}
-use Rattle.tl_cert.specs.declared.line_kind.NodeStart.TheVariants.{Inner, Leaf}
+use Rattle.tl_cert.specs.declared.node_line.NodeStart.{NodeStart}
+use Rattle.tl_cert.specs.declared.node_line.NodeStart.TheVariants.{Inner, Leaf}
 use Rattle.tl_cert.specs.declared.parts.DartLists.{DartLists}
 use Rattle.tl_cert.specs.declared.parts.DartLists.TheVariants.{Rounds, Walks}
 use Rattle.tl_cert.specs.Certificates.{IsNumber, AreCountsInRange}

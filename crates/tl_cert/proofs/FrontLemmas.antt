@@ -62,6 +62,21 @@ small_front (a ∷ b ∷ c ∷ rest) long space feed low high =
     let digit : std.decimal (b - 48) ≡ b ∷ [] = decimal_digit (b - 48) (omega (arith, low, high)) ∙ ap (λ (d : ℕ). d ∷ []) (omega (arith, low)) in
     rw (space, feed, digit, behind) refl
 
+-- a digit between a letter with its space and a line feed
+pub digit_front : (bytes : List ℕ) (letter : ℕ) → 4 ≤ length bytes → get_or bytes 0 0 ≡ letter → get_or bytes 1 0 ≡ 32 → get_or bytes 3 0 ≡ 10 → 48 ≤ get_or bytes 2 0 → get_or bytes 2 0 ≤ 57
+    → StandsFirst bytes (numbered_line (letter ∷ []) (get_or bytes 2 0 - 48)) 3
+digit_front [] letter long first space feed low high = absurd (omega (arith, long))
+digit_front (a ∷ []) letter long first space feed low high = absurd (omega (arith, long))
+digit_front (a ∷ b ∷ []) letter long first space feed low high = absurd (omega (arith, long))
+digit_front (a ∷ b ∷ c ∷ []) letter long first space feed low high = absurd (omega (arith, long))
+digit_front (a ∷ b ∷ c ∷ d ∷ rest) letter long first space feed low high =
+    let digit : std.decimal (c - 48) ≡ c ∷ [] = decimal_digit (c - 48) (omega (arith, low, high)) ∙ ap (λ (n : ℕ). n ∷ []) (omega (arith, low)) in
+    record {
+      within = omega arith;
+      feed = feed;
+      spelt = rw (first, space, digit) refl;
+    }
+
 -- what stands before a line feed is a line that stands first
 pub stands_first : (bytes line rest : List ℕ) (len : ℕ) → bytes ≡ line ++ 10 ∷ rest → len ≡ length bytes - length rest - 1 → StandsFirst bytes line len
 stands_first bytes line rest len is told =

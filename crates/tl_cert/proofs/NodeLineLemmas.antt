@@ -1,8 +1,8 @@
 -- The first line of a leaf, where it is no inner node's.
 use Rattle.std.proofs.Common.{◌≡◌, ◌≤◌, ℕ, zero, suc, arith, List, ◌∷◌, ◌++◌, Option, None, Some, MatchOption, refl, sym, ◌∙◌}
 use Rattle.tl_geom.specs.declared.rect.Rect.{Rect}
-use Rattle.tl_cert.specs.declared.line_kind.NodeStart.{NodeStart}
-use Rattle.tl_cert.specs.declared.line_kind.NodeStart.TheVariants.{Inner, Leaf}
+use Rattle.tl_cert.specs.declared.node_line.NodeStart.{NodeStart}
+use Rattle.tl_cert.specs.declared.node_line.NodeStart.TheVariants.{Inner, Leaf}
 use Rattle.tl_cert.specs.Certificates.{IsInRange}
 use Rattle.tl_cert.specs.Text.{rectangle, children, number}
 use Rattle.tl_cert.specs.Keeping.Kinds.{node_line, NodeFits, ChildrenFit, children_told}

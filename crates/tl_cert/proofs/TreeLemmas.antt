@@ -9,7 +9,7 @@ use Rattle.tl_tree.specs.declared.node.TreeNode.TheVariants.{Inner, Leaf}
 use Rattle.tl_tree.specs.Preorder.{AreTrees, IsPreorder}
 use Rattle.tl_cert.specs.Certificates.{IsNumber, IsInRange, IsNode, IsNodeInRange}
 use Rattle.tl_cert.specs.Text.{numbered_line, nodes_lines, inner_line, leaf_line, item_lines}
-use Rattle.tl_cert.specs.declared.line_kind.NodeStart.{NodeStart}
+use Rattle.tl_cert.specs.declared.node_line.NodeStart.{NodeStart}
 use Rattle.tl_cert.specs.Keeping.Kinds.{ChildrenFit, NodeFits, children_told, node_line}
 use Rattle.tl_cert.specs.Keeping.Lines.{LineState, TakesLines}
 use Rattle.tl_cert.specs.Keeping.Parts.{AreItems, IsTreeSoFar, IsNodeRead, Stand}

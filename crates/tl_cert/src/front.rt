@@ -1,17 +1,17 @@
 //! What stands first among the bytes that were fetched, where it is seen at once.
 
-ghost use Rattle.std.specs.Prelude.{◌≡◌, ◌<◌, ◌≤◌, ◌^◌, ◌∷◌, [], ◌++◌, FitsSigned, decimal, IfSome};
+ghost use Rattle.std.specs.Prelude.{◌≡◌, ◌+◌, ◌<◌, ◌≤◌, ◌^◌, ◌∷◌, [], ◌++◌, FitsSigned, decimal, length, IfSome};
 ghost use Rattle.std.specs.Int.{w32};
 ghost use Rattle.tl_cert.specs.Certificates.{IsNumber, IsInRange};
 ghost use Rattle.tl_cert.specs.Text.{number, numbered_line, coordinate, rectangle};
 ghost use Rattle.tl_cert.specs.Keeping.Words.{StandsFirst, AreDigits};
 
-use crate::number::{behind, rect_of};
+use crate::number::{behind, next_behind, rect_of};
 use tl_geom::Rect;
 use tl_record::{eight_digits, leading_digits};
 
-/// The number of fewer than eight digits that stand first, with a line feed behind them, and how many they are. None says
-/// nothing.
+/// The number of fewer than eight digits, and not 0, that stand first, with a line feed behind them, and how many they are.
+/// None says nothing.
 #[inline(always)]
 fn short_number(bytes: &[u8]) -> Option<(u32, usize)>
     ensures { IfSome result (λ first. IsNumber first.0 × StandsFirst bytes.now (decimal first.0) first.1) }
@@ -28,7 +28,7 @@ fn short_number(bytes: &[u8]) -> Option<(u32, usize)>
     if bytes[len] != b'\n' {
         return None;
     }
-    if bytes[0] == b'0' && len > 1 {
+    if bytes[0] == b'0' {
         return None;
     }
     Some((value as u32, len))
@@ -37,18 +37,17 @@ fn short_number(bytes: &[u8]) -> Option<(u32, usize)>
 /// The value of the eight or nine digits that stand first, and how many they are, where there are so many.
 #[inline(always)]
 fn long_digits(bytes: &[u8]) -> Option<(u64, usize)>
-    ensures { IfSome result (λ first. AreDigits bytes.now first.1 first.0 × (first.0 < 10 ^ 9) × (8 ≤ first.1)) }
+    requires { 9 ≤ length bytes.now }
+    ensures digits { IfSome result (λ first. AreDigits bytes.now first.1 first.0 × (first.0 < 10 ^ 9) × (8 ≤ first.1)) }
+    ensures few { IfSome result (λ first. first.1 ≤ 9) }
 {
-    if bytes.len() < 8 {
-        return None;
-    }
     let Ok(eight) = <[u8; 8]>::try_from(&bytes[..8]) else {
         return None;
     };
     let Some(value) = eight_digits(eight) else {
         return None;
     };
-    if bytes.len() == 8 || !bytes[8].is_ascii_digit() {
+    if !bytes[8].is_ascii_digit() {
         return Some((value, 8));
     }
     Some((value * 10 + u64::from(bytes[8] - b'0'), 9))
@@ -58,6 +57,7 @@ fn long_digits(bytes: &[u8]) -> Option<(u64, usize)>
 /// nothing.
 #[inline(always)]
 fn long_line_number(bytes: &[u8]) -> Option<(u32, usize)>
+    requires { 9 ≤ length bytes.now }
     ensures { IfSome result (λ first. IsNumber first.0 × StandsFirst bytes.now (decimal first.0) first.1) }
 {
     let Some((value, len)) = long_digits(bytes) else {
@@ -75,8 +75,8 @@ fn long_line_number(bytes: &[u8]) -> Option<(u32, usize)>
     Some((value as u32, len))
 }
 
-/// The number of fewer than eight digits of a line that has one behind this letter and stands whole at the front of the
-/// bytes, and the line's length. None says nothing.
+/// The number of fewer than eight digits, and not 0, of a line that has one behind this letter and stands whole at the front
+/// of the bytes, and the line's length. None says nothing.
 #[inline(always)]
 pub fn front_short(bytes: &[u8], letter: u8) -> Option<(u32, usize)>
     ensures { IfSome result (λ front. IsNumber front.0
@@ -110,15 +110,46 @@ fn front_long(bytes: &[u8], letter: u8) -> Option<(u32, usize)>
     let Some(digits) = behind(word, b' ') else {
         return None;
     };
+    if digits.len() < 9 {
+        return None;
+    }
     let Some((n, len)) = long_line_number(digits) else {
         return None;
     };
     Some((n, len + 2))
 }
 
+/// The same with one digit.
+#[inline(always)]
+fn front_digit(bytes: &[u8], letter: u8) -> Option<u8>
+    ensures { IfSome result (λ n. (n ≤ 9) × StandsFirst bytes.now (numbered_line (letter ∷ []) n) 3) }
+{
+    if bytes.len() < 4 || bytes[0] != letter || bytes[1] != b' ' || bytes[3] != b'\n' {
+        return None;
+    }
+    let digit = bytes[2];
+    if digit < b'0' || digit > b'9' {
+        return None;
+    }
+    Some(digit - b'0')
+}
+
 /// The same with fewer than ten digits.
 #[inline(always)]
 pub fn front_number(bytes: &[u8], letter: u8) -> Option<(u32, usize)>
+    ensures { IfSome result (λ front. IsNumber front.0
+        × StandsFirst bytes.now (numbered_line (letter ∷ []) front.0) front.1) }
+{
+    // Most lists are short.
+    if let Some(n) = front_digit(bytes, letter) {
+        return Some((u32::from(n), 3));
+    }
+    front_digits(bytes, letter)
+}
+
+/// The same with fewer than ten digits, and mostly more than one.
+#[inline(never)]
+fn front_digits(bytes: &[u8], letter: u8) -> Option<(u32, usize)>
     ensures { IfSome result (λ front. IsNumber front.0
         × StandsFirst bytes.now (numbered_line (letter ∷ []) front.0) front.1) }
 {
@@ -131,7 +162,9 @@ pub fn front_number(bytes: &[u8], letter: u8) -> Option<(u32, usize)>
 /// The number of eight or nine digits that stands first, and the bytes behind it. None says nothing.
 #[inline(always)]
 fn long_number(bytes: &[u8]) -> Option<(u64, &[u8])>
-    ensures { IfSome result (λ first. (bytes.now ≡ decimal first.0 ++ first.1.now) × (first.0 < 10 ^ 9) × (0 < first.0)) }
+    requires { 9 ≤ length bytes.now }
+    ensures first { IfSome result (λ first. (bytes.now ≡ decimal first.0 ++ first.1.now) × (first.0 < 10 ^ 9) × (0 < first.0)) }
+    ensures few { IfSome result (λ first. length bytes.now ≤ length first.1.now + 9) }
 {
     let Some((value, len)) = long_digits(bytes) else {
         return None;
@@ -145,12 +178,14 @@ fn long_number(bytes: &[u8]) -> Option<(u64, &[u8])>
 /// The signed number of eight or nine digits that stands first behind a space, and the bytes behind it. None says nothing.
 #[inline(always)]
 pub fn front_coordinate(bytes: &[u8]) -> Option<(i32, &[u8])>
-    ensures { IfSome result (λ first. (bytes.now ≡ coordinate first.0 ++ first.1.now) × FitsSigned w32 first.0) }
+    requires { 11 ≤ length bytes.now }
+    ensures first { IfSome result (λ first. (bytes.now ≡ coordinate first.0 ++ first.1.now) × FitsSigned w32 first.0) }
+    ensures few { IfSome result (λ first. length bytes.now ≤ length first.1.now + 11) }
 {
-    let Some(word) = behind(bytes, b' ') else {
+    let Some(word) = next_behind(bytes, b' ') else {
         return None;
     };
-    if let Some(digits) = behind(word, b'-') {
+    if let Some(digits) = next_behind(word, b'-') {
         let Some((value, others)) = long_number(digits) else {
             return None;
         };
@@ -165,7 +200,9 @@ pub fn front_coordinate(bytes: &[u8]) -> Option<(i32, &[u8])>
 /// The rectangle of such coordinates that stands first, and the bytes behind it. None says nothing.
 #[inline(always)]
 pub fn front_rectangle(bytes: &[u8]) -> Option<(Rect, &[u8])>
-    ensures { IfSome result (λ first. (bytes.now ≡ rectangle first.0 ++ first.1.now) × IsInRange first.0) }
+    requires { 44 ≤ length bytes.now }
+    ensures first { IfSome result (λ first. (bytes.now ≡ rectangle first.0 ++ first.1.now) × IsInRange first.0) }
+    ensures few { IfSome result (λ first. length bytes.now ≤ length first.1.now + 44) }
 {
     let Some((xmin, others)) = front_coordinate(bytes) else {
         return None;
@@ -186,9 +223,10 @@ pub fn front_rectangle(bytes: &[u8]) -> Option<(Rect, &[u8])>
 /// says nothing.
 #[inline(always)]
 pub fn front_small(bytes: &[u8], least: u8) -> Option<(u8, &[u8])>
+    requires { 3 ≤ length bytes.now }
     ensures { IfSome result (λ first. (bytes.now ≡ number first.0 ++ (10 ∷ first.1.now)) × (least ≤ first.0) × (first.0 ≤ 8)) }
 {
-    if bytes.len() < 3 || bytes[0] != b' ' || bytes[2] != b'\n' {
+    if bytes[0] != b' ' || bytes[2] != b'\n' {
         return None;
     }
     let digit = bytes[1];

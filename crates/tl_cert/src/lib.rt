@@ -13,6 +13,7 @@ pub mod laws;
 mod line_kind;
 mod lines;
 mod next;
+mod node_line;
 mod number;
 mod numbers;
 mod parts;

@@ -1,6 +1,6 @@
 //! The numbers of a line.
 
-ghost use Rattle.std.specs.Prelude.{◌≡◌, ◌<◌, ◌≤◌, ◌^◌, ◌∷◌, [], ◌++◌, ℕ, ℤ, List, ◌↔◌, FitsSigned, decimal};
+ghost use Rattle.std.specs.Prelude.{◌≡◌, ◌<◌, ◌≤◌, ◌^◌, ◌∷◌, [], ◌++◌, ℕ, ℤ, List, ◌↔◌, FitsSigned, decimal, length};
 ghost use Rattle.std.specs.Prelude.{IsTrue, MatchOption, IfSome};
 ghost use Rattle.std.specs.Int.{w32};
 ghost use Rattle.std.specs.Fmt.{signed_decimal};
@@ -93,6 +93,18 @@ pub fn behind(bytes: &[u8], first: u8) -> Option<&[u8]>
     Some(&bytes[1..])
 }
 
+/// The bytes behind this first one, where there is some byte.
+#[inline(always)]
+pub fn next_behind(bytes: &[u8], first: u8) -> Option<&[u8]>
+    requires { 0 < length bytes.now }
+    ensures { IfSome result (λ others. bytes.now ≡ first ∷ others.now) }
+{
+    if bytes[0] != first {
+        return None;
+    }
+    Some(&bytes[1..])
+}
+
 /// The number of 32 bits that the bytes spell behind a space.
 pub fn last_number(bytes: &[u8]) -> Option<u32>
     ensures { MatchOption result ((n : ℕ) → IsNumber n → ¬ (bytes.now ≡ number n))
@@ -149,6 +161,9 @@ fn long_coordinate(bytes: &[u8]) -> Option<(i32, &[u8])>
     ensures { IfSome result (λ split. (bytes.now ≡ coordinate split.0 ++ split.1.now) × StartsWord split.1.now
         × FitsSigned w32 split.0) }
 {
+    if bytes.len() < 11 {
+        return None;
+    }
     let Some((z, others)) = front_coordinate(bytes) else {
         return None;
     };

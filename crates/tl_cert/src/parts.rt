@@ -8,8 +8,9 @@ ghost use Rattle.tl_cert.specs.Keeping.Parts.{Reads, AreItems, AreVersionedCount
 ghost use Rattle.tl_cert.specs.Keeping.Parts.{AreDarts, letter_of, among, IsNodeRead};
 
 use crate::certificate::Counts;
-use crate::line_kind::{CountsLine, Head, NodeLine, NodeStart, Numbered, TreeSize, roots_of};
+use crate::line_kind::{CountsLine, Head, Numbered, TreeSize, roots_of};
 use crate::lines::Lines;
+use crate::node_line::{NodeLine, NodeStart};
 use crate::stop::CertStop;
 use arrayvec::ArrayVec;
 use std::alloc::Global;

@@ -1,7 +1,8 @@
 -- Eight digits in one word.
-use Rattle.std.proofs.Common.{◌≡◌, ℕ, ◌+◌, ◌-◌, ◌*◌, ◌/◌, ◌<◌, ◌≤◌, true, List, [], ◌∷◌, map, length, refl, ap, ◌∙◌, arith}
+use Rattle.std.proofs.Common.{◌≡◌, ℕ, suc, ◌+◌, ◌-◌, ◌*◌, ◌/◌, ◌<◌, ◌≤◌, true, List, [], ◌∷◌, map, length, refl, ap, ◌∙◌, arith}
 use Rattle.std.proofs.lemmas.Nat.Bits.{and_high}
-use Rattle.std.specs.List.{list_all, slice_index}
+use Rattle.std.specs.List.{list_all, slice_index, AllPass}
+use Rattle.std.proofs.lemmas.List.Sums.{AllPass-from_list_all}
 use Rattle.std.specs.Char.{is_ascii_digit}
 use Rattle.std.specs.Int.{from_le_bytes, w64}
 use Rattle.tl_record.specs.Fields.{decimal}
@@ -102,37 +103,64 @@ most_spelt a b c d e f g h s = omega arith
 nine : (x : ℕ) → x ≤ 57 → x - 48 ≤ 9
 nine x most = omega arith
 
--- what a word shows that passed both tests
-pub record SpellsEight (bytes : List ℕ) (word : ℕ) : Type 0 where
-  pub small : word - 0x3030303030303030 ≤ 0x0909090909090909
-  pub all : list_all is_ascii_digit bytes ≡ true
+-- digits are digits of their values
+at_least_digits : (bytes : List ℕ) → Each (λ x. (48 ≤ x) × (x ≤ 57)) bytes → lanes 8 bytes ≡ lanes 8 (values bytes) + lanes 8 (map (λ _. 48) bytes)
+at_least_digits [] each = refl
+at_least_digits (x ∷ xs) each = let rest = at_least_digits xs each.1 in omega (arith, rest, each.0.0)
+
+is_digit : (x : ℕ) → is_ascii_digit x ≡ true → (48 ≤ x) × (x ≤ 57)
+is_digit x is = (grind arith, grind arith)
+
+each_of : (bytes : List ℕ) → AllPass is_ascii_digit bytes → Each (λ x. (48 ≤ x) × (x ≤ 57)) bytes
+each_of [] pass = tt
+each_of (x ∷ xs) pass = (is_digit x (pass 0 0 (omega arith)), each_of xs (λ k d less. pass (suc k) d (omega (arith, less))))
+
+-- what eight digits show, each less the digit 0 in a lane of its own
+pub record SpellsEight (bytes : List ℕ) (digits : ℕ) : Type 0 where
+  pub small : digits ≤ 0x0909090909090909
   pub below : decimal bytes < 100000000
-  pub value : (pairs fours : ℕ) → pairs ≡ bit_and ((word - 0x3030303030303030) * 10 + (word - 0x3030303030303030) / 256) 0x00ff00ff00ff00ff
+  pub value : (pairs fours : ℕ) → pairs ≡ bit_and (digits * 10 + digits / 256) 0x00ff00ff00ff00ff
       → fours ≡ bit_and (pairs * 100 + pairs / 65536) 0x0000ffff0000ffff → bit_and (fours * 10000 + fours / 4294967296) 0xffffffff ≡ decimal bytes
 
-pub spells_eight : (bytes : List ℕ) (word : ℕ) → length bytes ≡ 8 → ((i : ℕ) → slice_index bytes i < 256) → word ≡ from_le_bytes w64 bytes
-    → bit_and word 0xf0f0f0f0f0f0f0f0 ≡ 0x3030303030303030 → bit_and (word - 0x3030303030303030 + 0x0606060606060606) 0xf0f0f0f0f0f0f0f0 ≡ 0
-    → SpellsEight bytes word
-spells_eight (a ∷ b ∷ c ∷ d ∷ e ∷ f ∷ g ∷ h ∷ []) word len below is first second =
+pub spells_eight : (bytes : List ℕ) (digits : ℕ) → length bytes ≡ 8 → digits + 0x3030303030303030 ≡ from_le_bytes w64 bytes → list_all is_ascii_digit bytes ≡ true
+    → SpellsEight bytes digits
+spells_eight (a ∷ b ∷ c ∷ d ∷ e ∷ f ∷ g ∷ h ∷ []) digits len is all =
     let bytes = a ∷ b ∷ c ∷ d ∷ e ∷ f ∷ g ∷ h ∷ [] in
-    let lanes_are : word ≡ lanes 8 bytes = is ∙ omega arith in
-    let are = are_digits bytes word (below 0, (below 1, (below 2, (below 3, (below 4, (below 5, (below 6, (below 7, tt)))))))) lanes_are first second in
-    let s = are.each in
-    let digits : word - 0x3030303030303030 ≡ lanes 8 (values bytes) = omega (arith, are.is) in
+    let s = each_of bytes (AllPass-from_list_all is_ascii_digit bytes all) in
+    let lanes_are : digits + 0x3030303030303030 ≡ lanes 8 bytes = is ∙ omega arith in
+    let same : digits ≡ lanes 8 (values bytes) = omega (arith, lanes_are, at_least_digits bytes s) in
     let small : AtMost 9 (in_pairs (a - 48) (b - 48) (c - 48) (d - 48) (e - 48) (f - 48) (g - 48) (h - 48)) =
     (nine a s.0.1, nine b s.1.0.1, (nine c s.1.1.0.1, nine d s.1.1.1.0.1, (nine e s.1.1.1.1.0.1, nine f s.1.1.1.1.1.0.1, (nine g s.1.1.1.1.1.1.0.1, nine h s.1.1.1.1.1.1.1.0.1, tt)))) in
     record {
-      small = rw digits (most_in_lanes (a - 48) (b - 48) (c - 48) (d - 48) (e - 48) (f - 48) (g - 48) (h - 48) small);
-      all = are.all;
+      small = rw same (most_in_lanes (a - 48) (b - 48) (c - 48) (d - 48) (e - 48) (f - 48) (g - 48) (h - 48) small);
       below = most_spelt (a - 48) (b - 48) (c - 48) (d - 48) (e - 48) (f - 48) (g - 48) (h - 48) small;
-      value = λ pairs fours. merged_thrice (a - 48) (b - 48) (c - 48) (d - 48) (e - 48) (f - 48) (g - 48) (h - 48) (word - 0x3030303030303030) pairs fours small digits;
+      value = λ pairs fours. merged_thrice (a - 48) (b - 48) (c - 48) (d - 48) (e - 48) (f - 48) (g - 48) (h - 48) digits pairs fours small same;
     }
-spells_eight [] word len below is first second = absurd (omega arith)
-spells_eight (a ∷ []) word len below is first second = absurd (omega arith)
-spells_eight (a ∷ b ∷ []) word len below is first second = absurd (omega arith)
-spells_eight (a ∷ b ∷ c ∷ []) word len below is first second = absurd (omega arith)
-spells_eight (a ∷ b ∷ c ∷ d ∷ []) word len below is first second = absurd (omega arith)
-spells_eight (a ∷ b ∷ c ∷ d ∷ e ∷ []) word len below is first second = absurd (omega arith)
-spells_eight (a ∷ b ∷ c ∷ d ∷ e ∷ f ∷ []) word len below is first second = absurd (omega arith)
-spells_eight (a ∷ b ∷ c ∷ d ∷ e ∷ f ∷ g ∷ []) word len below is first second = absurd (omega arith)
-spells_eight (a ∷ b ∷ c ∷ d ∷ e ∷ f ∷ g ∷ h ∷ i ∷ rest) word len below is first second = absurd (omega arith)
+spells_eight [] digits len is all = absurd (omega arith)
+spells_eight (a ∷ []) digits len is all = absurd (omega arith)
+spells_eight (a ∷ b ∷ []) digits len is all = absurd (omega arith)
+spells_eight (a ∷ b ∷ c ∷ []) digits len is all = absurd (omega arith)
+spells_eight (a ∷ b ∷ c ∷ d ∷ []) digits len is all = absurd (omega arith)
+spells_eight (a ∷ b ∷ c ∷ d ∷ e ∷ []) digits len is all = absurd (omega arith)
+spells_eight (a ∷ b ∷ c ∷ d ∷ e ∷ f ∷ []) digits len is all = absurd (omega arith)
+spells_eight (a ∷ b ∷ c ∷ d ∷ e ∷ f ∷ g ∷ []) digits len is all = absurd (omega arith)
+spells_eight (a ∷ b ∷ c ∷ d ∷ e ∷ f ∷ g ∷ h ∷ i ∷ rest) digits len is all = absurd (omega arith)
+
+-- what the two tests show of eight bytes
+pub tested : (bytes : List ℕ) (word : ℕ) → length bytes ≡ 8 → ((i : ℕ) → slice_index bytes i < 256) → word ≡ from_le_bytes w64 bytes
+    → bit_and word 0xf0f0f0f0f0f0f0f0 ≡ 0x3030303030303030 → bit_and (word - 0x3030303030303030 + 0x0606060606060606) 0xf0f0f0f0f0f0f0f0 ≡ 0
+    → (list_all is_ascii_digit bytes ≡ true) × (word - 0x3030303030303030 + 0x3030303030303030 ≡ word)
+tested (a ∷ b ∷ c ∷ d ∷ e ∷ f ∷ g ∷ h ∷ []) word len below is first second =
+    let bytes = a ∷ b ∷ c ∷ d ∷ e ∷ f ∷ g ∷ h ∷ [] in
+    let lanes_are : word ≡ lanes 8 bytes = is ∙ omega arith in
+    let are = are_digits bytes word (below 0, (below 1, (below 2, (below 3, (below 4, (below 5, (below 6, (below 7, tt)))))))) lanes_are first second in
+    (are.all, omega (arith, are.is))
+tested [] word len below is first second = absurd (omega arith)
+tested (a ∷ []) word len below is first second = absurd (omega arith)
+tested (a ∷ b ∷ []) word len below is first second = absurd (omega arith)
+tested (a ∷ b ∷ c ∷ []) word len below is first second = absurd (omega arith)
+tested (a ∷ b ∷ c ∷ d ∷ []) word len below is first second = absurd (omega arith)
+tested (a ∷ b ∷ c ∷ d ∷ e ∷ []) word len below is first second = absurd (omega arith)
+tested (a ∷ b ∷ c ∷ d ∷ e ∷ f ∷ []) word len below is first second = absurd (omega arith)
+tested (a ∷ b ∷ c ∷ d ∷ e ∷ f ∷ g ∷ []) word len below is first second = absurd (omega arith)
+tested (a ∷ b ∷ c ∷ d ∷ e ∷ f ∷ g ∷ h ∷ i ∷ rest) word len below is first second = absurd (omega arith)

@@ -1,11 +1,17 @@
--- Digits that are moved to the end of a word, behind zeros.
-use Rattle.std.proofs.Common.{◌≡◌, ℕ, zero, suc, ◌+◌, ◌-◌, ◌*◌, ◌/◌, ◌%◌, ◌^◌, ◌<◌, true, List, [], ◌∷◌, ◌++◌, length, length-append, take, replicate, refl, sym, ◌∙◌, arith}
-use Rattle.std.proofs.lemmas.List.{length-replicate, length-take-le}
+-- Digits at the front of a word, moved to its end, behind zeros.
+use Rattle.std.proofs.Common.{◌≡◌, ℕ, zero, suc, ◌+◌, ◌-◌, ◌*◌, ◌/◌, ◌%◌, ◌^◌, ◌<◌, ◌≤◌, true, List, [], ◌∷◌, ◌++◌, length, length-append, map, take, replicate, refl, sym, ap, ◌∙◌, arith}
+use Rattle.std.proofs.lemmas.List.{length-map, length-replicate, length-take-le}
+use Rattle.std.proofs.lemmas.Nat.{and_block, or_block, xor_block, or_lt, xor_lt, and_le_r, and_mask}
+use Rattle.std.proofs.lemmas.Nat.Bits.{and_high, bit_at_and, bit_at_or, bit_at_cat_low, bit_at_cat_high, bit_at-trailing_zeros}
+use Rattle.std.specs.Int.Bits.{bit_xor, xor_self, xor_add_and}
 use Rattle.std.specs.List.{list_all, slice_index}
 use Rattle.std.specs.Char.{is_ascii_digit}
-use Rattle.std.specs.Int.{from_le_bytes, w64}
+use Rattle.std.specs.Int.{from_le_bytes, w64, bit_at, trailing_zeros}
+use Rattle.std.specs.Int.RustNames.{bit_or}
+use lib.Bits.{bit_and}
 use Rattle.tl_record.specs.Fields.{decimal}
-use Rattle.tl_record.specs.Word.{IsWordOf}
+use Rattle.tl_record.specs.Word.{IsWordOf, above_nine_bit}
+use Rattle.tl_record.proofs.Lanes.{lanes, Each}
 
 -- so many bytes behind zeros
 abbrev pub behind_zeros : ℕ → List ℕ → List ℕ
@@ -15,17 +21,19 @@ pub record AreBytes (a b c d e f g h : ℕ) : Type 0 where
   pub first : (a < 256) × (b < 256) × (c < 256) × (d < 256)
   pub second : (e < 256) × (f < 256) × (g < 256) × (h < 256)
 
-moved_word : (count : ℕ) → 0 < count → count < 8 → (a b c d e f g h word : ℕ) → AreBytes a b c d e f g h → word ≡ from_le_bytes w64 (a ∷ b ∷ c ∷ d ∷ e ∷ f ∷ g ∷ h ∷ [])
-    → word * 2 ^ (64 - 8 * count) % 18446744073709551616 + 3472328296227680304 / 2 ^ (8 * count) ≡ from_le_bytes w64 (behind_zeros count (a ∷ b ∷ c ∷ d ∷ e ∷ f ∷ g ∷ h ∷ []))
-moved_word zero some few a b c d e f g h word are is = absurd (omega arith)
-moved_word (suc zero) some few a b c d e f g h word are is = omega (arith, is)
-moved_word (suc (suc zero)) some few a b c d e f g h word are is = omega (arith, is)
-moved_word (suc (suc (suc zero))) some few a b c d e f g h word are is = omega (arith, is)
-moved_word (suc (suc (suc (suc zero)))) some few a b c d e f g h word are is = omega (arith, is)
-moved_word (suc (suc (suc (suc (suc zero))))) some few a b c d e f g h word are is = omega (arith, is)
-moved_word (suc (suc (suc (suc (suc (suc zero)))))) some few a b c d e f g h word are is = omega (arith, is)
-moved_word (suc (suc (suc (suc (suc (suc (suc zero))))))) some few a b c d e f g h word are is = omega (arith, is)
-moved_word (suc (suc (suc (suc (suc (suc (suc (suc n)))))))) some few a b c d e f g h word are is = absurd (omega arith)
+-- the first values of a word, moved to its end
+moved_digits : (count : ℕ) → 0 < count → count < 8 → (p q r s t u v w word : ℕ) → AreBytes p q r s t u v w → word ≡ lanes 8 (p ∷ q ∷ r ∷ s ∷ t ∷ u ∷ v ∷ w ∷ [])
+    → word * 2 ^ (64 - 8 * count) % 18446744073709551616 + 3472328296227680304
+    ≡ from_le_bytes w64 (replicate (8 - count) 48 ++ map (λ x. x + 48) (take count (p ∷ q ∷ r ∷ s ∷ t ∷ u ∷ v ∷ w ∷ [])))
+moved_digits zero some few p q r s t u v w word are is = absurd (omega arith)
+moved_digits (suc zero) some few p q r s t u v w word are is = omega (arith, is)
+moved_digits (suc (suc zero)) some few p q r s t u v w word are is = omega (arith, is)
+moved_digits (suc (suc (suc zero))) some few p q r s t u v w word are is = omega (arith, is)
+moved_digits (suc (suc (suc (suc zero)))) some few p q r s t u v w word are is = omega (arith, is)
+moved_digits (suc (suc (suc (suc (suc zero))))) some few p q r s t u v w word are is = omega (arith, is)
+moved_digits (suc (suc (suc (suc (suc (suc zero)))))) some few p q r s t u v w word are is = omega (arith, is)
+moved_digits (suc (suc (suc (suc (suc (suc (suc zero))))))) some few p q r s t u v w word are is = omega (arith, is)
+moved_digits (suc (suc (suc (suc (suc (suc (suc (suc n)))))))) some few p q r s t u v w word are is = absurd (omega arith)
 
 -- they are bytes
 abbrev Below : List ℕ → Type 0
@@ -51,28 +59,6 @@ eight_bytes : (count : ℕ) (bytes : List ℕ) → count < 8 → length bytes �
 eight_bytes count bytes few eight =
     omega (arith, length-append (replicate (8 - count) 48) (take count bytes), length-replicate {A = ℕ} (8 - count) 48, length-take-le count bytes (omega (arith, eight)), few)
 
-pub moved : (bytes : List ℕ) (word count : ℕ) → 0 < count → count < 8 → IsWordOf bytes word
-    → IsWordOf (behind_zeros count bytes) (word * 2 ^ (64 - 8 * count) % 18446744073709551616 + 3472328296227680304 / 2 ^ (8 * count))
-moved (a ∷ b ∷ c ∷ d ∷ e ∷ f ∷ g ∷ h ∷ []) word count some few of = record {
-  eight = eight_bytes count (a ∷ b ∷ c ∷ d ∷ e ∷ f ∷ g ∷ h ∷ []) few refl;
-  below = below_append (replicate (8 - count) 48) (take count (a ∷ b ∷ c ∷ d ∷ e ∷ f ∷ g ∷ h ∷ [])) (below_zeros (8 - count)) (below_take count (a ∷ b ∷ c ∷ d ∷ e ∷ f ∷ g ∷ h ∷ []) of.below);
-  is = moved_word count some few a b c d e f g h word (record { first = (of.below 0, of.below 1, of.below 2, of.below 3); second = (of.below 4, of.below 5, of.below 6, of.below 7) }) of.is;
-}
-moved [] word count some few of = absurd (omega (arith, of.eight))
-moved (a ∷ []) word count some few of = absurd (omega (arith, of.eight))
-moved (a ∷ b ∷ []) word count some few of = absurd (omega (arith, of.eight))
-moved (a ∷ b ∷ c ∷ []) word count some few of = absurd (omega (arith, of.eight))
-moved (a ∷ b ∷ c ∷ d ∷ []) word count some few of = absurd (omega (arith, of.eight))
-moved (a ∷ b ∷ c ∷ d ∷ e ∷ []) word count some few of = absurd (omega (arith, of.eight))
-moved (a ∷ b ∷ c ∷ d ∷ e ∷ f ∷ []) word count some few of = absurd (omega (arith, of.eight))
-moved (a ∷ b ∷ c ∷ d ∷ e ∷ f ∷ g ∷ []) word count some few of = absurd (omega (arith, of.eight))
-moved (a ∷ b ∷ c ∷ d ∷ e ∷ f ∷ g ∷ h ∷ i ∷ rest) word count some few of = absurd (omega (arith, of.eight))
-
--- a word of bytes fits
-pub word_fits : (bytes : List ℕ) (word : ℕ) → IsWordOf bytes word → word < 2 ^ 64
-word_fits bytes word of =
-    omega (arith, of.is, of.below 0, of.below 1, of.below 2, of.below 3, of.below 4, of.below 5, of.below 6, of.below 7)
-
 -- zeros in front change no value
 zeros_value : (n : ℕ) (digits : List ℕ) → decimal (replicate n 48 ++ digits) ≡ decimal digits
 zeros_value zero digits = refl
@@ -82,8 +68,191 @@ zeros_all : (n : ℕ) (digits : List ℕ) → list_all is_ascii_digit (replicate
 zeros_all zero digits = refl
 zeros_all (suc n) digits = zeros_all n digits
 
-pub digits_behind : (count : ℕ) (bytes : List ℕ) → list_all is_ascii_digit (behind_zeros count bytes) ≡ true → list_all is_ascii_digit (take count bytes) ≡ true
-digits_behind count bytes all = sym (zeros_all (8 - count) (take count bytes)) ∙ all
+pub all_behind : (count : ℕ) (bytes : List ℕ) → list_all is_ascii_digit (take count bytes) ≡ true → list_all is_ascii_digit (behind_zeros count bytes) ≡ true
+all_behind count bytes all = zeros_all (8 - count) (take count bytes) ∙ all
 
 pub value_behind : (count value : ℕ) (bytes : List ℕ) → value ≡ decimal (behind_zeros count bytes) → decimal (take count bytes) ≡ value
 value_behind count value bytes is = sym (is ∙ zeros_value (8 - count) (take count bytes))
+
+-- each byte without the digit 0
+abbrev pub without_zero : List ℕ → List ℕ
+without_zero bytes = map (λ b. bit_xor b 48) bytes
+
+each_below : (bytes : List ℕ) → Below bytes → Each (λ x. x < 256) bytes
+each_below [] below = tt
+each_below (x ∷ xs) below = (below 0, each_below xs (λ i. below (suc i)))
+
+below_each : (bytes : List ℕ) → Each (λ x. x < 256) bytes → Below bytes
+below_each [] each i = omega arith
+below_each (x ∷ xs) each zero = each.0
+below_each (x ∷ xs) each (suc i) = below_each xs each.1 i
+
+eight_lanes : (bytes : List ℕ) → length bytes ≡ 8 → lanes 8 bytes ≡ from_le_bytes w64 bytes
+eight_lanes (a ∷ b ∷ c ∷ d ∷ e ∷ f ∷ g ∷ h ∷ []) len = omega arith
+eight_lanes [] len = absurd (omega arith)
+eight_lanes (a ∷ []) len = absurd (omega arith)
+eight_lanes (a ∷ b ∷ []) len = absurd (omega arith)
+eight_lanes (a ∷ b ∷ c ∷ []) len = absurd (omega arith)
+eight_lanes (a ∷ b ∷ c ∷ d ∷ []) len = absurd (omega arith)
+eight_lanes (a ∷ b ∷ c ∷ d ∷ e ∷ []) len = absurd (omega arith)
+eight_lanes (a ∷ b ∷ c ∷ d ∷ e ∷ f ∷ []) len = absurd (omega arith)
+eight_lanes (a ∷ b ∷ c ∷ d ∷ e ∷ f ∷ g ∷ []) len = absurd (omega arith)
+eight_lanes (a ∷ b ∷ c ∷ d ∷ e ∷ f ∷ g ∷ h ∷ i ∷ rest) len = absurd (omega arith)
+
+-- the digit 0 is taken from each byte
+zeros_off : (bytes : List ℕ) → Each (λ x. x < 256) bytes → bit_xor (lanes 8 bytes) (lanes 8 (map (λ _. 48) bytes)) ≡ lanes 8 (without_zero bytes)
+zeros_off [] below = xor_self 0
+zeros_off (x ∷ xs) below =
+    xor_block 8 (lanes 8 xs) (lanes 8 (map (λ _. 48) xs)) x 48 below.0 (omega arith) ∙ ap (λ n. n * 2 ^ 8 + bit_xor x 48) (zeros_off xs below.1)
+
+each_without : (bytes : List ℕ) → Each (λ x. x < 256) bytes → Each (λ x. x < 256) (without_zero bytes)
+each_without [] below = tt
+each_without (x ∷ xs) below = (xor_lt 8 x 48 below.0 (omega arith), each_without xs below.1)
+
+mask_lanes : (bytes : List ℕ) (mask : ℕ) → length bytes ≡ 8 → lanes 8 (map (λ _. mask) bytes) ≡ lanes 8 (mask ∷ mask ∷ mask ∷ mask ∷ mask ∷ mask ∷ mask ∷ mask ∷ [])
+mask_lanes (a ∷ b ∷ c ∷ d ∷ e ∷ f ∷ g ∷ h ∷ []) mask len = refl
+mask_lanes [] mask len = absurd (omega arith)
+mask_lanes (a ∷ []) mask len = absurd (omega arith)
+mask_lanes (a ∷ b ∷ []) mask len = absurd (omega arith)
+mask_lanes (a ∷ b ∷ c ∷ []) mask len = absurd (omega arith)
+mask_lanes (a ∷ b ∷ c ∷ d ∷ []) mask len = absurd (omega arith)
+mask_lanes (a ∷ b ∷ c ∷ d ∷ e ∷ []) mask len = absurd (omega arith)
+mask_lanes (a ∷ b ∷ c ∷ d ∷ e ∷ f ∷ []) mask len = absurd (omega arith)
+mask_lanes (a ∷ b ∷ c ∷ d ∷ e ∷ f ∷ g ∷ []) mask len = absurd (omega arith)
+mask_lanes (a ∷ b ∷ c ∷ d ∷ e ∷ f ∷ g ∷ h ∷ i ∷ rest) mask len = absurd (omega arith)
+
+pub without : (bytes : List ℕ) (word : ℕ) → IsWordOf bytes word → IsWordOf (without_zero bytes) (bit_xor word 3472328296227680304)
+without bytes word of =
+    let each = each_below bytes of.below in
+    let eight : length (without_zero bytes) ≡ 8 = length-map bytes (λ b. bit_xor b 48) ∙ of.eight in
+    let zeros : lanes 8 (map (λ _. 48) bytes) ≡ 3472328296227680304 = mask_lanes bytes 48 of.eight in
+    let lanes_are : word ≡ lanes 8 bytes = of.is ∙ sym (eight_lanes bytes of.eight) in
+    record {
+      eight = eight;
+      below = below_each (without_zero bytes) (each_without bytes each);
+      is = ap (λ n. bit_xor n 3472328296227680304) lanes_are ∙ ap (λ n. bit_xor (lanes 8 bytes) n) (sym zeros) ∙ zeros_off bytes each ∙ eight_lanes (without_zero bytes) eight;
+    }
+
+-- the top bits of bytes above 9, lane by lane
+bits_by_lanes : (bytes : List ℕ) → Each (λ x. x < 256) bytes
+    → bit_and (bit_or (bit_and (lanes 8 bytes) (lanes 8 (map (λ _. 127) bytes)) + lanes 8 (map (λ _. 118) bytes)) (lanes 8 bytes)) (lanes 8 (map (λ _. 128) bytes))
+    ≡ lanes 8 (map above_nine_bit bytes)
+bits_by_lanes [] below = let h = and_le_r (bit_or (bit_and 0 0 + 0) 0) 0 in omega arith
+bits_by_lanes (x ∷ xs) below =
+    let word = lanes 8 xs in
+    let low = lanes 8 (map (λ _. 127) xs) in
+    let up = lanes 8 (map (λ _. 118) xs) in
+    let top = lanes 8 (map (λ _. 128) xs) in
+    let small : bit_and x 127 ≤ 127 = and_le_r x 127 in
+    let raised : bit_and x 127 + 118 < 2 ^ 8 = omega (arith, small) in
+    let sum : bit_and word low * 2 ^ 8 + bit_and x 127 + (up * 2 ^ 8 + 118) ≡ (bit_and word low + up) * 2 ^ 8 + (bit_and x 127 + 118) = omega arith in
+    ap (λ n. bit_and (bit_or (n + (up * 2 ^ 8 + 118)) (word * 2 ^ 8 + x)) (top * 2 ^ 8 + 128)) (and_block 8 word low x 127 below.0 (omega arith))
+    ∙ ap (λ n. bit_and (bit_or n (word * 2 ^ 8 + x)) (top * 2 ^ 8 + 128)) sum
+    ∙ ap (λ n. bit_and n (top * 2 ^ 8 + 128)) (or_block 8 (bit_and word low + up) word (bit_and x 127 + 118) x raised below.0)
+    ∙ and_block 8 (bit_or (bit_and word low + up) word) top (bit_or (bit_and x 127 + 118) x) 128 (or_lt 8 (bit_and x 127 + 118) x raised below.0) (omega arith)
+    ∙ ap (λ n. n * 2 ^ 8 + above_nine_bit x) (bits_by_lanes xs below.1)
+
+below_bits : (bytes : List ℕ) → Each (λ x. x < 256) (map above_nine_bit bytes)
+below_bits [] = tt
+below_bits (x ∷ xs) = (let h = and_le_r (bit_or (bit_and x 127 + 118) x) 128 in omega arith, below_bits xs)
+
+pub bits_above : (bytes : List ℕ) (word : ℕ) → IsWordOf bytes word
+    → IsWordOf (map above_nine_bit bytes) (bit_and (bit_or (bit_and word 0x7f7f7f7f7f7f7f7f + 0x7676767676767676) word) 0x8080808080808080)
+bits_above bytes word of =
+    let each = each_below bytes of.below in
+    let eight : length (map above_nine_bit bytes) ≡ 8 = length-map bytes above_nine_bit ∙ of.eight in
+    let lanes_are : word ≡ lanes 8 bytes = of.is ∙ sym (eight_lanes bytes of.eight) in
+    let low : lanes 8 (map (λ _. 127) bytes) ≡ 0x7f7f7f7f7f7f7f7f = mask_lanes bytes 127 of.eight in
+    let up : lanes 8 (map (λ _. 118) bytes) ≡ 0x7676767676767676 = mask_lanes bytes 118 of.eight in
+    let top : lanes 8 (map (λ _. 128) bytes) ≡ 0x8080808080808080 = mask_lanes bytes 128 of.eight in
+    record {
+      eight = eight;
+      below = below_each (map above_nine_bit bytes) (below_bits bytes);
+      is = ap (λ n. bit_and (bit_or (bit_and n 0x7f7f7f7f7f7f7f7f + 0x7676767676767676) n) 0x8080808080808080) lanes_are
+          ∙ ap (λ n. bit_and (bit_or (bit_and (lanes 8 bytes) n + 0x7676767676767676) (lanes 8 bytes)) 0x8080808080808080) (sym low)
+          ∙ ap (λ n. bit_and (bit_or (bit_and (lanes 8 bytes) (lanes 8 (map (λ _. 127) bytes)) + n) (lanes 8 bytes)) 0x8080808080808080) (sym up)
+          ∙ ap (λ n. bit_and (bit_or (bit_and (lanes 8 bytes) (lanes 8 (map (λ _. 127) bytes)) + lanes 8 (map (λ _. 118) bytes)) (lanes 8 bytes)) n) (sym top)
+          ∙ bits_by_lanes bytes each ∙ eight_lanes (map above_nine_bit bytes) eight;
+    }
+
+-- a byte whose bit isn't set is at most 9
+at_most_nine : (x : ℕ) → x < 256 → bit_at (above_nine_bit x) 7 ≡ 0 → x ≤ 9
+at_most_nine x below none =
+    let both = bit_at_and (bit_or (bit_and x 127 + 118) x) 128 7 in
+    let either = bit_at_or (bit_and x 127 + 118) x 7 in
+    let low : bit_and x 127 ≡ x % 128 = and_mask x 7 in
+    omega (arith, both, either, low, none)
+
+-- and where it was a byte without the digit 0, the byte is a digit
+is_digit : (b : ℕ) → b < 256 → bit_xor b 48 ≤ 9 → b ≡ bit_xor b 48 + 48
+is_digit b below small =
+    let sum = xor_add_and b 48 in
+    let high : bit_and b 48 ≡ (b / 2 ^ 4 % 2 ^ 2) * 2 ^ 4 = and_high b 2 4 in
+    omega (arith, sum, high, small)
+
+-- so many bytes at the front are digits
+pub record StartsWithDigits (count : ℕ) (bytes : List ℕ) : Type 0 where
+  pub same : take count bytes ≡ map (λ x. x + 48) (take count (without_zero bytes))
+  pub all : list_all is_ascii_digit (take count bytes) ≡ true
+
+starts : (count : ℕ) (bytes : List ℕ) → Each (λ x. x < 256) bytes → ((i : ℕ) → i < 8 * count → bit_at (lanes 8 (map above_nine_bit (without_zero bytes))) i ≡ 0)
+    → StartsWithDigits count bytes
+starts zero bytes below none = record { same = refl; all = refl }
+starts (suc n) [] below none = record { same = refl; all = refl }
+starts (suc n) (b ∷ bytes) below none =
+    let x = bit_xor b 48 in
+    let others = lanes 8 (map above_nine_bit (without_zero bytes)) in
+    let here = above_nine_bit x in
+    let fits : here < 2 ^ 8 = let h = and_le_r (bit_or (bit_and x 127 + 118) x) 128 in omega arith in
+    let top : bit_at here 7 ≡ 0 = sym (bit_at_cat_low others 8 here 7 (omega arith)) ∙ none 7 (omega arith) in
+    let small = at_most_nine x (xor_lt 8 b 48 below.0 (omega arith)) top in
+    let is = is_digit b below.0 small in
+    let rest = starts n bytes below.1 (λ i less. ap (λ k. bit_at others k) (omega arith) ∙ sym (bit_at_cat_high others 8 here (i + 8) fits (omega arith)) ∙ none (i + 8) (omega (arith, less))) in
+    let digit : is_ascii_digit b ≡ true = let low : 48 ≤ b = omega (arith, is) in let high : b ≤ 57 = omega (arith, is, small) in grind arith in
+    record {
+      same = ap (λ (h : ℕ). h ∷ take n bytes) is ∙ ap (λ (l : List ℕ). (x + 48) ∷ l) rest.same;
+      all = rw digit rest.all;
+    }
+
+moved_by : (count : ℕ) (xs : List ℕ) (word : ℕ) → 0 < count → count < 8 → IsWordOf xs word
+    → word * 2 ^ (64 - 8 * count) % 18446744073709551616 + 3472328296227680304 ≡ from_le_bytes w64 (replicate (8 - count) 48 ++ map (λ x. x + 48) (take count xs))
+moved_by count (p ∷ q ∷ r ∷ s ∷ t ∷ u ∷ v ∷ w ∷ []) word some few of =
+    moved_digits count some few p q r s t u v w word (record { first = (of.below 0, of.below 1, of.below 2, of.below 3); second = (of.below 4, of.below 5, of.below 6, of.below 7) })
+    (of.is ∙ sym (eight_lanes (p ∷ q ∷ r ∷ s ∷ t ∷ u ∷ v ∷ w ∷ []) refl))
+moved_by count [] word some few of = absurd (omega (arith, of.eight))
+moved_by count (a ∷ []) word some few of = absurd (omega (arith, of.eight))
+moved_by count (a ∷ b ∷ []) word some few of = absurd (omega (arith, of.eight))
+moved_by count (a ∷ b ∷ c ∷ []) word some few of = absurd (omega (arith, of.eight))
+moved_by count (a ∷ b ∷ c ∷ d ∷ []) word some few of = absurd (omega (arith, of.eight))
+moved_by count (a ∷ b ∷ c ∷ d ∷ e ∷ []) word some few of = absurd (omega (arith, of.eight))
+moved_by count (a ∷ b ∷ c ∷ d ∷ e ∷ f ∷ []) word some few of = absurd (omega (arith, of.eight))
+moved_by count (a ∷ b ∷ c ∷ d ∷ e ∷ f ∷ g ∷ []) word some few of = absurd (omega (arith, of.eight))
+moved_by count (a ∷ b ∷ c ∷ d ∷ e ∷ f ∷ g ∷ h ∷ i ∷ rest) word some few of = absurd (omega (arith, of.eight))
+
+-- what the lowest bit shows of the bytes before it
+pub record Leads (bytes : List ℕ) (count moved : ℕ) : Type 0 where
+  pub few : count < 8
+  pub first : list_all is_ascii_digit (take count bytes) ≡ true
+  pub word : IsWordOf (behind_zeros count bytes) (moved + 3472328296227680304)
+  pub all : list_all is_ascii_digit (behind_zeros count bytes) ≡ true
+
+pub leads : (bytes : List ℕ) (word digits others count : ℕ) → IsWordOf bytes word → digits ≡ bit_xor word 3472328296227680304
+    → IsWordOf (map above_nine_bit (without_zero bytes)) others → 0 < others → others < 2 ^ 64 → count ≡ trailing_zeros w64 others / 8 → 0 < count
+    → Leads bytes count (digits * 2 ^ (64 - 8 * count) % 18446744073709551616)
+leads bytes word digits others count of taken bits some fits told above =
+    let eight : length (map above_nine_bit (without_zero bytes)) ≡ 8 = bits.eight in
+    let lanes_are : others ≡ lanes 8 (map above_nine_bit (without_zero bytes)) = bits.is ∙ sym (eight_lanes (map above_nine_bit (without_zero bytes)) eight) in
+    let lowest = bit_at-trailing_zeros w64 others some fits in
+    let few : count < 8 = omega (arith, told, lowest.0) in
+    let start = starts count bytes (each_below bytes of.below) (λ i less. ap (λ n. bit_at n i) (sym lanes_are) ∙ lowest.2 i (omega (arith, told, less))) in
+    let off : IsWordOf (without_zero bytes) digits = rw taken (without bytes word of) in
+    record {
+      few = few;
+      first = start.all;
+      word = record {
+        eight = eight_bytes count bytes few of.eight;
+        below = below_append (replicate (8 - count) 48) (take count bytes) (below_zeros (8 - count)) (below_take count bytes of.below);
+        is = moved_by count (without_zero bytes) digits above few off ∙ ap (λ (l : List ℕ). from_le_bytes w64 (replicate (8 - count) 48 ++ l)) (sym start.same);
+      };
+      all = all_behind count bytes start.all;
+    }

@@ -1,10 +1,10 @@
 //! Eight digits at once, with no branch for each.
 
-ghost use Rattle.std.specs.Prelude.{◌≡◌, ℕ, List, ◌++◌, ◌-◌, ◌<◌, ◌≤◌, ◌^◌, true, take, replicate, IfSome};
+ghost use Rattle.std.specs.Prelude.{◌≡◌, ℕ, List, ◌+◌, ◌<◌, ◌≤◌, ◌^◌, true, take, map, IfSome};
 ghost use Rattle.std.specs.List.{list_all};
 ghost use Rattle.std.specs.Char.{is_ascii_digit};
 ghost use Rattle.tl_record.specs.Fields.{decimal};
-ghost use Rattle.tl_record.specs.Word.{IsWordOf};
+ghost use Rattle.tl_record.specs.Word.{IsWordOf, above_nine_bit};
 
 /// The upper half of each byte of a word.
 const UPPER_HALVES: u64 = 0xf0f0_f0f0_f0f0_f0f0;
@@ -15,8 +15,29 @@ const ZEROS: u64 = 0x3030_3030_3030_3030;
 /// What brings a byte above 9, and none below, to 16 or more.
 const SIXES: u64 = 0x0606_0606_0606_0606;
 
-/// The value of the eight bytes of a word, where all of them are digits: neighbours are put together, first digits in
+/// The lower seven bits of each byte.
+const LOWER_BITS: u64 = 0x7f7f_7f7f_7f7f_7f7f;
+
+/// The top bit of each byte.
+const TOP_BITS: u64 = 0x8080_8080_8080_8080;
+
+/// What brings seven bits above 9, and none below, to the top bit.
+const UP_TO_TOP: u64 = 0x7676_7676_7676_7676;
+
+/// The value of eight digits, each less the digit 0 in a byte of its own: neighbours are put together, first digits in
 /// pairs, then pairs, then fours, each time in all parts of the word at once.
+#[inline(always)]
+fn digits_value(digits: u64) -> u64
+    requires { (bytes : List ℕ) × IsWordOf bytes (digits + ZEROS) × (list_all is_ascii_digit bytes ≡ true) }
+    ensures { (bytes : List ℕ) → IsWordOf bytes (digits + ZEROS) → list_all is_ascii_digit bytes ≡ true →
+        (result ≡ decimal bytes) × (result < 10 ^ 8) }
+{
+    let pairs = (digits * 10 + (digits >> 8)) & 0x00ff_00ff_00ff_00ff;
+    let fours = (pairs * 100 + (pairs >> 16)) & 0x0000_ffff_0000_ffff;
+    (fours * 10_000 + (fours >> 32)) & 0xffff_ffff
+}
+
+/// The value of the eight bytes of a word, where all of them are digits.
 #[inline(always)]
 fn word_value(word: u64) -> Option<u64>
     requires { (bytes : List ℕ) × IsWordOf bytes word }
@@ -30,12 +51,11 @@ fn word_value(word: u64) -> Option<u64>
     if (digits + SIXES) & UPPER_HALVES != 0 {
         return None;
     }
-    let pairs = (digits * 10 + (digits >> 8)) & 0x00ff_00ff_00ff_00ff;
-    let fours = (pairs * 100 + (pairs >> 16)) & 0x0000_ffff_0000_ffff;
-    Some((fours * 10_000 + (fours >> 32)) & 0xffff_ffff)
+    Some(digits_value(digits))
 }
 
 /// The value of eight bytes, where all of them are digits.
+#[inline(always)]
 pub fn eight_digits(bytes: [u8; 8]) -> Option<u64>
     ensures digits { IfSome result (λ _. list_all is_ascii_digit bytes ≡ true) }
     ensures value { IfSome result (λ value. value ≡ decimal bytes) }
@@ -44,24 +64,12 @@ pub fn eight_digits(bytes: [u8; 8]) -> Option<u64>
     word_value(u64::from_le_bytes(bytes))
 }
 
-/// A word whose last bytes are the first of this one, so many, behind the digit 0.
+/// The top bit of each byte that is above 9.
 #[inline(always)]
-fn moved_behind_zeros(word: u64, count: usize) -> u64
-    requires some { 0 < count }
-    requires few { count < 8 }
-    requires bytes { (bytes : List ℕ) × IsWordOf bytes word }
-    ensures { (bytes : List ℕ) → IsWordOf bytes word → IsWordOf (replicate (8 - count) 48 ++ take count bytes) result }
+fn above_nine(word: u64) -> u64
+    ensures { (bytes : List ℕ) → IsWordOf bytes word → IsWordOf (map above_nine_bit bytes) result }
 {
-    (word << (64 - 8 * count)) + (ZEROS >> (8 * count))
-}
-
-/// How many bytes at the front of a word are digits, if it is fewer than eight: what it answers has to be tested.
-#[inline(always)]
-fn count_digits(word: u64) -> usize
-    ensures { result ≤ 8 }
-{
-    let others = ((word ^ ZEROS).wrapping_add(SIXES) | (word ^ ZEROS)) & UPPER_HALVES;
-    (others.trailing_zeros() / 8) as usize
+    ((word & LOWER_BITS) + UP_TO_TOP | word) & TOP_BITS
 }
 
 /// The value of the digits that stand first among eight bytes, and how many they are, where they are fewer than eight.
@@ -72,13 +80,14 @@ pub fn leading_digits(bytes: [u8; 8]) -> Option<(u64, usize)>
     ensures value { IfSome result (λ first. decimal (take first.1 bytes) ≡ first.0) }
     ensures fits { IfSome result (λ first. first.0 < 10 ^ 8) }
 {
-    let word = u64::from_le_bytes(bytes);
-    let count = count_digits(word);
-    if count == 0 || count >= 8 {
+    let digits = u64::from_le_bytes(bytes) ^ ZEROS;
+    let others = above_nine(digits);
+    if others == 0 {
         return None;
     }
-    let Some(value) = word_value(moved_behind_zeros(word, count)) else {
+    let count = (others.trailing_zeros() / 8) as usize;
+    if count == 0 {
         return None;
-    };
-    Some((value, count))
+    }
+    Some((digits_value(digits << (64 - 8 * count)), count))
 }

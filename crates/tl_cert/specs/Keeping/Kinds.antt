@@ -1,7 +1,7 @@
 -- The first lines of nodes, by what they tell.
 use Rattle.std.specs.Prelude.{◌≡◌, ℕ, ◌<◌, ◌≤◌, List}
-use Rattle.tl_cert.specs.declared.line_kind.NodeStart.{NodeStart}
-use Rattle.tl_cert.specs.declared.line_kind.NodeStart.TheVariants.{Inner, Leaf}
+use Rattle.tl_cert.specs.declared.node_line.NodeStart.{NodeStart}
+use Rattle.tl_cert.specs.declared.node_line.NodeStart.TheVariants.{Inner, Leaf}
 use Rattle.tl_cert.specs.Certificates.{IsInRange}
 use Rattle.tl_cert.specs.Text.{inner_line, leaf_line}
 

@@ -4,7 +4,7 @@ use Rattle.tl_cert.proofs.front.long_line_number.Goals as goal
 
 pub returns : goal.returns
 returns c =
-    let first = c.in-Some.ensures in (
+    let first = c.in-Some.ensures.digits in (
       omega (arith, first.1),
       record {
         within = omega (arith, first.0.within, c.if-len-bytes.false);

@@ -9,6 +9,6 @@ returns c =
       record {
         within = omega (arith, first.count.1, c.if-bytes-lt8.false);
         feed = omega (arith, c.if-bytes-len-ne10.false);
-        spelt = short_spelt c.args.bytes.now c.in-Ok.eight c.in-Some.len c.in-Some.value (search rules) first.count.0 first.count.1 (omega (arith, first.count.1, c.if-bytes-lt8.false)) (λ e. omega (arith, e, c.else-bytes-eq48.either)) first.digits first.value (omega (arith, first.fits));
+        spelt = short_spelt c.args.bytes.now c.in-Ok.eight c.in-Some.len c.in-Some.value (search rules) first.count.0 first.count.1 (omega (arith, first.count.1, c.if-bytes-lt8.false)) (λ e. absurd (c.if-bytes-eq48.false e)) first.digits first.value (omega (arith, first.fits));
       },
     )

@@ -1,7 +1,7 @@
 use Rattle.std.proofs.Common.{◌∷◌, [], ℕ, suc}
 use Rattle.arrayvec.specs.ArrayVec.{ArrayVec}
 use Rattle.tl_tree.specs.declared.node.TreeNode.{TreeNode}
-use Rattle.tl_cert.specs.declared.line_kind.NodeStart.TheVariants.{Inner, Leaf}
+use Rattle.tl_cert.specs.declared.node_line.NodeStart.TheVariants.{Inner, Leaf}
 use Rattle.tl_cert.specs.Text.{leaf_line, item_lines, nodes_lines}
 use Rattle.tl_cert.specs.Keeping.Kinds.{node_line}
 use Rattle.tl_cert.specs.Keeping.Parts.{AreItems, IsNodeRead}

@@ -1,20 +1,15 @@
-use Rattle.std.proofs.Common.{refl, arith}
-use Rattle.tl_record.proofs.EightDigits.{spells_eight}
+use Rattle.std.proofs.Common.{◌∙◌}
+use Rattle.tl_record.proofs.EightDigits.{tested}
 use Rattle.tl_record.proofs.word.word_value.Goals as goal
 
-pub overflow_mul-pairs : goal.overflow_mul-pairs
-overflow_mul-pairs c =
+pub digits_value-requires : goal.digits_value-requires
+digits_value-requires c =
     let some = c.requires.1 in
-    let spells = spells_eight c.requires.0 c.args.word some.eight some.below some.is c.if-word-ne-ZEROS.false c.if-digits-ne0.false in
-    omega (arith, spells.small)
-
-pub overflow_add-pairs : goal.overflow_add-pairs
-overflow_add-pairs c =
-    let some = c.requires.1 in
-    let spells = spells_eight c.requires.0 c.args.word some.eight some.below some.is c.if-word-ne-ZEROS.false c.if-digits-ne0.false in
-    omega (arith, spells.small)
+    let shown = tested c.requires.0 c.args.word some.eight some.below some.is c.if-word-ne-ZEROS.false c.if-digits-ne0.false in
+    (c.requires.0, record { eight = some.eight; below = some.below; is = shown.1 ∙ some.is }, shown.0)
 
 pub returns : goal.returns
 returns c = λ bytes some.
-    let spells = spells_eight bytes c.args.word some.eight some.below some.is c.if-word-ne-ZEROS.false c.if-digits-ne0.false in
-    (spells.all, spells.value _ _ refl refl, rw (spells.value _ _ refl refl) spells.below)
+    let shown = tested bytes c.args.word some.eight some.below some.is c.if-word-ne-ZEROS.false c.if-digits-ne0.false in
+    let value = c.digits_value.ensures bytes (record { eight = some.eight; below = some.below; is = shown.1 ∙ some.is }) shown.0 in
+    (shown.0, value.0, value.1)

@@ -2,7 +2,7 @@ use Rattle.std.proofs.Common.{◌+◌, sym, subst}
 use Rattle.std.proofs.lemmas.Bool.{false≢true}
 use Rattle.tl_cert.specs.Keeping.Steps.{CanHave}
 use Rattle.tl_cert.proofs.NodeLineLemmas.{children_same}
-use Rattle.tl_cert.proofs.line_kind.NodeLineLineKind.parse.Goals as goal
+use Rattle.tl_cert.proofs.node_line.NodeLineLineKind.parse.Goals as goal
 
 pub returns-then-not-can_begin : goal.returns-then-not-can_begin
 returns-then-not-can_begin c = λ node fits is.

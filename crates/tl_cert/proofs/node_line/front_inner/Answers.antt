@@ -1,11 +1,11 @@
 use Rattle.std.proofs.Common.{◌∷◌, ◌++◌, ◌∙◌, refl, sym, ap, append_assoc}
 use Rattle.tl_cert.specs.Text.{rectangle, children}
 use Rattle.tl_cert.proofs.FrontLemmas.{stands_first}
-use Rattle.tl_cert.proofs.line_kind.front_inner.Goals as goal
+use Rattle.tl_cert.proofs.node_line.front_inner.Goals as goal
 
 pub returns : goal.returns
 returns c =
-    let first = c.in-Some-front_rectangle.ensures in
+    let first = c.in-Some-front_rectangle.ensures.first in
     let told = c.in-Some-front_children.ensures in
     let rest = c.in-Some-front_children.rest.now in
     let words = rectangle c.in-Some-front_rectangle.rect in

@@ -2,7 +2,7 @@ use Rattle.std.proofs.Common.{◌++◌, ◌∙◌, refl, sym}
 use Rattle.tl_cert.specs.Text.{rectangle, number}
 use Rattle.tl_cert.proofs.KindLemmas.{behind_rectangle}
 use Rattle.tl_cert.proofs.WordLemmas.{same_rest}
-use Rattle.tl_cert.proofs.line_kind.leaf_start.Goals as goal
+use Rattle.tl_cert.proofs.node_line.leaf_start.Goals as goal
 
 pub returns-in_default-small_number : goal.returns-in_default-small_number
 returns-in_default-small_number c = λ version r k inside least most is.

@@ -2,7 +2,7 @@ use Rattle.std.proofs.Common.{◌++◌, ◌∙◌, sym}
 use Rattle.tl_cert.specs.Text.{rectangle, children}
 use Rattle.tl_cert.proofs.KindLemmas.{behind_rectangle, children_start}
 use Rattle.tl_cert.proofs.WordLemmas.{same_rest}
-use Rattle.tl_cert.proofs.line_kind.inner_start.Goals as goal
+use Rattle.tl_cert.proofs.node_line.inner_start.Goals as goal
 
 pub returns-in_default-child_count : goal.returns-in_default-child_count
 returns-in_default-child_count c = λ r k inside fits is.

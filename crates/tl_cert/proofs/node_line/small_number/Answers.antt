@@ -1,6 +1,6 @@
 use Rattle.std.proofs.Common.{arith}
 use Rattle.tl_cert.proofs.KindLemmas.{number_is}
-use Rattle.tl_cert.proofs.line_kind.small_number.Goals as goal
+use Rattle.tl_cert.proofs.node_line.small_number.Goals as goal
 
 pub returns-then-k-from : goal.returns-then-k-from
 returns-then-k-from c = λ k least most is.
