@@ -1,6 +1,6 @@
 //! Grids of squares.
 use crate::decided::is_sound;
-use crate::maps::Drawing;
+use drawn_maps::Drawing;
 use crate::sound::report;
 use std::alloc::{AllocError, Global};
 use std::test::Fail;
