@@ -16,7 +16,13 @@ fn coordinate(place: usize) -> i32 {
 fn square(bands: usize, whole: i32) -> [Pair; 5] {
     let low = WIDE.wrapping_mul(coordinate(bands));
     let high = whole.wrapping_sub(low);
-    [(low, low), (high, low), (high, high), (low, high), (low, low)]
+    [
+        (low, low),
+        (high, low),
+        (high, high),
+        (low, high),
+        (low, low),
+    ]
 }
 
 /// A point in the middle of the band of this number, beside the middle of the map's height; with number 0 outside of all.
@@ -28,7 +34,10 @@ fn point_in(band: usize, whole: i32) -> Pair {
 /// Squares each within the one before; behind each the band of this owner, where 0 is outside; and the points of polygons in
 /// the bands of these numbers, where 0 is outside of all squares.
 fn banded(alloc: Global, owners: &[u32], places: &[usize]) -> Result<Drawing, AllocError> {
-    let whole = WIDE.wrapping_mul(coordinate(owners.len())).wrapping_mul(2).wrapping_add(WIDE);
+    let whole = WIDE
+        .wrapping_mul(coordinate(owners.len()))
+        .wrapping_mul(2)
+        .wrapping_add(WIDE);
     let mut drawing = Drawing::new(alloc);
     let mut around = 0u32;
     for band in 0..owners.len() {
@@ -55,7 +64,10 @@ fn polygons_in_holes_of_polygons(rt: HostRuntime) -> Result<(), Fail> {
             let found = found_of(rt.alloc(), &banded(rt.alloc(), &owners, &places)?)?;
             let polygon = moved.wrapping_add(1);
             let wrong = if place == polygon { 0 } else { polygon as u64 };
-            assert!(rt; number_of(found) == wrong, "{polygon} in {place}: {found:?}");
+            assert!(rt;
+                number_of(found) == wrong,
+                "{polygon} in {place}: {found:?}"
+            );
         }
     }
     Ok(())

@@ -41,7 +41,9 @@ fn gap_at(from: Pair, to: Pair) -> u32 {
         return 0;
     }
     let middle = from.0.wrapping_add(to.0) / 2;
-    u32::try_from(middle.wrapping_sub(2) / 4).unwrap_or(0).wrapping_add(2)
+    u32::try_from(middle.wrapping_sub(2) / 4)
+        .unwrap_or(0)
+        .wrapping_add(2)
 }
 
 /// Draws a way with a polygon on its left and another on its right, or, with `lying`, with its coordinates exchanged.
@@ -76,7 +78,13 @@ fn comb(alloc: Global, lying: bool, filled: bool) -> Result<Drawing, AllocError>
         for gap in 0..TEETH - 1 {
             let west = gap.wrapping_mul(4).wrapping_add(2);
             let (from, to) = ((west, 50), (west.wrapping_add(2), 50));
-            draw(&mut drawing, &[from, to], 0, gap_at((west, 10), (west, 50)), lying)?;
+            draw(
+                &mut drawing,
+                &[from, to],
+                0,
+                gap_at((west, 10), (west, 50)),
+                lying,
+            )?;
         }
     }
     Ok(drawing)

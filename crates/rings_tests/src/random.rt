@@ -18,11 +18,7 @@ fn place(numbers: &mut Numbers) -> Pair {
 }
 
 /// The points of a closed chain from a point on, with up to five others, neighbours of which differ.
-fn closed_chain(
-    alloc: Global,
-    from: Pair,
-    numbers: &mut Numbers,
-) -> Result<Vec<Pair>, AllocError> {
+fn closed_chain(alloc: Global, from: Pair, numbers: &mut Numbers) -> Result<Vec<Pair>, AllocError> {
     let mut points = vec![in alloc; from]?;
     for _ in 0..numbers.below(4).wrapping_add(2) {
         let next = place(numbers);
@@ -138,7 +134,10 @@ fn towns(rt: HostRuntime) -> Result<(), Fail> {
     assert!(rt; none == 0);
     for amiss in [Amiss::PointOnChain, Amiss::PointInOther] {
         let (towns, wrong) = wrong_towns(rt.alloc(), Some(amiss), &mut numbers)?;
-        assert!(rt; TOWNS / 2 < towns && wrong == towns, "{amiss:?}: {wrong} of {towns}");
+        assert!(rt;
+            TOWNS / 2 < towns && wrong == towns,
+            "{amiss:?}: {wrong} of {towns}"
+        );
     }
     Ok(())
 }

@@ -73,7 +73,8 @@ fn points_in_two_polygons(rt: HostRuntime) -> Result<(), Fail> {
             0 | 20 => is_on(found, 1),
             10 | 30 => is_on(found, 2),
             11..=19 => match found {
-                Some(Misplaced::InOther { polygon, other }) => (polygon.polyid, other.polyid) == (1, 2),
+                Some(Misplaced::InOther { polygon, other }) => (polygon.polyid, other.polyid)
+                    == (1, 2),
                 _ => false,
             },
             // in the second alone both faults are told rightly
