@@ -1,5 +1,5 @@
 //! What is decided and built of records.
-use crate::maps::Drawing;
+use drawn_maps::Drawing;
 use std::alloc::Global;
 use std::test::Fail;
 use tl_build::{Audit, AuditStop, Built, audit, audit_with, build};

@@ -1,5 +1,5 @@
 //! Reads that fail, each in its turn.
-use crate::maps::{Drawing, dead_end, nested, square};
+use drawn_maps::{Drawing, dead_end, nested, square};
 use std::alloc::Global;
 use std::io;
 use std::io::{ErrorKind, Read};

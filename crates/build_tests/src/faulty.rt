@@ -1,6 +1,6 @@
 //! Faulty maps, and records that have none.
 use crate::decided::{audited, fault_of};
-use crate::maps::{Drawing, Pair, dead_end, square};
+use drawn_maps::{Drawing, Pair, dead_end, square};
 use std::alloc::Global;
 use std::test::Fail;
 use tl_build::{Audit, AuditStop};

@@ -1,7 +1,7 @@
 //! Grids of squares.
 use crate::decided::is_sound;
-use crate::maps::Drawing;
 use crate::sound::report;
+use drawn_maps::Drawing;
 use std::alloc::{AllocError, Global};
 use std::test::Fail;
 

@@ -4,8 +4,6 @@
 #![tactic(auto)]
 
 #[cfg(test)]
-mod amiss;
-#[cfg(test)]
 mod decided;
 #[cfg(test)]
 mod failing;
@@ -14,14 +12,8 @@ mod faulty;
 #[cfg(test)]
 mod grids;
 #[cfg(test)]
-mod maps;
-#[cfg(test)]
-mod numbers;
-#[cfg(test)]
 mod pairs;
 #[cfg(test)]
 mod random;
 #[cfg(test)]
 mod sound;
-#[cfg(test)]
-mod town;

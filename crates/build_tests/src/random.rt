@@ -1,13 +1,12 @@
 //! Towns at random, sound and with something put in, beside the plain program that decides by the definitions alone.
-use crate::amiss::{Amiss, put_in};
 use crate::decided::{audited_with_cells, fault_of, is_sound, map_of};
-use crate::maps::Drawing;
-use crate::numbers::Numbers;
 use crate::pairs::pairs_that_meet;
-use crate::town::town_at_random;
+use crate::sound::report;
+use drawn_maps::{Amiss, Drawing, Numbers, Town, put_in, town_at_random};
 use std::alloc::Global;
 use std::test::Fail;
 use tl_build::Audit;
+use tl_check::Report;
 
 /// How many towns there are of each kind.
 const TOWNS: u32 = 250;
@@ -16,6 +15,18 @@ const TOWNS: u32 = 250;
 fn is_plainly_sound(alloc: Global, drawing: &Drawing) -> Result<bool, Fail> {
     let told = plain_map::is_sound(alloc, &map_of(alloc, drawing)?)?;
     Ok(told.ok_or("the boundaries are open")?)
+}
+
+/// The report that is right of a town.
+fn report_of(town: &Town) -> Report {
+    let counts = town.counts();
+    report(
+        counts.chains,
+        counts.segments,
+        counts.nodes,
+        counts.polygons,
+        counts.rings,
+    )
 }
 
 #[test]
@@ -28,7 +39,7 @@ fn sound_towns(rt: HostRuntime) -> Result<(), Fail> {
         let tests = pairs_that_meet(&map_of(alloc, &drawing)?);
         assert!(rt; is_plainly_sound(alloc, &drawing)?, "town {round}");
         assert!(rt;
-            is_sound(alloc, &drawing, town.report(), tests)?,
+            is_sound(alloc, &drawing, report_of(&town), tests)?,
             "town {round}"
         );
     }

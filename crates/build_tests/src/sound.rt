@@ -1,6 +1,6 @@
 //! Sound maps.
 use crate::decided::is_sound;
-use crate::maps::{Drawing, dead_end, nested, square};
+use drawn_maps::{Drawing, dead_end, nested, square};
 use std::alloc::Global;
 use std::test::Fail;
 use tl_check::Report;

@@ -8,6 +8,8 @@ mod indices;
 #[cfg(test)]
 mod maps;
 #[cfg(test)]
+mod mirror;
+#[cfg(test)]
 mod points;
 #[cfg(test)]
 mod random;

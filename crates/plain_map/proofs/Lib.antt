@@ -7,6 +7,7 @@ pub mod Nodes
 pub mod Sorted
 pub mod Among
 pub mod Crossing
+pub mod WestRays
 pub mod Listing
 pub mod Placing
 pub mod Running

@@ -3,7 +3,8 @@
 //! Each program goes over all pairs of segments, all darts, all chains or all polygons, and has a definition as its
 //! contract: [`is_planar_map`] that of planar chains, [`do_sides_agree`] that of sides that agree, [`are_walks`] and
 //! [`is_boundary`] those of rings, [`are_placed`] that of the polygons' points, [`do_cells_agree`] that of zero-cell ids,
-//! and [`is_sound`] that of sound maps. None has a tree, a sorted list or a certificate.
+//! and [`is_sound`] that of sound maps. [`polygons_by_west`] lists the polygons whose counts by the ray to the west aren't 0.
+//! None has a tree, a sorted list or a certificate.
 #![tactic(auto)]
 
 mod boundary;
@@ -20,6 +21,7 @@ mod said;
 mod sides;
 mod sound;
 mod walks;
+mod west;
 
 pub use boundary::is_boundary;
 pub use cells::{do_agree, do_cells_agree};
@@ -32,3 +34,4 @@ pub use rounds::are_rounds;
 pub use said::is_true;
 pub use sound::is_sound;
 pub use walks::walks_of;
+pub use west::polygons_by_west;

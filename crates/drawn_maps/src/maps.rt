@@ -29,12 +29,14 @@ fn write_key(text: &mut String, polygon: u32) -> Result<(), AllocError> {
     }
 }
 
-/// The records of chains with the TLIDs from 1 on, and of polygons with the numbers from 1 on.
+/// The records of chains with the TLIDs from 1 on, of polygons with the numbers from 1 on, and of landmarks with the LAND
+/// numbers from 1 on.
 #[derive(Drop)]
 pub struct Drawing {
     pub text: String,
     chains: u32,
     polygons: u32,
+    landmarks: u32,
 }
 
 impl Drawing {
@@ -43,6 +45,7 @@ impl Drawing {
             text: String::new(alloc),
             chains: 0,
             polygons: 0,
+            landmarks: 0,
         }
     }
 
@@ -92,6 +95,20 @@ impl Drawing {
         write!(text, "P0000{:5}A0001{number:>10}", "")?;
         write_point(text, point)?;
         text.push_str("\n")
+    }
+
+    /// Adds a landmark.
+    pub fn landmark(&mut self) -> Result<(), AllocError> {
+        self.landmarks = self.landmarks.wrapping_add(1);
+        let number = self.landmarks;
+        writeln!(&mut self.text, "70000{:5}{number:>10}", "")
+    }
+
+    /// Links a polygon to a landmark.
+    pub fn link(&mut self, polygon: u32, landmark: u32) -> Result<(), AllocError> {
+        write!(&mut self.text, "80000{:5}", "")?;
+        write_key(&mut self.text, polygon)?;
+        writeln!(&mut self.text, "{landmark:>10}")
     }
 }
 

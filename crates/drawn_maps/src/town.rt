@@ -2,9 +2,7 @@
 //! islands in them.
 use crate::maps::{Drawing, Pair};
 use crate::numbers::Numbers;
-use crate::sound::report;
 use std::alloc::{AllocError, Global};
-use tl_check::Report;
 
 /// How far the corners of a block lie apart, but for what they are off.
 pub const SIDE: i32 = 100;
@@ -32,6 +30,16 @@ impl Street {
         (self.left, self.right) = (self.right, self.left);
         self.cells = (self.cells.1, self.cells.0);
     }
+}
+
+/// How many there are of each thing in a map.
+#[derive(Clone, Copy)]
+pub struct Counts {
+    pub chains: u32,
+    pub segments: u32,
+    pub nodes: u32,
+    pub polygons: u32,
+    pub rings: u32,
 }
 
 /// A map before it is drawn.
@@ -235,6 +243,15 @@ impl Town {
         }
     }
 
+    /// The two ends of some segment.
+    pub fn some_segment(&self, numbers: &mut Numbers) -> Option<(Pair, Pair)> {
+        let street = self.streets.get(numbers.place(self.streets.len()))?;
+        let before = numbers.place(street.points.len().wrapping_sub(1));
+        let from = street.points.get(before).copied()?;
+        let to = street.points.get(before.wrapping_add(1)).copied()?;
+        Some((from, to))
+    }
+
     /// The town's records.
     pub fn drawn(&self) -> Result<Drawing, AllocError> {
         let mut drawing = Drawing::new(self.alloc);
@@ -247,9 +264,9 @@ impl Town {
         Ok(drawing)
     }
 
-    /// The report that is right of it. By Euler's formula a part with so many nodes and chains has as many rings as two and
+    /// How many there are of each thing. By Euler's formula a part with so many nodes and chains has as many rings as two and
     /// its chains less its nodes.
-    pub fn report(&self) -> Report {
+    pub fn counts(&self) -> Counts {
         let count = |many: usize| u32::try_from(many).unwrap_or(0);
         let mut segments = 0u32;
         for street in &self.streets {
@@ -261,19 +278,24 @@ impl Town {
             .wrapping_mul(2)
             .wrapping_add(chains)
             .wrapping_sub(self.nodes);
-        report(
+        Counts {
             chains,
             segments,
-            self.nodes,
-            count(self.polygons.len()),
+            nodes: self.nodes,
+            polygons: count(self.polygons.len()),
             rings,
-        )
+        }
     }
 }
 
 /// A sound map of up to nine blocks.
 pub fn town_at_random(alloc: Global, numbers: &mut Numbers) -> Result<Town, AllocError> {
     let blocks = i32::try_from(numbers.below(3)).unwrap_or(0).wrapping_add(1);
+    town_of(alloc, blocks, numbers)
+}
+
+/// A sound map of so many blocks across and up.
+pub fn town_of(alloc: Global, blocks: i32, numbers: &mut Numbers) -> Result<Town, AllocError> {
     let mut town = Town {
         alloc,
         blocks,
