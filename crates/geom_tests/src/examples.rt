@@ -291,7 +291,9 @@ fn rectangles(rt: HostRuntime) -> Result<(), Fail> {
     assert!(rt; r.join(rect(9, 0, 12, 1)) == rect(1, -2, 12, 7));
     let whole = Rect::of(segment((LEAST, MOST), (MOST, LEAST))?);
     assert!(rt; whole.holds(point(MOST, LEAST)) && whole.join(r) == whole);
-    assert!(rt; Rect::NOTHING.join(r) == r && r.join(Rect::NOTHING) == r && !Rect::NOTHING.meets(whole));
+    assert!(rt;
+        Rect::NOTHING.join(r) == r && r.join(Rect::NOTHING) == r && !Rect::NOTHING.meets(whole)
+    );
     assert!(rt; Rect::at(point(3, -4)) == rect(3, -4, 3, -4));
     Ok(())
 }

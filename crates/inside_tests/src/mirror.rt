@@ -130,7 +130,10 @@ fn a_town_in_a_mirror(rt: HostRuntime) -> Result<(), Fail> {
     // a point of a chain is on a chain, and no kind of answer is rare
     let on_chains = places.iter().filter(|place| is_on_chain(place)).count();
     let within = places.iter().filter(|place| is_within(place)).count();
-    assert!(rt; on_chains >= 250 && within > 200 && on_chains.wrapping_add(within) < 900, "{on_chains}, {within}");
+    assert!(rt;
+        on_chains >= 250 && within > 200 && on_chains.wrapping_add(within) < 900,
+        "{on_chains}, {within}"
+    );
     Ok(())
 }
 
@@ -144,7 +147,11 @@ fn counts_by_west(rt: HostRuntime) -> Result<(), Fail> {
     let places = places_of(alloc, &map, &points)?;
     assert!(rt; is_sound(alloc, &map)? == Some(true));
     for k in 0..points.len().min(places.len()) {
-        assert!(rt; is_by_west(alloc, &map, points[k], &places[k])?, "{:?}", points[k]);
+        assert!(rt;
+            is_by_west(alloc, &map, points[k], &places[k])?,
+            "{:?}",
+            points[k]
+        );
     }
     Ok(())
 }
