@@ -15,7 +15,7 @@ use Rattle.tl_inside.specs.declared.flanks.Flanks.{Flanks}
 use Rattle.tl_inside.specs.Inside.{flanks_at, balance, IsCrossed, IsCount}
 use Rattle.tl_inside.proofs.Hitting.{HaveSameEnds, same_ends}
 use Rattle.tl_crossings.specs.West.{CrossesWest, IsCrossedWest, west_flanks_at, IsWestCount}
-use Rattle.plain_map.proofs.Running.{on_same}
+use Rattle.tl_inside.proofs.Running.{on_same}
 
 -- of the first n segments, those that are crossed have such a side near and far so often
 pub record IsCountSoFar (Crossed : ℕ → Type 0) (flanks : ℕ → Flanks) (S : Side → Bool) (n near far : ℕ) : Type 0 where

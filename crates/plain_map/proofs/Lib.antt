@@ -10,5 +10,4 @@ pub mod Crossing
 pub mod WestRays
 pub mod Listing
 pub mod Placing
-pub mod Running
 pub mod Saying

@@ -12,3 +12,4 @@ pub mod Summing
 pub mod Placing
 pub mod Totals
 pub mod Holding
+pub mod Running

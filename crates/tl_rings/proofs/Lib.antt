@@ -4,4 +4,5 @@ pub mod Boxing
 pub mod Adding
 pub mod Upward
 pub mod Looking
+pub mod Holding
 pub mod Ordering

@@ -2,4 +2,5 @@
 pub mod Laid
 pub mod Lent
 pub mod Spots
+pub mod Held
 pub mod Looking

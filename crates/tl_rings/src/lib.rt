@@ -8,6 +8,7 @@
 mod boxes;
 mod darts;
 mod heights;
+mod held;
 mod laid;
 mod lent;
 mod look;
@@ -15,6 +16,7 @@ mod misplaced;
 mod rings;
 mod sites;
 mod spot;
+mod survey;
 
 pub use misplaced::find_misplaced;
 pub use rings::Rings;

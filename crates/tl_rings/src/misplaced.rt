@@ -1,6 +1,6 @@
 //! Polygons' points that don't lie where they have to.
 
-ghost use Rattle.std.specs.Prelude.{◌≡◌, ◌<◌, ◌^◌, [], length, All, IfOk, OnOk, MatchOption};
+ghost use Rattle.std.specs.Prelude.{◌≡◌, ◌<◌, ◌^◌, [], length, All, IsFalse, IfOk, OnOk, MatchOption};
 ghost use Rattle.tl_map.specs.Segments.{segments_before};
 ghost use Rattle.tl_planar.specs.Rectangles.{segment_rect};
 ghost use Rattle.tl_sides.specs.Sides.{SidesAgree};
@@ -11,12 +11,13 @@ ghost use Rattle.tl_inside.specs.Keeping.Tallies.{AreNone};
 ghost use Rattle.tl_crossings.specs.Headings.{AreProper};
 ghost use Rattle.tl_rings.specs.Rings.{AreBoxed, box_at};
 ghost use Rattle.tl_rings.specs.Keeping.Spots.{ring_count};
+ghost use Rattle.tl_rings.specs.Keeping.Held.{HavePolygons};
 ghost use Rattle.tl_rings.specs.Keeping.Looking.{IsPlacedPolygon};
 
-use crate::heights::Heights;
 use crate::look::{Look, look_at};
 use crate::rings::Rings;
 use crate::sites::{polygons_along, site_of};
+use crate::survey::{Survey, survey};
 use std::alloc::Global;
 use tl_crossings::look_at_chains;
 use tl_inside::{Flanks, Misplaced, Site, find_among, no_counts, push_site};
@@ -68,10 +69,10 @@ fn find_by<X: BoxIndex, Y: BoxIndex>(
     ensures { IfOk result (λ found. MatchOption found (ArePlaced map.now) (IsTrueMisplaced map.now)) }
 {
     look_at_chains(map);
-    let heights = Heights::of(alloc, map)?;
+    let seen = survey(alloc, map)?;
     let order = polygons_along(alloc, map)?;
     let mut left = Vec::new(alloc);
-    match find_by_rings(alloc, map, index, rings, tree, &heights, &order, &mut left)? {
+    match find_by_rings(alloc, map, index, rings, tree, &seen, &order, &mut left)? {
         Some(found) => Ok(Some(found)),
         None => find_among(alloc, map, index, &mut left),
     }
@@ -84,7 +85,7 @@ fn find_by_rings<X: BoxIndex, Y: BoxIndex>(
     index: &X,
     rings: &Rings,
     tree: &Y,
-    heights: &Heights,
+    seen: &Survey,
     order: &[u32],
     left: &mut Vec<Site>,
 ) -> Result<Option<Misplaced>, Memory>
@@ -95,6 +96,7 @@ fn find_by_rings<X: BoxIndex, Y: BoxIndex>(
     requires walks { AreWalks map.now.chains rings.now.rings }
     requires boxed { AreBoxed map.now.chains rings.now }
     requires few { length rings.now.rings < 2 ^ 32 }
+    requires seen { IsFalse seen.now.bare → HavePolygons map.now.chains }
     requires known { All (λ p. p < length map.now.polygons) order.now }
     requires none { left.old.items ≡ [] }
     ensures found { IfOk result (λ found. MatchOption found
@@ -111,7 +113,7 @@ fn find_by_rings<X: BoxIndex, Y: BoxIndex>(
         index,
         rings,
         tree,
-        heights,
+        seen,
         order,
         left,
         &mut hits,
@@ -127,7 +129,7 @@ fn look_at_each<X: BoxIndex, Y: BoxIndex>(
     index: &X,
     rings: &Rings,
     tree: &Y,
-    heights: &Heights,
+    seen: &Survey,
     order: &[u32],
     left: &mut Vec<Site>,
     hits: &mut Vec<u32>,
@@ -142,6 +144,7 @@ fn look_at_each<X: BoxIndex, Y: BoxIndex>(
     requires walks { AreWalks map.now.chains rings.now.rings }
     requires boxed { AreBoxed map.now.chains rings.now }
     requires few { length rings.now.rings < 2 ^ 32 }
+    requires seen { IsFalse seen.now.bare → HavePolygons map.now.chains }
     requires known { All (λ p. p < length map.now.polygons) order.now }
     requires none { left.old.items ≡ [] }
     requires nears { length near.old ≡ length map.now.polygons }
@@ -155,7 +158,7 @@ fn look_at_each<X: BoxIndex, Y: BoxIndex>(
     for k in 0..order.len() {
         let site = site_of(map, order[k]);
         match look_at(
-            map, index, rings, tree, heights, site, hits, flanks, near, far,
+            map, index, rings, tree, seen, site, hits, flanks, near, far,
         )? {
             Look::Right => {}
             Look::Wrong(fault) => return Ok(Some(fault)),

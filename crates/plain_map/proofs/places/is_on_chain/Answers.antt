@@ -1,7 +1,7 @@
 use Rattle.std.proofs.Common.{◌-◌, sym, refl, ◌∙◌, arith}
 use Rattle.std.proofs.lemmas.Bool.{false≢true}
 use Rattle.std.proofs.lemmas.Option.{slice_get-get_or}
-use Rattle.plain_map.proofs.Running.{off_more, off_of, on_by, off_by, off_none}
+use Rattle.tl_inside.proofs.Running.{off_more, off_of, on_by, off_by, off_none}
 use Rattle.plain_map.proofs.places.is_on_chain.Goals.{in-Some+else-on, in_default}
 use Rattle.plain_map.proofs.places.is_on_chain.Goals as goal
 

@@ -1,4 +1,4 @@
-use Rattle.plain_map.proofs.Running.{OffSoFar}
+use Rattle.tl_inside.proofs.Running.{OffSoFar}
 use Rattle.plain_map.proofs.places.is_on_chain.Given as goal
 
 -- no segment so far holds the point

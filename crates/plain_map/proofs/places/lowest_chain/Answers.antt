@@ -2,7 +2,7 @@ use Rattle.std.proofs.Common.{ℕ, sym, ◌∙◌, arith}
 use Rattle.std.proofs.lemmas.Bool.{false≢true}
 use borrow.Author.Count.{below_more}
 use Rattle.tl_inside.specs.Places.{IsHeldBy}
-use Rattle.plain_map.proofs.Running.{not_held, all_off}
+use Rattle.tl_inside.proofs.Running.{not_held, all_off}
 use Rattle.plain_map.proofs.places.lowest_chain.Goals as goal
 
 pub loop-c-preserved : goal.loop-c-preserved

@@ -1,0 +1,1 @@
+use Rattle.tl_rings.proofs.look.on_this_chain.Goals as goal

@@ -1,0 +1,1 @@
+use Rattle.tl_rings.proofs.look.tell.Goals as goal
