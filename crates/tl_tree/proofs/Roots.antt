@@ -15,7 +15,7 @@ module _ {W : Type 0} (see : W → Forest) where
   roots-followed r (Items xs) others = refl
   roots-followed r (Children w) others = refl
 
-  roots-split : (f : Forest) (r : Rect) (t : Below W) (others : Forest) → f ≡ followed see r t others → roots f ≡ r ∷ roots others
+  pub roots-split : (f : Forest) (r : Rect) (t : Below W) (others : Forest) → f ≡ followed see r t others → roots f ≡ r ∷ roots others
   roots-split f r t others e = ap roots e ∙ roots-followed r t others
 
   -- the first root

@@ -1,9 +1,7 @@
 //! The search for the items that a probe hits.
-ghost use Rattle.std.specs.Prelude.{◌≡◌, OnOk, OnErr, IsFalse};
-ghost use Rattle.tl_geom.specs.Rectangle.{AreMeeting};
+ghost use Rattle.std.specs.Prelude.{◌≡◌, OnOk, OnErr};
 ghost use Rattle.tl_tree.specs.Fits.{AreBelow, Fits};
 ghost use Rattle.tl_tree.specs.Hits.{Adds};
-ghost use Rattle.tl_tree.specs.Keeping.Marking.{Includes, RootMeets};
 ghost use Rattle.tl_tree.specs.Trees.{leaf_items};
 ghost use Rattle.tl_tree.specs.Keeping.Walking.{AreSound, IsSound, Grows, Collects, items_below};
 
@@ -78,59 +76,15 @@ fn collect_trees<I: Items, P: Probe<I>, W: Trees>(
         (leaf_items (W.forest trees.now)) out.old.items out.new.items) }
     ensures grows { Grows out.old.items out.new.items }
 {
-    let marks = meeting_roots(trees, region);
-    collect_marked(items, probe, region, trees, marks, out)
-}
-
-/// Appends the items of some trees that are hit, of which marks tell that the rectangles of others than the marked ones
-/// don't meet the region.
-#[cycle(collect)]
-fn collect_marked<I: Items, P: Probe<I>, W: Trees>(
-    items: &I,
-    probe: &P,
-    region: Rect,
-    trees: &W,
-    marks: u8,
-    out: &mut Vec<u32>,
-) -> Result<(), Memory>
-    requires trees { AreSound (I.count items.now) (I.bounds_of items.now) (W.forest trees.now) }
-    requires region { region ≡ P.region_of probe.now }
-    requires marks { Includes marks (RootMeets (W.forest trees.now) region) }
-    ensures hits { OnOk result
-        (Collects (P.hit probe.now items.now)
-        (leaf_items (W.forest trees.now)) out.old.items out.new.items) }
-    ensures grows { Grows out.old.items out.new.items }
-{
-    let Some((tree, rest)) = trees.split_first() else {
-        return Ok(());
-    };
-    collect_if_marked(items, probe, region, &tree, is_first_marked(marks), out)?;
-    collect_marked(items, probe, region, &rest, later_marks(marks), out)
-}
-
-/// Appends the items of a tree that are hit, unless it is known that its rectangle doesn't meet the region.
-#[cycle(collect)]
-fn collect_if_marked<I: Items, P: Probe<I>, W: Trees>(
-    items: &I,
-    probe: &P,
-    region: Rect,
-    tree: &Tree<'_, W>,
-    marked: bool,
-    out: &mut Vec<u32>,
-) -> Result<(), Memory>
-    requires tree { IsSound (I.count items.now) (I.bounds_of items.now) W.forest tree.now }
-    requires region { region ≡ P.region_of probe.now }
-    requires unmarked { IsFalse marked → ¬ AreMeeting tree.now.rect region }
-    ensures hits { OnOk result
-        (Collects (P.hit probe.now items.now)
-        (items_below W.forest tree.now.below) out.old.items out.new.items) }
-    ensures grows { Grows out.old.items out.new.items }
-{
-    if marked {
-        collect_one(items, probe, region, tree, out)
-    } else {
-        Ok(())
+    let (mut left, mut marks) = (*trees, meeting_roots(trees, region));
+    while let Some((tree, rest)) = left.split_first() {
+        if is_first_marked(marks) {
+            collect_one(items, probe, region, &tree, out)?;
+        }
+        left = rest;
+        marks = later_marks(marks);
     }
+    Ok(())
 }
 
 /// Appends the items that are hit, by trees that fit them. Behind a refused growth `out` is as before.

@@ -59,23 +59,21 @@ pub fn later_marks(marks: u8) -> u8
     marks / 2 + 128
 }
 
-/// Puts the rectangles of some trees into an array of eight, from a place on.
-fn fill_roots<W: Trees>(trees: &W, rects: &mut [Rect], from: usize)
+/// Puts the rectangles of the first eight of some trees into an array.
+fn fill_roots<W: Trees>(trees: &W, rects: &mut [Rect])
     requires eight { length rects.old ≡ 8 }
-    requires within { from ≤ 8 }
     ensures eight { length rects.new ≡ 8 }
-    ensures kept { (k : ℕ) → k < from → get_or rects.new k nothing ≡ get_or rects.old k nothing }
-    ensures found { (k : ℕ) → k + from < 8 → k < length (roots (W.forest trees.now)) →
-        get_or rects.new (k + from) nothing ≡ get_or (roots (W.forest trees.now)) k nothing }
+    ensures found { (k : ℕ) → k < 8 → k < length (roots (W.forest trees.now)) →
+        get_or rects.new k nothing ≡ get_or (roots (W.forest trees.now)) k nothing }
 {
-    if from >= 8 {
-        return;
+    let mut left = *trees;
+    for k in 0..8 {
+        let Some((tree, rest)) = left.split_first() else {
+            return;
+        };
+        rects[k] = tree.rect;
+        left = rest;
     }
-    let Some((tree, rest)) = trees.split_first() else {
-        return;
-    };
-    rects[from] = tree.rect;
-    fill_roots(&rest, rects, from + 1);
 }
 
 /// Which of the first eight trees may have rectangles that meet a rectangle: those that aren't marked have not. Of few
@@ -96,6 +94,6 @@ fn eight_meeting_roots<W: Trees>(trees: &W, rect: Rect) -> u8
     ensures { Includes result (RootMeets (W.forest trees.now) rect) }
 {
     let mut rects = [NOTHING; 8];
-    fill_roots(trees, &mut rects, 0);
+    fill_roots(trees, &mut rects);
     Rect8::gather(&rects).meets8(rect)
 }

@@ -1,13 +1,13 @@
-use Rattle.std.proofs.Common.{◌≡◌, ◌+◌, ◌<◌, refl, sym, ◌∙◌, rules, arith, IsFalse}
+use Rattle.std.proofs.Common.{◌≡◌, ℕ, List, ◌++◌, ◌+◌, ◌≤◌, refl, sym, ap, ◌∙◌, subst, append_assoc, rules, arith}
 use Rattle.std.proofs.lemmas.Bool.{false≢true}
 use Rattle.tl_geom.specs.Rectangle.{AreMeeting}
-use Rattle.tl_tree.specs.Keeping.Marking.{Includes, RootMeets}
 use Rattle.tl_tree.specs.Trees.{node_count}
-use Rattle.tl_tree.specs.Keeping.Walking.{items_below, size_of, IsSound, AreSound}
-use Rattle.tl_tree.proofs.Hitting.{collects-nothing, none-hit, on-ok}
+use Rattle.tl_tree.specs.Keeping.Walking.{items_below, size_of, IsSound, Collects}
+use Rattle.tl_tree.proofs.Hitting.{collects-nothing, none-hit}
 use Rattle.tl_tree.proofs.Roots.{first-root, includes-roots}
-use Rattle.tl_tree.proofs.Walks.{collects-none, collects-split, nodes-split, sound-first, sound-others, size-above_0}
+use Rattle.tl_tree.proofs.Walks.{collects-split, nodes-split, sound-first, sound-others}
 use Rattle.tl_tree.proofs.hits.+collect.Goals as goal
+use Rattle.tl_tree.proofs.hits.+collect.Goals.{collect_trees-then-is_first_marked+in_ok-collect_one, collect_trees-else-is_first_marked}
 
 pub collect_one-returns-then-not-meets-clause-hits : goal.collect_one-returns-then-not-meets-clause-hits
 collect_one-returns-then-not-meets-clause-hits g t c =
@@ -18,44 +18,47 @@ collect_one-returns-then-not-meets-clause-hits g t c =
     (λ i h e. rw c.requires.region (g.met.P.Probe.hits_meet c.args.probe.now c.args.items.now i h e))
     c.args.tree.now.rect xs (λ m. false≢true (sym c.if-not-meets.true ∙ c.meets.ensures.1 m)) c.requires.tree.known c.requires.tree.covers)
 
-pub collect_marked-collect_if_marked-requires : goal.collect_marked-collect_if_marked-requires
-collect_marked-collect_if_marked-requires g t c =
+pub collect_trees-collect_one-requires : goal.collect_trees-collect_one-requires
+collect_trees-collect_one-requires g t c κs within =
     let see = g.W.Trees.forest in
     let n = g.I.Items.count c.args.items.now in
     let b = g.I.Items.bounds_of c.args.items.now in
-    let h : IsSound n b see c.in-Some.tree = sound-first see n b (see c.args.trees.now) c.in-Some.tree (see c.in-Some.rest) c.in-Some.ensures c.requires.trees in
-    let e : node_count (see c.args.trees.now) ≡ size_of see c.in-Some.tree.below + node_count (see c.in-Some.rest) = nodes-split see (see c.args.trees.now) c.in-Some.tree.rect c.in-Some.tree.below (see c.in-Some.rest) c.in-Some.ensures in
-    let no : IsFalse c.is_first_marked.result → AreMeeting c.in-Some.tree.rect c.args.region → ⊥ =
-    λ f m. false≢true (sym f ∙ c.is_first_marked.ensures.1 (c.requires.marks 0 (omega arith) (first-root see (see c.args.trees.now) c.in-Some.tree.rect c.in-Some.tree.below (see c.in-Some.rest) c.args.region c.in-Some.ensures m))) in
+    let tree = c.in-Some.tree in
+    let h : IsSound n b see tree = sound-first see n b (see c.loop-tree.left) tree (see c.in-Some.rest) c.in-Some.ensures c.loop-tree.invariant.left in
+    let e : node_count (see c.loop-tree.left) ≡ size_of see tree.below + node_count (see c.in-Some.rest) = nodes-split see (see c.loop-tree.left) tree.rect tree.below (see c.in-Some.rest) c.in-Some.ensures in
+    let k : node_count (see c.loop-tree.left) ≤ node_count (see c.args.trees.now) = c.loop-tree.invariant.nodes in
     search rules
 
-pub collect_marked-collect_marked-requires : goal.collect_marked-collect_marked-requires
-collect_marked-collect_marked-requires g t c =
+pub collect_trees-loop-tree-preserved : goal.collect_trees-loop-tree-preserved
+collect_trees-loop-tree-preserved g t c =
     let see = g.W.Trees.forest in
-    let n = g.I.Items.count c.args.items.now in
-    let b = g.I.Items.bounds_of c.args.items.now in
-    let h : AreSound n b (see c.in-Some.rest) = sound-others see n b (see c.args.trees.now) c.in-Some.tree (see c.in-Some.rest) c.in-Some.ensures c.requires.trees in
-    let e : node_count (see c.args.trees.now) ≡ size_of see c.in-Some.tree.below + node_count (see c.in-Some.rest) = nodes-split see (see c.args.trees.now) c.in-Some.tree.rect c.in-Some.tree.below (see c.in-Some.rest) c.in-Some.ensures in
-    let k : 0 < size_of see c.in-Some.tree.below = size-above_0 see c.in-Some.tree.below in
-    let m : Includes c.later_marks.result (RootMeets (see c.in-Some.rest) c.args.region) =
-    includes-roots see (see c.args.trees.now) c.in-Some.tree.rect c.in-Some.tree.below (see c.in-Some.rest) c.args.region c.args.marks c.later_marks.result c.in-Some.ensures c.later_marks.ensures.moved c.later_marks.ensures.last c.requires.marks in
-    search rules
-
-pub collect_marked-returns-in_default-clause-hits : goal.collect_marked-returns-in_default-clause-hits
-collect_marked-returns-in_default-clause-hits g t c = collects-none (g.P.Probe.hit c.args.probe.now c.args.items.now) (g.W.Trees.forest c.args.trees.now) c.args.out.now.items c.in_default.ensures
-
-pub collect_marked-returns-clause-hits : goal.collect_marked-returns-clause-hits
-collect_marked-returns-clause-hits g t c =
-    let see = g.W.Trees.forest in
-    on-ok c.collect_marked.result
-    (collects-split see (g.P.Probe.hit c.args.probe.now c.args.items.now) (see c.args.trees.now) c.in-Some.tree.rect c.in-Some.tree.below (see c.in-Some.rest) c.args.out.now.items c.collect_if_marked.new.out.items c.collect_marked.new.out.items c.in-Some.ensures c.in_ok-collect_if_marked.ensures.hits)
-    c.collect_marked.ensures.hits
-
-pub collect_if_marked-returns-else-marked-clause-hits : goal.collect_if_marked-returns-else-marked-clause-hits
-collect_if_marked-returns-else-marked-clause-hits g t c =
     let hit = g.P.Probe.hit c.args.probe.now c.args.items.now in
-    let xs = items_below g.W.Trees.forest c.args.tree.now.below in
-    collects-nothing hit xs c.args.out.now.items c.args.out.now.items refl
-    (none-hit (g.I.Items.count c.args.items.now) (g.I.Items.bounds_of c.args.items.now) hit c.args.region
-    (λ i h e. rw c.requires.region (g.met.P.Probe.hits_meet c.args.probe.now c.args.items.now i h e))
-    c.args.tree.now.rect xs (c.requires.unmarked c.if-marked.false) c.requires.tree.known c.requires.tree.covers)
+    let n = g.I.Items.count c.args.items.now in
+    let b = g.I.Items.bounds_of c.args.items.now in
+    let left = see c.loop-tree.left in
+    let tree = c.in-Some.tree in
+    let rest = see c.in-Some.rest in
+    let some = items_below see tree.below in
+    let before = c.args.out.now.items in
+    let now = c.loop-tree.out.items in
+    let new = c.if-is_first_marked.out.items in
+    let is = c.loop-tree.invariant in
+    let sound : IsSound n b see tree = sound-first see n b left tree rest c.in-Some.ensures is.left in
+    let found : Collects hit some now new =
+    elim c.if-is_first_marked.branch [
+      | collect_trees-then-is_first_marked+in_ok-collect_one w ↦
+          let P : List ℕ → Type 0 = Collects hit some now in
+          subst P (sym (ap (λ v. v.items) w.out-is)) w.in_ok-collect_one.ensures.hits
+      | collect_trees-else-is_first_marked w ↦
+          let no : AreMeeting tree.rect c.args.region → ⊥ =
+          λ m. false≢true (sym w.if-is_first_marked.false ∙ c.is_first_marked.ensures.1 (is.marks 0 (omega arith) (first-root see left tree.rect tree.below rest c.args.region c.in-Some.ensures m))) in
+          collects-nothing hit some now new (ap (λ v. v.items) w.out-is)
+          (none-hit n b hit c.args.region (λ i h e. rw c.requires.region (g.met.P.Probe.hits_meet c.args.probe.now c.args.items.now i h e)) tree.rect some no sound.known sound.covers)
+    ] in
+    record {
+      left = sound-others see n b left tree rest c.in-Some.ensures is.left;
+      marks = includes-roots see left tree.rect tree.below rest c.args.region c.loop-tree.marks c.later_marks-marks.result c.in-Some.ensures c.later_marks-marks.ensures.moved c.later_marks-marks.ensures.last is.marks;
+      nodes = omega (arith, nodes-split see left tree.rect tree.below rest c.in-Some.ensures, is.nodes);
+      hits = λ last d. is.hits last (collects-split see hit left tree.rect tree.below rest now new last c.in-Some.ensures found d);
+      grows = record { added = is.grows.added ++ found.found; appended = found.appended ∙ ap (λ xs. xs ++ found.found) is.grows.appended ∙ append_assoc before is.grows.added found.found };
+    }
