@@ -9,7 +9,7 @@ use Rattle.tl_tree.proofs.PairLemmas.{cross-nil, cross-append_right, pair-append
 use Rattle.tl_tree.specs.Fits.{AreBelow, CoversAll, CoversBelow}
 use Rattle.tl_tree.specs.Trees.{Forest, none, leaf_items, node_count}
 use Rattle.tl_tree.specs.Keeping.Walking.{followed, items_below, size_of, AreSound, IsSound, CoveredBelow, Collects}
-use Rattle.tl_tree.proofs.Hitting.{collects-nothing, collects-both}
+use Rattle.tl_tree.proofs.Hitting.{collects-both}
 
 pub below-append : (n : ℕ) (xs ys : List ℕ) → AreBelow n (xs ++ ys) → AreBelow n xs × AreBelow n ys
 below-append n [] ys h = (tt, h)
@@ -26,9 +26,6 @@ all_cross-none P xs ts e = let Q : Forest → Type 0 = λ us. AllCross P xs (lea
 
 pub all_pairs-none : (P : ℕ → ℕ → Type 0) (ts : Forest) → ts ≡ none → AllPairs P (leaf_items ts)
 all_pairs-none P ts e = let Q : Forest → Type 0 = λ us. AllPairs P (leaf_items us) in subst Q (sym e) tt
-
-pub collects-none : (hit : ℕ → Type 0) (ts : Forest) (old : List ℕ) → ts ≡ none → Collects hit (leaf_items ts) old old
-collects-none hit ts old e = let P : Forest → Type 0 = λ us. Collects hit (leaf_items us) old old in subst P (sym e) (collects-nothing hit [] old old refl (λ i h. refl))
 
 module _ {W : Type 0} (see : W → Forest) where
   pub items-followed : (r : Rect) (t : Below W) (others : Forest) → leaf_items (followed see r t others) ≡ items_below see t ++ leaf_items others
