@@ -15,3 +15,4 @@ pub mod Ends
 pub mod Meetings
 pub mod Masks
 pub mod NoOverlaps
+pub mod Turns

@@ -40,7 +40,7 @@ bits-lt v w h k =
     let Q : ℕ → Type 0 = λ m. m < 2 ^ 8 in
     subst Q (sym (bits-mask v w h k)) (subst P l (mask_l-lt (compared v w)))
 
-lane-raw : (v : List ℤ) (k : ℕ) → AreLanes v → k < 8 → to_z w32 (get_or (map (of_z w32) v) k 0) ≡ get_or v k (pos 0)
+pub lane-raw : (v : List ℤ) (k : ℕ) → AreLanes v → k < 8 → to_z w32 (get_or (map (of_z w32) v) k 0) ≡ get_or v k (pos 0)
 lane-raw v k h lt =
     let l : k < length v = omega (arith, h.eight, lt) in
     ap (to_z w32) (get_or-map (of_z w32) v k (pos 0) 0 l) ∙ to_z-of_z w32 (get_or v k (pos 0)) (h.fit k lt)
@@ -80,20 +80,6 @@ again v h = each-again v (Each1-from_get_or (FitsSigned w32) v (pos 0) (λ k lt.
 pub lanes-again : (v : List ℤ) → AreLanes v → AreLanes (map (to_z w32) (map (of_z w32) v))
 lanes-again v h = subst AreLanes (sym (again v h)) h
 
-bits-here : (k a b c : ℕ) → bit_at (bit_and (bit_and a b) c) k ≡ min (min (bit_at a k) (bit_at b k)) (bit_at c k)
-bits-here k a b c = bit_at_and (bit_and a b) c k ∙ ap (λ n. min n (bit_at c k)) (bit_at_and a b k)
-
--- where three tests make up the fourth one, their bits do
-pub three_bits : (k a b c : ℕ) (A B C D : Type 0) → (bit_at a k ≡ 1) ↔ A → (bit_at b k ≡ 1) ↔ B → (bit_at c k ≡ 1) ↔ C → (A → B → C → D) → (D → A × B × C) → (bit_at (bit_and (bit_and a b) c) k ≡ 1) ↔ D
-three_bits k a b c A B C D f g h all parts =
-    let e = bits-here k a b c in
-    let p = bit_at-lt a k in
-    let q = bit_at-lt b k in
-    let r = bit_at-lt c k in (
-      λ s. all (f.0 (omega (arith, e, s, p, q, r))) (g.0 (omega (arith, e, s, p, q, r))) (h.0 (omega (arith, e, s, p, q, r))),
-      λ d. let t = parts d in omega (arith, e, f.1 t.0, g.1 t.1, h.1 t.2),
-    )
-
 pub two_bits : (k a b : ℕ) (A B D : Type 0) → (bit_at a k ≡ 1) ↔ A → (bit_at b k ≡ 1) ↔ B → (A → B → D) → (D → A × B) → (bit_at (bit_and a b) k ≡ 1) ↔ D
 two_bits k a b A B D f g both parts =
     let e = bit_at_and a b k in
@@ -106,24 +92,6 @@ two_bits k a b A B D f g both parts =
 -- a number in eight lanes
 pub splat-lane : (z : ℤ) (k : ℕ) → k < 8 → FitsSigned w32 z → get_or (map (to_z w32) (replicate 8 (of_z w32 z))) k (pos 0) ≡ z
 splat-lane z k lt h = get_or-replicate 8 k (to_z w32 (of_z w32 z)) (pos 0) lt ∙ to_z-of_z w32 z h
-
--- numbers from low to high and numbers from low2 to high2 have one in common
-pub in_common : (low high low2 high2 : ℤ) → low2 ≤ℤ high2 → low ≤ℤ high → low ≤ℤ high2 → low2 ≤ℤ high → int_max low low2 ≤ℤ int_min high high2
-in_common low high low2 high2 h k l m = omega (arith, ints, clamps, h, k, l, m)
-
-pub from_common : (low high low2 high2 : ℤ) → int_max low low2 ≤ℤ int_min high high2 → (low ≤ℤ high) × (low ≤ℤ high2) × (low2 ≤ℤ high)
-from_common low high low2 high2 h = (omega (arith, ints, clamps, h), omega (arith, ints, clamps, h), omega (arith, ints, clamps, h))
-
-pub overlap-bits : (low high : List ℤ) (low2 high2 : ℤ) (k a b c : ℕ) → AreLanes low → AreLanes high → k < 8 → low2 ≤ℤ high2
-    → (bit_at a k ≡ 1) ↔ (get_or low k (pos 0) ≤ℤ get_or high k (pos 0))
-    → (bit_at b k ≡ 1) ↔ (get_or low k (pos 0) ≤ℤ high2)
-    → (bit_at c k ≡ 1) ↔ (low2 ≤ℤ get_or high k (pos 0))
-    → (bit_at (bit_and (bit_and a b) c) k ≡ 1) ↔ (int_max (get_or low k (pos 1)) low2 ≤ℤ int_min (get_or high k (pos 0)) high2)
-overlap-bits low high low2 high2 k a b c h j lt le f g i =
-    let l = get_or low k (pos 0) in
-    let m = get_or high k (pos 0) in
-    let e : get_or low k (pos 1) ≡ l = get_or_default low k (pos 1) (pos 0) (omega (arith, h.eight, lt)) in
-    rw e (three_bits k a b c (l ≤ℤ m) (l ≤ℤ high2) (low2 ≤ℤ m) (int_max l low2 ≤ℤ int_min m high2) f g i (λ x y z. in_common l m low2 high2 le x y z) (λ x. from_common l m low2 high2 x))
 
 -- ---- eight rectangles
 
