@@ -18,3 +18,4 @@ mod Marks8
 mod Roots
 mod CellRows
 mod Listing
+mod OwnPairs

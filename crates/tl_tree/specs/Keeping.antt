@@ -6,4 +6,5 @@ pub mod Branches
 pub mod Boxed
 pub mod Marking
 pub mod Cells
+pub mod OwnPairs
 pub mod Listing

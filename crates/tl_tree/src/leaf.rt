@@ -10,6 +10,7 @@ use crate::Items;
 use crate::cells::cells_of;
 use crate::lanes::bounds_of_eight;
 use crate::near_items::{NEAR, list_near_items};
+use crate::own_pairs::test_own_pairs;
 use crate::search::{Progress, search_listed, test_all_pairs, test_cells};
 use crate::walk::{Below, Tree, Trees};
 use tl_geom::{Rect, Rect8};
@@ -82,8 +83,7 @@ fn test_pairs<I: Items>(
     if some.len() > 8 {
         return test_all_pairs(items, some, progress);
     }
-    let cells = cells_of(items, some, bounds, true);
-    test_cells(items, some, some, true, cells, progress)
+    test_own_pairs(items, some, bounds.meeting_pairs(), progress)
 }
 
 /// Tests the items of a leaf against each item of the trees of a list, one tree after the other.

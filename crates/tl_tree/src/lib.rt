@@ -24,6 +24,7 @@ mod leaf;
 mod near;
 mod near_items;
 mod node;
+mod own_pairs;
 mod plain_list;
 mod preorder;
 mod probe;

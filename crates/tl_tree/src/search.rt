@@ -47,7 +47,7 @@ fn keep_conflict<C>(progress: &mut Progress<C>, i: u32, j: u32, c: C)
 
 /// Tests two items whose bounds meet, of which the same one is no pair.
 #[inline(always)]
-fn test_meeting<I: Items>(items: &I, i: u32, j: u32, progress: &mut Progress<I::C>) -> bool
+pub fn test_meeting<I: Items>(items: &I, i: u32, j: u32, progress: &mut Progress<I::C>) -> bool
     requires first { i < I.count items.now }
     requires second { j < I.count items.now }
     requires meeting { AreMeeting (I.bounds_of items.now j) (I.bounds_of items.now i) }
