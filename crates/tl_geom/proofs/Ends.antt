@@ -1,6 +1,7 @@
 -- Two segments with a common end whose directions differ share that end alone.
-use Rattle.std.proofs.Common.{◌≡◌, ◌≢◌, inl, inr, ⊎_elim, ℤ, pos, neg_ℤ, ◌<ℤ◌, ◌≤ℤ◌, ap, sym, ◌∙◌, refl, arith}
-use Rattle.std.proofs.lemmas.Int.{ints}
+use Rattle.std.proofs.Common.{◌≡◌, ◌≢◌, inl, inr, ⊎_elim, ℤ, pos, neg_ℤ, ◌-ℤ◌, ◌*ℤ◌, ◌<ℤ◌, ◌≤ℤ◌, FitsSigned, to_z, of_z, w32, ap, ap₂, subst, sym, ◌∙◌, refl, arith}
+use Rattle.std.specs.Int.{int_wrap}
+use Rattle.std.proofs.lemmas.Int.{ints, to_z-of_z, SFits-int_wrap, int_wrap-mul_left, int_wrap-mul_right}
 use Rattle.tl_geom.specs.declared.point.Point.{Point}
 use Rattle.tl_geom.specs.declared.segment.Segment.{Segment}
 use Rattle.tl_geom.specs.Plane.{step_cross}
@@ -99,3 +100,30 @@ end_alone s t p h ne =
     (λ w. ⊎_elim
     (λ e. absurd (ne e))
     (λ high. found s t d n m p (record { above_zero = high; measured = inl (record { whole = refl; first = refl; second = refl }) }) (first s t p h) (second s t p h)) w) (sign d)
+
+-- ---- what 32 bits tell of a cross product
+
+-- a number that is written as its bits and read again
+abbrev again : ℤ → ℤ
+again z = to_z w32 (of_z w32 z)
+
+low-again : (d z : ℤ) → d ≡ int_wrap w32 z → again d ≡ int_wrap w32 z
+low-again d z e =
+    let f : FitsSigned w32 d = subst (FitsSigned w32) (sym e) (SFits-int_wrap w32 z) in
+    to_z-of_z w32 d f ∙ e
+
+pub low-product : (b a q p d e r : ℤ) → FitsSigned w32 b → FitsSigned w32 a → FitsSigned w32 q → FitsSigned w32 p
+    → d ≡ int_wrap w32 (again b -ℤ again a) → e ≡ int_wrap w32 (again q -ℤ again p) → r ≡ int_wrap w32 (again d *ℤ again e)
+    → r ≡ int_wrap w32 ((b -ℤ a) *ℤ (q -ℤ p))
+low-product b a q p d e r fb fa fq fp i j k =
+    let u : again d ≡ int_wrap w32 (b -ℤ a) = low-again d (again b -ℤ again a) i ∙ ap₂ (λ x y. int_wrap w32 (x -ℤ y)) (to_z-of_z w32 b fb) (to_z-of_z w32 a fa) in
+    let v : again e ≡ int_wrap w32 (q -ℤ p) = low-again e (again q -ℤ again p) j ∙ ap₂ (λ x y. int_wrap w32 (x -ℤ y)) (to_z-of_z w32 q fq) (to_z-of_z w32 p fp) in
+    k ∙ ap₂ (λ x y. int_wrap w32 (x *ℤ y)) u v
+    ∙ int_wrap-mul_left w32 (b -ℤ a) (int_wrap w32 (q -ℤ p)) ∙ int_wrap-mul_right w32 (b -ℤ a) (q -ℤ p)
+
+equal-products : (x y : ℤ) → x -ℤ y ≡ pos 0 → x ≡ y
+equal-products x y h = omega (arith, ints, h)
+
+-- of steps whose cross product is 0 the two products are the same in 32 bits
+pub low-same : (a b p q : Point) (r s : ℤ) → r ≡ int_wrap w32 ((b.x -ℤ a.x) *ℤ (q.y -ℤ p.y)) → s ≡ int_wrap w32 ((b.y -ℤ a.y) *ℤ (q.x -ℤ p.x)) → step_cross a b p q ≡ pos 0 → r ≡ s
+low-same a b p q r s i j zero = i ∙ ap (int_wrap w32) (equal-products ((b.x -ℤ a.x) *ℤ (q.y -ℤ p.y)) ((b.y -ℤ a.y) *ℤ (q.x -ℤ p.x)) zero) ∙ sym j

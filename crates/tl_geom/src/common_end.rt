@@ -1,10 +1,10 @@
 //! Segments with a common end.
-ghost use Rattle.std.specs.Prelude.{◌≡◌, ◌≢◌, ◌↔◌, ◌⊎◌, pos, IfSome, IsTrue};
+ghost use Rattle.std.specs.Prelude.{◌≡◌, ◌≢◌, ◌↔◌, ◌⊎◌, ◌-ℤ◌, ◌*ℤ◌, pos, IfSome, IsTrue};
+ghost use Rattle.std.specs.Int.{int_wrap, w32};
 ghost use Rattle.tl_geom.specs.Plane.{end_a, end_b, step_cross};
 ghost use Rattle.tl_geom.specs.Contact.{MeetAtEnds};
 ghost use Rattle.tl_geom.specs.Keeping.Lines.{IsEndOfBoth};
 
-use crate::difference::cross_of_steps;
 use crate::{Point, Segment};
 
 /// The one point that two segments share, where it is an end of both and their directions differ.
@@ -60,10 +60,31 @@ fn is_same(p: Point, q: Point) -> bool
     p == q
 }
 
-/// Whether the lines of two segments cross in one point.
+/// Whether the lines of two segments are known to cross in one point. It is told by 32 bits of the two products of their
+/// cross product, which differ but for a product far beyond those of neighbours: `false` leaves it open.
 #[inline]
 fn are_crossed(s: Segment, t: Segment) -> bool
     ensures { IsTrue result → step_cross (end_a s) (end_b s) (end_a t) (end_b t) ≢ pos 0 }
 {
-    cross_of_steps(s.a(), s.b(), t.a(), t.b()) != 0
+    let (a, b) = (s.a(), s.b());
+    let (p, q) = (t.a(), t.b());
+    let first = low_product(low_difference(b.x, a.x), low_difference(q.y, p.y));
+    let second = low_product(low_difference(b.y, a.y), low_difference(q.x, p.x));
+    first != second
+}
+
+/// The last 32 bits of a difference.
+#[inline]
+fn low_difference(a: i32, b: i32) -> i32
+    ensures { result ≡ int_wrap w32 (a -ℤ b) }
+{
+    a.wrapping_sub(b)
+}
+
+/// The last 32 bits of a product.
+#[inline]
+fn low_product(a: i32, b: i32) -> i32
+    ensures { result ≡ int_wrap w32 (a *ℤ b) }
+{
+    a.wrapping_mul(b)
 }
