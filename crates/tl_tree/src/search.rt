@@ -4,7 +4,7 @@ ghost use Rattle.std.specs.Prelude.{◌≤ℤ◌};
 ghost use Rattle.std.specs.Int.{int_max, int_min};
 ghost use Rattle.tl_geom.specs.Rectangle.{AreMeeting};
 ghost use Rattle.tl_tree.specs.Fits.{AreBelow, Fits};
-ghost use Rattle.tl_tree.specs.Keeping.Cells.{sum_from, AllFrom, AreCellsOf};
+ghost use Rattle.tl_tree.specs.Keeping.Cells.{AreCellsOf};
 ghost use Rattle.tl_tree.specs.Keeping.Listing.{first_items, listed_items, AllSound, sum_beside, AllBeside};
 ghost use Rattle.tl_tree.specs.Keeping.Marking.{Includes, RootMeets};
 ghost use Rattle.tl_tree.specs.Pairs.{meeting, row_sum, cross_sum, pair_sum, AllRow, AllCross, AllPairs, AreFree};
@@ -12,7 +12,7 @@ ghost use Rattle.tl_tree.specs.Searches.{MayAnswer};
 ghost use Rattle.tl_tree.specs.Trees.{leaf_items};
 ghost use Rattle.tl_tree.specs.Keeping.Walking.{MayLeave, answer_of, items_below, IsSound, AreSound};
 
-use crate::cells::{cells_of, first_of};
+use crate::cells::cells_of;
 use crate::lanes::{bounds_of_eight, is_first_marked, later_marks, meeting_roots};
 use crate::leaf::test_leaf;
 use crate::near::{LIST, do_meet, list_near};
@@ -131,14 +131,12 @@ fn test_cell<I: Items>(
     test_meeting(items, i, others[at], progress)
 }
 
-/// Tests the pairs whose cells are marked, which are those whose bounds meet: of some items and others, or of the items
-/// themselves and those behind each.
+/// Tests the pairs of some items and others whose cells are marked, which are those whose bounds meet.
 #[inline(never)]
 pub fn test_cells<I: Items>(
     items: &I,
     some: &[u32],
     others: &[u32],
-    behind: bool,
     cells: u64,
     progress: &mut Progress<I::C>,
 ) -> bool
@@ -146,12 +144,11 @@ pub fn test_cells<I: Items>(
     requires others { AreBelow (I.count items.now) others.now }
     requires few { length some.now ≤ 8 }
     requires few_others { length others.now ≤ 8 }
-    requires same { IsTrue behind → others.now ≡ some.now }
-    requires cells { AreCellsOf behind (I.bounds_of items.now) some.now others.now cells }
+    requires cells { AreCellsOf (I.bounds_of items.now) some.now others.now cells }
     requires nothing_found { progress.old.found ≡ None }
     ensures { MayLeave (I.count items.now) (I.tells items.now)
-        (sum_from (meeting (I.bounds_of items.now)) behind some.now others.now 0)
-        (AllFrom (AreFree (I.tells items.now)) behind some.now others.now 0) progress.old progress.new result }
+        (cross_sum (meeting (I.bounds_of items.now)) some.now others.now)
+        (AllCross (AreFree (I.tells items.now)) some.now others.now) progress.old progress.new result }
 {
     let (mut later, mut place) = (cells, 0usize);
     while later != 0 {
@@ -161,8 +158,7 @@ pub fn test_cells<I: Items>(
         if some.len() <= row {
             return true;
         }
-        let at = first_of(behind, row) + column;
-        if !test_cell(items, some[row], others, at, progress) {
+        if !test_cell(items, some[row], others, column, progress) {
             return false;
         }
         later = (later >> empty) / 2;
@@ -212,8 +208,7 @@ pub fn test_cross<I: Items>(
         return test_all(items, some, others, progress);
     }
     let bounds = bounds_of_eight(items, others);
-    let cells = cells_of(items, some, &bounds, false);
-    test_cells(items, some, others, false, cells, progress)
+    test_cells(items, some, others, cells_of(items, some, &bounds), progress)
 }
 
 /// Tests an item against those that stand behind it among some items.

@@ -7,8 +7,8 @@ use Rattle.tl_tree.proofs.CellRows.{room, room-fits, row-before}
 use Rattle.tl_tree.proofs.Steps.{below-at}
 use Rattle.tl_tree.proofs.cells.cells_of.Goals as goal
 
-pub row_of-requires-clause-item : goal.row_of-requires-clause-item
-row_of-requires-clause-item g c = below-at _ _ (c.loop-k.k - 1) (omega (arith, c.loop-k-test.true, c.loop-k.auto.k)) c.requires.some
+pub row_of-requires : goal.row_of-requires
+row_of-requires g c = below-at _ _ (c.loop-k.k - 1) (omega (arith, c.loop-k-test.true, c.loop-k.auto.k)) c.requires.some
 
 pub overflow_mul-cells : goal.overflow_mul-cells
 overflow_mul-cells g c =
@@ -28,10 +28,9 @@ loop-k-preserved g c =
     let k = c.loop-k.k - 1 in
     let e : suc k ≡ c.loop-k.k = omega (arith, c.loop-k-test.true) in
     let left : length xs - k ≡ suc (length xs - c.loop-k.k) = omega (arith, c.loop-k-test.true, c.loop-k.auto.k) in
-    let P : ℕ → Type 0 = λ v. (j : ℕ) → v + j < 8 → (bit_at c.row_of.result j ≡ 1) ↔ AreMeeting (lane eight (v + j)) (b (get_or xs k 0)) in
-    let Q : ℕ → Type 0 = λ v. AreLaneCells c.args.behind b xs eight v c.loop-k.cells in
+    let Q : ℕ → Type 0 = λ v. AreLaneCells b xs eight v c.loop-k.cells in
     let v = ap (λ n. 2 ^ (8 * n)) left ∙ room (length xs - c.loop-k.k) in
     record {
-      marked = row-before c.args.behind b xs eight k c.loop-k.cells c.row_of.result c.row_of.ensures.eight (subst P c.first_of.ensures c.row_of.ensures.marks) (subst Q (sym e) c.loop-k.invariant.marked);
+      marked = row-before b xs eight k c.loop-k.cells c.row_of.result c.row_of.ensures.eight c.row_of.ensures.marks (subst Q (sym e) c.loop-k.invariant.marked);
       room = omega (arith, v, c.loop-k.invariant.room, c.row_of.ensures.eight);
     }

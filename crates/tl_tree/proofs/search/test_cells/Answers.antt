@@ -16,10 +16,10 @@ pub loop-later-init : goal.loop-later-init
 loop-later-init g c =
     let meet = meeting (g.I.Items.bounds_of c.args.items.now) in
     let free = AreFree (g.I.Items.tells c.args.items.now) in
-    let e = rest-start meet c.args.behind c.args.some.now c.args.others.now c.requires.same in
+    let e = rest-start meet c.args.some.now c.args.others.now in
     record {
       left = omega (arith, e);
-      free = all-rest-start free c.args.behind c.args.some.now c.args.others.now c.requires.same;
+      free = all-rest-start free c.args.some.now c.args.others.now;
       nothing_found = c.requires.nothing_found;
       within = omega arith;
       marks = λ k. let z : k ≡ 0 + k = omega arith in ap (bit_at c.args.cells) z;
@@ -36,11 +36,11 @@ returns-then-some-row g c =
     let p = c.loop-later.place in
     let t = trailing_zeros w64 m in
     let none : (k : ℕ) → k < t → bit_at c.args.cells (p + k) ≡ 0 = λ k l. sym (c.loop-later.invariant.marks k) ∙ (first m c.loop-later-test.true c.loop-later.auto.later-fits.fits).1 k l in
-    let s = skip-unmarked c.args.behind b xs ys c.args.cells c.requires.cells c.requires.same c.requires.few_others t p none in
-    let e = rest-end (meeting b) c.args.behind xs ys c.requires.same (p + t) c.if-some-row.true in
+    let s = skip-unmarked b xs ys c.args.cells c.requires.cells c.requires.few_others t p none in
+    let e = rest-end (meeting b) xs ys (p + t) c.if-some-row.true in
     record {
       left = omega (arith, s, e, c.loop-later.invariant.left);
-      free = c.loop-later.invariant.free (free-skip c.args.behind b xs ys c.args.cells c.requires.cells c.requires.same c.requires.few_others n tells (g.met.I.Items.apart c.args.items.now) c.requires.some c.requires.others t p none (all-rest-end (AreFree tells) c.args.behind xs ys c.requires.same (p + t) c.if-some-row.true));
+      free = c.loop-later.invariant.free (free-skip b xs ys c.args.cells c.requires.cells c.requires.few_others n tells (g.met.I.Items.apart c.args.items.now) c.requires.some c.requires.others t p none (all-rest-end (AreFree tells) xs ys (p + t) c.if-some-row.true));
       nothing_found = c.loop-later.invariant.nothing_found;
     }
 
@@ -57,8 +57,7 @@ test_cell-requires-clause-meeting g c =
     let t = trailing_zeros w64 m in
     let q = c.loop-later.place + t in
     let one : bit_at c.args.cells q ≡ 1 = sym (c.loop-later.invariant.marks t) ∙ (first m c.loop-later-test.true c.loop-later.auto.later-fits.fits).0 in
-    let P : ℕ → Type 0 = λ v. v + q % 8 < length ys → AreMeeting (b (get_or ys (v + q % 8) 0)) (b (get_or xs (q / 8) 0)) in
-    subst P (sym c.first_of.ensures) (marked-meets c.args.behind b xs ys c.args.cells c.requires.cells q (omega (arith, c.if-some-row.false)) one)
+    λ l. marked-meets b xs ys c.args.cells c.requires.cells q (omega (arith, c.if-some-row.false)) one l
 
 pub test_cell-requires-clause-nothing_found : goal.test_cell-requires-clause-nothing_found
 test_cell-requires-clause-nothing_found g c = c.loop-later.invariant.nothing_found
@@ -73,10 +72,9 @@ returns-then-not-test_cell g c =
     let t = trailing_zeros w64 m in
     let q = p + t in
     let none : (k : ℕ) → k < t → bit_at c.args.cells (p + k) ≡ 0 = λ k l. sym (c.loop-later.invariant.marks k) ∙ (first m c.loop-later-test.true c.loop-later.auto.later-fits.fits).1 k l in
-    let s = skip-unmarked c.args.behind b xs ys c.args.cells c.requires.cells c.requires.same c.requires.few_others t p none in
-    let e = cell-step (meeting b) c.args.behind xs ys c.requires.same q (omega (arith, c.if-some-row.false)) c.requires.few_others in
-    let o = ap (λ v. row_sum (meeting b) (get_or xs (q / 8) 0) (take 1 (drop (v + q % 8) ys))) c.first_of.ensures in
-    stops _ _ _ _ _ _ _ _ _ c.test_cell.ensures c.if-not-test_cell.true (λ h. omega (arith, h, s, e, o, c.loop-later.invariant.left))
+    let s = skip-unmarked b xs ys c.args.cells c.requires.cells c.requires.few_others t p none in
+    let e = cell-step (meeting b) xs ys q (omega (arith, c.if-some-row.false)) c.requires.few_others in
+    stops _ _ _ _ _ _ _ _ _ c.test_cell.ensures c.if-not-test_cell.true (λ h. omega (arith, h, s, e, c.loop-later.invariant.left))
 
 pub loop-later-preserved : goal.loop-later-preserved
 loop-later-preserved g c =
@@ -91,14 +89,12 @@ loop-later-preserved g c =
     let q = p + t in
     let none : (k : ℕ) → k < t → bit_at c.args.cells (p + k) ≡ 0 = λ k l. sym (c.loop-later.invariant.marks k) ∙ (first m c.loop-later-test.true c.loop-later.auto.later-fits.fits).1 k l in
     let row : q / 8 < length xs = omega (arith, c.if-some-row.false) in
-    let s = skip-unmarked c.args.behind b xs ys c.args.cells c.requires.cells c.requires.same c.requires.few_others t p none in
-    let e = cell-step (meeting b) c.args.behind xs ys c.requires.same q row c.requires.few_others in
-    let o = ap (λ v. row_sum (meeting b) (get_or xs (q / 8) 0) (take 1 (drop (v + q % 8) ys))) c.first_of.ensures in
+    let s = skip-unmarked b xs ys c.args.cells c.requires.cells c.requires.few_others t p none in
+    let e = cell-step (meeting b) xs ys q row c.requires.few_others in
     let k = goes _ _ _ _ _ _ _ c.test_cell.ensures c.if-not-test_cell.false in
-    let P : ℕ → Type 0 = λ v. AllRow (AreFree tells) (get_or xs (q / 8) 0) (take 1 (drop (v + q % 8) ys)) in
     record {
-      left = omega (arith, s, e, o, k.left, c.loop-later.invariant.left);
-      free = λ h. c.loop-later.invariant.free (free-skip c.args.behind b xs ys c.args.cells c.requires.cells c.requires.same c.requires.few_others n tells (g.met.I.Items.apart c.args.items.now) c.requires.some c.requires.others t p none (all-cell-step (AreFree tells) c.args.behind xs ys c.requires.same q row c.requires.few_others (subst P c.first_of.ensures k.free) h));
+      left = omega (arith, s, e, k.left, c.loop-later.invariant.left);
+      free = λ h. c.loop-later.invariant.free (free-skip b xs ys c.args.cells c.requires.cells c.requires.few_others n tells (g.met.I.Items.apart c.args.items.now) c.requires.some c.requires.others t p none (all-cell-step (AreFree tells) xs ys q row c.requires.few_others k.free h));
       nothing_found = k.nothing_found;
       within = omega (arith, row, c.requires.few);
       marks = λ j. let a : p + (suc j + t) ≡ q + 1 + j = omega arith in sym (bit_at-suc (m / 2 ^ t) j) ∙ bit-behind m t (suc j) ∙ c.loop-later.invariant.marks (suc j + t) ∙ ap (bit_at c.args.cells) a;
@@ -114,10 +110,10 @@ returns g c =
     let p = c.loop-later.place in
     let none : (k : ℕ) → k < 64 → bit_at c.args.cells (p + k) ≡ 0 = λ k l. sym (c.loop-later.invariant.marks k) ∙ ap (λ v. bit_at v k) c.loop-later-test.false ∙ bit_at-zero k in
     let beyond : length xs ≤ (p + 64) / 8 = omega (arith, c.requires.few) in
-    let s = skip-unmarked c.args.behind b xs ys c.args.cells c.requires.cells c.requires.same c.requires.few_others 64 p none in
-    let e = rest-end (meeting b) c.args.behind xs ys c.requires.same (p + 64) beyond in
+    let s = skip-unmarked b xs ys c.args.cells c.requires.cells c.requires.few_others 64 p none in
+    let e = rest-end (meeting b) xs ys (p + 64) beyond in
     record {
       left = omega (arith, s, e, c.loop-later.invariant.left);
-      free = c.loop-later.invariant.free (free-skip c.args.behind b xs ys c.args.cells c.requires.cells c.requires.same c.requires.few_others n tells (g.met.I.Items.apart c.args.items.now) c.requires.some c.requires.others 64 p none (all-rest-end (AreFree tells) c.args.behind xs ys c.requires.same (p + 64) beyond));
+      free = c.loop-later.invariant.free (free-skip b xs ys c.args.cells c.requires.cells c.requires.few_others n tells (g.met.I.Items.apart c.args.items.now) c.requires.some c.requires.others 64 p none (all-rest-end (AreFree tells) xs ys (p + 64) beyond));
       nothing_found = c.loop-later.invariant.nothing_found;
     }

@@ -1,7 +1,6 @@
 use Rattle.std.proofs.Common.{None, ◌≡◌, ℕ, ◌+◌, ◌-◌, ◌≤◌}
 use Rattle.std.specs.Int.{bit_at}
-use Rattle.tl_tree.specs.Keeping.Cells.{sum_from, AllFrom}
-use Rattle.tl_tree.specs.Pairs.{meeting, AreFree}
+use Rattle.tl_tree.specs.Pairs.{meeting, cross_sum, AllCross, AreFree}
 use Rattle.tl_tree.proofs.CellRows.{rest, RestAll}
 use Rattle.tl_tree.proofs.search.test_cells.Given as goal
 
@@ -11,8 +10,8 @@ invariant-loop-later g l =
     let meet = meeting (g.I.Items.bounds_of l.items) in
     let free = AreFree (g.I.Items.tells l.items) in
     record {
-      left : l.progress.left + sum_from meet l.behind l.some l.others 0 ≡ l.fn.progress.left + rest meet l.behind l.some l.others l.place;
-      free : RestAll free l.behind l.some l.others l.place → AllFrom free l.behind l.some l.others 0;
+      left : l.progress.left + cross_sum meet l.some l.others ≡ l.fn.progress.left + rest meet l.some l.others l.place;
+      free : RestAll free l.some l.others l.place → AllCross free l.some l.others;
       nothing_found : l.progress.found ≡ None;
       within : l.place ≤ 64;
       marks : (k : ℕ) → bit_at l.later k ≡ bit_at l.cells (l.place + k);
