@@ -1,5 +1,5 @@
 //! Lists of the trees that a tree is searched against: of those that come behind it, those whose rectangles meet its own.
-ghost use Rattle.std.specs.Prelude.{◌≡◌, ◌≤◌, ◌<◌, ◌+◌, ◌↔◌, ◌≤ℤ◌, ◌++◌, [], length, take, IsTrue, IfSome};
+ghost use Rattle.std.specs.Prelude.{◌≡◌, ◌≤◌, ◌<◌, ◌+◌, ◌↔◌, ◌≤ℤ◌, ◌++◌, [], ◌^◌, length, take, IsTrue, IsFalse, IfSome};
 ghost use Rattle.std.specs.Int.{int_max, int_min};
 ghost use Rattle.tl_geom.specs.Rectangle.{AreMeeting};
 ghost use Rattle.tl_tree.specs.Trees.{leaf_items};
@@ -42,6 +42,43 @@ fn do_overlap(low: i32, high: i32, low2: i32, high2: i32) -> bool
     ensures { IsTrue result ↔ (int_max low low2 ≤ℤ int_min high high2) }
 {
     low.max(low2) <= high.min(high2)
+}
+
+/// Whether no point is in both rectangles, told without a branch.
+#[inline]
+pub fn are_apart(r: Rect, q: Rect) -> bool
+    ensures { IsFalse result ↔ AreMeeting r q }
+{
+    is_either(
+        is_gap(r.xmin, r.xmax, q.xmin, q.xmax),
+        is_gap(r.ymin, r.ymax, q.ymin, q.ymax),
+    )
+}
+
+/// Whether one of both is so.
+#[inline]
+fn is_either(first: bool, second: bool) -> bool
+    ensures { IsFalse result ↔ (IsFalse first × IsFalse second) }
+{
+    first | second
+}
+
+/// Whether no number lies from `low` to `high` and from `low2` to `high2`.
+#[inline]
+fn is_gap(low: i32, high: i32, low2: i32, high2: i32) -> bool
+    ensures { IsFalse result ↔ (int_max low low2 ≤ℤ int_min high high2) }
+{
+    low.max(low2) > high.min(high2)
+}
+
+/// The next place of a list, or the same where what stands there is written over.
+#[inline]
+pub fn next_place(place: usize, again: bool) -> usize
+    requires { place + 1 < 2 ^ 64 }
+    ensures next { IsFalse again → result ≡ place + 1 }
+    ensures same { IsTrue again → result ≡ place }
+{
+    place + 1 - usize::from(again)
 }
 
 /// Lists a tree, the first of those at `at`, behind the first `len` of a list, where its rectangle meets that of the

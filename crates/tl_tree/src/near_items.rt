@@ -7,7 +7,7 @@ ghost use Rattle.tl_tree.specs.Keeping.Walking.{items_below, IsSound, AreSound};
 ghost use Rattle.tl_tree.specs.Trees.{leaf_items};
 
 use crate::Items;
-use crate::near::do_meet;
+use crate::near::{are_apart, do_meet, next_place};
 use crate::walk::{Below, Tree, Trees};
 use tl_geom::Rect;
 
@@ -38,11 +38,7 @@ fn list_items<I: Items>(
     let mut more = len;
     for other in others {
         near[more] = *other;
-        more = if do_meet(items.bounds(*other), around) {
-            more + 1
-        } else {
-            more
-        };
+        more = next_place(more, are_apart(items.bounds(*other), around));
     }
     more
 }

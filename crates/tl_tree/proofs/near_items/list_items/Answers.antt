@@ -1,4 +1,4 @@
-use Rattle.std.proofs.Common.{◌≡◌, ℕ, ◌+◌, ◌<◌, false, List, get_or, length, take, slice_set, sym, subst, ◌∙◌, arith}
+use Rattle.std.proofs.Common.{◌≡◌, ℕ, ◌+◌, ◌<◌, Bool, true, false, List, get_or, length, take, slice_set, refl, sym, subst, ◌∙◌, arith}
 use Rattle.std.proofs.lemmas.Bool.{false≢true}
 use Rattle.std.proofs.lemmas.List.{length-set, take-set, take_more_set, at_drop_all}
 use Rattle.tl_geom.specs.Rectangle.{AreMeeting}
@@ -7,7 +7,11 @@ use Rattle.tl_tree.proofs.Listing.{Lists, item-listed, item-apart, item-sum, ite
 use Rattle.tl_tree.proofs.PairLemmas.{cross-nil, all_cross-nil}
 use Rattle.tl_tree.proofs.Steps.{below-at}
 use Rattle.tl_tree.proofs.near_items.list_items.Goals as goal
-use Rattle.tl_tree.proofs.near_items.list_items.Goals.{then-do_meet, else-do_meet}
+
+-- by whether a test holds
+by_Bool : {P : Type 0} (t : Bool) → (t ≡ true → P) → (t ≡ false → P) → P
+by_Bool true f g = f refl
+by_Bool false f g = g refl
 
 pub loop-other-init : goal.loop-other-init
 loop-other-init g c =
@@ -31,13 +35,13 @@ loop-other-preserved g c =
     let within : len < length near = omega (arith, c.loop-other.invariant.fits, c.loop-other.invariant.complete, c.loop-other-test.true, c.requires.room) in
     let P : ℕ → Type 0 = λ m. Lists n b tells xs y (take len near) (take m (slice_set near len y)) in
     let Q : List ℕ → Type 0 = Lists n b tells xs y (take len near) in
-    let no : c.do_meet.result ≡ false → AreMeeting (b y) c.args.around → ⊥ = λ f m. false≢true (sym f ∙ c.do_meet.ensures.1 (rw c.bounds.ensures m)) in
-    let step : Lists n b tells xs y (take len near) (take c.if-do_meet.more (slice_set near len y)) =
-    elim c.if-do_meet.branch [
-      | then-do_meet w ↦ subst P (sym w.more-is) (subst Q (sym (take_more_set near len y within)) (item-listed n b tells xs (take len near) y known))
-      | else-do_meet w ↦ subst P (sym w.more-is) (subst Q (sym (take-set near len y)) (item-apart n b tells xs (g.met.I.Items.apart c.args.items.now) c.args.around c.requires.around c.requires.some (take len near) y known (no w.if-do_meet.false)))
-    ] in
-    let fits : c.if-do_meet.more < len + 2 = elim c.if-do_meet.branch [ then-do_meet w ↦ omega (arith, w.more-is) | else-do_meet w ↦ omega (arith, w.more-is) ] in
+    let no : c.are_apart.result ≡ true → AreMeeting (b y) c.args.around → ⊥ = λ f m. false≢true (sym (c.are_apart.ensures.1 (rw c.bounds.ensures m)) ∙ f) in
+    let step : Lists n b tells xs y (take len near) (take c.next_place-more.result (slice_set near len y)) =
+    by_Bool c.are_apart.result
+    (λ e. subst P (sym (c.next_place-more.ensures.same e)) (subst Q (sym (take-set near len y)) (item-apart n b tells xs (g.met.I.Items.apart c.args.items.now) c.args.around c.requires.around c.requires.some (take len near) y known (no e))))
+    (λ e. subst P (sym (c.next_place-more.ensures.next e)) (subst Q (sym (take_more_set near len y within)) (item-listed n b tells xs (take len near) y known))) in
+    let fits : c.next_place-more.result < len + 2 =
+    by_Bool c.are_apart.result (λ e. omega (arith, c.next_place-more.ensures.same e)) (λ e. omega (arith, c.next_place-more.ensures.next e)) in
     record {
       sum = omega (arith, step.sum, item-sum n b tells xs ys k c.loop-other-test.true, c.loop-other.invariant.sum);
       free = λ f h. let p = step.free f in c.loop-other.invariant.free p.0 (item-free n b tells xs ys k c.loop-other-test.true p.1 h);
