@@ -1,5 +1,5 @@
 -- Lists of trees that a tree is searched against.
-use Rattle.std.proofs.Common.{◌≡◌, ℕ, ◌+◌, ◌<◌, List, [], ◌∷◌, ◌++◌, length, drop, get_or, Option, Some, None, IfSome, refl, sym, ap, subst, ◌∙◌, arith}
+use Rattle.std.proofs.Common.{◌≡◌, ℕ, ◌+◌, ◌<◌, Bool, true, false, List, [], ◌∷◌, ◌++◌, length, drop, get_or, Option, Some, None, IfSome, refl, sym, ap, subst, ◌∙◌, arith}
 use Rattle.tl_geom.specs.declared.rect.Rect.{Rect}
 use Rattle.std.proofs.lemmas.List.{at_drop_more}
 use Rattle.tl_geom.specs.Rectangle.{AreMeeting, Covers}
@@ -14,6 +14,11 @@ use Rattle.tl_tree.specs.Keeping.Walking.{followed, items_below, AreSound, IsSou
 use Rattle.tl_tree.proofs.Apart.{cross-apart, cross-free}
 use Rattle.tl_tree.proofs.PairLemmas.{cross-nil, cross-append_right, all_cross-nil, all_cross-join}
 use Rattle.tl_tree.proofs.PairTests.{KeepsLaw}
+
+-- by whether a test holds
+pub by_Bool : {P : Type 0} (t : Bool) → (t ≡ true → P) → (t ≡ false → P) → P
+by_Bool true f g = f refl
+by_Bool false f g = g refl
 
 -- what is said of an answer, from what else is said of it
 pub map-some : {P Q : ℕ → Type 0} (o : Option ℕ) → ((m : ℕ) → P m → Q m) → IfSome o P → IfSome o Q

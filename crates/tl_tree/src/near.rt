@@ -103,11 +103,7 @@ fn list_one<I: Items, W: Trees>(
         (items_below W.forest first.now.below) (take result near.new) }
 {
     near[len] = at;
-    if do_meet(first.rect, tree.rect) {
-        len + 1
-    } else {
-        len
-    }
+    next_place(len, are_apart(first.rect, tree.rect))
 }
 
 /// Lists some trees in the same way. There is no answer where the list has no room for them.

@@ -3,15 +3,10 @@ use Rattle.std.proofs.lemmas.Bool.{false≢true}
 use Rattle.std.proofs.lemmas.List.{length-set, take-set, take_more_set, at_drop_all}
 use Rattle.tl_geom.specs.Rectangle.{AreMeeting}
 use Rattle.tl_tree.specs.Pairs.{meeting, cross_sum, AreFree, AllCross}
-use Rattle.tl_tree.proofs.Listing.{Lists, item-listed, item-apart, item-sum, item-free}
+use Rattle.tl_tree.proofs.Listing.{Lists, by_Bool, item-listed, item-apart, item-sum, item-free}
 use Rattle.tl_tree.proofs.PairLemmas.{cross-nil, all_cross-nil}
 use Rattle.tl_tree.proofs.Steps.{below-at}
 use Rattle.tl_tree.proofs.near_items.list_items.Goals as goal
-
--- by whether a test holds
-by_Bool : {P : Type 0} (t : Bool) → (t ≡ true → P) → (t ≡ false → P) → P
-by_Bool true f g = f refl
-by_Bool false f g = g refl
 
 pub loop-other-init : goal.loop-other-init
 loop-other-init g c =
