@@ -1,10 +1,10 @@
 -- Vectors of eight numbers that are compared.
-use Rattle.std.proofs.Common.{◌≡◌, ℕ, zero, suc, ◌<◌, ◌^◌, ◌%◌, ◌-◌, Bool, true, false, T, cond, ◌↔◌, ℤ, pos, ◌≤ℤ◌, List, [], ◌∷◌, map, length, get_or, FitsSigned, of_z, to_z, w32, refl, sym, ap, ap₂, ◌∙◌, subst, arith, min, bit_and, replicate}
-use Rattle.std.specs.Int.{bit_at, int_max, int_min}
+use Rattle.std.proofs.Common.{◌≡◌, ℕ, zero, suc, ◌<◌, ◌^◌, ◌%◌, ◌-◌, Bool, true, false, T, cond, ◌↔◌, ℤ, pos, ◌≤ℤ◌, List, [], ◌∷◌, map, length, get_or, FitsSigned, of_z, to_z, w32, refl, sym, ap, ap₂, ◌∙◌, subst, arith, bit_and, replicate}
+use Rattle.std.specs.Int.{bit_at}
 use Rattle.std.specs.Int.Signed.{le_z, le_z_yes}
-use Rattle.std.proofs.lemmas.Int.{to_z-of_z, ints, clamps}
+use Rattle.std.proofs.lemmas.Int.{to_z-of_z}
 use Rattle.std.proofs.lemmas.Nat.Bits.{bit_at_and, bit_at-lt}
-use Rattle.std.proofs.lemmas.List.{get_or-map, length-map, get_or_default}
+use Rattle.std.proofs.lemmas.List.{get_or-map, length-map}
 use Rattle.std.proofs.lemmas.Simd.{tops_compared, length-zip2, mask_l-mod, mask_l-lt, bit_mask_l, get_or-zip2, Each1-from_get_or, get_or-replicate}
 use lib.Lanes.{Each1, zip2, mask_l, top}
 use Rattle.tl_geom.specs.declared.rect.Rect.{Rect}

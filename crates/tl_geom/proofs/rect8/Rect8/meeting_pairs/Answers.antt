@@ -1,4 +1,3 @@
-use Rattle.std.proofs.Common.{◌%◌}
 use Rattle.tl_geom.proofs.Turns.{pairs-at}
 use Rattle.tl_geom.proofs.rect8.Rect8.meeting_pairs.Goals as goal
 

@@ -1,4 +1,4 @@
-use Rattle.std.proofs.Common.{ℤ, ◌≡◌, ◌↔◌, ◌≤ℤ◌, pos, map, get_or, replicate, FitsSigned, to_z, of_z, w32, rules}
+use Rattle.std.proofs.Common.{◌≡◌, ◌↔◌, ◌≤ℤ◌, pos, map, get_or, replicate, FitsSigned, to_z, of_z, w32, rules}
 use Rattle.std.specs.Int.{bit_at, int_max, int_min}
 use Rattle.tl_geom.proofs.Masks.{again, lanes-again, splat-lane}
 use Rattle.tl_geom.proofs.Turns.{splat-lanes, lane-meets}

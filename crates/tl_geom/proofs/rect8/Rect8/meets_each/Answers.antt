@@ -1,4 +1,4 @@
-use Rattle.std.proofs.Common.{ℤ, ◌≡◌, ◌↔◌, ◌≤ℤ◌, pos, map, get_or, to_z, of_z, w32, arith}
+use Rattle.std.proofs.Common.{◌≡◌, ◌↔◌, ◌≤ℤ◌, pos, map, get_or, to_z, of_z, w32, arith}
 use Rattle.std.specs.Int.{bit_at, int_max, int_min}
 use Rattle.std.proofs.lemmas.List.{get_or_default}
 use Rattle.tl_geom.specs.EightRectangles.{lane}

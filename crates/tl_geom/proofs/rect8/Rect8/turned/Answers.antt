@@ -1,4 +1,4 @@
-use Rattle.std.proofs.Common.{ℤ, ◌≡◌, ◌+◌, ◌%◌, pos, map, get_or, to_z, of_z, w32, arith}
+use Rattle.std.proofs.Common.{pos}
 use Rattle.tl_geom.proofs.Masks.{lanes-again}
 use Rattle.tl_geom.proofs.Turns.{turned-side}
 use Rattle.tl_geom.proofs.rect8.Rect8.turned.Goals as goal
