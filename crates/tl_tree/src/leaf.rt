@@ -34,7 +34,13 @@ fn test_rows<I: Items>(
         (cross_sum (meeting (I.bounds_of items.now)) some.now others.now)
         (AllCross (AreFree (I.tells items.now)) some.now others.now) progress.old progress.new result }
 {
-    test_cells(items, others, some, cells_of(items, others, bounds), progress)
+    test_cells(
+        items,
+        others,
+        some,
+        cells_of(items, others, bounds),
+        progress,
+    )
 }
 
 /// Tests the items of a leaf, whose bounds are given, against each of some others: of eight all pairs at once.

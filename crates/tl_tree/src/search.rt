@@ -208,7 +208,13 @@ pub fn test_cross<I: Items>(
         return test_all(items, some, others, progress);
     }
     let bounds = bounds_of_eight(items, others);
-    test_cells(items, some, others, cells_of(items, some, &bounds), progress)
+    test_cells(
+        items,
+        some,
+        others,
+        cells_of(items, some, &bounds),
+        progress,
+    )
 }
 
 /// Tests an item against those that stand behind it among some items.

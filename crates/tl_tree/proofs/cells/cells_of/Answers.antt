@@ -1,7 +1,4 @@
-use Rattle.std.proofs.Common.{◌≡◌, ℕ, suc, ◌+◌, ◌-◌, ◌*◌, ◌^◌, ◌<◌, ◌↔◌, length, get_or, sym, ap, subst, ◌∙◌, arith}
-use Rattle.std.specs.Int.{bit_at}
-use Rattle.tl_geom.specs.EightRectangles.{lane}
-use Rattle.tl_geom.specs.Rectangle.{AreMeeting}
+use Rattle.std.proofs.Common.{◌≡◌, ℕ, suc, ◌-◌, ◌*◌, ◌^◌, length, sym, ap, subst, ◌∙◌, arith}
 use Rattle.tl_tree.specs.Keeping.Cells.{AreLaneCells}
 use Rattle.tl_tree.proofs.CellRows.{room, room-fits, row-before}
 use Rattle.tl_tree.proofs.Steps.{below-at}

@@ -1,8 +1,7 @@
-use Rattle.std.proofs.Common.{◌≡◌, ℕ, suc, ◌+◌, ◌/◌, ◌%◌, ◌^◌, ◌<◌, ◌≤◌, length, get_or, take, drop, w64, sym, ap, subst, ◌∙◌, arith}
+use Rattle.std.proofs.Common.{◌≡◌, ℕ, suc, ◌+◌, ◌/◌, ◌^◌, ◌<◌, ◌≤◌, length, w64, sym, ap, ◌∙◌, arith}
 use Rattle.std.specs.Int.{bit_at, trailing_zeros}
 use Rattle.std.proofs.lemmas.Nat.Bits.{bit_at-suc, bit_at-zero, bit_at-trailing_zeros}
-use Rattle.tl_geom.specs.Rectangle.{AreMeeting}
-use Rattle.tl_tree.specs.Pairs.{meeting, row_sum, AllRow, AreFree}
+use Rattle.tl_tree.specs.Pairs.{meeting, AreFree}
 use Rattle.tl_tree.proofs.CellRows.{bit-behind, rest-start, rest-end, cell-step, all-rest-start, all-rest-end, all-cell-step, marked-meets, skip-unmarked, free-skip}
 use Rattle.tl_tree.proofs.Leaving.{stops, goes}
 use Rattle.tl_tree.proofs.Steps.{below-at}
