@@ -9,8 +9,8 @@ ghost use Rattle.tl_tree.specs.Pairs.{meeting, pair_sum, AllPairs, AreFree};
 use crate::Items;
 use crate::search::{Progress, test_meeting};
 
-/// Tests the two items of a cell, if both are there: the one at its column, and the one as many and one further on as its
-/// row tells, in a circle of eight.
+/// Tests the two items of a cell, if both are there: the one at its column, and another further on by one more than its
+/// row, in a circle of eight.
 #[inline]
 fn test_own_cell<I: Items>(
     items: &I,
