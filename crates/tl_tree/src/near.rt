@@ -18,30 +18,10 @@ pub const ROOM: usize = 768;
 
 /// Whether some point is in both rectangles, told without a branch: in a walk no one foresees whether it is so.
 #[inline]
-#[tactic(auto, using(crate::proofs::PairTests::meeting_by, crate::proofs::PairTests::by_meeting))]
 pub fn do_meet(r: Rect, q: Rect) -> bool
     ensures { IsTrue result ↔ AreMeeting r q }
 {
-    are_both(
-        do_overlap(r.xmin, r.xmax, q.xmin, q.xmax),
-        do_overlap(r.ymin, r.ymax, q.ymin, q.ymax),
-    )
-}
-
-/// Whether both are so.
-#[inline]
-fn are_both(first: bool, second: bool) -> bool
-    ensures { IsTrue result ↔ (IsTrue first × IsTrue second) }
-{
-    first & second
-}
-
-/// Whether some number lies from `low` to `high` and from `low2` to `high2`.
-#[inline]
-fn do_overlap(low: i32, high: i32, low2: i32, high2: i32) -> bool
-    ensures { IsTrue result ↔ (int_max low low2 ≤ℤ int_min high high2) }
-{
-    low.max(low2) <= high.min(high2)
+    !are_apart(r, q)
 }
 
 /// Whether no point is in both rectangles, told without a branch.
