@@ -60,8 +60,8 @@ fn is_same(p: Point, q: Point) -> bool
     p == q
 }
 
-/// Whether the lines of two segments are known to cross in one point. It is told by 32 bits of the two products of their
-/// cross product, which differ but for a product far beyond those of neighbours: `false` leaves it open.
+/// Whether the lines of two segments are known to cross in one point: the two products that their cross product is the
+/// difference of differ in their last 32 bits. Where these agree, as they do of parallel lines, it is left open.
 #[inline]
 fn are_crossed(s: Segment, t: Segment) -> bool
     ensures { IsTrue result → step_cross (end_a s) (end_b s) (end_a t) (end_b t) ≢ pos 0 }

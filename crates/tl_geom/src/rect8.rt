@@ -1,5 +1,6 @@
 //! Eight rectangles at once.
-ghost use Rattle.std.specs.Prelude.{◌≡◌, ℕ, ◌<◌, ◌≤◌, ◌+◌, ◌*◌, ◌/◌, ◌%◌, ◌^◌, ◌↔◌, ◌≤ℤ◌, pos, length, get_or, ◌∷◌, []};
+ghost use Rattle.std.specs.Prelude.{◌≡◌, ℕ, ◌<◌, ◌≤◌, ◌+◌, ◌*◌, ◌/◌, ◌%◌, ◌^◌, ◌↔◌, ◌≤ℤ◌, pos};
+ghost use Rattle.std.specs.Prelude.{length, get_or, ◌∷◌, []};
 ghost use Rattle.std.specs.Int.{bit_at, int_max, int_min};
 ghost use Rattle.tl_geom.specs.Rectangle.{AreMeeting, nothing};
 ghost use Rattle.tl_geom.specs.Keeping.Lanes.{AreLanes};

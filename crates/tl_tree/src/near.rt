@@ -1,5 +1,6 @@
 //! Lists of the trees that a tree is searched against: of those that come behind it, those whose rectangles meet its own.
-ghost use Rattle.std.specs.Prelude.{◌≡◌, ◌≤◌, ◌<◌, ◌+◌, ◌↔◌, ◌≤ℤ◌, ◌++◌, [], ◌^◌, length, take, IsTrue, IsFalse, IfSome};
+ghost use Rattle.std.specs.Prelude.{◌≡◌, ◌≤◌, ◌<◌, ◌+◌, ◌↔◌, ◌≤ℤ◌, ◌++◌, [], ◌^◌, length, take};
+ghost use Rattle.std.specs.Prelude.{IsTrue, IsFalse, IfSome};
 ghost use Rattle.std.specs.Int.{int_max, int_min};
 ghost use Rattle.tl_geom.specs.Rectangle.{AreMeeting};
 ghost use Rattle.tl_tree.specs.Trees.{leaf_items};
