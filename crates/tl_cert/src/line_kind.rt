@@ -1,11 +1,10 @@
 //! The kinds of lines that a certificate has, but for those of nodes.
 
-ghost use Rattle.std.specs.Prelude.{◌≡◌, ◌⊎◌, ◌<◌, ◌≤◌, ◌+◌, ◌^◌, ◌↔◌, ◌∷◌, ◌++◌, [], ℕ, List, ⊤};
+ghost use Rattle.std.specs.Prelude.{◌≡◌, ◌⊎◌, ◌<◌, ◌≤◌, ◌^◌, ◌↔◌, ◌∷◌, ◌++◌, [], ℕ, List, ⊤};
 ghost use Rattle.std.specs.Prelude.{IsTrue, MatchOption, IfSome, length};
-ghost use Rattle.tl_cert.specs.Certificates.{IsNumber, IsInRange, AreCountsInRange};
-ghost use Rattle.tl_cert.specs.Text.{number, numbered_line, head_line, counts_line, children, end_line};
+ghost use Rattle.tl_cert.specs.Certificates.{IsNumber, AreCountsInRange};
+ghost use Rattle.tl_cert.specs.Text.{number, numbered_line, head_line, counts_line, end_line};
 ghost use Rattle.tl_cert.specs.Keeping.Words.{StartsWord, StandsFirst, counts_words};
-ghost use Rattle.tl_cert.specs.Keeping.Kinds.{node_line, NodeFits, ChildrenFit, children_told};
 ghost use Rattle.tl_cert.specs.Keeping.Steps.{CanHave, roots};
 
 use crate::certificate::Counts;

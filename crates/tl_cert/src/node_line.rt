@@ -1,12 +1,12 @@
 //! The lines of nodes.
 
-ghost use Rattle.std.specs.Prelude.{◌≡◌, ◌⊎◌, ◌<◌, ◌≤◌, ◌+◌, ◌^◌, ◌↔◌, ◌∷◌, ◌++◌, [], ℕ, List, ⊤};
+ghost use Rattle.std.specs.Prelude.{◌≡◌, ◌<◌, ◌≤◌, ◌+◌, ◌↔◌, ◌∷◌, ◌++◌, ℕ};
 ghost use Rattle.std.specs.Prelude.{IsTrue, MatchOption, IfSome, length};
-ghost use Rattle.tl_cert.specs.Certificates.{IsNumber, IsInRange, AreCountsInRange};
-ghost use Rattle.tl_cert.specs.Text.{number, numbered_line, head_line, counts_line, children, end_line};
-ghost use Rattle.tl_cert.specs.Keeping.Words.{StartsWord, StandsFirst, counts_words};
+ghost use Rattle.tl_cert.specs.Certificates.{IsInRange};
+ghost use Rattle.tl_cert.specs.Text.{number, children};
+ghost use Rattle.tl_cert.specs.Keeping.Words.{StandsFirst};
 ghost use Rattle.tl_cert.specs.Keeping.Kinds.{node_line, NodeFits, ChildrenFit, children_told};
-ghost use Rattle.tl_cert.specs.Keeping.Steps.{CanHave, roots};
+ghost use Rattle.tl_cert.specs.Keeping.Steps.{CanHave};
 
 use crate::front::{front_rectangle, front_small};
 use crate::line_kind::{LineKind, can_have};
