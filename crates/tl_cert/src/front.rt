@@ -4,17 +4,18 @@ ghost use Rattle.std.specs.Prelude.{◌≡◌, ◌+◌, ◌<◌, ◌≤◌, ◌^
 ghost use Rattle.std.specs.Int.{w32};
 ghost use Rattle.tl_cert.specs.Certificates.{IsNumber, IsInRange};
 ghost use Rattle.tl_cert.specs.Text.{number, numbered_line, coordinate, rectangle};
-ghost use Rattle.tl_cert.specs.Keeping.Words.{StandsFirst, AreDigits};
+ghost use Rattle.tl_cert.specs.Keeping.Words.{StandsFirst, AreDigits, AreFew};
 
 use crate::number::{behind, next_behind, rect_of};
 use tl_geom::Rect;
-use tl_record::{eight_digits, leading_digits};
+use tl_record::{eight_digits, first_digits, leading_digits};
 
 /// The number of fewer than eight digits, and not 0, that stand first, with a line feed behind them, and how many they are.
 /// None says nothing.
-#[inline(always)]
+#[inline(never)]
 fn short_number(bytes: &[u8]) -> Option<(u32, usize)>
-    ensures { IfSome result (λ first. IsNumber first.0 × StandsFirst bytes.now (decimal first.0) first.1) }
+    ensures first { IfSome result (λ first. IsNumber first.0 × StandsFirst bytes.now (decimal first.0) first.1) }
+    ensures few { IfSome result (λ first. AreFew first.1) }
 {
     if bytes.len() < 8 {
         return None;
@@ -34,6 +35,30 @@ fn short_number(bytes: &[u8]) -> Option<(u32, usize)>
     Some((value as u32, len))
 }
 
+/// The number of so many digits, and not 0, that stand first, with a line feed behind them. None says nothing.
+#[inline(always)]
+fn number_of_digits(bytes: &[u8], digits: usize) -> Option<u32>
+    requires { AreFew digits }
+    ensures { IfSome result (λ n. IsNumber n × StandsFirst bytes.now (decimal n) digits) }
+{
+    if bytes.len() < 8 {
+        return None;
+    }
+    let Ok(eight) = <[u8; 8]>::try_from(&bytes[..8]) else {
+        return None;
+    };
+    if bytes[digits] != b'\n' {
+        return None;
+    }
+    if bytes[0] == b'0' {
+        return None;
+    }
+    let Some(value) = first_digits(eight, digits) else {
+        return None;
+    };
+    Some(value as u32)
+}
+
 /// The value of the eight or nine digits that stand first, and how many they are, where there are so many.
 #[inline(always)]
 fn long_digits(bytes: &[u8]) -> Option<(u64, usize)>
@@ -47,6 +72,10 @@ fn long_digits(bytes: &[u8]) -> Option<(u64, usize)>
     let Some(value) = eight_digits(eight) else {
         return None;
     };
+    // Most have a space behind them, which is asked for next.
+    if bytes[8] == b' ' {
+        return Some((value, 8));
+    }
     if !bytes[8].is_ascii_digit() {
         return Some((value, 8));
     }
@@ -76,16 +105,37 @@ fn long_line_number(bytes: &[u8]) -> Option<(u32, usize)>
 }
 
 /// The number of fewer than eight digits, and not 0, of a line that has one behind this letter and stands whole at the front
-/// of the bytes, and the line's length. None says nothing.
+/// of the bytes, and how many digits it has. So many are looked for first. None says nothing.
 #[inline(always)]
-pub fn front_short(bytes: &[u8], letter: u8) -> Option<(u32, usize)>
-    ensures { IfSome result (λ front. IsNumber front.0
-        × StandsFirst bytes.now (numbered_line (letter ∷ []) front.0) front.1) }
+pub fn front_alike(bytes: &[u8], letter: u8, digits: usize) -> Option<(u32, usize)>
+    requires { AreFew digits }
+    ensures front { IfSome result (λ front. IsNumber front.0
+        × StandsFirst bytes.now (numbered_line (letter ∷ []) front.0) (front.1 + 2)) }
+    ensures few { IfSome result (λ front. AreFew front.1) }
 {
     // Fewer bytes hold no letter, space and eight others.
     if bytes.len() < 10 {
         return None;
     }
+    let Some(word) = next_behind(bytes, letter) else {
+        return None;
+    };
+    let Some(others) = next_behind(word, b' ') else {
+        return None;
+    };
+    // Most lines have as many digits as the one before.
+    if let Some(n) = number_of_digits(others, digits) {
+        return Some((n, digits));
+    }
+    short_number(others)
+}
+
+/// The same, but for the line's length in place of how many digits it has.
+#[inline(always)]
+fn front_short(bytes: &[u8], letter: u8) -> Option<(u32, usize)>
+    ensures { IfSome result (λ front. IsNumber front.0
+        × StandsFirst bytes.now (numbered_line (letter ∷ []) front.0) front.1) }
+{
     let Some(word) = behind(bytes, letter) else {
         return None;
     };

@@ -3,6 +3,7 @@
 ghost use Rattle.std.specs.Prelude.{◌≡◌, ◌+◌, ◌<◌, ◌≤◌, ◌^◌, [], length, All, IfOk};
 ghost use Rattle.tl_cert.specs.Certificates.{IsNumber};
 ghost use Rattle.tl_cert.specs.Text.{item_lines, dart_lines};
+ghost use Rattle.tl_cert.specs.Keeping.Words.{AreFew, AreFew-prop};
 
 use crate::line_kind::LineKind;
 use crate::numbers::{front_darts, front_items};
@@ -15,11 +16,17 @@ use tl_record::{Fetched, LineBuffer, Source, fetch_line};
 // certificate begins them.
 const ROOM: usize = 4096;
 
+// How many digits the numbers of a county of a million chains have, most of them.
+const USUAL_DIGITS: usize = 7;
+
 /// Takes lines of a source, which each call is given, and counts them.
 #[derive(Drop)]
 pub struct Lines {
     buffer: LineBuffer<ROOM>,
     lines: u128,
+    // How many digits are looked for first in the line of an item or a dart: as many as the last had.
+    digits: usize,
+    ghost few_digits: { AreFew digits } by { AreFew-prop digits },
 }
 
 impl Lines {
@@ -33,6 +40,7 @@ impl Lines {
         Lines {
             buffer: LineBuffer::new(),
             lines: 0,
+            digits: USUAL_DIGITS,
         }
     }
 
@@ -104,7 +112,8 @@ impl Lines {
         ensures numbers { All IsNumber result.items }
         ensures takes { TakesFetched self.old self.new (item_lines result.items) }
     {
-        let (items, len) = front_items(self.buffer.bytes(), count);
+        let (items, len, digits) = front_items(self.buffer.bytes(), count, self.digits);
+        self.digits = digits;
         self.buffer.consume(len);
         self.lines += items.len() as u128;
         items
@@ -118,7 +127,8 @@ impl Lines {
         ensures numbers { IfOk result (λ darts. All IsNumber darts.items) }
         ensures takes { IfOk result (λ darts. TakesFetched self.old self.new (dart_lines darts.items)) }
     {
-        let (darts, len) = front_darts(alloc, self.buffer.bytes(), count)?;
+        let (darts, len, digits) = front_darts(alloc, self.buffer.bytes(), count, self.digits)?;
+        self.digits = digits;
         self.buffer.consume(len);
         self.lines += darts.len() as u128;
         Ok(darts)

@@ -1,79 +1,16 @@
 -- Eight digits in one word.
 use Rattle.std.proofs.Common.{◌≡◌, ℕ, suc, ◌+◌, ◌-◌, ◌*◌, ◌/◌, ◌<◌, ◌≤◌, true, List, [], ◌∷◌, map, length, refl, ap, ◌∙◌, arith}
-use Rattle.std.proofs.lemmas.Nat.Bits.{and_high}
-use Rattle.std.specs.List.{list_all, slice_index, AllPass}
+use Rattle.std.specs.List.{list_all, AllPass}
 use Rattle.std.proofs.lemmas.List.Sums.{AllPass-from_list_all}
 use Rattle.std.specs.Char.{is_ascii_digit}
 use Rattle.std.specs.Int.{from_le_bytes, w64}
 use Rattle.tl_record.specs.Fields.{decimal}
-use Rattle.tl_record.proofs.Lanes.{lanes, Each, AtMost, flat, upper_halves, merged}
+use Rattle.tl_record.proofs.Lanes.{lanes, Each, AtMost, flat, merged}
 use lib.Bits.{bit_and}
-
--- a byte below 256 whose upper half is 3, and whose lower half is no more than 9
-upper_half : (x half : ℕ) → x < 256 → bit_and x 240 ≡ half → x / 16 * 16 ≡ half
-upper_half x half below is = let h = and_high x 4 4 in omega arith
-
-digit : (x : ℕ) → x < 256 → bit_and x 240 ≡ 48 → bit_and (x - 48 + 6) 240 ≡ 0 → (48 ≤ x) × (x ≤ 57)
-digit x below upper lower =
-    let high = upper_half x 48 below upper in
-    let low = upper_half (x - 48 + 6) 0 (omega arith) lower in
-    (omega arith, omega arith)
-
-no_lanes : (xs : List ℕ) → lanes 8 (map (λ _. 0) xs) ≡ 0
-no_lanes [] = refl
-no_lanes (x ∷ xs) = rw (no_lanes xs) refl
 
 -- the digits of these bytes
 abbrev pub values : List ℕ → List ℕ
 values bytes = map (λ x. x - 48) bytes
-
-at_least : (bytes : List ℕ) → Each (λ x. x < 256) bytes → Each (λ x. bit_and x 240 ≡ 48) bytes → lanes 8 bytes ≡ lanes 8 (values bytes) + lanes 8 (map (λ _. 48) bytes)
-at_least [] below upper = refl
-at_least (x ∷ xs) below upper =
-    let rest = at_least xs below.1 upper.1 in
-    let high = upper_half x 48 below.0 upper.0 in
-    omega (arith, rest)
-
-plus_six : (bytes : List ℕ) → lanes 8 (map (λ x. x - 48 + 6) bytes) ≡ lanes 8 (values bytes) + lanes 8 (map (λ _. 6) bytes)
-plus_six [] = refl
-plus_six (x ∷ xs) = let rest = plus_six xs in omega (arith, rest)
-
-lower_below : (bytes : List ℕ) → Each (λ x. x < 256) bytes → Each (λ x. bit_and x 240 ≡ 48) bytes → Each (λ x. x < 256) (map (λ x. x - 48 + 6) bytes)
-lower_below [] below upper = tt
-lower_below (x ∷ xs) below upper = (omega (arith, below.0), lower_below xs below.1 upper.1)
-
-each_digit : (bytes : List ℕ) → Each (λ x. x < 256) bytes → Each (λ x. bit_and x 240 ≡ 48) bytes → Each (λ x. bit_and x 240 ≡ 0) (map (λ x. x - 48 + 6) bytes)
-    → Each (λ x. (48 ≤ x) × (x ≤ 57)) bytes
-each_digit [] below upper lower = tt
-each_digit (x ∷ xs) below upper lower = (digit x below.0 upper.0 lower.0, each_digit xs below.1 upper.1 lower.1)
-
-all_digits : (bytes : List ℕ) → Each (λ x. (48 ≤ x) × (x ≤ 57)) bytes → list_all is_ascii_digit bytes ≡ true
-all_digits [] each = refl
-all_digits (x ∷ xs) each = let here : is_ascii_digit x ≡ true = grind arith in rw here (all_digits xs each.1)
-
-same_masks : (mask : ℕ) (bytes : List ℕ) → lanes 8 (map (λ _. mask) (map (λ x. x - 48 + 6) bytes)) ≡ lanes 8 (map (λ _. mask) bytes)
-same_masks mask [] = refl
-same_masks mask (x ∷ xs) = rw (same_masks mask xs) refl
-
--- what the two tests of a word show of the bytes in it
-pub record AreDigits (bytes : List ℕ) (word : ℕ) : Type 0 where
-  pub is : word ≡ lanes 8 (values bytes) + lanes 8 (map (λ _. 48) bytes)
-  pub each : Each (λ x. (48 ≤ x) × (x ≤ 57)) bytes
-  pub all : list_all is_ascii_digit bytes ≡ true
-
-pub are_digits : (bytes : List ℕ) (word : ℕ) → Each (λ x. x < 256) bytes → word ≡ lanes 8 bytes
-    → bit_and word (lanes 8 (map (λ _. 240) bytes)) ≡ lanes 8 (map (λ _. 48) bytes)
-    → bit_and (word - lanes 8 (map (λ _. 48) bytes) + lanes 8 (map (λ _. 6) bytes)) (lanes 8 (map (λ _. 240) bytes)) ≡ 0
-    → AreDigits bytes word
-are_digits bytes word below is first second =
-    let upper = upper_halves 48 bytes (omega arith) below (rw (← is) first) in
-    let whole = is ∙ at_least bytes below upper in
-    let six : word - lanes 8 (map (λ _. 48) bytes) + lanes 8 (map (λ _. 6) bytes) ≡ lanes 8 (map (λ x. x - 48 + 6) bytes) = rw (whole, plus_six bytes) (omega arith) in
-    let masks : lanes 8 (map (λ _. 240) (map (λ x. x - 48 + 6) bytes)) ≡ lanes 8 (map (λ _. 240) bytes) = same_masks 240 bytes in
-    let zeros : lanes 8 (map (λ _. 0) (map (λ x. x - 48 + 6) bytes)) ≡ 0 = no_lanes (map (λ x. x - 48 + 6) bytes) in
-    let lower = upper_halves 0 (map (λ x. x - 48 + 6) bytes) (omega arith) (lower_below bytes below upper) (rw (masks, zeros, ← six) second) in
-    let each = each_digit bytes below upper lower in
-    record { is = whole; each = each; all = all_digits bytes each }
 
 -- eight digits in pairs
 abbrev in_pairs : (a b c d e f g h : ℕ) → List (ℕ × ℕ)
@@ -145,22 +82,3 @@ spells_eight (a ∷ b ∷ c ∷ d ∷ e ∷ []) digits len is all = absurd (omeg
 spells_eight (a ∷ b ∷ c ∷ d ∷ e ∷ f ∷ []) digits len is all = absurd (omega arith)
 spells_eight (a ∷ b ∷ c ∷ d ∷ e ∷ f ∷ g ∷ []) digits len is all = absurd (omega arith)
 spells_eight (a ∷ b ∷ c ∷ d ∷ e ∷ f ∷ g ∷ h ∷ i ∷ rest) digits len is all = absurd (omega arith)
-
--- what the two tests show of eight bytes
-pub tested : (bytes : List ℕ) (word : ℕ) → length bytes ≡ 8 → ((i : ℕ) → slice_index bytes i < 256) → word ≡ from_le_bytes w64 bytes
-    → bit_and word 0xf0f0f0f0f0f0f0f0 ≡ 0x3030303030303030 → bit_and (word - 0x3030303030303030 + 0x0606060606060606) 0xf0f0f0f0f0f0f0f0 ≡ 0
-    → (list_all is_ascii_digit bytes ≡ true) × (word - 0x3030303030303030 + 0x3030303030303030 ≡ word)
-tested (a ∷ b ∷ c ∷ d ∷ e ∷ f ∷ g ∷ h ∷ []) word len below is first second =
-    let bytes = a ∷ b ∷ c ∷ d ∷ e ∷ f ∷ g ∷ h ∷ [] in
-    let lanes_are : word ≡ lanes 8 bytes = is ∙ omega arith in
-    let are = are_digits bytes word (below 0, (below 1, (below 2, (below 3, (below 4, (below 5, (below 6, (below 7, tt)))))))) lanes_are first second in
-    (are.all, omega (arith, are.is))
-tested [] word len below is first second = absurd (omega arith)
-tested (a ∷ []) word len below is first second = absurd (omega arith)
-tested (a ∷ b ∷ []) word len below is first second = absurd (omega arith)
-tested (a ∷ b ∷ c ∷ []) word len below is first second = absurd (omega arith)
-tested (a ∷ b ∷ c ∷ d ∷ []) word len below is first second = absurd (omega arith)
-tested (a ∷ b ∷ c ∷ d ∷ e ∷ []) word len below is first second = absurd (omega arith)
-tested (a ∷ b ∷ c ∷ d ∷ e ∷ f ∷ []) word len below is first second = absurd (omega arith)
-tested (a ∷ b ∷ c ∷ d ∷ e ∷ f ∷ g ∷ []) word len below is first second = absurd (omega arith)
-tested (a ∷ b ∷ c ∷ d ∷ e ∷ f ∷ g ∷ h ∷ i ∷ rest) word len below is first second = absurd (omega arith)

@@ -1,6 +1,6 @@
 -- Numbers of one width that stand side by side in one word, the first in its lowest bits.
 use Rattle.std.proofs.Common.{◌≡◌, ℕ, ◌+◌, ◌-◌, ◌*◌, ◌/◌, ◌%◌, ◌^◌, ◌<◌, ◌≤◌, List, [], ◌∷◌, map, sym, ap, subst, ◌∙◌, arith}
-use Rattle.std.proofs.lemmas.Nat.{and_block, and_mask, and_le_r, mod-mul-add, div-mul-add, div-add-mod', mul-le, mul-add-lt, same_from_place, pow_pos, pow-add}
+use Rattle.std.proofs.lemmas.Nat.{and_block, and_mask, and_le_r, mod-mul-add, div-mul-add, div-add-mod', mul-le, mul-add-lt, pow_pos, pow-add}
 use lib.Bits.{bit_and}
 
 -- the word that holds these numbers, each in a lane of so many bits
@@ -12,16 +12,6 @@ lanes bits (x ∷ xs) = lanes bits xs * 2 ^ bits + x
 abbrev pub Each : (ℕ → Type 0) → List ℕ → Type 0
 Each P [] = Unit {0}
 Each P (x ∷ xs) = P x × Each P xs
-
--- the upper half of each byte is that of this one
-pub upper_halves : (half : ℕ) (xs : List ℕ) → half < 256 → Each (λ x. x < 256) xs
-    → bit_and (lanes 8 xs) (lanes 8 (map (λ _. 240) xs)) ≡ lanes 8 (map (λ _. half) xs) → Each (λ x. bit_and x 240 ≡ half) xs
-upper_halves half [] below all is = tt
-upper_halves half (x ∷ xs) below all is =
-    let split = and_block 8 (lanes 8 xs) (lanes 8 (map (λ _. 240) xs)) x 240 all.0 (omega arith) in
-    let inside : bit_and x 240 < 256 = let h = and_le_r x 240 in omega arith in
-    let parts = same_from_place (bit_and (lanes 8 xs) (lanes 8 (map (λ _. 240) xs))) (bit_and x 240) (lanes 8 (map (λ _. half) xs)) half 256 inside below (sym split ∙ is) in
-    (parts.1, upper_halves half xs below all.1 parts.0)
 
 -- numbers in pairs
 abbrev pub flat : List (ℕ × ℕ) → List ℕ

@@ -22,7 +22,7 @@ pub record AreBytes (a b c d e f g h : ℕ) : Type 0 where
   pub second : (e < 256) × (f < 256) × (g < 256) × (h < 256)
 
 -- the first values of a word, moved to its end
-moved_digits : (count : ℕ) → 0 < count → count < 8 → (p q r s t u v w word : ℕ) → AreBytes p q r s t u v w → word ≡ lanes 8 (p ∷ q ∷ r ∷ s ∷ t ∷ u ∷ v ∷ w ∷ [])
+moved_digits : (count : ℕ) → 0 < count → count ≤ 8 → (p q r s t u v w word : ℕ) → AreBytes p q r s t u v w → word ≡ lanes 8 (p ∷ q ∷ r ∷ s ∷ t ∷ u ∷ v ∷ w ∷ [])
     → word * 2 ^ (64 - 8 * count) % 18446744073709551616 + 3472328296227680304
     ≡ from_le_bytes w64 (replicate (8 - count) 48 ++ map (λ x. x + 48) (take count (p ∷ q ∷ r ∷ s ∷ t ∷ u ∷ v ∷ w ∷ [])))
 moved_digits zero some few p q r s t u v w word are is = absurd (omega arith)
@@ -33,7 +33,22 @@ moved_digits (suc (suc (suc (suc zero)))) some few p q r s t u v w word are is =
 moved_digits (suc (suc (suc (suc (suc zero))))) some few p q r s t u v w word are is = omega (arith, is)
 moved_digits (suc (suc (suc (suc (suc (suc zero)))))) some few p q r s t u v w word are is = omega (arith, is)
 moved_digits (suc (suc (suc (suc (suc (suc (suc zero))))))) some few p q r s t u v w word are is = omega (arith, is)
-moved_digits (suc (suc (suc (suc (suc (suc (suc (suc n)))))))) some few p q r s t u v w word are is = absurd (omega arith)
+moved_digits (suc (suc (suc (suc (suc (suc (suc (suc zero)))))))) some few p q r s t u v w word are is = omega (arith, is)
+moved_digits (suc (suc (suc (suc (suc (suc (suc (suc (suc n))))))))) some few p q r s t u v w word are is = absurd (omega arith)
+
+-- and without the digit 0 in each of them
+moved_lanes : (count : ℕ) → 0 < count → count ≤ 8 → (p q r s t u v w word : ℕ) → AreBytes p q r s t u v w → word ≡ lanes 8 (p ∷ q ∷ r ∷ s ∷ t ∷ u ∷ v ∷ w ∷ [])
+    → word * 2 ^ (64 - 8 * count) % 18446744073709551616 ≡ from_le_bytes w64 (replicate (8 - count) 0 ++ take count (p ∷ q ∷ r ∷ s ∷ t ∷ u ∷ v ∷ w ∷ []))
+moved_lanes zero some few p q r s t u v w word are is = absurd (omega arith)
+moved_lanes (suc zero) some few p q r s t u v w word are is = omega (arith, is)
+moved_lanes (suc (suc zero)) some few p q r s t u v w word are is = omega (arith, is)
+moved_lanes (suc (suc (suc zero))) some few p q r s t u v w word are is = omega (arith, is)
+moved_lanes (suc (suc (suc (suc zero)))) some few p q r s t u v w word are is = omega (arith, is)
+moved_lanes (suc (suc (suc (suc (suc zero))))) some few p q r s t u v w word are is = omega (arith, is)
+moved_lanes (suc (suc (suc (suc (suc (suc zero)))))) some few p q r s t u v w word are is = omega (arith, is)
+moved_lanes (suc (suc (suc (suc (suc (suc (suc zero))))))) some few p q r s t u v w word are is = omega (arith, is)
+moved_lanes (suc (suc (suc (suc (suc (suc (suc (suc zero)))))))) some few p q r s t u v w word are is = omega (arith, is)
+moved_lanes (suc (suc (suc (suc (suc (suc (suc (suc (suc n))))))))) some few p q r s t u v w word are is = absurd (omega arith)
 
 -- they are bytes
 abbrev Below : List ℕ → Type 0
@@ -55,7 +70,7 @@ below_take (suc n) [] below i = omega arith
 below_take (suc n) (byte ∷ bytes) below zero = below 0
 below_take (suc n) (byte ∷ bytes) below (suc i) = below_take n bytes (λ k. below (suc k)) i
 
-eight_bytes : (count : ℕ) (bytes : List ℕ) → count < 8 → length bytes ≡ 8 → length (behind_zeros count bytes) ≡ 8
+eight_bytes : (count : ℕ) (bytes : List ℕ) → count ≤ 8 → length bytes ≡ 8 → length (behind_zeros count bytes) ≡ 8
 eight_bytes count bytes few eight =
     omega (arith, length-append (replicate (8 - count) 48) (take count bytes), length-replicate {A = ℕ} (8 - count) 48, length-take-le count bytes (omega (arith, eight)), few)
 
@@ -195,6 +210,14 @@ pub record StartsWithDigits (count : ℕ) (bytes : List ℕ) : Type 0 where
   pub same : take count bytes ≡ map (λ x. x + 48) (take count (without_zero bytes))
   pub all : list_all is_ascii_digit (take count bytes) ≡ true
 
+starts_more : (n b : ℕ) (bytes : List ℕ) → b ≡ bit_xor b 48 + 48 → bit_xor b 48 ≤ 9 → StartsWithDigits n bytes → StartsWithDigits (suc n) (b ∷ bytes)
+starts_more n b bytes is small rest =
+    let digit : is_ascii_digit b ≡ true = let low : 48 ≤ b = omega (arith, is) in let high : b ≤ 57 = omega (arith, is, small) in grind arith in
+    record {
+      same = ap (λ (h : ℕ). h ∷ take n bytes) is ∙ ap (λ (l : List ℕ). (bit_xor b 48 + 48) ∷ l) rest.same;
+      all = rw digit rest.all;
+    }
+
 starts : (count : ℕ) (bytes : List ℕ) → Each (λ x. x < 256) bytes → ((i : ℕ) → i < 8 * count → bit_at (lanes 8 (map above_nine_bit (without_zero bytes))) i ≡ 0)
     → StartsWithDigits count bytes
 starts zero bytes below none = record { same = refl; all = refl }
@@ -208,13 +231,9 @@ starts (suc n) (b ∷ bytes) below none =
     let small = at_most_nine x (xor_lt 8 b 48 below.0 (omega arith)) top in
     let is = is_digit b below.0 small in
     let rest = starts n bytes below.1 (λ i less. ap (λ k. bit_at others k) (omega arith) ∙ sym (bit_at_cat_high others 8 here (i + 8) fits (omega arith)) ∙ none (i + 8) (omega (arith, less))) in
-    let digit : is_ascii_digit b ≡ true = let low : 48 ≤ b = omega (arith, is) in let high : b ≤ 57 = omega (arith, is, small) in grind arith in
-    record {
-      same = ap (λ (h : ℕ). h ∷ take n bytes) is ∙ ap (λ (l : List ℕ). (x + 48) ∷ l) rest.same;
-      all = rw digit rest.all;
-    }
+    starts_more n b bytes is small rest
 
-moved_by : (count : ℕ) (xs : List ℕ) (word : ℕ) → 0 < count → count < 8 → IsWordOf xs word
+moved_by : (count : ℕ) (xs : List ℕ) (word : ℕ) → 0 < count → count ≤ 8 → IsWordOf xs word
     → word * 2 ^ (64 - 8 * count) % 18446744073709551616 + 3472328296227680304 ≡ from_le_bytes w64 (replicate (8 - count) 48 ++ map (λ x. x + 48) (take count xs))
 moved_by count (p ∷ q ∷ r ∷ s ∷ t ∷ u ∷ v ∷ w ∷ []) word some few of =
     moved_digits count some few p q r s t u v w word (record { first = (of.below 0, of.below 1, of.below 2, of.below 3); second = (of.below 4, of.below 5, of.below 6, of.below 7) })
@@ -229,13 +248,40 @@ moved_by count (a ∷ b ∷ c ∷ d ∷ e ∷ f ∷ []) word some few of = absur
 moved_by count (a ∷ b ∷ c ∷ d ∷ e ∷ f ∷ g ∷ []) word some few of = absurd (omega (arith, of.eight))
 moved_by count (a ∷ b ∷ c ∷ d ∷ e ∷ f ∷ g ∷ h ∷ i ∷ rest) word some few of = absurd (omega (arith, of.eight))
 
--- what the lowest bit shows of the bytes before it
+moved_to : (count : ℕ) (xs : List ℕ) (word : ℕ) → 0 < count → count ≤ 8 → IsWordOf xs word
+    → word * 2 ^ (64 - 8 * count) % 18446744073709551616 ≡ from_le_bytes w64 (replicate (8 - count) 0 ++ take count xs)
+moved_to count (p ∷ q ∷ r ∷ s ∷ t ∷ u ∷ v ∷ w ∷ []) word some few of =
+    moved_lanes count some few p q r s t u v w word (record { first = (of.below 0, of.below 1, of.below 2, of.below 3); second = (of.below 4, of.below 5, of.below 6, of.below 7) })
+    (of.is ∙ sym (eight_lanes (p ∷ q ∷ r ∷ s ∷ t ∷ u ∷ v ∷ w ∷ []) refl))
+moved_to count [] word some few of = absurd (omega (arith, of.eight))
+moved_to count (a ∷ []) word some few of = absurd (omega (arith, of.eight))
+moved_to count (a ∷ b ∷ []) word some few of = absurd (omega (arith, of.eight))
+moved_to count (a ∷ b ∷ c ∷ []) word some few of = absurd (omega (arith, of.eight))
+moved_to count (a ∷ b ∷ c ∷ d ∷ []) word some few of = absurd (omega (arith, of.eight))
+moved_to count (a ∷ b ∷ c ∷ d ∷ e ∷ []) word some few of = absurd (omega (arith, of.eight))
+moved_to count (a ∷ b ∷ c ∷ d ∷ e ∷ f ∷ []) word some few of = absurd (omega (arith, of.eight))
+moved_to count (a ∷ b ∷ c ∷ d ∷ e ∷ f ∷ g ∷ []) word some few of = absurd (omega (arith, of.eight))
+moved_to count (a ∷ b ∷ c ∷ d ∷ e ∷ f ∷ g ∷ h ∷ i ∷ rest) word some few of = absurd (omega (arith, of.eight))
+
+-- what digits at the front show
 pub record Leads (bytes : List ℕ) (count moved : ℕ) : Type 0 where
-  pub few : count < 8
   pub first : list_all is_ascii_digit (take count bytes) ≡ true
   pub word : IsWordOf (behind_zeros count bytes) (moved + 3472328296227680304)
   pub all : list_all is_ascii_digit (behind_zeros count bytes) ≡ true
 
+lead_by : (bytes : List ℕ) (word digits count : ℕ) → IsWordOf bytes word → IsWordOf (without_zero bytes) digits → 0 < count → count ≤ 8 → StartsWithDigits count bytes
+    → Leads bytes count (digits * 2 ^ (64 - 8 * count) % 18446744073709551616)
+lead_by bytes word digits count of off some few start = record {
+  first = start.all;
+  word = record {
+    eight = eight_bytes count bytes few of.eight;
+    below = below_append (replicate (8 - count) 48) (take count bytes) (below_zeros (8 - count)) (below_take count bytes of.below);
+    is = moved_by count (without_zero bytes) digits some few off ∙ ap (λ (l : List ℕ). from_le_bytes w64 (replicate (8 - count) 48 ++ l)) (sym start.same);
+  };
+  all = all_behind count bytes start.all;
+}
+
+-- those before the lowest bit
 pub leads : (bytes : List ℕ) (word digits others count : ℕ) → IsWordOf bytes word → digits ≡ bit_xor word 3472328296227680304
     → IsWordOf (map above_nine_bit (without_zero bytes)) others → 0 < others → others < 2 ^ 64 → count ≡ trailing_zeros w64 others / 8 → 0 < count
     → Leads bytes count (digits * 2 ^ (64 - 8 * count) % 18446744073709551616)
@@ -243,16 +289,53 @@ leads bytes word digits others count of taken bits some fits told above =
     let eight : length (map above_nine_bit (without_zero bytes)) ≡ 8 = bits.eight in
     let lanes_are : others ≡ lanes 8 (map above_nine_bit (without_zero bytes)) = bits.is ∙ sym (eight_lanes (map above_nine_bit (without_zero bytes)) eight) in
     let lowest = bit_at-trailing_zeros w64 others some fits in
-    let few : count < 8 = omega (arith, told, lowest.0) in
+    let few : count ≤ 8 = omega (arith, told, lowest.0) in
     let start = starts count bytes (each_below bytes of.below) (λ i less. ap (λ n. bit_at n i) (sym lanes_are) ∙ lowest.2 i (omega (arith, told, less))) in
     let off : IsWordOf (without_zero bytes) digits = rw taken (without bytes word of) in
-    record {
-      few = few;
-      first = start.all;
-      word = record {
-        eight = eight_bytes count bytes few of.eight;
-        below = below_append (replicate (8 - count) 48) (take count bytes) (below_zeros (8 - count)) (below_take count bytes of.below);
-        is = moved_by count (without_zero bytes) digits above few off ∙ ap (λ (l : List ℕ). from_le_bytes w64 (replicate (8 - count) 48 ++ l)) (sym start.same);
-      };
-      all = all_behind count bytes start.all;
-    }
+    lead_by bytes word digits count of off above few start
+
+-- or as many as were moved, where none of them is above 9
+zero_lanes : (xs : List ℕ) → Each (λ x. x < 256) xs → lanes 8 xs ≡ 0 → Each (λ x. x ≡ 0) xs
+zero_lanes [] below none = tt
+zero_lanes (x ∷ xs) below none = (omega (arith, none), zero_lanes xs below.1 (omega (arith, none)))
+
+none_above : (xs : List ℕ) → Each (λ x. x < 256) xs → Each (λ x. x ≡ 0) (map above_nine_bit xs) → Each (λ x. x ≤ 9) xs
+none_above [] below none = tt
+none_above (x ∷ xs) below none = (at_most_nine x below.0 (ap (λ n. bit_at n 7) none.0), none_above xs below.1 none.1)
+
+each_behind : (n : ℕ) (xs : List ℕ) → Each (λ x. x ≤ 9) (replicate n 0 ++ xs) → Each (λ x. x ≤ 9) xs
+each_behind zero xs each = each
+each_behind (suc n) xs each = each_behind n xs each.1
+
+starts_small : (count : ℕ) (bytes : List ℕ) → Each (λ x. x < 256) bytes → Each (λ x. x ≤ 9) (take count (without_zero bytes)) → StartsWithDigits count bytes
+starts_small zero bytes below small = record { same = refl; all = refl }
+starts_small (suc n) [] below small = record { same = refl; all = refl }
+starts_small (suc n) (b ∷ bytes) below small = starts_more n b bytes (is_digit b below.0 small.0) small.0 (starts_small n bytes below.1 small.1)
+
+eight_moved : (count : ℕ) (xs : List ℕ) → count ≤ 8 → length xs ≡ 8 → length (replicate (8 - count) 0 ++ take count xs) ≡ 8
+eight_moved count xs few eight =
+    omega (arith, length-append (replicate (8 - count) 0) (take count xs), length-replicate {A = ℕ} (8 - count) 0, length-take-le count xs (omega (arith, eight)), few)
+
+zeros_below : (n : ℕ) → Below (replicate n 0)
+zeros_below zero i = omega arith
+zeros_below (suc n) zero = omega arith
+zeros_below (suc n) (suc i) = zeros_below n i
+
+pub moved_word : (count : ℕ) (xs : List ℕ) (word : ℕ) → 0 < count → count ≤ 8 → IsWordOf xs word
+    → IsWordOf (replicate (8 - count) 0 ++ take count xs) (word * 2 ^ (64 - 8 * count) % 18446744073709551616)
+moved_word count xs word some few of = record {
+  eight = eight_moved count xs few of.eight;
+  below = below_append (replicate (8 - count) 0) (take count xs) (zeros_below (8 - count)) (below_take count xs of.below);
+  is = moved_to count xs word some few of;
+}
+
+pub first_leads : (bytes : List ℕ) (word count others : ℕ) → IsWordOf bytes word → 0 < count → count ≤ 8
+    → IsWordOf (map above_nine_bit (replicate (8 - count) 0 ++ take count (without_zero bytes))) others → others ≡ 0
+    → Leads bytes count (bit_xor word 3472328296227680304 * 2 ^ (64 - 8 * count) % 18446744073709551616)
+first_leads bytes word count others of some few bits none =
+    let off = without bytes word of in
+    let moved = replicate (8 - count) 0 ++ take count (without_zero bytes) in
+    let below : Each (λ x. x < 256) moved = each_below moved (moved_word count (without_zero bytes) (bit_xor word 3472328296227680304) some few off).below in
+    let lanes_are : lanes 8 (map above_nine_bit moved) ≡ 0 = eight_lanes (map above_nine_bit moved) bits.eight ∙ sym bits.is ∙ none in
+    let each = none_above moved below (zero_lanes (map above_nine_bit moved) (below_bits moved) lanes_are) in
+    lead_by bytes word (bit_xor word 3472328296227680304) count of off some few (starts_small count bytes (each_below bytes of.below) (each_behind (8 - count) (take count (without_zero bytes)) each))

@@ -43,4 +43,4 @@ pub use record::{PAIRS, PolyKey, Record};
 pub use sink::Sink;
 pub use source::Source;
 pub use stop::{Cause, Field, ReadStop};
-pub use word::{eight_digits, leading_digits};
+pub use word::{eight_digits, first_digits, leading_digits};

@@ -1,4 +1,4 @@
-//! Eight digits at once, with no branch for each.
+//! Up to eight digits at once, with no branch for each.
 
 ghost use Rattle.std.specs.Prelude.{◌≡◌, ℕ, List, ◌+◌, ◌<◌, ◌≤◌, ◌^◌, true, take, map, IfSome};
 ghost use Rattle.std.specs.List.{list_all};
@@ -6,14 +6,8 @@ ghost use Rattle.std.specs.Char.{is_ascii_digit};
 ghost use Rattle.tl_record.specs.Fields.{decimal};
 ghost use Rattle.tl_record.specs.Word.{IsWordOf, above_nine_bit};
 
-/// The upper half of each byte of a word.
-const UPPER_HALVES: u64 = 0xf0f0_f0f0_f0f0_f0f0;
-
 /// The digit 0 in each byte.
 const ZEROS: u64 = 0x3030_3030_3030_3030;
-
-/// What brings a byte above 9, and none below, to 16 or more.
-const SIXES: u64 = 0x0606_0606_0606_0606;
 
 /// The lower seven bits of each byte.
 const LOWER_BITS: u64 = 0x7f7f_7f7f_7f7f_7f7f;
@@ -37,18 +31,25 @@ fn digits_value(digits: u64) -> u64
     (fours * 10_000 + (fours >> 32)) & 0xffff_ffff
 }
 
-/// The value of the eight bytes of a word, where all of them are digits.
+/// The top bit of each byte that is above 9.
 #[inline(always)]
-fn word_value(word: u64) -> Option<u64>
-    requires { (bytes : List ℕ) × IsWordOf bytes word }
-    ensures { (bytes : List ℕ) → IsWordOf bytes word → IfSome result (λ value.
-        (list_all is_ascii_digit bytes ≡ true) × (value ≡ decimal bytes) × (value < 10 ^ 8)) }
+fn above_nine(word: u64) -> u64
+    ensures { (bytes : List ℕ) → IsWordOf bytes word → IsWordOf (map above_nine_bit bytes) result }
 {
-    if word & UPPER_HALVES != ZEROS {
-        return None;
-    }
-    let digits = word - ZEROS;
-    if (digits + SIXES) & UPPER_HALVES != 0 {
+    ((word & LOWER_BITS) + UP_TO_TOP | word) & TOP_BITS
+}
+
+/// The value of the first `count` of eight bytes, where all of these are digits.
+#[inline(always)]
+pub fn first_digits(bytes: [u8; 8], count: usize) -> Option<u64>
+    requires some { 0 < count }
+    requires few { count ≤ 8 }
+    ensures digits { IfSome result (λ _. list_all is_ascii_digit (take count bytes) ≡ true) }
+    ensures value { IfSome result (λ value. value ≡ decimal (take count bytes)) }
+    ensures fits { IfSome result (λ value. value < 10 ^ 8) }
+{
+    let digits = (u64::from_le_bytes(bytes) ^ ZEROS) << (64 - 8 * count);
+    if above_nine(digits) != 0 {
         return None;
     }
     Some(digits_value(digits))
@@ -61,15 +62,7 @@ pub fn eight_digits(bytes: [u8; 8]) -> Option<u64>
     ensures value { IfSome result (λ value. value ≡ decimal bytes) }
     ensures fits { IfSome result (λ value. value < 10 ^ 8) }
 {
-    word_value(u64::from_le_bytes(bytes))
-}
-
-/// The top bit of each byte that is above 9.
-#[inline(always)]
-fn above_nine(word: u64) -> u64
-    ensures { (bytes : List ℕ) → IsWordOf bytes word → IsWordOf (map above_nine_bit bytes) result }
-{
-    ((word & LOWER_BITS) + UP_TO_TOP | word) & TOP_BITS
+    first_digits(bytes, 8)
 }
 
 /// The value of the digits that stand first among eight bytes, and how many they are, where they are fewer than eight.

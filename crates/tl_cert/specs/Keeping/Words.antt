@@ -1,5 +1,7 @@
 -- The words of a line, each of which stands behind a space.
 use Rattle.std.specs.Prelude.{◌≡◌, ◌≢◌, ℕ, ◌<◌, ◌≤◌, List, [], ◌∷◌, ◌++◌, length, slice_index, true, take, All, ⊤}
+use mathlib.Core.HLevel.{×_prop}
+use native.Mathlib.Bridge.{le_prop}
 use Rattle.std.specs.List.{list_all}
 use Rattle.std.specs.Char.{is_ascii_digit}
 use Rattle.tl_record.specs.Lines.{line_feed}
@@ -35,6 +37,13 @@ pub record MaySpell (bytes : List ℕ) : Type 0 where
   pub some : 0 < length bytes
   pub few : length bytes ≤ 10
   pub lead : slice_index bytes 0 ≡ 48 → length bytes ≡ 1
+
+-- as many digits as are read at once
+abbrev pub AreFew : ℕ → Type 0
+AreFew digits = (1 ≤ digits) × (digits ≤ 7)
+
+pub AreFew-prop : (digits : ℕ) → IsProp (AreFew digits)
+AreFew-prop digits = ×_prop le_prop le_prop
 
 -- the words of counts, without the letter before them
 abbrev pub counts_words : Counts → List ℕ

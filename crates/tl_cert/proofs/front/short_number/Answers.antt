@@ -2,8 +2,8 @@ use Rattle.std.proofs.Common.{rules, arith}
 use Rattle.tl_cert.proofs.FrontLemmas.{short_spelt}
 use Rattle.tl_cert.proofs.front.short_number.Goals as goal
 
-pub returns : goal.returns
-returns c =
+pub returns-clause-first : goal.returns-clause-first
+returns-clause-first c =
     let first = c.in-Some.ensures in (
       omega (arith, first.fits),
       record {
@@ -12,3 +12,6 @@ returns c =
         spelt = short_spelt c.args.bytes.now c.in-Ok.eight c.in-Some.len c.in-Some.value (search rules) first.count.0 first.count.1 (omega (arith, first.count.1, c.if-bytes-lt8.false)) (λ e. absurd (c.if-bytes-eq48.false e)) first.digits first.value (omega (arith, first.fits));
       },
     )
+
+pub returns-clause-few : goal.returns-clause-few
+returns-clause-few c = let first = c.in-Some.ensures in (omega (arith, first.count.0), omega (arith, first.count.1))
