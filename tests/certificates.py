@@ -5,9 +5,9 @@ the program builds.
 usage: certificates.py [PROGRAM]
 
 The plain reader below knows the grammar of docs/certificate.md and nothing of the program. Converted are the texts of the
-tables, each beginning of a certificate, and each text that differs from it in one byte. Built are certificates of maps of
-squares, to a file, to a named pipe and to the standard output, and each has to have a round for each node and a walk for
-each ring.
+tables, each beginning of two certificates, and each text that differs in one byte from the first, or from the second, whose
+numbers are of all lengths, where the byte is one of some twenty. Built are certificates of maps of squares, to a file, to a
+named pipe and to the standard output, and each has to have a round for each node and a walk for each ring.
 """
 
 import os
@@ -33,12 +33,39 @@ THREE = (
 EMPTY = b"TIGERCERT 1\nC 0 0 0 0\nT 0\nN 0\nW 0\nEND\n"
 HEAD = b"TIGERCERT 1\nC 0 0 0 0\n"
 
+
+def spelt(letter, numbers):
+    """Lines of a letter and a number."""
+    return "".join(f"{letter} {number}\n" for number in numbers)
+
+
+# Numbers of each length, rising and falling.
+RISING = [0, 7, 42, 318, 9999, 10000, 123456, 1234567, 12345678, 123456789, 4294967295]
+FALLING = [4000000000, 100000000, 99999999, 9999999, 999999, 1000000, 98765, 98764, 5, 6, 0, 1000000]
+LONG = "".join(
+    (
+        "TIGERCERT 2\nC 1000000 4000000 600000 400000\nT 5\nB -76700000 39200000 -76698800 39201200 2\n",
+        "L -180000000 -90000000 180000000 90000000 8\n",
+        spelt("S", RISING[:8]),
+        "B -2147483648 0 2147483647 123456789 2\nL -1 -22222222 1000000000 99999999 4\n",
+        spelt("S", RISING[7:]),
+        "L 10000000 -100000000 12345678 -10 8\n",
+        spelt("S", FALLING[:8]),
+        f"N 2\nR {len(RISING)}\n{spelt('D', RISING)}R {len(FALLING)}\n{spelt('D', FALLING)}",
+        "W 1\nK 2\nD 2000000\nD 1999999\nEND\n",
+    )
+).encode()
+
+# The bytes that stand in it, and their neighbours among all bytes.
+OTHERS = b"0159/: -,.\n\x0b\x00SDBLK\xb0\xff"
+
 # Texts with the line that is refused, or none.
 TABLE = [
     (b"", 1),
     (EMPTY, None),
     (SQUARE, None),
     (THREE, None),
+    (LONG, None),
     (HEAD + b"T 4294967295\n", 4),
     (HEAD + b"T 4294967296\n", 3),
     (HEAD + b"T 1\nB 0 0 0 0\n", 4),
@@ -184,10 +211,10 @@ def play(program, texts):
     return len(texts) - ill, ill
 
 
-def changed(text):
-    """Each text that differs from this one in one byte."""
+def changed(text, others=range(256)):
+    """Each text that differs from this one in one byte, which is one of these."""
     for index, byte in enumerate(text):
-        for other in range(256):
+        for other in others:
             if other != byte:
                 yield text[:index] + bytes([other]) + text[index + 1 :]
 
@@ -254,7 +281,9 @@ def play_all(program=PROGRAM):
         told = None if status == 0 else int(out.split()[-1])
         if told != line:
             sys.exit(f"certificates: the plain reader says {told} of {text!r}, and the table {line}")
-    texts = [text for text, _ in TABLE] + [SQUARE[:size] for size in range(len(SQUARE))] + list(changed(SQUARE))
+    texts = [text for text, _ in TABLE]
+    texts += [whole[:size] for whole in (SQUARE, LONG) for size in range(len(whole))]
+    texts += [*changed(SQUARE), *changed(LONG, OTHERS)]
     shares = [texts[part::4] for part in range(4)]
     with ThreadPoolExecutor(4) as pool:
         counts = list(pool.map(lambda share: play(program, share), shares))
