@@ -6,11 +6,13 @@ usage: certificates.py [PROGRAM]
 
 The plain reader below knows the grammar of docs/certificate.md and nothing of the program. Converted are the texts of the
 tables, each beginning of two certificates, and each text that differs in one byte from the first, or from the second, whose
-numbers are of all lengths, where the byte is one of some twenty. Built are certificates of maps of squares, to a file, to a
-named pipe and to the standard output, and each has to have a round for each node and a walk for each ring.
+numbers are of all lengths, where the byte is one of some twenty; and, with little memory, texts that announce as much as they
+can. Built are certificates of maps of squares, to a file, to a named pipe and to the standard output, and each has to have a
+round for each node and a walk for each ring.
 """
 
 import os
+import resource
 import subprocess
 import sys
 import tempfile
@@ -59,6 +61,19 @@ LONG = "".join(
 # The bytes that stand in it, and their neighbours among all bytes.
 OTHERS = b"0159/: -,.\n\x0b\x00SDBLK\xb0\xff"
 
+# Texts that announce as much as they can, and end. To read them takes no memory to speak of.
+MOST = b"4294967295\n"
+ANNOUNCED = [
+    (HEAD + b"T " + MOST, 4),
+    (HEAD + b"T 0\nN " + MOST, 5),
+    (HEAD + b"T 0\nN 1\nR " + MOST, 6),
+    (HEAD + b"T 0\nN 1\nR " + MOST + b"D 1\nD 12345678\n", 8),
+    (HEAD + b"T 0\nN 0\nW " + MOST, 6),
+    (HEAD + b"T 0\nN 0\nW 1\nK " + MOST, 7),
+]
+# How much memory there is for them.
+ROOM = 1 << 26
+
 # Texts with the line that is refused, or none.
 TABLE = [
     (b"", 1),
@@ -66,7 +81,6 @@ TABLE = [
     (SQUARE, None),
     (THREE, None),
     (LONG, None),
-    (HEAD + b"T 4294967295\n", 4),
     (HEAD + b"T 4294967296\n", 3),
     (HEAD + b"T 1\nB 0 0 0 0\n", 4),
     (HEAD + b"T 3\nB 0 0 0 0\nB 0 0 0 0\n", 5),
@@ -191,21 +205,26 @@ def wanted(text):
     return 0, b"converted nodes=%d rounds=%d walks=%d\n" % (nodes, rounds, walks), made
 
 
-def answer(program, folder, text):
+def leave_little():
+    """Leaves the program that is to run little memory."""
+    resource.setrlimit(resource.RLIMIT_AS, (ROOM, ROOM))
+
+
+def answer(program, folder, text, prepare=None):
     old, new = Path(folder) / "old", Path(folder) / "new"
     old.write_bytes(text)
     new.unlink(missing_ok=True)
-    ran = subprocess.run([program, "convert", old, new], capture_output=True, check=False)
+    ran = subprocess.run([program, "convert", old, new], capture_output=True, check=False, preexec_fn=prepare)
     made = new.read_bytes() if new.exists() else None
     return (ran.returncode, ran.stdout, made) if not ran.stderr else (ran.returncode, ran.stderr, made)
 
 
-def play(program, texts):
+def play(program, texts, prepare=None):
     """How many of the texts are answered well, and how many ill."""
     ill = 0
     with tempfile.TemporaryDirectory(dir="/dev/shm" if Path("/dev/shm").is_dir() else None) as folder:
         for text in texts:
-            if answer(program, folder, text) != wanted(text):
+            if answer(program, folder, text, prepare) != wanted(text):
                 ill += 1
                 sys.stdout.write(f"certificates: another answer for {text!r}\n")
     return len(texts) - ill, ill
@@ -276,7 +295,7 @@ def play_built(program):
 
 
 def play_all(program=PROGRAM):
-    for text, line in TABLE:
+    for text, line in TABLE + ANNOUNCED:
         status, out, _ = wanted(text)
         told = None if status == 0 else int(out.split()[-1])
         if told != line:
@@ -287,6 +306,7 @@ def play_all(program=PROGRAM):
     shares = [texts[part::4] for part in range(4)]
     with ThreadPoolExecutor(4) as pool:
         counts = list(pool.map(lambda share: play(program, share), shares))
+    counts.append(play(program, [text for text, _ in ANNOUNCED], leave_little))
     counts.append(play_built(program))
     return sum(well for well, _ in counts), sum(ill for _, ill in counts)
 
