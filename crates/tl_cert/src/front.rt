@@ -123,7 +123,7 @@ pub fn front_alike(bytes: &[u8], letter: u8, digits: usize) -> Option<(u32, usiz
     let Some(others) = next_behind(word, b' ') else {
         return None;
     };
-    // Most lines have as many digits as the one before.
+    // The place of the next line then waits for no count of digits.
     if let Some(n) = number_of_digits(others, digits) {
         return Some((n, digits));
     }

@@ -16,7 +16,7 @@ use tl_record::{Fetched, LineBuffer, Source, fetch_line};
 // certificate begins them.
 const ROOM: usize = 4096;
 
-// How many digits the numbers of a county of a million chains have, most of them.
+// How many digits are looked for in the first line of all: half of the darts of a million chains have so many.
 const USUAL_DIGITS: usize = 7;
 
 /// Takes lines of a source, which each call is given, and counts them.

@@ -39,7 +39,7 @@ fn above_nine(word: u64) -> u64
     ((word & LOWER_BITS) + UP_TO_TOP | word) & TOP_BITS
 }
 
-/// The value of the first `count` of eight bytes, where all of these are digits.
+/// The value of the first `count` of eight bytes, where all of these are digits. None says nothing.
 #[inline(always)]
 pub fn first_digits(bytes: [u8; 8], count: usize) -> Option<u64>
     requires some { 0 < count }
@@ -55,7 +55,7 @@ pub fn first_digits(bytes: [u8; 8], count: usize) -> Option<u64>
     Some(digits_value(digits))
 }
 
-/// The value of eight bytes, where all of them are digits.
+/// The value of eight bytes, where all of them are digits. None says nothing.
 #[inline(always)]
 pub fn eight_digits(bytes: [u8; 8]) -> Option<u64>
     ensures digits { IfSome result (λ _. list_all is_ascii_digit bytes ≡ true) }
@@ -65,7 +65,8 @@ pub fn eight_digits(bytes: [u8; 8]) -> Option<u64>
     first_digits(bytes, 8)
 }
 
-/// The value of the digits that stand first among eight bytes, and how many they are, where they are fewer than eight.
+/// The value of the digits that stand first among eight bytes, and how many they are, where they are fewer than eight. None
+/// says nothing.
 #[inline(always)]
 pub fn leading_digits(bytes: [u8; 8]) -> Option<(u64, usize)>
     ensures count { IfSome result (λ first. (0 < first.1) × (first.1 < 8)) }
