@@ -1,14 +1,16 @@
 #!/usr/bin/env python3
-"""Runs the commands of the pages below, from the top of the repository, and compares what they print, each stream by
-itself: lines of refusals and stops belong to standard error, all others to standard output."""
+"""Runs the commands of the pages below as from the top of the repository, and compares what they print, each stream by
+itself: lines of refusals and stops belong to standard error, all others to standard output. Each page is played in a folder
+of its own, where the files that its commands make stay, with a `./tigertopo` that is the repository's and its `examples`."""
 
 import re
 import subprocess
 import sys
+import tempfile
 from pathlib import Path
 
 TOP = Path(__file__).resolve().parent.parent
-PAGES = ["examples/README.md", "docs/faults.md"]
+PAGES = ["README.md", "examples/README.md", "docs/faults.md"]
 
 
 def steps(text):
@@ -26,19 +28,33 @@ def streams_of(printed):
     return "".join(it for it in lines if not is_error(it)), "".join(it for it in lines if is_error(it))
 
 
-def play_all():
-    """How many commands print what the page says, and how many don't."""
+def play(page, folder):
+    """How many commands of the page print what it says, and how many don't."""
+    (folder / "examples").symlink_to(TOP / "examples")
+    program = folder / "tigertopo"
+    program.write_text(f"#!/bin/sh\nexec '{TOP}/tigertopo' \"$@\"\n")
+    program.chmod(0o755)
     status = count = failed = 0
-    for command, wanted in (step for page in PAGES for step in steps((TOP / page).read_text())):
+    for command, wanted in steps((TOP / page).read_text()):
         # The shell keeps no status from one command to the next.
         command = command.replace("$?", str(status))
-        done = subprocess.run(command, shell=True, cwd=TOP, capture_output=True, text=True)
+        done = subprocess.run(command, shell=True, cwd=folder, capture_output=True, text=True)
         status = done.returncode
         count += 1
         if (done.stdout, done.stderr) != streams_of(wanted):
             failed += 1
-            print(f"$ {command}\n-- wanted\n{wanted}-- printed\n{done.stdout}{done.stderr}", end="")
+            print(f"{page}: $ {command}\n-- wanted\n{wanted}-- printed\n{done.stdout}{done.stderr}", end="")
     return count - failed, failed
+
+
+def play_all():
+    """How many commands of all pages print what the page says, and how many don't. A page with none is one that doesn't."""
+    passed = failed = 0
+    for page in PAGES:
+        with tempfile.TemporaryDirectory() as folder:
+            well, ill = play(page, Path(folder))
+        passed, failed = passed + well, failed + ill + (well + ill == 0)
+    return passed, failed
 
 
 if __name__ == "__main__":
