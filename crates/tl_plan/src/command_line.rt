@@ -27,16 +27,15 @@ pub fn command<'a>(alloc: Global) -> Result<Command<'a>, AllocError>
 {
     let program = listings(alloc)?;
     let locate = locate(alloc)?;
+    let program = program.subcommand(locate)?;
     let audit = audit(alloc)?;
+    let program = program.subcommand(audit)?;
     let build = build(alloc)?;
+    let program = program.subcommand(build)?;
     let check = check(alloc)?;
+    let program = program.subcommand(check)?;
     let convert = conversion(alloc)?;
-    program
-        .subcommand(locate)?
-        .subcommand(audit)?
-        .subcommand(build)?
-        .subcommand(check)?
-        .subcommand(convert)
+    program.subcommand(convert)
 }
 
 // The program with the commands that take files and nothing else but --released.
@@ -45,8 +44,9 @@ fn listings<'a>(alloc: Global) -> Result<Command<'a>, AllocError>
 {
     let program = program(alloc)?;
     let show = command_on_files(alloc, "show", SHOW_ABOUT, SHOW_EXAMPLE)?;
+    let program = program.subcommand(show)?;
     let landmarks = command_on_files(alloc, "landmarks", LANDMARKS_ABOUT, LANDMARKS_EXAMPLE)?;
-    program.subcommand(show)?.subcommand(landmarks)
+    program.subcommand(landmarks)
 }
 
 fn program<'a>(alloc: Global) -> Result<Command<'a>, AllocError>
@@ -71,12 +71,12 @@ fn command_on_files<'a>(
     ensures local { IfOk result (λ command. (fields_of command).has_globals ≡ false) }
 {
     let released = released_argument(alloc);
-    let files = files_argument(alloc);
-    Command::new(alloc, name)
+    let command = Command::new(alloc, name)
         .about(about)
         .after_help(example)
-        .arg(released)?
-        .arg(files)
+        .arg(released)?;
+    let files = files_argument(alloc);
+    command.arg(files)
 }
 
 /// The command that locates a point.
@@ -85,19 +85,19 @@ pub fn locate<'a>(alloc: Global) -> Result<Command<'a>, AllocError>
     ensures local { IfOk result (λ command. (fields_of command).has_globals ≡ false) }
 {
     let released = released_argument(alloc);
+    let command = Command::new(alloc, "locate")
+        .about(LOCATE_ABOUT)
+        .after_help(LOCATE_EXAMPLE)
+        .arg(released)?;
     let point = name_argument(
         alloc,
         "point",
         "@X,Y",
         "The point, in millionths of a degree",
     );
+    let command = command.arg(point)?;
     let files = files_argument(alloc);
-    Command::new(alloc, "locate")
-        .about(LOCATE_ABOUT)
-        .after_help(LOCATE_EXAMPLE)
-        .arg(released)?
-        .arg(point)?
-        .arg(files)
+    command.arg(files)
 }
 
 fn audit<'a>(alloc: Global) -> Result<Command<'a>, AllocError>
@@ -128,12 +128,12 @@ pub fn check<'a>(alloc: Global) -> Result<Command<'a>, AllocError>
     ensures local { IfOk result (λ command. (fields_of command).has_globals ≡ false) }
 {
     let cert = certificate_argument(alloc, "cert", "The certificate");
-    let tests = tests_argument(alloc);
     let command = Command::new(alloc, "check")
         .about(CHECK_ABOUT)
         .after_help(CHECK_EXAMPLE)
-        .arg(cert)?
-        .arg(tests)?;
+        .arg(cert)?;
+    let tests = tests_argument(alloc);
+    let command = command.arg(tests)?;
     on_a_map(alloc, command)
 }
 
@@ -144,9 +144,11 @@ fn on_a_map<'a>(alloc: Global, command: Command<'a>) -> Result<Command<'a>, Allo
     ensures local { IfOk result (λ whole. (fields_of whole).has_globals ≡ false) }
 {
     let zero_cells = zero_cells_argument(alloc);
+    let command = command.arg(zero_cells)?;
     let released = released_argument(alloc);
+    let command = command.arg(released)?;
     let files = files_argument(alloc);
-    command.arg(zero_cells)?.arg(released)?.arg(files)
+    command.arg(files)
 }
 
 // The name of a certificate, behind an option that has to be given.
@@ -187,12 +189,12 @@ fn conversion<'a>(alloc: Global) -> Result<Command<'a>, AllocError>
     ensures local { IfOk result (λ command. (fields_of command).has_globals ≡ false) }
 {
     let cert = name_argument(alloc, "cert", "CERT", "The certificate that is read");
-    let out = name_argument(alloc, "out", "OUT", "The certificate that is made");
-    Command::new(alloc, "convert")
+    let command = Command::new(alloc, "convert")
         .about(CONVERT_ABOUT)
         .after_help(CONVERT_EXAMPLE)
-        .arg(cert)?
-        .arg(out)
+        .arg(cert)?;
+    let out = name_argument(alloc, "out", "OUT", "The certificate that is made");
+    command.arg(out)
 }
 
 fn name_argument<'a>(alloc: Global, id: &'a str, shown: &'a str, help: &'a str) -> Arg<'a>

@@ -82,9 +82,8 @@ fn misspelt_tests(alloc: Global, tests: &str) -> Result<String, AllocError>
     ensures { IfOk result HasNoEscape }
 {
     let wrong = format!(in alloc; "invalid value '{tests}' for '--tests <N>': {SPELLING}")?;
-    let mut command = check(alloc)?.bin_name("tigertopo check")?;
-    let error = command.error(ErrorKind::ValueValidation, wrong.as_str())?;
-    text_of(alloc, &error)
+    let command = check(alloc)?.bin_name("tigertopo check")?;
+    misspelt(alloc, command, wrong.as_str())
 }
 
 // What is wrong with a point that isn't spelt as one.
@@ -92,7 +91,14 @@ fn misspelt_point(alloc: Global, point: &str) -> Result<String, AllocError>
     ensures { IfOk result HasNoEscape }
 {
     let wrong = format!(in alloc; "invalid value '{point}' for '<@X,Y>': {POINT_SPELLING}")?;
-    let mut command = locate(alloc)?.bin_name("tigertopo locate")?;
-    let error = command.error(ErrorKind::ValueValidation, wrong.as_str())?;
+    let command = locate(alloc)?.bin_name("tigertopo locate")?;
+    misspelt(alloc, command, wrong.as_str())
+}
+
+// What the command says of a word that isn't spelt as it wants.
+fn misspelt(alloc: Global, mut command: Command<'_>, wrong: &str) -> Result<String, AllocError>
+    ensures { IfOk result HasNoEscape }
+{
+    let error = command.error(ErrorKind::ValueValidation, wrong)?;
     text_of(alloc, &error)
 }

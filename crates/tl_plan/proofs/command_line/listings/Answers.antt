@@ -5,5 +5,5 @@ use Rattle.tl_plan.proofs.command_line.listings.Goals as goal
 
 pub returns : goal.returns
 returns c =
-    let shows = c.in_ok-subcommand.ensures.shape c.in_ok-show.ensures.local ∙ is_added c.in_ok-program.ensures c.in_ok-show.ensures.shape in
+    let shows = c.in_ok-program-2.ensures.shape c.in_ok-show.ensures.local ∙ is_added c.in_ok-program.ensures c.in_ok-show.ensures.shape in
     IfOk-weaker c.subcommand-2.result _ _ (λ r added. added.shape c.in_ok-landmarks.ensures.local ∙ is_added shows c.in_ok-landmarks.ensures.shape) c.subcommand-2.ensures
