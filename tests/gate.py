@@ -2,6 +2,7 @@
 """The merge gate: `rt ci`, and behind it what only the built program can show. The last line counts all of it."""
 
 import re
+import resource
 import subprocess
 import sys
 import time
@@ -32,6 +33,7 @@ def main():
     import memory
     import rows
     import run as examples
+    import times
 
     def timed(part):
         name, play = part
@@ -51,11 +53,16 @@ def main():
         ("examples", examples.play_all),
         ("many counties", counties.play_all),
     ]
-    counts = [timed(proofs)]
+    begun = time.monotonic()
+    with times.Watch() as watch:
+        counts = [timed(proofs)]
+    print(f"the proofs, in processor minutes:\n{times.table(watch.seconds())}", flush=True)
     # Where a proof failed, the program is not the one that was proved.
     if not counts[0][1]:
         with ThreadPoolExecutor(len(parts)) as pool:
             counts += pool.map(timed, parts)
+    used = resource.getrusage(resource.RUSAGE_CHILDREN)
+    print(f"{(time.monotonic() - begun) / 60:.0f} minutes, {(used.ru_utime + used.ru_stime) / 60:.0f} processor minutes")
     passed, failed = (sum(column) for column in zip(*counts))
     print(f"{passed} passed, {failed} failed")
     return failed > 0

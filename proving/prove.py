@@ -1,0 +1,223 @@
+#!/usr/bin/env python3
+"""Proves and builds programs of this repository: each crate that they stand on as soon as those below it are proved,
+side by side on as many processors as there are and as memory holds. Each is proved from nothing and held to what `rt ci`
+wants of it. One that an earlier start proved, and of which nothing has changed since, is left as it stands.
+
+usage: prove.py [CRATE..]     with no CRATE, tigertopo
+"""
+
+import hashlib
+import importlib.machinery
+import importlib.util
+import os
+import shutil
+import signal
+import sys
+import tempfile
+import threading
+import time
+from pathlib import Path
+
+TOP = Path(__file__).resolve().parent.parent
+# Seconds of one processor that a crate of no known share is taken to need.
+UNKNOWN_SHARE = 60
+
+
+def stop(why):
+    print(f"tigertopo: {why}", file=sys.stderr)
+    sys.exit(4)
+
+
+def kit():
+    """The module behind the kit's command `rt`, which knows how crates are proved and how many fit side by side."""
+    command = shutil.which("rt")
+    if not command:
+        stop("it isn't built, and the command rt of the Rattle kit isn't on the PATH")
+    sys.dont_write_bytecode = True
+    loader = importlib.machinery.SourceFileLoader("rt", os.path.realpath(command))
+    module = importlib.util.module_from_spec(importlib.util.spec_from_loader("rt", loader))
+    sys.modules["rt"] = module
+    loader.exec_module(module)
+    return module
+
+
+def shares():
+    """What the proof of each crate takes on one processor, in seconds, as tests/times.py once found it."""
+    found = {}
+    for line in (TOP / "proving" / "seconds.txt").read_text().splitlines():
+        if line and not line.startswith("#"):
+            name, proof = line.split()[:2]
+            found[name] = float(proof)
+    return found
+
+
+def in_minutes(seconds):
+    minutes, seconds = divmod(round(seconds), 60)
+    return f"{minutes} min {seconds} s" if minutes else f"{seconds} s"
+
+
+class Progress:
+    """Tells on standard error what is proved, what is at work, and about how long it still takes: on one line where that
+    is a terminal, and else a line a crate."""
+
+    def __init__(self, names, processors):
+        known = shares()
+        self.share = {it: known.get(it, UNKNOWN_SHARE) for it in names}
+        self.left = dict(self.share)
+        self.processors = processors
+        self.running = []
+        self.begun = time.monotonic()
+        self.lock = threading.Lock()
+        self.is_terminal = sys.stderr.isatty()
+
+    def begins(self, name):
+        with self.lock:
+            self.running.append(name)
+            if self.is_terminal:
+                self.show("")
+
+    def ends(self, name):
+        with self.lock:
+            self.running.remove(name)
+            del self.left[name]
+            self.show(f"{name} proved, ")
+
+    def minutes_left(self):
+        """The shares that are left, at the speed of those that are done; before any is, with two processors at work."""
+        left = sum(self.left.values())
+        done = sum(self.share.values()) - left
+        elapsed = time.monotonic() - self.begun
+        speed = done / elapsed if done else min(2, self.processors)
+        return max(1, round(left / speed / 60))
+
+    def show(self, news):
+        count = f"{len(self.share) - len(self.left)} of {len(self.share)} crates"
+        after = in_minutes(time.monotonic() - self.begun)
+        left = f", about {self.minutes_left()} min left" if self.left else ""
+        if self.is_terminal:
+            busy = f": {', '.join(self.running)}" if self.running else ""
+            print(f"\r\033[Ktigertopo: {count} proved after {after}{left}{busy}"[:200], end="", file=sys.stderr, flush=True)
+        else:
+            print(f"tigertopo: {news}{count} after {after}{left}", file=sys.stderr, flush=True)
+
+    def finish(self):
+        if self.is_terminal:
+            print(file=sys.stderr)
+
+
+class Proof:
+    """A crate that is to be proved, with those below it. What stands of it is in the crate's folder out/proved, with the
+    sum of all that it was proved from."""
+
+    def __init__(self, rt, crate, below):
+        self.rt = rt
+        self.crate = crate
+        self.folder = Path(crate.folder) / "out" / "proved"
+        self.sum_file = self.folder / "sum"
+        crate.rlib = str(self.folder / f"{crate.name}.rlib")
+        self.program = Path(crate.folder) / "out" / crate.name
+        self.sum = self.sum_of_sources(below)
+
+    def sum_of_sources(self, below):
+        found = hashlib.sha256(Path(f"{self.rt.KIT}/KIT-ID").read_bytes())
+        for file in self.rt.rtlib.files_of(self.crate.folder):
+            found.update(repr((os.path.relpath(file, self.crate.folder), Path(file).read_bytes())).encode())
+        found.update(repr([it.sum for it in below]).encode())
+        return found.hexdigest()
+
+    def stands(self):
+        made = Path(self.crate.rlib) if self.crate.makes_rlib() else self.program
+        return made.exists() and self.sum_file.is_file() and self.sum_file.read_text() == self.sum
+
+    def prove(self, jobs):
+        """Proves the crate with so many jobs, and gives whether it is proved and what was said."""
+        shutil.rmtree(self.folder, ignore_errors=True)
+        self.folder.mkdir(parents=True)
+        with tempfile.TemporaryFile("w+", errors="replace") as self.crate.out:
+            words = self.crate.words(["--jobs", str(jobs)], keeps=False)
+            if self.crate.makes_rlib():
+                status = self.crate.prove(["build", *words, "--statements", "-o", self.crate.rlib])
+            else:
+                status = self.prove_and_build(words)
+            self.crate.out.seek(0)
+            said = self.crate.out.read()
+        # What changed while it was proved is seen at the next start.
+        if not status:
+            self.sum_file.write_text(self.sum)
+        return not status, said
+
+    def prove_and_build(self, words):
+        """Proves a program, and builds it from what was proved."""
+        checked = str(self.folder / "checked")
+        status = self.crate.prove(["check", *words, "-o", checked])
+        for flag in ("--logic-built", "--jobs"):
+            at = words.index(flag)
+            words = [*words[:at], *words[at + 2 :]]
+        words += ["--crate-checked", checked, "--toolchain", f"{self.rt.KIT}/toolchain"]
+        return status or self.crate.compile_by("llvm", words, f"out/{self.crate.name}")
+
+
+def prove_all(rt, proofs):
+    """Proves these crates, lowest first, and gives the name and the words of the first that failed, if one did."""
+    progress = Progress([it.crate.name for it in proofs], rt.processors())
+    failed = []
+
+    def task(proof):
+        def call(given, jobs):
+            if failed:
+                return False
+            progress.begins(proof.crate.name)
+            is_proved, said = proof.prove(jobs)
+            if is_proved:
+                progress.ends(proof.crate.name)
+            else:
+                failed.append((proof.crate.name, said))
+            return is_proved
+
+        return call
+
+    missing = {it.crate.name for it in proofs}
+    tasks = {}
+    for proof in proofs:
+        crate = proof.crate
+        waits = [(it.name, "proof") for it in crate.below() if it.name in missing]
+        tasks[crate.name, "proof"] = (waits, progress.share[crate.name], rt.need(crate), task(proof))
+    rt.in_lanes(tasks)
+    progress.finish()
+    return failed[0] if failed else None
+
+
+def main():
+    rt = kit()
+    # An interrupt ends this start at once, and the kit's guard what it started.
+    signal.signal(signal.SIGINT, signal.SIG_DFL)
+    rt.rtlib.guarded()
+    rt.Crate.cuts_libraries = True
+    rt.Crate.allowed = rt.handles_of(str(TOP))
+    rt.rtlib.Crate = rt.Crate
+    os.chdir(TOP)
+    every = rt.rtlib.crates_below(str(TOP))
+    wanted = [it for it in every if it.name in (sys.argv[1:] or ["tigertopo"])]
+    crates = [it for it in every if any(it is top or it in top.below() for top in wanted)]
+    for crate in crates:
+        rt.read_files(crate)
+        os.makedirs(f"{crate.folder}/out", exist_ok=True)
+    # One that runs in another terminal is waited for.
+    held = rt.rtlib.lock(crates)
+    proofs = {}
+    for crate in sorted(crates, key=lambda it: len(it.below())):
+        proofs[crate.name] = Proof(rt, crate, [proofs[it.name] for it in crate.below()])
+    missing = {}
+    for proof in proofs.values():
+        if not proof.stands() or any(it.name in missing for it in proof.crate.below()):
+            missing[proof.crate.name] = proof
+    failure = prove_all(rt, list(missing.values())) if missing else None
+    for it in held:
+        os.close(it)
+    if failure:
+        stop(f"{failure[0]} isn't proved\n{failure[1]}")
+    return 0
+
+
+if __name__ == "__main__":
+    sys.exit(main())
