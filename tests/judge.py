@@ -1,0 +1,971 @@
+#!/usr/bin/env python3
+"""A second opinion on a small county: every fault that is true of it, or that its map is sound.
+
+usage: judge.py audit [--zero-cells] [--released] FILES..
+       judge.py check --cert CERT [--tests N] [--zero-cells] [--released] FILES..
+       judge.py locate [--released] @X,Y FILES..
+       judge.py show [--released] FILES..
+       judge.py landmarks [--released] FILES..
+
+Written from docs/records.md, docs/sound.md, docs/faults.md and docs/certificate.md alone. It states each definition as it
+stands there, in whole numbers and fractions, with no regard to speed: it goes over all pairs of segments and all darts, and
+knows nothing of how the program searches. Where the program names one fault, the judge has the set of all that are true; so
+tests/judged.py can ask of each answer whether it is one that may be given.
+"""
+
+import re
+import sys
+from dataclasses import dataclass, field
+from fractions import Fraction
+from functools import cached_property
+from itertools import combinations
+from pathlib import Path
+from typing import NamedTuple
+
+import certificates
+
+# ---------------------------------------------------------------------------------------------------------------------
+# Lines and fields: docs/records.md.
+
+MOST_LINES = 67_108_864
+MOST_LINE_BYTES = 1_024
+GREATEST_LONGITUDE = 180_000_000
+GREATEST_LATITUDE = 90_000_000
+
+
+class Point(NamedTuple):
+    """A longitude and a latitude in millionths of a degree; of a shared point, fractions."""
+
+    x: int | Fraction
+    y: int | Fraction
+
+
+class Key(NamedTuple):
+    """What names a polygon: the five bytes of its CENID, and its POLYID."""
+
+    cenid: bytes
+    polyid: int
+
+    def __str__(self):
+        return self.cenid.decode("latin-1").replace(" ", "_") + f"/{self.polyid}"
+
+
+@dataclass(frozen=True)
+class Chain:
+    """A type 1 record."""
+
+    tlid: int
+    start: Point
+    end: Point
+
+
+@dataclass(frozen=True)
+class Shape:
+    """A type 2 record: its pairs, where None is an unused one."""
+
+    tlid: int
+    rtsq: int
+    pairs: tuple
+
+
+@dataclass(frozen=True)
+class Sides:
+    """A type I record: what lies on each side, where None is the outside; and the zero-cell ids, where None is no id."""
+
+    tlid: int
+    start_cell: int | None
+    end_cell: int | None
+    left: Key | None
+    right: Key | None
+
+
+@dataclass(frozen=True)
+class Polygon:
+    """A type P record."""
+
+    key: Key
+    point: Point
+
+
+@dataclass(frozen=True)
+class Landmark:
+    """A type 7 record; of an area landmark there is no point."""
+
+    land: int
+    point: Point | None
+
+
+@dataclass(frozen=True)
+class Link:
+    """A type 8 record."""
+
+    key: Key
+    land: int
+
+
+class Refused(Exception):
+    """The line is refused, for this cause."""
+
+
+class Line:
+    """The content of a line, of which fields are taken by their columns."""
+
+    def __init__(self, content):
+        self.content = content
+
+    def field(self, first, last):
+        """The bytes in these columns, from 1, with blanks past the line's end."""
+        return self.content[first - 1 : last].ljust(last - first + 1, b" ")
+
+    def number(self, name, first, last):
+        """Digits with blanks round them; None where the field is blank."""
+        return whole_number(name, self.field(first, last).strip(b" "))
+
+    def given_number(self, name, first, last):
+        return given(name, self.number(name, first, last))
+
+    def coordinate(self, name, first, last, limit):
+        """A number that may have a sign directly before its digits, at most so far from 0."""
+        word = self.field(first, last).strip(b" ")
+        signed = word[:1] in (b"+", b"-")
+        # A sign alone has no digit, and isn't blank.
+        if signed and len(word) == 1:
+            raise Refused(f"L3 BadField {name}")
+        value = given(name, whole_number(name, word[signed:]))
+        if value > limit:
+            raise Refused(f"L4 OutOfRange {name}")
+        return -value if word[:1] == b"-" else value
+
+    def point(self, names, column):
+        """A longitude in ten columns from this one, and behind it a latitude in nine."""
+        return Point(
+            self.coordinate(names[0], column, column + 9, GREATEST_LONGITUDE),
+            self.coordinate(names[1], column + 10, column + 18, GREATEST_LATITUDE),
+        )
+
+    def point_or_none(self, names, column):
+        """None where both fields are blank."""
+        return None if self.field(column, column + 18).strip(b" ") == b"" else self.point(names, column)
+
+    def pair(self, number):
+        """A shape pair, which is unused, None, where it is blank and where both fields read as 0."""
+        point = self.point_or_none((f"LONG{number}", f"LAT{number}"), 19 * number)
+        return None if point == Point(0, 0) else point
+
+    def key(self, names, column):
+        """A CENID in five columns from this one, and behind it a POLYID in ten."""
+        cenid = self.field(column, column + 4)
+        if any(byte < 0x20 or byte > 0x7E for byte in cenid):
+            raise Refused(f"L3 BadField {names[0]}")
+        return Key(cenid, self.given_number(names[1], column + 5, column + 14))
+
+    def side(self, letter, column):
+        """With a blank POLYID it is the outside, whatever the CENID holds."""
+        is_outside = self.field(column + 5, column + 14).strip(b" ") == b""
+        return None if is_outside else self.key((f"CENID{letter}", f"POLYID{letter}"), column)
+
+    def zero_cell(self, name, first, last):
+        """Blanks are no id, and neither is 0."""
+        return self.number(name, first, last) or None
+
+
+def whole_number(name, word):
+    if word and not all(byte in b"0123456789" for byte in word):
+        raise Refused(f"L3 BadField {name}")
+    return int(word) if word else None
+
+
+def given(name, value):
+    if value is None:
+        raise Refused(f"L2 Missing {name}")
+    return value
+
+
+def record_of(line, zero_cells, released):
+    """What a line means: a record, or None where it is passed over. The first field that fails is why it is refused."""
+    kind = line.content[:1]
+    if kind == b"1":
+        tlid = line.given_number("TLID", 6, 15)
+        return Chain(tlid, line.point(("FRLONG", "FRLAT"), 191), line.point(("TOLONG", "TOLAT"), 210))
+    if kind == b"2":
+        tlid, rtsq = line.given_number("TLID", 6, 15), line.given_number("RTSQ", 16, 18)
+        return Shape(tlid, rtsq, tuple(line.pair(number) for number in range(1, 11)))
+    if kind == b"I":
+        tlid = line.given_number("TLID", *((11, 20) if released else (6, 15)))
+        start = line.zero_cell("TZIDS", 21, 30) if zero_cells else None
+        end = line.zero_cell("TZIDE", 31, 40) if zero_cells else None
+        return Sides(tlid, start, end, line.side("L", 41), line.side("R", 56))
+    if kind == b"P":
+        return Polygon(line.key(("CENID", "POLYID"), 11), line.point(("POLYLONG", "POLYLAT"), 26))
+    if kind == b"7":
+        return Landmark(line.given_number("LAND", 11, 20), line.point_or_none(("LALONG", "LALAT"), 55))
+    if kind == b"8":
+        return Link(line.key(("CENID", "POLYID"), 11), line.given_number("LAND", 26, 35))
+    return None
+
+
+def raw_lines(texts):
+    """The lines of texts that are read as one: a text that isn't empty and leaves its last line open gets a line feed."""
+    joined = b"".join(text + (b"\n" if text and not text.endswith(b"\n") else b"") for text in texts)
+    return joined.split(b"\n")[:-1]
+
+
+@dataclass
+class Records:
+    """What is read: the records in their order, how many lines were passed over, and the first line that is refused."""
+
+    all: list = field(default_factory=list)
+    skipped: int = 0
+    refusal: str | None = None
+
+    def of(self, kind):
+        return [it for it in self.all if isinstance(it, kind)]
+
+
+def read(texts, zero_cells=False, released=False):
+    """The records of the texts, up to the first refused line."""
+    records = Records()
+    for number, raw in enumerate(raw_lines(texts), 1):
+        try:
+            if number > MOST_LINES:
+                raise Refused("L5 TooManyLines")
+            if len(raw) > MOST_LINE_BYTES:
+                raise Refused("L1 LineTooLong")
+            record = record_of(Line(raw.removesuffix(b"\r")), zero_cells, released)
+        except Refused as cause:
+            records.refusal = f"refused line {number} {cause}"
+            return records
+        if record is None:
+            records.skipped += 1
+        else:
+            records.all.append(record)
+    return records
+
+
+# ---------------------------------------------------------------------------------------------------------------------
+# The chains that records draw, and each M fault that is true: docs/faults.md.
+
+MOST_CHAINS = MOST_POLYGONS = MOST_LANDMARKS = 1_048_576
+MOST_SEGMENTS = 16_777_216
+
+
+def shapes_of(records, tlid):
+    return [it for it in records.of(Shape) if it.tlid == tlid]
+
+
+def is_numbered(shapes):
+    """Their RTSQ are 1 to their number, each once."""
+    return sorted(it.rtsq for it in shapes) == list(range(1, len(shapes) + 1))
+
+
+def pairs_of(shapes):
+    """All pairs by rising RTSQ."""
+    return [pair for it in sorted(shapes, key=lambda it: it.rtsq) for pair in it.pairs]
+
+
+def has_gap(pairs):
+    """A used pair comes behind an unused one."""
+    return any(pair is None and any(it is not None for it in pairs[place:]) for place, pair in enumerate(pairs))
+
+
+def points_of(chain, shapes):
+    """The start, the used pairs and the end, where of neighbours that are one point one is kept."""
+    points = []
+    for point in [chain.start, *(it for it in pairs_of(shapes) if it is not None), chain.end]:
+        if points[-1:] != [point]:
+            points.append(point)
+    return points
+
+
+def chain_faults(records):
+    """Each fault that types 1 and 2 have."""
+    chains, faults = records.of(Chain), []
+    tlids = [it.tlid for it in chains]
+    for tlid in sorted({*tlids, *(it.tlid for it in records.of(Shape))}):
+        shapes = shapes_of(records, tlid)
+        if tlids.count(tlid) >= 2:
+            faults.append(f"M1 DuplicateChain tlid {tlid}")
+        if tlid not in tlids:
+            faults.append(f"M2 ShapeWithoutChain tlid {tlid}")
+        if not is_numbered(shapes):
+            faults.append(f"M3 ShapeSequence tlid {tlid}")
+        elif has_gap(pairs_of(shapes)):
+            faults.append(f"M4 ShapeGap tlid {tlid}")
+    if len(chains) > MOST_CHAINS:
+        faults.append("M13 TooMany chains")
+    if not faults and sum(len(points_of(it, shapes_of(records, it.tlid))) - 1 for it in chains) > MOST_SEGMENTS:
+        faults.append("M13 TooMany segments")
+    for chain in chains:
+        shapes = shapes_of(records, chain.tlid)
+        is_sure = tlids.count(chain.tlid) == 1 and is_numbered(shapes) and not has_gap(pairs_of(shapes))
+        if is_sure and len(points_of(chain, shapes)) == 1:
+            faults.append(f"M12 DegenerateChain tlid {chain.tlid}")
+    return [f"map fault {it}" for it in faults]
+
+
+def join_faults(records):
+    """Each fault of types I, P, 7 and 8 beside the others."""
+    chains = {it.tlid for it in records.of(Chain)}
+    sides = [it.tlid for it in records.of(Sides)]
+    keys = [it.key for it in records.of(Polygon)]
+    lands = {it.land for it in records.of(Landmark)}
+    faults = [f"M5 ChainWithoutSides tlid {tlid}" for tlid in chains - set(sides)]
+    faults += [f"M6 SidesWithoutChain tlid {tlid}" for tlid in set(sides) - chains]
+    faults += [f"M7 DuplicateSides tlid {tlid}" for tlid in set(sides) if sides.count(tlid) >= 2]
+    faults += [f"M8 DuplicatePolygon polygon {key}" for key in set(keys) if keys.count(key) >= 2]
+    for it in records.of(Sides):
+        unknown = {it.left, it.right} - {None, *keys}
+        faults += [f"M9 SideWithoutPolygon tlid {it.tlid} polygon {key}" for key in unknown]
+    for it in records.of(Link):
+        faults += [f"M10 LinkWithoutLandmark land {it.land}"] if it.land not in lands else []
+        faults += [f"M11 LinkWithoutPolygon polygon {it.key} land {it.land}"] if it.key not in keys else []
+    faults += ["M13 TooMany polygons"] if len(keys) > MOST_POLYGONS else []
+    faults += ["M13 TooMany landmarks"] if len(lands) > MOST_LANDMARKS else []
+    return [f"map fault {it}" for it in faults]
+
+
+# ---------------------------------------------------------------------------------------------------------------------
+# The map, its segments, darts and nodes.
+
+
+@dataclass(frozen=True)
+class MapChain:
+    """A chain of the map: a side is the key of a polygon, or None for the outside."""
+
+    tlid: int
+    points: tuple
+    left: Key | None
+    right: Key | None
+    cells: tuple
+
+    @property
+    def ends(self):
+        return self.points[0], self.points[-1]
+
+
+@dataclass(frozen=True)
+class Segment:
+    """A segment by its numbers: that of its chain, and that of the point of the chain where it starts."""
+
+    chain: int
+    place: int
+    start: Point
+    end: Point
+
+    @cached_property
+    def rectangle(self):
+        """The least and the greatest longitude and latitude of its ends: west, south, east and north."""
+        (one_x, one_y), (other_x, other_y) = self.start, self.end
+        return min(one_x, other_x), min(one_y, other_y), max(one_x, other_x), max(one_y, other_y)
+
+
+@dataclass(frozen=True)
+class MapLandmark:
+    """A landmark with the polygons that are linked to it, each where it is linked first."""
+
+    land: int
+    point: Point | None
+    polygons: tuple
+
+
+@dataclass
+class Map:
+    """Chains by rising TLID, polygons in the order of their records, landmarks in that of their first records."""
+
+    chains: list
+    polygons: list
+    landmarks: list
+
+    @cached_property
+    def segments(self):
+        """All segments in chain order, along each chain."""
+        return [
+            Segment(number, place, *chain.points[place : place + 2])
+            for number, chain in enumerate(self.chains)
+            for place in range(len(chain.points) - 1)
+        ]
+
+    @cached_property
+    def darts(self):
+        """All darts: two for each chain."""
+        return range(2 * len(self.chains))
+
+    def directed(self, dart):
+        """The points of a dart's chain in the order in which the dart runs."""
+        points = self.chains[dart // 2].points
+        return points if dart % 2 == 0 else points[::-1]
+
+    def start(self, dart):
+        return self.directed(dart)[0]
+
+    def heading(self, dart):
+        """The step from the dart's first point to its second."""
+        first, second = self.directed(dart)[:2]
+        return Point(second.x - first.x, second.y - first.y)
+
+    def left(self, dart):
+        chain = self.chains[dart // 2]
+        return chain.left if dart % 2 == 0 else chain.right
+
+    def right(self, dart):
+        return self.left(reverse(dart))
+
+    def cell(self, dart):
+        """The zero-cell id where the dart starts, or None."""
+        return self.chains[dart // 2].cells[dart % 2]
+
+    @cached_property
+    def starting(self):
+        """The darts that start at each node."""
+        darts = {}
+        for dart in self.darts:
+            darts.setdefault(self.start(dart), []).append(dart)
+        return darts
+
+    def is_next(self, first, second):
+        """Both start at one node, and no dart there heads strictly within the turn from the first to the second."""
+        return self.start(first) == self.start(second) and not any(
+            is_within(self.heading(first), self.heading(second), self.heading(other))
+            for other in self.starting[self.start(first)]
+        )
+
+    @cached_property
+    def next_pairs(self):
+        """All pairs of darts of which the second is next after the first."""
+        pairs = [(one, other) for darts in self.starting.values() for one in darts for other in darts]
+        return [pair for pair in pairs if self.is_next(*pair)]
+
+    def follows(self, dart, other):
+        """The other starts where the dart ends, and the dart's reverse is next after it."""
+        return (other, reverse(dart)) in self.next_pairs
+
+
+def reverse(dart):
+    """The other dart of its chain."""
+    return dart + 1 if dart % 2 == 0 else dart - 1
+
+
+def map_of(records):
+    """The map of records that have no fault."""
+    keys, landmarks = [it.key for it in records.of(Polygon)], {}
+    for it in records.of(Landmark):
+        landmarks.setdefault(it.land, it)
+    sides = {it.tlid: it for it in records.of(Sides)}
+    chains = []
+    for it in sorted(records.of(Chain), key=lambda it: it.tlid):
+        told, points = sides[it.tlid], points_of(it, shapes_of(records, it.tlid))
+        chains.append(MapChain(it.tlid, tuple(points), told.left, told.right, (told.start_cell, told.end_cell)))
+    linked = [
+        MapLandmark(it.land, it.point, tuple(dict.fromkeys(link.key for link in records.of(Link) if link.land == it.land)))
+        for it in landmarks.values()
+    ]
+    assert len(set(keys)) == len(keys)
+    return Map(chains, records.of(Polygon), linked)
+
+
+# ---------------------------------------------------------------------------------------------------------------------
+# Planar: no point on two chains but an end of both, and no chain that meets itself but at its ends.
+
+
+def cross(one, other):
+    """Above 0 where the other step goes to the left of the one."""
+    return one.x * other.y - one.y * other.x
+
+
+def step(start, end):
+    return Point(end.x - start.x, end.y - start.y)
+
+
+def is_on(segment, point):
+    """The point, of fractions, lies on the segment, ends included."""
+    west, south, east, north = segment.rectangle
+    is_straight = cross(step(segment.start, segment.end), step(segment.start, point)) == 0
+    return is_straight and west <= point.x <= east and south <= point.y <= north
+
+
+def shared_points(one, other):
+    """The points on both segments: none, one, or of a segment that is on both its two ends."""
+    along, beside = step(one.start, one.end), step(other.start, other.end)
+    apart, turn = step(one.start, other.start), cross(along, beside)
+    if turn == 0:
+        return {it for it in (one.start, one.end) if is_on(other, it)} | {it for it in (other.start, other.end) if is_on(one, it)}
+    # Not parallel: their lines share one point, which lies these parts of the way along the two.
+    first, second = Fraction(cross(apart, beside), turn), Fraction(cross(apart, along), turn)
+    if not (0 <= first <= 1 and 0 <= second <= 1):
+        return set()
+    return {Point(one.start.x + first * along.x, one.start.y + first * along.y)}
+
+
+def may_share(the_map, one, other, point):
+    """The two segments, of which the first has the lower number, may share the point."""
+    points, others = the_map.chains[one.chain].points, the_map.chains[other.chain].points
+    if one.chain != other.chain:
+        return point in (points[0], points[-1]) and point in (others[0], others[-1])
+    is_between = other.place == one.place + 1 and point == points[other.place]
+    is_closing = one.place == 0 and other.place == len(points) - 2 and points[0] == points[-1] == point
+    return is_between or is_closing
+
+
+def meeting_point(the_map, one, other):
+    """A point that the two segments share and may not, or None. Of a whole segment that is on both, some point always is
+    such a one, since only ends and vertices may be shared: its middle, or an end of it."""
+    shared = shared_points(one, other)
+    if len(shared) == 2:
+        start, end = shared
+        shared = [Point(Fraction(start.x + end.x, 2), Fraction(start.y + end.y, 2)), start, end]
+        assert any(not may_share(the_map, one, other, it) for it in shared)
+    return next((it for it in shared if not may_share(the_map, one, other, it)), None)
+
+
+def meets(the_map):
+    """For each two segments that meet where they may not, one of the lines that are true of them."""
+    told = []
+    for (one_number, one), (number, other) in combinations(enumerate(the_map.segments), 2):
+        point = meeting_point(the_map, one, other) if have_meeting_rectangles(one, other) else None
+        if point is not None:
+            scale = Fraction(point.x).denominator * Fraction(point.y).denominator
+            tlids = [the_map.chains[it.chain].tlid for it in (one, other)]
+            told.append(
+                f"map fault G1 Meet tlid {tlids[0]} segment {one_number} tlid {tlids[1]} segment {number}"
+                f" at {point.x * scale} {point.y * scale} {scale}"
+            )
+    return told
+
+
+MEET = re.compile(r"map fault G1 Meet tlid (\d+) segment (\d+) tlid (\d+) segment (\d+) at (-?\d+) (-?\d+) ([1-9]\d*)")
+
+
+def is_true_meet(the_map, line):
+    """Whether the line tells two segments, the lower number first, and a point of both that they may not share."""
+    told = MEET.fullmatch(line)
+    if not told:
+        return False
+    tlid, number, other_tlid, other_number, x, y, scale = map(int, told.groups())
+    if not number < other_number < len(the_map.segments):
+        return False
+    one, other = the_map.segments[number], the_map.segments[other_number]
+    point = Point(Fraction(x, scale), Fraction(y, scale))
+    are_named = (the_map.chains[one.chain].tlid, the_map.chains[other.chain].tlid) == (tlid, other_tlid)
+    return are_named and is_on(one, point) and is_on(other, point) and not may_share(the_map, one, other, point)
+
+
+def have_meeting_rectangles(one, other):
+    """Two segments whose rectangles have no common point share none either."""
+    west, south, east, north = one.rectangle
+    other_west, other_south, other_east, other_north = other.rectangle
+    return west <= other_east and other_west <= east and south <= other_north and other_south <= north
+
+
+# ---------------------------------------------------------------------------------------------------------------------
+# Sides that agree, and closed boundaries.
+
+
+def is_one_direction(one, other):
+    return cross(one, other) == 0 and one.x * other.x + one.y * other.y > 0
+
+
+def is_within(one, other, between):
+    """Between lies strictly within the turn counter-clockwise from one direction to the other. From a direction to itself
+    that is the full turn."""
+    turn = cross(one, other)
+    if turn > 0:
+        return cross(one, between) > 0 and cross(between, other) > 0
+    if turn < 0:
+        return cross(one, between) > 0 or cross(between, other) > 0
+    if is_one_direction(one, other):
+        return not is_one_direction(one, between)
+    return cross(one, between) > 0
+
+
+def side_faults(the_map):
+    """Each two darts of which the second is next after the first and has another side on its right than the first on its
+    left."""
+    return [
+        "map fault G2 Side at {} {} darts {} {}".format(*the_map.start(first), first, second)
+        for first, second in the_map.next_pairs
+        if the_map.left(first) != the_map.right(second)
+    ]
+
+
+def rings_of(the_map):
+    """The rings of a planar map: from each dart one goes to that which follows it, until one is back. On a planar map one
+    dart alone follows each, since no two head the same way from one node; so these are all rings there are."""
+    following = {reverse(second): first for first, second in the_map.next_pairs}
+    assert len(following) == len(the_map.next_pairs) == len(the_map.darts)
+    rings, left = [], set(the_map.darts)
+    while left:
+        ring = [min(left)]
+        while following[ring[-1]] != ring[0]:
+            ring.append(following[ring[-1]])
+        left -= set(ring)
+        rings.append(ring)
+    return rings
+
+
+def are_closed(the_map, rings):
+    """Each side has a boundary: rings in which each dart with that side on its left stands once, and no other dart. A ring
+    with two sides on its left would be in no boundary, though each of its darts has to be."""
+    return all(len({the_map.left(dart) for dart in ring}) == 1 for ring in rings)
+
+
+# ---------------------------------------------------------------------------------------------------------------------
+# What lies about a point.
+
+
+def is_crossed(segment, point):
+    """The way from the point to the east crosses it: one of its ends is north of the way, the other isn't, and a point of
+    it lies on the way, strictly east of where the way begins."""
+    start, end = segment.start, segment.end
+    if (start.y > point.y) == (end.y > point.y):
+        return False
+    return start.x + Fraction((point.y - start.y) * (end.x - start.x), end.y - start.y) > point.x
+
+
+def crossed_sides(the_map, point):
+    """Of each segment that is crossed its near side, on which one comes to it, and its far side."""
+    sides = []
+    for it in the_map.segments:
+        if is_crossed(it, point):
+            chain = the_map.chains[it.chain]
+            sides.append((chain.left, chain.right) if it.start.y < it.end.y else (chain.right, chain.left))
+    return sides
+
+
+def count(crossed, sides):
+    """How often the way leaves one of these sides less how often it comes into one."""
+    return sum((near in sides) - (far in sides) for near, far in crossed)
+
+
+def chains_through(the_map, point):
+    """The TLIDs of the chains that the point is on, rising."""
+    numbers = sorted({it.chain for it in the_map.segments if is_on(it, point)})
+    return [the_map.chains[number].tlid for number in numbers]
+
+
+def point_faults(the_map):
+    """Each fault of where the points of polygons lie."""
+    faults = []
+    for polygon in the_map.polygons:
+        crossed = crossed_sides(the_map, polygon.point)
+        on = chains_through(the_map, polygon.point)
+        faults += [f"map fault G3 PointOnChain polygon {polygon.key} tlid {tlid}" for tlid in on]
+        if count(crossed, [polygon.key]) != 1:
+            faults.append(f"map fault G4 PointOutside polygon {polygon.key}")
+            continue
+        for other in the_map.polygons:
+            if other.key != polygon.key and count(crossed, [other.key]) != 0:
+                faults.append(f"map fault G5 PointInOther polygon {polygon.key} other {other.key}")
+    return faults
+
+
+def cell_faults(the_map):
+    """Each two darts with ids that are equal though the darts start at two points, or differ though they start at one."""
+    faults = []
+    for one, other in combinations([dart for dart in the_map.darts if the_map.cell(dart) is not None], 2):
+        ids = the_map.cell(one), the_map.cell(other)
+        if (ids[0] == ids[1]) != (the_map.start(one) == the_map.start(other)):
+            faults.append("map fault G6 Cell darts {} {} ids {} {}".format(one, other, *ids))
+    return faults
+
+
+def place_of(the_map, point):
+    """The line that `locate` prints of the point."""
+    on = chains_through(the_map, point)
+    if on:
+        return f"on tlid {on[0]}"
+    crossed = crossed_sides(the_map, point)
+    polygons = [str(it.key) for it in the_map.polygons if count(crossed, [it.key]) != 0]
+    lands = [str(it.land) for it in the_map.landmarks if count(crossed, it.polygons) != 0]
+    return f"in polygons {listed(polygons)} landmarks {listed(lands)}"
+
+
+def listed(words):
+    return " ".join(words) or "none"
+
+
+# ---------------------------------------------------------------------------------------------------------------------
+# Certificates: docs/certificate.md, and the K faults of docs/faults.md.
+
+GREATEST_DEPTH = 64
+
+
+@dataclass
+class Node:
+    """A node of a tree: its rectangle, and its children or the numbers of its segments."""
+
+    rectangle: tuple
+    children: list
+    items: list
+
+    @property
+    def below(self):
+        """All segments in it and below it."""
+        return self.items + [item for it in self.children for item in it.below]
+
+    @property
+    def depth(self):
+        return 1 + max((it.depth for it in self.children), default=0)
+
+    @property
+    def nodes(self):
+        """It and those below it, in preorder."""
+        return [self] + [node for it in self.children for node in it.nodes]
+
+
+@dataclass
+class Certificate:
+    counts: tuple
+    tree: Node | None
+    rounds: list
+    walks: list
+
+
+def certificate_of(text):
+    """The certificate of a text that is one's: which texts are is told by the plain reader of tests/certificates.py."""
+    lines = [line.split(b" ") for line in text.split(b"\n")]
+    version, *counts = (int(lines[0][1]), *map(int, lines[1][1:]))
+    rest = iter(lines[2:])
+
+    def number():
+        return int(next(rest)[1])
+
+    def numbers():
+        return [number() for _ in range(number())]
+
+    def node():
+        word, *values = next(rest)
+        west, south, east, north, *more = map(int, values)
+        inner = word == b"B"
+        many = more[0] if more else 2
+        children = [node() for _ in range(many)] if inner else []
+        return Node((west, south, east, north), children, [] if inner else [number() for _ in range(many)])
+
+    tree = node() if number() else None
+    return Certificate(tuple(counts), tree, [numbers() for _ in range(number())], [numbers() for _ in range(number())])
+
+
+def once_faults(listed_numbers, names, many):
+    """Each number that there isn't, that stands twice, and that is missing, of so many that each have to stand once."""
+    faults = [f"{names[0]} {it}" for it in set(listed_numbers) if it >= many]
+    faults += [f"{names[1]} {it}" for it in set(listed_numbers) if listed_numbers.count(it) >= 2]
+    return faults + [f"{names[2]} {it}" for it in range(many) if it not in listed_numbers]
+
+
+def tree_faults(the_map, tree):
+    """What is wrong with a tree of the map's segments."""
+    nodes, segments = tree.nodes if tree else [], the_map.segments
+    faults = once_faults(tree.below if tree else [], ("UnknownIndex", "IndexTwice", "IndexMissing"), len(segments))
+    for number, node in enumerate(nodes):
+        west, south, east, north = node.rectangle
+        within = [segments[it].rectangle for it in node.below if it < len(segments)]
+        if not all(west <= it[0] and south <= it[1] and it[2] <= east and it[3] <= north for it in within):
+            faults.append(f"RectTooSmall {number}")
+    return faults + (["TooDeep"] if tree and tree.depth > GREATEST_DEPTH else [])
+
+
+EAST = Point(1, 0)
+DARTS = ("UnknownDart", "DartTwice", "DartMissing")
+
+
+def heads_before(one, other):
+    """The one direction comes before the other in the turn counter-clockwise from east."""
+    return not is_one_direction(EAST, other) and (is_one_direction(EAST, one) or is_within(EAST, other, one))
+
+
+def round_faults(the_map, rounds):
+    """What is wrong with rounds: for each node one, with the darts that start there counter-clockwise from east."""
+    faults, many = once_faults(sum(rounds, []), DARTS, len(the_map.darts)), len(the_map.darts)
+    starts = [the_map.start(darts[0]) if darts[0] < many else None for darts in rounds]
+    for number, darts in enumerate(rounds):
+        known = [dart for dart in darts if dart < many]
+        if starts[number] is not None and any(the_map.start(dart) != starts[number] for dart in known):
+            faults.append(f"StartsElsewhere {number}")
+        if starts[number] is not None and starts[number] in starts[:number]:
+            faults.append(f"NodeRepeated {number}")
+        beside = [pair for pair in zip(darts, darts[1:]) if max(pair) < many]
+        if not all(heads_before(the_map.heading(one), the_map.heading(other)) for one, other in beside):
+            faults.append(f"OrderNotRising {number}")
+    return faults
+
+
+def walk_faults(the_map, walks):
+    """What is wrong with walks: rings in which each dart stands once."""
+    faults, many = once_faults(sum(walks, []), DARTS, len(the_map.darts)), len(the_map.darts)
+
+    def is_wrong(dart, other):
+        return max(dart, other) < many and not the_map.follows(dart, other)
+
+    for number, darts in enumerate(walks):
+        faults += [f"WrongStep {number}"] if any(is_wrong(*pair) for pair in zip(darts, darts[1:])) else []
+        faults += [f"NotClosed {number}"] if is_wrong(darts[-1], darts[0]) else []
+    return faults
+
+
+def certificate_faults(the_map, text):
+    """Each fault of the certificate that is true beside the map. It is valid where there is none."""
+    try:
+        certificates.read(text)
+    except certificates.Refused as refused:
+        return ["certificate fault K1 Text line {}".format(*refused.args)]
+    it = certificate_of(text)
+    faults = ["K2 Counts"] if it.counts != counts_of(the_map) else []
+    faults += [f"K3 Tree {fault}" for fault in tree_faults(the_map, it.tree)]
+    faults += [f"K4 Round {fault}" for fault in round_faults(the_map, it.rounds)]
+    faults += [f"K5 Walk {fault}" for fault in walk_faults(the_map, it.walks)]
+    return [f"certificate fault {fault}" for fault in faults]
+
+
+# ---------------------------------------------------------------------------------------------------------------------
+# What may be answered.
+
+# The status of an answer by its first word; and the statuses that are said on the standard output.
+STATUSES = {"map": 1, "certificate": 2, "refused": 3, "stopped": 4}
+ON_OUTPUT = (0, 1, 2)
+
+
+def counts_of(the_map):
+    """The numbers of chains, segments, nodes and polygons."""
+    return len(the_map.chains), len(the_map.segments), len(the_map.starting), len(the_map.polygons)
+
+
+def map_faults(the_map):
+    """Each fault of the map; of two segments that meet one line, though more points may be true."""
+    return meets(the_map) + side_faults(the_map) + point_faults(the_map) + cell_faults(the_map)
+
+
+def sound_report(the_map):
+    """The numbers of a map that has no fault, or None where its boundaries aren't closed, so that it isn't sound."""
+    rings = rings_of(the_map)
+    if not are_closed(the_map, rings):
+        return None
+    numbers = "chains={} segments={} nodes={} polygons={}".format(*counts_of(the_map))
+    return f"{numbers} landmarks={len(the_map.landmarks)} rings={len(rings)}"
+
+
+@dataclass
+class Opinion:
+    """The answers of which each may be given, and no other; and the map, where there is one, in which segments may meet."""
+
+    answers: list
+    the_map: Map | None = None
+
+    @property
+    def status(self):
+        """That of the first answer."""
+        return STATUSES.get(self.answers[0].split(" ")[0], 0) if self.answers else 1
+
+    def allows(self, status, out, err):
+        """Whether the program's status and its two outputs may be so."""
+        text = (out if status in ON_OUTPUT else err).decode("latin-1")
+        if (err if status in ON_OUTPUT else out) or not text.endswith("\n"):
+            return False
+        answer = text[:-1]
+        if status != STATUSES.get(answer.split(" ")[0], 0):
+            return False
+        return answer in self.answers or self.the_map is not None and is_true_meet(self.the_map, answer)
+
+
+class County:
+    """The texts of a county's files, and what is asked of them."""
+
+    def __init__(self, texts, zero_cells=False, released=False):
+        self.records = read(texts, zero_cells, released)
+
+    @cached_property
+    def faults(self):
+        """The first refused line, or each fault of the records."""
+        if self.records.refusal:
+            return [self.records.refusal]
+        return chain_faults(self.records) + join_faults(self.records)
+
+    @cached_property
+    def map(self):
+        return map_of(self.records)
+
+    @cached_property
+    def map_faults(self):
+        return map_faults(self.map)
+
+    @cached_property
+    def report(self):
+        """The numbers of a sound map, or None."""
+        return None if self.faults or self.map_faults else sound_report(self.map)
+
+    def audit(self, word="sound"):
+        if self.faults:
+            return Opinion(self.faults)
+        return Opinion([f"{word} {self.report}"] if self.report else self.map_faults, self.map)
+
+    def build(self):
+        """As `audit`, but for the word; the certificate that is made is looked at by `certificate_faults`."""
+        return self.audit("built")
+
+    def check(self, text, tests=None):
+        """Sound, where the map is, the certificate is valid and there are no more pairs to be tested than may be; a true
+        fault of the map or of the certificate; or that there are more."""
+        if self.faults:
+            return Opinion(self.faults)
+        faults = self.map_faults + certificate_faults(self.map, text)
+        pairs = sum(have_meeting_rectangles(*pair) for pair in combinations(self.map.segments, 2)) if tests is not None else 0
+        if tests is not None and pairs > tests:
+            faults.append("stopped Budget")
+        return Opinion(faults or ([f"sound {self.report}"] if self.report else []), self.map)
+
+    def locate(self, point):
+        return Opinion(self.faults or [place_of(self.map, point)])
+
+    def landmarks(self):
+        if self.faults:
+            return Opinion(self.faults)
+        lines = []
+        for it in self.map.landmarks:
+            place = f"point {it.point.x},{it.point.y}" if it.point else "area"
+            lines.append(f"land {it.land} {place} polygons {listed(map(str, it.polygons))}")
+        return Opinion(["\n".join([*lines, f"landmarks={len(lines)}"])])
+
+    def show(self):
+        """By types 1 and 2 alone."""
+        if self.records.refusal or chain_faults(self.records):
+            return Opinion([self.records.refusal] if self.records.refusal else chain_faults(self.records))
+        drawn = [(it.tlid, points_of(it, shapes_of(self.records, it.tlid))) for it in self.records.of(Chain)]
+        lines = [" ".join([f"tlid {tlid}", *(f"{it.x},{it.y}" for it in points)]) for tlid, points in sorted(drawn)]
+        segments = sum(len(points) - 1 for _, points in drawn)
+        lines.append(f"chains={len(drawn)} segments={segments} skipped={self.records.skipped}")
+        return Opinion(["\n".join(lines)])
+
+
+# ---------------------------------------------------------------------------------------------------------------------
+# The command.
+
+
+def asked(words, text_of):
+    """The opinion on a command line, where `text_of` gives the bytes of a file; None where it isn't one of the commands
+    that the judge knows."""
+    command, values, names, switches = words[0] if words else "", {}, [], set()
+    rest = [it for word in words[1:] for it in (word.split("=", 1) if word.startswith("--") else [word])]
+    while rest:
+        word = rest.pop(0)
+        if word in ("--cert", "--tests", "--out") and rest:
+            values[word] = rest.pop(0)
+        elif word in ("--zero-cells", "--released"):
+            switches.add(word)
+        elif word != "--":
+            names.append(word)
+    point = re.fullmatch(r"@(-?\d+),(-?\d+)", names.pop(0)) if command == "locate" and names else None
+    if not names or command not in ("audit", "build", "check", "locate", "landmarks", "show"):
+        return None
+    if (command == "check" and "--cert" not in values) or (command == "locate" and not point):
+        return None
+    county = County([text_of(name) for name in names], "--zero-cells" in switches, "--released" in switches)
+    if command == "check":
+        return county.check(text_of(values["--cert"]), int(values["--tests"]) if "--tests" in values else None)
+    return county.locate(Point(*map(int, point.groups()))) if point else getattr(county, command)()
+
+
+if __name__ == "__main__":
+    opinion = asked(sys.argv[1:], lambda name: Path(name).read_bytes())
+    if opinion is None:
+        sys.exit(__doc__)
+    for answer in opinion.answers:
+        print(answer)
+    sys.exit(opinion.status)
