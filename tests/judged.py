@@ -1,0 +1,235 @@
+#!/usr/bin/env python3
+"""Plays small counties that tests/draw.py draws over the built program, and has tests/judge.py judge each answer.
+
+usage: judged.py [--seed SEED] [--cases N] [--only NUMBER] [--program PROGRAM]
+
+First the judge is judged: it has to agree with each row of tests/*.rows of which it can speak. Then each case is asked for by
+`audit`, and by others: `build`, whose certificate has to be valid by the judge, `check` by that certificate, by one that
+tests/draw.py proposes and by both changed, with a budget of tests at times, `locate`, `show` and `landmarks`. No expected
+value comes from the program. A town that is drawn to be sound has to be so by the judge too.
+
+The seed is printed, and with it each case can be drawn again. Of the first case that fails the lines are printed that are
+left when each line is taken away that isn't needed for it to fail, with the program's answer and the judge's.
+"""
+
+import argparse
+import multiprocessing
+import os
+import random
+import subprocess
+import sys
+import tempfile
+import time
+from pathlib import Path
+
+import certificates
+import draw
+import judge
+import rows
+
+PROGRAM = rows.PROGRAM
+CASES = 20_000
+# How many cases a process plays before it says how they went.
+SHARE = 50
+ROWS = ("audit", "check", "fields", "landmarks", "locate", "show")
+# The rows' files above this many bytes are left to the program alone: the judge goes over all pairs of segments.
+MOST_BYTES = 60_000
+
+
+def judge_rows():
+    """How many rows the judge agrees with, and with how many it doesn't."""
+    well = ill = 0
+    for name in ROWS:
+        for row in rows.rows_of(Path(__file__).resolve().parent / f"{name}.rows"):
+            for words in row.runs:
+                agrees = row_agrees(row, words)
+                well, ill = well + (agrees is True), ill + (agrees is False)
+                if agrees is False:
+                    print(f"{name}.rows: the judge says otherwise of {row.title}: {words}")
+    return well, ill
+
+
+def row_agrees(row, words):
+    """Whether the judge agrees with the row's answer; None where it can't speak of it: help, words that are no command, a
+    file that isn't there, and a want of memory or a device that fails."""
+    if sum(map(len, row.files.values())) > MOST_BYTES or not set(words).isdisjoint(("--help", "-h")):
+        return None
+    is_front = isinstance(row.wanted, str)
+    if not is_front and any(status == 64 or err.startswith((b"stopped Device", b"stopped Memory")) for status, _, err in row.wanted):
+        return None
+    try:
+        opinion = judge.asked(words, row.files.__getitem__)
+    except KeyError:
+        return None
+    if opinion is None:
+        return None
+    if is_front:
+        return any(row.is_met(streams(answer)) for answer in opinion.answers)
+    return all(opinion.allows(*answer) for answer in row.wanted)
+
+
+def streams(answer):
+    """The status and the two outputs of an answer."""
+    status, text = judge.STATUSES.get(answer.split(" ")[0], 0), answer.encode("latin-1") + b"\n"
+    return (status, text, b"") if status in judge.ON_OUTPUT else (status, b"", text)
+
+
+class Table:
+    """A folder where a case is laid out and the program is asked of it."""
+
+    def __init__(self, program, folder):
+        self.program, self.folder = str(program), Path(folder)
+
+    def lay(self, name, text):
+        (self.folder / name).write_bytes(text)
+
+    def ask(self, *words):
+        done = subprocess.run(
+            [self.program, *words], cwd=self.folder, stdin=subprocess.DEVNULL, capture_output=True, check=False, close_fds=False
+        )
+        return done.returncode, done.stdout, done.stderr
+
+
+def complaints(table, case, chance):
+    """What is wrong with the program's answers to the case, one after the other: each with its words."""
+    chance = random.Random(chance)
+    text = b"".join(case.lines)
+    switches = case.switches
+    at = chance.randrange(len(text) + 1)
+    # Two files are read as one text with a line feed between them.
+    texts = [text[:at], text[at:]] if chance.random() < 0.1 else [text]
+    names = [f"records{number}" for number in range(len(texts))]
+    for name, part in zip(names, texts):
+        table.lay(name, part)
+    county = judge.County(texts, "--zero-cells" in switches, "--released" in switches)
+    reading = [it for it in switches if it == "--released"]
+
+    def wrong(opinion, *words):
+        found = table.ask(*words)
+        if opinion.allows(*found):
+            return []
+        return [f"{' '.join(words)}\n  the program: {found}\n  the judge: {opinion.status} {opinion.answers[:9]}"]
+
+    yield from wrong(county.audit(), "audit", *switches, *names)
+    if case.is_town and not county.report and len(texts) == 1:
+        yield f"a town that was drawn to be sound isn't: {county.faults or county.map_faults}"
+    made = table.folder / "made"
+    made.unlink(missing_ok=True)
+    if county.report or chance.random() < 0.2:
+        yield from wrong(county.build(), "build", "--out", "made", *switches, *names)
+    if made.exists() != bool(county.report):
+        yield "build: a certificate was made, and the map isn't sound; or none was, and it is"
+    proposed = [case.proposal]
+    if made.exists() and county.report:
+        proposed.append(made.read_bytes())
+        faults = judge.certificate_faults(county.map, proposed[-1])
+        if faults:
+            yield f"build: the certificate has faults: {faults[:9]}"
+    for certificate, change in certificates_of(chance, proposed, bool(county.report)):
+        budget = chance.choice((None, None, None, 0, 3, 9, 60))
+        table.lay("cert", certificate)
+        tests = [] if budget is None else ["--tests", str(budget)]
+        for it in wrong(county.check(certificate, budget), "check", "--cert", "cert", *tests, *switches, *names):
+            yield f"{it}\n  the certificate, {change}: {certificate.decode('latin-1')}"
+    for x, y in case.points[: 2 if chance.random() < 0.5 else 1]:
+        yield from wrong(county.locate(judge.Point(x, y)), "locate", *reading, f"@{x},{y}", *names)
+    if chance.random() < 0.15:
+        yield from wrong(county.show(), "show", *reading, *names)
+        yield from wrong(county.landmarks(), "landmarks", *reading, *names)
+
+
+def certificates_of(chance, proposed, is_sound):
+    """Certificates by which a case is checked, with what was done to each: of a sound map all that there are, and one or two
+    of them changed; of another one of these, at times."""
+    wanted = [(it, "as it was made") for it in proposed] if is_sound else []
+    changes = chance.choice((1, 1, 2)) if is_sound else chance.random() < 0.5
+    return wanted + [draw.changed(chance, chance.choice(proposed)) for _ in range(changes)]
+
+
+def drawn(seed, number):
+    return draw.case_of(random.Random(f"{seed} {number}"))
+
+
+def play_one(table, seed, number):
+    """The first complaint of a case, or None."""
+    return next(complaints(table, drawn(seed, number), f"{seed} {number}"), None)
+
+
+def made_small(table, case, chance):
+    """The case with each line taken away that it doesn't need to fail: at first all lines of a TLID together."""
+
+    def fails(lines):
+        return lines and next(complaints(table, draw.replace(case, lines=lines, is_town=False), chance), None) is not None
+
+    tlids = {line[5:20] for line in case.lines if line[:1] in (b"1", b"2", b"I")}
+    groups = [[line for line in case.lines if line[:1] in (b"1", b"2", b"I") and line[5:20] == tlid] for tlid in sorted(tlids)]
+    lines = case.lines
+    for group in [*groups, *([line] for line in case.lines)]:
+        fewer = [line for line in lines if line not in group]
+        if len(fewer) < len(lines) and fails(fewer):
+            lines = fewer
+    return draw.replace(case, lines=lines, is_town=False) if fails(lines) else case
+
+
+def scratch():
+    """A folder in memory where there is one."""
+    return tempfile.TemporaryDirectory(dir="/dev/shm" if Path("/dev/shm").is_dir() else None)
+
+
+def play_share(share):
+    """How many cases of these numbers pass, and the numbers of those that don't."""
+    program, seed, numbers = share
+    with scratch() as folder:
+        table = Table(program, folder)
+        ill = [number for number in numbers if play_one(table, seed, number)]
+    return len(numbers) - len(ill), ill
+
+
+def tell(program, seed, number):
+    """Prints a case that fails, made small, and all that is wrong with it."""
+    with scratch() as folder:
+        table, case, chance = Table(program, folder), drawn(seed, number), f"{seed} {number}"
+        print(f"judged: seed {seed} case {number}, {', '.join(case.done) or 'a town as it was drawn'}: {' '.join(case.switches)}")
+        small = made_small(table, case, chance)
+        for line in small.lines:
+            print(f"  {line}")
+        print(next(complaints(table, small, chance), None) or next(complaints(table, case, chance), None))
+
+
+def play_cases(program, seed, cases):
+    """How many cases pass, and how many don't, on all processors that this process may use."""
+    shares = [(program, seed, range(first, min(first + SHARE, cases))) for first in range(0, cases, SHARE)]
+    context = multiprocessing.get_context("spawn")
+    with context.Pool(len(os.sched_getaffinity(0))) as pool:
+        counts = list(pool.imap(play_share, shares))
+    ill = [number for _, numbers in counts for number in numbers]
+    if ill:
+        tell(program, seed, ill[0])
+        print(f"judged: cases that fail: {' '.join(map(str, ill[:40]))}")
+    return sum(well for well, _ in counts), len(ill)
+
+
+def play_all(program=PROGRAM, seed=None, cases=CASES):
+    """How many rows and cases pass, and how many don't. With no seed each run has another."""
+    seed = int(time.time()) if seed is None else seed
+    print(f"judged: --seed {seed} --cases {cases}", flush=True)
+    counts = [judge_rows(), play_cases(str(program), seed, cases)]
+    return sum(well for well, _ in counts), sum(ill for _, ill in counts)
+
+
+def main():
+    words = argparse.ArgumentParser(description="Plays drawn counties over the program, and judges each answer.")
+    words.add_argument("--seed", type=int)
+    words.add_argument("--cases", type=int, default=CASES)
+    words.add_argument("--only", type=int, help="plays this case of the seed alone, and tells all that is wrong with it")
+    words.add_argument("--program", default=PROGRAM)
+    asked = words.parse_args()
+    if asked.only is not None:
+        return tell(asked.program, asked.seed, asked.only)
+    well, ill = play_all(asked.program, asked.seed, asked.cases)
+    print(f"judged: {well} of {well + ill}")
+    return ill > 0
+
+
+if __name__ == "__main__":
+    sys.exit(main())
