@@ -382,22 +382,41 @@ GEOMETRY += [exchange_polygon_points, add_a_polygon, change_a_cell, make_one_poi
 # Changes of lines. Each takes what chance gives and a list of lines, and changes the list.
 
 
+def some_place(chance, lines, letters=None):
+    """The place of a line of one of these letters, or of any: each letter that begins a line is as likely as another."""
+    letter = chance.choice(sorted({line[:1] for line in lines if letters is None or line[:1] in letters}))
+    return chance.choice([at for at, line in enumerate(lines) if line[:1] == letter])
+
+
 def leave_out_a_line(chance, lines):
-    lines.pop(chance.randrange(len(lines)))
+    lines.pop(some_place(chance, lines))
 
 
 def give_a_line_twice(chance, lines):
-    lines.insert(chance.randrange(len(lines) + 1), chance.choice(lines))
+    lines.insert(chance.randrange(len(lines) + 1), lines[some_place(chance, lines)])
 
 
-FIELDS = {**{kind: list(COLUMNS[kind].items()) for kind in "12IP78"}}
+def change_a_key(chance, lines):
+    """The number that a line is known by, or that it knows another by, is one more or less, or that of a line of its type."""
+    at = some_place(chance, lines)
+    fields = {"TLID", "RTSQ", "POLYID", "POLYIDL", "POLYIDR", "LAND", "CENID", "CENIDL"}
+    named = [it for name, it in FIELDS.get(lines[at][:1].decode("latin-1"), []) if name in fields]
+    if named:
+        first, last = chance.choice(named)
+        word = lines[at][first - 1 : last]
+        other = lines[some_place(chance, lines, [lines[at][:1]])][first - 1 : last]
+        near = str(int(word) + chance.choice((-1, 1))).encode() if word.strip().isdigit() else b"A0002"
+        lines[at] = lines[at][: first - 1] + chance.choice((near, near, other)).rjust(last - first + 1) + lines[at][last:]
+
+
+FIELDS = {kind: list(COLUMNS[kind].items()) for kind in "12IP78"}
 VALUES = ["", "", "0", "00", "-0", "+0", "+", "-", "1", "2", "7", "+1", "-5", "1 2", "+ 1", "x", "1.0", "180000000", "-180000000"]
 VALUES += ["180000001", "-180000001", "90000000", "90000001", "-90000001", "999", "4294967296", "9999999999", "\t", "A0001", "é"]
 
 
 def change_a_field(chance, lines):
     """A field that is read, or a neighbour of it, holds something else, to its left, to its right or in its middle."""
-    at = chance.randrange(len(lines))
+    at = some_place(chance, lines)
     fields = FIELDS.get(lines[at][:1].decode("latin-1"))
     if fields:
         _, (first, last) = chance.choice(fields)
@@ -409,7 +428,7 @@ def change_a_field(chance, lines):
 
 def exchange_fields(chance, lines):
     """A line has the same field as another line of its type."""
-    at = chance.randrange(len(lines))
+    at = some_place(chance, lines)
     fields = FIELDS.get(lines[at][:1].decode("latin-1"))
     if fields:
         _, (first, last) = chance.choice(fields)
@@ -426,20 +445,20 @@ def blank_a_pair(chance, lines):
 
 
 def cut_a_line(chance, lines):
-    at = chance.randrange(len(lines))
+    at = some_place(chance, lines)
     lines[at] = lines[at][: chance.randrange(len(lines[at]))] + chance.choice((b"\n", b"\r\n", b"\r\r\n"))
 
 
 def shift_a_line(chance, lines):
     """A byte is lost, or one too many."""
-    at = chance.randrange(len(lines))
+    at = some_place(chance, lines)
     place = chance.randrange(len(lines[at]))
     more = chance.random() < 0.5
     lines[at] = lines[at][:place] + (b" " if more else b"") + lines[at][place + (not more) :]
 
 
 def change_a_byte(chance, lines):
-    at = chance.randrange(len(lines))
+    at = some_place(chance, lines)
     place = chance.randrange(len(lines[at]))
     byte = chance.choice((chance.randrange(256), ord(chance.choice("0123456789 +-12IP78"))))
     lines[at] = lines[at][:place] + bytes([byte]) + lines[at][place + 1 :]
@@ -457,7 +476,7 @@ def lose_the_last_line_feed(chance, lines):
 
 
 LINES = [leave_out_a_line, give_a_line_twice, change_a_field, change_a_field, change_a_field, exchange_fields, exchange_fields]
-LINES += [blank_a_pair, cut_a_line, shift_a_line, change_a_byte, add_a_line, lose_the_last_line_feed]
+LINES += [change_a_key, change_a_key, change_a_key, give_a_line_twice, blank_a_pair, blank_a_pair, cut_a_line, shift_a_line, change_a_byte, add_a_line, lose_the_last_line_feed]
 
 
 # ---------------------------------------------------------------------------------------------------------------------
@@ -466,13 +485,14 @@ LINES += [blank_a_pair, cut_a_line, shift_a_line, change_a_byte, add_a_line, los
 
 @dataclass
 class Case:
-    """Lines, the switches that they are read with, what was done, and what a certificate of the town could be."""
+    """Lines, the switches that they are read with, what was done, points to be located, and the town of which a certificate
+    may be proposed."""
 
     lines: list
     switches: list
     done: list
     points: list
-    proposal: bytes
+    town: Town
     is_town: bool
 
 
@@ -493,7 +513,7 @@ def case_of(chance):
                 done.append(change.__name__)
     read_so = released != (chance.random() < 0.02)
     switches = ["--released"] * read_so + ["--zero-cells"] * (chance.random() < 0.4 or "change_a_cell" in done)
-    return Case(lines, switches, done, points, proposal(chance, town), kind == "town" and read_so == released)
+    return Case(lines, switches, done, points, town, kind == "town" and read_so == released)
 
 
 # ---------------------------------------------------------------------------------------------------------------------
@@ -572,7 +592,7 @@ def listed(lines, letter):
 
 
 def change_a_number(chance, lines):
-    at = chance.randrange(len(lines))
+    at = some_place(chance, lines)
     words = lines[at].split(" ")
     place = chance.randrange(len(words))
     if words[place].lstrip("-").isdigit():

@@ -218,8 +218,15 @@ class Records:
     skipped: int = 0
     refusal: str | None = None
 
+    @cached_property
+    def by_kind(self):
+        kinds = {}
+        for it in self.all:
+            kinds.setdefault(type(it), []).append(it)
+        return kinds
+
     def of(self, kind):
-        return [it for it in self.all if isinstance(it, kind)]
+        return self.by_kind.get(kind, [])
 
 
 def read(texts, zero_cells=False, released=False):
@@ -398,10 +405,10 @@ class Map:
     def start(self, dart):
         return self.directed(dart)[0]
 
-    def heading(self, dart):
-        """The step from the dart's first point to its second."""
-        first, second = self.directed(dart)[:2]
-        return Point(second.x - first.x, second.y - first.y)
+    @cached_property
+    def headings(self):
+        """Of each dart the step from its first point to its second."""
+        return [step(*self.directed(dart)[:2]) for dart in self.darts]
 
     def left(self, dart):
         chain = self.chains[dart // 2]
@@ -425,15 +432,15 @@ class Map:
     def is_next(self, first, second):
         """Both start at one node, and no dart there heads strictly within the turn from the first to the second."""
         return self.start(first) == self.start(second) and not any(
-            is_within(self.heading(first), self.heading(second), self.heading(other))
+            is_within(self.headings[first], self.headings[second], self.headings[other])
             for other in self.starting[self.start(first)]
         )
 
     @cached_property
     def next_pairs(self):
         """All pairs of darts of which the second is next after the first."""
-        pairs = [(one, other) for darts in self.starting.values() for one in darts for other in darts]
-        return [pair for pair in pairs if self.is_next(*pair)]
+        pairs = {(one, other) for darts in self.starting.values() for one in darts for other in darts}
+        return {pair for pair in pairs if self.is_next(*pair)}
 
     def follows(self, dart, other):
         """The other starts where the dart ends, and the dart's reverse is next after it."""
@@ -582,7 +589,7 @@ def side_faults(the_map):
     left."""
     return [
         "map fault G2 Side at {} {} darts {} {}".format(*the_map.start(first), first, second)
-        for first, second in the_map.next_pairs
+        for first, second in sorted(the_map.next_pairs)
         if the_map.left(first) != the_map.right(second)
     ]
 
@@ -783,7 +790,7 @@ def round_faults(the_map, rounds):
         if starts[number] is not None and starts[number] in starts[:number]:
             faults.append(f"NodeRepeated {number}")
         beside = [pair for pair in zip(darts, darts[1:]) if max(pair) < many]
-        if not all(heads_before(the_map.heading(one), the_map.heading(other)) for one, other in beside):
+        if not all(heads_before(the_map.headings[one], the_map.headings[other]) for one, other in beside):
             faults.append(f"OrderNotRising {number}")
     return faults
 

@@ -20,6 +20,7 @@ import subprocess
 import sys
 import tempfile
 import time
+import traceback
 from pathlib import Path
 
 import certificates
@@ -115,35 +116,35 @@ def complaints(table, case, chance):
         yield f"a town that was drawn to be sound isn't: {county.faults or county.map_faults}"
     made = table.folder / "made"
     made.unlink(missing_ok=True)
-    if county.report or chance.random() < 0.2:
+    if chance.random() < (0.4 if county.report else 0.15):
         yield from wrong(county.build(), "build", "--out", "made", *switches, *names)
-    if made.exists() != bool(county.report):
-        yield "build: a certificate was made, and the map isn't sound; or none was, and it is"
-    proposed = [case.proposal]
-    if made.exists() and county.report:
-        proposed.append(made.read_bytes())
-        faults = judge.certificate_faults(county.map, proposed[-1])
-        if faults:
-            yield f"build: the certificate has faults: {faults[:9]}"
-    for certificate, change in certificates_of(chance, proposed, bool(county.report)):
+        if made.exists() != bool(county.report):
+            yield "build: a certificate was made, and the map isn't sound; or none was, and it is"
+    is_built = made.exists() and county.report
+    if is_built and judge.certificate_faults(county.map, made.read_bytes()):
+        yield f"build: the certificate isn't valid: {judge.certificate_faults(county.map, made.read_bytes())[:9]}"
+    for certificate, change in certificates_of(chance, case.town, made.read_bytes() if is_built else None):
         budget = chance.choice((None, None, None, 0, 3, 9, 60))
         table.lay("cert", certificate)
         tests = [] if budget is None else ["--tests", str(budget)]
         for it in wrong(county.check(certificate, budget), "check", "--cert", "cert", *tests, *switches, *names):
             yield f"{it}\n  the certificate, {change}: {certificate.decode('latin-1')}"
-    for x, y in case.points[: 2 if chance.random() < 0.5 else 1]:
+    for x, y in case.points[: chance.choice((0, 1, 1, 2))]:
         yield from wrong(county.locate(judge.Point(x, y)), "locate", *reading, f"@{x},{y}", *names)
-    if chance.random() < 0.15:
+    if chance.random() < 0.1:
         yield from wrong(county.show(), "show", *reading, *names)
         yield from wrong(county.landmarks(), "landmarks", *reading, *names)
 
 
-def certificates_of(chance, proposed, is_sound):
-    """Certificates by which a case is checked, with what was done to each: of a sound map all that there are, and one or two
-    of them changed; of another one of these, at times."""
-    wanted = [(it, "as it was made") for it in proposed] if is_sound else []
-    changes = chance.choice((1, 1, 2)) if is_sound else chance.random() < 0.5
-    return wanted + [draw.changed(chance, chance.choice(proposed)) for _ in range(changes)]
+def certificates_of(chance, town, built):
+    """Certificates by which a case is checked, with what was done to each: that which was built, one that is proposed, as
+    they are and changed, or none."""
+    kind = chance.choice(("built", "built", "none") if built else ("proposed", "changed", "changed", "changed", "none"))
+    if kind == "none":
+        return []
+    text = built if kind == "built" else draw.proposal(chance, town)
+    as_made = [(text, "as it was made")] if kind != "changed" else []
+    return as_made + ([draw.changed(chance, text)] if kind != "proposed" else [])
 
 
 def drawn(seed, number):
@@ -152,14 +153,22 @@ def drawn(seed, number):
 
 def play_one(table, seed, number):
     """The first complaint of a case, or None."""
-    return next(complaints(table, drawn(seed, number), f"{seed} {number}"), None)
+    return first_complaint(table, drawn(seed, number), f"{seed} {number}")
+
+
+def first_complaint(table, case, chance):
+    """It, or None; that the judge itself fails is one too."""
+    try:
+        return next(complaints(table, case, chance), None)
+    except Exception:
+        return traceback.format_exc()
 
 
 def made_small(table, case, chance):
     """The case with each line taken away that it doesn't need to fail: at first all lines of a TLID together."""
 
     def fails(lines):
-        return lines and next(complaints(table, draw.replace(case, lines=lines, is_town=False), chance), None) is not None
+        return lines and first_complaint(table, draw.replace(case, lines=lines, is_town=False), chance) is not None
 
     tlids = {line[5:20] for line in case.lines if line[:1] in (b"1", b"2", b"I")}
     groups = [[line for line in case.lines if line[:1] in (b"1", b"2", b"I") and line[5:20] == tlid] for tlid in sorted(tlids)]
@@ -193,7 +202,7 @@ def tell(program, seed, number):
         small = made_small(table, case, chance)
         for line in small.lines:
             print(f"  {line}")
-        print(next(complaints(table, small, chance), None) or next(complaints(table, case, chance), None))
+        print(first_complaint(table, small, chance) or first_complaint(table, case, chance))
 
 
 def play_cases(program, seed, cases):
