@@ -2,6 +2,7 @@
 # make check               the merge gate: every proof, must-fail edit, test and stored run, from nothing
 # make rows                plays the rows of tests/ over the program
 # make certificates        builds and converts certificates, and compares with a plain reader
+# make judge               plays drawn counties over the program, and judges each answer by a second opinion
 # make full-size           asks for each answer once with a million chains
 # make limits              does so, and says how long each answer took and in how much memory
 # make memory              refuses each allocation of the program, and of bench_tree, in its turn
@@ -16,7 +17,7 @@
 PREFIX = /usr/local
 PROGRAM = crates/tigertopo/out/tigertopo
 
-.PHONY: build check rows certificates full-size limits memory devices examples counties bench install
+.PHONY: build check rows certificates judge full-size limits memory devices examples counties bench install
 
 build:
 	cd crates/tigertopo && rt run -- --help >/dev/null
@@ -32,6 +33,9 @@ rows: build
 
 certificates: build
 	python3 tests/certificates.py
+
+judge: build
+	python3 tests/judged.py
 
 full-size: build
 	python3 tests/full_size.py

@@ -30,6 +30,7 @@ def main():
     import counties
     import devices
     import full_size
+    import judged
     import memory
     import rows
     import run as examples
@@ -52,6 +53,7 @@ def main():
         ("failed reads and writes", devices.play_all),
         ("examples", examples.play_all),
         ("many counties", counties.play_all),
+        ("maps judged", judged.play_all),
     ]
     begun = time.monotonic()
     with times.Watch() as watch:
