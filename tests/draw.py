@@ -3,10 +3,10 @@
 
 usage: draw.py SEED     prints the county of that seed, and what was done to it
 
-A town is a lattice of blocks, some of which are one polygon, with streets left out, joined to longer chains and bent, with
-dead ends, islands and rings in rings, turned and stretched as a whole. It is drawn so that its map is sound. Then any of the
-changes below may be made to it: to the town, to its lines, or to a certificate of it. What is true of the case behind that is
-not known here: tests/judge.py tells it.
+A town is a lattice of blocks, some of which are one polygon, with streets left out, joined to longer chains and bent,
+with dead ends, islands and rings in rings, turned and stretched as a whole. It is drawn so that its map is sound. Then
+any of the changes below may be made to it: to the town, to its lines, or to a certificate of it. What is true of the
+case behind that is not known here: tests/judge.py tells it.
 """
 
 import random
@@ -50,6 +50,10 @@ class Drawing:
     def __init__(self, chance):
         self.chance, self.town, self.keys = chance, Town(), 0
 
+    def some(self, *numbers):
+        """One of a few numbers, so that points are often level with others."""
+        return self.chance.choice(numbers)
+
     def new_key(self):
         """A key that no polygon has yet, with a blank in some."""
         self.keys += 1
@@ -91,7 +95,7 @@ class Drawing:
         for (column, row), kind in drawn.items():
             if kind not in keys:
                 x, y = BLOCK * column, BLOCK * row
-                keys[kind] = self.new_polygon((x + self.chance.randint(70, 150), y + self.chance.randint(180, 340)))
+                keys[kind] = self.new_polygon((x + self.some(80, 100, 120, 140), y + self.some(200, 240, 300, 340)))
         return {block: keys[kind] for block, kind in drawn.items()}
 
     def edge(self, start, end, left, right):
@@ -101,25 +105,25 @@ class Drawing:
         (x, y), (to_x, to_y) = ((BLOCK * column, BLOCK * row) for column, row in (start, end))
         points = [(x, y), (to_x, to_y)]
         if self.chance.random() < 0.3:
-            points.insert(1, ((x + to_x) // 2 + self.chance.randint(-20, 20), (y + to_y) // 2 + self.chance.randint(-20, 20)))
+            points.insert(1, ((x + to_x) // 2 + self.some(-20, 0, 20), (y + to_y) // 2 + self.some(-20, 0, 20)))
         self.street(points, left, right)
 
     def furnish(self, block, owner):
         """A dead end from a corner of the block, and an island or a street on its own in its east."""
         x, y = BLOCK * block[0], BLOCK * block[1]
         if self.chance.random() < 0.4:
-            end = (x + self.chance.randint(60, 140), y + self.chance.randint(50, 130))
+            end = (x + self.some(80, 100, 120, 140), y + self.some(60, 90, 120))
             self.street([(x, y), end], owner, owner)
             if self.chance.random() < 0.3:
                 self.street([end, (end[0] + 20, end[1] + 30)], owner, owner)
         if self.chance.random() < 0.5:
-            self.island((x + 180, y + 60, x + 370, y + 350), owner, 2)
+            self.island((x + 180, y + 60, x + 370, y + self.some(300, 340)), owner, 2)
         elif self.chance.random() < 0.3:
             self.street([(x + 200, y + 90), (x + 300, y + 120), (x + 340, y + 300)], owner, owner)
 
     def island(self, box, around, depth):
-        """A ring in the box, of one to four streets, with a polygon in it, or the outside, or what is around it; and a ring
-        in that ring."""
+        """A ring in the box, of one to four streets, with a polygon in it, or the outside, or what is around it; and a
+        ring in that ring."""
         west, south, east, north = box
         ring = [(west, south), (east, south), (east, north), (west, north)]
         if self.chance.random() < 0.3:
@@ -127,12 +131,13 @@ class Drawing:
         wide, high = east - west, north - south
         inside = self.chance.choice((None, around, "new", "new", "new"))
         if inside == "new":
-            inside = self.new_polygon((west + wide // 8, south + high // 3))
+            inside = self.new_polygon((west + max(1, wide // 8), south + high // 3))
         cuts = sorted(self.chance.sample(range(len(ring)), self.chance.randint(1, len(ring))))
         for start, end in zip(cuts, cuts[1:] + [cuts[0] + len(ring)]):
             self.street([ring[at % len(ring)] for at in range(start, end + 1)], inside, around)
         if depth and self.chance.random() < 0.4:
-            self.island((west + wide // 4, south + high // 8, west + wide // 2, south + high * 3 // 8), inside, depth - 1)
+            low = south + self.some(high // 8, high // 3)
+            self.island((west + wide // 4, low, west + wide * 2 // 5, south + high // 2), inside, depth - 1)
 
     def join(self):
         """Makes one street of two whose common node no other street has, here and there."""
@@ -154,9 +159,10 @@ def turned(street):
 
 
 def moved(chance, town):
-    """The town turned, sheared, mirrored, stretched and moved as a whole, by whole numbers; where it is mirrored, sides are
-    exchanged."""
-    across, up = chance.choice([((1, 0), (0, 1)), ((0, 1), (-1, 0)), ((1, 1), (-1, 1)), ((2, 1), (1, 1)), ((0, 1), (1, 0)), ((3, -1), (1, 2))])
+    """The town turned, sheared, mirrored, stretched and moved as a whole, by whole numbers; where it is mirrored, sides
+    are exchanged."""
+    straight = [((1, 0), (0, 1)), ((-1, 0), (0, -1)), ((0, 1), (-1, 0)), ((0, 1), (1, 0))]
+    across, up = chance.choice([*straight, *straight, ((1, 1), (-1, 1)), ((2, 1), (1, 1)), ((3, -1), (1, 2))])
     scale = chance.choice((1, 1, 1, 7, 1000, 9000))
 
     def turn(point):
@@ -165,7 +171,8 @@ def moved(chance, town):
     points = [turn(point) for it in town.streets for point in it.points] or [(0, 0)]
     rooms = [(-limit - min(column), limit - max(column)) for limit, column in zip(LIMITS, zip(*points))]
     near = [(max(low, -3000), min(high, 3000)) for low, high in rooms]
-    by = [chance.choice((chance.randint(*room), chance.choice(room), chance.randint(*close))) for room, close in zip(rooms, near)]
+    places = [(chance.randint(*room), chance.choice(room), chance.randint(*close)) for room, close in zip(rooms, near)]
+    by = [chance.choice(it) for it in places]
 
     def move(point):
         x, y = turn(point)
@@ -226,7 +233,8 @@ def key_of(names, key):
 
 
 def street_lines(chance, it, released):
-    """The lines of types 1, 2 and I of a street. Behind its last shape point pairs are blank, or 0, or a record has none."""
+    """The lines of types 1, 2 and I of a street. Behind its last shape point pairs are blank, or 0, or a record has
+    none."""
     ends = {**pair_of(("FRLONG", "FRLAT"), it.points[0]), **pair_of(("TOLONG", "TOLAT"), it.points[-1])}
     lines = [line_of("1", {"TLID": it.tlid, **ends}, 228)]
     inner = it.points[1:-1]
@@ -272,7 +280,8 @@ def some_point(chance, town):
     between = (x + to_x) // 2, (y + to_y) // 2
     level = chance.choice(chance.choice(town.streets).points)
     near = (one[0] + chance.randint(-40, 40), one[1] + chance.randint(-40, 40))
-    points = [one, middle, between, between, near, (one[0], level[1])] + [point for _, point in town.polygons[:1]]
+    beside = [(point[0] - 1, level[1]) for point in (one, other)] + [(one[0], level[1])]
+    points = [one, middle, between, between, near, *beside] + [point for _, point in town.polygons[:1]]
     x, y = chance.choice(points)
     return max(-LIMITS[0], min(LIMITS[0], x)), max(-LIMITS[1], min(LIMITS[1], y))
 
@@ -321,6 +330,38 @@ def lay_a_street_over_another(chance, town):
     if chance.random() < 0.5:
         points = [points[0], tuple((one + other) // 2 for one, other in zip(*points[:2]))]
     town.streets.append(replace(it, tlid=chance.randint(1, 10**9), points=points))
+
+
+def meet_a_street(chance, town):
+    """A short street within the land on the left of another touches it, crosses it or lies along it, or touches itself:
+    nothing else is wrong with the map."""
+    it = chance.choice(town.streets)
+    place = chance.randrange(len(it.points) - 1)
+    (x, y), (to_x, to_y) = it.points[place : place + 2]
+    along, left = ((to_x - x) // 10, (to_y - y) // 10), (-(to_y - y) // 10, (to_x - x) // 10)
+
+    def at(forth, aside):
+        """So many tenths along the segment from its middle, and so many to the left."""
+        middle = (x + to_x) // 2, (y + to_y) // 2
+        return tuple(start + forth * one + aside * other for start, one, other in zip(middle, along, left))
+
+    points = chance.choice(
+        (
+            [at(0, 0), at(0, 1)],
+            [at(0, 1), at(0, 0), at(1, 1)],
+            [at(0, -1), at(0, 1)],
+            [at(-1, 0), at(1, 0)],
+            [(x, y), at(0, 0)],
+            [(x, y), at(0, 1)],
+            [(to_x, to_y), at(0, 1)],
+            [at(-2, 1), at(2, 1), at(1, 2), at(0, 1)],
+            [at(-2, 1), at(2, 1), at(1, 2), at(0, 0)],
+            [at(-2, 1), at(2, 1), at(1, 1)],
+            [at(-2, 1), at(2, 1), at(0, 2), at(-2, 1)],
+        )
+    )
+    limited = [tuple(max(-limit, min(limit, value)) for limit, value in zip(LIMITS, point)) for point in points]
+    town.streets.append(Street(chance.randint(1, 10**9), limited, it.left, it.left))
 
 
 def touch_itself(chance, town):
@@ -374,7 +415,8 @@ def make_one_point_of_a_street(chance, town):
 
 
 GEOMETRY = [exchange_sides, change_a_side, turn_points_alone, move_a_point, move_a_point_by_one, add_a_street]
-GEOMETRY += [lay_a_street_over_another, touch_itself, cut_a_street, leave_out_a_street, move_a_polygon_point]
+GEOMETRY += [meet_a_street, meet_a_street, lay_a_street_over_another, touch_itself, cut_a_street, leave_out_a_street]
+GEOMETRY += [meet_a_street, move_a_polygon_point]
 GEOMETRY += [exchange_polygon_points, add_a_polygon, change_a_cell, make_one_point_of_a_street, move_a_polygon_point]
 
 
@@ -383,7 +425,8 @@ GEOMETRY += [exchange_polygon_points, add_a_polygon, change_a_cell, make_one_poi
 
 
 def some_place(chance, lines, letters=None):
-    """The place of a line of one of these letters, or of any: each letter that begins a line is as likely as another."""
+    """The place of a line of one of these letters, or of any: each letter that begins a line is as likely as
+    another."""
     letter = chance.choice(sorted({line[:1] for line in lines if letters is None or line[:1] in letters}))
     return chance.choice([at for at, line in enumerate(lines) if line[:1] == letter])
 
@@ -397,7 +440,8 @@ def give_a_line_twice(chance, lines):
 
 
 def change_a_key(chance, lines):
-    """The number that a line is known by, or that it knows another by, is one more or less, or that of a line of its type."""
+    """The number that a line is known by, or that it knows another by, is one more or less, or that of a line of its
+    type."""
     at = some_place(chance, lines)
     fields = {"TLID", "RTSQ", "POLYID", "POLYIDL", "POLYIDR", "LAND", "CENID", "CENIDL"}
     named = [it for name, it in FIELDS.get(lines[at][:1].decode("latin-1"), []) if name in fields]
@@ -406,12 +450,14 @@ def change_a_key(chance, lines):
         word = lines[at][first - 1 : last]
         other = lines[some_place(chance, lines, [lines[at][:1]])][first - 1 : last]
         near = str(int(word) + chance.choice((-1, 1))).encode() if word.strip().isdigit() else b"A0002"
-        lines[at] = lines[at][: first - 1] + chance.choice((near, near, other)).rjust(last - first + 1) + lines[at][last:]
+        value = chance.choice((near, near, other)).rjust(last - first + 1)
+        lines[at] = lines[at][: first - 1] + value + lines[at][last:]
 
 
 FIELDS = {kind: list(COLUMNS[kind].items()) for kind in "12IP78"}
-VALUES = ["", "", "0", "00", "-0", "+0", "+", "-", "1", "2", "7", "+1", "-5", "1 2", "+ 1", "x", "1.0", "180000000", "-180000000"]
-VALUES += ["180000001", "-180000001", "90000000", "90000001", "-90000001", "999", "4294967296", "9999999999", "\t", "A0001", "é"]
+VALUES = ["", "", "0", "00", "-0", "+0", "+", "-", "1", "2", "7", "+1", "-5", "1 2", "+ 1", "x", "1.0", "999"]
+VALUES += ["180000000", "-180000000", "180000001", "-180000001", "90000000", "90000001", "-90000001"]
+VALUES += ["4294967296", "9999999999", "\t", "A0001", "é"]
 
 
 def change_a_field(chance, lines):
@@ -422,7 +468,8 @@ def change_a_field(chance, lines):
         _, (first, last) = chance.choice(fields)
         width = last - first + 1
         value = chance.choice(VALUES).encode("latin-1")[:width]
-        laid = chance.choice((value.rjust(width), value.rjust(width), value.ljust(width), value.center(width), value.rjust(width, b"0")))
+        right = value.rjust(width)
+        laid = chance.choice((right, right, value.ljust(width), value.center(width), value.rjust(width, b"0")))
         lines[at] = lines[at][: first - 1].ljust(first - 1) + laid + lines[at][last:]
 
 
@@ -441,7 +488,8 @@ def blank_a_pair(chance, lines):
     shapes = [at for at, line in enumerate(lines) if line[:1] == b"2"]
     if shapes:
         at, first = chance.choice(shapes), 19 * chance.randint(1, 3)
-        lines[at] = lines[at][: first - 1] + chance.choice((b" " * 19, b"+000000000+00000000")) + lines[at][first + 18 :]
+        unused = chance.choice((b" " * 19, b"+000000000+00000000"))
+        lines[at] = lines[at][: first - 1] + unused + lines[at][first + 18 :]
 
 
 def cut_a_line(chance, lines):
@@ -466,8 +514,8 @@ def change_a_byte(chance, lines):
 
 def add_a_line(chance, lines):
     """One of no type that is read, an empty one, a long one, or one of bytes."""
-    added = [b"\n", b"\r\n", b"5000 \n", b"x" * 1024 + b"\n", b"x" * 1025 + b"\n", b"x" * 1024 + b"\r\n", b"x" * 1023 + b"\r\n"]
-    added.append(bytes(chance.randrange(256) for _ in range(30)) + b"\n")
+    added = [b"\n", b"\r\n", b"5000 \n", bytes(chance.randrange(256) for _ in range(30)) + b"\n"]
+    added.append(b"x" * chance.choice((1023, 1024, 1025)) + chance.choice((b"\n", b"\r\n")))
     lines.insert(chance.randrange(len(lines) + 1), chance.choice(added))
 
 
@@ -475,8 +523,10 @@ def lose_the_last_line_feed(chance, lines):
     lines[-1] = lines[-1].rstrip(b"\n")
 
 
-LINES = [leave_out_a_line, give_a_line_twice, change_a_field, change_a_field, change_a_field, exchange_fields, exchange_fields]
-LINES += [change_a_key, change_a_key, change_a_key, give_a_line_twice, blank_a_pair, blank_a_pair, cut_a_line, shift_a_line, change_a_byte, add_a_line, lose_the_last_line_feed]
+# Those that stand several times are drawn as much more often.
+LINES = [leave_out_a_line, give_a_line_twice, give_a_line_twice, change_a_field, change_a_field, change_a_field]
+LINES += [exchange_fields, exchange_fields, change_a_key, change_a_key, change_a_key, blank_a_pair, blank_a_pair]
+LINES += [cut_a_line, shift_a_line, change_a_byte, add_a_line, lose_the_last_line_feed]
 
 
 # ---------------------------------------------------------------------------------------------------------------------
@@ -485,8 +535,8 @@ LINES += [change_a_key, change_a_key, change_a_key, give_a_line_twice, blank_a_p
 
 @dataclass
 class Case:
-    """Lines, the switches that they are read with, what was done, points to be located, and the town of which a certificate
-    may be proposed."""
+    """Lines, the switches that they are read with, what was done, points to be located, and the town of which a
+    certificate may be proposed."""
 
     lines: list
     switches: list
@@ -528,7 +578,9 @@ def proposal(chance, town):
     segments = [pair for points in streets for pair in zip(points, points[1:])]
     rounds = rounds_of(streets)
     version = chance.choice((1, 2, 2))
-    numbers = sorted(range(len(segments)), key=lambda it: segments[it]) if chance.random() < 0.7 else chance.sample(range(len(segments)), len(segments))
+    numbers = chance.sample(range(len(segments)), len(segments))
+    if chance.random() < 0.7:
+        numbers.sort(key=lambda it: segments[it])
     tree = tree_lines(chance, version, segments, numbers) if numbers else []
     counts = len(streets), len(segments), len(rounds), len(town.polygons)
     nodes = sum(line[0] in "BL" for line in tree)
@@ -550,8 +602,10 @@ def tree_lines(chance, version, segments, numbers):
         return [f"L {rectangle} {len(numbers)}", *(f"S {it}" for it in numbers)]
     many = 2 if version == 1 else chance.randint(2, min(8, len(numbers)))
     cuts = [0, *sorted(chance.sample(range(1, len(numbers)), many - 1)), len(numbers)]
-    children = [line for first, last in zip(cuts, cuts[1:]) for line in tree_lines(chance, version, segments, numbers[first:last])]
-    return [f"B {rectangle}" + f" {many}" * (version == 2), *children]
+    lines = [f"B {rectangle}" + f" {many}" * (version == 2)]
+    for first, last in zip(cuts, cuts[1:]):
+        lines += tree_lines(chance, version, segments, numbers[first:last])
+    return lines
 
 
 def rounds_of(streets):
@@ -560,7 +614,9 @@ def rounds_of(streets):
     for number, points in enumerate(streets):
         for dart, run in ((2 * number, points), (2 * number + 1, points[::-1])):
             starting.setdefault(run[0], []).append(dart)
-            headings[dart] = (run[-1][0] - run[0][0], 0) if len(run) < 2 else (run[1][0] - run[0][0], run[1][1] - run[0][1])
+            # A chain of one point heads nowhere, and has no certificate that is valid.
+            (x, y), (to_x, to_y) = run[0], run[min(1, len(run) - 1)]
+            headings[dart] = to_x - x, to_y - y
 
     def half(dart):
         x, y = headings[dart]
@@ -605,7 +661,8 @@ def change_a_dart(chance, lines):
     places = [at for at, line in enumerate(lines) if line[:1] in "DS"]
     if places:
         at = chance.choice(places)
-        lines[at] = chance.choice((lines[chance.choice(places)][:1] + lines[at][1:], lines[at][:2] + str(chance.randint(0, 90))))
+        letter = lines[chance.choice(places)][:1]
+        lines[at] = chance.choice((letter + lines[at][1:], f"{lines[at][0]} {chance.randint(0, 90)}"))
 
 
 def exchange_two_lines(chance, lines):
@@ -646,7 +703,8 @@ def join_or_part_lists(chance, lines):
         lines[top] = f"{head} {len(lists) - 1}"
     elif many > 1:
         at = chance.randrange(1, many)
-        lines[first:last] = [f"{letter} {at}", *lines[first + 1 : first + 1 + at], f"{letter} {many - at}", *lines[first + 1 + at : last]]
+        lines.insert(first + 1 + at, f"{letter} {many - at}")
+        lines[first] = f"{letter} {at}"
         lines[top] = f"{head} {len(lists) + 1}"
 
 
@@ -676,7 +734,8 @@ def change_the_version(chance, lines):
 
 def spell_otherwise(chance, lines):
     at = chance.randrange(len(lines))
-    lines[at] = chance.choice((lines[at] + " ", lines[at] + "\r", lines[at].replace(" ", " 0", 1), lines[at].lower(), " " + lines[at]))
+    line = lines[at]
+    lines[at] = chance.choice((line + " ", line + "\r", line.replace(" ", " 0", 1), line.lower(), " " + line))
 
 
 def deepen(chance, lines):
@@ -691,8 +750,9 @@ def deepen(chance, lines):
         lines[0] = "TIGERCERT 2"
 
 
-CERTIFICATES = [change_a_number, change_a_number, change_a_dart, exchange_two_lines, exchange_neighbours, turn_a_list, turn_a_list]
-CERTIFICATES += [join_or_part_lists, join_or_part_lists, change_a_rectangle, change_a_rectangle, leave_out_a_certificate_line]
+CERTIFICATES = [change_a_number, change_a_number, change_a_dart, exchange_two_lines, exchange_neighbours]
+CERTIFICATES += [turn_a_list, turn_a_list, join_or_part_lists, join_or_part_lists]
+CERTIFICATES += [change_a_rectangle, change_a_rectangle, leave_out_a_certificate_line]
 CERTIFICATES += [give_a_certificate_line_twice, change_the_version, spell_otherwise, deepen]
 
 

@@ -7,10 +7,10 @@ usage: judge.py audit [--zero-cells] [--released] FILES..
        judge.py show [--released] FILES..
        judge.py landmarks [--released] FILES..
 
-Written from docs/records.md, docs/sound.md, docs/faults.md and docs/certificate.md alone. It states each definition as it
-stands there, in whole numbers and fractions, with no regard to speed: it goes over all pairs of segments and all darts, and
-knows nothing of how the program searches. Where the program names one fault, the judge has the set of all that are true; so
-tests/judged.py can ask of each answer whether it is one that may be given.
+Written from docs/records.md, docs/sound.md, docs/faults.md and docs/certificate.md alone. It states each definition as
+it stands there, in whole numbers and fractions, with no regard to speed: it goes over all pairs of segments and all
+darts, and knows nothing of how the program searches. Where the program names one fault, the judge has the set of all
+that are true; so tests/judged.py can ask of each answer whether it is one that may be given.
 """
 
 import re
@@ -70,7 +70,8 @@ class Shape:
 
 @dataclass(frozen=True)
 class Sides:
-    """A type I record: what lies on each side, where None is the outside; and the zero-cell ids, where None is no id."""
+    """A type I record: what lies on each side, where None is the outside; and the zero-cell ids, where None is no
+    id."""
 
     tlid: int
     start_cell: int | None
@@ -205,7 +206,8 @@ def record_of(line, zero_cells, released):
 
 
 def raw_lines(texts):
-    """The lines of texts that are read as one: a text that isn't empty and leaves its last line open gets a line feed."""
+    """The lines of texts that are read as one: a text that isn't empty and leaves its last line open gets a line
+    feed."""
     joined = b"".join(text + (b"\n" if text and not text.endswith(b"\n") else b"") for text in texts)
     return joined.split(b"\n")[:-1]
 
@@ -462,10 +464,10 @@ def map_of(records):
     for it in sorted(records.of(Chain), key=lambda it: it.tlid):
         told, points = sides[it.tlid], points_of(it, shapes_of(records, it.tlid))
         chains.append(MapChain(it.tlid, tuple(points), told.left, told.right, (told.start_cell, told.end_cell)))
-    linked = [
-        MapLandmark(it.land, it.point, tuple(dict.fromkeys(link.key for link in records.of(Link) if link.land == it.land)))
-        for it in landmarks.values()
-    ]
+    linked = []
+    for it in landmarks.values():
+        named = dict.fromkeys(link.key for link in records.of(Link) if link.land == it.land)
+        linked.append(MapLandmark(it.land, it.point, tuple(named)))
     assert len(set(keys)) == len(keys)
     return Map(chains, records.of(Polygon), linked)
 
@@ -495,7 +497,8 @@ def shared_points(one, other):
     along, beside = step(one.start, one.end), step(other.start, other.end)
     apart, turn = step(one.start, other.start), cross(along, beside)
     if turn == 0:
-        return {it for it in (one.start, one.end) if is_on(other, it)} | {it for it in (other.start, other.end) if is_on(one, it)}
+        ends = {it for it in (one.start, one.end) if is_on(other, it)}
+        return ends | {it for it in (other.start, other.end) if is_on(one, it)}
     # Not parallel: their lines share one point, which lies these parts of the way along the two.
     first, second = Fraction(cross(apart, beside), turn), Fraction(cross(apart, along), turn)
     if not (0 <= first <= 1 and 0 <= second <= 1):
@@ -514,8 +517,8 @@ def may_share(the_map, one, other, point):
 
 
 def meeting_point(the_map, one, other):
-    """A point that the two segments share and may not, or None. Of a whole segment that is on both, some point always is
-    such a one, since only ends and vertices may be shared: its middle, or an end of it."""
+    """A point that the two segments share and may not, or None. Of a whole segment that is on both, some point always
+    is such a one, since only ends and vertices may be shared: its middle, or an end of it."""
     shared = shared_points(one, other)
     if len(shared) == 2:
         start, end = shared
@@ -563,6 +566,11 @@ def have_meeting_rectangles(one, other):
     return west <= other_east and other_west <= east and south <= other_north and other_south <= north
 
 
+def pairs_to_test(the_map):
+    """How many pairs of segments have rectangles that meet."""
+    return sum(have_meeting_rectangles(*pair) for pair in combinations(the_map.segments, 2))
+
+
 # ---------------------------------------------------------------------------------------------------------------------
 # Sides that agree, and closed boundaries.
 
@@ -572,8 +580,8 @@ def is_one_direction(one, other):
 
 
 def is_within(one, other, between):
-    """Between lies strictly within the turn counter-clockwise from one direction to the other. From a direction to itself
-    that is the full turn."""
+    """Between lies strictly within the turn counter-clockwise from one direction to the other. From a direction to
+    itself that is the full turn."""
     turn = cross(one, other)
     if turn > 0:
         return cross(one, between) > 0 and cross(between, other) > 0
@@ -585,8 +593,8 @@ def is_within(one, other, between):
 
 
 def side_faults(the_map):
-    """Each two darts of which the second is next after the first and has another side on its right than the first on its
-    left."""
+    """Each two darts of which the second is next after the first and has another side on its right than the first on
+    its left."""
     return [
         "map fault G2 Side at {} {} darts {} {}".format(*the_map.start(first), first, second)
         for first, second in sorted(the_map.next_pairs)
@@ -595,8 +603,8 @@ def side_faults(the_map):
 
 
 def rings_of(the_map):
-    """The rings of a planar map: from each dart one goes to that which follows it, until one is back. On a planar map one
-    dart alone follows each, since no two head the same way from one node; so these are all rings there are."""
+    """The rings of a planar map: from each dart one goes to that which follows it, until one is back. On a planar map
+    one dart alone follows each, since no two head the same way from one node; so these are all rings there are."""
     following = {reverse(second): first for first, second in the_map.next_pairs}
     assert len(following) == len(the_map.next_pairs) == len(the_map.darts)
     rings, left = [], set(the_map.darts)
@@ -610,8 +618,8 @@ def rings_of(the_map):
 
 
 def are_closed(the_map, rings):
-    """Each side has a boundary: rings in which each dart with that side on its left stands once, and no other dart. A ring
-    with two sides on its left would be in no boundary, though each of its darts has to be."""
+    """Each side has a boundary: rings in which each dart with that side on its left stands once, and no other dart. A
+    ring with two sides on its left would be in no boundary, though each of its darts has to be."""
     return all(len({the_map.left(dart) for dart in ring}) == 1 for ring in rings)
 
 
@@ -620,8 +628,8 @@ def are_closed(the_map, rings):
 
 
 def is_crossed(segment, point):
-    """The way from the point to the east crosses it: one of its ends is north of the way, the other isn't, and a point of
-    it lies on the way, strictly east of where the way begins."""
+    """The way from the point to the east crosses it: one of its ends is north of the way, the other isn't, and a point
+    of it lies on the way, strictly east of where the way begins."""
     start, end = segment.start, segment.end
     if (start.y > point.y) == (end.y > point.y):
         return False
@@ -666,7 +674,8 @@ def point_faults(the_map):
 
 
 def cell_faults(the_map):
-    """Each two darts with ids that are equal though the darts start at two points, or differ though they start at one."""
+    """Each two darts with ids that are equal though the darts start at two points, or differ though they start at
+    one."""
     faults = []
     for one, other in combinations([dart for dart in the_map.darts if the_map.cell(dart) is not None], 2):
         ids = the_map.cell(one), the_map.cell(other)
@@ -851,7 +860,8 @@ def sound_report(the_map):
 
 @dataclass
 class Opinion:
-    """The answers of which each may be given, and no other; and the map, where there is one, in which segments may meet."""
+    """The answers of which each may be given, and no other; and the map, where there is one, in which segments may
+    meet."""
 
     answers: list
     the_map: Map | None = None
@@ -908,13 +918,12 @@ class County:
         return self.audit("built")
 
     def check(self, text, tests=None):
-        """Sound, where the map is, the certificate is valid and there are no more pairs to be tested than may be; a true
-        fault of the map or of the certificate; or that there are more."""
+        """Sound, where the map is, the certificate is valid and there are no more pairs to be tested than may be; a
+        true fault of the map or of the certificate; or that there are more."""
         if self.faults:
             return Opinion(self.faults)
         faults = self.map_faults + certificate_faults(self.map, text)
-        pairs = sum(have_meeting_rectangles(*pair) for pair in combinations(self.map.segments, 2)) if tests is not None else 0
-        if tests is not None and pairs > tests:
+        if tests is not None and pairs_to_test(self.map) > tests:
             faults.append("stopped Budget")
         return Opinion(faults or ([f"sound {self.report}"] if self.report else []), self.map)
 

@@ -3,13 +3,13 @@
 
 usage: judged.py [--seed SEED] [--cases N] [--only NUMBER] [--program PROGRAM]
 
-First the judge is judged: it has to agree with each row of tests/*.rows of which it can speak. Then each case is asked for by
-`audit`, and by others: `build`, whose certificate has to be valid by the judge, `check` by that certificate, by one that
-tests/draw.py proposes and by both changed, with a budget of tests at times, `locate`, `show` and `landmarks`. No expected
-value comes from the program. A town that is drawn to be sound has to be so by the judge too.
+First the judge is judged: it has to agree with each row of tests/*.rows of which it can speak. Then each case is asked
+for by `audit`, and by others: `build`, whose certificate has to be valid by the judge, `check` by that certificate, by
+one that tests/draw.py proposes and by both changed, with a budget of tests at times, `locate`, `show` and `landmarks`.
+No expected value comes from the program. A town that is drawn to be sound has to be so by the judge too.
 
-The seed is printed, and with it each case can be drawn again. Of the first case that fails the lines are printed that are
-left when each line is taken away that isn't needed for it to fail, with the program's answer and the judge's.
+The seed is printed, and with it each case can be drawn again. Of the first case that fails the lines are printed that
+are left when each line is taken away that isn't needed for it to fail, with the program's answer and the judge's.
 """
 
 import argparse
@@ -51,12 +51,13 @@ def judge_rows():
 
 
 def row_agrees(row, words):
-    """Whether the judge agrees with the row's answer; None where it can't speak of it: help, words that are no command, a
-    file that isn't there, and a want of memory or a device that fails."""
+    """Whether the judge agrees with the row's answer; None where it can't speak of it: help, words that are no command,
+    a file that isn't there, and a want of memory or a device that fails."""
     if sum(map(len, row.files.values())) > MOST_BYTES or not set(words).isdisjoint(("--help", "-h")):
         return None
     is_front = isinstance(row.wanted, str)
-    if not is_front and any(status == 64 or err.startswith((b"stopped Device", b"stopped Memory")) for status, _, err in row.wanted):
+    unheard = (b"stopped Device", b"stopped Memory")
+    if not is_front and any(status == 64 or err.startswith(unheard) for status, _, err in row.wanted):
         return None
     try:
         opinion = judge.asked(words, row.files.__getitem__)
@@ -85,9 +86,8 @@ class Table:
         (self.folder / name).write_bytes(text)
 
     def ask(self, *words):
-        done = subprocess.run(
-            [self.program, *words], cwd=self.folder, stdin=subprocess.DEVNULL, capture_output=True, check=False, close_fds=False
-        )
+        how = {"cwd": self.folder, "stdin": subprocess.DEVNULL, "capture_output": True, "close_fds": False}
+        done = subprocess.run([self.program, *words], check=False, **how)
         return done.returncode, done.stdout, done.stderr
 
 
@@ -137,8 +137,8 @@ def complaints(table, case, chance):
 
 
 def certificates_of(chance, town, built):
-    """Certificates by which a case is checked, with what was done to each: that which was built, one that is proposed, as
-    they are and changed, or none."""
+    """Certificates by which a case is checked, with what was done to each: that which was built, one that is proposed,
+    as they are and changed, or none."""
     kind = chance.choice(("built", "built", "none") if built else ("proposed", "changed", "changed", "changed", "none"))
     if kind == "none":
         return []
@@ -170,10 +170,11 @@ def made_small(table, case, chance):
     def fails(lines):
         return lines and first_complaint(table, draw.replace(case, lines=lines, is_town=False), chance) is not None
 
-    tlids = {line[5:20] for line in case.lines if line[:1] in (b"1", b"2", b"I")}
-    groups = [[line for line in case.lines if line[:1] in (b"1", b"2", b"I") and line[5:20] == tlid] for tlid in sorted(tlids)]
+    # The TLID of a type 1 line stands in columns 6-15, and that of a released type I line in 11-20.
+    tlids = sorted({line[5:15] for line in case.lines if line[:1] == b"1"})
+    groups = [[line for line in case.lines if line[:1] in (b"1", b"2", b"I") and tlid in line[5:20]] for tlid in tlids]
     lines = case.lines
-    for group in [*groups, *([line] for line in case.lines)]:
+    for group in [*groups, *([line] for line in case.lines), *groups]:
         fewer = [line for line in lines if line not in group]
         if len(fewer) < len(lines) and fails(fewer):
             lines = fewer
@@ -198,7 +199,8 @@ def tell(program, seed, number):
     """Prints a case that fails, made small, and all that is wrong with it."""
     with scratch() as folder:
         table, case, chance = Table(program, folder), drawn(seed, number), f"{seed} {number}"
-        print(f"judged: seed {seed} case {number}, {', '.join(case.done) or 'a town as it was drawn'}: {' '.join(case.switches)}")
+        done = ", ".join(case.done) or "a town as it was drawn"
+        print(f"judged: --seed {seed} --only {number}, {done}: {' '.join(case.switches)}")
         small = made_small(table, case, chance)
         for line in small.lines:
             print(f"  {line}")
@@ -230,7 +232,7 @@ def main():
     words = argparse.ArgumentParser(description="Plays drawn counties over the program, and judges each answer.")
     words.add_argument("--seed", type=int)
     words.add_argument("--cases", type=int, default=CASES)
-    words.add_argument("--only", type=int, help="plays this case of the seed alone, and tells all that is wrong with it")
+    words.add_argument("--only", type=int, help="plays this case of the seed alone, and tells what is wrong with it")
     words.add_argument("--program", default=PROGRAM)
     asked = words.parse_args()
     if asked.only is not None:
