@@ -979,7 +979,10 @@ def asked(words, text_of):
 
 
 if __name__ == "__main__":
-    opinion = asked(sys.argv[1:], lambda name: Path(name).read_bytes())
+    try:
+        opinion = asked(sys.argv[1:], lambda name: Path(name).read_bytes())
+    except OSError as error:
+        sys.exit(f"judge: {error}")
     if opinion is None:
         sys.exit(__doc__)
     for answer in opinion.answers:
