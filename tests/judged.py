@@ -103,6 +103,8 @@ def complaints(table, case, chance):
     for name, part in zip(names, texts):
         table.lay(name, part)
     county = judge.County(texts, "--zero-cells" in switches, "--released" in switches)
+    # The other commands read no zero-cell ids.
+    others = judge.County(texts, released="--released" in switches)
     reading = [it for it in switches if it == "--released"]
 
     def wrong(opinion, *words):
@@ -130,10 +132,10 @@ def complaints(table, case, chance):
         for it in wrong(county.check(certificate, budget), "check", "--cert", "cert", *tests, *switches, *names):
             yield f"{it}\n  the certificate, {change}: {certificate.decode('latin-1')}"
     for x, y in case.points[: chance.choice((0, 1, 1, 2))]:
-        yield from wrong(county.locate(judge.Point(x, y)), "locate", *reading, f"@{x},{y}", *names)
+        yield from wrong(others.locate(judge.Point(x, y)), "locate", *reading, f"@{x},{y}", *names)
     if chance.random() < 0.1:
-        yield from wrong(county.show(), "show", *reading, *names)
-        yield from wrong(county.landmarks(), "landmarks", *reading, *names)
+        yield from wrong(others.show(), "show", *reading, *names)
+        yield from wrong(others.landmarks(), "landmarks", *reading, *names)
 
 
 def certificates_of(chance, town, built):
