@@ -55,7 +55,7 @@ counties: build
 	python3 tests/counties.py
 
 bench: build
-	cd crates/count_records && rt run >/dev/null
+	cd crates/bench_records && rt run >/dev/null
 	cd crates/bench_tree && rt run >/dev/null
 	cd crates/bench_cert && rt run -- read data/map_b >/dev/null
 	cd crates/bench_check && rt run -- data/county.CERT data/county >/dev/null

@@ -27,7 +27,7 @@ from pathlib import Path
 BENCH = Path(__file__).resolve().parent
 CRATES = BENCH.parent / "crates"
 PROGRAM = CRATES / "tigertopo" / "out" / "tigertopo"
-COUNT = CRATES / "count_records" / "out" / "count_records"
+COUNT = CRATES / "bench_records" / "out" / "bench_records"
 TREE = CRATES / "bench_tree" / "out" / "bench_tree"
 CERT = CRATES / "bench_cert" / "out" / "bench_cert"
 CHECK = CRATES / "bench_check" / "out" / "bench_check"
@@ -97,7 +97,7 @@ def rows(chains, kind, runs):
     counted = subprocess.run(["wc", "-l", *files], stdout=subprocess.PIPE, text=True, check=True).stdout
     lines = int(counted.split("\n")[-2].split()[0])
     size = sum(file.stat().st_size for file in files)
-    programs = {"wc -l": ["wc", "-l", *files], "count_records": [COUNT, *files], "show": [PROGRAM, "show", *files]}
+    programs = {"wc -l": ["wc", "-l", *files], "bench_records": [COUNT, *files], "show": [PROGRAM, "show", *files]}
     if kind != "streets":
         programs["landmarks"] = [PROGRAM, "landmarks", *files]
         programs["locate"] = [PROGRAM, "locate", "@-78762000,39652000", *files]

@@ -1,9 +1,9 @@
-//! Worked examples with answers from outside, and plain programs that go another way.
+//! Worked examples with answers from outside.
 use std::cmp::Ordering;
 use std::process::Abort;
 use std::test::Fail;
 use tl_geom::{
-    Contact, Direction, Point, Rational, Rect, Segment, contact, crosses_ray, on, overlap,
+    Contact, Direction, Point, Rational, Rect, Rect8, Segment, contact, crosses_ray, on, overlap,
     round_cmp, turn,
 };
 
@@ -348,25 +348,23 @@ fn one_direction(rt: HostRuntime) {
     );
 }
 
-/// The place of each direction with coordinates from -3 to 3 in a turn from east, from its angle, and 0 for no direction;
-/// rows by rising y, in a row by rising x.
-const PLACES: [u8; 49] = [
-    21, 22, 24, 25, 26, 28, 29, 20, 21, 23, 25, 27, 29, 30, 18, 19, 21, 25, 29, 31, 32, 17, 17, 17,
-    0, 1, 1, 1, 16, 15, 13, 9, 5, 3, 2, 14, 13, 11, 9, 7, 5, 4, 13, 12, 10, 9, 8, 6, 5,
-];
-
-fn grid_direction(i: u8) -> Option<Direction> {
-    Direction::between(point(3, 3), point(i32::from(i % 7), i32::from(i / 7)))
-}
-
 #[test]
-fn grid_of_directions(rt: HostRuntime) {
-    for i in 0..49u8 {
-        for j in 0..49u8 {
-            let want = PLACES[i as usize].cmp(&PLACES[j as usize]);
-            if let (Some(u), Some(v)) = (grid_direction(i), grid_direction(j)) {
-                assert_eq!(rt; round_cmp(u, v), want, "{i} {j}");
-            }
-        }
+fn some_of_eight_rectangles_meet(rt: HostRuntime) {
+    let corner = rect(0, 0, 4, 4);
+    let all = rect(LEAST, LEAST, MOST, MOST);
+    let rects = [
+        corner,
+        rect(4, 4, 9, 9),
+        rect(3, 0, 1, 4),
+        rect(10, 0, 12, 4),
+        all,
+    ];
+    for (rects, with, marks) in [
+        (rects.as_slice(), corner, 19),
+        (rects.as_slice(), all, 27),
+        (rects.as_slice(), Rect::NOTHING, 0),
+        ([].as_slice(), all, 0),
+    ] {
+        assert_eq!(rt; Rect8::gather(rects).meets8(with), marks);
     }
 }

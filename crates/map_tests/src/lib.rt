@@ -1,9 +1,8 @@
-//! Worked examples of the map, whose answers come from the reading rules and not from the program, and a plain, slow
-//! program to compare with, whose contract is the definition. They stand beside `tl_map`, so that it is proved once and
-//! not once more with its tests.
+//! Worked examples of maps, whose answers come from the reading rules and not from the program, and reads that give one byte
+//! or fail. They stand beside `tl_map`, so that it is proved once and not once more with its tests.
 #![tactic(auto)]
 
 #[cfg(test)]
-mod plain;
-#[cfg(test)]
 mod reading;
+#[cfg(test)]
+mod seen;

@@ -1,19 +1,12 @@
-//! Worked examples of the records, whose answers come from the reading rules and not from the program, and a plain, slow
-//! program to compare with, whose contract is the definition. They stand beside `tl_record`, so that it is proved once
-//! and not once more with its tests.
+//! Sources that give few bytes a read or fail at one, sinks that take few bytes a write or fail at one, and what the reader
+//! and the output make of them. What the fields of each record mean is played over the built program.
 #![tactic(auto)]
 
 #[cfg(test)]
 mod failing;
 #[cfg(test)]
-mod fields;
+mod output;
 #[cfg(test)]
-mod lines;
+mod pieces;
 #[cfg(test)]
-mod plain;
-#[cfg(test)]
-mod readers;
-#[cfg(test)]
-mod texts;
-#[cfg(test)]
-mod types;
+mod reading;

@@ -276,13 +276,17 @@ fn is_whole(alloc: Global, shape: &[u8]) -> Result<bool, Fail> {
 
 #[test]
 fn preorders(rt: HostRuntime) -> Result<(), Fail> {
-    assert!(rt; is_whole(rt.alloc(), b"")?);
-    assert!(rt; is_whole(rt.alloc(), b"\0")?);
-    assert!(rt; !is_whole(rt.alloc(), b"\0\0")?);
-    assert!(rt; !is_whole(rt.alloc(), b"\x01\0")?);
-    assert!(rt; !is_whole(rt.alloc(), b"\x02\0")?);
-    assert!(rt; is_whole(rt.alloc(), b"\x02\0\0")?);
-    assert!(rt; is_whole(rt.alloc(), b"\x08\0\0\0\0\0\0\0\0")?);
-    assert!(rt; !is_whole(rt.alloc(), b"\x09\0\0\0\0\0\0\0\0\0")?);
+    for (shape, whole) in [
+        (b"".as_slice(), true),
+        (b"\0".as_slice(), true),
+        (b"\0\0".as_slice(), false),
+        (b"\x01\0".as_slice(), false),
+        (b"\x02\0".as_slice(), false),
+        (b"\x02\0\0".as_slice(), true),
+        (b"\x08\0\0\0\0\0\0\0\0".as_slice(), true),
+        (b"\x09\0\0\0\0\0\0\0\0\0".as_slice(), false),
+    ] {
+        assert!(rt; is_whole(rt.alloc(), shape)? == whole, "{shape:?}");
+    }
     Ok(())
 }

@@ -29,9 +29,9 @@ impl Counting {
         }
     }
 
-    /// Adds a rectangle, of which there can be 64.
+    /// Adds a rectangle, of which there can be 65.
     pub fn add(&mut self, bounds: Rect) -> Result<(), AllocError> {
-        if self.rects.len() < 64 {
+        if self.rects.len() < 65 {
             self.rects.push(bounds)?;
         }
         Ok(())

@@ -1,5 +1,5 @@
-//! Tests of the search, by items that count what they are asked and by segments. They stand beside `tl_tree`, so that
-//! it is proved once and not once more with its tests.
+//! Tests of the search and of packed trees, by items that count what they are asked. They stand beside `tl_tree` and
+//! `tl_pack`, so that these are proved once and not once more with their tests.
 #![tactic(auto)]
 
 #[cfg(test)]
@@ -7,4 +7,4 @@ mod indexes;
 #[cfg(test)]
 mod items;
 #[cfg(test)]
-mod segments;
+mod packed;

@@ -1,6 +1,0 @@
-use Rattle.plain_map.proofs.Running.{OffSoFar}
-use Rattle.plain_map.proofs.places.is_on_chain.Given as goal
-
--- no segment so far holds the point
-abbrev pub invariant-loop-k : goal.invariant-loop-k
-invariant-loop-k l = OffSoFar l.points l.point l.k
