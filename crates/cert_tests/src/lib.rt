@@ -1,12 +1,10 @@
-//! Tests of certificates: what is read of their texts, and what is written of them, also by readers and to sinks that
-//! take little or fail. They stand beside `tl_cert`, so that it is proved once and not once more with its tests.
+//! Worked examples of certificates, read and written, however few bytes come or go at a time and behind a read or a write
+//! that fails. They stand beside `tl_cert`, so that it is proved once and not once more with its tests.
 #![tactic(auto)]
 
 #[cfg(test)]
-mod changes;
+mod examples;
 #[cfg(test)]
 mod reading;
-#[cfg(test)]
-mod support;
 #[cfg(test)]
 mod writing;

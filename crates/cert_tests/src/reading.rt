@@ -1,113 +1,134 @@
 //! What is read of certificates' texts.
 
-use crate::support::{Kept, MAP_B, Pieces, THREE_CHILDREN};
-use std::alloc::Global;
-use std::process::Abort;
+use crate::examples::{SQUARE, THREE_CHILDREN};
+use std::alloc::{AllocError, Global};
+use std::io;
+use std::io::{ErrorKind, Read};
 use std::test::Fail;
 use tl_cert::{CertPart, CertReader, CertStop, Certificate, read_cert, write_cert};
-use tl_record::{Meter, MeterOut};
+use tl_record::{FailAt, Meter, MeterOut, Source};
 
-/// Reads the text, at most so many bytes a read.
-fn read(alloc: Global, text: &[u8], most: usize) -> Result<Certificate, CertStop> {
-    read_cert(alloc, &mut Meter::new(Pieces::whole(text, most)))
+/// A reader of a text that gives at most so many bytes a read.
+#[derive(Drop)]
+struct Pieces<'a> {
+    rest: &'a [u8],
+    most: usize,
+}
+
+impl Read for Pieces<'_> {
+    fn read(&mut self, buf: &mut [u8]) -> io::Result<usize> {
+        let count = self.most.min(buf.len());
+        self.rest.read(&mut buf[..count])
+    }
+}
+
+fn source_of(rest: &[u8], most: usize) -> Meter<Pieces<'_>> {
+    Meter::new(Pieces { rest, most })
 }
 
 /// Whether the certificate has this text.
-fn has_text(certificate: &Certificate, text: &[u8]) -> bool {
-    let mut kept = Kept::new(256);
-    write_cert(certificate, &mut MeterOut::new(&mut kept)).is_ok() && kept.bytes() == text
-}
-
-/// The line in which the text ends, counted from 1.
-fn last_line(text: &[u8]) -> u128 {
-    let mut line: u128 = 1;
-    for byte in text {
-        line = line.saturating_add(u128::from(*byte == b'\n'));
-    }
-    line
+fn has_text(alloc: Global, certificate: &Certificate, text: &str) -> bool {
+    let mut out = Vec::new(alloc);
+    write_cert(certificate, &mut MeterOut::new(&mut out)).is_ok()
+        && out.as_slice() == text.as_bytes()
 }
 
 #[test]
 fn what_is_read_is_written_again(rt: HostRuntime) -> Result<(), Fail> {
-    for most in [1, 3, 64, 256] {
-        for text in [MAP_B, THREE_CHILDREN] {
-            let certificate = read(rt.alloc(), text, most).map_err(|_| "a refused text")?;
-            assert!(rt; has_text(&certificate, text), "{most} bytes a read");
+    for text in [SQUARE, THREE_CHILDREN] {
+        for most in [1, 7, 999] {
+            let read = read_cert(rt.alloc(), &mut source_of(text.as_bytes(), most));
+            let certificate = read.map_err(|_| "a refused text")?;
+            assert!(rt;
+                has_text(rt.alloc(), &certificate, text),
+                "{most} bytes a read"
+            );
         }
     }
     Ok(())
 }
 
 #[test]
-fn version_2_is_another_head(rt: HostRuntime) -> Result<(), Fail> {
-    let certificate = read(rt.alloc(), MAP_B, 64)
-        .map_err(|_| "a refused text")?
-        .to_v2();
-    let mut kept = Kept::new(256);
-    assert!(rt; write_cert(&certificate, &mut MeterOut::new(&mut kept)).is_ok());
-    let text = kept.bytes();
-    assert!(rt; text.starts_with(b"TIGERCERT 2\n") && text[12..] == MAP_B[12..]);
+fn a_certificate_is_seen(rt: HostRuntime) -> Result<(), Fail> {
+    let read = read_cert(rt.alloc(), &mut source_of(SQUARE.as_bytes(), 999));
+    let certificate = read.map_err(|_| "a refused text")?;
+    let counts = certificate.counts();
+    assert!(rt;
+        (
+            counts.chains,
+            counts.segments,
+            counts.nodes,
+            counts.polygons
+        ) == (1, 4, 1, 1)
+    );
+    assert!(rt; certificate.version() == 1 && certificate.tree().len() == 1);
+    assert!(rt; certificate.rounds().len() == 1 && certificate.walks().len() == 2);
     Ok(())
 }
 
 #[test]
 fn a_beginning_is_refused_in_its_last_line(rt: HostRuntime) -> Result<(), Fail> {
-    for len in 0..98 {
-        let text = &MAP_B[..len];
+    let mut line = 1u8;
+    for (len, byte) in SQUARE.as_bytes().iter().enumerate() {
+        let beginning = SQUARE.as_bytes().get(..len).unwrap_or(b"");
+        let stop = read_cert(rt.alloc(), &mut source_of(beginning, 1)).err();
         let refused = CertStop::Text {
-            line: last_line(text),
+            line: u128::from(line),
         };
-        for most in [1, 64] {
-            let stop = read(rt.alloc(), text, most).err();
-            assert!(rt; stop == Some(refused), "the first {len} bytes: {stop:?}");
-        }
+        assert!(rt; stop == Some(refused), "the first {len} bytes: {stop:?}");
+        line = line.saturating_add(u8::from(*byte == b'\n'));
     }
     Ok(())
 }
 
+/// A letter for each of ten answers: a part's own, a dash for none, a question mark for a refusal and an exclamation mark for
+/// a failed read.
+fn letters_of<S: Source + Drop>(alloc: Global, source: S) -> Result<String, AllocError> {
+    let mut letters = String::new(alloc);
+    let mut reader = CertReader::new(alloc, source);
+    for _ in 0..10 {
+        letters.push_str(match reader.next_part() {
+            Ok(Some(CertPart::Counts(_, _))) => "C",
+            Ok(Some(CertPart::Tree(_))) => "T",
+            Ok(Some(CertPart::Round(_))) => "R",
+            Ok(Some(CertPart::Walk(_))) => "K",
+            Ok(None) => "-",
+            Err(CertStop::Text { .. }) => "?",
+            Err(CertStop::Device) => "!",
+            Err(CertStop::Memory) => "no memory",
+        })?;
+    }
+    Ok(letters)
+}
+
 #[test]
-fn a_failed_read_is_a_devices(rt: HostRuntime) -> Result<(), Fail> {
-    for before in 0..98u8 {
-        let mut source = Meter::new(Pieces::failing(MAP_B, before));
-        let stop = read_cert(rt.alloc(), &mut source).err();
+fn parts_come_before_a_stop_that_stays(rt: HostRuntime) -> Result<(), Fail> {
+    let whole = letters_of(rt.alloc(), source_of(SQUARE.as_bytes(), 7))?;
+    assert!(rt; whole.as_str() == "CTRKK-----", "{whole}");
+    // the second walk is behind 94 bytes, and 88 cut it off
+    let text = SQUARE.as_bytes().get(..88).unwrap_or(b"");
+    let cut = letters_of(rt.alloc(), source_of(text, 7))?;
+    assert!(rt; cut.as_str() == "CTRK??????", "{cut}");
+    Ok(())
+}
+
+#[test]
+fn each_read_fails(rt: HostRuntime) -> Result<(), Fail> {
+    // the last read finds the end
+    for others in 0..=SQUARE.len() as u64 {
+        let source = source_of(SQUARE.as_bytes(), 1);
+        let mut failing = FailAt::new(source, others, ErrorKind::Interrupted);
+        let stop = read_cert(rt.alloc(), &mut failing).err();
         assert!(rt;
-            stop == Some(CertStop::Device),
-            "behind {before} bytes: {stop:?}"
+            stop == Some(CertStop::Device) && failing.failures() == 1,
+            "{others}"
+        );
+        let source = source_of(SQUARE.as_bytes(), 1);
+        let letters = letters_of(rt.alloc(), FailAt::new(source, others, ErrorKind::Other))?;
+        assert!(rt;
+            letters.as_str().ends_with("!!!!!"),
+            "behind {others}: {letters}"
         );
     }
-    Ok(())
-}
-
-/// A letter for each part that the text gives, and then why no further part is given.
-fn parts_of(alloc: Global, text: &[u8]) -> Result<(Kept, Option<CertStop>), Fail> {
-    let mut letters = Kept::new(256);
-    let mut reader = CertReader::new(alloc, Meter::new(Pieces::whole(text, 7)));
-    for _ in 0..10 {
-        let letter = match reader.next_part() {
-            Ok(Some(CertPart::Counts(_, _))) => b'C',
-            Ok(Some(CertPart::Tree(_))) => b'T',
-            Ok(Some(CertPart::Round(_))) => b'R',
-            Ok(Some(CertPart::Walk(_))) => b'K',
-            Ok(None) => return Ok((letters, None)),
-            Err(stop) => {
-                // The same again.
-                if !matches!(reader.next_part(), Err(again) if again == stop) {
-                    return Err("another stop behind a stop".into());
-                }
-                return Ok((letters, Some(stop)));
-            }
-        };
-        letters.keep(letter);
-    }
-    Err("more parts than there are".into())
-}
-
-#[test]
-fn parts_come_before_a_refusal(rt: HostRuntime) -> Result<(), Fail> {
-    let (letters, stop) = parts_of(rt.alloc(), MAP_B)?;
-    assert!(rt; letters.bytes() == b"CTRKK".as_slice() && stop.is_none());
-    let (letters, stop) = parts_of(rt.alloc(), &MAP_B[..88])?;
-    assert!(rt; letters.bytes() == b"CTRK".as_slice(), "{stop:?}");
-    assert!(rt; stop == Some(CertStop::Text { line: 16 }), "{stop:?}");
     Ok(())
 }

@@ -1,58 +1,83 @@
 //! What is written of certificates.
 
-use crate::support::{Failure, Kept, MAP_B, THREE_CHILDREN, map_b, three_children};
-use std::process::Abort;
+use crate::examples::{SQUARE, THREE_CHILDREN, square, three_children};
+use std::alloc::Global;
+use std::io;
+use std::io::{ErrorKind, Write};
 use std::test::Fail;
 use tl_cert::{Certificate, WriteStop, write_cert};
-use tl_record::{MeterOut, Sink};
+use tl_record::{FailAtOut, MeterOut, Sink};
 
-fn check_failed_write(rt: &impl Abort, certificate: &Certificate, before: u8, failure: Failure) {
-    let mut kept = Kept::failing(1, before as u64 + 1, failure);
-    let mut out = MeterOut::new(&mut kept);
-    let stopped = write_cert(certificate, &mut out) == Err(WriteStop::Device);
-    let failures = out.failures();
-    assert!(rt; stopped && failures == 1, "{failure:?} behind {before}");
-    let taken = kept.bytes();
-    assert!(rt;
-        taken.len() == before as usize && MAP_B.starts_with(taken),
-        "{failure:?} behind {before}"
-    );
+/// A writer that takes at most so many bytes a write.
+#[derive(Drop)]
+struct Few {
+    bytes: Vec<u8>,
+    most: usize,
+}
+
+impl Write for Few {
+    fn write(&mut self, bytes: &[u8]) -> io::Result<usize> {
+        let count = self.most.min(bytes.len());
+        match self.bytes.extend_from_slice(&bytes[..count]) {
+            Ok(()) => Ok(count),
+            Err(_) => Err(io::Error::from(ErrorKind::OutOfMemory)),
+        }
+    }
+
+    fn flush(&mut self) -> io::Result<()> {
+        Ok(())
+    }
+}
+
+/// What a writer took, where the write behind so many others fails, and whether all was written.
+fn written(
+    alloc: Global,
+    certificate: &Certificate,
+    most: usize,
+    others: u64,
+) -> (Vec<u8>, Result<(), WriteStop>) {
+    let mut few = Few {
+        bytes: Vec::new(alloc),
+        most,
+    };
+    let mut out = FailAtOut::new(MeterOut::new(&mut few), others, ErrorKind::Interrupted);
+    let answer = write_cert(certificate, &mut out);
+    (few.bytes, answer)
 }
 
 #[test]
-fn map_b_is_written_byte_for_byte(rt: HostRuntime) -> Result<(), Fail> {
-    let certificate = map_b(rt.alloc())?;
-    let mut kept = Kept::new(256);
-    assert!(rt; write_cert(&certificate, &mut MeterOut::new(&mut kept)).is_ok());
-    assert!(rt; kept.bytes() == MAP_B && MAP_B.len() == 98 && kept.calls == 1);
-    Ok(())
-}
-
-#[test]
-fn a_sink_may_take_one_byte_a_call(rt: HostRuntime) -> Result<(), Fail> {
-    let certificate = map_b(rt.alloc())?;
-    let mut kept = Kept::new(1);
-    assert!(rt; write_cert(&certificate, &mut MeterOut::new(&mut kept)).is_ok());
-    assert!(rt; kept.bytes() == MAP_B && kept.calls == 98);
-    Ok(())
-}
-
-#[test]
-fn what_is_written_before_a_failure_begins_the_text(rt: HostRuntime) -> Result<(), Fail> {
-    let certificate = map_b(rt.alloc())?;
-    for before in 0..98u8 {
-        for failure in [Failure::Error, Failure::Interrupted, Failure::TakesNothing] {
-            check_failed_write(&rt, &certificate, before, failure);
+fn certificates_are_written_byte_for_byte(rt: HostRuntime) -> Result<(), Fail> {
+    let first = square(rt.alloc())?.ok_or("square")?;
+    let second = three_children(rt.alloc())?.ok_or("three children")?;
+    for (certificate, text) in [(&first, SQUARE), (&second, THREE_CHILDREN)] {
+        for most in [1, 999] {
+            let (taken, answer) = written(rt.alloc(), certificate, most, u64::MAX);
+            assert!(rt;
+                answer.is_ok() && taken.as_slice() == text.as_bytes(),
+                "{most}"
+            );
         }
     }
     Ok(())
 }
 
 #[test]
-fn an_inner_node_of_version_2_tells_its_children(rt: HostRuntime) -> Result<(), Fail> {
-    let certificate = three_children(rt.alloc())?;
-    let mut kept = Kept::new(256);
-    assert!(rt; write_cert(&certificate, &mut MeterOut::new(&mut kept)).is_ok());
-    assert!(rt; kept.bytes() == THREE_CHILDREN);
+fn what_is_written_before_a_failure_begins_the_text(rt: HostRuntime) -> Result<(), Fail> {
+    let certificate = square(rt.alloc())?.ok_or("square")?;
+    for others in 0..SQUARE.len() {
+        let (taken, answer) = written(rt.alloc(), &certificate, 1, others as u64);
+        assert!(rt; answer == Err(WriteStop::Device) && taken.len() == others);
+        assert!(rt; SQUARE.as_bytes().starts_with(&taken));
+    }
+    Ok(())
+}
+
+#[test]
+fn version_2_is_another_head(rt: HostRuntime) -> Result<(), Fail> {
+    let certificate = square(rt.alloc())?.ok_or("square")?.to_v2();
+    let (taken, answer) = written(rt.alloc(), &certificate, 999, u64::MAX);
+    let (head, rest) = SQUARE.as_bytes().split_at(12);
+    assert!(rt; head == b"TIGERCERT 1\n".as_slice() && taken.ends_with(rest));
+    assert!(rt; answer.is_ok() && taken.starts_with(b"TIGERCERT 2\n") && taken.len() == 98);
     Ok(())
 }

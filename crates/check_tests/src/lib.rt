@@ -1,10 +1,15 @@
-//! Worked examples of verdicts: sound maps, each fault of a map and of a certificate, and stops, with answers from
-//! outside. They stand beside `tl_check`, so that it is proved once and not once more with its tests.
+//! Worked examples of verdicts, of certificates that are built, and of the searches below them, with answers from outside;
+//! indexes beside one another; and reads that give one byte or fail. They stand beside the libraries, so that these are
+//! proved once and not once more with their tests.
 #![tactic(auto)]
 
 #[cfg(test)]
-mod cases;
-#[cfg(test)]
-mod certs;
+mod indexes;
 #[cfg(test)]
 mod maps;
+#[cfg(test)]
+mod parts;
+#[cfg(test)]
+mod reads;
+#[cfg(test)]
+mod verdicts;

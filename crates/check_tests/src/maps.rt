@@ -1,143 +1,84 @@
-//! Texts of the records of small maps.
+//! The records of small maps and their certificates.
+
 use std::alloc::{AllocError, Global};
+use std::test::Fail;
+use tl_map::{Map, read_map_with};
+use tl_record::{Meter, Options};
 
-/// A point, in millionths of a degree.
-pub type Pair = (i32, i32);
+/// A chain by its TLID, its ends, the columns of its shape from the first pair on, and the columns of its sides from the
+/// zero-cell id of its start on.
+pub type Drawn<'a> = (u32, &'a str, &'a str, &'a str);
 
-/// A chain by its points, and the polygons on its left and on its right, where 0 is outside.
-#[derive(Clone, Copy)]
-pub struct Drawn<'a> {
-    pub points: &'a [Pair],
-    pub left: u32,
-    pub right: u32,
-}
+pub const SQUARE: Drawn<'static> = (
+    1,
+    "+000000010+00000010+000000010+00000010",
+    "+000000030+00000010+000000030+00000030+000000010+00000030",
+    "                    A0001         1",
+);
 
-/// The square of polygon 1.
-pub const SQUARE: &[Pair] = &[(10, 10), (30, 10), (30, 30), (10, 30), (10, 10)];
+/// A square within that one, of polygon 2.
+pub const INNER: Drawn<'static> = (
+    2,
+    "+000000014+00000014+000000014+00000014",
+    "+000000018+00000014+000000018+00000018+000000014+00000018",
+    "                    A0001         2A0001         1",
+);
 
-/// A square within that one.
-pub const INNER: &[Pair] = &[(14, 14), (18, 14), (18, 18), (14, 18), (14, 14)];
+/// A chain from the square's southwest corner to a dead end in it.
+pub const DEAD_END: Drawn<'static> = (
+    2,
+    "+000000010+00000010+000000015+00000015",
+    "",
+    "                    A0001         1A0001         1",
+);
 
-fn write_number(text: &mut String, value: i32) -> Result<(), AllocError> {
-    text.push_str(if value < 0 { "-" } else { "+" })
-}
+/// The points of polygon 1 and of polygon 2, a landmark and its polygons.
+pub const POINT: &str = "P0000     A0001         1+000000020+00000020\n";
 
-/// Longitude and latitude in nine and eight digits, with their signs.
-fn write_point(text: &mut String, point: Pair) -> Result<(), AllocError> {
-    write_number(text, point.0)?;
-    write!(text, "{:09}", point.0.unsigned_abs())?;
-    write_number(text, point.1)?;
-    write!(text, "{:08}", point.1.unsigned_abs())
-}
+pub const INNER_POINT: &str = "P0000     A0001         2+000000016+00000016
+70000              7
+80000     A0001         1         7
+80000     A0001         2         7
+";
 
-/// The key of a polygon, blank for outside.
-fn write_key(text: &mut String, polygon: u32) -> Result<(), AllocError> {
-    if polygon == 0 {
-        write!(text, "{:15}", "")
-    } else {
-        write!(text, "A0001{polygon:>10}")
-    }
-}
-
-fn write_chain(text: &mut String, tlid: u32, chain: &Drawn<'_>) -> Result<(), AllocError> {
-    let [from, between @ .., to] = chain.points else {
-        return Ok(());
-    };
-    write!(text, "10000{tlid:>10}{:>175}", "")?;
-    write_point(text, *from)?;
-    write_point(text, *to)?;
-    text.push_str("\n")?;
-    let mut sequence = 0u32;
-    for ten in between.chunks(10) {
-        sequence = sequence.wrapping_add(1);
-        write!(text, "20000{tlid:>10}{sequence:>3}")?;
-        for point in ten {
-            write_point(text, *point)?;
-        }
-        text.push_str("\n")?;
-    }
-    write!(text, "I0000{tlid:>10}{:25}", "")?;
-    write_key(text, chain.left)?;
-    write_key(text, chain.right)?;
-    text.push_str("\n")
-}
-
-/// The records of chains with the TLIDs from 1 on, and of polygons with these points and the numbers from 1 on.
+/// The records of these chains, and these records behind.
 pub fn records_of(
     alloc: Global,
     chains: &[Drawn<'_>],
-    polygons: &[Pair],
+    behind: &[&str],
 ) -> Result<String, AllocError> {
     let mut text = String::new(alloc);
-    let mut tlid = 0u32;
-    for chain in chains {
-        tlid = tlid.wrapping_add(1);
-        write_chain(&mut text, tlid, chain)?;
+    for (tlid, ends, shape, sides) in chains {
+        write!(text, "10000{tlid:>10}{:>175}{ends}\n", "")?;
+        if !shape.is_empty() {
+            write!(text, "20000{tlid:>10}  1{shape}\n")?;
+        }
+        write!(text, "I0000{tlid:>10}     {sides}\n")?;
     }
-    let mut number = 0u32;
-    for point in polygons {
-        number = number.wrapping_add(1);
-        write!(&mut text, "P0000{:5}A0001{number:>10}", "")?;
-        write_point(&mut text, *point)?;
-        text.push_str("\n")?;
+    for records in behind {
+        text.push_str(records)?;
     }
     Ok(text)
 }
 
-/// The records of one square.
-pub fn square(alloc: Global) -> Result<String, AllocError> {
-    records_of(
-        alloc,
-        &[Drawn {
-            points: SQUARE,
-            left: 1,
-            right: 0,
-        }],
-        &[(20, 20)],
-    )
+/// The map of these chains with their zero-cell ids, and of these records behind.
+pub fn map_of(alloc: Global, chains: &[Drawn<'_>], behind: &[&str]) -> Result<Map, Fail> {
+    let text = records_of(alloc, chains, behind)?;
+    let options = Options {
+        zero_cells: true,
+        released: false,
+    };
+    Ok(read_map_with(alloc, &mut Meter::new(text.as_bytes()), options)?)
 }
 
-/// The records of a square with a dead end that has these polygons on its left and on its right.
-pub fn dead_end(alloc: Global, left: u32, right: u32) -> Result<String, AllocError> {
-    records_of(
-        alloc,
-        &[
-            Drawn {
-                points: SQUARE,
-                left: 1,
-                right: 0,
-            },
-            Drawn {
-                points: &[(10, 10), (15, 15)],
-                left,
-                right,
-            },
-        ],
-        &[(20, 20)],
-    )
-}
+/// The certificate of the square.
+pub const SQUARE_CERT: &str =
+    "TIGERCERT 1\nC 1 4 1 1\nT 1\nL 10 10 30 30 4\nS 0\nS 1\nS 2\nS 3\nN 1\nR 2\nD 0\nD 1\nW 2\nK 1\nD 0\nK 1\nD 1\nEND\n";
 
-/// The records of a square with an inner square that has these polygons on its left and on its right.
-pub fn nested(
-    alloc: Global,
-    left: u32,
-    right: u32,
-    polygons: &[Pair],
-) -> Result<String, AllocError> {
-    records_of(
-        alloc,
-        &[
-            Drawn {
-                points: SQUARE,
-                left: 1,
-                right: 0,
-            },
-            Drawn {
-                points: INNER,
-                left,
-                right,
-            },
-        ],
-        polygons,
-    )
-}
+/// That of the square with the dead end.
+pub const DEAD_END_CERT: &str =
+    "TIGERCERT 1\nC 2 5 2 1\nT 1\nL 10 10 30 30 5\nS 0\nS 1\nS 2\nS 3\nS 4\nN 2\nR 3\nD 0\nD 2\nD 1\nR 1\nD 3\nW 2\nK 3\nD 0\nD 2\nD 3\nK 1\nD 1\nEND\n";
+
+/// That of the two squares.
+pub const ISLAND_CERT: &str =
+    "TIGERCERT 1\nC 2 8 2 2\nT 1\nL 10 10 30 30 8\nS 0\nS 1\nS 2\nS 3\nS 4\nS 5\nS 6\nS 7\nN 2\nR 2\nD 0\nD 1\nR 2\nD 2\nD 3\nW 4\nK 1\nD 0\nK 1\nD 1\nK 1\nD 2\nK 1\nD 3\nEND\n";
