@@ -58,8 +58,7 @@ bench: build
 	cd crates/bench_records && rt run >/dev/null
 	cd crates/bench_tree && rt run >/dev/null
 	cd crates/bench_cert && rt run -- read data/map_b >/dev/null
-	cd crates/bench_check && rt run -- data/county.CERT data/county >/dev/null
-	cd crates/bench_build && rt run -- data/county >/dev/null
+	cd crates/bench_check && rt run -- data/county data/county.CERT >/dev/null
 	python3 bench/run.py
 
 install: build

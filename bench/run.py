@@ -1,9 +1,9 @@
 #!/usr/bin/env python3
 """Measures `tigertopo show`, `landmarks` and `locate`, and a program that only counts records, beside `wc -l` of the same files;
 `check` by a plain maker's certificate beside `show`, with the parts of a check as `bench_check` tells them, in a second table;
-`audit`, `build`, `check` of what was built and `locate` beside `show` in a third, with the parts of that work as `bench_build`
-and `bench_check` tell them in a fourth; `bench_tree`, which makes the segments of a county and searches them, in a fifth; and
-`bench_cert`, which writes and reads certificates, beside `wc -l` of the same file, in a sixth.
+`audit`, `build`, `check` of what was built and `locate` beside `show` in a third, with the parts of that work as `bench_check`
+tells them in a fourth; `bench_tree`, which makes the segments of a county and searches them, in a fifth; and `bench_cert`,
+which writes and reads certificates, beside `wc -l` of the same file, in a sixth.
 
 usage: run.py [--sizes N,N,..] [--counties N,N,..] [--keys N] [--decided N,N,..] [--segments N,N,..] [--certificates N,N,..]
               [--runs N]
@@ -31,7 +31,6 @@ COUNT = CRATES / "bench_records" / "out" / "bench_records"
 TREE = CRATES / "bench_tree" / "out" / "bench_tree"
 CERT = CRATES / "bench_cert" / "out" / "bench_cert"
 CHECK = CRATES / "bench_check" / "out" / "bench_check"
-BUILD = CRATES / "bench_build" / "out" / "bench_build"
 NAMES = {
     "streets": "streets alone",
     "county": "a county",
@@ -124,7 +123,7 @@ def check_rows(chains, runs):
     files, (certificate, records) = files_of(chains, "county"), certificate_of(chains)
     show, check = [PROGRAM, "show", *files], [PROGRAM, "check", "--cert", certificate, *files]
     peak = peak_of(check)
-    found = [(seconds_of(show) * 1e3, seconds_of(check) * 1e3, *steps_of([CHECK, certificate, records])) for _ in range(runs)]
+    found = [(seconds_of(show) * 1e3, seconds_of(check) * 1e3, *steps_of([CHECK, records, certificate])) for _ in range(runs)]
     shown, checked, *parts = (statistics.median(column) for column in zip(*found))
     yield (f"{chains:,}", f"{shown:.1f}", f"{checked:.1f}", f"{checked / shown:.1f}", *(f"{part:.1f}" for part in parts),
            f"{parts[3] / shown:.2f}", f"{peak:.1f}", f"{peak * 2 ** 20 / chains:.0f}")
@@ -155,18 +154,18 @@ def decided_rows(chains, kind, runs):
 
 
 def part_rows(chains, kind, runs):
-    """The parts of that work, in memory, where the programs that tell of them are built."""
-    if not (BUILD.exists() and CHECK.exists()):
+    """The parts of that work, in memory, where the program that tells of them is built."""
+    if not CHECK.exists():
         return
     files, records = files_of(chains, kind), records_of(chains, kind)
     show, built = [PROGRAM, "show", *files], files[0].parent / "built"
     found = []
     for _ in range(runs):
         shown = seconds_of(show) * 1e3
-        read, made, checked, sides, written = steps_of([BUILD, records, built])
-        _, reread, tree, search, _ = steps_of([CHECK, built, records])
+        read, made, tree, search, sides, checked = steps_of([CHECK, records])
+        reread = steps_of([CHECK, records, built])[1]
         points = max(0, checked - tree - search - sides)
-        found.append((shown, read, made - checked, tree, search, sides, points, checked, written, reread))
+        found.append((shown, read, made - checked, tree, search, sides, points, checked, reread))
     shown, *parts = (statistics.median(column) for column in zip(*found))
     search, sides, points = parts[3:6]
     yield (f"{chains:,} {NAMES[kind]}", f"{shown:.1f}", *(f"{part:.1f}" for part in parts), f"{search / shown:.2f}",
@@ -254,15 +253,16 @@ def main():
         (row for kind, sizes in parts for chains in numbers(sizes) for row in rows(chains, kind, words.runs)))
     print_table(
         ("Chains", "`show`, ms", "`check`, ms", "times `show`", "records read, ms", "certificate read, ms", "tree checked, ms",
-         "conflicts searched, ms", "all checked in memory, ms", "search, times `show`", "peak MB", "bytes a chain"),
+         "conflicts searched, ms", "rounds and walks taken, ms", "all checked in memory, ms", "search, times `show`", "peak MB",
+         "bytes a chain"),
         (row for chains in numbers(words.counties) for row in check_rows(chains, words.runs)))
     print_table(
         ("Chains", "Command", "ms", "times `show`", "us a chain", "peak MB", "bytes a chain"),
         (row for chains, kind in decided for row in decided_rows(chains, kind, words.runs)))
     print_table(
         ("Chains", "`show`, ms", "records read, ms", "proposed, ms", "tree checked, ms", "conflicts searched, ms",
-         "rounds and walks taken, ms", "points looked at, ms", "all checked in memory, ms", "certificate written, ms",
-         "certificate read, ms", "search, times `show`", "rounds and walks, times `show`", "points, times `show`"),
+         "rounds and walks taken, ms", "points looked at, ms", "all checked in memory, ms", "certificate read, ms",
+         "search, times `show`", "rounds and walks, times `show`", "points, times `show`"),
         (row for chains, kind in decided for row in part_rows(chains, kind, words.runs)))
     print_table(
         ("Segments", "Children", "Tree", "rectangles made and sorted, ms", "search, ms", "times", "tests a segment",

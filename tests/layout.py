@@ -13,7 +13,8 @@ A line is written as words: what it is, its values, and changes of single fields
     fill N BYTE                         the byte N times
 
 A change is FIELD=VALUE, right-aligned in the field's columns (`_` stands for a blank, `\\xNN` for a byte), `cut=N`,
-which leaves out the columns behind N, or `end=` with `crlf`, `cr`, `crcr` or `none` for what ends the line.
+which leaves out the columns behind N, `other=` with a byte for all columns of the full width that aren't read, or `end=`
+with `crlf`, `cr`, `crcr` or `none` for what ends the line.
 """
 
 import re
@@ -32,6 +33,8 @@ COLUMNS = {
     "7": {"LAND": (11, 20), "LALONG": (55, 64), "LALAT": (65, 73)},
     "8": {"CENID": (11, 15), "POLYID": (16, 25), "LAND": (26, 35)},
 }
+# How wide a record of each type is.
+WIDTHS = {"1": 228, "2": 208, "I": 127, "released": 127, "P": 45, "7": 74, "8": 36}
 ENDS = {"lf": b"\n", "crlf": b"\r\n", "cr": b"\r", "crcr": b"\r\r\n", "none": b""}
 
 
@@ -97,13 +100,15 @@ def line_of(text):
     else:
         record, values, changes = values_of(kind, rest.split())
         line = bytearray((record if len(record) == 1 else "I").encode() + b"0000")
-    end, cut = b"\n", None
+    end, cut, other = b"\n", None, None
     for change in changes:
         name, _, value = change.partition("=")
         if name == "end":
             end = ENDS[value]
         elif name == "cut":
             cut = int(value)
+        elif name == "other":
+            other = bytes_of(value)
         else:
             values[name] = value
     for name, value in values.items():
@@ -112,4 +117,10 @@ def line_of(text):
         field = bytes_of(value.replace("_", " ")).rjust(last - first + 1)
         assert len(field) == last - first + 1, text
         line[first - 1 : last] = field
+    if other:
+        line.extend(b" " * (WIDTHS[record] - len(line)))
+        read = {column for first, last in COLUMNS[record].values() for column in range(first, last + 1)}
+        for column in range(2, len(line) + 1):
+            if column not in read:
+                line[column - 1 : column] = other
     return bytes(line[:cut]) + end

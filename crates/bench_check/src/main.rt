@@ -1,51 +1,27 @@
-//! How long the parts of a check take: `bench_check CERT RECORDS` reads the records and the certificate, checks the tree,
-//! searches for two chains that meet where they may not, and checks the whole. It prints the report and, on the error
-//! output, the microseconds that each step takes.
+//! How long the parts of a check take, and building: `bench_check RECORDS [CERT]` reads the records and the certificate, or
+//! makes one of their map, with a check in it, where none is given. It checks the tree, searches for two chains that meet
+//! where they may not, takes the rounds and walks, and checks the whole. It prints the report and, on the error output, the
+//! microseconds that each step takes.
 #![tactic(auto)]
 
-use std::error::Error;
+mod sides;
+mod stop;
+
+use crate::stop::Stop;
+use std::env;
 use std::fs::File;
 use std::io::BufReader;
 use std::time::{Duration, Instant};
-use std::{env, fmt};
-use tl_cert::{CertStop, Certificate, read_cert};
+use tl_build::{Built, build};
+use tl_cert::{Certificate, read_cert};
 use tl_check::{Verdict, check_map};
-use tl_map::{Map, MapStop, read_map};
+use tl_map::{Map, read_map};
 use tl_planar::{Meeting, Segments, first_meet};
 use tl_record::Meter;
 use tl_tree::FlatTree;
 
 // As many bytes at a time as tigertopo reads.
 const INPUT_BUFFER: usize = 131_072;
-
-/// What ends the program early.
-#[derive(Debug, Drop)]
-enum Stop {
-    /// Other words than those that it takes.
-    Usage,
-    /// Memory was refused.
-    Memory,
-    /// No map is read.
-    Records(MapStop),
-    /// No certificate is read.
-    Read(CertStop),
-    /// The map isn't sound by the certificate.
-    Unsound,
-}
-
-impl fmt::Display for Stop {
-    fn fmt<W: fmt::Write>(&self, f: &mut fmt::Formatter<W>) -> fmt::Result {
-        match self {
-            Stop::Usage => f.write_str("usage: bench_check CERT RECORDS"),
-            Stop::Memory => f.write_str("memory was refused"),
-            Stop::Records(stop) => write!(f, "no map: {stop:?}"),
-            Stop::Read(stop) => write!(f, "no certificate: {stop:?}"),
-            Stop::Unsound => f.write_str("not told to be sound"),
-        }
-    }
-}
-
-impl Error for Stop {}
 
 /// Tells on the error output how long a step took.
 fn tell(rt: &HostRuntime, step: &str, taken: Duration) -> anyhow::Result<()> {
@@ -73,6 +49,17 @@ fn read_certificate(rt: &HostRuntime, name: &str) -> anyhow::Result<Certificate>
     Ok(certificate)
 }
 
+/// Makes a certificate of the map.
+fn build_certificate(rt: &HostRuntime, map: &Map) -> anyhow::Result<Certificate> {
+    let begun = Instant::now(rt)?;
+    let built = build(rt.alloc(), map).map_err(|stop| Stop::Build(stop))?;
+    tell(rt, "built", begun.elapsed(rt)?)?;
+    match built {
+        Built::Cert(certificate) => Ok(certificate),
+        Built::Fault(_) => Err(Stop::Unsound.into()),
+    }
+}
+
 /// Checks the tree of a certificate, and searches with it.
 fn search(rt: &HostRuntime, map: &Map, certificate: &Certificate) -> anyhow::Result<()> {
     let begun = Instant::now(rt)?;
@@ -93,6 +80,13 @@ fn search(rt: &HostRuntime, map: &Map, certificate: &Certificate) -> anyhow::Res
     }
 }
 
+/// Takes the certificate's rounds and walks.
+fn take_sides(rt: &HostRuntime, map: &Map, certificate: &Certificate) -> anyhow::Result<()> {
+    let begun = Instant::now(rt)?;
+    sides::take(rt.alloc(), map, certificate)?;
+    tell(rt, "rounds and walks taken", begun.elapsed(rt)?)
+}
+
 /// Checks the map by the certificate.
 fn check(rt: &HostRuntime, map: &Map, certificate: &Certificate) -> anyhow::Result<()> {
     let begun = Instant::now(rt)?;
@@ -105,13 +99,24 @@ fn check(rt: &HostRuntime, map: &Map, certificate: &Certificate) -> anyhow::Resu
     Ok(())
 }
 
+/// Measures the parts of a check of the map by the certificate.
+fn measure(rt: &HostRuntime, map: &Map, certificate: &Certificate) -> anyhow::Result<()> {
+    search(rt, map, certificate)?;
+    take_sides(rt, map, certificate)?;
+    check(rt, map, certificate)
+}
+
 fn main(rt: HostRuntime) -> anyhow::Result<()> {
     let words: Vec<String> = env::args(&rt)?.skip(1).collect(rt.alloc())?;
-    let [certificate, records] = words.as_slice() else {
-        return Err(Stop::Usage.into());
+    let (records, certificate) = match words.as_slice() {
+        [records] => (records, None),
+        [records, certificate] => (records, Some(certificate)),
+        _ => return Err(Stop::Usage.into()),
     };
     let map = read_records(&rt, records.as_str())?;
-    let certificate = read_certificate(&rt, certificate.as_str())?;
-    search(&rt, &map, &certificate)?;
-    check(&rt, &map, &certificate)
+    let certificate = match certificate {
+        Some(name) => read_certificate(&rt, name.as_str())?,
+        None => build_certificate(&rt, &map)?,
+    };
+    measure(&rt, &map, &certificate)
 }

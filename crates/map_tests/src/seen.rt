@@ -87,6 +87,7 @@ fn segments_and_darts(rt: HostRuntime) -> Result<(), Fail> {
         (2, 1, (5, 30), (-7, 31), (-1, 3), Side::Polygon(0)),
         (3, 0, (-7, 31), (5, 30), (11, 2), Side::Polygon(1)),
     ] {
+        assert!(rt; dart / 2 < map.chains());
         assert!(rt; map.dart_node(dart) == node && map.dart_left(dart) == left);
         let (start, end) = (map.dart_start(dart), map.dart_end(dart));
         assert!(rt;

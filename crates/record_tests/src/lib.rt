@@ -3,8 +3,6 @@
 #![tactic(auto)]
 
 #[cfg(test)]
-mod failing;
-#[cfg(test)]
 mod output;
 #[cfg(test)]
 mod pieces;

@@ -23,7 +23,7 @@ fn write<S: Sink>(out: &mut S) -> bool {
 fn written(alloc: Global, others: u64, kind: ErrorKind) -> (Few, bool) {
     let mut few = Few::new(alloc, 7);
     let mut sink = FailAtOut::new(MeterOut::new(&mut few), others, kind);
-    let is_whole = write(&mut sink) && sink.failures() == 0;
+    let is_whole = write(&mut sink) && sink.failures() == 0 && sink.writes_before().is_some();
     (few, is_whole)
 }
 

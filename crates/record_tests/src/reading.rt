@@ -5,10 +5,7 @@ use std::alloc::{AllocError, Global};
 use std::io::ErrorKind;
 use std::process::Abort;
 use std::test::Fail;
-use tl_record::{
-    Cause, FailAt, Field, Meter, Options, ReadStop, Record, RecordReader, Source, Spelt,
-    coordinate_spelt,
-};
+use tl_record::{Cause, FailAt, Field, Meter, Options, ReadStop, Record, RecordReader, Source};
 
 /// The records of a square by the columns of the released files: a chain, its shape, its sides with the zero-cell id 5 at
 /// its start, and a polygon.
@@ -80,7 +77,7 @@ fn a_failed_read_is_no_end(rt: HostRuntime) -> Result<(), Fail> {
         let mut source = FailAt::new(Meter::new(Pieces { rest, most: 103 }), others, kind);
         let given = records_before_a_failure(&mut source);
         assert!(rt;
-            given == Some(records) && source.failures() == 1,
+            given == Some(records) && source.reads_before().is_none(),
             "{others}: {given:?}"
         );
     }
@@ -110,21 +107,4 @@ fn a_stop_is_answered_again(rt: HostRuntime) {
     answers_twice(&rt, b"1\n10000         1\n", 2, Err(stop));
     answers_twice(&rt, b"10000         1\n", 1, Err(ReadStop::Device));
     answers_twice(&rt, b"4", 2, Ok(None));
-}
-
-#[test]
-fn coordinates_are_spelt_so(rt: HostRuntime) {
-    for (field, spelt) in [
-        ("-087654321", Spelt::Value(-87_654_321)),
-        (" 12345678 ", Spelt::Value(12_345_678)),
-        ("        -0", Spelt::Value(0)),
-        ("-98765432", Spelt::Value(-98_765_432)),
-        ("+ 12345678", Spelt::Unreadable),
-        ("1234 56789", Spelt::Unreadable),
-        ("+         ", Spelt::Unreadable),
-        ("123456789-", Spelt::Unreadable),
-        ("          ", Spelt::Blank),
-    ] {
-        assert!(rt; coordinate_spelt(field.as_bytes()) == spelt, "{field}");
-    }
 }

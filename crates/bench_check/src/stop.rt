@@ -3,6 +3,7 @@
 use std::error::Error;
 use std::fmt;
 use tl_build::BuildStop;
+use tl_cert::CertStop;
 use tl_map::MapStop;
 
 /// What ends the program early.
@@ -14,23 +15,23 @@ pub enum Stop {
     Memory,
     /// No map is read.
     Records(MapStop),
+    /// No certificate is read.
+    Read(CertStop),
     /// Nothing is built.
     Build(BuildStop),
-    /// The map isn't sound.
+    /// The map isn't sound, or not by the certificate.
     Unsound,
-    /// A write failed.
-    Device,
 }
 
 impl fmt::Display for Stop {
     fn fmt<W: fmt::Write>(&self, f: &mut fmt::Formatter<W>) -> fmt::Result {
         match self {
-            Stop::Usage => f.write_str("usage: bench_build RECORDS [CERT]"),
+            Stop::Usage => f.write_str("usage: bench_check RECORDS [CERT]"),
             Stop::Memory => f.write_str("memory was refused"),
             Stop::Records(stop) => write!(f, "no map: {stop:?}"),
+            Stop::Read(stop) => write!(f, "no certificate: {stop:?}"),
             Stop::Build(stop) => write!(f, "{stop}"),
             Stop::Unsound => f.write_str("not told to be sound"),
-            Stop::Device => f.write_str("a write failed"),
         }
     }
 }
