@@ -1,19 +1,18 @@
 //! Where points lie, by each index.
 
-ghost use Rattle.std.specs.Prelude.{length};
+ghost use Rattle.std.specs.Prelude.{◌<◌, ◌^◌, length};
 ghost use Rattle.tl_map.specs.Segments.{segments_before};
 ghost use Rattle.tl_planar.specs.Rectangles.{segment_rect};
+ghost use Rattle.tl_tree.specs.Preorder.{IsPreorder};
 
-use crate::maps::{INNER, INNER_POINT, POINT, SQUARE, map_of};
+use crate::maps::{ISLAND, map_of};
 use std::alloc::Global;
-use std::process::Abort;
-use std::test::Fail;
 use tl_geom::Point;
 use tl_inside::{Place, locate};
 use tl_map::Map;
 use tl_pack::pack;
 use tl_planar::Segments;
-use tl_tree::{BoxIndex, BoxTree, FlatTree, PlainList};
+use tl_tree::{BoxIndex, BoxTree, FlatTree, PlainList, TreeNode};
 
 /// Points, and the chain that each lies on, or in which polygon and on which landmark.
 const PLACES: [(i32, i32, Option<u32>, &[u32], &[u32]); 9] = [
@@ -29,42 +28,67 @@ const PLACES: [(i32, i32, Option<u32>, &[u32], &[u32]); 9] = [
 ];
 
 /// Whether by an index each of the points lies where it has to.
-fn are_right<X: BoxIndex>(alloc: Global, map: &Map, index: &X) -> Result<bool, Fail>
+fn are_right<X: BoxIndex>(alloc: Global, map: &Map, index: &X) -> bool
     requires fits { X.fits index.now (segments_before map.now.chains (length map.now.chains)) (segment_rect map.now.chains) }
 {
     for (x, y, chain, within, on) in PLACES {
-        let is_right = match locate(alloc, map, index, Point { x, y })? {
-            Place::OnChain(found) => chain == Some(found),
-            Place::In {
-                polygons,
-                landmarks,
-            } => chain.is_none() && polygons.as_slice() == within && landmarks.as_slice() == on,
+        let is_right = match locate(alloc, map, index, Point { x, y }) {
+            Ok(Place::OnChain(found)) => chain == Some(found),
+            Ok(
+                Place::In {
+                    polygons,
+                    landmarks,
+                },
+            ) => chain.is_none() && polygons.as_slice() == within && landmarks.as_slice() == on,
+            Err(_) => false,
         };
         if !is_right {
-            return Ok(false);
+            return false;
         }
     }
-    Ok(true)
+    true
+}
+
+/// Whether they do by the flat tree of these nodes.
+fn are_right_by_nodes(alloc: Global, map: &Map, nodes: &[TreeNode]) -> bool
+    requires whole { IsPreorder nodes.now }
+    requires few { length nodes.now < 2 ^ 32 }
+{
+    let Ok(flat) = FlatTree::from_nodes(alloc, nodes) else {
+        return false;
+    };
+    match flat.check(alloc, &Segments::new(map)) {
+        Ok(None) => are_right(alloc, map, &flat),
+        _ => false,
+    }
+}
+
+/// Whether they do by boxes of these nodes.
+fn are_right_by_boxes(alloc: Global, map: &Map, nodes: &[TreeNode]) -> bool
+    requires whole { IsPreorder nodes.now }
+    requires few { length nodes.now < 2 ^ 32 }
+{
+    let Ok(boxes) = BoxTree::from_nodes(alloc, nodes) else {
+        return false;
+    };
+    match boxes.check(alloc, &Segments::new(map)) {
+        Ok(None) => are_right(alloc, map, &boxes),
+        _ => false,
+    }
+}
+
+/// Whether they do by each index.
+fn are_right_by_all(alloc: Global, map: &Map) -> bool {
+    let Ok(nodes) = pack(alloc, &Segments::new(map)) else {
+        return false;
+    };
+    are_right(alloc, map, &PlainList::new(map.segments()))
+        && are_right_by_nodes(alloc, map, &nodes)
+        && are_right_by_boxes(alloc, map, &nodes)
 }
 
 #[test]
-fn points_of_an_island_by_each_index(rt: HostRuntime) -> Result<(), Fail> {
-    let map = map_of(rt.alloc(), &[SQUARE, INNER], &[POINT, INNER_POINT])?;
-    assert!(rt; are_right(rt.alloc(), &map, &PlainList::new(map.segments()))?);
-    let segments = Segments::new(&map);
-    let nodes = pack(rt.alloc(), &segments)?;
-    let (Ok(flat), Ok(boxes)) = (
-        FlatTree::from_nodes(rt.alloc(), &nodes),
-        BoxTree::from_nodes(rt.alloc(), &nodes),
-    ) else {
-        return Err("trees".into());
-    };
-    let (Ok(None), Ok(None)) = (
-        flat.check(rt.alloc(), &segments),
-        boxes.check(rt.alloc(), &segments),
-    ) else {
-        return Err("a tree doesn't fit".into());
-    };
-    assert!(rt; are_right(rt.alloc(), &map, &flat)? && are_right(rt.alloc(), &map, &boxes)?);
-    Ok(())
+fn points_of_an_island_by_each_index(rt: HostRuntime) {
+    let alloc = rt.alloc();
+    assert!(rt; map_of(alloc, ISLAND).is_some_and(|map| are_right_by_all(alloc, &map)));
 }

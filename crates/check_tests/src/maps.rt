@@ -1,84 +1,153 @@
-//! The records of small maps and their certificates.
+//! The records of small maps, and certificates.
 
-use std::alloc::{AllocError, Global};
-use std::test::Fail;
+use std::alloc::Global;
 use tl_map::{Map, read_map_with};
 use tl_record::{Meter, Options};
 
-/// A chain by its TLID, its ends, the columns of its shape from the first pair on, and the columns of its sides from the
-/// zero-cell id of its start on.
-pub type Drawn<'a> = (u32, &'a str, &'a str, &'a str);
+/// Zero-cell ids are read.
+pub const WITH_CELLS: Options = Options {
+    zero_cells: true,
+    released: false,
+};
 
-pub const SQUARE: Drawn<'static> = (
-    1,
-    "+000000010+00000010+000000010+00000010",
-    "+000000030+00000010+000000030+00000030+000000010+00000030",
-    "                    A0001         1",
-);
+/// The map of records, with their zero-cell ids.
+pub fn map_of(alloc: Global, records: &str) -> Option<Map> {
+    read_map_with(alloc, &mut Meter::new(records.as_bytes()), WITH_CELLS).ok()
+}
 
-/// A square within that one, of polygon 2.
-pub const INNER: Drawn<'static> = (
-    2,
-    "+000000014+00000014+000000014+00000014",
-    "+000000018+00000014+000000018+00000018+000000014+00000018",
-    "                    A0001         2A0001         1",
-);
+/// A square of polygon 1.
+pub const SQUARE: &str =
+    "10000         1                                                                                                                                                                               +000000010+00000010+000000010+00000010
+20000         1  1+000000030+00000010+000000030+00000030+000000010+00000030
+I0000         1                         A0001         1
+P0000     A0001         1+000000020+00000020";
 
-/// A chain from the square's southwest corner to a dead end in it.
-pub const DEAD_END: Drawn<'static> = (
-    2,
-    "+000000010+00000010+000000015+00000015",
-    "",
-    "                    A0001         1A0001         1",
-);
+/// That with a chain from its corner to a dead end in it.
+pub const DEAD_END: &str =
+    "10000         1                                                                                                                                                                               +000000010+00000010+000000010+00000010
+20000         1  1+000000030+00000010+000000030+00000030+000000010+00000030
+I0000         1                         A0001         1
+P0000     A0001         1+000000020+00000020
+10000         2                                                                                                                                                                               +000000010+00000010+000000015+00000015
+I0000         2                         A0001         1A0001         1";
 
-/// The points of polygon 1 and of polygon 2, a landmark and its polygons.
-pub const POINT: &str = "P0000     A0001         1+000000020+00000020\n";
+/// That with nothing on the right of the chain to the dead end.
+pub const HALF: &str =
+    "10000         1                                                                                                                                                                               +000000010+00000010+000000010+00000010
+20000         1  1+000000030+00000010+000000030+00000030+000000010+00000030
+I0000         1                         A0001         1
+P0000     A0001         1+000000020+00000020
+10000         2                                                                                                                                                                               +000000010+00000010+000000015+00000015
+I0000         2                         A0001         1";
 
-pub const INNER_POINT: &str = "P0000     A0001         2+000000016+00000016
+/// A square of polygon 2 within one of polygon 1, and a landmark on both.
+pub const ISLAND: &str =
+    "10000         1                                                                                                                                                                               +000000010+00000010+000000010+00000010
+20000         1  1+000000030+00000010+000000030+00000030+000000010+00000030
+I0000         1                         A0001         1
+P0000     A0001         1+000000020+00000020
+10000         2                                                                                                                                                                               +000000014+00000014+000000014+00000014
+20000         2  1+000000018+00000014+000000018+00000018+000000014+00000018
+I0000         2                         A0001         2A0001         1
+P0000     A0001         2+000000016+00000016
 70000              7
 80000     A0001         1         7
-80000     A0001         2         7
-";
+80000     A0001         2         7";
 
-/// The records of these chains, and these records behind.
-pub fn records_of(
-    alloc: Global,
-    chains: &[Drawn<'_>],
-    behind: &[&str],
-) -> Result<String, AllocError> {
-    let mut text = String::new(alloc);
-    for (tlid, ends, shape, sides) in chains {
-        write!(text, "10000{tlid:>10}{:>175}{ends}\n", "")?;
-        if !shape.is_empty() {
-            write!(text, "20000{tlid:>10}  1{shape}\n")?;
-        }
-        write!(text, "I0000{tlid:>10}     {sides}\n")?;
-    }
-    for records in behind {
-        text.push_str(records)?;
-    }
-    Ok(text)
-}
+/// That with nothing on the right of the inner square, so that polygon 1 holds the point of polygon 2 too.
+pub const OPEN: &str =
+    "10000         1                                                                                                                                                                               +000000010+00000010+000000010+00000010
+20000         1  1+000000030+00000010+000000030+00000030+000000010+00000030
+I0000         1                         A0001         1
+P0000     A0001         1+000000020+00000020
+10000         2                                                                                                                                                                               +000000014+00000014+000000014+00000014
+20000         2  1+000000018+00000014+000000018+00000018+000000014+00000018
+I0000         2                         A0001         2
+P0000     A0001         2+000000016+00000016
+70000              7
+80000     A0001         1         7
+80000     A0001         2         7";
 
-/// The map of these chains with their zero-cell ids, and of these records behind.
-pub fn map_of(alloc: Global, chains: &[Drawn<'_>], behind: &[&str]) -> Result<Map, Fail> {
-    let text = records_of(alloc, chains, behind)?;
-    let options = Options {
-        zero_cells: true,
-        released: false,
-    };
-    Ok(read_map_with(alloc, &mut Meter::new(text.as_bytes()), options)?)
-}
+/// The island with the point of polygon 1 on its chain.
+pub const ON_CHAIN: &str =
+    "10000         1                                                                                                                                                                               +000000010+00000010+000000010+00000010
+20000         1  1+000000030+00000010+000000030+00000030+000000010+00000030
+I0000         1                         A0001         1
+P0000     A0001         1+000000010+00000020
+10000         2                                                                                                                                                                               +000000014+00000014+000000014+00000014
+20000         2  1+000000018+00000014+000000018+00000018+000000014+00000018
+I0000         2                         A0001         2A0001         1
+P0000     A0001         2+000000016+00000016
+70000              7
+80000     A0001         1         7
+80000     A0001         2         7";
+
+/// The island with the point of polygon 1 in polygon 2.
+pub const IN_HOLE: &str =
+    "10000         1                                                                                                                                                                               +000000010+00000010+000000010+00000010
+20000         1  1+000000030+00000010+000000030+00000030+000000010+00000030
+I0000         1                         A0001         1
+P0000     A0001         1+000000017+00000015
+10000         2                                                                                                                                                                               +000000014+00000014+000000014+00000014
+20000         2  1+000000018+00000014+000000018+00000018+000000014+00000018
+I0000         2                         A0001         2A0001         1
+P0000     A0001         2+000000016+00000016
+70000              7
+80000     A0001         1         7
+80000     A0001         2         7";
+
+/// The square, with the ids 5 and 7 at its one node.
+pub const ODDS: &str =
+    "10000         1                                                                                                                                                                               +000000010+00000010+000000010+00000010
+20000         1  1+000000030+00000010+000000030+00000030+000000010+00000030
+I0000         1              5         7A0001         1
+P0000     A0001         1+000000020+00000020";
+
+/// The square with a dead end, with the id 5 at the one node and 9 at the other.
+pub const AGREEING: &str =
+    "10000         1                                                                                                                                                                               +000000010+00000010+000000010+00000010
+20000         1  1+000000030+00000010+000000030+00000030+000000010+00000030
+I0000         1              5         5
+10000         2                                                                                                                                                                               +000000010+00000010+000000015+00000015
+I0000         2              5         9";
+
+/// The square with a dead end, with the id 5 at both nodes.
+pub const ELSEWHERE: &str =
+    "10000         1                                                                                                                                                                               +000000010+00000010+000000010+00000010
+20000         1  1+000000030+00000010+000000030+00000030+000000010+00000030
+I0000         1              5
+10000         2                                                                                                                                                                               +000000010+00000010+000000015+00000015
+I0000         2                        5";
+
+/// Two chains that start in one line.
+pub const OVERLAP: &str =
+    "10000         1                                                                                                                                                                               +000000000+00000000+000000010+00000010
+10000         2                                                                                                                                                                               +000000000+00000000+000000020+00000020
+I0000         1
+I0000         2";
+
+/// Two chains that cross in the middle of the plane.
+pub const CROSSING: &str =
+    "10000         1                                                                                                                                                                               -180000000-90000000+180000000+90000000
+10000         2                                                                                                                                                                               -180000000+90000000+180000000-90000000
+I0000         1
+I0000         2";
 
 /// The certificate of the square.
 pub const SQUARE_CERT: &str =
     "TIGERCERT 1\nC 1 4 1 1\nT 1\nL 10 10 30 30 4\nS 0\nS 1\nS 2\nS 3\nN 1\nR 2\nD 0\nD 1\nW 2\nK 1\nD 0\nK 1\nD 1\nEND\n";
 
-/// That of the square with the dead end.
+/// That of the square with a dead end.
 pub const DEAD_END_CERT: &str =
     "TIGERCERT 1\nC 2 5 2 1\nT 1\nL 10 10 30 30 5\nS 0\nS 1\nS 2\nS 3\nS 4\nN 2\nR 3\nD 0\nD 2\nD 1\nR 1\nD 3\nW 2\nK 3\nD 0\nD 2\nD 3\nK 1\nD 1\nEND\n";
 
-/// That of the two squares.
+/// That of the island.
 pub const ISLAND_CERT: &str =
     "TIGERCERT 1\nC 2 8 2 2\nT 1\nL 10 10 30 30 8\nS 0\nS 1\nS 2\nS 3\nS 4\nS 5\nS 6\nS 7\nN 2\nR 2\nD 0\nD 1\nR 2\nD 2\nD 3\nW 4\nK 1\nD 0\nK 1\nD 1\nK 1\nD 2\nK 1\nD 3\nEND\n";
+
+/// That of the square with its round turned, and with no walk.
+pub const TURNED_CERT: &str =
+    "TIGERCERT 1\nC 1 4 1 1\nT 1\nL 10 10 30 30 4\nS 0\nS 1\nS 2\nS 3\nN 1\nR 2\nD 1\nD 0\nW 0\nEND\n";
+
+/// That of no records.
+pub const EMPTY_CERT: &str = "TIGERCERT 1\nC 0 0 0 0\nT 0\nN 0\nW 0\nEND\n";

@@ -1,122 +1,112 @@
 //! What is found of planar chains, of zero-cell ids and of misplaced points.
 
-use crate::maps::{DEAD_END, Drawn, INNER, INNER_POINT, POINT, SQUARE, map_of};
+use crate::maps::{
+    AGREEING, CROSSING, ELSEWHERE, IN_HOLE, ISLAND, ODDS, ON_CHAIN, OPEN, OVERLAP, SQUARE, map_of,
+};
 use std::alloc::Global;
-use std::test::Fail;
 use tl_cells::find_cells_at_odds;
 use tl_geom::Rational;
 use tl_inside::{Misplaced, find_misplaced};
+use tl_map::Map;
 use tl_planar::{Meeting, Segments, first_meet};
 use tl_record::PolyKey;
 use tl_tree::{Items, PlainList};
 
-/// Two chains from one point, of which the second goes on in the line of the first.
-const SHORTER: Drawn<'static> = (1, "+000000000+00000000+000000010+00000010", "", "");
-
-const LONGER: Drawn<'static> = (2, "+000000000+00000000+000000020+00000020", "", "");
-
-/// Two chains that cross in the middle of the plane.
-const RISING: Drawn<'static> = (3, "-180000000-90000000+180000000+90000000", "", "");
-
-const FALLING: Drawn<'static> = (4, "-180000000+90000000+180000000-90000000", "", "");
+/// Whether the two segments of a map meet at a point where they may not, which is found in one test.
+fn meet_at(map: &Map, at: Rational) -> bool {
+    let segments = Segments::new(map);
+    let told = segments.len() == 2 && segments.conflict(0, 1) == Some(at);
+    match first_meet(map, &PlainList::new(map.segments()), 1) {
+        Meeting::Found(meet) => {
+            told && meet.at == at && (meet.s, meet.t) == (0, 1) && (meet.tlid, meet.other) == (1, 2)
+        }
+        _ => false,
+    }
+}
 
 #[test]
-fn chains_that_meet(rt: HostRuntime) -> Result<(), Fail> {
-    for (first, second, x, d) in [
-        (SHORTER, LONGER, 10, 2),
-        (RISING, FALLING, 0, 129_600_000_000_000_000),
-    ] {
-        let map = map_of(rt.alloc(), &[first, second], &[])?;
-        let at = Rational { x, y: x, d };
-        match first_meet(&map, &PlainList::new(map.segments()), 1) {
-            Meeting::Found(meet) => {
-                assert!(rt; meet.at == at && (meet.s, meet.t) == (0, 1), "{meet:?}");
-                assert!(rt; (meet.tlid, meet.other) == (u64::from(first.0), u64::from(second.0)));
-            }
-            _ => assert!(rt; false),
-        }
-        let segments = Segments::new(&map);
-        assert!(rt; segments.len() == 2 && segments.conflict(0, 1) == Some(at));
+fn chains_that_meet(rt: HostRuntime) {
+    for (records, x, d) in [(OVERLAP, 10, 2), (CROSSING, 0, 129_600_000_000_000_000)] {
+        let meet = map_of(rt.alloc(), records).is_some_and(|map| meet_at(
+            &map,
+            Rational { x, y: x, d },
+        ));
+        assert!(rt; meet);
     }
-    Ok(())
+}
+
+/// Whether no segments meet where they may not, which takes as many tests.
+fn are_clear_in(map: &Map, tests: u64) -> bool {
+    let list = PlainList::new(map.segments());
+    first_meet(map, &list, tests) == Meeting::Clear
+        && first_meet(map, &list, tests.saturating_sub(1)) == Meeting::Budget
 }
 
 /// The four sides of a square have four pairs of rectangles that meet.
 #[test]
-fn planar_chains_in_so_many_tests(rt: HostRuntime) -> Result<(), Fail> {
-    let map = map_of(rt.alloc(), &[SQUARE], &[POINT])?;
-    let list = PlainList::new(map.segments());
-    assert!(rt; first_meet(&map, &list, 4) == Meeting::Clear);
-    assert!(rt; first_meet(&map, &list, 3) == Meeting::Budget);
-    Ok(())
+fn chains_that_are_clear(rt: HostRuntime) {
+    assert!(rt; map_of(rt.alloc(), SQUARE).is_some_and(|map| are_clear_in(&map, 4)));
 }
 
-/// The darts and the ids that are found at odds on a square and a chain from its corner.
-fn odds(alloc: Global, first: &str, second: &str) -> Result<Option<(u32, u32, u64, u64)>, Fail> {
-    let square = (1, SQUARE.1, SQUARE.2, first);
-    let dead_end = (2, DEAD_END.1, DEAD_END.2, second);
-    let map = map_of(alloc, &[square, dead_end], &[])?;
-    Ok(match find_cells_at_odds(alloc, &map)? {
-        Some(odds) => Some((odds.first, odds.second, odds.first_id, odds.second_id)),
-        None => None,
-    })
+/// Whether these darts of a map are found to be at odds by these ids.
+fn are_at_odds(alloc: Global, records: &str, wanted: Option<(u32, u32, u64, u64)>) -> bool {
+    let Some(map) = map_of(alloc, records) else {
+        return false;
+    };
+    match find_cells_at_odds(alloc, &map) {
+        Ok(Some(odds)) => {
+            wanted == Some((odds.first, odds.second, odds.first_id, odds.second_id))
+        }
+        Ok(None) => wanted.is_none(),
+        Err(_) => false,
+    }
 }
 
 #[test]
-fn zero_cell_ids(rt: HostRuntime) -> Result<(), Fail> {
-    for (first, second, wanted) in [
-        ("         5         5", "         5         9", None),
-        ("         5         5", "                   9", None),
-        ("         5         7", "", Some((0, 1, 5, 7))),
-        ("         5", "                   5", Some((0, 3, 5, 5))),
+fn zero_cell_ids(rt: HostRuntime) {
+    for (records, wanted) in [
+        (AGREEING, None),
+        (ODDS, Some((0, 1, 5, 7))),
+        (ELSEWHERE, Some((0, 3, 5, 5))),
     ] {
-        let found = odds(rt.alloc(), first, second)?;
-        assert!(rt; found == wanted, "{first} {second}: {found:?}");
+        assert!(rt; are_at_odds(rt.alloc(), records, wanted));
     }
-    Ok(())
 }
 
-/// The key of a polygon of the CENID A0001.
-fn key(polyid: u64) -> PolyKey {
+/// The key of a polygon.
+const fn key(polyid: u64) -> PolyKey {
     PolyKey {
         cenid: *b"A0001",
         polyid,
     }
 }
 
+/// Whether this is found of the points of a map's polygons.
+fn is_found(alloc: Global, records: &str, wanted: Option<Misplaced>) -> bool {
+    let Some(map) = map_of(alloc, records) else {
+        return false;
+    };
+    match find_misplaced(alloc, &map, &PlainList::new(map.segments())) {
+        Ok(found) => found == wanted,
+        Err(_) => false,
+    }
+}
+
 #[test]
-fn points_of_polygons(rt: HostRuntime) -> Result<(), Fail> {
+fn points_of_polygons(rt: HostRuntime) {
     let (polygon, other) = (key(1), key(2));
-    for (point, wanted) in [
-        (POINT, None),
+    for (records, wanted) in [
+        (ISLAND, None),
+        (ON_CHAIN, Some(Misplaced::OnChain { polygon, tlid: 1 })),
+        (IN_HOLE, Some(Misplaced::Outside { polygon })),
         (
-            "P0000     A0001         1+000000010+00000020\n",
-            Some(Misplaced::OnChain { polygon, tlid: 1 }),
-        ),
-        (
-            "P0000     A0001         1+000000040+00000020\n",
-            Some(Misplaced::Outside { polygon }),
-        ),
-        (
-            "P0000     A0001         1+000000017+00000015\n",
-            Some(Misplaced::Outside { polygon }),
+            OPEN,
+            Some(Misplaced::InOther {
+                polygon: other,
+                other: polygon,
+            }),
         ),
     ] {
-        let map = map_of(rt.alloc(), &[SQUARE, INNER], &[point, INNER_POINT])?;
-        let found = find_misplaced(rt.alloc(), &map, &PlainList::new(map.segments()))?;
-        assert!(rt; found == wanted, "{found:?}");
+        assert!(rt; is_found(rt.alloc(), records, wanted));
     }
-    // without the inner square's right side, the outer one has its point too
-    let inner = (2, INNER.1, INNER.2, "                    A0001         2");
-    let map = map_of(rt.alloc(), &[SQUARE, inner], &[POINT, INNER_POINT])?;
-    let found = find_misplaced(rt.alloc(), &map, &PlainList::new(map.segments()))?;
-    assert!(rt;
-        found
-            == Some(Misplaced::InOther {
-                polygon: other,
-                other: polygon
-            }),
-        "{found:?}"
-    );
-    Ok(())
 }

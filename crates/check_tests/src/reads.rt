@@ -1,12 +1,13 @@
 //! Records and certificates that come one byte a read, and reads that fail.
 
-use crate::maps::{DEAD_END, DEAD_END_CERT, POINT, SQUARE, map_of, records_of};
+use crate::maps::{DEAD_END, DEAD_END_CERT, map_of};
+use std::alloc::Global;
 use std::io;
 use std::io::{ErrorKind, Read};
-use std::test::Fail;
-use tl_build::{AuditStop, audit};
+use tl_build::{Audit, AuditStop, audit};
 use tl_check::{Stop, Verdict, check, check_cert};
-use tl_record::{FailAt, Meter, Source};
+use tl_map::Map;
+use tl_record::{FailAt, Meter};
 
 /// A reader of a text that gives one byte a read.
 #[derive(Drop)]
@@ -29,55 +30,53 @@ fn failing(text: &str, others: u64) -> Failing<'_> {
     FailAt::new(Meter::new(OneByte { rest }), others, ErrorKind::Interrupted)
 }
 
-#[test]
-fn each_read_of_records_fails(rt: HostRuntime) -> Result<(), Fail> {
-    let text = records_of(rt.alloc(), &[SQUARE, DEAD_END], &[POINT])?;
-    // the last read finds the end
-    for others in 0..=text.len() as u64 {
-        let (mut first, mut second) = (failing(&text, others), failing(&text, others));
-        let audited = audit(rt.alloc(), &mut first);
-        assert!(rt;
-            audited == Err(AuditStop::Device) && first.failures() == 1,
-            "{others}"
-        );
-        let mut cert = failing(DEAD_END_CERT, u64::MAX);
-        let checked = check(rt.alloc(), &mut second, &mut cert, u64::MAX);
-        assert!(rt;
-            checked == Err(Stop::Device) && second.failures() == 1,
-            "{others}"
-        );
-    }
-    Ok(())
+/// Whether the dead end is told to be sound where none of so many reads of each text fails.
+fn is_sound(alloc: Global, of_records: u64, of_cert: u64) -> Result<bool, Stop> {
+    let mut records = failing(DEAD_END, of_records);
+    let mut cert = failing(DEAD_END_CERT, of_cert);
+    let verdict = check(alloc, &mut records, &mut cert, u64::MAX)?;
+    Ok(matches!(verdict, Verdict::Sound(_)))
+}
+
+/// Whether an audit says so.
+fn is_audited(alloc: Global, others: u64) -> Result<bool, AuditStop> {
+    let audited = audit(alloc, &mut failing(DEAD_END, others))?;
+    Ok(matches!(audited, Audit::Sound(_)))
 }
 
 #[test]
-fn each_read_of_a_certificate_fails(rt: HostRuntime) -> Result<(), Fail> {
-    let text = records_of(rt.alloc(), &[SQUARE, DEAD_END], &[POINT])?;
-    let map = map_of(rt.alloc(), &[SQUARE, DEAD_END], &[POINT])?;
-    for others in 0..=DEAD_END_CERT.len() as u64 {
-        let (mut first, mut second) = (
-            failing(DEAD_END_CERT, others),
-            failing(DEAD_END_CERT, others),
-        );
-        let of_map = check_cert(rt.alloc(), &map, &mut first, u64::MAX);
+fn one_byte_a_read(rt: HostRuntime) {
+    assert!(rt; is_sound(rt.alloc(), u64::MAX, u64::MAX) == Ok(true));
+    assert!(rt; is_audited(rt.alloc(), u64::MAX) == Ok(true));
+}
+
+#[test]
+fn each_read_of_records_fails(rt: HostRuntime) {
+    // the last read finds the end
+    for others in 0..=DEAD_END.len() as u64 {
+        let checked = is_sound(rt.alloc(), others, u64::MAX);
+        let audited = is_audited(rt.alloc(), others);
         assert!(rt;
-            of_map == Err(Stop::Device) && first.failures() == 1,
-            "{others}"
-        );
-        let mut records = failing(&text, u64::MAX);
-        let of_records = check(rt.alloc(), &mut records, &mut second, u64::MAX);
-        assert!(rt;
-            of_records == Err(Stop::Device) && second.failures() == 1,
+            checked == Err(Stop::Device) && audited == Err(AuditStop::Device),
             "{others}"
         );
     }
-    let mut cert = failing(DEAD_END_CERT, u64::MAX);
-    let checked = check(
-        rt.alloc(),
-        &mut failing(&text, u64::MAX),
-        &mut cert,
-        u64::MAX,
-    )?;
-    assert!(rt; matches!(checked, Verdict::Sound(_)), "{checked:?}");
-    Ok(())
+}
+
+/// Whether each read of the certificate is told to fail.
+fn does_each_fail(alloc: Global, map: &Map) -> bool {
+    for others in 0..=DEAD_END_CERT.len() as u64 {
+        let mut cert = failing(DEAD_END_CERT, others);
+        let of_map = check_cert(alloc, map, &mut cert, u64::MAX);
+        if of_map != Err(Stop::Device) || is_sound(alloc, u64::MAX, others) != Err(Stop::Device) {
+            return false;
+        }
+    }
+    true
+}
+
+#[test]
+fn each_read_of_a_certificate_fails(rt: HostRuntime) {
+    let alloc = rt.alloc();
+    assert!(rt; map_of(alloc, DEAD_END).is_some_and(|map| does_each_fail(alloc, &map)));
 }

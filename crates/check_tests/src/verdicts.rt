@@ -1,164 +1,139 @@
 //! What is decided of small maps by their certificates and with none, and what is built of them.
 
 use crate::maps::{
-    DEAD_END, DEAD_END_CERT, Drawn, INNER, INNER_POINT, ISLAND_CERT, POINT, SQUARE, SQUARE_CERT,
-    map_of, records_of,
+    DEAD_END, DEAD_END_CERT, EMPTY_CERT, HALF, ISLAND, ISLAND_CERT, ODDS, SQUARE, SQUARE_CERT,
+    TURNED_CERT, WITH_CELLS, map_of,
 };
 use std::alloc::Global;
-use std::test::Fail;
 use tl_build::{Audit, Built, audit, audit_with, build};
 use tl_cert::read_cert;
 use tl_check::{CertFault, MapFault, Report, Verdict, check, check_cert, check_map, check_with};
 use tl_geom::Point;
 use tl_map::Map;
-use tl_record::{Meter, Options};
+use tl_record::Meter;
 use tl_sides::RoundFault;
 
-/// What is decided of a map by a certificate, where it is one in memory and by its text.
-fn decided(alloc: Global, map: &Map, cert: &str) -> Result<Verdict, Fail> {
-    let by_text = check_cert(alloc, map, &mut Meter::new(cert.as_bytes()), u64::MAX)?;
-    let read = read_cert(alloc, &mut Meter::new(cert.as_bytes()))?;
-    let in_memory = check_map(alloc, map, &read, u64::MAX)?;
-    if by_text == in_memory {
-        Ok(by_text)
-    } else {
-        Err("two answers".into())
+/// What is decided of a map by the text of a certificate, where the certificate in memory says the same.
+fn decided(alloc: Global, map: &Map, cert: &str) -> Option<Verdict> {
+    let Ok(by_text) = check_cert(alloc, map, &mut Meter::new(cert.as_bytes()), u64::MAX) else {
+        return None;
+    };
+    let Ok(read) = read_cert(alloc, &mut Meter::new(cert.as_bytes())) else {
+        return None;
+    };
+    match check_map(alloc, map, &read, u64::MAX) {
+        Ok(verdict) if verdict == by_text => Some(verdict),
+        _ => None,
     }
 }
 
-/// Whether a map is sound with this report: by this certificate, by the one that is built of it, and by its records.
-fn is_sound(
-    alloc: Global,
-    chains: &[Drawn<'_>],
-    behind: &[&str],
-    cert: &str,
-    report: Report,
-) -> Result<bool, Fail> {
-    let records = records_of(alloc, chains, behind)?;
-    let map = map_of(alloc, chains, behind)?;
-    let sound = Verdict::Sound(report);
-    let built = match build(alloc, &map)? {
-        Built::Cert(built) => check_map(alloc, &map, &built, u64::MAX)?,
-        Built::Fault(_) => return Ok(false),
-    };
+/// What is decided of a map by the certificate that is built of it, or the fault that it has.
+fn built(alloc: Global, map: &Map) -> Option<Verdict> {
+    match build(alloc, map) {
+        Ok(Built::Cert(cert)) => check_map(alloc, map, &cert, u64::MAX).ok(),
+        Ok(Built::Fault(fault)) => Some(Verdict::MapFault(fault)),
+        Err(_) => None,
+    }
+}
+
+/// What is decided of records by a certificate, where an audit agrees.
+fn of_records(alloc: Global, records: &str, cert: &str) -> Option<Verdict> {
     let mut source = Meter::new(records.as_bytes());
     let checked = check(
         alloc,
         &mut source,
         &mut Meter::new(cert.as_bytes()),
         u64::MAX,
-    )?;
-    let audited = audit(alloc, &mut Meter::new(records.as_bytes()))?;
-    Ok(
-        decided(alloc, &map, cert)? == sound
-            && built == sound
-            && checked == sound
-            && audited == Audit::Sound(report),
-    )
-}
-
-fn report(numbers: (u32, u32, u32), polygons: u32, landmarks: u32, rings: u32) -> Report {
-    let (chains, segments, nodes) = numbers;
-    Report {
-        chains,
-        segments,
-        nodes,
-        polygons,
-        landmarks,
-        rings,
-    }
-}
-
-#[test]
-fn sound_maps(rt: HostRuntime) -> Result<(), Fail> {
-    let empty = "TIGERCERT 1\nC 0 0 0 0\nT 0\nN 0\nW 0\nEND\n";
-    for (chains, behind, cert, report) in [
-        (
-            [].as_slice(),
-            [].as_slice(),
-            empty,
-            report((0, 0, 0), 0, 0, 0),
-        ),
-        (&[SQUARE], &[POINT], SQUARE_CERT, report((1, 4, 1), 1, 0, 2)),
-        (
-            &[SQUARE, DEAD_END],
-            &[POINT],
-            DEAD_END_CERT,
-            report((2, 5, 2), 1, 0, 2),
-        ),
-        (
-            &[SQUARE, INNER],
-            &[POINT, INNER_POINT],
-            ISLAND_CERT,
-            report((2, 8, 2), 2, 1, 4),
-        ),
-    ] {
-        assert!(rt;
-            is_sound(rt.alloc(), chains, behind, cert, report)?,
-            "{report:?}"
-        );
-    }
-    Ok(())
-}
-
-#[test]
-fn a_map_with_a_fault(rt: HostRuntime) -> Result<(), Fail> {
-    // the chain to a dead end has nothing on its right
-    let half = (
-        2,
-        DEAD_END.1,
-        DEAD_END.2,
-        "                    A0001         1",
     );
-    let map = map_of(rt.alloc(), &[SQUARE, half], &[POINT])?;
-    let told = |fault: MapFault| {
-        let at = |x: i32, y: i32, first: u32, next: u32| MapFault::Side {
-            node: Point { x, y },
-            first,
-            next,
-        };
-        fault == at(15, 15, 3, 3) || fault == at(10, 10, 0, 2)
+    let audited = audit(alloc, &mut Meter::new(records.as_bytes()));
+    match (checked, audited) {
+        (Ok(Verdict::Sound(found)), Ok(Audit::Sound(report))) if found == report => {
+            Some(Verdict::Sound(found))
+        }
+        (Ok(Verdict::MapFault(found)), Ok(Audit::Fault(_))) => Some(Verdict::MapFault(found)),
+        _ => None,
+    }
+}
+
+/// Whether all say of records that they are sound, with this report.
+fn are_sound(alloc: Global, records: &str, cert: &str, report: Report) -> bool {
+    let Some(map) = map_of(alloc, records) else {
+        return false;
     };
-    match (
-        decided(rt.alloc(), &map, DEAD_END_CERT)?,
-        build(rt.alloc(), &map)?,
-    ) {
-        (Verdict::MapFault(found), Built::Fault(fault)) => assert!(rt; told(found) && told(fault)),
-        _ => assert!(rt; false),
-    }
-    Ok(())
+    let sound = Some(Verdict::Sound(report));
+    decided(alloc, &map, cert) == sound
+        && built(alloc, &map) == sound
+        && of_records(alloc, records, cert) == sound
 }
 
 #[test]
-fn a_certificate_with_a_fault(rt: HostRuntime) -> Result<(), Fail> {
-    let map = map_of(rt.alloc(), &[SQUARE], &[POINT])?;
-    let twisted =
-        "TIGERCERT 1\nC 1 4 1 1\nT 1\nL 10 10 30 30 4\nS 0\nS 1\nS 2\nS 3\nN 1\nR 2\nD 1\nD 0\nW 0\nEND\n";
-    let fault = CertFault::Round(RoundFault::OrderNotRising(0));
-    assert!(rt; decided(rt.alloc(), &map, twisted)? == Verdict::CertFault(fault));
-    let counts = Verdict::CertFault(CertFault::Counts);
-    assert!(rt; decided(rt.alloc(), &map, DEAD_END_CERT)? == counts);
-    Ok(())
-}
-
-#[test]
-fn zero_cell_ids_that_are_at_odds(rt: HostRuntime) -> Result<(), Fail> {
-    let sides = "         5         7A0001         1";
-    let records = records_of(rt.alloc(), &[(1, SQUARE.1, SQUARE.2, sides)], &[POINT])?;
-    for (zero_cells, sound) in [(false, true), (true, false)] {
-        let options = Options {
-            zero_cells,
-            released: false,
+fn sound_maps(rt: HostRuntime) {
+    // chains, segments, nodes, polygons, landmarks and rings
+    for (records, cert, [chains, segments, nodes, polygons, landmarks, rings]) in [
+        ("", EMPTY_CERT, [0, 0, 0, 0, 0, 0]),
+        (SQUARE, SQUARE_CERT, [1, 4, 1, 1, 0, 2]),
+        (DEAD_END, DEAD_END_CERT, [2, 5, 2, 1, 0, 2]),
+        (ISLAND, ISLAND_CERT, [2, 8, 2, 2, 1, 4]),
+    ] {
+        let report = Report {
+            chains,
+            segments,
+            nodes,
+            polygons,
+            landmarks,
+            rings,
         };
-        let mut source = Meter::new(records.as_bytes());
-        let mut cert = Meter::new(SQUARE_CERT.as_bytes());
-        let checked = check_with(rt.alloc(), &mut source, &mut cert, 4, options)?;
-        assert!(rt;
-            matches!(checked, Verdict::Sound(_)) == sound,
-            "{checked:?}"
-        );
-        let audited = audit_with(rt.alloc(), &mut Meter::new(records.as_bytes()), options)?;
-        assert!(rt; matches!(audited, Audit::Sound(_)) == sound, "{audited:?}");
+        assert!(rt; are_sound(rt.alloc(), records, cert, report), "{chains}");
     }
-    Ok(())
+}
+
+/// Whether the sides about one of the two nodes of the dead end are told to disagree.
+fn is_side(verdict: Option<Verdict>) -> bool {
+    match verdict {
+        Some(Verdict::MapFault(MapFault::Side { node, first, next })) => {
+            (node, first, next) == (Point { x: 15, y: 15 }, 3, 3)
+                || (node, first, next) == (Point { x: 10, y: 10 }, 0, 2)
+        }
+        _ => false,
+    }
+}
+
+/// Whether all say so of a map.
+fn do_sides_disagree(alloc: Global, map: &Map) -> bool {
+    is_side(decided(alloc, map, DEAD_END_CERT)) && is_side(built(alloc, map))
+}
+
+#[test]
+fn sides_that_disagree(rt: HostRuntime) {
+    let alloc = rt.alloc();
+    assert!(rt; map_of(alloc, HALF).is_some_and(|map| do_sides_disagree(alloc, &map)));
+    assert!(rt; is_side(of_records(alloc, HALF, DEAD_END_CERT)));
+}
+
+/// Whether these faults of certificates are told of the square.
+fn are_told(alloc: Global, map: &Map) -> bool {
+    let turned = CertFault::Round(RoundFault::OrderNotRising(0));
+    decided(alloc, map, TURNED_CERT) == Some(Verdict::CertFault(turned))
+        && decided(alloc, map, DEAD_END_CERT) == Some(Verdict::CertFault(CertFault::Counts))
+}
+
+#[test]
+fn certificates_with_a_fault(rt: HostRuntime) {
+    let alloc = rt.alloc();
+    assert!(rt; map_of(alloc, SQUARE).is_some_and(|map| are_told(alloc, &map)));
+}
+
+/// Whether ids are told to be at odds, by a check and by an audit, where they are read.
+fn are_at_odds(alloc: Global) -> bool {
+    let mut source = Meter::new(ODDS.as_bytes());
+    let mut cert = Meter::new(SQUARE_CERT.as_bytes());
+    let checked = check_with(alloc, &mut source, &mut cert, 4, WITH_CELLS);
+    let audited = audit_with(alloc, &mut Meter::new(ODDS.as_bytes()), WITH_CELLS);
+    matches!(checked, Ok(Verdict::MapFault(MapFault::Cell(_))))
+        && matches!(audited, Ok(Audit::Fault(MapFault::Cell(_))))
+}
+
+#[test]
+fn zero_cell_ids_that_are_at_odds(rt: HostRuntime) {
+    assert!(rt; are_at_odds(rt.alloc()));
 }
