@@ -1,12 +1,11 @@
 //! What is written of certificates.
 
-use crate::examples::{SQUARE, THREE_CHILDREN, square, three_children};
+use crate::examples::{SQUARE, SQUARE_2, THREE_CHILDREN, square, three_children};
 use std::alloc::Global;
 use std::io;
 use std::io::{ErrorKind, Write};
-use std::test::Fail;
 use tl_cert::{Certificate, WriteStop, write_cert};
-use tl_record::{FailAtOut, MeterOut, Sink};
+use tl_record::{FailAtOut, MeterOut};
 
 /// A writer that takes at most so many bytes a write.
 #[derive(Drop)]
@@ -29,55 +28,70 @@ impl Write for Few {
     }
 }
 
-/// What a writer took, where the write behind so many others fails, and whether all was written.
+/// How many bytes of this text a writer that takes so many a write took, where the write behind so many others fails, and what
+/// is answered.
 fn written(
     alloc: Global,
     certificate: &Certificate,
+    text: &[u8],
     most: usize,
     others: u64,
-) -> (Vec<u8>, Result<(), WriteStop>) {
+) -> Option<(usize, Result<(), WriteStop>)> {
     let mut few = Few {
         bytes: Vec::new(alloc),
         most,
     };
     let mut out = FailAtOut::new(MeterOut::new(&mut few), others, ErrorKind::Interrupted);
     let answer = write_cert(certificate, &mut out);
-    (few.bytes, answer)
+    if text.starts_with(&few.bytes) {
+        Some((few.bytes.len(), answer))
+    } else {
+        None
+    }
+}
+
+/// Whether a certificate has this text.
+fn has_text(alloc: Global, certificate: &Certificate, text: &str) -> bool {
+    let whole = Some((text.len(), Ok(())));
+    written(alloc, certificate, text.as_bytes(), 1, u64::MAX) == whole
+        && written(alloc, certificate, text.as_bytes(), 999, u64::MAX) == whole
 }
 
 #[test]
-fn certificates_are_written_byte_for_byte(rt: HostRuntime) -> Result<(), Fail> {
-    let first = square(rt.alloc())?.ok_or("square")?;
-    let second = three_children(rt.alloc())?.ok_or("three children")?;
-    for (certificate, text) in [(&first, SQUARE), (&second, THREE_CHILDREN)] {
-        for most in [1, 999] {
-            let (taken, answer) = written(rt.alloc(), certificate, most, u64::MAX);
-            assert!(rt;
-                answer.is_ok() && taken.as_slice() == text.as_bytes(),
-                "{most}"
-            );
+fn certificates_are_written_byte_for_byte(rt: HostRuntime) {
+    let alloc = rt.alloc();
+    assert!(rt; matches!(square(alloc), Ok(Some(it)) if has_text(alloc, &it, SQUARE)));
+    assert!(rt;
+        matches!(three_children(alloc), Ok(Some(it)) if has_text(alloc, &it, THREE_CHILDREN))
+    );
+}
+
+/// Whether the square's certificate has this text in version 2.
+fn has_text_in_version_2(alloc: Global) -> bool {
+    match square(alloc) {
+        Ok(Some(certificate)) => has_text(alloc, &certificate.to_v2(), SQUARE_2),
+        _ => false,
+    }
+}
+
+#[test]
+fn version_2_is_another_head(rt: HostRuntime) {
+    assert!(rt; has_text_in_version_2(rt.alloc()));
+}
+
+/// Whether what is written before each failure is as much of the text as the writes took.
+fn does_each_write_fail(alloc: Global, certificate: &Certificate) -> bool {
+    for others in 0..SQUARE.len() {
+        let told = written(alloc, certificate, SQUARE.as_bytes(), 1, others as u64);
+        if told != Some((others, Err(WriteStop::Device))) {
+            return false;
         }
     }
-    Ok(())
+    true
 }
 
 #[test]
-fn what_is_written_before_a_failure_begins_the_text(rt: HostRuntime) -> Result<(), Fail> {
-    let certificate = square(rt.alloc())?.ok_or("square")?;
-    for others in 0..SQUARE.len() {
-        let (taken, answer) = written(rt.alloc(), &certificate, 1, others as u64);
-        assert!(rt; answer == Err(WriteStop::Device) && taken.len() == others);
-        assert!(rt; SQUARE.as_bytes().starts_with(&taken));
-    }
-    Ok(())
-}
-
-#[test]
-fn version_2_is_another_head(rt: HostRuntime) -> Result<(), Fail> {
-    let certificate = square(rt.alloc())?.ok_or("square")?.to_v2();
-    let (taken, answer) = written(rt.alloc(), &certificate, 999, u64::MAX);
-    let (head, rest) = SQUARE.as_bytes().split_at(12);
-    assert!(rt; head == b"TIGERCERT 1\n".as_slice() && taken.ends_with(rest));
-    assert!(rt; answer.is_ok() && taken.starts_with(b"TIGERCERT 2\n") && taken.len() == 98);
-    Ok(())
+fn each_write_fails(rt: HostRuntime) {
+    let alloc = rt.alloc();
+    assert!(rt; matches!(square(alloc), Ok(Some(it)) if does_each_write_fail(alloc, &it)));
 }

@@ -3,11 +3,12 @@
 use crate::pieces::Few;
 use std::alloc::Global;
 use std::io::ErrorKind;
-use std::test::Fail;
 use tl_output::{LineStop, OutputBuffer, print_line, write_all};
 use tl_record::{FailAtOut, MeterOut, Sink};
 
 const LINE: &str = "a line of several writes";
+
+const TEXT: &str = "a line of several writes\na line of several writes\n";
 
 /// Writes a line, and then the same text by a buffer that holds it back. Is all written?
 fn write<S: Sink>(out: &mut S) -> bool {
@@ -18,35 +19,41 @@ fn write<S: Sink>(out: &mut S) -> bool {
         && write_all(b"\n", out).is_ok()
 }
 
-/// What a writer that takes seven bytes a write took, where the write behind so many others fails, and whether all was
-/// written.
-fn written(alloc: Global, others: u64, kind: ErrorKind) -> (Few, bool) {
+/// How many bytes of the text a writer that takes seven bytes a write took, where the write behind so many others fails.
+/// Is all written?
+fn written(alloc: Global, others: u64, kind: ErrorKind) -> Option<(usize, bool)> {
     let mut few = Few::new(alloc, 7);
     let mut sink = FailAtOut::new(MeterOut::new(&mut few), others, kind);
-    let is_whole = write(&mut sink) && sink.failures() == 0 && sink.writes_before().is_some();
-    (few, is_whole)
+    let is_whole = write(&mut sink);
+    let is_told = is_whole == sink.writes_before().is_some() && is_whole == (sink.failures() == 0);
+    if is_told && TEXT.as_bytes().starts_with(&few.bytes) {
+        Some((few.bytes.len(), is_whole))
+    } else {
+        None
+    }
 }
 
 #[test]
-fn each_write_fails(rt: HostRuntime) -> Result<(), Fail> {
-    let text = format!(in rt.alloc(); "{LINE}\n{LINE}\n")?;
+fn each_write_fails(rt: HostRuntime) {
     // 25 bytes take four writes, and 24 and one take five
-    for others in 0..9 {
+    for (others, taken) in [(0, 0), (1, 7), (3, 21), (4, 25), (5, 32), (7, 46), (8, 49)] {
         for kind in [ErrorKind::Other, ErrorKind::Interrupted] {
-            let (few, is_whole) = written(rt.alloc(), others, kind);
             assert!(rt;
-                !is_whole && text.as_bytes().starts_with(&few.bytes),
+                written(rt.alloc(), others, kind) == Some((taken, false)),
                 "{others}"
             );
         }
     }
-    let (few, is_whole) = written(rt.alloc(), 9, ErrorKind::Other);
-    assert!(rt; is_whole && few.bytes.as_slice() == text.as_bytes());
-    Ok(())
+    assert!(rt; written(rt.alloc(), 9, ErrorKind::Other) == Some((50, true)));
+}
+
+/// Whether a writer that takes nothing is told to fail.
+fn fails_without_room(alloc: Global) -> bool {
+    let mut few = Few::new(alloc, 0);
+    print_line(&LINE, &mut MeterOut::new(&mut few)) == Err(LineStop::Failed)
 }
 
 #[test]
 fn a_writer_that_takes_nothing_fails(rt: HostRuntime) {
-    let mut few = Few::new(rt.alloc(), 0);
-    assert!(rt; print_line(&LINE, &mut MeterOut::new(&mut few)) == Err(LineStop::Failed));
+    assert!(rt; fails_without_room(rt.alloc()));
 }

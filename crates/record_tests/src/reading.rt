@@ -3,8 +3,6 @@
 use crate::pieces::Pieces;
 use std::alloc::{AllocError, Global};
 use std::io::ErrorKind;
-use std::process::Abort;
-use std::test::Fail;
 use tl_record::{Cause, FailAt, Field, Meter, Options, ReadStop, Record, RecordReader, Source};
 
 /// The records of a square by the columns of the released files: a chain, its shape, its sides with the zero-cell id 5 at
@@ -26,12 +24,13 @@ Ok(None)
 ";
 
 /// What a reader answers at five calls, a line each, and how many lines it passed over.
-fn answers_of<S: Source + Drop>(alloc: Global, source: S) -> Result<String, AllocError> {
+fn answers_of(alloc: Global, most: usize) -> Result<String, AllocError> {
     let options = Options {
         zero_cells: true,
         released: true,
     };
-    let mut reader = RecordReader::with(source, options);
+    let rest = SQUARE.as_bytes();
+    let mut reader = RecordReader::with(Meter::new(Pieces { rest, most }), options);
     let mut given = String::new(alloc);
     for _ in 0..5 {
         writeln!(given, "{:?}", reader.next_record())?;
@@ -40,19 +39,26 @@ fn answers_of<S: Source + Drop>(alloc: Global, source: S) -> Result<String, Allo
     Ok(given)
 }
 
-#[test]
-fn a_square_is_read_however_the_bytes_come(rt: HostRuntime) -> Result<(), Fail> {
-    let rest = SQUARE.as_bytes();
-    for most in [1, 7, 1_024, 9_999] {
-        let given = answers_of(rt.alloc(), Meter::new(Pieces { rest, most }))?;
-        assert!(rt; given.as_str() == READ, "{most} bytes a read: {given}");
+/// Whether all is read where so many bytes come in a read.
+fn is_read(alloc: Global, most: usize) -> bool {
+    match answers_of(alloc, most) {
+        Ok(given) => given.as_str() == READ,
+        Err(_) => false,
     }
-    Ok(())
 }
 
-/// How many records come before a reader stops, if it stops for want of a read.
-fn records_before_a_failure<S: Source + Drop>(source: S) -> Option<u64> {
-    let mut reader = RecordReader::new(source);
+#[test]
+fn a_square_is_read_however_the_bytes_come(rt: HostRuntime) {
+    for most in [1, 7, 1_024, 9_999] {
+        assert!(rt; is_read(rt.alloc(), most), "{most} bytes a read");
+    }
+}
+
+/// How many records come before a reader stops where the read behind so many others fails, if it stops for want of it.
+fn records_before(others: u64, kind: ErrorKind) -> Option<u64> {
+    let rest = SQUARE.as_bytes();
+    let mut source = FailAt::new(Meter::new(Pieces { rest, most: 103 }), others, kind);
+    let mut reader = RecordReader::new(&mut source);
     for before in 0..9 {
         match reader.next_record() {
             Ok(Some(_)) => {}
@@ -64,8 +70,7 @@ fn records_before_a_failure<S: Source + Drop>(source: S) -> Option<u64> {
 }
 
 #[test]
-fn a_failed_read_is_no_end(rt: HostRuntime) -> Result<(), Fail> {
-    let rest = SQUARE.as_bytes();
+fn a_failed_read_is_no_end(rt: HostRuntime) {
     // the lines end behind 229, 306, 362, 363 and 407 bytes, the last one without a line feed
     for (others, kind, records) in [
         (0, ErrorKind::Other, 0),
@@ -74,28 +79,37 @@ fn a_failed_read_is_no_end(rt: HostRuntime) -> Result<(), Fail> {
         (3, ErrorKind::Other, 2),
         (4, ErrorKind::Interrupted, 3),
     ] {
-        let mut source = FailAt::new(Meter::new(Pieces { rest, most: 103 }), others, kind);
-        let given = records_before_a_failure(&mut source);
-        assert!(rt;
-            given == Some(records) && source.reads_before().is_none(),
-            "{others}: {given:?}"
-        );
+        assert!(rt; records_before(others, kind) == Some(records), "{others}");
     }
-    Ok(())
 }
 
-/// A reader of these bytes, of which the read behind so many others of four bytes fails, gives this answer twice.
+/// Whether a read that fails is counted, and the others go through.
+fn is_counted() -> bool {
+    let rest = SQUARE.as_bytes();
+    let mut source = FailAt::new(Meter::new(Pieces { rest, most: 1 }), 1, ErrorKind::Other);
+    let mut buf = [0; 9];
+    source.fetch(&mut buf).ok() == Some(1)
+        && source.reads_before() == Some(0)
+        && source.fetch(&mut buf).is_err()
+        && source.reads_before().is_none()
+        && source.failures() == 1
+        && source.fetch(&mut buf).ok() == Some(1)
+}
+
+#[test]
+fn a_failed_read_is_counted(rt: HostRuntime) {
+    assert!(rt; is_counted());
+}
+
+/// Whether a reader of these bytes, of which the read behind so many others of four bytes fails, gives this answer twice.
 fn answers_twice(
-    rt: &impl Abort,
     rest: &[u8],
     others: u64,
     answer: Result<Option<(u64, Record)>, ReadStop>,
-) {
+) -> bool {
     let source = Meter::new(Pieces { rest, most: 4 });
     let mut reader = RecordReader::new(FailAt::new(source, others, ErrorKind::Other));
-    for _ in 0..2 {
-        assert!(rt; reader.next_record() == answer);
-    }
+    reader.next_record() == answer && reader.next_record() == answer
 }
 
 #[test]
@@ -104,7 +118,7 @@ fn a_stop_is_answered_again(rt: HostRuntime) {
         line: 1,
         cause: Cause::Missing(Field::Tlid),
     };
-    answers_twice(&rt, b"1\n10000         1\n", 2, Err(stop));
-    answers_twice(&rt, b"10000         1\n", 1, Err(ReadStop::Device));
-    answers_twice(&rt, b"4", 2, Ok(None));
+    assert!(rt; answers_twice(b"1\n10000         1\n", 2, Err(stop)));
+    assert!(rt; answers_twice(b"10000         1\n", 1, Err(ReadStop::Device)));
+    assert!(rt; answers_twice(b"4", 2, Ok(None)));
 }
