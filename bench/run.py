@@ -177,19 +177,18 @@ def searched(segments):
     done = subprocess.run([TREE, str(segments)], capture_output=True, text=True, check=True)
     taken = [(line.split(": ")[0], int(line.split()[-2])) for line in done.stderr.splitlines()]
     tests = [int(line.split("=")[-1]) for line in done.stdout.splitlines() if line.startswith("clear=true")]
-    if len(tests) != 4 or len(taken) != 9:
+    if len(tests) != 2 or len(taken) != 6:
         sys.exit(f"{TREE} found a conflict")
     return taken, tests[0]
 
 
 def tree_rows(segments, runs):
     found = [searched(segments) for _ in range(runs)]
-    steps = [statistics.median(taken[k][1] for taken, _ in found) for k in range(9)]
-    made, tests = steps[0], found[0][1]
-    for children, (_, check, flat, boxes) in ((2, steps[1:5]), (8, steps[5:9])):
-        for name, search, checked in (("flat", flat, f"{check * 1e3 / segments:.1f}"), ("boxes", boxes, "-")):
-            yield (f"{segments:,}", f"{children}", name, f"{made / 1e3:.1f}", f"{search / 1e3:.1f}", f"{search / made:.1f}",
-                   f"{tests / segments:.2f}", checked)
+    steps = [statistics.median(taken[k][1] for taken, _ in found) for k in range(6)]
+    made, packed, _, check, flat, boxes = steps
+    for name, search, checked in (("flat", flat, f"{check * 1e3 / segments:.1f}"), ("boxes", boxes, "-")):
+        yield (f"{segments:,}", name, f"{made / 1e3:.1f}", f"{packed / 1e3:.1f}", f"{search / 1e3:.1f}", f"{search / made:.1f}",
+               f"{found[0][1] / segments:.2f}", checked)
 
 
 def told(words):
@@ -265,7 +264,7 @@ def main():
          "search, times `show`", "rounds and walks, times `show`", "points, times `show`"),
         (row for chains, kind in decided for row in part_rows(chains, kind, words.runs)))
     print_table(
-        ("Segments", "Children", "Tree", "rectangles made and sorted, ms", "search, ms", "times", "tests a segment",
+        ("Segments", "Tree", "rectangles made and sorted, ms", "tree packed, ms", "search, ms", "times", "tests a segment",
          "check, ns an item"),
         (row for segments in numbers(words.segments) for row in tree_rows(segments, words.runs)))
     print_table(

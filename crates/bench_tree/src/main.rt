@@ -1,23 +1,21 @@
-//! How fast trees are: makes the streets of a county, as many segments as the first argument says, 2.75 to a chain, and
-//! trees over them by halving along the longer side, with leaves of eight and two or eight children a node, flat and
-//! in boxes. It prints how many pairs of a search were tested and, on the error output, the microseconds that each step
-//! takes.
+//! How fast trees are: makes the streets of a county, as many segments as the first argument says, 2.75 to a chain, packs
+//! them into a tree, and searches with it flat and in boxes. It prints how many pairs of a search were tested and, on the
+//! error output, the microseconds that each step takes.
 #![tactic(auto)]
 
 ghost use Rattle.std.specs.Prelude.{◌<◌, ◌^◌, length};
 ghost use Rattle.tl_tree.specs.Preorder.{IsPreorder};
 
 mod county;
-mod halving;
 mod streets;
 
 use crate::county::county;
-use crate::halving::tree_of;
 use crate::streets::Streets;
 use std::error::Error;
 use std::time::{Duration, Instant};
 use std::{env, fmt};
-use tl_tree::{BoxIndex, BoxTree, FlatTree, Items, Search, TreeNode, is_preorder};
+use tl_pack::pack;
+use tl_tree::{BoxIndex, BoxTree, FlatTree, Items, Search, TreeNode};
 
 /// What ends the program early.
 #[derive(Debug, Drop)]
@@ -98,14 +96,11 @@ fn search_boxes(rt: &HostRuntime, streets: &Streets, nodes: &[TreeNode]) -> anyh
     search(rt, &tree, streets)
 }
 
-/// Makes a tree with two children a node, or up to eight, and searches with it.
-fn measure(rt: &HostRuntime, streets: &Streets, eight: bool) -> anyhow::Result<()> {
-    let nodes = tree_of(rt.alloc(), streets, eight)?;
-    if nodes.len() > 1 << 31 || !is_preorder(&nodes) {
-        return Err(Stop::Tree.into());
-    }
-    let children = if eight { 8 } else { 2 };
-    println!(rt; "children={children} nodes={}", nodes.len())?;
+/// Packs the streets into a tree, and searches with it.
+fn measure(rt: &HostRuntime, streets: &Streets) -> anyhow::Result<()> {
+    let begun = Instant::now(rt)?;
+    let nodes = pack(rt.alloc(), streets)?;
+    tell(rt, "tree packed", begun.elapsed(rt)?)?;
     search_flat(rt, streets, &nodes)?;
     search_boxes(rt, streets, &nodes)
 }
@@ -118,7 +113,5 @@ fn main(rt: HostRuntime) -> anyhow::Result<()> {
     let streets = county(rt.alloc(), segments)?;
     println!(rt; "segments={}", streets.count())?;
     sort_rectangles(&rt, &streets)?;
-    measure(&rt, &streets, false)?;
-    measure(&rt, &streets, true)?;
-    Ok(())
+    measure(&rt, &streets)
 }

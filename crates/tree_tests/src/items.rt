@@ -11,7 +11,7 @@ use tl_tree::{Items, Probe};
 #[derive(Drop)]
 pub struct Counting {
     rects: Vec<Rect>,
-    pub clash: u32,
+    clash: u32,
     asked: Cell<u64>,
     pairs: Cell<u32>,
     wrong: Cell<bool>,
@@ -19,22 +19,18 @@ pub struct Counting {
 }
 
 impl Counting {
-    pub fn new(alloc: Global) -> Counting {
-        Counting {
-            rects: Vec::new(alloc),
-            clash: 99,
+    /// These rectangles, of which the pairs of the item `clash` and a later one conflict.
+    pub fn of(alloc: Global, rects: &[Rect], clash: u32) -> Result<Counting, AllocError>
+        requires { length rects.now < 2 ^ 32 }
+    {
+        let rects = Vec::from_slice(alloc, rects)?;
+        Ok(Counting {
+            rects,
+            clash,
             asked: Cell::new(0),
             pairs: Cell::new(0),
             wrong: Cell::new(false),
-        }
-    }
-
-    /// Adds a rectangle, of which there can be 65.
-    pub fn add(&mut self, bounds: Rect) -> Result<(), AllocError> {
-        if self.rects.len() < 65 {
-            self.rects.push(bounds)?;
-        }
-        Ok(())
+        })
     }
 
     /// How often they were asked since the last call, or nothing where they were asked wrongly.

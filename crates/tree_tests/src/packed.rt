@@ -1,13 +1,12 @@
 //! Packed trees: how many nodes they have, and how deep they are.
 
 use crate::items::{Counting, rect};
-use std::alloc::Global;
-use std::test::Fail;
+use std::alloc::{AllocError, Global};
 use tl_pack::pack;
 use tl_tree::{FlatTree, TreeNode};
 
 /// The nodes in preorder: of an inner node how many children it has, of a leaf how many items.
-fn shape(alloc: Global, nodes: &[TreeNode]) -> Result<String, Fail> {
+fn shape(alloc: Global, nodes: &[TreeNode]) -> Result<String, AllocError> {
     let mut shape = String::new(alloc);
     for node in nodes {
         match node {
@@ -18,26 +17,31 @@ fn shape(alloc: Global, nodes: &[TreeNode]) -> Result<String, Fail> {
     Ok(shape)
 }
 
-/// The shape of the tree of so many squares in a row, if the tree fits them.
-fn packed(alloc: Global, squares: u8) -> Result<String, Fail> {
-    let mut items = Counting::new(alloc);
-    for place in 0..squares {
-        let west = 4 * i32::from(place);
-        items.add(rect(west, 0, west + 3, 3))?;
-    }
-    let nodes = pack(alloc, &items)?;
-    let Ok(tree) = FlatTree::from_nodes(alloc, &nodes) else {
-        return Err("memory".into());
+/// Whether the tree of these items fits them and has this shape.
+fn has_shape(alloc: Global, items: &Counting, wanted: &str) -> bool {
+    let Ok(nodes) = pack(alloc, items) else {
+        return false;
     };
-    match tree.check(alloc, &items) {
-        Ok(None) => shape(alloc, &nodes),
-        _ => Err("the tree doesn't fit".into()),
+    let Ok(tree) = FlatTree::from_nodes(alloc, &nodes) else {
+        return false;
+    };
+    let fits = matches!(tree.check(alloc, items), Ok(None));
+    match shape(alloc, &nodes) {
+        Ok(found) => fits && found.as_str() == wanted,
+        Err(_) => false,
     }
 }
 
 #[test]
-fn trees_are_no_deeper_than_they_need_be(rt: HostRuntime) -> Result<(), Fail> {
-    for (squares, shape) in [
+fn trees_are_no_deeper_than_they_need_be(rt: HostRuntime) {
+    // squares in a row
+    let mut rects = [rect(0, 0, 0, 0); 65];
+    let mut west = 0i32;
+    for place in rects.iter_mut() {
+        *place = rect(west, 0, west.wrapping_add(3), 3);
+        west = west.wrapping_add(4);
+    }
+    for (squares, wanted) in [
         (0, ""),
         (1, " 1"),
         (8, " 8"),
@@ -45,8 +49,10 @@ fn trees_are_no_deeper_than_they_need_be(rt: HostRuntime) -> Result<(), Fail> {
         (64, " 8 of 8 8 8 8 8 8 8 8"),
         (65, " 8 of 8 8 8 8 8 8 8 2 of 4 5"),
     ] {
-        let found = packed(rt.alloc(), squares)?;
-        assert!(rt; found.as_str() == shape, "{squares} squares: {found}");
+        let well = match Counting::of(rt.alloc(), &rects[..squares], 99) {
+            Ok(items) => has_shape(rt.alloc(), &items, wanted),
+            Err(_) => false,
+        };
+        assert!(rt; well, "{squares} squares");
     }
-    Ok(())
 }
