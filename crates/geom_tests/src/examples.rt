@@ -1,7 +1,5 @@
 //! Worked examples with answers from outside.
 use std::cmp::Ordering;
-use std::process::Abort;
-use std::test::Fail;
 use tl_geom::{
     Contact, Direction, Point, Rational, Rect, Rect8, Segment, contact, crosses_ray, on, overlap,
     round_cmp, turn,
@@ -15,35 +13,22 @@ fn point(x: i32, y: i32) -> Point {
     Point { x, y }
 }
 
-fn segment(a: (i32, i32), b: (i32, i32)) -> Result<Segment, &'static str> {
-    Segment::new(point(a.0, a.1), point(b.0, b.1)).ok_or("the ends are one point")
+fn segment(a: (i32, i32), b: (i32, i32)) -> Option<Segment> {
+    Segment::new(point(a.0, a.1), point(b.0, b.1))
 }
 
-fn contact_of(
-    a: (i32, i32),
-    b: (i32, i32),
-    p: (i32, i32),
-    q: (i32, i32),
-) -> Result<Contact, &'static str> {
-    Ok(contact(segment(a, b)?, segment(p, q)?))
+fn contact_of(a: (i32, i32), b: (i32, i32), p: (i32, i32), q: (i32, i32)) -> Option<Contact> {
+    Some(contact(segment(a, b)?, segment(p, q)?))
 }
 
 #[test]
-fn segments_have_two_ends(rt: HostRuntime) -> Result<(), Fail> {
-    assert_eq!(rt; Segment::new(point(3, 4), point(3, 4)), None);
-    let s = segment((LEAST, 4), (MOST, 4))?;
-    assert_eq!(rt; s.a(), point(LEAST, 4));
-    assert_eq!(rt; s.b(), point(MOST, 4));
-    Ok(())
-}
-
-#[test]
-fn directions_go_from_point_to_point(rt: HostRuntime) -> Result<(), Fail> {
-    assert_eq!(rt; Direction::between(point(3, 4), point(3, 4)), None);
-    let u = Direction::between(point(MOST, LEAST), point(LEAST, MOST)).ok_or("one point")?;
-    assert_eq!(rt; u.x, -4294967295);
-    assert_eq!(rt; u.y, 4294967295);
-    Ok(())
+fn segments_and_directions_have_two_ends(rt: HostRuntime) {
+    let (low, high) = (point(LEAST, MOST), point(MOST, LEAST));
+    assert!(rt; Segment::new(low, low).is_none() && Direction::between(low, low).is_none());
+    let ends = Segment::new(low, high).map(|s| (s.a(), s.b()));
+    assert!(rt; ends == Some((low, high)));
+    let steps = Direction::between(high, low).map(|u| (u.x, u.y));
+    assert!(rt; steps == Some((-4_294_967_295, 4_294_967_295)));
 }
 
 #[test]
@@ -73,7 +58,7 @@ fn turns(rt: HostRuntime) {
 }
 
 #[test]
-fn points_on_segments(rt: HostRuntime) -> Result<(), Fail> {
+fn points_on_segments(rt: HostRuntime) {
     let (low, high) = ((LEAST, LEAST), (MOST, MOST));
     for (a, b, p, is_on) in [
         ((0, 0), (4, 2), (0, 0), true),
@@ -85,13 +70,13 @@ fn points_on_segments(rt: HostRuntime) -> Result<(), Fail> {
         (low, high, (17, 17), true),
         (low, high, (17, 18), false),
     ] {
-        assert!(rt; on(segment(a, b)?, point(p.0, p.1)) == is_on);
+        let found = segment(a, b).map(|s| on(s, point(p.0, p.1)));
+        assert!(rt; found == Some(is_on));
     }
-    Ok(())
 }
 
 #[test]
-fn contacts_that_are_no_crossing(rt: HostRuntime) -> Result<(), Fail> {
+fn contacts_that_are_no_crossing(rt: HostRuntime) {
     let at = |x, y| Contact::AtEnds(point(x, y));
     for (a, b, p, q, wanted) in [
         ((0, 0), (2, 2), (3, 3), (5, 5), Contact::Apart),
@@ -101,9 +86,8 @@ fn contacts_that_are_no_crossing(rt: HostRuntime) -> Result<(), Fail> {
         ((0, 0), (4, 0), (4, 0), (4, 7), at(4, 0)),
         ((LEAST, MOST), (0, 0), (0, 0), (MOST, LEAST), at(0, 0)),
     ] {
-        assert!(rt; contact_of(a, b, p, q)? == wanted);
+        assert!(rt; contact_of(a, b, p, q) == Some(wanted));
     }
-    Ok(())
 }
 
 /// The ends of an overlap, in either order.
@@ -119,7 +103,7 @@ fn has_ends(found: Option<Segment>, wanted: Option<((i32, i32), (i32, i32))>) ->
 }
 
 #[test]
-fn overlaps(rt: HostRuntime) -> Result<(), Fail> {
+fn overlaps(rt: HostRuntime) {
     for (a, b, p, q, wanted) in [
         ((0, 0), (4, 0), (1, 0), (9, 0), Some(((1, 0), (4, 0)))),
         ((0, 9), (0, 0), (0, 2), (0, 7), Some(((0, 2), (0, 7)))),
@@ -135,13 +119,16 @@ fn overlaps(rt: HostRuntime) -> Result<(), Fail> {
         ((0, 0), (4, 0), (0, 1), (4, 1), None),
         ((0, 0), (4, 0), (2, -1), (2, 5), None),
     ] {
-        assert!(rt; has_ends(overlap(segment(a, b)?, segment(p, q)?), wanted));
+        let found = match (segment(a, b), segment(p, q)) {
+            (Some(s), Some(t)) => has_ends(overlap(s, t), wanted),
+            _ => false,
+        };
+        assert!(rt; found);
     }
-    Ok(())
 }
 
 #[test]
-fn crossings(rt: HostRuntime) -> Result<(), Fail> {
+fn crossings(rt: HostRuntime) {
     let middle = Contact::Crossing(Rational {
         x: -18446744065119617025,
         y: -18446744065119617025,
@@ -211,47 +198,41 @@ fn crossings(rt: HostRuntime) -> Result<(), Fail> {
         ),
         (low, (LEAST, MOST), (MOST, LEAST), high, Contact::Apart),
     ] {
-        assert!(rt; contact_of(a, b, p, q)? == wanted);
+        assert!(rt; contact_of(a, b, p, q) == Some(wanted));
     }
-    Ok(())
 }
 
 /// Tools in floating point place the first on the wrong side, and tools that are handed decimal degrees miss the second.
 #[test]
-fn near_crossings(rt: HostRuntime) -> Result<(), Fail> {
+fn near_crossings(rt: HostRuntime) {
     let near = Contact::Crossing(Rational {
         x: 849327051787711420829,
         y: 2526790987106507540445,
         d: 1233205392343296,
     });
-    assert_eq!(rt;
-        contact_of(
-            (-151166796, -80923608),
-            (157002569, 87457533),
-            (688715, 2048962),
-            (-995096, 5130655)
-        )?,
-        near
+    let found = contact_of(
+        (-151166796, -80923608),
+        (157002569, 87457533),
+        (688715, 2048962),
+        (-995096, 5130655),
     );
+    assert!(rt; found == Some(near));
     let oblique = Contact::Crossing(Rational {
         x: -76568233,
         y: 39482465,
         d: 1,
     });
-    assert_eq!(rt;
-        contact_of(
-            (-76568325, 39482222),
-            (-76568141, 39482708),
-            (-76568233, 39482465),
-            (-76568476, 39482557)
-        )?,
-        oblique
+    let found = contact_of(
+        (-76568325, 39482222),
+        (-76568141, 39482708),
+        (-76568233, 39482465),
+        (-76568476, 39482557),
     );
-    Ok(())
+    assert!(rt; found == Some(oblique));
 }
 
 #[test]
-fn rays(rt: HostRuntime) -> Result<(), Fail> {
+fn rays(rt: HostRuntime) {
     for (a, b, q, is_crossed) in [
         ((20, 10), (30, 20), (20, 20), false),
         ((30, 20), (20, 30), (20, 20), true),
@@ -262,9 +243,9 @@ fn rays(rt: HostRuntime) -> Result<(), Fail> {
         ((MOST, LEAST), (MOST, MOST), (LEAST, MOST - 1), true),
         ((MOST, LEAST), (LEAST, MOST), (MOST, MOST - 1), false),
     ] {
-        assert!(rt; crosses_ray(segment(a, b)?, point(q.0, q.1)) == is_crossed);
+        let found = segment(a, b).map(|s| crosses_ray(s, point(q.0, q.1)));
+        assert!(rt; found == Some(is_crossed));
     }
-    Ok(())
 }
 
 fn rect(xmin: i32, ymin: i32, xmax: i32, ymax: i32) -> Rect {
@@ -276,31 +257,39 @@ fn rect(xmin: i32, ymin: i32, xmax: i32, ymax: i32) -> Rect {
     }
 }
 
-#[test]
-fn rectangles(rt: HostRuntime) -> Result<(), Fail> {
-    let r = Rect::of(segment((4, -2), (1, 7))?);
-    assert!(rt; r == rect(1, -2, 4, 7));
-    assert!(rt; r.holds(point(1, 7)) && !r.holds(point(0, 7)));
-    for (other, is_met) in [
-        (rect(4, 7, 9, 9), true),
-        (rect(5, -2, 9, 7), false),
-        (rect(3, 0, 2, 0), false),
-    ] {
-        assert!(rt; r.meets(other) == is_met);
-    }
-    assert!(rt; r.join(rect(9, 0, 12, 1)) == rect(1, -2, 12, 7));
-    let whole = Rect::of(segment((LEAST, MOST), (MOST, LEAST))?);
-    assert!(rt; whole.holds(point(MOST, LEAST)) && whole.join(r) == whole);
-    assert!(rt;
-        Rect::NOTHING.join(r) == r && r.join(Rect::NOTHING) == r && !Rect::NOTHING.meets(whole)
-    );
-    assert!(rt; Rect::at(point(3, -4)) == rect(3, -4, 3, -4));
-    Ok(())
+/// Whether the rectangle about a segment from (4, -2) to (1, 7) is as it has to be, beside that of the whole plane.
+fn are_right(r: Rect, whole: Rect) -> bool {
+    r == rect(1, -2, 4, 7)
+        && r.holds(point(1, 7))
+        && !r.holds(point(0, 7))
+        && r.meets(rect(4, 7, 9, 9))
+        && !r.meets(rect(5, -2, 9, 7))
+        && !r.meets(rect(3, 0, 2, 0))
+        && r.join(rect(9, 0, 12, 1)) == rect(1, -2, 12, 7)
+        && whole.holds(point(MOST, LEAST))
+        && whole.join(r) == whole
 }
 
-fn rises(rt: &impl Abort, u: Direction, v: Direction) {
-    assert_eq!(rt; round_cmp(u, v), Ordering::Less);
-    assert_eq!(rt; round_cmp(v, u), Ordering::Greater);
+/// Whether nothing adds nothing.
+fn is_nothing(nothing: Rect, r: Rect) -> bool {
+    nothing.join(r) == r && r.join(nothing) == r && !nothing.meets(r)
+}
+
+#[test]
+fn rectangles(rt: HostRuntime) {
+    let r = match (
+        segment((4, -2), (1, 7)),
+        segment((LEAST, MOST), (MOST, LEAST)),
+    ) {
+        (Some(s), Some(t)) => are_right(Rect::of(s), Rect::of(t)),
+        _ => false,
+    };
+    assert!(rt; r && is_nothing(Rect::NOTHING, rect(1, -2, 4, 7)));
+    assert!(rt; Rect::at(point(3, -4)) == rect(3, -4, 3, -4));
+}
+
+fn rises(u: Direction, v: Direction) -> bool {
+    round_cmp(u, v) == Ordering::Less && round_cmp(v, u) == Ordering::Greater
 }
 
 #[test]
@@ -318,34 +307,19 @@ fn directions_in_rising_order(rt: HostRuntime) {
     ];
     for i in 0..rising.len() {
         for j in 0..i {
-            rises(&rt, rising[j], rising[i]);
+            assert!(rt; rises(rising[j], rising[i]), "{j} {i}");
         }
     }
 }
 
 #[test]
-fn one_direction(rt: HostRuntime) {
-    assert_eq!(rt;
-        round_cmp(Direction { x: 2, y: 0 }, Direction { x: 5, y: 0 }),
-        Ordering::Equal
-    );
-    rises(&rt, Direction { x: 5, y: 5 }, Direction { x: -5, y: -5 });
-    let least = i64::MIN;
-    let most = i64::MAX;
-    assert_eq!(rt;
-        round_cmp(Direction { x: least, y: least }, Direction { x: -1, y: -1 }),
-        Ordering::Equal
-    );
-    rises(
-        &rt,
-        Direction { x: least, y: most },
-        Direction { x: least, y: least },
-    );
-    rises(
-        &rt,
-        Direction { x: least, y: least },
-        Direction { x: most, y: least },
-    );
+fn directions_of_great_length(rt: HostRuntime) {
+    let (least, most) = (i64::MIN, i64::MAX);
+    let southwest = Direction { x: least, y: least };
+    let one = round_cmp(southwest, Direction { x: -1, y: -1 });
+    assert!(rt; one == Ordering::Equal);
+    assert!(rt; rises(Direction { x: least, y: most }, southwest));
+    assert!(rt; rises(southwest, Direction { x: most, y: least }));
 }
 
 #[test]

@@ -1,5 +1,5 @@
 use Rattle.tl_sides.specs.Keeping.Walked.{AreReady}
-use Rattle.bench_build.proofs.sides.follow.Given as goal
+use Rattle.bench_check.proofs.sides.follow.Given as goal
 
 -- there is room
 abbrev pub invariant-loop-walk : goal.invariant-loop-walk

@@ -1,6 +1,6 @@
 use Rattle.std.proofs.Common.{ℕ, List}
 use Rattle.tl_sides.specs.Keeping.Rounded.{AreSized, HaveTaken}
-use Rattle.bench_build.proofs.sides.next_of.Given as goal
+use Rattle.bench_check.proofs.sides.next_of.Given as goal
 
 -- some rounds were taken
 abbrev pub invariant-loop-round : goal.invariant-loop-round
