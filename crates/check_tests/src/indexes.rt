@@ -77,18 +77,20 @@ fn are_right_by_boxes(alloc: Global, map: &Map, nodes: &[TreeNode]) -> bool
     }
 }
 
-/// Whether they do by each index.
-fn are_right_by_all(alloc: Global, map: &Map) -> bool {
-    let Ok(nodes) = pack(alloc, &Segments::new(map)) else {
+/// Whether they do by each index, on the island.
+fn are_right_by_all(alloc: Global) -> bool {
+    let Some(map) = map_of(alloc, ISLAND) else {
         return false;
     };
-    are_right(alloc, map, &PlainList::new(map.segments()))
-        && are_right_by_nodes(alloc, map, &nodes)
-        && are_right_by_boxes(alloc, map, &nodes)
+    let Ok(nodes) = pack(alloc, &Segments::new(&map)) else {
+        return false;
+    };
+    are_right(alloc, &map, &PlainList::new(map.segments()))
+        && are_right_by_nodes(alloc, &map, &nodes)
+        && are_right_by_boxes(alloc, &map, &nodes)
 }
 
 #[test]
 fn points_of_an_island_by_each_index(rt: HostRuntime) {
-    let alloc = rt.alloc();
-    assert!(rt; map_of(alloc, ISLAND).is_some_and(|map| are_right_by_all(alloc, &map)));
+    assert!(rt; are_right_by_all(rt.alloc()));
 }

@@ -7,45 +7,54 @@ use std::alloc::Global;
 use tl_cells::find_cells_at_odds;
 use tl_geom::Rational;
 use tl_inside::{Misplaced, find_misplaced};
-use tl_map::Map;
 use tl_planar::{Meeting, Segments, first_meet};
 use tl_record::PolyKey;
 use tl_tree::{Items, PlainList};
 
 /// Whether the two segments of a map meet at a point where they may not, which is found in one test.
-fn meet_at(map: &Map, at: Rational) -> bool {
-    let segments = Segments::new(map);
-    let told = segments.len() == 2 && segments.conflict(0, 1) == Some(at);
-    match first_meet(map, &PlainList::new(map.segments()), 1) {
+fn meet_at(alloc: Global, records: &str, at: Rational) -> bool {
+    let Some(map) = map_of(alloc, records) else {
+        return false;
+    };
+    match first_meet(&map, &PlainList::new(map.segments()), 1) {
         Meeting::Found(meet) => {
-            told && meet.at == at && (meet.s, meet.t) == (0, 1) && (meet.tlid, meet.other) == (1, 2)
+            meet.at == at && (meet.s, meet.t) == (0, 1) && (meet.tlid, meet.other) == (1, 2)
         }
         _ => false,
     }
 }
 
+/// Whether the two segments conflict there.
+fn conflict_at(alloc: Global, records: &str, at: Rational) -> bool {
+    let Some(map) = map_of(alloc, records) else {
+        return false;
+    };
+    let segments = Segments::new(&map);
+    segments.len() == 2 && segments.conflict(0, 1) == Some(at)
+}
+
 #[test]
 fn chains_that_meet(rt: HostRuntime) {
     for (records, x, d) in [(OVERLAP, 10, 2), (CROSSING, 0, 129_600_000_000_000_000)] {
-        let meet = map_of(rt.alloc(), records).is_some_and(|map| meet_at(
-            &map,
-            Rational { x, y: x, d },
-        ));
-        assert!(rt; meet);
+        let at = Rational { x, y: x, d };
+        assert!(rt; meet_at(rt.alloc(), records, at) && conflict_at(rt.alloc(), records, at));
     }
 }
 
 /// Whether no segments meet where they may not, which takes as many tests.
-fn are_clear_in(map: &Map, tests: u64) -> bool {
+fn are_clear_in(alloc: Global, records: &str, tests: u64) -> bool {
+    let Some(map) = map_of(alloc, records) else {
+        return false;
+    };
     let list = PlainList::new(map.segments());
-    first_meet(map, &list, tests) == Meeting::Clear
-        && first_meet(map, &list, tests.saturating_sub(1)) == Meeting::Budget
+    first_meet(&map, &list, tests) == Meeting::Clear
+        && first_meet(&map, &list, tests.saturating_sub(1)) == Meeting::Budget
 }
 
 /// The four sides of a square have four pairs of rectangles that meet.
 #[test]
 fn chains_that_are_clear(rt: HostRuntime) {
-    assert!(rt; map_of(rt.alloc(), SQUARE).is_some_and(|map| are_clear_in(&map, 4)));
+    assert!(rt; are_clear_in(rt.alloc(), SQUARE, 4));
 }
 
 /// Whether these darts of a map are found to be at odds by these ids.

@@ -6,7 +6,6 @@ use std::io;
 use std::io::{ErrorKind, Read};
 use tl_build::{Audit, AuditStop, audit};
 use tl_check::{Stop, Verdict, check, check_cert};
-use tl_map::Map;
 use tl_record::{FailAt, Meter};
 
 /// A reader of a text that gives one byte a read.
@@ -63,20 +62,20 @@ fn each_read_of_records_fails(rt: HostRuntime) {
     }
 }
 
-/// Whether each read of the certificate is told to fail.
-fn does_each_fail(alloc: Global, map: &Map) -> bool {
-    for others in 0..=DEAD_END_CERT.len() as u64 {
-        let mut cert = failing(DEAD_END_CERT, others);
-        let of_map = check_cert(alloc, map, &mut cert, u64::MAX);
-        if of_map != Err(Stop::Device) || is_sound(alloc, u64::MAX, others) != Err(Stop::Device) {
-            return false;
-        }
-    }
-    true
+/// What is decided of the dead end's map where the read of the certificate behind so many others fails.
+fn of_map(alloc: Global, others: u64) -> Option<Result<Verdict, Stop>> {
+    let map = map_of(alloc, DEAD_END)?;
+    Some(check_cert(alloc, &map, &mut failing(DEAD_END_CERT, others), u64::MAX))
 }
 
 #[test]
 fn each_read_of_a_certificate_fails(rt: HostRuntime) {
-    let alloc = rt.alloc();
-    assert!(rt; map_of(alloc, DEAD_END).is_some_and(|map| does_each_fail(alloc, &map)));
+    for others in 0..=DEAD_END_CERT.len() as u64 {
+        let checked = is_sound(rt.alloc(), u64::MAX, others);
+        let by_map = of_map(rt.alloc(), others);
+        assert!(rt;
+            checked == Err(Stop::Device) && by_map == Some(Err(Stop::Device)),
+            "{others}"
+        );
+    }
 }

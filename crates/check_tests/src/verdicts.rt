@@ -98,29 +98,34 @@ fn is_side(verdict: Option<Verdict>) -> bool {
     }
 }
 
-/// Whether all say so of a map.
-fn do_sides_disagree(alloc: Global, map: &Map) -> bool {
-    is_side(decided(alloc, map, DEAD_END_CERT)) && is_side(built(alloc, map))
+/// Whether all say so of the square with half a dead end.
+fn do_sides_disagree(alloc: Global) -> bool {
+    let Some(map) = map_of(alloc, HALF) else {
+        return false;
+    };
+    is_side(decided(alloc, &map, DEAD_END_CERT))
+        && is_side(built(alloc, &map))
+        && is_side(of_records(alloc, HALF, DEAD_END_CERT))
 }
 
 #[test]
 fn sides_that_disagree(rt: HostRuntime) {
-    let alloc = rt.alloc();
-    assert!(rt; map_of(alloc, HALF).is_some_and(|map| do_sides_disagree(alloc, &map)));
-    assert!(rt; is_side(of_records(alloc, HALF, DEAD_END_CERT)));
+    assert!(rt; do_sides_disagree(rt.alloc()));
 }
 
-/// Whether these faults of certificates are told of the square.
-fn are_told(alloc: Global, map: &Map) -> bool {
-    let turned = CertFault::Round(RoundFault::OrderNotRising(0));
-    decided(alloc, map, TURNED_CERT) == Some(Verdict::CertFault(turned))
-        && decided(alloc, map, DEAD_END_CERT) == Some(Verdict::CertFault(CertFault::Counts))
+/// Whether this fault of a certificate is told of the square.
+fn is_told(alloc: Global, cert: &str, fault: CertFault) -> bool {
+    match map_of(alloc, SQUARE) {
+        Some(map) => decided(alloc, &map, cert) == Some(Verdict::CertFault(fault)),
+        None => false,
+    }
 }
 
 #[test]
 fn certificates_with_a_fault(rt: HostRuntime) {
-    let alloc = rt.alloc();
-    assert!(rt; map_of(alloc, SQUARE).is_some_and(|map| are_told(alloc, &map)));
+    let turned = CertFault::Round(RoundFault::OrderNotRising(0));
+    assert!(rt; is_told(rt.alloc(), TURNED_CERT, turned));
+    assert!(rt; is_told(rt.alloc(), DEAD_END_CERT, CertFault::Counts));
 }
 
 /// Whether ids are told to be at odds, by a check and by an audit, where they are read.
