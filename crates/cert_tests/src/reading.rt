@@ -66,8 +66,11 @@ fn is_square(certificate: &Certificate) -> bool {
 
 #[test]
 fn a_certificate_is_seen(rt: HostRuntime) {
-    let read = read_cert(rt.alloc(), &mut source_of(SQUARE.as_bytes(), 999));
-    assert!(rt; matches!(read, Ok(certificate) if is_square(&certificate)));
+    let is_seen = match read_cert(rt.alloc(), &mut source_of(SQUARE.as_bytes(), 999)) {
+        Ok(certificate) => is_square(&certificate),
+        Err(_) => false,
+    };
+    assert!(rt; is_seen);
 }
 
 #[test]
