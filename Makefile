@@ -20,7 +20,7 @@ PROGRAM = crates/tigertopo/out/tigertopo
 .PHONY: build check rows certificates judge full-size limits memory devices examples counties bench install
 
 build:
-	cd crates/tigertopo && rt run -- --help >/dev/null
+	python3 proving/prove.py
 
 check:
 	.ci/run
@@ -45,7 +45,7 @@ limits: build
 
 memory: build
 	python3 tests/memory.py
-	cd crates/bench_tree && rt run >/dev/null
+	python3 proving/prove.py bench_tree
 	python3 tests/tree_memory.py
 
 devices: build
@@ -55,10 +55,7 @@ counties: build
 	python3 tests/counties.py
 
 bench: build
-	cd crates/bench_records && rt run >/dev/null
-	cd crates/bench_tree && rt run >/dev/null
-	cd crates/bench_cert && rt run -- read data/map_b >/dev/null
-	cd crates/bench_check && rt run -- data/county data/county.CERT >/dev/null
+	python3 proving/prove.py bench_records bench_tree bench_cert bench_check
 	python3 bench/run.py
 
 install: build
