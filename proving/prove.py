@@ -16,6 +16,7 @@ import sys
 import tempfile
 import threading
 import time
+from concurrent.futures import FIRST_COMPLETED, ThreadPoolExecutor, wait
 from pathlib import Path
 
 TOP = Path(__file__).resolve().parent.parent
@@ -157,32 +158,71 @@ class Proof:
         return status or self.crate.compile_by("llvm", words, f"out/{self.crate.name}")
 
 
+class Lanes:
+    """Proofs side by side: first those with the longest chain of others behind them, which get the more processors the
+    more of all that is left their chain is, and no more at a time than memory holds."""
+
+    def __init__(self, rt, proofs, share):
+        self.processors = rt.processors()
+        # Some checks take a fifth more than is reckoned.
+        self.memory = 0.85 * rt.free()
+        self.proofs = {it.crate.name: it for it in proofs}
+        self.share = share
+        self.needs = {name: rt.need(it.crate) for name, it in self.proofs.items()}
+        self.below = {name: [d.name for d in it.crate.below() if d.name in self.proofs] for name, it in self.proofs.items()}
+        self.chain = {}
+        for name in reversed(self.proofs):
+            behind = [self.chain[above] for above in self.chain if name in self.below[above]]
+            self.chain[name] = share[name] + max(behind, default=0)
+        self.left = sorted(self.proofs, key=lambda name: -self.chain[name])
+        self.running = {}
+        self.done = set()
+
+    def jobs_for(self, name, ready):
+        """How many processors the proof gets now, 0 where none is free or memory doesn't hold it."""
+        idle = self.processors - sum(jobs for _, jobs in self.running.values())
+        taken = sum(self.needs[it] * (1 + 0.6 * (jobs - 1)) for it, jobs in self.running.values())
+        if idle < 1 or self.running and taken + self.needs[name] > self.memory:
+            return 0
+        work = sum(self.share[it] for it in self.left) + sum(self.share[it] for it, _ in self.running.values())
+        jobs = round(self.processors * self.chain[name] / work)
+        if not self.running and len(ready) == 1:
+            jobs = idle
+        while jobs > 1 and taken + self.needs[name] * (1 + 0.6 * (jobs - 1)) > self.memory:
+            jobs -= 1
+        return min(idle, max(1, jobs))
+
+    def run(self, prove):
+        """Calls `prove` for each, with its jobs, until one gives that it failed."""
+        with ThreadPoolExecutor(self.processors) as pool:
+            is_well = True
+            while self.running or self.left and is_well:
+                ready = [it for it in self.left if is_well and self.done.issuperset(self.below[it])]
+                for name in ready:
+                    jobs = self.jobs_for(name, ready)
+                    if jobs:
+                        self.left.remove(name)
+                        self.running[pool.submit(prove, self.proofs[name], jobs)] = name, jobs
+                for ended in wait(self.running, return_when=FIRST_COMPLETED).done:
+                    self.done.add(self.running.pop(ended)[0])
+                    is_well = ended.result() and is_well
+
+
 def prove_all(rt, proofs):
-    """Proves these crates, lowest first, and gives the name and the words of the first that failed, if one did."""
+    """Proves these crates, lowest first, and gives the name and the words of one that failed, if one did."""
     progress = Progress([it.crate.name for it in proofs], rt.processors())
     failed = []
 
-    def task(proof):
-        def call(given, jobs):
-            if failed:
-                return False
-            progress.begins(proof.crate.name)
-            is_proved, said = proof.prove(jobs)
-            if is_proved:
-                progress.ends(proof.crate.name)
-            else:
-                failed.append((proof.crate.name, said))
-            return is_proved
+    def prove(proof, jobs):
+        progress.begins(proof.crate.name)
+        is_proved, said = proof.prove(jobs)
+        if is_proved:
+            progress.ends(proof.crate.name)
+        else:
+            failed.append((proof.crate.name, said))
+        return is_proved
 
-        return call
-
-    missing = {it.crate.name for it in proofs}
-    tasks = {}
-    for proof in proofs:
-        crate = proof.crate
-        waits = [(it.name, "proof") for it in crate.below() if it.name in missing]
-        tasks[crate.name, "proof"] = (waits, progress.share[crate.name], rt.need(crate), task(proof))
-    rt.in_lanes(tasks)
+    Lanes(rt, proofs, progress.share).run(prove)
     progress.finish()
     return failed[0] if failed else None
 
