@@ -104,7 +104,7 @@ def complaints(table, case, chance):
         table.lay(name, part)
     county = judge.County(texts, "--zero-cells" in switches, "--released" in switches)
     # The other commands read no zero-cell ids.
-    others = judge.County(texts, released="--released" in switches)
+    others = judge.County(texts, released="--released" in switches) if "--zero-cells" in switches else county
     reading = [it for it in switches if it == "--released"]
 
     def wrong(opinion, *words):
