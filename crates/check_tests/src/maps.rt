@@ -1,18 +1,12 @@
 //! The records of small maps, and certificates.
 
 use std::alloc::Global;
-use tl_map::{Map, read_map_with};
-use tl_record::{Meter, Options};
+use tl_map::{Map, read_map};
+use tl_record::Meter;
 
-/// Zero-cell ids are read.
-pub const WITH_CELLS: Options = Options {
-    zero_cells: true,
-    released: false,
-};
-
-/// The map of records, with their zero-cell ids.
+/// The map of records.
 pub fn map_of(alloc: Global, records: &str) -> Option<Map> {
-    read_map_with(alloc, &mut Meter::new(records.as_bytes()), WITH_CELLS).ok()
+    read_map(alloc, &mut Meter::new(records.as_bytes())).ok()
 }
 
 /// A square of polygon 1.
@@ -95,29 +89,6 @@ P0000     A0001         2+000000016+00000016
 70000              7
 80000     A0001         1         7
 80000     A0001         2         7";
-
-/// The square, with the ids 5 and 7 at its one node.
-pub const ODDS: &str =
-    "10000         1                                                                                                                                                                               +000000010+00000010+000000010+00000010
-20000         1  1+000000030+00000010+000000030+00000030+000000010+00000030
-I0000         1              5         7A0001         1
-P0000     A0001         1+000000020+00000020";
-
-/// The square with a dead end, with the id 5 at the one node and 9 at the other.
-pub const AGREEING: &str =
-    "10000         1                                                                                                                                                                               +000000010+00000010+000000010+00000010
-20000         1  1+000000030+00000010+000000030+00000030+000000010+00000030
-I0000         1              5         5
-10000         2                                                                                                                                                                               +000000010+00000010+000000015+00000015
-I0000         2              5         9";
-
-/// The square with a dead end, with the id 5 at both nodes.
-pub const ELSEWHERE: &str =
-    "10000         1                                                                                                                                                                               +000000010+00000010+000000010+00000010
-20000         1  1+000000030+00000010+000000030+00000030+000000010+00000030
-I0000         1              5
-10000         2                                                                                                                                                                               +000000010+00000010+000000015+00000015
-I0000         2                        5";
 
 /// Two chains that start in one line.
 pub const OVERLAP: &str =

@@ -1,13 +1,13 @@
 //! What is decided of small maps by their certificates and with none, and what is built of them.
 
 use crate::maps::{
-    DEAD_END, DEAD_END_CERT, EMPTY_CERT, HALF, ISLAND, ISLAND_CERT, ODDS, SQUARE, SQUARE_CERT,
-    TURNED_CERT, WITH_CELLS, map_of,
+    DEAD_END, DEAD_END_CERT, EMPTY_CERT, HALF, ISLAND, ISLAND_CERT, SQUARE, SQUARE_CERT,
+    TURNED_CERT, map_of,
 };
 use std::alloc::Global;
-use tl_build::{Audit, Built, audit, audit_with, build};
+use tl_build::{Audit, Built, audit, build};
 use tl_cert::read_cert;
-use tl_check::{CertFault, MapFault, Report, Verdict, check, check_cert, check_map, check_with};
+use tl_check::{CertFault, MapFault, Report, Verdict, check, check_cert, check_map};
 use tl_geom::Point;
 use tl_map::Map;
 use tl_record::Meter;
@@ -126,19 +126,4 @@ fn certificates_with_a_fault(rt: HostRuntime) {
     let turned = CertFault::Round(RoundFault::OrderNotRising(0));
     assert!(rt; is_told(rt.alloc(), TURNED_CERT, turned));
     assert!(rt; is_told(rt.alloc(), DEAD_END_CERT, CertFault::Counts));
-}
-
-/// Whether ids are told to be at odds, by a check and by an audit, where they are read.
-fn are_at_odds(alloc: Global) -> bool {
-    let mut source = Meter::new(ODDS.as_bytes());
-    let mut cert = Meter::new(SQUARE_CERT.as_bytes());
-    let checked = check_with(alloc, &mut source, &mut cert, 4, WITH_CELLS);
-    let audited = audit_with(alloc, &mut Meter::new(ODDS.as_bytes()), WITH_CELLS);
-    matches!(checked, Ok(Verdict::MapFault(MapFault::Cell(_))))
-        && matches!(audited, Ok(Audit::Fault(MapFault::Cell(_))))
-}
-
-#[test]
-fn zero_cell_ids_that_are_at_odds(rt: HostRuntime) {
-    assert!(rt; are_at_odds(rt.alloc()));
 }
