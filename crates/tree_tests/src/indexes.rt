@@ -61,12 +61,11 @@ fn agrees<X: BoxIndex>(alloc: Global, index: &X, items: &Counting, pairs: u64) -
     let plain = PlainList::new(items.len());
     for (x, y) in [(10, 30), (20, 20), (30, 43), (79, 79)] {
         let at = Point { x, y };
-        match (
-            hits(alloc, index, items, at),
-            hits(alloc, &plain, items, at),
-        ) {
-            (Some(found), Some(wanted)) if found == wanted => {}
-            _ => return false,
+        let Some(found) = hits(alloc, index, items, at) else {
+            return false;
+        };
+        if hits(alloc, &plain, items, at) != Some(found) {
+            return false;
         }
     }
     asks(index, items, pairs)
