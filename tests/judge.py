@@ -666,7 +666,6 @@ def point_faults(the_map):
         faults += [f"map fault G3 PointOnChain polygon {polygon.key} tlid {tlid}" for tlid in on]
         if count(crossed, [polygon.key]) != 1:
             faults.append(f"map fault G4 PointOutside polygon {polygon.key}")
-            continue
         for other in the_map.polygons:
             if other.key != polygon.key and count(crossed, [other.key]) != 0:
                 faults.append(f"map fault G5 PointInOther polygon {polygon.key} other {other.key}")
