@@ -97,7 +97,9 @@ class Progress:
         left = f", about {self.minutes_left()} min left" if self.left else ""
         if self.is_terminal:
             busy = f": {', '.join(self.running)}" if self.running else ""
-            print(f"\r\033[Ktigertopo: {count} proved after {after}{left}{busy}"[:200], end="", file=sys.stderr, flush=True)
+            line = f"tigertopo: {count} proved after {after}{left}{busy}"
+            width = shutil.get_terminal_size().columns - 1
+            print(f"\r\033[K{line[:width]}", end="", file=sys.stderr, flush=True)
         else:
             print(f"tigertopo: {news}{count} after {after}{left}", file=sys.stderr, flush=True)
 

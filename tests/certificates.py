@@ -304,7 +304,7 @@ def play_all(program=PROGRAM):
     texts += [whole[:size] for whole in (SQUARE, LONG) for size in range(len(whole))]
     texts += [*changed(SQUARE), *changed(LONG, OTHERS)]
     shares = [texts[part::4] for part in range(4)]
-    with ThreadPoolExecutor(4) as pool:
+    with ThreadPoolExecutor(len(os.sched_getaffinity(0))) as pool:
         counts = list(pool.map(lambda share: play(program, share), shares))
     counts.append(play(program, [text for text, _ in ANNOUNCED], leave_little))
     counts.append(play_built(program))

@@ -1,6 +1,7 @@
 #!/usr/bin/env python3
 """The merge gate: `rt ci`, and behind it what only the built program can show. The last line counts all of it."""
 
+import os
 import re
 import resource
 import subprocess
@@ -45,15 +46,16 @@ def main():
         return well, ill + (well + ill == 0)
 
     proofs = ("proofs, edits and tests", prove)
+    # The longest first.
     parts = [
-        ("rows", rows.play_all),
+        ("maps judged", judged.play_all),
         ("certificates", certificates.play_all),
         ("answers at full size", full_size.play_all),
         ("refused allocations", memory.play_all),
         ("failed reads and writes", devices.play_all),
         ("examples", examples.play_all),
         ("many counties", counties.play_all),
-        ("maps judged", judged.play_all),
+        ("rows", rows.play_all),
     ]
     begun = time.monotonic()
     with times.Watch() as watch:
@@ -61,7 +63,7 @@ def main():
     print(f"the proofs, in processor minutes:\n{times.table(watch.seconds())}", flush=True)
     # Where a proof failed, the program is not the one that was proved.
     if not counts[0][1]:
-        with ThreadPoolExecutor(len(parts)) as pool:
+        with ThreadPoolExecutor(len(os.sched_getaffinity(0))) as pool:
             counts += pool.map(timed, parts)
     used = resource.getrusage(resource.RUSAGE_CHILDREN)
     print(f"{(time.monotonic() - begun) / 60:.0f} minutes, {(used.ru_utime + used.ru_stime) / 60:.0f} processor minutes")
