@@ -12,12 +12,13 @@
 # make bench               measures the program on record files of 1,000 to 1,000,000 chains, checks of counties, maps
 #                          decided and certificates built with none given, searches in trees, and certificates written
 #                          and read
+# make speed               prints the tables of docs/speed.md, which are the rows of 100,000 chains among these
 # make install PREFIX=..   installs the program as PREFIX/bin/tigertopo
 
 PREFIX = /usr/local
 PROGRAM = crates/tigertopo/out/tigertopo
 
-.PHONY: build check rows certificates judge full-size limits memory devices examples counties bench install
+.PHONY: build check rows certificates judge full-size limits memory devices examples counties bench speed install
 
 build:
 	python3 proving/prove.py
@@ -57,6 +58,10 @@ counties: build
 bench: build
 	python3 proving/prove.py bench_records bench_tree bench_cert bench_check
 	python3 bench/run.py
+
+speed: build
+	python3 proving/prove.py bench_records bench_tree bench_cert bench_check
+	python3 bench/run.py --kinds county --counties 100000 --decided 100000 --segments 2750000 --certificates 1000000
 
 install: build
 	install -d $(DESTDIR)$(PREFIX)/bin

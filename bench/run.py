@@ -6,12 +6,12 @@ tells them in a fourth; `bench_tree`, which makes the segments of a county and s
 which writes and reads certificates, beside `wc -l` of the same file, in a sixth.
 
 usage: run.py [--sizes N,N,..] [--counties N,N,..] [--keys N] [--decided N,N,..] [--segments N,N,..] [--certificates N,N,..]
-              [--runs N]
+              [--kinds KIND,KIND,..] [--runs N]
 
 The files of --sizes hold types 1 and 2; those of --counties are whole counties of all six types, by rising TLID and, in a
 second row of files, in random order. Those of --keys have as many polygons as chains, with ordinary keys and, in a second
 row, with keys that were chosen against a hash function. Those of --decided are such counties in both orders, and grids of
-squares. A list may be empty, which leaves its table out.
+squares. A list may be empty, which leaves its table out; --kinds leaves out files of other kinds than those.
 
 Each program runs once for its peak of memory and then RUNS times for its seconds, in turn with the others, with its
 output thrown away. The tables have medians. Files are made in bench/out, once. `make bench` builds the programs first.
@@ -242,11 +242,15 @@ def main():
     parser.add_argument("--decided", default="1000,10000,100000,1000000")
     parser.add_argument("--segments", default="27500,275000,2750000")
     parser.add_argument("--certificates", default="10000,100000,1000000")
+    parser.add_argument("--kinds", default=",".join(NAMES))
     parser.add_argument("--runs", type=int, default=5)
     words = parser.parse_args()
+    kinds = words.kinds.split(",")
     parts = [("streets", words.sizes), ("county", words.counties), ("shuffled", words.counties)]
     parts += [("keys", words.keys), ("hostile", words.keys)]
+    parts = [(kind, sizes) for kind, sizes in parts if kind in kinds]
     decided = [(chains, kind) for kind in ("county", "shuffled", "grid", "nested") for chains in numbers(words.decided)]
+    decided = [(chains, kind) for chains, kind in decided if kind in kinds]
     print_table(
         ("Chains", "Lines", "MB", "Program", "ms", "times `wc -l`", "million lines a second", "peak MB"),
         (row for kind, sizes in parts for chains in numbers(sizes) for row in rows(chains, kind, words.runs)))
