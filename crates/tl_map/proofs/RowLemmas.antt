@@ -1,4 +1,4 @@
-use Rattle.std.proofs.Common.{◌≡◌, ℕ, ◌+◌, ◌-◌, ◌<◌, ◌≤◌, Bool, true, false, cond, Some, List, [], ◌∷◌, ◌++◌, length, take, drop, map, get_or, All, refl, sym, ap, ◌∙◌, arith}
+use Rattle.std.proofs.Common.{◌≡◌, ℕ, ◌+◌, ◌-◌, ◌<◌, ◌≤◌, Bool, true, false, not, cond, Some, List, [], ◌∷◌, ◌++◌, length, take, drop, map, get_or, All, refl, sym, ap, ◌∙◌, arith}
 use Rattle.std.specs.Prelude.{slice_get}
 use Rattle.std.specs.List.{dedup_from, flat_map}
 use Rattle.std.specs.Option.{option_map}
@@ -35,6 +35,35 @@ dedup_from-is p (q ∷ qs) = go (same_point q p) (dedup_from-is p qs) (dedup_fro
     go : (b : Bool) → dedup_from same_point p qs ≡ p ∷ dedup_after p qs → dedup_from same_point q qs ≡ q ∷ dedup_after q qs → cond b (dedup_from same_point p qs) (p ∷ dedup_from same_point q qs) ≡ p ∷ cond b (dedup_after p qs) (q ∷ dedup_after q qs)
     go true here next = here
     go false here next = ap (λ ps. p ∷ ps) next
+
+-- a choice by a test whose denial is known
+otherwise : (b : Bool) (p q : List Point) → true ≡ not b → cond b p q ≡ q
+otherwise true p q h = cc
+otherwise false p q h = refl
+
+chosen : (b : Bool) (p q : List Point) → false ≡ not b → cond b p q ≡ p
+chosen true p q h = refl
+chosen false p q h = cc
+
+-- a point that differs from the one before is kept
+pub point_kept : (more rest points added whole : List Point) (i : ℕ) (d last : Point) → i < length more → true ≡ not (same_point (get_or more i d) last) → added ≡ points ++ get_or more i d ∷ [] → points ++ dedup_after last (drop i more ++ rest) ≡ whole → added ++ dedup_after (get_or more i d) (drop (i + 1) more ++ rest) ≡ whole
+point_kept more rest points added whole i d last h differs grown before =
+    let x : Point = get_or more i d in
+    let after : List Point = drop (i + 1) more ++ rest in
+    ap (λ ps. ps ++ dedup_after x after) grown
+    ∙ append_assoc points (x ∷ []) (dedup_after x after)
+    ∙ ap (λ ps. points ++ ps) (sym (otherwise (same_point x last) (dedup_after last after) (x ∷ dedup_after x after) differs))
+    ∙ ap (λ ps. points ++ dedup_after last (ps ++ rest)) (sym (at_drop_more (λ (ps : List Point). ps) more i d h))
+    ∙ before
+
+-- one that doesn't is passed over
+pub point_passed : (more rest points whole : List Point) (i : ℕ) (d last : Point) → i < length more → false ≡ not (same_point (get_or more i d) last) → points ++ dedup_after last (drop i more ++ rest) ≡ whole → points ++ dedup_after last (drop (i + 1) more ++ rest) ≡ whole
+point_passed more rest points whole i d last h same before =
+    let x : Point = get_or more i d in
+    let after : List Point = drop (i + 1) more ++ rest in
+    ap (λ ps. points ++ ps) (sym (chosen (same_point x last) (dedup_after last after) (x ∷ dedup_after x after) same))
+    ∙ ap (λ ps. points ++ dedup_after last (ps ++ rest)) (sym (at_drop_more (λ (ps : List Point). ps) more i d h))
+    ∙ before
 
 -- the points of the runs from the i-th on, before more
 pub run_more : (pool : List Point) (run : List ShapeEntry) (i : ℕ) (d : ShapeEntry) (rest : List Point) → i < length run → flat_map (entry_points pool) (drop i run) ++ rest ≡ entry_points pool (get_or run i d) ++ (flat_map (entry_points pool) (drop (i + 1) run) ++ rest)

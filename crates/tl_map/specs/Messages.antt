@@ -16,21 +16,41 @@ limited_text Segments = codes "segments"
 limited_text Polygons = codes "polygons"
 limited_text Landmarks = codes "landmarks"
 
--- the code and the name of a fault, with what it is about
+-- the code and the name of a fault
+abbrev pub fault_name : MapFault → List ℕ
+fault_name (DuplicateChain t) = codes "M1 DuplicateChain"
+fault_name (ShapeWithoutChain t) = codes "M2 ShapeWithoutChain"
+fault_name (ShapeSequence t) = codes "M3 ShapeSequence"
+fault_name (ShapeGap t) = codes "M4 ShapeGap"
+fault_name (ChainWithoutSides t) = codes "M5 ChainWithoutSides"
+fault_name (SidesWithoutChain t) = codes "M6 SidesWithoutChain"
+fault_name (DuplicateSides t) = codes "M7 DuplicateSides"
+fault_name (DuplicatePolygon k) = codes "M8 DuplicatePolygon"
+fault_name (SideWithoutPolygon t k) = codes "M9 SideWithoutPolygon"
+fault_name (LinkWithoutLandmark n) = codes "M10 LinkWithoutLandmark"
+fault_name (LinkWithoutPolygon k n) = codes "M11 LinkWithoutPolygon"
+fault_name (DegenerateChain t) = codes "M12 DegenerateChain"
+fault_name (TooMany what) = codes "M13 TooMany"
+
+-- what a fault is about
+abbrev pub subject_text : MapFault → List ℕ
+subject_text (DuplicateChain t) = codes " tlid " ++ decimal t
+subject_text (ShapeWithoutChain t) = codes " tlid " ++ decimal t
+subject_text (ShapeSequence t) = codes " tlid " ++ decimal t
+subject_text (ShapeGap t) = codes " tlid " ++ decimal t
+subject_text (ChainWithoutSides t) = codes " tlid " ++ decimal t
+subject_text (SidesWithoutChain t) = codes " tlid " ++ decimal t
+subject_text (DuplicateSides t) = codes " tlid " ++ decimal t
+subject_text (DuplicatePolygon k) = codes " polygon " ++ key_text k
+subject_text (SideWithoutPolygon t k) = codes " tlid " ++ decimal t ++ codes " polygon " ++ key_text k
+subject_text (LinkWithoutLandmark n) = codes " land " ++ decimal n
+subject_text (LinkWithoutPolygon k n) = codes " polygon " ++ key_text k ++ codes " land " ++ decimal n
+subject_text (DegenerateChain t) = codes " tlid " ++ decimal t
+subject_text (TooMany what) = codes " " ++ limited_text what
+
+-- the line of a fault: its code and its name, and what it is about
 abbrev pub fault_text : MapFault → List ℕ
-fault_text (DuplicateChain t) = codes "map fault M1 DuplicateChain tlid " ++ decimal t
-fault_text (ShapeWithoutChain t) = codes "map fault M2 ShapeWithoutChain tlid " ++ decimal t
-fault_text (ShapeSequence t) = codes "map fault M3 ShapeSequence tlid " ++ decimal t
-fault_text (ShapeGap t) = codes "map fault M4 ShapeGap tlid " ++ decimal t
-fault_text (ChainWithoutSides t) = codes "map fault M5 ChainWithoutSides tlid " ++ decimal t
-fault_text (SidesWithoutChain t) = codes "map fault M6 SidesWithoutChain tlid " ++ decimal t
-fault_text (DuplicateSides t) = codes "map fault M7 DuplicateSides tlid " ++ decimal t
-fault_text (DuplicatePolygon k) = codes "map fault M8 DuplicatePolygon polygon " ++ key_text k
-fault_text (SideWithoutPolygon t k) = codes "map fault M9 SideWithoutPolygon tlid " ++ decimal t ++ codes " polygon " ++ key_text k
-fault_text (LinkWithoutLandmark n) = codes "map fault M10 LinkWithoutLandmark land " ++ decimal n
-fault_text (LinkWithoutPolygon k n) = codes "map fault M11 LinkWithoutPolygon polygon " ++ key_text k ++ codes " land " ++ decimal n
-fault_text (DegenerateChain t) = codes "map fault M12 DegenerateChain tlid " ++ decimal t
-fault_text (TooMany what) = codes "map fault M13 TooMany " ++ limited_text what
+fault_text fault = codes "map fault " ++ fault_name fault ++ subject_text fault
 
 -- why no map is handed out
 abbrev pub map_stop_text : MapStop → List ℕ

@@ -76,6 +76,31 @@ pub enum MapFault {
     TooMany(Limited),
 }
 
+impl MapFault {
+    ghost use Rattle.tl_map.specs.Messages.{fault_name};
+
+    // Its code and its name, as they are printed.
+    fn name(&self) -> &'static str
+        ensures { result.now ≡ fault_name self.now }
+    {
+        match self {
+            MapFault::DuplicateChain { .. } => "M1 DuplicateChain",
+            MapFault::ShapeWithoutChain { .. } => "M2 ShapeWithoutChain",
+            MapFault::ShapeSequence { .. } => "M3 ShapeSequence",
+            MapFault::ShapeGap { .. } => "M4 ShapeGap",
+            MapFault::ChainWithoutSides { .. } => "M5 ChainWithoutSides",
+            MapFault::SidesWithoutChain { .. } => "M6 SidesWithoutChain",
+            MapFault::DuplicateSides { .. } => "M7 DuplicateSides",
+            MapFault::DuplicatePolygon { .. } => "M8 DuplicatePolygon",
+            MapFault::SideWithoutPolygon { .. } => "M9 SideWithoutPolygon",
+            MapFault::LinkWithoutLandmark { .. } => "M10 LinkWithoutLandmark",
+            MapFault::LinkWithoutPolygon { .. } => "M11 LinkWithoutPolygon",
+            MapFault::DegenerateChain { .. } => "M12 DegenerateChain",
+            MapFault::TooMany(_) => "M13 TooMany",
+        }
+    }
+}
+
 impl fmt::Display for MapFault {
     ghost use Rattle.std.specs.Prelude.{Some};
     ghost use Rattle.tl_map.specs.Messages.{fault_text};
@@ -83,48 +108,27 @@ impl fmt::Display for MapFault {
     ghost output = { λ fault. Some (fault_text fault) };
 
     fn fmt<W: fmt::Write>(&self, f: &mut fmt::Formatter<W>) -> fmt::Result {
+        let name = self.name();
         match self {
-            MapFault::DuplicateChain { tlid } => {
-                write!(f, "map fault M1 DuplicateChain tlid {tlid}")
-            }
-            MapFault::ShapeWithoutChain { tlid } => {
-                write!(f, "map fault M2 ShapeWithoutChain tlid {tlid}")
-            }
-            MapFault::ShapeSequence { tlid } => {
-                write!(f, "map fault M3 ShapeSequence tlid {tlid}")
-            }
-            MapFault::ShapeGap { tlid } => write!(f, "map fault M4 ShapeGap tlid {tlid}"),
-            MapFault::ChainWithoutSides { tlid } => {
-                write!(f, "map fault M5 ChainWithoutSides tlid {tlid}")
-            }
-            MapFault::SidesWithoutChain { tlid } => {
-                write!(f, "map fault M6 SidesWithoutChain tlid {tlid}")
-            }
-            MapFault::DuplicateSides { tlid } => {
-                write!(f, "map fault M7 DuplicateSides tlid {tlid}")
-            }
+            MapFault::DuplicateChain { tlid }
+            | MapFault::ShapeWithoutChain { tlid }
+            | MapFault::ShapeSequence { tlid }
+            | MapFault::ShapeGap { tlid }
+            | MapFault::ChainWithoutSides { tlid }
+            | MapFault::SidesWithoutChain { tlid }
+            | MapFault::DuplicateSides { tlid }
+            | MapFault::DegenerateChain { tlid } => write!(f, "map fault {name} tlid {tlid}"),
             MapFault::DuplicatePolygon { polygon } => {
-                write!(f, "map fault M8 DuplicatePolygon polygon {polygon}")
+                write!(f, "map fault {name} polygon {polygon}")
             }
             MapFault::SideWithoutPolygon { tlid, polygon } => {
-                write!(
-                    f,
-                    "map fault M9 SideWithoutPolygon tlid {tlid} polygon {polygon}"
-                )
+                write!(f, "map fault {name} tlid {tlid} polygon {polygon}")
             }
-            MapFault::LinkWithoutLandmark { land } => {
-                write!(f, "map fault M10 LinkWithoutLandmark land {land}")
-            }
+            MapFault::LinkWithoutLandmark { land } => write!(f, "map fault {name} land {land}"),
             MapFault::LinkWithoutPolygon { polygon, land } => {
-                write!(
-                    f,
-                    "map fault M11 LinkWithoutPolygon polygon {polygon} land {land}"
-                )
+                write!(f, "map fault {name} polygon {polygon} land {land}")
             }
-            MapFault::DegenerateChain { tlid } => {
-                write!(f, "map fault M12 DegenerateChain tlid {tlid}")
-            }
-            MapFault::TooMany(what) => write!(f, "map fault M13 TooMany {what}"),
+            MapFault::TooMany(what) => write!(f, "map fault {name} {what}"),
         }
     }
 }
@@ -153,7 +157,7 @@ impl fmt::Display for MapStop {
             MapStop::Refused { line, cause } => write!(f, "refused line {line} {cause}"),
             MapStop::Device => f.write_str("stopped Device"),
             MapStop::Memory => f.write_str("stopped Memory"),
-            MapStop::Fault(fault) => write!(f, "{fault}"),
+            MapStop::Fault(fault) => fault.fmt(f),
         }
     }
 }
