@@ -1,16 +1,27 @@
--- Faults of the map of records are faults of the records.
-use Rattle.std.proofs.Common.{ℕ, List, Option, Ok, Err}
+-- What an answer says of the map of records it says of the records.
+use Rattle.std.proofs.Common.{◌≡◌, ℕ, ◌≤◌, List, Option, Ok, Err, inl, inr, refl}
+use Rattle.std.specs.Prelude.{IfErr}
 use Rattle.std.specs.Option.{IfSome}
 use Rattle.std.proofs.lemmas.Option.{IfSome_then}
+use Rattle.tl_record.specs.Failures.{one_more}
 use Rattle.tl_record.specs.Records.{Records as AllRecords}
+use Rattle.tl_map.specs.declared.fault.MapStop.{MapStop}
+use Rattle.tl_map.specs.declared.fault.MapStop.TheVariants as map
 use Rattle.tl_map.specs.TheMap.{TheMap}
-use Rattle.tl_map.specs.Reading.{IsReadFrom}
+use Rattle.tl_map.specs.Reading.{IsReadFrom, StopsReading}
+use Rattle.tl_map.specs.Reading.{TellsDevice as TellsReading}
 use Rattle.tl_check.specs.declared.fault.MapFault.{MapFault}
 use Rattle.tl_check.specs.declared.fault.MapFault.TheVariants.{Records, Meet, Side, PolygonPoint, Cell}
+use Rattle.tl_check.specs.declared.verdict.Report.{Report}
 use Rattle.tl_check.specs.declared.verdict.Verdict.TheVariants as verdict
+use Rattle.tl_check.specs.declared.fault.CertFault.{CertFault}
+use Rattle.tl_check.specs.declared.stop.Stop.{Stop}
+use Rattle.tl_check.specs.declared.stop.Stop.TheVariants as stop
 use Rattle.tl_check.specs.Truth.{IsTrueOfMap}
-use Rattle.tl_check.specs.Verdicts.{Answer, IfMapFault}
-use Rattle.tl_check.specs.Records.{IsTrueOfRecords}
+use Rattle.tl_check.specs.Verdicts.{Answer, OnSound, IfSound, IfMapFault, IfCertFault}
+use Rattle.tl_check.specs.Texts.{MayStopReading, TellsDevice}
+use Rattle.tl_check.specs.Records.{HaveMap, IsTrueOfRecords, MayStopOn, TellsEither, LeavesUnread}
+use Rattle.tl_check.specs.Keeping.Answers.{refusal_of}
 
 true_of_records : (all : AllRecords) (m : TheMap) (f : MapFault) → IsReadFrom all m → IsTrueOfMap m f → IsTrueOfRecords all f
 true_of_records all m (Records fault) is true = absurd true
@@ -19,8 +30,103 @@ true_of_records all m (Side node first next) is true = record { map = m; is_read
 true_of_records all m (PolygonPoint fault) is true = record { map = m; is_read = is; so = true }
 true_of_records all m (Cell odds) is true = record { map = m; is_read = is; so = true }
 
-pub map_fault : (of : List ℕ → AllRecords) (text : Option (List ℕ)) (m : TheMap) (answer : Answer) → IfSome text (λ t. IsReadFrom (of t) m) → IfMapFault answer (IsTrueOfMap m) → IfMapFault answer (λ f. IfSome text (λ t. IsTrueOfRecords (of t) f))
-map_fault of text m (Ok (verdict.MapFault f)) is true = IfSome_then text is (λ t read. true_of_records (of t) m f read true)
-map_fault of text m (Ok (verdict.Sound report)) is true = tt
-map_fault of text m (Ok (verdict.CertFault f)) is true = tt
-map_fault of text m (Err stop) is true = tt
+-- an answer to the map of the records
+module _ (of : List ℕ → AllRecords) (text : Option (List ℕ)) (m : TheMap) (is : IfSome text (λ t. IsReadFrom (of t) m)) where
+  pub on_sound : (P : TheMap → Type 0) (answer : Answer) → OnSound answer (P m) → OnSound answer (IfSome text (λ t. HaveMap (of t) P))
+  on_sound P (Ok (verdict.Sound report)) so = IfSome_then text is (λ t read. record { map = m; is_read = read; so = so })
+  on_sound P (Ok (verdict.MapFault fault)) so = tt
+  on_sound P (Ok (verdict.CertFault fault)) so = tt
+  on_sound P (Err why) so = tt
+
+  pub on_sound_text : (spelt : Option (List ℕ)) (P : TheMap → List ℕ → Type 0) (answer : Answer) → OnSound answer (IfSome spelt (P m)) → OnSound answer (IfSome text (λ t. IfSome spelt (λ s. HaveMap (of t) (λ n. P n s))))
+  on_sound_text spelt P (Ok (verdict.Sound report)) so = IfSome_then text is (λ t read. IfSome_then spelt so (λ s holds. record { map = m; is_read = read; so = holds }))
+  on_sound_text spelt P (Ok (verdict.MapFault fault)) so = tt
+  on_sound_text spelt P (Ok (verdict.CertFault fault)) so = tt
+  on_sound_text spelt P (Err why) so = tt
+
+  pub if_sound : (P : TheMap → Report → Type 0) (answer : Answer) → IfSound answer (P m) → IfSound answer (λ r. IfSome text (λ t. HaveMap (of t) (λ n. P n r)))
+  if_sound P (Ok (verdict.Sound report)) so = IfSome_then text is (λ t read. record { map = m; is_read = read; so = so })
+  if_sound P (Ok (verdict.MapFault fault)) so = tt
+  if_sound P (Ok (verdict.CertFault fault)) so = tt
+  if_sound P (Err why) so = tt
+
+  pub map_fault : (answer : Answer) → IfMapFault answer (IsTrueOfMap m) → IfMapFault answer (λ f. IfSome text (λ t. IsTrueOfRecords (of t) f))
+  map_fault (Ok (verdict.MapFault f)) true = IfSome_then text is (λ t read. true_of_records (of t) m f read true)
+  map_fault (Ok (verdict.Sound report)) true = tt
+  map_fault (Ok (verdict.CertFault f)) true = tt
+  map_fault (Err why) true = tt
+
+  pub cert_fault : (spelt : Option (List ℕ)) (P : TheMap → List ℕ → CertFault → Type 0) (answer : Answer) → IfCertFault answer (λ f. IfSome spelt (λ s. P m s f)) → IfCertFault answer (λ f. IfSome text (λ t. IfSome spelt (λ s. HaveMap (of t) (λ n. P n s f))))
+  cert_fault spelt P (Ok (verdict.CertFault f)) true = IfSome_then text is (λ t read. IfSome_then spelt true (λ s holds. record { map = m; is_read = read; so = holds }))
+  cert_fault spelt P (Ok (verdict.Sound report)) true = tt
+  cert_fault spelt P (Ok (verdict.MapFault f)) true = tt
+  cert_fault spelt P (Err why) true = tt
+
+  stop_on : (budget : ℕ) (why : Stop) → MayStopReading m budget why → IfSome text (λ t. MayStopOn (of t) budget why)
+  stop_on budget (stop.Record line cause) may = absurd may
+  stop_on budget stop.Memory may = IfSome_then text is (λ t read. tt)
+  stop_on budget stop.Device may = IfSome_then text is (λ t read. tt)
+  stop_on budget stop.Budget may = IfSome_then text is (λ t read. record { map = m; is_read = read; so = may })
+
+  pub stops : (budget : ℕ) (answer : Answer) → IfErr answer (MayStopReading m budget) → IfErr answer (λ why. IfSome text (λ t. MayStopOn (of t) budget why))
+  stops budget (Ok verdict) may = tt
+  stops budget (Err why) may = stop_on budget why may
+
+-- an answer to a map leaves nothing unread
+pub unread : (m : TheMap) (budget : ℕ) (P : Type 0) (answer : Answer) → IfMapFault answer (IsTrueOfMap m) → IfErr answer (MayStopReading m budget) → LeavesUnread answer P
+unread m budget P (Ok (verdict.Sound report)) true may = tt
+unread m budget P (Ok (verdict.CertFault f)) true may = tt
+unread m budget P (Ok (verdict.MapFault (Records fault))) true may = absurd true
+unread m budget P (Ok (verdict.MapFault (Meet meet))) true may = tt
+unread m budget P (Ok (verdict.MapFault (Side node first next))) true may = tt
+unread m budget P (Ok (verdict.MapFault (PolygonPoint fault))) true may = tt
+unread m budget P (Ok (verdict.MapFault (Cell odds))) true may = tt
+unread m budget P (Err (stop.Record line cause)) true may = absurd may
+unread m budget P (Err stop.Memory) true may = tt
+unread m budget P (Err stop.Device) true may = tt
+unread m budget P (Err stop.Budget) true may = tt
+
+-- where reading the records counted no failure, one of the certificate's alone is told
+pub tells_either : (old new cert_old cert_new : ℕ) (answer : Answer) → new ≡ old → TellsDevice cert_old cert_new answer → TellsEither old new cert_old cert_new answer
+tells_either old new cert_old cert_new (Ok verdict) same tells = (same, tells)
+tells_either old new cert_old cert_new (Err (stop.Record line cause)) same tells = (same, tells)
+tells_either old new cert_old cert_new (Err stop.Memory) same tells = (same, tells)
+tells_either old new cert_old cert_new (Err stop.Device) same tells = inr (same, tells)
+tells_either old new cert_old cert_new (Err stop.Budget) same tells = (same, tells)
+
+-- where the records have no map
+pub refused_sound : (why : MapStop) (P : Report → Type 0) → IfSound (refusal_of why) P
+refused_sound (map.Refused line cause) P = tt
+refused_sound map.Device P = tt
+refused_sound map.Memory P = tt
+refused_sound (map.Fault fault) P = tt
+
+pub refused_cert : (why : MapStop) (P : CertFault → Type 0) → IfCertFault (refusal_of why) P
+refused_cert (map.Refused line cause) P = tt
+refused_cert map.Device P = tt
+refused_cert map.Memory P = tt
+refused_cert (map.Fault fault) P = tt
+
+pub refused_fault : (of : List ℕ → AllRecords) (text : Option (List ℕ)) (why : MapStop) → IfSome text (λ t. StopsReading (of t) why) → IfMapFault (refusal_of why) (λ f. IfSome text (λ t. IsTrueOfRecords (of t) f))
+refused_fault of text (map.Refused line cause) stops = tt
+refused_fault of text map.Device stops = tt
+refused_fault of text map.Memory stops = tt
+refused_fault of text (map.Fault fault) stops = stops
+
+pub refused_stops : (of : List ℕ → AllRecords) (text : Option (List ℕ)) (budget : ℕ) (why : MapStop) → IfSome text (λ t. StopsReading (of t) why) → IfErr (refusal_of why) (λ s. IfSome text (λ t. MayStopOn (of t) budget s))
+refused_stops of text budget (map.Refused line cause) stops = stops
+refused_stops of text budget map.Device stops = stops
+refused_stops of text budget map.Memory stops = stops
+refused_stops of text budget (map.Fault fault) stops = tt
+
+pub refused_unread : (why : MapStop) (P : Type 0) → P → LeavesUnread (refusal_of why) P
+refused_unread (map.Refused line cause) P p = p
+refused_unread map.Device P p = tt
+refused_unread map.Memory P p = tt
+refused_unread (map.Fault fault) P p = p
+
+pub refused_tells : (T : Type 0) (old new cert : ℕ) (why : MapStop) → TellsReading {T = T} old new (Err why) → TellsEither old new cert cert (refusal_of why)
+refused_tells T old new cert (map.Refused line cause) tells = (tells, refl)
+refused_tells T old new cert map.Device tells = inl (tells, refl)
+refused_tells T old new cert map.Memory tells = (tells, refl)
+refused_tells T old new cert (map.Fault fault) tells = (tells, refl)
