@@ -8,3 +8,4 @@ pub mod Denials
 pub mod Walking
 pub mod OneMap
 pub mod Deciding
+pub mod Halting

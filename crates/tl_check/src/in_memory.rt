@@ -9,6 +9,7 @@ ghost use Rattle.tl_cells.specs.Cells.{CellsAgree};
 ghost use Rattle.tl_check.specs.Sound.{AreClosed};
 ghost use Rattle.tl_check.specs.Valid.{IsValid};
 ghost use Rattle.tl_check.specs.Truth.{IsTrueOfMap, IsTrueOfCert, IsOfDarts};
+ghost use Rattle.tl_check.specs.Keeping.Streams.{Shows};
 ghost use Rattle.tl_check.specs.Verdicts.{OnSound, IfSound, IfMapFault, IfCertFault, IsReport, MayStop};
 
 use crate::answer::{answer, report};
@@ -51,6 +52,13 @@ pub fn check_map(alloc: Global, map: &Map, cert: &Certificate, budget: u64) -> R
     ensures behind { IfCertFault result (λ fault. IsOfDarts fault → IsPlanar map.now.chains) }
     // It stops where memory was refused, or more than the budget had to be tested.
     ensures stops { IfErr result (MayStop map.now budget) }
+{
+    check_whole(alloc, map, cert, budget)
+}
+
+// The answer, with one clause for all that it says.
+fn check_whole(alloc: Global, map: &Map, cert: &Certificate, budget: u64) -> Result<Verdict, Stop>
+    ensures { Shows map.now cert.now budget result }
 {
     if !are_counts(map, cert.counts()) {
         return Ok(Verdict::CertFault(CertFault::Counts));

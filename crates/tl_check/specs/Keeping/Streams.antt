@@ -1,5 +1,5 @@
--- What is kept of a certificate that is checked as its parts come.
-use Rattle.std.specs.Prelude.{ℕ, ◌<◌, List, Option, Ok, Err, ⊤}
+-- What is kept of a certificate that is checked as its parts come, and what its answer says.
+use Rattle.std.specs.Prelude.{ℕ, ◌<◌, ◌≤◌, List, Option, Ok, Err, ⊤}
 use Rattle.std.specs.Option.{IfSome}
 use Rattle.tl_map.specs.TheMap.{TheMap}
 use Rattle.tl_planar.specs.Planar.{IsPlanar}
@@ -17,7 +17,7 @@ use Rattle.tl_check.specs.declared.verdict.Verdict.TheVariants as verdict
 use Rattle.tl_check.specs.declared.stop.Stop.TheVariants.{Record, Memory, Device, Budget}
 use Rattle.tl_check.specs.declared.state.State.{State}
 use Rattle.tl_check.specs.Sound.{AreClosed}
-use Rattle.tl_check.specs.Truth.{IsTrueOfMap, IsTrueOfCert}
+use Rattle.tl_check.specs.Truth.{IsTrueOfMap, IsTrueOfCert, IsOfDarts}
 use Rattle.tl_check.specs.Texts.{IsTrueOfText, IsValidText}
 use Rattle.tl_check.specs.Verdicts.{Answer, IsReport, AreNumbers}
 use Rattle.tl_check.specs.Keeping.Parts.{Holds, TakesRounds, TakesWalks, IsShown}
@@ -67,3 +67,20 @@ Concludes m c (Err (Record line cause)) = ⊥
 Concludes m c (Err Memory) = ⊤
 Concludes m c (Err Device) = ⊥
 Concludes m c (Err Budget) = ⊥
+
+-- the map is sound by a certificate, and the report has its numbers
+pub record IsSoundByCert (m : TheMap) (c : TheCertificate) (budget : ℕ) (r : Report) : Type 0 where
+  pub rings : ℕ
+  pub shown : IsShown m c rings
+  pub numbers : AreNumbers m rings r
+  pub within : meeting_segments m.chains ≤ budget
+
+-- what an answer says of a map and a certificate in memory
+abbrev pub Shows : TheMap → TheCertificate → ℕ → Answer → Type 0
+Shows m c budget (Ok (verdict.Sound report)) = IsSoundByCert m c budget report
+Shows m c budget (Ok (verdict.MapFault fault)) = IsTrueOfMap m fault
+Shows m c budget (Ok (verdict.CertFault fault)) = IsTrueOfCert m c fault × (IsOfDarts fault → IsPlanar m.chains)
+Shows m c budget (Err (Record line cause)) = ⊥
+Shows m c budget (Err Memory) = ⊤
+Shows m c budget (Err Device) = ⊥
+Shows m c budget (Err Budget) = budget < meeting_segments m.chains

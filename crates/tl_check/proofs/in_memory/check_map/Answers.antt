@@ -1,133 +1,38 @@
-use Rattle.std.proofs.Common.{◌≡◌, length, refl, sym, subst, arith}
-use Rattle.tl_check.specs.Truth.{IsTrueOfCert}
-use Rattle.tl_check.specs.Keeping.Parts.{Holds, IsShown}
-use Rattle.tl_check.proofs.Prefixes.{first_rounds, first_walks, all_rounds, all_walks, list_is, as_many, round_taken, walk_taken, has_some}
-use Rattle.tl_check.proofs.Walking.{told_ok, told_err}
-use Rattle.tl_check.proofs.Shown.{are_closed, is_report}
+use Rattle.tl_check.proofs.Halting.{planar, sides, closed, points, cells, valid, within, reported, map_fault, cert_fault, behind, stops}
 use Rattle.tl_check.proofs.in_memory.check_map.Goals as goal
 
-pub loop-round-init : goal.loop-round-init
-loop-round-init c = record {
-  holds = c.in-Ok.ensures.holds (first_rounds c.args.cert.now 0) (rw (← c.counts.ensures) (c.are_counts.ensures.0 c.if-not-are_counts.false)) (sym c.tree.ensures.tree) refl refl;
-  takes = c.in-Ok.ensures.rounds;
-  searched = c.in-Ok.ensures.searched;
-  behind = c.in-Ok.ensures.behind;
-}
+pub returns-clause-planar : goal.returns-clause-planar
+returns-clause-planar c = planar c.args.map.now c.args.cert.now c.args.budget c.check_whole.result c.check_whole.ensures
 
-pub take_round-state-requires-clause-some : goal.take_round-state-requires-clause-some
-take_round-state-requires-clause-some c =
-    let vs = c.rounds-round-items.result.now in
-    let i = c.loop-round.round-index in
-    let test = c.loop-round-test.true in
-    let many : length vs ≡ length c.args.cert.now.rounds = as_many vs c.args.cert.now.rounds c.rounds-round-items.ensures.rounds in
-    has_some c.args.cert.now.rounds i c.deref.result.now c.rounds-round-items.ensures.each
-    (list_is vs c.args.cert.now.rounds i c.round-item.result c.deref.result.now c.rounds-round-items.ensures.rounds test c.round-item.is c.deref.ensures.value)
-    (omega (arith, many, test))
+pub returns-clause-sides : goal.returns-clause-sides
+returns-clause-sides c = sides c.args.map.now c.args.cert.now c.args.budget c.check_whole.result c.check_whole.ensures
 
-pub loop-round-preserved : goal.loop-round-preserved
-loop-round-preserved c =
-    let vs = c.rounds-round-items.result.now in
-    let i = c.loop-round.round-index in
-    let test = c.loop-round-test.true in
-    let many : length vs ≡ length c.args.cert.now.rounds = as_many vs c.args.cert.now.rounds c.rounds-round-items.ensures.rounds in
-    record {
-      holds = round_taken c.args.map.now c.args.cert.now i c.deref.result.now c.take_round-state.result
-          (list_is vs c.args.cert.now.rounds i c.round-item.result c.deref.result.now c.rounds-round-items.ensures.rounds test c.round-item.is c.deref.ensures.value)
-          (omega (arith, many, test))
-          (c.take_round-state.ensures.holds (first_rounds c.args.cert.now i) c.loop-round.invariant.holds);
-      takes = c.take_round-state.ensures.takes;
-      searched = c.take_round-state.ensures.searched c.args.budget c.loop-round.invariant.searched;
-      behind = c.take_round-state.ensures.behind c.loop-round.invariant.behind;
-    }
+pub returns-clause-closed : goal.returns-clause-closed
+returns-clause-closed c = closed c.args.map.now c.args.cert.now c.args.budget c.check_whole.result c.check_whole.ensures
 
-pub loop-walk-init : goal.loop-walk-init
-loop-walk-init c =
-    let vs = c.rounds-round-items.result.now in
-    let i = c.loop-round.round-index in
-    let test = c.loop-round-test.false in
-    let many : length vs ≡ length c.args.cert.now.rounds = as_many vs c.args.cert.now.rounds c.rounds-round-items.ensures.rounds in
-    record {
-      holds = subst (λ d. Holds c.args.map.now d c.in-Ok-end_rounds.state) (all_rounds c.args.cert.now i (omega (arith, many, test)))
-          (c.in-Ok-end_rounds.ensures.holds (first_rounds c.args.cert.now i) c.loop-round.invariant.holds);
-      takes = c.in-Ok-end_rounds.ensures.walks;
-      searched = c.in-Ok-end_rounds.ensures.searched c.args.budget c.loop-round.invariant.searched;
-      behind = c.in-Ok-end_rounds.ensures.behind c.loop-round.invariant.behind;
-    }
+pub returns-clause-points : goal.returns-clause-points
+returns-clause-points c = points c.args.map.now c.args.cert.now c.args.budget c.check_whole.result c.check_whole.ensures
 
-pub take_walk-requires-clause-some : goal.take_walk-requires-clause-some
-take_walk-requires-clause-some c =
-    let vs = c.walks-walk-items.result.now in
-    let i = c.loop-walk.walk-index in
-    let test = c.loop-walk-test.true in
-    let many : length vs ≡ length c.args.cert.now.walks = as_many vs c.args.cert.now.walks c.walks-walk-items.ensures.walks in
-    has_some c.args.cert.now.walks i c.deref-in-loop-walk.result.now c.walks-walk-items.ensures.each
-    (list_is vs c.args.cert.now.walks i c.walk-item.result c.deref-in-loop-walk.result.now c.walks-walk-items.ensures.walks test c.walk-item.is c.deref-in-loop-walk.ensures.value)
-    (omega (arith, many, test))
+pub returns-clause-cells : goal.returns-clause-cells
+returns-clause-cells c = cells c.args.map.now c.args.cert.now c.args.budget c.check_whole.result c.check_whole.ensures
 
-pub loop-walk-preserved : goal.loop-walk-preserved
-loop-walk-preserved c =
-    let vs = c.walks-walk-items.result.now in
-    let i = c.loop-walk.walk-index in
-    let test = c.loop-walk-test.true in
-    let many : length vs ≡ length c.args.cert.now.walks = as_many vs c.args.cert.now.walks c.walks-walk-items.ensures.walks in
-    record {
-      holds = walk_taken c.args.map.now c.args.cert.now i c.deref-in-loop-walk.result.now c.in-Ok-take_walk.state
-          (list_is vs c.args.cert.now.walks i c.walk-item.result c.deref-in-loop-walk.result.now c.walks-walk-items.ensures.walks test c.walk-item.is c.deref-in-loop-walk.ensures.value)
-          (omega (arith, many, test))
-          (c.in-Ok-take_walk.ensures.holds (first_walks c.args.cert.now i) c.loop-walk.invariant.holds);
-      takes = c.in-Ok-take_walk.ensures.takes;
-      searched = c.in-Ok-take_walk.ensures.searched c.args.budget c.loop-walk.invariant.searched;
-      behind = c.in-Ok-take_walk.ensures.behind c.loop-walk.invariant.behind;
-    }
+pub returns-clause-valid : goal.returns-clause-valid
+returns-clause-valid c = valid c.args.map.now c.args.cert.now c.args.budget c.check_whole.result c.check_whole.ensures
 
-pub finish_walks-requires-clause-held : goal.finish_walks-requires-clause-held
-finish_walks-requires-clause-held c = (first_walks c.args.cert.now c.loop-walk.walk-index, c.loop-walk.invariant.holds, sym c.tree-2.ensures.tree)
+pub returns-clause-within : goal.returns-clause-within
+returns-clause-within c = within c.args.map.now c.args.cert.now c.args.budget c.check_whole.result c.check_whole.ensures
 
--- what is shown once all walks were taken
-shown : (c : goal.After-report) → IsShown c.args.map.now c.args.cert.now c.in-Ok-Ok.rings
-shown c =
-    let vs = c.walks-walk-items.result.now in
-    let i = c.loop-walk.walk-index in
-    let test = c.loop-walk-test.false in
-    let many : length vs ≡ length c.args.cert.now.walks = as_many vs c.args.cert.now.walks c.walks-walk-items.ensures.walks in
-    subst (λ d. IsShown c.args.map.now d c.in-Ok-Ok.rings) (all_walks c.args.cert.now i (omega (arith, many, test)))
-    (told_ok _ c.in-Ok-Ok.field-0 c.in-Ok-Ok.rings c.in-Ok-Ok.field-0-is c.in-Ok-Ok.ensures.shown (first_walks c.args.cert.now i) c.loop-walk.invariant.holds)
+pub returns-clause-report : goal.returns-clause-report
+returns-clause-report c = reported c.args.map.now c.args.cert.now c.args.budget c.check_whole.result c.check_whole.ensures
 
-pub returns-in-Ok-Ok-clause-planar : goal.returns-in-Ok-Ok-clause-planar
-returns-in-Ok-Ok-clause-planar c = (shown c).planar
+pub returns-clause-map_fault : goal.returns-clause-map_fault
+returns-clause-map_fault c = map_fault c.args.map.now c.args.cert.now c.args.budget c.check_whole.result c.check_whole.ensures
 
-pub returns-in-Ok-Ok-clause-sides : goal.returns-in-Ok-Ok-clause-sides
-returns-in-Ok-Ok-clause-sides c = (shown c).sides
+pub returns-clause-cert_fault : goal.returns-clause-cert_fault
+returns-clause-cert_fault c = cert_fault c.args.map.now c.args.cert.now c.args.budget c.check_whole.result c.check_whole.ensures
 
-pub returns-in-Ok-Ok-clause-points : goal.returns-in-Ok-Ok-clause-points
-returns-in-Ok-Ok-clause-points c = (shown c).points
+pub returns-clause-behind : goal.returns-clause-behind
+returns-clause-behind c = behind c.args.map.now c.args.cert.now c.args.budget c.check_whole.result c.check_whole.ensures
 
-pub returns-in-Ok-Ok-clause-cells : goal.returns-in-Ok-Ok-clause-cells
-returns-in-Ok-Ok-clause-cells c = (shown c).cells
-
-pub returns-in-Ok-Ok-clause-valid : goal.returns-in-Ok-Ok-clause-valid
-returns-in-Ok-Ok-clause-valid c = (shown c).valid
-
-pub returns-in-Ok-Ok-clause-closed : goal.returns-in-Ok-Ok-clause-closed
-returns-in-Ok-Ok-clause-closed c = are_closed c.args.map.now c.args.cert.now c.in-Ok-Ok.rings (shown c)
-
-pub returns-in-Ok-Ok-clause-report : goal.returns-in-Ok-Ok-clause-report
-returns-in-Ok-Ok-clause-report c = is_report c.args.map.now c.args.cert.now c.in-Ok-Ok.rings (shown c) c.report.result c.report.ensures
-
-pub returns-in-Ok-Ok-clause-within : goal.returns-in-Ok-Ok-clause-within
-returns-in-Ok-Ok-clause-within c = told_ok _ c.in-Ok-Ok.field-0 c.in-Ok-Ok.rings c.in-Ok-Ok.field-0-is c.in-Ok-Ok.ensures.searched c.args.budget c.loop-walk.invariant.searched
-
-pub returns-in-Ok-Err-clause-cert_fault : goal.returns-in-Ok-Err-clause-cert_fault
-returns-in-Ok-Err-clause-cert_fault c =
-    let vs = c.walks-walk-items.result.now in
-    let i = c.loop-walk.walk-index in
-    let test = c.loop-walk-test.false in
-    let many : length vs ≡ length c.args.cert.now.walks = as_many vs c.args.cert.now.walks c.walks-walk-items.ensures.walks in
-    subst (λ d. IsTrueOfCert c.args.map.now d c.in-Ok-Err.fault) (all_walks c.args.cert.now i (omega (arith, many, test)))
-    (told_err _ c.in-Ok-Err.field-0 c.in-Ok-Err.fault c.in-Ok-Err.field-0-is c.in-Ok-Err.ensures.fault (first_walks c.args.cert.now i) c.loop-walk.invariant.holds)
-
-pub returns-in-Ok-Err-clause-behind : goal.returns-in-Ok-Err-clause-behind
-returns-in-Ok-Err-clause-behind c = told_err _ c.in-Ok-Err.field-0 c.in-Ok-Err.fault c.in-Ok-Err.field-0-is c.in-Ok-Err.ensures.behind c.loop-walk.invariant.behind
-
-pub returns-then-not-are_counts-clause-behind : goal.returns-then-not-are_counts-clause-behind
-returns-then-not-are_counts-clause-behind c = λ of_darts. absurd of_darts
+pub returns-clause-stops : goal.returns-clause-stops
+returns-clause-stops c = stops c.args.map.now c.args.cert.now c.args.budget c.check_whole.result c.check_whole.ensures

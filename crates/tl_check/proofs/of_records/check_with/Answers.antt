@@ -38,7 +38,7 @@ pub returns-in-Ok-clause-report : goal.returns-in-Ok-clause-report
 returns-in-Ok-clause-report g c = if_sound (λ t. records_of (layout_with c.args.options) t) (g.R.Source.remaining c.args.records.now) c.in-Ok.map c.in-Ok.ensures.map IsReport c.check_cert.result c.check_cert.ensures.report
 
 pub returns-in-Ok-clause-map_fault : goal.returns-in-Ok-clause-map_fault
-returns-in-Ok-clause-map_fault g c = map_fault (λ t. records_of (layout_with c.args.options) t) (g.R.Source.remaining c.args.records.now) c.in-Ok.map c.in-Ok.ensures.map  c.check_cert.result c.check_cert.ensures.map_fault
+returns-in-Ok-clause-map_fault g c = map_fault (λ t. records_of (layout_with c.args.options) t) (g.R.Source.remaining c.args.records.now) c.in-Ok.map c.in-Ok.ensures.map c.check_cert.result c.check_cert.ensures.map_fault
 
 pub returns-in-Ok-clause-cert_fault : goal.returns-in-Ok-clause-cert_fault
 returns-in-Ok-clause-cert_fault g c = cert_fault (λ t. records_of (layout_with c.args.options) t) (g.R.Source.remaining c.args.records.now) c.in-Ok.map c.in-Ok.ensures.map (g.S.Source.remaining c.args.cert.now) IsTrueOfText c.check_cert.result c.check_cert.ensures.cert_fault

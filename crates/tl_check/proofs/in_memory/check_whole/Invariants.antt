@@ -1,6 +1,6 @@
 use Rattle.tl_check.specs.Keeping.Parts.{Holds, TakesRounds, TakesWalks, IsSearched, IsBehindSearch}
 use Rattle.tl_check.proofs.Prefixes.{first_rounds, first_walks}
-use Rattle.tl_check.proofs.in_memory.check_map.Given as goal
+use Rattle.tl_check.proofs.in_memory.check_whole.Given as goal
 
 -- the state holds of the rounds so far
 abbrev pub invariant-loop-round : goal.invariant-loop-round

@@ -1,0 +1,92 @@
+-- What the clauses of an answer read off what it says.
+use Rattle.std.proofs.Common.{◌≡◌, ℕ, ◌≤◌, Ok, Err}
+use Rattle.std.specs.Prelude.{IfErr}
+use Rattle.tl_map.specs.TheMap.{TheMap}
+use Rattle.tl_planar.specs.Planar.{IsPlanar}
+use Rattle.tl_planar.specs.Searching.{meeting_segments}
+use Rattle.tl_sides.specs.Sides.{SidesAgree}
+use Rattle.tl_inside.specs.Placed.{ArePlaced}
+use Rattle.tl_cells.specs.Cells.{CellsAgree}
+use Rattle.tl_cert.specs.Certificates.{TheCertificate}
+use Rattle.tl_check.specs.declared.state.Halt.{Halt}
+use Rattle.tl_check.specs.declared.state.Halt.TheVariants as halt
+use Rattle.tl_check.specs.declared.verdict.Report.{Report}
+use Rattle.tl_check.specs.declared.verdict.Verdict.TheVariants as verdict
+use Rattle.tl_check.specs.declared.stop.Stop.TheVariants.{Record, Memory, Device, Budget}
+use Rattle.tl_check.specs.Sound.{AreClosed}
+use Rattle.tl_check.specs.Valid.{IsValid}
+use Rattle.tl_check.specs.Truth.{IsTrueOfMap, IsTrueOfCert, IsOfDarts}
+use Rattle.tl_check.specs.Verdicts.{Answer, OnSound, IfSound, IfMapFault, IfCertFault, IsReport, MayStop}
+use Rattle.tl_check.specs.Keeping.Answers.{answer_of}
+use Rattle.tl_check.specs.Keeping.Parts.{MayHalt, MayEnd}
+use Rattle.tl_check.specs.Keeping.Streams.{IsSoundByCert, Shows}
+use Rattle.tl_check.proofs.Shown.{are_closed, is_report}
+
+pub halted : (m : TheMap) (c : TheCertificate) (budget : ℕ) (why : Halt) → MayHalt m budget why → Shows m c budget (answer_of why)
+halted m c budget (halt.Fault fault) may = may
+halted m c budget halt.Memory may = tt
+halted m c budget halt.Budget may = may
+
+pub ended : (m : TheMap) (c : TheCertificate) (budget : ℕ) (why : Halt) → MayEnd m why → Shows m c budget (answer_of why)
+ended m c budget (halt.Fault fault) may = may
+ended m c budget halt.Memory may = tt
+ended m c budget halt.Budget may = absurd may
+
+module _ (m : TheMap) (c : TheCertificate) (budget : ℕ) where
+  on_sound : (P : Type 0) → ((r : Report) → IsSoundByCert m c budget r → P) → (answer : Answer) → Shows m c budget answer → OnSound answer P
+  on_sound P leads (Ok (verdict.Sound report)) shows = leads report shows
+  on_sound P leads (Ok (verdict.MapFault fault)) shows = tt
+  on_sound P leads (Ok (verdict.CertFault fault)) shows = tt
+  on_sound P leads (Err why) shows = tt
+
+  pub planar : (answer : Answer) → Shows m c budget answer → OnSound answer (IsPlanar m.chains)
+  planar = on_sound (IsPlanar m.chains) (λ r is. is.shown.planar)
+
+  pub sides : (answer : Answer) → Shows m c budget answer → OnSound answer (SidesAgree m.chains)
+  sides = on_sound (SidesAgree m.chains) (λ r is. is.shown.sides)
+
+  pub closed : (answer : Answer) → Shows m c budget answer → OnSound answer (AreClosed m)
+  closed = on_sound (AreClosed m) (λ r is. are_closed m c is.rings is.shown)
+
+  pub points : (answer : Answer) → Shows m c budget answer → OnSound answer (ArePlaced m)
+  points = on_sound (ArePlaced m) (λ r is. is.shown.points)
+
+  pub cells : (answer : Answer) → Shows m c budget answer → OnSound answer (CellsAgree m.chains)
+  cells = on_sound (CellsAgree m.chains) (λ r is. is.shown.cells)
+
+  pub valid : (answer : Answer) → Shows m c budget answer → OnSound answer (IsValid m c)
+  valid = on_sound (IsValid m c) (λ r is. is.shown.valid)
+
+  pub within : (answer : Answer) → Shows m c budget answer → OnSound answer (meeting_segments m.chains ≤ budget)
+  within = on_sound (meeting_segments m.chains ≤ budget) (λ r is. is.within)
+
+  pub reported : (answer : Answer) → Shows m c budget answer → IfSound answer (IsReport m)
+  reported (Ok (verdict.Sound report)) shows = is_report m c shows.rings shows.shown report shows.numbers
+  reported (Ok (verdict.MapFault fault)) shows = tt
+  reported (Ok (verdict.CertFault fault)) shows = tt
+  reported (Err why) shows = tt
+
+  pub map_fault : (answer : Answer) → Shows m c budget answer → IfMapFault answer (IsTrueOfMap m)
+  map_fault (Ok (verdict.Sound report)) shows = tt
+  map_fault (Ok (verdict.MapFault fault)) shows = shows
+  map_fault (Ok (verdict.CertFault fault)) shows = tt
+  map_fault (Err why) shows = tt
+
+  pub cert_fault : (answer : Answer) → Shows m c budget answer → IfCertFault answer (IsTrueOfCert m c)
+  cert_fault (Ok (verdict.Sound report)) shows = tt
+  cert_fault (Ok (verdict.MapFault fault)) shows = tt
+  cert_fault (Ok (verdict.CertFault fault)) shows = shows.0
+  cert_fault (Err why) shows = tt
+
+  pub behind : (answer : Answer) → Shows m c budget answer → IfCertFault answer (λ fault. IsOfDarts fault → IsPlanar m.chains)
+  behind (Ok (verdict.Sound report)) shows = tt
+  behind (Ok (verdict.MapFault fault)) shows = tt
+  behind (Ok (verdict.CertFault fault)) shows = shows.1
+  behind (Err why) shows = tt
+
+  pub stops : (answer : Answer) → Shows m c budget answer → IfErr answer (MayStop m budget)
+  stops (Ok verdict) shows = tt
+  stops (Err (Record line cause)) shows = absurd shows
+  stops (Err Memory) shows = tt
+  stops (Err Device) shows = absurd shows
+  stops (Err Budget) shows = shows
