@@ -1,5 +1,8 @@
 //! What can be wrong with a map, and with a certificate.
 
+ghost use Rattle.std.specs.Prelude.{◌≡◌, ◌++◌, codes, decimal};
+ghost use Rattle.tl_check.specs.Messages.{tree_text, round_text, walk_text};
+
 use std::fmt;
 use tl_cells::CellsAtOdds;
 use tl_geom::{Point, Rational};
@@ -33,7 +36,7 @@ impl fmt::Display for MapFault {
 
     fn fmt<W: fmt::Write>(&self, f: &mut fmt::Formatter<W>) -> fmt::Result {
         match self {
-            MapFault::Records(fault) => write!(f, "{fault}"),
+            MapFault::Records(fault) => fault.fmt(f),
             MapFault::Meet(meet) => {
                 let first = SegmentName {
                     tlid: meet.tlid,
@@ -148,81 +151,57 @@ impl fmt::Display for CertFault {
             CertFault::Text { line } => write!(f, "certificate fault K1 Text line {line}"),
             CertFault::Counts => f.write_str("certificate fault K2 Counts"),
             CertFault::Tree(fault) => {
-                let cause = TreeCause(*fault);
-                write!(f, "certificate fault K3 Tree {cause}")
+                let (name, number) = tree_cause(*fault);
+                write!(f, "certificate fault K3 Tree {name} {number}")
             }
             CertFault::TooDeep => f.write_str("certificate fault K3 Tree TooDeep"),
             CertFault::Round(fault) => {
-                let cause = RoundCause(*fault);
-                write!(f, "certificate fault K4 Round {cause}")
+                let (name, number) = round_cause(*fault);
+                write!(f, "certificate fault K4 Round {name} {number}")
             }
             CertFault::Walk(fault) => {
-                let cause = WalkCause(*fault);
-                write!(f, "certificate fault K5 Walk {cause}")
+                let (name, number) = walk_cause(*fault);
+                write!(f, "certificate fault K5 Walk {name} {number}")
             }
         }
     }
 }
 
-// How a tree's fault is printed: its name and its number.
-#[derive(Clone, Copy)]
-struct TreeCause(TreeFault);
-
-impl fmt::Display for TreeCause {
-    ghost use Rattle.std.specs.Prelude.{Some};
-    ghost use Rattle.tl_check.specs.Messages.{tree_text};
-
-    ghost output = { λ cause. Some (tree_text cause.0) };
-
-    fn fmt<W: fmt::Write>(&self, f: &mut fmt::Formatter<W>) -> fmt::Result {
-        match self.0 {
-            TreeFault::UnknownIndex(index) => write!(f, "UnknownIndex {index}"),
-            TreeFault::IndexTwice(index) => write!(f, "IndexTwice {index}"),
-            TreeFault::IndexMissing(index) => write!(f, "IndexMissing {index}"),
-            TreeFault::RectTooSmall(node) => write!(f, "RectTooSmall {node}"),
-        }
+// The name of a tree's fault, and the index or the node that it is about.
+fn tree_cause(fault: TreeFault) -> (&'static str, u32)
+    ensures { result.0.now ++ codes " " ++ decimal result.1 ≡ tree_text fault }
+{
+    match fault {
+        TreeFault::UnknownIndex(index) => ("UnknownIndex", index),
+        TreeFault::IndexTwice(index) => ("IndexTwice", index),
+        TreeFault::IndexMissing(index) => ("IndexMissing", index),
+        TreeFault::RectTooSmall(node) => ("RectTooSmall", node),
     }
 }
 
-// How a fault of rounds is printed: its name and its number.
-#[derive(Clone, Copy)]
-struct RoundCause(RoundFault);
-
-impl fmt::Display for RoundCause {
-    ghost use Rattle.std.specs.Prelude.{Some};
-    ghost use Rattle.tl_check.specs.Messages.{round_text};
-
-    ghost output = { λ cause. Some (round_text cause.0) };
-
-    fn fmt<W: fmt::Write>(&self, f: &mut fmt::Formatter<W>) -> fmt::Result {
-        match self.0 {
-            RoundFault::UnknownDart(dart) => write!(f, "UnknownDart {dart}"),
-            RoundFault::DartTwice(dart) => write!(f, "DartTwice {dart}"),
-            RoundFault::DartMissing(dart) => write!(f, "DartMissing {dart}"),
-            RoundFault::StartsElsewhere(round) => write!(f, "StartsElsewhere {round}"),
-            RoundFault::NodeRepeated(round) => write!(f, "NodeRepeated {round}"),
-            RoundFault::OrderNotRising(round) => write!(f, "OrderNotRising {round}"),
-        }
+// The name of a fault of rounds, and the dart or the round that it is about.
+fn round_cause(fault: RoundFault) -> (&'static str, u32)
+    ensures { result.0.now ++ codes " " ++ decimal result.1 ≡ round_text fault }
+{
+    match fault {
+        RoundFault::UnknownDart(dart) => ("UnknownDart", dart),
+        RoundFault::DartTwice(dart) => ("DartTwice", dart),
+        RoundFault::DartMissing(dart) => ("DartMissing", dart),
+        RoundFault::StartsElsewhere(round) => ("StartsElsewhere", round),
+        RoundFault::NodeRepeated(round) => ("NodeRepeated", round),
+        RoundFault::OrderNotRising(round) => ("OrderNotRising", round),
     }
 }
 
-// How a fault of walks is printed: its name and its number.
-#[derive(Clone, Copy)]
-struct WalkCause(WalkFault);
-
-impl fmt::Display for WalkCause {
-    ghost use Rattle.std.specs.Prelude.{Some};
-    ghost use Rattle.tl_check.specs.Messages.{walk_text};
-
-    ghost output = { λ cause. Some (walk_text cause.0) };
-
-    fn fmt<W: fmt::Write>(&self, f: &mut fmt::Formatter<W>) -> fmt::Result {
-        match self.0 {
-            WalkFault::UnknownDart(dart) => write!(f, "UnknownDart {dart}"),
-            WalkFault::DartTwice(dart) => write!(f, "DartTwice {dart}"),
-            WalkFault::DartMissing(dart) => write!(f, "DartMissing {dart}"),
-            WalkFault::WrongStep(walk) => write!(f, "WrongStep {walk}"),
-            WalkFault::NotClosed(walk) => write!(f, "NotClosed {walk}"),
-        }
+// The name of a fault of walks, and the dart or the walk that it is about.
+fn walk_cause(fault: WalkFault) -> (&'static str, u32)
+    ensures { result.0.now ++ codes " " ++ decimal result.1 ≡ walk_text fault }
+{
+    match fault {
+        WalkFault::UnknownDart(dart) => ("UnknownDart", dart),
+        WalkFault::DartTwice(dart) => ("DartTwice", dart),
+        WalkFault::DartMissing(dart) => ("DartMissing", dart),
+        WalkFault::WrongStep(walk) => ("WrongStep", walk),
+        WalkFault::NotClosed(walk) => ("NotClosed", walk),
     }
 }
