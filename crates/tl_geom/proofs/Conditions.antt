@@ -1,10 +1,11 @@
 -- What a test says, alone and after another.
-use Rattle.std.proofs.Common.{◌≡◌, ◌↔◌, Bool, true, false, IsTrue, Ordering, ℤ, pos, ◌<ℤ◌, ◌≤ℤ◌, sym, ◌∙◌, refl, arith}
+use Rattle.std.proofs.Common.{◌≡◌, ◌≢◌, ◌↔◌, ◌&&◌, int_eq, rules, Bool, true, false, IsTrue, Ordering, ℤ, pos, ◌<ℤ◌, ◌≤ℤ◌, sym, ◌∙◌, refl, arith}
 use Rattle.std.proofs.lemmas.Int.{ints}
 use Rattle.std.proofs.lemmas.Cmp.{int_ranked}
 use Rattle.std.specs.declared.cmp.Ordering.TheVariants.{Less, Equal, Greater}
 use Rattle.std.specs.Ordering.{int_cmp, is_lt, is_eq, is_gt, MatchOrdering}
 use lib.Signed.{le_z}
+use Rattle.tl_geom.specs.declared.point.Point.{Point}
 use borrow.Author.Differences.{true_is_le}
 
 -- a test that comes after a test that passed
@@ -49,3 +50,10 @@ eq_test z o e = eq_cases z o (int_ranked z (pos 0) o e)
 -- one fact that holds exactly where another does, and that where a third does
 pub iff_trans : {P Q R : Type 0} → (P ↔ Q) → (Q ↔ R) → P ↔ R
 iff_trans p q = (λ h. q.0 (p.0 h), λ r. p.1 (q.1 r))
+
+-- whether two points are one
+pub same_point : (p q : Point) (b : Bool) → b ≡ (int_eq p.x q.x && int_eq p.y q.y) → b ≡ true → p ≡ q
+same_point p q b e h = search rules
+
+pub other_point : (p q : Point) (b : Bool) → b ≡ (int_eq p.x q.x && int_eq p.y q.y) → b ≡ false → p ≢ q
+other_point p q b e h = search rules

@@ -1,7 +1,8 @@
 -- Numbers that fit their types are the same behind a cast, a call or a step of arithmetic.
-use Rattle.std.proofs.Common.{◌≡◌, ℕ, Bool, true, false, ◌<◌, ◌≤◌, ◌^◌, ◌*◌, ℤ, pos, ◌+ℤ◌, ◌-ℤ◌, ◌*ℤ◌, ◌<ℤ◌, ◌≤ℤ◌, ◌↔◌, IsTrue, unsigned_abs, ap, sym, subst, ◌∙◌, arith}
-use Rattle.std.proofs.lemmas.Int.{ints, to_z-of_z, unsigned_abs-mul, fits_signed_from_abs}
+use Rattle.std.proofs.Common.{◌≡◌, ℕ, Bool, true, false, ◌<◌, ◌≤◌, ◌^◌, ◌*◌, ℤ, pos, ◌+ℤ◌, ◌-ℤ◌, ◌*ℤ◌, ◌<ℤ◌, ◌≤ℤ◌, ◌↔◌, IsTrue, unsigned_abs, ap, sym, subst, ◌∙◌, lit<, arith}
+use Rattle.std.proofs.lemmas.Int.{ints, to_z-of_z, unsigned_abs-mul, fits_signed_from_abs, fits_signed_mul}
 use Rattle.std.proofs.lemmas.Nat.{mul-lt}
+use Rattle.std.proofs.Math.Facts.{sfits_widen}
 use Rattle.std.proofs.lemmas.Bool.Decides.{nat_tests}
 use lib.Dec.{eqb}
 use lib.Signed.{lt_z}
@@ -97,6 +98,23 @@ below_zero z h e = subst (λ v. v <ℤ pos 0) (read_back z h) (test_passed (to_z
 pub neither : (z : ℤ) → unsigned_abs z < 2 ^ 65 → lt_z (pos 0) (to_z w128 (of_z w128 z)) ≡ false → lt_z (to_z w128 (of_z w128 z)) (pos 0) ≡ false → z ≡ pos 0
 neither z h e f = sym (read_back z h) ∙ tests_failed (to_z w128 (of_z w128 z)) e f
 
+test_missed : (a b : ℤ) → lt_z a b ≡ false → b ≤ℤ a
+test_missed a b e = omega (arith, ints)
+
+pub is_negative : (z : ℤ) → SFits w128 z → lt_z (to_z w128 (of_z w128 z)) (pos 0) ≡ true → z <ℤ pos 0
+is_negative z f e = subst (λ v. v <ℤ pos 0) (to_z-of_z w128 z f) (test_passed (to_z w128 (of_z w128 z)) (pos 0) e)
+
+pub not_negative : (z : ℤ) → SFits w128 z → lt_z (to_z w128 (of_z w128 z)) (pos 0) ≡ false → pos 0 ≤ℤ z
+not_negative z f e = subst (λ v. pos 0 ≤ℤ v) (to_z-of_z w128 z f) (test_missed (to_z w128 (of_z w128 z)) (pos 0) e)
+
+pub is_lower : (a b : ℤ) → SFits w128 a → SFits w128 b → lt_z (to_z w128 (of_z w128 a)) (to_z w128 (of_z w128 b)) ≡ true → a <ℤ b
+is_lower a b f g e =
+    subst (λ v. v <ℤ b) (to_z-of_z w128 a f) (subst (λ v. to_z w128 (of_z w128 a) <ℤ v) (to_z-of_z w128 b g) (test_passed (to_z w128 (of_z w128 a)) (to_z w128 (of_z w128 b)) e))
+
+pub not_lower : (a b : ℤ) → SFits w128 a → SFits w128 b → lt_z (to_z w128 (of_z w128 a)) (to_z w128 (of_z w128 b)) ≡ false → b ≤ℤ a
+not_lower a b f g e =
+    subst (λ v. b ≤ℤ v) (to_z-of_z w128 a f) (subst (λ v. v ≤ℤ to_z w128 (of_z w128 a)) (to_z-of_z w128 b g) (test_missed (to_z w128 (of_z w128 a)) (to_z w128 (of_z w128 b)) e))
+
 -- ---- whether a cross product is 0
 
 pub is_zero : (z : ℤ) → unsigned_abs z < 2 ^ 65 → of_z w128 z ≡ 0 → z ≡ pos 0
@@ -124,9 +142,6 @@ not_parallel s t d e n =
 pub share_bound : (parts along : ℤ) → unsigned_abs parts < 2 ^ 65 → pos 0 ≤ℤ along → along ≤ℤ parts → unsigned_abs along < 2 ^ 65
 share_bound parts along h low high = omega (arith, ints)
 
-sum_is : (k l x y u v p a n : ℤ) → k ≡ x → l ≡ y → x ≡ p *ℤ a → y ≡ n *ℤ u → u ≡ v → k +ℤ l ≡ p *ℤ a +ℤ n *ℤ v
-sum_is k l x y u v p a n e f g h i = cc
-
 place_is : (p a n b r p' a' n' b' k A B : ℤ) → p' ≡ p → a' ≡ a → n' ≡ n → b' ≡ b → k ≡ r → r ≡ p' *ℤ a' +ℤ n' *ℤ (b' -ℤ a') → a ≡ A → b ≡ B → k ≡ p *ℤ A +ℤ n *ℤ (B -ℤ A)
 place_is p a n b r p' a' n' b' k A B e f g h i j m o = cc
 
@@ -135,3 +150,46 @@ pub place_found : (p n a b r A B : ℤ) → SFits w128 p → SFits w128 n → SF
     to_z w128 (of_z w128 r) ≡ p *ℤ A +ℤ n *ℤ (B -ℤ A)
 place_found p n a b r A B fp fn fa fb fr e f g =
     place_is p a n b r _ _ _ _ _ A B (to_z-of_z w128 p fp) (to_z-of_z w32 a fa) (to_z-of_z w128 n fn) (to_z-of_z w32 b fb) (to_z-of_z w128 r fr) g e f
+
+-- the same, in the steps that the code takes
+narrow : (a r : ℤ) → SFits w32 a → r ≡ to_z w32 (of_z w32 a) → to_z w128 (of_z w128 r) ≡ a
+narrow a r f e = ap (λ z. to_z w128 (of_z w128 z)) (e ∙ to_z-of_z w32 a f) ∙ to_z-of_z w128 a (sfits_widen tt f)
+
+pub narrow_bound : (a r : ℤ) → SFits w32 a → r ≡ to_z w32 (of_z w32 a) → unsigned_abs (to_z w128 (of_z w128 r)) < 2 ^ 32
+narrow_bound a r f e =
+    let small : unsigned_abs a < 2 ^ 32 = omega (arith, ints, f.sfits) in
+    subst (λ z. unsigned_abs z < 2 ^ 32) (sym (narrow a r f e)) small
+
+pub wide_bound : (d r : ℤ) → unsigned_abs d < 2 ^ 32 → r ≡ to_z w64 (of_z w64 d) → unsigned_abs (to_z w128 (of_z w128 r)) < 2 ^ 32
+wide_bound d r h e = subst (λ z. unsigned_abs z < 2 ^ 32) (sym (widened d r h e)) h
+
+pub coordinate_found : (p n a b f d g k l r : ℤ) → SFits w128 p → SFits w128 n → SFits w32 a → SFits w32 b → SFits w128 r →
+    f ≡ to_z w32 (of_z w32 a) → d ≡ to_z w32 (of_z w32 b) -ℤ to_z w32 (of_z w32 a) → unsigned_abs d < 2 ^ 32 → g ≡ to_z w64 (of_z w64 d) →
+    k ≡ to_z w128 (of_z w128 p) *ℤ to_z w128 (of_z w128 f) → unsigned_abs k < 2 ^ 97 → l ≡ to_z w128 (of_z w128 n) *ℤ to_z w128 (of_z w128 g) → unsigned_abs l < 2 ^ 97 →
+    r ≡ to_z w128 (of_z w128 k) +ℤ to_z w128 (of_z w128 l) → to_z w128 (of_z w128 r) ≡ p *ℤ a +ℤ n *ℤ (b -ℤ a)
+coordinate_found p n a b f d g k l r fp fn fa fb fr ef ed hd eg ek hk el hl er =
+    joined (to_z w128 (of_z w128 r)) r (to_z w128 (of_z w128 k)) k (to_z w128 (of_z w128 l)) l (to_z w128 (of_z w128 p)) p (to_z w128 (of_z w128 n)) n (to_z w128 (of_z w128 f)) a (to_z w128 (of_z w128 g)) (b -ℤ a)
+    (to_z-of_z w128 r fr) er (to_z-of_z w128 k (fits128 k hk)) (to_z-of_z w128 l (fits128 l hl)) ek el (to_z-of_z w128 p fp) (to_z-of_z w128 n fn) (narrow a f fa ef)
+    (widened d g hd eg ∙ step_found a b d fa fb ed)
+  where
+    joined : (R r K k L l P p N n F a G e : ℤ) → R ≡ r → r ≡ K +ℤ L → K ≡ k → L ≡ l → k ≡ P *ℤ F → l ≡ N *ℤ G → P ≡ p → N ≡ n → F ≡ a → G ≡ e → R ≡ p *ℤ a +ℤ n *ℤ e
+    joined R r K k L l P p N n F a G e h1 h2 h3 h4 h5 h6 h7 h8 h9 h10 = cc
+
+-- ---- a product of any two numbers of 64 bits
+
+whole : (a r : ℤ) → SFits w64 a → r ≡ to_z w64 (of_z w64 a) → to_z w128 (of_z w128 r) ≡ a
+whole a r f e = ap (λ z. to_z w128 (of_z w128 z)) (e ∙ to_z-of_z w64 a f) ∙ to_z-of_z w128 a (sfits_widen tt f)
+
+at_most_half : (a : ℤ) → SFits w64 a → unsigned_abs a ≤ 2 ^ 63
+at_most_half a f = omega (arith, ints, f.sfits)
+
+pub whole_product_fits : (a b r t : ℤ) → SFits w64 a → SFits w64 b → r ≡ to_z w64 (of_z w64 a) → t ≡ to_z w64 (of_z w64 b) → SFits w128 (to_z w128 (of_z w128 r) *ℤ to_z w128 (of_z w128 t))
+whole_product_fits a b r t f g e h =
+    subst (λ z. SFits w128 z) (sym (product_is (to_z w128 (of_z w128 r)) (to_z w128 (of_z w128 t)) a b (whole a r f e) (whole b t g h)))
+    (fits_signed_mul w128 a b (2 ^ 63) (2 ^ 63) (at_most_half a f) (at_most_half b g) (lit< tt))
+
+pub whole_product : (a b r t : ℤ) → SFits w64 a → SFits w64 b → r ≡ to_z w64 (of_z w64 a) → t ≡ to_z w64 (of_z w64 b) →
+    to_z w128 (of_z w128 (to_z w128 (of_z w128 r) *ℤ to_z w128 (of_z w128 t))) ≡ a *ℤ b
+whole_product a b r t f g e h =
+    to_z-of_z w128 (to_z w128 (of_z w128 r) *ℤ to_z w128 (of_z w128 t)) (whole_product_fits a b r t f g e h)
+    ∙ product_is (to_z w128 (of_z w128 r)) (to_z w128 (of_z w128 t)) a b (whole a r f e) (whole b t g h)
