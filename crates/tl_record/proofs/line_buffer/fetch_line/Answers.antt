@@ -1,4 +1,4 @@
-use Rattle.std.proofs.Common.{◌≡◌, sym, ap, ◌∙◌, length}
+use Rattle.std.proofs.Common.{◌≡◌, sym, ap, ◌∙◌, length, arith}
 use Rattle.tl_record.specs.Lines.{line_feeds}
 use Rattle.std.proofs.KnownBytes.{Keeps-trans}
 use Rattle.tl_record.proofs.KnownLemmas.{fetched_kept}
@@ -40,3 +40,6 @@ pub returns-in-Err-clause-shows : goal.returns-in-Err-clause-shows
 returns-in-Err-clause-shows g c =
     let none = no_feed_found c.fetches.buffer c.bytes-bytes.result.now c.fetches.searched c.bytes-bytes.ensures.value c.fetches.invariant.searched c.fetches.invariant.none c.in_default.ensures in
     ap line_feeds c.in-Err.ensures.bytes.0 ∙ none
+
+pub slice_bounds-memchr-end : goal.slice_bounds-memchr-end
+slice_bounds-memchr-end g c = omega arith

@@ -29,3 +29,15 @@ returns-in-Ok-clause-bytes g c =
         ended = λ none. c.in-Ok.ensures.bytes.1 (sym size ∙ none) (omega arith);
       },
     )
+
+pub overflow_sub-self : goal.overflow_sub-self
+overflow_sub-self g c = omega arith
+
+pub slice_bounds-fetch-count : goal.slice_bounds-fetch-count
+slice_bounds-fetch-count g c = omega arith
+
+pub slice_bounds-fetch-start : goal.slice_bounds-fetch-start
+slice_bounds-fetch-start g c = omega arith
+
+pub slice_bounds-fetch-end : goal.slice_bounds-fetch-end
+slice_bounds-fetch-end g c = omega arith
