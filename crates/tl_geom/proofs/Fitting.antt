@@ -1,5 +1,5 @@
 -- Numbers that fit their types are the same behind a cast, a call or a step of arithmetic.
-use Rattle.std.proofs.Common.{◌≡◌, ℕ, Bool, true, false, ◌<◌, ◌≤◌, ◌^◌, ◌*◌, ℤ, pos, ◌+ℤ◌, ◌-ℤ◌, ◌*ℤ◌, ◌<ℤ◌, ◌≤ℤ◌, ◌↔◌, IsTrue, unsigned_abs, ap, sym, subst, ◌∙◌, lit<, arith}
+use Rattle.std.proofs.Common.{◌≡◌, ℕ, true, false, ◌<◌, ◌≤◌, ◌^◌, ◌*◌, ℤ, pos, ◌+ℤ◌, ◌-ℤ◌, ◌*ℤ◌, ◌<ℤ◌, ◌≤ℤ◌, ◌↔◌, IsTrue, unsigned_abs, ap, sym, subst, ◌∙◌, lit<, arith}
 use Rattle.std.proofs.lemmas.Int.{ints, to_z-of_z, unsigned_abs-mul, fits_signed_from_abs, fits_signed_mul}
 use Rattle.std.proofs.lemmas.Nat.{mul-lt}
 use Rattle.std.proofs.Math.Facts.{sfits_widen}
@@ -193,3 +193,19 @@ pub whole_product : (a b r t : ℤ) → SFits w64 a → SFits w64 b → r ≡ to
 whole_product a b r t f g e h =
     to_z-of_z w128 (to_z w128 (of_z w128 r) *ℤ to_z w128 (of_z w128 t)) (whole_product_fits a b r t f g e h)
     ∙ product_is (to_z w128 (of_z w128 r)) (to_z w128 (of_z w128 t)) a b (whole a r f e) (whole b t g h)
+
+sum_is : (x y a b : ℤ) → x ≡ a → y ≡ b → x +ℤ y ≡ a +ℤ b
+sum_is x y a b e f = cc
+
+-- ---- a sum of two numbers of 32 bits
+
+pub narrow_sum_fits : (a b r t : ℤ) → SFits w32 a → SFits w32 b → r ≡ to_z w32 (of_z w32 a) → t ≡ to_z w32 (of_z w32 b) → SFits w128 (to_z w128 (of_z w128 r) +ℤ to_z w128 (of_z w128 t))
+narrow_sum_fits a b r t f g e h =
+    subst (λ z. SFits w128 z) (sym (sum_is (to_z w128 (of_z w128 r)) (to_z w128 (of_z w128 t)) a b (narrow a r f e) (narrow b t g h)))
+    (fits_signed_from_abs w128 (a +ℤ b) (omega (arith, ints, f.sfits, g.sfits)))
+
+pub narrow_sum : (a b r t : ℤ) → SFits w32 a → SFits w32 b → r ≡ to_z w32 (of_z w32 a) → t ≡ to_z w32 (of_z w32 b) →
+    to_z w128 (of_z w128 (to_z w128 (of_z w128 r) +ℤ to_z w128 (of_z w128 t))) ≡ a +ℤ b
+narrow_sum a b r t f g e h =
+    to_z-of_z w128 (to_z w128 (of_z w128 r) +ℤ to_z w128 (of_z w128 t)) (narrow_sum_fits a b r t f g e h)
+    ∙ sum_is (to_z w128 (of_z w128 r)) (to_z w128 (of_z w128 t)) a b (narrow a r f e) (narrow b t g h)

@@ -1,4 +1,4 @@
-use Rattle.std.proofs.Common.{lit≤, ◌^◌, ap, pos, ◌≤ℤ◌, ◌<ℤ◌, rules, subst}
+use Rattle.std.proofs.Common.{lit≤, ◌^◌, ap, pos, ◌≤ℤ◌, ◌<ℤ◌, rules}
 use Rattle.std.proofs.lemmas.Int.{to_z-of_z}
 use mir.Syntax.{w128}
 use mir.Val.{to_z, of_z}
