@@ -1,6 +1,6 @@
 -- What writes tell of failures and of what the sink took.
 use Rattle.std.proofs.Common.{◌≡◌, ℕ, List, [], ◌++◌, Result, Ok, Err, refl, sym, ap, ◌∙◌, arith, false, take, drop}
-use Rattle.std.proofs.Common.{append_assoc, take-append-drop}
+use Rattle.std.proofs.Common.{append_assoc, append-nil, take-append-drop}
 use Rattle.std.specs.Io.KnownBytes.{Appends}
 use Rattle.std.proofs.KnownBytes.{Appends-trans}
 use Rattle.std.proofs.lemmas.Bool.Decides.{nat_tests}
@@ -54,3 +54,8 @@ pub passes_then : {T E : Type 0} (r : Result T E) (old mid new : Option (List �
 passes_then (Ok x) old mid new held kept last front behind p q = passes_both old mid new held kept last front behind p q
 passes_then (Err e) old mid new held kept last front behind p q =
     record { lost = q.lost; passes = passes_both old mid new held kept q.lost front behind p q.passes }
+
+-- all that was held was passed on
+pub passes_held : (old new : Option (List ℕ)) (held kept text : List ℕ) → text ≡ held → kept ≡ [] → PassesOn old new [] [] text → PassesOn old new held kept []
+passes_held old new held kept text same none p =
+    record { taken = p.taken; grown = p.grown; whole = ap (λ l. p.taken ++ l) none ∙ p.whole ∙ same ∙ sym (append-nil held) }
