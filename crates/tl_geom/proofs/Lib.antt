@@ -1,4 +1,5 @@
 pub mod Polynomials
+pub mod Fitting
 pub mod Signs
 pub mod Places
 pub mod Lines

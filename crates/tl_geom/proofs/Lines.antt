@@ -10,47 +10,96 @@ use Rattle.tl_geom.proofs.Polynomials.{num, ◌⊕◌, ◌⊖◌, ◌⊗◌, sam
 use Rattle.tl_geom.proofs.Signs.{mono, mono_lt, cancel_le, times_zero, product_above}
 use Rattle.tl_geom.proofs.Places.{some_step}
 
--- a place (x, y) over d on both lines, one through (ax, ay) with the step u and one through (px, py) with the step w
+-- ---- a place on both lines: one through (ax, ay) with the step u, one through (px, py) with the step w
+
+-- (X, Y) is how far the place is from the first line's point, and (E, D) how far that point is from the second line's
+eliminated_x : (u v w z X Y E D : ℤ) → cross u v X Y ≡ pos 0 → cross w z (X +ℤ E) (Y +ℤ D) ≡ pos 0 → cross u v w z *ℤ X ≡ cross w z E D *ℤ u
+eliminated_x u v w z X Y E D g f =
+    same_by_two ((num u ⊗ num z ⊖ num v ⊗ num w) ⊗ num X) ((num w ⊗ num D ⊖ num z ⊗ num E) ⊗ num u)
+    (num w) (num u ⊗ num Y ⊖ num v ⊗ num X) (num (pos 0)) (num u) (num (pos 0)) (num w ⊗ (num Y ⊕ num D) ⊖ num z ⊗ (num X ⊕ num E)) g (sym f) (omega arith)
+
+eliminated_y : (u v w z X Y E D : ℤ) → cross u v X Y ≡ pos 0 → cross w z (X +ℤ E) (Y +ℤ D) ≡ pos 0 → cross u v w z *ℤ Y ≡ cross w z E D *ℤ v
+eliminated_y u v w z X Y E D g f =
+    same_by_two ((num u ⊗ num z ⊖ num v ⊗ num w) ⊗ num Y) ((num w ⊗ num D ⊖ num z ⊗ num E) ⊗ num v)
+    (num z) (num u ⊗ num Y ⊖ num v ⊗ num X) (num (pos 0)) (num v) (num (pos 0)) (num w ⊗ (num Y ⊕ num D) ⊖ num z ⊗ (num X ⊕ num E)) g (sym f) (omega arith)
+
+-- what the second line's point is told by, from what the first line's is told by
+passed_x : (u v w z E D : ℤ) → cross u v w z *ℤ E +ℤ cross w z E D *ℤ u ≡ cross u v E D *ℤ w
+passed_x u v w z E D =
+    same ((num u ⊗ num z ⊖ num v ⊗ num w) ⊗ num E ⊕ (num w ⊗ num D ⊖ num z ⊗ num E) ⊗ num u) ((num u ⊗ num D ⊖ num v ⊗ num E) ⊗ num w) (omega arith)
+
+passed_y : (u v w z E D : ℤ) → cross u v w z *ℤ D +ℤ cross w z E D *ℤ v ≡ cross u v E D *ℤ z
+passed_y u v w z E D =
+    same ((num u ⊗ num z ⊖ num v ⊗ num w) ⊗ num D ⊕ (num w ⊗ num D ⊖ num z ⊗ num E) ⊗ num v) ((num u ⊗ num D ⊖ num v ⊗ num E) ⊗ num z) (omega arith)
+
+-- d times a step
+times_step : (w z E D d u : ℤ) → cross w z (d *ℤ E) (d *ℤ D) *ℤ u ≡ d *ℤ (cross w z E D *ℤ u)
+times_step w z E D d u = ap (λ k. k *ℤ u) (drawn_out w z E D d) ∙ associated d (cross w z E D) u
+  where
+    drawn_out : (w z E D d : ℤ) → cross w z (d *ℤ E) (d *ℤ D) ≡ d *ℤ cross w z E D
+    drawn_out w z E D d = same (num w ⊗ (num d ⊗ num D) ⊖ num z ⊗ (num d ⊗ num E)) (num d ⊗ (num w ⊗ num D ⊖ num z ⊗ num E)) (omega arith)
+
+    associated : (a b c : ℤ) → (a *ℤ b) *ℤ c ≡ a *ℤ (b *ℤ c)
+    associated a b c = same (num a ⊗ num b ⊗ num c) (num a ⊗ (num b ⊗ num c)) (omega arith)
+
+-- how far a place is from one point, by how far it is from another
+by_way_of : (x d a p : ℤ) → x -ℤ d *ℤ p ≡ (x -ℤ d *ℤ a) +ℤ d *ℤ (a -ℤ p)
+by_way_of x d a p = same (num x ⊖ num d ⊗ num p) ((num x ⊖ num d ⊗ num a) ⊕ num d ⊗ (num a ⊖ num p)) (omega arith)
+
+times_sum : (c a b : ℤ) → c *ℤ (a +ℤ b) ≡ c *ℤ b +ℤ c *ℤ a
+times_sum c a b = same (num c ⊗ (num a ⊕ num b)) (num c ⊗ num b ⊕ num c ⊗ num a) (omega arith)
+
+-- the second equation, at the way from the first line's point
+second_line : (wx wy ax ay px py x y d : ℤ) → cross wx wy (x -ℤ d *ℤ px) (y -ℤ d *ℤ py) ≡ pos 0 →
+    cross wx wy ((x -ℤ d *ℤ ax) +ℤ d *ℤ (ax -ℤ px)) ((y -ℤ d *ℤ ay) +ℤ d *ℤ (ay -ℤ py)) ≡ pos 0
+second_line wx wy ax ay px py x y d f =
+    subst (λ k. cross wx wy k ((y -ℤ d *ℤ ay) +ℤ d *ℤ (ay -ℤ py)) ≡ pos 0) (by_way_of x d ax px)
+    (subst (λ k. cross wx wy (x -ℤ d *ℤ px) k ≡ pos 0) (by_way_of y d ay py) f)
+
 solved_x : (ux uy wx wy ax ay px py x y d : ℤ) → cross ux uy (x -ℤ d *ℤ ax) (y -ℤ d *ℤ ay) ≡ pos 0 → cross wx wy (x -ℤ d *ℤ px) (y -ℤ d *ℤ py) ≡ pos 0 →
     cross ux uy wx wy *ℤ (x -ℤ d *ℤ ax) ≡ d *ℤ (cross wx wy (ax -ℤ px) (ay -ℤ py) *ℤ ux)
 solved_x ux uy wx wy ax ay px py x y d g f =
-    let u = num ux in let v = num uy in let w = num wx in let z = num wy in let a = num ax in let b = num ay in let p = num px in let q = num py in let X = num x in let Y = num y in let m = num d in
-    same_by_two ((u ⊗ z ⊖ v ⊗ w) ⊗ (X ⊖ m ⊗ a)) (m ⊗ ((w ⊗ (b ⊖ q) ⊖ z ⊗ (a ⊖ p)) ⊗ u))
-    w (u ⊗ (Y ⊖ m ⊗ b) ⊖ v ⊗ (X ⊖ m ⊗ a)) (num (pos 0)) u (num (pos 0)) (w ⊗ (Y ⊖ m ⊗ q) ⊖ z ⊗ (X ⊖ m ⊗ p)) g (sym f) (omega arith)
+    eliminated_x ux uy wx wy (x -ℤ d *ℤ ax) (y -ℤ d *ℤ ay) (d *ℤ (ax -ℤ px)) (d *ℤ (ay -ℤ py)) g (second_line wx wy ax ay px py x y d f)
+    ∙ times_step wx wy (ax -ℤ px) (ay -ℤ py) d ux
 
 solved_y : (ux uy wx wy ax ay px py x y d : ℤ) → cross ux uy (x -ℤ d *ℤ ax) (y -ℤ d *ℤ ay) ≡ pos 0 → cross wx wy (x -ℤ d *ℤ px) (y -ℤ d *ℤ py) ≡ pos 0 →
     cross ux uy wx wy *ℤ (y -ℤ d *ℤ ay) ≡ d *ℤ (cross wx wy (ax -ℤ px) (ay -ℤ py) *ℤ uy)
 solved_y ux uy wx wy ax ay px py x y d g f =
-    let u = num ux in let v = num uy in let w = num wx in let z = num wy in let a = num ax in let b = num ay in let p = num px in let q = num py in let X = num x in let Y = num y in let m = num d in
-    same_by_two ((u ⊗ z ⊖ v ⊗ w) ⊗ (Y ⊖ m ⊗ b)) (m ⊗ ((w ⊗ (b ⊖ q) ⊖ z ⊗ (a ⊖ p)) ⊗ v))
-    z (u ⊗ (Y ⊖ m ⊗ b) ⊖ v ⊗ (X ⊖ m ⊗ a)) (num (pos 0)) v (num (pos 0)) (w ⊗ (Y ⊖ m ⊗ q) ⊖ z ⊗ (X ⊖ m ⊗ p)) g (sym f) (omega arith)
+    eliminated_y ux uy wx wy (x -ℤ d *ℤ ax) (y -ℤ d *ℤ ay) (d *ℤ (ax -ℤ px)) (d *ℤ (ay -ℤ py)) g (second_line wx wy ax ay px py x y d f)
+    ∙ times_step wx wy (ax -ℤ px) (ay -ℤ py) d uy
 
 solved_x' : (ux uy wx wy ax ay px py x y d : ℤ) → cross ux uy (x -ℤ d *ℤ ax) (y -ℤ d *ℤ ay) ≡ pos 0 → cross wx wy (x -ℤ d *ℤ px) (y -ℤ d *ℤ py) ≡ pos 0 →
     cross ux uy wx wy *ℤ (x -ℤ d *ℤ px) ≡ d *ℤ (cross ux uy (ax -ℤ px) (ay -ℤ py) *ℤ wx)
 solved_x' ux uy wx wy ax ay px py x y d g f =
-    let u = num ux in let v = num uy in let w = num wx in let z = num wy in let a = num ax in let b = num ay in let p = num px in let q = num py in let X = num x in let Y = num y in let m = num d in
-    same_by_two ((u ⊗ z ⊖ v ⊗ w) ⊗ (X ⊖ m ⊗ p)) (m ⊗ ((u ⊗ (b ⊖ q) ⊖ v ⊗ (a ⊖ p)) ⊗ w))
-    w (u ⊗ (Y ⊖ m ⊗ b) ⊖ v ⊗ (X ⊖ m ⊗ a)) (num (pos 0)) u (num (pos 0)) (w ⊗ (Y ⊖ m ⊗ q) ⊖ z ⊗ (X ⊖ m ⊗ p)) g (sym f) (omega arith)
+    let E : ℤ = d *ℤ (ax -ℤ px) in
+    let D : ℤ = d *ℤ (ay -ℤ py) in
+    ap (λ k. cross ux uy wx wy *ℤ k) (by_way_of x d ax px) ∙ times_sum (cross ux uy wx wy) (x -ℤ d *ℤ ax) E
+    ∙ ap (λ k. cross ux uy wx wy *ℤ E +ℤ k) (eliminated_x ux uy wx wy (x -ℤ d *ℤ ax) (y -ℤ d *ℤ ay) E D g (second_line wx wy ax ay px py x y d f))
+    ∙ passed_x ux uy wx wy E D ∙ times_step ux uy (ax -ℤ px) (ay -ℤ py) d wx
 
 solved_y' : (ux uy wx wy ax ay px py x y d : ℤ) → cross ux uy (x -ℤ d *ℤ ax) (y -ℤ d *ℤ ay) ≡ pos 0 → cross wx wy (x -ℤ d *ℤ px) (y -ℤ d *ℤ py) ≡ pos 0 →
     cross ux uy wx wy *ℤ (y -ℤ d *ℤ py) ≡ d *ℤ (cross ux uy (ax -ℤ px) (ay -ℤ py) *ℤ wy)
 solved_y' ux uy wx wy ax ay px py x y d g f =
-    let u = num ux in let v = num uy in let w = num wx in let z = num wy in let a = num ax in let b = num ay in let p = num px in let q = num py in let X = num x in let Y = num y in let m = num d in
-    same_by_two ((u ⊗ z ⊖ v ⊗ w) ⊗ (Y ⊖ m ⊗ q)) (m ⊗ ((u ⊗ (b ⊖ q) ⊖ v ⊗ (a ⊖ p)) ⊗ z))
-    z (u ⊗ (Y ⊖ m ⊗ b) ⊖ v ⊗ (X ⊖ m ⊗ a)) (num (pos 0)) v (num (pos 0)) (w ⊗ (Y ⊖ m ⊗ q) ⊖ z ⊗ (X ⊖ m ⊗ p)) g (sym f) (omega arith)
+    let E : ℤ = d *ℤ (ax -ℤ px) in
+    let D : ℤ = d *ℤ (ay -ℤ py) in
+    ap (λ k. cross ux uy wx wy *ℤ k) (by_way_of y d ay py) ∙ times_sum (cross ux uy wx wy) (y -ℤ d *ℤ ay) D
+    ∙ ap (λ k. cross ux uy wx wy *ℤ D +ℤ k) (eliminated_y ux uy wx wy (x -ℤ d *ℤ ax) (y -ℤ d *ℤ ay) E D g (second_line wx wy ax ay px py x y d f))
+    ∙ passed_y ux uy wx wy E D ∙ times_step ux uy (ax -ℤ px) (ay -ℤ py) d wy
 
 -- both shares lead to one place
+moved_over : (c a p s t : ℤ) → c *ℤ (a -ℤ p) +ℤ s ≡ t → c *ℤ a +ℤ s ≡ c *ℤ p +ℤ t
+moved_over c a p s t e =
+    same_by (num c ⊗ num a ⊕ num s) (num c ⊗ num p ⊕ num t) (num (pos 1)) (num c ⊗ (num a ⊖ num p) ⊕ num s) (num t) e (omega arith)
+
 joined_x : (ux uy wx wy ax ay px py : ℤ) →
     cross ux uy wx wy *ℤ ax +ℤ cross wx wy (ax -ℤ px) (ay -ℤ py) *ℤ ux ≡ cross ux uy wx wy *ℤ px +ℤ cross ux uy (ax -ℤ px) (ay -ℤ py) *ℤ wx
 joined_x ux uy wx wy ax ay px py =
-    let u = num ux in let v = num uy in let w = num wx in let z = num wy in let a = num ax in let b = num ay in let p = num px in let q = num py in
-    same ((u ⊗ z ⊖ v ⊗ w) ⊗ a ⊕ (w ⊗ (b ⊖ q) ⊖ z ⊗ (a ⊖ p)) ⊗ u) ((u ⊗ z ⊖ v ⊗ w) ⊗ p ⊕ (u ⊗ (b ⊖ q) ⊖ v ⊗ (a ⊖ p)) ⊗ w) (omega arith)
+    moved_over (cross ux uy wx wy) ax px (cross wx wy (ax -ℤ px) (ay -ℤ py) *ℤ ux) (cross ux uy (ax -ℤ px) (ay -ℤ py) *ℤ wx) (passed_x ux uy wx wy (ax -ℤ px) (ay -ℤ py))
 
 joined_y : (ux uy wx wy ax ay px py : ℤ) →
     cross ux uy wx wy *ℤ ay +ℤ cross wx wy (ax -ℤ px) (ay -ℤ py) *ℤ uy ≡ cross ux uy wx wy *ℤ py +ℤ cross ux uy (ax -ℤ px) (ay -ℤ py) *ℤ wy
 joined_y ux uy wx wy ax ay px py =
-    let u = num ux in let v = num uy in let w = num wx in let z = num wy in let a = num ax in let b = num ay in let p = num px in let q = num py in
-    same ((u ⊗ z ⊖ v ⊗ w) ⊗ b ⊕ (w ⊗ (b ⊖ q) ⊖ z ⊗ (a ⊖ p)) ⊗ v) ((u ⊗ z ⊖ v ⊗ w) ⊗ q ⊕ (u ⊗ (b ⊖ q) ⊖ v ⊗ (a ⊖ p)) ⊗ z) (omega arith)
+    moved_over (cross ux uy wx wy) ay py (cross wx wy (ax -ℤ px) (ay -ℤ py) *ℤ uy) (cross ux uy (ax -ℤ px) (ay -ℤ py) *ℤ wy) (passed_y ux uy wx wy (ax -ℤ px) (ay -ℤ py))
 
 -- ---- the shares, whichever sign the cross product of the directions has
 

@@ -1,6 +1,9 @@
 -- The branches of a contact: by the sign of the cross product of the two directions.
-use Rattle.std.proofs.Common.{◌≡◌, ◌≢◌, inl, inr, ⊎_elim, ℤ, pos, negsuc, ◌-ℤ◌, ◌*ℤ◌, neg_ℤ, ◌<ℤ◌, ◌≤ℤ◌, Option, Some, None, IfSome, IfNone, ap, sym, subst, ◌∙◌, arith}
+use Rattle.std.proofs.Common.{◌≡◌, ◌≢◌, ◌<◌, ◌^◌, unsigned_abs, true, inl, inr, ⊎_elim, ℤ, pos, negsuc, ◌-ℤ◌, ◌*ℤ◌, neg_ℤ, ◌<ℤ◌, ◌≤ℤ◌, Option, Some, None, IfSome, IfNone, ap, sym, subst, ◌∙◌, arith}
 use Rattle.std.proofs.lemmas.Int.{ints}
+use lib.Signed.{lt_z}
+use mir.Syntax.{w128}
+use mir.Val.{to_z, of_z}
 use Rattle.tl_geom.specs.declared.point.Point.{Point}
 use Rattle.tl_geom.specs.declared.rational.Rational.{Rational}
 use Rattle.tl_geom.specs.declared.segment.Segment.{Segment}
@@ -9,6 +12,7 @@ use Rattle.tl_geom.specs.declared.shared.Contact.TheVariants.{Crossing}
 use Rattle.tl_geom.specs.Plane.{cross, step_cross, whole, place_x, place_y}
 use Rattle.tl_geom.specs.Contact.{AreApart, IsTouch, IsCrossing, IsContact}
 use Rattle.tl_geom.specs.Keeping.Lines.{AreShares, AreCrosses, AreInLine, IsEndAt, IsInside}
+use Rattle.tl_geom.proofs.Fitting.{read_back, above_zero, below_zero}
 use Rattle.tl_geom.proofs.Polynomials.{num, ◌⊖◌, ◌⊗◌, same_by_two}
 use Rattle.tl_geom.proofs.Signs.{zero_product}
 use Rattle.tl_geom.proofs.Places.{some_step}
@@ -33,13 +37,13 @@ crosses s t a b p q d n m r =
       second = r.second ∙ ap (λ a. step_cross a b p a) r.first_a ∙ ap (λ b. step_cross s.a b p s.a) r.first_b ∙ ap (λ p. step_cross s.a s.b p s.a) r.second_a;
     }
 
-pub shares_up : (s t : Segment) (a b p q : Point) (d n m : ℤ) → AreRead s t a b p q d n m → pos 0 <ℤ d → AreShares s t d n m
+shares_up : (s t : Segment) (a b p q : Point) (d n m : ℤ) → AreRead s t a b p q d n m → pos 0 <ℤ d → AreShares s t d n m
 shares_up s t a b p q d n m r h = record { above_zero = h; measured = inl (crosses s t a b p q d n m r) }
 
 turned : (x y z : ℤ) → x ≡ neg_ℤ y → y ≡ z → neg_ℤ x ≡ z
 turned x y z e f = omega (arith, ints, e, f)
 
-pub shares_down : (s t : Segment) (a b p q : Point) (d n m d' n' m' : ℤ) → AreRead s t a b p q d n m → d <ℤ pos 0 → d' ≡ neg_ℤ d → n' ≡ neg_ℤ n → m' ≡ neg_ℤ m → AreShares s t d' n' m'
+shares_down : (s t : Segment) (a b p q : Point) (d n m d' n' m' : ℤ) → AreRead s t a b p q d n m → d <ℤ pos 0 → d' ≡ neg_ℤ d → n' ≡ neg_ℤ n → m' ≡ neg_ℤ m → AreShares s t d' n' m'
 shares_down s t a b p q d n m d' n' m' r h e f g =
     let c : AreCrosses s t d n m = crosses s t a b p q d n m r in
     record {
@@ -51,6 +55,26 @@ shares_down s t a b p q d n m d' n' m' r h e f g =
             second = turned m' m (step_cross s.a s.b t.a s.a) g c.second;
           });
     }
+
+-- the three cross products stay below 2 ^ 65, and so are the same where they are passed on
+abbrev pub AreSmall : (d n m : ℤ) → Type 0
+AreSmall d n m = (unsigned_abs d < 2 ^ 65) × (unsigned_abs n < 2 ^ 65) × (unsigned_abs m < 2 ^ 65)
+
+passed_on : (s t : Segment) (d n m : ℤ) → AreSmall d n m → AreShares s t d n m → AreShares s t (to_z w128 (of_z w128 d)) (to_z w128 (of_z w128 n)) (to_z w128 (of_z w128 m))
+passed_on s t d n m small h =
+    subst (λ d. AreShares s t d (to_z w128 (of_z w128 n)) (to_z w128 (of_z w128 m))) (sym (read_back d small.0))
+    (subst (λ n. AreShares s t d n (to_z w128 (of_z w128 m))) (sym (read_back n small.1)) (subst (λ m. AreShares s t d n m) (sym (read_back m small.2)) h))
+
+pub shares_passed_up : (s t : Segment) (a b p q : Point) (d n m : ℤ) → AreRead s t a b p q d n m → AreSmall d n m → lt_z (pos 0) (to_z w128 (of_z w128 d)) ≡ true →
+    AreShares s t (to_z w128 (of_z w128 d)) (to_z w128 (of_z w128 n)) (to_z w128 (of_z w128 m))
+shares_passed_up s t a b p q d n m r small e = passed_on s t d n m small (shares_up s t a b p q d n m r (above_zero d small.0 e))
+
+pub shares_passed_down : (s t : Segment) (a b p q : Point) (d n m d' n' m' : ℤ) → AreRead s t a b p q d n m → AreSmall d n m → AreSmall d' n' m' →
+    lt_z (to_z w128 (of_z w128 d)) (pos 0) ≡ true → d' ≡ neg_ℤ (to_z w128 (of_z w128 d)) → n' ≡ neg_ℤ (to_z w128 (of_z w128 n)) → m' ≡ neg_ℤ (to_z w128 (of_z w128 m)) →
+    AreShares s t (to_z w128 (of_z w128 d')) (to_z w128 (of_z w128 n')) (to_z w128 (of_z w128 m'))
+shares_passed_down s t a b p q d n m d' n' m' r small small' h e f g =
+    passed_on s t d' n' m' small'
+    (shares_down s t a b p q d n m d' n' m' r (below_zero d small.0 h) (e ∙ ap neg_ℤ (read_back d small.0)) (f ∙ ap neg_ℤ (read_back n small.1)) (g ∙ ap neg_ℤ (read_back m small.2)))
 
 pub in_line : (s t : Segment) (a b p q : Point) (d n m : ℤ) → AreRead s t a b p q d n m → d ≡ pos 0 → m ≡ pos 0 → AreInLine s t
 in_line s t a b p q d n m r e f =

@@ -6,7 +6,7 @@ use crate::difference::difference;
 
 /// The way that a step of `x` to the east and `y` to the north goes, never a step of nothing. Steps of any length that go
 /// one way are one direction, so `==` tells more apart than `round_cmp` does.
-#[derive(Clone, Copy, Debug, PartialEq, Eq, Hash)]
+#[derive(Clone, Copy, Debug, PartialEq, Eq)]
 pub struct Direction {
     pub x: i64,
     pub y: i64,

@@ -4,7 +4,7 @@ ghost use Rattle.std.specs.Prelude.{◌<ℤ◌, ◌≡◌, pos};
 use crate::Point;
 
 /// The point `(x/d, y/d)`, with `d` above 0, in the unit of the points that it came from. It is not reduced, so `==` tells apart two ways to write one point.
-#[derive(Clone, Copy, Debug, PartialEq, Eq, Hash)]
+#[derive(Clone, Copy, Debug, PartialEq, Eq)]
 pub struct Rational {
     pub x: i128,
     pub y: i128,

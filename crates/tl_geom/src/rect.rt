@@ -6,7 +6,7 @@ use crate::{Point, Segment};
 
 /// The points from `xmin` to `xmax` and from `ymin` to `ymax`, borders included, in the unit of their coordinates. It is
 /// empty where a minimum exceeds its maximum.
-#[derive(Clone, Copy, Debug, PartialEq, Eq, Hash)]
+#[derive(Clone, Copy, Debug, PartialEq, Eq)]
 pub struct Rect {
     pub xmin: i32,
     pub ymin: i32,

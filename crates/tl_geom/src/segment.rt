@@ -5,7 +5,7 @@ use crate::Point;
 
 /// A straight segment with two different ends, as the points of a chain are joined in the records of a county: their
 /// coordinates are millionths of a degree there, and any `i32` here.
-#[derive(Clone, Copy, Debug, PartialEq, Eq, Hash)]
+#[derive(Clone, Copy, Debug, PartialEq, Eq)]
 pub struct Segment {
     a: Point,
     b: Point,

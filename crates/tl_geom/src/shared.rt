@@ -2,7 +2,7 @@
 use crate::{Point, Rational};
 
 /// What two segments share.
-#[derive(Clone, Copy, Debug, PartialEq, Eq, Hash)]
+#[derive(Clone, Copy, Debug, PartialEq, Eq)]
 pub enum Contact {
     /// No point.
     Apart,

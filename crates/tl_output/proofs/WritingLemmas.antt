@@ -1,12 +1,13 @@
 -- What writes tell of failures and of what the sink took.
 use Rattle.std.proofs.Common.{◌≡◌, ℕ, List, [], ◌++◌, Result, Ok, Err, refl, sym, ap, ◌∙◌, arith, false, take, drop}
-use Rattle.std.proofs.Common.{append_assoc, take-append-drop}
+use Rattle.std.proofs.Common.{append_assoc, append-nil, take-append-drop}
 use Rattle.std.specs.Io.KnownBytes.{Appends}
 use Rattle.std.proofs.KnownBytes.{Appends-trans}
 use Rattle.std.proofs.lemmas.Bool.Decides.{nat_tests}
-use Rattle.std.specs.Prelude.{◌==◌, ◌&&◌, ◌≢◌, not, if◌then◌else◌, Option}
+use Rattle.std.specs.Prelude.{◌==◌, ◌&&◌, ◌≢◌, not, if◌then◌else◌, Option, OnOk}
 use Rattle.tl_record.specs.Failures.{one_more}
-use Rattle.tl_output.specs.Writing.{PassesOn, PassesSome, TriesToPassOn}
+use Rattle.std.specs.Result.{IsErr}
+use Rattle.tl_output.specs.Writing.{PassesOn, PassesSome, TriesToPassOn, CountsFailure}
 
 -- a write that took some bytes has not failed
 pub no_failure : (taken count size : ℕ) → taken ≢ 0
@@ -54,3 +55,22 @@ pub passes_then : {T E : Type 0} (r : Result T E) (old mid new : Option (List �
 passes_then (Ok x) old mid new held kept last front behind p q = passes_both old mid new held kept last front behind p q
 passes_then (Err e) old mid new held kept last front behind p q =
     record { lost = q.lost; passes = passes_both old mid new held kept q.lost front behind p q.passes }
+
+-- all that was held was passed on
+pub passes_held : (old new : Option (List ℕ)) (held kept text : List ℕ) → text ≡ held → kept ≡ [] → PassesOn old new [] [] text → PassesOn old new held kept []
+passes_held old new held kept text same none p =
+    record { taken = p.taken; grown = p.grown; whole = ap (λ l. p.taken ++ l) none ∙ p.whole ∙ same ∙ sym (append-nil held) }
+
+-- ---- what an error says, in the form in which `?` passes it on
+
+pub nothing_ok : {T E : Type 0} (P : Type 0) (r : Result T E) → IsErr r → OnOk r P
+nothing_ok P (Ok x) h = absurd (cc)
+nothing_ok P (Err e) h = tt
+
+pub passes_err : {T E : Type 0} (old new : Option (List ℕ)) (held kept text : List ℕ) (r : Result T E) → IsErr r → PassesSome old new held text → TriesToPassOn old new held kept text r
+passes_err old new held kept text (Ok x) h p = absurd (cc)
+passes_err old new held kept text (Err e) h p = p
+
+pub counts_err : {T E : Type 0} (old new : ℕ) (r : Result T E) → IsErr r → new ≡ one_more old → CountsFailure old new r
+counts_err old new (Ok x) h e = absurd (cc)
+counts_err old new (Err e) h f = f

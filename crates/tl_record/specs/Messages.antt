@@ -31,6 +31,30 @@ field_text Land = codes "LAND"
 field_text LaLong = codes "LALONG"
 field_text LaLat = codes "LALAT"
 
+-- the name of a field, without the number of a shape pair
+abbrev pub field_word : Field → List ℕ
+field_word Tlid = codes "TLID"
+field_word FrLong = codes "FRLONG"
+field_word FrLat = codes "FRLAT"
+field_word ToLong = codes "TOLONG"
+field_word ToLat = codes "TOLAT"
+field_word Rtsq = codes "RTSQ"
+field_word (Long _) = codes "LONG"
+field_word (Lat _) = codes "LAT"
+field_word Tzids = codes "TZIDS"
+field_word Tzide = codes "TZIDE"
+field_word CenidL = codes "CENIDL"
+field_word PolyidL = codes "POLYIDL"
+field_word CenidR = codes "CENIDR"
+field_word PolyidR = codes "POLYIDR"
+field_word Cenid = codes "CENID"
+field_word Polyid = codes "POLYID"
+field_word PolyLong = codes "POLYLONG"
+field_word PolyLat = codes "POLYLAT"
+field_word Land = codes "LAND"
+field_word LaLong = codes "LALONG"
+field_word LaLat = codes "LALAT"
+
 -- the code and the name of a cause, with the field that it is about
 abbrev pub cause_text : Cause → List ℕ
 cause_text LineTooLong = codes "L1 LineTooLong"

@@ -6,7 +6,7 @@ use tl_geom::Point;
 pub const PAIRS: usize = 10;
 
 /// What names a polygon: CENID and POLYID together.
-#[derive(Clone, Copy, Debug, PartialEq, Eq, PartialOrd, Ord, Hash)]
+#[derive(Clone, Copy, Debug, PartialEq, Eq, PartialOrd, Ord)]
 pub struct PolyKey {
     /// Five bytes from 0x20 to 0x7E, as they stand in the record.
     pub cenid: [u8; 5],

@@ -30,6 +30,40 @@ pub enum Field {
     LaLat,
 }
 
+impl Field {
+    ghost use Rattle.std.specs.Prelude.{◌≡◌};
+    ghost use Rattle.tl_record.specs.Messages.{field_word};
+
+    /// The field's name, without the number of a shape pair.
+    fn word(&self) -> &'static str
+        ensures { result.now ≡ field_word self.now }
+    {
+        match self {
+            Field::Tlid => "TLID",
+            Field::FrLong => "FRLONG",
+            Field::FrLat => "FRLAT",
+            Field::ToLong => "TOLONG",
+            Field::ToLat => "TOLAT",
+            Field::Rtsq => "RTSQ",
+            Field::Long(_) => "LONG",
+            Field::Lat(_) => "LAT",
+            Field::Tzids => "TZIDS",
+            Field::Tzide => "TZIDE",
+            Field::CenidL => "CENIDL",
+            Field::PolyidL => "POLYIDL",
+            Field::CenidR => "CENIDR",
+            Field::PolyidR => "POLYIDR",
+            Field::Cenid => "CENID",
+            Field::Polyid => "POLYID",
+            Field::PolyLong => "POLYLONG",
+            Field::PolyLat => "POLYLAT",
+            Field::Land => "LAND",
+            Field::LaLong => "LALONG",
+            Field::LaLat => "LALAT",
+        }
+    }
+}
+
 impl fmt::Display for Field {
     ghost use Rattle.std.specs.Prelude.{Some};
     ghost use Rattle.tl_record.specs.Messages.{field_text};
@@ -37,28 +71,10 @@ impl fmt::Display for Field {
     ghost output = { λ field. Some (field_text field) };
 
     fn fmt<W: fmt::Write>(&self, f: &mut fmt::Formatter<W>) -> fmt::Result {
+        f.write_str(self.word())?;
         match self {
-            Field::Tlid => f.write_str("TLID"),
-            Field::FrLong => f.write_str("FRLONG"),
-            Field::FrLat => f.write_str("FRLAT"),
-            Field::ToLong => f.write_str("TOLONG"),
-            Field::ToLat => f.write_str("TOLAT"),
-            Field::Rtsq => f.write_str("RTSQ"),
-            Field::Long(pair) => write!(f, "LONG{pair}"),
-            Field::Lat(pair) => write!(f, "LAT{pair}"),
-            Field::Tzids => f.write_str("TZIDS"),
-            Field::Tzide => f.write_str("TZIDE"),
-            Field::CenidL => f.write_str("CENIDL"),
-            Field::PolyidL => f.write_str("POLYIDL"),
-            Field::CenidR => f.write_str("CENIDR"),
-            Field::PolyidR => f.write_str("POLYIDR"),
-            Field::Cenid => f.write_str("CENID"),
-            Field::Polyid => f.write_str("POLYID"),
-            Field::PolyLong => f.write_str("POLYLONG"),
-            Field::PolyLat => f.write_str("POLYLAT"),
-            Field::Land => f.write_str("LAND"),
-            Field::LaLong => f.write_str("LALONG"),
-            Field::LaLat => f.write_str("LALAT"),
+            Field::Long(pair) | Field::Lat(pair) => write!(f, "{pair}"),
+            _ => Ok(()),
         }
     }
 }

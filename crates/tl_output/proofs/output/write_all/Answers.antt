@@ -1,8 +1,8 @@
-use Rattle.std.proofs.Common.{◌-◌, ◌++◌, append-nil, rules, length, take, drop, sym, ap, subst, ◌∙◌, arith, length-take}
+use Rattle.std.proofs.Common.{◌-◌, ◌++◌, append-nil, length, take, drop, sym, ap, subst, ◌∙◌, arith, length-take}
 use lib.Seq.{take-add, take-take}
 use Rattle.std.specs.Io.KnownBytes.{Appends}
 use Rattle.std.proofs.KnownBytes.{Appends-trans, Appends-kept}
-use Rattle.tl_output.proofs.WritingLemmas.{no_failure, passes_front}
+use Rattle.tl_output.proofs.WritingLemmas.{no_failure, passes_front, passes_err, nothing_ok}
 use Rattle.tl_output.proofs.output.write_all.Goals as goal
 
 pub loop-written-preserved : goal.loop-written-preserved
@@ -21,11 +21,15 @@ loop-written-preserved g c =
 
 pub returns-in_err-taken-clause-passes : goal.returns-in_err-taken-clause-passes
 returns-in_err-taken-clause-passes g c =
-    let front = passes_front _ _ c.loop-written.written c.args.bytes.now (Appends-kept _ _ _ _ c.loop-written.invariant.1 c.in_err-taken.ensures.bytes) in
-    search (rules, front)
+    passes_err (g.S.Sink.contents c.args.out.now) (g.S.Sink.contents c.put.new.self) _ _ c.args.bytes.now c.from_residual.result c.from_residual.ensures.0
+    (passes_front (g.S.Sink.contents c.args.out.now) (g.S.Sink.contents c.put.new.self) c.loop-written.written c.args.bytes.now
+    (Appends-kept _ _ _ _ c.loop-written.invariant.1 c.in_err-taken.ensures.bytes))
 
 pub returns-then-taken-eq0-clause-passes : goal.returns-then-taken-eq0-clause-passes
 returns-then-taken-eq0-clause-passes g c =
     let nothing = rw c.if-taken-eq0.true at c.in_ok-taken.ensures.bytes in
     passes_front _ _ c.loop-written.written c.args.bytes.now
     (subst (Appends _ _) (append-nil _) (Appends-trans _ _ _ _ _ c.loop-written.invariant.1 nothing))
+
+pub returns-in_err-taken-clause-bytes : goal.returns-in_err-taken-clause-bytes
+returns-in_err-taken-clause-bytes g c = nothing_ok _ c.from_residual.result c.from_residual.ensures.0

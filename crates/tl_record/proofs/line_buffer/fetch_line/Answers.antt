@@ -1,4 +1,5 @@
-use Rattle.std.proofs.Common.{◌≡◌, sym, ap, ◌∙◌, length}
+use Rattle.tl_record.specs.Failures.{one_more}
+use Rattle.std.proofs.Common.{◌≡◌, ◌≤◌, subst, sym, ap, ◌∙◌, length, arith}
 use Rattle.tl_record.specs.Lines.{line_feeds}
 use Rattle.std.proofs.KnownBytes.{Keeps-trans}
 use Rattle.tl_record.proofs.KnownLemmas.{fetched_kept}
@@ -40,3 +41,46 @@ pub returns-in-Err-clause-shows : goal.returns-in-Err-clause-shows
 returns-in-Err-clause-shows g c =
     let none = no_feed_found c.fetches.buffer c.bytes-bytes.result.now c.fetches.searched c.bytes-bytes.ensures.value c.fetches.invariant.searched c.fetches.invariant.none c.in_default.ensures in
     ap line_feeds c.in-Err.ensures.bytes.0 ∙ none
+
+pub slice_bounds-memchr-end : goal.slice_bounds-memchr-end
+slice_bounds-memchr-end g c = omega arith
+
+pub returns-in-Some-clause-bytes : goal.returns-in-Some-clause-bytes
+returns-in-Some-clause-bytes g c = c.fetches.invariant.bytes
+
+pub returns-then-searched-clause-bytes : goal.returns-then-searched-clause-bytes
+returns-then-searched-clause-bytes g c = c.fetches.invariant.bytes
+
+pub returns-in-Some-clause-failures : goal.returns-in-Some-clause-failures
+returns-in-Some-clause-failures g c = c.fetches.invariant.failures
+
+pub returns-then-searched-clause-failures : goal.returns-then-searched-clause-failures
+returns-then-searched-clause-failures g c = c.fetches.invariant.failures
+
+pub returns-in-Some-clause-same_reference : goal.returns-in-Some-clause-same_reference
+returns-in-Some-clause-same_reference g c = c.fetches.invariant.same
+
+pub returns-then-searched-clause-same_reference : goal.returns-then-searched-clause-same_reference
+returns-then-searched-clause-same_reference g c = c.fetches.invariant.same
+
+pub returns-in-Ok-eq0-clause-bytes : goal.returns-in-Ok-eq0-clause-bytes
+returns-in-Ok-eq0-clause-bytes g c =
+    let fetched = c.in-Ok-eq0.ensures.bytes in
+    Keeps-trans _ _ _ c.fetches.invariant.bytes
+    (fetched_kept c.fetches.buffer c.fetch.new.self fetched.0 (g.R.Source.remaining c.fetches.source) (g.R.Source.remaining c.fetch.new.source) fetched.2.added fetched.2.consumed)
+
+pub returns-in-Ok-eq0-clause-failures : goal.returns-in-Ok-eq0-clause-failures
+returns-in-Ok-eq0-clause-failures g c = c.in-Ok-eq0.ensures.failures ∙ c.fetches.invariant.failures
+
+pub returns-in-Ok-eq0-clause-same_reference : goal.returns-in-Ok-eq0-clause-same_reference
+returns-in-Ok-eq0-clause-same_reference g c = c.in-Ok-eq0.ensures.same_reference ∙ c.fetches.invariant.same
+
+pub returns-in-Err-clause-failures : goal.returns-in-Err-clause-failures
+returns-in-Err-clause-failures g c = c.in-Err.ensures.failures ∙ ap one_more c.fetches.invariant.failures
+
+pub returns-in-Err-clause-same_reference : goal.returns-in-Err-clause-same_reference
+returns-in-Err-clause-same_reference g c = c.in-Err.ensures.same_reference ∙ c.fetches.invariant.same
+
+pub slice_bounds-memchr-count : goal.slice_bounds-memchr-count
+slice_bounds-memchr-count g c =
+    subst (λ bytes. c.fetches.searched ≤ length bytes) (sym c.bytes-bytes.ensures.value) c.fetches.invariant.searched

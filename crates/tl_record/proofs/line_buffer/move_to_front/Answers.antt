@@ -14,3 +14,12 @@ loop-index-preserved c =
       rest = drop-set-lt (index + 1) bytes (index - c.args.at) (get_or bytes index 0) place
           ∙ sym (drop-drop 1 index bytes) ∙ ap (drop 1) c.loop-index.invariant.rest ∙ drop-drop 1 index c.args.bytes.now;
     }
+
+pub bounds-bytes-index : goal.bounds-bytes-index
+bounds-bytes-index c = omega arith
+
+pub overflow_sub-bytes : goal.overflow_sub-bytes
+overflow_sub-bytes c = omega arith
+
+pub bounds-bytes-index-in-loop-index : goal.bounds-bytes-index-in-loop-index
+bounds-bytes-index-in-loop-index c = omega arith

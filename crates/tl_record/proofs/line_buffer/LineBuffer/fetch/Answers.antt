@@ -1,8 +1,17 @@
-use Rattle.std.proofs.Common.{◌≡◌, ◌≤◌, ◌<◌, ◌+◌, ◌-◌, ◌++◌, ℕ, ap, sym, ◌∙◌, arith, length, take, drop, length-drop}
+use Rattle.std.proofs.Common.{List, ◌≡◌, ◌≤◌, ◌<◌, ◌+◌, ◌-◌, ◌++◌, ℕ, ap, sym, ◌∙◌, arith, length, take, drop, length-drop}
 use Rattle.std.proofs.lemmas.List.{length-take-le, length-take}
 use borrow.Rule.Slice.PartMut.{put_mid}
 use Rattle.tl_record.proofs.Buffer.{part_filled}
 use Rattle.tl_record.proofs.line_buffer.LineBuffer.fetch.Goals as goal
+
+none_below : (n : ℕ) → 0 ≤ n
+none_below n = omega arith
+
+kept_within : (at filled room : ℕ) → filled ≤ room → filled - at ≤ room
+kept_within at filled room h = omega arith
+
+filled_within : (kept room count : ℕ) (moved bytes : List ℕ) → kept ≤ room → length moved ≡ room → length bytes ≡ length (take (length moved - kept) (drop kept moved)) → count ≤ length bytes → kept + count ≤ room
+filled_within kept room count moved bytes h k e some = omega (arith, length-take (length moved - kept) (drop kept moved), length-drop kept moved)
 
 pub returns-in-Ok-clause-bytes : goal.returns-in-Ok-clause-bytes
 returns-in-Ok-clause-bytes g c =
@@ -29,3 +38,38 @@ returns-in-Ok-clause-bytes g c =
         ended = λ none. c.in-Ok.ensures.bytes.1 (sym size ∙ none) (omega arith);
       },
     )
+
+pub overflow_sub-self : goal.overflow_sub-self
+overflow_sub-self g c = omega arith
+
+pub slice_bounds-fetch-count : goal.slice_bounds-fetch-count
+slice_bounds-fetch-count g c = omega arith
+
+pub slice_bounds-fetch-start : goal.slice_bounds-fetch-start
+slice_bounds-fetch-start g c = omega arith
+
+pub slice_bounds-fetch-end : goal.slice_bounds-fetch-end
+slice_bounds-fetch-end g c = omega arith
+
+pub invariant_of-self : goal.invariant_of-self
+invariant_of-self g c = (
+  none_below _,
+  filled_within (c.self.inside.filled - c.self.inside.at) g.row.N c.in-Ok.count c.move_to_front.new.bytes c.fetch.new.buf
+      (kept_within c.self.inside.at c.self.inside.filled g.row.N c.self.invariant.1) (c.move_to_front.auto.bytes ∙ c.self.told) c.fetch.auto.buf c.in-Ok.ensures.bound.0,
+)
+
+pub invariant_of-self-in-Err : goal.invariant_of-self-in-Err
+invariant_of-self-in-Err g c =
+    (none_below _, kept_within c.self.inside.at c.self.inside.filled g.row.N c.self.invariant.1)
+
+pub returns-in-Ok-clause-failures : goal.returns-in-Ok-clause-failures
+returns-in-Ok-clause-failures g c = c.in-Ok.ensures.failures
+
+pub returns-in-Ok-clause-same_reference : goal.returns-in-Ok-clause-same_reference
+returns-in-Ok-clause-same_reference g c = c.in-Ok.ensures.same_reference
+
+pub returns-in-Err-clause-failures : goal.returns-in-Err-clause-failures
+returns-in-Err-clause-failures g c = c.in-Err.ensures.failures
+
+pub returns-in-Err-clause-same_reference : goal.returns-in-Err-clause-same_reference
+returns-in-Err-clause-same_reference g c = c.in-Err.ensures.same_reference
