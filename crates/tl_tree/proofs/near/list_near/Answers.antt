@@ -1,9 +1,20 @@
-use Rattle.std.proofs.Common.{[], ◌++◌, take, refl}
+use Rattle.std.proofs.Common.{ℕ, ◌≤◌, [], ◌++◌, IfSome, take, refl, subst, ◌∙◌, arith}
 use Rattle.tl_tree.specs.Trees.{leaf_items}
 use Rattle.tl_tree.specs.Keeping.Listing.{listed_items}
 use Rattle.tl_tree.specs.Keeping.Walking.{items_below}
 use Rattle.tl_tree.proofs.Listing.{map-some, both-listed}
 use Rattle.tl_tree.proofs.near.list_near.Goals as goal
+
+pub list_all-requires-clause-fits : goal.list_all-requires-clause-fits
+list_all-requires-clause-fits g c = omega (arith, c.in-Some.ensures.fits, c.list_trees.ensures.complete)
+
+pub returns-in-Some-clause-complete : goal.returns-in-Some-clause-complete
+returns-in-Some-clause-complete g c = c.list_all.ensures.complete ∙ c.list_trees.ensures.complete
+
+pub returns-in-Some-clause-fits : goal.returns-in-Some-clause-fits
+returns-in-Some-clause-fits g c =
+    let P : ℕ → Type 0 = λ k. IfSome c.list_all.result (λ m. m ≤ k) in
+    subst P c.list_trees.ensures.complete c.list_all.ensures.fits
 
 pub returns-in-Some-clause-listed : goal.returns-in-Some-clause-listed
 returns-in-Some-clause-listed g c =
