@@ -20,7 +20,7 @@ pub returns-in-Some-clause-listed : goal.returns-in-Some-clause-listed
 returns-in-Some-clause-listed g c =
     let see = g.W.Trees.forest in
     let xs = items_below see c.args.tree.now.below in
-    let more = leaf_items (see c.args.rest) in
+    let more = leaf_items (see c.args.rest.now) in
     let rest = listed_items see c.args.others.now in
     map-some c.list_all.result
     (λ m h. both-listed see (g.I.Items.count c.args.items.now) (g.I.Items.bounds_of c.args.items.now) (g.I.Items.tells c.args.items.now) xs [] (take c.in-Some.len c.list_trees.new.near) (take m c.list_all.new.near) more rest (more ++ rest) refl c.in-Some.ensures.listed h)
