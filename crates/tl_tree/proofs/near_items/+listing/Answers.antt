@@ -1,9 +1,10 @@
-use Rattle.std.proofs.Common.{◌≡◌, ◌++◌, ap, take, sym, ◌∙◌, subst, arith}
+use Rattle.std.proofs.Common.{◌≡◌, ℕ, ◌≤◌, ◌++◌, IfSome, ap, take, sym, ◌∙◌, subst, arith}
 use Rattle.std.proofs.lemmas.Bool.{false≢true}
 use Rattle.tl_geom.specs.Rectangle.{AreMeeting}
 use Rattle.tl_tree.specs.declared.walk.Below.{Below}
 use Rattle.tl_tree.specs.Fits.{AreBelow}
 use Rattle.tl_tree.specs.Trees.{leaf_items}
+use Rattle.tl_tree.specs.Keeping.Listing.{StandsForItems}
 use Rattle.tl_tree.specs.Keeping.Walking.{items_below, size_of}
 use Rattle.tl_tree.proofs.Listing.{map-some, none-items, items-apart, both-items}
 use Rattle.tl_tree.proofs.Walks.{items-followed, nodes-split, sound-children, sound-first, sound-others, size-above_0}
@@ -35,6 +36,24 @@ list_children-list_children-requires g t c κs within =
     let rest = see c.in-Some.rest in
     let e = nodes-split see trees c.in-Some.tree.rect c.in-Some.tree.below rest c.in-Some.ensures in
     (omega (arith, e, size-above_0 see c.in-Some.tree.below), (within.0, (within.1.0, (within.1.1, (c.requires.some, (c.requires.around, (sound-others see (g.I.Items.count c.args.items.now) (g.I.Items.bounds_of c.args.items.now) trees c.in-Some.tree rest c.in-Some.ensures c.requires.trees, omega (arith, c.list_tree.ensures.complete, c.in-Some-list_tree.ensures.fits))))))))
+
+pub list_tree-returns-in-Items-clause-listed : goal.list_tree-returns-in-Items-clause-listed
+list_tree-returns-in-Items-clause-listed g t c =
+    let P : Below g.row.W.Denot → Type 0 = λ u. IfSome c.list_leaf.result (λ m. StandsForItems (g.I.Items.count c.args.items.now) (g.I.Items.bounds_of c.args.items.now) (g.I.Items.tells c.args.items.now) c.args.some.now (take c.args.len c.args.near.now) (items_below g.W.Trees.forest u) (take m c.list_leaf.new.near)) in
+    subst P (sym c.in-Items.is) c.list_leaf.ensures.listed
+
+pub list_tree-returns-in-Children-clause-listed : goal.list_tree-returns-in-Children-clause-listed
+list_tree-returns-in-Children-clause-listed g t c =
+    let P : Below g.row.W.Denot → Type 0 = λ u. IfSome c.list_children.result (λ m. StandsForItems (g.I.Items.count c.args.items.now) (g.I.Items.bounds_of c.args.items.now) (g.I.Items.tells c.args.items.now) c.args.some.now (take c.args.len c.args.near.now) (items_below g.W.Trees.forest u) (take m c.list_children.new.near)) in
+    subst P (sym c.in-Children.is) c.list_children.ensures.listed
+
+pub list_children-returns-in-Some-list_tree-clause-complete : goal.list_children-returns-in-Some-list_tree-clause-complete
+list_children-returns-in-Some-list_tree-clause-complete g t c = c.list_children.ensures.complete ∙ c.list_tree.ensures.complete
+
+pub list_children-returns-in-Some-list_tree-clause-fits : goal.list_children-returns-in-Some-list_tree-clause-fits
+list_children-returns-in-Some-list_tree-clause-fits g t c =
+    let P : ℕ → Type 0 = λ k. IfSome c.list_children.result (λ m. m ≤ k) in
+    subst P c.list_tree.ensures.complete c.list_children.ensures.fits
 
 pub list_tree-returns-then-not-do_meet-clause-listed : goal.list_tree-returns-then-not-do_meet-clause-listed
 list_tree-returns-then-not-do_meet-clause-listed g t c =
