@@ -1,6 +1,8 @@
 -- One round more.
 use Rattle.std.proofs.Common.{◌≡◌, ◌≢◌, ℕ, ◌+◌, ◌<◌, ◌≤◌, Bool, true, false, Some, List, length, get_or, set, length-set, get_or-set_same, get_or-set_other, sym, ap, refl, ◌∙◌, arith, inl, inr}
 use Rattle.std.specs.Prelude.{slice_index, slice_get}
+use Rattle.std.specs.Vec.{with_items}
+use Rattle.std.proofs.lemmas.List.{with_items_is}
 use Rattle.std.proofs.lemmas.Bool.{cases_lt, false≢true}
 use Rattle.tl_geom.specs.declared.point.Point.{Point}
 use Rattle.tl_map.specs.TheMap.{MapChain}
@@ -15,8 +17,8 @@ use Rattle.tl_sides.specs.declared.rounds.Rounds.{Rounds}
 use Rattle.tl_sides.specs.Lists.{before, times_in, and_list, list_at, EachList}
 use Rattle.tl_sides.specs.Sides.{dart_count}
 use Rattle.tl_sides.specs.Rounds.{round_start, HasOneNode, AreRising, IsRepeated}
-use Rattle.tl_sides.specs.Keeping.Marked.{AddMarks, MarkLists}
-use Rattle.tl_sides.specs.Keeping.Rounded.{AreLinked, AreHeaded, AreNodeMarks, HaveTaken}
+use Rattle.tl_sides.specs.Keeping.Marked.{marked_count, AddMarks, MarkLists}
+use Rattle.tl_sides.specs.Keeping.Rounded.{AreLinked, AreHeaded, AreNodeMarks, AreSized, HaveTaken}
 use Rattle.tl_sides.proofs.ListLemmas.{times-and, length-and, list-first, list-last, each-and, stands_in, before_stands}
 use Rattle.tl_sides.proofs.Ends.{past}
 use Rattle.tl_sides.proofs.NodeFacts.{starts_first, point_at, is_point}
@@ -138,3 +140,17 @@ module _ (chains : List MapChain) (rounds : List (List ℕ)) (round : List ℕ) 
     linked = linked_more (dart_count chains) old.next.items new.next.items old.marks.items new.marks.items t.marks added t.linked linked others;
     apart = apart_more old.nodes.items k some t.nodes start within unmarked t.apart;
   }
+
+-- rounds stay sized where their marks become no fewer
+pub sized_marked : (chains : List MapChain) (s : Rounds) (marks : List Bool) → AreSized chains s → length marks ≡ length s.marks.items → marked_count s.marks.items ≤ marked_count marks → AreSized chains (record { next = s.next; marks = with_items s.marks marks; nodes = s.nodes; taken = s.taken })
+sized_marked chains s marks sized long more =
+    let is : (with_items s.marks marks).items ≡ marks = with_items_is s.marks marks (long ∙ sym s.marks.ok.0) in
+    record {
+      next = sized.next;
+      marks = ap length is ∙ long ∙ sized.marks;
+      points = sized.points;
+      are = sized.are;
+      nodes = sized.nodes;
+      few = sized.few;
+      taken = omega (arith, sized.taken, more, ap marked_count is);
+    }

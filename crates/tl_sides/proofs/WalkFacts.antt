@@ -1,5 +1,7 @@
 -- Walks, dart by dart and one after the other.
-use Rattle.std.proofs.Common.{◌≡◌, ℕ, suc, ◌+◌, ◌-◌, ◌<◌, ◌≤◌, List, length, subst, arith, inl, inr}
+use Rattle.std.proofs.Common.{◌≡◌, ℕ, suc, ◌+◌, ◌-◌, ◌<◌, ◌≤◌, Bool, List, length, ap, sym, subst, ◌∙◌, arith, inl, inr}
+use Rattle.std.specs.Vec.{with_items}
+use Rattle.std.proofs.lemmas.List.{with_items_is}
 use Rattle.std.specs.Prelude.{slice_index}
 use Rattle.std.proofs.lemmas.Bool.{cases_lt}
 use Rattle.tl_map.specs.TheMap.{MapChain}
@@ -7,8 +9,8 @@ use Rattle.tl_sides.specs.declared.walks.Walks.{Walks}
 use Rattle.tl_sides.specs.Lists.{before, and_list}
 use Rattle.tl_sides.specs.Sides.{dart_count, Follows, IsRing}
 use Rattle.tl_sides.specs.Walks.{HasWrongStep}
-use Rattle.tl_sides.specs.Keeping.Marked.{AddMarks}
-use Rattle.tl_sides.specs.Keeping.Walked.{HaveWalked}
+use Rattle.tl_sides.specs.Keeping.Marked.{marked_count, AddMarks}
+use Rattle.tl_sides.specs.Keeping.Walked.{AreReady, HaveWalked}
 use Rattle.tl_sides.proofs.ListLemmas.{length-and, each-and}
 use Rattle.tl_sides.proofs.TakeFacts.{mark_more}
 
@@ -62,3 +64,14 @@ walked_more chains walks walk old new t added taken ring = record {
   marks = mark_more (dart_count chains) walks old.marks.items walk new.marks.items t.marks added;
   rings = each-and (IsRing chains) walks walk t.rings ring;
 }
+
+-- walks stay ready where their marks become no fewer
+pub ready_marked : (chains : List MapChain) (s : Walks) (marks : List Bool) (taken : ℕ) → AreReady chains s → length marks ≡ length s.marks.items → taken ≤ marked_count marks → AreReady chains (record { next = s.next; marks = with_items s.marks marks; taken = taken })
+ready_marked chains s marks taken ready long low =
+    let is : (with_items s.marks marks).items ≡ marks = with_items_is s.marks marks (long ∙ sym s.marks.ok.0) in
+    record {
+      next = ready.next;
+      marks = ap length is ∙ long ∙ ready.marks;
+      few = ready.few;
+      taken = omega (arith, low, ap marked_count is);
+    }

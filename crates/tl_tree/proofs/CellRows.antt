@@ -10,6 +10,7 @@ use Rattle.tl_geom.specs.declared.rect8.Rect8.{Rect8}
 use Rattle.tl_geom.specs.EightRectangles.{lane}
 use Rattle.tl_geom.specs.Rectangle.{AreMeeting}
 use Rattle.tl_tree.specs.Keeping.Cells.{AreLaneCells, AreCellsOf}
+use Rattle.tl_tree.specs.Keeping.Marking.{AreBoundsOf}
 use Rattle.tl_tree.specs.Fits.{AreBelow}
 use Rattle.tl_tree.specs.Pairs.{meeting, row_sum, cross_sum, AllRow, AllCross, AreFree}
 use Rattle.tl_tree.proofs.Apart.{one-none, one-none_free}
@@ -285,3 +286,12 @@ module _ (b : ℕ → Rect) (xs ys : List ℕ) (cells : ℕ) (marked : AreCellsO
           let z : p ≡ p + 0 = omega arith in
           let Q : ℕ → Type 0 = RestAll (AreFree tells) xs ys in
           free-unmarked p (ap (bit_at cells) z ∙ none 0 (omega arith)) (free-skip t (p + 1) (λ k l. let m : p + 1 + k ≡ p + suc k = omega arith in ap (bit_at cells) m ∙ none (suc k) (omega (arith, l))) (subst Q e r))
+
+-- ---- cells of lanes that are the bounds of items
+
+pub cells-of-lanes : (b : ℕ → Rect) (xs ys : List ℕ) (eight : Rect8) (cells : ℕ) → AreLaneCells b xs eight 0 cells → AreBoundsOf b ys eight → AreCellsOf b xs ys cells
+cells-of-lanes b xs ys eight cells marked lanes i j l k h =
+    let same : i + 0 ≡ i = omega arith in
+    let P : Rect → Type 0 = λ r. (bit_at cells (8 * i + j) ≡ 1) ↔ AreMeeting r (b (get_or xs i 0)) in
+    let Q : ℕ → Type 0 = λ v. (bit_at cells (8 * i + j) ≡ 1) ↔ AreMeeting (lane eight j) (b (get_or xs v 0)) in
+    subst P (lanes j k h) (subst Q same (marked i j (omega (arith, l)) k))

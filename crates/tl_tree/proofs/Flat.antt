@@ -1,12 +1,13 @@
 -- Trees of a list of nodes: how they split.
-use Rattle.std.proofs.Common.{◌≡◌, ℕ, zero, suc, ◌+◌, ◌-◌, ◌<◌, ◌≤◌, List, [], ◌∷◌, length, get_or, drop, refl, sym, ap, ◌∙◌, arith, ◌⊎◌, inl, inr, length-drop}
+use Rattle.std.proofs.Common.{◌≡◌, ℕ, zero, suc, ◌+◌, ◌-◌, ◌<◌, ◌≤◌, List, [], ◌∷◌, length, get_or, drop, set, refl, sym, ap, ◌∙◌, arith, ◌⊎◌, inl, inr, length-drop, length-set, get_or-set_same, get_or-set_other}
 use Rattle.std.proofs.lemmas.List.{at_drop_more, at_drop_all, drop-drop}
 use Rattle.tl_geom.specs.declared.rect.Rect.{Rect}
 use Rattle.tl_tree.specs.declared.node.TreeNode.{TreeNode}
 use Rattle.tl_tree.specs.declared.node.TreeNode.TheVariants.{Inner, Leaf}
 use Rattle.arrayvec.specs.ArrayVec.{ArrayVec}
 use Rattle.tl_tree.specs.Trees.{Forest, none, leaf, inner, node_count, first_trees, other_trees, trees_of}
-use Rattle.tl_tree.specs.Keeping.Sizes.{size_at}
+use Rattle.tl_tree.specs.Keeping.Sizes.{size_at, AreSizesFrom}
+use Rattle.tl_tree.proofs.Permuted.{same_or}
 
 pub first-none : (k : ℕ) → first_trees k none ≡ none
 first-none zero = refl
@@ -105,3 +106,21 @@ pub size-inner : (nodes : List TreeNode) (at : ℕ) (r : Rect) (k : ℕ) (d : Tr
 size-inner nodes at r k d h e =
     let s = ap (λ f. node_count (first_trees 1 f)) (at_drop_more trees_of nodes at d h ∙ ap (λ x. trees_of (x ∷ drop (at + 1) nodes)) e) in
     omega (arith, s)
+
+pub split-leaf : (count size at : ℕ) (nodes : List TreeNode) (r : Rect) (v : ArrayVec ℕ) (d : TreeNode) → (count ≡ 0 → ⊥) → at < length nodes → get_or nodes at d ≡ Leaf r v → size ≡ size_at nodes at → first_trees count (trees_of (drop at nodes)) ≡ leaf r v.items (first_trees (count - 1) (trees_of (drop (at + size) nodes)))
+split-leaf count size at nodes r v d ne h e p =
+    let rest = drop (at + 1) nodes in
+    let here : trees_of (drop at nodes) ≡ leaf r v.items (trees_of rest) = at_drop_more trees_of nodes at d h ∙ ap (λ x. trees_of (x ∷ rest)) e in
+    let one : size ≡ 1 = p ∙ size-leaf nodes at r v d h e in
+    let more : count ≡ suc (count - 1) = omega (arith, ne) in
+    ap (first_trees count) here ∙ ap (λ k. first_trees k (leaf r v.items (trees_of rest))) more ∙ ap (λ i. leaf r v.items (first_trees (count - 1) (trees_of (drop (at + i) nodes)))) (sym one)
+
+-- one more size, before the others
+pub sizes-before : (k : ℕ) (nodes : List TreeNode) (sizes : List ℕ) (size : ℕ) → k < length nodes → size ≡ size_at nodes k → AreSizesFrom (k + 1) nodes sizes → AreSizesFrom k nodes (set sizes k size)
+sizes-before k nodes sizes size h e s =
+    record {
+      complete = length-set sizes k size ∙ s.complete;
+      right = λ j l m. same_or j k
+          (λ p. rw p (get_or-set_same sizes k size 0 (omega (arith, h, s.complete)) ∙ e))
+          (λ ne. get_or-set_other sizes k j size 0 ne ∙ s.right j (omega (arith, l, ne)) m);
+    }

@@ -5,7 +5,7 @@ use Rattle.tl_geom.specs.declared.rect.Rect.{Rect}
 use Rattle.tl_geom.specs.Rectangle.{AreMeeting}
 use Rattle.tl_tree.specs.Fits.{AreBelow, CoversAll}
 use Rattle.tl_tree.specs.Hits.{times, AreHits, Adds}
-use Rattle.tl_tree.specs.Keeping.Walking.{Collects}
+use Rattle.tl_tree.specs.Keeping.Walking.{Collects, Grows}
 use Rattle.tl_tree.proofs.Permuted.{same_or, times-same, times-other}
 
 pub times-append : (i : ℕ) (xs ys : List ℕ) → times i (xs ++ ys) ≡ times i xs + times i ys
@@ -21,6 +21,13 @@ times-unhit i x ne = times-other i x [] ne
 pub times-above : (n i : ℕ) (xs : List ℕ) → AreBelow n xs → n ≤ i → times i xs ≡ 0
 times-above n i [] h k = refl
 times-above n i (x ∷ xs) h k = times-other i x xs (λ e. omega (arith, h.0, k, e)) ∙ times-above n i xs h.1 k
+
+pub grows-nothing : (xs : List ℕ) → Grows xs xs
+grows-nothing xs = record { added = []; appended = sym (append-nil xs) }
+
+pub grows-both : (a b c : List ℕ) → Grows a b → Grows b c → Grows a c
+grows-both a b c f g =
+    record { added = f.added ++ g.added; appended = g.appended ∙ ap (λ xs. xs ++ g.added) f.appended ∙ append_assoc a f.added g.added }
 
 module _ (hit : ℕ → Type 0) where
   hits-more : (k : ℕ) (found : List ℕ) → hit k → AreHits k hit found → AreHits (k + 1) hit (found ++ k ∷ [])

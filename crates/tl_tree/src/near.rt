@@ -68,14 +68,14 @@ pub fn next_place(place: usize, again: bool) -> usize
 fn list_one<I: Items, W: Trees>(
     items: &I,
     tree: &Tree<'_, W>,
-    at: W,
+    at: &W,
     first: &Tree<'_, W>,
     near: &mut [W],
     len: usize,
 ) -> usize
     requires tree { IsSound (I.count items.now) (I.bounds_of items.now) W.forest tree.now }
-    requires at { AreSound (I.count items.now) (I.bounds_of items.now) (W.forest at) }
-    requires first { IsFirst W.forest first.now (W.forest at) }
+    requires at { AreSound (I.count items.now) (I.bounds_of items.now) (W.forest at.now) }
+    requires first { IsFirst W.forest first.now (W.forest at.now) }
     requires room { len < length near.old }
     ensures complete { length near.new ≡ length near.old }
     ensures fits { result ≤ len + 1 }
@@ -83,7 +83,7 @@ fn list_one<I: Items, W: Trees>(
         (items_below W.forest tree.now.below) (take len near.old)
         (items_below W.forest first.now.below) (take result near.new) }
 {
-    near[len] = at;
+    near[len] = *at;
     next_place(len, are_apart(first.rect, tree.rect))
 }
 
@@ -91,26 +91,26 @@ fn list_one<I: Items, W: Trees>(
 fn list_trees<I: Items, W: Trees>(
     items: &I,
     tree: &Tree<'_, W>,
-    others: W,
+    others: &W,
     near: &mut [W],
     len: usize,
 ) -> Option<usize>
     requires tree { IsSound (I.count items.now) (I.bounds_of items.now) W.forest tree.now }
-    requires others { AreSound (I.count items.now) (I.bounds_of items.now) (W.forest others) }
+    requires others { AreSound (I.count items.now) (I.bounds_of items.now) (W.forest others.now) }
     requires fits { len ≤ length near.old }
     ensures complete { length near.new ≡ length near.old }
     ensures fits { IfSome result (λ m. m ≤ length near.old) }
     ensures listed { IfSome result (λ m.
         StandsFor (I.count items.now) (I.bounds_of items.now) (I.tells items.now) W.forest
         (items_below W.forest tree.now.below) (take len near.old)
-        (leaf_items (W.forest others)) (take m near.new)) }
+        (leaf_items (W.forest others.now)) (take m near.new)) }
 {
-    let (mut left, mut more) = (others, len);
+    let (mut left, mut more) = (*others, len);
     while let Some((first, rest)) = left.split_first() {
         if near.len() <= more {
             return None;
         }
-        more = list_one(items, tree, left, &first, near, more);
+        more = list_one(items, tree, &left, &first, near, more);
         left = rest;
     }
     Some(more)
@@ -122,19 +122,19 @@ fn list_trees<I: Items, W: Trees>(
 fn list_below<I: Items, W: Trees>(
     items: &I,
     tree: &Tree<'_, W>,
-    at: W,
+    at: &W,
     near: &mut [W],
     len: usize,
 ) -> Option<usize>
     requires tree { IsSound (I.count items.now) (I.bounds_of items.now) W.forest tree.now }
-    requires at { AreSound (I.count items.now) (I.bounds_of items.now) (W.forest at) }
+    requires at { AreSound (I.count items.now) (I.bounds_of items.now) (W.forest at.now) }
     requires fits { len ≤ length near.old }
     ensures complete { length near.new ≡ length near.old }
     ensures fits { IfSome result (λ m. m ≤ length near.old) }
     ensures listed { IfSome result (λ m.
         StandsFor (I.count items.now) (I.bounds_of items.now) (I.tells items.now) W.forest
         (items_below W.forest tree.now.below) (take len near.old)
-        (first_items (W.forest at)) (take m near.new)) }
+        (first_items (W.forest at.now)) (take m near.new)) }
 {
     let Some((first, _)) = at.split_first() else {
         return Some(len);
@@ -148,7 +148,7 @@ fn list_below<I: Items, W: Trees>(
         }
         Below::Children(children) => {
             if do_meet(first.rect, tree.rect) {
-                list_trees(items, tree, *children, near, len)
+                list_trees(items, tree, children, near, len)
             } else {
                 Some(len)
             }
@@ -177,7 +177,7 @@ fn list_all<I: Items, W: Trees>(
     let Some((first, rest)) = others.split_first() else {
         return Some(len);
     };
-    match list_below(items, tree, *first, near, len) {
+    match list_below(items, tree, first, near, len) {
         Some(more) => list_all(items, tree, rest, near, more),
         None => None,
     }
@@ -187,19 +187,19 @@ fn list_all<I: Items, W: Trees>(
 pub fn list_near<I: Items, W: Trees>(
     items: &I,
     tree: &Tree<'_, W>,
-    rest: W,
+    rest: &W,
     others: &[W],
     near: &mut [W],
 ) -> Option<usize>
     requires tree { IsSound (I.count items.now) (I.bounds_of items.now) W.forest tree.now }
-    requires rest { AreSound (I.count items.now) (I.bounds_of items.now) (W.forest rest) }
+    requires rest { AreSound (I.count items.now) (I.bounds_of items.now) (W.forest rest.now) }
     requires others { AllSound (I.count items.now) (I.bounds_of items.now) W.forest others.now }
     ensures complete { length near.new ≡ length near.old }
     ensures fits { IfSome result (λ m. m ≤ length near.old) }
     ensures listed { IfSome result (λ m.
         StandsFor (I.count items.now) (I.bounds_of items.now) (I.tells items.now) W.forest
         (items_below W.forest tree.now.below) []
-        (leaf_items (W.forest rest) ++ listed_items W.forest others.now) (take m near.new)) }
+        (leaf_items (W.forest rest.now) ++ listed_items W.forest others.now) (take m near.new)) }
 {
     match list_trees(items, tree, rest, near, 0) {
         Some(len) => list_all(items, tree, others, near, len),

@@ -451,7 +451,7 @@ fn search_among<I: Items, W: Trees>(
         return search_unlisted(items, tree, rest, others, room, progress);
     }
     let (near, deeper) = room.split_at_mut(LIST);
-    match list_near(items, tree, *rest, others, near) {
+    match list_near(items, tree, rest, others, near) {
         Some(len) => search_one(items, tree, &near[..len], deeper, progress),
         None => search_unlisted(items, tree, rest, others, deeper, progress),
     }

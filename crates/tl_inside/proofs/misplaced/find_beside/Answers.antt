@@ -4,6 +4,15 @@ use Rattle.tl_inside.proofs.Misplacing.{told_none}
 use Rattle.tl_inside.proofs.Stripping.{one_more}
 use Rattle.tl_inside.proofs.misplaced.find_beside.Goals as goal
 
+pub loop-k-init : goal.loop-k-init
+loop-k-init g c = record {
+  nears = c.requires.nears;
+  fars = c.requires.fars;
+  no_near = c.requires.no_near;
+  no_far = c.requires.no_far;
+  placed = λ j d lt. absurd (omega (arith, lt));
+}
+
 pub misplaced_at-requires-clause-enough : goal.misplaced_at-requires-clause-enough
 misplaced_at-requires-clause-enough g c =
     subst (AreEnough c.args.map.now.chains _) (sym c.deref.ensures.value) (c.in_ok-list_in_strip.ensures c.loop-k.k _ (omega (arith, c.loop-k-test.true, c.loop-k.auto.k-end)))

@@ -1,8 +1,21 @@
 use Rattle.std.proofs.Common.{◌+◌, ◌*◌, ◌∙◌, arith}
-use Rattle.tl_inside.specs.Keeping.Strips.{IsPlacedSite}
+use Rattle.std.proofs.lemmas.List.Elements.{All-take, All-drop}
+use Rattle.tl_inside.specs.Keeping.Strips.{IsSiteOf, IsPlacedSite}
 use Rattle.tl_inside.proofs.Misplacing.{told_none}
 use Rattle.tl_inside.proofs.Stripping.{some_more, all_seen}
 use Rattle.tl_inside.proofs.misplaced.find_in_order.Goals as goal
+
+pub loop-batch-init : goal.loop-batch-init
+loop-batch-init g c = record {
+  nears = c.requires.nears;
+  fars = c.requires.fars;
+  no_near = c.requires.no_near;
+  no_far = c.requires.no_far;
+  placed = λ j d lt inside. absurd (omega (arith, lt));
+}
+
+pub find_beside-requires-clause-sites : goal.find_beside-requires-clause-sites
+find_beside-requires-clause-sites g c = All-take (IsSiteOf c.args.map.now) _ _ (All-drop (IsSiteOf c.args.map.now) _ _ c.requires.sites)
 
 pub loop-batch-preserved : goal.loop-batch-preserved
 loop-batch-preserved g c = record {

@@ -1,8 +1,41 @@
-use Rattle.std.proofs.Common.{sym, ◌∙◌, arith}
+use Rattle.std.proofs.Common.{ap, sym, ◌∙◌, subst, IfErr, arith}
 use Rattle.std.proofs.lemmas.Bool.{false≢true}
 use Rattle.std.proofs.lemmas.Result.{err_from_is_err_and}
+use Rattle.tl_tree.specs.declared.walk.Below.{Below}
+use Rattle.tl_tree.specs.Keeping.Checking.{IsFaultBelow}
+use Rattle.tl_tree.specs.Keeping.Walking.{size_of}
 use Rattle.tl_tree.proofs.Checks.{ok-map, checked-items, checked-children, fault-first, fault-others, too-small, checked-both}
+use Rattle.tl_tree.proofs.Walks.{nodes-split, size-above_0}
 use Rattle.tl_tree.proofs.check.+check.Goals as goal
+
+pub check_below-check_trees-requires : goal.check_below-check_trees-requires
+check_below-check_trees-requires g t c κs within =
+    let e = ap (λ (u : Below g.row.W.Denot). size_of g.W.Trees.forest u) c.in-Children.is in
+    (omega (arith, e), (within.0, (within.1.0, (within.1.1, (c.requires.marks, omega (arith, e, c.requires.numbers))))))
+
+pub check_below-returns-in-Children-clause-fault : goal.check_below-returns-in-Children-clause-fault
+check_below-returns-in-Children-clause-fault g t c =
+    let P : Below g.row.W.Denot → Type 0 = λ u. IfErr c.check_trees.result (IsFaultBelow (g.I.Items.bounds_of c.args.items.now) c.args.marks.now c.args.number.now g.W.Trees.forest u) in
+    subst P (sym c.in-Children.is) c.check_trees.ensures.fault
+
+pub check_trees-check_below-requires : goal.check_trees-check_below-requires
+check_trees-check_below-requires g t c κs within =
+    let see = g.W.Trees.forest in
+    let e = nodes-split see (see c.args.trees.now) c.in-Some.tree.rect c.in-Some.tree.below (see c.in-Some.rest) c.in-Some.ensures in
+    (omega (arith, e), (within.0, (within.1.0, (within.1.1, (c.requires.marks, omega (arith, e, c.requires.numbers))))))
+
+pub check_trees-check_trees-requires : goal.check_trees-check_trees-requires
+check_trees-check_trees-requires g t c κs within =
+    let see = g.W.Trees.forest in
+    let e = nodes-split see (see c.args.trees.now) c.in-Some.tree.rect c.in-Some.tree.below (see c.in-Some.rest) c.in-Some.ensures in
+    let k = size-above_0 see c.in-Some.tree.below in
+    (omega (arith, e, k), (within.0, (within.1.0, (within.1.1, (c.in_ok-hull.ensures.right.marked.complete ∙ c.requires.marks, omega (arith, e, c.requires.numbers, c.in_ok-hull.ensures.next))))))
+
+pub check_trees-returns-clause-next : goal.check_trees-returns-clause-next
+check_trees-returns-clause-next g t c =
+    let see = g.W.Trees.forest in
+    let e = nodes-split see (see c.args.trees.now) c.in-Some.tree.rect c.in-Some.tree.below (see c.in-Some.rest) c.in-Some.ensures in
+    omega (arith, e, c.in_ok-hull.ensures.next, c.in_ok-others.ensures.next)
 
 pub check_below-returns-in_ok-mark_items-in-Items-clause-right : goal.check_below-returns-in_ok-mark_items-in-Items-clause-right
 check_below-returns-in_ok-mark_items-in-Items-clause-right g t c =

@@ -1,11 +1,15 @@
-use Rattle.std.proofs.Common.{◌≡◌, ℕ, List, ◌++◌, ◌+◌, ◌≤◌, refl, sym, ap, ◌∙◌, subst, append_assoc, rules, arith}
+use Rattle.std.proofs.Common.{◌≡◌, ℕ, List, ◌+◌, ◌≤◌, refl, sym, ap, ◌∙◌, subst, rules, arith}
 use Rattle.std.proofs.lemmas.Bool.{false≢true}
 use Rattle.tl_geom.specs.Rectangle.{AreMeeting}
-use Rattle.tl_tree.specs.Trees.{node_count}
-use Rattle.tl_tree.specs.Keeping.Walking.{items_below, size_of, IsSound, Collects}
-use Rattle.tl_tree.proofs.Hitting.{collects-nothing, none-hit}
+use Rattle.std.specs.Result.{OnOk}
+use Rattle.tl_tree.specs.declared.walk.Below.{Below}
+use Rattle.tl_tree.specs.Fits.{AreBelow}
+use Rattle.tl_tree.specs.Hits.{times}
+use Rattle.tl_tree.specs.Trees.{leaf_items, node_count}
+use Rattle.tl_tree.specs.Keeping.Walking.{items_below, size_of, AreSound, IsSound, Collects}
+use Rattle.tl_tree.proofs.Hitting.{collects-nothing, grows-nothing, grows-both, none-hit}
 use Rattle.tl_tree.proofs.Roots.{first-root, includes-roots}
-use Rattle.tl_tree.proofs.Walks.{collects-split, nodes-split, sound-first, sound-others}
+use Rattle.tl_tree.proofs.Walks.{collects-split, nodes-split, size-above_0, sound-children, sound-first, sound-others}
 use Rattle.tl_tree.proofs.hits.+collect.Goals as goal
 use Rattle.tl_tree.proofs.hits.+collect.Goals.{collect_trees-then-is_first_marked+in_ok-collect_one, collect_trees-else-is_first_marked}
 
@@ -17,6 +21,61 @@ collect_one-returns-then-not-meets-clause-hits g t c =
     (none-hit (g.I.Items.count c.args.items.now) (g.I.Items.bounds_of c.args.items.now) hit c.args.region
     (λ i h e. rw c.requires.region (g.met.P.Probe.hits_meet c.args.probe.now c.args.items.now i h e))
     c.args.tree.now.rect xs (λ m. false≢true (sym c.if-not-meets.true ∙ c.meets.ensures.1 m)) c.requires.tree.known c.requires.tree.covers)
+
+pub collect_one-returns-then-not-meets-clause-grows : goal.collect_one-returns-then-not-meets-clause-grows
+collect_one-returns-then-not-meets-clause-grows g t c = grows-nothing c.args.out.now.items
+
+pub collect_one-push_hits-requires-clause-known : goal.collect_one-push_hits-requires-clause-known
+collect_one-push_hits-requires-clause-known g t c =
+    let P : Below g.row.W.Denot → Type 0 = λ u. AreBelow (g.I.Items.count c.args.items.now) (items_below g.W.Trees.forest u) in
+    subst P c.in-Items.is c.requires.tree.known
+
+pub collect_one-collect_trees-requires : goal.collect_one-collect_trees-requires
+collect_one-collect_trees-requires g t c κs within =
+    let see = g.W.Trees.forest in
+    let n = g.I.Items.count c.args.items.now in
+    let b = g.I.Items.bounds_of c.args.items.now in
+    let h : AreSound n b (see c.in-Children.children) = sound-children see n b c.args.tree.now c.in-Children.children c.in-Children.is c.requires.tree in
+    let e = ap (λ (u : Below g.row.W.Denot). size_of see u) c.in-Children.is in
+    (omega (arith, e), (within.0, (within.1.0, (within.1.1.0, (within.1.1.1, (h, c.requires.region))))))
+
+pub collect_one-returns-in-Items-clause-hits : goal.collect_one-returns-in-Items-clause-hits
+collect_one-returns-in-Items-clause-hits g t c =
+    let hit = g.P.Probe.hit c.args.probe.now c.args.items.now in
+    let P : Below g.row.W.Denot → Type 0 = λ u. OnOk c.push_hits.result (Collects hit (items_below g.W.Trees.forest u) c.args.out.now.items c.push_hits.new.out.items) in
+    subst P (sym c.in-Items.is) c.push_hits.ensures.hits
+
+pub collect_one-returns-in-Children-clause-hits : goal.collect_one-returns-in-Children-clause-hits
+collect_one-returns-in-Children-clause-hits g t c =
+    let hit = g.P.Probe.hit c.args.probe.now c.args.items.now in
+    let P : Below g.row.W.Denot → Type 0 = λ u. OnOk c.collect_trees.result (Collects hit (items_below g.W.Trees.forest u) c.args.out.now.items c.collect_trees.new.out.items) in
+    subst P (sym c.in-Children.is) c.collect_trees.ensures.hits
+
+pub collect_trees-loop-tree-init : goal.collect_trees-loop-tree-init
+collect_trees-loop-tree-init g t c =
+    record {
+      left = c.requires.trees;
+      marks = c.meeting_roots-marks.ensures;
+      nodes = omega arith;
+      hits = λ new d. d;
+      grows = grows-nothing c.args.out.now.items;
+    }
+
+pub collect_trees-loop-tree-smaller : goal.collect_trees-loop-tree-smaller
+collect_trees-loop-tree-smaller g t c =
+    let see = g.W.Trees.forest in
+    omega (arith, nodes-split see (see c.loop-tree.left) c.in-Some.tree.rect c.in-Some.tree.below (see c.in-Some.rest) c.in-Some.ensures, size-above_0 see c.in-Some.tree.below)
+
+pub collect_trees-returns-in_err-collect_one-clause-grows : goal.collect_trees-returns-in_err-collect_one-clause-grows
+collect_trees-returns-in_err-collect_one-clause-grows g t c =
+    grows-both c.args.out.now.items c.loop-tree.out.items c.collect_one.new.out.items c.loop-tree.invariant.grows c.in_err-collect_one.ensures.grows
+
+pub collect_trees-returns-clause-hits : goal.collect_trees-returns-clause-hits
+collect_trees-returns-clause-hits g t c =
+    let left = g.W.Trees.forest c.loop-tree.left in
+    let now = c.loop-tree.out.items in
+    c.loop-tree.invariant.hits now
+    (collects-nothing (g.P.Probe.hit c.args.probe.now c.args.items.now) (leaf_items left) now now refl (λ i h. ap (λ us. times i (leaf_items us)) c.in_default.ensures))
 
 pub collect_trees-collect_one-requires : goal.collect_trees-collect_one-requires
 collect_trees-collect_one-requires g t c κs within =
@@ -60,5 +119,5 @@ collect_trees-loop-tree-preserved g t c =
       marks = includes-roots see left tree.rect tree.below rest c.args.region c.loop-tree.marks c.later_marks-marks.result c.in-Some.ensures c.later_marks-marks.ensures.moved c.later_marks-marks.ensures.last is.marks;
       nodes = omega (arith, nodes-split see left tree.rect tree.below rest c.in-Some.ensures, is.nodes);
       hits = λ last d. is.hits last (collects-split see hit left tree.rect tree.below rest now new last c.in-Some.ensures found d);
-      grows = record { added = is.grows.added ++ found.found; appended = found.appended ∙ ap (λ xs. xs ++ found.found) is.grows.appended ∙ append_assoc before is.grows.added found.found };
+      grows = grows-both before now new is.grows (record { added = found.found; appended = found.appended });
     }

@@ -1,5 +1,5 @@
-use Rattle.std.proofs.Common.{take, ap}
-use Rattle.tl_tree.specs.Keeping.Listing.{first_items, listed_items}
+use Rattle.std.proofs.Common.{ℕ, ◌≤◌, List, IfSome, length, take, ap, subst, ◌∙◌, arith}
+use Rattle.tl_tree.specs.Keeping.Listing.{first_items, listed_items, AllSound}
 use Rattle.tl_tree.specs.Keeping.Walking.{items_below}
 use Rattle.tl_tree.proofs.Listing.{map-some, none-listed, both-listed, listed-none}
 use Rattle.tl_tree.proofs.near.+list_all.Goals as goal
@@ -8,6 +8,24 @@ pub returns-in_default-clause-listed : goal.returns-in_default-clause-listed
 returns-in_default-clause-listed g t c =
     let see = g.W.Trees.forest in
     none-listed see (g.I.Items.count c.args.items.now) (g.I.Items.bounds_of c.args.items.now) (g.I.Items.tells c.args.items.now) (items_below see c.args.tree.now.below) (take c.args.len c.args.near.now) (listed_items see c.args.others.now) (listed-none see c.args.others.now c.in_default.ensures.cases)
+
+pub list_below-requires-clause-at : goal.list_below-requires-clause-at
+list_below-requires-clause-at g t c =
+    let P : List g.row.W.Denot → Type 0 = AllSound (g.I.Items.count c.args.items.now) (g.I.Items.bounds_of c.args.items.now) g.W.Trees.forest in
+    (subst P c.in-Some.ensures.cases.0 c.requires.others).0
+
+pub list_all-requires : goal.list_all-requires
+list_all-requires g t c κs within =
+    let P : List g.row.W.Denot → Type 0 = AllSound (g.I.Items.count c.args.items.now) (g.I.Items.bounds_of c.args.items.now) g.W.Trees.forest in
+    (omega (arith, ap length c.in-Some.ensures.cases.0), (within.0, (within.1.0, (within.1.1, (c.requires.tree, ((subst P c.in-Some.ensures.cases.0 c.requires.others).1, omega (arith, c.in-Some-list_below.ensures.fits, c.list_below.ensures.complete)))))))
+
+pub returns-in-Some-list_below-clause-complete : goal.returns-in-Some-list_below-clause-complete
+returns-in-Some-list_below-clause-complete g t c = c.list_all.ensures.complete ∙ c.list_below.ensures.complete
+
+pub returns-in-Some-list_below-clause-fits : goal.returns-in-Some-list_below-clause-fits
+returns-in-Some-list_below-clause-fits g t c =
+    let P : ℕ → Type 0 = λ k. IfSome c.list_all.result (λ m. m ≤ k) in
+    subst P c.list_below.ensures.complete c.list_all.ensures.fits
 
 pub returns-in-Some-list_below-clause-listed : goal.returns-in-Some-list_below-clause-listed
 returns-in-Some-list_below-clause-listed g t c =

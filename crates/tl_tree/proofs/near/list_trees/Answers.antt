@@ -1,8 +1,20 @@
-use Rattle.std.proofs.Common.{arith}
+use Rattle.std.proofs.Common.{refl, arith}
 use Rattle.tl_tree.specs.Pairs.{meeting, AreFree}
 use Rattle.tl_tree.specs.Keeping.Walking.{items_below}
-use Rattle.tl_tree.proofs.Walks.{cross-none, cross-split, all_cross-none, all_cross-split, sound-others}
+use Rattle.tl_tree.proofs.Walks.{cross-none, cross-split, all_cross-none, all_cross-split, nodes-split, size-above_0, sound-others}
 use Rattle.tl_tree.proofs.near.list_trees.Goals as goal
+
+pub loop-first-init : goal.loop-first-init
+loop-first-init g c =
+    record { sum = refl; free = λ f h. (f, h); sound = λ k. k; left = c.requires.others; fits = c.requires.fits; complete = refl }
+
+pub list_one-more-requires-clause-first : goal.list_one-more-requires-clause-first
+list_one-more-requires-clause-first g c = record { others = _; split = c.in-Some.ensures }
+
+pub loop-first-smaller : goal.loop-first-smaller
+loop-first-smaller g c =
+    let see = g.W.Trees.forest in
+    omega (arith, nodes-split see (see c.loop-first.left) c.in-Some.first.rect c.in-Some.first.below (see c.in-Some.rest) c.in-Some.ensures, size-above_0 see c.in-Some.first.below)
 
 pub loop-first-preserved : goal.loop-first-preserved
 loop-first-preserved g c =

@@ -1,5 +1,5 @@
-use Rattle.std.proofs.Common.{ap, take}
-use Rattle.tl_tree.specs.Keeping.Listing.{first_items, listed_items}
+use Rattle.std.proofs.Common.{ℕ, ◌≤◌, List, IfSome, length, take, ap, subst, ◌∙◌, arith}
+use Rattle.tl_tree.specs.Keeping.Listing.{first_items, listed_items, AllSound}
 use Rattle.tl_tree.proofs.Listing.{map-some, none-items, both-items, listed-none}
 use Rattle.tl_tree.proofs.near_items.+list_near_items.Goals as goal
 
@@ -7,6 +7,24 @@ pub returns-in_default-clause-listed : goal.returns-in_default-clause-listed
 returns-in_default-clause-listed g t c =
     let see = g.W.Trees.forest in
     none-items (g.I.Items.count c.args.items.now) (g.I.Items.bounds_of c.args.items.now) (g.I.Items.tells c.args.items.now) c.args.some.now (take c.args.len c.args.near.now) (listed_items see c.args.trees.now) (listed-none see c.args.trees.now c.in_default.ensures.cases)
+
+pub list_first-requires-clause-at : goal.list_first-requires-clause-at
+list_first-requires-clause-at g t c =
+    let P : List g.row.W.Denot → Type 0 = AllSound (g.I.Items.count c.args.items.now) (g.I.Items.bounds_of c.args.items.now) g.W.Trees.forest in
+    (subst P c.in-Some.ensures.cases.0 c.requires.trees).0
+
+pub list_near_items-requires : goal.list_near_items-requires
+list_near_items-requires g t c κs within =
+    let P : List g.row.W.Denot → Type 0 = AllSound (g.I.Items.count c.args.items.now) (g.I.Items.bounds_of c.args.items.now) g.W.Trees.forest in
+    (omega (arith, ap length c.in-Some.ensures.cases.0), (within.0, (within.1.0, (within.1.1, (c.requires.some, (c.requires.around, ((subst P c.in-Some.ensures.cases.0 c.requires.trees).1, omega (arith, c.in-Some-list_first.ensures.fits, c.list_first.ensures.complete))))))))
+
+pub returns-in-Some-list_first-clause-complete : goal.returns-in-Some-list_first-clause-complete
+returns-in-Some-list_first-clause-complete g t c = c.list_near_items.ensures.complete ∙ c.list_first.ensures.complete
+
+pub returns-in-Some-list_first-clause-fits : goal.returns-in-Some-list_first-clause-fits
+returns-in-Some-list_first-clause-fits g t c =
+    let P : ℕ → Type 0 = λ k. IfSome c.list_near_items.result (λ m. m ≤ k) in
+    subst P c.list_first.ensures.complete c.list_near_items.ensures.fits
 
 pub returns-in-Some-list_first-clause-listed : goal.returns-in-Some-list_first-clause-listed
 returns-in-Some-list_first-clause-listed g t c =

@@ -1,9 +1,9 @@
-use Rattle.std.proofs.Common.{ap, subst, take}
+use Rattle.std.proofs.Common.{ℕ, List, IfSome, ap, sym, subst, take, ◌∙◌}
 use Rattle.tl_tree.specs.Fits.{AreBelow}
 use Rattle.tl_tree.specs.declared.walk.Below.{Below}
-use Rattle.tl_tree.specs.Keeping.Listing.{first_items}
+use Rattle.tl_tree.specs.Keeping.Listing.{first_items, StandsForItems}
 use Rattle.tl_tree.specs.Keeping.Walking.{items_below}
-use Rattle.tl_tree.proofs.Listing.{none-items}
+use Rattle.tl_tree.proofs.Listing.{first-items-of, none-items}
 use Rattle.tl_tree.proofs.Walks.{sound-first, sound-children}
 use Rattle.tl_tree.proofs.near_items.list_first.Goals as goal
 
@@ -26,3 +26,15 @@ list_children-requires-clause-trees g c =
     let n = g.I.Items.count c.args.items.now in
     let b = g.I.Items.bounds_of c.args.items.now in
     sound-children see n b c.in-Some.first c.in-Children.children c.in-Children.is (sound-first see n b (see c.args.at.now) c.in-Some.first _ c.in-Some.ensures c.requires.at)
+
+pub returns-in-Items-clause-listed : goal.returns-in-Items-clause-listed
+returns-in-Items-clause-listed g c =
+    let see = g.W.Trees.forest in
+    let P : List ℕ → Type 0 = λ more. IfSome c.list_leaf.result (λ m. StandsForItems (g.I.Items.count c.args.items.now) (g.I.Items.bounds_of c.args.items.now) (g.I.Items.tells c.args.items.now) c.args.some.now (take c.args.len c.args.near.now) more (take m c.list_leaf.new.near)) in
+    subst P (sym (first-items-of see (see c.args.at.now) c.in-Some.first _ c.in-Some.ensures ∙ ap (λ (u : Below g.row.W.Denot). items_below see u) c.in-Items.is)) c.list_leaf.ensures.listed
+
+pub returns-in-Children-clause-listed : goal.returns-in-Children-clause-listed
+returns-in-Children-clause-listed g c =
+    let see = g.W.Trees.forest in
+    let P : List ℕ → Type 0 = λ more. IfSome c.list_children.result (λ m. StandsForItems (g.I.Items.count c.args.items.now) (g.I.Items.bounds_of c.args.items.now) (g.I.Items.tells c.args.items.now) c.args.some.now (take c.args.len c.args.near.now) more (take m c.list_children.new.near)) in
+    subst P (sym (first-items-of see (see c.args.at.now) c.in-Some.first _ c.in-Some.ensures ∙ ap (λ (u : Below g.row.W.Denot). items_below see u) c.in-Children.is)) c.list_children.ensures.listed

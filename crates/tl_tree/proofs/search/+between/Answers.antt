@@ -1,18 +1,56 @@
-use Rattle.std.proofs.Common.{◌≡◌, ap, ◌+◌, ◌<◌, subst, arith, rules, sym, ◌∙◌, IsFalse}
+use Rattle.std.proofs.Common.{◌≡◌, ap, subst, lit<, arith, sym, ◌∙◌, IsFalse}
 use Rattle.std.proofs.lemmas.Bool.{false≢true}
 use Rattle.tl_geom.specs.Rectangle.{AreMeeting}
-use Rattle.tl_tree.specs.Keeping.Marking.{Includes, RootMeets}
 use Rattle.tl_tree.specs.Pairs.{meeting, cross_sum, AreFree, AllCross}
 use Rattle.tl_tree.specs.declared.walk.Below.{Below}
-use Rattle.tl_tree.specs.Trees.{leaf_items, node_count}
-use Rattle.tl_tree.specs.Keeping.Walking.{items_below, size_of, IsSound, AreSound}
+use Rattle.tl_tree.specs.Trees.{leaf_items}
+use Rattle.tl_tree.specs.Keeping.Walking.{items_below, size_of}
 use Rattle.tl_tree.proofs.PairLemmas.{cross-swap, all_cross-swap}
 use Rattle.tl_tree.proofs.PairTests.{meeting-swap, free-turned}
 use Rattle.tl_tree.proofs.Apart.{cross-apart, cross-free}
 use Rattle.tl_tree.proofs.Leaving.{stops, goes, leaves_same, leaves_both}
 use Rattle.tl_tree.proofs.Roots.{first-root, includes-roots}
-use Rattle.tl_tree.proofs.Walks.{cross-none, cross-split, all_cross-none, all_cross-split, nodes-split, sound-first, sound-others, size-above_0}
+use Rattle.tl_tree.proofs.Walks.{cross-none, cross-split, all_cross-none, all_cross-split, nodes-split, sound-children, sound-first, sound-others, size-above_0}
 use Rattle.tl_tree.proofs.search.+between.Goals as goal
+
+pub search_between-search_marked-requires : goal.search_between-search_marked-requires
+search_between-search_marked-requires g t c κs within = (omega arith, (within.0, (within.1.0, (within.1.1, (c.requires.tree, (c.requires.others, (c.meeting_roots.ensures, c.requires.nothing_found)))))))
+
+pub search_if_marked-search_two-requires : goal.search_if_marked-search_two-requires
+search_if_marked-search_two-requires g t c κs within = (omega arith, (within.0, (within.1.0, (within.1.1, (c.requires.tree, (c.requires.other, c.requires.nothing_found))))))
+
+pub search_marked-search_if_marked-requires : goal.search_marked-search_if_marked-requires
+search_marked-search_if_marked-requires g t c κs within =
+    let see = g.W.Trees.forest in
+    let others = see c.args.others.now in
+    let other = c.in-Some.other in
+    let rest = see c.in-Some.rest in
+    let e = nodes-split see others other.rect other.below rest c.in-Some.ensures in
+    let no : IsFalse c.is_first_marked.result → AreMeeting other.rect c.args.tree.now.rect → ⊥ =
+    λ f m. false≢true (sym f ∙ c.is_first_marked.ensures.1 (c.requires.marks 0 (lit< tt) (first-root see others other.rect other.below rest c.args.tree.now.rect c.in-Some.ensures m))) in
+    (omega (arith, e), (within.0, (within.1.0, (within.1.1, (c.requires.tree, (sound-first see (g.I.Items.count c.args.items.now) (g.I.Items.bounds_of c.args.items.now) others other rest c.in-Some.ensures c.requires.others, (no, c.requires.nothing_found)))))))
+
+pub search_marked-search_marked-requires : goal.search_marked-search_marked-requires
+search_marked-search_marked-requires g t c κs within =
+    let see = g.W.Trees.forest in
+    let others = see c.args.others.now in
+    let other = c.in-Some.other in
+    let rest = see c.in-Some.rest in
+    let e = nodes-split see others other.rect other.below rest c.in-Some.ensures in
+    let m = includes-roots see others other.rect other.below rest c.args.tree.now.rect c.args.marks c.later_marks.result c.in-Some.ensures c.later_marks.ensures.moved c.later_marks.ensures.last c.requires.marks in
+    (omega (arith, e, size-above_0 see other.below), (within.0, (within.1.0, (within.1.1, (c.requires.tree, (sound-others see (g.I.Items.count c.args.items.now) (g.I.Items.bounds_of c.args.items.now) others other rest c.in-Some.ensures c.requires.others, (m, (goes _ _ _ _ _ _ _ c.search_if_marked.ensures c.if-not-search_if_marked.false).nothing_found)))))))
+
+pub search_two-search_between-requires : goal.search_two-search_between-requires
+search_two-search_between-requires g t c κs within =
+    let see = g.W.Trees.forest in
+    let e = ap (λ (u : Below g.row.W.Denot). size_of see u) c.in_default-Children.is-1 in
+    (omega (arith, e), (within.0, (within.1.0, (within.1.1, (c.requires.tree, (sound-children see (g.I.Items.count c.args.items.now) (g.I.Items.bounds_of c.args.items.now) c.args.other.now c.in_default-Children.children c.in_default-Children.is-1 c.requires.other, c.requires.nothing_found))))))
+
+pub search_two-search_between-requires-in-Children-default : goal.search_two-search_between-requires-in-Children-default
+search_two-search_between-requires-in-Children-default g t c κs within =
+    let see = g.W.Trees.forest in
+    let e = ap (λ (u : Below g.row.W.Denot). size_of see u) c.in-Children-default.is-0 in
+    (omega (arith, e), (within.0, (within.1.0, (within.1.1, (c.requires.other, (sound-children see (g.I.Items.count c.args.items.now) (g.I.Items.bounds_of c.args.items.now) c.args.tree.now c.in-Children-default.children c.in-Children-default.is-0 c.requires.tree, c.requires.nothing_found))))))
 
 pub search_marked-returns-in_default : goal.search_marked-returns-in_default
 search_marked-returns-in_default g t c =
@@ -20,34 +58,11 @@ search_marked-returns-in_default g t c =
     let m = cross-none (meeting (g.I.Items.bounds_of c.args.items.now)) (items_below see c.args.tree.now.below) (see c.args.others.now) c.in_default.ensures in
     record { left = omega (arith, m); free = all_cross-none (AreFree (g.I.Items.tells c.args.items.now)) (items_below see c.args.tree.now.below) (see c.args.others.now) c.in_default.ensures; nothing_found = c.requires.nothing_found }
 
-pub search_marked-search_if_marked-requires : goal.search_marked-search_if_marked-requires
-search_marked-search_if_marked-requires g t c =
-    let see = g.W.Trees.forest in
-    let n = g.I.Items.count c.args.items.now in
-    let b = g.I.Items.bounds_of c.args.items.now in
-    let h : IsSound n b see c.in-Some.other = sound-first see n b (see c.args.others.now) c.in-Some.other (see c.in-Some.rest) c.in-Some.ensures c.requires.others in
-    let e : node_count (see c.args.others.now) ≡ size_of see c.in-Some.other.below + node_count (see c.in-Some.rest) = nodes-split see (see c.args.others.now) c.in-Some.other.rect c.in-Some.other.below (see c.in-Some.rest) c.in-Some.ensures in
-    let no : IsFalse c.is_first_marked.result → AreMeeting c.in-Some.other.rect c.args.tree.now.rect → ⊥ =
-    λ f m. false≢true (sym f ∙ c.is_first_marked.ensures.1 (c.requires.marks 0 (omega arith) (first-root see (see c.args.others.now) c.in-Some.other.rect c.in-Some.other.below (see c.in-Some.rest) c.args.tree.now.rect c.in-Some.ensures m))) in
-    search rules
-
 pub search_marked-returns-then-not-search_if_marked : goal.search_marked-returns-then-not-search_if_marked
 search_marked-returns-then-not-search_if_marked g t c =
     let see = g.W.Trees.forest in
     let m = cross-split see (meeting (g.I.Items.bounds_of c.args.items.now)) (items_below see c.args.tree.now.below) (see c.args.others.now) c.in-Some.other.rect c.in-Some.other.below (see c.in-Some.rest) c.in-Some.ensures in
     stops _ _ _ _ _ _ _ _ _ c.search_if_marked.ensures c.if-not-search_if_marked.true (λ h. omega (arith, h, m))
-
-pub search_marked-search_marked-requires : goal.search_marked-search_marked-requires
-search_marked-search_marked-requires g t c =
-    let see = g.W.Trees.forest in
-    let n = g.I.Items.count c.args.items.now in
-    let b = g.I.Items.bounds_of c.args.items.now in
-    let h : AreSound n b (see c.in-Some.rest) = sound-others see n b (see c.args.others.now) c.in-Some.other (see c.in-Some.rest) c.in-Some.ensures c.requires.others in
-    let e : node_count (see c.args.others.now) ≡ size_of see c.in-Some.other.below + node_count (see c.in-Some.rest) = nodes-split see (see c.args.others.now) c.in-Some.other.rect c.in-Some.other.below (see c.in-Some.rest) c.in-Some.ensures in
-    let k : 0 < size_of see c.in-Some.other.below = size-above_0 see c.in-Some.other.below in
-    let m : Includes c.later_marks.result (RootMeets (see c.in-Some.rest) c.args.tree.now.rect) =
-    includes-roots see (see c.args.others.now) c.in-Some.other.rect c.in-Some.other.below (see c.in-Some.rest) c.args.tree.now.rect c.args.marks c.later_marks.result c.in-Some.ensures c.later_marks.ensures.moved c.later_marks.ensures.last c.requires.marks in
-    search rules
 
 pub search_marked-returns : goal.search_marked-returns
 search_marked-returns g t c =

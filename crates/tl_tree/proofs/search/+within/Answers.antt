@@ -1,13 +1,95 @@
-use Rattle.std.proofs.Common.{◌≡◌, ℕ, ◌+◌, ◌<◌, ◌++◌, List, [], ap, arith, rules, sym, subst, ◌∙◌}
+use Rattle.std.proofs.Common.{◌≡◌, ℕ, ◌+◌, ◌++◌, List, [], ap, arith, sym, subst, ◌∙◌}
+use Rattle.tl_tree.specs.declared.walk.Below.{Below}
+use Rattle.tl_tree.specs.Fits.{AreBelow, CoversAll}
 use Rattle.tl_tree.specs.Pairs.{meeting, AreFree, AllCross, cross_sum}
-use Rattle.tl_tree.specs.Trees.{leaf_items, node_count}
+use Rattle.tl_tree.specs.Trees.{Forest, leaf_items}
 use Rattle.tl_tree.specs.Keeping.Listing.{listed_items, sum_beside, AllBeside}
-use Rattle.tl_tree.specs.Keeping.Walking.{items_below, size_of, IsSound, AreSound}
+use Rattle.tl_tree.specs.Keeping.Walking.{items_below, size_of, MayLeave}
 use Rattle.tl_tree.proofs.Leaving.{stops, goes, leaves_same, leaves_both}
 use Rattle.tl_tree.proofs.Listing.{all_cross-parts, all_cross-append}
 use Rattle.tl_tree.proofs.PairLemmas.{cross-nil, cross-append, cross-append_right, all_cross-join}
-use Rattle.tl_tree.proofs.Walks.{pair-split, all_pairs-split, items-followed, nodes-split, sound-first, sound-others, size-above_0}
+use Rattle.tl_tree.proofs.Walks.{pair-none, pair-split, all_pairs-none, all_pairs-split, items-followed, nodes-split, sound-children, sound-first, sound-others, size-above_0}
 use Rattle.tl_tree.proofs.search.+within.Goals as goal
+
+pub search_among-search_unlisted-requires : goal.search_among-search_unlisted-requires
+search_among-search_unlisted-requires g t c κs within = (omega arith, (within.0, (within.1.0, (within.1.1, (c.requires.tree, (c.requires.rest, (c.requires.others, c.requires.nothing_found)))))))
+
+pub search_among-search_one-requires : goal.search_among-search_one-requires
+search_among-search_one-requires g t c κs within = (omega arith, (within.0, (within.1.0, (within.1.1, (c.requires.tree, (c.in-Some.ensures.listed.sound tt, c.requires.nothing_found))))))
+
+pub search_among-search_unlisted-requires-in-None : goal.search_among-search_unlisted-requires-in-None
+search_among-search_unlisted-requires-in-None g t c κs within = (omega arith, (within.0, (within.1.0, (within.1.1, (c.requires.tree, (c.requires.rest, (c.requires.others, c.requires.nothing_found)))))))
+
+pub search_one-test_leaf-requires-clause-some : goal.search_one-test_leaf-requires-clause-some
+search_one-test_leaf-requires-clause-some g t c =
+    let P : Below g.row.W.Denot → Type 0 = λ u. AreBelow (g.I.Items.count c.args.items.now) (items_below g.W.Trees.forest u) in
+    subst P c.in-Items.is c.requires.tree.known
+
+pub search_one-test_leaf-requires-clause-around : goal.search_one-test_leaf-requires-clause-around
+search_one-test_leaf-requires-clause-around g t c =
+    let P : Below g.row.W.Denot → Type 0 = λ u. CoversAll (g.I.Items.bounds_of c.args.items.now) c.args.tree.now.rect (items_below g.W.Trees.forest u) in
+    subst P c.in-Items.is c.requires.tree.covers
+
+pub search_one-search_within-requires : goal.search_one-search_within-requires
+search_one-search_within-requires g t c κs within =
+    let see = g.W.Trees.forest in
+    let e = ap (λ (u : Below g.row.W.Denot). size_of see u) c.in-Children.is in
+    (omega (arith, e), (within.0, (within.1.0, (within.1.1, (sound-children see (g.I.Items.count c.args.items.now) (g.I.Items.bounds_of c.args.items.now) c.args.tree.now c.in-Children.children c.in-Children.is c.requires.tree, (c.requires.near, c.requires.nothing_found))))))
+
+pub search_one-returns-in-Items : goal.search_one-returns-in-Items
+search_one-returns-in-Items g t c =
+    let see = g.W.Trees.forest in
+    let meet = meeting (g.I.Items.bounds_of c.args.items.now) in
+    let tells = g.I.Items.tells c.args.items.now in
+    let ys = listed_items see c.args.near.now in
+    let P : Below g.row.W.Denot → Type 0 = λ u. MayLeave (g.I.Items.count c.args.items.now) tells (sum_beside meet (items_below see u) ys) (AllBeside (AreFree tells) (items_below see u) ys) c.args.progress.now c.test_leaf.new.progress c.test_leaf.result in
+    subst P (sym c.in-Items.is) c.test_leaf.ensures
+
+pub search_one-returns-in-Children : goal.search_one-returns-in-Children
+search_one-returns-in-Children g t c =
+    let see = g.W.Trees.forest in
+    let meet = meeting (g.I.Items.bounds_of c.args.items.now) in
+    let tells = g.I.Items.tells c.args.items.now in
+    let ys = listed_items see c.args.near.now in
+    let P : Below g.row.W.Denot → Type 0 = λ u. MayLeave (g.I.Items.count c.args.items.now) tells (sum_beside meet (items_below see u) ys) (AllBeside (AreFree tells) (items_below see u) ys) c.args.progress.now c.search_within.new.progress c.search_within.result in
+    subst P (sym c.in-Children.is) c.search_within.ensures
+
+pub search_unlisted-search_listed-requires-clause-nothing_found : goal.search_unlisted-search_listed-requires-clause-nothing_found
+search_unlisted-search_listed-requires-clause-nothing_found g t c = (goes _ _ _ _ _ _ _ c.search_between.ensures c.if-not-search_between.false).nothing_found
+
+pub search_unlisted-search_one-requires : goal.search_unlisted-search_one-requires
+search_unlisted-search_one-requires g t c κs within = (omega arith, (within.0, (within.1.0, (within.1.1, (c.requires.tree, (tt, (goes _ _ _ _ _ _ _ c.search_listed.ensures c.if-not-search_listed.false).nothing_found))))))
+
+pub search_within-returns-in_default : goal.search_within-returns-in_default
+search_within-returns-in_default g t c =
+    let see = g.W.Trees.forest in
+    let meet = meeting (g.I.Items.bounds_of c.args.items.now) in
+    let free = AreFree (g.I.Items.tells c.args.items.now) in
+    let zs = listed_items see c.args.others.now in
+    let P : Forest → Type 0 = λ f. AllCross free (leaf_items f) zs in
+    record {
+      left = omega (arith, pair-none meet (see c.args.trees.now) c.in_default.ensures, ap (λ f. cross_sum meet (leaf_items f) zs) c.in_default.ensures);
+      free = (all_pairs-none free (see c.args.trees.now) c.in_default.ensures, subst P (sym c.in_default.ensures) tt);
+      nothing_found = c.requires.nothing_found;
+    }
+
+pub search_within-search_among-requires : goal.search_within-search_among-requires
+search_within-search_among-requires g t c κs within =
+    let see = g.W.Trees.forest in
+    let n = g.I.Items.count c.args.items.now in
+    let b = g.I.Items.bounds_of c.args.items.now in
+    let trees = see c.args.trees.now in
+    let rest = see c.in-Some.rest in
+    let e = nodes-split see trees c.in-Some.tree.rect c.in-Some.tree.below rest c.in-Some.ensures in
+    (omega (arith, e), (within.0, (within.1.0, (within.1.1, (sound-first see n b trees c.in-Some.tree rest c.in-Some.ensures c.requires.trees, (sound-others see n b trees c.in-Some.tree rest c.in-Some.ensures c.requires.trees, (c.requires.others, c.requires.nothing_found)))))))
+
+pub search_within-search_within-requires : goal.search_within-search_within-requires
+search_within-search_within-requires g t c κs within =
+    let see = g.W.Trees.forest in
+    let trees = see c.args.trees.now in
+    let rest = see c.in-Some.rest in
+    let e = nodes-split see trees c.in-Some.tree.rect c.in-Some.tree.below rest c.in-Some.ensures in
+    (omega (arith, e, size-above_0 see c.in-Some.tree.below), (within.0, (within.1.0, (within.1.1, (sound-others see (g.I.Items.count c.args.items.now) (g.I.Items.bounds_of c.args.items.now) trees c.in-Some.tree rest c.in-Some.ensures c.requires.trees, (c.requires.others, (goes _ _ _ _ _ _ _ c.search_among.ensures c.if-not-search_among.false).nothing_found))))))
 
 pub search_among-returns-in-Some : goal.search_among-returns-in-Some
 search_among-returns-in-Some g t c =
@@ -57,27 +139,6 @@ search_unlisted-returns g t c =
     (λ (f : (AllCross free xs ys × AllCross free xs zs) × AllBeside free xs []). (f.1.0, all_cross-join free xs ys zs f.0.0 f.0.1))
     (leaves_both n tells (cross_sum meet xs ys + cross_sum meet xs zs) (AllCross free xs ys × AllCross free xs zs) _ _ _ _ (AllBeside free xs []) c.search_one.result
     (record { left = omega (arith, h.left, k.left); free = (h.free, k.free); nothing_found = k.nothing_found }) c.search_one.ensures)
-
-pub search_within-search_among-requires : goal.search_within-search_among-requires
-search_within-search_among-requires g t c =
-    let see = g.W.Trees.forest in
-    let n = g.I.Items.count c.args.items.now in
-    let b = g.I.Items.bounds_of c.args.items.now in
-    let h : IsSound n b see c.in-Some.tree = sound-first see n b (see c.args.trees.now) c.in-Some.tree (see c.in-Some.rest) c.in-Some.ensures c.requires.trees in
-    let l : AreSound n b (see c.in-Some.rest) = sound-others see n b (see c.args.trees.now) c.in-Some.tree (see c.in-Some.rest) c.in-Some.ensures c.requires.trees in
-    let e : node_count (see c.args.trees.now) ≡ size_of see c.in-Some.tree.below + node_count (see c.in-Some.rest) = nodes-split see (see c.args.trees.now) c.in-Some.tree.rect c.in-Some.tree.below (see c.in-Some.rest) c.in-Some.ensures in
-    let k : 0 < size_of see c.in-Some.tree.below = size-above_0 see c.in-Some.tree.below in
-    search rules
-
-pub search_within-search_within-requires : goal.search_within-search_within-requires
-search_within-search_within-requires g t c =
-    let see = g.W.Trees.forest in
-    let n = g.I.Items.count c.args.items.now in
-    let b = g.I.Items.bounds_of c.args.items.now in
-    let l : AreSound n b (see c.in-Some.rest) = sound-others see n b (see c.args.trees.now) c.in-Some.tree (see c.in-Some.rest) c.in-Some.ensures c.requires.trees in
-    let e : node_count (see c.args.trees.now) ≡ size_of see c.in-Some.tree.below + node_count (see c.in-Some.rest) = nodes-split see (see c.args.trees.now) c.in-Some.tree.rect c.in-Some.tree.below (see c.in-Some.rest) c.in-Some.ensures in
-    let k : 0 < size_of see c.in-Some.tree.below = size-above_0 see c.in-Some.tree.below in
-    search rules
 
 pub search_within-returns-then-not-search_among : goal.search_within-returns-then-not-search_among
 search_within-returns-then-not-search_among g t c =

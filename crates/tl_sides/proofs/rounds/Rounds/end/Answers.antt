@@ -1,10 +1,25 @@
-use Rattle.std.proofs.Common.{◌≡◌, ℕ, ◌<◌, length, refl, ap, ◌∙◌}
+use Rattle.std.proofs.Common.{◌≡◌, ℕ, ◌<◌, length, refl, sym, ap, ◌∙◌, arith}
 use Rattle.tl_tree.specs.Keeping.Checking.{mark_at}
 use Rattle.tl_sides.specs.Lists.{HoldOnce}
 use Rattle.tl_sides.specs.Sides.{dart_count}
 use Rattle.tl_sides.proofs.Ends.{hold_once, whole_of, keep_next}
 use Rattle.tl_sides.proofs.WholeRounds.{AreWhole}
 use Rattle.tl_sides.proofs.rounds.Rounds.end.Goals as goal
+
+pub returns-in-Some-clause-fault : goal.returns-in-Some-clause-fault
+returns-in-Some-clause-fault c = λ rounds taken.
+    let missing : (c.in-Some.dart < length c.args.self.marks.items) × (mark_at c.args.self.marks.items c.in-Some.dart ≡ 0) = rw (← c.deref.ensures.value) c.in-Some.ensures.some in
+    (omega (arith, missing.0, taken.marks.long), sym (taken.marks.marked c.in-Some.dart) ∙ missing.1)
+
+pub returns-in-None-clause-whole : goal.returns-in-None-clause-whole
+returns-in-None-clause-whole c = λ rounds taken.
+    let all : (d : ℕ) → d < length c.args.self.marks.items → mark_at c.args.self.marks.items d ≡ 1 = rw (← c.deref.ensures.value) (c.in-None.ensures.none refl) in
+    record {
+      hold = hold_once (dart_count c.args.map.now.chains) rounds c.args.self.marks.items taken.marks all;
+      one_node = taken.one_node;
+      rising = taken.rising;
+      apart = taken.apart;
+    }
 
 pub returns-in-None-clause-next : goal.returns-in-None-clause-next
 returns-in-None-clause-next c = λ rounds taken.

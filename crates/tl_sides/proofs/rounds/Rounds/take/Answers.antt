@@ -9,7 +9,7 @@ use Rattle.tl_sides.specs.Lists.{and_list}
 use Rattle.tl_sides.specs.Rounds.{HasTwoNodes, HasFall}
 use Rattle.tl_sides.proofs.Lasting.{unknown_lasts, twice_lasts, last_lasts, repeated_lasts}
 use Rattle.tl_sides.proofs.MarkLemmas.{count-within}
-use Rattle.tl_sides.proofs.TakeFacts.{unknown_in, twice_in, added_below, repeated, taken_more}
+use Rattle.tl_sides.proofs.TakeFacts.{unknown_in, twice_in, added_below, repeated, sized_marked, taken_more}
 use Rattle.tl_sides.proofs.rounds.Rounds.take.Goals as goal
 
 pub returns-in-Err-Unknown-clause-fault : goal.returns-in-Err-Unknown-clause-fault
@@ -21,6 +21,26 @@ pub returns-in-Err-Twice-clause-fault : goal.returns-in-Err-Twice-clause-fault
 returns-in-Err-Twice-clause-fault c = λ rounds more taken.
     twice_lasts c.in-Err-Twice.dart (and_list rounds c.args.round.now) more (twice_in (dart_count c.args.map.now.chains) rounds c.args.self.now.marks.items c.args.round.now c.in-Err-Twice.dart taken.marks
     (rw (← c.deref_mut.ensures.value) (subst (λ f. IsMarkFault c.deref_mut.result.now c.args.round.now f) c.in-Err-Twice.field-0-is c.in-Err-Twice.ensures.fault)))
+
+pub returns-in-Err-Unknown-clause-sized : goal.returns-in-Err-Unknown-clause-sized
+returns-in-Err-Unknown-clause-sized c =
+    sized_marked c.args.map.now.chains c.args.self.now c.mark_darts.new.marks c.requires.sized (c.mark_darts.ensures.long ∙ ap length c.deref_mut.ensures.value) (rw (← c.deref_mut.ensures.value) c.mark_darts.ensures.count)
+
+pub returns-in-Err-Twice-clause-sized : goal.returns-in-Err-Twice-clause-sized
+returns-in-Err-Twice-clause-sized c =
+    sized_marked c.args.map.now.chains c.args.self.now c.mark_darts.new.marks c.requires.sized (c.mark_darts.ensures.long ∙ ap length c.deref_mut.ensures.value) (rw (← c.deref_mut.ensures.value) c.mark_darts.ensures.count)
+
+pub returns-then-not-has_one_node-clause-sized : goal.returns-then-not-has_one_node-clause-sized
+returns-then-not-has_one_node-clause-sized c =
+    sized_marked c.args.map.now.chains c.args.self.now c.mark_darts.new.marks c.requires.sized (c.mark_darts.ensures.long ∙ ap length c.deref_mut.ensures.value) (rw (← c.deref_mut.ensures.value) c.mark_darts.ensures.count)
+
+pub returns-then-index-clause-sized : goal.returns-then-index-clause-sized
+returns-then-index-clause-sized c =
+    sized_marked c.args.map.now.chains c.args.self.now c.mark_darts.new.marks c.requires.sized (c.mark_darts.ensures.long ∙ ap length c.deref_mut.ensures.value) (rw (← c.deref_mut.ensures.value) c.mark_darts.ensures.count)
+
+pub returns-then-not-is_rising-clause-sized : goal.returns-then-not-is_rising-clause-sized
+returns-then-not-is_rising-clause-sized c =
+    sized_marked c.args.map.now.chains c.args.self.now c.mark_darts.new.marks c.requires.sized (c.mark_darts.ensures.long ∙ ap length c.deref_mut.ensures.value) (rw (← c.deref_mut.ensures.value) c.mark_darts.ensures.count)
 
 pub has_one_node-requires-clause-darts : goal.has_one_node-requires-clause-darts
 has_one_node-requires-clause-darts c =

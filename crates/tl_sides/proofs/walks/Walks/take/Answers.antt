@@ -1,16 +1,16 @@
-use Rattle.std.proofs.Common.{◌≡◌, ◌+◌, subst, sym, refl, ◌∙◌, arith}
+use Rattle.std.proofs.Common.{◌≡◌, ◌+◌, length, ap, subst, sym, refl, ◌∙◌, arith}
 use Rattle.std.specs.Vec.{with_items}
 use Rattle.std.proofs.lemmas.List.{with_items_is}
 use Rattle.tl_sides.specs.declared.walks.Walks.{Walks}
 use Rattle.tl_sides.specs.Sides.{dart_count}
-use Rattle.tl_sides.specs.Keeping.Marked.{AddMarks, IsMarkFault}
+use Rattle.tl_sides.specs.Keeping.Marked.{marked_count, AddMarks, IsMarkFault}
 use Rattle.tl_sides.specs.Lists.{and_list}
 use Rattle.tl_sides.specs.Walks.{HasWrongStep, IsOpen}
 use Rattle.tl_sides.specs.Keeping.Walked.{IsNoRing}
 use Rattle.tl_sides.proofs.Lasting.{unknown_lasts, twice_lasts, last_lasts}
 use Rattle.tl_sides.proofs.MarkLemmas.{count-within}
 use Rattle.tl_sides.proofs.TakeFacts.{unknown_in, twice_in, added_below}
-use Rattle.tl_sides.proofs.WalkFacts.{walked_more}
+use Rattle.tl_sides.proofs.WalkFacts.{ready_marked, walked_more}
 use Rattle.tl_sides.proofs.walks.Walks.take.Goals as goal
 
 pub returns-in-Err-Unknown-clause-fault : goal.returns-in-Err-Unknown-clause-fault
@@ -32,6 +32,31 @@ pub returns-in-Err-NotClosed-clause-fault : goal.returns-in-Err-NotClosed-clause
 returns-in-Err-NotClosed-clause-fault c = λ walks more taken.
     last_lasts (IsOpen c.args.map.now.chains) walks more c.args.walk.now c.args.self.now.taken taken.taken
     (subst (λ r. IsNoRing c.args.map.now.chains c.args.walk.now r) c.in-Err-NotClosed.field-0-is c.in-Err-NotClosed.ensures.none)
+
+pub returns-in-Err-Unknown-clause-ready : goal.returns-in-Err-Unknown-clause-ready
+returns-in-Err-Unknown-clause-ready c =
+    ready_marked c.args.map.now.chains c.args.self.now c.mark_darts.new.marks c.args.self.now.taken c.requires.ready (c.mark_darts.ensures.long ∙ ap length c.deref_mut.ensures.value)
+    (omega (arith, c.requires.ready.taken, c.mark_darts.ensures.count, ap marked_count c.deref_mut.ensures.value))
+
+pub returns-in-Err-Twice-clause-ready : goal.returns-in-Err-Twice-clause-ready
+returns-in-Err-Twice-clause-ready c =
+    ready_marked c.args.map.now.chains c.args.self.now c.mark_darts.new.marks c.args.self.now.taken c.requires.ready (c.mark_darts.ensures.long ∙ ap length c.deref_mut.ensures.value)
+    (omega (arith, c.requires.ready.taken, c.mark_darts.ensures.count, ap marked_count c.deref_mut.ensures.value))
+
+pub returns-in-Err-WrongStep-clause-ready : goal.returns-in-Err-WrongStep-clause-ready
+returns-in-Err-WrongStep-clause-ready c =
+    ready_marked c.args.map.now.chains c.args.self.now c.mark_darts.new.marks c.args.self.now.taken c.requires.ready (c.mark_darts.ensures.long ∙ ap length c.deref_mut.ensures.value)
+    (omega (arith, c.requires.ready.taken, c.mark_darts.ensures.count, ap marked_count c.deref_mut.ensures.value))
+
+pub returns-in-Err-NotClosed-clause-ready : goal.returns-in-Err-NotClosed-clause-ready
+returns-in-Err-NotClosed-clause-ready c =
+    ready_marked c.args.map.now.chains c.args.self.now c.mark_darts.new.marks c.args.self.now.taken c.requires.ready (c.mark_darts.ensures.long ∙ ap length c.deref_mut.ensures.value)
+    (omega (arith, c.requires.ready.taken, c.mark_darts.ensures.count, ap marked_count c.deref_mut.ensures.value))
+
+pub returns-clause-ready : goal.returns-clause-ready
+returns-clause-ready c =
+    let added : AddMarks c.args.self.now.marks.items c.args.walk.now c.mark_darts.new.marks = rw (← c.deref_mut.ensures.value) c.in-Ok.ensures.marked in
+    ready_marked c.args.map.now.chains c.args.self.now c.mark_darts.new.marks (c.args.self.now.taken + 1) c.requires.ready added.long (omega (arith, c.requires.ready.taken, c.requires.some, added.count))
 
 pub step_round-requires-clause-darts : goal.step_round-requires-clause-darts
 step_round-requires-clause-darts c =

@@ -1,5 +1,6 @@
-use Rattle.std.proofs.Common.{inl, inr, get_or, arith}
-use Rattle.tl_tree.proofs.Flat.{no-tree, split-inner}
+use Rattle.std.proofs.Common.{◌+◌, ◌-◌, inl, inr, get_or, drop, ap, sym, ◌∙◌, arith}
+use Rattle.tl_tree.specs.Trees.{leaf, first_trees, trees_of}
+use Rattle.tl_tree.proofs.Flat.{no-tree, split-inner, split-leaf}
 use Rattle.tl_tree.proofs.cursor.CursorTrees.split_first.Goals as goal
 use Rattle.tl_tree.proofs.cursor.CursorTrees.split_first.Goals.{then-self-eq0-via-then-self-eq0, then-self-eq0-via-else-self-eq0+then-self-lists}
 
@@ -15,3 +16,11 @@ returns-in-Inner c =
     let self = c.args.self.now in
     split-inner self.count (get_or self.lists.now.sizes.now self.at 0) self.at self.lists.now.nodes.now c.in-Inner.rect c.in-Inner.children c.index-lists-self.result
     c.if-self-eq0.false c.if-self-lists.false c.in-Inner.is (self.lists.now.sized.right self.at (omega arith) c.if-self-lists.false)
+
+pub returns-in-Leaf : goal.returns-in-Leaf
+returns-in-Leaf c =
+    let self = c.args.self.now in
+    let size = get_or self.lists.now.sizes.now self.at 0 in
+    split-leaf self.count size self.at self.lists.now.nodes.now c.in-Leaf.rect c.in-Leaf.items c.index-lists-self.result
+    c.if-self-eq0.false c.if-self-lists.false c.in-Leaf.is (self.lists.now.sized.right self.at (omega arith) c.if-self-lists.false)
+    ∙ ap (λ xs. leaf c.in-Leaf.rect xs (first_trees (self.count - 1) (trees_of (drop (self.at + size) self.lists.now.nodes.now)))) (sym c.as_slice.ensures.value)
