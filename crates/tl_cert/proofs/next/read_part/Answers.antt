@@ -24,3 +24,13 @@ pub returns-in-Err-read-clause-reads : goal.returns-in-Err-read-clause-reads
 returns-in-Err-read-clause-reads g c =
     subst (λ p. ReadsPart g.R.Source.remaining p (at c.args.lines.now c.args.source.now) (at c.read.new.self c.read.new.source) (Err c.in-Err-read.stop)) (sym c.in-Treed.is)
     (number_missing g.R.Source.remaining 78 (Treed c.in-Treed.field-0) (at c.args.lines.now c.args.source.now) (at c.read.new.self c.read.new.source) (at c.read.new.self c.read.new.source) c.in-Err-read.stop (allowed_rounds c.in-Treed.field-0) (λ e. cc e) c.in-Err-read.ensures.reads)
+
+pub returns-in-Rounds-clause-reads : goal.returns-in-Rounds-clause-reads
+returns-in-Rounds-clause-reads g c =
+    subst (λ p. ReadsPart g.R.Source.remaining p (at c.args.lines.now c.args.source.now) (at c.read_round-in-Rounds.new.lines c.read_round-in-Rounds.new.source) c.read_round-in-Rounds.result) (sym c.in-Rounds.is)
+    c.read_round-in-Rounds.ensures.reads
+
+pub returns-in-Walks-clause-reads : goal.returns-in-Walks-clause-reads
+returns-in-Walks-clause-reads g c =
+    subst (λ p. ReadsPart g.R.Source.remaining p (at c.args.lines.now c.args.source.now) (at c.read_walk.new.lines c.read_walk.new.source) c.read_walk.result) (sym c.in-Walks.is)
+    c.read_walk.ensures.reads

@@ -42,3 +42,12 @@ loop-index-preserved g c =
       failures = c.in-Ok-read.ensures.failures ∙ c.loop-index.invariant.failures;
       same = c.in-Ok-read.ensures.same_reference ∙ c.loop-index.invariant.same;
     }
+
+pub returns-clause-reads : goal.returns-clause-reads
+returns-clause-reads g c = λ others.
+    let so_far = c.loop-index.invariant in
+    let darts = c.loop-index.darts.items in
+    let counted : c.in-Ok.count ≡ length darts = omega (arith, so_far.size, c.len-taken.ensures, c.in-Ok-darts_at_once.ensures.few) in (
+      (record { some = omega (arith, counted, c.in-Ok.ensures.reads.0.1); counted = omega (arith, counted, c.in-Ok.ensures.reads.0.0) }, so_far.numbers),
+      subst (λ n. TakesLines g.R.Source.remaining (at c.args.lines.now c.args.source.now) (at c.loop-index.lines c.loop-index.source) (numbered_line (letter_of c.args.lists ∷ []) n ∷ dart_lines darts)) counted so_far.takes,
+    )
