@@ -1,5 +1,5 @@
 -- A line of a number that stands whole at the front of some bytes.
-use Rattle.std.proofs.Common.{rules, ◌≡◌, ℕ, zero, suc, ◌+◌, ◌-◌, ◌^◌, ◌<◌, ◌≤◌, true, List, [], ◌∷◌, ◌++◌, length, take, drop, get_or, take_all, take-add, add-one, length-drop, length-append, Option, None, Some, refl, sym, ap, ◌∙◌, arith}
+use Rattle.std.proofs.Common.{rules, ◌≡◌, ℕ, zero, suc, ◌+◌, ◌-◌, ◌*◌, ◌^◌, ◌<◌, ◌≤◌, true, List, [], ◌∷◌, ◌++◌, length, take, drop, get_or, take_all, take-add, add-one, length-drop, length-append, Option, None, Some, refl, sym, ap, ◌∙◌, arith}
 use Rattle.std.proofs.Common as std
 use Rattle.std.specs.Char.{is_ascii_digit}
 use Rattle.std.specs.List.{list_all}
@@ -10,6 +10,7 @@ use Rattle.std.proofs.Math.Seq.{take-suc, take-append_seam, get_or-append_seam}
 use Rattle.std.proofs.lemmas.Str.Parse.{IsNumeralModel, numerals_by_weight}
 use Rattle.tl_record.specs.Lines.{joined_lines}
 use Rattle.tl_record.specs.Fields.{decimal}
+use Rattle.tl_record.proofs.Digits.{all_digits_more, decimal_more}
 use Rattle.tl_cert.specs.Text.{number, numbered_line}
 use Rattle.tl_cert.specs.Keeping.Words.{StandsFirst, AreDigits}
 use Rattle.tl_cert.proofs.LineLemmas.{line_taken}
@@ -37,6 +38,15 @@ short_spelt bytes eight len value is some few within lead all worth small =
 above_zero : (value : ℕ) (bytes : List ℕ) → bytes ≡ std.decimal value → (get_or bytes 0 0 ≡ 48 → ⊥) → 0 < value
 above_zero zero bytes is none = absurd (none (ap (λ (l : List ℕ). get_or l 0 0) (is ∙ decimal_digit 0 (omega arith))))
 above_zero (suc value) bytes is none = omega arith
+
+-- a digit behind eight others
+pub nine_digits : (bytes eight : List ℕ) (value digit : ℕ) → 9 ≤ length bytes → eight ≡ take 8 bytes → list_all is_ascii_digit eight ≡ true → value ≡ decimal eight
+    → is_ascii_digit (get_or bytes 8 0) ≡ true → digit ≡ get_or bytes 8 0 - 48 → AreDigits bytes 9 (value * 10 + digit)
+nine_digits bytes eight value digit long is all worth here told = record {
+  within = long;
+  digits = all_digits_more bytes 8 long (ap (list_all is_ascii_digit) (sym is) ∙ all) here;
+  worth = decimal_more bytes 8 long ∙ rw (← is, ← worth, ← told) refl;
+}
 
 pub long_value : (bytes : List ℕ) (len value : ℕ) → AreDigits bytes len value → 8 ≤ len → (get_or bytes 0 0 ≡ 48 → ⊥) → value < 10 ^ 9 → take len bytes ≡ std.decimal value
 long_value bytes len value are long none small =

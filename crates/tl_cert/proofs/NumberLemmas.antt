@@ -49,6 +49,9 @@ digit_kept bytes index below is all =
 pub digit_gone : (bytes : List ℕ) (index : ℕ) → index < length bytes → AllDigits 10 (drop index bytes) → AllDigits 10 (drop (index + 1) bytes)
 digit_gone bytes index below all = (subst (AllDigits 10) (drop_more bytes index 0 below) all).1
 
+pub digit_below : (byte : ℕ) → is_ascii_digit byte ≡ true → byte - 48 < 10
+digit_below byte is = let digit : IsInRange 48 57 byte = grind arith in omega (arith, digit)
+
 -- another byte is no digit
 pub no_digit : (bytes : List ℕ) (index : ℕ) → index < length bytes → is_ascii_digit (get_or bytes index 0) ≡ false → AllDigits 10 (drop index bytes) → ⊥
 no_digit bytes index below is all =

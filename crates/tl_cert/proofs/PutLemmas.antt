@@ -30,6 +30,13 @@ feed_put end text room within =
     let next : end - 1 + 1 ≡ end = omega (arith, room) in
     drop-set text (end - 1) 10 (omega (arith, room, within)) ∙ ap (λ i. 10 ∷ drop i text) next
 
+-- four words, each before those behind it
+pub words_put : (a b c d rest : List ℕ) {one two three four : List ℕ} → one ≡ d ++ rest → two ≡ c ++ one → three ≡ b ++ two → four ≡ a ++ three
+    → four ≡ (((a ++ b) ++ c) ++ d) ++ rest
+words_put a b c d rest first second third fourth =
+    let flat : (((a ++ b) ++ c) ++ d) ++ rest ≡ a ++ (b ++ (c ++ (d ++ rest))) = simp append_assoc in
+    fourth ∙ ap (λ l. a ++ l) (third ∙ ap (λ l. b ++ l) (second ∙ ap (λ l. c ++ l) first)) ∙ sym flat
+
 -- both, and the digits between them
 pub line_put : (letter n start end : ℕ) (text digits : List ℕ) → 1 ≤ end → end ≤ length text → 2 ≤ start → start ≤ length digits
     → drop start digits ≡ decimal n ++ drop (end - 1) (set text (end - 1) 10)

@@ -1,11 +1,18 @@
 -- A word that stands first among bytes, and what follows it.
-use Rattle.std.proofs.Common.{◌≡◌, ◌≢◌, ℕ, ℤ, All, List, [], ◌∷◌, ◌++◌, refl, sym, ◌∙◌, arith, decimal, FitsSigned, w32}
+use Rattle.std.proofs.Common.{◌≡◌, ◌≢◌, ℕ, ℤ, ◌+◌, ◌<◌, All, List, [], ◌∷◌, ◌++◌, length, get_or, below_more, refl, sym, ◌∙◌, arith, decimal, FitsSigned, w32}
+use Rattle.std.proofs.lemmas.List.{get_or_default}
 use Rattle.std.specs.Fmt.{signed_decimal}
 use Rattle.std.proofs.lemmas.List.Elements.{All-head, All-tail}
 use Rattle.tl_cert.specs.Text.{number, coordinate}
 use Rattle.tl_cert.specs.Certificates.{IsNumber}
 use Rattle.tl_cert.specs.Keeping.Words.{StartsWord, IsSplit}
 use Rattle.tl_cert.proofs.WordLemmas.{same_first, same_rest, decimal_no_space, signed_no_space, magnitude_32}
+
+-- no space so far, and none here
+pub none_more : (bytes : List ℕ) (end : ℕ) → end < length bytes → get_or bytes end 0 ≢ 32 → ((k d : ℕ) → k < end → get_or bytes k d ≢ 32)
+    → (k d : ℕ) → k < end + 1 → get_or bytes k d ≢ 32
+none_more bytes end below here none = λ k d small.
+    below_more (λ k. (d : ℕ) → get_or bytes k d ≢ 32) end (λ k small d. none k d small) (λ d is. here (get_or_default bytes end 0 d below ∙ is)) k small d
 
 -- words up to their end
 words_only : (front other x y : List ℕ) → All (λ byte. byte ≢ 32) front → All (λ byte. byte ≢ 32) other → StartsWord x → StartsWord y

@@ -81,21 +81,12 @@ impl Parts {
             CertPart::Counts(counts, version) => {
                 self.counts = counts;
                 self.version = version;
-                Ok(())
             }
-            CertPart::Tree(nodes) => {
-                self.tree = nodes;
-                Ok(())
-            }
-            CertPart::Round(darts) => match self.rounds.push(darts) {
-                Ok(()) => Ok(()),
-                Err(_) => Err(AllocError),
-            },
-            CertPart::Walk(darts) => match self.walks.push(darts) {
-                Ok(()) => Ok(()),
-                Err(_) => Err(AllocError),
-            },
+            CertPart::Tree(nodes) => self.tree = nodes,
+            CertPart::Round(darts) => self.rounds.push(darts)?,
+            CertPart::Walk(darts) => self.walks.push(darts)?,
         }
+        Ok(())
     }
 
     /// Whether they make a certificate.

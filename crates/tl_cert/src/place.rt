@@ -17,7 +17,7 @@ pub enum CertPart {
 }
 
 /// Which part comes next.
-#[derive(Clone, Copy, Debug, PartialEq, Eq)]
+#[derive(Clone, Copy, Debug)]
 pub enum Place {
     /// The head and the counts.
     Start,

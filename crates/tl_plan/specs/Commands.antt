@@ -1,9 +1,11 @@
 -- The commands that the program tells `clap` of. How a simple command's words are read is clap's own definition.
-use Rattle.std.specs.Prelude.{true, Some, codes}
+use Rattle.std.specs.Prelude.{◌≡◌, true, false, Some, codes}
 use Rattle.clap.specs.Lexer.{usize_max}
-use Rattle.clap.specs.Simple.{App, new_app, new_rule, with_rule, with_subcommand, on_top}
+use Rattle.clap.specs.Simple.{App, app_of, new_app, new_rule, with_rule, with_subcommand, on_top}
 use Rattle.clap.specs.Walk.{Rule, Text}
 use Rattle.clap.specs.declared.builder.action.ArgAction.TheVariants.{Append, SetTrue}
+use Rattle.clap.specs.declared.builder.command.Command.{Command}
+use Rattle.clap.specs.declared.builder.command.Command.TheViews.{out-Command}
 
 -- FILES..: one name or more
 abbrev pub files_argument : Rule
@@ -14,13 +16,17 @@ files_argument = record (new_rule (codes "files")) {
   required = true;
 }
 
+-- an option with no value, which is on where it is given
+abbrev pub switch : Text → Rule
+switch id = record (new_rule id) { long = Some id; action = Some SetTrue }
+
 -- --released: type I lines have the columns of the files that the Census Bureau released
 abbrev pub released_argument : Rule
-released_argument = record (new_rule (codes "released")) { long = Some (codes "released"); action = Some SetTrue }
+released_argument = switch (codes "released")
 
 -- --zero-cells: the ids of zero-cells are read
 abbrev pub zero_cells_argument : Rule
-zero_cells_argument = record (new_rule (codes "zero-cells")) { long = Some (codes "zero-cells"); action = Some SetTrue }
+zero_cells_argument = switch (codes "zero-cells")
 
 -- --cert CERT and --out CERT: one name, which has to be given
 abbrev pub certificate_argument : Text → Rule
@@ -101,3 +107,8 @@ with_decisions app = with_subcommand (with_subcommand (with_subcommand app audit
 
 abbrev pub command_line : App
 command_line = with_subcommand (with_decisions (with_subcommand with_listings locate_app.top)) conversion_app.top
+
+-- clap was told of this command, and of no argument of it that holds for others too
+pub record IsLocal (app : App) (command : Command) : Type 0 where
+  pub shape : app_of command ≡ app
+  pub local : (out-Command command).has_globals ≡ false

@@ -1,20 +1,19 @@
 //! The command line that `clap` is told of.
 
 ghost use Rattle.std.specs.Prelude.{◌≡◌, false, IfOk};
-ghost use Rattle.clap.specs.Simple.{app_of};
-ghost use Rattle.clap.specs.Walk.{rule_of};
-ghost use Rattle.clap.specs.declared.builder.command.Command.TheViews.{out-Command as fields_of};
+ghost use Rattle.clap.specs.Simple.{App, app_of, with_rule, with_subcommand};
+ghost use Rattle.clap.specs.Walk.{Rule, rule_of};
+ghost use Rattle.tl_plan.specs.Commands.{IsLocal};
 ghost use Rattle.tl_plan.specs.Commands.{program, with_listings, command_line, command_on_files as app_on_files};
 ghost use Rattle.tl_plan.specs.Commands.{on_a_map as app_on_a_map, audit_app, build_app, check_app};
 ghost use Rattle.tl_plan.specs.Commands.{locate_app, conversion_app, name_argument as name_rule};
-ghost use Rattle.tl_plan.specs.Commands.{released_argument as released_rule, files_argument as files_rule};
+ghost use Rattle.tl_plan.specs.Commands.{switch as switch_rule, files_argument as files_rule};
 ghost use Rattle.tl_plan.specs.Commands.{certificate_argument as certificate_rule, tests_argument as tests_rule};
-ghost use Rattle.tl_plan.specs.Commands.{zero_cells_argument as zero_cells_rule};
 
 use crate::help::{
     ABOUT, AUDIT_ABOUT, AUDIT_EXAMPLE, BUILD_ABOUT, BUILD_EXAMPLE, CHECK_ABOUT, CHECK_EXAMPLE,
     CONVERT_ABOUT, CONVERT_EXAMPLE, EXAMPLES, LANDMARKS_ABOUT, LANDMARKS_EXAMPLE, LOCATE_ABOUT,
-    LOCATE_EXAMPLE, SHOW_ABOUT, SHOW_EXAMPLE,
+    LOCATE_EXAMPLE, RELEASED, SHOW_ABOUT, SHOW_EXAMPLE, ZERO_CELLS,
 };
 use clap::{Arg, ArgAction, Command};
 use std::alloc::{AllocError, Global};
@@ -25,40 +24,56 @@ const VERSION: &str = "0.1.0";
 pub fn command<'a>(alloc: Global) -> Result<Command<'a>, AllocError>
     ensures { IfOk result (λ command. app_of command ≡ command_line) }
 {
-    let program = listings(alloc)?;
-    let locate = locate(alloc)?;
-    let program = program.subcommand(locate)?;
-    let audit = audit(alloc)?;
-    let program = program.subcommand(audit)?;
-    let build = build(alloc)?;
-    let program = program.subcommand(build)?;
-    let check = check(alloc)?;
-    let program = program.subcommand(check)?;
-    let convert = conversion(alloc)?;
-    program.subcommand(convert)
+    let program = with_command(listings(alloc), locate(alloc));
+    let program = with_command(program, audit(alloc));
+    let program = with_command(program, build(alloc));
+    let program = with_command(program, check(alloc));
+    with_command(program, conversion(alloc))
 }
 
 // The program with the commands that take files and nothing else but --released.
 fn listings<'a>(alloc: Global) -> Result<Command<'a>, AllocError>
     ensures { IfOk result (λ command. app_of command ≡ with_listings) }
 {
-    let program = program(alloc)?;
-    let show = command_on_files(alloc, "show", SHOW_ABOUT, SHOW_EXAMPLE)?;
-    let program = program.subcommand(show)?;
-    let landmarks = command_on_files(alloc, "landmarks", LANDMARKS_ABOUT, LANDMARKS_EXAMPLE)?;
-    program.subcommand(landmarks)
+    let show = command_on_files(alloc, "show", SHOW_ABOUT, SHOW_EXAMPLE);
+    let program = with_command(program(alloc), show);
+    let landmarks = command_on_files(alloc, "landmarks", LANDMARKS_ABOUT, LANDMARKS_EXAMPLE);
+    with_command(program, landmarks)
+}
+
+// The program with a command more, where memory sufficed for both.
+fn with_command<'a>(
+    program: Result<Command<'a>, AllocError>,
+    command: Result<Command<'a>, AllocError>,
+) -> Result<Command<'a>, AllocError>
+    ensures { (whole added : App) → IfOk program.entry (λ known. app_of known ≡ whole) → IfOk command.entry (IsLocal added)
+        → IfOk result (λ known. app_of known ≡ with_subcommand whole added.top) }
+{
+    program?.subcommand(command?)
+}
+
+// The command with an argument more, where memory sufficed for it.
+fn with_argument<'a>(
+    command: Result<Command<'a>, AllocError>,
+    argument: Arg<'a>,
+) -> Result<Command<'a>, AllocError>
+    requires { argument.global ≡ false }
+    ensures { (app : App) (rule : Rule) → rule_of argument.entry ≡ rule → IfOk command.entry (IsLocal app)
+        → IfOk result (IsLocal (with_rule app rule)) }
+{
+    command?.arg(argument)
 }
 
 fn program<'a>(alloc: Global) -> Result<Command<'a>, AllocError>
     ensures { IfOk result (λ command. app_of command ≡ program) }
 {
-    let named = Command::new(alloc, "tigertopo")
+    Command::new(alloc, "tigertopo")
         .about(ABOUT)
         .version(VERSION)
         .after_help(EXAMPLES)
         .no_binary_name(true)
-        .bin_name("tigertopo")?;
-    Ok(named.subcommand_required(true))
+        .subcommand_required(true)
+        .bin_name("tigertopo")
 }
 
 fn command_on_files<'a>(
@@ -67,88 +82,76 @@ fn command_on_files<'a>(
     about: &'a str,
     example: &'a str,
 ) -> Result<Command<'a>, AllocError>
-    ensures shape { IfOk result (λ command. app_of command ≡ app_on_files name.entry.now) }
-    ensures local { IfOk result (λ command. (fields_of command).has_globals ≡ false) }
+    ensures { IfOk result (IsLocal (app_on_files name.entry.now)) }
 {
-    let released = released_argument(alloc);
     let command = Command::new(alloc, name)
         .about(about)
         .after_help(example)
-        .arg(released)?;
-    let files = files_argument(alloc);
-    command.arg(files)
+        .arg(switch(alloc, "released", RELEASED));
+    with_argument(command, files_argument(alloc))
 }
 
 /// The command that locates a point.
 pub fn locate<'a>(alloc: Global) -> Result<Command<'a>, AllocError>
-    ensures shape { IfOk result (λ command. app_of command ≡ locate_app) }
-    ensures local { IfOk result (λ command. (fields_of command).has_globals ≡ false) }
+    ensures { IfOk result (IsLocal locate_app) }
 {
-    let released = released_argument(alloc);
     let command = Command::new(alloc, "locate")
         .about(LOCATE_ABOUT)
         .after_help(LOCATE_EXAMPLE)
-        .arg(released)?;
+        .arg(switch(alloc, "released", RELEASED));
     let point = name_argument(
         alloc,
         "point",
         "@X,Y",
         "The point, in millionths of a degree",
     );
-    let command = command.arg(point)?;
-    let files = files_argument(alloc);
-    command.arg(files)
+    let command = with_argument(command, point);
+    with_argument(command, files_argument(alloc))
 }
 
 fn audit<'a>(alloc: Global) -> Result<Command<'a>, AllocError>
-    ensures shape { IfOk result (λ command. app_of command ≡ audit_app) }
-    ensures local { IfOk result (λ command. (fields_of command).has_globals ≡ false) }
+    ensures { IfOk result (IsLocal audit_app) }
 {
     let command = Command::new(alloc, "audit")
         .about(AUDIT_ABOUT)
         .after_help(AUDIT_EXAMPLE);
-    on_a_map(alloc, command)
+    on_a_map(alloc, Ok(command))
 }
 
 fn build<'a>(alloc: Global) -> Result<Command<'a>, AllocError>
-    ensures shape { IfOk result (λ command. app_of command ≡ build_app) }
-    ensures local { IfOk result (λ command. (fields_of command).has_globals ≡ false) }
+    ensures { IfOk result (IsLocal build_app) }
 {
     let out = certificate_argument(alloc, "out", "The certificate that is made");
     let command = Command::new(alloc, "build")
         .about(BUILD_ABOUT)
         .after_help(BUILD_EXAMPLE)
-        .arg(out)?;
+        .arg(out);
     on_a_map(alloc, command)
 }
 
 /// The command that checks.
 pub fn check<'a>(alloc: Global) -> Result<Command<'a>, AllocError>
-    ensures shape { IfOk result (λ command. app_of command ≡ check_app) }
-    ensures local { IfOk result (λ command. (fields_of command).has_globals ≡ false) }
+    ensures { IfOk result (IsLocal check_app) }
 {
     let cert = certificate_argument(alloc, "cert", "The certificate");
     let command = Command::new(alloc, "check")
         .about(CHECK_ABOUT)
         .after_help(CHECK_EXAMPLE)
-        .arg(cert)?;
-    let tests = tests_argument(alloc);
-    let command = command.arg(tests)?;
+        .arg(cert);
+    let command = with_argument(command, tests_argument(alloc));
     on_a_map(alloc, command)
 }
 
 // The command with what stands last for each that decides whether a map is sound: --zero-cells, --released and FILES..
-fn on_a_map<'a>(alloc: Global, command: Command<'a>) -> Result<Command<'a>, AllocError>
-    requires { (fields_of command).has_globals ≡ false }
-    ensures shape { IfOk result (λ whole. app_of whole ≡ app_on_a_map (app_of command.entry)) }
-    ensures local { IfOk result (λ whole. (fields_of whole).has_globals ≡ false) }
+fn on_a_map<'a>(
+    alloc: Global,
+    command: Result<Command<'a>, AllocError>,
+) -> Result<Command<'a>, AllocError>
+    ensures { (app : App) → IfOk command.entry (IsLocal app) → IfOk result (IsLocal (app_on_a_map app)) }
 {
-    let zero_cells = zero_cells_argument(alloc);
-    let command = command.arg(zero_cells)?;
-    let released = released_argument(alloc);
-    let command = command.arg(released)?;
-    let files = files_argument(alloc);
-    command.arg(files)
+    let command = with_argument(command, switch(alloc, "zero-cells", ZERO_CELLS));
+    let command = with_argument(command, switch(alloc, "released", RELEASED));
+    with_argument(command, files_argument(alloc))
 }
 
 // The name of a certificate, behind an option that has to be given.
@@ -172,29 +175,27 @@ fn tests_argument<'a>(alloc: Global) -> Arg<'a>
     )
 }
 
-fn zero_cells_argument<'a>(alloc: Global) -> Arg<'a>
-    ensures rule { rule_of result ≡ zero_cells_rule }
+// A switch, which is on where it is given.
+fn switch<'a>(alloc: Global, id: &'a str, help: &'a str) -> Arg<'a>
+    ensures rule { rule_of result ≡ switch_rule id.entry.now }
     ensures local { result.global ≡ false }
 {
-    Arg::new(alloc, "zero-cells")
-        .long("zero-cells")
-        .help(
-            "Reads zero-cell ids of type I lines, TZIDS in 21-30 and TZIDE in 31-40, and tests that they agree",
-        )
+    Arg::new(alloc, id)
+        .long(id)
+        .help(help)
         .action(ArgAction::SetTrue)
 }
 
 fn conversion<'a>(alloc: Global) -> Result<Command<'a>, AllocError>
-    ensures shape { IfOk result (λ command. app_of command ≡ conversion_app) }
-    ensures local { IfOk result (λ command. (fields_of command).has_globals ≡ false) }
+    ensures { IfOk result (IsLocal conversion_app) }
 {
     let cert = name_argument(alloc, "cert", "CERT", "The certificate that is read");
     let command = Command::new(alloc, "convert")
         .about(CONVERT_ABOUT)
         .after_help(CONVERT_EXAMPLE)
-        .arg(cert)?;
+        .arg(cert);
     let out = name_argument(alloc, "out", "OUT", "The certificate that is made");
-    command.arg(out)
+    with_argument(command, out)
 }
 
 fn name_argument<'a>(alloc: Global, id: &'a str, shown: &'a str, help: &'a str) -> Arg<'a>
@@ -205,18 +206,6 @@ fn name_argument<'a>(alloc: Global, id: &'a str, shown: &'a str, help: &'a str) 
         .value_name(shown)
         .help(help)
         .required(true)
-}
-
-fn released_argument<'a>(alloc: Global) -> Arg<'a>
-    ensures rule { rule_of result ≡ released_rule }
-    ensures local { result.global ≡ false }
-{
-    Arg::new(alloc, "released")
-        .long("released")
-        .help(
-            "Reads type I lines by the columns of the released files, FILE in 6-10 and TLID in 11-20",
-        )
-        .action(ArgAction::SetTrue)
 }
 
 fn files_argument<'a>(alloc: Global) -> Arg<'a>

@@ -93,3 +93,9 @@ Text line N` with the line that none has.
 
 Example:
   tigertopo convert OLD.CERT NEW.CERT";
+
+pub const RELEASED: &str =
+    "Reads type I lines by the columns of the released files, FILE in 6-10 and TLID in 11-20";
+
+pub const ZERO_CELLS: &str =
+    "Reads zero-cell ids of type I lines, TZIDS in 21-30 and TZIDE in 31-40, and tests that they agree";

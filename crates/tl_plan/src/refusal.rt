@@ -82,8 +82,7 @@ fn misspelt_tests(alloc: Global, tests: &str) -> Result<String, AllocError>
     ensures { IfOk result HasNoEscape }
 {
     let wrong = format!(in alloc; "invalid value '{tests}' for '--tests <N>': {SPELLING}")?;
-    let command = check(alloc)?.bin_name("tigertopo check")?;
-    misspelt(alloc, command, wrong.as_str())
+    misspelt(alloc, check(alloc), "tigertopo check", wrong.as_str())
 }
 
 // What is wrong with a point that isn't spelt as one.
@@ -91,14 +90,19 @@ fn misspelt_point(alloc: Global, point: &str) -> Result<String, AllocError>
     ensures { IfOk result HasNoEscape }
 {
     let wrong = format!(in alloc; "invalid value '{point}' for '<@X,Y>': {POINT_SPELLING}")?;
-    let command = locate(alloc)?.bin_name("tigertopo locate")?;
-    misspelt(alloc, command, wrong.as_str())
+    misspelt(alloc, locate(alloc), "tigertopo locate", wrong.as_str())
 }
 
-// What the command says of a word that isn't spelt as it wants.
-fn misspelt(alloc: Global, mut command: Command<'_>, wrong: &str) -> Result<String, AllocError>
+// What the command of this name says of a word that isn't spelt as it wants.
+fn misspelt(
+    alloc: Global,
+    command: Result<Command<'_>, AllocError>,
+    name: &str,
+    wrong: &str,
+) -> Result<String, AllocError>
     ensures { IfOk result HasNoEscape }
 {
+    let mut command = command?.bin_name(name)?;
     let error = command.error(ErrorKind::ValueValidation, wrong)?;
     text_of(alloc, &error)
 }

@@ -1,11 +1,12 @@
-use Rattle.std.proofs.Common.{◌∷◌, [], Err, arith, sym, subst}
-use Rattle.tl_cert.specs.declared.place.Place.TheVariants.{Treed, Rounds}
+use Rattle.std.proofs.Common.{◌∷◌, [], Some, Ok, Err, arith, sym, subst}
+use Rattle.tl_cert.specs.declared.place.Place.TheVariants.{Counted, Treed, Rounds}
+use Rattle.tl_cert.specs.declared.place.CertPart.TheVariants as part
 use Rattle.tl_cert.specs.Text.{numbered_line}
-use Rattle.tl_cert.specs.Keeping.Places.{ReadsPart}
+use Rattle.tl_cert.specs.Keeping.Places.{ReadsPart, FitsPlace}
 use Rattle.tl_cert.specs.Keeping.Steps.{at_rounds}
 use Rattle.tl_cert.specs.Keeping.Lines.{at}
 use Rattle.tl_cert.proofs.AllowedLemmas.{allowed_rounds}
-use Rattle.tl_cert.proofs.PlaceLemmas.{passed, pass_rounds, number_missing, tree_read}
+use Rattle.tl_cert.proofs.PlaceLemmas.{passed, pass_rounds, number_missing, counts_read, tree_read}
 use Rattle.tl_cert.proofs.next.read_part.Goals as goal
 
 pub returns-in-Ok-read_tree-clause-reads : goal.returns-in-Ok-read_tree-clause-reads
@@ -24,3 +25,21 @@ pub returns-in-Err-read-clause-reads : goal.returns-in-Err-read-clause-reads
 returns-in-Err-read-clause-reads g c =
     subst (λ p. ReadsPart g.R.Source.remaining p (at c.args.lines.now c.args.source.now) (at c.read.new.self c.read.new.source) (Err c.in-Err-read.stop)) (sym c.in-Treed.is)
     (number_missing g.R.Source.remaining 78 (Treed c.in-Treed.field-0) (at c.args.lines.now c.args.source.now) (at c.read.new.self c.read.new.source) (at c.read.new.self c.read.new.source) c.in-Err-read.stop (allowed_rounds c.in-Treed.field-0) (λ e. cc e) c.in-Err-read.ensures.reads)
+
+pub returns-in-Rounds-clause-reads : goal.returns-in-Rounds-clause-reads
+returns-in-Rounds-clause-reads g c =
+    subst (λ p. ReadsPart g.R.Source.remaining p (at c.args.lines.now c.args.source.now) (at c.read_round-in-Rounds.new.lines c.read_round-in-Rounds.new.source) c.read_round-in-Rounds.result) (sym c.in-Rounds.is)
+    c.read_round-in-Rounds.ensures.reads
+
+pub returns-in-Walks-clause-reads : goal.returns-in-Walks-clause-reads
+returns-in-Walks-clause-reads g c =
+    subst (λ p. ReadsPart g.R.Source.remaining p (at c.args.lines.now c.args.source.now) (at c.read_walk.new.lines c.read_walk.new.source) c.read_walk.result) (sym c.in-Walks.is)
+    c.read_walk.ensures.reads
+
+pub returns-in-Ok-clause-reads : goal.returns-in-Ok-clause-reads
+returns-in-Ok-clause-reads g c =
+    let counts = c.in-Ok.counts in
+    let version = c.in-Ok.version in
+    let none = subst (λ p. FitsPlace p c.args.lines.now.lines) c.in-Start.is c.requires in
+    subst (λ p. ReadsPart g.R.Source.remaining p (at c.args.lines.now c.args.source.now) (at c.read_counts.new.lines c.read_counts.new.source) (Ok (Some (part.Counts counts version, Counted version)))) (sym c.in-Start.is)
+    (counts_read g.R.Source.remaining counts version (at c.args.lines.now c.args.source.now) (at c.read_counts.new.lines c.read_counts.new.source) none c.in-Ok.ensures.reads.0 c.in-Ok.ensures.reads.1)

@@ -6,7 +6,7 @@ use Rattle.tl_cert.specs.Keeping.Lines.{TakesLines}
 use Rattle.tl_cert.specs.Keeping.Parts.{AreDarts, letter_of, among}
 use Rattle.tl_cert.specs.Keeping.Steps.{no_line}
 use Rattle.tl_cert.specs.Keeping.Lines.{at}
-use Rattle.tl_cert.proofs.PartLemmas.{takes_none, takes_more, line_missing, lines_more, numbers_more, list_run}
+use Rattle.tl_cert.proofs.PartLemmas.{takes_none, takes_more, takes_fetched, line_missing, lines_more, numbers_more, list_run}
 use Rattle.tl_cert.proofs.AllowedLemmas.{allowed_list, allowed_dart, never_ended, Tells}
 use Rattle.tl_cert.proofs.parts.read_darts.Goals as goal
 
@@ -41,4 +41,30 @@ loop-index-preserved g c =
           (takes_more g.R.Source.remaining (at c.args.lines.now c.args.source.now) (at c.loop-index.lines c.loop-index.source) (at c.read-in-loop-index.new.self c.read-in-loop-index.new.source) (front ∷ dart_lines darts) (numbered_line (68 ∷ []) c.in-Ok-read.dart ∷ []) c.loop-index.invariant.takes c.in-Ok-read.ensures.reads.1);
       failures = c.in-Ok-read.ensures.failures ∙ c.loop-index.invariant.failures;
       same = c.in-Ok-read.ensures.same_reference ∙ c.loop-index.invariant.same;
+    }
+
+pub returns-clause-reads : goal.returns-clause-reads
+returns-clause-reads g c = λ others.
+    let so_far = c.loop-index.invariant in
+    let darts = c.loop-index.darts.items in
+    let counted : c.in-Ok.count ≡ length darts = omega (arith, so_far.size, c.len-taken.ensures, c.in-Ok-darts_at_once.ensures.few) in (
+      (record { some = omega (arith, counted, c.in-Ok.ensures.reads.0.1); counted = omega (arith, counted, c.in-Ok.ensures.reads.0.0) }, so_far.numbers),
+      subst (λ n. TakesLines g.R.Source.remaining (at c.args.lines.now c.args.source.now) (at c.loop-index.lines c.loop-index.source) (numbered_line (letter_of c.args.lists ∷ []) n ∷ dart_lines darts)) counted so_far.takes,
+    )
+
+pub loop-index-init : goal.loop-index-init
+loop-index-init g c =
+    let darts = c.in-Ok-darts_at_once.darts.items in
+    let first =
+    subst (λ l. TakesLines g.R.Source.remaining (at c.args.lines.now c.args.source.now) (at c.read.new.self c.read.new.source) (numbered_line (l ∷ []) c.in-Ok.count ∷ []))
+    c.letter.ensures c.in-Ok.ensures.reads.1
+    in
+    let others = takes_fetched g.R.Source.remaining c.read.new.source c.read.new.self c.darts_at_once.new.self (dart_lines darts) c.in-Ok-darts_at_once.ensures.takes in
+    record {
+      size = omega (arith, c.len-taken.ensures);
+      numbers = c.in-Ok-darts_at_once.ensures.numbers;
+      takes = takes_more g.R.Source.remaining (at c.args.lines.now c.args.source.now) (at c.read.new.self c.read.new.source) (at c.darts_at_once.new.self c.read.new.source)
+          (numbered_line (letter_of c.args.lists ∷ []) c.in-Ok.count ∷ []) (dart_lines darts) first others;
+      failures = c.in-Ok.ensures.failures;
+      same = c.in-Ok.ensures.same_reference;
     }

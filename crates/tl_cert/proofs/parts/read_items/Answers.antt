@@ -1,11 +1,11 @@
-use Rattle.std.proofs.Common.{◌≡◌, ◌∷◌, [], ◌+◌, ◌-◌, ℕ, length, length-append, subst, sym, ap, ◌∙◌, arith}
+use Rattle.std.proofs.Common.{◌≡◌, ◌∷◌, [], ◌+◌, ◌-◌, ℕ, length, length-append, subst, sym, ap, ◌∙◌, refl, arith}
 use Rattle.arrayvec.specs.ArrayVec.{ArrayVec}
 use Rattle.tl_cert.specs.Text.{numbered_line, item_lines}
 use Rattle.tl_cert.specs.Keeping.Lines.{TakesLines}
 use Rattle.tl_cert.specs.Keeping.Parts.{AreItems}
 use Rattle.tl_cert.specs.Keeping.Steps.{tree, Runs}
 use Rattle.tl_cert.specs.Keeping.Lines.{at}
-use Rattle.tl_cert.proofs.PartLemmas.{takes_more, line_missing, lines_more, numbers_more, items_run_on}
+use Rattle.tl_cert.proofs.PartLemmas.{takes_fetched, takes_more, line_missing, lines_more, numbers_more, items_run_on}
 use Rattle.tl_cert.proofs.AllowedLemmas.{allowed_item}
 use Rattle.tl_cert.proofs.parts.read_items.Goals as goal
 
@@ -30,3 +30,16 @@ loop-index-preserved g c =
       failures = c.in-Ok.ensures.failures ∙ c.loop-index.invariant.failures;
       same = c.in-Ok.ensures.same_reference ∙ c.loop-index.invariant.same;
     }
+
+pub returns-clause-reads : goal.returns-clause-reads
+returns-clause-reads g c = λ version subtrees nodes.
+    ((omega (arith, c.loop-index.invariant.size), c.loop-index.invariant.numbers), c.loop-index.invariant.takes)
+
+pub loop-index-init : goal.loop-index-init
+loop-index-init g c = record {
+  size = omega (arith, c.len-taken.ensures);
+  numbers = c.items_at_once-items.ensures.numbers;
+  takes = takes_fetched g.R.Source.remaining c.args.source.now c.args.lines.now c.items_at_once-items.new.self _ c.items_at_once-items.ensures.takes;
+  failures = refl;
+  same = refl;
+}

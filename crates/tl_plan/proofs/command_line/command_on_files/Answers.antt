@@ -1,10 +1,12 @@
-use Rattle.std.proofs.Common.{ap, ap₂, ◌∙◌}
+use Rattle.std.proofs.Common.{refl}
 use Rattle.std.proofs.lemmas.Result.{IfOk-weaker}
-use Rattle.clap.specs.Simple.{app_of_fields, with_rule}
+use Rattle.tl_plan.specs.Commands.{IsLocal}
+use Rattle.tl_plan.proofs.CommandsLemmas.{same_app, is_added}
 use Rattle.tl_plan.proofs.command_line.command_on_files.Goals as goal
 
-pub returns-clause-shape : goal.returns-clause-shape
-returns-clause-shape c =
-    let bare = ap app_of_fields c.after_help.ensures ∙ ap app_of_fields c.about.ensures ∙ c.new.ensures.app in
-    let switched = c.in_ok-command.ensures.shape c.released_argument-released.ensures.local ∙ ap₂ with_rule bare c.released_argument-released.ensures.rule in
-    IfOk-weaker c.arg-2.result _ _ (λ r added. added.shape c.files_argument-files.ensures.local ∙ ap₂ with_rule switched c.files_argument-files.ensures.rule) c.arg-2.ensures
+pub returns : goal.returns
+returns c =
+    let new : IsLocal _ c.new.result = record { shape = c.new.ensures.app; local = c.new.ensures.local } in
+    let bare = same_app _ _ c.after_help.ensures refl refl (same_app _ _ c.about.ensures refl refl new) in
+    let first = IfOk-weaker c.arg-command.result _ _ (λ r added. is_added added c.switch.ensures.local c.switch.ensures.rule bare) c.arg-command.ensures in
+    c.with_argument.ensures _ _ c.files_argument.ensures.rule first

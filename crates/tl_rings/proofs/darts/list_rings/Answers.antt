@@ -1,9 +1,19 @@
-use Rattle.std.proofs.Common.{subst}
+use Rattle.std.proofs.Common.{subst, arith}
 use Rattle.tl_sides.specs.Lists.{list_at}
 use Rattle.tl_crossings.specs.Rings.{ring_count}
 use Rattle.tl_rings.specs.Keeping.Looking.{AddCounts}
 use Rattle.tl_rings.proofs.Adding.{sum_more, sum_all}
+use Rattle.tl_rings.proofs.Looking.{walk_is}
 use Rattle.tl_rings.proofs.darts.list_rings.Goals as goal
+
+pub ring-requires : goal.ring-requires
+ring-requires c = c.requires.known c.loop-place.place 0 (omega (arith, c.loop-place-test.true))
+
+pub list_ring-requires : goal.list_ring-requires
+list_ring-requires c = record {
+  sides = c.requires.sides;
+  ring = walk_is c.args.map.now.chains c.args.rings.now.rings _ c.ring.result.now c.requires.walks (c.requires.known c.loop-place.place 0 (omega (arith, c.loop-place-test.true))) c.ring.ensures;
+}
 
 pub loop-place-preserved : goal.loop-place-preserved
 loop-place-preserved c =
