@@ -186,10 +186,8 @@ class Lanes:
         taken = sum(self.needs[it] * (1 + 0.6 * (jobs - 1)) for it, jobs in self.running.values())
         if idle < 1 or self.running and taken + self.needs[name] > self.memory:
             return 0
-        work = sum(self.share[it] for it in self.left) + sum(self.share[it] for it, _ in self.running.values())
-        jobs = round(self.processors * self.chain[name] / work)
-        if not self.running and len(ready) == 1:
-            jobs = idle
+        # The first has the longest chain behind it; a second job makes a proof some third shorter, and a fifth dearer.
+        jobs = max(1, idle - len(ready) + 1)
         while jobs > 1 and taken + self.needs[name] * (1 + 0.6 * (jobs - 1)) > self.memory:
             jobs -= 1
         return min(idle, max(1, jobs))
