@@ -65,7 +65,7 @@ pub fault_of_records : (layout : Layout) (known : Option (List ℕ)) (wrote : Li
     → NamesMapFault m wrote → NamesFault layout known ⊤ wrote
 fault_of_records layout known wrote m drawn names =
     names_fault_alone layout known wrote names.fault names.written
-    (map_fault (records_of layout) known m (Ok (verdict.MapFault names.fault)) drawn names.holds)
+    (map_fault (records_of layout) known m drawn (Ok (verdict.MapFault names.fault)) names.holds)
 
 -- records that have no map, and why
 pub fault_of_reading : {T : Type 0} (layout : Layout) (known : Option (List ℕ)) (wrote : List ℕ → Type 0) (answer : Result T MapStop) (fault : MapFault)
