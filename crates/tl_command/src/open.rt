@@ -6,7 +6,7 @@ ghost use Rattle.tl_output.specs.Writing.{Writes, TriesToWrite, FailsToWrite};
 ghost use Rattle.tl_command.specs.declared.stop.TheConstants.{DONE, MAP_FAULT, CERT_FAULT, REFUSED, STOPPED, USAGE};
 ghost use Rattle.tl_command.specs.declared.stop.Stop.TheVariants.{Memory, Device};
 ghost use Rattle.tl_command.specs.Running.{IsAnswered, FaultsMap, NamesRefusal, NamesStop, StopsRun, IsRunStatus, layout_of};
-ghost use Rattle.tl_command.specs.Running.{FaultsCertificate, ReadsNoCertificate, MakesNoCertificate};
+ghost use Rattle.tl_command.specs.Running.{FaultsCertificate, ReadsNoCertificate, MakesNoCertificate, RunsOverFiles};
 ghost use Rattle.tl_command.specs.Deciding.{IsExact};
 ghost use Rattle.tl_command.specs.Starting.{IsStartStatus, ShowsUsage, ShowsHelp, AnswersSome, FaultsSome, RefusesSome};
 ghost use Rattle.tl_command.specs.Starting.{StopsOpening, FaultsText, StopsSome};
@@ -111,6 +111,20 @@ pub fn open_and_run<R: Files, W: Sink, E: Sink>(
     ensures err_stays { (result ≡ DONE) ⊎ ((result ≡ MAP_FAULT) ⊎ (result ≡ CERT_FAULT)) → err.new ≡ err.old }
     ensures out_stays { result ≡ REFUSED → out.new ≡ out.old }
 {
+    run_over_files(rt, alloc, plan, out, err)
+}
+
+// The same, with one clause for all of it.
+fn run_over_files<R: Files, W: Sink, E: Sink>(
+    rt: &R,
+    alloc: Global,
+    plan: &Plan,
+    out: &mut W,
+    err: &mut E,
+) -> u8
+    ensures { RunsOverFiles plan.now result (Writes W.contents W.failure_count out.old out.new)
+        (TriesToWrite E.contents E.failure_count err.old err.new) (out.new ≡ out.old) (err.new ≡ err.old) }
+{
     let readers = match open_all(rt, alloc, plan.files()) {
         Ok(readers) => readers,
         Err(stop) => return stopped(&stop, err),
@@ -143,19 +157,8 @@ fn open_and_convert<R: Files, W: Sink, E: Sink>(
     out: &mut W,
     err: &mut E,
 ) -> u8
-    ensures status { IsRunStatus result }
-    ensures answered { result ≡ DONE
-        → IsAnswered plan.now None None (λ text. ⊤) (Writes W.contents W.failure_count out.old out.new) }
-    ensures fault { result ≡ MAP_FAULT
-        → FaultsMap plan.now None ⊤ (Writes W.contents W.failure_count out.old out.new) }
-    ensures cert_fault { result ≡ CERT_FAULT
-        → FaultsCertificate plan.now None None (Writes W.contents W.failure_count out.old out.new) }
-    ensures refused { result ≡ REFUSED
-        → NamesRefusal (layout_of plan.now) None (TriesToWrite E.contents E.failure_count err.old err.new) }
-    ensures stopped { result ≡ STOPPED
-        → StopsRun plan.now None (TriesToWrite E.contents E.failure_count err.old err.new) ⊤ }
-    ensures err_stays { (result ≡ DONE) ⊎ ((result ≡ MAP_FAULT) ⊎ (result ≡ CERT_FAULT)) → err.new ≡ err.old }
-    ensures out_stays { result ≡ REFUSED → out.new ≡ out.old }
+    ensures { RunsOverFiles plan.now result (Writes W.contents W.failure_count out.old out.new)
+        (TriesToWrite E.contents E.failure_count err.old err.new) (out.new ≡ out.old) (err.new ≡ err.old) }
 {
     let mut cert = match open_certificate(rt, alloc, names.0) {
         Ok(cert) => cert,
@@ -175,19 +178,8 @@ fn open_and_check<R: Files, W: Sink, E: Sink>(
     out: &mut W,
     err: &mut E,
 ) -> u8
-    ensures status { IsRunStatus result }
-    ensures answered { result ≡ DONE
-        → IsAnswered plan.now None None (λ text. ⊤) (Writes W.contents W.failure_count out.old out.new) }
-    ensures fault { result ≡ MAP_FAULT
-        → FaultsMap plan.now None ⊤ (Writes W.contents W.failure_count out.old out.new) }
-    ensures cert_fault { result ≡ CERT_FAULT
-        → FaultsCertificate plan.now None None (Writes W.contents W.failure_count out.old out.new) }
-    ensures refused { result ≡ REFUSED
-        → NamesRefusal (layout_of plan.now) None (TriesToWrite E.contents E.failure_count err.old err.new) }
-    ensures stopped { result ≡ STOPPED
-        → StopsRun plan.now None (TriesToWrite E.contents E.failure_count err.old err.new) ⊤ }
-    ensures err_stays { (result ≡ DONE) ⊎ ((result ≡ MAP_FAULT) ⊎ (result ≡ CERT_FAULT)) → err.new ≡ err.old }
-    ensures out_stays { result ≡ REFUSED → out.new ≡ out.old }
+    ensures { RunsOverFiles plan.now result (Writes W.contents W.failure_count out.old out.new)
+        (TriesToWrite E.contents E.failure_count err.old err.new) (out.new ≡ out.old) (err.new ≡ err.old) }
 {
     let mut cert = match open_certificate(rt, alloc, name) {
         Ok(cert) => cert,
