@@ -186,8 +186,11 @@ class Lanes:
         taken = sum(self.needs[it] * (1 + 0.6 * (jobs - 1)) for it, jobs in self.running.values())
         if idle < 1 or self.running and taken + self.needs[name] > self.memory:
             return 0
-        # The first has the longest chain behind it; a second job makes a proof some third shorter, and a fifth dearer.
-        jobs = max(1, idle - len(ready) + 1)
+        # Two jobs make a proof a third shorter and a fifth dearer: for one that the rest waits for, and where a processor
+        # would be idle.
+        work = sum(self.share[it] for it in self.left) + sum(self.share[it] for it, _ in self.running.values())
+        is_waited_for = 2 * self.processors * self.chain[name] > 3 * work
+        jobs = max(idle - len(ready) + 1, 2 if is_waited_for else 1)
         while jobs > 1 and taken + self.needs[name] * (1 + 0.6 * (jobs - 1)) > self.memory:
             jobs -= 1
         return min(idle, max(1, jobs))
