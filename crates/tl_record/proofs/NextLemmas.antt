@@ -86,6 +86,13 @@ finds_full layout number (Some xs) (Some ys) bytes rest n j left_over full none 
     let all : take n bytes ≡ bytes = take_all n bytes (omega arith) in
     rw (consumed, nothing) (takes_line layout number bytes ys j none (is ∙ ap (judgement layout number) all))
 
+-- a failed read takes nothing
+pub finds_failed : (layout : Layout) (number : ℕ) (left after : Option (List ℕ)) (bytes : List ℕ) → Keeps left after
+    → FindsNext layout number (prepend_known bytes left) (prepend_known bytes after) next.Failed
+finds_failed layout number None after bytes kept = tt
+finds_failed layout number (Some xs) None bytes kept = absurd kept
+finds_failed layout number (Some xs) (Some ys) bytes kept = rw kept refl
+
 -- what a read into a buffer of one byte gave
 pub one_byte : (buffer : List ℕ) (n byte : ℕ) → length buffer ≡ 1 → n ≤ length buffer → (n ≡ 0 → ⊥) → get_or buffer 0 0 ≡ byte → take n buffer ≡ byte ∷ []
 one_byte [] n byte single within some is = absurd (omega arith)

@@ -7,8 +7,11 @@ use Rattle.tl_record.specs.declared.judge.Judgement.TheVariants.{PassedOver, Rea
 use Rattle.tl_record.specs.declared.reader.NextLine.TheVariants as next
 use Rattle.tl_record.specs.declared.reader.Standing.TheVariants.{Reading, Ended, Stopped}
 use Rattle.tl_record.specs.declared.reader.RecordReader.{RecordReader}
-use Rattle.tl_record.specs.Reader.{Answer, source_of, lines_of, skipped_of, standing_of, unjudged, outcome, to_come, nothing_after, StepsTo, CountsLine, PassesOver, Moves, Gives, answer_of, lines_with, skipped_with, standing_with}
-use Rattle.tl_record.proofs.MoveLemmas.{coming, line_passed, feed_passed, line_read, line_refused, last_passed, last_read, last_refused, KeepsRecords-trans, Gives-after, CountsLineFeeds-trans}
+use Rattle.tl_record.specs.Reader.{Answer, source_of, lines_of, skipped_of, standing_of, pending_of, layout_of, unjudged, outcome, to_come, nothing_after, StepsTo, CountsLine, PassesOver, Moves, Gives, answer_of, lines_with, skipped_with, standing_with}
+use Rattle.tl_record.specs.Failures.{one_more}
+use Rattle.tl_record.specs.Lines.{line_feeds}
+use Rattle.tl_record.specs.Records.{Records}
+use Rattle.tl_record.proofs.MoveLemmas.{coming, line_passed, feed_passed, line_read, line_refused, last_passed, last_read, last_refused, end_reached, read_failed, feeds_failed, KeepsRecords-trans, Gives-after, CountsLineFeeds-trans}
 
 -- one more line is passed over
 pub passes_on : {R : Type 0} (remaining : R → Option (List ℕ)) (failure_count : R → ℕ) (first before found after : RecordReader R) (j : Judgement)
@@ -116,4 +119,56 @@ answers_last remaining failure_count first before found after (Refused cause) to
       counts = (ap (λ n. n + 1) (sym lines), omega (arith, passed.counts, lines, skipped));
       failures = ap failure_count counted.source ∙ step.failures ∙ passed.failures;
       whole = tt;
+    }
+
+-- where no line is left, the end is answered
+pub answers_end : {R : Type 0} (remaining : R → Option (List ℕ)) (failure_count : R → ℕ) (first before found after : RecordReader R)
+    → PassesOver remaining failure_count first before → StepsTo remaining failure_count before found next.End
+    → standing_of after ≡ Ended → lines_of after ≡ lines_of found → skipped_of after ≡ skipped_of found → source_of after ≡ source_of found
+    → Moves remaining failure_count first after (Ok None)
+answers_end remaining failure_count first before found after passed step standing lines skipped source =
+    let lines_are : after.lines ≡ before.lines = lines ∙ step.progress.lines in
+    let skipped_are : after.skipped ≡ before.skipped = skipped ∙ step.progress.skipped in
+    record {
+      gives = Gives-after _ _ _ _ _ passed.coming
+          (subst (λ (n : ℕ). Gives (to_come remaining before) (outcome remaining after) n (Ok None)) (sym skipped_are) (end_reached before.layout before.lines before.skipped (unjudged remaining before) (unjudged remaining found) (outcome remaining after) step.finds));
+      settles = standing;
+      counts = omega (arith, passed.counts, lines_are, skipped_are);
+      failures = ap failure_count source ∙ step.failures ∙ passed.failures;
+      whole = tt;
+    }
+
+device_gives : (old new : Option Records) (skipped : ℕ) → Gives old new skipped (Err stop.Device)
+device_gives None new skipped = tt
+device_gives (Some records) new skipped = tt
+
+-- all but whether the reader still reads is the same
+pub record IsHalted {R : Type 0} (old new : RecordReader R) : Type 0 where
+  pub layout : layout_of new ≡ layout_of old
+  pub lines : lines_of new ≡ lines_of old
+  pub skipped : skipped_of new ≡ skipped_of old
+  pub source : source_of new ≡ source_of old
+  pub pending : pending_of new ≡ pending_of old
+
+-- a failed read is answered, and what was to come is still to come
+pub answers_failed : {R : Type 0} (remaining : R → Option (List ℕ)) (failure_count : R → ℕ) (first before found after : RecordReader R)
+    → PassesOver remaining failure_count first before → StepsTo remaining failure_count before found next.Failed
+    → standing_of after ≡ Stopped stop.Device → IsHalted found after → Moves remaining failure_count first after (Err stop.Device)
+answers_failed remaining failure_count first before found after passed step standing halted =
+    let layout : after.layout ≡ before.layout = halted.layout ∙ step.progress.layout in
+    let lines : after.lines ≡ before.lines = halted.lines ∙ step.progress.lines in
+    let skipped : after.skipped ≡ before.skipped = halted.skipped ∙ step.progress.skipped in
+    let same : unjudged remaining after ≡ unjudged remaining found = rw (halted.source, halted.pending) refl in
+    record {
+      gives = device_gives (to_come remaining first) (outcome remaining after) after.skipped;
+      settles = standing;
+      counts = omega (arith, passed.counts, lines, skipped);
+      failures = ap failure_count halted.source ∙ step.failures ∙ ap one_more passed.failures;
+      whole = record {
+        pending = ap line_feeds halted.pending ∙ step.pending;
+        feeds = CountsLineFeeds-trans _ _ _ _ _ _ passed.feeds
+            (rw (same, lines) (feeds_failed before.layout before.lines (unjudged remaining before) (unjudged remaining found) step.finds));
+        coming = KeepsRecords-trans _ _ _ passed.coming
+            (rw (same, layout, lines, skipped) (read_failed before.layout before.lines before.skipped (unjudged remaining before) (unjudged remaining found) step.finds));
+      };
     }

@@ -7,7 +7,7 @@ ghost use Rattle.tl_record.specs.Fields.{field};
 use std::marker::Model;
 
 /// A range of at most 18 columns. Columns count from 1, and both ends belong to the range.
-#[derive(Clone, Copy, Debug)]
+#[derive(Clone, Copy)]
 pub struct ColumnRange {
     first: u16,
     last: u16,
@@ -43,7 +43,7 @@ impl ColumnRange {
 }
 
 /// Five columns, of which this is the first.
-#[derive(Clone, Copy, Debug)]
+#[derive(Clone, Copy)]
 pub struct FiveColumns {
     first: u16,
 }
@@ -80,7 +80,7 @@ impl FiveColumns {
 }
 
 /// The bytes of a line, without what ends it, by columns.
-#[derive(Debug, Drop)]
+#[derive(Drop)]
 pub struct Columns<'a> {
     bytes: &'a [u8],
 }

@@ -25,7 +25,7 @@ pub const MAX_LINES: u64 = 67_108_864;
 pub const MAX_LINE_BYTES: usize = 1_024;
 
 /// What a line with its number means.
-#[derive(Clone, Copy, Debug, PartialEq, Eq)]
+#[derive(Clone, Copy)]
 pub enum Judgement {
     /// It is empty, or of a type that isn't read.
     PassedOver,

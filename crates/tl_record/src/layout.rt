@@ -11,14 +11,14 @@ use crate::options::Options;
 use crate::record::PAIRS;
 
 /// Where a point's longitude and latitude stand.
-#[derive(Clone, Copy, Debug)]
+#[derive(Clone, Copy)]
 pub struct PointColumns {
     pub long: ColumnRange,
     pub lat: ColumnRange,
 }
 
 /// The columns of type 1, complete chains.
-#[derive(Clone, Copy, Debug)]
+#[derive(Clone, Copy)]
 pub struct ChainColumns {
     pub tlid: ColumnRange,
     pub from: PointColumns,
@@ -26,7 +26,7 @@ pub struct ChainColumns {
 }
 
 /// The columns of type 2, shape points of chains.
-#[derive(Clone, Copy, Debug)]
+#[derive(Clone, Copy)]
 pub struct ShapeColumns {
     pub tlid: ColumnRange,
     pub rtsq: ColumnRange,
@@ -34,21 +34,21 @@ pub struct ShapeColumns {
 }
 
 /// Where a polygon's CENID and POLYID stand.
-#[derive(Clone, Copy, Debug)]
+#[derive(Clone, Copy)]
 pub struct KeyColumns {
     pub cenid: FiveColumns,
     pub polyid: ColumnRange,
 }
 
 /// Where the zero-cell ids of a chain's start and its end stand.
-#[derive(Clone, Copy, Debug)]
+#[derive(Clone, Copy)]
 pub struct CellColumns {
     pub start: ColumnRange,
     pub end: ColumnRange,
 }
 
 /// The columns of type I, the polygons on both sides of a chain. `cells` is `None` where the zero-cell ids aren't read.
-#[derive(Clone, Copy, Debug)]
+#[derive(Clone, Copy)]
 pub struct SidesColumns {
     pub tlid: ColumnRange,
     pub cells: Option<CellColumns>,
@@ -57,28 +57,28 @@ pub struct SidesColumns {
 }
 
 /// The columns of type P, polygons with their internal points.
-#[derive(Clone, Copy, Debug)]
+#[derive(Clone, Copy)]
 pub struct PolyPointColumns {
     pub key: KeyColumns,
     pub point: PointColumns,
 }
 
 /// The columns of type 7, landmarks.
-#[derive(Clone, Copy, Debug)]
+#[derive(Clone, Copy)]
 pub struct LandmarkColumns {
     pub land: ColumnRange,
     pub point: PointColumns,
 }
 
 /// The columns of type 8, polygons of area landmarks.
-#[derive(Clone, Copy, Debug)]
+#[derive(Clone, Copy)]
 pub struct AreaLinkColumns {
     pub key: KeyColumns,
     pub land: ColumnRange,
 }
 
 /// Which columns hold the fields of each record type that is read.
-#[derive(Clone, Copy, Debug)]
+#[derive(Clone, Copy)]
 pub struct Layout {
     pub chain: ChainColumns,
     pub shape: ShapeColumns,

@@ -12,7 +12,7 @@ use std::io;
 use std::marker::Model;
 
 /// What a search for the end of the next line shows.
-#[derive(Clone, Copy, Debug)]
+#[derive(Clone, Copy)]
 pub enum Fetched {
     /// The line's length: its line feed is fetched.
     Whole(usize),

@@ -9,7 +9,7 @@ ghost use Rattle.tl_record.specs.Fields.{digits_spell, IsBelow, negated, not_neg
 use crate::word::eight_digits;
 
 /// What a field's bytes spell, where it holds a number.
-#[derive(Clone, Copy, Debug, PartialEq, Eq)]
+#[derive(Clone, Copy)]
 pub enum Spelt<T> {
     /// Nothing but blanks.
     Blank,

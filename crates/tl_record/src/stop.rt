@@ -71,10 +71,10 @@ impl fmt::Display for Field {
     ghost output = { λ field. Some (field_text field) };
 
     fn fmt<W: fmt::Write>(&self, f: &mut fmt::Formatter<W>) -> fmt::Result {
-        f.write_str(self.word())?;
+        let word = self.word();
         match self {
-            Field::Long(pair) | Field::Lat(pair) => write!(f, "{pair}"),
-            _ => Ok(()),
+            Field::Long(pair) | Field::Lat(pair) => write!(f, "{word}{pair}"),
+            _ => f.write_str(word),
         }
     }
 }

@@ -2,7 +2,7 @@ use Rattle.tl_record.specs.Failures.{one_more}
 use Rattle.std.proofs.Common.{◌≡◌, ◌≤◌, subst, sym, ap, ◌∙◌, length, arith}
 use Rattle.tl_record.specs.Lines.{line_feeds}
 use Rattle.std.proofs.KnownBytes.{Keeps-trans}
-use Rattle.tl_record.proofs.KnownLemmas.{fetched_kept}
+use Rattle.tl_record.proofs.KnownLemmas.{fetched_kept, failed_kept}
 use Rattle.tl_record.proofs.LineLemmas.{feed_found, no_feed_found, front_searched, no_bytes}
 use Rattle.tl_record.proofs.line_buffer.fetch_line.Goals as goal
 
@@ -84,3 +84,9 @@ returns-in-Err-clause-same_reference g c = c.in-Err.ensures.same_reference ∙ c
 pub slice_bounds-memchr-count : goal.slice_bounds-memchr-count
 slice_bounds-memchr-count g c =
     subst (λ bytes. c.fetches.searched ≤ length bytes) (sym c.bytes-bytes.ensures.value) c.fetches.invariant.searched
+
+pub returns-in-Err-clause-bytes : goal.returns-in-Err-clause-bytes
+returns-in-Err-clause-bytes g c =
+    let failed = c.in-Err.ensures.bytes in
+    Keeps-trans _ _ _ c.fetches.invariant.bytes
+    (failed_kept c.fetches.buffer c.fetch.new.self (g.R.Source.remaining c.fetches.source) (g.R.Source.remaining c.fetch.new.source) failed.0 failed.1)

@@ -1,4 +1,4 @@
-use Rattle.std.proofs.Common.{List, ◌≡◌, ◌≤◌, ◌<◌, ◌+◌, ◌-◌, ◌++◌, ℕ, ap, sym, ◌∙◌, arith, length, take, drop, length-drop}
+use Rattle.std.proofs.Common.{List, ◌≡◌, ◌≤◌, ◌<◌, ◌+◌, ◌-◌, ◌++◌, ℕ, ap, sym, ◌∙◌, arith, length, take, drop, length-drop, append-nil}
 use Rattle.std.proofs.lemmas.List.{length-take-le, length-take}
 use borrow.Rule.Slice.PartMut.{put_mid}
 use Rattle.tl_record.proofs.Buffer.{part_filled}
@@ -12,6 +12,12 @@ kept_within at filled room h = omega arith
 
 filled_within : (kept room count : ℕ) (moved bytes : List ℕ) → kept ≤ room → length moved ≡ room → length bytes ≡ length (take (length moved - kept) (drop kept moved)) → count ≤ length bytes → kept + count ≤ room
 filled_within kept room count moved bytes h k e some = omega (arith, length-take (length moved - kept) (drop kept moved), length-drop kept moved)
+
+nothing_added : (moved bytes front old : List ℕ) (kept room : ℕ) → length moved ≡ room → kept ≤ room → take kept moved ≡ front → front ≡ old
+    → take (kept - 0) (put_mid kept (length moved - kept) moved bytes) ≡ old
+nothing_added moved bytes front old kept room whole within is same =
+    let flat : kept - 0 ≡ kept + 0 = omega arith in
+    ap (λ n. take n (put_mid kept (length moved - kept) moved bytes)) flat ∙ part_filled moved bytes kept (length moved - kept) 0 (omega arith) (none_below _) ∙ append-nil (take kept moved) ∙ is ∙ same
 
 pub returns-in-Ok-clause-bytes : goal.returns-in-Ok-clause-bytes
 returns-in-Ok-clause-bytes g c =
@@ -73,3 +79,12 @@ returns-in-Err-clause-failures g c = c.in-Err.ensures.failures
 
 pub returns-in-Err-clause-same_reference : goal.returns-in-Err-clause-same_reference
 returns-in-Err-clause-same_reference g c = c.in-Err.ensures.same_reference
+
+pub returns-in-Err-clause-bytes : goal.returns-in-Err-clause-bytes
+returns-in-Err-clause-bytes g c =
+    let kept : ℕ = c.self.inside.filled - c.self.inside.at in
+    let within = kept_within c.self.inside.at c.self.inside.filled g.row.N c.self.invariant.1 in (
+      nothing_added c.move_to_front.new.bytes c.fetch.new.buf (take kept (drop c.self.inside.at c.self.inside.bytes)) c.args.self.now kept g.row.N
+          (c.move_to_front.auto.bytes ∙ c.self.told) within c.move_to_front.ensures c.self.view_is,
+      c.in-Err.ensures.bytes,
+    )

@@ -1,7 +1,7 @@
 use Rattle.std.proofs.Common.{◌≡◌, ◌+◌, ◌∷◌, [], false, refl, sym, take, get_or, arith, ne_eqb}
 use Rattle.memchr.specs.Find.{is_byte}
 use Rattle.tl_record.specs.Lines.{line_feed}
-use Rattle.tl_record.proofs.NextLemmas.{finds_full, finds_long, one_byte, longer, longer_is}
+use Rattle.tl_record.proofs.NextLemmas.{finds_full, finds_long, finds_failed, one_byte, longer, longer_is}
 use Rattle.tl_record.proofs.reader.RecordReader.judge_full.Goals as goal
 
 pub returns-then-next-eq10-clause-steps : goal.returns-then-next-eq10-clause-steps
@@ -32,5 +32,16 @@ returns-else-next-eq10-clause-steps g c =
       judges = (longer 1024, sym (cause (longer 1024) (longer_is 1024)));
       pending = tt;
       failures = c.in-Ok.ensures.failures;
+      progress = record { layout = refl; lines = refl; skipped = refl; standing = refl };
+    }
+
+pub returns-in-Err-clause-steps : goal.returns-in-Err-clause-steps
+returns-in-Err-clause-steps g c =
+    let reader = c.args.self.now in
+    record {
+      finds = finds_failed reader.layout (reader.lines + 1) (g.R.Source.remaining reader.source) (g.R.Source.remaining c.fetch.new.self) reader.buffer c.in-Err.ensures.bytes;
+      judges = tt;
+      pending = c.requires.none;
+      failures = c.in-Err.ensures.failures;
       progress = record { layout = refl; lines = refl; skipped = refl; standing = refl };
     }
