@@ -3,7 +3,9 @@ use Rattle.std.specs.Prelude.{Ok, IfSome}
 use Rattle.std.proofs.lemmas.List.{append_assoc}
 use Rattle.tl_record.specs.declared.record.Record.{Record}
 use Rattle.tl_record.specs.Records.{Records}
-use Rattle.tl_record.specs.Reader.{Gives, with_entry}
+use Rattle.tl_record.specs.declared.reader.Standing.{Standing}
+use Rattle.tl_record.specs.declared.reader.Standing.TheVariants.{Reading, Ended, Stopped}
+use Rattle.tl_record.specs.Reader.{Gives, TellsFailure, with_entry}
 use Rattle.tl_map.specs.declared.areas.AreaRecords.{AreaRecords}
 use Rattle.tl_map.specs.declared.collect.Collected.{Collected}
 use Rattle.tl_map.specs.Reading.{records_in}
@@ -42,3 +44,9 @@ gathers_more at_first now new skipped line r c d a b gives chains areas before =
   areas = areas before.records before.areas;
   known = so_far_more at_first now new skipped line r before.records gives before.known;
 }
+
+-- no failure is counted where a record or the end is answered
+pub none_failed : (standing : Standing) (old new : ℕ) (entry : Option (ℕ × Record)) → TellsFailure standing old new (Ok entry) → new ≡ old
+none_failed Reading old new entry tells = tells
+none_failed Ended old new entry tells = tells
+none_failed (Stopped stop) old new entry tells = tells
