@@ -2,7 +2,7 @@ use Rattle.std.proofs.Common.{◌∙◌, [], inl, refl}
 use Rattle.tl_record.specs.Reader.{standing_of, outcome}
 use Rattle.tl_map.specs.declared.areas.AreaRecords.{AreaRecords}
 use Rattle.tl_map.specs.declared.collect.Collected.{Collected}
-use Rattle.tl_map.proofs.GatherLemmas.{gathers_more, none_failed, so_far_first, known_whole, stop_told, failure_told}
+use Rattle.tl_map.proofs.GatherLemmas.{gathers_more, none_failed, so_far_first, stop_told, failure_told}
 use Rattle.tl_map.proofs.read.collect_all.Goals as goal
 
 pub records-preserved : goal.records-preserved
@@ -23,16 +23,6 @@ records-init g c = record {
   failures = refl;
   same = refl;
   standing = inl c.requires;
-}
-
-pub returns-in-Ok-None : goal.returns-in-Ok-None
-returns-in-Ok-None g c = record {
-  all =
-      let gives = c.in-Ok-None.ensures.gives in
-      record { records = c.records.invariant.so_far.records; kept = c.records.invariant.so_far.kept; areas = c.records.invariant.so_far.areas; known = known_whole (outcome g.R.Source.remaining c.args.reader.now) _ _ _ _ (rw c.in-Ok-None.field-0-is at gives) c.records.invariant.so_far.known };
-  stops = tt;
-  failures = none_failed (standing_of c.records.reader) _ _ _ c.in-Ok-None.ensures.failures ∙ c.records.invariant.failures;
-  same_reference = c.next_record.ensures.same_reference ∙ c.records.invariant.same;
 }
 
 pub returns-in-Err : goal.returns-in-Err
