@@ -11,7 +11,9 @@ use Rattle.tl_map.specs.declared.collect.Collected.{Collected}
 use Rattle.tl_map.specs.Keeping.Collected.{Collects}
 use Rattle.tl_map.specs.declared.entry.ChainEntry.{ChainEntry}
 use Rattle.tl_map.specs.declared.entry.ShapeEntry.{ShapeEntry}
+use Rattle.std.specs.Prelude.{if◌then◌else◌}
 use Rattle.tl_map.specs.declared.entry.Fill.{Fill}
+use Rattle.tl_map.specs.declared.entry.Fill.TheVariants.{Full, Ended, Gap}
 use Rattle.tl_map.specs.Chains.{is_any_chain, chain_count, used, has_gap}
 use Rattle.tl_map.specs.Keeping.Entries.{some_unused, fill_of, by_chain, by_shape, AreChainEntries, IsShapeEntry, AreShapeEntries}
 use Rattle.tl_map.proofs.CountLemmas.{sum_by-same}
@@ -62,6 +64,14 @@ AreSeen-some old pool ended gap pairs i p h at seen =
     or_some true false = refl
     or_some false true = refl
     or_some false false = refl
+
+-- all pairs are seen
+pub AreSeen-all : (old pool : List Point) (ended gap : Bool) (pairs : List (Option Point)) (i : ℕ) → length pairs ≤ i → AreSeen old pool ended gap (take i pairs) → AreSeen old pool ended gap pairs
+AreSeen-all old pool ended gap pairs i h seen = rw (take_all i pairs h) at seen
+
+-- how they are filled
+pub filled : (old pool : List Point) (ended gap : Bool) (pairs : List (Option Point)) (f : Fill) → f ≡ (if gap then Gap else (if ended then Ended else Full)) → AreSeen old pool ended gap pairs → f ≡ fill_of pairs
+filled old pool ended gap pairs f is seen = is ∙ rw (seen.gap, seen.ended) refl
 
 -- no more points than pairs
 pub length-used : (pairs : List (Option Point)) → length (used pairs) ≤ length pairs

@@ -1,9 +1,9 @@
-use Rattle.std.proofs.Common.{eqb, Option, Some, None, MatchOption, ◌≡◌, ℕ, zero, suc, ◌+◌, ◌-◌, ◌<◌, ◌≤◌, Bool, true, false, cond, List, [], ◌∷◌, length, take, map, get_or, sum_by, count_by, All, refl, sym, ◌∙◌, arith, add-one, inl, inr}
-use Rattle.std.specs.Prelude.{IfSome}
+use Rattle.std.proofs.Common.{eqb, Option, Some, None, MatchOption, ◌≡◌, ◌≢◌, ℕ, zero, suc, ◌+◌, ◌-◌, ◌<◌, ◌≤◌, Bool, true, false, cond, List, [], ◌∷◌, length, take, map, get_or, sum_by, count_by, All, refl, sym, ◌∙◌, arith, add-one, inl, inr}
+use Rattle.std.specs.Prelude.{IfNone, IfSome}
 use Rattle.std.specs.Option.{option_eq}
-use Rattle.std.specs.List.Sorted.{IsStrictlyIncreasing}
-use Rattle.std.proofs.lemmas.Bool.{eq-eqb, eqb-true, cases_lt}
-use Rattle.std.proofs.lemmas.List.{get_or-map, length-map}
+use Rattle.std.specs.List.Sorted.{IsNonDecreasingBy, IsStrictlyIncreasing}
+use Rattle.std.proofs.lemmas.Bool.{true≢false, eq-eqb, eqb-true, cases_lt}
+use Rattle.std.proofs.lemmas.List.{get_or_default, get_or-map, length-map}
 use Rattle.std.proofs.lemmas.List.Sums.{sum_by-cons, sum_by-take-le, sum_by-le, count_by_more_yes}
 
 -- neighbours that pass are two that pass
@@ -62,3 +62,24 @@ rising_pairs n xs up i (suc j) d before within =
 -- the keys of a list that rises rise
 pub rising_keys_from_pairs : {X : Type 0} (n : X → ℕ) (xs : List X) → ((i j : ℕ) (d : X) → i < j → j < length xs → n (get_or xs i d) < n (get_or xs j d)) → IsStrictlyIncreasing (map n xs)
 rising_keys_from_pairs n xs up = rising_keys n xs (λ k d h. up k (k + 1) d (omega arith) h)
+
+-- the last of the first i + 1 keys
+pub last_key : {X : Type 0} (n : X → ℕ) (xs : List X) (i t : ℕ) (d : X) → i < length xs → n (get_or xs i d) ≡ t → (e : X) → n (get_or xs (i + 1 - 1) e) ≡ t
+last_key n xs i t d h here e =
+    let place : i + 1 - 1 ≡ i = omega arith in
+    rw (place, sym (get_or_default xs i d e h)) here
+
+-- keys that don't fall, and rise where each differs from the one before
+pub rising_more : {X : Type 0} (n : X → ℕ) (xs : List X) (i t : ℕ) (d : X) (previous : Option ℕ) → IsNonDecreasingBy n xs → i < length xs → IfNone previous (i ≡ 0) → IfSome previous (λ u. (0 < i) × ((e : X) → n (get_or xs (i - 1) e) ≡ u)) → n (get_or xs i d) ≡ t → option_eq eqb previous (Some t) ≡ false → ((k : ℕ) (e : X) → k + 1 < i → n (get_or xs k e) < n (get_or xs (k + 1) e)) → (k : ℕ) (e : X) → k + 1 < i + 1 → n (get_or xs k e) < n (get_or xs (k + 1) e)
+rising_more n xs i t d None order h first last here differs up k e lt = absurd (omega (arith, first))
+rising_more n xs i t d (Some u) order h first last here differs up k e lt = elim (cases_lt (k + 1) i) [
+  | inl earlier ↦ up k e earlier
+  | inr at_last ↦
+      let at : i - 1 ≡ k = omega arith in
+      let next : k + 1 ≡ i = omega arith in
+      let before = rw at at (last.1 e) in
+      let this = rw (get_or_default xs i d e h) at here in
+      let apart : u ≢ t = λ same. true≢false (sym (eq-eqb u t same) ∙ differs) in
+      let le = order k i e (omega arith) h in
+      rw next (omega (arith, before, this, apart, le))
+]

@@ -1,15 +1,21 @@
-use Rattle.std.proofs.Common.{◌≡◌, ℕ, Option, Some, None, List, [], ◌∷◌, ◌++◌, sym, ap, ◌∙◌}
-use Rattle.std.specs.Prelude.{Ok, IfSome}
-use Rattle.std.proofs.lemmas.List.{append_assoc}
+use Rattle.std.proofs.Common.{◌≡◌, ℕ, ◌⊎◌, inl, inr, Option, Some, None, List, [], ◌∷◌, ◌++◌, refl, sym, ap, ◌∙◌}
+use Rattle.std.specs.Prelude.{Ok, Err, IfSome}
+use Rattle.std.proofs.lemmas.List.{append-nil, append_assoc}
 use Rattle.tl_record.specs.declared.record.Record.{Record}
 use Rattle.tl_record.specs.Records.{Records}
-use Rattle.tl_record.specs.Reader.{Gives, with_entry}
+use Rattle.tl_record.specs.declared.reader.Standing.{Standing}
+use Rattle.tl_record.specs.declared.reader.Standing.TheVariants.{Reading, Ended, Stopped}
+use Rattle.tl_record.specs.declared.reader.RecordReader.{RecordReader}
+use Rattle.tl_record.specs.declared.stop.ReadStop.{ReadStop}
+use Rattle.tl_record.specs.declared.stop.ReadStop.TheVariants.{Refused, Device}
+use Rattle.tl_record.specs.Failures.{one_more}
+use Rattle.tl_record.specs.Reader.{Answer, Gives, Repeats, TellsFailure, with_entry, nothing_after, refusal_after}
 use Rattle.tl_map.specs.declared.areas.AreaRecords.{AreaRecords}
 use Rattle.tl_map.specs.declared.collect.Collected.{Collected}
-use Rattle.tl_map.specs.Reading.{records_in}
+use Rattle.tl_map.specs.Reading.{records_in, stop_of, TellsDevice}
 use Rattle.tl_map.specs.Keeping.Areas.{KeepsAreas}
 use Rattle.tl_map.specs.Keeping.Collected.{Collects}
-use Rattle.tl_map.specs.Keeping.Gathering.{GathersSoFar, GathersAllSoFar}
+use Rattle.tl_map.specs.Keeping.Gathering.{GathersSoFar, GathersAllSoFar, StopsGathering}
 
 -- what was to come at first is the records so far and what comes now
 abbrev pub IsSoFar : Option Records → Option Records → List Record → Type 0
@@ -42,3 +48,42 @@ gathers_more at_first now new skipped line r c d a b gives chains areas before =
   areas = areas before.records before.areas;
   known = so_far_more at_first now new skipped line r before.records gives before.known;
 }
+
+-- no failure is counted where a record or the end is answered
+pub none_failed : (standing : Standing) (old new : ℕ) (entry : Option (ℕ × Record)) → TellsFailure standing old new (Ok entry) → new ≡ old
+none_failed Reading old new entry tells = tells
+none_failed Ended old new entry tells = tells
+none_failed (Stopped stop) old new entry tells = tells
+
+-- before the first record
+pub so_far_first : (at_first : Option Records) → IsSoFar at_first at_first []
+so_far_first None = tt
+so_far_first (Some all) = (all, refl, refl, refl, refl)
+
+-- at the end the records so far are all
+pub known_whole : (at_first now new : Option Records) (skipped : ℕ) (rs : List Record) → Gives now new skipped (Ok None) → IsSoFar at_first now rs → IfSome at_first (λ all. (records_in all ≡ rs) × (all.refusal ≡ None) × (all.skipped ≡ skipped))
+known_whole None now new skipped rs gives before = tt
+known_whole (Some all) now new skipped rs gives before =
+    let is : before.0 ≡ nothing_after skipped = rw before.1 at gives in (
+      before.2 ∙ ap (λ (x : Records). rs ++ records_in x) is ∙ append-nil rs,
+      before.3 ∙ ap (λ (x : Records). x.refusal) is,
+      before.4 ∙ ap (λ (x : Records). x.skipped) is,
+    )
+
+-- a stop is the refusal that was to come, or a failed read
+pub stop_told : (at_first now new : Option Records) (skipped : ℕ) (rs : List Record) (stop : ReadStop) → Gives now new skipped (Err stop) → IsSoFar at_first now rs → StopsGathering at_first (stop_of stop)
+stop_told at_first now new skipped rs Device gives before = tt
+stop_told None now new skipped rs (Refused line cause) gives before = tt
+stop_told (Some all) now new skipped rs (Refused line cause) gives before =
+    let is : before.0 ≡ refusal_after skipped line cause = rw before.1 at gives in
+    before.3 ∙ ap (λ (x : Records). x.refusal) is
+
+-- a stop of a reader that neither ended nor stopped before tells whether a read failed
+pub failure_told : (T : Type 0) {R : Type 0} (standing : Standing) (before after : RecordReader R) (old now new : ℕ) (stop : ReadStop) → (standing ≡ Reading) ⊎ (standing ≡ Ended) → Repeats standing before after (Err stop) → TellsFailure standing now new (Err stop) → now ≡ old → TellsDevice {T = T} old new (Err (stop_of stop))
+failure_told T Reading before after old now new (Refused line cause) way repeats tells same = tells ∙ same
+failure_told T Reading before after old now new Device way repeats tells same = tells ∙ ap one_more same
+failure_told T Ended before after old now new stop way repeats tells same = absurd (let other : Err stop ≡ Ok None = repeats.0 in cc)
+failure_told T (Stopped other) before after old now new stop way repeats tells same = elim way [
+  | inl is ↦ absurd (let wrong : Stopped other ≡ Reading = is in cc)
+  | inr is ↦ absurd (let wrong : Stopped other ≡ Ended = is in cc)
+]

@@ -1,12 +1,12 @@
 use Rattle.std.proofs.Common.{◌≡◌, ◌≢◌, ℕ, suc, ◌+◌, ◌-◌, ◌<◌, ◌≤◌, eqb, List, [], ◌∷◌, ◌++◌, length, map, take, drop, get_or, All, refl, sym, ap, ◌∙◌, arith}
 use Rattle.std.specs.List.Sorted.{IsNonDecreasingBy}
 use Rattle.std.proofs.lemmas.Bool.{eq-eqb, ne_eqb}
-use Rattle.std.proofs.lemmas.List.{append_assoc, append-nil, at_drop_more, at_drop_all, drop-append-le, take-append-le, drop_at, take_all, map_push, length-append, length-drop, get_or-take, get_or-drop, length-take-le}
+use Rattle.std.proofs.lemmas.List.{append_assoc, append-nil, at_drop_more, at_drop_all, drop_all, drop-append-le, take-append-le, drop_at, take_all, map_push, length-append, length-drop, get_or-take, get_or-drop, length-take-le}
 use Rattle.std.proofs.lemmas.List.Elements.{All-push, All-weaker}
 use Rattle.tl_map.specs.declared.entry.LandmarkEntry.{LandmarkEntry}
 use Rattle.tl_map.specs.declared.landmarks.Link.{Link}
 use Rattle.tl_map.specs.declared.landmarks.LandmarkRow.{LandmarkRow}
-use Rattle.tl_map.specs.TheMap.{firsts}
+use Rattle.tl_map.specs.TheMap.{MapLandmark, firsts}
 use Rattle.tl_map.specs.Keeping.Landmarks.{links_to, landmark_with, listed, IsRow, landmark_in}
 use Rattle.tl_map.proofs.JoinLemmas.{filter_part}
 
@@ -50,13 +50,17 @@ row_more links all i l d linked more rows first count lt number at long is withi
         ap (take r.count) (drop-append-le r.first linked more (omega arith)) ∙ take-append-le r.count (drop r.first linked) more (omega (arith, length-drop r.first linked)) in
         rw (cut, stays rs (λ k e low. h (suc k) e (omega arith))) refl
 
--- the links of a part lie within the polygons
-pub part_inside : (P : Link → Type 0) (links : List Link) (s n : ℕ) → All P links → s + n ≤ length links → All P (take n (drop s links))
-part_inside P links s n inside within k d lt =
-    let low : k < n = omega (arith, length-take-le n (drop s links) (omega (arith, length-drop s links))) in
-    rw (get_or-take n (drop s links) k d low, get_or-drop s links k d) (inside (s + k) d (omega arith))
+-- what holds of all items holds of those of a part
+pub part_inside : {X : Type 0} (P : X → Type 0) (xs : List X) (s n : ℕ) → All P xs → s + n ≤ length xs → All P (take n (drop s xs))
+part_inside P xs s n inside within k d lt =
+    let low : k < n = omega (arith, length-take-le n (drop s xs) (omega (arith, length-drop s xs))) in
+    rw (get_or-take n (drop s xs) k d low, get_or-drop s xs k d) (inside (s + k) d (omega arith))
 
 -- a list that is written back whole
 pub whole_back : (new old : List ℕ) (n : ℕ) → length new ≡ length old → n ≡ length old → take n (new ++ drop (length new) old) ≡ new
 whole_back new old n same count =
     at_drop_all (λ (xs : List ℕ). take n (new ++ xs)) old (length new) (omega arith) ∙ ap (take n) (append-nil new) ∙ take_all n new (omega arith)
+
+-- all landmarks are listed
+pub all_listed : (links : List Link) (firsts_all : List LandmarkEntry) (i : ℕ) (made : List MapLandmark) → length firsts_all ≤ i → made ++ listed links i (drop i firsts_all) ≡ listed links 0 firsts_all → made ≡ listed links 0 firsts_all
+all_listed links firsts_all i made h is = sym (append-nil made) ∙ (rw (drop_all i firsts_all h) at is)

@@ -1,10 +1,10 @@
-use Rattle.std.proofs.Common.{◌≡◌, ℕ, suc, ◌+◌, ◌<◌, inl, inr, Some, List, [], ◌∷◌, length, get_or, Contains, refl, ◌∙◌, arith}
+use Rattle.std.proofs.Common.{◌≡◌, ℕ, suc, ◌+◌, ◌<◌, ◌≤◌, inl, inr, Some, List, [], ◌∷◌, length, get_or, Contains, refl, ◌∙◌, arith, cond, eqb, count_by}
 use Rattle.std.specs.Prelude.{slice_get}
 use Rattle.std.specs.List.Sorted.{IsStrictlyIncreasing, IsPermutation}
 use Rattle.std.proofs.lemmas.Bool.{cases_lt}
 use Rattle.std.proofs.lemmas.Option.{slice_get-get_or}
 use Rattle.std.proofs.lemmas.List.{get_or_default, get_or-map}
-use Rattle.std.proofs.lemmas.List.Sorted.{IsPermutation-map, IsPermutation-sym, Contains-permutation}
+use Rattle.std.proofs.lemmas.List.Sorted.{IsPermutation-map, IsPermutation-sym, Contains-permutation, sum_by-IsPermutation}
 use Rattle.tl_map.specs.declared.fault.MapFault.{MapFault}
 use Rattle.tl_map.specs.declared.entry.SidesEntry.{SidesEntry}
 use Rattle.tl_map.specs.Keeping.Sided.{sides_tlids, IsUnpaired}
@@ -63,3 +63,9 @@ unpaired_moved ts old new fault moved h =
       | inl chain ↦ inl (chain.0, chain.1, chain.2, λ has. chain.3 (Contains-permutation (sides_tlids old) (sides_tlids new) chain.0 there has))
       | inr side ↦ inr (side.0, side.1, Contains-permutation (sides_tlids new) (sides_tlids old) side.0 back side.2, side.3)
     ]
+
+-- a TLID that stands twice stands twice in another order too
+pub twice_moved : (old new : List SidesEntry) (t : ℕ) → IsPermutation old new → 2 ≤ count_by (λ s. eqb s.tlid t) new → 2 ≤ count_by (λ s. eqb s.tlid t) old
+twice_moved old new t moved twice =
+    let same = sum_by-IsPermutation (λ (s : SidesEntry). cond (eqb s.tlid t) 1 0) old new moved in
+    omega (arith, same, twice)

@@ -1,5 +1,7 @@
 //! Keeps the records of sides, polygons, landmarks and links until all of them are read.
 
+ghost use Rattle.std.specs.Prelude.{◌≡◌, ◌∷◌, [], ◌++◌, OnOk};
+
 use crate::entry::{LandmarkEntry, LinkEntry, SidesEntry};
 use crate::kept::KeptSides;
 use crate::polygons::Polygon;
@@ -45,38 +47,46 @@ impl AreaRecords {
                 left,
                 right,
             } => {
-                self.sides.push(KeptSides::new(SidesEntry {
+                let entry = SidesEntry {
                     tlid: *tlid,
                     start_cell: *start_cell,
                     end_cell: *end_cell,
                     left: *left,
                     right: *right,
-                }))?;
-                Ok(())
+                };
+                append(&mut self.sides, KeptSides::new(entry))
             }
             Record::PolyPoint { key, point } => {
-                self.polygons.push(Polygon {
+                let polygon = Polygon {
                     key: *key,
                     point: *point,
-                })?;
-                Ok(())
+                };
+                append(&mut self.polygons, polygon)
             }
             Record::Landmark { land, point } => {
-                self.landmarks.push(LandmarkEntry {
+                let landmark = LandmarkEntry {
                     land: *land,
                     point: *point,
-                })?;
-                Ok(())
+                };
+                append(&mut self.landmarks, landmark)
             }
             Record::AreaLink { key, land } => {
-                self.links.push(LinkEntry {
+                let link = LinkEntry {
                     key: *key,
                     land: *land,
-                })?;
-                Ok(())
+                };
+                append(&mut self.links, link)
             }
             // Records of the other types draw chains.
             Record::Chain { .. } | Record::Shape { .. } => Ok(()),
         }
     }
+}
+
+/// Appends an item, which is dropped where memory is refused.
+fn append<T: Drop>(items: &mut Vec<T>, item: T) -> Result<(), AllocError>
+    ensures { OnOk result (items.new.items ≡ items.old.items ++ item ∷ []) }
+{
+    items.push(item)?;
+    Ok(())
 }

@@ -1,9 +1,10 @@
 //! Keeps records until all of them are read.
 
-ghost use Rattle.std.specs.Prelude.{◌≡◌, ◌+◌, ◌<◌, ◌≤◌, ◌∷◌, [], ◌++◌, List, OnOk, IfOk, length};
+ghost use Rattle.std.specs.Prelude.{◌≡◌, ◌+◌, ◌<◌, ◌≤◌, ◌∷◌, [], ◌++◌, List, OnOk, IfOk, length, if◌then◌else◌};
 ghost use Rattle.tl_geom.specs.declared.point.Point.{Point};
 ghost use Rattle.tl_record.specs.declared.record.Record.{Record};
 ghost use Rattle.tl_record.specs.declared.record.Record.TheVariants.{Shape};
+ghost use Rattle.tl_map.specs.declared.entry.Fill.TheVariants.{Full, Ended, Gap};
 ghost use Rattle.tl_map.specs.Chains.{used};
 ghost use Rattle.tl_map.specs.Keeping.Entries.{fill_of, AreShapeEntries};
 
@@ -110,11 +111,18 @@ fn append_used(pool: &mut Vec<Point>, pairs: &[Option<Point>; PAIRS]) -> Result<
             }
         }
     }
-    Ok(if gap {
+    Ok(fill_from(ended, gap))
+}
+
+/// How pairs are filled, by whether one of them is unused, and whether a used one comes after an unused one.
+fn fill_from(ended: bool, gap: bool) -> Fill
+    ensures { result ≡ (if gap then Gap else (if ended then Ended else Full)) }
+{
+    if gap {
         Fill::Gap
     } else if ended {
         Fill::Ended
     } else {
         Fill::Full
-    })
+    }
 }

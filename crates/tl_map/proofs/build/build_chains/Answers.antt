@@ -1,5 +1,6 @@
 use Rattle.std.proofs.Common.{◌≤◌, length, arith}
 use Rattle.std.proofs.lemmas.List.Elements.{All-weaker}
+use Rattle.std.proofs.lemmas.Result.{err_from_is_err_and}
 use Rattle.tl_map.specs.declared.fault.TheConstants.{CHAIN_LIMIT}
 use Rattle.tl_map.specs.Keeping.Entries.{IsInside, IsShapeEntry}
 use Rattle.tl_map.specs.Keeping.Built.{AreSound}
@@ -49,3 +50,30 @@ returns c = λ rs h.
     (rw c.deref-3.ensures.value chains) (rw (c.deref-4.ensures.value, c.deref-5.ensures.value) shapes)
     (rw (c.deref-3.ensures.value, c.deref-4.ensures.value) sound) (rw c.deref-3.ensures.value room)
     c.join.ensures.ok c.join.ensures.several c.join.ensures.few c.join.ensures.err
+
+pub returns-then-collected : goal.returns-then-collected
+returns-then-collected c = λ rs h. h.many c.if-collected.true
+
+pub returns-in_err-sort_chains : goal.returns-in_err-sort_chains
+returns-in_err-sort_chains c = λ rs h.
+    let p = err_from_is_err_and c.from_residual.result c.from_residual.ensures.1 in
+    rw (p.1, p.2) tt
+
+pub returns-in_err-sort_shapes : goal.returns-in_err-sort_shapes
+returns-in_err-sort_shapes c = λ rs h.
+    let p = err_from_is_err_and c.from_residual-in_err-sort_shapes.result c.from_residual-in_err-sort_shapes.ensures.1 in
+    rw (p.1, p.2) tt
+
+pub first_fault-requires : goal.first_fault-requires
+first_fault-requires c = record {
+  chains = rw c.deref.ensures.value c.in_ok-sort_chains.ensures.ordered;
+  shapes = rw c.deref-2.ensures.value c.in_ok-sort_shapes.ensures.ordered;
+}
+
+pub join-requires-clause-room : goal.join-requires-clause-room
+join-requires-clause-room c =
+    let room = c.requires.1.room in
+    rw c.deref-3.ensures.value (omega (arith, room, c.in_ok-sort_chains.ensures.length))
+
+pub join-requires-clause-ordered : goal.join-requires-clause-ordered
+join-requires-clause-ordered c = rw c.deref-4.ensures.value c.in_ok-sort_shapes.ensures.ordered

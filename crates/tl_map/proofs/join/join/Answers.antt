@@ -1,8 +1,11 @@
-use Rattle.std.proofs.Common.{◌≡◌, ℕ, length, get_or, pos, arith, refl}
+use Rattle.std.proofs.Common.{◌≡◌, ◌∙◌, ◌-◌, ℕ, ap, map, length, get_or, pos, arith, refl}
 use Rattle.std.proofs.lemmas.Result.{err_from_is_err_and}
 use Rattle.tl_map.specs.declared.entry.ChainEntry.{ChainEntry}
-use Rattle.tl_map.specs.Keeping.Entries.{joined}
+use Rattle.std.proofs.lemmas.List.{take_all}
+use Rattle.tl_map.specs.Keeping.Entries.{IsInside, joined}
+use Rattle.tl_map.specs.Keeping.Rows.{chains_in}
 use Rattle.tl_map.proofs.JoinLemmas.{run_is, above_run, behind_more, ahead_more, ahead_first, drawn_is, joined_more, stops_join, several_more}
+use Rattle.tl_map.proofs.ListedLemmas.{part_inside}
 use Rattle.tl_map.proofs.RowLemmas.{IsTable-nil}
 use Rattle.tl_map.proofs.join.join.Goals as goal
 
@@ -57,3 +60,20 @@ loop-chain-preserved c =
       are = joined_more c.args.pool.now chains shapes i x _ _ _ c.loop-chain-test.true c.in_ok-add_chain.ensures.added drawn c.loop-chain.invariant.are;
       several = several_more (joined c.args.pool.now shapes) chains i x _ c.loop-chain-test.true drawn c.in_ok-add_chain.ensures.several c.loop-chain.invariant.several;
     }
+
+pub add_chain-requires : goal.add_chain-requires
+add_chain-requires c = record {
+  inside = part_inside (IsInside c.args.pool.now) c.args.shapes.now c.loop-chain.start (c.run_end-end.result - c.loop-chain.start) c.requires.inside (omega (arith, c.run_end-end.ensures.from, c.run_end-end.ensures.within));
+  table = c.loop-chain.invariant.table;
+  room = omega (arith, c.loop-chain.invariant.count, c.loop-chain-test.true, c.requires.room);
+  few = c.loop-chain.invariant.few;
+}
+
+pub returns-clause-ok : goal.returns-clause-ok
+returns-clause-ok c =
+    let chains = c.args.chains.now in
+    let all = c.loop-chain.invariant.are ∙ ap (map (joined c.args.pool.now c.args.shapes.now)) (take_all c.loop-chain.chain-index chains c.loop-chain-test.false) in
+    rw (c.new.ensures, all) refl
+
+pub returns-clause-several : goal.returns-clause-several
+returns-clause-several c = λ k d lt. c.loop-chain.invariant.several k d (omega (arith, lt, c.loop-chain-test.false))

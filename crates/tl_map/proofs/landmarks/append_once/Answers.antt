@@ -1,7 +1,7 @@
-use Rattle.std.proofs.Common.{◌<◌, ◌∙◌, length, get_or, arith}
+use Rattle.std.proofs.Common.{◌<◌, ◌∙◌, length, get_or, refl, arith}
 use Rattle.std.proofs.lemmas.List.{length-set}
 use Rattle.tl_map.specs.declared.landmarks.Link.{Link}
-use Rattle.tl_map.proofs.MarkLemmas.{marking_old, marking_new}
+use Rattle.tl_map.proofs.MarkLemmas.{marking_old, marking_new, marking_none, marking_all}
 use Rattle.tl_map.proofs.landmarks.append_once.Goals as goal
 use Rattle.tl_map.proofs.landmarks.append_once.Goals.{then-marks-place+in_ok-push, else-marks-place}
 
@@ -17,3 +17,12 @@ loop-link-preserved c =
           let after = marking_old c.args.run.now c.loop-link.link-index c.args.mark x c.args.linked.now.items c.loop-link.linked.items c.loop-link.marks c.loop-link-test.true inside w.if-marks-place.false c.loop-link.invariant.marking in
           rw (w.linked-is, w.marks-is) (record { marking = after; same = c.loop-link.invariant.same })
     ]
+
+pub loop-link-init : goal.loop-link-init
+loop-link-init c = record { marking = marking_none c.args.run.now c.args.mark c.args.linked.now.items c.args.marks.now c.requires.fresh; same = refl }
+
+pub returns-clause-linked : goal.returns-clause-linked
+returns-clause-linked c = marking_all c.args.run.now c.loop-link.link-index c.args.mark _ _ _ c.loop-link-test.false c.loop-link.invariant.marking
+
+pub returns-clause-marks : goal.returns-clause-marks
+returns-clause-marks c = c.loop-link.invariant.marking.low

@@ -1,10 +1,10 @@
-use Rattle.std.proofs.Common.{◌≡◌, ◌∙◌, ℕ, ◌-◌, List, length, map, take, drop, sym, ap, inl, inr, arith}
+use Rattle.std.proofs.Common.{◌≡◌, ◌∙◌, ℕ, ◌-◌, ◌<◌, List, length, map, take, drop, sym, ap, inl, inr, arith}
 use Rattle.std.proofs.lemmas.Bool.{cases_lt}
 use Rattle.std.proofs.lemmas.List.{length-append}
 use Rattle.tl_map.specs.declared.landmarks.Link.{Link}
 use Rattle.tl_map.specs.TheMap.{firsts}
 use Rattle.tl_map.specs.Keeping.Landmarks.{links_to}
-use Rattle.tl_map.proofs.ListedLemmas.{run_of, above_links, row_more, whole_back}
+use Rattle.tl_map.proofs.ListedLemmas.{run_of, above_links, row_more, part_inside, whole_back, all_listed}
 use Rattle.tl_map.proofs.landmarks.list_linked.Goals as goal
 
 pub loop-entry-preserved : goal.loop-entry-preserved
@@ -33,3 +33,18 @@ loop-entry-preserved c =
       rows = rw (c.in_ok-push.ensures.items, c.in_ok-append_once.ensures.linked) row.0;
       are = rw (c.in_ok-push.ensures.items, c.in_ok-append_once.ensures.linked) row.1;
     }
+
+pub append_once-requires : goal.append_once-requires
+append_once-requires c =
+    let marks = c.deref_mut.result.now in
+    let long : length marks ≡ c.args.polygons = ap length c.deref_mut.ensures.value ∙ c.loop-entry.invariant.marks in
+    record {
+      inside = part_inside (λ (m : Link). m.polygon < length marks) c.args.links.now c.loop-entry.start (c.links_end-end.result - c.loop-entry.start) (λ k d lt. let h = c.requires.inside k d lt in omega (arith, h, long)) (omega (arith, c.links_end-end.ensures.from, c.links_end-end.ensures.within));
+      fresh = rw c.deref_mut.ensures.value (λ k d lt. let h = c.loop-entry.invariant.fresh k d lt in omega (arith, h));
+    }
+
+pub returns : goal.returns
+returns c = record {
+  within = c.loop-entry.invariant.rows;
+  are = all_listed c.args.links.now c.args.firsts.now c.loop-entry.entry-index _ c.loop-entry-test.false c.loop-entry.invariant.are;
+}
