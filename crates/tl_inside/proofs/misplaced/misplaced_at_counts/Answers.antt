@@ -26,6 +26,3 @@ polygon-requires c = let odd = c.in-Some.ensures in let within = odd.within in o
 
 pub bounds-near-own : goal.bounds-near-own
 bounds-near-own c = let within : c.args.p < length c.args.map.now.polygons = slice_get_within c.args.map.now.polygons c.args.p c.args.polygon c.requires.is in omega (arith, within, c.requires.nears)
-
-pub bounds-far-own : goal.bounds-far-own
-bounds-far-own c = let within : c.args.p < length c.args.map.now.polygons = slice_get_within c.args.map.now.polygons c.args.p c.args.polygon c.requires.is in omega (arith, within, c.requires.fars)
