@@ -8,7 +8,10 @@ use Rattle.tl_map.specs.declared.sides.Side.{Side}
 use Rattle.tl_map.specs.TheMap.{TheMap, MapChain, IsChain}
 use Rattle.tl_planar.specs.Keeping.Apart.{one_found}
 use Rattle.tl_inside.specs.declared.flanks.Flanks.{Flanks}
+use Rattle.tl_inside.specs.declared.misplaced.Misplaced.{Misplaced}
+use Rattle.tl_inside.specs.declared.strips.Site.{Site}
 use Rattle.tl_inside.specs.Places.{IsHeldBy, IsOffChains}
+use Rattle.tl_inside.specs.Keeping.Strips.{IsSiteOf, IsPlacedSite}
 use Rattle.tl_inside.specs.Placed.{IsPlacedIn, IsPointOnChain, IsPointOutside, IsPointInOther}
 use Rattle.tl_inside.specs.Keeping.Tallies.{AreTallies, TellCounts, IsEven, IsOdd}
 use Rattle.tl_inside.proofs.Counting.{inside, not_inside, clear, not_clear}
@@ -58,6 +61,15 @@ on_chain m p c tlid found points left right is held chain = record {
       let one : held.chain ≡ chain.chain = one_found held.chain chain.chain (slice_get m.chains c) held.is chain.is in
       ap (λ (z : MapChain). z.tlid) one ∙ sym chain.tlid_is;
 }
+
+-- a polygon that is found is that of the site
+pub at_its_point : (m : TheMap) (site : Site) (found : Polygon) → IsSiteOf m site → slice_get m.polygons site.polygon ≡ Some found → site.point ≡ found.point
+at_its_point m site found of is = of.point ∙ ap (λ (p : Polygon). p.point) (one_found of.polygon found (slice_get m.polygons site.polygon) of.is is)
+
+-- so where it is placed, the site is
+pub placed_site : (m : TheMap) (site : Site) (found : Polygon) (B : Misplaced → Type 0) (wrong : Option Misplaced) → slice_get m.polygons site.polygon ≡ Some found → MatchOption wrong (IsPlacedIn m found.point site.polygon) B → MatchOption wrong (IsPlacedSite m site) B
+placed_site m site found B (Some fault) is h = h
+placed_site m site found B None is h = λ other other_is. subst (λ (p : Polygon). IsPlacedIn m p.point site.polygon) (one_found found other (slice_get m.polygons site.polygon) is other_is) h
 
 pub told_some : {X : Type 0} (A : Type 0) (B : X → Type 0) (found : Option X) (x : X) → found ≡ Some x → MatchOption found A B → B x
 told_some A B found x is told = subst (λ o. MatchOption o A B) is told

@@ -4,7 +4,9 @@ ghost use Rattle.std.specs.Prelude.{◌≡◌, length, IfOk, MatchOption};
 ghost use Rattle.tl_map.specs.Segments.{segments_before};
 ghost use Rattle.tl_planar.specs.Rectangles.{segment_rect};
 ghost use Rattle.tl_inside.specs.Places.{IsLowestOn, IsOffChains};
+ghost use Rattle.tl_tree.specs.Hits.{AreHits};
 ghost use Rattle.tl_inside.specs.Keeping.Listed.{IsLeastOf};
+ghost use Rattle.tl_inside.specs.Keeping.Probing.{IsHolding};
 
 use crate::probes::Spot;
 use tl_geom::{Point, on};
@@ -24,11 +26,19 @@ pub fn chain_at<X: BoxIndex>(
 {
     hits.clear();
     index.collect_hits(&Segments::new(map), &Spot(point), hits)?;
+    Ok(lowest_of(map, hits, point))
+}
+
+/// The same by the segments that hold the point.
+fn lowest_of(map: &Map, hits: &[u32], point: Point) -> Option<u32>
+    requires { AreHits (segments_before map.now.chains (length map.now.chains)) (IsHolding map.now.chains point) hits.now }
+    ensures { MatchOption result (IsOffChains map.now.chains point) (IsLowestOn map.now.chains point) }
+{
     match least(hits) {
         // It is hit, as all that are listed are.
-        Some(s) if on(map.segment(s), point) => Ok(Some(map.segment_chain(s))),
+        Some(s) if on(map.segment(s), point) => Some(map.segment_chain(s)),
         Some(_) => unreachable!(),
-        None => Ok(None),
+        None => None,
     }
 }
 

@@ -1,6 +1,7 @@
 -- The points that two chains, or two segments of one chain, may share.
-use Rattle.std.proofs.Common.{◌≡◌, ◌≢◌, ◌⊎◌, inl, inr, ⊎_elim, ◌↔◌, ℕ, ◌+◌, ◌-◌, ℤ, pos, ◌*ℤ◌, Option, Some, None, List, length, ap, sym, subst, ◌∙◌, arith}
+use Rattle.std.proofs.Common.{◌≡◌, ◌≢◌, ◌⊎◌, inl, inr, ⊎_elim, ◌↔◌, ℕ, ◌+◌, ◌-◌, ◌<◌, ◌≤◌, ℤ, pos, ◌*ℤ◌, Option, Some, None, List, length, get_or, ap, sym, subst, ◌∙◌, arith}
 use Rattle.std.specs.Prelude.{slice_get}
+use Rattle.std.proofs.lemmas.Option.{slice_get-get_or}
 use Rattle.tl_geom.specs.declared.point.Point.{Point}
 use Rattle.tl_geom.specs.declared.rational.Rational.{Rational}
 use Rattle.tl_geom.specs.Plane.{IsSame, whole}
@@ -31,6 +32,36 @@ at_vertex points k p r e v =
 
 pub vertex_at : (points : List Point) (k : ℕ) (p : Point) (r : Rational) → slice_get points k ≡ Some p → IsSame r (whole p) → IsVertex points k r
 vertex_at points k p r e s = record { point = p; is = e; same = s }
+
+-- a point stands at a place if it is the one that is read there
+pub at_place : (points : List Point) (k : ℕ) (p d : Point) → k < length points → (slice_get points k ≡ Some p) ↔ (p ≡ get_or points k d)
+at_place points k p d lt = (
+  (λ e. one_found p (get_or points k d) (slice_get points k) e (slice_get-get_or points k d lt)),
+  (λ e. slice_get-get_or points k d lt ∙ ap Some (sym e)),
+)
+
+-- one point stands at two places if those that are read there are one
+pub at_two : (points : List Point) (i j : ℕ) (d : Point) → i < length points → j < length points → (slice_get points i ≡ slice_get points j) ↔ (get_or points i d ≡ get_or points j d)
+at_two points i j d one other = (
+  (λ e. (at_place points j (get_or points i d) d other).0 (sym e ∙ slice_get-get_or points i d one)),
+  (λ e. slice_get-get_or points i d one ∙ ap Some e ∙ sym (slice_get-get_or points j d other)),
+)
+
+-- ---- a closed chain
+
+pub closed_ends : (points : List Point) (i j : ℕ) (r : Rational) → IsClosingPoint points i j r → slice_get points 0 ≡ slice_get points (length points - 1)
+closed_ends points i j r k =
+    let last : j + 1 ≡ length points - 1 = omega (arith, k.last) in
+    k.closed ∙ ap (slice_get points) last
+
+pub closing_start : (points : List Point) (steps i j : ℕ) (r : Rational) (d : Point) → 1 ≤ length points → steps + 2 ≡ length points → slice_get points 0 ≡ slice_get points (length points - 1) → j ≡ i + steps → j + 1 < length points
+    → IsSame r (whole (get_or points 0 d)) ↔ IsClosingPoint points i j r
+closing_start points steps i j r d some long closed e lt =
+    let start : slice_get points 0 ≡ Some (get_or points 0 d) = slice_get-get_or points 0 d (omega (arith, some)) in
+    let last : length points - 1 ≡ j + 1 = omega (arith, long, e, lt) in (
+      (λ s. record { first = omega (arith, long, e, lt); last = omega (arith, long, e, lt); closed = closed ∙ ap (slice_get points) last; start = vertex_at points 0 (get_or points 0 d) r start s }),
+      (λ k. at_vertex points 0 (get_or points 0 d) r start k.start),
+    )
 
 -- ---- two chains
 

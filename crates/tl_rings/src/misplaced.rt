@@ -1,6 +1,6 @@
 //! Polygons' points that don't lie where they have to.
 
-ghost use Rattle.std.specs.Prelude.{◌≡◌, ◌<◌, ◌^◌, [], length, All, IfOk, OnOk, MatchOption};
+ghost use Rattle.std.specs.Prelude.{◌≡◌, ℕ, ◌<◌, ◌^◌, [], length, All, Contains, IfOk, OnOk, MatchOption};
 ghost use Rattle.tl_map.specs.Segments.{segments_before};
 ghost use Rattle.tl_planar.specs.Rectangles.{segment_rect};
 ghost use Rattle.tl_sides.specs.Sides.{SidesAgree};
@@ -70,8 +70,32 @@ fn find_by<X: BoxIndex, Y: BoxIndex>(
     look_at_chains(map);
     let heights = Heights::of(alloc, map)?;
     let order = polygons_along(alloc, map)?;
+    find_along(alloc, map, index, rings, tree, &heights, &order)
+}
+
+/// The same by all polygons in an order, and the chains at each height.
+fn find_along<X: BoxIndex, Y: BoxIndex>(
+    alloc: Global,
+    map: &Map,
+    index: &X,
+    rings: &Rings,
+    tree: &Y,
+    heights: &Heights,
+    order: &[u32],
+) -> Result<Option<Misplaced>, Memory>
+    requires fits { X.fits index.now (segments_before map.now.chains (length map.now.chains)) (segment_rect map.now.chains) }
+    requires tree { Y.fits tree.now (ring_count rings.now) (box_at rings.now.boxes) }
+    requires proper { AreProper map.now.chains }
+    requires sides { SidesAgree map.now.chains }
+    requires walks { AreWalks map.now.chains rings.now.rings }
+    requires boxed { AreBoxed map.now.chains rings.now }
+    requires few { length rings.now.rings < 2 ^ 32 }
+    requires known { All (λ p. p < length map.now.polygons) order.now }
+    requires whole { (p : ℕ) → p < length map.now.polygons → Contains order.now p }
+    ensures { IfOk result (λ found. MatchOption found (ArePlaced map.now) (IsTrueMisplaced map.now)) }
+{
     let mut left = Vec::new(alloc);
-    match find_by_rings(alloc, map, index, rings, tree, &heights, &order, &mut left)? {
+    match find_by_rings(alloc, map, index, rings, tree, heights, order, &mut left)? {
         Some(found) => Ok(Some(found)),
         None => find_among(alloc, map, index, &mut left),
     }

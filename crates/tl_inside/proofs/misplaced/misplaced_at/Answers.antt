@@ -1,9 +1,45 @@
-use Rattle.std.proofs.Common.{sym, subst}
+use Rattle.std.proofs.Common.{sym, subst, refl}
 use Rattle.tl_inside.specs.Keeping.Tallies.{TellCounts}
-use Rattle.tl_inside.proofs.Misplacing.{told_none}
+use Rattle.tl_inside.specs.Placed.{IsTrueMisplaced}
+use Rattle.tl_inside.specs.Keeping.Strips.{AreEnough}
+use Rattle.tl_inside.proofs.Misplacing.{told_some, told_none, at_its_point, placed_site}
 use Rattle.tl_inside.proofs.misplaced.misplaced_at.Goals as goal
 
 pub misplaced_by-requires-clause-tell : goal.misplaced_by-requires-clause-tell
 misplaced_by-requires-clause-tell c =
     subst (TellCounts c.args.map.now.chains c.polygon-polygon.result.point) (sym c.deref.ensures.value)
     (told_none _ _ c.in_ok-c.field-0 c.in-None.is c.in_ok-c.ensures.tell)
+
+pub sift-requires : goal.sift-requires
+sift-requires c = record {
+  enough =
+      subst (λ q. AreEnough c.args.map.now.chains q c.args.hits.now)
+      (at_its_point c.args.map.now c.args.site c.polygon-polygon.result c.requires.is c.polygon-polygon.ensures) c.requires.enough;
+}
+
+pub on_chain-requires : goal.on_chain-requires
+on_chain-requires c = told_some _ _ c.in_ok-c.field-0 c.in-Some.c c.in-Some.is c.in_ok-c.ensures.held
+
+pub misplaced_by-requires-clause-is : goal.misplaced_by-requires-clause-is
+misplaced_by-requires-clause-is c = c.polygon-polygon.ensures
+
+pub misplaced_by-requires-clause-off : goal.misplaced_by-requires-clause-off
+misplaced_by-requires-clause-off c = told_none _ _ c.in_ok-c.field-0 c.in-None.is c.in_ok-c.ensures.held
+
+pub returns-in-Some : goal.returns-in-Some
+returns-in-Some c = record {
+  found = c.on_chain.ensures c.args.site.polygon c.polygon-polygon.ensures;
+  nears = refl;
+  fars = refl;
+  no_near = c.requires.no_near;
+  no_far = c.requires.no_far;
+}
+
+pub returns-in-None : goal.returns-in-None
+returns-in-None c = record {
+  found = placed_site c.args.map.now c.args.site c.polygon-polygon.result (IsTrueMisplaced c.args.map.now) c.misplaced_by.result c.polygon-polygon.ensures c.misplaced_by.ensures.found;
+  nears = c.misplaced_by.ensures.nears;
+  fars = c.misplaced_by.ensures.fars;
+  no_near = c.misplaced_by.ensures.no_near;
+  no_far = c.misplaced_by.ensures.no_far;
+}

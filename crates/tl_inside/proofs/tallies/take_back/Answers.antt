@@ -1,5 +1,5 @@
-use Rattle.std.proofs.Common.{refl, arith}
-use Rattle.tl_inside.proofs.Tallying.{none_near, none_far}
+use Rattle.std.proofs.Common.{refl, ◌∙◌, arith}
+use Rattle.tl_inside.proofs.Tallying.{some_near, some_far, taken_one, none_near, none_far}
 use Rattle.tl_inside.proofs.tallies.take_back.Goals as goal
 
 pub loop-place-init : goal.loop-place-init
@@ -12,3 +12,22 @@ returns-clause-no_near c =
 pub returns-clause-no_far : goal.returns-clause-no_far
 returns-clause-no_far c =
     none_far c.args.crossed.now c.loop-place.near c.loop-place.far c.loop-place.place (omega (arith, c.loop-place-test.false, c.loop-place.auto.place-end)) c.loop-place.invariant.tallies
+
+pub discount-requires : goal.discount-requires
+discount-requires c = record {
+  counted = some_near c.args.crossed.now c.loop-place.near c.loop-place.far c.loop-place.place (omega (arith, c.loop-place-test.true, c.loop-place.auto.place-end)) c.loop-place.invariant.tallies _;
+}
+
+pub discount-requires-in-loop-place : goal.discount-requires-in-loop-place
+discount-requires-in-loop-place c = record {
+  counted = some_far c.args.crossed.now c.loop-place.near c.loop-place.far c.loop-place.place (omega (arith, c.loop-place-test.true, c.loop-place.auto.place-end)) c.loop-place.invariant.tallies _;
+}
+
+pub loop-place-preserved : goal.loop-place-preserved
+loop-place-preserved c = record {
+  nears = c.discount.ensures.long ∙ c.loop-place.invariant.nears;
+  fars = c.discount-in-loop-place.ensures.long ∙ c.loop-place.invariant.fars;
+  tallies =
+      taken_one c.args.crossed.now c.loop-place.near c.loop-place.far c.loop-place.place (omega (arith, c.loop-place-test.true, c.loop-place.auto.place-end)) c.loop-place.invariant.tallies _
+      c.discount.new.counts c.discount-in-loop-place.new.counts c.discount.ensures.long c.discount-in-loop-place.ensures.long c.discount.ensures.one_less c.discount-in-loop-place.ensures.one_less;
+}

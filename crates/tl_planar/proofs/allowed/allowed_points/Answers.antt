@@ -1,4 +1,5 @@
-use Rattle.std.proofs.Common.{Some, ap, sym, ◌∙◌}
+use Rattle.std.proofs.Common.{Some, ap, sym, ◌∙◌, arith}
+use Rattle.std.proofs.lemmas.Option.{slice_get_within}
 use Rattle.tl_planar.proofs.Sharing.{same_chain, other_chain}
 use Rattle.tl_planar.proofs.allowed.allowed_points.Goals as goal
 
@@ -15,3 +16,15 @@ returns-else-c-d c =
     (record { k = c.segment_chain-c.ensures.0; number = c.segment_chain-c.ensures.1; chain = c.chain.ensures.chain.chain; is = c.chain.ensures.chain.is; points_are = c.chain.ensures.chain.points_are })
     (record { k = c.segment_chain-d.ensures.0; number = c.segment_chain-d.ensures.1; chain = c.chain-else-c-d.ensures.chain.chain; is = c.chain-else-c-d.ensures.chain.is; points_are = c.chain-else-c-d.ensures.chain.points_are })
     c.if-c-d.false c.allowed_between.ensures
+
+pub chain-requires : goal.chain-requires
+chain-requires c = let number = c.segment_chain-c.ensures.1 in slice_get_within _ _ number.chain number.is
+
+pub allowed_within-requires : goal.allowed_within-requires
+allowed_within-requires c = omega (arith, c.chain.ensures.points)
+
+pub allowed_between-requires-clause-one : goal.allowed_between-requires-clause-one
+allowed_between-requires-clause-one c = omega (arith, c.chain.ensures.points)
+
+pub allowed_between-requires-clause-other : goal.allowed_between-requires-clause-other
+allowed_between-requires-clause-other c = omega (arith, c.chain-else-c-d.ensures.points)

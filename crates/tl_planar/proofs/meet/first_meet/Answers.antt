@@ -1,3 +1,7 @@
+use Rattle.std.proofs.Common.{◌<◌, length, subst, arith}
+use Rattle.std.proofs.lemmas.Option.{slice_get_within}
+use Rattle.tl_map.specs.Segments.{segments_before}
+use Rattle.tl_planar.specs.Searching.{meeting_segments}
 use Rattle.tl_planar.proofs.Meetings.{true_meet, planar_within}
 use Rattle.tl_planar.proofs.meet.first_meet.Goals as goal
 
@@ -9,3 +13,16 @@ returns-in-Found g c =
 
 pub returns-in-Clear : goal.returns-in-Clear
 returns-in-Clear g c = planar_within c.args.map.now.chains c.new.result c.args.budget c.new.ensures c.in-Clear.ensures
+
+pub returns-in-Budget : goal.returns-in-Budget
+returns-in-Budget g c = subst (λ cs. c.args.budget < meeting_segments cs) c.new.ensures c.in-Budget.ensures
+
+pub segment_chain-requires : goal.segment_chain-requires
+segment_chain-requires g c =
+    let conflict = c.in-Found.ensures in
+    let ordered = conflict.ordered in
+    let known = conflict.known in
+    subst (λ cs. c.in-Found.i < segments_before cs (length cs)) c.new.ensures (omega (arith, ordered, known))
+
+pub chain-requires : goal.chain-requires
+chain-requires g c = let number = c.segment_chain.ensures.1 in slice_get_within _ _ number.chain number.is

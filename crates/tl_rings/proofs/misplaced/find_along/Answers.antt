@@ -1,0 +1,11 @@
+use Rattle.tl_inside.specs.Placed.{IsTrueMisplaced}
+use Rattle.tl_inside.proofs.Misplacing.{told_none}
+use Rattle.tl_inside.proofs.Stripping.{placed_answer}
+use Rattle.tl_rings.proofs.Looking.{all_placed}
+use Rattle.tl_rings.proofs.misplaced.find_along.Goals as goal
+
+pub returns : goal.returns
+returns g c =
+    placed_answer (IsTrueMisplaced c.args.map.now) c.find_among.result
+    (λ all. all_placed c.args.map.now c.args.order.now (told_none _ _ c.in_ok-found.field-0 c.in-None.is c.in_ok-found.ensures.found all) c.requires.whole)
+    c.find_among.ensures
