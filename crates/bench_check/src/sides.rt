@@ -6,7 +6,7 @@ ghost use Rattle.tl_sides.specs.Keeping.Rounded.{KeepNext};
 use crate::stop::Stop;
 use std::alloc::Global;
 use tl_cert::Certificate;
-use tl_map::Map;
+use tl_county::Map;
 use tl_sides::{Next, Rounds, Walks};
 
 /// The next dart of each dart, by the rounds, where they are those of the map.

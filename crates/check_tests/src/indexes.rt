@@ -1,15 +1,15 @@
 //! Where points lie, by each index.
 
 ghost use Rattle.std.specs.Prelude.{◌<◌, ◌^◌, length};
-ghost use Rattle.tl_map.specs.Segments.{segments_before};
+ghost use Rattle.tl_county.specs.Segments.{segments_before};
 ghost use Rattle.tl_planar.specs.Rectangles.{segment_rect};
 ghost use Rattle.tl_tree.specs.Preorder.{IsPreorder};
 
 use crate::maps::{ISLAND, map_of};
 use std::alloc::Global;
+use tl_county::Map;
 use tl_geom::Point;
 use tl_inside::{Place, locate};
-use tl_map::Map;
 use tl_pack::pack;
 use tl_planar::Segments;
 use tl_tree::{BoxIndex, BoxTree, FlatTree, PlainList, TreeNode};

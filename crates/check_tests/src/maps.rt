@@ -1,7 +1,8 @@
 //! The records of small maps, and certificates.
 
 use std::alloc::Global;
-use tl_map::{Map, read_map};
+use tl_county::Map;
+use tl_map::read_map;
 use tl_record::Meter;
 
 /// The map of records.

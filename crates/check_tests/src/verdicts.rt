@@ -8,8 +8,8 @@ use std::alloc::Global;
 use tl_build::{Audit, Built, audit, build};
 use tl_cert::read_cert;
 use tl_check::{CertFault, MapFault, Report, Verdict, check, check_cert, check_map};
+use tl_county::Map;
 use tl_geom::Point;
-use tl_map::Map;
 use tl_record::Meter;
 use tl_sides::RoundFault;
 

@@ -2,7 +2,7 @@
 use Rattle.std.proofs.Common.{◌≡◌, ◌≢◌, inl, inr, ℕ, suc, ◌+◌, ◌<◌, ◌≤◌, arith, List, length, set, refl, ap, sym, ◌∙◌, length-set, get_or-set_same, get_or-set_other}
 use Rattle.std.specs.Prelude.{slice_index}
 use Rattle.std.proofs.lemmas.Bool.{cases_lt}
-use Rattle.tl_map.specs.Darts.{reverse_dart}
+use Rattle.tl_county.specs.Darts.{reverse_dart}
 use Rattle.tl_tree.specs.Hits.{times}
 use Rattle.tl_sides.specs.Lists.{before}
 use Rattle.tl_sides.proofs.Boundaries.{back_again}

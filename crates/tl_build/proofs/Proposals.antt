@@ -1,6 +1,6 @@
 -- A certificate that is proposed for a map has no fault that the checker could answer.
 use Rattle.std.proofs.Common.{arith}
-use Rattle.tl_map.specs.TheMap.{TheMap}
+use Rattle.tl_county.specs.TheMap.{TheMap}
 use Rattle.tl_planar.specs.Planar.{IsPlanar}
 use Rattle.tl_planar.specs.Rectangles.{segment_rect}
 use Rattle.tl_tree.specs.Trees.{tree_of}

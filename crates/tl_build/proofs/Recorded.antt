@@ -6,9 +6,8 @@ use Rattle.std.proofs.lemmas.Option.{IfSome_then}
 use Rattle.tl_record.specs.Records.{Records as AllRecords}
 use Rattle.tl_map.specs.declared.fault.MapStop.{MapStop}
 use Rattle.tl_map.specs.declared.fault.MapStop.TheVariants as map
-use Rattle.tl_map.specs.TheMap.{TheMap}
-use Rattle.tl_map.specs.Reading.{IsReadFrom, StopsReading}
-use Rattle.tl_map.specs.Reading.{TellsDevice as TellsReading}
+use Rattle.tl_county.specs.TheMap.{TheMap}
+use Rattle.tl_map.specs.Reading.{IsReadFrom, StopsReading, TellsDevice as TellsReading}
 use Rattle.tl_check.specs.declared.verdict.Report.{Report}
 use Rattle.tl_check.specs.declared.verdict.Verdict.TheVariants as verdict
 use Rattle.tl_check.specs.Truth.{IsTrueOfMap}

@@ -5,8 +5,8 @@ use Rattle.std.specs.List.{All}
 use Rattle.std.proofs.lemmas.Bool.{eqb-true}
 use Rattle.std.proofs.lemmas.List.{length-map, get_or-map}
 use Rattle.std.proofs.lemmas.List.Elements.{All-get_or}
-use Rattle.tl_map.specs.TheMap.{MapChain}
-use Rattle.tl_map.specs.Darts.{reverse_dart, is_along, dart_start}
+use Rattle.tl_county.specs.TheMap.{MapChain}
+use Rattle.tl_county.specs.Darts.{reverse_dart, is_along, dart_start}
 use Rattle.tl_tree.specs.Hits.{times}
 use Rattle.tl_sides.specs.Lists.{before, HoldOnce, EachList, list_at}
 use Rattle.tl_sides.specs.Sides.{dart_count, IsNext, Follows}

@@ -5,10 +5,10 @@ use Rattle.std.specs.List.{All, Contains}
 use Rattle.std.proofs.lemmas.List.{length-map, get_or-map}
 use Rattle.std.proofs.lemmas.List.Elements.{All-get_or, All-contains}
 use Rattle.tl_geom.specs.declared.point.Point.{Point}
-use Rattle.tl_map.specs.TheMap.{MapChain}
-use Rattle.tl_map.specs.Darts.{dart_start, Heads}
-use Rattle.tl_map.specs.Nodes.{AreNodes}
-use Rattle.tl_map.proofs.NodeLemmas.{one_number}
+use Rattle.tl_county.specs.TheMap.{MapChain}
+use Rattle.tl_county.specs.Darts.{dart_start, Heads}
+use Rattle.tl_county.specs.Nodes.{AreNodes}
+use Rattle.tl_county.proofs.NodeLemmas.{one_number}
 use Rattle.tl_tree.specs.Hits.{times}
 use Rattle.tl_sides.specs.Lists.{HoldOnce, list_at}
 use Rattle.tl_sides.specs.Sides.{dart_count}

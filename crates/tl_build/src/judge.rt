@@ -17,8 +17,8 @@ use crate::stop::BuildStop;
 use std::alloc::Global;
 use tl_cert::Certificate;
 use tl_check::{MapFault, Report, Stop, Verdict, check_map};
+use tl_county::Map;
 use tl_crossings::look_at_chains;
-use tl_map::Map;
 
 /// What is decided of a map.
 #[derive(Drop)]

@@ -15,7 +15,7 @@ use crate::answer::Built;
 use crate::judge::{Judged, judge};
 use crate::stop::BuildStop;
 use std::alloc::Global;
-use tl_map::Map;
+use tl_county::Map;
 
 /// Makes a certificate of version 2 of a map that is sound, or names a fault of one that isn't. Which of several faults is
 /// named, and which valid certificate is made, is open.

@@ -20,7 +20,8 @@ use crate::judge::{Judged, judge};
 use crate::stop::{AuditStop, BuildStop};
 use std::alloc::Global;
 use tl_check::MapFault;
-use tl_map::{Map, MapStop, read_map_with};
+use tl_county::Map;
+use tl_map::{MapStop, read_map_with};
 use tl_record::{Options, Source};
 
 // Neither choice of columns.

@@ -17,7 +17,7 @@ use crate::rounds::{cut_rounds, sort_starts};
 use crate::walks::{link_darts, trace_walks};
 use std::alloc::{AllocError, Global};
 use tl_cert::{Certificate, Counts};
-use tl_map::Map;
+use tl_county::Map;
 use tl_pack::pack;
 use tl_planar::Segments;
 use tl_tree::TreeNode;

@@ -11,8 +11,8 @@ ghost use Rattle.tl_build.specs.Keeping.Sorting.{ComesBefore, AreSorted, AreCut,
 
 use std::alloc::{AllocError, Global};
 use std::cmp::Ordering;
+use tl_county::Map;
 use tl_geom::{Direction, round_cmp};
-use tl_map::Map;
 
 /// A dart, with the number of the node where it starts and the direction in which it heads.
 #[derive(Clone, Copy)]

@@ -3,7 +3,7 @@
 ghost use Rattle.std.specs.Prelude.{◌≡◌, ℕ, ◌<◌, ◌≤◌, ◌%◌, ◌^◌, zero, Some, false};
 ghost use Rattle.std.specs.Prelude.{length, map, All, IfOk, OnOk, slice_get, slice_index};
 ghost use Rattle.std.specs.List.{concat};
-ghost use Rattle.tl_map.specs.Darts.{reverse_dart};
+ghost use Rattle.tl_county.specs.Darts.{reverse_dart};
 ghost use Rattle.tl_tree.specs.Keeping.Checking.{mark_at};
 ghost use Rattle.tl_tree.specs.Hits.{times};
 ghost use Rattle.tl_sides.specs.Lists.{HoldOnce, EachList};

@@ -8,9 +8,9 @@ use Rattle.std.proofs.lemmas.Bool.{cases_eq, cases_lt}
 use Rattle.std.proofs.lemmas.List.{get_or_default, length-set}
 use Rattle.std.proofs.lemmas.List.Sorted.{All-permutation, IsPermutation-sym}
 use Rattle.tl_geom.specs.declared.point.Point.{Point}
-use Rattle.tl_map.specs.TheMap.{MapChain}
-use Rattle.tl_map.specs.Darts.{is_along, dart_start, dart_cell}
-use Rattle.tl_map.proofs.NodeLemmas.{one_number}
+use Rattle.tl_county.specs.TheMap.{MapChain}
+use Rattle.tl_county.specs.Darts.{is_along, dart_start, dart_cell}
+use Rattle.tl_county.proofs.NodeLemmas.{one_number}
 use Rattle.tl_cells.specs.declared.at_odds.CellsAtOdds.{CellsAtOdds}
 use Rattle.tl_cells.specs.declared.kept.NodeCell.{NodeCell}
 use Rattle.tl_cells.specs.Cells.{HasCell, CellsAgree, AreCellsAtOdds}

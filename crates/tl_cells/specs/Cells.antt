@@ -1,7 +1,7 @@
 -- Zero-cell ids that agree: one id for each point, and one point for each id.
 use Rattle.std.specs.Prelude.{◌≡◌, ◌≢◌, ℕ, ◌<◌, ◌⊎◌, ◌↔◌, Some, List}
-use Rattle.tl_map.specs.TheMap.{MapChain}
-use Rattle.tl_map.specs.Darts.{dart_start, dart_cell}
+use Rattle.tl_county.specs.TheMap.{MapChain}
+use Rattle.tl_county.specs.Darts.{dart_start, dart_cell}
 
 -- the dart has this id at its start
 abbrev pub HasCell : List MapChain → ℕ → ℕ → Type 0

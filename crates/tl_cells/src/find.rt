@@ -7,7 +7,7 @@ ghost use Rattle.tl_cells.specs.Keeping.Kept.{KeepFirst};
 use crate::at_odds::CellsAtOdds;
 use crate::kept::{NodeCell, find_repeat, sort_by_id};
 use std::alloc::Global;
-use tl_map::Map;
+use tl_county::Map;
 use tl_tree::Memory;
 
 /// Two darts whose zero-cell ids are at odds, if those of a map don't agree. Where there are several such pairs, which

@@ -1,7 +1,7 @@
 //! Laws of the definitions, each the contract of a function that does nothing.
 
 ghost use Rattle.std.specs.Prelude.{ℕ, List};
-ghost use Rattle.tl_map.specs.TheMap.{MapChain};
+ghost use Rattle.tl_county.specs.TheMap.{MapChain};
 ghost use Rattle.tl_cells.specs.Cells.{CellsAgree, AreCellsAtOdds};
 
 /// Where two darts are at odds, cells don't agree.

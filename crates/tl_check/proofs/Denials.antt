@@ -3,7 +3,7 @@ use Rattle.std.proofs.Common.{◌≡◌, ℕ, zero, suc, ◌-◌, ◌<◌, ◌�
 use Rattle.std.proofs.lemmas.Bool.{cases_lt}
 use Rattle.std.proofs.lemmas.Option.{slice_get_within}
 use Rattle.tl_geom.specs.declared.rect.Rect.{Rect}
-use Rattle.tl_map.specs.TheMap.{TheMap, MapChain}
+use Rattle.tl_county.specs.TheMap.{TheMap, MapChain}
 use Rattle.tl_tree.specs.declared.fault.TreeFault.{TreeFault}
 use Rattle.tl_tree.specs.declared.fault.TreeFault.TheVariants.{UnknownIndex, IndexTwice, IndexMissing, RectTooSmall}
 use Rattle.tl_tree.specs.Trees.{Forest, none, leaf, inner, node_count, leaf_items}

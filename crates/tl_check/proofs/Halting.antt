@@ -1,7 +1,7 @@
 -- What the clauses of an answer read off what it says.
 use Rattle.std.proofs.Common.{◌≡◌, ℕ, ◌≤◌, Ok, Err}
 use Rattle.std.specs.Prelude.{IfErr}
-use Rattle.tl_map.specs.TheMap.{TheMap}
+use Rattle.tl_county.specs.TheMap.{TheMap}
 use Rattle.tl_planar.specs.Planar.{IsPlanar}
 use Rattle.tl_planar.specs.Searching.{meeting_segments}
 use Rattle.tl_sides.specs.Sides.{SidesAgree}

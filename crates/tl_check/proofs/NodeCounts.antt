@@ -1,12 +1,12 @@
 -- The number of nodes of a map is one.
 use Rattle.std.proofs.Common.{◌≡◌, ℕ, List, length, sym, ap, ◌∙◌}
 use Rattle.tl_geom.specs.declared.point.Point.{Point}
-use Rattle.tl_map.specs.TheMap.{TheMap, MapChain}
+use Rattle.tl_county.specs.TheMap.{TheMap, MapChain}
 use Rattle.tl_cert.specs.declared.certificate.Counts.{Counts}
 use Rattle.tl_check.specs.Valid.{AreCounts}
-use Rattle.tl_map.specs.Darts.{dart_start}
-use Rattle.tl_map.specs.Nodes.{AreNodes}
-use Rattle.tl_map.proofs.NodeLemmas.{one_list}
+use Rattle.tl_county.specs.Darts.{dart_start}
+use Rattle.tl_county.specs.Nodes.{AreNodes}
+use Rattle.tl_county.proofs.NodeLemmas.{one_list}
 
 -- a number that is that of some list of the nodes is that of each
 pub of_each : (chains : List MapChain) (n : ℕ) (some : List Point) → AreNodes chains some → n ≡ length some → (points : List Point) → AreNodes chains points → n ≡ length points

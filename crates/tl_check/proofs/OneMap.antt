@@ -1,7 +1,7 @@
 -- Records draw one map, so claims of it hold together.
 use Rattle.std.proofs.Common.{◌≡◌, sym, ap₂, subst, ◌∙◌}
 use Rattle.tl_record.specs.Records.{Records}
-use Rattle.tl_map.specs.TheMap.{TheMap}
+use Rattle.tl_county.specs.TheMap.{TheMap}
 use Rattle.tl_map.specs.Reading.{IsReadFrom, records_in}
 use Rattle.tl_map.proofs.OneMapLemmas.{one_map}
 use Rattle.tl_check.specs.Records.{HaveMap}

@@ -7,9 +7,8 @@ use Rattle.tl_record.specs.Failures.{one_more}
 use Rattle.tl_record.specs.Records.{Records as AllRecords}
 use Rattle.tl_map.specs.declared.fault.MapStop.{MapStop}
 use Rattle.tl_map.specs.declared.fault.MapStop.TheVariants as map
-use Rattle.tl_map.specs.TheMap.{TheMap}
-use Rattle.tl_map.specs.Reading.{IsReadFrom, StopsReading}
-use Rattle.tl_map.specs.Reading.{TellsDevice as TellsReading}
+use Rattle.tl_county.specs.TheMap.{TheMap}
+use Rattle.tl_map.specs.Reading.{IsReadFrom, StopsReading, TellsDevice as TellsReading}
 use Rattle.tl_check.specs.declared.fault.MapFault.{MapFault}
 use Rattle.tl_check.specs.declared.fault.MapFault.TheVariants.{Records, Meet, Side, PolygonPoint, Cell}
 use Rattle.tl_check.specs.declared.verdict.Report.{Report}

@@ -1,7 +1,7 @@
 -- What a valid certificate of a planar map with agreeing sides shows.
 use Rattle.std.proofs.Common.{ℕ, ◌∙◌}
-use Rattle.tl_map.specs.declared.sides.Side.TheVariants.{Outside, Polygon}
-use Rattle.tl_map.specs.TheMap.{TheMap}
+use Rattle.tl_county.specs.declared.sides.Side.TheVariants.{Outside, Polygon}
+use Rattle.tl_county.specs.TheMap.{TheMap}
 use Rattle.tl_cert.specs.Certificates.{TheCertificate}
 use Rattle.tl_sides.proofs.Boundaries.{boundary_of}
 use Rattle.tl_check.specs.declared.verdict.Report.{Report}

@@ -2,7 +2,7 @@
 use Rattle.std.proofs.Common.{◌≡◌, ℕ, Result, Ok, Err, IfOk, IfErr, ◌*◌, ◌<◌, List, [], length, All, refl, sym, subst, ap, ◌∙◌, arith}
 use Rattle.std.specs.Prelude.{slice_index}
 use Rattle.std.proofs.lemmas.List.{get_or_default}
-use Rattle.tl_map.specs.TheMap.{TheMap, MapChain}
+use Rattle.tl_county.specs.TheMap.{TheMap, MapChain}
 use Rattle.tl_sides.specs.Lists.{and_list, list_at}
 use Rattle.tl_sides.specs.Sides.{dart_count, IsRing}
 use Rattle.tl_sides.specs.declared.walks.Walks.{Walks}

@@ -4,7 +4,7 @@ use Rattle.tl_record.specs.Failures.{one_more}
 use Rattle.tl_record.specs.Records.{Records as AllRecords}
 use Rattle.tl_map.specs.Faults.{IsTrueOf}
 use Rattle.tl_map.specs.Reading.{records_in, IsReadFrom}
-use Rattle.tl_map.specs.TheMap.{TheMap}
+use Rattle.tl_county.specs.TheMap.{TheMap}
 use Rattle.tl_planar.specs.Searching.{meeting_segments}
 use Rattle.tl_check.specs.declared.fault.MapFault.{MapFault}
 use Rattle.tl_check.specs.declared.fault.MapFault.TheVariants.{Records}

@@ -1,8 +1,8 @@
 -- Sound maps: planar, with sides that agree, with boundaries that are closed rings, with each polygon's point inside its
 -- own rings alone, and with zero-cell ids that agree where they were read.
 use Rattle.std.specs.Prelude.{ℕ, ◌<◌, length}
-use Rattle.tl_map.specs.declared.sides.Side.TheVariants.{Outside, Polygon}
-use Rattle.tl_map.specs.TheMap.{TheMap}
+use Rattle.tl_county.specs.declared.sides.Side.TheVariants.{Outside, Polygon}
+use Rattle.tl_county.specs.TheMap.{TheMap}
 use Rattle.tl_planar.specs.Planar.{IsPlanar}
 use Rattle.tl_sides.specs.Sides.{SidesAgree, IsClosed}
 use Rattle.tl_inside.specs.Placed.{ArePlaced}

@@ -1,7 +1,7 @@
 -- What is said of a map beside the text of a certificate.
 use Rattle.std.specs.Prelude.{◌≡◌, ℕ, ◌<◌, List, Err, ⊤}
 use Rattle.tl_record.specs.Failures.{one_more}
-use Rattle.tl_map.specs.TheMap.{TheMap}
+use Rattle.tl_county.specs.TheMap.{TheMap}
 use Rattle.tl_planar.specs.Searching.{meeting_segments}
 use Rattle.tl_cert.specs.Certificates.{TheCertificate}
 use Rattle.tl_cert.specs.Beginnings.{IsTextOf, IsRefused}

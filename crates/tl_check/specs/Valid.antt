@@ -1,9 +1,9 @@
 -- Certificates that are valid for a map.
 use Rattle.std.specs.Prelude.{◌≡◌, ℕ, ◌≤◌, List, length}
 use Rattle.tl_geom.specs.declared.point.Point.{Point}
-use Rattle.tl_map.specs.TheMap.{TheMap}
-use Rattle.tl_map.specs.Nodes.{AreNodes}
-use Rattle.tl_map.specs.Segments.{segments_before}
+use Rattle.tl_county.specs.TheMap.{TheMap}
+use Rattle.tl_county.specs.Nodes.{AreNodes}
+use Rattle.tl_county.specs.Segments.{segments_before}
 use Rattle.tl_tree.specs.declared.node.TreeNode.{TreeNode}
 use Rattle.tl_tree.specs.Fits.{Fits}
 use Rattle.tl_tree.specs.Trees.{depth, tree_of}

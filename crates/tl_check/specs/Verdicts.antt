@@ -1,8 +1,8 @@
 -- What a verdict says, by its kinds.
 use Rattle.std.specs.Prelude.{◌≡◌, ℕ, ◌<◌, List, length, Result, Ok, ⊤}
 use Rattle.tl_geom.specs.declared.point.Point.{Point}
-use Rattle.tl_map.specs.TheMap.{TheMap}
-use Rattle.tl_map.specs.Nodes.{AreNodes}
+use Rattle.tl_county.specs.TheMap.{TheMap}
+use Rattle.tl_county.specs.Nodes.{AreNodes}
 use Rattle.tl_planar.specs.Searching.{meeting_segments}
 use Rattle.tl_sides.specs.Walks.{AreWalks}
 use Rattle.tl_check.specs.declared.fault.MapFault.{MapFault}

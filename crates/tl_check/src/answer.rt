@@ -9,7 +9,7 @@ use crate::state::Halt;
 use crate::stop::Stop;
 use crate::verdict::{Report, Verdict};
 use tl_cert::CertStop;
-use tl_map::Map;
+use tl_county::Map;
 
 /// The answer where no further part is looked at.
 pub fn answer(halt: Halt) -> Result<Verdict, Stop>

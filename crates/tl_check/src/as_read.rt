@@ -30,7 +30,7 @@ use crate::verdict::Verdict;
 use crate::walks::{finish_walks, take_walk};
 use std::alloc::Global;
 use tl_cert::{CertPart, CertReader};
-use tl_map::Map;
+use tl_county::Map;
 use tl_record::Source;
 use tl_tree::TreeNode;
 

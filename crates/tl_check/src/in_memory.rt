@@ -22,7 +22,7 @@ use crate::verdict::Verdict;
 use crate::walks::{finish_walks, take_walk};
 use std::alloc::Global;
 use tl_cert::Certificate;
-use tl_map::Map;
+use tl_county::Map;
 
 /// Decides whether a map is sound, by a certificate of it. `budget` is how many pairs of segments may be tested whose
 /// rectangles meet.

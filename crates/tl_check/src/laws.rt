@@ -2,7 +2,7 @@
 
 ghost use Rattle.std.specs.Prelude.{◌↔◌, ◌<◌, ℕ, List, IfOk, IfErr};
 ghost use Rattle.tl_record.specs.Records.{Records};
-ghost use Rattle.tl_map.specs.TheMap.{TheMap};
+ghost use Rattle.tl_county.specs.TheMap.{TheMap};
 ghost use Rattle.tl_planar.specs.Planar.{IsPlanar};
 ghost use Rattle.tl_planar.specs.Searching.{meeting_segments};
 ghost use Rattle.tl_sides.specs.Sides.{SidesAgree};

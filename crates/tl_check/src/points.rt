@@ -12,7 +12,7 @@ ghost use Rattle.tl_check.specs.Keeping.Parts.{MayEnd};
 use crate::fault::MapFault;
 use crate::state::Halt;
 use std::alloc::Global;
-use tl_map::Map;
+use tl_county::Map;
 use tl_rings::{Rings, find_misplaced};
 use tl_tree::{FlatTree, TreeNode, TreeStop};
 

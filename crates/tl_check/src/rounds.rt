@@ -9,7 +9,7 @@ ghost use Rattle.tl_check.specs.Keeping.Parts.{with_round, Holds, TakesRounds, T
 use crate::fault::{CertFault, MapFault};
 use crate::state::{Halt, State};
 use std::alloc::Global;
-use tl_map::Map;
+use tl_county::Map;
 use tl_rings::Rings;
 use tl_sides::{Rounds, Walks};
 

@@ -12,7 +12,7 @@ use crate::fault::{CertFault, MapFault};
 use crate::state::{Halt, State};
 use std::alloc::Global;
 use tl_cells::find_cells_at_odds;
-use tl_map::Map;
+use tl_county::Map;
 use tl_planar::{Meeting, Segments, first_meet};
 use tl_sides::Rounds;
 use tl_tree::{FlatTree, TreeNode, TreeStop};

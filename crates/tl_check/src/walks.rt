@@ -12,7 +12,7 @@ use crate::fault::CertFault;
 use crate::points::look_at_points;
 use crate::state::{Halt, State};
 use std::alloc::Global;
-use tl_map::Map;
+use tl_county::Map;
 use tl_rings::Rings;
 use tl_tree::TreeNode;
 

@@ -11,7 +11,7 @@ use Rattle.tl_map.specs.declared.fault.MapFault.{MapFault}
 use Rattle.tl_map.specs.declared.fault.MapStop.{MapStop}
 use Rattle.tl_map.specs.declared.fault.MapStop.TheVariants.{Refused, Fault}
 use Rattle.tl_map.specs.Messages.{fault_text}
-use Rattle.tl_map.specs.TheMap.{TheMap}
+use Rattle.tl_county.specs.TheMap.{TheMap}
 use Rattle.tl_map.specs.Reading.{IsReadFrom, StopsReading}
 use Rattle.tl_cert.specs.Certificates.{TheCertificate}
 use Rattle.tl_cert.specs.Text.{certificate_text}

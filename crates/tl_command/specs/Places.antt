@@ -1,6 +1,6 @@
 -- The line of a place.
 use Rattle.std.specs.Prelude.{ℕ, List}
-use Rattle.tl_map.specs.TheMap.{TheMap}
+use Rattle.tl_county.specs.TheMap.{TheMap}
 use Rattle.tl_text.specs.Places.{on_text, inside_text}
 use Rattle.tl_inside.specs.declared.place.Place.{Place}
 use Rattle.tl_inside.specs.declared.place.Place.TheVariants.{OnChain, In}

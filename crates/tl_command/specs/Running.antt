@@ -13,10 +13,10 @@ use Rattle.tl_geom.specs.declared.point.Point.{Point}
 use Rattle.tl_map.specs.declared.fault.MapFault.{MapFault as RecordFault}
 use Rattle.tl_map.specs.declared.fault.MapStop.{MapStop}
 use Rattle.tl_map.specs.declared.fault.MapStop.TheVariants as map_stop
-use Rattle.tl_map.specs.Chains.{ChainList}
+use Rattle.tl_county.specs.Chains.{ChainList}
 use Rattle.tl_map.specs.Faults.{IsTrueOf}
 use Rattle.tl_map.specs.Messages.{fault_text}
-use Rattle.tl_map.specs.TheMap.{TheMap}
+use Rattle.tl_county.specs.TheMap.{TheMap}
 use Rattle.tl_map.specs.Reading.{AreReadFrom, IsReadFrom, records_in}
 use Rattle.tl_text.specs.Printing.{shown_text, listing_text}
 use Rattle.tl_output.specs.Writing.{line_of}

@@ -16,7 +16,8 @@ use std::alloc::Global;
 use tl_build::{BuildStop, Built};
 use tl_cert::{Certificate, write_cert};
 use tl_check::{MapFault, report};
-use tl_map::{Map, MapStop, read_map_with};
+use tl_county::Map;
+use tl_map::{MapStop, read_map_with};
 use tl_record::{Options, Sink, Source};
 
 /// Makes a certificate of the records' map where that is sound, writes it to `made`, and gives the program's exit status.

@@ -11,9 +11,10 @@ ghost use Rattle.tl_command.specs.Running.{IsLocated, FailsToRead, StopsAnswer, 
 
 use std::alloc::Global;
 use std::io;
+use tl_county::Map;
 use tl_geom::Point;
 use tl_inside::{Place, locate};
-use tl_map::{Map, MapStop, read_map_with};
+use tl_map::{MapStop, read_map_with};
 use tl_output::OutputBuffer;
 use tl_record::{Options, Sink, Source};
 use tl_text::{print_inside, print_on_chain};

@@ -10,8 +10,8 @@ use Rattle.tl_geom.specs.Plane.{IsOn, IsSame, cross, whole}
 use Rattle.tl_geom.specs.Turning.{IsOneDirection}
 use Rattle.tl_geom.proofs.Order.{one_back}
 use Rattle.tl_geom.proofs.Places.{same_sym, same_trans}
-use Rattle.tl_map.specs.TheMap.{MapChain}
-use Rattle.tl_map.specs.Darts.{is_along, dart_start, dart_second, Heads}
+use Rattle.tl_county.specs.TheMap.{MapChain}
+use Rattle.tl_county.specs.Darts.{is_along, dart_start, dart_second, Heads}
 use Rattle.tl_tree.proofs.Permuted.{same_or}
 use Rattle.tl_planar.specs.Planar.{IsVertex, IsOnSegment, IsChainEnd, IsSimple, IsPlanar}
 use Rattle.tl_planar.specs.Keeping.Apart.{one_found}

@@ -6,8 +6,8 @@ use Rattle.tl_geom.specs.declared.rect.Rect.{Rect}
 use Rattle.tl_geom.specs.declared.segment.Segment.{Segment}
 use Rattle.tl_geom.specs.Plane.{IsOn, whole}
 use Rattle.tl_geom.specs.Rectangle.{Holds}
-use Rattle.tl_map.specs.declared.sides.Side.{Side}
-use Rattle.tl_map.specs.TheMap.{MapChain}
+use Rattle.tl_county.specs.declared.sides.Side.{Side}
+use Rattle.tl_county.specs.TheMap.{MapChain}
 use Rattle.tl_inside.specs.Places.{IsHeldBy}
 use Rattle.tl_crossings.specs.Boxes.{IsOnBoundary, IsOfChains, IsOutsideOfBox}
 use Rattle.tl_crossings.proofs.AtHeight.{all_east, all_west, one_times}

@@ -6,8 +6,8 @@ use Rattle.tl_geom.specs.declared.rational.Rational.{Rational}
 use Rattle.tl_geom.specs.declared.segment.Segment.{Segment}
 use Rattle.tl_geom.specs.Plane.{IsOn, whole}
 use Rattle.tl_geom.specs.Ray.{IsParted, Crosses}
-use Rattle.tl_map.specs.TheMap.{MapChain}
-use Rattle.tl_map.specs.Segments.{segments_before}
+use Rattle.tl_county.specs.TheMap.{MapChain}
+use Rattle.tl_county.specs.Segments.{segments_before}
 use Rattle.tl_inside.specs.Inside.{flanks_at, flanks_between, IsCrossed}
 use Rattle.tl_inside.proofs.Hitting.{HaveSameEnds, same_ends}
 use Rattle.tl_inside.proofs.Sides.{by_points}

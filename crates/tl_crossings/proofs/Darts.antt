@@ -11,10 +11,10 @@ use Rattle.tl_geom.specs.declared.rational.Rational.{Rational}
 use Rattle.tl_geom.specs.declared.segment.Segment.{Segment}
 use Rattle.tl_geom.specs.Plane.{IsOn}
 use Rattle.tl_geom.proofs.Places.{point_same}
-use Rattle.tl_map.specs.Chains.{IsProper}
-use Rattle.tl_map.specs.declared.sides.Side.TheVariants.{Outside}
-use Rattle.tl_map.specs.TheMap.{MapChain}
-use Rattle.tl_map.specs.Darts.{directed, is_along, dart_start, dart_second, Heads}
+use Rattle.tl_county.specs.Chains.{IsProper}
+use Rattle.tl_county.specs.declared.sides.Side.TheVariants.{Outside}
+use Rattle.tl_county.specs.TheMap.{MapChain}
+use Rattle.tl_county.specs.Darts.{directed, is_along, dart_start, dart_second, Heads}
 use Rattle.tl_planar.specs.Planar.{IsOnSegment}
 use Rattle.tl_sides.specs.Sides.{dart_count}
 use Rattle.tl_crossings.proofs.OneWay.{flip, flip_a, flip_b, on_flip}

@@ -6,9 +6,9 @@ use Rattle.std.proofs.lemmas.Bool.{eq-eqb}
 use Rattle.std.proofs.lemmas.List.{length-reverse, get_or-reverse}
 use Rattle.std.proofs.lemmas.Option.{slice_get-get_or}
 use Rattle.tl_geom.specs.declared.point.Point.{Point}
-use Rattle.tl_map.specs.declared.sides.Side.{Side}
-use Rattle.tl_map.specs.TheMap.{MapChain}
-use Rattle.tl_map.specs.Darts.{directed, is_along, dart_start, dart_left}
+use Rattle.tl_county.specs.declared.sides.Side.{Side}
+use Rattle.tl_county.specs.TheMap.{MapChain}
+use Rattle.tl_county.specs.Darts.{directed, is_along, dart_start, dart_left}
 use Rattle.tl_sides.specs.Sides.{dart_count, dart_right}
 use Rattle.tl_crossings.proofs.Darts.{no_chain}
 use Rattle.tl_crossings.proofs.Sums.{sum_below, sum_below-none, sum_same, sum_first, sum_pairs, eqb-other}

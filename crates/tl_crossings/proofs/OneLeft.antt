@@ -3,9 +3,9 @@ use Rattle.std.proofs.Common.{◌≡◌, ℕ, zero, suc, ◌<◌, ℤ, pos, Bool
 use Rattle.std.specs.Prelude.{slice_index}
 use Rattle.std.specs.Option.{option_map_or}
 use Rattle.tl_geom.specs.declared.point.Point.{Point}
-use Rattle.tl_map.specs.declared.sides.Side.{Side}
-use Rattle.tl_map.specs.TheMap.{MapChain}
-use Rattle.tl_map.specs.Darts.{reverse_dart, dart_left}
+use Rattle.tl_county.specs.declared.sides.Side.{Side}
+use Rattle.tl_county.specs.TheMap.{MapChain}
+use Rattle.tl_county.specs.Darts.{reverse_dart, dart_left}
 use Rattle.tl_sides.specs.Sides.{SidesAgree, Follows, IsRing}
 use Rattle.tl_sides.proofs.Boundaries.{back_again}
 use Rattle.tl_crossings.specs.Rings.{dart_crossings, winding, has_left, ring_count}

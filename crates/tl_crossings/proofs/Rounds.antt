@@ -3,7 +3,7 @@ use Rattle.std.proofs.Common.{◌≡◌, inl, inr, ℕ, zero, suc, ◌+◌, ◌<
 use Rattle.std.specs.Prelude.{slice_index}
 use Rattle.std.specs.List.{concat}
 use Rattle.std.proofs.lemmas.Bool.{cases_lt}
-use Rattle.tl_map.specs.TheMap.{MapChain}
+use Rattle.tl_county.specs.TheMap.{MapChain}
 use Rattle.tl_tree.specs.Hits.{times}
 use Rattle.tl_tree.proofs.Hitting.{times-append}
 use Rattle.tl_sides.specs.Lists.{before, HoldOnce, list_at, times_in}

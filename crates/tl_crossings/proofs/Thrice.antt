@@ -5,11 +5,11 @@ use Rattle.tl_geom.specs.declared.point.Point.{Point}
 use Rattle.tl_geom.specs.declared.direction.Direction.{Direction}
 use Rattle.tl_geom.specs.Plane.{cross}
 use Rattle.tl_geom.specs.Turning.{cross_of, dot_of, full}
-use Rattle.tl_map.specs.Chains.{IsProper}
-use Rattle.tl_map.specs.declared.sides.Side.{Side}
-use Rattle.tl_map.specs.declared.sides.Side.TheVariants.{Polygon}
-use Rattle.tl_map.specs.TheMap.{MapChain}
-use Rattle.tl_map.specs.Darts.{dart_start, dart_second, dart_left}
+use Rattle.tl_county.specs.Chains.{IsProper}
+use Rattle.tl_county.specs.declared.sides.Side.{Side}
+use Rattle.tl_county.specs.declared.sides.Side.TheVariants.{Polygon}
+use Rattle.tl_county.specs.TheMap.{MapChain}
+use Rattle.tl_county.specs.Darts.{dart_start, dart_second, dart_left}
 use Rattle.tl_planar.specs.Keeping.Apart.{one_found}
 use Rattle.tl_sides.specs.Sides.{dart_right, IsNext, SidesAgree}
 use Rattle.tl_sides.proofs.Headings.{dart_within}

@@ -5,9 +5,9 @@ use Rattle.std.proofs.lemmas.Int.{ints}
 use Rattle.tl_geom.specs.declared.point.Point.{Point}
 use Rattle.tl_geom.specs.declared.rect.Rect.{Rect}
 use Rattle.tl_geom.specs.Rectangle.{Holds}
-use Rattle.tl_map.specs.declared.sides.Side.{Side}
-use Rattle.tl_map.specs.TheMap.{MapChain}
-use Rattle.tl_map.specs.Darts.{chain_of, is_along, dart_start, dart_end}
+use Rattle.tl_county.specs.declared.sides.Side.{Side}
+use Rattle.tl_county.specs.TheMap.{MapChain}
+use Rattle.tl_county.specs.Darts.{chain_of, is_along, dart_start, dart_end}
 use Rattle.tl_sides.specs.Sides.{IsRing}
 use Rattle.tl_crossings.specs.Heights.{is_above}
 use Rattle.tl_crossings.specs.Boxes.{IsOutsideOfBox}

@@ -1,8 +1,8 @@
 -- The box of a boundary, and the points outside of it.
 use Rattle.std.specs.Prelude.{◌≡◌, ◌≢◌, ◌⊎◌, ℕ, Bool, ◌<ℤ◌, Some, List, Contains, slice_get}
 use Rattle.tl_geom.specs.declared.point.Point.{Point}
-use Rattle.tl_map.specs.declared.sides.Side.{Side}
-use Rattle.tl_map.specs.TheMap.{MapChain}
+use Rattle.tl_county.specs.declared.sides.Side.{Side}
+use Rattle.tl_county.specs.TheMap.{MapChain}
 
 -- p is a point of the boundary of such sides: of a chain that has one on its left and none on its right, or the other way
 pub record IsOnBoundary (chains : List MapChain) (S : Side → Bool) (p : Point) : Type 0 where

@@ -6,9 +6,9 @@ use Rattle.tl_geom.specs.declared.rational.Rational.{Rational}
 use Rattle.tl_geom.specs.declared.segment.Segment.{Segment}
 use Rattle.tl_geom.specs.Plane.{IsOn, IsSame, whole, end_a, end_b}
 use Rattle.tl_geom.specs.Turning.{IsOneDirection}
-use Rattle.tl_map.specs.Chains.{IsProper}
-use Rattle.tl_map.specs.TheMap.{MapChain}
-use Rattle.tl_map.specs.Darts.{dart_start, dart_second, Heads}
+use Rattle.tl_county.specs.Chains.{IsProper}
+use Rattle.tl_county.specs.TheMap.{MapChain}
+use Rattle.tl_county.specs.Darts.{dart_start, dart_second, Heads}
 
 -- each chain has two points or more, where neighbours differ
 abbrev pub AreProper : List MapChain → Type 0

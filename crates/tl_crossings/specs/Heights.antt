@@ -1,8 +1,8 @@
 -- The segments that cross a height, and what lies on their sides.
 use Rattle.std.specs.Prelude.{ℤ, int_lt, Bool, not, if◌then◌else◌, List, [], ◌∷◌, ◌++◌}
 use Rattle.tl_geom.specs.declared.point.Point.{Point}
-use Rattle.tl_map.specs.declared.sides.Side.{Side}
-use Rattle.tl_map.specs.TheMap.{MapChain}
+use Rattle.tl_county.specs.declared.sides.Side.{Side}
+use Rattle.tl_county.specs.TheMap.{MapChain}
 use Rattle.tl_inside.specs.declared.flanks.Flanks.{Flanks}
 use Rattle.tl_inside.specs.Inside.{flanks_between}
 

@@ -1,7 +1,7 @@
 -- What places list, told by the ray to the west.
 use Rattle.std.specs.Prelude.{◌≡◌, ⊤, [], length}
 use Rattle.tl_geom.specs.declared.point.Point.{Point}
-use Rattle.tl_map.specs.TheMap.{TheMap}
+use Rattle.tl_county.specs.TheMap.{TheMap}
 use Rattle.tl_inside.specs.declared.place.Place.{Place}
 use Rattle.tl_inside.specs.declared.place.Place.TheVariants.{OnChain, In}
 use Rattle.tl_inside.specs.Places.{AreCounted}

@@ -2,7 +2,7 @@
 
 ghost use Rattle.tl_crossings.specs.Headings.{AreProper};
 
-use tl_map::Map;
+use tl_county::Map;
 
 /// Looks at each chain of a map once, so that it is known of all of them that they have two points or more, where
 /// neighbours differ. The laws ask it of any chains.

@@ -9,8 +9,8 @@ use Rattle.tl_geom.specs.declared.segment.Segment.{Segment}
 use Rattle.tl_geom.specs.Plane.{IsOn, whole}
 use Rattle.tl_geom.specs.Ray.{Crosses}
 use Rattle.tl_geom.specs.Rectangle.{Holds, AreMeeting, rect_of, ray_rect}
-use Rattle.tl_map.specs.TheMap.{MapChain}
-use Rattle.tl_map.specs.Segments.{IsSegmentOf, Joins}
+use Rattle.tl_county.specs.TheMap.{MapChain}
+use Rattle.tl_county.specs.Segments.{IsSegmentOf, Joins}
 use Rattle.tl_planar.specs.Rectangles.{segment_rect}
 use Rattle.tl_planar.specs.Keeping.Apart.{one_found}
 use Rattle.tl_planar.proofs.Numbering.{one_chain, one_place}

@@ -6,8 +6,8 @@ use Rattle.std.proofs.lemmas.Option.{slice_get_within}
 use Rattle.tl_geom.specs.declared.point.Point.{Point}
 use Rattle.tl_geom.specs.declared.segment.Segment.{Segment}
 use Rattle.tl_geom.specs.Plane.{IsOn, whole}
-use Rattle.tl_map.specs.TheMap.{MapChain}
-use Rattle.tl_map.specs.Segments.{segments_before, IsSegmentOf, Joins}
+use Rattle.tl_county.specs.TheMap.{MapChain}
+use Rattle.tl_county.specs.Segments.{segments_before, IsSegmentOf, Joins}
 use Rattle.tl_tree.specs.Hits.{times, AreHits, Adds}
 use Rattle.tl_tree.proofs.Marks.{times-at}
 use Rattle.tl_tree.proofs.Permuted.{times-other}

@@ -5,8 +5,8 @@ use Rattle.std.proofs.lemmas.Bool.{eqb-true, eq-eqb, false≢true}
 use Rattle.std.proofs.lemmas.Int.{ints}
 use Rattle.std.proofs.lemmas.Option.{slice_get-get_or}
 use Rattle.tl_geom.specs.declared.point.Point.{Point}
-use Rattle.tl_map.specs.TheMap.{TheMap, MapLandmark}
-use Rattle.tl_map.specs.Landmarks.{ArePolygonsOf}
+use Rattle.tl_county.specs.TheMap.{TheMap, MapLandmark}
+use Rattle.tl_county.specs.Landmarks.{ArePolygonsOf}
 use Rattle.tl_inside.specs.declared.flanks.Flanks.{Flanks}
 use Rattle.tl_inside.specs.Inside.{IsPolygonCount}
 use Rattle.tl_inside.specs.Places.{AreCounted, IsCountOf}

@@ -6,8 +6,8 @@ use Rattle.std.proofs.lemmas.List.{get_or_default, length-take, length-drop, get
 use Rattle.tl_geom.specs.declared.point.Point.{Point}
 use Rattle.tl_geom.specs.declared.rect.Rect.{Rect}
 use Rattle.tl_geom.specs.Rectangle.{Holds, Covers, AreMeeting, ray_rect, spot_rect}
-use Rattle.tl_map.specs.TheMap.{MapChain}
-use Rattle.tl_map.specs.Segments.{segments_before}
+use Rattle.tl_county.specs.TheMap.{MapChain}
+use Rattle.tl_county.specs.Segments.{segments_before}
 use Rattle.tl_planar.specs.Rectangles.{segment_rect}
 use Rattle.tl_planar.proofs.Numbering.{below_total}
 use Rattle.tl_tree.specs.Hits.{AreHits, Adds}

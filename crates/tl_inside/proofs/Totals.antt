@@ -7,9 +7,9 @@ use Rattle.std.proofs.lemmas.Int.{ints}
 use Rattle.std.proofs.lemmas.Option.{slice_get_within}
 use Rattle.std.proofs.lemmas.List.Sums.{sum_by-cons}
 use Rattle.tl_geom.specs.declared.point.Point.{Point}
-use Rattle.tl_map.specs.declared.polygons.Polygon.{Polygon}
-use Rattle.tl_map.specs.TheMap.{TheMap, MapChain, MapLandmark}
-use Rattle.tl_map.specs.Landmarks.{AreOnce, ArePolygonsOf}
+use Rattle.tl_county.specs.declared.polygons.Polygon.{Polygon}
+use Rattle.tl_county.specs.TheMap.{TheMap, MapChain, MapLandmark}
+use Rattle.tl_county.specs.Landmarks.{AreOnce, ArePolygonsOf}
 use Rattle.tl_planar.specs.Keeping.Apart.{one_found}
 use Rattle.tl_inside.specs.declared.place.Place.{Place}
 use Rattle.tl_inside.specs.declared.place.Place.TheVariants.{OnChain, In}

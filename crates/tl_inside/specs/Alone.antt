@@ -1,7 +1,7 @@
 -- What lies at the point of a polygon of a sound map.
 use Rattle.std.specs.Prelude.{◌≡◌, ℕ, Some, List, [], ◌∷◌, slice_get, All, Contains}
 use Rattle.std.specs.List.Sorted.{IsStrictlyIncreasing}
-use Rattle.tl_map.specs.TheMap.{TheMap, MapLandmark}
+use Rattle.tl_county.specs.TheMap.{TheMap, MapLandmark}
 use Rattle.tl_inside.specs.declared.place.Place.{Place}
 use Rattle.tl_inside.specs.declared.place.Place.TheVariants.{OnChain, In}
 

@@ -1,15 +1,14 @@
 -- What lies about a point: how often the ray that runs from it to the east comes out of a polygon, or of a landmark, and how
 -- often it goes in.
-use Rattle.std.specs.Prelude.{◌≡◌, ℕ, Bool, false, ◌==◌, if◌then◌else◌, ℤ, pos, ◌+ℤ◌, ◌-ℤ◌, int_lt}
-use Rattle.std.specs.Prelude.{List, [], ◌∷◌, ◌++◌, length, map, count_by, slice_index_or}
+use Rattle.std.specs.Prelude.{◌≡◌, ℕ, Bool, false, ◌==◌, if◌then◌else◌, ℤ, pos, ◌+ℤ◌, ◌-ℤ◌, int_lt, List, [], ◌∷◌, ◌++◌, length, map, count_by, slice_index_or}
 use Rattle.std.specs.List.{list_any}
 use Rattle.tl_geom.specs.declared.point.Point.{Point}
 use Rattle.tl_geom.specs.declared.segment.Segment.{Segment}
 use Rattle.tl_geom.specs.Ray.{Crosses}
-use Rattle.tl_map.specs.declared.sides.Side.{Side}
-use Rattle.tl_map.specs.declared.sides.Side.TheVariants.{Outside, Polygon}
-use Rattle.tl_map.specs.TheMap.{MapChain}
-use Rattle.tl_map.specs.Segments.{segments_before, IsSegmentOf, Joins}
+use Rattle.tl_county.specs.declared.sides.Side.{Side}
+use Rattle.tl_county.specs.declared.sides.Side.TheVariants.{Outside, Polygon}
+use Rattle.tl_county.specs.TheMap.{MapChain}
+use Rattle.tl_county.specs.Segments.{segments_before, IsSegmentOf, Joins}
 use Rattle.tl_tree.specs.Hits.{AreHits}
 use Rattle.tl_inside.specs.declared.flanks.Flanks.{Flanks}
 

@@ -3,7 +3,7 @@ use Rattle.std.specs.Prelude.{◌≡◌, ◌≢◌, ℕ, ◌<◌, ◌⊎◌, ℤ
 use Rattle.std.specs.List.Sorted.{IsStrictlyIncreasing}
 use Rattle.tl_geom.specs.declared.point.Point.{Point}
 use Rattle.tl_geom.specs.Plane.{whole}
-use Rattle.tl_map.specs.TheMap.{TheMap, MapChain, MapLandmark}
+use Rattle.tl_county.specs.TheMap.{TheMap, MapChain, MapLandmark}
 use Rattle.tl_planar.specs.Planar.{IsOnChain}
 use Rattle.tl_inside.specs.declared.place.Place.{Place}
 use Rattle.tl_inside.specs.declared.place.Place.TheVariants.{OnChain, In}

@@ -1,14 +1,14 @@
 //! The segments that a ray crosses.
 
 ghost use Rattle.std.specs.Prelude.{◌<◌, length, All, OnOk};
-ghost use Rattle.tl_map.specs.Segments.{segments_before};
+ghost use Rattle.tl_county.specs.Segments.{segments_before};
 ghost use Rattle.tl_planar.specs.Rectangles.{segment_rect};
 ghost use Rattle.tl_inside.specs.Inside.{AreCrossed};
 ghost use Rattle.tl_inside.specs.Keeping.Probing.{ChainsAreInReach};
 
 use crate::probes::Ray;
+use tl_county::Map;
 use tl_geom::Point;
-use tl_map::Map;
 use tl_planar::Segments;
 use tl_tree::{BoxIndex, Memory};
 

@@ -1,11 +1,11 @@
 //! What lies on the two sides of a segment that a ray crosses.
 
 ghost use Rattle.std.specs.Prelude.{◌≡◌, ◌<◌, length, All, OnOk};
-ghost use Rattle.tl_map.specs.Segments.{segments_before};
+ghost use Rattle.tl_county.specs.Segments.{segments_before};
 ghost use Rattle.tl_inside.specs.Inside.{flanks_at};
 ghost use Rattle.tl_inside.specs.Keeping.Tallies.{flanks_in};
 
-use tl_map::{Map, Side};
+use tl_county::{Map, Side};
 use tl_tree::Memory;
 
 /// The two sides of a segment: the near side, which a point west of it sees, and the far side. The near side is the left

@@ -1,7 +1,7 @@
 //! The chain that holds a point.
 
 ghost use Rattle.std.specs.Prelude.{◌≡◌, length, IfOk, MatchOption};
-ghost use Rattle.tl_map.specs.Segments.{segments_before};
+ghost use Rattle.tl_county.specs.Segments.{segments_before};
 ghost use Rattle.tl_planar.specs.Rectangles.{segment_rect};
 ghost use Rattle.tl_inside.specs.Places.{IsLowestOn, IsOffChains};
 ghost use Rattle.tl_tree.specs.Hits.{AreHits};
@@ -9,8 +9,8 @@ ghost use Rattle.tl_inside.specs.Keeping.Listed.{IsLeastOf};
 ghost use Rattle.tl_inside.specs.Keeping.Probing.{IsHolding};
 
 use crate::probes::Spot;
+use tl_county::Map;
 use tl_geom::{Point, on};
-use tl_map::Map;
 use tl_planar::Segments;
 use tl_tree::{BoxIndex, Memory};
 

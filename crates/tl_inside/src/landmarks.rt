@@ -1,13 +1,13 @@
 //! The landmarks whose counts aren't 0.
 
 ghost use Rattle.std.specs.Prelude.{◌≡◌, ℕ, ◌<◌, Some, length, slice_get, All, IfOk, OnOk};
-ghost use Rattle.tl_map.specs.TheMap.{MapLandmark};
-ghost use Rattle.tl_map.specs.Landmarks.{ArePolygonsOf};
+ghost use Rattle.tl_county.specs.TheMap.{MapLandmark};
+ghost use Rattle.tl_county.specs.Landmarks.{ArePolygonsOf};
 ghost use Rattle.tl_inside.specs.Keeping.Listed.{passing};
 ghost use Rattle.tl_inside.specs.Keeping.Sums.{sum_at, sums_differ};
 
 use std::alloc::Global;
-use tl_map::Map;
+use tl_county::Map;
 use tl_tree::Memory;
 
 /// The numbers of the landmarks whose polygons are near and far not equally often, by rising number.

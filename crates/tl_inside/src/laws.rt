@@ -2,15 +2,15 @@
 
 ghost use Rattle.std.specs.Prelude.{◌≡◌, ℕ, ℤ, Some, Contains, slice_get};
 ghost use Rattle.tl_geom.specs.declared.point.Point.{Point};
-ghost use Rattle.tl_map.specs.declared.polygons.Polygon.{Polygon};
-ghost use Rattle.tl_map.specs.TheMap.{MapLandmark};
+ghost use Rattle.tl_county.specs.declared.polygons.Polygon.{Polygon};
+ghost use Rattle.tl_county.specs.TheMap.{MapLandmark};
 ghost use Rattle.tl_inside.specs.declared.place.Place.{Place};
 ghost use Rattle.tl_inside.specs.Inside.{IsPolygonCount, IsLandmarkCount, total};
 ghost use Rattle.tl_inside.specs.Places.{IsPlaceOf};
 ghost use Rattle.tl_inside.specs.Placed.{ArePlaced};
 ghost use Rattle.tl_inside.specs.Alone.{IsAlone};
 
-use tl_map::Map;
+use tl_county::Map;
 
 /// At each point a landmark's count is the sum of the counts of its polygons.
 pub fn a_landmarks_count_is_the_sum_of_its_polygons(map: &Map)

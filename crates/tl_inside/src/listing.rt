@@ -4,7 +4,7 @@ ghost use Rattle.std.specs.Prelude.{◌≡◌, ◌<◌, length, IfOk};
 ghost use Rattle.tl_inside.specs.Keeping.Listed.{passing, differ_at};
 
 use std::alloc::Global;
-use tl_map::Map;
+use tl_county::Map;
 use tl_tree::Memory;
 
 /// The numbers of the polygons that are near and far not equally often, by rising number.

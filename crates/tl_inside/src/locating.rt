@@ -2,7 +2,7 @@
 
 ghost use Rattle.std.specs.Prelude.{◌≡◌, ◌<◌, List, length, All, IfOk};
 ghost use Rattle.tl_geom.specs.declared.point.Point.{Point};
-ghost use Rattle.tl_map.specs.Segments.{segments_before};
+ghost use Rattle.tl_county.specs.Segments.{segments_before};
 ghost use Rattle.tl_planar.specs.Rectangles.{segment_rect};
 ghost use Rattle.tl_inside.specs.declared.flanks.Flanks.{Flanks};
 ghost use Rattle.tl_inside.specs.Inside.{AreCrossed};
@@ -18,8 +18,8 @@ use crate::place::Place;
 use crate::reach::look_at_points;
 use crate::tallies::{no_counts, tally};
 use std::alloc::Global;
+use tl_county::Map;
 use tl_geom::Point;
-use tl_map::Map;
 use tl_tree::{BoxIndex, Memory};
 
 /// Where a point lies in a map, by any index that fits the map's segments: on the lowest chain that holds it, or on none,

@@ -1,7 +1,7 @@
 //! Polygons' points that don't lie where they have to.
 
 ghost use Rattle.std.specs.Prelude.{◌≡◌, ℕ, ◌<◌, true, Some, length, slice_get, All, IfOk, OnOk, MatchOption};
-ghost use Rattle.tl_map.specs.Segments.{segments_before};
+ghost use Rattle.tl_county.specs.Segments.{segments_before};
 ghost use Rattle.tl_planar.specs.Rectangles.{segment_rect};
 ghost use Rattle.tl_inside.specs.Placed.{IsPlacedIn, ArePlaced, IsTrueMisplaced};
 ghost use Rattle.tl_inside.specs.Inside.{is_polygon};
@@ -16,7 +16,7 @@ use crate::sifting::sift;
 use crate::strips::{Site, list_in_strip, sites_of, sort_northward};
 use crate::tallies::{no_counts, take_back, tally};
 use std::alloc::Global;
-use tl_map::{Map, Polygon, Side};
+use tl_county::{Map, Polygon, Side};
 use tl_record::PolyKey;
 use tl_tree::{BoxIndex, Memory};
 

@@ -2,8 +2,8 @@
 
 ghost use Rattle.tl_inside.specs.Keeping.Probing.{AreInReach, ChainsAreInReach};
 
+use tl_county::Map;
 use tl_geom::Point;
-use tl_map::Map;
 
 /// Looks at each point of a map once, so that it is known of all of them that none lies east of the greatest `i32`, where
 /// the rectangles of rays end.

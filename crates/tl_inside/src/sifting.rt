@@ -1,7 +1,7 @@
 //! What holds a point, or is crossed by its ray, among what lies in its strip.
 
 ghost use Rattle.std.specs.Prelude.{◌<◌, ◌↔◌, IsTrue, length, IfOk, OnOk, MatchOption, ⊤};
-ghost use Rattle.tl_map.specs.Segments.{segments_before};
+ghost use Rattle.tl_county.specs.Segments.{segments_before};
 ghost use Rattle.tl_inside.specs.Inside.{IsCrossed};
 ghost use Rattle.tl_inside.specs.Places.{IsHeldBy, IsOffChains};
 ghost use Rattle.tl_inside.specs.Keeping.Probing.{IsHolding};
@@ -10,8 +10,8 @@ ghost use Rattle.tl_inside.specs.Keeping.Sifted.{IsKept};
 ghost use Rattle.tl_inside.specs.Keeping.Tallies.{TellCounts};
 
 use crate::flanks::{Flanks, flanks_of};
+use tl_county::Map;
 use tl_geom::{Point, crosses_ray, on};
-use tl_map::Map;
 use tl_tree::Memory;
 
 /// A chain that holds the point, if one does; else the flanks of the segments that the ray crosses are listed, in the place

@@ -3,15 +3,15 @@
 ghost use Rattle.std.specs.Prelude.{◌≡◌, ℕ, ◌<◌, ◌≤ℤ◌, pos, [], ◌∷◌, ◌++◌, length, All, Contains, IfOk, OnOk};
 ghost use Rattle.std.specs.List.Sorted.{IsPermutation};
 ghost use Rattle.tl_geom.specs.Rectangle.{ray_rect};
-ghost use Rattle.tl_map.specs.Segments.{segments_before};
+ghost use Rattle.tl_county.specs.Segments.{segments_before};
 ghost use Rattle.tl_planar.specs.Rectangles.{segment_rect};
 ghost use Rattle.tl_inside.specs.Keeping.Probing.{ChainsAreInReach};
 ghost use Rattle.tl_inside.specs.Keeping.Strips.{IsInStrip, IsSiteOf, AreEnough, numbers};
 
 use crate::probes::Strip;
 use std::alloc::Global;
+use tl_county::Map;
 use tl_geom::{Point, Rect};
-use tl_map::Map;
 use tl_planar::Segments;
 use tl_tree::{BoxIndex, Memory};
 

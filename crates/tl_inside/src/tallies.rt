@@ -6,7 +6,7 @@ ghost use Rattle.tl_inside.specs.Keeping.Tallies.{AreTallies, AreNone};
 
 use crate::flanks::Flanks;
 use std::alloc::Global;
-use tl_map::Side;
+use tl_county::Side;
 use tl_tree::Memory;
 
 /// So many counts of nothing.

@@ -11,9 +11,10 @@ use Rattle.tl_record.specs.declared.record.Record.{Record}
 use Rattle.tl_record.specs.declared.record.Record.TheVariants.{Chain, Shape}
 use Rattle.tl_map.specs.declared.entry.ChainEntry.{ChainEntry}
 use Rattle.tl_map.specs.declared.entry.ShapeEntry.{ShapeEntry}
-use Rattle.tl_map.specs.declared.fault.TheConstants.{CHAIN_LIMIT, SEGMENT_LIMIT}
+use Rattle.tl_county.specs.declared.limits.TheConstants.{CHAIN_LIMIT, SEGMENT_LIMIT}
 use Rattle.tl_map.specs.declared.fault.MapStop.{MapStop}
-use Rattle.tl_map.specs.Chains.{is_chain, shape_count, pairs_up_to, pairs_of, used, same_point, points_between, segments_by, segments_of, CompleteChain, ChainList, tlids, segment_count, IsDrawn, AreChainsOf, IsProper}
+use Rattle.tl_map.specs.ChainsOf.{is_chain, shape_count, pairs_up_to, pairs_of, used, same_point, points_between, segments_by, segments_of, IsDrawn, AreChainsOf}
+use Rattle.tl_county.specs.Chains.{CompleteChain, ChainList, tlids, segment_count, IsProper}
 use Rattle.tl_map.specs.Faults.{IsStray, IsDegenerate, AreJoined, HaveNoChainFault}
 use Rattle.tl_map.specs.Keeping.Entries.{by_chain, AreChainEntries, entry_points, AreShapeEntries, chains_with, AreRising, has_tlid, shapes_with, ArePlaced, joined}
 use Rattle.tl_map.specs.Keeping.Rows.{StopsJoin}

@@ -14,7 +14,7 @@ use Rattle.tl_map.specs.declared.entry.ShapeEntry.{ShapeEntry}
 use Rattle.std.specs.Prelude.{if◌then◌else◌}
 use Rattle.tl_map.specs.declared.entry.Fill.{Fill}
 use Rattle.tl_map.specs.declared.entry.Fill.TheVariants.{Full, Ended, Gap}
-use Rattle.tl_map.specs.Chains.{is_any_chain, chain_count, used, has_gap}
+use Rattle.tl_map.specs.ChainsOf.{is_any_chain, chain_count, used, has_gap}
 use Rattle.tl_map.specs.Keeping.Entries.{some_unused, fill_of, by_chain, by_shape, AreChainEntries, IsShapeEntry, AreShapeEntries}
 use Rattle.tl_map.proofs.CountLemmas.{sum_by-same}
 use Rattle.tl_map.proofs.GapLemmas.{used-append, some_unused-append, has_gap-append}

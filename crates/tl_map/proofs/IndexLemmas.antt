@@ -1,21 +1,20 @@
-use Rattle.std.proofs.Common.{◌≡◌, ℕ, zero, suc, ◌+◌, ◌<◌, ◌≤◌, Bool, true, false, cond, eqb, ◌&&◌, inl, inr, Option, Some, None, List, [], ◌∷◌, length, map, get_or, Contains, refl, sym, ap, ◌∙◌, arith}
+use Rattle.std.proofs.Common.{◌≡◌, ℕ, zero, suc, ◌+◌, ◌<◌, ◌≤◌, Bool, true, false, cond, eqb, ◌&&◌, inl, inr, Option, Some, None, List, [], ◌∷◌, length, Contains, refl, sym, ap, ◌∙◌, arith}
 use Rattle.std.specs.Prelude.{slice_get, nat_eq, is_some}
-use Rattle.std.specs.Cmp.Lexicographic.{pointwise}
+use Rattle.std.specs.Cmp.Lexicographic.{pointwise, slice_cmp, same_text}
 use Rattle.std.specs.declared.cmp.Ordering.{Ordering}
 use Rattle.std.specs.declared.cmp.Ordering.TheVariants.{Less, Equal, Greater}
 use Rattle.std.specs.Ordering.{nat_cmp, is_eq, ordering_then}
-use Rattle.std.specs.Cmp.Lexicographic.{slice_cmp, same_text}
 use Rattle.std.specs.Cmp.{IsTotalOrder}
-use Rattle.std.specs.Option.{option_map}
-use Rattle.std.proofs.lemmas.Option.{slice_get-map, slice_get-get_or}
+use Rattle.std.proofs.lemmas.Option.{slice_get-get_or}
 use Rattle.std.proofs.lemmas.Bool.{cases_Bool, cases_lt, eq-eqb, eqb-true}
 use Rattle.std.proofs.lemmas.Cmp.{tied_itself, then_total, on_total, nat_cmp_total, lists_total, nat_list_eq_equiv}
 use Rattle.std.proofs.lemmas.Map.Lookups.{CmpEqualImpliesEq, exact_bytes, exact_unsigned}
 use Rattle.std.proofs.lemmas.Map.Views.{tells_apart}
 use Rattle.tl_record.specs.declared.record.PolyKey.{PolyKey}
-use Rattle.tl_map.specs.TheMap.{same_key, place_of}
+use Rattle.tl_map.specs.MapOf.{same_key, place_of}
 use Rattle.tl_map.specs.Faults.{StandsTwice}
 use Rattle.tl_map.specs.Keeping.Index.{Numbers, key_cmp}
+use Rattle.tl_county.proofs.PlaceLemmas.{contained}
 
 -- a look-up that knows the first i keys
 pub record NumbersUpTo {K : Type 0} (ks : List K) (i : ℕ) (found : K → Option ℕ) : Type 0 where
@@ -66,10 +65,6 @@ none_told (Some n) h = absurd (let e : true ≡ false = h in cc)
 pub some_told : (told : Option ℕ) → is_some told ≡ true → (n : ℕ) × (told ≡ Some n)
 some_told None h = absurd (let e : false ≡ true = h in cc)
 some_told (Some n) h = (n, refl)
-
--- the i-th item of images
-pub slice_get-image : {X Y : Type 0} (f : X → Y) (xs : List X) (i : ℕ) (d : X) → i < length xs → slice_get (map f xs) i ≡ Some (f (get_or xs i d))
-slice_get-image f xs i d lt = slice_get-map f xs i ∙ ap (option_map f) (slice_get-get_or xs i d lt)
 
 -- an empty look-up
 pub numbers_none : {K : Type 0} (ks : List K) (found : K → Option ℕ) → ((k : K) → found k ≡ None) → NumbersUpTo ks 0 found
@@ -139,12 +134,6 @@ pub not_known : {K : Type 0} (ks : List K) (k : K) (found : K → Option ℕ) �
 not_known ks k found numbers none has =
     let at : slice_get ks has.0 ≡ Some k = slice_get-get_or ks has.0 k has.1 ∙ ap Some has.2 in
     absurd (let e = numbers.each has.0 k at in cc)
-
--- what stands at a place is contained
-pub contained : {X : Type 0} (xs : List X) (k : ℕ) (x : X) → slice_get xs k ≡ Some x → Contains xs x
-contained [] k x at = absurd (let e : None ≡ Some x = at in cc)
-contained (y ∷ ys) zero x at = (0, omega arith, (let e : y ≡ x = cc in e))
-contained (y ∷ ys) (suc k) x at = let rest = contained ys k x at in (suc rest.0, omega (arith, rest.1), rest.2)
 
 -- a key that a look-up finds is one of the keys
 pub known_key : {K : Type 0} (ks : List K) (k : K) (n : ℕ) (found : K → Option ℕ) → Numbers ks found → found k ≡ Some n → Contains ks k

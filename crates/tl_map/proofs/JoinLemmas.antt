@@ -7,7 +7,7 @@ use Rattle.tl_map.specs.declared.entry.ChainEntry.{ChainEntry}
 use Rattle.tl_map.specs.declared.entry.ShapeEntry.{ShapeEntry}
 use Rattle.std.proofs.lemmas.List.Sums.{sum_by-take-le}
 use Rattle.tl_map.specs.declared.fault.MapStop.{MapStop}
-use Rattle.tl_map.specs.Chains.{CompleteChain, segment_count}
+use Rattle.tl_county.specs.Chains.{CompleteChain, segment_count}
 use Rattle.tl_map.specs.Keeping.Entries.{has_tlid, chains_with, AreRising, AreInOrder, joined}
 use Rattle.tl_map.specs.Keeping.Rows.{drawn_by, StopsAdding, StopsJoin}
 use Rattle.tl_map.proofs.StrayLemmas.{no_chain}

@@ -10,8 +10,8 @@ use Rattle.std.proofs.lemmas.List.{get_or_append_left, at_drop_more, at_drop_all
 use Rattle.std.proofs.Math.Seq.{get_or-append_seam}
 use Rattle.std.proofs.lemmas.List.Elements.{Contains-push, Contains-push_cases, Contains-append_left}
 use Rattle.tl_map.specs.declared.entry.LandmarkEntry.{LandmarkEntry}
-use Rattle.tl_map.specs.declared.fault.TheConstants.{LANDMARK_LIMIT}
-use Rattle.tl_map.specs.TheMap.{firsts, firsts_after}
+use Rattle.tl_county.specs.declared.limits.TheConstants.{LANDMARK_LIMIT}
+use Rattle.tl_map.specs.MapOf.{firsts, firsts_after}
 use Rattle.std.specs.BTreeMap.{get}
 use Rattle.std.specs.List.Sorted.{IsNonDecreasingBy, IsPermutation, IsStableByKey}
 use Rattle.std.proofs.lemmas.Bool.Decides.{nat_tests}

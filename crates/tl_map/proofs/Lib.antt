@@ -15,13 +15,8 @@ pub mod MarkLemmas
 pub mod ListedLemmas
 pub mod LinkedLemmas
 pub mod PairLemmas
-pub mod MapLemmas
 pub mod MappedLemmas
 pub mod GatherLemmas
 pub mod ProperLemmas
-pub mod NumberLemmas
-pub mod SegmentLemmas
 pub mod OneMapLemmas
-pub mod NodeLemmas
-pub mod NumberingLemmas
 pub mod OnceLemmas

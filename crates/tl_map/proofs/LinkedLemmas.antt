@@ -8,12 +8,12 @@ use Rattle.tl_map.specs.declared.entry.LandmarkEntry.{LandmarkEntry}
 use Rattle.tl_map.specs.declared.entry.LinkEntry.{LinkEntry}
 use Rattle.tl_map.specs.declared.landmarks.Link.{Link}
 use Rattle.tl_map.specs.declared.landmarks.FirstLandmarks.{FirstLandmarks}
-use Rattle.tl_map.specs.declared.landmarks.LinkedLandmarks.{LinkedLandmarks}
+use Rattle.tl_county.specs.declared.landmarks.LinkedLandmarks.{LinkedLandmarks}
 use Rattle.tl_map.specs.declared.fault.MapStop.{MapStop}
-use Rattle.tl_map.specs.TheMap.{firsts, place_of}
+use Rattle.tl_map.specs.MapOf.{firsts, place_of}
 use Rattle.tl_map.specs.Keeping.Index.{Numbers}
 use Rattle.tl_map.specs.Keeping.Landmarks.{lands, ListsLandmarks, IsLink, AreAllLinks, StopsLinks, StopsLinking, links_to, AreByLandmark, landmark_with, listed, IsLinked, landmark_from, AreLinked}
-use Rattle.tl_map.proofs.IndexLemmas.{contained}
+use Rattle.tl_county.proofs.PlaceLemmas.{contained}
 
 -- the links of the l-th LAND, by numbers and by keys
 to_links : (ks : List PolyKey) (ns : List ℕ) (found : ℕ → Option ℕ) (links : List LinkEntry) (made : List Link) (l n : ℕ) → Numbers ns found → slice_get ns l ≡ Some n → length made ≡ length links → ((j : ℕ) (link : LinkEntry) (m : Link) → j < length made → IsLink ks ns (get_or links j link) (get_or made j m)) → map (λ (m : Link). m.polygon) (links_to l made) ≡ map (λ (k : LinkEntry). place_of ks k.key) (filter (λ (k : LinkEntry). eqb k.land n) links)

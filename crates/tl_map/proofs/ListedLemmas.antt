@@ -5,9 +5,11 @@ use Rattle.std.proofs.lemmas.List.{append_assoc, append-nil, at_drop_more, at_dr
 use Rattle.std.proofs.lemmas.List.Elements.{All-push, All-weaker}
 use Rattle.tl_map.specs.declared.entry.LandmarkEntry.{LandmarkEntry}
 use Rattle.tl_map.specs.declared.landmarks.Link.{Link}
-use Rattle.tl_map.specs.declared.landmarks.LandmarkRow.{LandmarkRow}
-use Rattle.tl_map.specs.TheMap.{MapLandmark, firsts}
-use Rattle.tl_map.specs.Keeping.Landmarks.{links_to, landmark_with, listed, IsRow, landmark_in}
+use Rattle.tl_county.specs.declared.landmarks.LandmarkRow.{LandmarkRow}
+use Rattle.tl_county.specs.TheMap.{MapLandmark}
+use Rattle.tl_map.specs.MapOf.{firsts}
+use Rattle.tl_map.specs.Keeping.Landmarks.{links_to, landmark_with, listed}
+use Rattle.tl_county.specs.Rows.{IsRow, landmark_in}
 use Rattle.tl_map.proofs.JoinLemmas.{filter_part}
 
 -- the links of landmark l stand from s to e

@@ -10,21 +10,24 @@ use Rattle.tl_map.specs.declared.areas.AreaRecords.{AreaRecords}
 use Rattle.tl_map.specs.declared.entry.SidesEntry.{SidesEntry}
 use Rattle.tl_map.specs.declared.entry.LandmarkEntry.{LandmarkEntry}
 use Rattle.tl_map.specs.declared.entry.LinkEntry.{LinkEntry}
-use Rattle.tl_map.specs.declared.polygons.Polygon.{Polygon}
-use Rattle.tl_map.specs.declared.sides.ChainSides.{ChainSides}
-use Rattle.tl_map.specs.declared.landmarks.LinkedLandmarks.{LinkedLandmarks}
+use Rattle.tl_county.specs.declared.polygons.Polygon.{Polygon}
+use Rattle.tl_county.specs.declared.sides.ChainSides.{ChainSides}
+use Rattle.tl_county.specs.declared.landmarks.LinkedLandmarks.{LinkedLandmarks}
 use Rattle.tl_map.specs.declared.fault.Limited.TheVariants.{Chains, Segments, Polygons, Landmarks}
 use Rattle.tl_map.specs.declared.fault.MapFault.TheVariants.{DuplicateChain, ShapeWithoutChain, ShapeSequence, ShapeGap, ChainWithoutSides, SidesWithoutChain, DuplicateSides, DuplicatePolygon, SideWithoutPolygon, LinkWithoutLandmark, LinkWithoutPolygon, DegenerateChain, TooMany}
 use Rattle.tl_map.specs.declared.fault.MapStop.{MapStop}
-use Rattle.tl_map.specs.Chains.{CompleteChain, ChainList, tlids, IsDrawn, AreChainsOf}
-use Rattle.tl_map.specs.TheMap.{sides_in, polygons_in, landmarks_in, links_in, keys, without_sides, IsSided, firsts}
-use Rattle.tl_map.specs.Faults.{HasChain, HaveNoFault, most_polygons, most_landmarks}
+use Rattle.tl_county.specs.Chains.{CompleteChain, ChainList, tlids}
+use Rattle.tl_map.specs.ChainsOf.{IsDrawn, AreChainsOf}
+use Rattle.tl_map.specs.MapOf.{sides_in, polygons_in, landmarks_in, links_in, keys, without_sides, IsSided, firsts}
+use Rattle.tl_map.specs.Faults.{HasChain, HaveNoFault}
+use Rattle.tl_county.specs.Limits.{most_polygons, most_landmarks}
 use Rattle.tl_map.specs.Keeping.Areas.{KeepsAreas}
 use Rattle.tl_map.specs.Keeping.Built.{AreBuilt, StopsBuilding}
 use Rattle.tl_map.specs.Keeping.Index.{Numbers, StopsIndex}
 use Rattle.tl_map.specs.Keeping.Sided.{sided_by, NamesKnown, sides_tlids, ArePaired, StopsPairing, StopsSides}
-use Rattle.tl_map.specs.Keeping.Landmarks.{landmark_in, landmark_from, AreLinked, StopsLinking}
-use Rattle.tl_map.specs.Keeping.Mapped.{sided, AreMapped}
+use Rattle.tl_county.specs.Rows.{landmark_in, sided}
+use Rattle.tl_map.specs.Keeping.Landmarks.{landmark_from, AreLinked, StopsLinking}
+use Rattle.tl_map.specs.Keeping.Mapped.{AreMapped}
 use Rattle.tl_map.proofs.CountLemmas.{none_counted}
 use Rattle.tl_map.proofs.PairLemmas.{far}
 

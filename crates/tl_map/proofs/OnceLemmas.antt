@@ -1,19 +1,18 @@
-use Rattle.std.proofs.Common.{◌≡◌, ◌≢◌, ℕ, zero, suc, ◌<◌, Bool, true, false, eqb, ◌||◌, inl, inr, Some, List, [], ◌∷◌, ◌++◌, length, map, filter, get_or, All, Contains, refl, sym, subst, ◌∙◌, arith}
-use Rattle.std.specs.Prelude.{slice_get}
-use Rattle.std.proofs.lemmas.Option.{same_Some}
+use Rattle.std.proofs.Common.{◌≡◌, ◌≢◌, ℕ, zero, suc, ◌<◌, Bool, true, false, eqb, ◌||◌, inl, inr, List, [], ◌∷◌, ◌++◌, length, map, filter, get_or, All, Contains, refl, sym, ◌∙◌, arith}
 use Rattle.std.specs.List.{list_any}
 use Rattle.std.proofs.lemmas.Bool.{cases_Bool, eq-eqb}
 use Rattle.std.proofs.lemmas.List.{length-map, get_or-map}
-use Rattle.std.proofs.lemmas.List.Elements.{All-head, All-tail, All-push, All-map, All-filter, All-weaker}
+use Rattle.std.proofs.lemmas.List.Elements.{All-push, All-map, All-filter, All-weaker}
 use Rattle.tl_record.specs.declared.record.PolyKey.{PolyKey}
 use Rattle.tl_map.specs.declared.entry.LandmarkEntry.{LandmarkEntry}
 use Rattle.tl_map.specs.declared.entry.LinkEntry.{LinkEntry}
-use Rattle.tl_map.specs.declared.polygons.Polygon.{Polygon}
-use Rattle.tl_map.specs.declared.landmarks.LinkedLandmarks.{LinkedLandmarks}
-use Rattle.tl_map.specs.declared.landmarks.LandmarkRow.{LandmarkRow}
-use Rattle.tl_map.specs.TheMap.{keys, same_key, place_of, firsts, firsts_after, linked_to, MapLandmark}
-use Rattle.tl_map.specs.Landmarks.{AreOnce, ArePolygonsOf}
-use Rattle.tl_map.specs.Keeping.Landmarks.{HasPolygonsOf, landmark_in, landmark_from, AreLinked}
+use Rattle.tl_county.specs.declared.polygons.Polygon.{Polygon}
+use Rattle.tl_county.specs.declared.landmarks.LinkedLandmarks.{LinkedLandmarks}
+use Rattle.tl_map.specs.MapOf.{keys, same_key, place_of, firsts, firsts_after, linked_to}
+use Rattle.tl_county.specs.TheMap.{MapLandmark}
+use Rattle.tl_county.specs.Landmarks.{AreOnce, ArePolygonsOf}
+use Rattle.tl_county.specs.Rows.{HasPolygonsOf, landmark_in}
+use Rattle.tl_map.specs.Keeping.Landmarks.{landmark_from, AreLinked}
 use Rattle.tl_map.proofs.IndexLemmas.{same_key-refl}
 
 -- one number more that isn't there yet
@@ -69,10 +68,3 @@ rows_once polygons entries links l linked k d lt =
     let x : MapLandmark = landmark_in l.linked.items d in
     let within : k < length (map (landmark_in l.linked.items) l.rows.items) = let h = length-map l.rows.items (landmark_in l.linked.items) in omega arith in
     rw (get_or-map (landmark_in l.linked.items) l.rows.items k d x lt) at (here k x within)
-
--- what holds of the polygons of each row holds of those of each landmark
-pub of_each : (n : ℕ) (linked : List ℕ) (rows : List LandmarkRow) → All (HasPolygonsOf n linked) rows → (l : ℕ) (landmark : MapLandmark) → slice_get (map (landmark_in linked) rows) l ≡ Some landmark → ArePolygonsOf n landmark.polygons
-of_each n linked [] all l landmark is = absurd (cc)
-of_each n linked (row ∷ rows) all zero landmark is =
-    subst (λ (z : MapLandmark). ArePolygonsOf n z.polygons) (same_Some (landmark_in linked row) landmark is) (All-head (HasPolygonsOf n linked) row rows all)
-of_each n linked (row ∷ rows) all (suc l) landmark is = of_each n linked rows (All-tail (HasPolygonsOf n linked) row rows all) l landmark is

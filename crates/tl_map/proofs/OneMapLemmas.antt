@@ -6,8 +6,10 @@ use Rattle.tl_record.specs.declared.record.Record.{Record}
 use Rattle.tl_record.specs.declared.record.Record.TheVariants.{Chain}
 use Rattle.tl_map.specs.declared.entry.SidesEntry.{SidesEntry}
 use Rattle.tl_map.specs.declared.fault.MapFault.TheVariants.{DuplicateChain, DuplicateSides}
-use Rattle.tl_map.specs.Chains.{is_chain, CompleteChain, tlids, IsDrawn, AreChainsOf}
-use Rattle.tl_map.specs.TheMap.{sides_in, MapChain, TheMap, without_sides, IsSided, IsMapOf}
+use Rattle.tl_map.specs.ChainsOf.{is_chain, IsDrawn, AreChainsOf}
+use Rattle.tl_county.specs.Chains.{CompleteChain, tlids}
+use Rattle.tl_map.specs.MapOf.{sides_in, without_sides, IsSided, IsMapOf}
+use Rattle.tl_county.specs.TheMap.{MapChain, TheMap}
 use Rattle.tl_map.specs.Faults.{HaveNoFault}
 use Rattle.tl_map.proofs.CountLemmas.{one_counted}
 use Rattle.tl_map.proofs.PairLemmas.{far}

@@ -1,8 +1,5 @@
-use Rattle.std.proofs.Common.{◌≡◌, ℕ, ◌+◌, ◌-◌, ◌<◌, ◌≤◌, Bool, true, false, not, cond, Some, List, [], ◌∷◌, ◌++◌, length, take, drop, map, get_or, All, refl, sym, ap, ◌∙◌, arith}
-use Rattle.std.specs.Prelude.{slice_get}
+use Rattle.std.proofs.Common.{◌≡◌, ℕ, ◌+◌, ◌-◌, ◌<◌, ◌≤◌, Bool, true, false, not, cond, List, [], ◌∷◌, ◌++◌, length, take, drop, get_or, All, refl, sym, ap, ◌∙◌, arith}
 use Rattle.std.specs.List.{dedup_from, flat_map}
-use Rattle.std.specs.Option.{option_map}
-use Rattle.std.proofs.lemmas.Option.{slice_get-map, slice_get-get_or}
 use Rattle.std.proofs.lemmas.List.{append-nil, append_assoc, at_drop_more, at_drop_all, drop-append-le, take-append-le, drop_at, take_all, map_push, length-append, length-drop, length_push}
 use Rattle.std.proofs.lemmas.List.Elements.{All-nil, All-head, All-tail, All-push, All-weaker}
 use Rattle.std.proofs.lemmas.List.Sums.{sum_by_push}
@@ -10,22 +7,11 @@ use Rattle.tl_map.specs.declared.entry.ChainEntry.{ChainEntry}
 use Rattle.tl_map.specs.declared.entry.ShapeEntry.{ShapeEntry}
 use Rattle.tl_map.specs.Keeping.Entries.{entry_points}
 use Rattle.tl_geom.specs.declared.point.Point.{Point}
-use Rattle.tl_map.specs.declared.chains.ChainRow.{ChainRow}
-use Rattle.tl_map.specs.Chains.{CompleteChain, same_point, segment_count}
-use Rattle.tl_map.specs.Keeping.Rows.{IsWithin, chain_in, chains_in, IsTable, dedup_after, drawn_through}
-
--- what is read of the chain of a row
-pub row_read : {Y : Type 0} (f : CompleteChain → Y) (points : List Point) (rows : List ChainRow) (i : ℕ) (row : ChainRow) → i < length rows → row ≡ get_or rows i row → slice_get (map f (chains_in points rows)) i ≡ Some (f (chain_in points row))
-row_read f points rows i row h at =
-    slice_get-map f (chains_in points rows) i
-    ∙ ap (option_map f) (slice_get-map (chain_in points) rows i ∙ ap (option_map (chain_in points)) (slice_get-get_or rows i row h))
-    ∙ ap (λ r. Some (f (chain_in points r))) (sym at)
-
--- a range of the points, as a slice reads it
-pub cut_read : (first count : ℕ) (points slice : List Point) → slice ≡ points → Some (take count (drop first points)) ≡ Some (take (first + count - first) (drop first slice))
-cut_read first count points slice same =
-    let n : first + count - first ≡ count = omega arith in
-    rw (n, same) refl
+use Rattle.tl_county.specs.declared.chains.ChainRow.{ChainRow}
+use Rattle.tl_county.specs.Chains.{segment_count}
+use Rattle.tl_map.specs.ChainsOf.{same_point}
+use Rattle.tl_county.specs.Rows.{IsWithin, chain_in, chains_in, IsTable}
+use Rattle.tl_map.specs.Keeping.Rows.{dedup_after, drawn_through}
 
 -- dedup keeps the first point and what follows it
 pub dedup_from-is : (p : Point) (qs : List Point) → dedup_from same_point p qs ≡ p ∷ dedup_after p qs

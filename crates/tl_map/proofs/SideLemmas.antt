@@ -1,7 +1,7 @@
 use Rattle.std.proofs.Common.{◌≡◌, ℕ, ◌+◌, ◌<◌, inl, inr, List, [], ◌∷◌, ◌++◌, length, map, take, get_or, refl, sym, ap, ◌∙◌, arith}
 use Rattle.std.proofs.lemmas.Bool.{cases_lt}
-use Rattle.tl_map.specs.declared.sides.Side.{Side}
-use Rattle.tl_map.specs.declared.sides.ChainSides.{ChainSides}
+use Rattle.tl_county.specs.declared.sides.Side.{Side}
+use Rattle.tl_county.specs.declared.sides.ChainSides.{ChainSides}
 use Rattle.std.proofs.lemmas.List.{get_or_default, map_more}
 use Rattle.tl_record.specs.declared.record.PolyKey.{PolyKey}
 use Rattle.tl_map.specs.declared.entry.SidesEntry.{SidesEntry}

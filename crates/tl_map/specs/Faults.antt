@@ -1,4 +1,4 @@
--- Each fault of the records as a statement about the whole list of them, and the limits.
+-- Each fault of the records as a statement about the whole list of them.
 use Rattle.std.specs.Prelude.{◌≡◌, ℕ, ◌<◌, ◌≤◌, ◌==◌, ◌⊎◌, true, Some, List, length, map, count_by, Any, Contains, slice_get}
 use Rattle.tl_geom.specs.declared.point.Point.{Point}
 use Rattle.tl_record.specs.declared.record.PolyKey.{PolyKey}
@@ -8,9 +8,10 @@ use Rattle.tl_map.specs.declared.fault.Limited.{Limited}
 use Rattle.tl_map.specs.declared.fault.Limited.TheVariants.{Chains, Segments, Polygons, Landmarks}
 use Rattle.tl_map.specs.declared.fault.MapFault.{MapFault}
 use Rattle.tl_map.specs.declared.fault.MapFault.TheVariants.{DuplicateChain, ShapeWithoutChain, ShapeSequence, ShapeGap, ChainWithoutSides, SidesWithoutChain, DuplicateSides, DuplicatePolygon, SideWithoutPolygon, LinkWithoutLandmark, LinkWithoutPolygon, DegenerateChain, TooMany}
-use Rattle.tl_map.specs.Chains.{is_chain, is_shape_at, shape_count, pairs_of, has_gap, points_between, segments_of, chain_count}
+use Rattle.tl_map.specs.ChainsOf.{is_chain, is_shape_at, shape_count, pairs_of, has_gap, points_between, segments_of, chain_count}
 use Rattle.tl_map.specs.declared.entry.SidesEntry.{SidesEntry}
-use Rattle.tl_map.specs.TheMap.{sides_in, polygons_in, landmarks_in, links_in, keys, first_landmarks}
+use Rattle.tl_map.specs.MapOf.{sides_in, polygons_in, landmarks_in, links_in, keys, first_landmarks}
+use Rattle.tl_county.specs.Limits.{most_chains, most_segments, most_polygons, most_landmarks}
 
 -- two type 1 records have TLID t
 abbrev pub IsRepeated : List Record → ℕ → Type 0
@@ -69,19 +70,6 @@ StandsTwice xs x = (i : ℕ) × (j : ℕ) × (i < j) × (slice_get xs i ≡ Some
 -- a side of the type I record names key k
 abbrev pub Names : SidesEntry → PolyKey → Type 0
 Names s k = (s.left ≡ Some k) ⊎ (s.right ≡ Some k)
-
--- how many chains, segments of all chains, polygons and landmarks a county may have: this project's own limits
-abbrev pub most_chains : ℕ
-most_chains = 1048576
-
-abbrev pub most_segments : ℕ
-most_segments = 16777216
-
-abbrev pub most_polygons : ℕ
-most_polygons = 1048576
-
-abbrev pub most_landmarks : ℕ
-most_landmarks = 1048576
 
 -- there are more than the limit
 abbrev pub IsTooMany : List Record → Limited → Type 0

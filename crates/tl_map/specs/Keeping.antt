@@ -9,6 +9,3 @@ pub mod Sided
 pub mod Areas
 pub mod Landmarks
 pub mod Mapped
-pub mod Numbered
-pub mod Noded
-pub mod Kept

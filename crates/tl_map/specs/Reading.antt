@@ -7,9 +7,11 @@ use Rattle.tl_record.specs.Failures.{one_more}
 use Rattle.tl_record.specs.Records.{Records}
 use Rattle.tl_map.specs.declared.fault.MapStop.{MapStop}
 use Rattle.tl_map.specs.declared.fault.MapStop.TheVariants.{Refused, Device, Memory, Fault}
-use Rattle.tl_map.specs.Chains.{ChainList, AreChainsOf}
+use Rattle.tl_county.specs.Chains.{ChainList}
+use Rattle.tl_map.specs.ChainsOf.{AreChainsOf}
 use Rattle.tl_map.specs.Faults.{IsTrueOf, HaveNoChainFault, HaveNoFault}
-use Rattle.tl_map.specs.TheMap.{TheMap, IsMapOf}
+use Rattle.tl_county.specs.TheMap.{TheMap}
+use Rattle.tl_map.specs.MapOf.{IsMapOf}
 
 -- the records, without the numbers of their lines
 abbrev pub records_in : Records → List Record

@@ -4,8 +4,8 @@ ghost use Rattle.std.specs.Prelude.{◌≡◌, ◌∷◌, [], ◌++◌, OnOk};
 
 use crate::entry::{LandmarkEntry, LinkEntry, SidesEntry};
 use crate::kept::KeptSides;
-use crate::polygons::Polygon;
 use std::alloc::{AllocError, Global};
+use tl_county::Polygon;
 use tl_record::Record;
 
 /// The type I, P, 7 and 8 records read so far, each in file order.

@@ -10,7 +10,6 @@ ghost use Rattle.tl_map.specs.Keeping.Entries.{AreChainEntries, AreShapeEntries,
 ghost use Rattle.tl_map.specs.Keeping.Collected.{Collects};
 ghost use Rattle.tl_map.specs.Keeping.Built.{AreSound, AreBuilt, StopsBuilding};
 
-use crate::chains::Chains;
 use crate::collect::Collected;
 use crate::entry::{ChainEntry, ShapeEntry};
 use crate::fault::{Limited, MapFault, MapStop};
@@ -18,6 +17,7 @@ use crate::join::join;
 use crate::passes::{gap_tlid, misnumbered_tlid, repeated_tlid, stray_tlid};
 use crate::sort::{sort_chains, sort_shapes};
 use std::alloc::Global;
+use tl_county::Chains;
 
 /// A fault of sorted chains and shapes that shows before they are joined.
 fn first_fault(chains: &[ChainEntry], shapes: &[ShapeEntry]) -> Option<MapFault>

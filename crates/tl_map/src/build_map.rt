@@ -10,14 +10,12 @@ ghost use Rattle.tl_map.specs.Keeping.Built.{StopsBuilding};
 use crate::areas::AreaRecords;
 use crate::build::build_chains;
 use crate::collect::Collected;
-use crate::fault::{Limited, MapFault, MapStop, POLYGON_LIMIT};
+use crate::fault::{Limited, MapFault, MapStop};
 use crate::landmarks::build_landmarks;
-use crate::map::Map;
-use crate::nodes::number_nodes;
 use crate::polygons::index_polygons;
-use crate::segments::number_segments;
 use crate::sides::{pair_sides, resolve_sides};
 use std::alloc::Global;
+use tl_county::{Map, POLYGON_LIMIT};
 
 /// The map of the records.
 pub fn build_map(
@@ -47,7 +45,6 @@ pub fn build_map(
     drop(paired);
     let linked = build_landmarks(alloc, &index, polygons.len(), &landmarks, &links)?;
     drop(index);
-    let segments = number_segments(alloc, &chains)?;
-    let nodes = number_nodes(alloc, &chains)?;
-    Ok(Map::new(chains, sides, polygons, linked, segments, nodes))
+    let map = Map::new(alloc, chains, sides, polygons, linked)?;
+    Ok(map)
 }

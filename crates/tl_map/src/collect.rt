@@ -5,12 +5,12 @@ ghost use Rattle.tl_geom.specs.declared.point.Point.{Point};
 ghost use Rattle.tl_record.specs.declared.record.Record.{Record};
 ghost use Rattle.tl_record.specs.declared.record.Record.TheVariants.{Shape};
 ghost use Rattle.tl_map.specs.declared.entry.Fill.TheVariants.{Full, Ended, Gap};
-ghost use Rattle.tl_map.specs.Chains.{used};
+ghost use Rattle.tl_map.specs.ChainsOf.{used};
 ghost use Rattle.tl_map.specs.Keeping.Entries.{fill_of, AreShapeEntries};
 
 use crate::entry::{ChainEntry, Fill, ShapeEntry};
-use crate::fault::CHAIN_LIMIT;
 use std::alloc::{AllocError, Global};
+use tl_county::CHAIN_LIMIT;
 use tl_geom::Point;
 use tl_record::{PAIRS, Record};
 

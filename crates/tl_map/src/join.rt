@@ -4,17 +4,18 @@ ghost use Rattle.std.specs.Prelude.{◌≡◌, ◌≢◌, ℕ, ◌+◌, ◌<◌,
 ghost use Rattle.std.specs.Prelude.{map, slice_index_or, All};
 ghost use Rattle.tl_geom.specs.declared.point.Point.{Point};
 ghost use Rattle.tl_map.specs.declared.entry.ShapeEntry.{ShapeEntry};
-ghost use Rattle.tl_map.specs.declared.fault.TheConstants.{CHAIN_LIMIT, SEGMENT_LIMIT};
+ghost use Rattle.tl_county.specs.declared.limits.TheConstants.{CHAIN_LIMIT, SEGMENT_LIMIT};
 ghost use Rattle.std.specs.List.{flat_map};
 ghost use Rattle.tl_map.specs.Keeping.Entries.{entry_points, IsInside, AreRising, AreInOrder, chains_with, joined};
-ghost use Rattle.tl_map.specs.Keeping.Rows.{IsTable, chains_in, dedup_after, drawn_through, drawn_by, StopsAdding};
+ghost use Rattle.tl_county.specs.Rows.{IsTable, chains_in};
+ghost use Rattle.tl_map.specs.Keeping.Rows.{dedup_after, drawn_through, drawn_by, StopsAdding};
 ghost use Rattle.tl_map.specs.Keeping.Rows.{StopsJoin};
-ghost use Rattle.tl_map.specs.Chains.{segment_count};
+ghost use Rattle.tl_county.specs.Chains.{segment_count};
 
-use crate::chains::{ChainRow, Chains};
 use crate::entry::{ChainEntry, ShapeEntry};
-use crate::fault::{CHAIN_LIMIT, Limited, MapFault, MapStop, SEGMENT_LIMIT};
+use crate::fault::{Limited, MapFault, MapStop};
 use std::alloc::{AllocError, Global};
+use tl_county::{CHAIN_LIMIT, ChainRow, Chains, SEGMENT_LIMIT};
 use tl_geom::Point;
 
 /// Appends the points that differ from the one before, where `last` is the one before the first. Gives the last.

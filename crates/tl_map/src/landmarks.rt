@@ -7,16 +7,16 @@ ghost use Rattle.tl_map.specs.Keeping.Index.{Indexes};
 ghost use Rattle.tl_map.specs.Keeping.Landmarks.{ListsLandmarks, StopsLandmarks, IsLink, IndexesLands, StopsLink};
 ghost use Rattle.tl_map.specs.Keeping.Landmarks.{AreAllLinks, StopsLinks, AreByLandmark, listed, IsLinked};
 ghost use Rattle.tl_map.specs.Keeping.Landmarks.{AreLinked, StopsLinking};
-ghost use Rattle.tl_map.specs.TheMap.{firsts};
-ghost use Rattle.tl_map.specs.declared.fault.TheConstants.{LANDMARK_LIMIT};
+ghost use Rattle.tl_map.specs.MapOf.{firsts};
+ghost use Rattle.tl_county.specs.declared.limits.TheConstants.{LANDMARK_LIMIT};
 ghost use Rattle.tl_map.specs.declared.landmarks.Link.{Link};
 ghost use Rattle.std.specs.List.Sorted.{IsNonDecreasingBy};
 
 use crate::entry::{LandmarkEntry, LinkEntry};
-use crate::fault::{LANDMARK_LIMIT, Limited, MapFault, MapStop};
+use crate::fault::{Limited, MapFault, MapStop};
 use std::alloc::{AllocError, Global};
 use std::collections::BTreeMap;
-use tl_geom::Point;
+use tl_county::{LANDMARK_LIMIT, LandmarkRow, LinkedLandmarks};
 use tl_record::PolyKey;
 
 /// The first type 7 record of each LAND, and the place of each LAND among them.
@@ -101,22 +101,6 @@ fn sort_links(links: &mut Vec<Link>) -> Result<(), AllocError>
 {
     links.sort_by_key(|link| link.landmark)?;
     Ok(())
-}
-
-/// A landmark, and where its polygons stand among those of all landmarks.
-#[derive(Clone, Copy)]
-pub struct LandmarkRow {
-    pub land: u64,
-    pub point: Option<Point>,
-    pub first: usize,
-    pub count: usize,
-}
-
-/// Landmarks with their polygons, which stand in one list.
-#[derive(Drop)]
-pub struct LinkedLandmarks {
-    pub rows: Vec<LandmarkRow>,
-    pub linked: Vec<u32>,
 }
 
 /// Appends each polygon of the links where it stands first. A polygon that is appended gets the mark.

@@ -10,7 +10,6 @@
 mod areas;
 mod build;
 mod build_map;
-mod chains;
 mod collect;
 mod entry;
 mod fault;
@@ -18,20 +17,15 @@ mod join;
 mod kept;
 mod landmarks;
 pub mod laws;
-mod map;
-mod nodes;
 mod passes;
 mod polygons;
 mod read;
-mod segments;
 mod sides;
 mod sort;
 
-pub use chains::Chains;
-pub use fault::{
-    CHAIN_LIMIT, LANDMARK_LIMIT, Limited, MapFault, MapStop, POLYGON_LIMIT, SEGMENT_LIMIT,
-};
-pub use map::{Chain, Landmark, Map};
-pub use polygons::Polygon;
+pub use fault::{Limited, MapFault, MapStop};
 pub use read::{read_chains, read_chains_with, read_map, read_map_with};
-pub use sides::Side;
+pub use tl_county::{
+    CHAIN_LIMIT, Chain, Chains, LANDMARK_LIMIT, Landmark, Map, POLYGON_LIMIT, Polygon,
+    SEGMENT_LIMIT, Side,
+};

@@ -4,7 +4,7 @@ ghost use Rattle.std.specs.Prelude.{◌≡◌, ℕ, ◌+◌, ◌<◌, ◌≤◌,
 ghost use Rattle.std.specs.List.Sorted.{IsNonDecreasingBy};
 ghost use Rattle.tl_geom.specs.declared.point.Point.{Point};
 ghost use Rattle.tl_record.specs.declared.record.Record.{Record};
-ghost use Rattle.tl_map.specs.Chains.{has_gap, pairs_of};
+ghost use Rattle.tl_map.specs.ChainsOf.{has_gap, pairs_of};
 ghost use Rattle.tl_map.specs.Keeping.Entries.{chains_with, AreRising, shapes_with, AreInOrder, ArePlaced};
 ghost use Rattle.tl_map.specs.Keeping.Entries.{AreNumbered, AreShapeEntries, late_after, ended_after};
 

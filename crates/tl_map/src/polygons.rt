@@ -1,21 +1,14 @@
-//! Polygons and the numbers of their keys.
+//! The numbers of polygons by their keys.
 
 ghost use Rattle.std.specs.Prelude.{◌≡◌, ◌<◌, ◌^◌, List, IfOk, IfErr, length};
-ghost use Rattle.tl_map.specs.TheMap.{keys};
+ghost use Rattle.tl_map.specs.MapOf.{keys};
 ghost use Rattle.tl_map.specs.Keeping.Index.{Indexes, StopsIndex};
 
 use crate::fault::{MapFault, MapStop};
 use std::alloc::Global;
 use std::collections::BTreeMap;
-use tl_geom::Point;
+use tl_county::Polygon;
 use tl_record::PolyKey;
-
-/// A GT-polygon: its key, and its internal point in millionths of a degree.
-#[derive(Clone, Copy, Debug, PartialEq, Eq)]
-pub struct Polygon {
-    pub key: PolyKey,
-    pub point: Point,
-}
 
 /// The number of each polygon by its key, kept in the order of the keys: no file can make its look-ups slow.
 pub fn index_polygons(

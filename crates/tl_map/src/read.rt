@@ -11,11 +11,10 @@ ghost use Rattle.tl_map.specs.Keeping.Gathering.{Gathers, GathersAll, StopsGathe
 use crate::areas::AreaRecords;
 use crate::build::build_chains;
 use crate::build_map::build_map;
-use crate::chains::Chains;
 use crate::collect::Collected;
 use crate::fault::MapStop;
-use crate::map::Map;
 use std::alloc::Global;
+use tl_county::{Chains, Map};
 use tl_record::{Options, RecordReader, Source};
 
 /// The default of [`Options`]: nothing is chosen.

@@ -1,40 +1,22 @@
-//! What lies on the sides of chains.
+//! The sides of chains by the keys of type I records.
 
 ghost use Rattle.std.specs.Prelude.{◌≡◌, ◌<◌, ◌≤◌, ◌==◌, List, length, slice_index, IfOk, OnOk, IfErr, MatchOption};
 ghost use Rattle.std.specs.Prelude.{MatchResult, map};
 ghost use Rattle.std.specs.Prelude.{count_by, All};
 ghost use Rattle.std.specs.List.Sorted.{IsNonDecreasingBy, IsStrictlyIncreasing, IsPermutation};
 ghost use Rattle.tl_map.specs.declared.entry.SidesEntry.{SidesEntry};
-ghost use Rattle.tl_map.specs.Chains.{tlids};
+ghost use Rattle.tl_county.specs.Chains.{tlids};
 ghost use Rattle.tl_record.specs.declared.record.PolyKey.{PolyKey};
 ghost use Rattle.tl_map.specs.Keeping.Index.{Indexes};
 ghost use Rattle.tl_map.specs.Keeping.Sided.{sided_by, IsSide, NamesKnown, StopsSide, StopsSides, sides_tlids};
 ghost use Rattle.tl_map.specs.Keeping.Sided.{IsUnpaired, ArePaired, StopsPairing};
 
-use crate::chains::Chains;
 use crate::fault::{MapFault, MapStop};
-use crate::kept::{KeptChainSides, KeptSides};
+use crate::kept::KeptSides;
 use std::alloc::Global;
 use std::collections::BTreeMap;
+use tl_county::{ChainSides, Chains, KeptChainSides, Side};
 use tl_record::PolyKey;
-
-/// What lies on a side of a chain.
-#[derive(Clone, Copy, Debug, PartialEq, Eq, Hash)]
-pub enum Side {
-    /// Nothing of the county.
-    Outside,
-    /// The polygon of this number.
-    Polygon(u32),
-}
-
-/// What lies on both sides of a chain, seen from its start to its end, and the zero-cell ids of its start and its end.
-#[derive(Clone, Copy)]
-pub struct ChainSides {
-    pub left: Side,
-    pub right: Side,
-    pub start_cell: Option<u64>,
-    pub end_cell: Option<u64>,
-}
 
 /// What lies on a side of a chain whose record has this key there.
 fn resolve_side(

@@ -1,8 +1,8 @@
 -- What a search over the segments says of the chains.
 use Rattle.std.proofs.Common.{◌≡◌, ℕ, Some, List, length, ap, subst, ◌∙◌}
 use Rattle.std.specs.Prelude.{slice_get}
-use Rattle.tl_map.specs.TheMap.{MapChain}
-use Rattle.tl_map.specs.Segments.{segments_before, IsSegmentOf}
+use Rattle.tl_county.specs.TheMap.{MapChain}
+use Rattle.tl_county.specs.Segments.{segments_before, IsSegmentOf}
 use Rattle.tl_tree.specs.Searches.{IsConflict, IsClear}
 use Rattle.tl_planar.specs.declared.meet.Meet.{Meet}
 use Rattle.tl_planar.specs.Rectangles.{segment_rect}

@@ -5,8 +5,8 @@ use Rattle.std.proofs.lemmas.Bool.{cases_order, cases_eq}
 use Rattle.std.proofs.lemmas.Option.{slice_get_within}
 use Rattle.tl_geom.specs.declared.rational.Rational.{Rational}
 use Rattle.tl_geom.specs.Plane.{end_b}
-use Rattle.tl_map.specs.TheMap.{MapChain}
-use Rattle.tl_map.specs.Segments.{segments_before, IsSegmentOf}
+use Rattle.tl_county.specs.TheMap.{MapChain}
+use Rattle.tl_county.specs.Segments.{segments_before, IsSegmentOf}
 use Rattle.tl_planar.specs.Planar.{IsOnSegment, IsOnChain, IsChainEnd, IsPlanar}
 use Rattle.tl_planar.specs.Meets.{IsSharedBy, IsMeet, AreFree}
 use Rattle.tl_planar.specs.Keeping.Apart.{one_found}

@@ -7,8 +7,8 @@ use Rattle.tl_geom.specs.declared.segment.Segment.{Segment}
 use Rattle.tl_geom.specs.Plane.{IsOn, IsBetween, cross}
 use Rattle.tl_geom.specs.Contact.{IsShared}
 use Rattle.tl_geom.proofs.Contacts.{crossing_shared}
-use Rattle.tl_map.specs.TheMap.{MapChain}
-use Rattle.tl_map.specs.Segments.{IsSegmentOf, Joins}
+use Rattle.tl_county.specs.TheMap.{MapChain}
+use Rattle.tl_county.specs.Segments.{IsSegmentOf, Joins}
 use Rattle.tl_planar.specs.declared.allowed.Allowed.{Allowed}
 use Rattle.tl_planar.specs.Planar.{IsOnSegment}
 use Rattle.tl_planar.specs.Meets.{IsSharedBy, IsAllowed}

@@ -2,8 +2,8 @@
 use Rattle.std.specs.Prelude.{◌≡◌, ◌≢◌, ◌⊎◌, ℕ, List}
 use Rattle.tl_geom.specs.declared.point.Point.{Point}
 use Rattle.tl_geom.specs.declared.rational.Rational.{Rational}
-use Rattle.tl_map.specs.TheMap.{MapChain}
-use Rattle.tl_map.specs.Segments.{IsSegmentOf}
+use Rattle.tl_county.specs.TheMap.{MapChain}
+use Rattle.tl_county.specs.Segments.{IsSegmentOf}
 use Rattle.tl_planar.specs.Planar.{IsOnSegment, IsChainEnd, MayShareWithin}
 
 -- the rational point lies on segments s and t: s is segment i of chain c, and t is segment j of chain d

@@ -4,7 +4,7 @@ use Rattle.tl_geom.specs.declared.point.Point.{Point}
 use Rattle.tl_geom.specs.declared.rational.Rational.{Rational}
 use Rattle.tl_geom.specs.declared.segment.Segment.{Segment}
 use Rattle.tl_geom.specs.Plane.{IsOn, IsSame, whole, end_a, end_b}
-use Rattle.tl_map.specs.TheMap.{MapChain}
+use Rattle.tl_county.specs.TheMap.{MapChain}
 
 -- the rational point is point k of a chain's points
 pub record IsVertex (points : List Point) (k : ℕ) (r : Rational) : Type 0 where

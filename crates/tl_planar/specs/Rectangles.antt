@@ -4,7 +4,7 @@ use Rattle.std.specs.Int.{int_max, int_min}
 use Rattle.tl_geom.specs.declared.point.Point.{Point}
 use Rattle.tl_geom.specs.declared.rect.Rect.{Rect}
 use Rattle.tl_geom.specs.Rectangle.{nothing}
-use Rattle.tl_map.specs.TheMap.{MapChain}
+use Rattle.tl_county.specs.TheMap.{MapChain}
 
 -- the least rectangle that holds two points, and so the segment between them
 abbrev pub rect_between : (p q : Point) → Rect

@@ -5,8 +5,8 @@ use Rattle.tl_geom.specs.declared.rational.Rational.{Rational}
 use Rattle.tl_geom.specs.declared.segment.Segment.{Segment}
 use Rattle.tl_geom.specs.Plane.{whole}
 use Rattle.tl_geom.specs.Contact.{MeetAtEnds, IsCrossing}
-use Rattle.tl_map.specs.TheMap.{MapChain}
-use Rattle.tl_map.specs.Segments.{segments_before, Joins}
+use Rattle.tl_county.specs.TheMap.{MapChain}
+use Rattle.tl_county.specs.Segments.{segments_before, Joins}
 use Rattle.tl_tree.specs.Searches.{meeting_pairs}
 use Rattle.tl_planar.specs.declared.meet.Meet.{Meet}
 use Rattle.tl_planar.specs.declared.meet.Meeting.{Meeting}

@@ -2,12 +2,12 @@
 ghost use Rattle.std.specs.Prelude.{◌≡◌, ◌⊎◌, ◌↔◌, ℕ, ◌+◌, ◌-◌, ◌<◌, ◌≤◌, ◌*ℤ◌, Some, length, slice_get, IsTrue};
 ghost use Rattle.tl_geom.specs.declared.rational.Rational.{Rational};
 ghost use Rattle.tl_geom.specs.Plane.{IsSame, whole};
-ghost use Rattle.tl_map.specs.Segments.{segments_before, IsSegmentOf, Joins};
+ghost use Rattle.tl_county.specs.Segments.{segments_before, IsSegmentOf, Joins};
 ghost use Rattle.tl_planar.specs.Planar.{IsChainEnd, IsClosingPoint, MayShareWithin};
 ghost use Rattle.tl_planar.specs.Meets.{IsSharedBy, IsAllowed};
 
+use tl_county::Map;
 use tl_geom::{Point, Rational, Segment};
-use tl_map::Map;
 
 /// The points that two segments may share, two at most.
 #[derive(Clone, Copy)]

@@ -1,12 +1,12 @@
 //! The search for a place where a map's chains meet that they may not.
 ghost use Rattle.std.specs.Prelude.{length};
-ghost use Rattle.tl_map.specs.Segments.{segments_before};
+ghost use Rattle.tl_county.specs.Segments.{segments_before};
 ghost use Rattle.tl_planar.specs.Rectangles.{segment_rect};
 ghost use Rattle.tl_planar.specs.Searching.{MayMeet};
 
 use crate::Segments;
+use tl_county::Map;
 use tl_geom::Rational;
-use tl_map::Map;
 use tl_tree::{BoxIndex, Search};
 
 /// Segment `s` of the chain `tlid` and segment `t` of the chain `other`, `s` below `t`, share the point `at`, and they may

@@ -3,8 +3,8 @@
 use crate::allowed::allowed_points;
 use crate::pair::refused_point;
 use std::marker::Model;
+use tl_county::Map;
 use tl_geom::{Rational, Rect};
-use tl_map::Map;
 use tl_tree::Items;
 
 /// The segments of a map, by their numbers. Two of them conflict where they share a point that they may not share; it is
@@ -17,7 +17,7 @@ pub struct Segments<'a> {
 
 impl<'a> Model for Segments<'a> {
     ghost use Rattle.std.specs.Prelude.{List};
-    ghost use Rattle.tl_map.specs.TheMap.{MapChain};
+    ghost use Rattle.tl_county.specs.TheMap.{MapChain};
 
     ghost Value = { List MapChain };
 
@@ -44,7 +44,7 @@ impl<'a> Segments<'a> {
 
 impl<'a> Items for Segments<'a> {
     ghost use Rattle.std.specs.Prelude.{length};
-    ghost use Rattle.tl_map.specs.Segments.{segments_before};
+    ghost use Rattle.tl_county.specs.Segments.{segments_before};
     ghost use Rattle.tl_planar.specs.Rectangles.{segment_rect};
     ghost use Rattle.tl_planar.specs.Searching.{MayTell};
     ghost use Rattle.tl_planar.specs.Keeping.Apart.{apart_are_free};

@@ -6,7 +6,7 @@ use Rattle.std.proofs.lemmas.Int.{ints}
 use Rattle.std.proofs.lemmas.List.{length-append, get_or_default, get_or_append_left, get_or-append_right}
 use Rattle.std.proofs.lemmas.Option.{slice_get_within}
 use Rattle.tl_geom.specs.declared.point.Point.{Point}
-use Rattle.tl_map.specs.TheMap.{TheMap, MapChain}
+use Rattle.tl_county.specs.TheMap.{TheMap, MapChain}
 use Rattle.tl_tree.specs.Hits.{AreHits, Adds}
 use Rattle.tl_sides.specs.Lists.{list_at}
 use Rattle.tl_sides.specs.Sides.{dart_count, IsRing, SidesAgree}
@@ -21,8 +21,8 @@ use Rattle.tl_inside.specs.Keeping.Tallies.{TellCounts}
 use Rattle.tl_inside.proofs.Reaching.{all_below}
 use Rattle.tl_inside.proofs.Stripping.{one_more}
 use Rattle.tl_crossings.specs.Headings.{AreProper}
-use Rattle.tl_map.specs.declared.sides.Side.TheVariants.{Outside}
-use Rattle.tl_map.specs.Darts.{dart_left}
+use Rattle.tl_county.specs.declared.sides.Side.TheVariants.{Outside}
+use Rattle.tl_county.specs.Darts.{dart_left}
 use Rattle.tl_crossings.specs.Rings.{winding, rings_count, ring_count as of_ring}
 use Rattle.tl_crossings.proofs.OneLeft.{counts_whole}
 use Rattle.tl_crossings.proofs.RingCounts.{hits_count}

@@ -1,7 +1,7 @@
 -- Rings of darts, each with a rectangle.
 use Rattle.std.specs.Prelude.{◌≡◌, ℕ, ◌<◌, pos, List, length, slice_index_or}
 use Rattle.tl_geom.specs.declared.rect.Rect.{Rect}
-use Rattle.tl_map.specs.TheMap.{MapChain}
+use Rattle.tl_county.specs.TheMap.{MapChain}
 use Rattle.tl_sides.specs.Lists.{list_at}
 use Rattle.tl_crossings.specs.Rings.{HoldsRing}
 

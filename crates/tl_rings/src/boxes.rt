@@ -4,8 +4,8 @@ ghost use Rattle.std.specs.Prelude.{◌<◌, ◌*◌, length, All};
 ghost use Rattle.tl_geom.specs.Rectangle.{Holds};
 ghost use Rattle.tl_crossings.specs.Rings.{HoldsRing};
 
+use tl_county::Map;
 use tl_geom::{Point, Rect};
-use tl_map::Map;
 
 /// A rectangle that holds each point of a ring.
 pub fn box_of_ring(map: &Map, ring: &[u32]) -> Rect

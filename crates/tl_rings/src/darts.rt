@@ -3,17 +3,17 @@
 ghost use Rattle.std.specs.Prelude.{◌≡◌, ◌↔◌, ◌<◌, ◌*◌, pos, ◌<ℤ◌, ◌≤ℤ◌, int_lt};
 ghost use Rattle.std.specs.Prelude.{IsTrue, Some, length, slice_index, All, OnOk};
 ghost use Rattle.tl_geom.specs.Plane.{turn_of};
-ghost use Rattle.tl_map.specs.declared.sides.Side.TheVariants.{Outside};
-ghost use Rattle.tl_map.specs.Darts.{dart_left};
+ghost use Rattle.tl_county.specs.declared.sides.Side.TheVariants.{Outside};
+ghost use Rattle.tl_county.specs.Darts.{dart_left};
 ghost use Rattle.tl_sides.specs.Sides.{IsRing, SidesAgree};
 ghost use Rattle.tl_sides.specs.Walks.{AreWalks};
 ghost use Rattle.tl_crossings.specs.Rings.{goes_up_across, crossing, crossings, ring_count, rings_count};
 ghost use Rattle.tl_rings.specs.Keeping.Looking.{AddCounts, on_side, left_count};
 
 use crate::rings::Rings;
+use tl_county::{Map, Side};
 use tl_geom::{Point, turn};
 use tl_inside::Flanks;
-use tl_map::{Map, Side};
 use tl_tree::Memory;
 
 /// Appends flanks that tell the counts at a point which the rings of these numbers add.

@@ -1,8 +1,8 @@
 //! How many chains lie at a height.
 
 use std::alloc::Global;
+use tl_county::Map;
 use tl_geom::Point;
-use tl_map::Map;
 use tl_tree::Memory;
 
 // How many heights are told apart.

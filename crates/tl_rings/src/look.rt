@@ -1,7 +1,7 @@
 //! A look at the point of one polygon.
 
 ghost use Rattle.std.specs.Prelude.{◌≡◌, ◌<◌, ◌^◌, length, All, IfOk, OnOk};
-ghost use Rattle.tl_map.specs.Segments.{segments_before};
+ghost use Rattle.tl_county.specs.Segments.{segments_before};
 ghost use Rattle.tl_planar.specs.Rectangles.{segment_rect};
 ghost use Rattle.tl_sides.specs.Sides.{SidesAgree};
 ghost use Rattle.tl_sides.specs.Walks.{AreWalks};
@@ -16,9 +16,9 @@ use crate::darts::{has_outside, list_rings};
 use crate::heights::Heights;
 use crate::rings::Rings;
 use crate::spot::Spot;
+use tl_county::Map;
 use tl_geom::Point;
 use tl_inside::{Flanks, Misplaced, Site, chain_at, misplaced_by, on_chain};
-use tl_map::Map;
 use tl_tree::{BoxIndex, Memory};
 
 /// What is found of a polygon's point.

@@ -1,7 +1,7 @@
 //! Polygons' points that don't lie where they have to.
 
 ghost use Rattle.std.specs.Prelude.{◌≡◌, ℕ, ◌<◌, ◌^◌, [], length, All, Contains, IfOk, OnOk, MatchOption};
-ghost use Rattle.tl_map.specs.Segments.{segments_before};
+ghost use Rattle.tl_county.specs.Segments.{segments_before};
 ghost use Rattle.tl_planar.specs.Rectangles.{segment_rect};
 ghost use Rattle.tl_sides.specs.Sides.{SidesAgree};
 ghost use Rattle.tl_sides.specs.Walks.{AreWalks};
@@ -18,9 +18,9 @@ use crate::look::{Look, look_at};
 use crate::rings::Rings;
 use crate::sites::{polygons_along, site_of};
 use std::alloc::Global;
+use tl_county::Map;
 use tl_crossings::look_at_chains;
 use tl_inside::{Flanks, Misplaced, Site, find_among, no_counts, push_site};
-use tl_map::Map;
 use tl_pack::pack;
 use tl_tree::{BoxIndex, FlatTree, Memory, TreeStop};
 

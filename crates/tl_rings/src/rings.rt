@@ -9,8 +9,8 @@ use crate::laid::Laid;
 use crate::lent::{list_among, take_or_lay};
 use std::alloc::Global;
 use std::marker::Model;
+use tl_county::Map;
 use tl_geom::Rect;
-use tl_map::Map;
 use tl_tree::{Items, Memory};
 
 /// Rings of darts of a map, and a rectangle about each. They are the items of a tree. Rings that are lent are kept where

@@ -6,9 +6,9 @@ ghost use Rattle.tl_inside.specs.Keeping.Strips.{IsSiteOf};
 
 use std::alloc::Global;
 use std::marker::Model;
+use tl_county::Map;
 use tl_geom::Rect;
 use tl_inside::Site;
-use tl_map::Map;
 use tl_pack::{Placed, order_items};
 use tl_tree::{Items, Memory};
 
@@ -19,7 +19,7 @@ struct Points<'a> {
 }
 
 impl<'a> Model for Points<'a> {
-    ghost use Rattle.tl_map.specs.TheMap.{TheMap};
+    ghost use Rattle.tl_county.specs.TheMap.{TheMap};
 
     ghost Value = { TheMap };
 

@@ -4,10 +4,10 @@ use Rattle.std.specs.Prelude.{slice_get, slice_index, ◌==◌, if◌then◌else
 use Rattle.std.specs.List.{concat, filter}
 use Rattle.std.specs.Option.{option_map}
 use Rattle.std.proofs.lemmas.Bool.{cases_lt, eqb-true, eqb-false, eq-eqb, true≢false}
-use Rattle.tl_map.specs.declared.sides.Side.{Side}
-use Rattle.tl_map.specs.declared.sides.Side.TheVariants.{Outside, Polygon}
-use Rattle.tl_map.specs.TheMap.{MapChain}
-use Rattle.tl_map.specs.Darts.{is_along, reverse_dart, dart_left}
+use Rattle.tl_county.specs.declared.sides.Side.{Side}
+use Rattle.tl_county.specs.declared.sides.Side.TheVariants.{Outside, Polygon}
+use Rattle.tl_county.specs.TheMap.{MapChain}
+use Rattle.tl_county.specs.Darts.{is_along, reverse_dart, dart_left}
 use Rattle.tl_tree.specs.Hits.{times}
 use Rattle.tl_tree.proofs.Hitting.{times-append}
 use Rattle.tl_sides.specs.Lists.{EachList}

@@ -3,8 +3,8 @@ use Rattle.std.proofs.Common.{◌≡◌, ℕ, ◌+◌, ◌-◌, ◌/◌, ◌%◌
 use Rattle.std.specs.Prelude.{slice_get, slice_index}
 use Rattle.std.specs.Option.{option_and_then}
 use Rattle.std.proofs.lemmas.Bool.{eqb-true, eqb-false}
-use Rattle.tl_map.specs.TheMap.{MapChain}
-use Rattle.tl_map.specs.Darts.{directed, is_along, reverse_dart, dart_start, dart_end, dart_left}
+use Rattle.tl_county.specs.TheMap.{MapChain}
+use Rattle.tl_county.specs.Darts.{directed, is_along, reverse_dart, dart_start, dart_end, dart_left}
 use Rattle.tl_sides.specs.declared.next.Next.{Next}
 use Rattle.tl_sides.specs.Sides.{dart_count, dart_right, IsNext, SidesAgree, Follows}
 use Rattle.tl_sides.specs.Keeping.Rounded.{KeepNext}

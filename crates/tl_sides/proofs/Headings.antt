@@ -10,8 +10,8 @@ use Rattle.tl_geom.proofs.Polynomials.{num, ◌⊖◌, ◌⊗◌, same}
 use Rattle.tl_geom.proofs.Halves.{halves, same_way, AreOneHalf}
 use Rattle.tl_geom.proofs.Order.{before_of, not_after, not_one}
 use Rattle.tl_geom.proofs.Within.{alike_below, alike_above}
-use Rattle.tl_map.specs.TheMap.{MapChain}
-use Rattle.tl_map.specs.Darts.{Heads, dart_start, directed, is_along}
+use Rattle.tl_county.specs.TheMap.{MapChain}
+use Rattle.tl_county.specs.Darts.{Heads, dart_start, directed, is_along}
 use Rattle.tl_sides.specs.Sides.{dart_count}
 use Rattle.tl_sides.specs.Rounds.{HeadsBefore}
 

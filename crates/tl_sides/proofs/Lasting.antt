@@ -1,6 +1,6 @@
 -- Faults that stay true, whatever lists follow.
 use Rattle.std.proofs.Common.{◌≡◌, ℕ, ◌<◌, ◌≤◌, List, ◌++◌, length, length-append, arith}
-use Rattle.tl_map.specs.TheMap.{MapChain}
+use Rattle.tl_county.specs.TheMap.{MapChain}
 use Rattle.tl_sides.specs.Lists.{times_in, and_list, list_at}
 use Rattle.tl_sides.specs.Rounds.{IsRepeated}
 use Rattle.tl_sides.proofs.ListLemmas.{times-more, list-kept}

@@ -5,10 +5,10 @@ use Rattle.std.specs.Option.{option_and_then}
 use Rattle.std.proofs.lemmas.Bool.{cases_lt}
 use Rattle.std.proofs.lemmas.Option.{slice_get-get_or}
 use Rattle.tl_geom.specs.declared.point.Point.{Point}
-use Rattle.tl_map.specs.TheMap.{MapChain}
-use Rattle.tl_map.specs.Darts.{dart_start}
-use Rattle.tl_map.specs.Nodes.{AreNodes}
-use Rattle.tl_map.proofs.NodeLemmas.{one_number}
+use Rattle.tl_county.specs.TheMap.{MapChain}
+use Rattle.tl_county.specs.Darts.{dart_start}
+use Rattle.tl_county.specs.Nodes.{AreNodes}
+use Rattle.tl_county.proofs.NodeLemmas.{one_number}
 use Rattle.tl_sides.specs.Rounds.{round_start, HasTwoNodes}
 
 -- a round starts where its first dart does

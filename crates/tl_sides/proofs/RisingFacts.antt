@@ -4,8 +4,8 @@ use Rattle.std.specs.Prelude.{slice_index}
 use Rattle.std.proofs.lemmas.Bool.{cases_lt}
 use Rattle.tl_geom.specs.declared.direction.Direction.{Direction}
 use Rattle.tl_geom.specs.Turning.{IsBelow}
-use Rattle.tl_map.specs.TheMap.{MapChain}
-use Rattle.tl_map.specs.Darts.{Heads}
+use Rattle.tl_county.specs.TheMap.{MapChain}
+use Rattle.tl_county.specs.Darts.{Heads}
 use Rattle.tl_sides.specs.Rounds.{HeadsBefore, HasFall}
 
 -- the heading of the dart before the place, and what is known of the darts so far

@@ -5,12 +5,12 @@ use Rattle.std.specs.Vec.{with_items}
 use Rattle.std.proofs.lemmas.List.{with_items_is}
 use Rattle.std.proofs.lemmas.Bool.{cases_lt, false≢true}
 use Rattle.tl_geom.specs.declared.point.Point.{Point}
-use Rattle.tl_map.specs.TheMap.{MapChain}
-use Rattle.tl_map.specs.Darts.{dart_start}
-use Rattle.tl_map.specs.Nodes.{AreNodes}
+use Rattle.tl_county.specs.TheMap.{MapChain}
+use Rattle.tl_county.specs.Darts.{dart_start}
+use Rattle.tl_county.specs.Nodes.{AreNodes}
 use Rattle.tl_tree.specs.Hits.{times}
 use Rattle.tl_tree.specs.Keeping.Checking.{mark_at}
-use Rattle.tl_map.proofs.NodeLemmas.{one_number}
+use Rattle.tl_county.proofs.NodeLemmas.{one_number}
 use Rattle.tl_tree.proofs.Permuted.{same_or}
 use Rattle.tl_tree.proofs.Marks.{times-at}
 use Rattle.tl_sides.specs.declared.rounds.Rounds.{Rounds}

@@ -4,7 +4,7 @@ use Rattle.std.specs.Vec.{with_items}
 use Rattle.std.proofs.lemmas.List.{with_items_is}
 use Rattle.std.specs.Prelude.{slice_index}
 use Rattle.std.proofs.lemmas.Bool.{cases_lt}
-use Rattle.tl_map.specs.TheMap.{MapChain}
+use Rattle.tl_county.specs.TheMap.{MapChain}
 use Rattle.tl_sides.specs.declared.walks.Walks.{Walks}
 use Rattle.tl_sides.specs.Lists.{before, and_list}
 use Rattle.tl_sides.specs.Sides.{dart_count, Follows, IsRing}

@@ -7,8 +7,8 @@ use Rattle.tl_geom.specs.declared.direction.Direction.{Direction}
 use Rattle.tl_geom.specs.Turning.{IsOneDirection, IsWithin, full, IsBelow}
 use Rattle.tl_geom.proofs.Order.{one_back}
 use Rattle.tl_geom.proofs.Within.{below_trans, below_between, below_around}
-use Rattle.tl_map.specs.TheMap.{MapChain}
-use Rattle.tl_map.specs.Darts.{Heads, dart_start}
+use Rattle.tl_county.specs.TheMap.{MapChain}
+use Rattle.tl_county.specs.Darts.{Heads, dart_start}
 use Rattle.tl_sides.specs.Lists.{before, HoldOnce, list_at, EachList}
 use Rattle.tl_sides.specs.Sides.{dart_count, IsNext}
 use Rattle.tl_sides.specs.Rounds.{HeadsBefore, round_start, HasOneNode, AreRising}

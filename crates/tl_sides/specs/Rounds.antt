@@ -4,8 +4,8 @@ use Rattle.std.specs.Option.{option_and_then}
 use Rattle.tl_geom.specs.declared.point.Point.{Point}
 use Rattle.tl_geom.specs.declared.direction.Direction.{Direction}
 use Rattle.tl_geom.specs.Turning.{IsBelow}
-use Rattle.tl_map.specs.TheMap.{MapChain}
-use Rattle.tl_map.specs.Darts.{dart_start, Heads}
+use Rattle.tl_county.specs.TheMap.{MapChain}
+use Rattle.tl_county.specs.Darts.{dart_start, Heads}
 use Rattle.tl_sides.specs.declared.fault.RoundFault.{RoundFault}
 use Rattle.tl_sides.specs.declared.fault.RoundFault.TheVariants.{UnknownDart, DartTwice, DartMissing, StartsElsewhere, NodeRepeated, OrderNotRising}
 use Rattle.tl_sides.specs.Lists.{HoldOnce, times_in, list_at, EachList}

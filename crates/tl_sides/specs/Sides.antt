@@ -5,9 +5,9 @@ use Rattle.std.specs.List.{concat}
 use Rattle.tl_geom.specs.declared.point.Point.{Point}
 use Rattle.tl_geom.specs.declared.direction.Direction.{Direction}
 use Rattle.tl_geom.specs.Turning.{IsWithin}
-use Rattle.tl_map.specs.declared.sides.Side.{Side}
-use Rattle.tl_map.specs.TheMap.{MapChain}
-use Rattle.tl_map.specs.Darts.{reverse_dart, dart_start, dart_end, dart_left, Heads}
+use Rattle.tl_county.specs.declared.sides.Side.{Side}
+use Rattle.tl_county.specs.TheMap.{MapChain}
+use Rattle.tl_county.specs.Darts.{reverse_dart, dart_start, dart_end, dart_left, Heads}
 use Rattle.tl_tree.specs.Hits.{times}
 use Rattle.tl_sides.specs.Lists.{before}
 

@@ -1,6 +1,6 @@
 -- Walks: rings in which each dart of a map stands once.
 use Rattle.std.specs.Prelude.{◌≡◌, ℕ, zero, suc, ◌<◌, ◌≤◌, List, length, slice_index}
-use Rattle.tl_map.specs.TheMap.{MapChain}
+use Rattle.tl_county.specs.TheMap.{MapChain}
 use Rattle.tl_sides.specs.declared.fault.WalkFault.{WalkFault}
 use Rattle.tl_sides.specs.declared.fault.WalkFault.TheVariants.{UnknownDart, DartTwice, DartMissing, WrongStep, NotClosed}
 use Rattle.tl_sides.specs.Lists.{before, HoldOnce, times_in, list_at, EachList}

@@ -1,8 +1,8 @@
 //! Laws of the definitions, each the contract of a function that does nothing.
 
 ghost use Rattle.std.specs.Prelude.{ℕ, List};
-ghost use Rattle.tl_map.specs.TheMap.{MapChain};
-ghost use Rattle.tl_map.specs.declared.sides.Side.{Side};
+ghost use Rattle.tl_county.specs.TheMap.{MapChain};
+ghost use Rattle.tl_county.specs.declared.sides.Side.{Side};
 ghost use Rattle.tl_sides.specs.Sides.{SidesAgree, IsClosed};
 ghost use Rattle.tl_sides.specs.Walks.{AreWalks};
 

@@ -1,12 +1,12 @@
 //! The next dart about its node of each dart.
 
 ghost use Rattle.std.specs.Prelude.{◌≡◌, ◌≢◌, ◌<◌, ◌↔◌, IsTrue, IsFalse, IsNone, IfSome};
-ghost use Rattle.tl_map.specs.Darts.{reverse_dart, dart_left};
+ghost use Rattle.tl_county.specs.Darts.{reverse_dart, dart_left};
 ghost use Rattle.tl_sides.specs.Sides.{dart_count, dart_right, IsNext, SidesAgree, Follows};
 ghost use Rattle.tl_sides.specs.Keeping.Rounded.{KeepNext};
 
 use crate::fault::Disagreement;
-use tl_map::{Map, Side};
+use tl_county::{Map, Side};
 
 /// Of each dart of a map the next one about the node where it starts.
 #[derive(Drop)]

@@ -2,7 +2,7 @@
 
 ghost use Rattle.std.specs.Prelude.{◌≡◌, ℕ, zero, suc, ◌<◌, ◌≤◌, ◌++◌, List, [], length, slice_index, IsTrue, IsFalse, OnOk, IfOk, IfErr};
 ghost use Rattle.tl_geom.specs.declared.point.Point.{Point};
-ghost use Rattle.tl_map.specs.Nodes.{AreNodes};
+ghost use Rattle.tl_county.specs.Nodes.{AreNodes};
 ghost use Rattle.tl_tree.specs.Hits.{times};
 ghost use Rattle.tl_sides.specs.Lists.{and_list};
 ghost use Rattle.tl_sides.specs.Sides.{dart_count};
@@ -14,8 +14,8 @@ use crate::marks::{MarkFault, first_unmarked, mark_darts};
 use crate::next::Next;
 use std::alloc::Global;
 use std::cmp::Ordering;
+use tl_county::Map;
 use tl_geom::round_cmp;
-use tl_map::Map;
 use tl_tree::Memory;
 
 /// The rounds of a map that were taken so far, none of which was wrong. No round is kept: beside marks, only the next dart

@@ -11,7 +11,7 @@ use crate::fault::WalkFault;
 use crate::marks::{MarkFault, first_unmarked, mark_darts};
 use crate::next::Next;
 use std::alloc::Global;
-use tl_map::Map;
+use tl_county::Map;
 use tl_tree::Memory;
 
 /// The walks of a map that were taken so far, none of which was wrong. No walk is kept.

@@ -1,8 +1,8 @@
 -- The lines of landmarks, one by one.
 use Rattle.std.proofs.Common.{◌≡◌, ℕ, zero, suc, ◌+◌, ◌<◌, List, [], ◌∷◌, ◌++◌, length, take, slice_get, get_or, Some, refl, sym, ap, ◌∙◌, append_assoc, append-nil, add-one, arith}
 use Rattle.std.proofs.Math.Seq.{take-suc}
-use Rattle.tl_map.specs.declared.polygons.Polygon.{Polygon}
-use Rattle.tl_map.specs.TheMap.{MapLandmark}
+use Rattle.tl_county.specs.declared.polygons.Polygon.{Polygon}
+use Rattle.tl_county.specs.TheMap.{MapLandmark}
 use Rattle.tl_text.specs.Printing.{polygon_text, polygons_text, listed_text, landmark_text, landmark_lines}
 
 module _ (polygons : List Polygon) where

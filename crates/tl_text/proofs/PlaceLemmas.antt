@@ -1,7 +1,7 @@
 -- The landmarks of a place, one by one.
 use Rattle.std.proofs.Common.{◌≡◌, ℕ, ◌+◌, ◌<◌, List, [], ◌∷◌, ◌++◌, length, take, get_or, refl, sym, ap, ◌∙◌, append_assoc, append-nil, add-one, arith}
 use Rattle.std.proofs.Math.Seq.{take-suc}
-use Rattle.tl_map.specs.TheMap.{MapLandmark}
+use Rattle.tl_county.specs.TheMap.{MapLandmark}
 use Rattle.tl_text.specs.Places.{land_text, lands_text, listed_lands}
 
 module _ (landmarks : List MapLandmark) where

@@ -1,7 +1,7 @@
 -- The line of a place in a map.
 use Rattle.std.specs.Prelude.{ℕ, List, [], ◌∷◌, ◌++◌, codes, decimal, slice_get}
 use Rattle.std.specs.Option.{option_map_or}
-use Rattle.tl_map.specs.TheMap.{TheMap, MapChain, MapLandmark}
+use Rattle.tl_county.specs.TheMap.{TheMap, MapChain, MapLandmark}
 use Rattle.tl_text.specs.Printing.{listed_text}
 
 -- the line of a point on the chain with this number

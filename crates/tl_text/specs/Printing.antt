@@ -4,9 +4,9 @@ use Rattle.std.specs.Option.{option_map_or}
 use Rattle.std.specs.Fmt.{signed_decimal}
 use Rattle.tl_geom.specs.declared.point.Point.{Point}
 use Rattle.tl_record.specs.KeyText.{key_text}
-use Rattle.tl_map.specs.declared.polygons.Polygon.{Polygon}
-use Rattle.tl_map.specs.TheMap.{TheMap, MapLandmark}
-use Rattle.tl_map.specs.Chains.{CompleteChain, ChainList, segment_count}
+use Rattle.tl_county.specs.declared.polygons.Polygon.{Polygon}
+use Rattle.tl_county.specs.TheMap.{TheMap, MapLandmark}
+use Rattle.tl_county.specs.Chains.{CompleteChain, ChainList, segment_count}
 
 -- a blank, the longitude, a comma and the latitude
 unfoldable pub point_text : Point → List ℕ

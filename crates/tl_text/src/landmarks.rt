@@ -10,8 +10,8 @@ ghost use Rattle.tl_output.specs.Writing.{CountsFailure};
 use crate::print::print_point;
 use itoa::Buffer;
 use std::io;
+use tl_county::{Landmark, Map};
 use tl_geom::Point;
-use tl_map::{Landmark, Map};
 use tl_output::OutputBuffer;
 use tl_record::{PolyKey, Sink};
 

@@ -8,7 +8,7 @@ ghost use Rattle.tl_output.specs.Writing.{CountsFailure};
 use crate::landmarks::print_listed;
 use itoa::Buffer;
 use std::io;
-use tl_map::Map;
+use tl_county::Map;
 use tl_output::OutputBuffer;
 use tl_record::Sink;
 

@@ -8,8 +8,8 @@ ghost use Rattle.tl_output.specs.Writing.{CountsFailure};
 use arrayvec::ArrayString;
 use itoa::Buffer;
 use std::io;
+use tl_county::Chains;
 use tl_geom::Point;
-use tl_map::Chains;
 use tl_output::OutputBuffer;
 use tl_record::Sink;
 

@@ -2,9 +2,9 @@
 use Rattle.std.specs.Prelude.{◌≡◌, ◌⊎◌, ℕ, ◌+◌, ◌<◌, List, [], ◌∷◌, length, map, slice_get, slice_index_or, All, Contains}
 use Rattle.std.specs.List.{AllPairs}
 use Rattle.tl_geom.specs.declared.point.Point.{Point}
-use Rattle.tl_map.specs.TheMap.{MapChain}
-use Rattle.tl_map.specs.Darts.{dart_start, Heads}
-use Rattle.tl_map.specs.Nodes.{AreNodes}
+use Rattle.tl_county.specs.TheMap.{MapChain}
+use Rattle.tl_county.specs.Darts.{dart_start, Heads}
+use Rattle.tl_county.specs.Nodes.{AreNodes}
 use Rattle.tl_geom.specs.Turning.{IsBelow}
 use Rattle.tl_build.specs.declared.rounds.DartStart.{DartStart}
 use Rattle.tl_build.specs.Keeping.Lists.{darts_in}

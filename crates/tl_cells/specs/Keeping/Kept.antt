@@ -4,9 +4,9 @@ use Rattle.std.specs.List.Sorted.{IsSortedByKey}
 use Rattle.std.specs.Option.{option_map, option_cmp}
 use Rattle.std.specs.Ordering.{nat_cmp}
 use Rattle.tl_geom.specs.declared.point.Point.{Point}
-use Rattle.tl_map.specs.TheMap.{MapChain}
-use Rattle.tl_map.specs.Darts.{dart_start}
-use Rattle.tl_map.specs.Nodes.{AreNodes}
+use Rattle.tl_county.specs.TheMap.{MapChain}
+use Rattle.tl_county.specs.Darts.{dart_start}
+use Rattle.tl_county.specs.Nodes.{AreNodes}
 use Rattle.tl_cells.specs.declared.at_odds.CellsAtOdds.{CellsAtOdds}
 use Rattle.tl_cells.specs.declared.kept.NodeCell.{NodeCell}
 use Rattle.tl_cells.specs.Cells.{HasCell}

@@ -1,6 +1,6 @@
 -- What was found of a certificate's rounds and walks so far, behind counts that are the map's and a tree that was taken.
 use Rattle.std.specs.Prelude.{◌≡◌, ℕ, ◌<◌, ◌≤◌, List, [], ◌++◌, length, ⊤}
-use Rattle.tl_map.specs.TheMap.{TheMap}
+use Rattle.tl_county.specs.TheMap.{TheMap}
 use Rattle.tl_planar.specs.Planar.{IsPlanar}
 use Rattle.tl_planar.specs.Searching.{meeting_segments}
 use Rattle.tl_sides.specs.Sides.{SidesAgree}

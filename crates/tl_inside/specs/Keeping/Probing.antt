@@ -8,8 +8,8 @@ use Rattle.tl_geom.specs.declared.segment.Segment.{Segment}
 use Rattle.tl_geom.specs.Plane.{IsOn, whole}
 use Rattle.tl_geom.specs.Rectangle.{Holds, AreMeeting, ray_rect, spot_rect}
 use Rattle.tl_geom.proofs.Rectangles.{on_holds}
-use Rattle.tl_map.specs.TheMap.{MapChain}
-use Rattle.tl_map.specs.Segments.{segments_before, IsSegmentOf, Joins}
+use Rattle.tl_county.specs.TheMap.{MapChain}
+use Rattle.tl_county.specs.Segments.{segments_before, IsSegmentOf, Joins}
 use Rattle.tl_planar.specs.Rectangles.{segment_rect}
 use Rattle.tl_planar.proofs.Rects.{rect_by_number}
 use Rattle.tl_inside.specs.Inside.{IsCrossed}

@@ -1,6 +1,6 @@
 -- How often the polygons of a landmark are near and far together, as it is summed up.
 use Rattle.std.specs.Prelude.{ℕ, Bool, not, ◌==◌, Option, None, Some, List, [], sum_by, slice_get, slice_index}
-use Rattle.tl_map.specs.TheMap.{MapLandmark}
+use Rattle.tl_county.specs.TheMap.{MapLandmark}
 
 -- the sum of the counts of these polygons
 abbrev pub sum_at : (counts polygons : List ℕ) → ℕ

@@ -1,9 +1,9 @@
 -- How often sides are near and far over crossed segments, as it is counted for all polygons at once.
 use Rattle.std.specs.Prelude.{◌≡◌, ◌≢◌, ℕ, ◌<◌, ◌≤◌, Bool, false, List, length, map, count_by, slice_index}
 use Rattle.tl_geom.specs.declared.point.Point.{Point}
-use Rattle.tl_map.specs.declared.sides.Side.{Side}
-use Rattle.tl_map.specs.declared.sides.Side.TheVariants.{Outside}
-use Rattle.tl_map.specs.TheMap.{MapChain}
+use Rattle.tl_county.specs.declared.sides.Side.{Side}
+use Rattle.tl_county.specs.declared.sides.Side.TheVariants.{Outside}
+use Rattle.tl_county.specs.TheMap.{MapChain}
 use Rattle.tl_inside.specs.declared.flanks.Flanks.{Flanks}
 use Rattle.tl_inside.specs.Inside.{flanks_at, balance, is_polygon, IsCount}
 

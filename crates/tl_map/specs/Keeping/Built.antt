@@ -5,7 +5,8 @@ use Rattle.tl_map.specs.declared.entry.ChainEntry.{ChainEntry}
 use Rattle.tl_map.specs.declared.entry.ShapeEntry.{ShapeEntry}
 use Rattle.tl_map.specs.declared.fault.MapStop.{MapStop}
 use Rattle.tl_map.specs.declared.fault.MapStop.TheVariants.{Refused, Device, Memory, Fault}
-use Rattle.tl_map.specs.Chains.{CompleteChain, IsProper, ChainList, AreChainsOf, has_gap, pairs_of}
+use Rattle.tl_county.specs.Chains.{CompleteChain, IsProper, ChainList}
+use Rattle.tl_map.specs.ChainsOf.{AreChainsOf, has_gap, pairs_of}
 use Rattle.tl_map.specs.Faults.{IsTrueOf, HaveNoChainFault}
 use Rattle.tl_map.specs.Keeping.Entries.{chains_with, AreRising, ArePlaced}
 

@@ -8,7 +8,8 @@ use Rattle.tl_map.specs.declared.entry.ChainEntry.{ChainEntry}
 use Rattle.tl_map.specs.declared.entry.ShapeEntry.{ShapeEntry}
 use Rattle.tl_map.specs.declared.entry.Fill.{Fill}
 use Rattle.tl_map.specs.declared.entry.Fill.TheVariants.{Full, Ended, Gap}
-use Rattle.tl_map.specs.Chains.{same_point, used, has_gap, CompleteChain}
+use Rattle.tl_map.specs.ChainsOf.{same_point, used, has_gap}
+use Rattle.tl_county.specs.Chains.{CompleteChain}
 
 -- is one of the pairs unused
 abbrev pub some_unused : List (Option Point) → Bool

@@ -1,5 +1,5 @@
 -- Kept on the way: the first record of each landmark, links by number, and the rows of landmarks.
-use Rattle.std.specs.Prelude.{◌≡◌, ℕ, ◌+◌, ◌<◌, ◌≤◌, ◌==◌, ◌⊎◌, Some, List, [], ◌∷◌, All, length, map, take, drop, filter, Any, Contains, slice_get, slice_index_or}
+use Rattle.std.specs.Prelude.{◌≡◌, ℕ, ◌+◌, ◌<◌, ◌≤◌, ◌==◌, ◌⊎◌, Some, List, [], ◌∷◌, All, length, map, filter, Any, Contains, slice_get, slice_index_or}
 use Rattle.std.specs.Ordering.{nat_cmp}
 use Rattle.std.specs.BTreeMap.{BTreeMap, get}
 use Rattle.std.specs.List.Sorted.{IsNonDecreasingBy, IsPermutation}
@@ -12,12 +12,13 @@ use Rattle.tl_map.specs.declared.fault.Limited.TheVariants.{Landmarks}
 use Rattle.tl_map.specs.declared.fault.MapFault.TheVariants.{TooMany, LinkWithoutLandmark, LinkWithoutPolygon}
 use Rattle.tl_map.specs.declared.fault.MapStop.{MapStop}
 use Rattle.tl_map.specs.declared.fault.MapStop.TheVariants.{Memory, Fault}
-use Rattle.tl_map.specs.declared.landmarks.LinkedLandmarks.{LinkedLandmarks}
-use Rattle.tl_map.specs.declared.landmarks.LandmarkRow.{LandmarkRow}
-use Rattle.tl_map.specs.TheMap.{firsts, place_of, linked_to, MapLandmark}
-use Rattle.tl_map.specs.Faults.{most_landmarks}
-use Rattle.tl_map.specs.Landmarks.{ArePolygonsOf}
+use Rattle.tl_county.specs.declared.landmarks.LinkedLandmarks.{LinkedLandmarks}
+use Rattle.tl_county.specs.declared.landmarks.LandmarkRow.{LandmarkRow}
+use Rattle.tl_map.specs.MapOf.{firsts, place_of, linked_to}
+use Rattle.tl_county.specs.TheMap.{MapLandmark}
+use Rattle.tl_county.specs.Limits.{most_landmarks}
 use Rattle.tl_map.specs.Keeping.Index.{Numbers}
+use Rattle.tl_county.specs.Rows.{IsRow, landmark_in}
 
 -- the LANDs of records
 abbrev pub lands : List LandmarkEntry → List ℕ
@@ -82,18 +83,6 @@ landmark_with links l e = record { land = e.land; point = e.point; polygons = fi
 abbrev pub listed : List Link → ℕ → List LandmarkEntry → List MapLandmark
 listed links l [] = []
 listed links l (e ∷ es) = landmark_with links l e ∷ listed links (l + 1) es
-
--- the row's polygons lie within the list
-abbrev pub IsRow : List ℕ → LandmarkRow → Type 0
-IsRow linked row = row.first + row.count ≤ length linked
-
--- the landmark of a row
-abbrev pub landmark_in : List ℕ → LandmarkRow → MapLandmark
-landmark_in linked row = record { land = row.land; point = row.point; polygons = take row.count (drop row.first linked) }
-
--- the polygons of a row are among n, each once
-abbrev pub HasPolygonsOf : ℕ → List ℕ → LandmarkRow → Type 0
-HasPolygonsOf n linked row = ArePolygonsOf n (landmark_in linked row).polygons
 
 -- the rows are those of the landmarks
 pub record IsLinked (landmarks : List MapLandmark) (linked : List ℕ) (rows : List LandmarkRow) : Type 0 where

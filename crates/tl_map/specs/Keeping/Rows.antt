@@ -1,34 +1,17 @@
 -- Kept on the way: the rows of chains among the points of all chains.
-use Rattle.std.specs.Prelude.{◌≡◌, ℕ, ◌⊎◌, ◌+◌, ◌<◌, ◌≤◌, if◌then◌else◌, List, [], ◌∷◌, ◌++◌, length, map, take, drop, All, Any}
+use Rattle.std.specs.Prelude.{◌≡◌, ℕ, ◌⊎◌, ◌+◌, ◌<◌, if◌then◌else◌, List, [], ◌∷◌, ◌++◌, length, Any}
 use Rattle.std.specs.List.{dedup, flat_map}
 use Rattle.tl_geom.specs.declared.point.Point.{Point}
-use Rattle.tl_map.specs.declared.chains.ChainRow.{ChainRow}
 use Rattle.tl_map.specs.declared.entry.ChainEntry.{ChainEntry}
 use Rattle.tl_map.specs.declared.entry.ShapeEntry.{ShapeEntry}
-use Rattle.tl_map.specs.declared.fault.TheConstants.{SEGMENT_LIMIT}
+use Rattle.tl_county.specs.declared.limits.TheConstants.{SEGMENT_LIMIT}
 use Rattle.tl_map.specs.declared.fault.Limited.TheVariants.{Segments}
 use Rattle.tl_map.specs.declared.fault.MapFault.TheVariants.{DegenerateChain, TooMany}
 use Rattle.tl_map.specs.declared.fault.MapStop.{MapStop}
 use Rattle.tl_map.specs.declared.fault.MapStop.TheVariants.{Memory, Fault}
-use Rattle.tl_map.specs.Chains.{CompleteChain, same_point, segment_count}
+use Rattle.tl_county.specs.Chains.{CompleteChain, segment_count}
+use Rattle.tl_map.specs.ChainsOf.{same_point}
 use Rattle.tl_map.specs.Keeping.Entries.{entry_points}
-
--- the row's points lie within the list
-abbrev pub IsWithin : List Point → ChainRow → Type 0
-IsWithin points row = row.first + row.count ≤ length points
-
--- the chain of a row
-abbrev pub chain_in : List Point → ChainRow → CompleteChain
-chain_in points row = record { tlid = row.tlid; points = take row.count (drop row.first points) }
-
--- the chains of the rows
-abbrev pub chains_in : List Point → List ChainRow → List CompleteChain
-chains_in points rows = map (chain_in points) rows
-
--- the rows lie within the points, and there is no point beside theirs
-pub record IsTable (points : List Point) (rows : List ChainRow) : Type 0 where
-  pub within : All (IsWithin points) rows
-  pub total : length points ≡ segment_count (chains_in points rows) + length rows
 
 -- what dedup leaves of the points that follow p
 abbrev pub dedup_after : Point → List Point → List Point

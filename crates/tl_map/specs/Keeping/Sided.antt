@@ -2,15 +2,15 @@
 use Rattle.std.specs.Prelude.{◌≡◌, ℕ, ◌≤◌, ◌==◌, Option, Some, List, ◌⊎◌, map, count_by, Any, Contains}
 use Rattle.tl_record.specs.declared.record.PolyKey.{PolyKey}
 use Rattle.tl_map.specs.declared.entry.SidesEntry.{SidesEntry}
-use Rattle.tl_map.specs.declared.sides.ChainSides.{ChainSides}
-use Rattle.tl_map.specs.declared.sides.Side.{Side}
+use Rattle.tl_county.specs.declared.sides.ChainSides.{ChainSides}
+use Rattle.tl_county.specs.declared.sides.Side.{Side}
 use Rattle.tl_map.specs.declared.fault.MapStop.{MapStop}
 use Rattle.tl_map.specs.declared.fault.MapStop.TheVariants.{Memory, Fault}
 use Rattle.tl_map.specs.declared.fault.MapFault.{MapFault}
 use Rattle.tl_map.specs.declared.fault.MapFault.TheVariants.{SideWithoutPolygon, ChainWithoutSides, SidesWithoutChain, DuplicateSides}
 use Rattle.std.specs.List.Sorted.{IsPermutation}
 use Rattle.tl_map.specs.Faults.{Names}
-use Rattle.tl_map.specs.TheMap.{side_of}
+use Rattle.tl_map.specs.MapOf.{side_of}
 
 -- what lies on the sides of a record's chain
 abbrev pub sided_by : List PolyKey → SidesEntry → ChainSides

@@ -7,8 +7,8 @@ use Rattle.tl_geom.specs.declared.point.Point.{Point}
 use Rattle.tl_geom.specs.declared.segment.Segment.{Segment}
 use Rattle.tl_geom.specs.Rectangle.{AreMeeting, rect_of, nothing}
 use Rattle.tl_geom.proofs.Rectangles.{shared_meets}
-use Rattle.tl_map.specs.TheMap.{MapChain}
-use Rattle.tl_map.specs.Segments.{segments_before, IsSegmentOf}
+use Rattle.tl_county.specs.TheMap.{MapChain}
+use Rattle.tl_county.specs.Segments.{segments_before, IsSegmentOf}
 use Rattle.tl_planar.specs.Meets.{AreFree}
 use Rattle.tl_planar.specs.Rectangles.{rect_between, rects_from, rects_along, rects_of, segment_rect}
 

@@ -1,10 +1,10 @@
 -- What is found of a polygon's point on the way.
 use Rattle.std.specs.Prelude.{◌≡◌, ℕ, ◌<◌, ℤ, pos, neg_ℤ, ◌+ℤ◌, Bool, false, if◌then◌else◌, Some, List, slice_get, slice_index_or, All, ⊤}
 use Rattle.tl_geom.specs.declared.point.Point.{Point}
-use Rattle.tl_map.specs.declared.polygons.Polygon.{Polygon}
-use Rattle.tl_map.specs.declared.sides.Side.{Side}
-use Rattle.tl_map.specs.declared.sides.Side.TheVariants.{Outside}
-use Rattle.tl_map.specs.TheMap.{TheMap, MapChain}
+use Rattle.tl_county.specs.declared.polygons.Polygon.{Polygon}
+use Rattle.tl_county.specs.declared.sides.Side.{Side}
+use Rattle.tl_county.specs.declared.sides.Side.TheVariants.{Outside}
+use Rattle.tl_county.specs.TheMap.{TheMap, MapChain}
 use Rattle.tl_inside.specs.declared.flanks.Flanks.{Flanks}
 use Rattle.tl_inside.specs.declared.strips.Site.{Site}
 use Rattle.tl_inside.specs.Inside.{balance}

@@ -2,9 +2,9 @@
 use Rattle.std.specs.Prelude.{◌≡◌, ◌≢◌, ℕ, ◌<◌, ◌≤◌, ◌^◌, Bool, false, true, Some, List, length, slice_get, slice_index, slice_index_or}
 use Rattle.tl_geom.specs.declared.point.Point.{Point}
 use Rattle.tl_geom.specs.declared.direction.Direction.{Direction}
-use Rattle.tl_map.specs.TheMap.{MapChain}
-use Rattle.tl_map.specs.Darts.{Heads}
-use Rattle.tl_map.specs.Nodes.{AreNodes}
+use Rattle.tl_county.specs.TheMap.{MapChain}
+use Rattle.tl_county.specs.Darts.{Heads}
+use Rattle.tl_county.specs.Nodes.{AreNodes}
 use Rattle.tl_sides.specs.declared.next.Next.{Next}
 use Rattle.tl_sides.specs.declared.rounds.Rounds.{Rounds}
 use Rattle.tl_sides.specs.Lists.{before, list_at, EachList}

@@ -1,6 +1,6 @@
 -- What is kept of the walks taken so far.
 use Rattle.std.specs.Prelude.{◌≡◌, ℕ, ◌<◌, ◌≤◌, ◌^◌, List, length}
-use Rattle.tl_map.specs.TheMap.{MapChain}
+use Rattle.tl_county.specs.TheMap.{MapChain}
 use Rattle.tl_sides.specs.declared.walks.Walks.{Walks}
 use Rattle.tl_sides.specs.Lists.{EachList}
 use Rattle.tl_sides.specs.Sides.{dart_count, IsRing}

@@ -1,5 +1,5 @@
 use Rattle.std.proofs.Common.{◌<◌, length, refl, subst, Ok, arith}
-use Rattle.tl_map.specs.Segments.{segments_before}
+use Rattle.tl_county.specs.Segments.{segments_before}
 use Rattle.tl_planar.specs.Planar.{IsPlanar}
 use Rattle.tl_planar.specs.Rectangles.{segment_rect}
 use Rattle.tl_planar.specs.Searching.{meeting_segments}

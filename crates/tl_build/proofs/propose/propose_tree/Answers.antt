@@ -1,5 +1,5 @@
 use Rattle.std.proofs.Common.{length, subst, arith}
-use Rattle.tl_map.specs.Segments.{segments_before}
+use Rattle.tl_county.specs.Segments.{segments_before}
 use Rattle.tl_planar.specs.Rectangles.{segment_rect}
 use Rattle.tl_tree.specs.Fits.{Fits}
 use Rattle.tl_pack.specs.Packed.{IsShallow}

@@ -1,6 +1,6 @@
 use Rattle.std.proofs.Common.{◌/◌, ◌<◌, arith, length, sym, subst, get_or}
 use Rattle.std.proofs.lemmas.List.Elements.{All-get_or, All-set}
-use Rattle.tl_map.specs.Darts.{reverse_dart}
+use Rattle.tl_county.specs.Darts.{reverse_dart}
 use Rattle.tl_sides.specs.Lists.{before}
 use Rattle.tl_sides.proofs.ListLemmas.{before_at, place_before, place_before_within}
 use Rattle.tl_build.proofs.RingLemmas.{reverse_within}

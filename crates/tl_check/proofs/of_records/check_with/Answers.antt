@@ -1,7 +1,7 @@
 use Rattle.std.proofs.Common.{◌≤◌, refl}
 use Rattle.tl_record.specs.Layout.{layout_with}
 use Rattle.tl_record.specs.Records.{records_of}
-use Rattle.tl_map.specs.declared.map.Map.{Map}
+use Rattle.tl_county.specs.declared.map.Map.{Map}
 use Rattle.tl_planar.specs.Planar.{IsPlanar}
 use Rattle.tl_planar.specs.Searching.{meeting_segments}
 use Rattle.tl_sides.specs.Sides.{SidesAgree}

@@ -1,7 +1,7 @@
 use Rattle.std.proofs.Common.{◌≡◌, ℕ, ◌<◌, Some}
 use Rattle.std.specs.Prelude.{slice_get}
-use Rattle.tl_map.specs.Chains.{IsProper}
-use Rattle.tl_map.specs.TheMap.{MapChain}
+use Rattle.tl_county.specs.Chains.{IsProper}
+use Rattle.tl_county.specs.TheMap.{MapChain}
 use Rattle.tl_crossings.proofs.proper.look_at_chains.Given as goal
 
 -- the chains so far are proper

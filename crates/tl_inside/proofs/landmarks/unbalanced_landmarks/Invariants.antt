@@ -1,7 +1,7 @@
 use Rattle.std.proofs.Common.{◌≡◌, ℕ, ◌<◌, Some, length}
 use Rattle.std.specs.Prelude.{slice_get}
-use Rattle.tl_map.specs.TheMap.{MapLandmark}
-use Rattle.tl_map.specs.Landmarks.{ArePolygonsOf}
+use Rattle.tl_county.specs.TheMap.{MapLandmark}
+use Rattle.tl_county.specs.Landmarks.{ArePolygonsOf}
 use Rattle.tl_inside.specs.Keeping.Listed.{passing}
 use Rattle.tl_inside.specs.Keeping.Sums.{sums_differ}
 use Rattle.tl_inside.proofs.landmarks.unbalanced_landmarks.Given as goal

@@ -1,6 +1,6 @@
 use Rattle.std.proofs.Common.{◌≡◌, ℕ, ◌<◌, Some}
 use Rattle.std.specs.Prelude.{slice_get}
-use Rattle.tl_map.specs.TheMap.{MapChain}
+use Rattle.tl_county.specs.TheMap.{MapChain}
 use Rattle.tl_inside.specs.Keeping.Probing.{AreInReach}
 use Rattle.tl_inside.proofs.reach.look_at_points.Given as goal
 

@@ -1,9 +1,9 @@
 use Rattle.std.proofs.Common.{◌≡◌, ◌≤◌, ap, length, arith}
 use Rattle.std.proofs.lemmas.List.{length-map}
 use Rattle.std.proofs.lemmas.Result.{err_from_is_err_and}
-use Rattle.tl_map.specs.declared.polygons.Polygon.{Polygon}
-use Rattle.tl_map.specs.TheMap.{keys}
-use Rattle.tl_map.specs.Faults.{most_polygons}
+use Rattle.tl_county.specs.declared.polygons.Polygon.{Polygon}
+use Rattle.tl_map.specs.MapOf.{keys}
+use Rattle.tl_county.specs.Limits.{most_polygons}
 use Rattle.tl_map.proofs.MappedLemmas.{stops_pairing, stops_index, stops_sides, stops_linked, mapped_all, as_many, few_rows}
 use Rattle.tl_map.proofs.OnceLemmas.{rows_once}
 use Rattle.tl_map.proofs.build_map.build_map.Goals as goal
@@ -69,16 +69,11 @@ returns c = λ rs h k.
     let known = rw c.deref-2.ensures.value at (c.in_ok-sides.ensures.known ks index) in
     let few : length c.args.areas.polygons.items ≤ most_polygons = omega (arith, c.len.ensures, c.if-len.false, c.args.areas.polygons.ok.0) in
     let linked = rw (c.deref-3.ensures.value, c.deref-4.ensures.value) at (c.in_ok-linked.ensures ks index) in
-    rw c.new.ensures (mapped_all rs c.args.skipped c.in_ok-chains.chains c.args.areas c.in_ok-paired.paired.items c.in_ok-sides.sides.items _ c.in_ok-linked.linked (c.in_ok-chains.ensures rs h) k c.in_ok-paired.ensures index known are few linked)
+    rw c.in_ok-map.ensures (mapped_all rs c.args.skipped c.in_ok-chains.chains c.args.areas c.in_ok-paired.paired.items c.in_ok-sides.sides.items _ c.in_ok-linked.linked (c.in_ok-chains.ensures rs h) k c.in_ok-paired.ensures index known are few linked)
 
-pub returns-in_err-segments : goal.returns-in_err-segments
-returns-in_err-segments c = λ rs h k.
-    let p = err_from_is_err_and c.from_residual-in_err-segments.result c.from_residual-in_err-segments.ensures.1 in
-    rw (p.1, p.2) tt
-
-pub returns-in_err-nodes : goal.returns-in_err-nodes
-returns-in_err-nodes c = λ rs h k.
-    let p = err_from_is_err_and c.from_residual-in_err-nodes.result c.from_residual-in_err-nodes.ensures.1 in
+pub returns-in_err-map : goal.returns-in_err-map
+returns-in_err-map c = λ rs h k.
+    let p = err_from_is_err_and c.from_residual-in_err-map.result c.from_residual-in_err-map.ensures.1 in
     rw (p.1, p.2) tt
 
 pub returns-in_err-chains : goal.returns-in_err-chains

@@ -2,7 +2,7 @@ use Rattle.std.proofs.Common.{◌≡◌, ◌∙◌, ℕ, ◌-◌, ◌<◌, List,
 use Rattle.std.proofs.lemmas.Bool.{cases_lt}
 use Rattle.std.proofs.lemmas.List.{length-append}
 use Rattle.tl_map.specs.declared.landmarks.Link.{Link}
-use Rattle.tl_map.specs.TheMap.{firsts}
+use Rattle.tl_map.specs.MapOf.{firsts}
 use Rattle.tl_map.specs.Keeping.Landmarks.{links_to}
 use Rattle.tl_map.proofs.ListedLemmas.{run_of, above_links, row_more, part_inside, whole_back, all_listed}
 use Rattle.tl_map.proofs.landmarks.list_linked.Goals as goal

@@ -1,6 +1,7 @@
 use Rattle.std.proofs.Common.{◌≡◌, ℕ, ◌<◌, ◌≤◌, ◌++◌, All, length, get_or, map, drop}
 use Rattle.tl_map.specs.declared.landmarks.Link.{Link}
-use Rattle.tl_map.specs.Keeping.Landmarks.{listed, IsRow, landmark_in}
+use Rattle.tl_map.specs.Keeping.Landmarks.{listed}
+use Rattle.tl_county.specs.Rows.{IsRow, landmark_in}
 use Rattle.tl_map.proofs.landmarks.list_linked.Given as goal
 
 abbrev pub invariant-loop-entry : goal.invariant-loop-entry

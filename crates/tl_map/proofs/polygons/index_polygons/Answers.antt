@@ -1,8 +1,9 @@
 use Rattle.std.proofs.Common.{◌∙◌, sym, inr, refl, arith}
 use Rattle.std.proofs.lemmas.List.{length-map}
-use Rattle.tl_map.specs.declared.polygons.Polygon.{Polygon}
-use Rattle.tl_map.specs.TheMap.{keys}
-use Rattle.tl_map.proofs.IndexLemmas.{numbers_more, key_total, key_exact, twice_told, none_told, slice_get-image, numbers_whole}
+use Rattle.tl_county.specs.declared.polygons.Polygon.{Polygon}
+use Rattle.tl_map.specs.MapOf.{keys}
+use Rattle.tl_map.proofs.IndexLemmas.{numbers_more, key_total, key_exact, twice_told, none_told, numbers_whole}
+use Rattle.tl_county.proofs.PlaceLemmas.{slice_get-image}
 use Rattle.tl_map.proofs.polygons.index_polygons.Goals as goal
 
 pub returns-then-is_some-clause-stops : goal.returns-then-is_some-clause-stops

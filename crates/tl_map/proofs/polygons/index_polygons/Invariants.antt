@@ -1,6 +1,6 @@
 use Rattle.std.proofs.Common.{◌≡◌}
 use Rattle.std.specs.BTreeMap.{get}
-use Rattle.tl_map.specs.TheMap.{keys}
+use Rattle.tl_map.specs.MapOf.{keys}
 use Rattle.tl_map.specs.Keeping.Index.{key_cmp}
 use Rattle.tl_map.proofs.IndexLemmas.{NumbersUpTo}
 use Rattle.tl_map.proofs.polygons.index_polygons.Given as goal

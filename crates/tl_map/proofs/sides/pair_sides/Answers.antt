@@ -1,5 +1,5 @@
 use Rattle.std.proofs.Common.{refl, inl, inr}
-use Rattle.tl_map.specs.Chains.{tlids}
+use Rattle.tl_county.specs.Chains.{tlids}
 use Rattle.tl_map.proofs.PairLemmas.{unpaired_moved, twice_moved}
 use Rattle.tl_map.proofs.sides.pair_sides.Goals as goal
 

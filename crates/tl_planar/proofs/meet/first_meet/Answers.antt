@@ -1,6 +1,6 @@
 use Rattle.std.proofs.Common.{◌<◌, length, subst, arith}
 use Rattle.std.proofs.lemmas.Option.{slice_get_within}
-use Rattle.tl_map.specs.Segments.{segments_before}
+use Rattle.tl_county.specs.Segments.{segments_before}
 use Rattle.tl_planar.specs.Searching.{meeting_segments}
 use Rattle.tl_planar.proofs.Meetings.{true_meet, planar_within}
 use Rattle.tl_planar.proofs.meet.first_meet.Goals as goal

@@ -1,5 +1,5 @@
 use Rattle.std.proofs.Common.{◌≡◌, ℕ, ◌<◌, slice_index}
-use Rattle.tl_map.specs.Darts.{dart_start}
+use Rattle.tl_county.specs.Darts.{dart_start}
 use Rattle.tl_sides.proofs.rounds.has_one_node.Given as goal
 
 -- the darts so far start where the first one does

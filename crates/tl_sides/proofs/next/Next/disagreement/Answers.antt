@@ -2,7 +2,7 @@ use Rattle.std.proofs.Common.{◌≡◌, Some, sym, ap, ◌∙◌, arith, inl, i
 use Rattle.std.specs.Prelude.{slice_index}
 use Rattle.std.proofs.lemmas.Bool.{cases_lt}
 use Rattle.std.proofs.lemmas.List.{get_or_default}
-use Rattle.tl_map.specs.Darts.{dart_left, reverse_dart}
+use Rattle.tl_county.specs.Darts.{dart_left, reverse_dart}
 use Rattle.tl_sides.proofs.FollowFacts.{all_agree}
 use Rattle.tl_sides.proofs.next.Next.disagreement.Goals as goal
 

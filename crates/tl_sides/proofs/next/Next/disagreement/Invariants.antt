@@ -1,5 +1,5 @@
 use Rattle.std.proofs.Common.{◌≡◌, ℕ, ◌<◌, slice_index}
-use Rattle.tl_map.specs.Darts.{dart_left}
+use Rattle.tl_county.specs.Darts.{dart_left}
 use Rattle.tl_sides.specs.Sides.{dart_right}
 use Rattle.tl_sides.proofs.next.Next.disagreement.Given as goal
 

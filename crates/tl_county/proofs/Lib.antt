@@ -1,0 +1,7 @@
+pub mod PlaceLemmas
+pub mod RowLemmas
+pub mod MapLemmas
+pub mod NumberLemmas
+pub mod SegmentLemmas
+pub mod NodeLemmas
+pub mod NumberingLemmas

@@ -1,0 +1,32 @@
+use Rattle.std.proofs.Common.{◌≡◌, ℕ, ◌+◌, ◌-◌, ◌<◌, Some, List, [], ◌∷◌, length, take, drop, map, get_or, All, refl, sym, ap, ◌∙◌, arith, zero, suc, subst}
+use Rattle.std.specs.Prelude.{slice_get}
+use Rattle.std.specs.Option.{option_map}
+use Rattle.std.proofs.lemmas.Option.{slice_get-map, slice_get-get_or, same_Some}
+use Rattle.std.proofs.lemmas.List.Elements.{All-head, All-tail}
+use Rattle.tl_geom.specs.declared.point.Point.{Point}
+use Rattle.tl_county.specs.declared.chains.ChainRow.{ChainRow}
+use Rattle.tl_county.specs.Chains.{CompleteChain}
+use Rattle.tl_county.specs.Rows.{chain_in, chains_in, HasPolygonsOf, landmark_in}
+use Rattle.tl_county.specs.declared.landmarks.LandmarkRow.{LandmarkRow}
+use Rattle.tl_county.specs.TheMap.{MapLandmark}
+use Rattle.tl_county.specs.Landmarks.{ArePolygonsOf}
+
+-- what is read of the chain of a row
+pub row_read : {Y : Type 0} (f : CompleteChain → Y) (points : List Point) (rows : List ChainRow) (i : ℕ) (row : ChainRow) → i < length rows → row ≡ get_or rows i row → slice_get (map f (chains_in points rows)) i ≡ Some (f (chain_in points row))
+row_read f points rows i row h at =
+    slice_get-map f (chains_in points rows) i
+    ∙ ap (option_map f) (slice_get-map (chain_in points) rows i ∙ ap (option_map (chain_in points)) (slice_get-get_or rows i row h))
+    ∙ ap (λ r. Some (f (chain_in points r))) (sym at)
+
+-- a range of the points, as a slice reads it
+pub cut_read : (first count : ℕ) (points slice : List Point) → slice ≡ points → Some (take count (drop first points)) ≡ Some (take (first + count - first) (drop first slice))
+cut_read first count points slice same =
+    let n : first + count - first ≡ count = omega arith in
+    rw (n, same) refl
+
+-- what holds of the polygons of each row holds of those of each landmark
+pub of_each : (n : ℕ) (linked : List ℕ) (rows : List LandmarkRow) → All (HasPolygonsOf n linked) rows → (l : ℕ) (landmark : MapLandmark) → slice_get (map (landmark_in linked) rows) l ≡ Some landmark → ArePolygonsOf n landmark.polygons
+of_each n linked [] all l landmark is = absurd (cc)
+of_each n linked (row ∷ rows) all zero landmark is =
+    subst (λ (z : MapLandmark). ArePolygonsOf n z.polygons) (same_Some (landmark_in linked row) landmark is) (All-head (HasPolygonsOf n linked) row rows all)
+of_each n linked (row ∷ rows) all (suc l) landmark is = of_each n linked rows (All-tail (HasPolygonsOf n linked) row rows all) l landmark is

@@ -1,0 +1,3 @@
+-- What the code keeps beside a map. No public contract cites a file of this folder.
+pub mod Numbered
+pub mod Noded

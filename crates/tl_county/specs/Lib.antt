@@ -1,0 +1,10 @@
+pub mod Limits
+pub mod Chains
+pub mod TheMap
+pub mod Landmarks
+pub mod Darts
+pub mod Nodes
+pub mod Segments
+pub mod Rows
+pub mod Kept
+pub mod Keeping

@@ -1,0 +1,48 @@
+-- The chains and landmarks of rows, as the parts of a map keep them.
+use Rattle.std.specs.Prelude.{◌≡◌, ℕ, ◌+◌, ◌≤◌, List, [], ◌∷◌, length, map, take, drop, All}
+use Rattle.tl_geom.specs.declared.point.Point.{Point}
+use Rattle.tl_county.specs.declared.chains.ChainRow.{ChainRow}
+use Rattle.tl_county.specs.Chains.{CompleteChain, segment_count}
+use Rattle.tl_county.specs.declared.landmarks.LandmarkRow.{LandmarkRow}
+use Rattle.tl_county.specs.TheMap.{MapLandmark, MapChain}
+use Rattle.tl_county.specs.Landmarks.{ArePolygonsOf}
+use Rattle.tl_county.specs.declared.sides.ChainSides.{ChainSides}
+
+-- the row's points lie within the list
+abbrev pub IsWithin : List Point → ChainRow → Type 0
+IsWithin points row = row.first + row.count ≤ length points
+
+-- the chain of a row
+abbrev pub chain_in : List Point → ChainRow → CompleteChain
+chain_in points row = record { tlid = row.tlid; points = take row.count (drop row.first points) }
+
+-- the chains of the rows
+abbrev pub chains_in : List Point → List ChainRow → List CompleteChain
+chains_in points rows = map (chain_in points) rows
+
+-- the rows lie within the points, and there is no point beside theirs
+pub record IsTable (points : List Point) (rows : List ChainRow) : Type 0 where
+  pub within : All (IsWithin points) rows
+  pub total : length points ≡ segment_count (chains_in points rows) + length rows
+
+-- the row's polygons lie within the list
+abbrev pub IsRow : List ℕ → LandmarkRow → Type 0
+IsRow linked row = row.first + row.count ≤ length linked
+
+-- the landmark of a row
+abbrev pub landmark_in : List ℕ → LandmarkRow → MapLandmark
+landmark_in linked row = record { land = row.land; point = row.point; polygons = take row.count (drop row.first linked) }
+
+-- the polygons of a row are among n, each once
+abbrev pub HasPolygonsOf : ℕ → List ℕ → LandmarkRow → Type 0
+HasPolygonsOf n linked row = ArePolygonsOf n (landmark_in linked row).polygons
+
+-- a chain with its sides
+abbrev pub with_sides : CompleteChain → ChainSides → MapChain
+with_sides c s = record { tlid = c.tlid; points = c.points; left = s.left; right = s.right; start_cell = s.start_cell; end_cell = s.end_cell }
+
+-- chains with their sides
+abbrev pub sided : List CompleteChain → List ChainSides → List MapChain
+sided [] ss = []
+sided (c ∷ cs) [] = []
+sided (c ∷ cs) (s ∷ ss) = with_sides c s ∷ sided cs ss

@@ -1,0 +1,25 @@
+//! A county's map in memory.
+//!
+//! [`Map`] has the chains of a county with what lies on both sides, its polygons, and its landmarks with their polygons,
+//! each by its number; segments, darts and nodes are numbered from them. [`Chains`] are the chains alone. `tl_map` makes
+//! both from records, and is where to begin; who makes maps of other files makes them here, by [`Map::new`].
+#![tactic(auto)]
+
+mod chains;
+mod kept;
+mod landmarks;
+pub mod laws;
+mod limits;
+mod map;
+mod nodes;
+mod polygons;
+mod segments;
+mod sides;
+
+pub use chains::{ChainRow, Chains};
+pub use kept::KeptChainSides;
+pub use landmarks::{LandmarkRow, LinkedLandmarks};
+pub use limits::{CHAIN_LIMIT, LANDMARK_LIMIT, POLYGON_LIMIT, SEGMENT_LIMIT};
+pub use map::{Chain, Landmark, Map};
+pub use polygons::Polygon;
+pub use sides::{ChainSides, Side};
