@@ -22,8 +22,6 @@ from pathlib import Path
 TOP = Path(__file__).resolve().parent.parent
 # Seconds of one processor that a crate of no known share is taken to need.
 UNKNOWN_SHARE = 60
-# A proof that needs more seconds than this gets two processors, so that none takes much over two minutes.
-LONG_SHARE = 150
 
 
 def stop(why):
@@ -188,14 +186,11 @@ class Lanes:
         taken = sum(self.needs[it] * (1 + 0.6 * (jobs - 1)) for it, jobs in self.running.values())
         if idle < 1 or self.running and taken + self.needs[name] > self.memory:
             return 0
-        # Two jobs make a proof a third shorter and a fifth dearer: for one that the rest waits for, for a long one, and
-        # where a processor would be idle.
-        is_long = self.share[name] > LONG_SHARE
-        if is_long and idle < min(2, self.processors):
-            return 0
+        # Two jobs make a proof a third shorter and a fifth dearer: for one that the rest waits for, and where a processor
+        # would be idle.
         work = sum(self.share[it] for it in self.left) + sum(self.share[it] for it, _ in self.running.values())
         is_waited_for = 2 * self.processors * self.chain[name] > 3 * work
-        jobs = max(idle - len(ready) + 1, 2 if is_waited_for or is_long else 1)
+        jobs = max(idle - len(ready) + 1, 2 if is_waited_for else 1)
         while jobs > 1 and taken + self.needs[name] * (1 + 0.6 * (jobs - 1)) > self.memory:
             jobs -= 1
         return min(idle, max(1, jobs))

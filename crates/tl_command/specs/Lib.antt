@@ -1,5 +1,7 @@
 -- What the command's contracts cite.
 pub mod Running
+pub mod Making
+pub mod Opening
 pub mod Deciding
 pub mod Starting
 pub mod Stops

@@ -305,15 +305,3 @@ KeepsReads old new (Err map_stop.Device) = ⊤
 KeepsReads old new (Err map_stop.Memory) = new ≡ old
 KeepsReads old new (Err (map_stop.Refused line cause)) = new ≡ old
 KeepsReads old new (Err (map_stop.Fault fault)) = new ≡ old
-
--- what a status says where files were opened, of whose bytes nothing is known: `wrote` and `told` say what was written to
--- the output and to the error output, the last two that either is as it was
-pub record RunsOverFiles (plan : Plan) (status : ℕ) (wrote told : List ℕ → Type 0) (out_same err_same : Type 0) : Type 0 where
-  pub is_status : IsRunStatus status
-  pub answered : status ≡ DONE → IsAnswered plan None None (λ text. ⊤) wrote
-  pub fault : status ≡ MAP_FAULT → FaultsMap plan None ⊤ wrote
-  pub cert_fault : status ≡ CERT_FAULT → FaultsCertificate plan None None wrote
-  pub refused : status ≡ REFUSED → NamesRefusal (layout_of plan) None told
-  pub stopped : status ≡ STOPPED → StopsRun plan None told ⊤
-  pub err_stays : (status ≡ DONE) ⊎ ((status ≡ MAP_FAULT) ⊎ (status ≡ CERT_FAULT)) → err_same
-  pub out_stays : status ≡ REFUSED → out_same

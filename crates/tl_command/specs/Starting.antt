@@ -1,39 +1,53 @@
 -- What the program answers to its words.
-use Rattle.std.specs.Prelude.{◌≡◌, ◌≢◌, ◌⊎◌, ℕ, List, [], None, All, ⊤}
+use Rattle.std.specs.Prelude.{◌≡◌, ◌≢◌, ◌⊎◌, ℕ, List, [], All, ⊤}
 use Rattle.clap.specs.Faults.{fault_of}
 use Rattle.clap.specs.Walk.{Text}
 use Rattle.tl_plan.specs.declared.plan.Plan.{Plan}
 use Rattle.tl_command.specs.declared.stop.Stop.{Stop}
 use Rattle.tl_command.specs.declared.stop.Stop.TheVariants.{Refused, Memory, Device, Budget}
-use Rattle.tl_command.specs.declared.stop.TheConstants.{USAGE}
+use Rattle.tl_command.specs.declared.stop.TheConstants.{DONE, STOPPED, USAGE}
 use Rattle.tl_plan.specs.Commands.{command_line}
 use Rattle.tl_plan.specs.CommandLine.{AskFor, AreAUse, HasMistake, HasAnswer}
 use Rattle.tl_plan.specs.Plans.{escape}
+use Rattle.tl_files.specs.Files.{Under}
+use Rattle.tl_command.specs.Opening.{records_under, certificate_under, Stands, KeepsOthers, KeepsAll, RefusesOut}
 use Rattle.tl_command.specs.Running.{IsRunStatus, IsAnswered, FaultsMap, NamesRefusal, FaultsCertificate, NamesStop, StopsRun, layout_of}
 
 -- the statuses of the program
 abbrev pub IsStartStatus : ℕ → Type 0
 IsStartStatus status = IsRunStatus status ⊎ (status ≡ USAGE)
 
--- the words ask for a plan, and its answer was written
-abbrev pub AnswersSome : List Text → (List ℕ → Type 0) → Type 0
-AnswersSome words wrote = (plan : Plan) × AskFor words plan × IsAnswered plan None None (λ text. ⊤) wrote
+-- the words ask for a plan, and its answer was written: of the files that stand under its names
+abbrev pub AnswersSome : List Text → Under → Under → (List ℕ → Type 0) → Type 0
+AnswersSome words before after wrote = (plan : Plan) × AskFor words plan
+    × IsAnswered plan (records_under before plan) (certificate_under before plan) (Stands after plan) wrote
 
 -- the words ask for a plan, and a fault of its records or of their map was named
-abbrev pub FaultsSome : List Text → (List ℕ → Type 0) → Type 0
-FaultsSome words wrote = (plan : Plan) × AskFor words plan × FaultsMap plan None ⊤ wrote
+abbrev pub FaultsSome : List Text → Under → (List ℕ → Type 0) → Type 0
+FaultsSome words before wrote = (plan : Plan) × AskFor words plan × FaultsMap plan (records_under before plan) ⊤ wrote
 
 -- the words ask for a plan, and a fault of its certificate was named
-abbrev pub FaultsText : List Text → (List ℕ → Type 0) → Type 0
-FaultsText words wrote = (plan : Plan) × AskFor words plan × FaultsCertificate plan None None wrote
+abbrev pub FaultsText : List Text → Under → (List ℕ → Type 0) → Type 0
+FaultsText words before wrote = (plan : Plan) × AskFor words plan
+    × FaultsCertificate plan (records_under before plan) (certificate_under before plan) wrote
 
 -- the words ask for a plan, and the first refusal of its records was told
-abbrev pub RefusesSome : List Text → (List ℕ → Type 0) → Type 0
-RefusesSome words wrote = (plan : Plan) × AskFor words plan × NamesRefusal (layout_of plan) None wrote
+abbrev pub RefusesSome : List Text → Under → (List ℕ → Type 0) → Type 0
+RefusesSome words before wrote = (plan : Plan) × AskFor words plan × NamesRefusal (layout_of plan) (records_under before plan) wrote
 
 -- the words make no plan for want of memory, or they ask for one that is stopped, and why was written
-abbrev pub StopsSome : List Text → (List ℕ → Type 0) → Type 0
-StopsSome words wrote = NamesStop wrote ⊤ ⊎ ((plan : Plan) × AskFor words plan × StopsRun plan None wrote ⊤)
+abbrev pub StopsSome : List Text → Under → (List ℕ → Type 0) → Type 0
+StopsSome words before wrote = NamesStop wrote ⊤ ⊎ ((plan : Plan) × AskFor words plan × StopsRun plan (records_under before plan) wrote ⊤)
+
+-- the words ask for a plan whose certificate may not take its name, and why was written
+abbrev pub RefusesSomeOut : List Text → Under → (List ℕ → Type 0) → Type 0
+RefusesSomeOut words before wrote = (plan : Plan) × AskFor words plan × RefusesOut before plan wrote
+
+-- the words ask for a plan, and no name but that of the certificate that it makes stands for other bytes than before; nor
+-- does that one, where nothing was made; or they ask for none, and none does
+abbrev pub KeepsSome : List Text → ℕ → Under → Under → Type 0
+KeepsSome words status before after = ((plan : Plan) × AskFor words plan × KeepsOthers before after plan
+    × ((status ≢ DONE) → (status ≢ STOPPED) → KeepsAll before after plan)) ⊎ ((name : List ℕ) → after name ≡ before name)
 
 -- the words are no use of a command, and a text without an escape was written
 pub record ShowsUsage (words : List Text) (wrote : List ℕ → Type 0) : Type 0 where

@@ -6,8 +6,8 @@ ghost use Rattle.tl_output.specs.Writing.{Writes, TriesToWrite, FailsToWrite};
 ghost use Rattle.tl_check.specs.Sound.{IsSound};
 ghost use Rattle.tl_check.specs.Valid.{IsValid};
 ghost use Rattle.tl_command.specs.declared.stop.TheConstants.{DONE, MAP_FAULT, REFUSED, STOPPED};
-ghost use Rattle.tl_command.specs.Running.{IsBuilt, IsBuiltOf, NamesFault, NamesMapFault, NamesRefusal, NamesStop};
-ghost use Rattle.tl_command.specs.Running.{FailsToRead};
+ghost use Rattle.tl_command.specs.Running.{IsBuilt, NamesFault, NamesRefusal, NamesStop, FailsToRead};
+ghost use Rattle.tl_command.specs.Making.{Begins, Makes, MakesOf, OfMap, IsBegunOf, KeepsCount, TellsMaking, was_made};
 
 use crate::reports::BuiltCertificate;
 use crate::stop::{DONE, MAP_FAULT, Stop, stopped};
@@ -15,10 +15,19 @@ use crate::tell::tell_line;
 use std::alloc::Global;
 use tl_build::{BuildStop, Built};
 use tl_cert::{Certificate, write_cert};
-use tl_check::{MapFault, report};
+use tl_check::{MapFault, Report, report};
 use tl_county::Map;
 use tl_map::{MapStop, read_map_with};
 use tl_record::{Options, Sink, Source};
+
+/// What comes of making a certificate of records.
+#[derive(Clone, Copy)]
+pub enum Making {
+    /// It was written; the numbers are those of the map, which is sound.
+    Made(Report),
+    /// The records or their map have this fault, and nothing was written.
+    Fault(MapFault),
+}
 
 /// Makes a certificate of the records' map where that is sound, writes it to `made`, and gives the program's exit status.
 /// Nothing is written to `made` before the records were read whole and their map was found to be sound.
@@ -44,67 +53,82 @@ pub fn build<R: Source, C: Sink, W: Sink, E: Sink>(
     ensures err_stays { (result ≡ DONE) ⊎ (result ≡ MAP_FAULT) → err.new ≡ err.old }
     ensures out_stays { result ≡ REFUSED → out.new ≡ out.old }
     ensures unmade { (result ≡ MAP_FAULT) ⊎ (result ≡ REFUSED) → made.new ≡ made.old }
+    // A certificate of a map that isn't sound is not even begun.
+    ensures begun { result ≡ STOPPED → (made.new ≡ made.old)
+        ⊎ (OfMap (layout_with options) (R.remaining records.old) (λ m. IsBegunOf m (Begins C.contents made.old made.new))) }
     ensures read_whole { result ≢ STOPPED → R.failure_count records.new ≡ R.failure_count records.old }
 {
+    let making = make(alloc, records, made, options);
+    tell_making(&making, out, err)
+}
+
+/// Makes a certificate of the records' map where that is sound, and writes it to `made`.
+pub fn make<R: Source, C: Sink>(
+    alloc: Global,
+    records: &mut R,
+    made: &mut C,
+    options: Options,
+) -> Result<Making, Stop>
+    ensures made { Makes (layout_with options) (R.remaining records.old) (Writes C.contents C.failure_count made.old made.new)
+        (Begins C.contents made.old made.new) (made.new ≡ made.old)
+        (FailsToRead R.failure_count records.old records.new ⊎ FailsToWrite C.failure_count made.old made.new) result }
+    ensures reads { KeepsCount (R.failure_count records.old) (R.failure_count records.new) result }
+{
     match read_map_with(alloc, records, options) {
-        Ok(map) => build_of_map(alloc, &map, made, out, err),
-        Err(MapStop::Fault(fault)) => tell_line(&MapFault::Records(fault), MAP_FAULT, out, err),
-        Err(MapStop::Refused { line, cause }) => stopped(&Stop::Refused { line, cause }, err),
-        Err(MapStop::Memory) => stopped(&Stop::Memory, err),
-        Err(MapStop::Device) => stopped(&Stop::Device, err),
+        Ok(map) => make_of_map(alloc, &map, made),
+        Err(MapStop::Fault(fault)) => Ok(Making::Fault(MapFault::Records(fault))),
+        Err(MapStop::Refused { line, cause }) => Err(Stop::Refused { line, cause }),
+        Err(MapStop::Memory) => Err(Stop::Memory),
+        Err(MapStop::Device) => Err(Stop::Device),
     }
 }
 
 // Makes a certificate of a map that is sound.
-fn build_of_map<C: Sink, W: Sink, E: Sink>(
-    alloc: Global,
-    map: &Map,
-    made: &mut C,
-    out: &mut W,
-    err: &mut E,
-) -> u8
-    ensures status { ((result ≡ DONE) ⊎ (result ≡ MAP_FAULT)) ⊎ (result ≡ STOPPED) }
-    ensures built { result ≡ DONE → IsBuiltOf map.now (Writes C.contents C.failure_count made.old made.new)
-        (Writes W.contents W.failure_count out.old out.new) }
-    ensures fault { result ≡ MAP_FAULT → NamesMapFault map.now (Writes W.contents W.failure_count out.old out.new) }
-    ensures stopped { result ≡ STOPPED
-        → NamesStop (TriesToWrite E.contents E.failure_count err.old err.new)
-        (FailsToWrite C.failure_count made.old made.new ⊎ FailsToWrite W.failure_count out.old out.new) }
-    ensures err_stays { (result ≡ DONE) ⊎ (result ≡ MAP_FAULT) → err.new ≡ err.old }
-    ensures unmade { result ≡ MAP_FAULT → made.new ≡ made.old }
+fn make_of_map<C: Sink>(alloc: Global, map: &Map, made: &mut C) -> Result<Making, Stop>
+    ensures { MakesOf map.now (Writes C.contents C.failure_count made.old made.new) (Begins C.contents made.old made.new)
+        (made.new ≡ made.old) (FailsToWrite C.failure_count made.old made.new) result }
 {
     match tl_build::build(alloc, map) {
-        Ok(Built::Cert(certificate)) => keep(map, &certificate, made, out, err),
-        Ok(Built::Fault(fault)) => tell_line(&fault, MAP_FAULT, out, err),
-        Err(BuildStop::Memory) => stopped(&Stop::Memory, err),
+        Ok(Built::Cert(certificate)) => keep(map, &certificate, made),
+        Ok(Built::Fault(fault)) => Ok(Making::Fault(fault)),
+        Err(BuildStop::Memory) => Err(Stop::Memory),
     }
 }
 
-// Writes a certificate of a sound map, and then its line.
-fn keep<C: Sink, W: Sink, E: Sink>(
-    map: &Map,
-    certificate: &Certificate,
-    made: &mut C,
-    out: &mut W,
-    err: &mut E,
-) -> u8
+// Writes a certificate of a sound map.
+fn keep<C: Sink>(map: &Map, certificate: &Certificate, made: &mut C) -> Result<Making, Stop>
     requires sound { IsSound map.now }
     requires valid { IsValid map.now certificate.now }
     requires version { certificate.now.version ≡ 2 }
-    ensures status { (result ≡ DONE) ⊎ (result ≡ STOPPED) }
-    ensures built { result ≡ DONE → IsBuiltOf map.now (Writes C.contents C.failure_count made.old made.new)
-        (Writes W.contents W.failure_count out.old out.new) }
-    ensures stopped { result ≡ STOPPED
-        → NamesStop (TriesToWrite E.contents E.failure_count err.old err.new)
-        (FailsToWrite C.failure_count made.old made.new ⊎ FailsToWrite W.failure_count out.old out.new) }
-    ensures err_stays { result ≡ DONE → err.new ≡ err.old }
+    ensures { MakesOf map.now (Writes C.contents C.failure_count made.old made.new) (Begins C.contents made.old made.new)
+        (made.new ≡ made.old) (FailsToWrite C.failure_count made.old made.new) result }
 {
     match write_cert(certificate, made) {
-        Ok(()) => {
-            let numbers = report(map, rings_of(certificate));
-            tell_line(&BuiltCertificate(numbers), DONE, out, err)
-        }
-        Err(_) => stopped(&Stop::Device, err),
+        Ok(()) => Ok(Making::Made(report(map, rings_of(certificate)))),
+        Err(_) => Err(Stop::Device),
+    }
+}
+
+/// Tells what came of making a certificate, and gives the program's exit status.
+pub fn tell_making<W: Sink, E: Sink>(making: &Result<Making, Stop>, out: &mut W, err: &mut E) -> u8
+    ensures { TellsMaking making.now result (Writes W.contents W.failure_count out.old out.new)
+        (TriesToWrite E.contents E.failure_count err.old err.new) (FailsToWrite W.failure_count out.old out.new)
+        (out.new ≡ out.old) (err.new ≡ err.old) }
+{
+    match making {
+        Ok(Making::Made(report)) => tell_line(&BuiltCertificate(*report), DONE, out, err),
+        Ok(Making::Fault(fault)) => tell_line(fault, MAP_FAULT, out, err),
+        Err(stop) => stopped(stop, err),
+    }
+}
+
+/// Whether a certificate was made.
+pub fn is_made(making: &Result<Making, Stop>) -> bool
+    ensures { result ≡ was_made making.now }
+{
+    match making {
+        Ok(Making::Made(_)) => true,
+        Ok(Making::Fault(_)) | Err(_) => false,
     }
 }
 

@@ -1,10 +1,10 @@
 //! Certificates in version 2.
 
 ghost use Rattle.std.specs.Prelude.{◌≡◌, ◌≢◌, ◌⊎◌};
-ghost use Rattle.tl_output.specs.Writing.{Writes, TriesToWrite, FailsToWrite, line_of};
+ghost use Rattle.tl_output.specs.Writing.{Writes, TriesToWrite, FailsToWrite};
 ghost use Rattle.tl_command.specs.declared.stop.TheConstants.{DONE, CERT_FAULT, STOPPED};
-ghost use Rattle.tl_command.specs.Certificates.{counts_text, converted_text};
 ghost use Rattle.tl_command.specs.Running.{IsConverted, NamesBadLine, NamesStop, FailsToRead};
+ghost use Rattle.tl_command.specs.Making.{Begins, Rewrites, KeepsText, KeepsCertCount, TellsConverted};
 
 use crate::stop::{CERT_FAULT, DONE, Stop, stopped};
 use crate::tell::tell_line;
@@ -14,16 +14,17 @@ use tl_cert::{CertStop, Certificate, read_cert, write_cert};
 use tl_check::CertFault;
 use tl_record::{Sink, Source};
 
-// What was converted.
+/// What was converted: how many nodes, rounds and walks the certificate has.
 #[derive(Clone, Copy)]
-struct Converted {
-    nodes: usize,
-    rounds: usize,
-    walks: usize,
+pub struct Converted {
+    pub nodes: usize,
+    pub rounds: usize,
+    pub walks: usize,
 }
 
 impl fmt::Display for Converted {
     ghost use Rattle.std.specs.Prelude.{Some};
+    ghost use Rattle.tl_command.specs.Certificates.{counts_text};
 
     ghost output = { λ counts. Some (counts_text counts.nodes counts.rounds counts.walks) };
 
@@ -58,34 +59,61 @@ pub fn convert<S: Source, C: Sink, W: Sink, E: Sink>(
     ensures made_stays { result ≡ CERT_FAULT → made.new ≡ made.old }
     ensures read_whole { result ≢ STOPPED → S.failure_count cert.new ≡ S.failure_count cert.old }
 {
-    let certificate = match read_cert(alloc, cert) {
-        Ok(certificate) => certificate.to_v2(),
-        Err(CertStop::Text { line }) => {
-            return tell_line(&CertFault::Text { line }, CERT_FAULT, out, err);
-        }
-        Err(CertStop::Memory) => return stopped(&Stop::Memory, err),
-        Err(CertStop::Device) => return stopped(&Stop::Device, err),
-    };
-    match write_cert(&certificate, made) {
-        Ok(()) => tell_converted(&certificate, out, err),
-        Err(_) => stopped(&Stop::Device, err),
+    let converted = rewrite(alloc, cert, made);
+    tell_converted(&converted, out, err)
+}
+
+/// Reads a certificate, and writes it to `made` in version 2.
+pub fn rewrite<S: Source, C: Sink>(
+    alloc: Global,
+    cert: &mut S,
+    made: &mut C,
+) -> Result<Converted, CertStop>
+    ensures made { Rewrites (S.remaining cert.old) (Writes C.contents C.failure_count made.old made.new)
+        (Begins C.contents made.old made.new) (made.new ≡ made.old)
+        (FailsToRead S.failure_count cert.old cert.new ⊎ FailsToWrite C.failure_count made.old made.new) result }
+    ensures reads { KeepsCertCount (S.failure_count cert.old) (S.failure_count cert.new) result }
+{
+    match read_cert(alloc, cert) {
+        Ok(certificate) => keep(&certificate.to_v2(), made),
+        Err(stop) => Err(stop),
     }
 }
 
-// Tells what was converted.
-fn tell_converted<W: Sink, E: Sink>(certificate: &Certificate, out: &mut W, err: &mut E) -> u8
-    ensures status { (result ≡ DONE) ⊎ (result ≡ STOPPED) }
-    ensures told { result ≡ DONE → Writes W.contents W.failure_count out.old out.new
-        (line_of (converted_text certificate.now)) }
-    ensures err_stays { result ≡ DONE → err.new ≡ err.old }
-    ensures stopped { result ≡ STOPPED
-        → NamesStop (TriesToWrite E.contents E.failure_count err.old err.new)
-        (FailsToWrite W.failure_count out.old out.new) }
+// Writes a certificate.
+fn keep<C: Sink>(certificate: &Certificate, made: &mut C) -> Result<Converted, CertStop>
+    ensures { KeepsText certificate.now (Writes C.contents C.failure_count made.old made.new)
+        (Begins C.contents made.old made.new) (FailsToWrite C.failure_count made.old made.new) result }
 {
-    let counts = Converted {
-        nodes: certificate.tree().len(),
-        rounds: certificate.rounds().len(),
-        walks: certificate.walks().len(),
-    };
-    tell_line(&counts, DONE, out, err)
+    match write_cert(certificate, made) {
+        Ok(()) => Ok(Converted {
+            nodes: certificate.tree().len(),
+            rounds: certificate.rounds().len(),
+            walks: certificate.walks().len(),
+        }),
+        Err(_) => Err(CertStop::Device),
+    }
+}
+
+/// Tells what was converted, and gives the program's exit status.
+pub fn tell_converted<W: Sink, E: Sink>(
+    converted: &Result<Converted, CertStop>,
+    out: &mut W,
+    err: &mut E,
+) -> u8
+    ensures { TellsConverted converted.now result (Writes W.contents W.failure_count out.old out.new)
+        (TriesToWrite E.contents E.failure_count err.old err.new) (FailsToWrite W.failure_count out.old out.new)
+        (out.new ≡ out.old) (err.new ≡ err.old) }
+{
+    match converted {
+        Ok(counts) => tell_line(counts, DONE, out, err),
+        Err(CertStop::Text { line }) => tell_line(
+            &CertFault::Text { line: *line },
+            CERT_FAULT,
+            out,
+            err,
+        ),
+        Err(CertStop::Memory) => stopped(&Stop::Memory, err),
+        Err(CertStop::Device) => stopped(&Stop::Device, err),
+    }
 }

@@ -1,63 +1,81 @@
 //! The program from its words to its status.
 
-ghost use Rattle.std.specs.Prelude.{◌≡◌, ◌⊎◌, false, ⊤, None, IfOk, IfErr, length, vec_len, map, string_bytes};
+ghost use Rattle.std.specs.Prelude.{◌≡◌, ◌≢◌, ◌⊎◌, ℕ, List, Bool, true, false, ⊤, None, Some, IfOk, IfErr, IfSome, IsSome, map, string_bytes};
 ghost use Rattle.tl_text.specs.Joining.{joined_bytes};
 ghost use Rattle.tl_output.specs.Writing.{Writes, TriesToWrite, FailsToWrite};
+ghost use Rattle.tl_files.specs.Files.{bytes_under, standing, beside, IsRoom};
 ghost use Rattle.tl_command.specs.declared.stop.TheConstants.{DONE, MAP_FAULT, CERT_FAULT, REFUSED, STOPPED, USAGE};
 ghost use Rattle.tl_command.specs.declared.stop.Stop.TheVariants.{Memory, Device};
 ghost use Rattle.tl_command.specs.Running.{IsAnswered, FaultsMap, NamesRefusal, NamesStop, StopsRun, IsRunStatus, layout_of};
-ghost use Rattle.tl_command.specs.Running.{FaultsCertificate, ReadsNoCertificate, MakesNoCertificate, RunsOverFiles};
+ghost use Rattle.tl_command.specs.Running.{FaultsCertificate, ReadsNoCertificate, MakesNoCertificate};
 ghost use Rattle.tl_command.specs.Deciding.{IsExact};
+ghost use Rattle.tl_command.specs.Opening.{RunsOver, IsCheckBy, IsBuildOf, IsConversionBy, Converts};
+ghost use Rattle.tl_command.specs.Opening.{records_under, certificate_under};
 ghost use Rattle.tl_command.specs.Starting.{IsStartStatus, ShowsUsage, ShowsHelp, AnswersSome, FaultsSome, RefusesSome};
-ghost use Rattle.tl_command.specs.Starting.{StopsOpening, FaultsText, StopsSome};
+ghost use Rattle.tl_command.specs.Starting.{StopsOpening, FaultsText, StopsSome, RefusesSomeOut, KeepsSome};
 
-use crate::made::MadeFile;
+use crate::building::{is_made, make, tell_making};
+use crate::convert::{rewrite, tell_converted};
 use crate::run::run;
 use crate::stop::{DONE, Stop, USAGE, stopped};
 use std::alloc::Global;
-use std::fs::File;
-use std::io;
-use std::io::{BufReader, Read};
-use std::rt::Files;
+use std::io::{BufReader, ErrorKind, Read};
+use std::{io, slice};
+use tl_files::{FileSystem, Room};
 use tl_output::write_all;
 use tl_plan::{Plan, PlanStop, words};
-use tl_record::{Meter, MeterOut, Sink, Source};
+use tl_record::{Meter, MeterOut, Options, Sink, Source};
 use tl_text::Joined;
 
 // How many bytes are read at a time, of the record files and of a certificate.
 const INPUT_BUFFER: usize = 131_072;
 
-/// Does what the words after the program's name ask, and gives the program's exit status.
-pub fn start<R: Files, W: Sink, E: Sink>(
-    rt: &R,
+// What is said where a certificate may not take its name.
+const TAKEN: &[u8] = b"OUT stands and is no certificate\n";
+
+const IS_READ: &[u8] = b"OUT is one of the files that are read\n";
+
+/// Does what the words after the program's name ask, over these files, and gives the program's exit status.
+pub fn start<F: FileSystem, W: Sink, E: Sink>(
+    files: &mut F,
     alloc: Global,
     words: &[String],
     out: &mut W,
     err: &mut E,
 ) -> u8
     ensures status { IsStartStatus result }
-    // Words that are no use of a command: what is wrong with them was written to `err`, or the write failed.
-    ensures usage { result ≡ USAGE → ShowsUsage (map string_bytes words.now)
+    // Words that are no use of a command, or a certificate that may not take its name: what is wrong was written to
+    // `err`, or the write failed.
+    ensures usage { result ≡ USAGE
+        → ShowsUsage (map string_bytes words.now) (TriesToWrite E.contents E.failure_count err.old err.new)
+        ⊎ RefusesSomeOut (map string_bytes words.now) (F.under files.old)
         (TriesToWrite E.contents E.failure_count err.old err.new) }
     // The output grew by the answer to what the words ask for, or by the help that they ask for.
     ensures done { result ≡ DONE
-        → AnswersSome (map string_bytes words.now) (Writes W.contents W.failure_count out.old out.new)
+        → AnswersSome (map string_bytes words.now) (F.under files.old) (F.under files.new)
+        (Writes W.contents W.failure_count out.old out.new)
         ⊎ ShowsHelp (map string_bytes words.now) (Writes W.contents W.failure_count out.old out.new) }
     // The words ask for a plan, and the output or `err` grew by the line that its run writes.
     ensures fault { result ≡ MAP_FAULT
-        → FaultsSome (map string_bytes words.now) (Writes W.contents W.failure_count out.old out.new) }
+        → FaultsSome (map string_bytes words.now) (F.under files.old)
+        (Writes W.contents W.failure_count out.old out.new) }
     ensures cert_fault { result ≡ CERT_FAULT
-        → FaultsText (map string_bytes words.now) (Writes W.contents W.failure_count out.old out.new) }
+        → FaultsText (map string_bytes words.now) (F.under files.old)
+        (Writes W.contents W.failure_count out.old out.new) }
     ensures refused { result ≡ REFUSED
-        → RefusesSome (map string_bytes words.now) (TriesToWrite E.contents E.failure_count err.old err.new) }
+        → RefusesSome (map string_bytes words.now) (F.under files.old)
+        (TriesToWrite E.contents E.failure_count err.old err.new) }
     ensures stopped { result ≡ STOPPED
-        → StopsSome (map string_bytes words.now) (TriesToWrite E.contents E.failure_count err.old err.new) }
+        → StopsSome (map string_bytes words.now) (F.under files.old)
+        (TriesToWrite E.contents E.failure_count err.old err.new) }
     // The other stream stays as it was.
     ensures err_stays { (result ≡ DONE) ⊎ ((result ≡ MAP_FAULT) ⊎ (result ≡ CERT_FAULT)) → err.new ≡ err.old }
     ensures out_stays { (result ≡ REFUSED) ⊎ (result ≡ USAGE) → out.new ≡ out.old }
+    // No name stands for other bytes than before but that of the certificate that is made.
+    ensures files { KeepsSome (map string_bytes words.now) result (F.under files.old) (F.under files.new) }
 {
     match words::plan(alloc, words) {
-        Ok(plan) => open_and_run(rt, alloc, &plan, out, err),
+        Ok(plan) => open_and_run(files, alloc, &plan, out, err),
         Err(PlanStop::Memory) => stopped(&Stop::Memory, err),
         Err(PlanStop::Usage(text)) => say_usage(&text, err),
         Err(PlanStop::Help(text)) => say_help(&text, out, err),
@@ -89,99 +107,79 @@ fn say_help<W: Sink, E: Sink>(text: &String, out: &mut W, err: &mut E) -> u8
 }
 
 /// Opens the plan's files, each once and in the order of their names, does what it asks, and gives the program's exit
-/// status. All files are opened before the first is read, and where one can't be, nothing is printed on `out`.
-pub fn open_and_run<R: Files, W: Sink, E: Sink>(
-    rt: &R,
+/// status. All files are opened before the first is read, and where one can't be, nothing is printed on `out`. A
+/// certificate that is made takes its name when it is whole.
+pub fn open_and_run<F: FileSystem, W: Sink, E: Sink>(
+    files: &mut F,
     alloc: Global,
     plan: &Plan,
     out: &mut W,
     err: &mut E,
 ) -> u8
-    ensures status { IsRunStatus result }
-    ensures answered { result ≡ DONE
-        → IsAnswered plan.now None None (λ text. ⊤) (Writes W.contents W.failure_count out.old out.new) }
-    ensures fault { result ≡ MAP_FAULT
-        → FaultsMap plan.now None ⊤ (Writes W.contents W.failure_count out.old out.new) }
-    ensures cert_fault { result ≡ CERT_FAULT
-        → FaultsCertificate plan.now None None (Writes W.contents W.failure_count out.old out.new) }
-    ensures refused { result ≡ REFUSED
-        → NamesRefusal (layout_of plan.now) None (TriesToWrite E.contents E.failure_count err.old err.new) }
-    ensures stopped { result ≡ STOPPED
-        → StopsRun plan.now None (TriesToWrite E.contents E.failure_count err.old err.new) ⊤ }
-    ensures err_stays { (result ≡ DONE) ⊎ ((result ≡ MAP_FAULT) ⊎ (result ≡ CERT_FAULT)) → err.new ≡ err.old }
-    ensures out_stays { result ≡ REFUSED → out.new ≡ out.old }
-{
-    run_over_files(rt, alloc, plan, out, err)
-}
-
-// The same, with one clause for all of it.
-fn run_over_files<R: Files, W: Sink, E: Sink>(
-    rt: &R,
-    alloc: Global,
-    plan: &Plan,
-    out: &mut W,
-    err: &mut E,
-) -> u8
-    ensures { RunsOverFiles plan.now result (Writes W.contents W.failure_count out.old out.new)
+    ensures { RunsOver plan.now result (F.under files.old) (F.under files.new)
+        (Writes W.contents W.failure_count out.old out.new)
         (TriesToWrite E.contents E.failure_count err.old err.new) (out.new ≡ out.old) (err.new ≡ err.old) }
 {
-    let readers = match open_all(rt, alloc, plan.files()) {
+    let readers = match open_all(&*files, alloc, plan.files()) {
         Ok(readers) => readers,
         Err(stop) => return stopped(&stop, err),
     };
     match plan {
-        Plan::Convert { cert, made } => {
-            open_and_convert(rt, alloc, plan, readers, (cert, made), out, err)
+        Plan::Convert { cert, made } => open_and_convert(
+            files,
+            alloc,
+            plan,
+            (cert, made),
+            out,
+            err,
+        ),
+        Plan::Check { cert, .. } => open_and_check(&*files, alloc, plan, readers, cert, out, err),
+        Plan::Build { made, options, .. } => {
+            open_and_build(files, alloc, plan, readers, made, *options, out, err)
         }
-        Plan::Check { cert, .. } => open_and_check(rt, alloc, plan, readers, cert, out, err),
-        Plan::Build { made, .. } => {
-            let mut cert = Meter::new(io::empty());
-            let mut made = MadeFile::new(rt, made.as_str());
-            run_on_readers(alloc, plan, readers, &mut cert, &mut made, out, err)
-        }
-        _ => {
-            let mut cert = Meter::new(io::empty());
-            let mut made = MeterOut::new(io::sink());
-            run_on_readers(alloc, plan, readers, &mut cert, &mut made, out, err)
-        }
+        Plan::Show { .. } | Plan::Landmarks { .. } | Plan::Locate { .. } | Plan::Audit { .. } =>
+            run_plainly(&*files, alloc, plan, readers, out, err),
     }
 }
 
-// Opens the certificate that is read, and makes the file of the other name when its first byte is written.
-fn open_and_convert<R: Files, W: Sink, E: Sink>(
-    rt: &R,
+// Does what the plan asks, where no certificate has a part.
+fn run_plainly<F: FileSystem, W: Sink, E: Sink>(
+    files: &F,
     alloc: Global,
     plan: &Plan,
-    readers: Vec<R::File>,
-    names: (&String, &String),
+    readers: Vec<F::Reader>,
     out: &mut W,
     err: &mut E,
 ) -> u8
-    ensures { RunsOverFiles plan.now result (Writes W.contents W.failure_count out.old out.new)
+    requires reads { ReadsNoCertificate plan.now }
+    requires makes { MakesNoCertificate plan.now }
+    requires known { joined_bytes F.Reader.remaining false readers.items ≡ records_under (F.under files.now) plan.now }
+    ensures { RunsOver plan.now result (F.under files.now) (F.under files.now)
+        (Writes W.contents W.failure_count out.old out.new)
         (TriesToWrite E.contents E.failure_count err.old err.new) (out.new ≡ out.old) (err.new ≡ err.old) }
 {
-    let mut cert = match open_certificate(rt, alloc, names.0) {
-        Ok(cert) => cert,
-        Err(stop) => return stopped(&stop, err),
-    };
-    let mut made = MadeFile::new(rt, names.1.as_str());
+    let mut cert = Meter::new(io::empty());
+    let mut made = MeterOut::new(io::sink());
     run_on_readers(alloc, plan, readers, &mut cert, &mut made, out, err)
 }
 
-// Opens the certificate that is read.
-fn open_and_check<R: Files, W: Sink, E: Sink>(
-    rt: &R,
+// Opens the certificate that is read, and decides by it.
+fn open_and_check<F: FileSystem, W: Sink, E: Sink>(
+    files: &F,
     alloc: Global,
     plan: &Plan,
-    readers: Vec<R::File>,
+    readers: Vec<F::Reader>,
     name: &String,
     out: &mut W,
     err: &mut E,
 ) -> u8
-    ensures { RunsOverFiles plan.now result (Writes W.contents W.failure_count out.old out.new)
+    requires plan { IsCheckBy plan.now (string_bytes name.now) }
+    requires known { joined_bytes F.Reader.remaining false readers.items ≡ records_under (F.under files.now) plan.now }
+    ensures { RunsOver plan.now result (F.under files.now) (F.under files.now)
+        (Writes W.contents W.failure_count out.old out.new)
         (TriesToWrite E.contents E.failure_count err.old err.new) (out.new ≡ out.old) (err.new ≡ err.old) }
 {
-    let mut cert = match open_certificate(rt, alloc, name) {
+    let mut cert = match open_certificate(files, alloc, name) {
         Ok(cert) => cert,
         Err(stop) => return stopped(&stop, err),
     };
@@ -189,16 +187,186 @@ fn open_and_check<R: Files, W: Sink, E: Sink>(
     run_on_readers(alloc, plan, readers, &mut cert, &mut made, out, err)
 }
 
+// Makes a certificate where it may take its name.
+fn open_and_build<F: FileSystem, W: Sink, E: Sink>(
+    files: &mut F,
+    alloc: Global,
+    plan: &Plan,
+    readers: Vec<F::Reader>,
+    name: &String,
+    options: Options,
+    out: &mut W,
+    err: &mut E,
+) -> u8
+    requires plan { IsBuildOf plan.now (string_bytes name.now) options }
+    requires known { joined_bytes F.Reader.remaining false readers.items ≡ records_under (F.under files.old) plan.now }
+    ensures { RunsOver plan.now result (F.under files.old) (F.under files.new)
+        (Writes W.contents W.failure_count out.old out.new)
+        (TriesToWrite E.contents E.failure_count err.old err.new) (out.new ≡ out.old) (err.new ≡ err.old) }
+{
+    match room_for(&*files, name, plan.files()) {
+        Ok(Room::Free) => build_into(files, alloc, plan, readers, name, options, out, err),
+        Ok(Room::Taken) => say_refusal(TAKEN, err),
+        Ok(Room::IsRead) => say_refusal(IS_READ, err),
+        Err(stop) => stopped(&stop, err),
+    }
+}
+
+// Makes a certificate, which takes its name when it is whole.
+fn build_into<F: FileSystem, W: Sink, E: Sink>(
+    files: &mut F,
+    alloc: Global,
+    plan: &Plan,
+    readers: Vec<F::Reader>,
+    name: &String,
+    options: Options,
+    out: &mut W,
+    err: &mut E,
+) -> u8
+    requires plan { IsBuildOf plan.now (string_bytes name.now) options }
+    requires known { joined_bytes F.Reader.remaining false readers.items ≡ records_under (F.under files.old) plan.now }
+    ensures { RunsOver plan.now result (F.under files.old) (F.under files.new)
+        (Writes W.contents W.failure_count out.old out.new)
+        (TriesToWrite E.contents E.failure_count err.old err.new) (out.new ≡ out.old) (err.new ≡ err.old) }
+{
+    let Ok(mut records) = joined_source(alloc, readers) else {
+        return stopped(&Stop::Memory, err);
+    };
+    let mut draft = match files.draft(alloc, name.as_str()) {
+        Ok(draft) => draft,
+        Err(error) => return stopped(&stop_of(&error), err),
+    };
+    let making = make(alloc, &mut records, &mut draft, options);
+    match settle(files, alloc, draft, name, is_made(&making)) {
+        Some(stop) => stopped(&stop, err),
+        None => tell_making(&making, out, err),
+    }
+}
+
+// Writes a certificate that is read in version 2, where it may take its name.
+fn open_and_convert<F: FileSystem, W: Sink, E: Sink>(
+    files: &mut F,
+    alloc: Global,
+    plan: &Plan,
+    names: (&String, &String),
+    out: &mut W,
+    err: &mut E,
+) -> u8
+    requires { IsConversionBy plan.now (string_bytes names.0.now) (string_bytes names.1.now) }
+    ensures { RunsOver plan.now result (F.under files.old) (F.under files.new)
+        (Writes W.contents W.failure_count out.old out.new)
+        (TriesToWrite E.contents E.failure_count err.old err.new) (out.new ≡ out.old) (err.new ≡ err.old) }
+{
+    let mut cert = match open_certificate(&*files, alloc, names.0) {
+        Ok(cert) => cert,
+        Err(stop) => return stopped(&stop, err),
+    };
+    match room_for(&*files, names.1, slice::from_ref(names.0)) {
+        Ok(Room::Free) => convert_into(files, alloc, plan, &mut cert, names.1, out, err),
+        Ok(Room::Taken) => say_refusal(TAKEN, err),
+        Ok(Room::IsRead) => say_refusal(IS_READ, err),
+        Err(stop) => stopped(&stop, err),
+    }
+}
+
+// Writes a certificate that is read in version 2; it takes its name when it is whole.
+fn convert_into<F: FileSystem, S: Source, W: Sink, E: Sink>(
+    files: &mut F,
+    alloc: Global,
+    plan: &Plan,
+    cert: &mut S,
+    name: &String,
+    out: &mut W,
+    err: &mut E,
+) -> u8
+    requires plan { Converts plan.now (string_bytes name.now) }
+    requires known { S.remaining cert.old ≡ certificate_under (F.under files.old) plan.now }
+    ensures { RunsOver plan.now result (F.under files.old) (F.under files.new)
+        (Writes W.contents W.failure_count out.old out.new)
+        (TriesToWrite E.contents E.failure_count err.old err.new) (out.new ≡ out.old) (err.new ≡ err.old) }
+{
+    let mut draft = match files.draft(alloc, name.as_str()) {
+        Ok(draft) => draft,
+        Err(error) => return stopped(&stop_of(&error), err),
+    };
+    let converted = rewrite(alloc, cert, &mut draft);
+    match settle(files, alloc, draft, name, converted.is_ok()) {
+        Some(stop) => stopped(&stop, err),
+        None => tell_converted(&converted, out, err),
+    }
+}
+
+// Whether a certificate may take the name, where those of these names are read.
+fn room_for<F: FileSystem>(files: &F, name: &String, read: &[String]) -> Result<Room, Stop>
+    ensures room { IfOk result (IsRoom (F.under files.now) (string_bytes name.now) (map string_bytes read.now)) }
+    ensures stops { IfErr result StopsOpening }
+{
+    match files.room(name.as_str(), read) {
+        Ok(room) => Ok(room),
+        Err(error) => Err(stop_of(&error)),
+    }
+}
+
+// Says why a certificate may not take its name. Where that can't be written, the status alone is left to tell it.
+fn say_refusal<E: Sink>(text: &[u8], err: &mut E) -> u8
+    ensures status { result ≡ USAGE }
+    ensures said { TriesToWrite E.contents E.failure_count err.old err.new text.now }
+{
+    let _ = write_all(text, err);
+    USAGE
+}
+
+// Lets a new file take its name where it is whole, and else takes it away. Says why it stops where it may not have it.
+fn settle<F: FileSystem>(
+    files: &mut F,
+    alloc: Global,
+    draft: F::Draft,
+    name: &String,
+    is_whole: bool,
+) -> Option<Stop>
+    ensures others { (other : List ℕ) → other ≢ string_bytes name.now → other ≢ beside (string_bytes name.now) →
+        F.under files.new other ≡ F.under files.old other }
+    ensures kept { is_whole ≡ true → result ≡ None →
+        F.under files.new (string_bytes name.now) ≡ standing (F.Draft.contents draft) }
+    ensures stays { (is_whole ≡ false) ⊎ IsSome result → (other : List ℕ) → other ≢ beside (string_bytes name.now) →
+        F.under files.new other ≡ F.under files.old other }
+    ensures stops { IfSome result StopsOpening }
+    ensures whole { IsSome result → is_whole ≡ true }
+{
+    if !is_whole {
+        files.discard(draft, name.as_str());
+        return None;
+    }
+    match files.keep(alloc, draft, name.as_str()) {
+        Ok(()) => None,
+        Err(error) => Some(stop_of(&error)),
+    }
+}
+
+// What is told of a file that can't be opened or made.
+fn stop_of(error: &io::Error) -> Stop
+    ensures { StopsOpening result }
+{
+    if error.kind() == ErrorKind::OutOfMemory {
+        Stop::Memory
+    } else {
+        Stop::Device
+    }
+}
+
 // A source of the certificate's bytes, many of which are read at a time.
-fn open_certificate<R: Files>(
-    rt: &R,
+fn open_certificate<F: FileSystem>(
+    files: &F,
     alloc: Global,
     name: &String,
-) -> Result<Meter<BufReader<R::File>>, Stop>
-    ensures { IfErr result StopsOpening }
+) -> Result<Meter<BufReader<F::Reader>>, Stop>
+    ensures bytes { IfOk result (λ source. ⟦<Meter<BufReader<F::Reader>> as Source>⟧.remaining source
+        ≡ bytes_under (F.under files.now) (string_bytes name.now)) }
+    ensures stops { IfErr result StopsOpening }
 {
-    let Ok(file) = File::open(rt, name.as_str()) else {
-        return Err(Stop::Device);
+    let file = match files.open(alloc, name.as_str()) {
+        Ok(file) => file,
+        Err(error) => return Err(stop_of(&error)),
     };
     match BufReader::with_capacity(alloc, INPUT_BUFFER, file) {
         Ok(reader) => Ok(Meter::new(reader)),
@@ -261,14 +429,20 @@ fn joined_source<F: Read + Drop>(
 }
 
 // The files of these names, each opened once and in their order.
-fn open_all<R: Files>(rt: &R, alloc: Global, names: &[String]) -> Result<Vec<R::File>, Stop>
-    ensures each { IfOk result (λ readers. vec_len readers ≡ length names.now) }
+fn open_all<F: FileSystem>(
+    files: &F,
+    alloc: Global,
+    names: &[String],
+) -> Result<Vec<F::Reader>, Stop>
+    ensures opened { IfOk result (λ readers. map F.Reader.remaining readers.items
+        ≡ map (λ name. bytes_under (F.under files.now) (string_bytes name)) names.now) }
     ensures stops { IfErr result StopsOpening }
 {
     let mut readers = Vec::new(alloc);
     for name in names {
-        let Ok(file) = File::open(rt, name.as_str()) else {
-            return Err(Stop::Device);
+        let file = match files.open(alloc, name.as_str()) {
+            Ok(file) => file,
+            Err(error) => return Err(stop_of(&error)),
         };
         if readers.push(file).is_err() {
             return Err(Stop::Memory);

@@ -1,18 +1,37 @@
-use Rattle.std.proofs.Common.{Err, ap, ◌∙◌}
+use Rattle.std.proofs.Common.{inl, inr}
 use Rattle.tl_record.specs.Layout.{layout_with}
-use Rattle.tl_command.proofs.BuildLemmas.{fault_of_records, fault_of_reading, refusal_of_reading}
+use Rattle.tl_command.proofs.MakingLemmas.{making_status, making_built, making_fault, making_refused, making_stopped, making_err_stays, making_unmade, making_begun, making_whole, begins_whole}
 use Rattle.tl_command.proofs.building.build.Goals as goal
 
-pub returns-in-Ok-clause-fault : goal.returns-in-Ok-clause-fault
-returns-in-Ok-clause-fault g c = λ fault.
-    fault_of_records (layout_with c.args.options) _ _ c.in-Ok.map c.in-Ok.ensures.map (c.build_of_map.ensures.fault fault)
+pub returns-clause-status : goal.returns-clause-status
+returns-clause-status g c = making_status c.make-making.result c.tell_making.result _ _ _ _ _ c.tell_making.ensures
 
-pub returns-in-Err-Fault-clause-fault : goal.returns-in-Err-Fault-clause-fault
-returns-in-Err-Fault-clause-fault g c = λ fault.
-    fault_of_reading (layout_with c.args.options) _ _ c.read_map_with.result c.in-Err-Fault.fault (c.in-Err-Fault.is ∙ ap Err c.in-Err-Fault.field-0-is)
-    c.read_map_with.ensures.stops (rw c.in-Err-Fault.fault-is at (c.tell_line.ensures.told fault))
+pub returns-clause-built : goal.returns-clause-built
+returns-clause-built g c = making_built (layout_with c.args.options) _ _ _ _ _ _ _ _ _ _ c.make-making.result c.tell_making.result c.make-making.ensures.made c.tell_making.ensures
 
-pub returns-in-Err-Refused-clause-refused : goal.returns-in-Err-Refused-clause-refused
-returns-in-Err-Refused-clause-refused g c = λ refused.
-    refusal_of_reading (layout_with c.args.options) _ _ c.read_map_with.result c.in-Err-Refused.line c.in-Err-Refused.cause c.stopped.result _
-    (c.in-Err-Refused.is ∙ ap Err c.in-Err-Refused.field-0-is) c.read_map_with.ensures.stops (rw (c.in-Err-Refused.line-is, c.in-Err-Refused.cause-is) at c.stopped.ensures) refused
+pub returns-clause-fault : goal.returns-clause-fault
+returns-clause-fault g c = making_fault (layout_with c.args.options) _ _ _ _ _ _ _ _ _ _ c.make-making.result c.tell_making.result c.make-making.ensures.made c.tell_making.ensures
+
+pub returns-clause-refused : goal.returns-clause-refused
+returns-clause-refused g c = λ refused. (making_refused (layout_with c.args.options) _ _ _ _ _ _ _ _ _ _ c.make-making.result c.tell_making.result c.make-making.ensures.made c.tell_making.ensures refused).0
+
+pub returns-clause-out_stays : goal.returns-clause-out_stays
+returns-clause-out_stays g c = λ refused. (making_refused (layout_with c.args.options) _ _ _ _ _ _ _ _ _ _ c.make-making.result c.tell_making.result c.make-making.ensures.made c.tell_making.ensures refused).1
+
+pub returns-clause-stopped : goal.returns-clause-stopped
+returns-clause-stopped g c =
+    making_stopped (layout_with c.args.options) _ _ _ _ _ _ _ _ _ _ _ c.make-making.result c.tell_making.result (λ any. elim any [ inl r ↦ inl r | inr w ↦ inr (inl w) ]) (λ w. inr (inr w))
+    c.make-making.ensures.made c.tell_making.ensures
+
+pub returns-clause-err_stays : goal.returns-clause-err_stays
+returns-clause-err_stays g c = making_err_stays c.make-making.result c.tell_making.result _ _ _ _ _ c.tell_making.ensures
+
+pub returns-clause-unmade : goal.returns-clause-unmade
+returns-clause-unmade g c = making_unmade (layout_with c.args.options) _ _ _ _ _ _ _ _ _ _ c.make-making.result c.tell_making.result c.make-making.ensures.made c.tell_making.ensures
+
+pub returns-clause-begun : goal.returns-clause-begun
+returns-clause-begun g c =
+    making_begun (layout_with c.args.options) _ _ _ _ _ _ _ _ _ _ c.make-making.result c.tell_making.result (begins_whole g.C.Sink.contents g.C.Sink.failure_count c.args.made.now c.make-making.new.made) c.make-making.ensures.made c.tell_making.ensures
+
+pub returns-clause-read_whole : goal.returns-clause-read_whole
+returns-clause-read_whole g c = making_whole c.make-making.result c.tell_making.result _ _ _ _ _ _ _ c.make-making.ensures.reads c.tell_making.ensures

@@ -1,5 +1,8 @@
-use Rattle.std.proofs.Common.{◌≡◌, vec_len}
+use Rattle.std.proofs.Common.{◌≡◌, ◌++◌, map, drop, string_bytes}
+use Rattle.tl_files.specs.Files.{bytes_under}
 use Rattle.tl_command.proofs.open.open_all.Given as goal
 
 abbrev pub invariant-loop-name : goal.invariant-loop-name
-invariant-loop-name g l = vec_len l.readers ≡ l.name-index
+invariant-loop-name g l =
+    map g.F.Reader.Read.remaining l.readers.items ++ map (λ name. bytes_under (g.F.FileSystem.under l.files) (string_bytes name)) (drop l.name-index l.names)
+    ≡ map (λ name. bytes_under (g.F.FileSystem.under l.files) (string_bytes name)) l.names

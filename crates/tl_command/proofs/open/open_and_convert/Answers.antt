@@ -1,10 +1,14 @@
-use Rattle.tl_command.proofs.RunLemmas.{over_files, stops_opening}
+use Rattle.std.proofs.Common.{map, string_bytes, refl, ap}
+use Rattle.tl_files.specs.declared.file_system.Room.TheVariants.{Taken, IsRead}
+use Rattle.tl_command.proofs.OpenLemmas.{refused_conversion}
 use Rattle.tl_command.proofs.open.open_and_convert.Goals as goal
 
-pub returns : goal.returns
-returns g c =
-    over_files c.args.plan.now _ _ c.run_on_readers.result _ _ _ _ _ _ c.run_on_readers.ensures.status c.run_on_readers.ensures.answered c.run_on_readers.ensures.fault c.run_on_readers.ensures.cert_fault
-    c.run_on_readers.ensures.refused c.run_on_readers.ensures.stopped c.run_on_readers.ensures.err_stays c.run_on_readers.ensures.out_stays
+pub returns-in-Ok-Taken : goal.returns-in-Ok-Taken
+returns-in-Ok-Taken g c =
+    refused_conversion c.args.plan.now _ _ _ Taken c.say_refusal.result (g.F.FileSystem.under c.args.files.now) _ _ _ _ c.requires (ap (map string_bytes) c.from_ref.ensures.value)
+    (rw c.in-Ok-Taken.field-0-is at c.in-Ok-Taken.ensures.room) refl c.say_refusal.ensures.status c.say_refusal.ensures.said
 
-pub returns-in-Err : goal.returns-in-Err
-returns-in-Err g c = stops_opening c.args.plan.now c.in-Err.stop c.stopped.result _ _ _ _ c.in-Err.ensures c.stopped.ensures
+pub returns-in-Ok-IsRead : goal.returns-in-Ok-IsRead
+returns-in-Ok-IsRead g c =
+    refused_conversion c.args.plan.now _ _ _ IsRead c.say_refusal-in-Ok-IsRead.result (g.F.FileSystem.under c.args.files.now) _ _ _ _ c.requires (ap (map string_bytes) c.from_ref.ensures.value)
+    (rw c.in-Ok-IsRead.field-0-is at c.in-Ok-IsRead.ensures.room) refl c.say_refusal-in-Ok-IsRead.ensures.status c.say_refusal-in-Ok-IsRead.ensures.said

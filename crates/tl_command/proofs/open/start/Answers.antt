@@ -15,3 +15,9 @@ returns-in-Ok-clause-cert_fault g c = λ is. (c.in-Ok.plan, c.in-Ok.ensures.plan
 
 pub returns-in-Ok-clause-stopped : goal.returns-in-Ok-clause-stopped
 returns-in-Ok-clause-stopped g c = λ stopped. inr (c.in-Ok.plan, c.in-Ok.ensures.plan, c.open_and_run.ensures.stopped stopped)
+
+pub returns-in-Ok-clause-usage : goal.returns-in-Ok-clause-usage
+returns-in-Ok-clause-usage g c = λ usage. inr (c.in-Ok.plan, c.in-Ok.ensures.plan, c.open_and_run.ensures.usage usage)
+
+pub returns-in-Ok-clause-files : goal.returns-in-Ok-clause-files
+returns-in-Ok-clause-files g c = inl (c.in-Ok.plan, c.in-Ok.ensures.plan, c.open_and_run.ensures.others, c.open_and_run.ensures.unmade)

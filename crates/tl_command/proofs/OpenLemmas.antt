@@ -1,0 +1,476 @@
+-- What a run over the files of a file system answers.
+use Rattle.std.proofs.Common.{◌≡◌, ◌≢◌, ◌⊎◌, inl, inr, ℕ, ◌+◌, ◌<◌, ◌≤◌, Bool, false, List, [], ◌∷◌, ◌++◌, length, drop, get_or, map, Option, Some, None, Result, Ok, Err, refl, sym, subst, ap, ◌∙◌}
+use Rattle.std.specs.Prelude.{⊤, string_bytes, codes, is_some, is_ok, true}
+use Rattle.std.specs.Option.{IfSome, option_map}
+use Rattle.std.specs.Fmt.{option_append}
+use Rattle.std.specs.Io.KnownBytes.{Appends}
+use Rattle.tl_record.specs.declared.layout.Layout.{Layout}
+use Rattle.tl_record.specs.declared.options.Options.{Options}
+use Rattle.tl_record.specs.Layout.{layout_with}
+use Rattle.tl_text.specs.Joining.{joined_bytes, closed}
+use Rattle.std.proofs.lemmas.List.{append-nil, append_assoc, at_drop_more, at_drop_all, map_push}
+use Rattle.tl_plan.specs.CommandLine.{files_of}
+use Rattle.tl_output.specs.Writing.{line_of}
+use Rattle.tl_files.specs.declared.file_system.Room.{Room}
+use Rattle.tl_files.specs.declared.file_system.Room.TheVariants.{Free, Taken, IsRead}
+use Rattle.tl_files.specs.Files.{Under, bytes_under, standing, beside, IsRoom}
+use Rattle.tl_cert.specs.Text.{certificate_text}
+use Rattle.tl_cert.specs.declared.stop.CertStop.{CertStop}
+use Rattle.tl_cert.specs.declared.stop.CertStop.TheVariants as cert_stop
+use Rattle.tl_check.specs.declared.verdict.Verdict.TheVariants as verdict
+use Rattle.tl_check.specs.declared.fault.MapFault.{MapFault}
+use Rattle.tl_check.specs.declared.fault.MapFault.TheVariants.{Records, Meet, Side, PolygonPoint, Cell}
+use Rattle.tl_check.specs.Records.{LeavesUnread}
+use Rattle.tl_plan.specs.declared.plan.Plan.{Plan}
+use Rattle.tl_plan.specs.declared.plan.Plan.TheVariants.{Show, Landmarks, Locate, Convert, Check, Audit, Build}
+use Rattle.tl_command.specs.declared.building.Making.{Making}
+use Rattle.tl_command.specs.declared.building.Making.TheVariants.{Made, Fault}
+use Rattle.tl_command.specs.declared.convert.Converted.{Converted}
+use Rattle.tl_command.specs.declared.stop.Stop.{Stop}
+use Rattle.tl_command.specs.declared.stop.Stop.TheVariants.{Refused, Memory, Device, Budget}
+use Rattle.tl_command.specs.declared.stop.TheConstants.{DONE, MAP_FAULT, CERT_FAULT, REFUSED, STOPPED, USAGE}
+use Rattle.tl_command.specs.Running.{IsAnswered, IsBuilt, IsConverted, FaultsMap, NamesFault, FaultsCertificate, NamesRefusal, StopsRun, NamesStop, IsRunStatus, IsTold, ReadsNoCertificate, MakesNoCertificate, layout_of}
+use Rattle.tl_command.specs.Making.{Makes, TellsMaking, Rewrites, TellsConverted, was_made}
+use Rattle.tl_command.specs.Deciding.{IsExact}
+use Rattle.tl_command.specs.Opening.{RunsOver, records_under, certificate_under, Stands, KeepsOthers, KeepsAll, RefusesName, IsCheckBy, IsBuildOf, IsConversionBy, Converts, names_read, made_by}
+use Rattle.tl_command.specs.Starting.{StopsOpening}
+use Rattle.tl_command.proofs.DecidingLemmas.{build_decides}
+use Rattle.tl_command.proofs.MakingLemmas.{not_done, making_status, making_built, making_fault, making_refused, making_stopped, making_err_stays}
+use Rattle.tl_command.proofs.ConvertLemmas.{converted_status, converted_is, converted_fault, converted_stopped, converted_err_stays}
+
+-- ---- the joined text
+
+joined_of : {A : Type 0} (f : A → Option (List ℕ)) (before : Bool) (xs : List A) → joined_bytes f before xs ≡ joined_bytes (λ (o : Option (List ℕ)). o) before (map f xs)
+joined_of f before [] = refl
+joined_of f before (x ∷ xs) = ap (λ rest. option_append (option_map (closed before) (f x)) rest) (joined_of f false xs)
+
+joined_names : {A B : Type 0} (f : B → Option (List ℕ)) (h : A → B) (before : Bool) (xs : List A) → joined_bytes (λ x. f (h x)) before xs ≡ joined_bytes f before (map h xs)
+joined_names f h before [] = refl
+joined_names f h before (x ∷ xs) = ap (λ rest. option_append (option_map (closed before) (f (h x))) rest) (joined_names f h false xs)
+
+-- readers that give the bytes that stand under names give the joined text of the names
+pub joined_same : {A B : Type 0} (f : A → Option (List ℕ)) (g : B → Option (List ℕ)) (before : Bool) (xs : List A) (ys : List B) → map f xs ≡ map g ys → joined_bytes f before xs ≡ joined_bytes g before ys
+joined_same f g before xs ys same = joined_of f before xs ∙ ap (joined_bytes (λ (o : Option (List ℕ)). o) before) same ∙ sym (joined_of g before ys)
+
+-- readers of the files of these names give the plan's records
+pub records_are : {A B : Type 0} (f : A → Option (List ℕ)) (h : B → List ℕ) (plan : Plan) (under : Under) (readers : List A) (names : List B) → map f readers ≡ map (λ name. bytes_under under (h name)) names
+    → map h names ≡ files_of plan → joined_bytes f false readers ≡ records_under under plan
+records_are f h plan under readers names same files =
+    joined_same f (λ name. bytes_under under (h name)) false readers names same ∙ joined_names (bytes_under under) h false names ∙ ap (joined_bytes (bytes_under under) false) files
+
+-- one more file is opened
+pub opened_more : {A B : Type 0} (f : A → Option (List ℕ)) (g : B → Option (List ℕ)) (readers more : List A) (names : List B) (i : ℕ) (x : A) (d : B) → i < length names → more ≡ readers ++ x ∷ [] → f x ≡ g (get_or names i d)
+    → map f readers ++ map g (drop i names) ≡ map g names → map f more ++ map g (drop (i + 1) names) ≡ map g names
+opened_more f g readers more names i x d lt is at before =
+    ap (λ rs. map f rs ++ map g (drop (i + 1) names)) is
+    ∙ ap (λ ys. ys ++ map g (drop (i + 1) names)) (map_push f readers x)
+    ∙ append_assoc (map f readers) (f x ∷ []) (map g (drop (i + 1) names))
+    ∙ ap (λ y. map f readers ++ y ∷ map g (drop (i + 1) names)) at
+    ∙ ap (λ ys. map f readers ++ ys) (sym (at_drop_more (λ (ns : List _). map g ns) names i d lt))
+    ∙ before
+
+pub opened_all : {A B : Type 0} (f : A → Option (List ℕ)) (g : B → Option (List ℕ)) (readers : List A) (names : List B) (i : ℕ) → length names ≤ i → map f readers ++ map g (drop i names) ≡ map g names
+    → map f readers ≡ map g names
+opened_all f g readers names i all before = sym (append-nil (map f readers)) ∙ ap (λ ys. map f readers ++ ys) (sym (at_drop_all (λ (ns : List _). map g ns) names i all)) ∙ before
+
+-- ---- a run that makes no file
+
+fault_read_of : (plan : Plan) (known : Option (List ℕ)) (unread : Type 0) (wrote : List ℕ → Type 0) → NamesFault (layout_of plan) known unread wrote → NamesFault (layout_of plan) known ⊤ wrote
+fault_read_of plan known unread wrote is = record { fault = is.fault; written = is.written; holds = is.holds; alone = alone is.fault }
+  where
+    alone : (fault : MapFault) → LeavesUnread (Ok (verdict.MapFault fault)) ⊤
+    alone (Records fault) = tt
+    alone (Meet meet) = tt
+    alone (Side node first next) = tt
+    alone (PolygonPoint fault) = tt
+    alone (Cell odds) = tt
+
+-- a fault, with nothing said of the certificate
+fault_read : (plan : Plan) (known : Option (List ℕ)) (unread : Type 0) (wrote : List ℕ → Type 0) → FaultsMap plan known unread wrote → FaultsMap plan known ⊤ wrote
+fault_read (Show options files) known unread wrote is = is
+fault_read (Landmarks options files) known unread wrote is = is
+fault_read (Locate point options files) known unread wrote is = is
+fault_read (Convert cert to) known unread wrote is = is
+fault_read (Check cert budget options files) known unread wrote is = fault_read_of (Check cert budget options files) known unread wrote is
+fault_read (Audit options files) known unread wrote is = is
+fault_read (Build to options files) known unread wrote is = is
+
+-- an answer in which no certificate has a part
+answered_plain : (plan : Plan) (known spelt other : Option (List ℕ)) (made kept wrote : List ℕ → Type 0) → ReadsNoCertificate plan → MakesNoCertificate plan → IsAnswered plan known spelt made wrote
+    → IsAnswered plan known other kept wrote
+answered_plain (Show options files) known spelt other made kept wrote reads makes is = is
+answered_plain (Landmarks options files) known spelt other made kept wrote reads makes is = is
+answered_plain (Locate point options files) known spelt other made kept wrote reads makes is = is
+answered_plain (Convert cert to) known spelt other made kept wrote reads makes is = absurd reads
+answered_plain (Check cert budget options files) known spelt other made kept wrote reads makes is = absurd reads
+answered_plain (Audit options files) known spelt other made kept wrote reads makes is = is
+answered_plain (Build to options files) known spelt other made kept wrote reads makes is = absurd makes
+
+cert_fault_plain : (plan : Plan) (known spelt other : Option (List ℕ)) (wrote : List ℕ → Type 0) → ReadsNoCertificate plan → FaultsCertificate plan known spelt wrote → FaultsCertificate plan known other wrote
+cert_fault_plain (Show options files) known spelt other wrote reads is = is
+cert_fault_plain (Landmarks options files) known spelt other wrote reads is = is
+cert_fault_plain (Locate point options files) known spelt other wrote reads is = is
+cert_fault_plain (Convert cert to) known spelt other wrote reads is = absurd reads
+cert_fault_plain (Check cert budget options files) known spelt other wrote reads is = absurd reads
+cert_fault_plain (Audit options files) known spelt other wrote reads is = is
+cert_fault_plain (Build to options files) known spelt other wrote reads is = is
+
+no_usage : (status : ℕ) → IsRunStatus status → status ≢ USAGE
+no_usage status (inl (inl is)) e = cc (sym is ∙ e)
+no_usage status (inl (inr is)) e = cc (sym is ∙ e)
+no_usage status (inr (inl is)) e = cc (sym is ∙ e)
+no_usage status (inr (inr (inl is))) e = cc (sym is ∙ e)
+no_usage status (inr (inr (inr is))) e = cc (sym is ∙ e)
+
+-- what is answered of the records of names, where no certificate has a part
+pub over_plain : (plan : Plan) (under : Under) (known spelt : Option (List ℕ)) (status : ℕ) (unread : Type 0) (made wrote told : List ℕ → Type 0) (out_same err_same : Type 0)
+    → ReadsNoCertificate plan → MakesNoCertificate plan → known ≡ records_under under plan
+    → IsRunStatus status → (status ≡ DONE → IsAnswered plan known spelt made wrote) → (status ≡ MAP_FAULT → FaultsMap plan known unread wrote)
+    → ((status ≡ DONE) ⊎ (status ≡ MAP_FAULT) → IsExact plan known status)
+    → (status ≡ CERT_FAULT → FaultsCertificate plan known spelt wrote) → (status ≡ REFUSED → NamesRefusal (layout_of plan) known told)
+    → (status ≡ STOPPED → StopsRun plan known told ⊤) → ((status ≡ DONE) ⊎ ((status ≡ MAP_FAULT) ⊎ (status ≡ CERT_FAULT)) → err_same) → (status ≡ REFUSED → out_same)
+    → RunsOver plan status under under wrote told out_same err_same
+over_plain plan under known spelt status unread made wrote told out_same err_same reads makes same is answered fault exactly cert_fault refused stopped err_stays out_stays = record {
+  is_status = inl is;
+  answered = λ e. rw (← same) (answered_plain plan known spelt (certificate_under under plan) made (Stands under plan) wrote reads makes (answered e));
+  fault = λ e. rw (← same) (fault_read plan known unread wrote (fault e));
+  exactly = λ e. rw (← same) (exactly e);
+  cert_fault = λ e. rw (← same) (cert_fault_plain plan known spelt (certificate_under under plan) wrote reads (cert_fault e));
+  refused = λ e. rw (← same) (refused e);
+  stopped = λ e. rw (← same) (stopped e);
+  usage = λ e. absurd (no_usage status is e);
+  err_stays = err_stays;
+  out_stays = λ e. elim e [ inl r ↦ out_stays r | inr u ↦ absurd (no_usage status is u) ];
+  others = λ name other. refl;
+  unmade = λ not_done not_stopped name other. refl;
+}
+
+-- the same of a certificate that decides
+pub over_check : (plan : Plan) (name : List ℕ) (under : Under) (known spelt : Option (List ℕ)) (status : ℕ) (unread : Type 0) (made wrote told : List ℕ → Type 0) (out_same err_same : Type 0)
+    → IsCheckBy plan name → known ≡ records_under under plan → spelt ≡ certificate_under under plan
+    → IsRunStatus status → (status ≡ DONE → IsAnswered plan known spelt made wrote) → (status ≡ MAP_FAULT → FaultsMap plan known unread wrote)
+    → ((status ≡ DONE) ⊎ (status ≡ MAP_FAULT) → IsExact plan known status)
+    → (status ≡ CERT_FAULT → FaultsCertificate plan known spelt wrote) → (status ≡ REFUSED → NamesRefusal (layout_of plan) known told)
+    → (status ≡ STOPPED → StopsRun plan known told ⊤) → ((status ≡ DONE) ⊎ ((status ≡ MAP_FAULT) ⊎ (status ≡ CERT_FAULT)) → err_same) → (status ≡ REFUSED → out_same)
+    → RunsOver plan status under under wrote told out_same err_same
+over_check plan name under known spelt status unread made wrote told out_same err_same by same reads is answered fault exactly cert_fault refused stopped err_stays out_stays = record {
+  is_status = inl is;
+  answered = λ e. rw (← same, ← reads) (kept plan by (answered e));
+  fault = λ e. rw (← same) (fault_read plan known unread wrote (fault e));
+  exactly = λ e. rw (← same) (exactly e);
+  cert_fault = λ e. rw (← same, ← reads) (cert_fault e);
+  refused = λ e. rw (← same) (refused e);
+  stopped = λ e. rw (← same) (stopped e);
+  usage = λ e. absurd (no_usage status is e);
+  err_stays = err_stays;
+  out_stays = λ e. elim e [ inl r ↦ out_stays r | inr u ↦ absurd (no_usage status is u) ];
+  others = λ other_name other. refl;
+  unmade = λ not_done not_stopped other_name other. refl;
+}
+  where
+    kept : (p : Plan) → IsCheckBy p name → IsAnswered p known spelt made wrote → IsAnswered p known spelt (Stands under plan) wrote
+    kept (Check cert budget options files) by is = is
+    kept (Show options files) by is = absurd by
+    kept (Landmarks options files) by is = absurd by
+    kept (Locate point options files) by is = absurd by
+    kept (Convert cert to) by is = absurd by
+    kept (Audit options files) by is = absurd by
+    kept (Build to options files) by is = absurd by
+
+-- ---- a run that is stopped before it begins, or where a file may not take its name
+
+pub over_stop : (plan : Plan) (stop : Stop) (status : ℕ) (before after : Under) (wrote told : List ℕ → Type 0) (out_same err_same : Type 0) → KeepsAll before after plan → StopsOpening stop
+    → IsTold stop status told → RunsOver plan status before after wrote told out_same err_same
+over_stop plan stop status before after wrote told out_same err_same keeps opening is = go stop opening is
+  where
+    others : KeepsOthers before after plan
+    others name differs = keeps name (less (made_by plan) differs)
+      where
+        less : (made : Option (List ℕ)) → IfSome made (λ m. (name ≢ m) × (name ≢ beside m)) → IfSome made (λ m. name ≢ beside m)
+        less None d = tt
+        less (Some m) d = d.1
+
+    stopped_by : status ≡ STOPPED → StopsRun plan (records_under before plan) told ⊤ → RunsOver plan status before after wrote told out_same err_same
+    stopped_by e so = record {
+      is_status = inl (inr (inr (inr e)));
+      answered = λ d. absurd (cc (sym e ∙ d));
+      fault = λ d. absurd (cc (sym e ∙ d));
+      exactly = λ any. absurd (elim any [ inl d ↦ cc (sym e ∙ d) | inr d ↦ cc (sym e ∙ d) ]);
+      cert_fault = λ d. absurd (cc (sym e ∙ d));
+      refused = λ d. absurd (cc (sym e ∙ d));
+      stopped = λ d. so;
+      usage = λ d. absurd (cc (sym e ∙ d));
+      err_stays = λ any. absurd (elim any [ inl d ↦ cc (sym e ∙ d) | inr more ↦ elim more [ inl d ↦ cc (sym e ∙ d) | inr d ↦ cc (sym e ∙ d) ] ]);
+      out_stays = λ any. absurd (elim any [ inl d ↦ cc (sym e ∙ d) | inr d ↦ cc (sym e ∙ d) ]);
+      others = others;
+      unmade = λ not_done not_stopped. absurd (not_stopped e);
+    }
+
+    go : (s : Stop) → StopsOpening s → IsTold s status told → RunsOver plan status before after wrote told out_same err_same
+    go (Refused line cause) may t = absurd may
+    go Memory may t = stopped_by t.0 (inl (inl t.1))
+    go Device may t = stopped_by t.0 (elim t.1 [ inl w ↦ inl (inl w) | inr w ↦ inl (inr (w, tt)) ])
+    go Budget may t = absurd may
+
+-- a stop that names itself
+pub over_named_stop : (plan : Plan) (status : ℕ) (under : Under) (wrote told : List ℕ → Type 0) (out_same err_same : Type 0) → status ≡ STOPPED → NamesStop told ⊤
+    → RunsOver plan status under under wrote told out_same err_same
+over_named_stop plan status under wrote told out_same err_same e names = record {
+  is_status = inl (inr (inr (inr e)));
+  answered = λ d. absurd (cc (sym e ∙ d));
+  fault = λ d. absurd (cc (sym e ∙ d));
+  exactly = λ any. absurd (elim any [ inl d ↦ cc (sym e ∙ d) | inr d ↦ cc (sym e ∙ d) ]);
+  cert_fault = λ d. absurd (cc (sym e ∙ d));
+  refused = λ d. absurd (cc (sym e ∙ d));
+  stopped = λ d. inl names;
+  usage = λ d. absurd (cc (sym e ∙ d));
+  err_stays = λ any. absurd (elim any [ inl d ↦ cc (sym e ∙ d) | inr more ↦ elim more [ inl d ↦ cc (sym e ∙ d) | inr d ↦ cc (sym e ∙ d) ] ]);
+  out_stays = λ any. absurd (elim any [ inl d ↦ cc (sym e ∙ d) | inr d ↦ cc (sym e ∙ d) ]);
+  others = λ name other. refl;
+  unmade = λ not_done not_stopped. absurd (not_stopped e);
+}
+
+-- a certificate that may not take its name
+pub over_refusal : (plan : Plan) (name : List ℕ) (status : ℕ) (under : Under) (wrote told : List ℕ → Type 0) (out_same err_same : Type 0) → made_by plan ≡ Some name → out_same → status ≡ USAGE
+    → RefusesName under name (names_read plan) told → RunsOver plan status under under wrote told out_same err_same
+over_refusal plan name status under wrote told out_same err_same made stays e refuses = record {
+  is_status = inr e;
+  answered = λ d. absurd (cc (sym e ∙ d));
+  fault = λ d. absurd (cc (sym e ∙ d));
+  exactly = λ any. absurd (elim any [ inl d ↦ cc (sym e ∙ d) | inr d ↦ cc (sym e ∙ d) ]);
+  cert_fault = λ d. absurd (cc (sym e ∙ d));
+  refused = λ d. absurd (cc (sym e ∙ d));
+  stopped = λ d. absurd (cc (sym e ∙ d));
+  usage = λ d. (name, made, refuses);
+  err_stays = λ any. absurd (elim any [ inl d ↦ cc (sym e ∙ d) | inr more ↦ elim more [ inl d ↦ cc (sym e ∙ d) | inr d ↦ cc (sym e ∙ d) ] ]);
+  out_stays = λ any. stays;
+  others = λ other differs. refl;
+  unmade = λ not_done not_stopped other differs. refl;
+}
+
+-- the line of what is wrong with a name was told
+abbrev pub SaysRoom : Room → (List ℕ → Type 0) → Type 0
+SaysRoom Free told = ⊥
+SaysRoom Taken told = told (line_of (codes "OUT stands and is no certificate"))
+SaysRoom IsRead told = told (line_of (codes "OUT is one of the files that are read"))
+
+refuses_by : (under : Under) (name : List ℕ) (read : List (List ℕ)) (room : Room) (told : List ℕ → Type 0) → IsRoom under name read room → SaysRoom room told → RefusesName under name read told
+refuses_by under name read Free told is says = absurd says
+refuses_by under name read Taken told is says = inl (is, says)
+refuses_by under name read IsRead told is says = inr (is, says)
+
+names_of_build : (plan : Plan) (name : List ℕ) (options : Options) → IsBuildOf plan name options → (made_by plan ≡ Some name) × (names_read plan ≡ files_of plan)
+names_of_build (Build to options files) name chosen of = (ap Some of.0, refl)
+names_of_build (Show options files) name chosen of = absurd of
+names_of_build (Landmarks options files) name chosen of = absurd of
+names_of_build (Locate point options files) name chosen of = absurd of
+names_of_build (Convert cert to) name chosen of = absurd of
+names_of_build (Check cert budget options files) name chosen of = absurd of
+names_of_build (Audit options files) name chosen of = absurd of
+
+names_of_conversion : (plan : Plan) (from to : List ℕ) → IsConversionBy plan from to → (made_by plan ≡ Some to) × (names_read plan ≡ from ∷ [])
+names_of_conversion (Convert cert target) from to of = (ap Some of.1, ap (λ n. n ∷ []) of.0)
+names_of_conversion (Show options files) from to of = absurd of
+names_of_conversion (Landmarks options files) from to of = absurd of
+names_of_conversion (Locate point options files) from to of = absurd of
+names_of_conversion (Check cert budget options files) from to of = absurd of
+names_of_conversion (Audit options files) from to of = absurd of
+names_of_conversion (Build made options files) from to of = absurd of
+
+pub made_by_build : (plan : Plan) (name : List ℕ) (options : Options) → IsBuildOf plan name options → made_by plan ≡ Some name
+made_by_build plan name options of = (names_of_build plan name options of).0
+
+pub made_by_conversion : (plan : Plan) (to : List ℕ) → Converts plan to → made_by plan ≡ Some to
+made_by_conversion (Convert cert target) to of = ap Some of
+made_by_conversion (Show options files) to of = absurd of
+made_by_conversion (Landmarks options files) to of = absurd of
+made_by_conversion (Locate point options files) to of = absurd of
+made_by_conversion (Check cert budget options files) to of = absurd of
+made_by_conversion (Audit options files) to of = absurd of
+made_by_conversion (Build made options files) to of = absurd of
+
+-- a build, and a conversion, whose certificate may not take its name
+pub refused_build : (plan : Plan) (name : List ℕ) (options : Options) (read : List (List ℕ)) (room : Room) (status : ℕ) (under : Under) (wrote told : List ℕ → Type 0) (out_same err_same : Type 0) → IsBuildOf plan name options
+    → read ≡ files_of plan → IsRoom under name read room → out_same → status ≡ USAGE → SaysRoom room told → RunsOver plan status under under wrote told out_same err_same
+refused_build plan name options read room status under wrote told out_same err_same of files is stays e says =
+    let names = names_of_build plan name options of in
+    over_refusal plan name status under wrote told out_same err_same names.0 stays e (refuses_by under name (names_read plan) room told (subst (λ ns. IsRoom under name ns room) (files ∙ sym names.1) is) says)
+
+pub refused_conversion : (plan : Plan) (from name : List ℕ) (read : List (List ℕ)) (room : Room) (status : ℕ) (under : Under) (wrote told : List ℕ → Type 0) (out_same err_same : Type 0) → IsConversionBy plan from name
+    → read ≡ from ∷ [] → IsRoom under name read room → out_same → status ≡ USAGE → SaysRoom room told → RunsOver plan status under under wrote told out_same err_same
+refused_conversion plan from name read room status under wrote told out_same err_same of files is stays e says =
+    let names = names_of_conversion plan from name of in
+    over_refusal plan name status under wrote told out_same err_same names.0 stays e (refuses_by under name (names_read plan) room told (subst (λ ns. IsRoom under name ns room) (files ∙ sym names.1) is) says)
+
+-- what stays of names, by the name of the certificate
+pub keeps_others : (plan : Plan) (name : List ℕ) (before after : Under) → made_by plan ≡ Some name → ((other : List ℕ) → other ≢ name → other ≢ beside name → after other ≡ before other) → KeepsOthers before after plan
+keeps_others plan name before after is stays other differs =
+    let d : (other ≢ name) × (other ≢ beside name) = subst (λ (made : Option (List ℕ)). IfSome made (λ m. (other ≢ m) × (other ≢ beside m))) is differs in
+    stays other d.0 d.1
+
+pub keeps_all : (plan : Plan) (name : List ℕ) (before after : Under) → made_by plan ≡ Some name → ((other : List ℕ) → other ≢ beside name → after other ≡ before other) → KeepsAll before after plan
+keeps_all plan name before after is stays other differs =
+    stays other (subst (λ (made : Option (List ℕ)). IfSome made (λ m. other ≢ beside m)) is differs)
+
+-- ---- a certificate that is made
+
+-- where it is told that it was written, it was
+is_made : (making : Result Making Stop) (status : ℕ) (wrote told : List ℕ → Type 0) (to_write out_same err_same : Type 0) → TellsMaking making status wrote told to_write out_same err_same → status ≡ DONE
+    → was_made making ≡ true
+is_made (Ok (Made report)) status wrote told to_write out_same err_same tells done = refl
+is_made (Ok (Fault fault)) status wrote told to_write out_same err_same (inl is) done = cc (sym is.0 ∙ done)
+is_made (Ok (Fault fault)) status wrote told to_write out_same err_same (inr is) done = cc (sym is.0 ∙ done)
+is_made (Err stop) status wrote told to_write out_same err_same tells done = absurd ((not_done stop status told tells.0).0 done)
+
+-- where another thing is told and no stop, it wasn't
+not_made : (making : Result Making Stop) (status : ℕ) (wrote told : List ℕ → Type 0) (to_write out_same err_same : Type 0) → TellsMaking making status wrote told to_write out_same err_same → status ≢ DONE → status ≢ STOPPED
+    → was_made making ≡ false
+not_made (Ok (Made report)) status wrote told to_write out_same err_same (inl is) no_done no_stop = absurd (no_done is.0)
+not_made (Ok (Made report)) status wrote told to_write out_same err_same (inr is) no_done no_stop = absurd (no_stop is.0)
+not_made (Ok (Fault fault)) status wrote told to_write out_same err_same tells no_done no_stop = refl
+not_made (Err stop) status wrote told to_write out_same err_same tells no_done no_stop = refl
+
+run_status : (status : ℕ) → ((status ≡ DONE) ⊎ (status ≡ MAP_FAULT)) ⊎ ((status ≡ REFUSED) ⊎ (status ≡ STOPPED)) → IsRunStatus status
+run_status status (inl is) = inl is
+run_status status (inr is) = inr (inr is)
+
+no_cert_fault : (status : ℕ) → ((status ≡ DONE) ⊎ (status ≡ MAP_FAULT)) ⊎ ((status ≡ REFUSED) ⊎ (status ≡ STOPPED)) → status ≢ CERT_FAULT
+no_cert_fault status (inl (inl is)) e = cc (sym is ∙ e)
+no_cert_fault status (inl (inr is)) e = cc (sym is ∙ e)
+no_cert_fault status (inr (inl is)) e = cc (sym is ∙ e)
+no_cert_fault status (inr (inr is)) e = cc (sym is ∙ e)
+
+-- what was written into a new file that takes its name stands there
+pub stands : (made : Option (List ℕ)) (knows : Bool) (after : Under) (name : List ℕ) (old new : Option (List ℕ)) (text : List ℕ) → made ≡ Some name → is_some old ≡ knows → is_some new ≡ knows
+    → IfSome old (λ bytes. bytes ≡ []) → Appends old new text → after name ≡ standing new → IfSome made (λ n. IfSome (after n) (λ file. file ≡ Some text))
+stands made knows after name old new text is was now empty grown kept = rw (is, kept) (go old new was now empty grown)
+  where
+    go : (o n : Option (List ℕ)) → is_some o ≡ knows → is_some n ≡ knows → IfSome o (λ bytes. bytes ≡ []) → Appends o n text → IfSome (standing n) (λ file. file ≡ Some text)
+    go None None a b none grows = tt
+    go None (Some bytes) a b none grows = absurd (let e : false ≡ true = a ∙ sym b in cc)
+    go (Some bytes) None a b none grows = absurd grows
+    go (Some bytes) (Some more) a b none grows = ap Some (rw none at grows)
+
+-- the records' fault, refusal or certificate was told, and the file took its name or was taken away
+pub over_build : (plan : Plan) (name : List ℕ) (chosen : Options) (before after : Under) (known : Option (List ℕ)) (made begun wrote told : List ℕ → Type 0) (same failed to_write out_same err_same : Type 0)
+    (making : Result Making Stop) (status : ℕ) → IsBuildOf plan name chosen → known ≡ records_under before plan → Makes (layout_with chosen) known made begun same failed making
+    → TellsMaking making status wrote told to_write out_same err_same → KeepsOthers before after plan → (was_made making ≡ true → (text : List ℕ) → made text → Stands after plan text)
+    → (was_made making ≡ false → KeepsAll before after plan) → RunsOver plan status before after wrote told out_same err_same
+over_build (Build to options files) name chosen before after known made begun wrote told same failed to_write out_same err_same making status of is_known makes_chosen tells others kept unkept =
+    let plan : Plan = Build to options files in
+    let all : Option (List ℕ) = records_under before plan in
+    let layout : Layout = layout_with options in
+    let makes : Makes layout all made begun same failed making =
+    subst (λ (o : Options). Makes (layout_with o) all made begun same failed making) (sym of.1) (subst (λ (k : Option (List ℕ)). Makes (layout_with chosen) k made begun same failed making) is_known makes_chosen) in
+    let statuses = making_status making status wrote told to_write out_same err_same tells in
+    let built : status ≡ DONE → IsBuilt layout all (Stands after plan) wrote = λ done.
+    let it = making_built layout all made begun wrote told same failed to_write out_same err_same making status makes tells done in
+    record {
+      map = it.map;
+      built = record {
+        certificate = it.built.certificate;
+        is = it.built.is;
+        report = it.built.report;
+        decided = it.built.decided;
+        valid = it.built.valid;
+        version = it.built.version;
+        kept = kept (is_made making status wrote told to_write out_same err_same tells done) (certificate_text it.built.certificate) it.built.kept;
+        written = it.built.written;
+      };
+      drawn = it.drawn;
+    } in
+    let faulty = making_fault layout all made begun wrote told same failed to_write out_same err_same making status makes tells in
+    record {
+      is_status = inl (run_status status statuses);
+      answered = built;
+      fault = faulty;
+      exactly = build_decides layout all ⊤ (Stands after plan) wrote status built faulty;
+      cert_fault = λ e. absurd (no_cert_fault status statuses e);
+      refused = λ e. (making_refused layout all made begun wrote told same failed to_write out_same err_same making status makes tells e).0;
+      stopped = λ e. inl (making_stopped layout all made begun wrote told same failed to_write out_same err_same ⊤ making status (λ f. tt) (λ f. tt) makes tells e);
+      usage = λ e. absurd (no_usage status (run_status status statuses) e);
+      err_stays = λ any. elim any [
+        | inl d ↦ making_err_stays making status wrote told to_write out_same err_same tells (inl d)
+        | inr more ↦ elim more [ inl d ↦ making_err_stays making status wrote told to_write out_same err_same tells (inr d) | inr e ↦ absurd (no_cert_fault status statuses e) ]
+      ];
+      out_stays = λ any. elim any [
+        | inl r ↦ (making_refused layout all made begun wrote told same failed to_write out_same err_same making status makes tells r).1
+        | inr u ↦ absurd (no_usage status (run_status status statuses) u)
+      ];
+      others = others;
+      unmade = λ not_done not_stopped. unkept (not_made making status wrote told to_write out_same err_same tells not_done not_stopped);
+    }
+over_build (Show options files) name chosen before after known made begun wrote told same failed to_write out_same err_same making status of is_known makes tells others kept unkept = absurd of
+over_build (Landmarks options files) name chosen before after known made begun wrote told same failed to_write out_same err_same making status of is_known makes tells others kept unkept = absurd of
+over_build (Locate point options files) name chosen before after known made begun wrote told same failed to_write out_same err_same making status of is_known makes tells others kept unkept = absurd of
+over_build (Convert cert to) name chosen before after known made begun wrote told same failed to_write out_same err_same making status of is_known makes tells others kept unkept = absurd of
+over_build (Check cert budget options files) name chosen before after known made begun wrote told same failed to_write out_same err_same making status of is_known makes tells others kept unkept = absurd of
+over_build (Audit options files) name chosen before after known made begun wrote told same failed to_write out_same err_same making status of is_known makes tells others kept unkept = absurd of
+
+-- ---- a certificate that is written in version 2
+
+is_rewritten : (answer : Result Converted CertStop) (status : ℕ) (wrote told : List ℕ → Type 0) (to_write out_same err_same : Type 0) → TellsConverted answer status wrote told to_write out_same err_same → status ≡ DONE
+    → is_ok answer ≡ true
+is_rewritten (Ok counts) status wrote told to_write out_same err_same tells done = refl
+is_rewritten (Err (cert_stop.Text line)) status wrote told to_write out_same err_same (inl is) done = cc (sym is.0 ∙ done)
+is_rewritten (Err (cert_stop.Text line)) status wrote told to_write out_same err_same (inr is) done = cc (sym is.0 ∙ done)
+is_rewritten (Err cert_stop.Memory) status wrote told to_write out_same err_same tells done = cc (sym tells.0.0 ∙ done)
+is_rewritten (Err cert_stop.Device) status wrote told to_write out_same err_same tells done = cc (sym tells.0.0 ∙ done)
+
+not_rewritten : (answer : Result Converted CertStop) (status : ℕ) (wrote told : List ℕ → Type 0) (to_write out_same err_same : Type 0) → TellsConverted answer status wrote told to_write out_same err_same → status ≢ DONE
+    → status ≢ STOPPED → is_ok answer ≡ false
+not_rewritten (Ok counts) status wrote told to_write out_same err_same (inl is) no_done no_stop = absurd (no_done is.0)
+not_rewritten (Ok counts) status wrote told to_write out_same err_same (inr is) no_done no_stop = absurd (no_stop is.0)
+not_rewritten (Err stop) status wrote told to_write out_same err_same tells no_done no_stop = refl
+
+cert_status : (status : ℕ) → (status ≡ DONE) ⊎ ((status ≡ CERT_FAULT) ⊎ (status ≡ STOPPED)) → IsRunStatus status
+cert_status status (inl is) = inl (inl is)
+cert_status status (inr (inl is)) = inr (inl is)
+cert_status status (inr (inr is)) = inr (inr (inr is))
+
+no_fault : (status : ℕ) → (status ≡ DONE) ⊎ ((status ≡ CERT_FAULT) ⊎ (status ≡ STOPPED)) → (status ≢ MAP_FAULT) × (status ≢ REFUSED)
+no_fault status (inl is) = ((λ e. cc (sym is ∙ e)), (λ e. cc (sym is ∙ e)))
+no_fault status (inr (inl is)) = ((λ e. cc (sym is ∙ e)), (λ e. cc (sym is ∙ e)))
+no_fault status (inr (inr is)) = ((λ e. cc (sym is ∙ e)), (λ e. cc (sym is ∙ e)))
+
+-- the certificate was told, or what is wrong with its text, and the file took its name or was taken away
+pub over_conversion : (plan : Plan) (to : List ℕ) (before after : Under) (spelt : Option (List ℕ)) (made begun wrote told : List ℕ → Type 0) (same failed to_write out_same err_same : Type 0)
+    (answer : Result Converted CertStop) (status : ℕ) → Converts plan to → spelt ≡ certificate_under before plan → Rewrites spelt made begun same failed answer
+    → TellsConverted answer status wrote told to_write out_same err_same → KeepsOthers before after plan → (is_ok answer ≡ true → (text : List ℕ) → made text → Stands after plan text)
+    → (is_ok answer ≡ false → KeepsAll before after plan) → RunsOver plan status before after wrote told out_same err_same
+over_conversion (Convert cert target) to before after spelt made begun wrote told same failed to_write out_same err_same answer status of is_known rewrites_spelt tells others kept unkept =
+    let statuses = converted_status answer status wrote told to_write out_same err_same tells in
+    let plan : Plan = Convert cert target in
+    let text : Option (List ℕ) = certificate_under before plan in
+    let rewrites : Rewrites text made begun same failed answer = subst (λ (s : Option (List ℕ)). Rewrites s made begun same failed answer) is_known rewrites_spelt in
+    record {
+      is_status = inl (cert_status status statuses);
+      answered = λ done.
+          let it = converted_is text made begun wrote told same failed to_write out_same err_same answer status rewrites tells done in
+          record {
+            certificate = it.certificate;
+            is = it.is;
+            read = it.read;
+            kept = kept (is_rewritten answer status wrote told to_write out_same err_same tells done) (certificate_text (record it.certificate { version = 2 })) it.kept;
+            written = it.written;
+          };
+      fault = λ e. absurd ((no_fault status statuses).0 e);
+      exactly = λ any. tt;
+      cert_fault = λ e. (converted_fault text made begun wrote told same failed to_write out_same err_same answer status rewrites tells e).0;
+      refused = λ e. absurd ((no_fault status statuses).1 e);
+      stopped = λ e. inl (converted_stopped text made begun wrote told same failed to_write out_same err_same ⊤ answer status (λ f. tt) (λ f. tt) rewrites tells e);
+      usage = λ e. absurd (no_usage status (cert_status status statuses) e);
+      err_stays = λ any. elim any [
+        | inl d ↦ converted_err_stays answer status wrote told to_write out_same err_same tells (inl d)
+        | inr more ↦ elim more [ inl d ↦ absurd ((no_fault status statuses).0 d) | inr e ↦ converted_err_stays answer status wrote told to_write out_same err_same tells (inr e) ]
+      ];
+      out_stays = λ any. absurd (elim any [ inl r ↦ (no_fault status statuses).1 r | inr u ↦ no_usage status (cert_status status statuses) u ]);
+      others = others;
+      unmade = λ not_done not_stopped. unkept (not_rewritten answer status wrote told to_write out_same err_same tells not_done not_stopped);
+    }
+over_conversion (Show options files) to before after spelt made begun wrote told same failed to_write out_same err_same answer status of is_known rewrites tells others kept unkept = absurd of
+over_conversion (Landmarks options files) to before after spelt made begun wrote told same failed to_write out_same err_same answer status of is_known rewrites tells others kept unkept = absurd of
+over_conversion (Locate point options files) to before after spelt made begun wrote told same failed to_write out_same err_same answer status of is_known rewrites tells others kept unkept = absurd of
+over_conversion (Check cert budget options files) to before after spelt made begun wrote told same failed to_write out_same err_same answer status of is_known rewrites tells others kept unkept = absurd of
+over_conversion (Audit options files) to before after spelt made begun wrote told same failed to_write out_same err_same answer status of is_known rewrites tells others kept unkept = absurd of
+over_conversion (Build made_name options files) to before after spelt made begun wrote told same failed to_write out_same err_same answer status of is_known rewrites tells others kept unkept = absurd of

@@ -1,0 +1,15 @@
+use Rattle.std.proofs.Common.{string_bytes}
+use Rattle.tl_command.proofs.OpenLemmas.{records_are}
+use Rattle.tl_command.proofs.open.open_and_run.Goals as goal
+
+pub open_and_check-requires-clause-known : goal.open_and_check-requires-clause-known
+open_and_check-requires-clause-known g c =
+    records_are g.F.Reader.Read.remaining string_bytes c.args.plan.now (g.F.FileSystem.under c.args.files.now) c.in-Ok.readers.items c.files.result.now c.in-Ok.ensures.opened c.files.ensures
+
+pub open_and_build-requires-clause-known : goal.open_and_build-requires-clause-known
+open_and_build-requires-clause-known g c =
+    records_are g.F.Reader.Read.remaining string_bytes c.args.plan.now (g.F.FileSystem.under c.args.files.now) c.in-Ok.readers.items c.files.result.now c.in-Ok.ensures.opened c.files.ensures
+
+pub run_plainly-requires-clause-known : goal.run_plainly-requires-clause-known
+run_plainly-requires-clause-known g c =
+    records_are g.F.Reader.Read.remaining string_bytes c.args.plan.now (g.F.FileSystem.under c.args.files.now) c.in-Ok.readers.items c.files.result.now c.in-Ok.ensures.opened c.files.ensures

@@ -1,0 +1,56 @@
+//! The program: its words, over the files of the system.
+
+ghost use Rattle.tl_command.specs.Starting.{IsStartStatus};
+
+use crate::open::start;
+use crate::stop::{Stop, USAGE, stopped};
+use std::alloc::{Alloc, Global};
+use std::env;
+use std::fs::File;
+use std::io::ErrorKind;
+use std::rt::{Env, Files};
+use tl_files::SystemFiles;
+use tl_output::write_all;
+use tl_record::Sink;
+
+/// Does what the words of the command line ask, and gives the program's exit status.
+pub fn answer<R: Files<File = File> + Env + Alloc<A = Global>, W: Sink, E: Sink>(
+    rt: &R,
+    alloc: Global,
+    out: &mut W,
+    err: &mut E,
+) -> u8
+    ensures { IsStartStatus result }
+{
+    match env::args(rt) {
+        Ok(args) => match args.skip(1).collect::<Vec<String>>(alloc) {
+            Ok(words) => start_over_system(rt, alloc, words.as_slice(), out, err),
+            Err(_) => stopped(&Stop::Memory, err),
+        },
+        Err(error) if error.kind() == ErrorKind::OutOfMemory => stopped(&Stop::Memory, err),
+        Err(_) => say_no_text(err),
+    }
+}
+
+// Of all that `start` promises `answer` hears the status alone: its own proof, which is of what it owns, would go through
+// each other promise for each of its ways out.
+fn start_over_system<R: Files<File = File>, W: Sink, E: Sink>(
+    rt: &R,
+    alloc: Global,
+    words: &[String],
+    out: &mut W,
+    err: &mut E,
+) -> u8
+    ensures { IsStartStatus result }
+{
+    let mut files = SystemFiles::new(rt);
+    start(&mut files, alloc, words, out, err)
+}
+
+// Says that a word is no text. Where that can't be written, the status alone is left to tell it.
+fn say_no_text<E: Sink>(err: &mut E) -> u8
+    ensures { IsStartStatus result }
+{
+    let _ = write_all(b"error: a word of the command line is no UTF-8 text\n", err);
+    USAGE
+}

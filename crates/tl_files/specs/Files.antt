@@ -1,0 +1,44 @@
+-- What stands under the names of a file system.
+use Rattle.std.specs.Prelude.{◌≡◌, ◌++◌, ◌==◌, ◌||◌, ℕ, nat_eq, Bool, true, false, List, length, Option, Some, None, Contains, IfSome, codes}
+use Rattle.std.specs.List.{starts_with}
+use Rattle.tl_files.specs.declared.file_system.Room.{Room}
+use Rattle.tl_files.specs.declared.file_system.Room.TheVariants.{Free, Taken, IsRead}
+
+-- what is known of a name: nothing, or what stands under it, which is no file or one of these bytes
+abbrev pub Known : Type 0
+Known = Option (Option (List ℕ))
+
+-- what is known of each name
+abbrev pub Under : Type 0
+Under = List ℕ → Known
+
+-- the bytes that stand under a name, where a file does whose bytes are known
+abbrev pub bytes_of : Known → Option (List ℕ)
+bytes_of None = None
+bytes_of (Some file) = file
+
+abbrev pub bytes_under : Under → List ℕ → Option (List ℕ)
+bytes_under under name = bytes_of (under name)
+
+-- a file of these bytes stands there, where they are known
+abbrev pub standing : Option (List ℕ) → Known
+standing None = None
+standing (Some bytes) = Some (Some bytes)
+
+-- the name of a new file that isn't whole yet
+abbrev pub beside : List ℕ → List ℕ
+beside name = name ++ codes ".unfinished"
+
+-- how each certificate begins
+abbrev pub beginning : List ℕ
+beginning = codes "TIGERCERT "
+
+-- may a file of these bytes be written over: there are none, or they begin as certificates do
+abbrev pub may_go : List ℕ → Bool
+may_go bytes = (length bytes == 0) || starts_with nat_eq bytes beginning
+
+-- the answer to whether a file may be made of a name, where the names `read` are read
+abbrev pub IsRoom : Under → List ℕ → List (List ℕ) → Room → Type 0
+IsRoom under name read Free = IfSome (under name) (λ file. IfSome file (λ bytes. may_go bytes ≡ true) × ¬ Contains read name)
+IsRoom under name read Taken = IfSome (under name) (λ file. (bytes : List ℕ) × (file ≡ Some bytes) × (may_go bytes ≡ false))
+IsRoom under name read IsRead = IfSome (under name) (λ file. Contains read name)

@@ -1,0 +1,63 @@
+//! What a file system does.
+
+ghost use Rattle.std.specs.Prelude.{◌≡◌, ◌≢◌, ℕ, Bool, is_some, List, [], IfOk, IfSome, OnOk, OnErr, map, string_bytes};
+ghost use Rattle.tl_files.specs.Files.{Under, bytes_under, standing, beside, IsRoom};
+
+use std::alloc::Global;
+use std::io;
+use std::io::Read;
+use tl_record::Sink;
+
+/// Whether a file may be made of a name.
+#[derive(Clone, Copy, Debug, PartialEq, Eq)]
+pub enum Room {
+    /// It may: nothing stands there, or an empty file, or one that begins as certificates do, or no regular file.
+    Free,
+    /// A regular file stands there that isn't empty and doesn't begin as certificates do.
+    Taken,
+    /// It is one of the files that are read.
+    IsRead,
+}
+
+/// Files by their names. A new file stands beside its name until it is kept: what stood under the name stays till then,
+/// and no one sees a part of the new one.
+pub trait FileSystem {
+    /// A file that is read.
+    type Reader: Read + Drop;
+
+    /// A new file, which is written.
+    type Draft: Sink + Drop;
+
+    // What stands under each name, where that is known.
+    ghost under: { Self → Under };
+
+    // Whether the bytes of new files are known.
+    ghost knows: { Bool };
+
+    /// Opens the file that stands under a name.
+    fn open(&self, alloc: Global, name: &str) -> io::Result<Self::Reader>
+        ensures { IfOk result (λ file. Self.Reader.remaining file ≡ bytes_under (under self.now) name.now) };
+
+    /// Whether a new file may take a name, where those of these names are read.
+    fn room(&self, name: &str, read: &[String]) -> io::Result<Room>
+        ensures { IfOk result (IsRoom (under self.now) name.now (map string_bytes read.now)) };
+
+    /// A new file that may take a name. It is made when its first byte is written.
+    fn draft(&self, alloc: Global, name: &str) -> io::Result<Self::Draft>
+        ensures { IfOk result (λ file. IfSome (Self.Draft.contents file) (λ bytes. bytes ≡ [])) };
+
+    /// The new file takes the name, in place of what stood there. Where that fails, what stood there stays.
+    fn keep(&mut self, alloc: Global, file: Self::Draft, name: &str) -> io::Result<()>
+        ensures kept { OnOk result (under self.new name.now ≡ standing (Self.Draft.contents file)) }
+        ensures failed { OnErr result ((other : List ℕ) → other ≢ beside name.now →
+            under self.new other ≡ under self.old other) }
+        ensures others { (other : List ℕ) → other ≢ name.now → other ≢ beside name.now →
+            under self.new other ≡ under self.old other };
+
+    /// The new file is taken away.
+    fn discard(&mut self, file: Self::Draft, name: &str)
+        ensures { (other : List ℕ) → other ≢ beside name.now → under self.new other ≡ under self.old other };
+
+    // The law that each implementation proves: they are of all new files, or of none.
+    ghost alike: { (draft : Self.Draft) → is_some (Self.Draft.contents draft) ≡ knows };
+}

@@ -1,0 +1,320 @@
+//! The files of the system.
+
+ghost use Rattle.std.specs.Prelude.{◌≡◌};
+ghost use Rattle.std.specs.Io.{WritesAtMost};
+
+use crate::beginning::{BEGINNING, FRONT, may_go};
+use crate::file_system::{FileSystem, Room};
+use std::alloc::Global;
+use std::fs::{File, Metadata, OpenOptions, TryLockError};
+use std::io::{Error, ErrorKind, Read, Seek, SeekFrom, Write};
+use std::os::unix::fs::MetadataExt;
+use std::path::AsPath;
+use std::rt::Files;
+use std::{fs, io};
+use tl_record::Sink;
+
+// What follows a name in that of a new file that is to take it.
+const UNFINISHED: &str = ".unfinished";
+
+/// The files of the system. What stands under its names no contract knows.
+#[derive(Clone, Copy)]
+pub struct SystemFiles<'a, R> {
+    rt: &'a R,
+}
+
+impl<'a, R: Files<File = File>> SystemFiles<'a, R> {
+    /// The files that the runtime reaches.
+    pub fn new(rt: &'a R) -> SystemFiles<'a, R> {
+        SystemFiles { rt }
+    }
+}
+
+/// A file of the system that is read.
+#[derive(Drop)]
+pub struct SystemReader {
+    file: File,
+}
+
+impl Read for SystemReader {
+    ghost use Rattle.std.specs.Prelude.{None};
+
+    ghost remaining = { λ _. None };
+
+    fn read(&mut self, buf: &mut [u8]) -> io::Result<usize> {
+        self.file.read(buf)
+    }
+}
+
+/// A new file of the system. It is written beside the name that it is to take, under that name and `.unfinished`, and is
+/// made when its first byte is written. Where no regular file stands under the name (a pipe, a device), it is that one.
+#[derive(Drop)]
+pub struct SystemDraft<'a, R> {
+    rt: &'a R,
+    // The file whose name it takes: where the name is a link, what the link leads to.
+    target: String,
+    // Where it is written.
+    place: String,
+    file: Option<File>,
+    failures: u64,
+}
+
+impl<R: Files<File = File>> SystemDraft<'_, R> {
+    // Whether it is written straight to what stands under the name.
+    fn is_straight(&self) -> bool {
+        self.place.as_str() == self.target.as_str()
+    }
+
+    // Makes the file where it isn't made yet.
+    fn make(&mut self) -> io::Result<()>
+        ensures { self.new.failures ≡ self.old.failures }
+    {
+        if self.file.is_none() {
+            let file = self.opened()?;
+            self.file = Some(file);
+        }
+        Ok(())
+    }
+
+    // The file, made anew.
+    fn opened(&self) -> io::Result<File> {
+        let place = self.place.as_str();
+        if self.is_straight() {
+            File::create(self.rt, place)
+        } else {
+            make_beside(self.rt, self.target.as_str(), place)
+        }
+    }
+
+    // Makes the file where it isn't made yet, and writes.
+    fn write(&mut self, bytes: &[u8]) -> io::Result<usize>
+        ensures failures { self.new.failures ≡ self.old.failures }
+        ensures bound { WritesAtMost result bytes.now }
+    {
+        self.make()?;
+        match &mut self.file {
+            Some(file) => file.write(bytes),
+            None => Ok(0),
+        }
+    }
+
+    // What was written is on the disk, and has the name.
+    fn settle(&mut self) -> io::Result<()> {
+        self.make()?;
+        if self.is_straight() {
+            return Ok(());
+        }
+        if let Some(file) = &self.file {
+            file.sync_all()?;
+        }
+        fs::rename(self.rt, self.place.as_str(), self.target.as_str())
+    }
+
+    // Takes the file away where it was made beside the name.
+    fn take_away(&self) {
+        if self.file.is_some() && !self.is_straight() {
+            let _ = fs::remove_file(self.rt, self.place.as_str());
+        }
+    }
+}
+
+impl<R: Files<File = File>> Sink for SystemDraft<'_, R> {
+    ghost use Rattle.std.specs.Prelude.{None};
+
+    ghost contents = { λ _. None };
+
+    ghost failure_count = { λ draft. draft.failures };
+
+    fn put(&mut self, bytes: &[u8]) -> io::Result<usize> {
+        match self.write(bytes) {
+            Ok(taken) => {
+                if taken == 0 && !bytes.is_empty() {
+                    self.failures = self.failures.saturating_add(1);
+                }
+                Ok(taken)
+            }
+            Err(error) => {
+                self.failures = self.failures.saturating_add(1);
+                Err(error)
+            }
+        }
+    }
+
+    fn failures(&self) -> u64 {
+        self.failures
+    }
+}
+
+impl<'a, R: Files<File = File>> FileSystem for SystemFiles<'a, R> {
+    type Reader = SystemReader;
+
+    type Draft = SystemDraft<'a, R>;
+
+    ghost use Rattle.std.specs.Prelude.{None, false, refl};
+
+    ghost under = { λ _ _. None };
+
+    ghost knows = { false };
+
+    ghost alike = { λ draft. refl };
+
+    fn open(&self, _alloc: Global, name: &str) -> io::Result<SystemReader> {
+        let file = File::open(self.rt, name)?;
+        Ok(SystemReader { file })
+    }
+
+    fn room(&self, name: &str, read: &[String]) -> io::Result<Room> {
+        let stands = match fs::metadata(self.rt, name) {
+            Ok(stands) => stands,
+            Err(error) if error.kind() == ErrorKind::NotFound => return Ok(Room::Free),
+            Err(error) => return Err(error),
+        };
+        if !stands.is_file() {
+            return Ok(Room::Free);
+        }
+        if is_among(self.rt, &stands, read) {
+            return Ok(Room::IsRead);
+        }
+        if is_certificate(self.rt, name, stands.len())? {
+            Ok(Room::Free)
+        } else {
+            Ok(Room::Taken)
+        }
+    }
+
+    fn draft(&self, alloc: Global, name: &str) -> io::Result<SystemDraft<'a, R>> {
+        let target = target_of(self.rt, alloc, name)?;
+        let mut place = String::from_str(alloc, target.as_str())?;
+        if is_regular_or_none(self.rt, target.as_str()) {
+            place.push_str(UNFINISHED)?;
+        }
+        Ok(SystemDraft {
+            rt: self.rt,
+            target,
+            place,
+            file: None,
+            failures: 0,
+        })
+    }
+
+    fn keep(&mut self, _alloc: Global, file: SystemDraft<'a, R>, _name: &str) -> io::Result<()> {
+        let mut file = file;
+        let settled = file.settle();
+        if settled.is_err() {
+            file.take_away();
+        }
+        settled
+    }
+
+    fn discard(&mut self, file: SystemDraft<'a, R>, _name: &str) {
+        file.take_away();
+    }
+}
+
+// The file whose name a new one takes: where the name is a link, what the link leads to.
+fn target_of<R: Files>(rt: &R, alloc: Global, name: &str) -> io::Result<String> {
+    if let Ok(found) = fs::symlink_metadata(rt, name) {
+        if found.is_symlink() {
+            if let Ok(path) = rt.canonicalize(alloc, name) {
+                let target = String::from_str(alloc, path.path_text())?;
+                return Ok(target);
+            }
+        }
+    }
+    let target = String::from_str(alloc, name)?;
+    Ok(target)
+}
+
+// Whether a regular file stands under the name, or nothing. A link is left here only where it leads nowhere.
+fn is_regular_or_none<R: Files>(rt: &R, name: &str) -> bool {
+    match fs::symlink_metadata(rt, name) {
+        Ok(stands) => stands.is_file(),
+        Err(_) => true,
+    }
+}
+
+// Whether the file that stands is one of these.
+fn is_among<R: Files>(rt: &R, stands: &Metadata, names: &[String]) -> bool {
+    for name in names {
+        if let Ok(other) = fs::metadata(rt, name.as_str()) {
+            if is_same(stands, &other) {
+                return true;
+            }
+        }
+    }
+    false
+}
+
+// Whether these are one file.
+fn is_same(one: &Metadata, other: &Metadata) -> bool {
+    one.dev() == other.dev() && one.ino() == other.ino()
+}
+
+// Whether the file of this length is empty or begins as certificates do.
+fn is_certificate<R: Files<File = File>>(rt: &R, name: &str, length: u64) -> io::Result<bool> {
+    if length == 0 {
+        return Ok(true);
+    }
+    if length < FRONT as u64 {
+        return Ok(false);
+    }
+    let mut front = [0; FRONT];
+    let mut file = File::open(rt, name)?;
+    file.read_exact(&mut front)?;
+    Ok(may_go(&front))
+}
+
+// Makes a file beside its target, or takes over one that an earlier run left unfinished; with the permissions of the file
+// in whose place it comes.
+fn make_beside<R: Files<File = File>>(rt: &R, target: &str, place: &str) -> io::Result<File> {
+    let file = match File::create_new(rt, place) {
+        Ok(file) => {
+            lock(&file)?;
+            file
+        }
+        Err(error) if error.kind() == ErrorKind::AlreadyExists => take_over(rt, place)?,
+        Err(error) => return Err(error),
+    };
+    if let Ok(stands) = fs::metadata(rt, target) {
+        file.set_permissions(stands.permissions())?;
+    }
+    Ok(file)
+}
+
+// Empties a file that an earlier run left unfinished. One that another run is making, or that is none of ours, is left
+// alone.
+fn take_over<R: Files<File = File>>(rt: &R, place: &str) -> io::Result<File> {
+    if !fs::symlink_metadata(rt, place)?.is_file() {
+        return Err(Error::from(ErrorKind::AlreadyExists));
+    }
+    let mut file = OpenOptions::new().read(true).write(true).open(rt, place)?;
+    lock(&file)?;
+    let opened = file.metadata()?;
+    let stands = fs::symlink_metadata(rt, place)?;
+    if !is_same(&opened, &stands) || !is_unfinished(&mut file, opened.len())? {
+        return Err(Error::from(ErrorKind::AlreadyExists));
+    }
+    file.set_len(0)?;
+    file.seek(SeekFrom::Start(0))?;
+    Ok(file)
+}
+
+// Whether the file of this length begins as certificates do, or ends before it could.
+fn is_unfinished(file: &mut File, length: u64) -> io::Result<bool> {
+    let mut front = [0; FRONT];
+    let count = if length < FRONT as u64 {
+        length as usize
+    } else {
+        FRONT
+    };
+    file.read_exact(&mut front[..count])?;
+    Ok(front[..count] == BEGINNING[..count])
+}
+
+// Locks a file that is written against other runs. Where the system has no locks for it, it does without.
+fn lock(file: &File) -> io::Result<()> {
+    match file.try_lock() {
+        Err(TryLockError::WouldBlock) => Err(Error::from(ErrorKind::WouldBlock)),
+        _ => Ok(()),
+    }
+}
