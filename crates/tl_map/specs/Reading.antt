@@ -5,11 +5,12 @@ use Rattle.tl_record.specs.declared.stop.ReadStop.{ReadStop}
 use Rattle.tl_record.specs.declared.stop.ReadStop.TheVariants as read
 use Rattle.tl_record.specs.Failures.{one_more}
 use Rattle.tl_record.specs.Records.{Records}
+use Rattle.tl_map.specs.declared.fault.MapFault.{MapFault}
 use Rattle.tl_map.specs.declared.fault.MapStop.{MapStop}
 use Rattle.tl_map.specs.declared.fault.MapStop.TheVariants.{Refused, Device, Memory, Fault}
 use Rattle.tl_county.specs.Chains.{ChainList}
 use Rattle.tl_map.specs.ChainsOf.{AreChainsOf}
-use Rattle.tl_map.specs.Faults.{IsTrueOf, IsFaultOfChains, HaveNoChainFault, HaveNoFault}
+use Rattle.tl_map.specs.Faults.{IsTrueOf, HaveNoChainFault, HaveNoFault}
 use Rattle.tl_county.specs.TheMap.{TheMap}
 use Rattle.tl_map.specs.MapOf.{IsMapOf}
 
@@ -39,12 +40,12 @@ StopsReading all Memory = Unit {0}
 StopsReading all (Refused line cause) = all.refusal ≡ Some (line, cause)
 StopsReading all (Fault fault) = (all.refusal ≡ None) × IsTrueOf (records_in all) fault
 
--- a fault that stops the reading is one of the chains
-abbrev pub StopsForChains : MapStop → Type 0
-StopsForChains Device = ⊤
-StopsForChains Memory = ⊤
-StopsForChains (Refused line cause) = ⊤
-StopsForChains (Fault fault) = IsFaultOfChains fault
+-- where a fault is why there is no map, it is such a fault
+abbrev pub IfFault : (MapFault → Type 0) → MapStop → Type 0
+IfFault P Device = ⊤
+IfFault P Memory = ⊤
+IfFault P (Refused line cause) = ⊤
+IfFault P (Fault fault) = P fault
 
 -- `Device` is answered where a read failed, and nowhere else; the count of failures goes from old to new
 abbrev pub TellsDevice : {T : Type 0} → ℕ → ℕ → Result T MapStop → Type 0

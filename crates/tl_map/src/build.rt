@@ -6,7 +6,7 @@ ghost use Rattle.tl_geom.specs.declared.point.Point.{Point};
 ghost use Rattle.tl_record.specs.declared.record.Record.{Record};
 ghost use Rattle.tl_map.specs.declared.entry.ChainEntry.{ChainEntry};
 ghost use Rattle.tl_map.specs.Faults.{IsTrueOf, IsFaultOfChains};
-ghost use Rattle.tl_map.specs.Reading.{StopsForChains};
+ghost use Rattle.tl_map.specs.Reading.{IfFault};
 ghost use Rattle.tl_map.specs.Keeping.Entries.{AreChainEntries, AreShapeEntries, AreInOrder};
 ghost use Rattle.tl_map.specs.Keeping.Collected.{Collects};
 ghost use Rattle.tl_map.specs.Keeping.Built.{AreSound, AreBuilt, StopsBuilding};
@@ -48,7 +48,7 @@ pub fn build_chains(alloc: Global, collected: Collected, skipped: u64) -> Result
     // It has collected some records.
     requires { (rs : List Record) × Collects rs collected }
     ensures built { (rs : List Record) → Collects rs collected → MatchResult result (AreBuilt rs skipped) (StopsBuilding rs) }
-    ensures of_chains { IfErr result StopsForChains }
+    ensures of_chains { IfErr result (IfFault IsFaultOfChains) }
 {
     if collected.too_many {
         return Err(MapStop::Fault(MapFault::TooMany(Limited::Chains)));

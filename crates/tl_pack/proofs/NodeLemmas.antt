@@ -12,7 +12,7 @@ use Rattle.tl_tree.specs.Fits.{CoversAll, CoversBelow}
 use Rattle.tl_tree.specs.Preorder.{AreTrees, no_tree, leaf_first, inner_first}
 use Rattle.tl_tree.specs.Trees.{Forest, none, inner, depth, leaf_items, trees_of}
 use Rattle.tl_tree.proofs.Hulls.{all-append}
-use Rattle.tl_pack.specs.Packed.{IsFilled, IsShallow, AreEvenParts, AreSized, IsEvenlySplit, tree_count}
+use Rattle.tl_pack.specs.Packed.{IsFilled, IsShallow, AreSized, IsEvenlySplit, tree_count}
 use Rattle.tl_pack.specs.Keeping.Nodes.{most_items, Push, AreNodesOver}
 use Rattle.tl_pack.proofs.Forests.{tree_whole, trees_behind, trees_inner, items_joined, depth_joined, covers_joined, covers_more, split_joined, sized_joined, sized_within, count_joined}
 
