@@ -3,6 +3,7 @@ pub mod Turns
 pub mod Darts
 pub mod Nexts
 pub mod Rounds
+pub mod Neighbours
 pub mod Telescoping
 pub mod Ends
 pub mod Cancelling

@@ -5,3 +5,4 @@ pub mod West
 pub mod Boxes
 pub mod Told
 pub mod Rings
+pub mod Neighbours

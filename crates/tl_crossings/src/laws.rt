@@ -20,6 +20,7 @@ ghost use Rattle.tl_inside.specs.Inside.{balance, is_polygon, IsCount, IsPolygon
 ghost use Rattle.tl_inside.specs.Places.{IsOffChains, IsPlaceOf};
 ghost use Rattle.tl_crossings.specs.Heights.{crossed_at};
 ghost use Rattle.tl_crossings.specs.Headings.{AreProper, HeadApart, FirstsOverlap};
+ghost use Rattle.tl_crossings.specs.Neighbours.{AreDartsOf};
 ghost use Rattle.tl_crossings.specs.Boxes.{IsOnBoundary, IsOfChains, IsOutsideOfBox};
 ghost use Rattle.tl_crossings.specs.West.{IsWestCount};
 ghost use Rattle.tl_crossings.specs.Told.{ListsByWest, IsNowhere};
@@ -44,10 +45,12 @@ pub fn darts_of_planar_chains_head_apart()
     ensures { (chains : List MapChain) → AreProper chains → IsPlanar chains → HeadApart chains }
 {}
 
-/// In the rounds of chains, the darts of each node with rising headings, each dart is next after the one before it in its
-/// round, and the first after the last.
+/// Among the darts of a node, taken by strictly rising headings, each is next after the one before it, and the first after
+/// the last. So it is in each round of the rounds of chains.
 pub fn next_is_the_neighbour()
-    ensures { (chains : List MapChain) (rounds : List (List ℕ)) (r k : ℕ) → AreProper chains → AreRounds chains rounds →
+    ensures of_a_node { (chains : List MapChain) (node : Point) (darts : List ℕ) (k : ℕ) → AreDartsOf chains node darts →
+        k < length darts → IsNext chains (before darts k) (slice_index darts k) }
+    ensures in_rounds { (chains : List MapChain) (rounds : List (List ℕ)) (r k : ℕ) → AreProper chains → AreRounds chains rounds →
         r < length rounds → k < length (list_at rounds r) →
         IsNext chains (before (list_at rounds r) k) (slice_index (list_at rounds r) k) }
 {}

@@ -1,5 +1,5 @@
 -- Each fault of the records as a statement about the whole list of them.
-use Rattle.std.specs.Prelude.{◌≡◌, ℕ, ◌<◌, ◌≤◌, ◌==◌, ◌⊎◌, true, Some, List, length, map, count_by, Any, Contains, slice_get}
+use Rattle.std.specs.Prelude.{◌≡◌, ℕ, ◌<◌, ◌≤◌, ◌==◌, ◌⊎◌, ⊤, true, Some, List, length, map, count_by, Any, Contains, slice_get}
 use Rattle.tl_geom.specs.declared.point.Point.{Point}
 use Rattle.tl_record.specs.declared.record.PolyKey.{PolyKey}
 use Rattle.tl_record.specs.declared.record.Record.{Record}
@@ -93,6 +93,29 @@ IsTrueOf rs (LinkWithoutLandmark n) = Any (λ l. l.land ≡ n) (links_in rs) × 
 IsTrueOf rs (LinkWithoutPolygon k n) = Any (λ l. (l.key ≡ k) × (l.land ≡ n)) (links_in rs) × ¬ HasPolygon rs k
 IsTrueOf rs (DegenerateChain t) = IsDegenerate rs t
 IsTrueOf rs (TooMany what) = IsTooMany rs what
+
+-- there are too many of the chains or of their segments
+abbrev pub IsOfChains : Limited → Type 0
+IsOfChains Chains = ⊤
+IsOfChains Segments = ⊤
+IsOfChains Polygons = ⊥
+IsOfChains Landmarks = ⊥
+
+-- the fault is one of the chains: of records of the types 1 and 2 alone, or of the number of chains or of segments
+abbrev pub IsFaultOfChains : MapFault → Type 0
+IsFaultOfChains (DuplicateChain t) = ⊤
+IsFaultOfChains (ShapeWithoutChain t) = ⊤
+IsFaultOfChains (ShapeSequence t) = ⊤
+IsFaultOfChains (ShapeGap t) = ⊤
+IsFaultOfChains (ChainWithoutSides t) = ⊥
+IsFaultOfChains (SidesWithoutChain t) = ⊥
+IsFaultOfChains (DuplicateSides t) = ⊥
+IsFaultOfChains (DuplicatePolygon k) = ⊥
+IsFaultOfChains (SideWithoutPolygon t k) = ⊥
+IsFaultOfChains (LinkWithoutLandmark n) = ⊥
+IsFaultOfChains (LinkWithoutPolygon k n) = ⊥
+IsFaultOfChains (DegenerateChain t) = ⊤
+IsFaultOfChains (TooMany what) = IsOfChains what
 
 -- no fault of the chains is true of the records
 pub record HaveNoChainFault (rs : List Record) : Type 0 where

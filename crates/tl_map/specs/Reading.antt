@@ -1,10 +1,11 @@
 -- What reading the chains or the map of a text answers.
-use Rattle.std.specs.Prelude.{◌≡◌, ℕ, List, map, Some, None, Result, Ok, Err}
+use Rattle.std.specs.Prelude.{◌≡◌, ℕ, ⊤, List, map, Some, None, Result, Ok, Err}
 use Rattle.tl_record.specs.declared.record.Record.{Record}
 use Rattle.tl_record.specs.declared.stop.ReadStop.{ReadStop}
 use Rattle.tl_record.specs.declared.stop.ReadStop.TheVariants as read
 use Rattle.tl_record.specs.Failures.{one_more}
 use Rattle.tl_record.specs.Records.{Records}
+use Rattle.tl_map.specs.declared.fault.MapFault.{MapFault}
 use Rattle.tl_map.specs.declared.fault.MapStop.{MapStop}
 use Rattle.tl_map.specs.declared.fault.MapStop.TheVariants.{Refused, Device, Memory, Fault}
 use Rattle.tl_county.specs.Chains.{ChainList}
@@ -38,6 +39,13 @@ StopsReading all Device = Unit {0}
 StopsReading all Memory = Unit {0}
 StopsReading all (Refused line cause) = all.refusal ≡ Some (line, cause)
 StopsReading all (Fault fault) = (all.refusal ≡ None) × IsTrueOf (records_in all) fault
+
+-- where a fault is why there is no map, it is such a fault
+abbrev pub IfFault : (MapFault → Type 0) → MapStop → Type 0
+IfFault P Device = ⊤
+IfFault P Memory = ⊤
+IfFault P (Refused line cause) = ⊤
+IfFault P (Fault fault) = P fault
 
 -- `Device` is answered where a read failed, and nowhere else; the count of failures goes from old to new
 abbrev pub TellsDevice : {T : Type 0} → ℕ → ℕ → Result T MapStop → Type 0

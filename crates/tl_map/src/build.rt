@@ -1,11 +1,12 @@
 //! Chains from the collected records.
 
-ghost use Rattle.std.specs.Prelude.{◌≡◌, ◌≤◌, List, MatchOption, MatchResult, length};
+ghost use Rattle.std.specs.Prelude.{◌≡◌, ◌≤◌, List, IfSome, IfErr, MatchOption, MatchResult, length};
 ghost use Rattle.std.specs.List.Sorted.{IsNonDecreasingBy};
 ghost use Rattle.tl_geom.specs.declared.point.Point.{Point};
 ghost use Rattle.tl_record.specs.declared.record.Record.{Record};
 ghost use Rattle.tl_map.specs.declared.entry.ChainEntry.{ChainEntry};
-ghost use Rattle.tl_map.specs.Faults.{IsTrueOf};
+ghost use Rattle.tl_map.specs.Faults.{IsTrueOf, IsFaultOfChains};
+ghost use Rattle.tl_map.specs.Reading.{IfFault};
 ghost use Rattle.tl_map.specs.Keeping.Entries.{AreChainEntries, AreShapeEntries, AreInOrder};
 ghost use Rattle.tl_map.specs.Keeping.Collected.{Collects};
 ghost use Rattle.tl_map.specs.Keeping.Built.{AreSound, AreBuilt, StopsBuilding};
@@ -23,8 +24,9 @@ use tl_county::Chains;
 fn first_fault(chains: &[ChainEntry], shapes: &[ShapeEntry]) -> Option<MapFault>
     requires chains { IsNonDecreasingBy (λ (c : ChainEntry). c.tlid) chains.now }
     requires shapes { AreInOrder shapes.now }
-    ensures { (rs : List Record) (pool : List Point) → AreChainEntries rs chains.now →
+    ensures found { (rs : List Record) (pool : List Point) → AreChainEntries rs chains.now →
         AreShapeEntries rs pool shapes.now → MatchOption result (AreSound rs chains.now shapes.now) (IsTrueOf rs) }
+    ensures of_chains { IfSome result IsFaultOfChains }
 {
     if let Some(tlid) = repeated_tlid(chains) {
         return Some(MapFault::DuplicateChain { tlid });
@@ -45,7 +47,8 @@ fn first_fault(chains: &[ChainEntry], shapes: &[ShapeEntry]) -> Option<MapFault>
 pub fn build_chains(alloc: Global, collected: Collected, skipped: u64) -> Result<Chains, MapStop>
     // It has collected some records.
     requires { (rs : List Record) × Collects rs collected }
-    ensures { (rs : List Record) → Collects rs collected → MatchResult result (AreBuilt rs skipped) (StopsBuilding rs) }
+    ensures built { (rs : List Record) → Collects rs collected → MatchResult result (AreBuilt rs skipped) (StopsBuilding rs) }
+    ensures of_chains { IfErr result (IfFault IsFaultOfChains) }
 {
     if collected.too_many {
         return Err(MapStop::Fault(MapFault::TooMany(Limited::Chains)));

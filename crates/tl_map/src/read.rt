@@ -5,7 +5,8 @@ ghost use Rattle.tl_record.specs.declared.reader.Standing.TheVariants.{Reading};
 ghost use Rattle.tl_record.specs.Layout.{tiger_2006, layout_with};
 ghost use Rattle.tl_record.specs.Records.{records_of};
 ghost use Rattle.tl_record.specs.Reader.{source_of, skipped_of, standing_of, outcome};
-ghost use Rattle.tl_map.specs.Reading.{AreReadFrom, IsReadFrom, StopsReading, TellsDevice};
+ghost use Rattle.tl_map.specs.Reading.{AreReadFrom, IsReadFrom, StopsReading, IfFault, TellsDevice};
+ghost use Rattle.tl_map.specs.Faults.{IsFaultOfChains};
 ghost use Rattle.tl_map.specs.Keeping.Gathering.{Gathers, GathersAll, StopsGathering};
 
 use crate::areas::AreaRecords;
@@ -83,6 +84,8 @@ pub fn read_chains<R: Source>(alloc: Global, records: &mut R) -> Result<Chains, 
     // The first refused line, or where there is none, a fault that is true.
     ensures stops { IfErr result (λ stop. IfSome (R.remaining records.old)
         (λ text. StopsReading (records_of tiger_2006 text) stop)) }
+    // A fault that is answered is one of the chains.
+    ensures of_chains { IfErr result (IfFault IsFaultOfChains) }
     // `Device` is answered where a read failed in this call, and nowhere else.
     ensures failures { TellsDevice (R.failure_count records.old) (R.failure_count records.new) result }
 {
@@ -99,6 +102,7 @@ pub fn read_chains_with<R: Source>(
         (λ text. AreReadFrom (records_of (layout_with options) text) c)) }
     ensures stops { IfErr result (λ stop. IfSome (R.remaining records.old)
         (λ text. StopsReading (records_of (layout_with options) text) stop)) }
+    ensures of_chains { IfErr result (IfFault IsFaultOfChains) }
     ensures failures { TellsDevice (R.failure_count records.old) (R.failure_count records.new) result }
 {
     let mut reader = RecordReader::with(records, options);

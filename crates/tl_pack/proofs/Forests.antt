@@ -1,5 +1,5 @@
 -- Trees of nodes that stand behind one another.
-use Rattle.std.proofs.Common.{◌≡◌, ℕ, suc, ◌≤◌, ◌++◌, List, [], ◌∷◌, refl, ap, sym, ◌∙◌, append_assoc, arith}
+use Rattle.std.proofs.Common.{◌≡◌, ℕ, suc, ◌+◌, ◌≤◌, ◌++◌, List, [], ◌∷◌, refl, ap, sym, ◌∙◌, append_assoc, arith}
 use Rattle.tl_geom.specs.declared.rect.Rect.{Rect}
 use Rattle.tl_geom.specs.Rectangle.{Covers}
 use Rattle.tl_tree.specs.declared.node.TreeNode.{TreeNode}
@@ -7,6 +7,7 @@ use Rattle.tl_tree.specs.declared.node.TreeNode.TheVariants.{Inner}
 use Rattle.tl_tree.specs.Preorder.{AreTrees, no_tree, leaf_first, inner_first}
 use Rattle.tl_tree.specs.Trees.{Forest, none, leaf, inner, depth, leaf_items, first_trees, other_trees, trees_of, tree_of}
 use Rattle.tl_tree.specs.Fits.{CoversAll, CoversBelow}
+use Rattle.tl_pack.specs.Packed.{tree_count, AreSized, IsEvenlySplit}
 
 -- the trees of both, in order
 abbrev pub joined : Forest → Forest → Forest
@@ -77,6 +78,27 @@ pub covers_joined : (bounds : ℕ → Rect) (f g : Forest) → CoversBelow bound
 covers_joined bounds none g hf hg = hg
 covers_joined bounds (leaf r xs others) g hf hg = (hf.0, covers_joined bounds others g hf.1 hg)
 covers_joined bounds (inner r children others) g hf hg = (hf.0, hf.1, covers_joined bounds others g hf.2 hg)
+
+pub split_joined : (f g : Forest) → IsEvenlySplit f → IsEvenlySplit g → IsEvenlySplit (joined f g)
+split_joined none g hf hg = hg
+split_joined (leaf r xs others) g hf hg = (hf.0, split_joined others g hf.1 hg)
+split_joined (inner r children others) g hf hg = (hf.0, hf.1, split_joined others g hf.2 hg)
+
+pub sized_joined : (least most : ℕ) (f g : Forest) → AreSized least most f → AreSized least most g → AreSized least most (joined f g)
+sized_joined least most none g hf hg = hg
+sized_joined least most (leaf r xs others) g hf hg = (hf.0, hf.1, sized_joined least most others g hf.2 hg)
+sized_joined least most (inner r children others) g hf hg = (hf.0, hf.1, sized_joined least most others g hf.2 hg)
+
+pub count_joined : (f g : Forest) → tree_count (joined f g) ≡ tree_count f + tree_count g
+count_joined none g = omega arith
+count_joined (leaf r xs others) g = omega (arith, count_joined others g)
+count_joined (inner r children others) g = omega (arith, count_joined others g)
+
+-- wider bounds
+pub sized_within : (least most low high : ℕ) (f : Forest) → low ≤ least → most ≤ high → AreSized least most f → AreSized low high f
+sized_within least most low high none l m h = tt
+sized_within least most low high (leaf r xs others) l m h = (omega (arith, l, h.0), omega (arith, m, h.1), sized_within least most low high others l m h.2)
+sized_within least most low high (inner r children others) l m h = (omega (arith, l, h.0), omega (arith, m, h.1), sized_within least most low high others l m h.2)
 
 -- a greater rectangle covers what a rectangle covers
 pub covers_more : (bounds : ℕ → Rect) (r s : Rect) (xs : List ℕ) → Covers s r → CoversAll bounds r xs → CoversAll bounds s xs

@@ -1,5 +1,5 @@
 -- Nodes pushed behind others.
-use Rattle.std.proofs.Common.{◌≡◌, ℕ, zero, suc, ◌+◌, ◌*◌, ◌^◌, ◌<◌, ◌≤◌, ◌++◌, List, [], ◌∷◌, length, set, refl, ap, sym, subst, ◌∙◌, append_assoc, append-nil, length-append, add-one, arith, inl, inr, lit<}
+use Rattle.std.proofs.Common.{◌≡◌, ℕ, zero, suc, ◌+◌, ◌*◌, ◌/◌, ◌^◌, ◌<◌, ◌≤◌, ◌++◌, List, [], ◌∷◌, length, set, refl, ap, sym, subst, ◌∙◌, append_assoc, append-nil, length-append, add-one, arith, inl, inr, lit<, min}
 use Rattle.std.proofs.Math.Nat.{pow-succ'}
 use Rattle.std.proofs.lemmas.Bool.{cases_lt}
 use Rattle.std.proofs.lemmas.List.Elements.{All-append, All-cons, All-nil}
@@ -12,9 +12,9 @@ use Rattle.tl_tree.specs.Fits.{CoversAll, CoversBelow}
 use Rattle.tl_tree.specs.Preorder.{AreTrees, no_tree, leaf_first, inner_first}
 use Rattle.tl_tree.specs.Trees.{Forest, none, inner, depth, leaf_items, trees_of}
 use Rattle.tl_tree.proofs.Hulls.{all-append}
-use Rattle.tl_pack.specs.Packed.{IsFilled, IsShallow}
+use Rattle.tl_pack.specs.Packed.{IsFilled, IsShallow, AreSized, IsEvenlySplit, tree_count}
 use Rattle.tl_pack.specs.Keeping.Nodes.{most_items, Push, AreNodesOver}
-use Rattle.tl_pack.proofs.Forests.{tree_whole, trees_behind, trees_inner, items_joined, depth_joined, covers_joined, covers_more}
+use Rattle.tl_pack.proofs.Forests.{tree_whole, trees_behind, trees_inner, items_joined, depth_joined, covers_joined, covers_more, split_joined, sized_joined, sized_within, count_joined}
 
 -- one tree more behind some
 trees_append : (xs ys : List TreeNode) (p : ℕ) → AreTrees xs p → AreTrees ys 1 → AreTrees (xs ++ ys) (suc p)
@@ -77,12 +77,15 @@ module _ (bounds : ℕ → Rect) where
         shallow = λ d h. omega arith;
         few = λ h. omega arith;
         leaves = λ h. refl;
+        split = tt;
+        sized = tt;
+        parts = refl;
       }
 
   pub push_leaf_node : (old new : List TreeNode) (r : Rect) (v : ArrayVec ℕ) (items : List ℕ) →
-      new ≡ old ++ Leaf r v ∷ [] → v.items ≡ items → 0 < length items → CoversAll bounds r items →
+      new ≡ old ++ Leaf r v ∷ [] → v.items ≡ items → 0 < length items → length items ≤ 8 → CoversAll bounds r items →
       Push bounds 1 (length items) (length items) old new items r
-  push_leaf_node old new r v items e same some covered =
+  push_leaf_node old new r v items e same some eight covered =
       let n : 0 < length v.items = subst (λ l. 0 < length l) (sym same) some in
       record {
         pushed = Leaf r v ∷ [];
@@ -95,14 +98,17 @@ module _ (bounds : ℕ → Rect) where
         shallow = λ d h. omega arith;
         few = λ h. omega (arith, h);
         leaves = λ h. refl;
+        split = (subst (λ l. length l ≤ 8) (sym same) eight, tt);
+        sized = (omega (arith, ap length same), omega (arith, ap length same), tt);
+        parts = refl;
       }
 
   -- one tree more is pushed
-  pub push_more : (p most size : ℕ) (old mid new : List TreeNode) (items more all : List ℕ) (r s t : Rect) →
-      Push bounds p 4 most old mid items r → Push bounds 1 size size mid new more s →
-      all ≡ items ++ more → Covers t r → Covers t s → 4 ≤ size → size ≤ most →
-      Push bounds (p + 1) 4 most old new all t
-  push_more p most size old mid new items more all r s t h one e cr cs low high =
+  pub push_more : (p least most size : ℕ) (old mid new : List TreeNode) (items more all : List ℕ) (r s t : Rect) →
+      Push bounds p least most old mid items r → Push bounds 1 size size mid new more s →
+      all ≡ items ++ more → Covers t r → Covers t s → least ≤ size → size ≤ most →
+      Push bounds (p + 1) least most old new all t
+  push_more p least most size old mid new items more all r s t h one e cr cs low high =
       let behind = trees_behind h.pushed one.pushed p h.trees in
       let long = length-append h.pushed one.pushed in
       record {
@@ -114,16 +120,21 @@ module _ (bounds : ℕ → Rect) where
         covers = subst (CoversBelow bounds) (sym behind) (covers_joined bounds (trees_of h.pushed) (trees_of one.pushed) h.covers one.covers);
         covered = subst (CoversAll bounds t) (sym e) ((all-append bounds t items more).1 (covers_more bounds r t items cr h.covered, covers_more bounds s t more cs one.covered));
         shallow = λ d l. subst (λ f. depth f ≤ suc d) (sym behind) (depth_joined (trees_of h.pushed) (trees_of one.pushed) (suc d) (h.shallow d l) (one.shallow d (omega (arith, l, high))));
-        few = λ l. omega (arith, h.few l, one.few low, long, ap length e, length-append items more);
+        few = λ l. omega (arith, h.few l, one.few (omega (arith, l, low)), long, ap length e, length-append items more);
         leaves = λ l. omega (arith, h.leaves l, one.leaves (omega (arith, l, high)), long);
+        split = subst IsEvenlySplit (sym behind) (split_joined (trees_of h.pushed) (trees_of one.pushed) h.split one.split);
+        sized = subst (AreSized least most) (sym behind)
+            (sized_joined least most (trees_of h.pushed) (trees_of one.pushed) h.sized (sized_within size size least most (trees_of one.pushed) low high one.sized));
+        parts = ap tree_count behind ∙ (count_joined (trees_of h.pushed) (trees_of one.pushed) ∙ omega (arith, h.parts, one.parts));
       }
 
   -- the root is written before its children
-  pub push_root : (k most : ℕ) (old now new : List TreeNode) (room r : Rect) (items : List ℕ) → 2 ≤ k → k ≤ 8 → 8 < length items →
-      Push bounds k 4 most (old ++ Inner room k ∷ []) now items r → new ≡ set now (length old) (Inner r k) →
+  pub push_root : (k least most : ℕ) (old now new : List TreeNode) (room r : Rect) (items : List ℕ) → 2 ≤ k → k ≤ 8 → 8 < length items →
+      k ≡ min 8 ((length items + 7) / 8) → 4 ≤ least → most ≤ least + 1 →
+      Push bounds k least most (old ++ Inner room k ∷ []) now items r → new ≡ set now (length old) (Inner r k) →
       ((d : ℕ) → length items ≤ most_items (suc (suc d)) → most ≤ most_items (suc d)) →
       Push bounds 1 (length items) (length items) old new items r
-  push_root k most old now new room r items low high many h e below =
+  push_root k least most old now new room r items low high many parts four even h e below =
       let joined' : now ≡ old ++ Inner room k ∷ h.pushed = h.appended ∙ append_assoc old (Inner room k ∷ []) h.pushed in
       let forest = trees_inner r k h.pushed h.trees in
       record {
@@ -135,8 +146,20 @@ module _ (bounds : ℕ → Rect) where
         covers = subst (CoversBelow bounds) (sym forest) (subst (CoversAll bounds r) (sym h.over) h.covered, h.covers, tt);
         covered = h.covered;
         shallow = λ d l. subst (λ f. depth f ≤ suc d) (sym forest) (deep (trees_of h.pushed) r (length items) most many below h.shallow d l);
-        few = λ l. omega (arith, h.few (omega arith), low);
+        few = λ l. omega (arith, h.few four, low);
         leaves = λ l. absurd (omega (arith, l, many));
+        split = subst IsEvenlySplit (sym forest) (
+          record {
+            many = subst (λ l. 8 < length l) (sym h.over) many;
+            parts = h.parts ∙ (parts ∙ ap (λ l. min 8 ((length l + 7) / 8)) (sym h.over));
+            least = least;
+            even = sized_within least most least (least + 1) (trees_of h.pushed) (omega arith) even h.sized;
+          },
+          h.split,
+          tt,
+        );
+        sized = subst (AreSized (length items) (length items)) (sym forest) (omega (arith, ap length h.over), omega (arith, ap length h.over), tt);
+        parts = ap tree_count forest;
       }
 
   -- no node is over no item
@@ -152,6 +175,7 @@ module _ (bounds : ℕ → Rect) where
         covers = tt;
         shallow = λ d some l. omega arith;
         levels = omega arith;
+        split = tt;
       } in
       subst P (sym e) none_are
 
@@ -177,5 +201,6 @@ module _ (bounds : ℕ → Rect) where
         covers = subst (CoversBelow bounds) (sym whole) h.covers;
         shallow = subst (λ f. IsShallow (length items) f) (sym whole) (subst (λ k. IsShallow k (trees_of h.pushed)) e shallow);
         levels = omega (arith, levels, ap depth whole);
+        split = subst IsEvenlySplit (sym whole) h.split;
       } in
       subst P (sym is) over

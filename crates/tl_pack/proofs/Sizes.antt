@@ -48,26 +48,26 @@ module _ (n q p c : ℕ) (e : q ≡ p + 1) where
         | inr same ↦ omega (arith, same, l)
       ]
 
-  -- where each has four at least, the first has, and so have the others
-  pub first_least : 4 * p + 4 ≤ n → 4 ≤ n / q
+  -- where each has c at least, the first has, and so have the others
+  pub first_least : c * p + c ≤ n → c ≤ n / q
   first_least l =
       let m : ℕ = n / q in
       let d : Divided n p m = divided n q p e in
       let whole = d.whole in
       let low = d.low in
-      elim (cases_lt m 4) [
+      elim (cases_lt m c) [
         | inl less ↦
-            let under : m * p ≤ 3 * p = mul-le m p 3 p (omega (arith, less)) (omega arith) in
+            let under : (m + 1) * p ≤ c * p = mul-le (m + 1) p c p (omega (arith, less)) (omega arith) in
             absurd (omega (arith, under, whole, low, l, less))
         | inr enough ↦ enough
       ]
 
-  pub rest_least : 4 * p + 4 ≤ n → 4 * p ≤ n - n / q
+  pub rest_least : c * p + c ≤ n → c * p ≤ n - n / q
   rest_least l =
       let m : ℕ = n / q in
       let d : Divided n p m = divided n q p e in
       let whole = d.whole in
-      let over : 4 * p ≤ m * p = mul-le 4 p m p (first_least l) (omega arith) in
+      let over : c * p ≤ m * p = mul-le c p m p (first_least l) (omega arith) in
       omega (arith, over, whole)
 
 -- the greatest of k parts whose sizes differ by at most one
@@ -81,6 +81,39 @@ all_within n k p e =
     let whole = d.whole in
     let low = d.low in
     omega (arith, whole, low, e)
+
+-- the least of them
+abbrev pub least_of : (n k : ℕ) → ℕ
+least_of n k = n / k
+
+pub all_with : (n k p : ℕ) → k ≡ p + 1 → least_of n k * p + least_of n k ≤ n
+all_with n k p e =
+    let d : Divided n p (n / k) = divided n k p e in
+    let whole = d.whole in
+    omega (arith, whole)
+
+pub differ_by_one : (n k p : ℕ) → k ≡ p + 1 → greatest_of n k ≤ least_of n k + 1
+differ_by_one n k p e =
+    let m : ℕ = n / k in
+    let b : ℕ = (n + (k - 1)) / k in
+    let d : Divided n p m = divided n k p e in
+    let more : Divided (n + (k - 1)) p b = divided (n + (k - 1)) k p e in
+    let whole = d.whole in
+    let low = d.low in
+    let others = more.whole in
+    elim (cases_lt (m + 1) b) [
+      | inl less ↦
+          let over : (m + 2) * p ≤ b * p = mul-le (m + 2) p b p (omega (arith, less)) (omega arith) in
+          absurd (omega (arith, over, whole, low, others, less, e))
+      | inr few ↦ few
+    ]
+
+-- each has four, where there are more than eight
+pub four_each : (n k : ℕ) → k ≡ min 8 ((n + 7) / 8) → 8 < n → 4 ≤ least_of n k
+four_each n k e many =
+    let p : ℕ = k - 1 in
+    let some : k ≡ p + 1 = omega (arith, e, many) in
+    first_least n k p 4 some (omega (arith, e, some, many))
 
 -- with eight children or with full leaves, the parts need one level less
 pub level_below : (n k d : ℕ) → k ≡ min 8 ((n + 7) / 8) → 8 < n → n ≤ most_items (suc (suc d)) → greatest_of n k ≤ most_items (suc d)

@@ -4,7 +4,7 @@ ghost use Rattle.std.specs.Prelude.{◌≤◌, ◌<◌, ◌^◌, length, All, If
 ghost use Rattle.tl_tree.specs.Fits.{Fits};
 ghost use Rattle.tl_tree.specs.Preorder.{IsPreorder};
 ghost use Rattle.tl_tree.specs.Trees.{depth, tree_of};
-ghost use Rattle.tl_pack.specs.Packed.{IsFilled, IsShallow};
+ghost use Rattle.tl_pack.specs.Packed.{IsFilled, IsShallow, IsEvenlySplit};
 
 use crate::order::order_items;
 use crate::tree::tree_over;
@@ -23,6 +23,9 @@ pub fn pack<I: Items>(alloc: Global, items: &I) -> Result<Vec<TreeNode>, AllocEr
     // The tree is no deeper than so many items need.
     ensures shallow { IfOk result (λ nodes. IsShallow (I.count items.now) (tree_of nodes.items)) }
     ensures levels { IfOk result (λ nodes. depth (tree_of nodes.items) ≤ 11) }
+    // It is split evenly: of more than eight items an inner node has the lesser of 8 and an eighth, rounded up, children,
+    // whose numbers of items differ by at most one, and of eight or fewer there is a leaf.
+    ensures split { IfOk result (λ nodes. IsEvenlySplit (tree_of nodes.items)) }
     // No leaf is empty, and a number of 32 bits counts the nodes.
     ensures filled { IfOk result (λ nodes. All IsFilled nodes.items) }
     ensures few { IfOk result (λ nodes. length nodes.items < 2 ^ 32) }

@@ -5,7 +5,7 @@ use Rattle.tl_tree.specs.declared.node.TreeNode.{TreeNode}
 use Rattle.tl_tree.specs.Fits.{CoversAll, CoversBelow}
 use Rattle.tl_tree.specs.Preorder.{AreTrees, IsPreorder}
 use Rattle.tl_tree.specs.Trees.{depth, leaf_items, trees_of, tree_of}
-use Rattle.tl_pack.specs.Packed.{IsFilled, IsShallow}
+use Rattle.tl_pack.specs.Packed.{IsFilled, IsShallow, IsEvenlySplit, AreSized, tree_count}
 
 -- how many items a tree of this depth has at most
 unfoldable pub most_items : ℕ → ℕ
@@ -24,6 +24,9 @@ pub record Push (bounds : ℕ → Rect) (p least most : ℕ) (old new : List Tre
   pub shallow : (d : ℕ) → most ≤ most_items (suc d) → depth (trees_of pushed) ≤ suc d
   pub few : 4 ≤ least → 2 * (length pushed + p) ≤ length items
   pub leaves : most ≤ 8 → length pushed ≡ p
+  pub split : IsEvenlySplit (trees_of pushed)
+  pub sized : AreSized least most (trees_of pushed)
+  pub parts : tree_count (trees_of pushed) ≡ p
 
 -- the nodes of a tree over these items: a whole tree in preorder, or none; each rectangle is around what is below it, and the
 -- tree is no deeper than its items need
@@ -35,3 +38,4 @@ pub record AreNodesOver (bounds : ℕ → Rect) (nodes : List TreeNode) (items :
   pub covers : CoversBelow bounds (tree_of nodes)
   pub shallow : IsShallow (length items) (tree_of nodes)
   pub levels : depth (tree_of nodes) ≤ 11
+  pub split : IsEvenlySplit (tree_of nodes)

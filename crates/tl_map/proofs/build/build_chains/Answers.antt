@@ -7,11 +7,11 @@ use Rattle.tl_map.specs.Keeping.Built.{AreSound}
 use Rattle.tl_map.proofs.ChainLemmas.{built}
 use Rattle.tl_map.proofs.build.build_chains.Goals as goal
 
-pub returns-in-Some : goal.returns-in-Some
-returns-in-Some c = λ rs h.
+pub returns-in-Some-clause-built : goal.returns-in-Some-clause-built
+returns-in-Some-clause-built c = λ rs h.
     let chains = c.in_ok-sort_chains.ensures.same rs (h.chains c.if-collected.false) in
     let shapes = c.in_ok-sort_shapes.ensures.same rs c.args.collected.pool.items h.shapes in
-    c.in-Some.ensures rs c.args.collected.pool.items (rw c.deref.ensures.value chains) (rw c.deref-2.ensures.value shapes)
+    c.in-Some.ensures.found rs c.args.collected.pool.items (rw c.deref.ensures.value chains) (rw c.deref-2.ensures.value shapes)
 
 pub join-requires-clause-rising : goal.join-requires-clause-rising
 join-requires-clause-rising c =
@@ -19,7 +19,7 @@ join-requires-clause-rising c =
     let h = c.requires.1 in
     let chains = c.in_ok-sort_chains.ensures.same rs (h.chains c.if-collected.false) in
     let shapes = c.in_ok-sort_shapes.ensures.same rs c.args.collected.pool.items h.shapes in
-    let sound : AreSound rs c.sort_chains.new.chains.items c.sort_shapes.new.shapes.items = rw (c.deref.ensures.value, c.deref-2.ensures.value) at (c.in_default.ensures rs c.args.collected.pool.items (rw c.deref.ensures.value chains) (rw c.deref-2.ensures.value shapes)) in
+    let sound : AreSound rs c.sort_chains.new.chains.items c.sort_shapes.new.shapes.items = rw (c.deref.ensures.value, c.deref-2.ensures.value) at (c.in_default.ensures.found rs c.args.collected.pool.items (rw c.deref.ensures.value chains) (rw c.deref-2.ensures.value shapes)) in
     rw c.deref-3.ensures.value sound.rising
 
 pub join-requires-clause-inside : goal.join-requires-clause-inside
@@ -36,31 +36,31 @@ join-requires-clause-known c =
     let h = c.requires.1 in
     let chains = c.in_ok-sort_chains.ensures.same rs (h.chains c.if-collected.false) in
     let shapes = c.in_ok-sort_shapes.ensures.same rs c.args.collected.pool.items h.shapes in
-    let sound : AreSound rs c.sort_chains.new.chains.items c.sort_shapes.new.shapes.items = rw (c.deref.ensures.value, c.deref-2.ensures.value) at (c.in_default.ensures rs c.args.collected.pool.items (rw c.deref.ensures.value chains) (rw c.deref-2.ensures.value shapes)) in
+    let sound : AreSound rs c.sort_chains.new.chains.items c.sort_shapes.new.shapes.items = rw (c.deref.ensures.value, c.deref-2.ensures.value) at (c.in_default.ensures.found rs c.args.collected.pool.items (rw c.deref.ensures.value chains) (rw c.deref-2.ensures.value shapes)) in
     rw (c.deref-3.ensures.value, c.deref-4.ensures.value) sound.known
 
-pub returns : goal.returns
-returns c = λ rs h.
+pub returns-clause-built : goal.returns-clause-built
+returns-clause-built c = λ rs h.
     let pool = c.args.collected.pool.items in
     let chains = c.in_ok-sort_chains.ensures.same rs (h.chains c.if-collected.false) in
     let shapes = c.in_ok-sort_shapes.ensures.same rs pool h.shapes in
-    let sound : AreSound rs c.sort_chains.new.chains.items c.sort_shapes.new.shapes.items = rw (c.deref.ensures.value, c.deref-2.ensures.value) at (c.in_default.ensures rs pool (rw c.deref.ensures.value chains) (rw c.deref-2.ensures.value shapes)) in
+    let sound : AreSound rs c.sort_chains.new.chains.items c.sort_shapes.new.shapes.items = rw (c.deref.ensures.value, c.deref-2.ensures.value) at (c.in_default.ensures.found rs pool (rw c.deref.ensures.value chains) (rw c.deref-2.ensures.value shapes)) in
     let room : length c.sort_chains.new.chains.items ≤ CHAIN_LIMIT = omega (arith, h.room, c.in_ok-sort_chains.ensures.length) in
     built rs c.deref-5.result.now c.deref-3.result.now c.deref-4.result.now c.args.skipped c.join.result
     (rw c.deref-3.ensures.value chains) (rw (c.deref-4.ensures.value, c.deref-5.ensures.value) shapes)
     (rw (c.deref-3.ensures.value, c.deref-4.ensures.value) sound) (rw c.deref-3.ensures.value room)
     c.join.ensures.ok c.join.ensures.several c.join.ensures.few c.join.ensures.err
 
-pub returns-then-collected : goal.returns-then-collected
-returns-then-collected c = λ rs h. h.many c.if-collected.true
+pub returns-then-collected-clause-built : goal.returns-then-collected-clause-built
+returns-then-collected-clause-built c = λ rs h. h.many c.if-collected.true
 
-pub returns-in_err-sort_chains : goal.returns-in_err-sort_chains
-returns-in_err-sort_chains c = λ rs h.
+pub returns-in_err-sort_chains-clause-built : goal.returns-in_err-sort_chains-clause-built
+returns-in_err-sort_chains-clause-built c = λ rs h.
     let p = err_from_is_err_and c.from_residual.result c.from_residual.ensures.1 in
     rw (p.1, p.2) tt
 
-pub returns-in_err-sort_shapes : goal.returns-in_err-sort_shapes
-returns-in_err-sort_shapes c = λ rs h.
+pub returns-in_err-sort_shapes-clause-built : goal.returns-in_err-sort_shapes-clause-built
+returns-in_err-sort_shapes-clause-built c = λ rs h.
     let p = err_from_is_err_and c.from_residual-in_err-sort_shapes.result c.from_residual-in_err-sort_shapes.ensures.1 in
     rw (p.1, p.2) tt
 

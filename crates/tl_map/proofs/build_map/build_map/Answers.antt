@@ -9,12 +9,12 @@ use Rattle.tl_map.proofs.OnceLemmas.{rows_once}
 use Rattle.tl_map.proofs.build_map.build_map.Goals as goal
 
 pub pair_sides-requires : goal.pair_sides-requires
-pair_sides-requires c = (c.in_ok-chains.ensures c.requires.0 c.requires.1).chains.rising
+pair_sides-requires c = (c.in_ok-chains.ensures.built c.requires.0 c.requires.1).chains.rising
 
 pub returns-in_err-paired : goal.returns-in_err-paired
 returns-in_err-paired c = λ rs h k.
     let p = err_from_is_err_and c.from_residual-in_err-paired.result c.from_residual-in_err-paired.ensures.1 in
-    rw (p.1, p.2) (stops_pairing rs c.args.skipped c.in_ok-chains.chains c.args.areas.sides.items c.in_err-paired.field-0.0 (c.in_ok-chains.ensures rs h) k.sides c.in_err-paired.ensures)
+    rw (p.1, p.2) (stops_pairing rs c.args.skipped c.in_ok-chains.chains c.args.areas.sides.items c.in_err-paired.field-0.0 (c.in_ok-chains.ensures.built rs h) k.sides c.in_err-paired.ensures)
 
 pub returns-in_err-index : goal.returns-in_err-index
 returns-in_err-index c = λ rs h k.
@@ -38,7 +38,7 @@ new-requires-clause-paired c =
     let ks = keys c.args.areas.polygons.items in
     let index = rw c.deref.ensures.value at c.in_ok-index.ensures.index in
     let are = rw c.deref-2.ensures.value at (c.in_ok-sides.ensures.sides ks index) in
-    as_many c.requires.0 c.args.skipped c.in_ok-chains.chains c.args.areas.sides.items c.in_ok-paired.paired.items c.in_ok-sides.sides.items ks (c.in_ok-chains.ensures c.requires.0 c.requires.1) c.in_ok-paired.ensures are
+    as_many c.requires.0 c.args.skipped c.in_ok-chains.chains c.args.areas.sides.items c.in_ok-paired.paired.items c.in_ok-sides.sides.items ks (c.in_ok-chains.ensures.built c.requires.0 c.requires.1) c.in_ok-paired.ensures are
 
 pub new-requires-clause-landmarks : goal.new-requires-clause-landmarks
 new-requires-clause-landmarks c =
@@ -53,7 +53,7 @@ new-requires-clause-within c =
     (c.in_ok-linked.ensures ks index).rows.within
 
 pub new-requires-clause-proper : goal.new-requires-clause-proper
-new-requires-clause-proper c = (c.in_ok-chains.ensures c.requires.0 c.requires.1).proper
+new-requires-clause-proper c = (c.in_ok-chains.ensures.built c.requires.0 c.requires.1).proper
 
 pub new-requires-clause-linked : goal.new-requires-clause-linked
 new-requires-clause-linked c =
@@ -69,7 +69,7 @@ returns c = λ rs h k.
     let known = rw c.deref-2.ensures.value at (c.in_ok-sides.ensures.known ks index) in
     let few : length c.args.areas.polygons.items ≤ most_polygons = omega (arith, c.len.ensures, c.if-len.false, c.args.areas.polygons.ok.0) in
     let linked = rw (c.deref-3.ensures.value, c.deref-4.ensures.value) at (c.in_ok-linked.ensures ks index) in
-    rw c.in_ok-map.ensures (mapped_all rs c.args.skipped c.in_ok-chains.chains c.args.areas c.in_ok-paired.paired.items c.in_ok-sides.sides.items _ c.in_ok-linked.linked (c.in_ok-chains.ensures rs h) k c.in_ok-paired.ensures index known are few linked)
+    rw c.in_ok-map.ensures (mapped_all rs c.args.skipped c.in_ok-chains.chains c.args.areas c.in_ok-paired.paired.items c.in_ok-sides.sides.items _ c.in_ok-linked.linked (c.in_ok-chains.ensures.built rs h) k c.in_ok-paired.ensures index known are few linked)
 
 pub returns-in_err-map : goal.returns-in_err-map
 returns-in_err-map c = λ rs h k.
@@ -79,7 +79,7 @@ returns-in_err-map c = λ rs h k.
 pub returns-in_err-chains : goal.returns-in_err-chains
 returns-in_err-chains c = λ rs h k.
     let p = err_from_is_err_and c.from_residual.result c.from_residual.ensures.1 in
-    rw (p.1, p.2) (c.in_err-chains.ensures rs h)
+    rw (p.1, p.2) (c.in_err-chains.ensures.built rs h)
 
 pub returns-then-len : goal.returns-then-len
 returns-then-len c = λ rs h k.

@@ -40,5 +40,5 @@ returns g c =
     let some : 0 < length (number part) = omega (arith, long, c.requires.some) in
     let covered : CoversAll bounds c.loop-placed.rect (number part) = subst (λ xs. CoversAll bounds c.loop-placed.rect (number xs)) all c.loop-placed.invariant.covered in
     let leaf = push_leaf_node bounds c.args.nodes.now.items c.push-2.new.self.items c.loop-placed.rect _ (number part) c.in_ok-push.ensures.items
-    (c.loop-placed.invariant.held ∙ ap number all) some covered in
+    (c.loop-placed.invariant.held ∙ ap number all) some (omega (arith, long, c.requires.few)) covered in
     subst (λ m. Push bounds 1 m m c.args.nodes.now.items c.push-2.new.self.items (number part) c.loop-placed.rect) long leaf

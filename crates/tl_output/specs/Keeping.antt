@@ -1,0 +1,2 @@
+-- What output keeps on its way. No public contract cites a file of this folder.
+pub mod Held
