@@ -5,8 +5,8 @@ usage: devices.py [PROGRAM]
 
 With a read that fails, interrupted or not, the program has to answer `stopped Device` with status 4 and print nothing else,
 and to leave a file as it is over which it is to make a certificate. With a write that fails, interrupted or not, or takes
-no byte, it has to say the same, behind a beginning of what it prints otherwise, and that file is as it was or holds a
-beginning of the certificate; with one that takes a single byte it has to answer as ever. It needs a C compiler, cc, and
+no byte, it has to say the same, behind a beginning of what it prints otherwise, and that file is as it was or holds the
+whole certificate; with one that takes a single byte it has to answer as ever. It needs a C compiler, cc, and
 glibc, whose calls it stands before.
 
 Behind these, over the small maps alone: each file that can't be opened or read, each certificate that can't be made or
@@ -86,10 +86,10 @@ ssize_t write(int file, const void *bytes, size_t count) {
 
 
 def is_stopped(answer, left, usual, whole):
-    """A device failed: that is said, behind a beginning of what is printed otherwise."""
+    """A device failed: that is said, behind a beginning of what is printed otherwise. What stood stands, or it is whole."""
     status, printed, told = answer
     stopped = status == 4 and told == b"stopped Device\n" and usual[1].startswith(printed)
-    return stopped and (left == STANDS or whole.startswith(left))
+    return stopped and left in (STANDS, whole)
 
 
 def is_stopped_at_once(answer, left, usual, whole):
@@ -168,7 +168,7 @@ def play_streams(count, program, folder, runs):
             usual, whole = answer_to(program, folder, words)
             for name, stream in [("a full output", full), ("a closed pipe", closed)]:
                 answer, left = answer_to(program, folder, words, stdout=stream)
-                is_well = answer == DEVICE and (left == STANDS or whole.startswith(left)) if usual[1] else answer == usual
+                is_well = answer == DEVICE and left in (STANDS, whole) if usual[1] else answer == usual
                 count.count(is_well, f"{' '.join(words)}: with {name}: {answer}, and the file {left[:40]}")
             if words[0] != "convert":
                 asked = [*words[:-1], "none"]

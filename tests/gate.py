@@ -32,6 +32,7 @@ def main():
     import devices
     import full_size
     import judged
+    import made_files
     import memory
     import rows
     import run as examples
@@ -55,6 +56,7 @@ def main():
         ("failed reads and writes", devices.play_all),
         ("examples", examples.play_all),
         ("many counties", counties.play_all),
+        ("certificates made over files", made_files.play_all),
         ("rows", rows.play_all),
     ]
     begun = time.monotonic()

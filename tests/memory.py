@@ -20,7 +20,7 @@ from small_maps import MADE, write_all
 
 EXAMPLES = TOP / "examples"
 # What stands under the name of what is made before each run.
-STANDS = b"a file that stands\n"
+STANDS = b"TIGERCERT 2\na file that stands\n"
 # What is asked beside what is asked of the small maps.
 RUNS = [
     ["show", EXAMPLES / "square.RT1", EXAMPLES / "square.RT2"],

@@ -1,0 +1,224 @@
+#!/usr/bin/env python3
+"""Makes certificates where something stands in the way, and looks for a file of a user's that is lost or half written.
+
+usage: made_files.py [PROGRAM]
+
+OUT is a file that is no certificate, one of the files that are read under that or another name, an old certificate, a
+link, a pipe, a device, a folder that isn't there; beside it lies what a killed run left, another run's file, or a file
+of somebody else's; the disk is full; and the program is killed at each of its writes. What stood under OUT has to stay
+until the new certificate is whole. It needs a C compiler, cc, and glibc, whose write it stands before.
+"""
+
+import fcntl
+import os
+import resource
+import signal
+import subprocess
+import sys
+import tempfile
+from pathlib import Path
+
+from memory import EXAMPLES, library_of
+from rows import PROGRAM
+
+COUNTY = EXAMPLES / "county"
+OLD = b"TIGERCERT 2\nan old one\n"
+NO_CERTIFICATE = (64, b"", b"OUT stands and is no certificate\n")
+IS_READ = (64, b"", b"OUT is one of the files that are read\n")
+DEVICE = (4, b"", b"stopped Device\n")
+KILL = r"""
+#include <signal.h>
+#include <stdlib.h>
+#include <sys/syscall.h>
+#include <unistd.h>
+
+static long left;
+
+__attribute__((constructor)) static void begin(void) {
+    const char *which = getenv("KILLED_WRITE");
+    left = which ? atol(which) : 0;
+}
+
+ssize_t write(int file, const void *bytes, size_t count) {
+    if (left > 0 && --left == 0) {
+        /* Half of it is written. */
+        (void)!syscall(SYS_write, file, bytes, count / 2);
+        raise(SIGKILL);
+    }
+    return syscall(SYS_write, file, bytes, count);
+}
+"""
+
+
+class Play:
+    def __init__(self, program, folder):
+        self.program, self.folder = program, Path(folder)
+        self.passed = self.failed = 0
+        (self.folder / "records").write_bytes(COUNTY.read_bytes())
+        (self.folder / "cert").write_bytes((EXAMPLES / "county.CERT").read_bytes())
+        self.made = self.folder / "made"
+        self.beside = self.folder / "made.unfinished"
+        self.done, self.whole = {}, {}
+        for name, words in self.commands():
+            self.done[name], self.whole[name] = self.ask(words), self.made.read_bytes()
+            self.made.unlink()
+
+    def commands(self, out="made"):
+        return [("build", ["build", "--out", out, "records"]), ("convert", ["convert", "cert", out])]
+
+    def ask(self, words, **more):
+        ran = subprocess.run([self.program, *words], cwd=self.folder, capture_output=True, stdin=subprocess.DEVNULL, **more)
+        return ran.returncode, ran.stdout, ran.stderr
+
+    def count(self, is_well, wrong):
+        self.passed, self.failed = self.passed + bool(is_well), self.failed + (not is_well)
+        if not is_well:
+            print(wrong)
+
+    def clear(self):
+        for path in (self.made, self.beside):
+            if path.is_symlink() or path.exists():
+                path.unlink()
+
+    def is_made(self, name, answer, path=None):
+        """The certificate stands whole, and nothing beside it."""
+        return answer == self.done[name] and (path or self.made).read_bytes() == self.whole[name] and not self.beside.exists()
+
+    def standing(self):
+        """What stands under OUT."""
+        for name, words in self.commands():
+            for text in (b"a", b"TIGERCERT", b"a file that stands\n", COUNTY.read_bytes()):
+                self.made.write_bytes(text)
+                answer = self.ask(words)
+                is_well = answer == NO_CERTIFICATE and self.made.read_bytes() == text and not self.beside.exists()
+                self.count(is_well, f"{name} over {text[:20]}: {answer}")
+            for text in (b"", OLD):
+                self.made.write_bytes(text)
+                self.made.chmod(0o640)
+                answer = self.ask(words)
+                is_well = self.is_made(name, answer) and self.made.stat().st_mode & 0o777 == 0o640
+                self.count(is_well, f"{name} over {text[:20]}: {answer}")
+            self.clear()
+
+    def inputs(self):
+        """OUT is one of the files that are read, by whatever name."""
+        os.link(self.folder / "records", self.folder / "hard")
+        os.symlink("records", self.folder / "soft")
+        for out in ("records", "./records", str(self.folder / "records"), "hard", "soft"):
+            answer = self.ask(["build", "--out", out, "cert", "records"])
+            self.count(answer == IS_READ, f"build over {out}: {answer}")
+        for out in ("cert", "./cert"):
+            answer = self.ask(["convert", "cert", out])
+            self.count(answer == IS_READ, f"convert over {out}: {answer}")
+        stays = (self.folder / "records").read_bytes() == COUNTY.read_bytes()
+        stays = stays and (self.folder / "cert").read_bytes() == (EXAMPLES / "county.CERT").read_bytes()
+        self.count(stays, "what is read was written over")
+
+    def links(self):
+        """A link stays one, and what it leads to is replaced or made."""
+        target = self.folder / "target"
+        for name, words in self.commands():
+            for text in (OLD, None):
+                if text:
+                    target.write_bytes(text)
+                os.symlink("target", self.made)
+                answer = self.ask(words)
+                is_well = self.is_made(name, answer, target) and self.made.is_symlink()
+                self.count(is_well and not Path(f"{target}.unfinished").exists(), f"{name} over a link: {answer}")
+                self.clear()
+                target.unlink()
+            target.write_bytes(b"another's")
+            os.symlink("target", self.made)
+            answer = self.ask(words)
+            self.count(answer == NO_CERTIFICATE and target.read_bytes() == b"another's", f"{name} over a link to a file: {answer}")
+            self.clear()
+            target.unlink()
+
+    def others(self):
+        """OUT is no regular file, or can't be made."""
+        for name, _ in self.commands():
+            words = dict(self.commands("/dev/stdout"))[name]
+            status, printed, told = self.done[name]
+            answer = self.ask(words)
+            self.count(answer == (status, self.whole[name] + printed, told), f"{name} to a pipe: {answer[0]} {answer[2]}")
+            answer = self.ask(dict(self.commands("/dev/null"))[name])
+            self.count(answer == self.done[name], f"{name} to nowhere: {answer}")
+            for out in ("none/made", ".", "/proc/made", "/dev/full"):
+                answer = self.ask(dict(self.commands(out))[name])
+                self.count(answer == DEVICE, f"{name} to {out}: {answer}")
+
+    def beside_it(self):
+        """What lies where the new file is written."""
+        for name, words in self.commands():
+            for text in (b"", b"T", b"TIGERCERT ", self.whole[name][:99]):
+                self.made.write_bytes(OLD)
+                self.beside.write_bytes(text)
+                answer = self.ask(words)
+                self.count(self.is_made(name, answer), f"{name} beside {text[:20]}: {answer}")
+            for text in (b"U", b"another's file\n"):
+                self.made.write_bytes(OLD)
+                self.beside.write_bytes(text)
+                answer = self.ask(words)
+                stays = (self.made.read_bytes(), self.beside.read_bytes()) == (OLD, text)
+                self.count(answer == DEVICE and stays, f"{name} beside {text}: {answer}")
+            self.beside.write_bytes(self.whole[name][:99])
+            with open(self.beside, "rb") as held:
+                fcntl.flock(held, fcntl.LOCK_EX)
+                answer = self.ask(words)
+                stays = (self.made.read_bytes(), self.beside.read_bytes()) == (OLD, self.whole[name][:99])
+                self.count(answer == DEVICE and stays, f"{name} beside another run: {answer}")
+            self.clear()
+            stranger = self.folder / "stranger"
+            stranger.write_bytes(OLD)
+            os.symlink("stranger", self.beside)
+            answer = self.ask(words)
+            self.count(answer == DEVICE and stranger.read_bytes() == OLD and not self.made.exists(), f"{name} beside a link: {answer}")
+            self.clear()
+
+    def full_disk(self):
+        """Files may not grow beyond so many bytes."""
+        def small():
+            signal.signal(signal.SIGXFSZ, signal.SIG_IGN)
+            resource.setrlimit(resource.RLIMIT_FSIZE, (100, 100))
+
+        for name, words in self.commands():
+            for text in (OLD, None):
+                if text:
+                    self.made.write_bytes(text)
+                answer = self.ask(words, preexec_fn=small)
+                stays = self.made.read_bytes() == text if text else not self.made.exists()
+                self.count(answer == DEVICE and stays and not self.beside.exists(), f"{name} on a full disk: {answer}")
+                self.clear()
+
+    def kills(self):
+        """The program is killed in the midst of each of its writes, and run again."""
+        with tempfile.TemporaryDirectory() as folder:
+            library = library_of(folder, KILL)
+            for name, words in self.commands():
+                for which in range(1, 100):
+                    self.made.write_bytes(OLD)
+                    answer = self.ask(words, env={**os.environ, "LD_PRELOAD": library, "KILLED_WRITE": str(which)})
+                    if answer[0] != -signal.SIGKILL:
+                        break
+                    left = self.made.read_bytes()
+                    # The line that tells of it is written when it has taken its name.
+                    self.count(left in (OLD, self.whole[name]), f"{name} killed at write {which}: {left[:40]}")
+                    again = self.ask(words)
+                    self.count(self.is_made(name, again), f"{name} after it was killed at write {which}: {again}")
+                self.count(which > 1, f"{name} was never killed")
+                self.clear()
+
+
+def play_all(program=PROGRAM):
+    """How many runs left what they have to, and how many didn't."""
+    with tempfile.TemporaryDirectory() as folder:
+        play = Play(program, folder)
+        for part in (play.standing, play.inputs, play.links, play.others, play.beside_it, play.full_disk, play.kills):
+            part()
+    return play.passed, play.failed
+
+
+if __name__ == "__main__":
+    passed, failed = play_all(*sys.argv[1:2])
+    print(f"{passed} passed, {failed} failed")
+    sys.exit(failed > 0 or passed == 0)
