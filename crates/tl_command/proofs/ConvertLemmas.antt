@@ -12,7 +12,7 @@ use Rattle.tl_command.specs.declared.convert.Converted.{Converted}
 use Rattle.tl_command.specs.declared.stop.TheConstants.{DONE, CERT_FAULT, STOPPED}
 use Rattle.tl_command.specs.Certificates.{counts_text, converted_text}
 use Rattle.tl_command.specs.Running.{IsConverted, NamesBadLine, NamesStop}
-use Rattle.tl_command.specs.Making.{Rewrites, KeepsText, KeepsCertCount, TellsConverted}
+use Rattle.tl_command.specs.Making.{Rewrites, BeginsRewritten, KeepsText, KeepsCertCount, TellsConverted}
 
 -- what is written of a certificate that was read
 pub rewrites : (known : Option (List ℕ)) (made begun : List ℕ → Type 0) (same failed_to_write failed : Type 0) (c d : TheCertificate) (answer : Result Converted CertStop) → IsCertificate c
@@ -102,3 +102,11 @@ converted_whole (Ok counts) status old new wrote told to_write out_same err_same
 converted_whole (Err (Text line)) status old new wrote told to_write out_same err_same keeps tells going = keeps
 converted_whole (Err Memory) status old new wrote told to_write out_same err_same keeps tells going = keeps
 converted_whole (Err Device) status old new wrote told to_write out_same err_same keeps tells going = absurd (going tells.0.0)
+
+-- where it stops, nothing was written, or a beginning of the certificate
+pub converted_begun : (known : Option (List ℕ)) (made begun : List ℕ → Type 0) (same failed : Type 0) (answer : Result Converted CertStop) → ((text : List ℕ) → made text → begun text)
+    → Rewrites known made begun same failed answer → same ⊎ BeginsRewritten known begun
+converted_begun known made begun same failed (Ok counts) whole made_of = inr (made_of.0, made_of.1, made_of.2, whole (certificate_text (record made_of.0 { version = 2 })) made_of.3)
+converted_begun known made begun same failed (Err (Text line)) whole made_of = inl made_of.1
+converted_begun known made begun same failed (Err Memory) whole made_of = inl made_of
+converted_begun known made begun same failed (Err Device) whole made_of = made_of.1

@@ -30,7 +30,7 @@ use Rattle.tl_command.specs.declared.stop.Stop.{Stop}
 use Rattle.tl_command.specs.declared.stop.Stop.TheVariants.{Refused, Memory, Device, Budget}
 use Rattle.tl_command.specs.declared.stop.TheConstants.{DONE, MAP_FAULT, CERT_FAULT, REFUSED, STOPPED, USAGE}
 use Rattle.tl_command.specs.Running.{IsAnswered, IsBuilt, IsConverted, FaultsMap, NamesFault, FaultsCertificate, NamesRefusal, StopsRun, NamesStop, IsRunStatus, IsTold, ReadsNoCertificate, MakesNoCertificate, layout_of}
-use Rattle.tl_command.specs.Making.{Makes, TellsMaking, Rewrites, TellsConverted, was_made}
+use Rattle.tl_command.specs.Making.{Makes, OfMap, IsBegunOf, TellsMaking, Rewrites, BeginsRewritten, TellsConverted, was_made}
 use Rattle.tl_command.specs.Deciding.{IsExact}
 use Rattle.tl_command.specs.Opening.{RunsOver, records_under, certificate_under, Stands, KeepsOthers, KeepsAll, RefusesName, IsCheckBy, IsBuildOf, IsConversionBy, Converts, names_read, made_by}
 use Rattle.tl_command.specs.Starting.{StopsOpening}
@@ -142,6 +142,7 @@ over_plain plan under known spelt status unread made wrote told out_same err_sam
   err_stays = err_stays;
   out_stays = λ e. elim e [ inl r ↦ out_stays r | inr u ↦ absurd (no_usage status is u) ];
   others = λ name other. refl;
+  begun = λ e. inl (λ name other. refl);
   unmade = λ not_done not_stopped name other. refl;
 }
 
@@ -165,6 +166,7 @@ over_check plan name under known spelt status unread made wrote told out_same er
   err_stays = err_stays;
   out_stays = λ e. elim e [ inl r ↦ out_stays r | inr u ↦ absurd (no_usage status is u) ];
   others = λ other_name other. refl;
+  begun = λ e. inl (λ other_name other. refl);
   unmade = λ not_done not_stopped other_name other. refl;
 }
   where
@@ -203,6 +205,7 @@ over_stop plan stop status before after wrote told out_same err_same keeps openi
       err_stays = λ any. absurd (elim any [ inl d ↦ cc (sym e ∙ d) | inr more ↦ elim more [ inl d ↦ cc (sym e ∙ d) | inr d ↦ cc (sym e ∙ d) ] ]);
       out_stays = λ any. absurd (elim any [ inl d ↦ cc (sym e ∙ d) | inr d ↦ cc (sym e ∙ d) ]);
       others = others;
+      begun = λ d. inl keeps;
       unmade = λ not_done not_stopped. absurd (not_stopped e);
     }
 
@@ -227,6 +230,7 @@ over_named_stop plan status under wrote told out_same err_same e names = record 
   err_stays = λ any. absurd (elim any [ inl d ↦ cc (sym e ∙ d) | inr more ↦ elim more [ inl d ↦ cc (sym e ∙ d) | inr d ↦ cc (sym e ∙ d) ] ]);
   out_stays = λ any. absurd (elim any [ inl d ↦ cc (sym e ∙ d) | inr d ↦ cc (sym e ∙ d) ]);
   others = λ name other. refl;
+  begun = λ d. inl (λ name other. refl);
   unmade = λ not_done not_stopped. absurd (not_stopped e);
 }
 
@@ -245,6 +249,7 @@ over_refusal plan name status under wrote told out_same err_same made stays e re
   err_stays = λ any. absurd (elim any [ inl d ↦ cc (sym e ∙ d) | inr more ↦ elim more [ inl d ↦ cc (sym e ∙ d) | inr d ↦ cc (sym e ∙ d) ] ]);
   out_stays = λ any. stays;
   others = λ other differs. refl;
+  begun = λ d. inl (λ other differs. refl);
   unmade = λ not_done not_stopped other differs. refl;
 }
 
@@ -351,6 +356,16 @@ stands made knows after name old new text is was now empty grown kept = rw (is, 
     go (Some bytes) None a b none grows = absurd grows
     go (Some bytes) (Some more) a b none grows = ap Some (rw none at grows)
 
+-- a certificate that is valid stands, or each name is as it was
+whole_or_none : (layout : Layout) (known : Option (List ℕ)) (made begun : List ℕ → Type 0) (same failed : Type 0) (plan : Plan) (before after : Under) (making : Result Making Stop)
+    → Makes layout known made begun same failed making → (was_made making ≡ true → (text : List ℕ) → made text → Stands after plan text) → (was_made making ≡ false → KeepsAll before after plan)
+    → KeepsAll before after plan ⊎ OfMap layout known (λ m. IsBegunOf m (Stands after plan))
+whole_or_none layout known made begun same failed plan before after (Ok (Made report)) makes kept unkept =
+    let it = makes.2 in
+    inr (makes.0, makes.1, record { certificate = it.certificate; valid = it.valid; kept = kept refl (certificate_text it.certificate) it.kept })
+whole_or_none layout known made begun same failed plan before after (Ok (Fault fault)) makes kept unkept = inl (unkept refl)
+whole_or_none layout known made begun same failed plan before after (Err stop) makes kept unkept = inl (unkept refl)
+
 -- the records' fault, refusal or certificate was told, and the file took its name or was taken away
 pub over_build : (plan : Plan) (name : List ℕ) (chosen : Options) (before after : Under) (known : Option (List ℕ)) (made begun wrote told : List ℕ → Type 0) (same failed to_write out_same err_same : Type 0)
     (making : Result Making Stop) (status : ℕ) → IsBuildOf plan name chosen → known ≡ records_under before plan → Makes (layout_with chosen) known made begun same failed making
@@ -398,6 +413,7 @@ over_build (Build to options files) name chosen before after known made begun wr
         | inr u ↦ absurd (no_usage status (run_status status statuses) u)
       ];
       others = others;
+      begun = λ e. whole_or_none layout all made begun same failed plan before after making makes kept unkept;
       unmade = λ not_done not_stopped. unkept (not_made making status wrote told to_write out_same err_same tells not_done not_stopped);
     }
 over_build (Show options files) name chosen before after known made begun wrote told same failed to_write out_same err_same making status of is_known makes tells others kept unkept = absurd of
@@ -433,6 +449,14 @@ no_fault status (inl is) = ((λ e. cc (sym is ∙ e)), (λ e. cc (sym is ∙ e))
 no_fault status (inr (inl is)) = ((λ e. cc (sym is ∙ e)), (λ e. cc (sym is ∙ e)))
 no_fault status (inr (inr is)) = ((λ e. cc (sym is ∙ e)), (λ e. cc (sym is ∙ e)))
 
+-- the certificate stands in version 2, or each name is as it was
+rewritten_or_none : (known : Option (List ℕ)) (made begun : List ℕ → Type 0) (same failed : Type 0) (plan : Plan) (before after : Under) (answer : Result Converted CertStop)
+    → Rewrites known made begun same failed answer → (is_ok answer ≡ true → (text : List ℕ) → made text → Stands after plan text) → (is_ok answer ≡ false → KeepsAll before after plan)
+    → KeepsAll before after plan ⊎ BeginsRewritten known (Stands after plan)
+rewritten_or_none known made begun same failed plan before after (Ok counts) made_of kept unkept =
+    inr (made_of.0, made_of.1, made_of.2, kept refl (certificate_text (record made_of.0 { version = 2 })) made_of.3)
+rewritten_or_none known made begun same failed plan before after (Err stop) made_of kept unkept = inl (unkept refl)
+
 -- the certificate was told, or what is wrong with its text, and the file took its name or was taken away
 pub over_conversion : (plan : Plan) (to : List ℕ) (before after : Under) (spelt : Option (List ℕ)) (made begun wrote told : List ℕ → Type 0) (same failed to_write out_same err_same : Type 0)
     (answer : Result Converted CertStop) (status : ℕ) → Converts plan to → spelt ≡ certificate_under before plan → Rewrites spelt made begun same failed answer
@@ -466,6 +490,7 @@ over_conversion (Convert cert target) to before after spelt made begun wrote tol
       ];
       out_stays = λ any. absurd (elim any [ inl r ↦ (no_fault status statuses).1 r | inr u ↦ no_usage status (cert_status status statuses) u ]);
       others = others;
+      begun = λ e. rewritten_or_none text made begun same failed plan before after answer rewrites kept unkept;
       unmade = λ not_done not_stopped. unkept (not_rewritten answer status wrote told to_write out_same err_same tells not_done not_stopped);
     }
 over_conversion (Show options files) to before after spelt made begun wrote told same failed to_write out_same err_same answer status of is_known rewrites tells others kept unkept = absurd of

@@ -5,7 +5,9 @@
 use Rattle.std.specs.Prelude.{◌≡◌, ◌⊎◌, ℕ, Bool, true, false, List, Option, IfSome, Result, Ok, Err, length, take, ⊤}
 use Rattle.std.specs.Io.KnownBytes.{Appends}
 use Rattle.tl_record.specs.declared.layout.Layout.{Layout}
-use Rattle.tl_record.specs.Messages.{refusal_text}
+use Rattle.tl_record.specs.Layout.{layout_with}
+use Rattle.tl_plan.specs.declared.plan.Plan.{Plan}
+use Rattle.tl_plan.specs.declared.plan.Plan.TheVariants.{Show, Landmarks, Locate, Convert, Check, Audit, Build}
 use Rattle.tl_record.specs.Records.{records_of}
 use Rattle.tl_county.specs.TheMap.{TheMap}
 use Rattle.tl_map.specs.Reading.{IsReadFrom}
@@ -87,6 +89,22 @@ KeepsCount old new (Err Memory) = new ≡ old
 KeepsCount old new (Err Device) = ⊤
 KeepsCount old new (Err Budget) = new ≡ old
 
+-- a beginning of the text in version 2 of the certificate that is read was written
+abbrev pub BeginsRewritten : Option (List ℕ) → (List ℕ → Type 0) → Type 0
+BeginsRewritten known begun =
+    (c : TheCertificate) × IsCertificate c × IfSome known (λ text. IsTextOf c text) × begun (certificate_text (record c { version = 2 }))
+
+-- a beginning of the certificate that the plan's command makes was written: `known` and `spelt` are the texts of the records
+-- and of the certificate that is read, where they are known
+abbrev pub IsBegunBy : Plan → (known spelt : Option (List ℕ)) → (List ℕ → Type 0) → Type 0
+IsBegunBy (Show options files) known spelt begun = ⊥
+IsBegunBy (Landmarks options files) known spelt begun = ⊥
+IsBegunBy (Locate point options files) known spelt begun = ⊥
+IsBegunBy (Convert cert made) known spelt begun = BeginsRewritten spelt begun
+IsBegunBy (Check cert budget options files) known spelt begun = ⊥
+IsBegunBy (Audit options files) known spelt begun = ⊥
+IsBegunBy (Build made options files) known spelt begun = OfMap (layout_with options) known (λ m. IsBegunOf m begun)
+
 -- a line was written to the output, and the status is that of it; or that failed, and why was told
 abbrev pub IsLine : (status wanted : ℕ) → Type 0 → (told : List ℕ → Type 0) → (failed err_same : Type 0) → Type 0
 IsLine status wanted written told failed err_same = ((status ≡ wanted) × written × err_same) ⊎ ((status ≡ STOPPED) × NamesStop told failed)
@@ -104,7 +122,7 @@ Rewrites known made begun same failed (Ok counts) = (c : TheCertificate) × IsCe
 Rewrites known made begun same failed (Err (cert_stop.Text line)) = IfSome known (λ text. IsRefused text line) × same
 Rewrites known made begun same failed (Err cert_stop.Memory) = same
 Rewrites known made begun same failed (Err cert_stop.Device) = failed
-    × (same ⊎ ((c : TheCertificate) × IsCertificate c × IfSome known (λ text. IsTextOf c text) × begun (certificate_text (record c { version = 2 }))))
+    × (same ⊎ BeginsRewritten known begun)
 
 -- what writing this certificate answers
 abbrev pub KeepsText : TheCertificate → (made begun : List ℕ → Type 0) → Type 0 → Result Converted CertStop → Type 0

@@ -12,6 +12,7 @@ use Rattle.tl_command.specs.declared.stop.TheConstants.{DONE, MAP_FAULT, CERT_FA
 use Rattle.tl_record.specs.declared.options.Options.{Options}
 use Rattle.tl_command.specs.Running.{IsRunStatus, IsAnswered, FaultsMap, FaultsCertificate, NamesRefusal, StopsRun, layout_of}
 use Rattle.tl_command.specs.Deciding.{IsExact}
+use Rattle.tl_command.specs.Making.{IsBegunBy}
 
 -- the name of the certificate that is read
 abbrev pub read_by : Plan → Option (List ℕ)
@@ -105,4 +106,5 @@ pub record RunsOver (plan : Plan) (status : ℕ) (before after : Under) (wrote t
   pub err_stays : (status ≡ DONE) ⊎ ((status ≡ MAP_FAULT) ⊎ (status ≡ CERT_FAULT)) → err_same
   pub out_stays : (status ≡ REFUSED) ⊎ (status ≡ USAGE) → out_same
   pub others : KeepsOthers before after plan
+  pub begun : status ≡ STOPPED → KeepsAll before after plan ⊎ IsBegunBy plan (records_under before plan) (certificate_under before plan) (Stands after plan)
   pub unmade : (status ≢ DONE) → (status ≢ STOPPED) → KeepsAll before after plan

@@ -4,7 +4,7 @@ ghost use Rattle.std.specs.Prelude.{◌≡◌, ◌≢◌, ◌⊎◌};
 ghost use Rattle.tl_output.specs.Writing.{Writes, TriesToWrite, FailsToWrite};
 ghost use Rattle.tl_command.specs.declared.stop.TheConstants.{DONE, CERT_FAULT, STOPPED};
 ghost use Rattle.tl_command.specs.Running.{IsConverted, NamesBadLine, NamesStop, FailsToRead};
-ghost use Rattle.tl_command.specs.Making.{Begins, Rewrites, KeepsText, KeepsCertCount, TellsConverted};
+ghost use Rattle.tl_command.specs.Making.{Begins, BeginsRewritten, Rewrites, KeepsText, KeepsCertCount, TellsConverted};
 
 use crate::stop::{CERT_FAULT, DONE, Stop, stopped};
 use crate::tell::tell_line;
@@ -57,6 +57,9 @@ pub fn convert<S: Source, C: Sink, W: Sink, E: Sink>(
         ⊎ (FailsToWrite C.failure_count made.old made.new ⊎ FailsToWrite W.failure_count out.old out.new)) }
     ensures err_stays { (result ≡ DONE) ⊎ (result ≡ CERT_FAULT) → err.new ≡ err.old }
     ensures made_stays { result ≡ CERT_FAULT → made.new ≡ made.old }
+    // A certificate of another text is not even begun.
+    ensures begun { result ≡ STOPPED → (made.new ≡ made.old)
+        ⊎ BeginsRewritten (S.remaining cert.old) (Begins C.contents made.old made.new) }
     ensures read_whole { result ≢ STOPPED → S.failure_count cert.new ≡ S.failure_count cert.old }
 {
     let converted = rewrite(alloc, cert, made);

@@ -9,6 +9,7 @@ ghost use Rattle.tl_command.specs.declared.stop.Stop.TheVariants.{Memory, Device
 ghost use Rattle.tl_command.specs.Running.{IsAnswered, FaultsMap, NamesRefusal, NamesStop, StopsRun, IsRunStatus, layout_of};
 ghost use Rattle.tl_command.specs.Running.{FaultsCertificate, ReadsNoCertificate, MakesNoCertificate};
 ghost use Rattle.tl_command.specs.Deciding.{IsExact};
+ghost use Rattle.tl_command.specs.Making.{Begins, IsBegunBy};
 ghost use Rattle.tl_command.specs.Opening.{RunsOver, IsCheckBy, IsBuildOf, IsConversionBy, Converts};
 ghost use Rattle.tl_command.specs.Opening.{records_under, certificate_under};
 ghost use Rattle.tl_command.specs.Starting.{IsStartStatus, ShowsUsage, ShowsHelp, AnswersSome, FaultsSome, RefusesSome};
@@ -408,7 +409,10 @@ pub fn run_on_readers<F: Read + Drop, S: Source, C: Sink, W: Sink, E: Sink>(
     ensures cert { ReadsNoCertificate plan.now → cert.new ≡ cert.old }
     ensures made { MakesNoCertificate plan.now → made.new ≡ made.old }
     ensures unread { result ≡ REFUSED → cert.new ≡ cert.old }
-    ensures unmade { (result ≡ MAP_FAULT) ⊎ (result ≡ REFUSED) → made.new ≡ made.old }
+    ensures unmade { (result ≡ MAP_FAULT) ⊎ ((result ≡ CERT_FAULT) ⊎ (result ≡ REFUSED)) → made.new ≡ made.old }
+    ensures begun { result ≡ STOPPED → (made.new ≡ made.old)
+        ⊎ IsBegunBy plan.now (joined_bytes F.remaining false readers.items) (S.remaining cert.old)
+        (Begins C.contents made.old made.new) }
 {
     let Ok(mut records) = joined_source(alloc, readers) else {
         return stopped(&Stop::Memory, err);

@@ -11,6 +11,7 @@ ghost use Rattle.tl_command.specs.Running.{NamesStop, StopsRun, FaultsMap, Fault
 ghost use Rattle.tl_command.specs.Running.{ReadsNoCertificate, MakesNoCertificate, ReadsNoRecords};
 ghost use Rattle.tl_command.specs.Running.{IsRunStatus, FailsToRead, StopsAnswer, KeepsReads, layout_of};
 ghost use Rattle.tl_command.specs.Deciding.{IsExact};
+ghost use Rattle.tl_command.specs.Making.{Begins, IsBegunBy};
 
 use crate::auditing::audit;
 use crate::building::build;
@@ -81,8 +82,12 @@ pub fn run<R: Source, S: Source, C: Sink, W: Sink, E: Sink>(
     ensures made { MakesNoCertificate plan.now → made.new ≡ made.old }
     ensures records { ReadsNoRecords plan.now → records.new ≡ records.old }
     ensures unread { result ≡ REFUSED → cert.new ≡ cert.old }
-    // No certificate is made where the records are refused, or they or their map have a fault.
-    ensures unmade { (result ≡ MAP_FAULT) ⊎ (result ≡ REFUSED) → made.new ≡ made.old }
+    // No certificate is made where the records are refused, they or their map have a fault, or the certificate that is
+    // read has one.
+    ensures unmade { (result ≡ MAP_FAULT) ⊎ ((result ≡ CERT_FAULT) ⊎ (result ≡ REFUSED)) → made.new ≡ made.old }
+    // Where it stops, none was begun but one that is valid.
+    ensures begun { result ≡ STOPPED → (made.new ≡ made.old)
+        ⊎ IsBegunBy plan.now (R.remaining records.old) (S.remaining cert.old) (Begins C.contents made.old made.new) }
 {
     match plan {
         Plan::Convert { .. } => convert(alloc, cert, made, out, err),

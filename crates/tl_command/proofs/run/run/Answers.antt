@@ -13,3 +13,9 @@ returns-in-Audit-clause-exactly g c =
 pub returns-in-Build-clause-exactly : goal.returns-in-Build-clause-exactly
 returns-in-Build-clause-exactly g c =
     rw c.in-Build.is (build_decides (layout_with c.in-Build.options) _ _ _ _ c.build.result c.build.ensures.built c.build.ensures.fault)
+
+pub returns-in-Build-clause-begun : goal.returns-in-Build-clause-begun
+returns-in-Build-clause-begun g c = rw c.in-Build.is c.build.ensures.begun
+
+pub returns-in-Convert-clause-begun : goal.returns-in-Convert-clause-begun
+returns-in-Convert-clause-begun g c = rw c.in-Convert.is c.convert.ensures.begun
