@@ -2,6 +2,7 @@
 
 ghost use Rattle.std.specs.Prelude.{◌≡◌, ◌≤◌};
 ghost use Rattle.tl_tree.specs.Trees.{depth, tree_of};
+ghost use Rattle.tl_pack.specs.Packed.{IsEvenlySplit};
 ghost use Rattle.tl_planar.specs.Planar.{IsPlanar};
 ghost use Rattle.tl_sides.specs.Sides.{SidesAgree};
 ghost use Rattle.tl_inside.specs.Placed.{ArePlaced};
@@ -39,6 +40,7 @@ pub fn judge(alloc: Global, map: &Map) -> Result<Judged, BuildStop>
     ensures valid { IfJudgedSound result (λ cert report. IsValid map.now cert) }
     ensures version { IfJudgedSound result (λ cert report. cert.version ≡ 2) }
     ensures shallow { IfJudgedSound result (λ cert report. depth (tree_of cert.tree) ≤ 8) }
+    ensures split { IfJudgedSound result (λ cert report. IsEvenlySplit (tree_of cert.tree)) }
     ensures report { IfJudgedSound result (λ cert report. IsReport map.now report) }
     ensures fault { IfJudgedFault result (IsTrueOfMap map.now) }
 {

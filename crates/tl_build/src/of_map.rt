@@ -2,6 +2,7 @@
 
 ghost use Rattle.std.specs.Prelude.{◌≡◌, ◌≤◌, ◌↔◌, IfOk};
 ghost use Rattle.tl_tree.specs.Trees.{depth, tree_of};
+ghost use Rattle.tl_pack.specs.Packed.{IsEvenlySplit};
 ghost use Rattle.tl_planar.specs.Planar.{IsPlanar};
 ghost use Rattle.tl_sides.specs.Sides.{SidesAgree};
 ghost use Rattle.tl_inside.specs.Placed.{ArePlaced};
@@ -37,6 +38,9 @@ pub fn build(alloc: Global, map: &Map) -> Result<Built, BuildStop>
     ensures version { IfCert result (λ cert. cert.version ≡ 2) }
     // Its tree has at most 8 levels, which hold the 8 ^ 8 segments that a map can have.
     ensures shallow { IfCert result (λ cert. depth (tree_of cert.tree) ≤ 8) }
+    // It is split evenly: of more than eight segments an inner node has the lesser of 8 and an eighth, rounded up,
+    // children, whose numbers of segments differ by at most one, and of eight or fewer there is a leaf.
+    ensures split { IfCert result (λ cert. IsEvenlySplit (tree_of cert.tree)) }
     // Each fault is true.
     ensures fault { IfFault result (IsTrueOfMap map.now) }
     // If it isn't stopped, a certificate is made exactly where the map is sound, and a fault is named where it isn't.

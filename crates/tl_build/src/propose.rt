@@ -3,6 +3,7 @@
 ghost use Rattle.std.specs.Prelude.{◌*◌, ◌≤◌, length, All, IfOk};
 ghost use Rattle.tl_tree.specs.Preorder.{IsPreorder};
 ghost use Rattle.tl_tree.specs.Trees.{depth, tree_of};
+ghost use Rattle.tl_pack.specs.Packed.{IsEvenlySplit};
 ghost use Rattle.tl_planar.specs.Planar.{IsPlanar};
 ghost use Rattle.tl_sides.specs.Lists.{HoldOnce};
 ghost use Rattle.tl_sides.specs.Rounds.{AreRounds};
@@ -51,6 +52,7 @@ fn counts_of(map: &Map) -> Counts
 fn propose_tree(alloc: Global, map: &Map) -> Result<Vec<TreeNode>, AllocError>
     ensures tree { IfOk result (λ nodes. IsTree map.now nodes.items) }
     ensures shallow { IfOk result (λ nodes. depth (tree_of nodes.items) ≤ 8) }
+    ensures split { IfOk result (λ nodes. IsEvenlySplit (tree_of nodes.items)) }
     ensures whole { IfOk result (λ nodes. IsPreorder nodes.items) }
     ensures counted { IfOk result (λ nodes. IsCounted nodes.items) }
     ensures each { IfOk result (λ nodes. All (IsNode 2) nodes.items) }

@@ -27,6 +27,7 @@ returns c =
       counts = c.counts_of-counts.ensures;
       tree = c.in_ok-tree.ensures.tree;
       shallow = c.in_ok-tree.ensures.shallow;
+      split = c.in_ok-tree.ensures.split;
       rounds = c.in_ok-rounds.ensures.rounds;
       walks = c.in_ok-rounds.ensures.walks;
       are_rounds = c.in_ok-rounds.ensures.are_rounds;
