@@ -14,7 +14,7 @@ use Rattle.tl_map.specs.declared.fault.MapFault.{MapFault as RecordFault}
 use Rattle.tl_map.specs.declared.fault.MapStop.{MapStop}
 use Rattle.tl_map.specs.declared.fault.MapStop.TheVariants as map_stop
 use Rattle.tl_county.specs.Chains.{ChainList}
-use Rattle.tl_map.specs.Faults.{IsTrueOf}
+use Rattle.tl_map.specs.Faults.{IsTrueOf, IsFaultOfChains}
 use Rattle.tl_map.specs.Messages.{fault_text}
 use Rattle.tl_county.specs.TheMap.{TheMap}
 use Rattle.tl_map.specs.Reading.{AreReadFrom, IsReadFrom, records_in}
@@ -205,10 +205,21 @@ IsAnswered (Check cert budget options files) records spelt made wrote = IsChecke
 IsAnswered (Audit options files) records spelt made wrote = IsAudited (layout_with options) records wrote
 IsAnswered (Build to options files) records spelt made wrote = IsBuilt (layout_with options) records made wrote
 
--- the line of a fault of the records was written, and it is true
-pub record NamesRecordFault (layout : Layout) (known : Option (List ℕ)) (wrote : List ℕ → Type 0) : Type 0 where
+-- the faults of the records that the plan's command looks for: `show` those of the chains
+abbrev pub LooksFor : Plan → RecordFault → Type 0
+LooksFor (Show options files) = IsFaultOfChains
+LooksFor (Landmarks options files) = λ fault. ⊤
+LooksFor (Locate point options files) = λ fault. ⊤
+LooksFor (Convert cert made) = λ fault. ⊤
+LooksFor (Check cert budget options files) = λ fault. ⊤
+LooksFor (Audit options files) = λ fault. ⊤
+LooksFor (Build made options files) = λ fault. ⊤
+
+-- the line of such a fault of the records was written, and it is true
+pub record NamesRecordFault (layout : Layout) (known : Option (List ℕ)) (sought : RecordFault → Type 0) (wrote : List ℕ → Type 0) : Type 0 where
   pub fault : RecordFault
   pub written : wrote (line_of (fault_text fault))
+  pub is : sought fault
   pub holds : IfSome known (λ text. HasFault layout text fault)
 
 -- the line of a fault of the records or of their map was written, and it is true; where the records have no map, `unread`,
@@ -227,9 +238,9 @@ pub record NamesMapFault (m : TheMap) (wrote : List ℕ → Type 0) : Type 0 whe
 
 -- a fault was named that the plan's command looks for
 abbrev pub FaultsMap : Plan → Option (List ℕ) → Type 0 → (List ℕ → Type 0) → Type 0
-FaultsMap (Show options files) known unread wrote = NamesRecordFault (layout_with options) known wrote
-FaultsMap (Landmarks options files) known unread wrote = NamesRecordFault (layout_with options) known wrote
-FaultsMap (Locate point options files) known unread wrote = NamesRecordFault (layout_with options) known wrote
+FaultsMap (Show options files) known unread wrote = NamesRecordFault (layout_with options) known IsFaultOfChains wrote
+FaultsMap (Landmarks options files) known unread wrote = NamesRecordFault (layout_with options) known (λ fault. ⊤) wrote
+FaultsMap (Locate point options files) known unread wrote = NamesRecordFault (layout_with options) known (λ fault. ⊤) wrote
 FaultsMap (Convert cert made) known unread wrote = ⊥
 FaultsMap (Check cert budget options files) known unread wrote = NamesFault (layout_with options) known unread wrote
 FaultsMap (Audit options files) known unread wrote = NamesFault (layout_with options) known ⊤ wrote

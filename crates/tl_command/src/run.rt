@@ -9,7 +9,9 @@ ghost use Rattle.tl_command.specs.declared.stop.TheConstants.{DONE, MAP_FAULT, C
 ghost use Rattle.tl_command.specs.Running.{IsAnswered, AnswersRecords, IsShown, IsListed, NamesRecordFault, NamesRefusal};
 ghost use Rattle.tl_command.specs.Running.{NamesStop, StopsRun, FaultsMap, FaultsCertificate};
 ghost use Rattle.tl_command.specs.Running.{ReadsNoCertificate, MakesNoCertificate, ReadsNoRecords};
-ghost use Rattle.tl_command.specs.Running.{IsRunStatus, FailsToRead, StopsAnswer, KeepsReads, layout_of};
+ghost use Rattle.tl_command.specs.Running.{IsRunStatus, FailsToRead, StopsAnswer, KeepsReads, LooksFor, layout_of};
+ghost use Rattle.tl_map.specs.Faults.{IsFaultOfChains};
+ghost use Rattle.tl_map.specs.Reading.{IfFault};
 ghost use Rattle.tl_command.specs.Deciding.{IsExact};
 ghost use Rattle.tl_command.specs.Making.{Begins, IsBegunBy};
 
@@ -114,7 +116,7 @@ fn run_on_records<R: Source, W: Sink, E: Sink>(
     ensures answered { result ≡ DONE
         → AnswersRecords plan.now (R.remaining records.old) (Writes W.contents W.failure_count out.old out.new) }
     ensures fault { result ≡ MAP_FAULT
-        → NamesRecordFault (layout_of plan.now) (R.remaining records.old) (Writes W.contents W.failure_count out.old out.new) }
+        → NamesRecordFault (layout_of plan.now) (R.remaining records.old) (LooksFor plan.now) (Writes W.contents W.failure_count out.old out.new) }
     ensures refused { result ≡ REFUSED
         → NamesRefusal (layout_of plan.now) (R.remaining records.old) (TriesToWrite E.contents E.failure_count err.old err.new) }
     ensures stopped { result ≡ STOPPED
@@ -145,6 +147,7 @@ fn answer<R: Source, W: Sink>(
     ensures stops { IfErr result (StopsAnswer (layout_of plan.now) (R.remaining records.old)
         (FailsToRead R.failure_count records.old records.new ⊎ FailsToWrite W.failure_count out.old out.new)
         (out.new ≡ out.old)) }
+    ensures sought { IfErr result (IfFault (LooksFor plan.now)) }
     ensures reads { KeepsReads (R.failure_count records.old) (R.failure_count records.new) result }
 {
     match plan {
@@ -169,6 +172,8 @@ fn show<R: Source, W: Sink>(
     ensures stops { IfErr result (StopsAnswer (layout_with options) (R.remaining records.old)
         (FailsToRead R.failure_count records.old records.new ⊎ FailsToWrite W.failure_count out.old out.new)
         (out.new ≡ out.old)) }
+    // A fault is one of the chains.
+    ensures of_chains { IfErr result (IfFault IsFaultOfChains) }
     ensures reads { KeepsReads (R.failure_count records.old) (R.failure_count records.new) result }
 {
     let chains = read_chains_with(alloc, records, options)?;

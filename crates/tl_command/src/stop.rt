@@ -86,7 +86,7 @@ fn tell<E: Sink>(stop: &Stop, err: &mut E) -> bool
     match print_line(stop, err) {
         Ok(()) => true,
         Err(LineStop::Failed) => true,
-        Err(LineStop::NoRoom) => {
+        Err(LineStop::NoRoom | LineStop::NoText) => {
             let _ = write_all(NO_ROOM, err);
             false
         }

@@ -29,6 +29,6 @@ pub fn tell_line<D: Display, W: Sink, E: Sink>(
     match print_line(value, out) {
         Ok(()) => status,
         Err(LineStop::Failed) => stopped(&Stop::Device, err),
-        Err(LineStop::NoRoom) => stopped(&Stop::Memory, err),
+        Err(LineStop::NoRoom | LineStop::NoText) => stopped(&Stop::Memory, err),
     }
 }
