@@ -159,7 +159,7 @@ def builds(row, words):
 def decided(row, words):
     """The rows of a map that `audit` and `build` decide, the latter also where a file of that name stands."""
     over = builds(row, words)
-    over.title, over.files = f"{over.title} over a file", {**row.files, "made": b"a file that stands\n"}
+    over.title, over.files = f"{over.title} over a file", {**row.files, "made": b"TIGERCERT 2\nan old one\n"}
     return [audits(row, words), builds(row, words), over]
 
 

@@ -66,10 +66,10 @@ Example:
 pub const BUILD_ABOUT: &str = "Makes a certificate of a sound map, in version 2";
 
 pub const BUILD_EXAMPLE: &str = "\
-Of a sound map the line is `built chains=C segments=S nodes=N polygons=P landmarks=L rings=R`. CERT is
-made when the map was found to be sound, and a file of that name is written over. Else the line is
-`map fault` with a code, a name and what it is about. Where the map has a fault or a line is refused,
-no file is made or changed; after a failed write CERT is worth nothing.
+Of a sound map the line is `built chains=C segments=S nodes=N polygons=P landmarks=L rings=R`. Else it
+is `map fault` with a code, a name and what it is about, and no file is made or changed. CERT is
+written as CERT.unfinished and takes its name when it is whole, so an old one stays till then. A file
+that is no certificate, or is one of FILES, is not replaced.
 
 Example:
   tigertopo build --out TGR24001.CERT TGR24001.RT*";
@@ -87,9 +87,9 @@ Example:
 pub const CONVERT_ABOUT: &str = "Reads a certificate and writes it in version 2";
 
 pub const CONVERT_EXAMPLE: &str = "\
-OUT is made when CERT was read whole, and a file of that name is written over. The last line is
-`converted nodes=N rounds=M walks=W`; of a text that is no certificate's, `certificate fault K1
-Text line N` with the line that none has.
+The line is `converted nodes=N rounds=M walks=W`; of a text that is no certificate's, `certificate
+fault K1 Text line N` with the line that none has. OUT is written as OUT.unfinished and takes its name
+when it is whole. A file that is no certificate, or is CERT, is not replaced.
 
 Example:
   tigertopo convert OLD.CERT NEW.CERT";
