@@ -2,3 +2,4 @@
 pub mod Building
 pub mod Auditing
 pub mod Keeping
+pub mod Stops

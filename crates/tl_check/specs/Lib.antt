@@ -8,3 +8,4 @@ pub mod Messages
 pub mod Records
 pub mod Deciding
 pub mod Keeping
+pub mod Stops

@@ -202,9 +202,10 @@ no_locate given named lacks (inr (inr (inr (inr place)))) =
     lacks place.word place.point place.files (ap (λ r. r.point) e ∙ place.at) place.spelt
     (ap (λ r. r.files) e ∙ place.are) place.some_file
 
--- words that name a plan
-pub one_plan : (words : List Text) (found : Option (Text × List Row)) (plan : Plan) → found ≡ subcommand_of command_line words → IsPlanOf (named_in found) (Some plan) → AskFor words plan
-one_plan words found plan is made = subst (λ f. IsPlanOf (named_in f) (Some plan)) is made
+-- words that clap takes, and that name a plan
+pub one_plan : (words : List Text) (found : Option (Text × List Row)) (plan : Plan) → found ≡ subcommand_of command_line words → IsPlanOf (named_in found) (Some plan) → fault_of command_line words ≡ []
+    → AskFor words plan
+one_plan words found plan is made right = record { taken = right; asked = subst (λ f. IsPlanOf (named_in f) (Some plan)) is made }
 
 -- words that clap takes, and that name no plan
 pub no_plan : (words : List Text) (found : Option (Text × List Row)) → found ≡ subcommand_of command_line words → IsPlanOf (named_in found) None → fault_of command_line words ≡ []

@@ -229,9 +229,11 @@ IsConversionOf cert out (Some (Audit options files)) = ⊥
 IsConversionOf cert out (Some (Build made options files)) = ⊥
 IsConversionOf cert out None = (from to : Text) → cert ≡ Some from → out ≡ Some to → ⊥
 
--- the words ask for the plan
-abbrev pub AskFor : List Text → Plan → Type 0
-AskFor words plan = IsFor (named_command words) plan
+-- the words ask for the plan: clap has no error for them, of any kind, and the command that they name, with what they give
+-- for its arguments, is one for the plan
+pub record AskFor (words : List Text) (plan : Plan) : Type 0 where
+  pub taken : fault_of command_line words ≡ []
+  pub asked : IsFor (named_command words) plan
 
 -- the words are a use of a command: they are taken, and name a command of the program and what it wants
 pub record AreAUse (words : List Text) : Type 0 where

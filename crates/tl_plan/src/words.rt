@@ -23,8 +23,8 @@ use tl_record::Options;
 /// of the program, no words among them, and `PlanStop::Help` for those that ask for help or for the version; both come
 /// with the text that `clap` has for them.
 pub fn plan<S: AsStr>(alloc: Global, words: &[S]) -> Result<Plan, PlanStop>
-    // The plan is what the words ask for: its command, its switches, its budget, and the names of its files, word for
-    // word and in their order.
+    // The plan is what the words ask for: they are none that `clap` has an error for, and its command, its switches, its
+    // budget, and the names of its files, word for word and in their order, are theirs.
     ensures plan { IfOk result (AskFor (map S.text words.now)) }
     // Words that are a use of a command are refused for want of memory alone.
     ensures stops { IfErr result (StopsPlanning (map S.text words.now)) }

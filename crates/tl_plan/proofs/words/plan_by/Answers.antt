@@ -34,3 +34,4 @@ returns-in-Some-clause-plan g c =
     one_plan words (subcommand_rows_of c.in-Ok.matches) c.in-Some.plan
     (subst (λ (app : App). is_simple app ≡ true → subcommand_rows_of c.in-Ok.matches ≡ subcommand_of app words) c.requires (λ simple. (c.in-Ok.ensures.ok.2 simple).1) is_simple-command_line)
     (subst (IsPlanOf (named_in (subcommand_rows_of c.in-Ok.matches))) c.in-Some.is c.in_ok-plan.ensures)
+    (subst (λ (app : App). fault_of app words ≡ []) c.requires (c.in-Ok.ensures.kinds (ap is_simple_and_free c.requires ∙ is_free-command_line)))
