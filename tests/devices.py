@@ -131,7 +131,9 @@ def play_calls(count, ask, runs):
                 if not was_reached:
                     break
                 wrong = f"{' '.join(map(str, words))}: with {kind} {which}: {answer}, and the file {left[:40]}"
-                count.count(is_well(answer, left, usual, whole), wrong)
+                # The first read is of how the file begins that stands there, and is tried again.
+                is_again = MADE in words and (kind, which) == ("INTERRUPTED_READ", 1)
+                count.count((is_usual if is_again else is_well)(answer, left, usual, whole), wrong)
 
 
 def answer_to(program, folder, words, **streams):
