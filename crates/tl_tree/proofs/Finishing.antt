@@ -1,5 +1,5 @@
 -- From what a whole search leaves to its answer.
-use Rattle.std.proofs.Common.{◌≡◌, ℕ, ◌≤◌, ◌+◌, Bool, true, false, Option, Some, None, refl, sym, subst, arith}
+use Rattle.std.proofs.Common.{◌≡◌, ℕ, ◌≤◌, Bool, true, false, Option, Some, None, refl, sym, subst, arith}
 use Rattle.tl_geom.specs.declared.rect.Rect.{Rect}
 use Rattle.tl_tree.specs.Pairs.{indices, pair_sum, meeting, AllPairs, AreFree}
 use Rattle.tl_tree.specs.Searches.{IsClear, MayAnswer, meeting_pairs}

@@ -1,12 +1,12 @@
 -- What parts of a search leave, one after the other.
-use Rattle.std.proofs.Common.{◌≡◌, ℕ, ◌+◌, ◌<◌, ◌≤◌, Bool, true, false, ◌||◌, IsTrue, Option, Some, None, ◌⊎◌, inl, inr, refl, sym, arith}
+use Rattle.std.proofs.Common.{◌≡◌, ℕ, ◌+◌, ◌<◌, ◌≤◌, Bool, true, false, ◌||◌, Option, Some, None, ◌⊎◌, inl, inr, refl, sym, arith}
 use Rattle.std.proofs.lemmas.Bool.{false≢true}
 use Rattle.tl_geom.specs.declared.rect.Rect.{Rect}
 use Rattle.tl_tree.specs.Pairs.{meeting}
 use Rattle.tl_tree.specs.Searches.{IsFreePair}
 use Rattle.tl_tree.specs.declared.search.Conflict.{Conflict}
 use Rattle.tl_tree.specs.declared.search.Progress.{Progress}
-use Rattle.tl_tree.specs.Keeping.Walking.{Counts, Enough, GoesOn, IsSpent, Stops, MayLeave}
+use Rattle.tl_tree.specs.Keeping.Walking.{Enough, GoesOn, Stops, MayLeave}
 use Rattle.tl_tree.proofs.PairLemmas.{IsSymmetric}
 use Rattle.tl_tree.proofs.PairTests.{meeting-swap}
 
