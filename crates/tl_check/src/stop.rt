@@ -15,7 +15,7 @@ pub enum Stop {
     /// A read failed.
     #[error("stopped Device")]
     Device,
-    /// More pairs of segments than the budget have rectangles that meet.
+    /// More pairs of segments than the budget have rectangles that meet, and as many of these as the budget don't conflict.
     #[error("stopped Budget")]
     Budget,
 }
