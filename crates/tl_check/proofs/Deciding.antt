@@ -1,10 +1,10 @@
 -- What is answered of records whose map is sound, and of the text of a certificate that is valid for it.
-use Rattle.std.proofs.Common.{◌≡◌, ◌↔◌, ℕ, ◌<◌, List, Ok, Err, sym, subst, ◌∙◌}
+use Rattle.std.proofs.Common.{◌≡◌, ◌↔◌, ℕ, List, Ok, Err, sym, subst, ◌∙◌}
 use Rattle.std.specs.Result.{IfOk, IfErr}
 use Rattle.tl_record.specs.Records.{Records as AllRecords}
 use Rattle.tl_county.specs.TheMap.{TheMap}
 use Rattle.tl_planar.specs.Planar.{IsPlanar}
-use Rattle.tl_planar.specs.Searching.{meeting_segments}
+use Rattle.tl_planar.specs.Searching.{AreBeyond}
 use Rattle.tl_sides.specs.Sides.{SidesAgree}
 use Rattle.tl_inside.specs.Placed.{ArePlaced}
 use Rattle.tl_cells.specs.Cells.{CellsAgree}
@@ -56,7 +56,7 @@ not_valid_text m text (Walk f) true valid = not_valid_one m text (Walk f) true.0
 
 pub passes : (all : AllRecords) (spelt : List ℕ) (budget : ℕ) (answer : Answer) → HaveMap all IsSound → HaveMap all (λ m. IsValidText m spelt)
     → IfMapFault answer (IsTrueOfRecords all) → IfCertFault answer (λ f. HaveMap all (λ m. IsTrueOfText m spelt f)) → IfErr answer (MayStopOn all budget)
-    → PassesOrStops (HaveMap all (λ m. budget < meeting_segments m.chains)) answer
+    → PassesOrStops (HaveMap all (λ m. AreBeyond m.chains budget)) answer
 passes all spelt budget (Ok (verdict.Sound report)) sound valid map_fault cert_fault stops = tt
 passes all spelt budget (Ok (verdict.MapFault f)) sound valid map_fault cert_fault stops = not_sound_records all f map_fault sound
 passes all spelt budget (Ok (verdict.CertFault f)) sound valid map_fault cert_fault stops =

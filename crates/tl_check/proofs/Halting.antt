@@ -1,5 +1,5 @@
 -- What the clauses of an answer read off what it says.
-use Rattle.std.proofs.Common.{◌≡◌, ℕ, ◌≤◌, Ok, Err}
+use Rattle.std.proofs.Common.{ℕ, ◌≤◌, Ok, Err}
 use Rattle.std.specs.Prelude.{IfErr}
 use Rattle.tl_county.specs.TheMap.{TheMap}
 use Rattle.tl_planar.specs.Planar.{IsPlanar}
@@ -14,23 +14,32 @@ use Rattle.tl_check.specs.declared.verdict.Report.{Report}
 use Rattle.tl_check.specs.declared.verdict.Verdict.TheVariants as verdict
 use Rattle.tl_check.specs.declared.stop.Stop.TheVariants.{Record, Memory, Device, Budget}
 use Rattle.tl_check.specs.Sound.{AreClosed}
-use Rattle.tl_check.specs.Valid.{IsValid}
+use Rattle.tl_check.specs.Valid.{AreCounts, IsTree, AllowsSearch, IsValid}
 use Rattle.tl_check.specs.Truth.{IsTrueOfMap, IsTrueOfCert, IsOfDarts}
-use Rattle.tl_check.specs.Verdicts.{Answer, OnSound, IfSound, IfMapFault, IfCertFault, IsReport, MayStop}
+use Rattle.tl_check.specs.Verdicts.{Answer, OnSound, IfSound, IfMapFault, IfCertFault, OnSearched, IsReport, MayStop}
 use Rattle.tl_check.specs.Keeping.Answers.{answer_of}
-use Rattle.tl_check.specs.Keeping.Parts.{MayHalt, MayEnd}
+use Rattle.tl_check.specs.Keeping.Parts.{MayHalt, MayEnd, UnlessMemory}
 use Rattle.tl_check.specs.Keeping.Streams.{IsSoundByCert, Shows}
+use Rattle.tl_check.proofs.Prefixes.{first_rounds, first_walks}
+use Rattle.tl_check.proofs.Searched.{fault_searched}
 use Rattle.tl_check.proofs.Shown.{are_closed, is_report}
 
-pub halted : (m : TheMap) (c : TheCertificate) (budget : ℕ) (why : Halt) → MayHalt m budget why → Shows m c budget (answer_of why)
-halted m c budget (halt.Fault fault) may = may
-halted m c budget halt.Memory may = tt
-halted m c budget halt.Budget may = may
+pub halted : (m : TheMap) (c : TheCertificate) (budget : ℕ) (why : Halt) → MayHalt m budget why → AreCounts m c.counts → UnlessMemory why (IsTree m c.tree) → Shows m c budget (answer_of why)
+halted m c budget (halt.Fault fault) may counts tree = (may, record { counts = counts; tree = tree })
+halted m c budget halt.Memory may counts tree = tt
+halted m c budget halt.Budget may counts tree = (may, record { counts = counts; tree = tree })
 
-pub ended : (m : TheMap) (c : TheCertificate) (budget : ℕ) (why : Halt) → MayEnd m why → Shows m c budget (answer_of why)
-ended m c budget (halt.Fault fault) may = may
-ended m c budget halt.Memory may = tt
-ended m c budget halt.Budget may = absurd may
+pub ended : (m : TheMap) (c : TheCertificate) (budget : ℕ) (why : Halt) → MayEnd m why → AllowsSearch m c → Shows m c budget (answer_of why)
+ended m c budget (halt.Fault fault) may allows = (may, allows)
+ended m c budget halt.Memory may allows = tt
+ended m c budget halt.Budget may allows = absurd may
+
+-- a certificate of the first rounds, or of the first walks, allows what the whole one does
+pub allowed_rounds : (m : TheMap) (c : TheCertificate) (n : ℕ) → AllowsSearch m (first_rounds c n) → AllowsSearch m c
+allowed_rounds m c n h = record { counts = h.counts; tree = h.tree }
+
+pub allowed_walks : (m : TheMap) (c : TheCertificate) (n : ℕ) → AllowsSearch m (first_walks c n) → AllowsSearch m c
+allowed_walks m c n h = record { counts = h.counts; tree = h.tree }
 
 module _ (m : TheMap) (c : TheCertificate) (budget : ℕ) where
   on_sound : (P : Type 0) → ((r : Report) → IsSoundByCert m c budget r → P) → (answer : Answer) → Shows m c budget answer → OnSound answer P
@@ -68,7 +77,7 @@ module _ (m : TheMap) (c : TheCertificate) (budget : ℕ) where
 
   pub map_fault : (answer : Answer) → Shows m c budget answer → IfMapFault answer (IsTrueOfMap m)
   map_fault (Ok (verdict.Sound report)) shows = tt
-  map_fault (Ok (verdict.MapFault fault)) shows = shows
+  map_fault (Ok (verdict.MapFault fault)) shows = shows.0
   map_fault (Ok (verdict.CertFault fault)) shows = tt
   map_fault (Err why) shows = tt
 
@@ -89,4 +98,13 @@ module _ (m : TheMap) (c : TheCertificate) (budget : ℕ) where
   stops (Err (Record line cause)) shows = absurd shows
   stops (Err Memory) shows = tt
   stops (Err Device) shows = absurd shows
-  stops (Err Budget) shows = shows
+  stops (Err Budget) shows = shows.0
+
+  pub searched : (answer : Answer) → Shows m c budget answer → OnSearched answer (AllowsSearch m c)
+  searched (Ok (verdict.Sound report)) shows = tt
+  searched (Ok (verdict.MapFault fault)) shows = fault_searched fault (AllowsSearch m c) shows.1
+  searched (Ok (verdict.CertFault fault)) shows = tt
+  searched (Err (Record line cause)) shows = tt
+  searched (Err Memory) shows = tt
+  searched (Err Device) shows = tt
+  searched (Err Budget) shows = shows.1

@@ -8,4 +8,5 @@ pub mod Denials
 pub mod Walking
 pub mod OneMap
 pub mod Deciding
+pub mod Searched
 pub mod Halting

@@ -1,13 +1,13 @@
 -- What an answer says of the map of records it says of the records.
-use Rattle.std.proofs.Common.{◌≡◌, ℕ, ◌≤◌, List, Option, Ok, Err, inl, inr, refl}
+use Rattle.std.proofs.Common.{◌≡◌, ℕ, List, Option, Ok, Err, inl, inr, refl}
 use Rattle.std.specs.Prelude.{IfErr}
 use Rattle.std.specs.Option.{IfSome}
 use Rattle.std.proofs.lemmas.Option.{IfSome_then}
-use Rattle.tl_record.specs.Failures.{one_more}
 use Rattle.tl_record.specs.Records.{Records as AllRecords}
 use Rattle.tl_map.specs.declared.fault.MapStop.{MapStop}
 use Rattle.tl_map.specs.declared.fault.MapStop.TheVariants as map
 use Rattle.tl_county.specs.TheMap.{TheMap}
+use Rattle.tl_planar.specs.Planar.{IsPlanar}
 use Rattle.tl_map.specs.Reading.{IsReadFrom, StopsReading, TellsDevice as TellsReading}
 use Rattle.tl_check.specs.declared.fault.MapFault.{MapFault}
 use Rattle.tl_check.specs.declared.fault.MapFault.TheVariants.{Records, Meet, Side, PolygonPoint, Cell}
@@ -16,11 +16,12 @@ use Rattle.tl_check.specs.declared.verdict.Verdict.TheVariants as verdict
 use Rattle.tl_check.specs.declared.fault.CertFault.{CertFault}
 use Rattle.tl_check.specs.declared.stop.Stop.{Stop}
 use Rattle.tl_check.specs.declared.stop.Stop.TheVariants as stop
-use Rattle.tl_check.specs.Truth.{IsTrueOfMap}
-use Rattle.tl_check.specs.Verdicts.{Answer, OnSound, IfSound, IfMapFault, IfCertFault}
+use Rattle.tl_check.specs.Truth.{IsTrueOfMap, IsOfDarts}
+use Rattle.tl_check.specs.Verdicts.{Answer, OnSound, IfSound, IfMapFault, IfCertFault, OnSearched}
 use Rattle.tl_check.specs.Texts.{MayStopReading, TellsDevice}
 use Rattle.tl_check.specs.Records.{HaveMap, IsTrueOfRecords, MayStopOn, TellsEither, LeavesUnread}
 use Rattle.tl_check.specs.Keeping.Answers.{refusal_of}
+use Rattle.tl_check.proofs.Searched.{searched_so}
 
 true_of_records : (all : AllRecords) (m : TheMap) (f : MapFault) → IsReadFrom all m → IsTrueOfMap m f → IsTrueOfRecords all f
 true_of_records all m (Records fault) is true = absurd true
@@ -55,11 +56,20 @@ module _ (of : List ℕ → AllRecords) (text : Option (List ℕ)) (m : TheMap) 
   map_fault (Ok (verdict.CertFault f)) true = tt
   map_fault (Err why) true = tt
 
-  pub cert_fault : (spelt : Option (List ℕ)) (P : TheMap → List ℕ → CertFault → Type 0) (answer : Answer) → IfCertFault answer (λ f. IfSome spelt (λ s. P m s f)) → IfCertFault answer (λ f. IfSome text (λ t. IfSome spelt (λ s. HaveMap (of t) (λ n. P n s f))))
-  cert_fault spelt P (Ok (verdict.CertFault f)) true = IfSome_then text is (λ t read. IfSome_then spelt true (λ s holds. record { map = m; is_read = read; so = holds }))
-  cert_fault spelt P (Ok (verdict.Sound report)) true = tt
-  cert_fault spelt P (Ok (verdict.MapFault f)) true = tt
-  cert_fault spelt P (Err why) true = tt
+  pub cert_fault : (P : TheMap → CertFault → Type 0) (answer : Answer) → IfCertFault answer (P m) → IfCertFault answer (λ f. IfSome text (λ t. HaveMap (of t) (λ n. P n f)))
+  cert_fault P (Ok (verdict.CertFault f)) true = IfSome_then text is (λ t read. record { map = m; is_read = read; so = true })
+  cert_fault P (Ok (verdict.Sound report)) true = tt
+  cert_fault P (Ok (verdict.MapFault f)) true = tt
+  cert_fault P (Err why) true = tt
+
+  pub behind : (answer : Answer) → IfCertFault answer (λ f. IsOfDarts f → IsPlanar m.chains) → IfCertFault answer (λ f. IsOfDarts f → IfSome text (λ t. HaveMap (of t) (λ n. IsPlanar n.chains)))
+  behind (Ok (verdict.CertFault f)) so = λ of_darts. IfSome_then text is (λ t read. record { map = m; is_read = read; so = so of_darts })
+  behind (Ok (verdict.Sound report)) so = tt
+  behind (Ok (verdict.MapFault f)) so = tt
+  behind (Err why) so = tt
+
+  pub searched : (P : TheMap → Type 0) (answer : Answer) → OnSearched answer (P m) → OnSearched answer (IfSome text (λ t. HaveMap (of t) P))
+  searched P answer so = searched_so answer (P m) (IfSome text (λ t. HaveMap (of t) P)) so (λ p. IfSome_then text is (λ t read. record { map = m; is_read = read; so = p }))
 
   stop_on : (budget : ℕ) (why : Stop) → MayStopReading m budget why → IfSome text (λ t. MayStopOn (of t) budget why)
   stop_on budget (stop.Record line cause) may = absurd may
@@ -105,6 +115,12 @@ refused_cert (map.Refused line cause) P = tt
 refused_cert map.Device P = tt
 refused_cert map.Memory P = tt
 refused_cert (map.Fault fault) P = tt
+
+pub refused_searched : (why : MapStop) (P : Type 0) → OnSearched (refusal_of why) P
+refused_searched (map.Refused line cause) P = tt
+refused_searched map.Device P = tt
+refused_searched map.Memory P = tt
+refused_searched (map.Fault fault) P = tt
 
 pub refused_fault : (of : List ℕ → AllRecords) (text : Option (List ℕ)) (why : MapStop) → IfSome text (λ t. StopsReading (of t) why) → IfMapFault (refusal_of why) (λ f. IfSome text (λ t. IsTrueOfRecords (of t) f))
 refused_fault of text (map.Refused line cause) stops = tt

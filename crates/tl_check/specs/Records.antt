@@ -1,11 +1,11 @@
 -- What is said of records beside the text of a certificate.
-use Rattle.std.specs.Prelude.{◌≡◌, ◌⊎◌, ℕ, ◌<◌, Some, None, Ok, Err, ⊤}
+use Rattle.std.specs.Prelude.{◌≡◌, ◌⊎◌, ℕ, Some, None, Ok, Err, ⊤}
 use Rattle.tl_record.specs.Failures.{one_more}
 use Rattle.tl_record.specs.Records.{Records as AllRecords}
 use Rattle.tl_map.specs.Faults.{IsTrueOf}
 use Rattle.tl_map.specs.Reading.{records_in, IsReadFrom}
 use Rattle.tl_county.specs.TheMap.{TheMap}
-use Rattle.tl_planar.specs.Searching.{meeting_segments}
+use Rattle.tl_planar.specs.Searching.{AreBeyond}
 use Rattle.tl_check.specs.declared.fault.MapFault.{MapFault}
 use Rattle.tl_check.specs.declared.fault.MapFault.TheVariants.{Records}
 use Rattle.tl_check.specs.declared.verdict.Verdict.TheVariants as verdict
@@ -27,12 +27,12 @@ IsTrueOfRecords all (Records fault) = (all.refusal ≡ None) × IsTrueOf (record
 IsTrueOfRecords all fault = HaveMap all (λ m. IsTrueOfMap m fault)
 
 -- why records aren't decided: this line is the first that is refused, memory was refused, a read failed, or more pairs of
--- segments of their map than the budget have rectangles that meet
+-- segments of their map than the budget have rectangles that meet, and as many of these as the budget don't conflict
 abbrev pub MayStopOn : AllRecords → ℕ → Stop → Type 0
 MayStopOn all budget (Record line cause) = all.refusal ≡ Some (line, cause)
 MayStopOn all budget Memory = ⊤
 MayStopOn all budget Device = ⊤
-MayStopOn all budget Budget = HaveMap all (λ m. budget < meeting_segments m.chains)
+MayStopOn all budget Budget = HaveMap all (λ m. AreBeyond m.chains budget)
 
 -- `Device` is answered where a read of the records or of the certificate failed, and nowhere else; the counts of failures
 -- go from old to new

@@ -34,6 +34,11 @@ pub record IsTree (m : TheMap) (nodes : List TreeNode) : Type 0 where
   pub fits : Fits (tree_of nodes) (segments_of m) (segment_rect m.chains)
   pub shallow : depth (tree_of nodes) ≤ greatest_depth
 
+-- a search may be made by the certificate: its counts are the map's, and its tree fits
+pub record AllowsSearch (m : TheMap) (c : TheCertificate) : Type 0 where
+  pub counts : AreCounts m c.counts
+  pub tree : IsTree m c.tree
+
 -- the certificate is valid for the map
 pub record IsValid (m : TheMap) (c : TheCertificate) : Type 0 where
   pub counts : AreCounts m c.counts

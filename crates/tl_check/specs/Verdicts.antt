@@ -1,11 +1,12 @@
 -- What a verdict says, by its kinds.
-use Rattle.std.specs.Prelude.{◌≡◌, ℕ, ◌<◌, List, length, Result, Ok, ⊤}
+use Rattle.std.specs.Prelude.{◌≡◌, ℕ, List, length, Result, Ok, Err, ⊤}
 use Rattle.tl_geom.specs.declared.point.Point.{Point}
 use Rattle.tl_county.specs.TheMap.{TheMap}
 use Rattle.tl_county.specs.Nodes.{AreNodes}
-use Rattle.tl_planar.specs.Searching.{meeting_segments}
+use Rattle.tl_planar.specs.Searching.{AreBeyond}
 use Rattle.tl_sides.specs.Walks.{AreWalks}
 use Rattle.tl_check.specs.declared.fault.MapFault.{MapFault}
+use Rattle.tl_check.specs.declared.fault.MapFault.TheVariants.{Records}
 use Rattle.tl_check.specs.declared.fault.CertFault.{CertFault}
 use Rattle.tl_check.specs.declared.verdict.Report.{Report}
 use Rattle.tl_check.specs.declared.verdict.Verdict.{Verdict}
@@ -36,6 +37,13 @@ abbrev pub IfCertFault : Answer → (CertFault → Type 0) → Type 0
 IfCertFault (Ok (verdict.CertFault fault)) P = P fault
 IfCertFault other P = ⊤
 
+-- so that is true, if the answer comes of the search or behind it: a fault of the map itself, or that the budget is spent
+abbrev pub OnSearched : Answer → Type 0 → Type 0
+OnSearched (Ok (verdict.MapFault (Records fault))) P = ⊤
+OnSearched (Ok (verdict.MapFault fault)) P = P
+OnSearched (Err Budget) P = P
+OnSearched other P = ⊤
+
 -- the report has the map's numbers, and its rings are the length of a list of rings in which each dart stands once
 pub record IsReport (m : TheMap) (r : Report) : Type 0 where
   pub chains : r.chains ≡ length m.chains
@@ -57,9 +65,9 @@ pub record AreNumbers (m : TheMap) (rings : ℕ) (r : Report) : Type 0 where
   pub rings_are : r.rings ≡ rings
 
 -- why a map in memory is not decided: memory was refused, or more pairs of its segments than the budget have rectangles
--- that meet
+-- that meet, and as many of these as the budget don't conflict
 abbrev pub MayStop : TheMap → ℕ → Stop → Type 0
 MayStop m budget (Record line cause) = ⊥
 MayStop m budget Memory = ⊤
 MayStop m budget Device = ⊥
-MayStop m budget Budget = budget < meeting_segments m.chains
+MayStop m budget Budget = AreBeyond m.chains budget

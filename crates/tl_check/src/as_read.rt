@@ -13,10 +13,11 @@ ghost use Rattle.tl_cert.specs.declared.place.Place.TheVariants.{Start};
 ghost use Rattle.tl_cert.specs.Certificates.{TheCertificate};
 ghost use Rattle.tl_cert.specs.Reading.{source_of, lines_of, standing_of, unread};
 ghost use Rattle.tl_check.specs.Sound.{AreClosed};
-ghost use Rattle.tl_check.specs.Truth.{IsTrueOfMap};
-ghost use Rattle.tl_check.specs.Verdicts.{OnSound, IfSound, IfMapFault, IfCertFault, IsReport};
-ghost use Rattle.tl_check.specs.Texts.{IsTrueOfText, IsValidText, MayStopReading, TellsDevice};
-ghost use Rattle.tl_check.specs.Keeping.Parts.{Holds, IsSearched};
+ghost use Rattle.tl_check.specs.Valid.{AllowsSearch};
+ghost use Rattle.tl_check.specs.Truth.{IsTrueOfMap, IsOfDarts};
+ghost use Rattle.tl_check.specs.Verdicts.{OnSound, IfSound, IfMapFault, IfCertFault, OnSearched, IsReport};
+ghost use Rattle.tl_check.specs.Texts.{IsTrueOfText, IsValidText, TextAllowsSearch, MayStopReading, TellsDevice};
+ghost use Rattle.tl_check.specs.Keeping.Parts.{Holds, IsSearched, IsBehindSearch};
 ghost use Rattle.tl_check.specs.Keeping.Streams.{Stands, Decides, Concludes};
 
 use crate::answer::{answer, report, stopped};
@@ -62,6 +63,10 @@ pub fn check_cert<S: Source>(
     ensures map_fault { IfMapFault result (IsTrueOfMap map.now) }
     ensures cert_fault { IfCertFault result (λ fault.
         IfSome (S.remaining cert.old) (λ text. IsTrueOfText map.now text fault)) }
+    // One of rounds or of walks comes only where the chains are planar.
+    ensures behind { IfCertFault result (λ fault. IsOfDarts fault → IsPlanar map.now.chains) }
+    // A fault of the map comes only where a search may be made by the text, and so does a stop for the budget.
+    ensures searched { OnSearched result (IfSome (S.remaining cert.old) (TextAllowsSearch map.now)) }
     // It stops where memory was refused, a read failed, or more than the budget had to be tested.
     ensures stops { IfErr result (MayStopReading map.now budget) }
     // `Device` is answered where a read failed in this call, and nowhere else.
@@ -82,6 +87,8 @@ fn check_parts<R: Source>(
     requires lines { lines_of reader.old ≡ 0 }
     ensures decides { Decides map.now budget (unread R.remaining reader.old) result }
     ensures within { OnSound result (meeting_segments map.now.chains ≤ budget) }
+    ensures behind { IfCertFault result (λ fault. IsOfDarts fault → IsPlanar map.now.chains) }
+    ensures searched { OnSearched result (IfSome (unread R.remaining reader.old) (TextAllowsSearch map.now)) }
     ensures failures { TellsDevice (R.failure_count (source_of reader.old))
         (R.failure_count (source_of reader.new)) result }
     ensures same_reference { R.reference (source_of reader.new) ≡ R.reference (source_of reader.old) }
@@ -128,6 +135,9 @@ fn conclude(alloc: Global, map: &Map, nodes: &[TreeNode], state: State) -> Resul
     requires held { (c : TheCertificate) × Holds map.now c state × (c.tree ≡ nodes.now) }
     ensures concludes { (c : TheCertificate) → Holds map.now c state.entry → Concludes map.now c result }
     ensures within { (n : ℕ) → IsSearched map.now n state.entry → OnSound result (meeting_segments map.now.chains ≤ n) }
+    ensures behind { IsBehindSearch map.now state.entry →
+        IfCertFault result (λ fault. IsOfDarts fault → IsPlanar map.now.chains) }
+    ensures allowed { OnSearched result ((c : TheCertificate) → Holds map.now c state.entry → AllowsSearch map.now c) }
 {
     let ended = match end_rounds(alloc, map, state, &[]) {
         Ok(ended) => ended,

@@ -7,10 +7,10 @@ ghost use Rattle.tl_sides.specs.Sides.{SidesAgree};
 ghost use Rattle.tl_inside.specs.Placed.{ArePlaced};
 ghost use Rattle.tl_cells.specs.Cells.{CellsAgree};
 ghost use Rattle.tl_check.specs.Sound.{AreClosed};
-ghost use Rattle.tl_check.specs.Valid.{IsValid};
+ghost use Rattle.tl_check.specs.Valid.{AllowsSearch, IsValid};
 ghost use Rattle.tl_check.specs.Truth.{IsTrueOfMap, IsTrueOfCert, IsOfDarts};
 ghost use Rattle.tl_check.specs.Keeping.Streams.{Shows};
-ghost use Rattle.tl_check.specs.Verdicts.{OnSound, IfSound, IfMapFault, IfCertFault, IsReport, MayStop};
+ghost use Rattle.tl_check.specs.Verdicts.{OnSound, IfSound, IfMapFault, IfCertFault, OnSearched, IsReport, MayStop};
 
 use crate::answer::{answer, report};
 use crate::counts::are_counts;
@@ -50,6 +50,8 @@ pub fn check_map(alloc: Global, map: &Map, cert: &Certificate, budget: u64) -> R
     ensures cert_fault { IfCertFault result (IsTrueOfCert map.now cert.now) }
     // One of rounds or of walks comes only where the chains are planar.
     ensures behind { IfCertFault result (λ fault. IsOfDarts fault → IsPlanar map.now.chains) }
+    // A fault of the map comes only where a search may be made by the certificate, and so does a stop for the budget.
+    ensures searched { OnSearched result (AllowsSearch map.now cert.now) }
     // It stops where memory was refused, or more than the budget had to be tested.
     ensures stops { IfErr result (MayStop map.now budget) }
 {

@@ -1,10 +1,10 @@
 //! Laws of the definitions, each the contract of a function that does nothing.
 
-ghost use Rattle.std.specs.Prelude.{◌↔◌, ◌<◌, ℕ, List, IfOk, IfErr};
+ghost use Rattle.std.specs.Prelude.{◌↔◌, ℕ, List, IfOk, IfErr};
 ghost use Rattle.tl_record.specs.Records.{Records};
 ghost use Rattle.tl_county.specs.TheMap.{TheMap};
 ghost use Rattle.tl_planar.specs.Planar.{IsPlanar};
-ghost use Rattle.tl_planar.specs.Searching.{meeting_segments};
+ghost use Rattle.tl_planar.specs.Searching.{AreBeyond};
 ghost use Rattle.tl_sides.specs.Sides.{SidesAgree};
 ghost use Rattle.tl_inside.specs.Placed.{ArePlaced};
 ghost use Rattle.tl_cells.specs.Cells.{CellsAgree};
@@ -51,10 +51,11 @@ pub fn a_valid_certificate_decides()
 
 /// And of records whose map is sound, with the text of a certificate that is valid for it, [`crate::check_with`] answers
 /// `Sound` or stops, for want of memory, for a device, or for the budget; for the budget only where more pairs of the map's
-/// segments have rectangles that meet. It is said of each answer that keeps its clauses `map_fault`, `cert_fault` and `stops`.
+/// segments have rectangles that meet, and as many of these as the budget don't conflict. It is said of each answer that
+/// keeps its clauses `map_fault`, `cert_fault` and `stops`.
 pub fn a_sound_map_with_a_valid_text_passes()
     ensures { (all : Records) (spelt : List ℕ) (budget : ℕ) (answer : Answer) → HaveMap all IsSound →
         HaveMap all (λ m. IsValidText m spelt) → IfMapFault answer (IsTrueOfRecords all) →
         IfCertFault answer (λ fault. HaveMap all (λ m. IsTrueOfText m spelt fault)) → IfErr answer (MayStopOn all budget) →
-        PassesOrStops (HaveMap all (λ m. budget < meeting_segments m.chains)) answer }
+        PassesOrStops (HaveMap all (λ m. AreBeyond m.chains budget)) answer }
 {}

@@ -10,8 +10,9 @@ ghost use Rattle.tl_sides.specs.Sides.{SidesAgree};
 ghost use Rattle.tl_inside.specs.Placed.{ArePlaced};
 ghost use Rattle.tl_cells.specs.Cells.{CellsAgree};
 ghost use Rattle.tl_check.specs.Sound.{AreClosed};
-ghost use Rattle.tl_check.specs.Verdicts.{OnSound, IfSound, IfMapFault, IfCertFault, IsReport};
-ghost use Rattle.tl_check.specs.Texts.{IsTrueOfText, IsValidText};
+ghost use Rattle.tl_check.specs.Truth.{IsOfDarts};
+ghost use Rattle.tl_check.specs.Verdicts.{OnSound, IfSound, IfMapFault, IfCertFault, OnSearched, IsReport};
+ghost use Rattle.tl_check.specs.Texts.{IsTrueOfText, IsValidText, TextAllowsSearch};
 ghost use Rattle.tl_check.specs.Records.{HaveMap, IsTrueOfRecords, MayStopOn, TellsEither, LeavesUnread};
 ghost use Rattle.tl_check.specs.Keeping.Answers.{refusal_of};
 
@@ -67,8 +68,14 @@ pub fn check<R: Source, S: Source>(
     ensures map_fault { IfMapFault result (λ fault. IfSome (R.remaining records.old) (λ text.
         IsTrueOfRecords (records_of tiger_2006 text) fault)) }
     ensures cert_fault { IfCertFault result (λ fault. IfSome (R.remaining records.old) (λ text.
-        IfSome (S.remaining cert.old) (λ spelt.
-        HaveMap (records_of tiger_2006 text) (λ m. IsTrueOfText m spelt fault)))) }
+        HaveMap (records_of tiger_2006 text) (λ m.
+        IfSome (S.remaining cert.old) (λ spelt. IsTrueOfText m spelt fault)))) }
+    // One of rounds or of walks comes only where the map's chains are planar.
+    ensures behind { IfCertFault result (λ fault. IsOfDarts fault → IfSome (R.remaining records.old) (λ text.
+        HaveMap (records_of tiger_2006 text) (λ m. IsPlanar m.chains))) }
+    // A fault of the map comes only where a search may be made by the certificate's text, and so does a stop for the budget.
+    ensures searched { OnSearched result (IfSome (R.remaining records.old) (λ text.
+        HaveMap (records_of tiger_2006 text) (λ m. IfSome (S.remaining cert.old) (TextAllowsSearch m)))) }
     // It stops at the first line that is refused, where memory was refused, a read failed, or more than the budget had to
     // be tested.
     ensures stops { IfErr result (λ stop. IfSome (R.remaining records.old) (λ text.
@@ -111,8 +118,12 @@ pub fn check_with<R: Source, S: Source>(
     ensures map_fault { IfMapFault result (λ fault. IfSome (R.remaining records.old) (λ text.
         IsTrueOfRecords (records_of (layout_with options) text) fault)) }
     ensures cert_fault { IfCertFault result (λ fault. IfSome (R.remaining records.old) (λ text.
-        IfSome (S.remaining cert.old) (λ spelt.
-        HaveMap (records_of (layout_with options) text) (λ m. IsTrueOfText m spelt fault)))) }
+        HaveMap (records_of (layout_with options) text) (λ m.
+        IfSome (S.remaining cert.old) (λ spelt. IsTrueOfText m spelt fault)))) }
+    ensures behind { IfCertFault result (λ fault. IsOfDarts fault → IfSome (R.remaining records.old) (λ text.
+        HaveMap (records_of (layout_with options) text) (λ m. IsPlanar m.chains))) }
+    ensures searched { OnSearched result (IfSome (R.remaining records.old) (λ text.
+        HaveMap (records_of (layout_with options) text) (λ m. IfSome (S.remaining cert.old) (TextAllowsSearch m)))) }
     ensures stops { IfErr result (λ stop. IfSome (R.remaining records.old) (λ text.
         MayStopOn (records_of (layout_with options) text) budget stop)) }
     ensures unread { LeavesUnread result (cert.new ≡ cert.old) }

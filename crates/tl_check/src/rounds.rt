@@ -1,9 +1,10 @@
 //! The rounds of a certificate, and the sides about each node.
 
-ghost use Rattle.std.specs.Prelude.{ℕ, ◌<◌, ◌≤◌, zero, length, IfOk, IfErr};
+ghost use Rattle.std.specs.Prelude.{ℕ, ◌<◌, ◌≤◌, zero, length, IfOk, IfErr, OnErr};
 ghost use Rattle.tl_planar.specs.Planar.{IsPlanar};
 ghost use Rattle.tl_planar.specs.Searching.{meeting_segments};
 ghost use Rattle.tl_cert.specs.Certificates.{TheCertificate};
+ghost use Rattle.tl_check.specs.Valid.{AllowsSearch};
 ghost use Rattle.tl_check.specs.Keeping.Parts.{with_round, Holds, TakesRounds, TakesWalks, IsSearched, IsBehindSearch, MayEnd};
 
 use crate::fault::{CertFault, MapFault};
@@ -47,6 +48,7 @@ pub fn end_rounds<'a>(
     ensures searched { IfOk result (λ next. (n : ℕ) → IsSearched map.now n state.entry → IsSearched map.now n next) }
     ensures behind { IfOk result (λ next. IsBehindSearch map.now state.entry → IsBehindSearch map.now next) }
     ensures halts { IfErr result (MayEnd map.now) }
+    ensures allowed { OnErr result ((c : TheCertificate) → Holds map.now c state.entry → AllowsSearch map.now c) }
 {
     match state {
         State::Rounding(rounds) => begin_walks(alloc, map, rounds, lent),
@@ -71,6 +73,7 @@ fn begin_walks<'a>(
     ensures searched { IfOk result (λ next. (n : ℕ) → meeting_segments map.now.chains ≤ n → IsSearched map.now n next) }
     ensures behind { IfOk result (λ next. IsPlanar map.now.chains → IsBehindSearch map.now next) }
     ensures halts { IfErr result (MayEnd map.now) }
+    ensures allowed { OnErr result ((c : TheCertificate) → AreRoundsSoFar map.now c rounds → AllowsSearch map.now c) }
 {
     let next = match rounds.end(map) {
         Ok(next) => next,

@@ -24,6 +24,6 @@ pub enum Halt {
     Fault(MapFault),
     /// Memory was refused.
     Memory,
-    /// More pairs of segments than the budget have rectangles that meet.
+    /// More pairs of segments than the budget have rectangles that meet, and as many of these as the budget don't conflict.
     Budget,
 }

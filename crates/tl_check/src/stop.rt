@@ -14,7 +14,7 @@ pub enum Stop {
     Memory,
     /// A read failed.
     Device,
-    /// More pairs of segments than the budget have rectangles that meet.
+    /// More pairs of segments than the budget have rectangles that meet, and as many of these as the budget don't conflict.
     Budget,
 }
 

@@ -5,8 +5,8 @@ ghost use Rattle.tl_tree.specs.Preorder.{IsPreorder};
 ghost use Rattle.tl_sides.specs.Keeping.Rounded.{AreSized, HaveTaken};
 ghost use Rattle.tl_cells.specs.Cells.{CellsAgree};
 ghost use Rattle.tl_cert.specs.Certificates.{TheCertificate};
-ghost use Rattle.tl_check.specs.Valid.{AreCounts};
-ghost use Rattle.tl_check.specs.Keeping.Parts.{Holds, TakesRounds, IsSearched, IsBehindSearch, MayHalt, MayEnd};
+ghost use Rattle.tl_check.specs.Valid.{AreCounts, IsTree};
+ghost use Rattle.tl_check.specs.Keeping.Parts.{Holds, TakesRounds, IsSearched, IsBehindSearch, MayHalt, MayEnd, UnlessMemory};
 
 use crate::fault::{CertFault, MapFault};
 use crate::state::{Halt, State};
@@ -33,6 +33,7 @@ pub fn take_tree<'a>(
     ensures searched { IfOk result (IsSearched map.now budget) }
     ensures behind { IfOk result (IsBehindSearch map.now) }
     ensures halts { IfErr result (MayHalt map.now budget) }
+    ensures tree { IfErr result (λ halt. UnlessMemory halt (IsTree map.now nodes.now)) }
 {
     let tree = match FlatTree::from_nodes(alloc, nodes) {
         Ok(tree) => tree,

@@ -1,10 +1,11 @@
 //! The walks of a certificate.
 
-ghost use Rattle.std.specs.Prelude.{◌≡◌, ℕ, ◌<◌, ◌≤◌, ◌^◌, zero, length, OnOk, IfOk, IfErr};
+ghost use Rattle.std.specs.Prelude.{◌≡◌, ℕ, ◌<◌, ◌≤◌, ◌^◌, zero, length, OnOk, OnErr, IfOk, IfErr};
 ghost use Rattle.tl_tree.specs.Preorder.{IsPreorder};
 ghost use Rattle.tl_planar.specs.Planar.{IsPlanar};
 ghost use Rattle.tl_planar.specs.Searching.{meeting_segments};
 ghost use Rattle.tl_cert.specs.Certificates.{TheCertificate};
+ghost use Rattle.tl_check.specs.Valid.{AllowsSearch};
 ghost use Rattle.tl_check.specs.Truth.{IsTrueOfCert, IsOfDarts};
 ghost use Rattle.tl_check.specs.Keeping.Parts.{with_walk, Holds, TakesWalks, IsSearched, IsBehindSearch, IsShown, IsWalked, MayEnd};
 
@@ -26,6 +27,7 @@ pub fn take_walk<'a>(map: &Map, state: State<'a>, walk: &[u32]) -> Result<State<
     ensures searched { IfOk result (λ next. (n : ℕ) → IsSearched map.now n state.entry → IsSearched map.now n next) }
     ensures behind { IfOk result (λ next. IsBehindSearch map.now state.entry → IsBehindSearch map.now next) }
     ensures halts { IfErr result (MayEnd map.now) }
+    ensures allowed { OnErr result ((c : TheCertificate) → Holds map.now c state.entry → AllowsSearch map.now c) }
 {
     match state {
         State::Walking(mut walks, mut rings) => match walks.take(map, walk) {
@@ -58,6 +60,7 @@ pub fn finish_walks(
     ensures fault { IfOk result (λ ended. IfErr ended (λ fault. (c : TheCertificate) → Holds map.now c state.entry → IsTrueOfCert map.now c fault)) }
     ensures behind { IfOk result (λ ended. IfErr ended (λ fault. IsBehindSearch map.now state.entry → IsOfDarts fault → IsPlanar map.now.chains)) }
     ensures halts { IfErr result (MayEnd map.now) }
+    ensures allowed { OnErr result ((c : TheCertificate) → Holds map.now c state.entry → AllowsSearch map.now c) }
 {
     match end_walks(map, state) {
         Ok((count, rings)) => match look_at_points(alloc, map, nodes, &rings) {

@@ -92,14 +92,14 @@ names_fault layout known unread wrote answer (CertFault fault) is true_of alone 
 
 -- a verdict with the status of a certificate's fault is that of one
 pub names_cert_fault : (layout : Layout) (known spelt : Option (List ℕ)) (wrote : List ℕ → Type 0) (answer : Answer) (verdict : Verdict) → answer ≡ Ok verdict
-    → IfCertFault answer (λ fault. IfSome known (λ text. IfSome spelt (λ certificate.
-    HaveMap (records_of layout text) (λ m. IsTrueOfText m certificate fault))))
+    → IfCertFault answer (λ fault. IfSome known (λ text. HaveMap (records_of layout text) (λ m.
+    IfSome spelt (λ certificate. IsTrueOfText m certificate fault))))
     → CERT_FAULT ≡ verdict_status verdict → wrote (line_of (verdict_text verdict)) → NamesCertFault layout known spelt wrote
 names_cert_fault layout known spelt wrote answer (CertFault fault) is true_of status written = record {
   fault = fault;
   written = written;
-  holds = subst (λ a. IfCertFault a (λ fault. IfSome known (λ text. IfSome spelt (λ certificate.
-      HaveMap (records_of layout text) (λ m. IsTrueOfText m certificate fault))))) is true_of;
+  holds = subst (λ a. IfCertFault a (λ fault. IfSome known (λ text. HaveMap (records_of layout text) (λ m.
+      IfSome spelt (λ certificate. IsTrueOfText m certificate fault))))) is true_of;
 }
 names_cert_fault layout known spelt wrote answer (Sound report) is true_of status written = cc status
 names_cert_fault layout known spelt wrote answer (MapFault fault) is true_of status written = cc status

@@ -5,7 +5,7 @@ use Rattle.std.specs.Io.KnownBytes.{Appends}
 use Rattle.std.proofs.lemmas.Option.{IfSome_then}
 use Rattle.tl_record.specs.declared.layout.Layout.{Layout}
 use Rattle.tl_record.specs.Records.{records_of}
-use Rattle.tl_planar.specs.Searching.{meeting_segments}
+use Rattle.tl_planar.specs.Searching.{meeting_segments, AreBeyond}
 use Rattle.tl_cert.specs.Text.{certificate_text}
 use Rattle.tl_check.specs.Sound.{IsSound}
 use Rattle.tl_check.specs.Texts.{IsValidText, IsTrueOfText}
@@ -94,7 +94,7 @@ passes layout text spelt status unread wrote told are (inr (inr (inr is))) fault
 pub not_spent : (layout : Layout) (text : List ℕ) (budget : ℕ) (told : List ℕ → Type 0) → HaveMap (records_of layout text) (λ m. meeting_segments m.chains ≤ budget)
     → ¬ NamesBudget layout budget (Some text) told
 not_spent layout text budget told enough names =
-    let one = both (records_of layout text) (λ m. meeting_segments m.chains ≤ budget) (λ m. budget < meeting_segments m.chains) enough names.spent in
+    let one = both (records_of layout text) (λ m. meeting_segments m.chains ≤ budget) (λ m. AreBeyond m.chains budget) enough names.spent in
     let most : meeting_segments one.map.chains ≤ budget = one.so.0 in
-    let more : budget < meeting_segments one.map.chains = one.so.1 in
+    let more : budget < meeting_segments one.map.chains = one.so.1.more in
     omega (arith, most, more)

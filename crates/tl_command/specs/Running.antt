@@ -2,7 +2,7 @@
 --
 -- `layout` is the column table that the records are read by; `known` is the text of the record files, where it is known, and
 -- `spelt` that of the certificate; `wrote` says of a text that it was written.
-use Rattle.std.specs.Prelude.{◌≡◌, ◌⊎◌, ◌<◌, ◌≤◌, ℕ, List, Option, None, Some, IfSome, Result, Ok, Err, ⊤}
+use Rattle.std.specs.Prelude.{◌≡◌, ◌⊎◌, ◌≤◌, ℕ, List, Option, None, Some, IfSome, Result, Ok, Err, ⊤}
 use Rattle.tl_record.specs.declared.stop.Cause.{Cause}
 use Rattle.tl_record.specs.Failures.{one_more}
 use Rattle.tl_record.specs.declared.layout.Layout.{Layout}
@@ -28,7 +28,7 @@ use Rattle.tl_plan.specs.declared.plan.Plan.TheVariants.{Show, Landmarks, Locate
 use Rattle.tl_cert.specs.Certificates.{TheCertificate, IsCertificate}
 use Rattle.tl_cert.specs.Text.{certificate_text}
 use Rattle.tl_cert.specs.Beginnings.{IsTextOf, IsRefused}
-use Rattle.tl_planar.specs.Searching.{meeting_segments}
+use Rattle.tl_planar.specs.Searching.{meeting_segments, AreBeyond}
 use Rattle.tl_inside.specs.declared.place.Place.{Place}
 use Rattle.tl_inside.specs.Places.{IsPlaceOf}
 use Rattle.tl_check.specs.declared.fault.MapFault.{MapFault}
@@ -137,12 +137,12 @@ pub record IsBuilt (layout : Layout) (known : Option (List ℕ)) (made wrote : L
   pub built : IsBuiltOf map made wrote
   pub drawn : IfSome known (λ text. IsReadFrom (records_of layout text) map)
 
--- the line of a fault of a certificate was written, and it is true of the certificate's text, beside the map of the records
+-- the line of a fault of a certificate was written; the records have a map, and it is true of the certificate's text beside it
 pub record NamesCertFault (layout : Layout) (known spelt : Option (List ℕ)) (wrote : List ℕ → Type 0) : Type 0 where
   pub fault : CertFault
   pub written : wrote (line_of (cert_fault_text fault))
   pub holds :
-      IfSome known (λ text. IfSome spelt (λ certificate. HaveMap (records_of layout text) (λ m. IsTrueOfText m certificate fault)))
+      IfSome known (λ text. HaveMap (records_of layout text) (λ m. IfSome spelt (λ certificate. IsTrueOfText m certificate fault)))
 
 -- the column table that a plan's records are read by; a conversion reads none
 abbrev pub layout_of : Plan → Layout
@@ -267,10 +267,11 @@ FaultsCertificate (Build made options files) records spelt wrote = ⊥
 abbrev pub NamesStop : (List ℕ → Type 0) → Type 0 → Type 0
 NamesStop wrote failed = wrote (line_of (stop_text Memory)) ⊎ (wrote (line_of (stop_text Device)) × failed)
 
--- the line of a spent budget was written, and more pairs of the map's segments than the budget have rectangles that meet
+-- the line of a spent budget was written, and more pairs of the map's segments than the budget have rectangles that meet, of
+-- which as many as the budget don't conflict
 pub record NamesBudget (layout : Layout) (budget : ℕ) (known : Option (List ℕ)) (wrote : List ℕ → Type 0) : Type 0 where
   pub written : wrote (line_of (stop_text Budget))
-  pub spent : IfSome known (λ text. HaveMap (records_of layout text) (λ m. budget < meeting_segments m.chains))
+  pub spent : IfSome known (λ text. HaveMap (records_of layout text) (λ m. AreBeyond m.chains budget))
 
 -- the plan has a budget, and it was spent
 abbrev pub SpendsBudget : Plan → Option (List ℕ) → (List ℕ → Type 0) → Type 0

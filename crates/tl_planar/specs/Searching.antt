@@ -7,7 +7,7 @@ use Rattle.tl_geom.specs.Plane.{whole}
 use Rattle.tl_geom.specs.Contact.{MeetAtEnds, IsCrossing}
 use Rattle.tl_county.specs.TheMap.{MapChain}
 use Rattle.tl_county.specs.Segments.{segments_before, Joins}
-use Rattle.tl_tree.specs.Searches.{meeting_pairs}
+use Rattle.tl_tree.specs.Searches.{meeting_pairs, IsBeyond}
 use Rattle.tl_planar.specs.declared.meet.Meet.{Meet}
 use Rattle.tl_planar.specs.declared.meet.Meeting.{Meeting}
 use Rattle.tl_planar.specs.declared.meet.Meeting.TheVariants.{Found, Clear, Budget}
@@ -54,8 +54,13 @@ pub record ArePlanarWithin (chains : List MapChain) (budget : ℕ) : Type 0 wher
   pub planar : IsPlanar chains
   pub within : meeting_segments chains ≤ budget
 
+-- more pairs of segments than the budget have rectangles that meet; and of those that don't conflict, as many as the budget
+-- can be chosen
+abbrev pub AreBeyond : List MapChain → ℕ → Type 0
+AreBeyond chains budget = IsBeyond (segments_before chains (length chains)) (segment_rect chains) (MayTell chains) budget
+
 -- what a search for a meet with this budget may answer
 abbrev pub MayMeet : List MapChain → ℕ → Meeting → Type 0
 MayMeet chains budget (Found m) = IsTrueMeet chains m
 MayMeet chains budget Clear = ArePlanarWithin chains budget
-MayMeet chains budget Budget = budget < meeting_segments chains
+MayMeet chains budget Budget = AreBeyond chains budget

@@ -27,7 +27,7 @@ pub enum Meeting {
     Found(Meet),
     /// The chains are planar.
     Clear,
-    /// More pairs of segments than the budget have rectangles that meet.
+    /// More pairs of segments than the budget have rectangles that meet, and as many of these as the budget don't conflict.
     Budget,
 }
 

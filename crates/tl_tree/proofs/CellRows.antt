@@ -139,6 +139,22 @@ module _ (f : ℕ → ℕ → ℕ) where
             let e = rest-at (p + 1) (p / 8 + 1) 0 (omega (arith, l)) (omega (arith, l)) in
             omega (arith, head-at xs (drop a ys) (p / 8) h, row-one (get_or xs (p / 8) 0) ys a, e, row-start xs ys (p / 8 + 1), row-end f (get_or xs (p / 8) 0) ys (a + 1) (omega (arith, l, few)))
 
+    step-least : length ys ≤ 8 → (p : ℕ) → rest f xs ys (p + 1) ≤ rest f xs ys p
+    step-least few p = by_row (by_test (p / 8) (length xs))
+      where
+        by_row : (p / 8 < length xs) ⊎ (length xs ≤ p / 8) → rest f xs ys (p + 1) ≤ rest f xs ys p
+        by_row (inl h) =
+            let s : rest f xs ys p ≡ row_sum f (get_or xs (p / 8) 0) (cell ys p) + rest f xs ys (p + 1) = cell-step p h few in
+            omega (arith, s)
+        by_row (inr h) = let e = rest-end (p + 1) (omega (arith, h)) in omega (arith, e)
+
+    -- fewer pairs are left further on
+    pub skip-least : length ys ≤ 8 → (t p : ℕ) → rest f xs ys (p + t) ≤ rest f xs ys p
+    skip-least few zero p = let e : p + 0 ≡ p = omega arith in omega (arith, ap (rest f xs ys) e)
+    skip-least few (suc t) p =
+        let e : p + suc t ≡ p + 1 + t = omega arith in
+        omega (arith, ap (rest f xs ys) e, skip-least few t (p + 1), step-least few p)
+
 -- ---- the same of what is true of each pair
 
 module _ (P : ℕ → ℕ → Type 0) where

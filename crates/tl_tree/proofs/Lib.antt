@@ -1,6 +1,7 @@
 pub mod PairLemmas
 pub mod PairTests
 pub mod Leaving
+pub mod Choosing
 pub mod Steps
 pub mod Apart
 pub mod Walks

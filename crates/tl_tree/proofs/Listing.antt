@@ -1,5 +1,5 @@
 -- Lists of trees that a tree is searched against.
-use Rattle.std.proofs.Common.{◌≡◌, ℕ, ◌+◌, ◌<◌, Bool, true, false, List, [], ◌∷◌, ◌++◌, length, drop, get_or, Option, Some, None, IfSome, refl, sym, ap, subst, ◌∙◌, arith}
+use Rattle.std.proofs.Common.{◌≡◌, ℕ, ◌+◌, ◌<◌, ◌≤◌, Bool, true, false, List, [], ◌∷◌, ◌++◌, length, drop, get_or, Option, Some, None, IfSome, refl, sym, ap, subst, ◌∙◌, arith}
 use Rattle.tl_geom.specs.declared.rect.Rect.{Rect}
 use Rattle.std.proofs.lemmas.List.{at_drop_more}
 use Rattle.tl_geom.specs.Rectangle.{AreMeeting, Covers}
@@ -70,6 +70,7 @@ module _ {W : Type 0} (see : W → Forest) where
         let P : List ℕ → Type 0 = AllCross (AreFree tells) xs in
         record {
           sum = omega (arith, cross-more (meeting b) xs old at, ap (cross_sum (meeting b) xs) e);
+          most = λ f. omega (arith, cross-more f xs old at, ap (cross_sum f xs) e);
           free = λ f. let m = all-more (AreFree tells) xs old at f in (m.0, subst P e m.1);
           sound = sound-more n b old at k;
         }
@@ -84,6 +85,7 @@ module _ {W : Type 0} (see : W → Forest) where
         let P : List ℕ → Type 0 = λ zs. AllCross (AreFree tells) zs ys in
         record {
           sum = omega (arith, e, ap (λ zs. cross_sum (meeting b) zs ys) same);
+          most = λ f. omega arith;
           free = λ h. (h, subst P (sym same) f);
           sound = λ h. h;
         }
@@ -94,6 +96,7 @@ module _ {W : Type 0} (see : W → Forest) where
         let P : List ℕ → Type 0 = AllCross (AreFree tells) xs in
         record {
           sum = omega (arith, cross-nil (meeting b) xs, ap (cross_sum (meeting b) xs) e);
+          most = λ f. omega arith;
           free = λ h. (h, subst P (sym e) (all_cross-nil (AreFree tells) xs));
           sound = λ h. h;
         }
@@ -104,6 +107,7 @@ module _ {W : Type 0} (see : W → Forest) where
         let P : List ℕ → Type 0 = AllCross (AreFree tells) xs in
         record {
           sum = omega (arith, h.sum, k.sum, ap (cross_sum (meeting b) xs) e, cross-append_right (meeting b) xs ys zs);
+          most = λ f. omega (arith, h.most f, k.most f, ap (cross_sum f xs) e, cross-append_right f xs ys zs);
           free = λ f. let m = k.free f in let l = h.free m.0 in (l.0, subst P (sym e) (all_cross-join (AreFree tells) xs ys zs l.1 m.1));
           sound = λ s. k.sound (h.sound s);
         }
@@ -123,6 +127,7 @@ all_cross-append P (x ∷ xs) ys zs h k = (h.0, all_cross-append P xs ys zs h.1 
 -- what is known where one more item was listed or passed over
 pub record Lists {C : Type 0} (n : ℕ) (b : ℕ → Rect) (tells : ℕ → ℕ → Option C → Type 0) (xs : List ℕ) (y : ℕ) (old new : List ℕ) : Type 0 where
   pub sum : cross_sum (meeting b) xs new ≡ cross_sum (meeting b) xs old + cross_sum (meeting b) xs (y ∷ [])
+  pub most : (f : ℕ → ℕ → ℕ) → cross_sum f xs new ≤ cross_sum f xs old + cross_sum f xs (y ∷ [])
   pub free : AllCross (AreFree tells) xs new → AllCross (AreFree tells) xs old × AllCross (AreFree tells) xs (y ∷ [])
   pub known : AreBelow n old → AreBelow n new
 
@@ -138,6 +143,7 @@ module _ {C : Type 0} (n : ℕ) (b : ℕ → Rect) (tells : ℕ → ℕ → Opti
   item-listed old y h =
       record {
         sum = cross-append_right (meeting b) xs old (y ∷ []);
+        most = λ f. omega (arith, cross-append_right f xs old (y ∷ []));
         free = all_cross-parts (AreFree tells) xs old (y ∷ []);
         known = below-more n old y h;
       }
@@ -148,6 +154,7 @@ module _ {C : Type 0} (n : ℕ) (b : ℕ → Rect) (tells : ℕ → ℕ → Opti
       let e = cross-apart b around (b y) xs (y ∷ []) no covers (covers-self (b y), tt) in
       record {
         sum = omega (arith, e);
+        most = λ f. omega arith;
         free = λ f. (f, cross-free b n tells law around (b y) xs (y ∷ []) no below (h, tt) covers (covers-self (b y), tt));
         known = λ k. k;
       }
@@ -157,6 +164,11 @@ module _ {C : Type 0} (n : ℕ) (b : ℕ → Rect) (tells : ℕ → ℕ → Opti
   item-sum others k h =
       let e = at_drop_more (λ (zs : List ℕ). cross_sum (meeting b) xs zs) others k 0 h in
       omega (arith, e, cross-append_right (meeting b) xs (get_or others k 0 ∷ []) (drop (k + 1) others))
+
+  pub item-most : (f : ℕ → ℕ → ℕ) (others : List ℕ) (k : ℕ) → k < length others → cross_sum f xs (drop k others) ≡ cross_sum f xs (get_or others k 0 ∷ []) + cross_sum f xs (drop (k + 1) others)
+  item-most f others k h =
+      let e = at_drop_more (λ (zs : List ℕ). cross_sum f xs zs) others k 0 h in
+      omega (arith, e, cross-append_right f xs (get_or others k 0 ∷ []) (drop (k + 1) others))
 
   pub item-free : (others : List ℕ) (k : ℕ) → k < length others → AllCross (AreFree tells) xs (get_or others k 0 ∷ []) → AllCross (AreFree tells) xs (drop (k + 1) others) → AllCross (AreFree tells) xs (drop k others)
   item-free others k h p q =
@@ -170,6 +182,7 @@ module _ {C : Type 0} (n : ℕ) (b : ℕ → Rect) (tells : ℕ → ℕ → Opti
       let P : List ℕ → Type 0 = AllCross (AreFree tells) xs in
       record {
         sum = omega (arith, cross-nil (meeting b) xs, ap (cross_sum (meeting b) xs) e);
+        most = λ f. omega arith;
         free = λ h. (h, subst P (sym e) (all_cross-nil (AreFree tells) xs));
         known = λ k. k;
       }
@@ -180,6 +193,7 @@ module _ {C : Type 0} (n : ℕ) (b : ℕ → Rect) (tells : ℕ → ℕ → Opti
       let e = cross-apart b around rect xs ys ne covers h in
       record {
         sum = omega (arith, e);
+        most = λ f. omega arith;
         free = λ f. (f, cross-free b n tells law around rect xs ys ne below k covers h);
         known = λ m. m;
       }
@@ -190,6 +204,7 @@ module _ {C : Type 0} (n : ℕ) (b : ℕ → Rect) (tells : ℕ → ℕ → Opti
       let P : List ℕ → Type 0 = AllCross (AreFree tells) xs in
       record {
         sum = omega (arith, h.sum, k.sum, ap (cross_sum (meeting b) xs) e, cross-append_right (meeting b) xs ys zs);
+        most = λ f. omega (arith, h.most f, k.most f, ap (cross_sum f xs) e, cross-append_right f xs ys zs);
         free = λ f. let m = k.free f in let l = h.free m.0 in (l.0, subst P (sym e) (all_cross-join (AreFree tells) xs ys zs l.1 m.1));
         known = λ m. k.known (h.known m);
       }

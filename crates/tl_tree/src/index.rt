@@ -16,7 +16,8 @@ pub trait BoxIndex {
     ghost fits: { Self → ℕ → (ℕ → Rect) → Type 0 };
 
     /// Looks for two items that conflict. Of several conflicts it may answer any; `Budget` comes only where more than
-    /// `budget` pairs have rectangles that meet, and `Clear` only where at most `budget` have. It takes no memory.
+    /// `budget` pairs have rectangles that meet and `budget` of them don't conflict, and `Clear` only where at most `budget`
+    /// have. It takes no memory.
     fn first_conflict<I: Items>(&self, items: &I, budget: u64) -> Search<I::C>
         requires { fits self.now (I.count items.now) (I.bounds_of items.now) }
         ensures { MayAnswer (I.count items.now) (I.bounds_of items.now) (I.tells items.now) budget result };

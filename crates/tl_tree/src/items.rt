@@ -47,6 +47,6 @@ pub enum Search<C> {
     Found { i: u32, j: u32, c: C },
     /// No two items conflict.
     Clear,
-    /// More pairs of items than the budget have rectangles that meet.
+    /// More pairs of items than the budget have rectangles that meet, and as many of these as the budget don't conflict.
     Budget,
 }

@@ -4,7 +4,7 @@ ghost use Rattle.tl_tree.specs.Fits.{AreBelow, CoversAll};
 ghost use Rattle.tl_tree.specs.Keeping.Listing.{listed_items, AllSound, sum_beside, AllBeside};
 ghost use Rattle.tl_tree.specs.Keeping.Marking.{AreBoundsOf};
 ghost use Rattle.tl_tree.specs.Keeping.Walking.{MayLeave};
-ghost use Rattle.tl_tree.specs.Pairs.{meeting, cross_sum, pair_sum, AllCross, AllPairs, AreFree};
+ghost use Rattle.tl_tree.specs.Pairs.{cross_sum, pair_sum, AllCross, AllPairs, AreFree};
 
 use crate::Items;
 use crate::cells::cells_of;
@@ -30,8 +30,8 @@ fn test_rows<I: Items>(
     requires others { AreBelow (I.count items.now) others.now }
     requires few_others { length others.now ≤ 8 }
     requires nothing_found { progress.old.found ≡ None }
-    ensures { MayLeave (I.count items.now) (I.tells items.now)
-        (cross_sum (meeting (I.bounds_of items.now)) some.now others.now)
+    ensures { MayLeave (I.count items.now) (I.bounds_of items.now) (I.tells items.now)
+        (λ f. cross_sum f some.now others.now)
         (AllCross (AreFree (I.tells items.now)) some.now others.now) progress.old progress.new result }
 {
     test_cells(
@@ -56,8 +56,8 @@ fn test_blocks<I: Items>(
     requires bounds { AreBoundsOf (I.bounds_of items.now) some.now bounds.now }
     requires others { AreBelow (I.count items.now) others.now }
     requires nothing_found { progress.old.found ≡ None }
-    ensures { MayLeave (I.count items.now) (I.tells items.now)
-        (cross_sum (meeting (I.bounds_of items.now)) some.now others.now)
+    ensures { MayLeave (I.count items.now) (I.bounds_of items.now) (I.tells items.now)
+        (λ f. cross_sum f some.now others.now)
         (AllCross (AreFree (I.tells items.now)) some.now others.now) progress.old progress.new result }
 {
     if others.len() <= 8 {
@@ -81,8 +81,8 @@ fn test_pairs<I: Items>(
     requires some { AreBelow (I.count items.now) some.now }
     requires bounds { AreBoundsOf (I.bounds_of items.now) some.now bounds.now }
     requires nothing_found { progress.old.found ≡ None }
-    ensures { MayLeave (I.count items.now) (I.tells items.now)
-        (pair_sum (meeting (I.bounds_of items.now)) some.now)
+    ensures { MayLeave (I.count items.now) (I.bounds_of items.now) (I.tells items.now)
+        (λ f. pair_sum f some.now)
         (AllPairs (AreFree (I.tells items.now)) some.now) progress.old progress.new result }
 {
     if some.len() > 8 {
@@ -104,8 +104,8 @@ fn test_unlisted<I: Items, W: Trees>(
     requires around { CoversAll (I.bounds_of items.now) around some.now }
     requires near { AllSound (I.count items.now) (I.bounds_of items.now) W.forest near.now }
     requires nothing_found { progress.old.found ≡ None }
-    ensures { MayLeave (I.count items.now) (I.tells items.now)
-        (cross_sum (meeting (I.bounds_of items.now)) some.now (listed_items W.forest near.now))
+    ensures { MayLeave (I.count items.now) (I.bounds_of items.now) (I.tells items.now)
+        (λ f. cross_sum f some.now (listed_items W.forest near.now))
         (AllCross (AreFree (I.tells items.now)) some.now (listed_items W.forest near.now)) progress.old progress.new result }
 {
     let tree = Tree {
@@ -131,8 +131,8 @@ fn test_listed<I: Items, W: Trees>(
     requires bounds { AreBoundsOf (I.bounds_of items.now) some.now bounds.now }
     requires near { AllSound (I.count items.now) (I.bounds_of items.now) W.forest near.now }
     requires nothing_found { progress.old.found ≡ None }
-    ensures { MayLeave (I.count items.now) (I.tells items.now)
-        (cross_sum (meeting (I.bounds_of items.now)) some.now (listed_items W.forest near.now))
+    ensures { MayLeave (I.count items.now) (I.bounds_of items.now) (I.tells items.now)
+        (λ f. cross_sum f some.now (listed_items W.forest near.now))
         (AllCross (AreFree (I.tells items.now)) some.now (listed_items W.forest near.now)) progress.old progress.new result }
 {
     if some.len() > 8 {
@@ -158,8 +158,8 @@ pub fn test_leaf<I: Items, W: Trees>(
     requires around { CoversAll (I.bounds_of items.now) around some.now }
     requires near { AllSound (I.count items.now) (I.bounds_of items.now) W.forest near.now }
     requires nothing_found { progress.old.found ≡ None }
-    ensures { MayLeave (I.count items.now) (I.tells items.now)
-        (sum_beside (meeting (I.bounds_of items.now)) some.now (listed_items W.forest near.now))
+    ensures { MayLeave (I.count items.now) (I.bounds_of items.now) (I.tells items.now)
+        (λ f. sum_beside f some.now (listed_items W.forest near.now))
         (AllBeside (AreFree (I.tells items.now)) some.now (listed_items W.forest near.now))
         progress.old progress.new result }
 {

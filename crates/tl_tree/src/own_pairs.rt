@@ -4,7 +4,7 @@ ghost use Rattle.tl_geom.specs.Rectangle.{AreMeeting};
 ghost use Rattle.tl_tree.specs.Fits.{AreBelow};
 ghost use Rattle.tl_tree.specs.Keeping.OwnPairs.{partner, own_sum, AllOwn, AreThere, AreOwnCells};
 ghost use Rattle.tl_tree.specs.Keeping.Walking.{MayLeave};
-ghost use Rattle.tl_tree.specs.Pairs.{meeting, pair_sum, AllPairs, AreFree};
+ghost use Rattle.tl_tree.specs.Pairs.{pair_sum, AllPairs, AreFree};
 
 use crate::Items;
 use crate::search::{Progress, test_meeting};
@@ -23,8 +23,8 @@ fn test_own_cell<I: Items>(
         (I.bounds_of items.now (get_or some.now (place % 8) 0))
         (I.bounds_of items.now (get_or some.now (partner place) 0)) }
     requires nothing_found { progress.old.found ≡ None }
-    ensures { MayLeave (I.count items.now) (I.tells items.now)
-        (own_sum (meeting (I.bounds_of items.now)) some.now place)
+    ensures { MayLeave (I.count items.now) (I.bounds_of items.now) (I.tells items.now)
+        (λ f. own_sum f some.now place)
         (AllOwn (AreFree (I.tells items.now)) some.now place) progress.old progress.new result }
 {
     let first = place % 8;
@@ -48,8 +48,8 @@ pub fn test_own_pairs<I: Items>(
     requires cells { AreOwnCells (I.bounds_of items.now) some.now cells }
     requires no_others { cells < 2 ^ 28 }
     requires nothing_found { progress.old.found ≡ None }
-    ensures { MayLeave (I.count items.now) (I.tells items.now)
-        (pair_sum (meeting (I.bounds_of items.now)) some.now)
+    ensures { MayLeave (I.count items.now) (I.bounds_of items.now) (I.tells items.now)
+        (λ f. pair_sum f some.now)
         (AllPairs (AreFree (I.tells items.now)) some.now) progress.old progress.new result }
 {
     let (mut later, mut place) = (cells, 0usize);

@@ -1,6 +1,6 @@
 //! The plain index: a list of all items.
 ghost use Rattle.std.specs.Prelude.{◌≡◌, ◌<◌, ◌≤◌};
-ghost use Rattle.tl_tree.specs.Pairs.{meeting, row_sum, AllRow, AreFree, indices};
+ghost use Rattle.tl_tree.specs.Pairs.{row_sum, AllRow, AreFree, indices};
 ghost use Rattle.tl_tree.specs.Keeping.Walking.{MayLeave};
 
 use crate::search::{Progress, answer, test_pair};
@@ -34,8 +34,8 @@ impl PlainList {
 fn test_below<I: Items>(items: &I, j: u32, progress: &mut Progress<I::C>) -> bool
     requires known { j < I.count items.now }
     requires nothing_found { progress.old.found ≡ None }
-    ensures { MayLeave (I.count items.now) (I.tells items.now)
-        (row_sum (meeting (I.bounds_of items.now)) j (indices j))
+    ensures { MayLeave (I.count items.now) (I.bounds_of items.now) (I.tells items.now)
+        (λ f. row_sum f j (indices j))
         (AllRow (AreFree (I.tells items.now)) j (indices j)) progress.old progress.new result }
 {
     for i in 0..j {

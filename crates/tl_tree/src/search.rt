@@ -7,7 +7,7 @@ ghost use Rattle.tl_tree.specs.Fits.{AreBelow, Fits};
 ghost use Rattle.tl_tree.specs.Keeping.Cells.{AreCellsOf};
 ghost use Rattle.tl_tree.specs.Keeping.Listing.{first_items, listed_items, AllSound, sum_beside, AllBeside};
 ghost use Rattle.tl_tree.specs.Keeping.Marking.{Includes, RootMeets};
-ghost use Rattle.tl_tree.specs.Pairs.{meeting, row_sum, cross_sum, pair_sum, AllRow, AllCross, AllPairs, AreFree};
+ghost use Rattle.tl_tree.specs.Pairs.{row_sum, cross_sum, pair_sum, AllRow, AllCross, AllPairs, AreFree};
 ghost use Rattle.tl_tree.specs.Searches.{MayAnswer};
 ghost use Rattle.tl_tree.specs.Trees.{leaf_items};
 ghost use Rattle.tl_tree.specs.Keeping.Walking.{MayLeave, answer_of, items_below, IsSound, AreSound};
@@ -52,8 +52,8 @@ pub fn test_meeting<I: Items>(items: &I, i: u32, j: u32, progress: &mut Progress
     requires second { j < I.count items.now }
     requires meeting { AreMeeting (I.bounds_of items.now j) (I.bounds_of items.now i) }
     requires nothing_found { progress.old.found ≡ None }
-    ensures { MayLeave (I.count items.now) (I.tells items.now)
-        (meeting (I.bounds_of items.now) i j) (AreFree (I.tells items.now) i j) progress.old progress.new result }
+    ensures { MayLeave (I.count items.now) (I.bounds_of items.now) (I.tells items.now)
+        (λ f. f i j) (AreFree (I.tells items.now) i j) progress.old progress.new result }
 {
     let (low, high) = (i.min(j), i.max(j));
     if low == high {
@@ -79,8 +79,8 @@ pub fn test_pair<I: Items>(items: &I, i: u32, j: u32, progress: &mut Progress<I:
     requires first { i < I.count items.now }
     requires second { j < I.count items.now }
     requires nothing_found { progress.old.found ≡ None }
-    ensures { MayLeave (I.count items.now) (I.tells items.now)
-        (meeting (I.bounds_of items.now) i j) (AreFree (I.tells items.now) i j) progress.old progress.new result }
+    ensures { MayLeave (I.count items.now) (I.bounds_of items.now) (I.tells items.now)
+        (λ f. f i j) (AreFree (I.tells items.now) i j) progress.old progress.new result }
 {
     if items.bounds(j).meets(items.bounds(i)) {
         test_meeting(items, i, j, progress)
@@ -95,8 +95,8 @@ fn test_each<I: Items>(items: &I, i: u32, others: &[u32], progress: &mut Progres
     requires item { i < I.count items.now }
     requires others { AreBelow (I.count items.now) others.now }
     requires nothing_found { progress.old.found ≡ None }
-    ensures { MayLeave (I.count items.now) (I.tells items.now)
-        (row_sum (meeting (I.bounds_of items.now)) i others.now)
+    ensures { MayLeave (I.count items.now) (I.bounds_of items.now) (I.tells items.now)
+        (λ f. row_sum f i others.now)
         (AllRow (AreFree (I.tells items.now)) i others.now) progress.old progress.new result }
 {
     for j in others {
@@ -121,8 +121,8 @@ fn test_cell<I: Items>(
     requires meeting { at < length others.now →
         AreMeeting (I.bounds_of items.now (get_or others.now at 0)) (I.bounds_of items.now i) }
     requires nothing_found { progress.old.found ≡ None }
-    ensures { MayLeave (I.count items.now) (I.tells items.now)
-        (row_sum (meeting (I.bounds_of items.now)) i (take 1 (drop at others.now)))
+    ensures { MayLeave (I.count items.now) (I.bounds_of items.now) (I.tells items.now)
+        (λ f. row_sum f i (take 1 (drop at others.now)))
         (AllRow (AreFree (I.tells items.now)) i (take 1 (drop at others.now))) progress.old progress.new result }
 {
     if others.len() <= at {
@@ -146,8 +146,8 @@ pub fn test_cells<I: Items>(
     requires few_others { length others.now ≤ 8 }
     requires cells { AreCellsOf (I.bounds_of items.now) some.now others.now cells }
     requires nothing_found { progress.old.found ≡ None }
-    ensures { MayLeave (I.count items.now) (I.tells items.now)
-        (cross_sum (meeting (I.bounds_of items.now)) some.now others.now)
+    ensures { MayLeave (I.count items.now) (I.bounds_of items.now) (I.tells items.now)
+        (λ f. cross_sum f some.now others.now)
         (AllCross (AreFree (I.tells items.now)) some.now others.now) progress.old progress.new result }
 {
     let (mut later, mut place) = (cells, 0usize);
@@ -178,8 +178,8 @@ pub fn test_all<I: Items>(
     requires some { AreBelow (I.count items.now) some.now }
     requires others { AreBelow (I.count items.now) others.now }
     requires nothing_found { progress.old.found ≡ None }
-    ensures { MayLeave (I.count items.now) (I.tells items.now)
-        (cross_sum (meeting (I.bounds_of items.now)) some.now others.now)
+    ensures { MayLeave (I.count items.now) (I.bounds_of items.now) (I.tells items.now)
+        (λ f. cross_sum f some.now others.now)
         (AllCross (AreFree (I.tells items.now)) some.now others.now) progress.old progress.new result }
 {
     for i in some {
@@ -200,8 +200,8 @@ pub fn test_cross<I: Items>(
     requires some { AreBelow (I.count items.now) some.now }
     requires others { AreBelow (I.count items.now) others.now }
     requires nothing_found { progress.old.found ≡ None }
-    ensures { MayLeave (I.count items.now) (I.tells items.now)
-        (cross_sum (meeting (I.bounds_of items.now)) some.now others.now)
+    ensures { MayLeave (I.count items.now) (I.bounds_of items.now) (I.tells items.now)
+        (λ f. cross_sum f some.now others.now)
         (AllCross (AreFree (I.tells items.now)) some.now others.now) progress.old progress.new result }
 {
     if some.len() > 8 || others.len() > 8 {
@@ -222,8 +222,8 @@ fn test_behind<I: Items>(items: &I, some: &[u32], k: usize, progress: &mut Progr
     requires some { AreBelow (I.count items.now) some.now }
     requires within { k < length some.now }
     requires nothing_found { progress.old.found ≡ None }
-    ensures { MayLeave (I.count items.now) (I.tells items.now)
-        (row_sum (meeting (I.bounds_of items.now)) (get_or some.now k 0) (drop (k + 1) some.now))
+    ensures { MayLeave (I.count items.now) (I.bounds_of items.now) (I.tells items.now)
+        (λ f. row_sum f (get_or some.now k 0) (drop (k + 1) some.now))
         (AllRow (AreFree (I.tells items.now)) (get_or some.now k 0) (drop (k + 1) some.now))
         progress.old progress.new result }
 {
@@ -235,8 +235,8 @@ fn test_behind<I: Items>(items: &I, some: &[u32], k: usize, progress: &mut Progr
 pub fn test_all_pairs<I: Items>(items: &I, some: &[u32], progress: &mut Progress<I::C>) -> bool
     requires some { AreBelow (I.count items.now) some.now }
     requires nothing_found { progress.old.found ≡ None }
-    ensures { MayLeave (I.count items.now) (I.tells items.now)
-        (pair_sum (meeting (I.bounds_of items.now)) some.now)
+    ensures { MayLeave (I.count items.now) (I.bounds_of items.now) (I.tells items.now)
+        (λ f. pair_sum f some.now)
         (AllPairs (AreFree (I.tells items.now)) some.now) progress.old progress.new result }
 {
     for k in 0..some.len() {
@@ -258,8 +258,8 @@ pub fn search_two<I: Items, W: Trees>(
     requires tree { IsSound (I.count items.now) (I.bounds_of items.now) W.forest tree.now }
     requires other { IsSound (I.count items.now) (I.bounds_of items.now) W.forest other.now }
     requires nothing_found { progress.old.found ≡ None }
-    ensures { MayLeave (I.count items.now) (I.tells items.now)
-        (cross_sum (meeting (I.bounds_of items.now))
+    ensures { MayLeave (I.count items.now) (I.bounds_of items.now) (I.tells items.now)
+        (λ f. cross_sum f
         (items_below W.forest tree.now.below) (items_below W.forest other.now.below))
         (AllCross (AreFree (I.tells items.now))
         (items_below W.forest tree.now.below) (items_below W.forest other.now.below)) progress.old progress.new result }
@@ -286,8 +286,8 @@ pub fn search_between<I: Items, W: Trees>(
     requires tree { IsSound (I.count items.now) (I.bounds_of items.now) W.forest tree.now }
     requires others { AreSound (I.count items.now) (I.bounds_of items.now) (W.forest others.now) }
     requires nothing_found { progress.old.found ≡ None }
-    ensures { MayLeave (I.count items.now) (I.tells items.now)
-        (cross_sum (meeting (I.bounds_of items.now))
+    ensures { MayLeave (I.count items.now) (I.bounds_of items.now) (I.tells items.now)
+        (λ f. cross_sum f
         (items_below W.forest tree.now.below) (leaf_items (W.forest others.now)))
         (AllCross (AreFree (I.tells items.now))
         (items_below W.forest tree.now.below) (leaf_items (W.forest others.now))) progress.old progress.new result }
@@ -315,8 +315,8 @@ fn search_marked<I: Items, W: Trees>(
     requires others { AreSound (I.count items.now) (I.bounds_of items.now) (W.forest others.now) }
     requires marks { Includes marks (RootMeets (W.forest others.now) tree.now.rect) }
     requires nothing_found { progress.old.found ≡ None }
-    ensures { MayLeave (I.count items.now) (I.tells items.now)
-        (cross_sum (meeting (I.bounds_of items.now))
+    ensures { MayLeave (I.count items.now) (I.bounds_of items.now) (I.tells items.now)
+        (λ f. cross_sum f
         (items_below W.forest tree.now.below) (leaf_items (W.forest others.now)))
         (AllCross (AreFree (I.tells items.now))
         (items_below W.forest tree.now.below) (leaf_items (W.forest others.now))) progress.old progress.new result }
@@ -343,8 +343,8 @@ fn search_if_marked<I: Items, W: Trees>(
     requires other { IsSound (I.count items.now) (I.bounds_of items.now) W.forest other.now }
     requires unmarked { IsFalse marked → ¬ AreMeeting other.now.rect tree.now.rect }
     requires nothing_found { progress.old.found ≡ None }
-    ensures { MayLeave (I.count items.now) (I.tells items.now)
-        (cross_sum (meeting (I.bounds_of items.now))
+    ensures { MayLeave (I.count items.now) (I.bounds_of items.now) (I.tells items.now)
+        (λ f. cross_sum f
         (items_below W.forest tree.now.below) (items_below W.forest other.now.below))
         (AllCross (AreFree (I.tells items.now))
         (items_below W.forest tree.now.below) (items_below W.forest other.now.below)) progress.old progress.new result }
@@ -366,8 +366,8 @@ fn search_first<I: Items, W: Trees>(
     requires tree { IsSound (I.count items.now) (I.bounds_of items.now) W.forest tree.now }
     requires at { AreSound (I.count items.now) (I.bounds_of items.now) (W.forest at.now) }
     requires nothing_found { progress.old.found ≡ None }
-    ensures { MayLeave (I.count items.now) (I.tells items.now)
-        (cross_sum (meeting (I.bounds_of items.now))
+    ensures { MayLeave (I.count items.now) (I.bounds_of items.now) (I.tells items.now)
+        (λ f. cross_sum f
         (items_below W.forest tree.now.below) (first_items (W.forest at.now)))
         (AllCross (AreFree (I.tells items.now))
         (items_below W.forest tree.now.below) (first_items (W.forest at.now))) progress.old progress.new result }
@@ -388,8 +388,8 @@ pub fn search_listed<I: Items, W: Trees>(
     requires tree { IsSound (I.count items.now) (I.bounds_of items.now) W.forest tree.now }
     requires near { AllSound (I.count items.now) (I.bounds_of items.now) W.forest near.now }
     requires nothing_found { progress.old.found ≡ None }
-    ensures { MayLeave (I.count items.now) (I.tells items.now)
-        (cross_sum (meeting (I.bounds_of items.now))
+    ensures { MayLeave (I.count items.now) (I.bounds_of items.now) (I.tells items.now)
+        (λ f. cross_sum f
         (items_below W.forest tree.now.below) (listed_items W.forest near.now))
         (AllCross (AreFree (I.tells items.now))
         (items_below W.forest tree.now.below) (listed_items W.forest near.now)) progress.old progress.new result }
@@ -415,8 +415,8 @@ pub fn search_one<I: Items, W: Trees>(
     requires tree { IsSound (I.count items.now) (I.bounds_of items.now) W.forest tree.now }
     requires near { AllSound (I.count items.now) (I.bounds_of items.now) W.forest near.now }
     requires nothing_found { progress.old.found ≡ None }
-    ensures { MayLeave (I.count items.now) (I.tells items.now)
-        (sum_beside (meeting (I.bounds_of items.now))
+    ensures { MayLeave (I.count items.now) (I.bounds_of items.now) (I.tells items.now)
+        (λ f. sum_beside f
         (items_below W.forest tree.now.below) (listed_items W.forest near.now))
         (AllBeside (AreFree (I.tells items.now))
         (items_below W.forest tree.now.below) (listed_items W.forest near.now)) progress.old progress.new result }
@@ -441,8 +441,8 @@ fn search_among<I: Items, W: Trees>(
     requires rest { AreSound (I.count items.now) (I.bounds_of items.now) (W.forest rest.now) }
     requires others { AllSound (I.count items.now) (I.bounds_of items.now) W.forest others.now }
     requires nothing_found { progress.old.found ≡ None }
-    ensures { MayLeave (I.count items.now) (I.tells items.now)
-        (sum_beside (meeting (I.bounds_of items.now)) (items_below W.forest tree.now.below)
+    ensures { MayLeave (I.count items.now) (I.bounds_of items.now) (I.tells items.now)
+        (λ f. sum_beside f (items_below W.forest tree.now.below)
         (leaf_items (W.forest rest.now) ++ listed_items W.forest others.now))
         (AllBeside (AreFree (I.tells items.now)) (items_below W.forest tree.now.below)
         (leaf_items (W.forest rest.now) ++ listed_items W.forest others.now)) progress.old progress.new result }
@@ -472,8 +472,8 @@ fn search_unlisted<I: Items, W: Trees>(
     requires rest { AreSound (I.count items.now) (I.bounds_of items.now) (W.forest rest.now) }
     requires others { AllSound (I.count items.now) (I.bounds_of items.now) W.forest others.now }
     requires nothing_found { progress.old.found ≡ None }
-    ensures { MayLeave (I.count items.now) (I.tells items.now)
-        (sum_beside (meeting (I.bounds_of items.now)) (items_below W.forest tree.now.below)
+    ensures { MayLeave (I.count items.now) (I.bounds_of items.now) (I.tells items.now)
+        (λ f. sum_beside f (items_below W.forest tree.now.below)
         (leaf_items (W.forest rest.now) ++ listed_items W.forest others.now))
         (AllBeside (AreFree (I.tells items.now)) (items_below W.forest tree.now.below)
         (leaf_items (W.forest rest.now) ++ listed_items W.forest others.now)) progress.old progress.new result }
@@ -499,8 +499,8 @@ pub fn search_within<I: Items, W: Trees>(
     requires trees { AreSound (I.count items.now) (I.bounds_of items.now) (W.forest trees.now) }
     requires others { AllSound (I.count items.now) (I.bounds_of items.now) W.forest others.now }
     requires nothing_found { progress.old.found ≡ None }
-    ensures { MayLeave (I.count items.now) (I.tells items.now)
-        (sum_beside (meeting (I.bounds_of items.now))
+    ensures { MayLeave (I.count items.now) (I.bounds_of items.now) (I.tells items.now)
+        (λ f. sum_beside f
         (leaf_items (W.forest trees.now)) (listed_items W.forest others.now))
         (AllBeside (AreFree (I.tells items.now))
         (leaf_items (W.forest trees.now)) (listed_items W.forest others.now)) progress.old progress.new result }

@@ -1,8 +1,8 @@
 -- What was found of a certificate's rounds and walks so far, behind counts that are the map's and a tree that was taken.
-use Rattle.std.specs.Prelude.{◌≡◌, ℕ, ◌<◌, ◌≤◌, List, [], ◌++◌, length, ⊤}
+use Rattle.std.specs.Prelude.{◌≡◌, ℕ, ◌≤◌, List, [], ◌++◌, length, ⊤}
 use Rattle.tl_county.specs.TheMap.{TheMap}
 use Rattle.tl_planar.specs.Planar.{IsPlanar}
-use Rattle.tl_planar.specs.Searching.{meeting_segments}
+use Rattle.tl_planar.specs.Searching.{meeting_segments, AreBeyond}
 use Rattle.tl_sides.specs.Sides.{SidesAgree}
 use Rattle.tl_inside.specs.Placed.{ArePlaced}
 use Rattle.tl_cells.specs.Cells.{CellsAgree}
@@ -100,7 +100,13 @@ IsBehindSearch m (state.Wrong fault) = IsOfDarts fault → IsPlanar m.chains
 abbrev pub MayHalt : TheMap → ℕ → Halt → Type 0
 MayHalt m budget (halt.Fault fault) = IsTrueOfMap m fault
 MayHalt m budget halt.Memory = ⊤
-MayHalt m budget halt.Budget = budget < meeting_segments m.chains
+MayHalt m budget halt.Budget = AreBeyond m.chains budget
+
+-- so that is true, unless memory was refused
+abbrev pub UnlessMemory : Halt → Type 0 → Type 0
+UnlessMemory (halt.Fault fault) P = P
+UnlessMemory halt.Memory P = ⊤
+UnlessMemory halt.Budget P = P
 
 -- the same behind the search
 abbrev pub MayEnd : TheMap → Halt → Type 0

@@ -1,9 +1,9 @@
 -- What is kept of a certificate that is checked as its parts come, and what its answer says.
-use Rattle.std.specs.Prelude.{ℕ, ◌<◌, ◌≤◌, List, Option, Ok, Err, ⊤}
+use Rattle.std.specs.Prelude.{ℕ, ◌≤◌, List, Option, Ok, Err, ⊤}
 use Rattle.std.specs.Option.{IfSome}
 use Rattle.tl_county.specs.TheMap.{TheMap}
 use Rattle.tl_planar.specs.Planar.{IsPlanar}
-use Rattle.tl_planar.specs.Searching.{meeting_segments}
+use Rattle.tl_planar.specs.Searching.{meeting_segments, AreBeyond}
 use Rattle.tl_sides.specs.Sides.{SidesAgree}
 use Rattle.tl_inside.specs.Placed.{ArePlaced}
 use Rattle.tl_cells.specs.Cells.{CellsAgree}
@@ -17,6 +17,7 @@ use Rattle.tl_check.specs.declared.verdict.Verdict.TheVariants as verdict
 use Rattle.tl_check.specs.declared.stop.Stop.TheVariants.{Record, Memory, Device, Budget}
 use Rattle.tl_check.specs.declared.state.State.{State}
 use Rattle.tl_check.specs.Sound.{AreClosed}
+use Rattle.tl_check.specs.Valid.{AllowsSearch}
 use Rattle.tl_check.specs.Truth.{IsTrueOfMap, IsTrueOfCert, IsOfDarts}
 use Rattle.tl_check.specs.Texts.{IsTrueOfText, IsValidText}
 use Rattle.tl_check.specs.Verdicts.{Answer, IsReport, AreNumbers}
@@ -56,7 +57,7 @@ Decides m budget text (Ok (verdict.CertFault fault)) = IfSome text (λ t. IsTrue
 Decides m budget text (Err (Record line cause)) = ⊥
 Decides m budget text (Err Memory) = ⊤
 Decides m budget text (Err Device) = ⊤
-Decides m budget text (Err Budget) = budget < meeting_segments m.chains
+Decides m budget text (Err Budget) = AreBeyond m.chains budget
 
 -- what is concluded of a map and a whole certificate
 abbrev pub Concludes : TheMap → TheCertificate → Answer → Type 0
@@ -78,9 +79,9 @@ pub record IsSoundByCert (m : TheMap) (c : TheCertificate) (budget : ℕ) (r : R
 -- what an answer says of a map and a certificate in memory
 abbrev pub Shows : TheMap → TheCertificate → ℕ → Answer → Type 0
 Shows m c budget (Ok (verdict.Sound report)) = IsSoundByCert m c budget report
-Shows m c budget (Ok (verdict.MapFault fault)) = IsTrueOfMap m fault
+Shows m c budget (Ok (verdict.MapFault fault)) = IsTrueOfMap m fault × AllowsSearch m c
 Shows m c budget (Ok (verdict.CertFault fault)) = IsTrueOfCert m c fault × (IsOfDarts fault → IsPlanar m.chains)
 Shows m c budget (Err (Record line cause)) = ⊥
 Shows m c budget (Err Memory) = ⊤
 Shows m c budget (Err Device) = ⊥
-Shows m c budget (Err Budget) = budget < meeting_segments m.chains
+Shows m c budget (Err Budget) = AreBeyond m.chains budget × AllowsSearch m c

@@ -1,5 +1,5 @@
 -- Lists of trees that a tree is searched against, each the first of some trees.
-use Rattle.std.specs.Prelude.{◌≡◌, ℕ, ◌+◌, List, [], ◌∷◌, ◌++◌, Option}
+use Rattle.std.specs.Prelude.{◌≡◌, ℕ, ◌+◌, ◌≤◌, List, [], ◌∷◌, ◌++◌, Option}
 use Rattle.tl_geom.specs.declared.rect.Rect.{Rect}
 use Rattle.tl_tree.specs.declared.walk.Tree.{Tree}
 use Rattle.tl_tree.specs.Pairs.{meeting, cross_sum, pair_sum, AllCross, AllPairs, AreFree}
@@ -31,6 +31,7 @@ pub record IsFirst {W : Type 0} (see : W → Forest) (t : Tree W) (f : Forest) :
 -- for pairs with the items of xs, the list new stands for the trees of old and for more items
 pub record StandsFor {C W : Type 0} (n : ℕ) (bounds : ℕ → Rect) (tells : ℕ → ℕ → Option C → Type 0) (see : W → Forest) (xs : List ℕ) (old : List W) (more : List ℕ) (new : List W) : Type 0 where
   pub sum : cross_sum (meeting bounds) xs (listed_items see new) ≡ cross_sum (meeting bounds) xs (listed_items see old) + cross_sum (meeting bounds) xs more
+  pub most : (f : ℕ → ℕ → ℕ) → cross_sum f xs (listed_items see new) ≤ cross_sum f xs (listed_items see old) + cross_sum f xs more
   pub free : AllCross (AreFree tells) xs (listed_items see new) → AllCross (AreFree tells) xs (listed_items see old) × AllCross (AreFree tells) xs more
   pub sound : AllSound n bounds see old → AllSound n bounds see new
 
@@ -45,5 +46,6 @@ AllBeside P xs ys = AllPairs P xs × AllCross P xs ys
 -- for pairs with the items of xs, the list new stands for the items of old and for more items
 pub record StandsForItems {C : Type 0} (n : ℕ) (bounds : ℕ → Rect) (tells : ℕ → ℕ → Option C → Type 0) (xs old more new : List ℕ) : Type 0 where
   pub sum : cross_sum (meeting bounds) xs new ≡ cross_sum (meeting bounds) xs old + cross_sum (meeting bounds) xs more
+  pub most : (f : ℕ → ℕ → ℕ) → cross_sum f xs new ≤ cross_sum f xs old + cross_sum f xs more
   pub free : AllCross (AreFree tells) xs new → AllCross (AreFree tells) xs old × AllCross (AreFree tells) xs more
   pub known : AreBelow n old → AreBelow n new

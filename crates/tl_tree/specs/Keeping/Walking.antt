@@ -1,5 +1,5 @@
 -- What a search keeps on its way: how a walk over trees splits, and what a part of a search leaves of the budget.
-use Rattle.std.specs.Prelude.{◌≡◌, ℕ, ◌<◌, ◌≤◌, ◌+◌, List, ◌++◌, Bool, true, false, Option, Some, None}
+use Rattle.std.specs.Prelude.{◌≡◌, ℕ, ◌<◌, ◌≤◌, ◌+◌, List, ◌++◌, Bool, true, false, IsTrue, Option, Some, None}
 use Rattle.tl_geom.specs.declared.rect.Rect.{Rect}
 use Rattle.tl_tree.specs.declared.walk.Tree.{Tree}
 use Rattle.tl_tree.specs.declared.walk.Below.{Below}
@@ -8,7 +8,8 @@ use Rattle.tl_tree.specs.declared.items.Search.{Search}
 use Rattle.tl_tree.specs.declared.items.Search.TheVariants.{Found, Clear, Budget}
 use Rattle.tl_tree.specs.declared.search.Conflict.{Conflict}
 use Rattle.tl_tree.specs.declared.search.Progress.{Progress}
-use Rattle.tl_tree.specs.Searches.{IsConflict}
+use Rattle.tl_tree.specs.Pairs.{meeting}
+use Rattle.tl_tree.specs.Searches.{IsConflict, IsFreePair}
 use Rattle.tl_tree.specs.Hits.{times}
 use Rattle.tl_tree.specs.Fits.{AreBelow, CoversAll, CoversBelow}
 use Rattle.tl_tree.specs.Trees.{Forest, none, leaf, inner, leaf_items, node_count}
@@ -49,22 +50,41 @@ pub record IsSound {W : Type 0} (n : ℕ) (bounds : ℕ → Rect) (see : W → F
   pub covers : CoversAll bounds t.rect (items_below see t.below)
   pub below : CoveredBelow bounds see t.below
 
--- a part of a search goes on, over pairs of which `meet` have bounds that meet: they are free of conflicts, and that
--- many of the budget are spent
-pub record GoesOn {C : Type 0} (meet : ℕ) (claim : Type 0) (old new : Progress C) : Type 0 where
-  pub left : new.left + meet ≡ old.left
+-- f is the same in both directions, and counts each chosen pair at least once
+pub record Counts (n : ℕ) (chosen : ℕ → ℕ → Bool) (f : ℕ → ℕ → ℕ) : Type 0 where
+  pub turned : (x y : ℕ) → f x y ≡ f y x
+  pub each : (i j : ℕ) → i < j → j < n → IsTrue (chosen i j) → 1 ≤ f i j
+
+-- some pairs of the n items have bounds that meet and don't conflict, and the claim holds of all that counts them
+pub record Enough {C : Type 0} (n : ℕ) (bounds : ℕ → Rect) (tells : ℕ → ℕ → Option C → Type 0) (claim : (ℕ → ℕ → ℕ) → Type 0) : Type 0 where
+  pub chosen : ℕ → ℕ → Bool
+  pub free : (i j : ℕ) → i < j → j < n → IsTrue (chosen i j) → IsFreePair bounds tells i j
+  pub counted : (f : ℕ → ℕ → ℕ) → Counts n chosen f → claim f
+
+-- a part of a search goes on, over pairs of which `sum` is the sum of what counts pairs: they are free of conflicts, and
+-- as many of the budget are spent as have bounds that meet
+pub record GoesOn {C : Type 0} (n : ℕ) (bounds : ℕ → Rect) (tells : ℕ → ℕ → Option C → Type 0) (sum : (ℕ → ℕ → ℕ) → ℕ) (claim : Type 0) (old new : Progress C) : Type 0 where
+  pub left : new.left + sum (meeting bounds) ≡ old.left
+  pub spent : Enough n bounds tells (λ f. old.left ≤ new.left + sum f)
   pub free : claim
   pub nothing_found : new.found ≡ None
 
--- a part of a search stops: a conflict was found, or more pairs have bounds that meet than are left of the budget
-abbrev pub Stops : {C : Type 0} → ℕ → (ℕ → ℕ → Option C → Type 0) → ℕ → ℕ → Option (Conflict C) → Type 0
-Stops n tells meet left None = left < meet
-Stops n tells meet left (Some k) = IsConflict n tells k.i k.j k.c
+-- what was left of the budget is spent on pairs that don't conflict, and there is a further one whose bounds meet
+pub record IsSpent {C : Type 0} (n : ℕ) (bounds : ℕ → Rect) (tells : ℕ → ℕ → Option C → Type 0) (sum : (ℕ → ℕ → ℕ) → ℕ) (left : ℕ) : Type 0 where
+  pub x : ℕ
+  pub y : ℕ
+  pub further : meeting bounds x y ≡ 1
+  pub spent : Enough n bounds tells (λ f. left + f x y ≤ sum f)
+
+-- a part of a search stops: a conflict was found, or what is left of the budget is spent
+abbrev pub Stops : {C : Type 0} → ℕ → (ℕ → Rect) → (ℕ → ℕ → Option C → Type 0) → ((ℕ → ℕ → ℕ) → ℕ) → ℕ → Option (Conflict C) → Type 0
+Stops n bounds tells sum left None = IsSpent n bounds tells sum left
+Stops n bounds tells sum left (Some k) = IsConflict n tells k.i k.j k.c
 
 -- what a part of a search does, by whether it goes on
-abbrev pub MayLeave : {C : Type 0} → ℕ → (ℕ → ℕ → Option C → Type 0) → ℕ → Type 0 → (p q : Progress C) → Bool → Type 0
-MayLeave n tells meet free old new true = GoesOn meet free old new
-MayLeave n tells meet free old new false = Stops n tells meet old.left new.found
+abbrev pub MayLeave : {C : Type 0} → ℕ → (ℕ → Rect) → (ℕ → ℕ → Option C → Type 0) → ((ℕ → ℕ → ℕ) → ℕ) → Type 0 → (p q : Progress C) → Bool → Type 0
+MayLeave n bounds tells sum free old new true = GoesOn n bounds tells sum free old new
+MayLeave n bounds tells sum free old new false = Stops n bounds tells sum old.left new.found
 
 -- what is answered in the end, by whether the whole search goes on and the conflict that was found
 abbrev pub answer_of : {C : Type 0} → Bool → Option (Conflict C) → Search C

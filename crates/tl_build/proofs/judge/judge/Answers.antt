@@ -1,9 +1,9 @@
-use Rattle.std.proofs.Common.{◌<◌, length, refl, subst, Ok, arith}
+use Rattle.std.proofs.Common.{length, refl, subst, Ok, arith}
 use Rattle.tl_county.specs.Segments.{segments_before}
 use Rattle.tl_planar.specs.Planar.{IsPlanar}
 use Rattle.tl_planar.specs.Rectangles.{segment_rect}
-use Rattle.tl_planar.specs.Searching.{meeting_segments}
 use Rattle.tl_check.specs.declared.stop.Stop.{Stop}
+use Rattle.tl_check.specs.declared.stop.Stop.TheVariants.{Budget}
 use Rattle.tl_check.specs.Verdicts.{MayStop, IfCertFault}
 use Rattle.tl_check.specs.Truth.{IsTrueOfCert, IsOfDarts}
 use Rattle.tl_check.specs.declared.verdict.Verdict.{Verdict}
@@ -26,6 +26,6 @@ pub unreachable-requires-in-Err-Budget : goal.unreachable-requires-in-Err-Budget
 unreachable-requires-in-Err-Budget c =
     let chains = c.args.map.now.chains in
     let n = segments_before chains (length chains) in
-    let beyond : 18446744073709551615 < meeting_segments chains =
+    let beyond : MayStop c.args.map.now 18446744073709551615 Budget =
     subst (λ (s : Stop). MayStop c.args.map.now 18446744073709551615 s) c.in-Err-Budget.field-0-is c.in-Err-Budget.ensures.stops in
-    never_beyond (segment_rect chains) n 18446744073709551615 (omega (arith, c.segments-segments.ensures.count, c.segments-segments.type_inv)) refl beyond
+    never_beyond (segment_rect chains) n 18446744073709551615 (omega (arith, c.segments-segments.ensures.count, c.segments-segments.type_inv)) refl beyond.more

@@ -2,11 +2,12 @@ use Rattle.std.proofs.Common.{Ok, sym, subst, ◌∙◌}
 use Rattle.tl_cert.specs.declared.place.Place.TheVariants.{Start, Counted, Treed, Rounds, Walks}
 use Rattle.tl_cert.specs.declared.place.CertPart.TheVariants as part
 use Rattle.tl_cert.specs.Reading.{Gives, source_of, standing_of}
-use Rattle.tl_check.specs.Keeping.Parts.{Holds, TakesRounds, IsSearched, with_round, with_walk}
+use Rattle.tl_check.specs.Keeping.Parts.{Holds, TakesRounds, IsSearched, IsBehindSearch, with_round, with_walk}
+use Rattle.tl_check.proofs.Searched.{stopped_searched, stopped_behind, answered_behind, halted_searched, ended_searched, searched_so, reads_allowed}
 use Rattle.tl_check.proofs.Streaming.{stop_decides, nothing, begun, counts_read, tree_read, round_read, walk_read, end_decides, no_device, wrong_counts, gives_as}
 use Rattle.std.proofs.lemmas.Bool.{false≢true}
 use Rattle.tl_cert.proofs.CollectLemmas.{tells_here}
-use Rattle.tl_check.specs.Valid.{AreCounts}
+use Rattle.tl_check.specs.Valid.{AreCounts, IsTree}
 use Rattle.tl_check.proofs.as_read.check_parts.Goals.{then-are_counts+in-Ok-take_tree, else-are_counts}
 use Rattle.tl_check.proofs.as_read.check_parts.Goals as goal
 
@@ -45,22 +46,26 @@ parts-init g c =
     let r = counts_read g.R.Source.remaining c.args.map.now c.args.budget c.args.reader.now c.next_part.new.self c.in-Ok-Some-Counts.counts c.in-Ok-Some-Counts.field-0-0-1 c.requires.standing c.requires.lines first in
     let second = gives_as g.R.Source.remaining c.next_part.new.self c.next_part-2.new.self c.in-Ok-Some-Tree.field-0 c.in-Ok-Some-Tree.field-0-0 (part.Tree c.in-Ok-Some-Tree.nodes) c.in-Ok-Some-Tree.field-0-is c.in-Ok-Some-Tree.field-0-0-is c.in-Ok-Some-Tree.ensures.gives in
     let t = tree_read g.R.Source.remaining c.args.map.now c.args.budget c.args.reader.now c.next_part.new.self c.next_part-2.new.self c.in-Ok-Some-Counts.counts c.in-Ok-Some-Tree.nodes r second in
-    let held : Holds c.args.map.now t.cert c.if-are_counts.state × TakesRounds c.if-are_counts.state × IsSearched c.args.map.now c.args.budget c.if-are_counts.state = elim c.if-are_counts.branch [
+    let held : Holds c.args.map.now t.cert c.if-are_counts.state × TakesRounds c.if-are_counts.state × IsSearched c.args.map.now c.args.budget c.if-are_counts.state × IsBehindSearch c.args.map.now c.if-are_counts.state = elim c.if-are_counts.branch [
       | then-are_counts+in-Ok-take_tree w ↦ rw w.state-is (
         w.in-Ok-take_tree.ensures.holds t.cert (subst (AreCounts c.args.map.now) (sym t.counts_are) (c.are_counts.ensures.0 w.if-are_counts.true)) (t.tree_is ∙ sym w.deref.ensures.value) t.no_rounds t.no_walks,
         w.in-Ok-take_tree.ensures.rounds,
         w.in-Ok-take_tree.ensures.searched,
+        w.in-Ok-take_tree.ensures.behind,
       )
       | else-are_counts w ↦ rw w.state-is (
         wrong_counts c.args.map.now t.cert c.in-Ok-Some-Counts.counts t.counts_are (λ are. false≢true (sym w.if-are_counts.false ∙ c.are_counts.ensures.1 are)),
         tt,
         tt,
+        λ of_darts. absurd of_darts,
       )
     ] in
     record {
       stands = record { place = Treed t.version; cert = t.cert; collects = t.collects; holds = held.0; suits = held.1 };
       tree = t.tree_is;
       searched = held.2;
+      behind = held.3;
+      allowed = reads_allowed g.R.Source.remaining c.args.map.now t.version t.cert c.args.reader.now c.next_part-2.new.self t.collects;
       failures =
           tells_here (standing_of c.next_part.new.self) (Counted r.version) (g.R.Source.failure_count (source_of c.next_part.new.self)) (g.R.Source.failure_count (source_of c.next_part-2.new.self)) (Ok c.in-Ok-Some-Tree.field-0) r.collects.standing c.in-Ok-Some-Tree.ensures.failures
           ∙ tells_here (standing_of c.args.reader.now) Start (g.R.Source.failure_count (source_of c.args.reader.now)) (g.R.Source.failure_count (source_of c.next_part.new.self)) (Ok c.in-Ok-Some-Counts.field-0) c.requires.standing c.in-Ok-Some-Counts.ensures.failures;
@@ -88,6 +93,8 @@ parts-preserved-in-Ok-Some-Round g c =
       };
       tree = c.parts.invariant.tree;
       searched = c.take_round-state.ensures.searched c.args.budget c.parts.invariant.searched;
+      behind = c.take_round-state.ensures.behind c.parts.invariant.behind;
+      allowed = λ allows. c.parts.invariant.allowed (record { counts = allows.counts; tree = allows.tree });
       failures = tells_here (standing_of c.parts.reader) st.place (g.R.Source.failure_count (source_of c.parts.reader)) (g.R.Source.failure_count (source_of c.next_part-in-parts.new.self)) (Ok c.in-Ok-Some-Round.field-0) st.collects.standing c.in-Ok-Some-Round.ensures.failures ∙ c.parts.invariant.failures;
       same = c.next_part-in-parts.ensures.same_reference ∙ c.parts.invariant.same;
     }
@@ -118,6 +125,8 @@ parts-preserved g c =
       };
       tree = c.parts.invariant.tree;
       searched = c.in-Ok-take_walk.ensures.searched c.args.budget (c.in-Ok-end_rounds.ensures.searched c.args.budget c.parts.invariant.searched);
+      behind = c.in-Ok-take_walk.ensures.behind (c.in-Ok-end_rounds.ensures.behind c.parts.invariant.behind);
+      allowed = λ allows. c.parts.invariant.allowed (record { counts = allows.counts; tree = allows.tree });
       failures = tells_here (standing_of c.parts.reader) st.place (g.R.Source.failure_count (source_of c.parts.reader)) (g.R.Source.failure_count (source_of c.next_part-in-parts.new.self)) (Ok c.in-Ok-Some-Walk.field-0) st.collects.standing c.in-Ok-Some-Walk.ensures.failures ∙ c.parts.invariant.failures;
       same = c.next_part-in-parts.ensures.same_reference ∙ c.parts.invariant.same;
     }
@@ -136,6 +145,64 @@ returns-in-Ok-None-clause-failures g c =
 
 pub returns-in-Ok-None-clause-within : goal.returns-in-Ok-None-clause-within
 returns-in-Ok-None-clause-within g c = c.conclude.ensures.within c.args.budget c.parts.invariant.searched
+
+pub returns-in-Ok-None-clause-behind : goal.returns-in-Ok-None-clause-behind
+returns-in-Ok-None-clause-behind g c = c.conclude.ensures.behind c.parts.invariant.behind
+
+pub returns-in-Ok-None-clause-searched : goal.returns-in-Ok-None-clause-searched
+returns-in-Ok-None-clause-searched g c =
+    let st = c.parts.invariant.stands in
+    searched_so c.conclude.result _ _ c.conclude.ensures.allowed (λ allows. c.parts.invariant.allowed (allows st.cert st.holds))
+
+pub returns-in-Err-clause-behind : goal.returns-in-Err-clause-behind
+returns-in-Err-clause-behind g c = rw c.stopped.ensures (stopped_behind c.in-Err.stop _)
+
+pub returns-in-Err-clause-searched : goal.returns-in-Err-clause-searched
+returns-in-Err-clause-searched g c = rw c.stopped.ensures (stopped_searched c.in-Err.stop _)
+
+pub returns-in-Err-next_part-clause-behind : goal.returns-in-Err-next_part-clause-behind
+returns-in-Err-next_part-clause-behind g c = rw c.stopped-in-Err-next_part.ensures (stopped_behind c.in-Err-next_part.stop _)
+
+pub returns-in-Err-next_part-clause-searched : goal.returns-in-Err-next_part-clause-searched
+returns-in-Err-next_part-clause-searched g c = rw c.stopped-in-Err-next_part.ensures (stopped_searched c.in-Err-next_part.stop _)
+
+pub returns-in-Err-take_tree-clause-behind : goal.returns-in-Err-take_tree-clause-behind
+returns-in-Err-take_tree-clause-behind g c = rw c.answer.ensures (answered_behind c.in-Err-take_tree.halt _)
+
+pub returns-in-Err-take_tree-clause-searched : goal.returns-in-Err-take_tree-clause-searched
+returns-in-Err-take_tree-clause-searched g c =
+    let first = gives_as g.R.Source.remaining c.args.reader.now c.next_part.new.self c.in-Ok-Some-Counts.field-0 c.in-Ok-Some-Counts.field-0-0 (part.Counts c.in-Ok-Some-Counts.counts c.in-Ok-Some-Counts.field-0-0-1) c.in-Ok-Some-Counts.field-0-is c.in-Ok-Some-Counts.field-0-0-is c.in-Ok-Some-Counts.ensures.gives in
+    let r = counts_read g.R.Source.remaining c.args.map.now c.args.budget c.args.reader.now c.next_part.new.self c.in-Ok-Some-Counts.counts c.in-Ok-Some-Counts.field-0-0-1 c.requires.standing c.requires.lines first in
+    let second = gives_as g.R.Source.remaining c.next_part.new.self c.next_part-2.new.self c.in-Ok-Some-Tree.field-0 c.in-Ok-Some-Tree.field-0-0 (part.Tree c.in-Ok-Some-Tree.nodes) c.in-Ok-Some-Tree.field-0-is c.in-Ok-Some-Tree.field-0-0-is c.in-Ok-Some-Tree.ensures.gives in
+    let t = tree_read g.R.Source.remaining c.args.map.now c.args.budget c.args.reader.now c.next_part.new.self c.next_part-2.new.self c.in-Ok-Some-Counts.counts c.in-Ok-Some-Tree.nodes r second in
+    rw c.answer.ensures
+    (halted_searched c.in-Err-take_tree.halt _ (IsTree c.args.map.now c.deref.result.now) c.in-Err-take_tree.ensures.tree
+    (λ tree. reads_allowed g.R.Source.remaining c.args.map.now t.version t.cert c.args.reader.now c.next_part-2.new.self t.collects (record {
+      counts = subst (AreCounts c.args.map.now) (sym t.counts_are) (c.are_counts.ensures.0 c.if-are_counts.true);
+      tree = subst (IsTree c.args.map.now) (c.deref.ensures.value ∙ sym t.tree_is) tree;
+    })))
+
+pub returns-in-Err-end_rounds-clause-behind : goal.returns-in-Err-end_rounds-clause-behind
+returns-in-Err-end_rounds-clause-behind g c = rw c.answer-in-Err-end_rounds.ensures (answered_behind c.in-Err-end_rounds.halt _)
+
+pub returns-in-Err-end_rounds-clause-searched : goal.returns-in-Err-end_rounds-clause-searched
+returns-in-Err-end_rounds-clause-searched g c =
+    let st = c.parts.invariant.stands in
+    rw c.answer-in-Err-end_rounds.ensures (ended_searched c.in-Err-end_rounds.halt _ (c.parts.invariant.allowed (c.in-Err-end_rounds.ensures.allowed st.cert st.holds)))
+
+pub returns-in-Err-take_walk-clause-behind : goal.returns-in-Err-take_walk-clause-behind
+returns-in-Err-take_walk-clause-behind g c = rw c.answer-in-Err-take_walk.ensures (answered_behind c.in-Err-take_walk.halt _)
+
+pub returns-in-Err-take_walk-clause-searched : goal.returns-in-Err-take_walk-clause-searched
+returns-in-Err-take_walk-clause-searched g c =
+    let st = c.parts.invariant.stands in
+    rw c.answer-in-Err-take_walk.ensures (ended_searched c.in-Err-take_walk.halt _ (c.parts.invariant.allowed (c.in-Err-take_walk.ensures.allowed st.cert (c.in-Ok-end_rounds.ensures.holds st.cert st.holds))))
+
+pub returns-in-Err-next_part-2-clause-behind : goal.returns-in-Err-next_part-2-clause-behind
+returns-in-Err-next_part-2-clause-behind g c = rw c.stopped-in-Err-next_part-2.ensures (stopped_behind c.in-Err-next_part-2.stop _)
+
+pub returns-in-Err-next_part-2-clause-searched : goal.returns-in-Err-next_part-2-clause-searched
+returns-in-Err-next_part-2-clause-searched g c = rw c.stopped-in-Err-next_part-2.ensures (stopped_searched c.in-Err-next_part-2.stop _)
 
 pub conclude-requires-clause-whole : goal.conclude-requires-clause-whole
 conclude-requires-clause-whole g c =

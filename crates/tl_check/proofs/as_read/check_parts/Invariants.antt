@@ -1,7 +1,10 @@
 use Rattle.std.proofs.Common.{◌≡◌}
-use Rattle.tl_cert.specs.Reading.{source_of, standing_of}
+use Rattle.std.specs.Option.{IfSome}
+use Rattle.tl_cert.specs.Reading.{source_of, standing_of, unread}
 use Rattle.tl_cert.specs.Keeping.Collecting.{left_of}
-use Rattle.tl_check.specs.Keeping.Parts.{IsSearched}
+use Rattle.tl_check.specs.Valid.{AllowsSearch}
+use Rattle.tl_check.specs.Texts.{TextAllowsSearch}
+use Rattle.tl_check.specs.Keeping.Parts.{IsSearched, IsBehindSearch}
 use Rattle.tl_check.specs.Keeping.Streams.{Stands}
 use Rattle.tl_check.proofs.as_read.check_parts.Given as goal
 
@@ -11,6 +14,8 @@ invariant-parts g l = record {
   stands : Stands g.R.Source.remaining l.map l.fn.reader l.reader l.state;
   tree : stands.cert.tree ≡ l.nodes.items;
   searched : IsSearched l.map l.budget l.state;
+  behind : IsBehindSearch l.map l.state;
+  allowed : AllowsSearch l.map stands.cert → IfSome (unread g.R.Source.remaining l.fn.reader) (TextAllowsSearch l.map);
   failures : g.R.Source.failure_count (source_of l.reader) ≡ g.R.Source.failure_count (source_of l.fn.reader);
   same : g.R.Source.reference (source_of l.reader) ≡ g.R.Source.reference (source_of l.fn.reader);
 }

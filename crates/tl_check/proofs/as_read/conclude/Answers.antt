@@ -1,3 +1,4 @@
+use Rattle.tl_check.proofs.Searched.{answered_behind, ended_searched}
 use Rattle.tl_check.proofs.Walking.{told_ok, told_err}
 use Rattle.tl_check.proofs.as_read.conclude.Goals as goal
 
@@ -18,3 +19,18 @@ returns-in-Ok-Ok-clause-concludes c = λ cert held. (
 
 pub returns-in-Ok-Err-clause-concludes : goal.returns-in-Ok-Err-clause-concludes
 returns-in-Ok-Err-clause-concludes c = λ cert held. told_err _ c.in-Ok-Err.field-0 c.in-Ok-Err.fault c.in-Ok-Err.field-0-is c.in-Ok-Err.ensures.fault cert (c.in-Ok.ensures.holds cert held)
+
+pub returns-in-Ok-Err-clause-behind : goal.returns-in-Ok-Err-clause-behind
+returns-in-Ok-Err-clause-behind c = λ behind. told_err _ c.in-Ok-Err.field-0 c.in-Ok-Err.fault c.in-Ok-Err.field-0-is c.in-Ok-Err.ensures.behind (c.in-Ok.ensures.behind behind)
+
+pub returns-in-Err-clause-behind : goal.returns-in-Err-clause-behind
+returns-in-Err-clause-behind c = λ behind. rw c.answer.ensures (answered_behind c.in-Err.halt _)
+
+pub returns-in-Err-clause-allowed : goal.returns-in-Err-clause-allowed
+returns-in-Err-clause-allowed c = rw c.answer.ensures (ended_searched c.in-Err.halt _ c.in-Err.ensures.allowed)
+
+pub returns-in-Err-finish_walks-clause-behind : goal.returns-in-Err-finish_walks-clause-behind
+returns-in-Err-finish_walks-clause-behind c = λ behind. rw c.answer-in-Err-finish_walks.ensures (answered_behind c.in-Err-finish_walks.halt _)
+
+pub returns-in-Err-finish_walks-clause-allowed : goal.returns-in-Err-finish_walks-clause-allowed
+returns-in-Err-finish_walks-clause-allowed c = rw c.answer-in-Err-finish_walks.ensures (ended_searched c.in-Err-finish_walks.halt _ (λ cert held. c.in-Err-finish_walks.ensures.allowed cert (c.in-Ok.ensures.holds cert held)))

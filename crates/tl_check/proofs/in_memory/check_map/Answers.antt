@@ -1,4 +1,4 @@
-use Rattle.tl_check.proofs.Halting.{planar, sides, closed, points, cells, valid, within, reported, map_fault, cert_fault, behind, stops}
+use Rattle.tl_check.proofs.Halting.{planar, sides, closed, points, cells, valid, within, reported, map_fault, cert_fault, behind, stops, searched}
 use Rattle.tl_check.proofs.in_memory.check_map.Goals as goal
 
 pub returns-clause-planar : goal.returns-clause-planar
@@ -33,6 +33,9 @@ returns-clause-cert_fault c = cert_fault c.args.map.now c.args.cert.now c.args.b
 
 pub returns-clause-behind : goal.returns-clause-behind
 returns-clause-behind c = behind c.args.map.now c.args.cert.now c.args.budget c.check_whole.result c.check_whole.ensures
+
+pub returns-clause-searched : goal.returns-clause-searched
+returns-clause-searched c = searched c.args.map.now c.args.cert.now c.args.budget c.check_whole.result c.check_whole.ensures
 
 pub returns-clause-stops : goal.returns-clause-stops
 returns-clause-stops c = stops c.args.map.now c.args.cert.now c.args.budget c.check_whole.result c.check_whole.ensures

@@ -1,9 +1,10 @@
 use Rattle.std.proofs.Common.{◌≡◌, length, refl, sym, subst, rules, arith}
+use Rattle.tl_check.specs.Valid.{IsTree}
 use Rattle.tl_check.specs.Truth.{IsTrueOfCert}
-use Rattle.tl_check.specs.Keeping.Parts.{Holds, IsShown}
+use Rattle.tl_check.specs.Keeping.Parts.{Holds, IsShown, UnlessMemory}
 use Rattle.tl_check.proofs.Prefixes.{first_rounds, first_walks, all_rounds, all_walks, list_is, as_many, round_taken, walk_taken, has_some}
 use Rattle.tl_check.proofs.Walking.{told_ok, told_err}
-use Rattle.tl_check.proofs.Halting.{halted, ended}
+use Rattle.tl_check.proofs.Halting.{halted, ended, allowed_rounds, allowed_walks}
 use Rattle.tl_check.proofs.in_memory.check_whole.Goals as goal
 
 pub loop-round-init : goal.loop-round-init
@@ -116,13 +117,18 @@ pub returns-then-not-are_counts : goal.returns-then-not-are_counts
 returns-then-not-are_counts c = (search rules, λ of_darts. absurd of_darts)
 
 pub returns-in-Err : goal.returns-in-Err
-returns-in-Err c = rw c.answer.ensures (halted c.args.map.now c.args.cert.now c.args.budget c.in-Err.halt c.in-Err.ensures.halts)
+returns-in-Err c = rw c.answer.ensures (halted c.args.map.now c.args.cert.now c.args.budget c.in-Err.halt c.in-Err.ensures.halts
+    (rw (← c.counts.ensures) (c.are_counts.ensures.0 c.if-not-are_counts.false))
+    (subst (λ t. UnlessMemory c.in-Err.halt (IsTree c.args.map.now t)) c.tree.ensures.tree c.in-Err.ensures.tree))
 
 pub returns-in-Err-end_rounds : goal.returns-in-Err-end_rounds
-returns-in-Err-end_rounds c = rw c.answer-in-Err-end_rounds.ensures (ended c.args.map.now c.args.cert.now c.args.budget c.in-Err-end_rounds.halt c.in-Err-end_rounds.ensures.halts)
+returns-in-Err-end_rounds c = rw c.answer-in-Err-end_rounds.ensures (ended c.args.map.now c.args.cert.now c.args.budget c.in-Err-end_rounds.halt c.in-Err-end_rounds.ensures.halts
+    (allowed_rounds c.args.map.now c.args.cert.now c.loop-round.round-index (c.in-Err-end_rounds.ensures.allowed (first_rounds c.args.cert.now c.loop-round.round-index) c.loop-round.invariant.holds)))
 
 pub returns-in-Err-take_walk : goal.returns-in-Err-take_walk
-returns-in-Err-take_walk c = rw c.answer-in-Err-take_walk.ensures (ended c.args.map.now c.args.cert.now c.args.budget c.in-Err-take_walk.halt c.in-Err-take_walk.ensures.halts)
+returns-in-Err-take_walk c = rw c.answer-in-Err-take_walk.ensures (ended c.args.map.now c.args.cert.now c.args.budget c.in-Err-take_walk.halt c.in-Err-take_walk.ensures.halts
+    (allowed_walks c.args.map.now c.args.cert.now c.loop-walk.walk-index (c.in-Err-take_walk.ensures.allowed (first_walks c.args.cert.now c.loop-walk.walk-index) c.loop-walk.invariant.holds)))
 
 pub returns-in-Err-finish_walks : goal.returns-in-Err-finish_walks
-returns-in-Err-finish_walks c = rw c.answer-in-Err-finish_walks.ensures (ended c.args.map.now c.args.cert.now c.args.budget c.in-Err-finish_walks.halt c.in-Err-finish_walks.ensures.halts)
+returns-in-Err-finish_walks c = rw c.answer-in-Err-finish_walks.ensures (ended c.args.map.now c.args.cert.now c.args.budget c.in-Err-finish_walks.halt c.in-Err-finish_walks.ensures.halts
+    (allowed_walks c.args.map.now c.args.cert.now c.loop-walk.walk-index (c.in-Err-finish_walks.ensures.allowed (first_walks c.args.cert.now c.loop-walk.walk-index) c.loop-walk.invariant.holds)))

@@ -1,4 +1,5 @@
 use Rattle.std.proofs.Common.{◌≤◌, refl}
+use Rattle.std.specs.Option.{IfSome}
 use Rattle.tl_record.specs.Layout.{layout_with}
 use Rattle.tl_record.specs.Records.{records_of}
 use Rattle.tl_county.specs.declared.map.Map.{Map}
@@ -9,8 +10,8 @@ use Rattle.tl_inside.specs.Placed.{ArePlaced}
 use Rattle.tl_cells.specs.Cells.{CellsAgree}
 use Rattle.tl_check.specs.Sound.{AreClosed}
 use Rattle.tl_check.specs.Verdicts.{IsReport}
-use Rattle.tl_check.specs.Texts.{IsTrueOfText, IsValidText}
-use Rattle.tl_check.proofs.Recorded.{on_sound, on_sound_text, if_sound, map_fault, cert_fault, stops, unread, tells_either, refused_sound, refused_cert, refused_fault, refused_stops, refused_unread, refused_tells}
+use Rattle.tl_check.specs.Texts.{IsTrueOfText, IsValidText, TextAllowsSearch}
+use Rattle.tl_check.proofs.Recorded.{on_sound, on_sound_text, if_sound, map_fault, cert_fault, behind, searched, stops, unread, tells_either, refused_sound, refused_cert, refused_searched, refused_fault, refused_stops, refused_unread, refused_tells}
 use Rattle.tl_check.proofs.of_records.check_with.Goals as goal
 
 pub returns-in-Ok-clause-planar : goal.returns-in-Ok-clause-planar
@@ -41,7 +42,13 @@ pub returns-in-Ok-clause-map_fault : goal.returns-in-Ok-clause-map_fault
 returns-in-Ok-clause-map_fault g c = map_fault (λ t. records_of (layout_with c.args.options) t) (g.R.Source.remaining c.args.records.now) c.in-Ok.map c.in-Ok.ensures.map c.check_cert.result c.check_cert.ensures.map_fault
 
 pub returns-in-Ok-clause-cert_fault : goal.returns-in-Ok-clause-cert_fault
-returns-in-Ok-clause-cert_fault g c = cert_fault (λ t. records_of (layout_with c.args.options) t) (g.R.Source.remaining c.args.records.now) c.in-Ok.map c.in-Ok.ensures.map (g.S.Source.remaining c.args.cert.now) IsTrueOfText c.check_cert.result c.check_cert.ensures.cert_fault
+returns-in-Ok-clause-cert_fault g c = cert_fault (λ t. records_of (layout_with c.args.options) t) (g.R.Source.remaining c.args.records.now) c.in-Ok.map c.in-Ok.ensures.map (λ m fault. IfSome (g.S.Source.remaining c.args.cert.now) (λ spelt. IsTrueOfText m spelt fault)) c.check_cert.result c.check_cert.ensures.cert_fault
+
+pub returns-in-Ok-clause-behind : goal.returns-in-Ok-clause-behind
+returns-in-Ok-clause-behind g c = behind (λ t. records_of (layout_with c.args.options) t) (g.R.Source.remaining c.args.records.now) c.in-Ok.map c.in-Ok.ensures.map c.check_cert.result c.check_cert.ensures.behind
+
+pub returns-in-Ok-clause-searched : goal.returns-in-Ok-clause-searched
+returns-in-Ok-clause-searched g c = searched (λ t. records_of (layout_with c.args.options) t) (g.R.Source.remaining c.args.records.now) c.in-Ok.map c.in-Ok.ensures.map (λ m. IfSome (g.S.Source.remaining c.args.cert.now) (TextAllowsSearch m)) c.check_cert.result c.check_cert.ensures.searched
 
 pub returns-in-Ok-clause-stops : goal.returns-in-Ok-clause-stops
 returns-in-Ok-clause-stops g c = stops (λ t. records_of (layout_with c.args.options) t) (g.R.Source.remaining c.args.records.now) c.in-Ok.map c.in-Ok.ensures.map c.args.budget c.check_cert.result c.check_cert.ensures.stops
@@ -81,6 +88,12 @@ returns-in-Err-clause-map_fault g c = rw c.refused.ensures (refused_fault (λ t.
 
 pub returns-in-Err-clause-cert_fault : goal.returns-in-Err-clause-cert_fault
 returns-in-Err-clause-cert_fault g c = rw c.refused.ensures (refused_cert c.in-Err.stop _)
+
+pub returns-in-Err-clause-behind : goal.returns-in-Err-clause-behind
+returns-in-Err-clause-behind g c = rw c.refused.ensures (refused_cert c.in-Err.stop _)
+
+pub returns-in-Err-clause-searched : goal.returns-in-Err-clause-searched
+returns-in-Err-clause-searched g c = rw c.refused.ensures (refused_searched c.in-Err.stop _)
 
 pub returns-in-Err-clause-stops : goal.returns-in-Err-clause-stops
 returns-in-Err-clause-stops g c = rw c.refused.ensures (refused_stops (λ t. records_of (layout_with c.args.options) t) (g.R.Source.remaining c.args.records.now) c.args.budget c.in-Err.stop c.in-Err.ensures.stops)

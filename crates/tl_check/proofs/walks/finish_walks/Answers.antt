@@ -26,3 +26,8 @@ look_at_points-requires-clause-few c = subst (λ n. n < 2 ^ 32) ((walked c).coun
 
 pub returns-in-Ok-look_at_points-clause-shown : goal.returns-in-Ok-look_at_points-clause-shown
 returns-in-Ok-look_at_points-clause-shown c = λ cert held. shown_by c.args.map.now cert c.in-Ok.count c.in-Ok.rings (c.in-Ok.ensures.walked cert held) c.in-Ok-look_at_points.ensures.placed
+
+pub returns-in-Ok-clause-allowed : goal.returns-in-Ok-clause-allowed
+returns-in-Ok-clause-allowed c = λ cert held.
+    let w = c.in-Ok.ensures.walked cert held in
+    record { counts = w.valid.counts; tree = w.valid.tree }

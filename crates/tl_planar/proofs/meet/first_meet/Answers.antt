@@ -1,7 +1,8 @@
-use Rattle.std.proofs.Common.{◌<◌, length, subst, arith}
+use Rattle.std.proofs.Common.{◌<◌, List, length, subst, arith}
 use Rattle.std.proofs.lemmas.Option.{slice_get_within}
+use Rattle.tl_county.specs.TheMap.{MapChain}
 use Rattle.tl_county.specs.Segments.{segments_before}
-use Rattle.tl_planar.specs.Searching.{meeting_segments}
+use Rattle.tl_planar.specs.Searching.{AreBeyond}
 use Rattle.tl_planar.proofs.Meetings.{true_meet, planar_within}
 use Rattle.tl_planar.proofs.meet.first_meet.Goals as goal
 
@@ -15,7 +16,7 @@ pub returns-in-Clear : goal.returns-in-Clear
 returns-in-Clear g c = planar_within c.args.map.now.chains c.new.result c.args.budget c.new.ensures c.in-Clear.ensures
 
 pub returns-in-Budget : goal.returns-in-Budget
-returns-in-Budget g c = subst (λ cs. c.args.budget < meeting_segments cs) c.new.ensures c.in-Budget.ensures
+returns-in-Budget g c = subst (λ (cs : List MapChain). AreBeyond cs c.args.budget) c.new.ensures c.in-Budget.ensures
 
 pub segment_chain-requires : goal.segment_chain-requires
 segment_chain-requires g c =

@@ -1,5 +1,5 @@
 use Rattle.std.proofs.Common.{◌≡◌, ap, sym, subst, List, ℕ, ◌++◌, arith}
-use Rattle.tl_tree.specs.Pairs.{meeting, cross_sum, AllCross, AreFree}
+use Rattle.tl_tree.specs.Pairs.{cross_sum, AllCross, AreFree}
 use Rattle.tl_tree.proofs.Leaving.{stops, goes, leaves_same, leaves_both}
 use Rattle.tl_tree.proofs.PairLemmas.{cross-append_right, all_cross-join}
 use Rattle.tl_tree.proofs.leaf.+test_blocks.Goals as goal
@@ -7,23 +7,20 @@ use Rattle.tl_tree.proofs.leaf.+test_blocks.Goals as goal
 pub returns-then-not-test_rows : goal.returns-then-not-test_rows
 returns-then-not-test_rows g t c =
     let xs = c.args.some.now in
-    let meet = meeting (g.I.Items.bounds_of c.args.items.now) in
-    let e = ap (cross_sum meet xs) c.split_at.ensures.by_index.0 in
-    let s = cross-append_right meet xs (c.split_at.result.0).now (c.split_at.result.1).now in
-    stops _ _ _ _ _ _ _ _ _ c.test_rows-2.ensures c.if-not-test_rows.true (λ h. omega (arith, h, e, s))
+    stops _ _ _ _ _ _ _ _ _ _ c.test_rows-2.ensures c.if-not-test_rows.true
+    (λ f s u h. omega (arith, h, ap (cross_sum f xs) c.split_at.ensures.by_index.0, cross-append_right f xs (c.split_at.result.0).now (c.split_at.result.1).now))
 
 pub returns : goal.returns
 returns g t c =
     let xs = c.args.some.now in
     let n = g.I.Items.count c.args.items.now in
     let tells = g.I.Items.tells c.args.items.now in
-    let meet = meeting (g.I.Items.bounds_of c.args.items.now) in
+    let b = g.I.Items.bounds_of c.args.items.now in
     let ys = (c.split_at.result.0).now in
     let zs = (c.split_at.result.1).now in
     let e : c.args.others.now ≡ ys ++ zs = c.split_at.ensures.by_index.0 in
     let P : List ℕ → Type 0 = AllCross (AreFree tells) xs in
-    let s = cross-append_right meet xs ys zs in
-    leaves_same n tells _ _ _ _ _ _ c.test_blocks.result
-    (omega (arith, s, ap (cross_sum meet xs) e))
+    leaves_same n b tells _ _ _ _ _ _ c.test_blocks.result
+    (λ f s. omega (arith, cross-append_right f xs ys zs, ap (cross_sum f xs) e))
     (λ h. subst P (sym e) (all_cross-join (AreFree tells) xs ys zs h.0 h.1))
-    (leaves_both n tells _ _ _ _ _ _ _ c.test_blocks.result (goes _ _ _ _ _ _ _ c.test_rows-2.ensures c.if-not-test_rows.false) c.test_blocks.ensures)
+    (leaves_both n b tells _ _ _ _ _ _ _ c.test_blocks.result (goes _ _ _ _ _ _ _ _ c.test_rows-2.ensures c.if-not-test_rows.false) c.test_blocks.ensures)

@@ -6,7 +6,7 @@ use Rattle.tl_tree.proofs.near.list_trees.Goals as goal
 
 pub loop-first-init : goal.loop-first-init
 loop-first-init g c =
-    record { sum = refl; free = λ f h. (f, h); sound = λ k. k; left = c.requires.others; fits = c.requires.fits; complete = refl }
+    record { sum = refl; most = λ f. omega arith; free = λ f h. (f, h); sound = λ k. k; left = c.requires.others; fits = c.requires.fits; complete = refl }
 
 pub list_one-more-requires-clause-first : goal.list_one-more-requires-clause-first
 list_one-more-requires-clause-first g c = record { others = _; split = c.in-Some.ensures }
@@ -28,6 +28,7 @@ loop-first-preserved g c =
     let m = cross-split see (meeting b) xs (see c.loop-first.left) first.rect first.below (see c.in-Some.rest) c.in-Some.ensures in
     record {
       sum = omega (arith, s.sum, m, c.loop-first.invariant.sum);
+      most = λ f. omega (arith, s.most f, c.loop-first.invariant.most f, cross-split see f xs (see c.loop-first.left) first.rect first.below (see c.in-Some.rest) c.in-Some.ensures);
       free = λ f h. let p = s.free f in c.loop-first.invariant.free p.0 (all_cross-split see free xs (see c.loop-first.left) first.rect first.below (see c.in-Some.rest) c.in-Some.ensures p.1 h);
       sound = λ k. s.sound (c.loop-first.invariant.sound k);
       left = sound-others see n b (see c.loop-first.left) first (see c.in-Some.rest) c.in-Some.ensures c.loop-first.invariant.left;
@@ -44,6 +45,7 @@ returns-clause-listed g c =
     let m = cross-none meet xs (see c.loop-first.left) c.in_default.ensures in
     record {
       sum = omega (arith, m, c.loop-first.invariant.sum);
+      most = λ f. omega (arith, c.loop-first.invariant.most f);
       free = λ f. c.loop-first.invariant.free f (all_cross-none free xs (see c.loop-first.left) c.in_default.ensures);
       sound = c.loop-first.invariant.sound;
     }

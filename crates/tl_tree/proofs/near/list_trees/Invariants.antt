@@ -1,4 +1,4 @@
-use Rattle.std.proofs.Common.{◌≡◌, ◌+◌, ◌≤◌, length, take}
+use Rattle.std.proofs.Common.{◌≡◌, ℕ, ◌+◌, ◌≤◌, length, take}
 use Rattle.tl_tree.specs.Pairs.{meeting, AreFree, cross_sum, AllCross}
 use Rattle.tl_tree.specs.Trees.{leaf_items, node_count}
 use Rattle.tl_tree.specs.Keeping.Listing.{listed_items, AllSound}
@@ -15,6 +15,7 @@ invariant-loop-first g l =
     let free = AllCross (AreFree (g.I.Items.tells l.items)) (items_below see l.tree.below) in
     record {
       sum : meet (listed_items see (take l.more l.near)) + meet (leaf_items (see l.left)) ≡ meet (listed_items see (take l.fn.len l.fn.near)) + meet (leaf_items (see l.fn.others));
+      most : (f : ℕ → ℕ → ℕ) → let some = cross_sum f (items_below see l.tree.below) in some (listed_items see (take l.more l.near)) + some (leaf_items (see l.left)) ≤ some (listed_items see (take l.fn.len l.fn.near)) + some (leaf_items (see l.fn.others));
       free : free (listed_items see (take l.more l.near)) → free (leaf_items (see l.left)) → free (listed_items see (take l.fn.len l.fn.near)) × free (leaf_items (see l.fn.others));
       sound : AllSound n b see (take l.fn.len l.fn.near) → AllSound n b see (take l.more l.near);
       left : AreSound n b (see l.left);

@@ -3,14 +3,14 @@ use Rattle.std.proofs.lemmas.Bool.{false≢true}
 use Rattle.std.proofs.lemmas.List.{length-set, take-set, take_more_set, at_drop_all}
 use Rattle.tl_geom.specs.Rectangle.{AreMeeting}
 use Rattle.tl_tree.specs.Pairs.{meeting, cross_sum, AreFree, AllCross}
-use Rattle.tl_tree.proofs.Listing.{Lists, by_Bool, item-listed, item-apart, item-sum, item-free}
+use Rattle.tl_tree.proofs.Listing.{Lists, by_Bool, item-listed, item-apart, item-sum, item-most, item-free}
 use Rattle.tl_tree.proofs.PairLemmas.{cross-nil, all_cross-nil}
 use Rattle.tl_tree.proofs.Steps.{below-at}
 use Rattle.tl_tree.proofs.near_items.list_items.Goals as goal
 
 pub loop-other-init : goal.loop-other-init
 loop-other-init g c =
-    record { sum = omega arith; free = λ f h. (f, h); known = λ k. k; fits = omega arith; complete = omega arith }
+    record { sum = omega arith; most = λ f. omega arith; free = λ f h. (f, h); known = λ k. k; fits = omega arith; complete = omega arith }
 
 pub bounds-requires : goal.bounds-requires
 bounds-requires g c = below-at _ _ c.loop-other.other-index c.loop-other-test.true c.requires.others
@@ -39,6 +39,7 @@ loop-other-preserved g c =
     by_Bool c.are_apart.result (λ e. omega (arith, c.next_place-more.ensures.same e)) (λ e. omega (arith, c.next_place-more.ensures.next e)) in
     record {
       sum = omega (arith, step.sum, item-sum n b tells xs ys k c.loop-other-test.true, c.loop-other.invariant.sum);
+      most = λ f. omega (arith, step.most f, item-most n b tells xs f ys k c.loop-other-test.true, c.loop-other.invariant.most f);
       free = λ f h. let p = step.free f in c.loop-other.invariant.free p.0 (item-free n b tells xs ys k c.loop-other-test.true p.1 h);
       known = λ k. step.known (c.loop-other.invariant.known k);
       fits = omega (arith, fits, c.loop-other.invariant.fits);
@@ -55,6 +56,7 @@ returns-clause-listed g c =
     let P : List ℕ → Type 0 = AllCross (AreFree tells) xs in
     record {
       sum = omega (arith, s, cross-nil meet xs, c.loop-other.invariant.sum);
+      most = λ f. omega (arith, c.loop-other.invariant.most f);
       free = λ f. c.loop-other.invariant.free f (subst P (sym e) (all_cross-nil (AreFree tells) xs));
       known = c.loop-other.invariant.known;
     }

@@ -1,4 +1,4 @@
-use Rattle.std.proofs.Common.{◌≡◌, ◌+◌, ◌≤◌, length, take, drop}
+use Rattle.std.proofs.Common.{◌≡◌, ℕ, ◌+◌, ◌≤◌, length, take, drop}
 use Rattle.tl_tree.specs.Fits.{AreBelow}
 use Rattle.tl_tree.specs.Pairs.{meeting, AreFree, cross_sum, AllCross}
 use Rattle.tl_tree.proofs.near_items.list_items.Given as goal
@@ -10,6 +10,7 @@ invariant-loop-other g l =
     let free = AllCross (AreFree (g.I.Items.tells l.items)) l.some in
     record {
       sum : meet (take l.more l.near) + meet (drop l.other-index l.others) ≡ meet (take l.fn.len l.fn.near) + meet l.others;
+      most : (f : ℕ → ℕ → ℕ) → cross_sum f l.some (take l.more l.near) + cross_sum f l.some (drop l.other-index l.others) ≤ cross_sum f l.some (take l.fn.len l.fn.near) + cross_sum f l.some l.others;
       free : free (take l.more l.near) → free (drop l.other-index l.others) → free (take l.fn.len l.fn.near) × free l.others;
       known : AreBelow (g.I.Items.count l.items) (take l.fn.len l.fn.near) → AreBelow (g.I.Items.count l.items) (take l.more l.near);
       fits : l.more ≤ l.fn.len + l.other-index;

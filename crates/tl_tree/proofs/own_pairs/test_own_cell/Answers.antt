@@ -1,6 +1,10 @@
-use Rattle.std.proofs.Common.{◌%◌, arith}
+use Rattle.std.proofs.Common.{◌≤◌, ◌%◌, ◌⊎◌, length, inl, inr, arith}
+use Rattle.tl_tree.specs.Pairs.{meeting, AreFree}
 use Rattle.tl_tree.specs.Keeping.OwnPairs.{partner}
+use Rattle.tl_tree.proofs.Leaving.{enough_all}
+use Rattle.tl_tree.proofs.OwnPairs.{own-out, all-own-out}
 use Rattle.tl_tree.proofs.Steps.{below-at}
+use Rattle.tl_tree.proofs.own_pairs.test_own_cell.Goals.{then-some-first-via-then-some-first, then-some-first-via-else-some-first+then-some-second}
 use Rattle.tl_tree.proofs.own_pairs.test_own_cell.Goals as goal
 
 pub test_meeting-requires-clause-first : goal.test_meeting-requires-clause-first
@@ -8,3 +12,18 @@ test_meeting-requires-clause-first g c = below-at _ _ (partner c.args.place) (om
 
 pub test_meeting-requires-clause-second : goal.test_meeting-requires-clause-second
 test_meeting-requires-clause-second g c = below-at _ _ (c.args.place % 8) (omega (arith, c.if-some-first.false)) c.requires.some
+
+pub returns-then-some-first : goal.returns-then-some-first
+returns-then-some-first g c =
+    let xs = c.args.some.now in
+    let p = c.args.place in
+    let out : (length xs ≤ p % 8) ⊎ (length xs ≤ partner p) = elim c.then-some-first.branch [
+      | then-some-first-via-then-some-first w ↦ inl (omega (arith, w.if-some-first.true))
+      | then-some-first-via-else-some-first+then-some-second w ↦ inr (omega (arith, w.if-some-second.true))
+    ] in
+    record {
+      left = omega (arith, own-out (meeting (g.I.Items.bounds_of c.args.items.now)) xs p out);
+      spent = enough_all (λ f. omega arith);
+      free = all-own-out (AreFree (g.I.Items.tells c.args.items.now)) xs p out;
+      nothing_found = c.requires.nothing_found;
+    }

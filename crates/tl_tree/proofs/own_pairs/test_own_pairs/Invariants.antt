@@ -1,6 +1,7 @@
 use Rattle.std.proofs.Common.{None, ◌≡◌, ℕ, ◌+◌, ◌-◌, ◌≤◌}
 use Rattle.std.specs.Int.{bit_at}
 use Rattle.tl_tree.specs.Pairs.{meeting, AreFree}
+use Rattle.tl_tree.specs.Keeping.Walking.{Enough}
 use Rattle.tl_tree.proofs.OwnPairs.{own_sums, AllOwns}
 use Rattle.tl_tree.proofs.own_pairs.test_own_pairs.Given as goal
 
@@ -9,6 +10,7 @@ abbrev pub invariant-loop-later : goal.invariant-loop-later
 invariant-loop-later g l =
     record {
       left : l.progress.left + own_sums (meeting (g.I.Items.bounds_of l.items)) l.some l.place ≡ l.fn.progress.left;
+      spent : Enough (g.I.Items.count l.items) (g.I.Items.bounds_of l.items) (g.I.Items.tells l.items) (λ f. l.fn.progress.left ≤ l.progress.left + own_sums f l.some l.place);
       free : AllOwns (AreFree (g.I.Items.tells l.items)) l.some l.place;
       nothing_found : l.progress.found ≡ None;
       within : l.place ≤ 28;

@@ -6,9 +6,9 @@ use Rattle.tl_tree.specs.declared.walk.Below.{Below}
 use Rattle.tl_tree.specs.Trees.{leaf_items}
 use Rattle.tl_tree.specs.Keeping.Walking.{items_below, size_of}
 use Rattle.tl_tree.proofs.PairLemmas.{cross-swap, all_cross-swap}
-use Rattle.tl_tree.proofs.PairTests.{meeting-swap, free-turned}
+use Rattle.tl_tree.proofs.PairTests.{free-turned}
 use Rattle.tl_tree.proofs.Apart.{cross-apart, cross-free}
-use Rattle.tl_tree.proofs.Leaving.{stops, goes, leaves_same, leaves_both}
+use Rattle.tl_tree.proofs.Leaving.{enough_all, stops, goes, leaves_same, leaves_both}
 use Rattle.tl_tree.proofs.Roots.{first-root, includes-roots}
 use Rattle.tl_tree.proofs.Walks.{cross-none, cross-split, all_cross-none, all_cross-split, nodes-split, sound-children, sound-first, sound-others, size-above_0}
 use Rattle.tl_tree.proofs.search.+between.Goals as goal
@@ -38,7 +38,7 @@ search_marked-search_marked-requires g t c κs within =
     let rest = see c.in-Some.rest in
     let e = nodes-split see others other.rect other.below rest c.in-Some.ensures in
     let m = includes-roots see others other.rect other.below rest c.args.tree.now.rect c.args.marks c.later_marks.result c.in-Some.ensures c.later_marks.ensures.moved c.later_marks.ensures.last c.requires.marks in
-    (omega (arith, e, size-above_0 see other.below), (within.0, (within.1.0, (within.1.1, (c.requires.tree, (sound-others see (g.I.Items.count c.args.items.now) (g.I.Items.bounds_of c.args.items.now) others other rest c.in-Some.ensures c.requires.others, (m, (goes _ _ _ _ _ _ _ c.search_if_marked.ensures c.if-not-search_if_marked.false).nothing_found)))))))
+    (omega (arith, e, size-above_0 see other.below), (within.0, (within.1.0, (within.1.1, (c.requires.tree, (sound-others see (g.I.Items.count c.args.items.now) (g.I.Items.bounds_of c.args.items.now) others other rest c.in-Some.ensures c.requires.others, (m, (goes _ _ _ _ _ _ _ _ c.search_if_marked.ensures c.if-not-search_if_marked.false).nothing_found)))))))
 
 pub search_two-search_between-requires : goal.search_two-search_between-requires
 search_two-search_between-requires g t c κs within =
@@ -56,13 +56,13 @@ pub search_marked-returns-in_default : goal.search_marked-returns-in_default
 search_marked-returns-in_default g t c =
     let see = g.W.Trees.forest in
     let m = cross-none (meeting (g.I.Items.bounds_of c.args.items.now)) (items_below see c.args.tree.now.below) (see c.args.others.now) c.in_default.ensures in
-    record { left = omega (arith, m); free = all_cross-none (AreFree (g.I.Items.tells c.args.items.now)) (items_below see c.args.tree.now.below) (see c.args.others.now) c.in_default.ensures; nothing_found = c.requires.nothing_found }
+    record { left = omega (arith, m); spent = enough_all (λ f. omega arith); free = all_cross-none (AreFree (g.I.Items.tells c.args.items.now)) (items_below see c.args.tree.now.below) (see c.args.others.now) c.in_default.ensures; nothing_found = c.requires.nothing_found }
 
 pub search_marked-returns-then-not-search_if_marked : goal.search_marked-returns-then-not-search_if_marked
 search_marked-returns-then-not-search_if_marked g t c =
     let see = g.W.Trees.forest in
-    let m = cross-split see (meeting (g.I.Items.bounds_of c.args.items.now)) (items_below see c.args.tree.now.below) (see c.args.others.now) c.in-Some.other.rect c.in-Some.other.below (see c.in-Some.rest) c.in-Some.ensures in
-    stops _ _ _ _ _ _ _ _ _ c.search_if_marked.ensures c.if-not-search_if_marked.true (λ h. omega (arith, h, m))
+    stops _ _ _ _ _ _ _ _ _ _ c.search_if_marked.ensures c.if-not-search_if_marked.true
+    (λ f s e h. omega (arith, h, cross-split see f (items_below see c.args.tree.now.below) (see c.args.others.now) c.in-Some.other.rect c.in-Some.other.below (see c.in-Some.rest) c.in-Some.ensures))
 
 pub search_marked-returns : goal.search_marked-returns
 search_marked-returns g t c =
@@ -70,11 +70,11 @@ search_marked-returns g t c =
     let xs = items_below see c.args.tree.now.below in
     let n = g.I.Items.count c.args.items.now in
     let tells = g.I.Items.tells c.args.items.now in
-    let meet = meeting (g.I.Items.bounds_of c.args.items.now) in
-    leaves_same n tells _ _ _ _ _ _ c.search_marked.result
-    (sym (cross-split see meet xs (see c.args.others.now) c.in-Some.other.rect c.in-Some.other.below (see c.in-Some.rest) c.in-Some.ensures))
+    let b = g.I.Items.bounds_of c.args.items.now in
+    leaves_same n b tells _ _ _ _ _ _ c.search_marked.result
+    (λ f s. sym (cross-split see f xs (see c.args.others.now) c.in-Some.other.rect c.in-Some.other.below (see c.in-Some.rest) c.in-Some.ensures))
     (λ h. all_cross-split see (AreFree tells) xs (see c.args.others.now) c.in-Some.other.rect c.in-Some.other.below (see c.in-Some.rest) c.in-Some.ensures h.0 h.1)
-    (leaves_both n tells _ _ _ _ _ _ _ c.search_marked.result (goes _ _ _ _ _ _ _ c.search_if_marked.ensures c.if-not-search_if_marked.false) c.search_marked.ensures)
+    (leaves_both n b tells _ _ _ _ _ _ _ c.search_marked.result (goes _ _ _ _ _ _ _ _ c.search_if_marked.ensures c.if-not-search_if_marked.false) c.search_marked.ensures)
 
 pub search_two-returns-then-not-do_meet : goal.search_two-returns-then-not-do_meet
 search_two-returns-then-not-do_meet g t c =
@@ -86,18 +86,17 @@ search_two-returns-then-not-do_meet g t c =
     let ys = items_below see other.below in
     let no : AreMeeting tree.rect other.rect → ⊥ = λ h. false≢true (sym c.if-not-do_meet.true ∙ c.do_meet.ensures.1 h) in
     let m : cross_sum (meeting b) xs ys ≡ 0 = cross-apart b tree.rect other.rect xs ys no c.requires.tree.covers c.requires.other.covers in
-    record { left = omega (arith, m); free = cross-free b (g.I.Items.count c.args.items.now) (g.I.Items.tells c.args.items.now) (g.met.I.Items.apart c.args.items.now) tree.rect other.rect xs ys no c.requires.tree.known c.requires.other.known c.requires.tree.covers c.requires.other.covers; nothing_found = c.requires.nothing_found }
+    record { left = omega (arith, m); spent = enough_all (λ f. omega arith); free = cross-free b (g.I.Items.count c.args.items.now) (g.I.Items.tells c.args.items.now) (g.met.I.Items.apart c.args.items.now) tree.rect other.rect xs ys no c.requires.tree.known c.requires.other.known c.requires.tree.covers c.requires.other.covers; nothing_found = c.requires.nothing_found }
 
 pub search_two-returns-in-Children-default : goal.search_two-returns-in-Children-default
 search_two-returns-in-Children-default g t c =
     let see = g.W.Trees.forest in
     let other = items_below see c.args.other.now.below in
     let kids = leaf_items (see c.in-Children-default.children) in
-    let meet = meeting (g.I.Items.bounds_of c.args.items.now) in
     let tells = g.I.Items.tells c.args.items.now in
     let P : Below g.row.W.Denot → Type 0 = λ u. AllCross (AreFree tells) (items_below see u) other in
-    leaves_same (g.I.Items.count c.args.items.now) tells _ _ _ _ _ _ c.search_between-in-Children-default.result
-    (cross-swap meet (meeting-swap (g.I.Items.bounds_of c.args.items.now)) other kids ∙ ap (λ (u : Below g.row.W.Denot). cross_sum meet (items_below see u) other) (sym c.in-Children-default.is-0))
+    leaves_same (g.I.Items.count c.args.items.now) (g.I.Items.bounds_of c.args.items.now) tells _ _ _ _ _ _ c.search_between-in-Children-default.result
+    (λ f s. cross-swap f s other kids ∙ ap (λ (u : Below g.row.W.Denot). cross_sum f (items_below see u) other) (sym c.in-Children-default.is-0))
     (λ h. subst P (sym c.in-Children-default.is-0) (all_cross-swap (AreFree tells) (free-turned tells) other kids h))
     c.search_between-in-Children-default.ensures
 
@@ -111,4 +110,4 @@ search_if_marked-returns-else-marked g t c =
     let ys = items_below see other.below in
     let no : AreMeeting tree.rect other.rect → ⊥ = λ m. c.requires.unmarked c.if-marked.false (record { point = m.point; in_first = m.in_second; in_second = m.in_first }) in
     let m : cross_sum (meeting b) xs ys ≡ 0 = cross-apart b tree.rect other.rect xs ys no c.requires.tree.covers c.requires.other.covers in
-    record { left = omega (arith, m); free = cross-free b (g.I.Items.count c.args.items.now) (g.I.Items.tells c.args.items.now) (g.met.I.Items.apart c.args.items.now) tree.rect other.rect xs ys no c.requires.tree.known c.requires.other.known c.requires.tree.covers c.requires.other.covers; nothing_found = c.requires.nothing_found }
+    record { left = omega (arith, m); spent = enough_all (λ f. omega arith); free = cross-free b (g.I.Items.count c.args.items.now) (g.I.Items.tells c.args.items.now) (g.met.I.Items.apart c.args.items.now) tree.rect other.rect xs ys no c.requires.tree.known c.requires.other.known c.requires.tree.covers c.requires.other.covers; nothing_found = c.requires.nothing_found }

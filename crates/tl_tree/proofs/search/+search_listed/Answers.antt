@@ -2,7 +2,7 @@ use Rattle.std.proofs.Common.{◌≡◌, ap, sym, subst, List, ℕ, ◌++◌, ar
 use Rattle.tl_tree.specs.Pairs.{meeting, cross_sum, AllCross, AreFree}
 use Rattle.tl_tree.specs.Keeping.Listing.{first_items, listed_items}
 use Rattle.tl_tree.specs.Keeping.Walking.{items_below}
-use Rattle.tl_tree.proofs.Leaving.{stops, goes, leaves_same, leaves_both}
+use Rattle.tl_tree.proofs.Leaving.{enough_all, stops, goes, leaves_same, leaves_both}
 use Rattle.tl_tree.proofs.Listing.{listed-none}
 use Rattle.tl_tree.proofs.PairLemmas.{cross-nil, cross-append_right, all_cross-nil, all_cross-join}
 use Rattle.tl_tree.proofs.search.+search_listed.Goals as goal
@@ -16,6 +16,7 @@ returns-in_default g t c =
     let P : List ℕ → Type 0 = AllCross (AreFree (g.I.Items.tells c.args.items.now)) xs in
     record {
       left = omega (arith, ap (cross_sum meet xs) e, cross-nil meet xs);
+      spent = enough_all (λ f. omega arith);
       free = subst P (sym e) (all_cross-nil (AreFree (g.I.Items.tells c.args.items.now)) xs);
       nothing_found = c.requires.nothing_found;
     }
@@ -24,10 +25,8 @@ pub returns-then-not-search_first : goal.returns-then-not-search_first
 returns-then-not-search_first g t c =
     let see = g.W.Trees.forest in
     let xs = items_below see c.args.tree.now.below in
-    let meet = meeting (g.I.Items.bounds_of c.args.items.now) in
-    let e = ap (λ ws. cross_sum meet xs (listed_items see ws)) c.in-Some.ensures.cases.0 in
-    let s = cross-append_right meet xs (first_items (see c.in-Some.at.now)) (listed_items see c.in-Some.rest.now) in
-    stops _ _ _ _ _ _ _ _ _ c.search_first.ensures c.if-not-search_first.true (λ h. omega (arith, h, e, s))
+    stops _ _ _ _ _ _ _ _ _ _ c.search_first.ensures c.if-not-search_first.true
+    (λ f s u h. omega (arith, h, ap (λ ws. cross_sum f xs (listed_items see ws)) c.in-Some.ensures.cases.0, cross-append_right f xs (first_items (see c.in-Some.at.now)) (listed_items see c.in-Some.rest.now)))
 
 pub returns : goal.returns
 returns g t c =
@@ -35,13 +34,12 @@ returns g t c =
     let xs = items_below see c.args.tree.now.below in
     let n = g.I.Items.count c.args.items.now in
     let tells = g.I.Items.tells c.args.items.now in
-    let meet = meeting (g.I.Items.bounds_of c.args.items.now) in
+    let b = g.I.Items.bounds_of c.args.items.now in
     let ys = first_items (see c.in-Some.at.now) in
     let zs = listed_items see c.in-Some.rest.now in
     let e : listed_items see c.args.near.now ≡ ys ++ zs = ap (listed_items see) c.in-Some.ensures.cases.0 in
     let P : List ℕ → Type 0 = AllCross (AreFree tells) xs in
-    let s = cross-append_right meet xs ys zs in
-    leaves_same n tells _ _ _ _ _ _ c.search_listed.result
-    (omega (arith, s, ap (cross_sum meet xs) e))
+    leaves_same n b tells _ _ _ _ _ _ c.search_listed.result
+    (λ f s. omega (arith, cross-append_right f xs ys zs, ap (cross_sum f xs) e))
     (λ h. subst P (sym e) (all_cross-join (AreFree tells) xs ys zs h.0 h.1))
-    (leaves_both n tells _ _ _ _ _ _ _ c.search_listed.result (goes _ _ _ _ _ _ _ c.search_first.ensures c.if-not-search_first.false) c.search_listed.ensures)
+    (leaves_both n b tells _ _ _ _ _ _ _ c.search_listed.result (goes _ _ _ _ _ _ _ _ c.search_first.ensures c.if-not-search_first.false) c.search_listed.ensures)

@@ -3,6 +3,7 @@ use Rattle.tl_tree.specs.Pairs.{meeting, cross_sum, AllCross, AreFree}
 use Rattle.tl_tree.specs.Keeping.Listing.{first_items}
 use Rattle.tl_tree.specs.Keeping.Walking.{items_below}
 use Rattle.tl_tree.proofs.PairLemmas.{cross-nil, all_cross-nil}
+use Rattle.tl_tree.proofs.Leaving.{enough_all}
 use Rattle.tl_tree.proofs.Walks.{sound-first}
 use Rattle.tl_tree.proofs.search.search_first.Goals as goal
 
@@ -15,6 +16,7 @@ returns-in_default g c =
     let P : List ℕ → Type 0 = AllCross (AreFree (g.I.Items.tells c.args.items.now)) xs in
     record {
       left = omega (arith, ap (cross_sum meet xs) e, cross-nil meet xs);
+      spent = enough_all (λ f. omega arith);
       free = subst P (sym e) (all_cross-nil (AreFree (g.I.Items.tells c.args.items.now)) xs);
       nothing_found = c.requires.nothing_found;
     }

@@ -1,10 +1,7 @@
-use Rattle.std.proofs.Common.{◌∙◌, [], refl, arith}
-use Rattle.tl_tree.specs.Pairs.{meeting, pair_sum}
+use Rattle.std.proofs.Common.{refl, arith}
 use Rattle.tl_tree.specs.Trees.{leaf_items}
-use Rattle.tl_tree.specs.Keeping.Listing.{sum_beside}
-use Rattle.tl_tree.proofs.Finishing.{answer-whole, meeting-of, free-of}
+use Rattle.tl_tree.proofs.Finishing.{answer-whole, sum-of, free-of}
 use Rattle.tl_tree.proofs.PairLemmas.{cross-nil}
-use Rattle.std.proofs.Common.{◌≡◌}
 use Rattle.tl_tree.proofs.search.search_trees.Goals as goal
 
 pub returns : goal.returns
@@ -14,5 +11,4 @@ returns g c =
     let tells = g.I.Items.tells c.args.items.now in
     let f = g.W.Trees.forest c.args.trees.now in
     let xs = leaf_items f in
-    let e : sum_beside (meeting b) xs [] ≡ pair_sum (meeting b) xs = omega (arith, cross-nil (meeting b) xs) in
-    rw c.answer.ensures (answer-whole n b tells c.args.budget _ _ _ _ _ (e ∙ meeting-of f n b c.requires) refl (λ h. free-of f n b tells c.requires h.0) c.search_within-goes_on.ensures)
+    rw c.answer.ensures (answer-whole n b tells c.args.budget _ _ _ _ _ (λ h s. omega (arith, cross-nil h xs, sum-of f n b c.requires h s)) refl (λ h. free-of f n b tells c.requires h.0) c.search_within-goes_on.ensures)

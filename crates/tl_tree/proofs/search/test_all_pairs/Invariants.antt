@@ -1,5 +1,6 @@
-use Rattle.std.proofs.Common.{None, ◌≡◌, ◌+◌, drop}
+use Rattle.std.proofs.Common.{None, ◌≡◌, ◌+◌, ◌≤◌, drop}
 use Rattle.tl_tree.specs.Pairs.{meeting, AreFree, pair_sum, AllPairs}
+use Rattle.tl_tree.specs.Keeping.Walking.{Enough}
 use Rattle.tl_tree.proofs.search.test_all_pairs.Given as goal
 
 -- what is left covers what was met so far, and so far nothing conflicted
@@ -9,6 +10,7 @@ invariant-loop-k g l =
     let free = AllPairs (AreFree (g.I.Items.tells l.items)) in
     record {
       left : l.progress.left + meet l.some ≡ l.fn.progress.left + meet (drop l.k l.some);
+      spent : Enough (g.I.Items.count l.items) (g.I.Items.bounds_of l.items) (g.I.Items.tells l.items) (λ f. l.fn.progress.left + pair_sum f (drop l.k l.some) ≤ l.progress.left + pair_sum f l.some);
       free : free (drop l.k l.some) → free l.some;
       nothing_found : l.progress.found ≡ None;
     }

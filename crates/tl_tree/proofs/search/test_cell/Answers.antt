@@ -1,7 +1,7 @@
 use Rattle.std.proofs.Common.{ℕ, List, get_or, take, sym, subst, arith}
 use Rattle.std.proofs.lemmas.List.{at_drop_more, at_drop_all}
 use Rattle.tl_tree.specs.Pairs.{meeting, row_sum, AllRow, AreFree}
-use Rattle.tl_tree.proofs.Leaving.{leaves_same}
+use Rattle.tl_tree.proofs.Leaving.{enough_all, leaves_same}
 use Rattle.tl_tree.proofs.Steps.{below-at}
 use Rattle.tl_tree.proofs.search.test_cell.Goals as goal
 
@@ -14,6 +14,7 @@ returns-then-others-at g c =
     let none = at_drop_all (λ (zs : List ℕ). zs) ys c.args.at c.if-others-at.true in
     record {
       left = omega (arith, at_drop_all (λ zs. row_sum meet i (take 1 zs)) ys c.args.at c.if-others-at.true);
+      spent = enough_all (λ f. omega arith);
       free = subst P (sym none) tt;
       nothing_found = c.requires.nothing_found;
     }
@@ -32,9 +33,8 @@ returns g c =
     let meet = meeting (g.I.Items.bounds_of c.args.items.now) in
     let tells = g.I.Items.tells c.args.items.now in
     let P : List ℕ → Type 0 = λ zs. AllRow (AreFree tells) i (take 1 zs) in
-    let sum = at_drop_more (λ zs. row_sum meet i (take 1 zs)) ys at 0 (omega (arith, c.if-others-at.false)) in
     let one = at_drop_more (λ (zs : List ℕ). zs) ys at 0 (omega (arith, c.if-others-at.false)) in
-    leaves_same (g.I.Items.count c.args.items.now) tells (meet i (get_or ys at 0)) (AreFree tells i (get_or ys at 0)) _ _ _ _ c.test_meeting.result
-    (omega (arith, sum))
+    leaves_same (g.I.Items.count c.args.items.now) (g.I.Items.bounds_of c.args.items.now) tells (λ f. f i (get_or ys at 0)) (AreFree tells i (get_or ys at 0)) _ _ _ _ c.test_meeting.result
+    (λ f s. let sum = at_drop_more (λ (zs : List ℕ). row_sum f i (take 1 zs)) ys at 0 (omega (arith, c.if-others-at.false)) in omega (arith, sum))
     (λ f. subst P (sym one) (f, tt))
     c.test_meeting.ensures

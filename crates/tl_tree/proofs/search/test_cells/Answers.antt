@@ -2,8 +2,8 @@ use Rattle.std.proofs.Common.{◌≡◌, ℕ, suc, ◌+◌, ◌/◌, ◌^◌, �
 use Rattle.std.specs.Int.{bit_at, trailing_zeros}
 use Rattle.std.proofs.lemmas.Nat.Bits.{bit_at-suc, bit_at-zero, bit_at-trailing_zeros}
 use Rattle.tl_tree.specs.Pairs.{meeting, AreFree}
-use Rattle.tl_tree.proofs.CellRows.{bit-behind, rest-start, rest-end, cell-step, all-rest-start, all-rest-end, all-cell-step, marked-meets, skip-unmarked, free-skip}
-use Rattle.tl_tree.proofs.Leaving.{stops, goes}
+use Rattle.tl_tree.proofs.CellRows.{bit-behind, rest-start, rest-end, cell-step, all-rest-start, all-rest-end, all-cell-step, marked-meets, skip-unmarked, skip-least, free-skip}
+use Rattle.tl_tree.proofs.Leaving.{enough_all, enough_from, enough_both, stops_after, goes}
 use Rattle.tl_tree.proofs.Steps.{below-at}
 use Rattle.tl_tree.proofs.search.test_cells.Goals as goal
 
@@ -18,6 +18,7 @@ loop-later-init g c =
     let e = rest-start meet c.args.some.now c.args.others.now in
     record {
       left = omega (arith, e);
+      spent = enough_all (λ f. let e = rest-start f c.args.some.now c.args.others.now in omega (arith, e));
       free = all-rest-start free c.args.some.now c.args.others.now;
       nothing_found = c.requires.nothing_found;
       within = omega arith;
@@ -39,6 +40,7 @@ returns-then-some-row g c =
     let e = rest-end (meeting b) xs ys (p + t) c.if-some-row.true in
     record {
       left = omega (arith, s, e, c.loop-later.invariant.left);
+      spent = enough_from c.loop-later.invariant.spent (λ f s p. omega (arith, p));
       free = c.loop-later.invariant.free (free-skip b xs ys c.args.cells c.requires.cells c.requires.few_others n tells (g.met.I.Items.apart c.args.items.now) c.requires.some c.requires.others t p none (all-rest-end (AreFree tells) xs ys (p + t) c.if-some-row.true));
       nothing_found = c.loop-later.invariant.nothing_found;
     }
@@ -63,17 +65,13 @@ test_cell-requires-clause-nothing_found g c = c.loop-later.invariant.nothing_fou
 
 pub returns-then-not-test_cell : goal.returns-then-not-test_cell
 returns-then-not-test_cell g c =
-    let b = g.I.Items.bounds_of c.args.items.now in
     let xs = c.args.some.now in
     let ys = c.args.others.now in
-    let m = c.loop-later.later in
     let p = c.loop-later.place in
-    let t = trailing_zeros w64 m in
+    let t = trailing_zeros w64 c.loop-later.later in
     let q = p + t in
-    let none : (k : ℕ) → k < t → bit_at c.args.cells (p + k) ≡ 0 = λ k l. sym (c.loop-later.invariant.marks k) ∙ (first m c.loop-later-test.true c.loop-later.auto.later-fits.fits).1 k l in
-    let s = skip-unmarked b xs ys c.args.cells c.requires.cells c.requires.few_others t p none in
-    let e = cell-step (meeting b) xs ys q (omega (arith, c.if-some-row.false)) c.requires.few_others in
-    stops _ _ _ _ _ _ _ _ _ c.test_cell.ensures c.if-not-test_cell.true (λ h. omega (arith, h, s, e, c.loop-later.invariant.left))
+    let row : q / 8 < length xs = omega (arith, c.if-some-row.false) in
+    stops_after _ _ _ _ _ _ _ _ _ _ c.test_cell.ensures c.if-not-test_cell.true c.loop-later.invariant.spent (λ f s i u h. omega (arith, h, i, cell-step f xs ys q row c.requires.few_others, skip-least f xs ys c.requires.few_others t p))
 
 pub loop-later-preserved : goal.loop-later-preserved
 loop-later-preserved g c =
@@ -90,9 +88,10 @@ loop-later-preserved g c =
     let row : q / 8 < length xs = omega (arith, c.if-some-row.false) in
     let s = skip-unmarked b xs ys c.args.cells c.requires.cells c.requires.few_others t p none in
     let e = cell-step (meeting b) xs ys q row c.requires.few_others in
-    let k = goes _ _ _ _ _ _ _ c.test_cell.ensures c.if-not-test_cell.false in
+    let k = goes _ _ _ _ _ _ _ _ c.test_cell.ensures c.if-not-test_cell.false in
     record {
       left = omega (arith, s, e, k.left, c.loop-later.invariant.left);
+      spent = enough_both k.spent c.loop-later.invariant.spent (λ f s u i. omega (arith, u, i, cell-step f xs ys q row c.requires.few_others, skip-least f xs ys c.requires.few_others t p));
       free = λ h. c.loop-later.invariant.free (free-skip b xs ys c.args.cells c.requires.cells c.requires.few_others n tells (g.met.I.Items.apart c.args.items.now) c.requires.some c.requires.others t p none (all-cell-step (AreFree tells) xs ys q row c.requires.few_others k.free h));
       nothing_found = k.nothing_found;
       within = omega (arith, row, c.requires.few);
@@ -113,6 +112,7 @@ returns g c =
     let e = rest-end (meeting b) xs ys (p + 64) beyond in
     record {
       left = omega (arith, s, e, c.loop-later.invariant.left);
+      spent = enough_from c.loop-later.invariant.spent (λ f s p. omega (arith, p));
       free = c.loop-later.invariant.free (free-skip b xs ys c.args.cells c.requires.cells c.requires.few_others n tells (g.met.I.Items.apart c.args.items.now) c.requires.some c.requires.others 64 p none (all-rest-end (AreFree tells) xs ys (p + 64) beyond));
       nothing_found = c.loop-later.invariant.nothing_found;
     }

@@ -1,5 +1,6 @@
-use Rattle.std.proofs.Common.{None, ◌≡◌, ◌+◌, drop}
+use Rattle.std.proofs.Common.{None, ◌≡◌, ◌+◌, ◌≤◌, drop}
 use Rattle.tl_tree.specs.Pairs.{meeting, AreFree, row_sum, AllRow}
+use Rattle.tl_tree.specs.Keeping.Walking.{Enough}
 use Rattle.tl_tree.proofs.search.test_each.Given as goal
 
 -- what is left covers what was met so far, and so far nothing conflicted
@@ -9,6 +10,7 @@ invariant-loop-j g l =
     let free = AllRow (AreFree (g.I.Items.tells l.items)) l.i in
     record {
       left : l.progress.left + meet l.others ≡ l.fn.progress.left + meet (drop l.j-index l.others);
+      spent : Enough (g.I.Items.count l.items) (g.I.Items.bounds_of l.items) (g.I.Items.tells l.items) (λ f. l.fn.progress.left + row_sum f l.i (drop l.j-index l.others) ≤ l.progress.left + row_sum f l.i l.others);
       free : free (drop l.j-index l.others) → free l.others;
       nothing_found : l.progress.found ≡ None;
     }

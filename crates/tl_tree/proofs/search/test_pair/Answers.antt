@@ -2,6 +2,7 @@ use Rattle.std.proofs.Common.{sym, ◌∙◌, arith}
 use Rattle.std.proofs.lemmas.Bool.{false≢true}
 use Rattle.tl_geom.specs.Rectangle.{AreMeeting}
 use Rattle.tl_tree.proofs.Apart.{one-none, one-none_free}
+use Rattle.tl_tree.proofs.Leaving.{enough_all}
 use Rattle.tl_tree.proofs.search.test_pair.Goals as goal
 
 pub test_meeting-requires-clause-meeting : goal.test_meeting-requires-clause-meeting
@@ -13,4 +14,4 @@ returns-else-meets g c =
     let b = g.I.Items.bounds_of c.args.items.now in
     let no : AreMeeting (b c.args.j) (b c.args.i) → ⊥ = λ h. false≢true (sym c.if-meets.false ∙ c.meets.ensures.1 (rw (c.bounds.ensures, c.bounds-2.ensures) h)) in
     let e = one-none b c.args.i c.args.j no in
-    record { left = omega (arith, e); free = one-none_free n (g.I.Items.tells c.args.items.now) b (g.met.I.Items.apart c.args.items.now) c.args.i c.args.j c.requires.first c.requires.second no; nothing_found = c.requires.nothing_found }
+    record { left = omega (arith, e); spent = enough_all (λ f. omega arith); free = one-none_free n (g.I.Items.tells c.args.items.now) b (g.met.I.Items.apart c.args.items.now) c.args.i c.args.j c.requires.first c.requires.second no; nothing_found = c.requires.nothing_found }
