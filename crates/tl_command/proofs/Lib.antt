@@ -1,5 +1,4 @@
 pub mod AuditLemmas
-pub mod BuildLemmas
 pub mod MakingLemmas
 pub mod ConvertLemmas
 pub mod OpenLemmas

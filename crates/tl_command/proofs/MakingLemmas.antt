@@ -1,27 +1,22 @@
 -- What comes of making a certificate, and of telling it.
-use Rattle.std.proofs.Common.{◌≡◌, ◌≢◌, ◌⊎◌, inl, inr, ℕ, List, Option, Some, Result, Ok, Err, length, sym, subst, ap, ◌∙◌, arith}
+use Rattle.std.proofs.Common.{◌≡◌, ◌≢◌, ◌⊎◌, inl, inr, ℕ, List, Option, Result, Ok, Err, length, sym, ◌∙◌, arith}
 use Rattle.std.specs.Bool.{⊤}
 use Rattle.std.specs.Option.{IfSome}
-use Rattle.std.specs.Result.{IfErr}
 use Rattle.tl_record.specs.declared.layout.Layout.{Layout}
 use Rattle.tl_record.specs.Records.{records_of}
-use Rattle.tl_map.specs.declared.fault.MapFault.{MapFault as RecordFault}
-use Rattle.tl_map.specs.declared.fault.MapStop.{MapStop}
 use Rattle.tl_map.specs.declared.fault.MapStop.TheVariants as map_stop
 use Rattle.std.proofs.lemmas.List.{take_all}
 use Rattle.tl_output.specs.Writing.{Writes}
 use Rattle.tl_county.specs.TheMap.{TheMap}
-use Rattle.tl_map.specs.Reading.{IsReadFrom, StopsReading, TellsDevice}
+use Rattle.tl_map.specs.Reading.{IsReadFrom}
 use Rattle.tl_cert.specs.Certificates.{TheCertificate}
 use Rattle.tl_cert.specs.Text.{certificate_text}
 use Rattle.tl_cert.specs.Beginnings.{IsTextOf}
-use Rattle.tl_check.specs.declared.fault.MapFault.TheVariants.{Records}
 use Rattle.tl_check.specs.declared.verdict.Report.{Report}
 use Rattle.tl_check.specs.declared.verdict.Verdict.TheVariants as verdict
 use Rattle.tl_check.specs.Sound.{IsSound}
 use Rattle.tl_check.specs.Valid.{IsValid}
 use Rattle.tl_check.specs.Verdicts.{AreNumbers}
-use Rattle.tl_check.specs.Records.{IsTrueOfRecords}
 use Rattle.tl_check.proofs.Recorded.{map_fault}
 use Rattle.tl_command.specs.declared.building.Making.{Making}
 use Rattle.tl_command.specs.declared.building.Making.TheVariants.{Made, Fault}
@@ -76,14 +71,6 @@ keeps_count old new (Err (Refused line cause)) same = same
 keeps_count old new (Err Memory) same = same
 keeps_count old new (Err Device) same = tt
 keeps_count old new (Err Budget) same = same
-
--- why the records have no map
-pub stops_of : {T : Type 0} (layout : Layout) (known : Option (List ℕ)) (answer : Result T MapStop) (stop : MapStop) → answer ≡ Err stop
-    → IfErr answer (λ s. IfSome known (λ text. StopsReading (records_of layout text) s)) → IfSome known (λ text. StopsReading (records_of layout text) stop)
-stops_of layout known answer stop is stops = subst (λ a. IfErr a (λ s. IfSome known (λ text. StopsReading (records_of layout text) s))) is stops
-
-pub tells_of : {T : Type 0} (old new : ℕ) (answer other : Result T MapStop) → answer ≡ other → TellsDevice old new answer → TellsDevice old new other
-tells_of old new answer other is tells = subst (λ a. TellsDevice old new a) is tells
 
 -- a line that was written, or not
 pub line_told : (status wanted : ℕ) (written : Type 0) (told : List ℕ → Type 0) (failed err_same : Type 0) → (status ≡ wanted) ⊎ (status ≡ STOPPED) → (status ≡ wanted → written)

@@ -1,6 +1,6 @@
 -- What a run over the files of a file system answers.
-use Rattle.std.proofs.Common.{◌≡◌, ◌≢◌, ◌⊎◌, inl, inr, ℕ, ◌+◌, ◌<◌, ◌≤◌, Bool, false, List, [], ◌∷◌, ◌++◌, length, drop, get_or, map, Option, Some, None, Result, Ok, Err, refl, sym, subst, ap, ◌∙◌}
-use Rattle.std.specs.Prelude.{⊤, string_bytes, codes, is_some, is_ok, true}
+use Rattle.std.proofs.Common.{◌≡◌, ◌≢◌, ◌⊎◌, inl, inr, ℕ, Bool, false, List, [], ◌∷◌, map, Option, Some, None, Result, Ok, Err, refl, sym, subst, ap, ◌∙◌}
+use Rattle.std.specs.Prelude.{⊤, codes, is_some, is_ok, true}
 use Rattle.std.specs.Option.{IfSome, option_map}
 use Rattle.std.specs.Fmt.{option_append}
 use Rattle.std.specs.Io.KnownBytes.{Appends}
@@ -8,7 +8,6 @@ use Rattle.tl_record.specs.declared.layout.Layout.{Layout}
 use Rattle.tl_record.specs.declared.options.Options.{Options}
 use Rattle.tl_record.specs.Layout.{layout_with}
 use Rattle.tl_text.specs.Joining.{joined_bytes, closed}
-use Rattle.std.proofs.lemmas.List.{append-nil, append_assoc, at_drop_more, at_drop_all, map_push}
 use Rattle.tl_plan.specs.CommandLine.{files_of}
 use Rattle.tl_output.specs.Writing.{line_of}
 use Rattle.tl_files.specs.declared.file_system.Room.{Room}
@@ -27,13 +26,12 @@ use Rattle.tl_command.specs.declared.building.Making.{Making}
 use Rattle.tl_command.specs.declared.building.Making.TheVariants.{Made, Fault}
 use Rattle.tl_command.specs.declared.convert.Converted.{Converted}
 use Rattle.tl_command.specs.declared.stop.Stop.{Stop}
-use Rattle.tl_command.specs.declared.stop.Stop.TheVariants.{Refused, Memory, Device, Budget}
+use Rattle.tl_command.specs.declared.stop.Stop.TheVariants.{Memory, Device}
 use Rattle.tl_command.specs.declared.stop.TheConstants.{DONE, MAP_FAULT, CERT_FAULT, REFUSED, STOPPED, USAGE}
-use Rattle.tl_command.specs.Running.{IsAnswered, IsBuilt, IsConverted, FaultsMap, NamesFault, FaultsCertificate, NamesRefusal, StopsRun, NamesStop, IsRunStatus, IsTold, ReadsNoCertificate, MakesNoCertificate, layout_of}
+use Rattle.tl_command.specs.Running.{IsAnswered, IsBuilt, FaultsMap, NamesFault, FaultsCertificate, NamesRefusal, StopsRun, IsRunStatus, ReadsNoCertificate, MakesNoCertificate, layout_of}
 use Rattle.tl_command.specs.Making.{Makes, OfMap, IsBegunOf, TellsMaking, Rewrites, BeginsRewritten, TellsConverted, was_made}
 use Rattle.tl_command.specs.Deciding.{IsExact}
-use Rattle.tl_command.specs.Opening.{RunsOver, records_under, certificate_under, Stands, KeepsOthers, KeepsAll, RefusesName, IsCheckBy, IsBuildOf, IsConversionBy, Converts, names_read, made_by}
-use Rattle.tl_command.specs.Starting.{StopsOpening}
+use Rattle.tl_command.specs.Opening.{RunsOver, records_under, certificate_under, Stands, KeepsOthers, KeepsAll, RefusesName, IsBuildOf, IsConversionBy, Converts, names_read, made_by}
 use Rattle.tl_command.proofs.DecidingLemmas.{build_decides}
 use Rattle.tl_command.proofs.MakingLemmas.{not_done, making_status, making_built, making_fault, making_refused, making_stopped, making_err_stays}
 use Rattle.tl_command.proofs.ConvertLemmas.{converted_status, converted_is, converted_fault, converted_stopped, converted_err_stays}
@@ -57,21 +55,6 @@ pub records_are : {A B : Type 0} (f : A → Option (List ℕ)) (h : B → List �
     → map h names ≡ files_of plan → joined_bytes f false readers ≡ records_under under plan
 records_are f h plan under readers names same files =
     joined_same f (λ name. bytes_under under (h name)) false readers names same ∙ joined_names (bytes_under under) h false names ∙ ap (joined_bytes (bytes_under under) false) files
-
--- one more file is opened
-pub opened_more : {A B : Type 0} (f : A → Option (List ℕ)) (g : B → Option (List ℕ)) (readers more : List A) (names : List B) (i : ℕ) (x : A) (d : B) → i < length names → more ≡ readers ++ x ∷ [] → f x ≡ g (get_or names i d)
-    → map f readers ++ map g (drop i names) ≡ map g names → map f more ++ map g (drop (i + 1) names) ≡ map g names
-opened_more f g readers more names i x d lt is at before =
-    ap (λ rs. map f rs ++ map g (drop (i + 1) names)) is
-    ∙ ap (λ ys. ys ++ map g (drop (i + 1) names)) (map_push f readers x)
-    ∙ append_assoc (map f readers) (f x ∷ []) (map g (drop (i + 1) names))
-    ∙ ap (λ y. map f readers ++ y ∷ map g (drop (i + 1) names)) at
-    ∙ ap (λ ys. map f readers ++ ys) (sym (at_drop_more (λ (ns : List _). map g ns) names i d lt))
-    ∙ before
-
-pub opened_all : {A B : Type 0} (f : A → Option (List ℕ)) (g : B → Option (List ℕ)) (readers : List A) (names : List B) (i : ℕ) → length names ≤ i → map f readers ++ map g (drop i names) ≡ map g names
-    → map f readers ≡ map g names
-opened_all f g readers names i all before = sym (append-nil (map f readers)) ∙ ap (λ ys. map f readers ++ ys) (sym (at_drop_all (λ (ns : List _). map g ns) names i all)) ∙ before
 
 -- ---- a run that makes no file
 
@@ -146,93 +129,7 @@ over_plain plan under known spelt status unread made wrote told out_same err_sam
   unmade = λ not_done not_stopped name other. refl;
 }
 
--- the same of a certificate that decides
-pub over_check : (plan : Plan) (name : List ℕ) (under : Under) (known spelt : Option (List ℕ)) (status : ℕ) (unread : Type 0) (made wrote told : List ℕ → Type 0) (out_same err_same : Type 0)
-    → IsCheckBy plan name → known ≡ records_under under plan → spelt ≡ certificate_under under plan
-    → IsRunStatus status → (status ≡ DONE → IsAnswered plan known spelt made wrote) → (status ≡ MAP_FAULT → FaultsMap plan known unread wrote)
-    → ((status ≡ DONE) ⊎ (status ≡ MAP_FAULT) → IsExact plan known status)
-    → (status ≡ CERT_FAULT → FaultsCertificate plan known spelt wrote) → (status ≡ REFUSED → NamesRefusal (layout_of plan) known told)
-    → (status ≡ STOPPED → StopsRun plan known told ⊤) → ((status ≡ DONE) ⊎ ((status ≡ MAP_FAULT) ⊎ (status ≡ CERT_FAULT)) → err_same) → (status ≡ REFUSED → out_same)
-    → RunsOver plan status under under wrote told out_same err_same
-over_check plan name under known spelt status unread made wrote told out_same err_same by same reads is answered fault exactly cert_fault refused stopped err_stays out_stays = record {
-  is_status = inl is;
-  answered = λ e. rw (← same, ← reads) (kept plan by (answered e));
-  fault = λ e. rw (← same) (fault_read plan known unread wrote (fault e));
-  exactly = λ e. rw (← same) (exactly e);
-  cert_fault = λ e. rw (← same, ← reads) (cert_fault e);
-  refused = λ e. rw (← same) (refused e);
-  stopped = λ e. rw (← same) (stopped e);
-  usage = λ e. absurd (no_usage status is e);
-  err_stays = err_stays;
-  out_stays = λ e. elim e [ inl r ↦ out_stays r | inr u ↦ absurd (no_usage status is u) ];
-  others = λ other_name other. refl;
-  begun = λ e. inl (λ other_name other. refl);
-  unmade = λ not_done not_stopped other_name other. refl;
-}
-  where
-    kept : (p : Plan) → IsCheckBy p name → IsAnswered p known spelt made wrote → IsAnswered p known spelt (Stands under plan) wrote
-    kept (Check cert budget options files) by is = is
-    kept (Show options files) by is = absurd by
-    kept (Landmarks options files) by is = absurd by
-    kept (Locate point options files) by is = absurd by
-    kept (Convert cert to) by is = absurd by
-    kept (Audit options files) by is = absurd by
-    kept (Build to options files) by is = absurd by
-
 -- ---- a run that is stopped before it begins, or where a file may not take its name
-
-pub over_stop : (plan : Plan) (stop : Stop) (status : ℕ) (before after : Under) (wrote told : List ℕ → Type 0) (out_same err_same : Type 0) → KeepsAll before after plan → StopsOpening stop
-    → IsTold stop status told → RunsOver plan status before after wrote told out_same err_same
-over_stop plan stop status before after wrote told out_same err_same keeps opening is = go stop opening is
-  where
-    others : KeepsOthers before after plan
-    others name differs = keeps name (less (made_by plan) differs)
-      where
-        less : (made : Option (List ℕ)) → IfSome made (λ m. (name ≢ m) × (name ≢ beside m)) → IfSome made (λ m. name ≢ beside m)
-        less None d = tt
-        less (Some m) d = d.1
-
-    stopped_by : status ≡ STOPPED → StopsRun plan (records_under before plan) told ⊤ → RunsOver plan status before after wrote told out_same err_same
-    stopped_by e so = record {
-      is_status = inl (inr (inr (inr e)));
-      answered = λ d. absurd (cc (sym e ∙ d));
-      fault = λ d. absurd (cc (sym e ∙ d));
-      exactly = λ any. absurd (elim any [ inl d ↦ cc (sym e ∙ d) | inr d ↦ cc (sym e ∙ d) ]);
-      cert_fault = λ d. absurd (cc (sym e ∙ d));
-      refused = λ d. absurd (cc (sym e ∙ d));
-      stopped = λ d. so;
-      usage = λ d. absurd (cc (sym e ∙ d));
-      err_stays = λ any. absurd (elim any [ inl d ↦ cc (sym e ∙ d) | inr more ↦ elim more [ inl d ↦ cc (sym e ∙ d) | inr d ↦ cc (sym e ∙ d) ] ]);
-      out_stays = λ any. absurd (elim any [ inl d ↦ cc (sym e ∙ d) | inr d ↦ cc (sym e ∙ d) ]);
-      others = others;
-      begun = λ d. inl keeps;
-      unmade = λ not_done not_stopped. absurd (not_stopped e);
-    }
-
-    go : (s : Stop) → StopsOpening s → IsTold s status told → RunsOver plan status before after wrote told out_same err_same
-    go (Refused line cause) may t = absurd may
-    go Memory may t = stopped_by t.0 (inl (inl t.1))
-    go Device may t = stopped_by t.0 (elim t.1 [ inl w ↦ inl (inl w) | inr w ↦ inl (inr (w, tt)) ])
-    go Budget may t = absurd may
-
--- a stop that names itself
-pub over_named_stop : (plan : Plan) (status : ℕ) (under : Under) (wrote told : List ℕ → Type 0) (out_same err_same : Type 0) → status ≡ STOPPED → NamesStop told ⊤
-    → RunsOver plan status under under wrote told out_same err_same
-over_named_stop plan status under wrote told out_same err_same e names = record {
-  is_status = inl (inr (inr (inr e)));
-  answered = λ d. absurd (cc (sym e ∙ d));
-  fault = λ d. absurd (cc (sym e ∙ d));
-  exactly = λ any. absurd (elim any [ inl d ↦ cc (sym e ∙ d) | inr d ↦ cc (sym e ∙ d) ]);
-  cert_fault = λ d. absurd (cc (sym e ∙ d));
-  refused = λ d. absurd (cc (sym e ∙ d));
-  stopped = λ d. inl names;
-  usage = λ d. absurd (cc (sym e ∙ d));
-  err_stays = λ any. absurd (elim any [ inl d ↦ cc (sym e ∙ d) | inr more ↦ elim more [ inl d ↦ cc (sym e ∙ d) | inr d ↦ cc (sym e ∙ d) ] ]);
-  out_stays = λ any. absurd (elim any [ inl d ↦ cc (sym e ∙ d) | inr d ↦ cc (sym e ∙ d) ]);
-  others = λ name other. refl;
-  begun = λ d. inl (λ name other. refl);
-  unmade = λ not_done not_stopped. absurd (not_stopped e);
-}
 
 -- a certificate that may not take its name
 pub over_refusal : (plan : Plan) (name : List ℕ) (status : ℕ) (under : Under) (wrote told : List ℕ → Type 0) (out_same err_same : Type 0) → made_by plan ≡ Some name → out_same → status ≡ USAGE
