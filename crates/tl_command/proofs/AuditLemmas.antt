@@ -16,8 +16,8 @@ use Rattle.tl_check.specs.Messages.{map_fault_text}
 use Rattle.tl_check.specs.Sound.{AreClosed}
 use Rattle.tl_check.specs.Records.{HaveMap, IsTrueOfRecords, LeavesUnread}
 use Rattle.tl_check.specs.Verdicts.{IsReport}
-use Rattle.tl_build.specs.Auditing.{Auditing, IfSound, OnSound, IfFaulty}
-use Rattle.tl_build.specs.declared.answer.Audit.TheVariants.{Sound, Fault}
+use Rattle.tl_build.specs.Auditing.{Auditing, IfSound, OnSound}
+use Rattle.tl_build.specs.declared.answer.Audit.TheVariants.{Sound}
 use Rattle.tl_check.proofs.OneMap.{both, weaker}
 use Rattle.tl_output.specs.Writing.{line_of}
 use Rattle.tl_command.specs.Verdicts.{sound_text}
@@ -78,11 +78,3 @@ unread (map_fault.Cell odds) = tt
 pub names_fault_alone : (layout : Layout) (known : Option (List ℕ)) (wrote : List ℕ → Type 0) (fault : MapFault)
     → wrote (line_of (map_fault_text fault)) → IfSome known (λ text. IsTrueOfRecords (records_of layout text) fault) → NamesFault layout known ⊤ wrote
 names_fault_alone layout known wrote fault written holds = record { fault = fault; written = written; holds = holds; alone = unread fault }
-
--- an audit that answers a fault
-pub names_audited : (layout : Layout) (known : Option (List ℕ)) (wrote : List ℕ → Type 0) (answer : Auditing) (fault : MapFault) → answer ≡ Ok (Fault fault)
-    → IfFaulty answer (λ fault. IfSome known (λ text. IsTrueOfRecords (records_of layout text) fault))
-    → wrote (line_of (map_fault_text fault)) → NamesFault layout known ⊤ wrote
-names_audited layout known wrote answer fault is true_of written =
-    names_fault_alone layout known wrote fault written
-    (subst (λ a. IfFaulty a (λ fault. IfSome known (λ text. IsTrueOfRecords (records_of layout text) fault))) is true_of)

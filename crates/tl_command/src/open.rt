@@ -1,6 +1,6 @@
 //! The program from its words to its status.
 
-ghost use Rattle.std.specs.Prelude.{◌≡◌, ◌≢◌, ◌⊎◌, ℕ, List, Bool, true, false, ⊤, None, Some};
+ghost use Rattle.std.specs.Prelude.{◌≡◌, ◌≢◌, ◌⊎◌, ℕ, List, true, false, ⊤, None};
 ghost use Rattle.std.specs.Prelude.{IfOk, IfErr, IfSome, IsSome, map, string_bytes};
 ghost use Rattle.tl_text.specs.Joining.{joined_bytes};
 ghost use Rattle.tl_output.specs.Writing.{Writes, TriesToWrite, FailsToWrite};

@@ -153,16 +153,6 @@ pub found_plan : (found : Option (Text × List Row)) (name : Text) (rows : List 
     → IsPlanOf (Some (request_in (name, rows))) plan → IsPlanOf (named_in found) plan
 found_plan found name rows plan named has is = subst (λ request. IsPlanOf request plan) (sym (ap named_in (both_found found name rows named has))) is
 
--- an audit lacks a file
-pub no_audit : (given : Request) → given.command ≡ audit_name → ((files : List Text) → given.files ≡ Some files → 0 < length files → ⊥)
-    → IsWhole (Some given) → ⊥
-no_audit given named lacks (inl files) =
-    lacks files.files (ap (λ r. r.files) (is_request _ _ files.same) ∙ files.are) files.some_file
-no_audit given named lacks (inr (inl both)) = one_command given both.2.given audit_name convert_name refl named both.2.same both.2.named
-no_audit given named lacks (inr (inr (inl check))) = one_command given check.given audit_name check_name refl named check.same check.named
-no_audit given named lacks (inr (inr (inr (inl build)))) = one_command given build.given audit_name build_name refl named build.same build.named
-no_audit given named lacks (inr (inr (inr (inr place)))) = one_command given place.given audit_name locate_name refl named place.same place.named
-
 -- a check lacks its certificate, or a number of tests that is spelt as one, or a file
 pub no_check : (given : Request) → given.command ≡ check_name
     → ((cert : Text) (budget : ℕ) (files : List Text) → given.cert ≡ Some cert → IsBudget given.tests budget → given.files ≡ Some files → 0 < length files → ⊥)
