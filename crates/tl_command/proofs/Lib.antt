@@ -4,3 +4,4 @@ pub mod ConvertLemmas
 pub mod OpenLemmas
 pub mod CheckLemmas
 pub mod DecidingLemmas
+pub mod ToldLemmas

@@ -25,16 +25,16 @@ use Rattle.tl_plan.specs.declared.plan.Plan.TheVariants.{Show, Landmarks, Locate
 use Rattle.tl_command.specs.declared.building.Making.{Making}
 use Rattle.tl_command.specs.declared.building.Making.TheVariants.{Made, Fault}
 use Rattle.tl_command.specs.declared.convert.Converted.{Converted}
-use Rattle.tl_command.specs.declared.stop.Stop.{Stop}
-use Rattle.tl_command.specs.declared.stop.Stop.TheVariants.{Memory, Device}
+use Rattle.tl_check.specs.declared.stop.Stop.{Stop}
+use Rattle.tl_check.specs.declared.stop.Stop.TheVariants.{Memory, Device}
 use Rattle.tl_command.specs.declared.stop.TheConstants.{DONE, MAP_FAULT, CERT_FAULT, REFUSED, STOPPED, USAGE}
 use Rattle.tl_command.specs.Running.{IsAnswered, IsBuilt, FaultsMap, NamesFault, FaultsCertificate, NamesRefusal, StopsRun, IsRunStatus, ReadsNoCertificate, MakesNoCertificate, layout_of}
 use Rattle.tl_command.specs.Making.{Makes, OfMap, IsBegunOf, TellsMaking, Rewrites, BeginsRewritten, TellsConverted, was_made}
 use Rattle.tl_command.specs.Deciding.{IsExact}
 use Rattle.tl_command.specs.Opening.{RunsOver, records_under, certificate_under, Stands, KeepsOthers, KeepsAll, RefusesName, IsBuildOf, IsConversionBy, Converts, names_read, made_by}
 use Rattle.tl_command.proofs.DecidingLemmas.{build_decides}
-use Rattle.tl_command.proofs.MakingLemmas.{not_done, making_status, making_built, making_fault, making_refused, making_stopped, making_err_stays}
-use Rattle.tl_command.proofs.ConvertLemmas.{converted_status, converted_is, converted_fault, converted_stopped, converted_err_stays}
+use Rattle.tl_command.proofs.MakingLemmas.{keeps_count, not_done, making_status, making_built, making_fault, making_refused, making_stopped, making_err_stays}
+use Rattle.tl_command.proofs.ConvertLemmas.{keeps_cert_count, converted_status, converted_is, converted_fault, converted_stopped, converted_err_stays}
 
 -- ---- the joined text
 
@@ -106,14 +106,14 @@ no_usage status (inr (inr (inl is))) e = cc (sym is ∙ e)
 no_usage status (inr (inr (inr is))) e = cc (sym is ∙ e)
 
 -- what is answered of the records of names, where no certificate has a part
-pub over_plain : (plan : Plan) (under : Under) (known spelt : Option (List ℕ)) (status : ℕ) (unread : Type 0) (made wrote told : List ℕ → Type 0) (out_same err_same : Type 0)
+pub over_plain : (plan : Plan) (under : Under) (known spelt : Option (List ℕ)) (status : ℕ) (unread : Type 0) (made wrote told : List ℕ → Type 0) (failed well out_same err_same : Type 0)
     → ReadsNoCertificate plan → MakesNoCertificate plan → known ≡ records_under under plan
     → IsRunStatus status → (status ≡ DONE → IsAnswered plan known spelt made wrote) → (status ≡ MAP_FAULT → FaultsMap plan known unread wrote)
     → ((status ≡ DONE) ⊎ (status ≡ MAP_FAULT) → IsExact plan known status)
     → (status ≡ CERT_FAULT → FaultsCertificate plan known spelt wrote) → (status ≡ REFUSED → NamesRefusal (layout_of plan) known told)
-    → (status ≡ STOPPED → StopsRun plan known told ⊤) → ((status ≡ DONE) ⊎ ((status ≡ MAP_FAULT) ⊎ (status ≡ CERT_FAULT)) → err_same) → (status ≡ REFUSED → out_same)
-    → RunsOver plan status under under wrote told out_same err_same
-over_plain plan under known spelt status unread made wrote told out_same err_same reads makes same is answered fault exactly cert_fault refused stopped err_stays out_stays = record {
+    → (status ≡ STOPPED → StopsRun plan known told failed well) → ((status ≡ DONE) ⊎ ((status ≡ MAP_FAULT) ⊎ (status ≡ CERT_FAULT)) → err_same) → (status ≡ REFUSED → out_same)
+    → RunsOver plan status under under wrote told failed well out_same err_same
+over_plain plan under known spelt status unread made wrote told failed well out_same err_same reads makes same is answered fault exactly cert_fault refused stopped err_stays out_stays = record {
   is_status = inl is;
   answered = λ e. rw (← same) (answered_plain plan known spelt (certificate_under under plan) made (Stands under plan) wrote reads makes (answered e));
   fault = λ e. rw (← same) (fault_read plan known unread wrote (fault e));
@@ -132,9 +132,9 @@ over_plain plan under known spelt status unread made wrote told out_same err_sam
 -- ---- a run that is stopped before it begins, or where a file may not take its name
 
 -- a certificate that may not take its name
-pub over_refusal : (plan : Plan) (name : List ℕ) (status : ℕ) (under : Under) (wrote told : List ℕ → Type 0) (out_same err_same : Type 0) → made_by plan ≡ Some name → out_same → status ≡ USAGE
-    → RefusesName under name (names_read plan) told → RunsOver plan status under under wrote told out_same err_same
-over_refusal plan name status under wrote told out_same err_same made stays e refuses = record {
+pub over_refusal : (plan : Plan) (name : List ℕ) (status : ℕ) (under : Under) (wrote told : List ℕ → Type 0) (failed well out_same err_same : Type 0) → made_by plan ≡ Some name → out_same → status ≡ USAGE
+    → RefusesName under name (names_read plan) told → RunsOver plan status under under wrote told failed well out_same err_same
+over_refusal plan name status under wrote told failed well out_same err_same made stays e refuses = record {
   is_status = inr e;
   answered = λ d. absurd (cc (sym e ∙ d));
   fault = λ d. absurd (cc (sym e ∙ d));
@@ -192,17 +192,17 @@ made_by_conversion (Audit options files) to of = absurd of
 made_by_conversion (Build made options files) to of = absurd of
 
 -- a build, and a conversion, whose certificate may not take its name
-pub refused_build : (plan : Plan) (name : List ℕ) (options : Options) (read : List (List ℕ)) (room : Room) (status : ℕ) (under : Under) (wrote told : List ℕ → Type 0) (out_same err_same : Type 0) → IsBuildOf plan name options
-    → read ≡ files_of plan → IsRoom under name read room → out_same → status ≡ USAGE → SaysRoom room told → RunsOver plan status under under wrote told out_same err_same
-refused_build plan name options read room status under wrote told out_same err_same of files is stays e says =
+pub refused_build : (plan : Plan) (name : List ℕ) (options : Options) (read : List (List ℕ)) (room : Room) (status : ℕ) (under : Under) (wrote told : List ℕ → Type 0) (failed well out_same err_same : Type 0) → IsBuildOf plan name options
+    → read ≡ files_of plan → IsRoom under name read room → out_same → status ≡ USAGE → SaysRoom room told → RunsOver plan status under under wrote told failed well out_same err_same
+refused_build plan name options read room status under wrote told failed well out_same err_same of files is stays e says =
     let names = names_of_build plan name options of in
-    over_refusal plan name status under wrote told out_same err_same names.0 stays e (refuses_by under name (names_read plan) room told (subst (λ ns. IsRoom under name ns room) (files ∙ sym names.1) is) says)
+    over_refusal plan name status under wrote told failed well out_same err_same names.0 stays e (refuses_by under name (names_read plan) room told (subst (λ ns. IsRoom under name ns room) (files ∙ sym names.1) is) says)
 
-pub refused_conversion : (plan : Plan) (from name : List ℕ) (read : List (List ℕ)) (room : Room) (status : ℕ) (under : Under) (wrote told : List ℕ → Type 0) (out_same err_same : Type 0) → IsConversionBy plan from name
-    → read ≡ from ∷ [] → IsRoom under name read room → out_same → status ≡ USAGE → SaysRoom room told → RunsOver plan status under under wrote told out_same err_same
-refused_conversion plan from name read room status under wrote told out_same err_same of files is stays e says =
+pub refused_conversion : (plan : Plan) (from name : List ℕ) (read : List (List ℕ)) (room : Room) (status : ℕ) (under : Under) (wrote told : List ℕ → Type 0) (failed well out_same err_same : Type 0) → IsConversionBy plan from name
+    → read ≡ from ∷ [] → IsRoom under name read room → out_same → status ≡ USAGE → SaysRoom room told → RunsOver plan status under under wrote told failed well out_same err_same
+refused_conversion plan from name read room status under wrote told failed well out_same err_same of files is stays e says =
     let names = names_of_conversion plan from name of in
-    over_refusal plan name status under wrote told out_same err_same names.0 stays e (refuses_by under name (names_read plan) room told (subst (λ ns. IsRoom under name ns room) (files ∙ sym names.1) is) says)
+    over_refusal plan name status under wrote told failed well out_same err_same names.0 stays e (refuses_by under name (names_read plan) room told (subst (λ ns. IsRoom under name ns room) (files ∙ sym names.1) is) says)
 
 -- what stays of names, by the name of the certificate
 pub keeps_others : (plan : Plan) (name : List ℕ) (before after : Under) → made_by plan ≡ Some name → ((other : List ℕ) → other ≢ name → other ≢ beside name → after other ≡ before other) → KeepsOthers before after plan
@@ -217,20 +217,20 @@ keeps_all plan name before after is stays other differs =
 -- ---- a certificate that is made
 
 -- where it is told that it was written, it was
-is_made : (making : Result Making Stop) (status : ℕ) (wrote told : List ℕ → Type 0) (to_write out_same err_same : Type 0) → TellsMaking making status wrote told to_write out_same err_same → status ≡ DONE
+is_made : (making : Result Making Stop) (status : ℕ) (wrote told : List ℕ → Type 0) (to_write well out_same err_same : Type 0) → TellsMaking making status wrote told to_write well out_same err_same → status ≡ DONE
     → was_made making ≡ true
-is_made (Ok (Made report)) status wrote told to_write out_same err_same tells done = refl
-is_made (Ok (Fault fault)) status wrote told to_write out_same err_same (inl is) done = cc (sym is.0 ∙ done)
-is_made (Ok (Fault fault)) status wrote told to_write out_same err_same (inr is) done = cc (sym is.0 ∙ done)
-is_made (Err stop) status wrote told to_write out_same err_same tells done = absurd ((not_done stop status told tells.0).0 done)
+is_made (Ok (Made report)) status wrote told to_write well out_same err_same tells done = refl
+is_made (Ok (Fault fault)) status wrote told to_write well out_same err_same (inl is) done = cc (sym is.0 ∙ done)
+is_made (Ok (Fault fault)) status wrote told to_write well out_same err_same (inr is) done = cc (sym is.0 ∙ done)
+is_made (Err stop) status wrote told to_write well out_same err_same tells done = absurd ((not_done stop status told tells.0).0 done)
 
 -- where another thing is told and no stop, it wasn't
-not_made : (making : Result Making Stop) (status : ℕ) (wrote told : List ℕ → Type 0) (to_write out_same err_same : Type 0) → TellsMaking making status wrote told to_write out_same err_same → status ≢ DONE → status ≢ STOPPED
+not_made : (making : Result Making Stop) (status : ℕ) (wrote told : List ℕ → Type 0) (to_write well out_same err_same : Type 0) → TellsMaking making status wrote told to_write well out_same err_same → status ≢ DONE → status ≢ STOPPED
     → was_made making ≡ false
-not_made (Ok (Made report)) status wrote told to_write out_same err_same (inl is) no_done no_stop = absurd (no_done is.0)
-not_made (Ok (Made report)) status wrote told to_write out_same err_same (inr is) no_done no_stop = absurd (no_stop is.0)
-not_made (Ok (Fault fault)) status wrote told to_write out_same err_same tells no_done no_stop = refl
-not_made (Err stop) status wrote told to_write out_same err_same tells no_done no_stop = refl
+not_made (Ok (Made report)) status wrote told to_write well out_same err_same (inl is) no_done no_stop = absurd (no_done is.0)
+not_made (Ok (Made report)) status wrote told to_write well out_same err_same (inr is) no_done no_stop = absurd (no_stop is.0)
+not_made (Ok (Fault fault)) status wrote told to_write well out_same err_same tells no_done no_stop = refl
+not_made (Err stop) status wrote told to_write well out_same err_same tells no_done no_stop = refl
 
 run_status : (status : ℕ) → ((status ≡ DONE) ⊎ (status ≡ MAP_FAULT)) ⊎ ((status ≡ REFUSED) ⊎ (status ≡ STOPPED)) → IsRunStatus status
 run_status status (inl is) = inl is
@@ -264,19 +264,19 @@ whole_or_none layout known made begun same failed plan before after (Ok (Fault f
 whole_or_none layout known made begun same failed plan before after (Err stop) makes kept unkept = inl (unkept refl)
 
 -- the records' fault, refusal or certificate was told, and the file took its name or was taken away
-pub over_build : (plan : Plan) (name : List ℕ) (chosen : Options) (before after : Under) (known : Option (List ℕ)) (made begun wrote told : List ℕ → Type 0) (same failed to_write out_same err_same : Type 0)
-    (making : Result Making Stop) (status : ℕ) → IsBuildOf plan name chosen → known ≡ records_under before plan → Makes (layout_with chosen) known made begun same failed making
-    → TellsMaking making status wrote told to_write out_same err_same → KeepsOthers before after plan → (was_made making ≡ true → (text : List ℕ) → made text → Stands after plan text)
-    → (was_made making ≡ false → KeepsAll before after plan) → RunsOver plan status before after wrote told out_same err_same
-over_build (Build to options files) name chosen before after known made begun wrote told same failed to_write out_same err_same making status of is_known makes_chosen tells others kept unkept =
+pub over_build : (plan : Plan) (name : List ℕ) (chosen : Options) (before after : Under) (known : Option (List ℕ)) (made begun wrote told : List ℕ → Type 0) (same failed to_write well out_same err_same any : Type 0)
+    (making : Result Making Stop) (status : ℕ) → (failed → any) → (to_write → any) → (out_same → well) → IsBuildOf plan name chosen → known ≡ records_under before plan → Makes (layout_with chosen) known made begun same failed making
+    → TellsMaking making status wrote told to_write well out_same err_same → KeepsOthers before after plan → (was_made making ≡ true → (text : List ℕ) → made text → Stands after plan text)
+    → (was_made making ≡ false → KeepsAll before after plan) → RunsOver plan status before after wrote told any well out_same err_same
+over_build (Build to options files) name chosen before after known made begun wrote told same failed to_write well out_same err_same any making status weaker or_write stays of is_known makes_chosen tells others kept unkept =
     let plan : Plan = Build to options files in
     let all : Option (List ℕ) = records_under before plan in
     let layout : Layout = layout_with options in
     let makes : Makes layout all made begun same failed making =
     subst (λ (o : Options). Makes (layout_with o) all made begun same failed making) (sym of.1) (subst (λ (k : Option (List ℕ)). Makes (layout_with chosen) k made begun same failed making) is_known makes_chosen) in
-    let statuses = making_status making status wrote told to_write out_same err_same tells in
+    let statuses = making_status making status wrote told to_write well out_same err_same tells in
     let built : status ≡ DONE → IsBuilt layout all (Stands after plan) wrote = λ done.
-    let it = making_built layout all made begun wrote told same failed to_write out_same err_same making status makes tells done in
+    let it = making_built layout all made begun wrote told same failed to_write well out_same err_same making status makes tells done in
     record {
       map = it.map;
       built = record {
@@ -286,55 +286,56 @@ over_build (Build to options files) name chosen before after known made begun wr
         decided = it.built.decided;
         valid = it.built.valid;
         version = it.built.version;
-        kept = kept (is_made making status wrote told to_write out_same err_same tells done) (certificate_text it.built.certificate) it.built.kept;
+        kept = kept (is_made making status wrote told to_write well out_same err_same tells done) (certificate_text it.built.certificate) it.built.kept;
         written = it.built.written;
       };
       drawn = it.drawn;
     } in
-    let faulty = making_fault layout all made begun wrote told same failed to_write out_same err_same making status makes tells in
+    let faulty = making_fault layout all made begun wrote told same failed to_write well out_same err_same making status makes tells in
     record {
       is_status = inl (run_status status statuses);
       answered = built;
       fault = faulty;
       exactly = build_decides layout all ⊤ (Stands after plan) wrote status built faulty;
       cert_fault = λ e. absurd (no_cert_fault status statuses e);
-      refused = λ e. (making_refused layout all made begun wrote told same failed to_write out_same err_same making status makes tells e).0;
-      stopped = λ e. inl (making_stopped layout all made begun wrote told same failed to_write out_same err_same ⊤ making status (λ f. tt) (λ f. tt) makes tells e);
+      refused = λ e. (making_refused layout all made begun wrote told same failed to_write well out_same err_same making status makes tells e).0;
+      stopped = λ e. inl (making_stopped layout all made begun wrote told same failed to_write well out_same err_same any well making status 0 0 weaker or_write (λ reads written is. is) stays
+          (keeps_count 0 0 making refl) makes tells e);
       usage = λ e. absurd (no_usage status (run_status status statuses) e);
       err_stays = λ any. elim any [
-        | inl d ↦ making_err_stays making status wrote told to_write out_same err_same tells (inl d)
-        | inr more ↦ elim more [ inl d ↦ making_err_stays making status wrote told to_write out_same err_same tells (inr d) | inr e ↦ absurd (no_cert_fault status statuses e) ]
+        | inl d ↦ making_err_stays making status wrote told to_write well out_same err_same tells (inl d)
+        | inr more ↦ elim more [ inl d ↦ making_err_stays making status wrote told to_write well out_same err_same tells (inr d) | inr e ↦ absurd (no_cert_fault status statuses e) ]
       ];
       out_stays = λ any. elim any [
-        | inl r ↦ (making_refused layout all made begun wrote told same failed to_write out_same err_same making status makes tells r).1
+        | inl r ↦ (making_refused layout all made begun wrote told same failed to_write well out_same err_same making status makes tells r).1
         | inr u ↦ absurd (no_usage status (run_status status statuses) u)
       ];
       others = others;
       begun = λ e. whole_or_none layout all made begun same failed plan before after making makes kept unkept;
-      unmade = λ not_done not_stopped. unkept (not_made making status wrote told to_write out_same err_same tells not_done not_stopped);
+      unmade = λ not_done not_stopped. unkept (not_made making status wrote told to_write well out_same err_same tells not_done not_stopped);
     }
-over_build (Show options files) name chosen before after known made begun wrote told same failed to_write out_same err_same making status of is_known makes tells others kept unkept = absurd of
-over_build (Landmarks options files) name chosen before after known made begun wrote told same failed to_write out_same err_same making status of is_known makes tells others kept unkept = absurd of
-over_build (Locate point options files) name chosen before after known made begun wrote told same failed to_write out_same err_same making status of is_known makes tells others kept unkept = absurd of
-over_build (Convert cert to) name chosen before after known made begun wrote told same failed to_write out_same err_same making status of is_known makes tells others kept unkept = absurd of
-over_build (Check cert budget options files) name chosen before after known made begun wrote told same failed to_write out_same err_same making status of is_known makes tells others kept unkept = absurd of
-over_build (Audit options files) name chosen before after known made begun wrote told same failed to_write out_same err_same making status of is_known makes tells others kept unkept = absurd of
+over_build (Show options files) name chosen before after known made begun wrote told same failed to_write well out_same err_same any making status weaker or_write stays of is_known makes tells others kept unkept = absurd of
+over_build (Landmarks options files) name chosen before after known made begun wrote told same failed to_write well out_same err_same any making status weaker or_write stays of is_known makes tells others kept unkept = absurd of
+over_build (Locate point options files) name chosen before after known made begun wrote told same failed to_write well out_same err_same any making status weaker or_write stays of is_known makes tells others kept unkept = absurd of
+over_build (Convert cert to) name chosen before after known made begun wrote told same failed to_write well out_same err_same any making status weaker or_write stays of is_known makes tells others kept unkept = absurd of
+over_build (Check cert budget options files) name chosen before after known made begun wrote told same failed to_write well out_same err_same any making status weaker or_write stays of is_known makes tells others kept unkept = absurd of
+over_build (Audit options files) name chosen before after known made begun wrote told same failed to_write well out_same err_same any making status weaker or_write stays of is_known makes tells others kept unkept = absurd of
 
 -- ---- a certificate that is written in version 2
 
-is_rewritten : (answer : Result Converted CertStop) (status : ℕ) (wrote told : List ℕ → Type 0) (to_write out_same err_same : Type 0) → TellsConverted answer status wrote told to_write out_same err_same → status ≡ DONE
+is_rewritten : (answer : Result Converted CertStop) (status : ℕ) (wrote told : List ℕ → Type 0) (to_write well out_same err_same : Type 0) → TellsConverted answer status wrote told to_write well out_same err_same → status ≡ DONE
     → is_ok answer ≡ true
-is_rewritten (Ok counts) status wrote told to_write out_same err_same tells done = refl
-is_rewritten (Err (cert_stop.Text line)) status wrote told to_write out_same err_same (inl is) done = cc (sym is.0 ∙ done)
-is_rewritten (Err (cert_stop.Text line)) status wrote told to_write out_same err_same (inr is) done = cc (sym is.0 ∙ done)
-is_rewritten (Err cert_stop.Memory) status wrote told to_write out_same err_same tells done = cc (sym tells.0.0 ∙ done)
-is_rewritten (Err cert_stop.Device) status wrote told to_write out_same err_same tells done = cc (sym tells.0.0 ∙ done)
+is_rewritten (Ok counts) status wrote told to_write well out_same err_same tells done = refl
+is_rewritten (Err (cert_stop.Text line)) status wrote told to_write well out_same err_same (inl is) done = cc (sym is.0 ∙ done)
+is_rewritten (Err (cert_stop.Text line)) status wrote told to_write well out_same err_same (inr is) done = cc (sym is.0 ∙ done)
+is_rewritten (Err cert_stop.Memory) status wrote told to_write well out_same err_same tells done = cc (sym tells.0.0 ∙ done)
+is_rewritten (Err cert_stop.Device) status wrote told to_write well out_same err_same tells done = cc (sym tells.0.0 ∙ done)
 
-not_rewritten : (answer : Result Converted CertStop) (status : ℕ) (wrote told : List ℕ → Type 0) (to_write out_same err_same : Type 0) → TellsConverted answer status wrote told to_write out_same err_same → status ≢ DONE
+not_rewritten : (answer : Result Converted CertStop) (status : ℕ) (wrote told : List ℕ → Type 0) (to_write well out_same err_same : Type 0) → TellsConverted answer status wrote told to_write well out_same err_same → status ≢ DONE
     → status ≢ STOPPED → is_ok answer ≡ false
-not_rewritten (Ok counts) status wrote told to_write out_same err_same (inl is) no_done no_stop = absurd (no_done is.0)
-not_rewritten (Ok counts) status wrote told to_write out_same err_same (inr is) no_done no_stop = absurd (no_stop is.0)
-not_rewritten (Err stop) status wrote told to_write out_same err_same tells no_done no_stop = refl
+not_rewritten (Ok counts) status wrote told to_write well out_same err_same (inl is) no_done no_stop = absurd (no_done is.0)
+not_rewritten (Ok counts) status wrote told to_write well out_same err_same (inr is) no_done no_stop = absurd (no_stop is.0)
+not_rewritten (Err stop) status wrote told to_write well out_same err_same tells no_done no_stop = refl
 
 cert_status : (status : ℕ) → (status ≡ DONE) ⊎ ((status ≡ CERT_FAULT) ⊎ (status ≡ STOPPED)) → IsRunStatus status
 cert_status status (inl is) = inl (inl is)
@@ -355,44 +356,45 @@ rewritten_or_none known made begun same failed plan before after (Ok counts) mad
 rewritten_or_none known made begun same failed plan before after (Err stop) made_of kept unkept = inl (unkept refl)
 
 -- the certificate was told, or what is wrong with its text, and the file took its name or was taken away
-pub over_conversion : (plan : Plan) (to : List ℕ) (before after : Under) (spelt : Option (List ℕ)) (made begun wrote told : List ℕ → Type 0) (same failed to_write out_same err_same : Type 0)
-    (answer : Result Converted CertStop) (status : ℕ) → Converts plan to → spelt ≡ certificate_under before plan → Rewrites spelt made begun same failed answer
-    → TellsConverted answer status wrote told to_write out_same err_same → KeepsOthers before after plan → (is_ok answer ≡ true → (text : List ℕ) → made text → Stands after plan text)
-    → (is_ok answer ≡ false → KeepsAll before after plan) → RunsOver plan status before after wrote told out_same err_same
-over_conversion (Convert cert target) to before after spelt made begun wrote told same failed to_write out_same err_same answer status of is_known rewrites_spelt tells others kept unkept =
-    let statuses = converted_status answer status wrote told to_write out_same err_same tells in
+pub over_conversion : (plan : Plan) (to : List ℕ) (before after : Under) (spelt : Option (List ℕ)) (made begun wrote told : List ℕ → Type 0) (same failed to_write well out_same err_same any : Type 0)
+    (answer : Result Converted CertStop) (status : ℕ) → (failed → any) → (to_write → any) → (out_same → well) → Converts plan to → spelt ≡ certificate_under before plan → Rewrites spelt made begun same failed answer
+    → TellsConverted answer status wrote told to_write well out_same err_same → KeepsOthers before after plan → (is_ok answer ≡ true → (text : List ℕ) → made text → Stands after plan text)
+    → (is_ok answer ≡ false → KeepsAll before after plan) → RunsOver plan status before after wrote told any well out_same err_same
+over_conversion (Convert cert target) to before after spelt made begun wrote told same failed to_write well out_same err_same any answer status weaker or_write stays of is_known rewrites_spelt tells others kept unkept =
+    let statuses = converted_status answer status wrote told to_write well out_same err_same tells in
     let plan : Plan = Convert cert target in
     let text : Option (List ℕ) = certificate_under before plan in
     let rewrites : Rewrites text made begun same failed answer = subst (λ (s : Option (List ℕ)). Rewrites s made begun same failed answer) is_known rewrites_spelt in
     record {
       is_status = inl (cert_status status statuses);
       answered = λ done.
-          let it = converted_is text made begun wrote told same failed to_write out_same err_same answer status rewrites tells done in
+          let it = converted_is text made begun wrote told same failed to_write well out_same err_same answer status rewrites tells done in
           record {
             certificate = it.certificate;
             is = it.is;
             read = it.read;
-            kept = kept (is_rewritten answer status wrote told to_write out_same err_same tells done) (certificate_text (record it.certificate { version = 2 })) it.kept;
+            kept = kept (is_rewritten answer status wrote told to_write well out_same err_same tells done) (certificate_text (record it.certificate { version = 2 })) it.kept;
             written = it.written;
           };
       fault = λ e. absurd ((no_fault status statuses).0 e);
       exactly = λ any. tt;
-      cert_fault = λ e. (converted_fault text made begun wrote told same failed to_write out_same err_same answer status rewrites tells e).0;
+      cert_fault = λ e. (converted_fault text made begun wrote told same failed to_write well out_same err_same answer status rewrites tells e).0;
       refused = λ e. absurd ((no_fault status statuses).1 e);
-      stopped = λ e. inl (converted_stopped text made begun wrote told same failed to_write out_same err_same ⊤ answer status (λ f. tt) (λ f. tt) rewrites tells e);
+      stopped = λ e. inl (converted_stopped text made begun wrote told same failed to_write well out_same err_same any well answer status 0 0 weaker or_write (λ reads written is. is) stays
+          (keeps_cert_count 0 0 answer refl) rewrites tells e);
       usage = λ e. absurd (no_usage status (cert_status status statuses) e);
       err_stays = λ any. elim any [
-        | inl d ↦ converted_err_stays answer status wrote told to_write out_same err_same tells (inl d)
-        | inr more ↦ elim more [ inl d ↦ absurd ((no_fault status statuses).0 d) | inr e ↦ converted_err_stays answer status wrote told to_write out_same err_same tells (inr e) ]
+        | inl d ↦ converted_err_stays answer status wrote told to_write well out_same err_same tells (inl d)
+        | inr more ↦ elim more [ inl d ↦ absurd ((no_fault status statuses).0 d) | inr e ↦ converted_err_stays answer status wrote told to_write well out_same err_same tells (inr e) ]
       ];
       out_stays = λ any. absurd (elim any [ inl r ↦ (no_fault status statuses).1 r | inr u ↦ no_usage status (cert_status status statuses) u ]);
       others = others;
       begun = λ e. rewritten_or_none text made begun same failed plan before after answer rewrites kept unkept;
-      unmade = λ not_done not_stopped. unkept (not_rewritten answer status wrote told to_write out_same err_same tells not_done not_stopped);
+      unmade = λ not_done not_stopped. unkept (not_rewritten answer status wrote told to_write well out_same err_same tells not_done not_stopped);
     }
-over_conversion (Show options files) to before after spelt made begun wrote told same failed to_write out_same err_same answer status of is_known rewrites tells others kept unkept = absurd of
-over_conversion (Landmarks options files) to before after spelt made begun wrote told same failed to_write out_same err_same answer status of is_known rewrites tells others kept unkept = absurd of
-over_conversion (Locate point options files) to before after spelt made begun wrote told same failed to_write out_same err_same answer status of is_known rewrites tells others kept unkept = absurd of
-over_conversion (Check cert budget options files) to before after spelt made begun wrote told same failed to_write out_same err_same answer status of is_known rewrites tells others kept unkept = absurd of
-over_conversion (Audit options files) to before after spelt made begun wrote told same failed to_write out_same err_same answer status of is_known rewrites tells others kept unkept = absurd of
-over_conversion (Build made_name options files) to before after spelt made begun wrote told same failed to_write out_same err_same answer status of is_known rewrites tells others kept unkept = absurd of
+over_conversion (Show options files) to before after spelt made begun wrote told same failed to_write well out_same err_same any answer status weaker or_write stays of is_known rewrites tells others kept unkept = absurd of
+over_conversion (Landmarks options files) to before after spelt made begun wrote told same failed to_write well out_same err_same any answer status weaker or_write stays of is_known rewrites tells others kept unkept = absurd of
+over_conversion (Locate point options files) to before after spelt made begun wrote told same failed to_write well out_same err_same any answer status weaker or_write stays of is_known rewrites tells others kept unkept = absurd of
+over_conversion (Check cert budget options files) to before after spelt made begun wrote told same failed to_write well out_same err_same any answer status weaker or_write stays of is_known rewrites tells others kept unkept = absurd of
+over_conversion (Audit options files) to before after spelt made begun wrote told same failed to_write well out_same err_same any answer status weaker or_write stays of is_known rewrites tells others kept unkept = absurd of
+over_conversion (Build made_name options files) to before after spelt made begun wrote told same failed to_write well out_same err_same any answer status weaker or_write stays of is_known rewrites tells others kept unkept = absurd of

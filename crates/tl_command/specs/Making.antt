@@ -26,8 +26,8 @@ use Rattle.tl_check.specs.Messages.{map_fault_text, cert_fault_text}
 use Rattle.tl_command.specs.declared.building.Making.{Making}
 use Rattle.tl_command.specs.declared.building.Making.TheVariants.{Made, Fault}
 use Rattle.tl_command.specs.declared.convert.Converted.{Converted}
-use Rattle.tl_command.specs.declared.stop.Stop.{Stop}
-use Rattle.tl_command.specs.declared.stop.Stop.TheVariants.{Refused, Memory, Device, Budget}
+use Rattle.tl_check.specs.declared.stop.Stop.{Stop}
+use Rattle.tl_check.specs.declared.stop.Stop.TheVariants.{Record, Memory, Device, Budget}
 use Rattle.tl_command.specs.declared.stop.TheConstants.{DONE, MAP_FAULT, CERT_FAULT, STOPPED}
 use Rattle.tl_command.specs.Certificates.{counts_text}
 use Rattle.tl_command.specs.Verdicts.{built_text}
@@ -57,7 +57,7 @@ pub record IsBegunOf (m : TheMap) (begun : List ℕ → Type 0) : Type 0 where
 abbrev pub MakesOf : TheMap → (made begun : List ℕ → Type 0) → (same failed : Type 0) → Result Making Stop → Type 0
 MakesOf m made begun same failed (Ok (Made report)) = IsMadeOf m report made
 MakesOf m made begun same failed (Ok (Fault fault)) = IsTrueOfMap m fault × same
-MakesOf m made begun same failed (Err (Refused line cause)) = ⊥
+MakesOf m made begun same failed (Err (Record line cause)) = ⊥
 MakesOf m made begun same failed (Err Memory) = same
 MakesOf m made begun same failed (Err Device) = failed × (same ⊎ IsBegunOf m begun)
 MakesOf m made begun same failed (Err Budget) = ⊥
@@ -70,7 +70,7 @@ OfMap layout known P = (m : TheMap) × IfSome known (λ text. IsReadFrom (record
 abbrev pub Makes : Layout → Option (List ℕ) → (made begun : List ℕ → Type 0) → (same failed : Type 0) → Result Making Stop → Type 0
 Makes layout known made begun same failed (Ok (Made report)) = OfMap layout known (λ m. IsMadeOf m report made)
 Makes layout known made begun same failed (Ok (Fault fault)) = IfSome known (λ text. IsTrueOfRecords (records_of layout text) fault) × same
-Makes layout known made begun same failed (Err (Refused line cause)) = IfSome known (λ text. IsFirstRefusal layout text line cause) × same
+Makes layout known made begun same failed (Err (Record line cause)) = IfSome known (λ text. IsFirstRefusal layout text line cause) × same
 Makes layout known made begun same failed (Err Memory) = same
 Makes layout known made begun same failed (Err Device) = failed × (same ⊎ OfMap layout known (λ m. IsBegunOf m begun))
 Makes layout known made begun same failed (Err Budget) = ⊥
@@ -84,7 +84,7 @@ was_made (Err stop) = false
 -- the count of failed reads stays, but for an answer that a device failed
 abbrev pub KeepsCount : {T : Type 0} → ℕ → ℕ → Result T Stop → Type 0
 KeepsCount old new (Ok made) = new ≡ old
-KeepsCount old new (Err (Refused line cause)) = new ≡ old
+KeepsCount old new (Err (Record line cause)) = new ≡ old
 KeepsCount old new (Err Memory) = new ≡ old
 KeepsCount old new (Err Device) = ⊤
 KeepsCount old new (Err Budget) = new ≡ old
@@ -106,14 +106,17 @@ IsBegunBy (Audit options files) known spelt begun = ⊥
 IsBegunBy (Build made options files) known spelt begun = OfMap (layout_with options) known (λ m. IsBegunOf m begun)
 
 -- a line was written to the output, and the status is that of it; or that failed, and why was told
-abbrev pub IsLine : (status wanted : ℕ) → Type 0 → (told : List ℕ → Type 0) → (failed err_same : Type 0) → Type 0
-IsLine status wanted written told failed err_same = ((status ≡ wanted) × written × err_same) ⊎ ((status ≡ STOPPED) × NamesStop told failed)
+abbrev pub IsLine : (status wanted : ℕ) → Type 0 → (told : List ℕ → Type 0) → (failed well err_same : Type 0) → Type 0
+IsLine status wanted written told failed well err_same = ((status ≡ wanted) × written × err_same) ⊎ ((status ≡ STOPPED) × NamesStop told failed well)
 
--- how what was made is told: `wrote` says of a text that it was written to the output, `told` to the error output
-abbrev pub TellsMaking : Result Making Stop → ℕ → (wrote told : List ℕ → Type 0) → (failed out_same err_same : Type 0) → Type 0
-TellsMaking (Ok (Made report)) status wrote told failed out_same err_same = IsLine status DONE (wrote (line_of (built_text report))) told failed err_same
-TellsMaking (Ok (Fault fault)) status wrote told failed out_same err_same = IsLine status MAP_FAULT (wrote (line_of (map_fault_text fault))) told failed err_same
-TellsMaking (Err stop) status wrote told failed out_same err_same = IsTold stop status told × out_same
+-- how what was made is told: `wrote` says of a text that it was written to the output, `told` to the error output; `failed`
+-- that a write of the output failed, `well` that none did
+abbrev pub TellsMaking : Result Making Stop → ℕ → (wrote told : List ℕ → Type 0) → (failed well out_same err_same : Type 0) → Type 0
+TellsMaking (Ok (Made report)) status wrote told failed well out_same err_same =
+    IsLine status DONE (wrote (line_of (built_text report))) told failed well err_same
+TellsMaking (Ok (Fault fault)) status wrote told failed well out_same err_same =
+    IsLine status MAP_FAULT (wrote (line_of (map_fault_text fault))) told failed well err_same
+TellsMaking (Err stop) status wrote told failed well out_same err_same = IsTold stop status told × out_same
 
 -- what writing a certificate in version 2 answers that is read
 abbrev pub Rewrites : Option (List ℕ) → (made begun : List ℕ → Type 0) → (same failed : Type 0) → Result Converted CertStop → Type 0
@@ -138,9 +141,10 @@ KeepsCertCount old new (Err cert_stop.Device) = ⊤
 KeepsCertCount old new other = new ≡ old
 
 -- how what was rewritten is told
-abbrev pub TellsConverted : Result Converted CertStop → ℕ → (wrote told : List ℕ → Type 0) → (failed out_same err_same : Type 0) → Type 0
-TellsConverted (Ok counts) status wrote told failed out_same err_same = IsLine status DONE (wrote (line_of (counts_text counts.nodes counts.rounds counts.walks))) told failed err_same
-TellsConverted (Err (cert_stop.Text line)) status wrote told failed out_same err_same =
-    IsLine status CERT_FAULT (wrote (line_of (cert_fault_text (cert_fault.Text line)))) told failed err_same
-TellsConverted (Err cert_stop.Memory) status wrote told failed out_same err_same = IsTold Memory status told × out_same
-TellsConverted (Err cert_stop.Device) status wrote told failed out_same err_same = IsTold Device status told × out_same
+abbrev pub TellsConverted : Result Converted CertStop → ℕ → (wrote told : List ℕ → Type 0) → (failed well out_same err_same : Type 0) → Type 0
+TellsConverted (Ok counts) status wrote told failed well out_same err_same =
+    IsLine status DONE (wrote (line_of (counts_text counts.nodes counts.rounds counts.walks))) told failed well err_same
+TellsConverted (Err (cert_stop.Text line)) status wrote told failed well out_same err_same =
+    IsLine status CERT_FAULT (wrote (line_of (cert_fault_text (cert_fault.Text line)))) told failed well err_same
+TellsConverted (Err cert_stop.Memory) status wrote told failed well out_same err_same = IsTold Memory status told × out_same
+TellsConverted (Err cert_stop.Device) status wrote told failed well out_same err_same = IsTold Device status told × out_same

@@ -20,8 +20,9 @@ use Rattle.tl_county.specs.TheMap.{TheMap}
 use Rattle.tl_map.specs.Reading.{AreReadFrom, IsReadFrom, records_in}
 use Rattle.tl_text.specs.Printing.{shown_text, listing_text}
 use Rattle.tl_output.specs.Writing.{line_of}
-use Rattle.tl_command.specs.declared.stop.Stop.{Stop}
-use Rattle.tl_command.specs.declared.stop.Stop.TheVariants.{Refused, Memory, Device, Budget}
+use Rattle.tl_check.specs.declared.stop.Stop.{Stop}
+use Rattle.tl_check.specs.declared.stop.Stop.TheVariants.{Record, Memory, Device, Budget}
+use Rattle.tl_check.specs.Stops.{stop_text}
 use Rattle.tl_command.specs.declared.stop.TheConstants.{DONE, MAP_FAULT, CERT_FAULT, REFUSED, STOPPED}
 use Rattle.tl_plan.specs.declared.plan.Plan.{Plan}
 use Rattle.tl_plan.specs.declared.plan.Plan.TheVariants.{Show, Landmarks, Locate, Convert, Check, Audit, Build}
@@ -46,7 +47,6 @@ use Rattle.tl_check.specs.Messages.{map_fault_text, cert_fault_text}
 use Rattle.tl_command.specs.Certificates.{converted_text}
 use Rattle.tl_command.specs.Verdicts.{sound_text, built_text}
 use Rattle.tl_command.specs.Places.{place_text}
-use Rattle.tl_command.specs.Stops.{stop_text}
 
 -- no line of the text is refused, and the fault is true of its records
 abbrev pub HasFault : Layout → List ℕ → RecordFault → Type 0
@@ -263,9 +263,9 @@ FaultsCertificate (Check cert budget options files) records spelt wrote = NamesC
 FaultsCertificate (Audit options files) records spelt wrote = ⊥
 FaultsCertificate (Build made options files) records spelt wrote = ⊥
 
--- the line of a stop was written: of a want of memory, or of a device where one failed
-abbrev pub NamesStop : (List ℕ → Type 0) → Type 0 → Type 0
-NamesStop wrote failed = wrote (line_of (stop_text Memory)) ⊎ (wrote (line_of (stop_text Device)) × failed)
+-- the line of a stop was written: of a want of memory, where no device failed (`well`), or of a device, where one did
+abbrev pub NamesStop : (List ℕ → Type 0) → (failed well : Type 0) → Type 0
+NamesStop wrote failed well = (wrote (line_of (stop_text Memory)) × well) ⊎ (wrote (line_of (stop_text Device)) × failed)
 
 -- the line of a spent budget was written, and more pairs of the map's segments than the budget have rectangles that meet, of
 -- which as many as the budget don't conflict
@@ -283,9 +283,9 @@ SpendsBudget (Check cert budget options files) known wrote = NamesBudget (layout
 SpendsBudget (Audit options files) known wrote = ⊥
 SpendsBudget (Build made options files) known wrote = ⊥
 
--- why the plan's command stopped was written
-abbrev pub StopsRun : Plan → Option (List ℕ) → (List ℕ → Type 0) → Type 0 → Type 0
-StopsRun plan known wrote failed = NamesStop wrote failed ⊎ SpendsBudget plan known wrote
+-- why the plan's command stopped was written; of a budget too only where no device failed
+abbrev pub StopsRun : Plan → Option (List ℕ) → (List ℕ → Type 0) → (failed well : Type 0) → Type 0
+StopsRun plan known wrote failed well = NamesStop wrote failed well ⊎ (SpendsBudget plan known wrote × well)
 
 -- the statuses that a run answers with
 abbrev pub IsRunStatus : ℕ → Type 0
@@ -295,13 +295,20 @@ IsRunStatus status = ((status ≡ DONE) ⊎ (status ≡ MAP_FAULT)) ⊎ ((status
 abbrev pub FailsToRead : {S : Type 0} → (S → ℕ) → S → S → Type 0
 FailsToRead failures old new = failures new ≡ one_more (failures old)
 
--- how a stop is told: by its line and its status; where there is no room for its line, by that of a want of memory
+-- no read failed, or no write: the count of failures is as it was
+abbrev pub CountStays : {S : Type 0} → (S → ℕ) → S → S → Type 0
+CountStays failures old new = failures new ≡ failures old
+
+-- the status of a stop
+abbrev pub status_of : Stop → ℕ
+status_of (Record line cause) = REFUSED
+status_of Memory = STOPPED
+status_of Device = STOPPED
+status_of Budget = STOPPED
+
+-- how a stop is told: by its own line and its own status, whichever it is
 abbrev pub IsTold : Stop → ℕ → (List ℕ → Type 0) → Type 0
-IsTold (Refused line cause) status wrote =
-    ((status ≡ REFUSED) × wrote (line_of (refusal_text line cause))) ⊎ ((status ≡ STOPPED) × wrote (line_of (stop_text Memory)))
-IsTold Memory status wrote = (status ≡ STOPPED) × wrote (line_of (stop_text Memory))
-IsTold Device status wrote = (status ≡ STOPPED) × (wrote (line_of (stop_text Memory)) ⊎ wrote (line_of (stop_text Device)))
-IsTold Budget status wrote = (status ≡ STOPPED) × (wrote (line_of (stop_text Memory)) ⊎ wrote (line_of (stop_text Budget)))
+IsTold stop status wrote = (status ≡ status_of stop) × wrote (line_of (stop_text stop))
 
 -- why nothing was answered: `failed` says that a read or a write failed, `stays` that the output is as it was
 abbrev pub StopsAnswer : Layout → Option (List ℕ) → Type 0 → Type 0 → MapStop → Type 0

@@ -3,14 +3,16 @@ use Rattle.std.specs.Prelude.{◌≡◌, ◌≢◌, ◌⊎◌, ℕ, List, [], Al
 use Rattle.clap.specs.Faults.{fault_of}
 use Rattle.clap.specs.Walk.{Text}
 use Rattle.tl_plan.specs.declared.plan.Plan.{Plan}
-use Rattle.tl_command.specs.declared.stop.Stop.{Stop}
-use Rattle.tl_command.specs.declared.stop.Stop.TheVariants.{Refused, Memory, Device, Budget}
+use Rattle.tl_check.specs.declared.stop.Stop.{Stop}
+use Rattle.tl_check.specs.declared.stop.Stop.TheVariants.{Record, Memory, Device, Budget}
 use Rattle.tl_command.specs.declared.stop.TheConstants.{DONE, STOPPED, USAGE}
 use Rattle.tl_plan.specs.Commands.{command_line}
 use Rattle.tl_plan.specs.CommandLine.{AskFor, AreAUse, HasMistake, HasAnswer}
 use Rattle.tl_plan.specs.Plans.{escape}
 use Rattle.tl_files.specs.Files.{Under}
 use Rattle.tl_command.specs.Opening.{records_under, certificate_under, Stands, KeepsOthers, KeepsAll, RefusesOut}
+use Rattle.tl_command.specs.Deciding.{IsExact}
+use Rattle.tl_command.specs.Making.{IsBegunBy}
 use Rattle.tl_command.specs.Running.{IsRunStatus, IsAnswered, FaultsMap, NamesRefusal, FaultsCertificate, NamesStop, StopsRun, layout_of}
 
 -- the statuses of the program
@@ -35,9 +37,22 @@ FaultsText words before wrote = (plan : Plan) × AskFor words plan
 abbrev pub RefusesSome : List Text → Under → (List ℕ → Type 0) → Type 0
 RefusesSome words before wrote = (plan : Plan) × AskFor words plan × NamesRefusal (layout_of plan) (records_under before plan) wrote
 
--- the words make no plan for want of memory, or they ask for one that is stopped, and why was written
-abbrev pub StopsSome : List Text → Under → (List ℕ → Type 0) → Type 0
-StopsSome words before wrote = NamesStop wrote ⊤ ⊎ ((plan : Plan) × AskFor words plan × StopsRun plan (records_under before plan) wrote ⊤)
+-- the words make no plan for want of memory, or wish for help that can't be written, or they ask for a plan that is stopped;
+-- and why was written: `failed` says that a write of the output failed, `well` that none did
+abbrev pub StopsSome : List Text → Under → (List ℕ → Type 0) → (failed well : Type 0) → Type 0
+StopsSome words before wrote failed well =
+    NamesStop wrote failed well ⊎ ((plan : Plan) × AskFor words plan × StopsRun plan (records_under before plan) wrote ⊤ well)
+
+-- the words are no use of a command, or they ask for a plan, of which a status of 0 or 1 says exactly whether a map is sound
+abbrev pub DecidesSome : List Text → Under → ℕ → Type 0
+DecidesSome words before status = (¬ AreAUse words) ⊎ ((plan : Plan) × AskFor words plan × IsExact plan (records_under before plan) status)
+
+-- each name stands for the bytes that it stood for; or the words ask for a plan, and so does each but that of a file that
+-- isn't whole, unless a certificate that is valid stands under the name of the one that is made
+abbrev pub BeginsSome : List Text → Under → Under → Type 0
+BeginsSome words before after = ((name : List ℕ) → after name ≡ before name)
+    ⊎ ((plan : Plan) × AskFor words plan
+    × (KeepsAll before after plan ⊎ IsBegunBy plan (records_under before plan) (certificate_under before plan) (Stands after plan)))
 
 -- the words ask for a plan whose certificate may not take its name, and why was written
 abbrev pub RefusesSomeOut : List Text → Under → (List ℕ → Type 0) → Type 0
@@ -67,7 +82,7 @@ pub record ShowsHelp (words : List Text) (wrote : List ℕ → Type 0) : Type 0 
 
 -- files aren't opened for want of memory or where a device fails
 abbrev pub StopsOpening : Stop → Type 0
-StopsOpening (Refused line cause) = ⊥
+StopsOpening (Record line cause) = ⊥
 StopsOpening Memory = ⊤
 StopsOpening Device = ⊤
 StopsOpening Budget = ⊥

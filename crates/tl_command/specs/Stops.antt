@@ -1,12 +1,7 @@
--- What is printed of a stop.
-use Rattle.std.specs.Prelude.{List, ℕ, codes}
-use Rattle.tl_record.specs.Messages.{refusal_text}
-use Rattle.tl_command.specs.declared.stop.Stop.{Stop}
-use Rattle.tl_command.specs.declared.stop.Stop.TheVariants.{Refused, Memory, Device, Budget}
+-- What is printed of a refusal.
+use Rattle.std.specs.Prelude.{ℕ, List, [], Option, None, Some, decimal}
 
--- the text of a stop
-abbrev pub stop_text : Stop → List ℕ
-stop_text (Refused line cause) = refusal_text line cause
-stop_text Memory = codes "stopped Memory"
-stop_text Device = codes "stopped Device"
-stop_text Budget = codes "stopped Budget"
+-- the number of a shape pair, where there is one
+abbrev pub pair_text : Option ℕ → List ℕ
+pair_text None = []
+pair_text (Some pair) = decimal pair

@@ -4,13 +4,14 @@ ghost use Rattle.std.specs.Prelude.{◌≡◌, ◌≢◌, ◌⊎◌, ⊤};
 ghost use Rattle.tl_record.specs.Layout.{layout_with};
 ghost use Rattle.tl_output.specs.Writing.{Writes, TriesToWrite, FailsToWrite};
 ghost use Rattle.tl_command.specs.declared.stop.TheConstants.{DONE, MAP_FAULT, REFUSED, STOPPED};
-ghost use Rattle.tl_command.specs.Running.{IsAudited, NamesFault, NamesRefusal, NamesStop, FailsToRead};
+ghost use Rattle.tl_command.specs.Running.{IsAudited, NamesFault, NamesRefusal, NamesStop, FailsToRead, CountStays};
 
 use crate::reports::SoundMap;
-use crate::stop::{DONE, MAP_FAULT, Stop, stopped};
+use crate::stop::{DONE, MAP_FAULT, stopped};
 use crate::tell::tell_line;
 use std::alloc::Global;
 use tl_build::{Audit, AuditStop, audit_with};
+use tl_check::Stop;
 use tl_record::{Options, Sink, Source};
 
 /// Decides with no certificate given whether the map of the records is sound, and gives the program's exit status.
@@ -30,7 +31,8 @@ pub fn audit<R: Source, W: Sink, E: Sink>(
         (TriesToWrite E.contents E.failure_count err.old err.new) }
     ensures stopped { result ≡ STOPPED
         → NamesStop (TriesToWrite E.contents E.failure_count err.old err.new)
-        (FailsToRead R.failure_count records.old records.new ⊎ FailsToWrite W.failure_count out.old out.new) }
+        (FailsToRead R.failure_count records.old records.new ⊎ FailsToWrite W.failure_count out.old out.new)
+        (CountStays R.failure_count records.old records.new × CountStays W.failure_count out.old out.new) }
     ensures err_stays { (result ≡ DONE) ⊎ (result ≡ MAP_FAULT) → err.new ≡ err.old }
     ensures out_stays { result ≡ REFUSED → out.new ≡ out.old }
     ensures read_whole { result ≢ STOPPED → R.failure_count records.new ≡ R.failure_count records.old }
@@ -38,7 +40,7 @@ pub fn audit<R: Source, W: Sink, E: Sink>(
     match audit_with(alloc, records, options) {
         Ok(Audit::Sound(report)) => tell_line(&SoundMap(report), DONE, out, err),
         Ok(Audit::Fault(fault)) => tell_line(&fault, MAP_FAULT, out, err),
-        Err(AuditStop::Record { line, cause }) => stopped(&Stop::Refused { line, cause }, err),
+        Err(AuditStop::Record { line, cause }) => stopped(&Stop::Record { line, cause }, err),
         Err(AuditStop::Memory) => stopped(&Stop::Memory, err),
         Err(AuditStop::Device) => stopped(&Stop::Device, err),
     }

@@ -6,16 +6,16 @@ ghost use Rattle.tl_output.specs.Writing.{Writes, TriesToWrite, FailsToWrite};
 ghost use Rattle.tl_check.specs.Sound.{IsSound};
 ghost use Rattle.tl_check.specs.Valid.{IsValid};
 ghost use Rattle.tl_command.specs.declared.stop.TheConstants.{DONE, MAP_FAULT, REFUSED, STOPPED};
-ghost use Rattle.tl_command.specs.Running.{IsBuilt, NamesFault, NamesRefusal, NamesStop, FailsToRead};
+ghost use Rattle.tl_command.specs.Running.{IsBuilt, NamesFault, NamesRefusal, NamesStop, FailsToRead, CountStays};
 ghost use Rattle.tl_command.specs.Making.{Begins, Makes, MakesOf, OfMap, IsBegunOf, KeepsCount, TellsMaking, was_made};
 
 use crate::reports::BuiltCertificate;
-use crate::stop::{DONE, MAP_FAULT, Stop, stopped};
+use crate::stop::{DONE, MAP_FAULT, stopped};
 use crate::tell::tell_line;
 use std::alloc::Global;
 use tl_build::{BuildStop, Built};
 use tl_cert::{Certificate, write_cert};
-use tl_check::{MapFault, Report, report};
+use tl_check::{MapFault, Report, Stop, report};
 use tl_county::Map;
 use tl_map::{MapStop, read_map_with};
 use tl_record::{Options, Sink, Source};
@@ -49,7 +49,9 @@ pub fn build<R: Source, C: Sink, W: Sink, E: Sink>(
     ensures stopped { result ≡ STOPPED
         → NamesStop (TriesToWrite E.contents E.failure_count err.old err.new)
         (FailsToRead R.failure_count records.old records.new
-        ⊎ (FailsToWrite C.failure_count made.old made.new ⊎ FailsToWrite W.failure_count out.old out.new)) }
+        ⊎ (FailsToWrite C.failure_count made.old made.new ⊎ FailsToWrite W.failure_count out.old out.new))
+        (CountStays R.failure_count records.old records.new
+        × (CountStays C.failure_count made.old made.new × CountStays W.failure_count out.old out.new)) }
     ensures err_stays { (result ≡ DONE) ⊎ (result ≡ MAP_FAULT) → err.new ≡ err.old }
     ensures out_stays { result ≡ REFUSED → out.new ≡ out.old }
     ensures unmade { (result ≡ MAP_FAULT) ⊎ (result ≡ REFUSED) → made.new ≡ made.old }
@@ -77,7 +79,7 @@ pub fn make<R: Source, C: Sink>(
     match read_map_with(alloc, records, options) {
         Ok(map) => make_of_map(alloc, &map, made),
         Err(MapStop::Fault(fault)) => Ok(Making::Fault(MapFault::Records(fault))),
-        Err(MapStop::Refused { line, cause }) => Err(Stop::Refused { line, cause }),
+        Err(MapStop::Refused { line, cause }) => Err(Stop::Record { line, cause }),
         Err(MapStop::Memory) => Err(Stop::Memory),
         Err(MapStop::Device) => Err(Stop::Device),
     }
@@ -113,7 +115,7 @@ fn keep<C: Sink>(map: &Map, certificate: &Certificate, made: &mut C) -> Result<M
 pub fn tell_making<W: Sink, E: Sink>(making: &Result<Making, Stop>, out: &mut W, err: &mut E) -> u8
     ensures { TellsMaking making.now result (Writes W.contents W.failure_count out.old out.new)
         (TriesToWrite E.contents E.failure_count err.old err.new) (FailsToWrite W.failure_count out.old out.new)
-        (out.new ≡ out.old) (err.new ≡ err.old) }
+        (CountStays W.failure_count out.old out.new) (out.new ≡ out.old) (err.new ≡ err.old) }
 {
     match making {
         Ok(Making::Made(report)) => tell_line(&BuiltCertificate(*report), DONE, out, err),

@@ -3,15 +3,15 @@
 ghost use Rattle.std.specs.Prelude.{◌≡◌, ◌≢◌, ◌⊎◌};
 ghost use Rattle.tl_output.specs.Writing.{Writes, TriesToWrite, FailsToWrite};
 ghost use Rattle.tl_command.specs.declared.stop.TheConstants.{DONE, CERT_FAULT, STOPPED};
-ghost use Rattle.tl_command.specs.Running.{IsConverted, NamesBadLine, NamesStop, FailsToRead};
+ghost use Rattle.tl_command.specs.Running.{IsConverted, NamesBadLine, NamesStop, FailsToRead, CountStays};
 ghost use Rattle.tl_command.specs.Making.{Begins, BeginsRewritten, Rewrites, KeepsText, KeepsCertCount, TellsConverted};
 
-use crate::stop::{CERT_FAULT, DONE, Stop, stopped};
+use crate::stop::{CERT_FAULT, DONE, stopped};
 use crate::tell::tell_line;
 use std::alloc::Global;
 use std::fmt;
 use tl_cert::{CertStop, Certificate, read_cert, write_cert};
-use tl_check::CertFault;
+use tl_check::{CertFault, Stop};
 use tl_record::{Sink, Source};
 
 /// What was converted: how many nodes, rounds and walks the certificate has.
@@ -54,7 +54,9 @@ pub fn convert<S: Source, C: Sink, W: Sink, E: Sink>(
     ensures stopped { result ≡ STOPPED
         → NamesStop (TriesToWrite E.contents E.failure_count err.old err.new)
         (FailsToRead S.failure_count cert.old cert.new
-        ⊎ (FailsToWrite C.failure_count made.old made.new ⊎ FailsToWrite W.failure_count out.old out.new)) }
+        ⊎ (FailsToWrite C.failure_count made.old made.new ⊎ FailsToWrite W.failure_count out.old out.new))
+        (CountStays S.failure_count cert.old cert.new
+        × (CountStays C.failure_count made.old made.new × CountStays W.failure_count out.old out.new)) }
     ensures err_stays { (result ≡ DONE) ⊎ (result ≡ CERT_FAULT) → err.new ≡ err.old }
     ensures made_stays { result ≡ CERT_FAULT → made.new ≡ made.old }
     // A certificate of another text is not even begun.
@@ -106,7 +108,7 @@ pub fn tell_converted<W: Sink, E: Sink>(
 ) -> u8
     ensures { TellsConverted converted.now result (Writes W.contents W.failure_count out.old out.new)
         (TriesToWrite E.contents E.failure_count err.old err.new) (FailsToWrite W.failure_count out.old out.new)
-        (out.new ≡ out.old) (err.new ≡ err.old) }
+        (CountStays W.failure_count out.old out.new) (out.new ≡ out.old) (err.new ≡ err.old) }
 {
     match converted {
         Ok(counts) => tell_line(counts, DONE, out, err),

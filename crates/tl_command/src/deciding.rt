@@ -6,10 +6,10 @@ ghost use Rattle.tl_output.specs.Writing.{Writes, TriesToWrite, FailsToWrite, li
 ghost use Rattle.tl_command.specs.declared.stop.TheConstants.{DONE, MAP_FAULT, CERT_FAULT, REFUSED, STOPPED};
 ghost use Rattle.tl_command.specs.Verdicts.{verdict_text, verdict_status};
 ghost use Rattle.tl_command.specs.Running.{IsChecked, NamesFault, NamesCertFault, NamesRefusal, NamesStop, NamesBudget};
-ghost use Rattle.tl_command.specs.Running.{IsRunStatus, FailsToRead};
+ghost use Rattle.tl_command.specs.Running.{IsRunStatus, FailsToRead, CountStays};
 
 use crate::reports::SoundMap;
-use crate::stop::{CERT_FAULT, DONE, MAP_FAULT, Stop, stopped};
+use crate::stop::{CERT_FAULT, DONE, MAP_FAULT, stopped};
 use crate::tell::tell_line;
 use std::alloc::Global;
 use tl_check::{Verdict, check_with};
@@ -39,8 +39,12 @@ pub fn decide<R: Source, S: Source, W: Sink, E: Sink>(
         → NamesStop (TriesToWrite E.contents E.failure_count err.old err.new)
         ((FailsToRead R.failure_count records.old records.new ⊎ FailsToRead S.failure_count cert.old cert.new)
         ⊎ FailsToWrite W.failure_count out.old out.new)
-        ⊎ NamesBudget (layout_with options) budget (R.remaining records.old)
-        (TriesToWrite E.contents E.failure_count err.old err.new) }
+        ((CountStays R.failure_count records.old records.new × CountStays S.failure_count cert.old cert.new)
+        × CountStays W.failure_count out.old out.new)
+        ⊎ (NamesBudget (layout_with options) budget (R.remaining records.old)
+        (TriesToWrite E.contents E.failure_count err.old err.new)
+        × ((CountStays R.failure_count records.old records.new × CountStays S.failure_count cert.old cert.new)
+        × CountStays W.failure_count out.old out.new)) }
     ensures err_stays { (result ≡ DONE) ⊎ ((result ≡ MAP_FAULT) ⊎ (result ≡ CERT_FAULT)) → err.new ≡ err.old }
     ensures out_stays { result ≡ REFUSED → out.new ≡ out.old }
     ensures unread { result ≡ REFUSED → cert.new ≡ cert.old }
@@ -49,10 +53,7 @@ pub fn decide<R: Source, S: Source, W: Sink, E: Sink>(
 {
     match check_with(alloc, records, cert, budget, options) {
         Ok(verdict) => tell_verdict(&verdict, out, err),
-        Err(tl_check::Stop::Record { line, cause }) => stopped(&Stop::Refused { line, cause }, err),
-        Err(tl_check::Stop::Memory) => stopped(&Stop::Memory, err),
-        Err(tl_check::Stop::Device) => stopped(&Stop::Device, err),
-        Err(tl_check::Stop::Budget) => stopped(&Stop::Budget, err),
+        Err(stop) => stopped(&stop, err),
     }
 }
 
@@ -64,7 +65,7 @@ fn tell_verdict<W: Sink, E: Sink>(verdict: &Verdict, out: &mut W, err: &mut E) -
     ensures err_stays { result ≡ verdict_status verdict.now → err.new ≡ err.old }
     ensures stopped { result ≡ STOPPED
         → NamesStop (TriesToWrite E.contents E.failure_count err.old err.new)
-        (FailsToWrite W.failure_count out.old out.new) }
+        (FailsToWrite W.failure_count out.old out.new) (CountStays W.failure_count out.old out.new) }
 {
     match verdict {
         Verdict::Sound(report) => tell_line(&SoundMap(*report), DONE, out, err),

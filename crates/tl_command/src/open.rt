@@ -3,26 +3,28 @@
 ghost use Rattle.std.specs.Prelude.{◌≡◌, ◌≢◌, ◌⊎◌, ℕ, List, true, false, ⊤, None};
 ghost use Rattle.std.specs.Prelude.{IfOk, IfErr, IfSome, IsSome, map, string_bytes};
 ghost use Rattle.tl_text.specs.Joining.{joined_bytes};
-ghost use Rattle.tl_output.specs.Writing.{Writes, TriesToWrite, FailsToWrite};
+ghost use Rattle.tl_output.specs.Writing.{Writes, TriesToWrite, FailsToWrite, line_of};
 ghost use Rattle.tl_files.specs.Files.{bytes_under, standing, beside, IsRoom};
 ghost use Rattle.tl_command.specs.declared.stop.TheConstants.{DONE, MAP_FAULT, CERT_FAULT, REFUSED, STOPPED, USAGE};
-ghost use Rattle.tl_command.specs.declared.stop.Stop.TheVariants.{Memory, Device};
-ghost use Rattle.tl_command.specs.Running.{IsAnswered, FaultsMap, NamesRefusal, NamesStop, StopsRun, IsRunStatus, layout_of};
+ghost use Rattle.tl_check.specs.declared.stop.Stop.TheVariants.{Device};
+ghost use Rattle.tl_check.specs.Stops.{stop_text};
+ghost use Rattle.tl_command.specs.Running.{IsAnswered, FaultsMap, NamesRefusal, StopsRun, IsRunStatus, CountStays, layout_of};
 ghost use Rattle.tl_command.specs.Running.{FaultsCertificate, ReadsNoCertificate, MakesNoCertificate};
 ghost use Rattle.tl_command.specs.Deciding.{IsExact};
 ghost use Rattle.tl_command.specs.Making.{Begins, IsBegunBy};
 ghost use Rattle.tl_command.specs.Opening.{RunsOver, IsCheckBy, IsBuildOf, IsConversionBy, Converts};
 ghost use Rattle.tl_command.specs.Opening.{records_under, certificate_under};
 ghost use Rattle.tl_command.specs.Starting.{IsStartStatus, ShowsUsage, ShowsHelp, AnswersSome, FaultsSome, RefusesSome};
-ghost use Rattle.tl_command.specs.Starting.{StopsOpening, FaultsText, StopsSome, RefusesSomeOut, KeepsSome};
+ghost use Rattle.tl_command.specs.Starting.{StopsOpening, FaultsText, StopsSome, DecidesSome, BeginsSome, RefusesSomeOut, KeepsSome};
 
 use crate::building::{is_made, make, tell_making};
 use crate::convert::{rewrite, tell_converted};
 use crate::run::run;
-use crate::stop::{DONE, Stop, USAGE, stopped};
+use crate::stop::{DONE, USAGE, stopped};
 use std::alloc::Global;
 use std::io::{BufReader, ErrorKind, Read};
 use std::{io, slice};
+use tl_check::Stop;
 use tl_files::{FileSystem, Room};
 use tl_output::write_all;
 use tl_plan::{Plan, PlanStop, words};
@@ -69,10 +71,17 @@ pub fn start<F: FileSystem, W: Sink, E: Sink>(
         (TriesToWrite E.contents E.failure_count err.old err.new) }
     ensures stopped { result ≡ STOPPED
         → StopsSome (map string_bytes words.now) (F.under files.old)
-        (TriesToWrite E.contents E.failure_count err.old err.new) }
+        (TriesToWrite E.contents E.failure_count err.old err.new)
+        (FailsToWrite W.failure_count out.old out.new) (CountStays W.failure_count out.old out.new) }
     // The other stream stays as it was.
     ensures err_stays { (result ≡ DONE) ⊎ ((result ≡ MAP_FAULT) ⊎ (result ≡ CERT_FAULT)) → err.new ≡ err.old }
     ensures out_stays { (result ≡ REFUSED) ⊎ (result ≡ USAGE) → out.new ≡ out.old }
+    // Of `audit`, `build` and `check`: a status of 0 or 1 is 0 exactly where the records have a map that is sound.
+    ensures exactly { (result ≡ DONE) ⊎ (result ≡ MAP_FAULT)
+        → DecidesSome (map string_bytes words.now) (F.under files.old) result }
+    // Where it stops, no name stands for other bytes, or a certificate that is valid took the name of the one that is made.
+    ensures begun { result ≡ STOPPED
+        → BeginsSome (map string_bytes words.now) (F.under files.old) (F.under files.new) }
     // No name stands for other bytes than before but that of the certificate that is made.
     ensures files { KeepsSome (map string_bytes words.now) result (F.under files.old) (F.under files.new) }
 {
@@ -99,8 +108,8 @@ fn say_help<W: Sink, E: Sink>(text: &String, out: &mut W, err: &mut E) -> u8
     ensures said { result ≡ DONE → Writes W.contents W.failure_count out.old out.new (string_bytes text.now) }
     ensures err_stays { result ≡ DONE → err.new ≡ err.old }
     ensures stopped { result ≡ STOPPED
-        → NamesStop (TriesToWrite E.contents E.failure_count err.old err.new)
-        (FailsToWrite W.failure_count out.old out.new) }
+        → (TriesToWrite E.contents E.failure_count err.old err.new (line_of (stop_text Device)))
+        × FailsToWrite W.failure_count out.old out.new }
 {
     match write_all(text.as_str().as_bytes(), out) {
         Ok(()) => DONE,
@@ -120,7 +129,8 @@ pub fn open_and_run<F: FileSystem, W: Sink, E: Sink>(
 ) -> u8
     ensures { RunsOver plan.now result (F.under files.old) (F.under files.new)
         (Writes W.contents W.failure_count out.old out.new)
-        (TriesToWrite E.contents E.failure_count err.old err.new) (out.new ≡ out.old) (err.new ≡ err.old) }
+        (TriesToWrite E.contents E.failure_count err.old err.new) ⊤ (CountStays W.failure_count out.old out.new)
+        (out.new ≡ out.old) (err.new ≡ err.old) }
 {
     let readers = match open_all(&*files, alloc, plan.files()) {
         Ok(readers) => readers,
@@ -158,7 +168,8 @@ fn run_plainly<F: FileSystem, W: Sink, E: Sink>(
     requires known { joined_bytes F.Reader.remaining false readers.items ≡ records_under (F.under files.now) plan.now }
     ensures { RunsOver plan.now result (F.under files.now) (F.under files.now)
         (Writes W.contents W.failure_count out.old out.new)
-        (TriesToWrite E.contents E.failure_count err.old err.new) (out.new ≡ out.old) (err.new ≡ err.old) }
+        (TriesToWrite E.contents E.failure_count err.old err.new) ⊤ (CountStays W.failure_count out.old out.new)
+        (out.new ≡ out.old) (err.new ≡ err.old) }
 {
     let mut cert = Meter::new(io::empty());
     let mut made = MeterOut::new(io::sink());
@@ -179,7 +190,8 @@ fn open_and_check<F: FileSystem, W: Sink, E: Sink>(
     requires known { joined_bytes F.Reader.remaining false readers.items ≡ records_under (F.under files.now) plan.now }
     ensures { RunsOver plan.now result (F.under files.now) (F.under files.now)
         (Writes W.contents W.failure_count out.old out.new)
-        (TriesToWrite E.contents E.failure_count err.old err.new) (out.new ≡ out.old) (err.new ≡ err.old) }
+        (TriesToWrite E.contents E.failure_count err.old err.new) ⊤ (CountStays W.failure_count out.old out.new)
+        (out.new ≡ out.old) (err.new ≡ err.old) }
 {
     let mut cert = match open_certificate(files, alloc, name) {
         Ok(cert) => cert,
@@ -204,7 +216,8 @@ fn open_and_build<F: FileSystem, W: Sink, E: Sink>(
     requires known { joined_bytes F.Reader.remaining false readers.items ≡ records_under (F.under files.old) plan.now }
     ensures { RunsOver plan.now result (F.under files.old) (F.under files.new)
         (Writes W.contents W.failure_count out.old out.new)
-        (TriesToWrite E.contents E.failure_count err.old err.new) (out.new ≡ out.old) (err.new ≡ err.old) }
+        (TriesToWrite E.contents E.failure_count err.old err.new) ⊤ (CountStays W.failure_count out.old out.new)
+        (out.new ≡ out.old) (err.new ≡ err.old) }
 {
     match room_for(&*files, name, plan.files()) {
         Ok(Room::Free) => build_into(files, alloc, plan, readers, name, options, out, err),
@@ -229,7 +242,8 @@ fn build_into<F: FileSystem, W: Sink, E: Sink>(
     requires known { joined_bytes F.Reader.remaining false readers.items ≡ records_under (F.under files.old) plan.now }
     ensures { RunsOver plan.now result (F.under files.old) (F.under files.new)
         (Writes W.contents W.failure_count out.old out.new)
-        (TriesToWrite E.contents E.failure_count err.old err.new) (out.new ≡ out.old) (err.new ≡ err.old) }
+        (TriesToWrite E.contents E.failure_count err.old err.new) ⊤ (CountStays W.failure_count out.old out.new)
+        (out.new ≡ out.old) (err.new ≡ err.old) }
 {
     let Ok(mut records) = joined_source(alloc, readers) else {
         return stopped(&Stop::Memory, err);
@@ -257,7 +271,8 @@ fn open_and_convert<F: FileSystem, W: Sink, E: Sink>(
     requires { IsConversionBy plan.now (string_bytes names.0.now) (string_bytes names.1.now) }
     ensures { RunsOver plan.now result (F.under files.old) (F.under files.new)
         (Writes W.contents W.failure_count out.old out.new)
-        (TriesToWrite E.contents E.failure_count err.old err.new) (out.new ≡ out.old) (err.new ≡ err.old) }
+        (TriesToWrite E.contents E.failure_count err.old err.new) ⊤ (CountStays W.failure_count out.old out.new)
+        (out.new ≡ out.old) (err.new ≡ err.old) }
 {
     let mut cert = match open_certificate(&*files, alloc, names.0) {
         Ok(cert) => cert,
@@ -285,7 +300,8 @@ fn convert_into<F: FileSystem, S: Source, W: Sink, E: Sink>(
     requires known { S.remaining cert.old ≡ certificate_under (F.under files.old) plan.now }
     ensures { RunsOver plan.now result (F.under files.old) (F.under files.new)
         (Writes W.contents W.failure_count out.old out.new)
-        (TriesToWrite E.contents E.failure_count err.old err.new) (out.new ≡ out.old) (err.new ≡ err.old) }
+        (TriesToWrite E.contents E.failure_count err.old err.new) ⊤ (CountStays W.failure_count out.old out.new)
+        (out.new ≡ out.old) (err.new ≡ err.old) }
 {
     let mut draft = match files.draft(alloc, name.as_str()) {
         Ok(draft) => draft,
@@ -404,7 +420,9 @@ pub fn run_on_readers<F: Read + Drop, S: Source, C: Sink, W: Sink, E: Sink>(
         (TriesToWrite E.contents E.failure_count err.old err.new) }
     ensures stopped { result ≡ STOPPED
         → StopsRun plan.now (joined_bytes F.remaining false readers.items)
-        (TriesToWrite E.contents E.failure_count err.old err.new) ⊤ }
+        (TriesToWrite E.contents E.failure_count err.old err.new) ⊤
+        (CountStays S.failure_count cert.old cert.new
+        × (CountStays C.failure_count made.old made.new × CountStays W.failure_count out.old out.new)) }
     ensures err_stays { (result ≡ DONE) ⊎ ((result ≡ MAP_FAULT) ⊎ (result ≡ CERT_FAULT)) → err.new ≡ err.old }
     ensures out_stays { result ≡ REFUSED → out.new ≡ out.old }
     ensures cert { ReadsNoCertificate plan.now → cert.new ≡ cert.old }

@@ -3,12 +3,13 @@
 ghost use Rattle.tl_command.specs.Starting.{IsStartStatus};
 
 use crate::open::start;
-use crate::stop::{Stop, USAGE, stopped};
+use crate::stop::{USAGE, stopped};
 use std::alloc::{Alloc, Global};
 use std::env;
 use std::fs::File;
 use std::io::ErrorKind;
 use std::rt::{Env, Files};
+use tl_check::Stop;
 use tl_files::SystemFiles;
 use tl_output::write_all;
 use tl_record::Sink;

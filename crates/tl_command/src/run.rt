@@ -9,7 +9,7 @@ ghost use Rattle.tl_command.specs.declared.stop.TheConstants.{DONE, MAP_FAULT, C
 ghost use Rattle.tl_command.specs.Running.{IsAnswered, AnswersRecords, IsShown, IsListed, NamesRecordFault, NamesRefusal};
 ghost use Rattle.tl_command.specs.Running.{NamesStop, StopsRun, FaultsMap, FaultsCertificate};
 ghost use Rattle.tl_command.specs.Running.{ReadsNoCertificate, MakesNoCertificate, ReadsNoRecords};
-ghost use Rattle.tl_command.specs.Running.{IsRunStatus, FailsToRead, StopsAnswer, KeepsReads, LooksFor, layout_of};
+ghost use Rattle.tl_command.specs.Running.{IsRunStatus, FailsToRead, CountStays, StopsAnswer, KeepsReads, LooksFor, layout_of};
 ghost use Rattle.tl_map.specs.Faults.{IsFaultOfChains};
 ghost use Rattle.tl_map.specs.Reading.{IfFault};
 ghost use Rattle.tl_command.specs.Deciding.{IsExact};
@@ -20,11 +20,11 @@ use crate::building::build;
 use crate::convert::convert;
 use crate::deciding::decide;
 use crate::locating::tell_place;
-use crate::stop::{DONE, MAP_FAULT, Stop, stopped};
+use crate::stop::{DONE, MAP_FAULT, stopped};
 use crate::tell::tell_line;
 use std::alloc::Global;
 use std::io;
-use tl_check::MapFault;
+use tl_check::{MapFault, Stop};
 use tl_county::{Chains, Map};
 use tl_map::{MapStop, read_chains_with, read_map_with};
 use tl_output::OutputBuffer;
@@ -65,12 +65,15 @@ pub fn run<R: Source, S: Source, C: Sink, W: Sink, E: Sink>(
     // The line of the first refusal was written to `err`, or the write of it failed.
     ensures refused { result ≡ REFUSED
         → NamesRefusal (layout_of plan.now) (R.remaining records.old) (TriesToWrite E.contents E.failure_count err.old err.new) }
-    // The line of a stop was, or the write of it failed; of a device only where a read or a write failed, and of a spent
-    // budget only where more pairs of segments have rectangles that meet.
+    // The line of a stop was, or the write of it failed; of a device only where a read or a write failed, of a want of
+    // memory and of a spent budget only where none did, and of a budget only where more pairs of segments have rectangles
+    // that meet.
     ensures stopped { result ≡ STOPPED
         → StopsRun plan.now (R.remaining records.old) (TriesToWrite E.contents E.failure_count err.old err.new)
         ((FailsToRead R.failure_count records.old records.new ⊎ FailsToRead S.failure_count cert.old cert.new)
-        ⊎ (FailsToWrite C.failure_count made.old made.new ⊎ FailsToWrite W.failure_count out.old out.new)) }
+        ⊎ (FailsToWrite C.failure_count made.old made.new ⊎ FailsToWrite W.failure_count out.old out.new))
+        ((CountStays R.failure_count records.old records.new × CountStays S.failure_count cert.old cert.new)
+        × (CountStays C.failure_count made.old made.new × CountStays W.failure_count out.old out.new)) }
 
     // The other stream stays as it was.
     ensures err_stays { (result ≡ DONE) ⊎ ((result ≡ MAP_FAULT) ⊎ (result ≡ CERT_FAULT)) → err.new ≡ err.old }
@@ -121,7 +124,8 @@ fn run_on_records<R: Source, W: Sink, E: Sink>(
         → NamesRefusal (layout_of plan.now) (R.remaining records.old) (TriesToWrite E.contents E.failure_count err.old err.new) }
     ensures stopped { result ≡ STOPPED
         → NamesStop (TriesToWrite E.contents E.failure_count err.old err.new)
-        (FailsToRead R.failure_count records.old records.new ⊎ FailsToWrite W.failure_count out.old out.new) }
+        (FailsToRead R.failure_count records.old records.new ⊎ FailsToWrite W.failure_count out.old out.new)
+        (CountStays R.failure_count records.old records.new × CountStays W.failure_count out.old out.new) }
     ensures err_stays { (result ≡ DONE) ⊎ (result ≡ MAP_FAULT) → err.new ≡ err.old }
     ensures out_stays { result ≡ REFUSED → out.new ≡ out.old }
     ensures read_whole { result ≢ STOPPED → R.failure_count records.new ≡ R.failure_count records.old }
@@ -129,7 +133,7 @@ fn run_on_records<R: Source, W: Sink, E: Sink>(
     match answer(alloc, plan, records, out) {
         Ok(()) => DONE,
         Err(MapStop::Fault(fault)) => tell_line(&MapFault::Records(fault), MAP_FAULT, out, err),
-        Err(MapStop::Refused { line, cause }) => stopped(&Stop::Refused { line, cause }, err),
+        Err(MapStop::Refused { line, cause }) => stopped(&Stop::Record { line, cause }, err),
         Err(MapStop::Memory) => stopped(&Stop::Memory, err),
         Err(MapStop::Device) => stopped(&Stop::Device, err),
     }

@@ -1,14 +1,18 @@
-//! Why a command stops, and how that is told.
+//! How a stop is told, and the exit statuses.
 
-ghost use Rattle.std.specs.Bool.{OnTrue, OnFalse};
+ghost use Rattle.std.specs.Prelude.{◌≡◌, ◌++◌, ◌≤◌, length};
+ghost use Rattle.arrayvec.specs.ArrayString.{array_string_len};
+ghost use Rattle.tl_record.specs.Messages.{cause_text, field_text, field_word, refusal_text};
 ghost use Rattle.tl_output.specs.Writing.{TriesToWrite, line_of};
-ghost use Rattle.tl_command.specs.declared.stop.Stop.TheVariants.{Memory};
-ghost use Rattle.tl_command.specs.Stops.{stop_text};
+ghost use Rattle.tl_command.specs.declared.stop.TheConstants.{REFUSED, STOPPED};
 ghost use Rattle.tl_command.specs.Running.{IsTold};
+ghost use Rattle.tl_command.specs.Stops.{pair_text};
 
-use std::fmt;
-use tl_output::{LineStop, print_line, write_all};
-use tl_record::{Cause, Sink};
+use arrayvec::ArrayString;
+use itoa::Buffer;
+use tl_check::Stop;
+use tl_output::write_all;
+use tl_record::{Cause, Field, Sink};
 
 /// The status of a command that is done, and of help.
 pub const DONE: u8 = 0;
@@ -28,67 +32,122 @@ pub const STOPPED: u8 = 4;
 /// The status where the words are no command.
 pub const USAGE: u8 = 64;
 
-// What is printed where there is no room for a longer line.
-const NO_ROOM: &[u8] = b"stopped Memory\n";
+// More bytes than the line of a refusal may have.
+const REFUSAL_ROOM: usize = 128;
 
-/// Why a command stops with neither an answer nor a fault.
-#[derive(Clone, Copy, Debug, PartialEq, Eq)]
-pub enum Stop {
-    /// This line of the records, counted from 1, is the first that is refused.
-    Refused { line: u64, cause: Cause },
-    /// Memory was refused.
-    Memory,
-    /// A file couldn't be opened, a read failed, or a write of the output.
-    Device,
-    /// More pairs of segments than the budget would have to be tested.
-    Budget,
-}
-
-impl fmt::Display for Stop {
-    ghost use Rattle.std.specs.Prelude.{Some};
-    ghost use Rattle.tl_command.specs.Stops.{stop_text};
-
-    ghost output = { λ stop. Some (stop_text stop) };
-
-    fn fmt<W: fmt::Write>(&self, f: &mut fmt::Formatter<W>) -> fmt::Result {
-        match self {
-            Stop::Refused { line, cause } => write!(f, "refused line {line} {cause}"),
-            Stop::Memory => write!(f, "stopped Memory"),
-            Stop::Device => write!(f, "stopped Device"),
-            Stop::Budget => write!(f, "stopped Budget"),
-        }
-    }
-}
-
-/// Says on `err` why a command stopped, and gives the exit status of that. Where the write fails too, the status alone
-/// is left to tell it.
+/// Says on `err` why a command stopped, and gives the exit status of that. Where the write fails, the status alone is left
+/// to tell it. The lines are put together here and not by `Display`, whose errors no contract excludes: so each stop is
+/// told as what it is.
 pub fn stopped<E: Sink>(stop: &Stop, err: &mut E) -> u8
     ensures { IsTold stop.now result (TriesToWrite E.contents E.failure_count err.old err.new) }
 {
-    if !tell(stop, err) {
-        return STOPPED;
-    }
     match stop {
-        Stop::Refused { .. } => REFUSED,
-        Stop::Memory => STOPPED,
-        Stop::Device => STOPPED,
-        Stop::Budget => STOPPED,
+        Stop::Record { line, cause } => refused(*line, *cause, err),
+        Stop::Memory => say(b"stopped Memory\n", err),
+        Stop::Device => say(b"stopped Device\n", err),
+        Stop::Budget => say(b"stopped Budget\n", err),
     }
 }
 
-// Writes the line of the stop, or where there is no room for it, that of a want of memory; and says whether there was.
-fn tell<E: Sink>(stop: &Stop, err: &mut E) -> bool
-    ensures room { OnTrue result
-        (TriesToWrite E.contents E.failure_count err.old err.new (line_of (stop_text stop.now))) }
-    ensures none { OnFalse result
-        (TriesToWrite E.contents E.failure_count err.old err.new (line_of (stop_text Memory))) }
+// Writes this line, with the status of a stop.
+fn say<E: Sink>(line: &[u8], err: &mut E) -> u8
+    ensures status { result ≡ STOPPED }
+    ensures said { TriesToWrite E.contents E.failure_count err.old err.new line.now }
 {
-    match print_line(stop, err) {
-        Ok(()) => true,
-        Err(LineStop::Failed) => true,
-        Err(LineStop::NoRoom | LineStop::NoText) => {
-            let _ = write_all(NO_ROOM, err);
-            false
-        }
+    let _ = write_all(line, err);
+    STOPPED
+}
+
+// Writes the line of a refusal, with its status.
+fn refused<E: Sink>(line: u64, cause: Cause, err: &mut E) -> u8
+    ensures status { result ≡ REFUSED }
+    ensures said { TriesToWrite E.contents E.failure_count err.old err.new (line_of (refusal_text line cause)) }
+{
+    let text = refusal_line(line, cause);
+    let _ = write_all(text.as_str().as_bytes(), err);
+    REFUSED
+}
+
+// The line of a refusal.
+fn refusal_line(line: u64, cause: Cause) -> ArrayString<REFUSAL_ROOM>
+    ensures { result.bytes ≡ line_of (refusal_text line cause) }
+{
+    let mut text = ArrayString::new();
+    let mut digits = Buffer::new();
+    text.push_str("refused line ");
+    text.push_str(digits.format(line));
+    text.push_str(" ");
+    push_cause(&mut text, cause);
+    text.push_str("\n");
+    text
+}
+
+// Adds the code and the name of a cause, with the field that it is about.
+fn push_cause(text: &mut ArrayString<REFUSAL_ROOM>, cause: Cause)
+    requires { array_string_len text.old ≤ 54 }
+    ensures bytes { text.new.bytes ≡ text.old.bytes ++ cause_text cause }
+    ensures room { array_string_len text.new ≤ 127 }
+{
+    match cause {
+        Cause::LineTooLong => text.push_str("L1 LineTooLong"),
+        Cause::Missing(field) => push_field(text, "L2 Missing ", field),
+        Cause::BadField(field) => push_field(text, "L3 BadField ", field),
+        Cause::OutOfRange(field) => push_field(text, "L4 OutOfRange ", field),
+        Cause::TooManyLines => text.push_str("L5 TooManyLines"),
+    }
+}
+
+// Adds a cause's name and that of the field that it is about.
+fn push_field(text: &mut ArrayString<REFUSAL_ROOM>, name: &str, field: Field)
+    requires room { array_string_len text.old ≤ 54 }
+    requires name { length name.now ≤ 14 }
+    ensures bytes { text.new.bytes ≡ text.old.bytes ++ name.now ++ field_text field }
+    ensures room { array_string_len text.new ≤ 127 }
+{
+    text.push_str(name);
+    text.push_str(word_of(field));
+    if let Some(pair) = pair_of(field) {
+        let mut digits = Buffer::new();
+        text.push_str(digits.format(pair));
+    }
+}
+
+// The number of a field's shape pair, where it has one.
+fn pair_of(field: Field) -> Option<u8>
+    ensures { field_text field ≡ field_word field ++ pair_text result }
+{
+    match field {
+        Field::Long(pair) | Field::Lat(pair) => Some(pair),
+        _ => None,
+    }
+}
+
+// A field's name, without the number of a shape pair.
+fn word_of(field: Field) -> &'static str
+    ensures word { result.now ≡ field_word field }
+    ensures room { length result.now ≤ 8 }
+{
+    match field {
+        Field::Tlid => "TLID",
+        Field::FrLong => "FRLONG",
+        Field::FrLat => "FRLAT",
+        Field::ToLong => "TOLONG",
+        Field::ToLat => "TOLAT",
+        Field::Rtsq => "RTSQ",
+        Field::Long(_) => "LONG",
+        Field::Lat(_) => "LAT",
+        Field::Tzids => "TZIDS",
+        Field::Tzide => "TZIDE",
+        Field::CenidL => "CENIDL",
+        Field::PolyidL => "POLYIDL",
+        Field::CenidR => "CENIDR",
+        Field::PolyidR => "POLYIDR",
+        Field::Cenid => "CENID",
+        Field::Polyid => "POLYID",
+        Field::PolyLong => "POLYLONG",
+        Field::PolyLat => "POLYLAT",
+        Field::Land => "LAND",
+        Field::LaLong => "LALONG",
+        Field::LaLat => "LALAT",
     }
 }

@@ -3,14 +3,16 @@
 ghost use Rattle.std.specs.Prelude.{◌≡◌, ◌≢◌, ◌⊎◌, IfSome};
 ghost use Rattle.tl_output.specs.Writing.{Writes, TriesToWrite, FailsToWrite, line_of};
 ghost use Rattle.tl_command.specs.declared.stop.TheConstants.{STOPPED};
-ghost use Rattle.tl_command.specs.Running.{NamesStop};
+ghost use Rattle.tl_command.specs.Running.{NamesStop, CountStays};
 
-use crate::stop::{Stop, stopped};
+use crate::stop::stopped;
 use std::fmt::Display;
+use tl_check::Stop;
 use tl_output::{LineStop, print_line};
 use tl_record::Sink;
 
-/// Writes the value's line to `out` and gives this status. Where that can't be written, the command is stopped.
+/// Writes the value's line to `out` and gives this status. Where that can't be written, the command is stopped: for a
+/// device where the write failed, and for want of memory where the line has no room.
 pub fn tell_line<D: Display, W: Sink, E: Sink>(
     value: &D,
     status: u8,
@@ -24,7 +26,7 @@ pub fn tell_line<D: Display, W: Sink, E: Sink>(
     ensures err_stays { result ≡ status → err.new ≡ err.old }
     ensures stopped { result ≡ STOPPED
         → NamesStop (TriesToWrite E.contents E.failure_count err.old err.new)
-        (FailsToWrite W.failure_count out.old out.new) }
+        (FailsToWrite W.failure_count out.old out.new) (CountStays W.failure_count out.old out.new) }
 {
     match print_line(value, out) {
         Ok(()) => status,

@@ -5,10 +5,10 @@ use Rattle.tl_command.proofs.open.open_and_convert.Goals as goal
 
 pub returns-in-Ok-Taken : goal.returns-in-Ok-Taken
 returns-in-Ok-Taken g c =
-    refused_conversion c.args.plan.now _ _ _ Taken c.say_refusal.result (g.F.FileSystem.under c.args.files.now) _ _ _ _ c.requires (ap (map string_bytes) c.from_ref.ensures.value)
+    refused_conversion c.args.plan.now _ _ _ Taken c.say_refusal.result (g.F.FileSystem.under c.args.files.now) _ _ _ _ _ _ c.requires (ap (map string_bytes) c.from_ref.ensures.value)
     (rw c.in-Ok-Taken.field-0-is at c.in-Ok-Taken.ensures.room) refl c.say_refusal.ensures.status c.say_refusal.ensures.said
 
 pub returns-in-Ok-IsRead : goal.returns-in-Ok-IsRead
 returns-in-Ok-IsRead g c =
-    refused_conversion c.args.plan.now _ _ _ IsRead c.say_refusal-in-Ok-IsRead.result (g.F.FileSystem.under c.args.files.now) _ _ _ _ c.requires (ap (map string_bytes) c.from_ref.ensures.value)
+    refused_conversion c.args.plan.now _ _ _ IsRead c.say_refusal-in-Ok-IsRead.result (g.F.FileSystem.under c.args.files.now) _ _ _ _ _ _ c.requires (ap (map string_bytes) c.from_ref.ensures.value)
     (rw c.in-Ok-IsRead.field-0-is at c.in-Ok-IsRead.ensures.room) refl c.say_refusal-in-Ok-IsRead.ensures.status c.say_refusal-in-Ok-IsRead.ensures.said

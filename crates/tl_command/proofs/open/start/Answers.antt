@@ -21,3 +21,9 @@ returns-in-Ok-clause-usage g c = λ usage. inr (c.in-Ok.plan, c.in-Ok.ensures.pl
 
 pub returns-in-Ok-clause-files : goal.returns-in-Ok-clause-files
 returns-in-Ok-clause-files g c = inl (c.in-Ok.plan, c.in-Ok.ensures.plan, c.open_and_run.ensures.others, c.open_and_run.ensures.unmade)
+
+pub returns-in-Ok-clause-exactly : goal.returns-in-Ok-clause-exactly
+returns-in-Ok-clause-exactly g c = λ any. inr (c.in-Ok.plan, c.in-Ok.ensures.plan, c.open_and_run.ensures.exactly any)
+
+pub returns-in-Ok-clause-begun : goal.returns-in-Ok-clause-begun
+returns-in-Ok-clause-begun g c = λ stopped. inr (c.in-Ok.plan, c.in-Ok.ensures.plan, c.open_and_run.ensures.begun stopped)

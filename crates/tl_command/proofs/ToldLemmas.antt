@@ -1,0 +1,68 @@
+-- What is told of a stop.
+use Rattle.std.proofs.Common.{◌≡◌, ◌≢◌, ◌⊎◌, inl, inr, ℕ, List, Option, Err, refl, sym, ◌∙◌}
+use Rattle.std.specs.Option.{IfSome}
+use Rattle.tl_record.specs.Failures.{one_more}
+use Rattle.tl_record.specs.declared.layout.Layout.{Layout}
+use Rattle.tl_record.specs.Records.{records_of}
+use Rattle.tl_check.specs.declared.stop.Stop.{Stop}
+use Rattle.tl_check.specs.declared.stop.Stop.TheVariants.{Record, Memory, Device, Budget}
+use Rattle.tl_check.specs.Records.{MayStopOn, TellsEither, LeavesUnread}
+use Rattle.tl_plan.specs.declared.plan.Plan.{Plan}
+use Rattle.tl_command.specs.declared.stop.TheConstants.{DONE, MAP_FAULT, CERT_FAULT, REFUSED, STOPPED}
+use Rattle.tl_command.specs.Running.{NamesStop, NamesBudget, NamesRefusal, StopsRun, IsRunStatus, IsTold, status_of}
+
+-- the same stop, of less that failed and of less that didn't
+pub weaker_stop : (plan : Plan) (known : Option (List ℕ)) (told : List ℕ → Type 0) (failed other well calm : Type 0) → (failed → other) → (well → calm) → StopsRun plan known told failed well
+    → StopsRun plan known told other calm
+weaker_stop plan known told failed other well calm fails stays (inl (inl memory)) = inl (inl (memory.0, stays memory.1))
+weaker_stop plan known told failed other well calm fails stays (inl (inr device)) = inl (inr (device.0, fails device.1))
+weaker_stop plan known told failed other well calm fails stays (inr spent) = inr (spent.0, stays spent.1)
+
+-- the statuses of stops
+pub stop_status : (stop : Stop) (status : ℕ) → status ≡ status_of stop → (status ≡ REFUSED) ⊎ (status ≡ STOPPED)
+stop_status (Record line cause) status is = inl is
+stop_status Memory status is = inr is
+stop_status Device status is = inr is
+stop_status Budget status is = inr is
+
+pub stop_runs : (stop : Stop) (status : ℕ) → status ≡ status_of stop → IsRunStatus status
+stop_runs stop status is = inr (inr (stop_status stop status is))
+
+pub no_answer : (stop : Stop) (status wanted : ℕ) → status ≡ status_of stop → wanted ≢ REFUSED → wanted ≢ STOPPED → status ≢ wanted
+no_answer stop status wanted is no_refusal no_stop e =
+    elim (stop_status stop status is) [ inl refused ↦ no_refusal (sym e ∙ refused) | inr stopped ↦ no_stop (sym e ∙ stopped) ]
+
+-- a check that stops at a refused line
+pub check_refused : (layout : Layout) (budget : ℕ) (known : Option (List ℕ)) (stop : Stop) (status : ℕ) (told : List ℕ → Type 0) → IfSome known (λ text. MayStopOn (records_of layout text) budget stop)
+    → IsTold stop status told → status ≡ REFUSED → NamesRefusal layout known told
+check_refused layout budget known (Record line cause) status told may is e = record { line = line; cause = cause; written = is.1; first = may }
+check_refused layout budget known Memory status told may is e = absurd (cc (sym is.0 ∙ e))
+check_refused layout budget known Device status told may is e = absurd (cc (sym is.0 ∙ e))
+check_refused layout budget known Budget status told may is e = absurd (cc (sym is.0 ∙ e))
+
+-- nothing of the certificate was read then
+pub check_unread : (stop : Stop) (status : ℕ) (unread : Type 0) → LeavesUnread (Err stop) unread → status ≡ status_of stop → status ≡ REFUSED → unread
+check_unread (Record line cause) status unread leaves is e = leaves
+check_unread Memory status unread leaves is e = absurd (cc (sym is ∙ e))
+check_unread Device status unread leaves is e = absurd (cc (sym is ∙ e))
+check_unread Budget status unread leaves is e = absurd (cc (sym is ∙ e))
+
+-- a check that stops for another reason; the counts of failed reads go from old to new
+pub check_stopped : (layout : Layout) (budget : ℕ) (known : Option (List ℕ)) (stop : Stop) (status records_old records_new cert_old cert_new : ℕ) (told : List ℕ → Type 0) (to_write well : Type 0)
+    → IfSome known (λ text. MayStopOn (records_of layout text) budget stop) → TellsEither records_old records_new cert_old cert_new (Err stop) → well → IsTold stop status told → status ≡ STOPPED
+    → NamesStop told (((records_new ≡ one_more records_old) ⊎ (cert_new ≡ one_more cert_old)) ⊎ to_write) (((records_new ≡ records_old) × (cert_new ≡ cert_old)) × well)
+    ⊎ (NamesBudget layout budget known told × (((records_new ≡ records_old) × (cert_new ≡ cert_old)) × well))
+check_stopped layout budget known (Record line cause) status records_old records_new cert_old cert_new told to_write well may tells calm is e = absurd (cc (sym is.0 ∙ e))
+check_stopped layout budget known Memory status records_old records_new cert_old cert_new told to_write well may tells calm is e = inl (inl (is.1, (tells, calm)))
+check_stopped layout budget known Device status records_old records_new cert_old cert_new told to_write well may tells calm is e =
+    inl (inr (is.1, inl (elim tells [ inl r ↦ inl r.0 | inr c ↦ inr c.1 ])))
+check_stopped layout budget known Budget status records_old records_new cert_old cert_new told to_write well may tells calm is e =
+    inr (record { written = is.1; spent = may }, (tells, calm))
+
+-- no read failed where it is no such stop
+pub check_whole : (stop : Stop) (status records_old records_new cert_old cert_new : ℕ) → TellsEither records_old records_new cert_old cert_new (Err stop) → status ≡ status_of stop
+    → status ≢ STOPPED → (records_new ≡ records_old) × (cert_new ≡ cert_old)
+check_whole (Record line cause) status records_old records_new cert_old cert_new tells is going = tells
+check_whole Memory status records_old records_new cert_old cert_new tells is going = absurd (going is)
+check_whole Device status records_old records_new cert_old cert_new tells is going = absurd (going is)
+check_whole Budget status records_old records_new cert_old cert_new tells is going = absurd (going is)
