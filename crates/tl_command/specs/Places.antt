@@ -1,7 +1,11 @@
 -- The line of a place.
 use Rattle.std.specs.Prelude.{ℕ, List}
+use Rattle.tl_geom.specs.declared.point.Point.{Point}
 use Rattle.tl_county.specs.TheMap.{TheMap}
 use Rattle.tl_text.specs.Places.{on_text, inside_text}
+use Rattle.tl_inside.specs.Places.{IsPlaceOf}
+use Rattle.tl_map.specs.declared.fault.MapStop.{MapStop}
+use Rattle.tl_map.specs.declared.fault.MapStop.TheVariants as map_stop
 use Rattle.tl_inside.specs.declared.place.Place.{Place}
 use Rattle.tl_inside.specs.declared.place.Place.TheVariants.{OnChain, In}
 
@@ -9,3 +13,14 @@ use Rattle.tl_inside.specs.declared.place.Place.TheVariants.{OnChain, In}
 abbrev pub place_text : TheMap → Place → List ℕ
 place_text m (OnChain c) = on_text m.chains c
 place_text m (In polygons landmarks) = inside_text m polygons.items landmarks.items
+
+-- the line was written of where the point lies in the map
+abbrev pub TellsPlace : TheMap → Point → (List ℕ → Type 0) → Type 0
+TellsPlace m point wrote = (place : Place) × IsPlaceOf m point place × wrote (place_text m place)
+
+-- why it wasn't: `failed` says that the write failed, `stays` that the output is as it was
+abbrev pub StopsTelling : Type 0 → Type 0 → MapStop → Type 0
+StopsTelling failed stays map_stop.Device = failed
+StopsTelling failed stays map_stop.Memory = stays
+StopsTelling failed stays (map_stop.Refused line cause) = ⊥
+StopsTelling failed stays (map_stop.Fault fault) = ⊥

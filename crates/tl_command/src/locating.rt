@@ -6,7 +6,7 @@ ghost use Rattle.tl_geom.specs.declared.point.Point.{Point};
 ghost use Rattle.tl_record.specs.Layout.{layout_with};
 ghost use Rattle.tl_output.specs.Writing.{Writes, FailsToWrite, CountsFailure};
 ghost use Rattle.tl_inside.specs.Places.{IsPlaceOf};
-ghost use Rattle.tl_command.specs.Places.{place_text};
+ghost use Rattle.tl_command.specs.Places.{place_text, TellsPlace, StopsTelling};
 ghost use Rattle.tl_command.specs.Running.{IsLocated, FailsToRead, StopsAnswer, KeepsReads};
 
 use std::alloc::Global;
@@ -36,10 +36,18 @@ pub fn tell_place<R: Source, W: Sink>(
     ensures reads { KeepsReads (R.failure_count records.old) (R.failure_count records.new) result }
 {
     let map = read_map_with(alloc, records, options)?;
-    let Ok(place) = locate(alloc, &map, &PlainList::new(map.segments()), point) else {
+    tell_on(alloc, &map, point, out)
+}
+
+// Writes where a point lies in a map.
+fn tell_on<W: Sink>(alloc: Global, map: &Map, point: Point, out: &mut W) -> Result<(), MapStop>
+    ensures told { OnOk result (TellsPlace map.now point (Writes W.contents W.failure_count out.old out.new)) }
+    ensures stops { IfErr result (StopsTelling (FailsToWrite W.failure_count out.old out.new) (out.new ≡ out.old)) }
+{
+    let Ok(place) = locate(alloc, map, &PlainList::new(map.segments()), point) else {
         return Err(MapStop::Memory);
     };
-    match print_place(&map, &place, out) {
+    match print_place(map, &place, out) {
         Ok(()) => Ok(()),
         Err(_) => Err(MapStop::Device),
     }

@@ -5,10 +5,10 @@ ghost use Rattle.tl_command.specs.Starting.{IsStartStatus};
 use crate::open::start;
 use crate::stop::{USAGE, stopped};
 use std::alloc::{Alloc, Global};
-use std::env;
 use std::fs::File;
 use std::io::ErrorKind;
 use std::rt::{Env, Files};
+use std::{env, io};
 use tl_check::Stop;
 use tl_files::SystemFiles;
 use tl_output::write_all;
@@ -23,13 +23,36 @@ pub fn answer<R: Files<File = File> + Env + Alloc<A = Global>, W: Sink, E: Sink>
 ) -> u8
     ensures { IsStartStatus result }
 {
+    match words_of(rt, alloc) {
+        Ok(words) => start_over_system(rt, alloc, words.as_slice(), out, err),
+        Err(Unread::Memory) => stopped(&Stop::Memory, err),
+        Err(Unread::NoText) => say_no_text(err),
+    }
+}
+
+// Why the words can't be read.
+#[derive(Clone, Copy)]
+enum Unread {
+    Memory,
+    NoText,
+}
+
+// The words behind the program's name.
+fn words_of<R: Env + Alloc<A = Global>>(rt: &R, alloc: Global) -> Result<Vec<String>, Unread> {
     match env::args(rt) {
         Ok(args) => match args.skip(1).collect::<Vec<String>>(alloc) {
-            Ok(words) => start_over_system(rt, alloc, words.as_slice(), out, err),
-            Err(_) => stopped(&Stop::Memory, err),
+            Ok(words) => Ok(words),
+            Err(_) => Err(Unread::Memory),
         },
-        Err(error) if error.kind() == ErrorKind::OutOfMemory => stopped(&Stop::Memory, err),
-        Err(_) => say_no_text(err),
+        Err(error) => Err(unread_by(&error)),
+    }
+}
+
+fn unread_by(error: &io::Error) -> Unread {
+    if error.kind() == ErrorKind::OutOfMemory {
+        Unread::Memory
+    } else {
+        Unread::NoText
     }
 }
 
