@@ -1,9 +1,10 @@
 -- What a run over the files of a file system answers.
-use Rattle.std.proofs.Common.{◌≡◌, ◌≢◌, ◌⊎◌, inl, inr, ℕ, Bool, false, List, [], ◌∷◌, map, Option, Some, None, Result, Ok, Err, refl, sym, subst, ap, ◌∙◌}
+use Rattle.std.proofs.Common.{◌≡◌, ◌≢◌, ◌⊎◌, inl, inr, ℕ, ◌<◌, Bool, false, List, [], ◌∷◌, map, length, get_or, Contains, arith, Option, Some, None, Result, Ok, Err, refl, sym, subst, ap, ◌∙◌}
 use Rattle.std.specs.Prelude.{⊤, codes, is_some, is_ok, true}
 use Rattle.std.specs.Option.{IfSome, option_map}
 use Rattle.std.specs.Fmt.{option_append}
 use Rattle.std.specs.Io.KnownBytes.{Appends}
+use Rattle.tl_record.specs.Failures.{one_more}
 use Rattle.tl_record.specs.declared.layout.Layout.{Layout}
 use Rattle.tl_record.specs.declared.options.Options.{Options}
 use Rattle.tl_record.specs.Layout.{layout_with}
@@ -12,7 +13,9 @@ use Rattle.tl_plan.specs.CommandLine.{files_of}
 use Rattle.tl_output.specs.Writing.{line_of}
 use Rattle.tl_files.specs.declared.file_system.Room.{Room}
 use Rattle.tl_files.specs.declared.file_system.Room.TheVariants.{Free, Taken, IsRead}
-use Rattle.tl_files.specs.Files.{Under, bytes_under, standing, beside, IsRoom}
+use Rattle.tl_files.specs.Files.{Known, Under, bytes_of, bytes_under, standing, beside, IsRoom, OfDevice}
+use Rattle.tl_files.specs.declared.file_system.FileStop.{FileStop}
+use Rattle.tl_files.specs.declared.file_system.FileStop.TheVariants as file
 use Rattle.tl_cert.specs.Text.{certificate_text}
 use Rattle.tl_cert.specs.declared.stop.CertStop.{CertStop}
 use Rattle.tl_cert.specs.declared.stop.CertStop.TheVariants as cert_stop
@@ -26,12 +29,14 @@ use Rattle.tl_command.specs.declared.building.Making.{Making}
 use Rattle.tl_command.specs.declared.building.Making.TheVariants.{Made, Fault}
 use Rattle.tl_command.specs.declared.convert.Converted.{Converted}
 use Rattle.tl_check.specs.declared.stop.Stop.{Stop}
-use Rattle.tl_check.specs.declared.stop.Stop.TheVariants.{Memory, Device}
+use Rattle.tl_check.specs.declared.stop.Stop.TheVariants.{Record, Memory, Device, Budget}
 use Rattle.tl_command.specs.declared.stop.TheConstants.{DONE, MAP_FAULT, CERT_FAULT, REFUSED, STOPPED, USAGE}
-use Rattle.tl_command.specs.Running.{IsAnswered, IsBuilt, FaultsMap, NamesFault, FaultsCertificate, NamesRefusal, StopsRun, IsRunStatus, ReadsNoCertificate, MakesNoCertificate, layout_of}
+use Rattle.tl_command.specs.Running.{IsAnswered, IsBuilt, FaultsMap, NamesFault, FaultsCertificate, NamesRefusal, StopsRun, NamesStop, IsTold, IsRunStatus, ReadsNoCertificate, MakesNoCertificate, layout_of}
 use Rattle.tl_command.specs.Making.{Makes, OfMap, IsBegunOf, TellsMaking, Rewrites, BeginsRewritten, TellsConverted, was_made}
 use Rattle.tl_command.specs.Deciding.{IsExact}
-use Rattle.tl_command.specs.Opening.{RunsOver, records_under, certificate_under, Stands, KeepsOthers, KeepsAll, RefusesName, IsBuildOf, IsConversionBy, Converts, names_read, made_by}
+use Rattle.tl_command.specs.Opening.{RunsOver, records_under, certificate_under, Stands, KeepsOthers, KeepsAll, RefusesName, IsBuildOf, IsCheckBy, IsConversionBy, Converts, IsNamed, FilesFail, names_read, read_by, made_by}
+use Rattle.tl_command.specs.Starting.{StopsOpening, StopsOpeningAll, told_of}
+use Rattle.std.proofs.lemmas.List.{get_or-map, length-map}
 use Rattle.tl_command.proofs.DecidingLemmas.{build_decides}
 use Rattle.tl_command.proofs.MakingLemmas.{keeps_count, not_done, making_status, making_built, making_fault, making_refused, making_stopped, making_err_stays}
 use Rattle.tl_command.proofs.ConvertLemmas.{keeps_cert_count, converted_status, converted_is, converted_fault, converted_stopped, converted_err_stays}
@@ -129,6 +134,67 @@ over_plain plan under known spelt status unread made wrote told failed well out_
   unmade = λ not_done not_stopped name other. refl;
 }
 
+-- what is answered of the records of names, by the certificate of a name
+pub over_check : (plan : Plan) (name : List ℕ) (under : Under) (known spelt : Option (List ℕ)) (status : ℕ) (unread : Type 0) (made wrote told : List ℕ → Type 0) (failed well out_same err_same : Type 0)
+    → IsCheckBy plan name → known ≡ records_under under plan → spelt ≡ bytes_under under name
+    → IsRunStatus status → (status ≡ DONE → IsAnswered plan known spelt made wrote) → (status ≡ MAP_FAULT → FaultsMap plan known unread wrote)
+    → ((status ≡ DONE) ⊎ (status ≡ MAP_FAULT) → IsExact plan known status)
+    → (status ≡ CERT_FAULT → FaultsCertificate plan known spelt wrote) → (status ≡ REFUSED → NamesRefusal (layout_of plan) known told)
+    → (status ≡ STOPPED → StopsRun plan known told failed well) → ((status ≡ DONE) ⊎ ((status ≡ MAP_FAULT) ⊎ (status ≡ CERT_FAULT)) → err_same) → (status ≡ REFUSED → out_same)
+    → RunsOver plan status under under wrote told failed well out_same err_same
+over_check (Check cert budget options files) name under known spelt status unread made wrote told failed well out_same err_same of is_known is_spelt is answered fault exactly cert_fault refused stopped err_stays out_stays =
+    let plan : Plan = Check cert budget options files in
+    let text : spelt ≡ certificate_under under plan = is_spelt ∙ ap (bytes_under under) (sym of) in
+    record {
+      is_status = inl is;
+      answered = λ e. subst (λ (k : Option (List ℕ)). IsAnswered plan k (certificate_under under plan) (Stands under plan) wrote) is_known
+          (subst (λ (s : Option (List ℕ)). IsAnswered plan known s (Stands under plan) wrote) text (answered e));
+      fault = λ e. subst (λ (k : Option (List ℕ)). FaultsMap plan k ⊤ wrote) is_known (fault_read plan known unread wrote (fault e));
+      exactly = λ e. subst (λ (k : Option (List ℕ)). IsExact plan k status) is_known (exactly e);
+      cert_fault = λ e. subst (λ (k : Option (List ℕ)). FaultsCertificate plan k (certificate_under under plan) wrote) is_known
+          (subst (λ (s : Option (List ℕ)). FaultsCertificate plan known s wrote) text (cert_fault e));
+      refused = λ e. subst (λ (k : Option (List ℕ)). NamesRefusal (layout_of plan) k told) is_known (refused e);
+      stopped = λ e. subst (λ (k : Option (List ℕ)). StopsRun plan k told failed well) is_known (stopped e);
+      usage = λ e. absurd (no_usage status is e);
+      err_stays = err_stays;
+      out_stays = λ e. elim e [ inl r ↦ out_stays r | inr u ↦ absurd (no_usage status is u) ];
+      others = λ other differs. refl;
+      begun = λ e. inl (λ other differs. refl);
+      unmade = λ not_done not_stopped other differs. refl;
+    }
+over_check (Show options files) name under known spelt status unread made wrote told failed well out_same err_same of is_known is_spelt is answered fault exactly cert_fault refused stopped err_stays out_stays = absurd of
+over_check (Landmarks options files) name under known spelt status unread made wrote told failed well out_same err_same of is_known is_spelt is answered fault exactly cert_fault refused stopped err_stays out_stays = absurd of
+over_check (Locate point options files) name under known spelt status unread made wrote told failed well out_same err_same of is_known is_spelt is answered fault exactly cert_fault refused stopped err_stays out_stays = absurd of
+over_check (Convert cert to) name under known spelt status unread made wrote told failed well out_same err_same of is_known is_spelt is answered fault exactly cert_fault refused stopped err_stays out_stays = absurd of
+over_check (Audit options files) name under known spelt status unread made wrote told failed well out_same err_same of is_known is_spelt is answered fault exactly cert_fault refused stopped err_stays out_stays = absurd of
+over_check (Build to options files) name under known spelt status unread made wrote told failed well out_same err_same of is_known is_spelt is answered fault exactly cert_fault refused stopped err_stays out_stays = absurd of
+
+-- no certificate is made of a check
+pub check_makes_none : (plan : Plan) (name : List ℕ) → IsCheckBy plan name → MakesNoCertificate plan
+check_makes_none (Check cert budget options files) name of = tt
+check_makes_none (Show options files) name of = absurd of
+check_makes_none (Landmarks options files) name of = absurd of
+check_makes_none (Locate point options files) name of = absurd of
+check_makes_none (Convert cert to) name of = absurd of
+check_makes_none (Audit options files) name of = absurd of
+check_makes_none (Build to options files) name of = absurd of
+
+-- a count that is 0 didn't rise and stay
+pub none_failed : (count : ℕ) → count ≡ 0 → count ≢ one_more count
+none_failed count none more =
+    let e : 0 ≡ 1 = sym none ∙ more ∙ ap one_more none in
+    omega (arith, e)
+
+-- where nothing is known of a name, its bytes aren't
+pub unknown_bytes : (stop : FileStop) (known : Known) → OfDevice (known ≡ None) stop → OfDevice (bytes_of known ≡ None) stop
+unknown_bytes file.Memory known may = tt
+unknown_bytes file.Device known may = ap bytes_of may
+
+-- what is told of a file's stop
+pub stops_opening : (failed : Type 0) (stop : FileStop) → OfDevice failed stop → StopsOpening failed (told_of stop)
+stops_opening failed file.Memory may = tt
+stops_opening failed file.Device may = may
+
 -- ---- a run that is stopped before it begins, or where a file may not take its name
 
 -- a certificate that may not take its name
@@ -149,6 +215,73 @@ over_refusal plan name status under wrote told failed well out_same err_same mad
   begun = λ d. inl (λ other differs. refl);
   unmade = λ not_done not_stopped other differs. refl;
 }
+
+-- where each name stays but that of a file that isn't whole, so does each but that and another
+others_too : (made : Option (List ℕ)) (before after : Under) → ((name : List ℕ) → IfSome made (λ m. name ≢ beside m) → after name ≡ before name)
+    → (name : List ℕ) → IfSome made (λ m. (name ≢ m) × (name ≢ beside m)) → after name ≡ before name
+others_too None before after all name differs = all name tt
+others_too (Some m) before after all name differs = all name differs.1
+
+-- the line of a stop at files was told: `why` says what failed
+stop_at_files : (stop : Stop) (status : ℕ) (told : List ℕ → Type 0) (why failed well : Type 0) → StopsOpening why stop → (why → failed) → well → IsTold stop status told
+    → (status ≡ STOPPED) × NamesStop told failed well
+stop_at_files (Record line cause) status told why failed well may leads calm is = absurd may
+stop_at_files Memory status told why failed well may leads calm is = (is.0, inl (is.1, calm))
+stop_at_files Device status told why failed well may leads calm is = (is.0, inr (is.1, leads may))
+stop_at_files Budget status told why failed well may leads calm is = absurd may
+
+pub over_stop : (plan : Plan) (stop : Stop) (status : ℕ) (before after : Under) (wrote told : List ℕ → Type 0) (why failed well out_same err_same : Type 0) → StopsOpening why stop → (why → failed) → well
+    → IsTold stop status told → KeepsAll before after plan → RunsOver plan status before after wrote told failed well out_same err_same
+over_stop plan stop status before after wrote told why failed well out_same err_same may leads calm is all =
+    let names = stop_at_files stop status told why failed well may leads calm is in
+    let e : status ≡ STOPPED = names.0 in
+    record {
+      is_status = inl (inr (inr (inr e)));
+      answered = λ d. absurd (cc (sym e ∙ d));
+      fault = λ d. absurd (cc (sym e ∙ d));
+      exactly = λ any. absurd (elim any [ inl d ↦ cc (sym e ∙ d) | inr d ↦ cc (sym e ∙ d) ]);
+      cert_fault = λ d. absurd (cc (sym e ∙ d));
+      refused = λ d. absurd (cc (sym e ∙ d));
+      stopped = λ d. inl names.1;
+      usage = λ d. absurd (cc (sym e ∙ d));
+      err_stays = λ any. absurd (elim any [ inl d ↦ cc (sym e ∙ d) | inr more ↦ elim more [ inl d ↦ cc (sym e ∙ d) | inr d ↦ cc (sym e ∙ d) ] ]);
+      out_stays = λ any. absurd (elim any [ inl d ↦ cc (sym e ∙ d) | inr d ↦ cc (sym e ∙ d) ]);
+      others = others_too (made_by plan) before after all;
+      begun = λ d. inl all;
+      unmade = λ not_done not_stopped. all;
+    }
+
+-- one of the plan's names can't be opened, or a new file can't be made, or takes no name
+pub over_unopened : {R D : Type 0} (reads : R → ℕ) (writes : D → ℕ) (knows : Bool) (plan : Plan) (name : List ℕ) (stop : Stop) (status : ℕ) (before : Under) (wrote told : List ℕ → Type 0)
+    (to_write well out_same err_same : Type 0) → IsNamed plan name → StopsOpening (bytes_under before name ≡ None) stop → well → IsTold stop status told
+    → RunsOver plan status before before wrote told (FilesFail reads writes knows before plan ⊎ to_write) well out_same err_same
+over_unopened reads writes knows plan name stop status before wrote told to_write well out_same err_same named may calm is =
+    over_stop plan stop status before before wrote told (bytes_under before name ≡ None) (FilesFail reads writes knows before plan ⊎ to_write) well out_same err_same may (λ unknown. inl (inl (name, named, unknown))) calm is
+    (λ other differs. refl)
+
+pub over_unopened_records : {R D : Type 0} (reads : R → ℕ) (writes : D → ℕ) (knows : Bool) (plan : Plan) (names : List (List ℕ)) (stop : Stop) (status : ℕ) (before : Under) (wrote told : List ℕ → Type 0)
+    (to_write well out_same err_same : Type 0) → names ≡ files_of plan → StopsOpeningAll before names stop → well → IsTold stop status told
+    → RunsOver plan status before before wrote told (FilesFail reads writes knows before plan ⊎ to_write) well out_same err_same
+over_unopened_records reads writes knows plan names stop status before wrote told to_write well out_same err_same files may calm is =
+    over_stop plan stop status before before wrote told ((name : List ℕ) × Contains names name × (bytes_under before name ≡ None)) (FilesFail reads writes knows before plan ⊎ to_write) well out_same err_same may
+    (λ unknown. inl (inl (unknown.0, inl (subst (λ ns. Contains ns unknown.0) files unknown.1), unknown.2))) calm is
+    (λ other differs. refl)
+
+pub over_unmade : {R D : Type 0} (reads : R → ℕ) (writes : D → ℕ) (knows : Bool) (plan : Plan) (stop : Stop) (status : ℕ) (before after : Under) (wrote told : List ℕ → Type 0)
+    (to_write well out_same err_same : Type 0) → StopsOpening (knows ≡ false) stop → well → IsTold stop status told → KeepsAll before after plan
+    → RunsOver plan status before after wrote told (FilesFail reads writes knows before plan ⊎ to_write) well out_same err_same
+over_unmade reads writes knows plan stop status before after wrote told to_write well out_same err_same may calm is all =
+    over_stop plan stop status before after wrote told (knows ≡ false) (FilesFail reads writes knows before plan ⊎ to_write) well out_same err_same may (λ unknown. inl (inr (inr (inl unknown)))) calm is all
+
+-- a name among others
+among : {X : Type 0} (f : X → List ℕ) (xs : List X) (i : ℕ) (x : X) → i < length xs → x ≡ get_or xs i x → Contains (map f xs) (f x)
+among f xs i x lt at = let long = length-map xs f in (i, omega (arith, lt, long), get_or-map f xs i x (f x) lt ∙ ap f (sym at))
+
+-- one of the files of these names can't be opened
+pub unopened_item : {X : Type 0} (f : X → List ℕ) (under : Under) (xs : List X) (i : ℕ) (x : X) (stop : FileStop) → i < length xs → x ≡ get_or xs i x → OfDevice (bytes_under under (f x) ≡ None) stop
+    → StopsOpeningAll under (map f xs) (told_of stop)
+unopened_item f under xs i x file.Memory lt at may = tt
+unopened_item f under xs i x file.Device lt at may = (f x, among f xs i x lt at, may)
 
 -- the line of what is wrong with a name was told
 abbrev pub SaysRoom : Room → (List ℕ → Type 0) → Type 0
@@ -190,6 +323,24 @@ made_by_conversion (Locate point options files) to of = absurd of
 made_by_conversion (Check cert budget options files) to of = absurd of
 made_by_conversion (Audit options files) to of = absurd of
 made_by_conversion (Build made options files) to of = absurd of
+
+pub read_by_check : (plan : Plan) (name : List ℕ) → IsCheckBy plan name → read_by plan ≡ Some name
+read_by_check (Check cert budget options files) name of = ap Some of
+read_by_check (Show options files) name of = absurd of
+read_by_check (Landmarks options files) name of = absurd of
+read_by_check (Locate point options files) name of = absurd of
+read_by_check (Convert cert made) name of = absurd of
+read_by_check (Audit options files) name of = absurd of
+read_by_check (Build made options files) name of = absurd of
+
+pub names_by_conversion : (plan : Plan) (from to : List ℕ) → IsConversionBy plan from to → (read_by plan ≡ Some from) × (made_by plan ≡ Some to)
+names_by_conversion (Convert cert target) from to of = (ap Some of.0, ap Some of.1)
+names_by_conversion (Show options files) from to of = absurd of
+names_by_conversion (Landmarks options files) from to of = absurd of
+names_by_conversion (Locate point options files) from to of = absurd of
+names_by_conversion (Check cert budget options files) from to of = absurd of
+names_by_conversion (Audit options files) from to of = absurd of
+names_by_conversion (Build made options files) from to of = absurd of
 
 -- a build, and a conversion, whose certificate may not take its name
 pub refused_build : (plan : Plan) (name : List ℕ) (options : Options) (read : List (List ℕ)) (room : Room) (status : ℕ) (under : Under) (wrote told : List ℕ → Type 0) (failed well out_same err_same : Type 0) → IsBuildOf plan name options

@@ -1,16 +1,17 @@
 -- What a run over the files of a file system answers. `before` and `after` say what stands under each name, where that is
--- known; `wrote` and `told` say of a text that it was written to the output and to the error output.
-use Rattle.std.specs.Prelude.{◌≡◌, ◌≢◌, ◌⊎◌, ℕ, false, List, [], ◌∷◌, Option, Some, None, IfSome, codes, string_bytes, ⊤}
+-- known; `wrote` and `told` say of a text that it was written to the output and to the error output; `failed` says that a
+-- file failed, or a write of the output, and `well` that none of the output did.
+use Rattle.std.specs.Prelude.{◌≡◌, ◌≢◌, ◌⊎◌, ℕ, Bool, false, Contains, List, [], ◌∷◌, Option, Some, None, IfSome, codes, string_bytes, ⊤}
 use Rattle.tl_files.specs.Files.{Under, bytes_under, beside, IsRoom}
 use Rattle.tl_files.specs.declared.file_system.Room.TheVariants.{Taken, IsRead}
-use Rattle.tl_text.specs.Joining.{joined_bytes}
+use Rattle.tl_text.specs.Joining.{joined_bytes, failures_of}
 use Rattle.tl_plan.specs.declared.plan.Plan.{Plan}
 use Rattle.tl_plan.specs.declared.plan.Plan.TheVariants.{Show, Landmarks, Locate, Convert, Check, Audit, Build}
 use Rattle.tl_plan.specs.CommandLine.{files_of}
-use Rattle.tl_output.specs.Writing.{line_of}
+use Rattle.tl_output.specs.Writing.{FailsToWrite, line_of}
 use Rattle.tl_command.specs.declared.stop.TheConstants.{DONE, MAP_FAULT, CERT_FAULT, REFUSED, STOPPED, USAGE}
 use Rattle.tl_record.specs.declared.options.Options.{Options}
-use Rattle.tl_command.specs.Running.{IsRunStatus, IsAnswered, FaultsMap, FaultsCertificate, NamesRefusal, StopsRun, layout_of}
+use Rattle.tl_command.specs.Running.{IsRunStatus, IsAnswered, FaultsMap, FaultsCertificate, NamesRefusal, StopsRun, FailsToRead, layout_of}
 use Rattle.tl_command.specs.Deciding.{IsExact}
 use Rattle.tl_command.specs.Making.{IsBegunBy}
 
@@ -72,6 +73,27 @@ RefusesName before name read told = (IsRoom before name read Taken × told (line
 -- no certificate may be made by the plan's command
 abbrev pub RefusesOut : Under → Plan → (List ℕ → Type 0) → Type 0
 RefusesOut before plan told = (made : List ℕ) × (made_by plan ≡ Some made) × RefusesName before made (names_read plan) told
+
+-- the name is one of the plan's: of a file that is read, or of the certificate that is made
+abbrev pub IsNamed : Plan → List ℕ → Type 0
+IsNamed plan name = Contains (files_of plan) name ⊎ ((read_by plan ≡ Some name) ⊎ (made_by plan ≡ Some name))
+
+-- one of the plan's names has no bytes that are known, so that it may be that it can't be opened
+abbrev pub MayNotOpen : Under → Plan → Type 0
+MayNotOpen before plan = (name : List ℕ) × IsNamed plan name × (bytes_under before name ≡ None)
+
+-- a read of a file failed, or a write: its count of failures rose
+abbrev pub SomeRead : {R : Type 0} → (R → ℕ) → Type 0
+SomeRead {R} failures = (old : R) × (new : R) × FailsToRead failures old new
+
+abbrev pub SomeWrite : {D : Type 0} → (D → ℕ) → Type 0
+SomeWrite {D} failures = (old : D) × (new : D) × FailsToWrite failures old new
+
+-- a file of the plan's failed: one that couldn't be opened, one that is read, alone or among others, or a new one, which can't
+-- be made or written; `reads` and `writes` count the failures of such files, and `knows` says whether a new one's bytes are known
+abbrev pub FilesFail : {R D : Type 0} → (reads : R → ℕ) → (writes : D → ℕ) → (knows : Bool) → Under → Plan → Type 0
+FilesFail reads writes knows before plan =
+    MayNotOpen before plan ⊎ ((SomeRead reads ⊎ SomeRead (failures_of reads)) ⊎ ((knows ≡ false) ⊎ SomeWrite writes))
 
 -- the plan is to decide by the certificate of this name
 abbrev pub IsCheckBy : Plan → List ℕ → Type 0

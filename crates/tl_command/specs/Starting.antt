@@ -1,5 +1,5 @@
 -- What the program answers to its words.
-use Rattle.std.specs.Prelude.{◌≡◌, ◌≢◌, ◌⊎◌, ℕ, List, [], All, ⊤}
+use Rattle.std.specs.Prelude.{◌≡◌, ◌≢◌, ◌⊎◌, ℕ, List, [], None, All, Contains, ⊤}
 use Rattle.clap.specs.Faults.{fault_of}
 use Rattle.clap.specs.Walk.{Text}
 use Rattle.tl_plan.specs.declared.plan.Plan.{Plan}
@@ -9,7 +9,9 @@ use Rattle.tl_command.specs.declared.stop.TheConstants.{DONE, STOPPED, USAGE}
 use Rattle.tl_plan.specs.Commands.{command_line}
 use Rattle.tl_plan.specs.CommandLine.{AskFor, AreAUse, HasMistake, HasAnswer}
 use Rattle.tl_plan.specs.Plans.{escape}
-use Rattle.tl_files.specs.Files.{Under}
+use Rattle.tl_files.specs.declared.file_system.FileStop.{FileStop}
+use Rattle.tl_files.specs.declared.file_system.FileStop.TheVariants as file
+use Rattle.tl_files.specs.Files.{Under, bytes_under}
 use Rattle.tl_command.specs.Opening.{records_under, certificate_under, Stands, KeepsOthers, KeepsAll, RefusesOut}
 use Rattle.tl_command.specs.Deciding.{IsExact}
 use Rattle.tl_command.specs.Making.{IsBegunBy}
@@ -38,10 +40,11 @@ abbrev pub RefusesSome : List Text → Under → (List ℕ → Type 0) → Type 
 RefusesSome words before wrote = (plan : Plan) × AskFor words plan × NamesRefusal (layout_of plan) (records_under before plan) wrote
 
 -- the words make no plan for want of memory, or wish for help that can't be written, or they ask for a plan that is stopped;
--- and why was written: `failed` says that a write of the output failed, `well` that none did
-abbrev pub StopsSome : List Text → Under → (List ℕ → Type 0) → (failed well : Type 0) → Type 0
-StopsSome words before wrote failed well =
-    NamesStop wrote failed well ⊎ ((plan : Plan) × AskFor words plan × StopsRun plan (records_under before plan) wrote ⊤ well)
+-- and why was written: `failed` says that a write of the output failed, `well` that none did, and `of_files` that a file of a
+-- plan's failed
+abbrev pub StopsSome : List Text → Under → (List ℕ → Type 0) → (of_files : Plan → Type 0) → (failed well : Type 0) → Type 0
+StopsSome words before wrote of_files failed well = NamesStop wrote failed well
+    ⊎ ((plan : Plan) × AskFor words plan × StopsRun plan (records_under before plan) wrote (of_files plan ⊎ failed) well)
 
 -- the words are no use of a command, or they ask for a plan, of which a status of 0 or 1 says exactly whether a map is sound
 abbrev pub DecidesSome : List Text → Under → ℕ → Type 0
@@ -80,9 +83,18 @@ pub record ShowsHelp (words : List Text) (wrote : List ℕ → Type 0) : Type 0 
   pub no_escape : All (λ byte. byte ≢ escape) text
   pub written : wrote text
 
--- files aren't opened for want of memory or where a device fails
-abbrev pub StopsOpening : Stop → Type 0
-StopsOpening (Record line cause) = ⊥
-StopsOpening Memory = ⊤
-StopsOpening Device = ⊤
-StopsOpening Budget = ⊥
+-- files aren't opened for want of memory, or where a device fails
+abbrev pub StopsOpening : Type 0 → Stop → Type 0
+StopsOpening failed (Record line cause) = ⊥
+StopsOpening failed Memory = ⊤
+StopsOpening failed Device = failed
+StopsOpening failed Budget = ⊥
+
+-- the same of files of these names: of one the bytes aren't known
+abbrev pub StopsOpeningAll : Under → List (List ℕ) → Stop → Type 0
+StopsOpeningAll under names = StopsOpening ((name : List ℕ) × Contains names name × (bytes_under under name ≡ None))
+
+-- what is told of a file that can't be opened or made
+abbrev pub told_of : FileStop → Stop
+told_of file.Memory = Memory
+told_of file.Device = Device

@@ -1,35 +1,34 @@
 //! The program from its words to its status.
 
-ghost use Rattle.std.specs.Prelude.{◌≡◌, ◌≢◌, ◌⊎◌, ℕ, List, true, false, ⊤, None};
+ghost use Rattle.std.specs.Prelude.{◌≡◌, ◌≢◌, ◌⊎◌, ◌<◌, ℕ, List, true, false, None, vec_len};
 ghost use Rattle.std.specs.Prelude.{IfOk, IfErr, IfSome, IsSome, map, string_bytes};
-ghost use Rattle.tl_text.specs.Joining.{joined_bytes};
+ghost use Rattle.tl_text.specs.Joining.{joined_bytes, failures_of};
 ghost use Rattle.tl_output.specs.Writing.{Writes, TriesToWrite, FailsToWrite, line_of};
 ghost use Rattle.tl_files.specs.Files.{bytes_under, standing, beside, IsRoom};
 ghost use Rattle.tl_command.specs.declared.stop.TheConstants.{DONE, MAP_FAULT, CERT_FAULT, REFUSED, STOPPED, USAGE};
 ghost use Rattle.tl_check.specs.declared.stop.Stop.TheVariants.{Device};
 ghost use Rattle.tl_check.specs.Stops.{stop_text};
-ghost use Rattle.tl_command.specs.Running.{IsAnswered, FaultsMap, NamesRefusal, StopsRun, IsRunStatus, CountStays, layout_of};
+ghost use Rattle.tl_command.specs.Running.{IsAnswered, FaultsMap, NamesRefusal, StopsRun, IsRunStatus, CountStays, FailsToRead, layout_of};
 ghost use Rattle.tl_command.specs.Running.{FaultsCertificate, ReadsNoCertificate, MakesNoCertificate};
 ghost use Rattle.tl_command.specs.Deciding.{IsExact};
 ghost use Rattle.tl_command.specs.Making.{Begins, IsBegunBy};
 ghost use Rattle.tl_command.specs.Opening.{RunsOver, IsCheckBy, IsBuildOf, IsConversionBy, Converts};
-ghost use Rattle.tl_command.specs.Opening.{records_under, certificate_under};
+ghost use Rattle.tl_command.specs.Opening.{records_under, certificate_under, FilesFail};
 ghost use Rattle.tl_command.specs.Starting.{IsStartStatus, ShowsUsage, ShowsHelp, AnswersSome, FaultsSome, RefusesSome};
-ghost use Rattle.tl_command.specs.Starting.{StopsOpening, FaultsText, StopsSome, DecidesSome, BeginsSome, RefusesSomeOut, KeepsSome};
+ghost use Rattle.tl_command.specs.Starting.{StopsOpening, StopsOpeningAll, told_of, FaultsText, StopsSome, DecidesSome, BeginsSome, RefusesSomeOut, KeepsSome};
 
 use crate::building::{is_made, make, tell_making};
 use crate::convert::{rewrite, tell_converted};
 use crate::run::run;
 use crate::stop::{DONE, USAGE, stopped};
-use std::alloc::Global;
-use std::io::{BufReader, ErrorKind, Read};
-use std::{io, slice};
+use std::alloc::{AllocError, Global};
+use std::{io, mem, slice};
 use tl_check::Stop;
-use tl_files::{FileSystem, Room};
+use tl_files::{FileStop, FileSystem, Room};
 use tl_output::write_all;
 use tl_plan::{Plan, PlanStop, words};
 use tl_record::{Meter, MeterOut, Options, Sink, Source};
-use tl_text::Joined;
+use tl_text::{Buffered, Joined};
 
 // How many bytes are read at a time, of the record files and of a certificate.
 const INPUT_BUFFER: usize = 131_072;
@@ -72,6 +71,7 @@ pub fn start<F: FileSystem, W: Sink, E: Sink>(
     ensures stopped { result ≡ STOPPED
         → StopsSome (map string_bytes words.now) (F.under files.old)
         (TriesToWrite E.contents E.failure_count err.old err.new)
+        (FilesFail F.Reader.failure_count F.Draft.failure_count F.knows (F.under files.old))
         (FailsToWrite W.failure_count out.old out.new) (CountStays W.failure_count out.old out.new) }
     // The other stream stays as it was.
     ensures err_stays { (result ≡ DONE) ⊎ ((result ≡ MAP_FAULT) ⊎ (result ≡ CERT_FAULT)) → err.new ≡ err.old }
@@ -129,7 +129,9 @@ pub fn open_and_run<F: FileSystem, W: Sink, E: Sink>(
 ) -> u8
     ensures { RunsOver plan.now result (F.under files.old) (F.under files.new)
         (Writes W.contents W.failure_count out.old out.new)
-        (TriesToWrite E.contents E.failure_count err.old err.new) ⊤ (CountStays W.failure_count out.old out.new)
+        (TriesToWrite E.contents E.failure_count err.old err.new)
+        (FilesFail F.Reader.failure_count F.Draft.failure_count F.knows (F.under files.old) plan.now
+        ⊎ FailsToWrite W.failure_count out.old out.new) (CountStays W.failure_count out.old out.new)
         (out.new ≡ out.old) (err.new ≡ err.old) }
 {
     let readers = match open_all(&*files, alloc, plan.files()) {
@@ -168,12 +170,15 @@ fn run_plainly<F: FileSystem, W: Sink, E: Sink>(
     requires known { joined_bytes F.Reader.remaining false readers.items ≡ records_under (F.under files.now) plan.now }
     ensures { RunsOver plan.now result (F.under files.now) (F.under files.now)
         (Writes W.contents W.failure_count out.old out.new)
-        (TriesToWrite E.contents E.failure_count err.old err.new) ⊤ (CountStays W.failure_count out.old out.new)
+        (TriesToWrite E.contents E.failure_count err.old err.new)
+        (FilesFail F.Reader.failure_count F.Draft.failure_count F.knows (F.under files.now) plan.now
+        ⊎ FailsToWrite W.failure_count out.old out.new) (CountStays W.failure_count out.old out.new)
         (out.new ≡ out.old) (err.new ≡ err.old) }
 {
+    let mut readers = readers;
     let mut cert = Meter::new(io::empty());
     let mut made = MeterOut::new(io::sink());
-    run_on_readers(alloc, plan, readers, &mut cert, &mut made, out, err)
+    run_on_readers(alloc, plan, &mut readers, &mut cert, &mut made, out, err)
 }
 
 // Opens the certificate that is read, and decides by it.
@@ -190,15 +195,18 @@ fn open_and_check<F: FileSystem, W: Sink, E: Sink>(
     requires known { joined_bytes F.Reader.remaining false readers.items ≡ records_under (F.under files.now) plan.now }
     ensures { RunsOver plan.now result (F.under files.now) (F.under files.now)
         (Writes W.contents W.failure_count out.old out.new)
-        (TriesToWrite E.contents E.failure_count err.old err.new) ⊤ (CountStays W.failure_count out.old out.new)
+        (TriesToWrite E.contents E.failure_count err.old err.new)
+        (FilesFail F.Reader.failure_count F.Draft.failure_count F.knows (F.under files.now) plan.now
+        ⊎ FailsToWrite W.failure_count out.old out.new) (CountStays W.failure_count out.old out.new)
         (out.new ≡ out.old) (err.new ≡ err.old) }
 {
     let mut cert = match open_certificate(files, alloc, name) {
         Ok(cert) => cert,
         Err(stop) => return stopped(&stop, err),
     };
+    let mut readers = readers;
     let mut made = MeterOut::new(io::sink());
-    run_on_readers(alloc, plan, readers, &mut cert, &mut made, out, err)
+    run_on_readers(alloc, plan, &mut readers, &mut cert, &mut made, out, err)
 }
 
 // Makes a certificate where it may take its name.
@@ -216,7 +224,9 @@ fn open_and_build<F: FileSystem, W: Sink, E: Sink>(
     requires known { joined_bytes F.Reader.remaining false readers.items ≡ records_under (F.under files.old) plan.now }
     ensures { RunsOver plan.now result (F.under files.old) (F.under files.new)
         (Writes W.contents W.failure_count out.old out.new)
-        (TriesToWrite E.contents E.failure_count err.old err.new) ⊤ (CountStays W.failure_count out.old out.new)
+        (TriesToWrite E.contents E.failure_count err.old err.new)
+        (FilesFail F.Reader.failure_count F.Draft.failure_count F.knows (F.under files.old) plan.now
+        ⊎ FailsToWrite W.failure_count out.old out.new) (CountStays W.failure_count out.old out.new)
         (out.new ≡ out.old) (err.new ≡ err.old) }
 {
     match room_for(&*files, name, plan.files()) {
@@ -242,15 +252,18 @@ fn build_into<F: FileSystem, W: Sink, E: Sink>(
     requires known { joined_bytes F.Reader.remaining false readers.items ≡ records_under (F.under files.old) plan.now }
     ensures { RunsOver plan.now result (F.under files.old) (F.under files.new)
         (Writes W.contents W.failure_count out.old out.new)
-        (TriesToWrite E.contents E.failure_count err.old err.new) ⊤ (CountStays W.failure_count out.old out.new)
+        (TriesToWrite E.contents E.failure_count err.old err.new)
+        (FilesFail F.Reader.failure_count F.Draft.failure_count F.knows (F.under files.old) plan.now
+        ⊎ FailsToWrite W.failure_count out.old out.new) (CountStays W.failure_count out.old out.new)
         (out.new ≡ out.old) (err.new ≡ err.old) }
 {
-    let Ok(mut records) = joined_source(alloc, readers) else {
+    let Ok(room) = room_for_bytes(alloc) else {
         return stopped(&Stop::Memory, err);
     };
+    let mut records = Buffered::new(Joined::new(readers), room);
     let mut draft = match files.draft(alloc, name.as_str()) {
         Ok(draft) => draft,
-        Err(error) => return stopped(&stop_of(&error), err),
+        Err(stop) => return stopped(&stop_of(stop), err),
     };
     let making = make(alloc, &mut records, &mut draft, options);
     match settle(files, alloc, draft, name, is_made(&making)) {
@@ -271,7 +284,9 @@ fn open_and_convert<F: FileSystem, W: Sink, E: Sink>(
     requires { IsConversionBy plan.now (string_bytes names.0.now) (string_bytes names.1.now) }
     ensures { RunsOver plan.now result (F.under files.old) (F.under files.new)
         (Writes W.contents W.failure_count out.old out.new)
-        (TriesToWrite E.contents E.failure_count err.old err.new) ⊤ (CountStays W.failure_count out.old out.new)
+        (TriesToWrite E.contents E.failure_count err.old err.new)
+        (FilesFail F.Reader.failure_count F.Draft.failure_count F.knows (F.under files.old) plan.now
+        ⊎ FailsToWrite W.failure_count out.old out.new) (CountStays W.failure_count out.old out.new)
         (out.new ≡ out.old) (err.new ≡ err.old) }
 {
     let mut cert = match open_certificate(&*files, alloc, names.0) {
@@ -287,25 +302,28 @@ fn open_and_convert<F: FileSystem, W: Sink, E: Sink>(
 }
 
 // Writes a certificate that is read in version 2; it takes its name when it is whole.
-fn convert_into<F: FileSystem, S: Source, W: Sink, E: Sink>(
+fn convert_into<F: FileSystem, W: Sink, E: Sink>(
     files: &mut F,
     alloc: Global,
     plan: &Plan,
-    cert: &mut S,
+    cert: &mut Buffered<F::Reader>,
     name: &String,
     out: &mut W,
     err: &mut E,
 ) -> u8
     requires plan { Converts plan.now (string_bytes name.now) }
-    requires known { S.remaining cert.old ≡ certificate_under (F.under files.old) plan.now }
+    requires known { ⟦<Buffered<F::Reader> as Source>⟧.remaining cert.old
+        ≡ certificate_under (F.under files.old) plan.now }
     ensures { RunsOver plan.now result (F.under files.old) (F.under files.new)
         (Writes W.contents W.failure_count out.old out.new)
-        (TriesToWrite E.contents E.failure_count err.old err.new) ⊤ (CountStays W.failure_count out.old out.new)
+        (TriesToWrite E.contents E.failure_count err.old err.new)
+        (FilesFail F.Reader.failure_count F.Draft.failure_count F.knows (F.under files.old) plan.now
+        ⊎ FailsToWrite W.failure_count out.old out.new) (CountStays W.failure_count out.old out.new)
         (out.new ≡ out.old) (err.new ≡ err.old) }
 {
     let mut draft = match files.draft(alloc, name.as_str()) {
         Ok(draft) => draft,
-        Err(error) => return stopped(&stop_of(&error), err),
+        Err(stop) => return stopped(&stop_of(stop), err),
     };
     let converted = rewrite(alloc, cert, &mut draft);
     match settle(files, alloc, draft, name, converted.is_ok()) {
@@ -317,11 +335,11 @@ fn convert_into<F: FileSystem, S: Source, W: Sink, E: Sink>(
 // Whether a certificate may take the name, where those of these names are read.
 fn room_for<F: FileSystem>(files: &F, name: &String, read: &[String]) -> Result<Room, Stop>
     ensures room { IfOk result (IsRoom (F.under files.now) (string_bytes name.now) (map string_bytes read.now)) }
-    ensures stops { IfErr result StopsOpening }
+    ensures stops { IfErr result (StopsOpening (bytes_under (F.under files.now) (string_bytes name.now) ≡ None)) }
 {
     match files.room(name.as_str(), read) {
         Ok(room) => Ok(room),
-        Err(error) => Err(stop_of(&error)),
+        Err(stop) => Err(stop_of(stop)),
     }
 }
 
@@ -348,7 +366,7 @@ fn settle<F: FileSystem>(
         F.under files.new (string_bytes name.now) ≡ standing (F.Draft.contents draft) }
     ensures stays { (is_whole ≡ false) ⊎ IsSome result → (other : List ℕ) → other ≢ beside (string_bytes name.now) →
         F.under files.new other ≡ F.under files.old other }
-    ensures stops { IfSome result StopsOpening }
+    ensures stops { IfSome result (StopsOpening (F.knows ≡ false)) }
     ensures whole { IsSome result → is_whole ≡ true }
 {
     if !is_whole {
@@ -357,18 +375,17 @@ fn settle<F: FileSystem>(
     }
     match files.keep(alloc, draft, name.as_str()) {
         Ok(()) => None,
-        Err(error) => Some(stop_of(&error)),
+        Err(stop) => Some(stop_of(stop)),
     }
 }
 
 // What is told of a file that can't be opened or made.
-fn stop_of(error: &io::Error) -> Stop
-    ensures { StopsOpening result }
+fn stop_of(stop: FileStop) -> Stop
+    ensures { result ≡ told_of stop }
 {
-    if error.kind() == ErrorKind::OutOfMemory {
-        Stop::Memory
-    } else {
-        Stop::Device
+    match stop {
+        FileStop::Memory => Stop::Memory,
+        FileStop::Device => Stop::Device,
     }
 }
 
@@ -377,27 +394,26 @@ fn open_certificate<F: FileSystem>(
     files: &F,
     alloc: Global,
     name: &String,
-) -> Result<Meter<BufReader<F::Reader>>, Stop>
-    ensures bytes { IfOk result (λ source. ⟦<Meter<BufReader<F::Reader>> as Source>⟧.remaining source
+) -> Result<Buffered<F::Reader>, Stop>
+    ensures bytes { IfOk result (λ source. ⟦<Buffered<F::Reader> as Source>⟧.remaining source
         ≡ bytes_under (F.under files.now) (string_bytes name.now)) }
-    ensures stops { IfErr result StopsOpening }
+    ensures stops { IfErr result (StopsOpening (bytes_under (F.under files.now) (string_bytes name.now) ≡ None)) }
 {
-    let file = match files.open(alloc, name.as_str()) {
-        Ok(file) => file,
-        Err(error) => return Err(stop_of(&error)),
+    let Ok(room) = room_for_bytes(alloc) else {
+        return Err(Stop::Memory);
     };
-    match BufReader::with_capacity(alloc, INPUT_BUFFER, file) {
-        Ok(reader) => Ok(Meter::new(reader)),
-        Err(_) => Err(Stop::Memory),
+    match files.open(alloc, name.as_str()) {
+        Ok(file) => Ok(Buffered::new(file, room)),
+        Err(stop) => Err(stop_of(stop)),
     }
 }
 
 /// Does what the plan asks over these readers, which are read one after the other as one text, and gives the program's
 /// exit status. Where the bytes of each reader are known, so is that text, and all that [`run`] promises holds of it.
-pub fn run_on_readers<F: Read + Drop, S: Source, C: Sink, W: Sink, E: Sink>(
+pub fn run_on_readers<F: Source + Drop, S: Source, C: Sink, W: Sink, E: Sink>(
     alloc: Global,
     plan: &Plan,
-    readers: Vec<F>,
+    readers: &mut Vec<F>,
     cert: &mut S,
     made: &mut C,
     out: &mut W,
@@ -405,50 +421,59 @@ pub fn run_on_readers<F: Read + Drop, S: Source, C: Sink, W: Sink, E: Sink>(
 ) -> u8
     ensures status { IsRunStatus result }
     ensures answered { result ≡ DONE
-        → IsAnswered plan.now (joined_bytes F.remaining false readers.items) (S.remaining cert.old)
+        → IsAnswered plan.now (joined_bytes F.remaining false readers.old.items) (S.remaining cert.old)
         (Writes C.contents C.failure_count made.old made.new) (Writes W.contents W.failure_count out.old out.new) }
     ensures fault { result ≡ MAP_FAULT
-        → FaultsMap plan.now (joined_bytes F.remaining false readers.items) (cert.new ≡ cert.old)
+        → FaultsMap plan.now (joined_bytes F.remaining false readers.old.items) (cert.new ≡ cert.old)
         (Writes W.contents W.failure_count out.old out.new) }
     ensures exactly { (result ≡ DONE) ⊎ (result ≡ MAP_FAULT)
-        → IsExact plan.now (joined_bytes F.remaining false readers.items) result }
+        → IsExact plan.now (joined_bytes F.remaining false readers.old.items) result }
     ensures cert_fault { result ≡ CERT_FAULT
-        → FaultsCertificate plan.now (joined_bytes F.remaining false readers.items) (S.remaining cert.old)
+        → FaultsCertificate plan.now (joined_bytes F.remaining false readers.old.items) (S.remaining cert.old)
         (Writes W.contents W.failure_count out.old out.new) }
     ensures refused { result ≡ REFUSED
-        → NamesRefusal (layout_of plan.now) (joined_bytes F.remaining false readers.items)
+        → NamesRefusal (layout_of plan.now) (joined_bytes F.remaining false readers.old.items)
         (TriesToWrite E.contents E.failure_count err.old err.new) }
+    // Of a device only where a read of one of the readers or of the certificate failed, or a write.
     ensures stopped { result ≡ STOPPED
-        → StopsRun plan.now (joined_bytes F.remaining false readers.items)
-        (TriesToWrite E.contents E.failure_count err.old err.new) ⊤
-        (CountStays S.failure_count cert.old cert.new
+        → StopsRun plan.now (joined_bytes F.remaining false readers.old.items)
+        (TriesToWrite E.contents E.failure_count err.old err.new)
+        ((FailsToRead (failures_of F.failure_count) readers.old.items readers.new.items
+        ⊎ FailsToRead S.failure_count cert.old cert.new)
+        ⊎ (FailsToWrite C.failure_count made.old made.new ⊎ FailsToWrite W.failure_count out.old out.new))
+        ((CountStays (failures_of F.failure_count) readers.old.items readers.new.items
+        × CountStays S.failure_count cert.old cert.new)
         × (CountStays C.failure_count made.old made.new × CountStays W.failure_count out.old out.new)) }
     ensures err_stays { (result ≡ DONE) ⊎ ((result ≡ MAP_FAULT) ⊎ (result ≡ CERT_FAULT)) → err.new ≡ err.old }
     ensures out_stays { result ≡ REFUSED → out.new ≡ out.old }
+    ensures read_whole { result ≢ STOPPED
+        → CountStays (failures_of F.failure_count) readers.old.items readers.new.items }
+    ensures cert_whole { result ≢ STOPPED → CountStays S.failure_count cert.old cert.new }
     ensures cert { ReadsNoCertificate plan.now → cert.new ≡ cert.old }
     ensures made { MakesNoCertificate plan.now → made.new ≡ made.old }
     ensures unread { result ≡ REFUSED → cert.new ≡ cert.old }
     ensures unmade { (result ≡ MAP_FAULT) ⊎ ((result ≡ CERT_FAULT) ⊎ (result ≡ REFUSED)) → made.new ≡ made.old }
     ensures begun { result ≡ STOPPED → (made.new ≡ made.old)
-        ⊎ IsBegunBy plan.now (joined_bytes F.remaining false readers.items) (S.remaining cert.old)
+        ⊎ IsBegunBy plan.now (joined_bytes F.remaining false readers.old.items) (S.remaining cert.old)
         (Begins C.contents made.old made.new) }
 {
-    let Ok(mut records) = joined_source(alloc, readers) else {
+    let Ok(room) = room_for_bytes(alloc) else {
         return stopped(&Stop::Memory, err);
     };
-    run(alloc, plan, &mut records, cert, made, out, err)
+    let taken = mem::replace(readers, Vec::new(alloc));
+    let mut records = Buffered::new(Joined::new(taken), room);
+    let status = run(alloc, plan, &mut records, cert, made, out, err);
+    *readers = records.into_source().into_readers();
+    status
 }
 
-// A source of the readers' joined text.
-fn joined_source<F: Read + Drop>(
-    alloc: Global,
-    readers: Vec<F>,
-) -> io::Result<Meter<BufReader<Joined<F>>>>
-    ensures { IfOk result (λ source. ⟦<Meter<BufReader<Joined<F>>> as Source>⟧.remaining source
-        ≡ joined_bytes F.remaining false readers.items) }
+// Room for as many bytes as are read at a time.
+fn room_for_bytes(alloc: Global) -> Result<Vec<u8>, AllocError>
+    ensures { IfOk result (λ room. 0 < vec_len room) }
 {
-    let reader = BufReader::with_capacity(alloc, INPUT_BUFFER, Joined::new(readers))?;
-    Ok(Meter::new(reader))
+    let mut room = Vec::with_capacity(alloc, INPUT_BUFFER)?;
+    room.resize(INPUT_BUFFER, 0)?;
+    Ok(room)
 }
 
 // The files of these names, each opened once and in their order.
@@ -459,13 +484,13 @@ fn open_all<F: FileSystem>(
 ) -> Result<Vec<F::Reader>, Stop>
     ensures opened { IfOk result (λ readers. map F.Reader.remaining readers.items
         ≡ map (λ name. bytes_under (F.under files.now) (string_bytes name)) names.now) }
-    ensures stops { IfErr result StopsOpening }
+    ensures stops { IfErr result (StopsOpeningAll (F.under files.now) (map string_bytes names.now)) }
 {
     let mut readers = Vec::new(alloc);
     for name in names {
         let file = match files.open(alloc, name.as_str()) {
             Ok(file) => file,
-            Err(error) => return Err(stop_of(&error)),
+            Err(stop) => return Err(stop_of(stop)),
         };
         if readers.push(file).is_err() {
             return Err(Stop::Memory);

@@ -1,6 +1,8 @@
 -- What stands under the names of a file system.
-use Rattle.std.specs.Prelude.{◌≡◌, ◌++◌, ◌==◌, ◌||◌, ℕ, nat_eq, Bool, true, false, List, length, Option, Some, None, Contains, IfSome, codes}
+use Rattle.std.specs.Prelude.{◌≡◌, ◌++◌, ◌==◌, ◌||◌, ℕ, nat_eq, Bool, true, false, List, length, Option, Some, None, Contains, IfSome, codes, ⊤}
 use Rattle.std.specs.List.{starts_with}
+use Rattle.tl_files.specs.declared.file_system.FileStop.{FileStop}
+use Rattle.tl_files.specs.declared.file_system.FileStop.TheVariants.{Memory, Device}
 use Rattle.tl_files.specs.declared.file_system.Room.{Room}
 use Rattle.tl_files.specs.declared.file_system.Room.TheVariants.{Free, Taken, IsRead}
 
@@ -42,3 +44,8 @@ abbrev pub IsRoom : Under → List ℕ → List (List ℕ) → Room → Type 0
 IsRoom under name read Free = IfSome (under name) (λ file. IfSome file (λ bytes. may_go bytes ≡ true) × ¬ Contains read name)
 IsRoom under name read Taken = IfSome (under name) (λ file. (bytes : List ℕ) × (file ≡ Some bytes) × (may_go bytes ≡ false))
 IsRoom under name read IsRead = IfSome (under name) (λ file. Contains read name)
+
+-- so that is true, if a device failed
+abbrev pub OfDevice : Type 0 → FileStop → Type 0
+OfDevice P Memory = ⊤
+OfDevice P Device = P

@@ -1,12 +1,10 @@
 //! What a file system does.
 
-ghost use Rattle.std.specs.Prelude.{◌≡◌, ◌≢◌, ℕ, Bool, is_some, List, [], IfOk, IfSome, OnOk, OnErr, map, string_bytes};
-ghost use Rattle.tl_files.specs.Files.{Under, bytes_under, standing, beside, IsRoom};
+ghost use Rattle.std.specs.Prelude.{◌≡◌, ◌≢◌, ℕ, Bool, false, is_some, List, [], None, IfOk, IfErr, IfSome, OnOk, OnErr, map, string_bytes};
+ghost use Rattle.tl_files.specs.Files.{Under, bytes_under, standing, beside, IsRoom, OfDevice};
 
 use std::alloc::Global;
-use std::io;
-use std::io::Read;
-use tl_record::Sink;
+use tl_record::{Sink, Source};
 
 /// Whether a file may be made of a name.
 #[derive(Clone, Copy, Debug, PartialEq, Eq)]
@@ -19,11 +17,20 @@ pub enum Room {
     IsRead,
 }
 
+/// Why a file can't be opened or made.
+#[derive(Clone, Copy, Debug, PartialEq, Eq)]
+pub enum FileStop {
+    /// Memory was refused.
+    Memory,
+    /// No file stands there, or a device failed.
+    Device,
+}
+
 /// Files by their names. A new file stands beside its name until it is kept: what stood under the name stays till then,
 /// and no one sees a part of the new one.
 pub trait FileSystem {
     /// A file that is read.
-    type Reader: Read + Drop;
+    type Reader: Source + Drop;
 
     /// A new file, which is written.
     type Draft: Sink + Drop;
@@ -34,20 +41,24 @@ pub trait FileSystem {
     // Whether the bytes of new files are known.
     ghost knows: { Bool };
 
-    /// Opens the file that stands under a name.
-    fn open(&self, alloc: Global, name: &str) -> io::Result<Self::Reader>
-        ensures { IfOk result (λ file. Self.Reader.remaining file ≡ bytes_under (under self.now) name.now) };
+    /// Opens the file that stands under a name. A device fails only where the bytes of none are known.
+    fn open(&self, alloc: Global, name: &str) -> Result<Self::Reader, FileStop>
+        ensures opened { IfOk result (λ file. Self.Reader.remaining file ≡ bytes_under (under self.now) name.now) }
+        ensures failed { IfErr result (OfDevice (bytes_under (under self.now) name.now ≡ None)) };
 
     /// Whether a new file may take a name, where those of these names are read.
-    fn room(&self, name: &str, read: &[String]) -> io::Result<Room>
-        ensures { IfOk result (IsRoom (under self.now) name.now (map string_bytes read.now)) };
+    fn room(&self, name: &str, read: &[String]) -> Result<Room, FileStop>
+        ensures room { IfOk result (IsRoom (under self.now) name.now (map string_bytes read.now)) }
+        ensures failed { IfErr result (OfDevice (under self.now name.now ≡ None)) };
 
     /// A new file that may take a name. It is made when its first byte is written.
-    fn draft(&self, alloc: Global, name: &str) -> io::Result<Self::Draft>
-        ensures { IfOk result (λ file. IfSome (Self.Draft.contents file) (λ bytes. bytes ≡ [])) };
+    fn draft(&self, alloc: Global, name: &str) -> Result<Self::Draft, FileStop>
+        ensures empty { IfOk result (λ file. IfSome (Self.Draft.contents file) (λ bytes. bytes ≡ [])) }
+        ensures refused { IfErr result (OfDevice (knows ≡ false)) };
 
     /// The new file takes the name, in place of what stood there. Where that fails, what stood there stays.
-    fn keep(&mut self, alloc: Global, file: Self::Draft, name: &str) -> io::Result<()>
+    fn keep(&mut self, alloc: Global, file: Self::Draft, name: &str) -> Result<(), FileStop>
+        ensures refused { IfErr result (OfDevice (knows ≡ false)) }
         ensures kept { OnOk result (under self.new name.now ≡ standing (Self.Draft.contents file)) }
         ensures failed { OnErr result ((other : List ℕ) → other ≢ beside name.now →
             under self.new other ≡ under self.old other) }

@@ -1,16 +1,17 @@
 //! Files in memory, for tests and for who has no other.
 
-ghost use Rattle.std.specs.Prelude.{◌≡◌, ◌≢◌, ℕ, List, None, Some, IfOk, OnOk, OnErr, Contains, map, option_map, string_bytes};
+ghost use Rattle.std.specs.Prelude.{◌≡◌, ◌≢◌, ℕ, List, None, Some, IfOk, IfErr, OnOk, OnErr, Contains, map, option_map, string_bytes};
 ghost use Rattle.std.specs.Bool.{OnTrue, OnFalse};
+ghost use Rattle.tl_files.specs.declared.file_system.FileStop.TheVariants.{Memory};
 ghost use Rattle.tl_files.specs.Keeping.Stored.{found_with as found_with_of};
 
 use crate::beginning::may_go;
-use crate::file_system::{FileSystem, Room};
+use crate::file_system::{FileStop, FileSystem, Room};
 use std::alloc::{AllocError, Global};
 use std::collections::VecDeque;
 use std::io;
-use std::io::Write;
-use tl_record::Sink;
+use std::io::{Read, Write};
+use tl_record::{Sink, Source};
 
 /// A file with its name.
 #[derive(Drop)]
@@ -77,6 +78,26 @@ fn found_with<'a>(found: Option<&'a [u8]>, file: &'a Stored, name: &str) -> Opti
     }
 }
 
+/// A file that is read. No read of it fails.
+#[derive(Drop)]
+pub struct Held {
+    bytes: VecDeque<u8>,
+}
+
+impl Source for Held {
+    ghost remaining = { λ file. Some file.bytes.items };
+
+    ghost failure_count = { λ _. 0 };
+
+    fn fetch(&mut self, buf: &mut [u8]) -> io::Result<usize> {
+        self.bytes.read(buf)
+    }
+
+    fn failures(&self) -> u64 {
+        0
+    }
+}
+
 /// A file that isn't whole yet.
 #[derive(Drop)]
 pub struct Draft {
@@ -105,7 +126,7 @@ impl Sink for Draft {
 }
 
 impl FileSystem for FilesInMemory {
-    type Reader = VecDeque<u8>;
+    type Reader = Held;
 
     type Draft = Draft;
 
@@ -118,14 +139,14 @@ impl FileSystem for FilesInMemory {
 
     ghost alike = { λ draft. refl };
 
-    fn open(&self, alloc: Global, name: &str) -> io::Result<VecDeque<u8>> {
+    fn open(&self, alloc: Global, name: &str) -> Result<Held, FileStop> {
         match self.bytes(name) {
-            Some(bytes) => reader_of(alloc, bytes),
-            None => Err(io::Error::from(io::ErrorKind::NotFound)),
+            Some(bytes) => hold(alloc, bytes),
+            None => Err(FileStop::Device),
         }
     }
 
-    fn room(&self, name: &str, read: &[String]) -> io::Result<Room> {
+    fn room(&self, name: &str, read: &[String]) -> Result<Room, FileStop> {
         if is_among(name, read) {
             return Ok(Room::IsRead);
         }
@@ -135,29 +156,36 @@ impl FileSystem for FilesInMemory {
         }
     }
 
-    fn draft(&self, alloc: Global, _name: &str) -> io::Result<Draft> {
+    fn draft(&self, alloc: Global, _name: &str) -> Result<Draft, FileStop> {
         Ok(Draft {
             bytes: Vec::new(alloc),
             failures: 0,
         })
     }
 
-    fn keep(&mut self, alloc: Global, file: Draft, name: &str) -> io::Result<()> {
-        let name = String::from_str(alloc, name)?;
-        self.store(name, file.bytes)?;
-        Ok(())
+    fn keep(&mut self, alloc: Global, file: Draft, name: &str) -> Result<(), FileStop> {
+        let Ok(name) = String::from_str(alloc, name) else {
+            return Err(FileStop::Memory);
+        };
+        match self.store(name, file.bytes) {
+            Ok(()) => Ok(()),
+            Err(_) => Err(FileStop::Memory),
+        }
     }
 
     fn discard(&mut self, _file: Draft, _name: &str) {}
 }
 
-// A reader of these bytes.
-fn reader_of(alloc: Global, bytes: &[u8]) -> io::Result<VecDeque<u8>>
-    ensures { IfOk result (λ reader. reader.items ≡ bytes.now) }
+// A file of these bytes, which is read.
+fn hold(alloc: Global, bytes: &[u8]) -> Result<Held, FileStop>
+    ensures bytes { IfOk result (λ file. file.bytes.items ≡ bytes.now) }
+    ensures stop { IfErr result (λ stop. stop ≡ Memory) }
 {
-    let mut reader = VecDeque::new(alloc);
-    reader.write(bytes)?;
-    Ok(reader)
+    let mut held = VecDeque::new(alloc);
+    match held.write(bytes) {
+        Ok(_) => Ok(Held { bytes: held }),
+        Err(_) => Err(FileStop::Memory),
+    }
 }
 
 // Whether a name is one of these.

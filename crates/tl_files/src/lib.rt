@@ -10,6 +10,6 @@ mod file_system;
 mod in_memory;
 mod system;
 
-pub use file_system::{FileSystem, Room};
-pub use in_memory::{Draft, FilesInMemory};
+pub use file_system::{FileStop, FileSystem, Room};
+pub use in_memory::{Draft, FilesInMemory, Held};
 pub use system::{SystemDraft, SystemFiles, SystemReader};

@@ -4,7 +4,7 @@ ghost use Rattle.std.specs.Prelude.{◌≡◌};
 ghost use Rattle.std.specs.Io.{WritesAtMost};
 
 use crate::beginning::{BEGINNING, FRONT, may_go};
-use crate::file_system::{FileSystem, Room};
+use crate::file_system::{FileStop, FileSystem, Room};
 use std::alloc::Global;
 use std::fs::{File, Metadata, OpenOptions, TryLockError};
 use std::io::{Error, ErrorKind, Read, Seek, SeekFrom, Write};
@@ -12,7 +12,7 @@ use std::os::unix::fs::MetadataExt;
 use std::path::AsPath;
 use std::rt::Files;
 use std::{fs, io};
-use tl_record::Sink;
+use tl_record::{Meter, Sink};
 
 // What follows a name in that of a new file that is to take it.
 const UNFINISHED: &str = ".unfinished";
@@ -146,7 +146,7 @@ impl<R: Files<File = File>> Sink for SystemDraft<'_, R> {
 }
 
 impl<'a, R: Files<File = File>> FileSystem for SystemFiles<'a, R> {
-    type Reader = SystemReader;
+    type Reader = Meter<SystemReader>;
 
     type Draft = SystemDraft<'a, R>;
 
@@ -158,57 +158,95 @@ impl<'a, R: Files<File = File>> FileSystem for SystemFiles<'a, R> {
 
     ghost alike = { λ draft. refl };
 
-    fn open(&self, _alloc: Global, name: &str) -> io::Result<SystemReader> {
-        let file = File::open(self.rt, name)?;
-        Ok(SystemReader { file })
-    }
-
-    fn room(&self, name: &str, read: &[String]) -> io::Result<Room> {
-        let stands = match fs::metadata(self.rt, name) {
-            Ok(stands) => stands,
-            Err(error) if error.kind() == ErrorKind::NotFound => return Ok(Room::Free),
-            Err(error) => return Err(error),
-        };
-        if !stands.is_file() {
-            return Ok(Room::Free);
-        }
-        if is_among(self.rt, &stands, read) {
-            return Ok(Room::IsRead);
-        }
-        if is_certificate(self.rt, name, stands.len())? {
-            Ok(Room::Free)
-        } else {
-            Ok(Room::Taken)
+    fn open(&self, _alloc: Global, name: &str) -> Result<Meter<SystemReader>, FileStop> {
+        match File::open(self.rt, name) {
+            Ok(file) => Ok(Meter::new(SystemReader { file })),
+            Err(error) => Err(stop_of(&error)),
         }
     }
 
-    fn draft(&self, alloc: Global, name: &str) -> io::Result<SystemDraft<'a, R>> {
-        let target = target_of(self.rt, alloc, name)?;
-        let mut place = String::from_str(alloc, target.as_str())?;
-        if is_regular_or_none(self.rt, target.as_str()) {
-            place.push_str(UNFINISHED)?;
+    fn room(&self, name: &str, read: &[String]) -> Result<Room, FileStop> {
+        match room_of(self.rt, name, read) {
+            Ok(room) => Ok(room),
+            Err(error) => Err(stop_of(&error)),
         }
-        Ok(SystemDraft {
-            rt: self.rt,
-            target,
-            place,
-            file: None,
-            failures: 0,
-        })
     }
 
-    fn keep(&mut self, _alloc: Global, file: SystemDraft<'a, R>, _name: &str) -> io::Result<()> {
+    fn draft(&self, alloc: Global, name: &str) -> Result<SystemDraft<'a, R>, FileStop> {
+        match draft_of(self.rt, alloc, name) {
+            Ok(draft) => Ok(draft),
+            Err(error) => Err(stop_of(&error)),
+        }
+    }
+
+    fn keep(
+        &mut self,
+        _alloc: Global,
+        file: SystemDraft<'a, R>,
+        _name: &str,
+    ) -> Result<(), FileStop> {
         let mut file = file;
-        let settled = file.settle();
-        if settled.is_err() {
-            file.take_away();
+        match file.settle() {
+            Ok(()) => Ok(()),
+            Err(error) => {
+                file.take_away();
+                Err(stop_of(&error))
+            }
         }
-        settled
     }
 
     fn discard(&mut self, file: SystemDraft<'a, R>, _name: &str) {
         file.take_away();
     }
+}
+
+// What is told of an error of the system.
+fn stop_of(error: &Error) -> FileStop {
+    if error.kind() == ErrorKind::OutOfMemory {
+        FileStop::Memory
+    } else {
+        FileStop::Device
+    }
+}
+
+// Whether a new file may take the name, where those of `read` are read.
+fn room_of<R: Files<File = File>>(rt: &R, name: &str, read: &[String]) -> io::Result<Room> {
+    let stands = match fs::metadata(rt, name) {
+        Ok(stands) => stands,
+        Err(error) if error.kind() == ErrorKind::NotFound => return Ok(Room::Free),
+        Err(error) => return Err(error),
+    };
+    if !stands.is_file() {
+        return Ok(Room::Free);
+    }
+    if is_among(rt, &stands, read) {
+        return Ok(Room::IsRead);
+    }
+    if is_certificate(rt, name, stands.len())? {
+        Ok(Room::Free)
+    } else {
+        Ok(Room::Taken)
+    }
+}
+
+// A new file that may take the name.
+fn draft_of<'a, R: Files<File = File>>(
+    rt: &'a R,
+    alloc: Global,
+    name: &str,
+) -> io::Result<SystemDraft<'a, R>> {
+    let target = target_of(rt, alloc, name)?;
+    let mut place = String::from_str(alloc, target.as_str())?;
+    if is_regular_or_none(rt, target.as_str()) {
+        place.push_str(UNFINISHED)?;
+    }
+    Ok(SystemDraft {
+        rt,
+        target,
+        place,
+        file: None,
+        failures: 0,
+    })
 }
 
 // The file whose name a new one takes: where the name is a link, what the link leads to.

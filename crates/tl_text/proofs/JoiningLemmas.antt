@@ -1,12 +1,13 @@
 -- What reading several texts as one gives.
-use Rattle.std.proofs.Common.{◌≡◌, ℕ, ◌+◌, ◌-◌, ◌<◌, ◌≤◌, Bool, false, not, ◌==◌, nat_eq, List, [], ◌∷◌, ◌++◌, length, take, drop, slice_index}
-use Rattle.std.proofs.Common.{Some, None, refl, ap, ◌∙◌, append_assoc, arith, map, option_map, if◌then◌else◌, slice_index_or, slice_set, add-one}
+use Rattle.std.proofs.Common.{◌≡◌, ℕ, zero, suc, ◌+◌, ◌-◌, ◌^◌, ◌<◌, ◌≤◌, min, Bool, false, not, ◌==◌, nat_eq, List, [], ◌∷◌, ◌++◌, length, take, drop, slice_index}
+use Rattle.std.proofs.Common.{Some, None, refl, ap, ◌∙◌, append_assoc, arith, map, option_map, if◌then◌else◌, slice_index_or, slice_set, slice_range, add-one, sym, drop-drop, take_at, take-append-drop}
 use Rattle.std.proofs.Math.Seq.{drop-cons}
-use Rattle.std.proofs.lemmas.List.{drop-set, drop-set-lt, get_or-take, length-take-le}
+use Rattle.std.proofs.lemmas.List.{drop-set, drop-set-lt, drop-take, get_or-take, length-take-le}
 use Rattle.std.specs.Io.KnownBytes.{Consumes, IsAtEnd}
 use Rattle.std.specs.Prelude.{Option}
 use Rattle.std.specs.Fmt.{option_append}
-use Rattle.tl_text.specs.Joining.{line_feed, leaves_open, closed, joined, joined_bytes}
+use Rattle.tl_record.specs.Failures.{one_more}
+use Rattle.tl_text.specs.Joining.{line_feed, leaves_open, closed, joined, joined_bytes, failures_from}
 
 pub leaves_open-append : (before : Bool) (xs ys : List ℕ) → leaves_open before (xs ++ ys) ≡ leaves_open (leaves_open before xs) ys
 leaves_open-append before [] ys = refl
@@ -95,3 +96,51 @@ module _ {R : Type 0} (bytes : R → Option (List ℕ)) where
       let first : bytes reader ≡ Some text = cc in
       let others : map bytes readers ≡ map Some texts = cc in
       rw (first, joined_bytes-known readers texts others) refl
+
+-- ---- failures
+
+-- one more before, one more behind
+from_one_more : {R : Type 0} (failures : R → ℕ) (before : ℕ) (readers : List R) → failures_from failures (one_more before) readers ≡ one_more (failures_from failures before readers)
+from_one_more failures before [] = refl
+from_one_more failures before (reader ∷ rest) =
+    let same : min (one_more before + failures reader) (2 ^ 64 - 1) ≡ one_more (min (before + failures reader) (2 ^ 64 - 1)) = omega arith in
+    ap (λ n. failures_from failures n rest) same ∙ from_one_more failures (min (before + failures reader) (2 ^ 64 - 1)) rest
+
+-- a read of one of them that failed
+pub failed_read : {R : Type 0} (failures : R → ℕ) (before : ℕ) (readers : List R) (i : ℕ) (old new : R) → i < length readers → old ≡ slice_index_or readers i old → failures new ≡ one_more (failures old)
+    → failures_from failures before (slice_set readers i new) ≡ one_more (failures_from failures before readers)
+failed_read failures before [] i old new within here more = absurd (omega arith)
+failed_read failures before (reader ∷ rest) zero old new within here more =
+    let more_here : failures new ≡ one_more (failures reader) = more ∙ ap (λ r. one_more (failures r)) here in
+    let same : min (before + failures new) (2 ^ 64 - 1) ≡ one_more (min (before + failures reader) (2 ^ 64 - 1)) = omega (arith, more_here) in
+    ap (λ n. failures_from failures n rest) same ∙ from_one_more failures (min (before + failures reader) (2 ^ 64 - 1)) rest
+failed_read failures before (reader ∷ rest) (suc i) old new within here more =
+    failed_read failures (min (before + failures reader) (2 ^ 64 - 1)) rest i old new (omega arith) here more
+
+-- a read of one of them that didn't
+pub good_read : {R : Type 0} (failures : R → ℕ) (before : ℕ) (readers : List R) (i : ℕ) (old new : R) → i < length readers → old ≡ slice_index_or readers i old → failures new ≡ failures old
+    → failures_from failures before (slice_set readers i new) ≡ failures_from failures before readers
+good_read failures before [] i old new within here same = absurd (omega arith)
+good_read failures before (reader ∷ rest) zero old new within here same = ap (λ n. failures_from failures (min (before + n) (2 ^ 64 - 1)) rest) (same ∙ ap failures here)
+good_read failures before (reader ∷ rest) (suc i) old new within here same =
+    good_read failures (min (before + failures reader) (2 ^ 64 - 1)) rest i old new (omega arith) here same
+
+-- ---- bytes that are given from the front of what is held
+
+pub advance : (bytes : List ℕ) (start end n : ℕ) → n ≤ end - start → slice_range bytes (start + n) end ≡ drop n (slice_range bytes start end)
+advance bytes start end n within =
+    let whole : n + (end - (start + n)) ≡ end - start = omega arith in
+    ap (take (end - (start + n))) (sym (drop-drop n start bytes)) ∙ sym (drop-take n (end - (start + n)) (drop start bytes)) ∙ ap (λ k. drop n (take k (drop start bytes))) whole
+
+-- what was held is what was given, and what is held then
+pub given : (held buf_old buf_new : List ℕ) (n : ℕ) → n ≤ length held → buf_new ≡ take n held ++ drop n buf_old → held ≡ take n buf_new ++ drop n held
+given held buf_old buf_new n within copied =
+    let front : take n buf_new ≡ take n held = ap (take n) copied ∙ take_at (take n held) (drop n buf_old) n (length-take-le n held within) in
+    sym (take-append-drop n held) ∙ ap (λ l. l ++ drop n held) (sym front)
+
+-- nothing is given to a buffer with room where nothing is held
+pub none_held : (held buf_old buf_new : List ℕ) (n : ℕ) → n ≡ min (length held) (length buf_old) → buf_new ≡ take n held ++ drop n buf_old → n ≡ 0 → 0 < length buf_new → held ≡ []
+none_held [] buf_old buf_new n count copied nothing some = refl
+none_held (byte ∷ held) buf_old buf_new n count copied nothing some =
+    let same : length buf_new ≡ length buf_old = ap length copied ∙ ap (λ k. length (take k (byte ∷ held) ++ drop k buf_old)) nothing in
+    absurd (omega (arith, count, nothing, same, some))

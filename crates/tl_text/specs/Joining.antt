@@ -1,5 +1,5 @@
 -- Several texts read as one.
-use Rattle.std.specs.Prelude.{ℕ, Bool, not, ◌==◌, if◌then◌else◌, List, [], ◌∷◌, ◌++◌, Option, Some, option_map}
+use Rattle.std.specs.Prelude.{ℕ, ◌+◌, ◌-◌, ◌^◌, min, Bool, not, ◌==◌, if◌then◌else◌, List, [], ◌∷◌, ◌++◌, Option, Some, option_map}
 use Rattle.std.specs.Prelude.{false}
 use Rattle.std.specs.Fmt.{option_append}
 
@@ -28,3 +28,11 @@ abbrev pub joined_bytes : {R : Type 0} → (R → Option (List ℕ)) → Bool �
 joined_bytes bytes before [] = Some []
 joined_bytes bytes before (reader ∷ rest) =
     option_append (option_map (closed before) (bytes reader)) (joined_bytes bytes false rest)
+
+-- how many reads of these sources failed so far, and those before, up to the greatest u64
+abbrev pub failures_from : {R : Type 0} → (R → ℕ) → ℕ → List R → ℕ
+failures_from failures before [] = before
+failures_from failures before (reader ∷ rest) = failures_from failures (min (before + failures reader) (2 ^ 64 - 1)) rest
+
+abbrev pub failures_of : {R : Type 0} → (R → ℕ) → List R → ℕ
+failures_of failures readers = failures_from failures 0 readers

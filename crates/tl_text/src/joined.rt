@@ -1,16 +1,17 @@
-//! Several readers as one.
+//! Several sources as one.
 
 ghost use Rattle.std.specs.Prelude.{◌≡◌, ◌+◌, ◌<◌, ◌≤◌, false, List, ℕ, Some, MatchResult, map, drop, take, length};
 ghost use Rattle.std.specs.Prelude.{vec_len};
 ghost use Rattle.std.specs.Io.{ReadsAtMost};
 ghost use Rattle.std.specs.Io.KnownBytes.{Consumes, Keeps};
-ghost use Rattle.tl_text.specs.Joining.{joined, joined_bytes};
+ghost use Rattle.tl_record.specs.Failures.{CountsRead};
+ghost use Rattle.tl_text.specs.Joining.{joined, joined_bytes, failures_of};
 
 use std::io;
-use std::io::Read;
+use tl_record::Source;
 
-/// A reader over a list of readers, which gives their bytes one after the other. After a reader that gave bytes, of
-/// which the last is no LF, it puts an LF, so that no line runs from one file into the next.
+/// A source over a list of sources, which gives their bytes one after the other. After one that gave bytes, of which the
+/// last is no LF, it puts an LF, so that no line runs from one file into the next. Its failures are those of all.
 #[derive(Drop)]
 pub struct Joined<R> {
     readers: Vec<R>,
@@ -21,19 +22,28 @@ pub struct Joined<R> {
     ghost within: { place ≤ vec_len readers },
 }
 
-impl<R: Read> Joined<R> {
-    /// A reader of what these readers give, from the first to the last.
+impl<R: Source> Joined<R> {
+    /// A source of what these give, from the first to the last.
     pub fn new(readers: Vec<R>) -> Joined<R>
         ensures known { (texts : List (List ℕ)) → map R.remaining readers.items ≡ map Some texts
-            → ⟦<Joined<R> as Read>⟧.remaining result ≡ Some (joined texts) }
-        ensures bytes { ⟦<Joined<R> as Read>⟧.remaining result
+            → ⟦<Joined<R> as Source>⟧.remaining result ≡ Some (joined texts) }
+        ensures bytes { ⟦<Joined<R> as Source>⟧.remaining result
             ≡ joined_bytes R.remaining false readers.items }
+        ensures failures { ⟦<Joined<R> as Source>⟧.failure_count result
+            ≡ failures_of R.failure_count readers.items }
     {
         Joined {
             readers,
             place: 0,
             is_open: false,
         }
+    }
+
+    /// The sources, each as far as it was read.
+    pub fn into_readers(self) -> Vec<R>
+        ensures { failures_of R.failure_count result.items ≡ ⟦<Joined<R> as Source>⟧.failure_count self }
+    {
+        self.readers
     }
 
     // One read of the reader that is read now. Where it is at its end, the next one is read from here on, and the LF
@@ -51,8 +61,10 @@ impl<R: Read> Joined<R> {
             (λ n. n ≡ 0 → self.new.place ≡ self.old.place + 1)
             (λ _. self.new.place ≡ self.old.place) }
         ensures readers { vec_len self.new.readers ≡ vec_len self.old.readers }
+        ensures failures { CountsRead (failures_of R.failure_count self.old.readers.items)
+            (failures_of R.failure_count self.new.readers.items) result }
     {
-        let count = self.readers[self.place].read(buf)?;
+        let count = self.readers[self.place].fetch(buf)?;
         if count > 0 {
             self.is_open = buf[count - 1] != b'\n';
             return Ok(count);
@@ -67,10 +79,12 @@ impl<R: Read> Joined<R> {
     }
 }
 
-impl<R: Read> Read for Joined<R> {
+impl<R: Source> Source for Joined<R> {
     ghost remaining = { λ j. joined_bytes R.remaining j.is_open (drop j.place j.readers.items) };
 
-    fn read(&mut self, buf: &mut [u8]) -> io::Result<usize> {
+    ghost failure_count = { λ j. failures_of R.failure_count j.readers.items };
+
+    fn fetch(&mut self, buf: &mut [u8]) -> io::Result<usize> {
         if buf.is_empty() {
             return Ok(0);
         }
@@ -81,5 +95,13 @@ impl<R: Read> Read for Joined<R> {
             }
         }
         Ok(0)
+    }
+
+    fn failures(&self) -> u64 {
+        let mut failures: u64 = 0;
+        for reader in &self.readers {
+            failures = failures.saturating_add(reader.failures());
+        }
+        failures
     }
 }

@@ -4,5 +4,5 @@ use Rattle.tl_command.proofs.open.open_all.Given as goal
 
 abbrev pub invariant-loop-name : goal.invariant-loop-name
 invariant-loop-name g l =
-    map g.F.Reader.Read.remaining l.readers.items ++ map (λ name. bytes_under (g.F.FileSystem.under l.files) (string_bytes name)) (drop l.name-index l.names)
+    map g.F.Reader.Source.remaining l.readers.items ++ map (λ name. bytes_under (g.F.FileSystem.under l.files) (string_bytes name)) (drop l.name-index l.names)
     ≡ map (λ name. bytes_under (g.F.FileSystem.under l.files) (string_bytes name)) l.names

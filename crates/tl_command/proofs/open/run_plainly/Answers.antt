@@ -1,10 +1,23 @@
+use Rattle.std.proofs.Common.{inl, inr}
 use Rattle.tl_output.specs.Writing.{TriesToWrite}
-use Rattle.tl_command.proofs.OpenLemmas.{over_plain}
 use Rattle.tl_command.proofs.ToldLemmas.{weaker_stop}
+use Rattle.tl_command.proofs.OpenLemmas.{over_plain, none_failed}
 use Rattle.tl_command.proofs.open.run_plainly.Goals as goal
 
 pub returns : goal.returns
 returns g c =
-    over_plain c.args.plan.now (g.F.FileSystem.under c.args.files.now) _ _ c.run_on_readers.result _ _ _ _ _ _ _ _ c.requires.reads c.requires.makes c.requires.known c.run_on_readers.ensures.status c.run_on_readers.ensures.answered
-    c.run_on_readers.ensures.fault c.run_on_readers.ensures.exactly c.run_on_readers.ensures.cert_fault c.run_on_readers.ensures.refused (λ e. weaker_stop c.args.plan.now _ (TriesToWrite g.E.Sink.contents g.E.Sink.failure_count c.args.err.now c.run_on_readers.new.err) _ _ _ _ (λ f. tt) (λ well. well.1.1) (c.run_on_readers.ensures.stopped e)) c.run_on_readers.ensures.err_stays
-    c.run_on_readers.ensures.out_stays
+    let run = c.run_on_readers.ensures in
+    let new = c.run_on_readers.new in
+    over_plain c.args.plan.now (g.F.FileSystem.under c.args.files.now) _ _ c.run_on_readers.result _ _ _ _ _ _ _ _ c.requires.reads c.requires.makes c.requires.known run.status run.answered
+    run.fault run.exactly run.cert_fault run.refused
+    (λ e. weaker_stop c.args.plan.now _ (TriesToWrite g.E.Sink.contents g.E.Sink.failure_count c.args.err.now new.err) _ _ _ _ (λ failed. elim failed [
+      | inl read ↦ elim read [
+        | inl records ↦ inl (inr (inl (inr (c.args.readers.items, new.readers.items, records))))
+        | inr cert ↦ absurd (none_failed _ c.new-cert.ensures.failures (rw (run.cert c.requires.reads) at cert))
+      ]
+      | inr write ↦ elim write [
+        | inl made ↦ absurd (none_failed _ c.new-made.ensures.failures (rw (run.made c.requires.makes) at made))
+        | inr out ↦ inr out
+      ]
+    ]) (λ well. well.1.1) (run.stopped e))
+    run.err_stays run.out_stays

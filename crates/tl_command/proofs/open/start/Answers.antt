@@ -13,9 +13,6 @@ returns-in-Ok-clause-refused g c = λ refused. (c.in-Ok.plan, c.in-Ok.ensures.pl
 pub returns-in-Ok-clause-cert_fault : goal.returns-in-Ok-clause-cert_fault
 returns-in-Ok-clause-cert_fault g c = λ is. (c.in-Ok.plan, c.in-Ok.ensures.plan, c.open_and_run.ensures.cert_fault is)
 
-pub returns-in-Ok-clause-stopped : goal.returns-in-Ok-clause-stopped
-returns-in-Ok-clause-stopped g c = λ stopped. inr (c.in-Ok.plan, c.in-Ok.ensures.plan, c.open_and_run.ensures.stopped stopped)
-
 pub returns-in-Ok-clause-usage : goal.returns-in-Ok-clause-usage
 returns-in-Ok-clause-usage g c = λ usage. inr (c.in-Ok.plan, c.in-Ok.ensures.plan, c.open_and_run.ensures.usage usage)
 
@@ -27,3 +24,6 @@ returns-in-Ok-clause-exactly g c = λ any. inr (c.in-Ok.plan, c.in-Ok.ensures.pl
 
 pub returns-in-Ok-clause-begun : goal.returns-in-Ok-clause-begun
 returns-in-Ok-clause-begun g c = λ stopped. inr (c.in-Ok.plan, c.in-Ok.ensures.plan, c.open_and_run.ensures.begun stopped)
+
+pub returns-in-Ok-clause-stopped : goal.returns-in-Ok-clause-stopped
+returns-in-Ok-clause-stopped g c = λ stopped. inr (c.in-Ok.plan, c.in-Ok.ensures.plan, c.open_and_run.ensures.stopped stopped)

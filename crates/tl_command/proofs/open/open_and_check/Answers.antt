@@ -1,0 +1,29 @@
+use Rattle.std.proofs.Common.{inl, inr, refl, string_bytes}
+use Rattle.tl_output.specs.Writing.{TriesToWrite}
+use Rattle.tl_command.proofs.ToldLemmas.{weaker_stop}
+use Rattle.tl_command.proofs.OpenLemmas.{over_unopened, over_check, read_by_check, check_makes_none, none_failed}
+use Rattle.tl_command.proofs.open.open_and_check.Goals as goal
+
+pub returns-in-Err : goal.returns-in-Err
+returns-in-Err g c =
+    over_unopened _ _ _ c.args.plan.now (string_bytes c.args.name.now) c.in-Err.stop _ _ _ _ _ _ _ _ (inr (inl (read_by_check c.args.plan.now (string_bytes c.args.name.now) c.requires.plan)))
+    c.in-Err.ensures.stops refl c.stopped.ensures
+
+pub returns : goal.returns
+returns g c =
+    let run = c.run_on_readers.ensures in
+    let new = c.run_on_readers.new in
+    let unmade = run.made (check_makes_none c.args.plan.now (string_bytes c.args.name.now) c.requires.plan) in
+    over_check c.args.plan.now (string_bytes c.args.name.now) (g.F.FileSystem.under c.args.files.now) _ _ c.run_on_readers.result _ _ _ _ _ _ _ _ c.requires.plan c.requires.known c.in-Ok.ensures.bytes run.status run.answered
+    run.fault run.exactly run.cert_fault run.refused
+    (λ e. weaker_stop c.args.plan.now _ (TriesToWrite g.E.Sink.contents g.E.Sink.failure_count c.args.err.now new.err) _ _ _ _ (λ failed. elim failed [
+      | inl read ↦ inl (inr (inl (elim read [
+        | inl records ↦ inr (c.args.readers.items, new.readers.items, records)
+        | inr cert ↦ inl (c.in-Ok.cert.source, new.cert.source, cert)
+      ])))
+      | inr write ↦ elim write [
+        | inl made ↦ absurd (none_failed _ c.new-made.ensures.failures (rw unmade at made))
+        | inr out ↦ inr out
+      ]
+    ]) (λ well. well.1.1) (run.stopped e))
+    run.err_stays run.out_stays

@@ -1,0 +1,22 @@
+use Rattle.std.proofs.Common.{◌≡◌, ◌+◌, ◌-◌, ◌<◌, ◌≤◌, min, [], length, take, drop, slice_range, sym, ap, ◌∙◌, arith, length-take, length-drop}
+use Rattle.std.proofs.KnownBytes.{prepend_known-read}
+use Rattle.tl_text.proofs.JoiningLemmas.{advance, given, none_held}
+use Rattle.tl_text.proofs.buffered.BufferedSource.fetch.Goals as goal
+
+pub returns-clause-bytes : goal.returns-clause-bytes
+returns-clause-bytes g c =
+    let w = c.fill.new.self in
+    let held = slice_range w.bytes.items w.start w.end in
+    let n = c.give-count.result in
+    let buf = c.args.buf.now in
+    let count : n ≡ min (length held) (length buf) = rw c.as_slice-held.ensures.value at c.give-count.ensures.count in
+    let copied = rw c.as_slice-held.ensures.value at c.give-count.ensures.copied in
+    let long : length held ≡ w.end - w.start =
+    length-take (w.end - w.start) (drop w.start w.bytes.items) ∙ (let rest = length-drop w.start w.bytes.items in omega (arith, rest, w.within)) in
+    let read = prepend_known-read _ _ held (drop n held) (take n c.give-count.new.buf) ((n ≡ 0) × (0 < length c.give-count.new.buf)) c.in_ok-fill.ensures.bytes
+    (given held buf c.give-count.new.buf n (omega (arith, count)) copied)
+    (λ p.
+    let none : held ≡ [] = none_held held buf c.give-count.new.buf n count copied p.0 p.1 in
+    let empty : length held ≡ 0 = ap length none in
+    (ap (drop n) none ∙ ap (λ k. drop k []) p.0, c.in_ok-fill.ensures.end (omega (arith, long, empty)))) in
+    rw (advance w.bytes.items w.start w.end n (omega (arith, count, long))) (read.0, λ zero some. read.1 (zero, some))
