@@ -28,7 +28,7 @@ use tl_files::{FileStop, FileSystem, Room};
 use tl_output::write_all;
 use tl_plan::{Plan, PlanStop, words};
 use tl_record::{Meter, MeterOut, Options, Sink, Source};
-use tl_text::{Buffered, Joined};
+use tl_text::{Buffered, JoinedSources};
 
 // How many bytes are read at a time, of the record files and of a certificate.
 const INPUT_BUFFER: usize = 131_072;
@@ -260,7 +260,7 @@ fn build_into<F: FileSystem, W: Sink, E: Sink>(
     let Ok(room) = room_for_bytes(alloc) else {
         return stopped(&Stop::Memory, err);
     };
-    let mut records = Buffered::new(Joined::new(readers), room);
+    let mut records = Buffered::new(JoinedSources::new(readers), room);
     let mut draft = match files.draft(alloc, name.as_str()) {
         Ok(draft) => draft,
         Err(stop) => return stopped(&stop_of(stop), err),
@@ -461,7 +461,7 @@ pub fn run_on_readers<F: Source + Drop, S: Source, C: Sink, W: Sink, E: Sink>(
         return stopped(&Stop::Memory, err);
     };
     let taken = mem::replace(readers, Vec::new(alloc));
-    let mut records = Buffered::new(Joined::new(taken), room);
+    let mut records = Buffered::new(JoinedSources::new(taken), room);
     let status = run(alloc, plan, &mut records, cert, made, out, err);
     *readers = records.into_source().into_readers();
     status

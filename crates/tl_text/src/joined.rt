@@ -8,12 +8,16 @@ ghost use Rattle.tl_record.specs.Failures.{CountsRead};
 ghost use Rattle.tl_text.specs.Joining.{joined, joined_bytes, failures_of};
 
 use std::io;
-use tl_record::Source;
+use std::io::Read;
+use tl_record::{Meter, Source};
+
+/// A reader over a list of readers, whose reads that fail are counted.
+pub type Joined<R> = JoinedSources<Meter<R>>;
 
 /// A source over a list of sources, which gives their bytes one after the other. After one that gave bytes, of which the
 /// last is no LF, it puts an LF, so that no line runs from one file into the next. Its failures are those of all.
 #[derive(Drop)]
-pub struct Joined<R> {
+pub struct JoinedSources<R> {
     readers: Vec<R>,
     // The reader that is read now.
     place: usize,
@@ -22,17 +26,17 @@ pub struct Joined<R> {
     ghost within: { place ≤ vec_len readers },
 }
 
-impl<R: Source> Joined<R> {
+impl<R: Source> JoinedSources<R> {
     /// A source of what these give, from the first to the last.
-    pub fn new(readers: Vec<R>) -> Joined<R>
+    pub fn new(readers: Vec<R>) -> JoinedSources<R>
         ensures known { (texts : List (List ℕ)) → map R.remaining readers.items ≡ map Some texts
-            → ⟦<Joined<R> as Source>⟧.remaining result ≡ Some (joined texts) }
-        ensures bytes { ⟦<Joined<R> as Source>⟧.remaining result
+            → ⟦<JoinedSources<R> as Source>⟧.remaining result ≡ Some (joined texts) }
+        ensures bytes { ⟦<JoinedSources<R> as Source>⟧.remaining result
             ≡ joined_bytes R.remaining false readers.items }
-        ensures failures { ⟦<Joined<R> as Source>⟧.failure_count result
+        ensures failures { ⟦<JoinedSources<R> as Source>⟧.failure_count result
             ≡ failures_of R.failure_count readers.items }
     {
-        Joined {
+        JoinedSources {
             readers,
             place: 0,
             is_open: false,
@@ -41,7 +45,7 @@ impl<R: Source> Joined<R> {
 
     /// The sources, each as far as it was read.
     pub fn into_readers(self) -> Vec<R>
-        ensures { failures_of R.failure_count result.items ≡ ⟦<Joined<R> as Source>⟧.failure_count self }
+        ensures { failures_of R.failure_count result.items ≡ ⟦<JoinedSources<R> as Source>⟧.failure_count self }
     {
         self.readers
     }
@@ -79,7 +83,7 @@ impl<R: Source> Joined<R> {
     }
 }
 
-impl<R: Source> Source for Joined<R> {
+impl<R: Source> Source for JoinedSources<R> {
     ghost remaining = { λ j. joined_bytes R.remaining j.is_open (drop j.place j.readers.items) };
 
     ghost failure_count = { λ j. failures_of R.failure_count j.readers.items };
@@ -103,5 +107,13 @@ impl<R: Source> Source for Joined<R> {
             failures = failures.saturating_add(reader.failures());
         }
         failures
+    }
+}
+
+impl<R: Source> Read for JoinedSources<R> {
+    ghost remaining = { λ j. joined_bytes R.remaining j.is_open (drop j.place j.readers.items) };
+
+    fn read(&mut self, buf: &mut [u8]) -> io::Result<usize> {
+        self.fetch(buf)
     }
 }

@@ -1,7 +1,7 @@
 //! Text on its way into the program, and the lines that it prints of a map.
 //!
-//! [`Joined`] reads several files as one text, and [`Buffered`] many bytes at a time. [`print_chains`], [`print_landmarks`], [`print_on_chain`] and
-//! [`print_inside`] say exactly which bytes are written, and an error comes exactly where a write failed.
+//! [`JoinedSources`] reads several files as one text, and [`Buffered`] many bytes at a time. [`print_chains`],
+//! [`print_landmarks`], [`print_on_chain`] and [`print_inside`] say exactly which bytes are written, and an error comes exactly where a write failed.
 #![tactic(auto)]
 
 mod buffered;
@@ -11,7 +11,7 @@ mod places;
 mod print;
 
 pub use buffered::Buffered;
-pub use joined::Joined;
+pub use joined::{Joined, JoinedSources};
 pub use landmarks::print_landmarks;
 pub use places::{print_inside, print_on_chain};
 pub use print::print_chains;

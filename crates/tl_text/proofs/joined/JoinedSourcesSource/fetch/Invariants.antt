@@ -1,7 +1,7 @@
 use Rattle.std.proofs.Common.{◌≡◌, ◌-◌, drop, vec_len}
 use Rattle.std.specs.Io.KnownBytes.{Keeps}
 use Rattle.tl_text.specs.Joining.{joined_bytes, failures_of}
-use Rattle.tl_text.proofs.joined.JoinedSource.fetch.Given as goal
+use Rattle.tl_text.proofs.joined.JoinedSourcesSource.fetch.Given as goal
 
 abbrev pub invariant-loop-self : goal.invariant-loop-self
 invariant-loop-self g l =

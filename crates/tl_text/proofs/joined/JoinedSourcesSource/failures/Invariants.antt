@@ -1,6 +1,6 @@
 use Rattle.std.proofs.Common.{◌≡◌, drop}
 use Rattle.tl_text.specs.Joining.{failures_from, failures_of}
-use Rattle.tl_text.proofs.joined.JoinedSource.failures.Given as goal
+use Rattle.tl_text.proofs.joined.JoinedSourcesSource.failures.Given as goal
 
 abbrev pub invariant-loop-reader : goal.invariant-loop-reader
 invariant-loop-reader g l =

@@ -1,7 +1,7 @@
 use Rattle.std.proofs.Common.{◌≡◌, ◌<◌, arith, length, take}
 use Rattle.tl_text.proofs.JoiningLemmas.{joined_bytes-read, joined_bytes-end, leaves_open-read, take-line_feed, good_read, failed_read}
 use Rattle.tl_output.proofs.WritingLemmas.{counts_err}
-use Rattle.tl_text.proofs.joined.Joined.step.Goals as goal
+use Rattle.tl_text.proofs.joined.JoinedSources.step.Goals as goal
 
 pub returns-then-count-gt0-clause-bytes : goal.returns-then-count-gt0-clause-bytes
 returns-then-count-gt0-clause-bytes g c =
