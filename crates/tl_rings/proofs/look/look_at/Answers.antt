@@ -45,3 +45,81 @@ returns-in-Some g c = record {
   no_near = c.requires.no_near;
   no_far = c.requires.no_far;
 }
+
+pub returns-in_err-c-clause-nears : goal.returns-in_err-c-clause-nears
+returns-in_err-c-clause-nears g c = refl
+
+pub returns-in_err-c-clause-fars : goal.returns-in_err-c-clause-fars
+returns-in_err-c-clause-fars g c = refl
+
+pub returns-in_err-list_about-clause-nears : goal.returns-in_err-list_about-clause-nears
+returns-in_err-list_about-clause-nears g c = refl
+
+pub returns-in_err-list_about-clause-fars : goal.returns-in_err-list_about-clause-fars
+returns-in_err-list_about-clause-fars g c = refl
+
+pub returns-in_err-list_rings-clause-nears : goal.returns-in_err-list_rings-clause-nears
+returns-in_err-list_rings-clause-nears g c = refl
+
+pub returns-in_err-list_rings-clause-fars : goal.returns-in_err-list_rings-clause-fars
+returns-in_err-list_rings-clause-fars g c = refl
+
+pub returns-then-darts_of-saturating_add-clause-look : goal.returns-then-darts_of-saturating_add-clause-look
+returns-then-darts_of-saturating_add-clause-look g c = tt
+
+pub returns-then-darts_of-saturating_add-clause-nears : goal.returns-then-darts_of-saturating_add-clause-nears
+returns-then-darts_of-saturating_add-clause-nears g c = refl
+
+pub returns-then-darts_of-saturating_add-clause-fars : goal.returns-then-darts_of-saturating_add-clause-fars
+returns-then-darts_of-saturating_add-clause-fars g c = refl
+
+pub returns-then-darts_of-saturating_add-clause-no_near : goal.returns-then-darts_of-saturating_add-clause-no_near
+returns-then-darts_of-saturating_add-clause-no_near g c = c.requires.no_near
+
+pub returns-then-darts_of-saturating_add-clause-no_far : goal.returns-then-darts_of-saturating_add-clause-no_far
+returns-then-darts_of-saturating_add-clause-no_far g c = c.requires.no_far
+
+pub misplaced_by-requires-clause-nears : goal.misplaced_by-requires-clause-nears
+misplaced_by-requires-clause-nears g c = c.requires.nears
+
+pub misplaced_by-requires-clause-fars : goal.misplaced_by-requires-clause-fars
+misplaced_by-requires-clause-fars g c = c.requires.fars
+
+pub misplaced_by-requires-clause-no_near : goal.misplaced_by-requires-clause-no_near
+misplaced_by-requires-clause-no_near g c = c.requires.no_near
+
+pub misplaced_by-requires-clause-no_far : goal.misplaced_by-requires-clause-no_far
+misplaced_by-requires-clause-no_far g c = c.requires.no_far
+
+pub darts_of-requires-clause-walks : goal.darts_of-requires-clause-walks
+darts_of-requires-clause-walks g c = c.requires.walks
+
+pub list_rings-requires-clause-sides : goal.list_rings-requires-clause-sides
+list_rings-requires-clause-sides g c = c.requires.sides
+
+pub list_rings-requires-clause-walks : goal.list_rings-requires-clause-walks
+list_rings-requires-clause-walks g c = c.requires.walks
+
+pub returns-in-Some-misplaced_by-clause-nears : goal.returns-in-Some-misplaced_by-clause-nears
+returns-in-Some-misplaced_by-clause-nears g c = c.misplaced_by.ensures.nears
+
+pub returns-in-Some-misplaced_by-clause-fars : goal.returns-in-Some-misplaced_by-clause-fars
+returns-in-Some-misplaced_by-clause-fars g c = c.misplaced_by.ensures.fars
+
+pub returns-in-Some-misplaced_by-clause-no_near : goal.returns-in-Some-misplaced_by-clause-no_near
+returns-in-Some-misplaced_by-clause-no_near g c = c.misplaced_by.ensures.no_near
+
+pub returns-in-Some-misplaced_by-clause-no_far : goal.returns-in-Some-misplaced_by-clause-no_far
+returns-in-Some-misplaced_by-clause-no_far g c = c.misplaced_by.ensures.no_far
+
+pub returns-in-None-misplaced_by-clause-nears : goal.returns-in-None-misplaced_by-clause-nears
+returns-in-None-misplaced_by-clause-nears g c = c.misplaced_by.ensures.nears
+
+pub returns-in-None-misplaced_by-clause-fars : goal.returns-in-None-misplaced_by-clause-fars
+returns-in-None-misplaced_by-clause-fars g c = c.misplaced_by.ensures.fars
+
+pub returns-in-None-misplaced_by-clause-no_near : goal.returns-in-None-misplaced_by-clause-no_near
+returns-in-None-misplaced_by-clause-no_near g c = c.misplaced_by.ensures.no_near
+
+pub returns-in-None-misplaced_by-clause-no_far : goal.returns-in-None-misplaced_by-clause-no_far
+returns-in-None-misplaced_by-clause-no_far g c = c.misplaced_by.ensures.no_far
