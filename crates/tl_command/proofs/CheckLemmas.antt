@@ -12,6 +12,7 @@ use Rattle.tl_check.specs.declared.verdict.Report.{Report}
 use Rattle.tl_check.specs.declared.verdict.Verdict.{Verdict}
 use Rattle.tl_check.specs.declared.verdict.Verdict.TheVariants.{Sound, MapFault, CertFault}
 use Rattle.tl_check.specs.Sound.{AreClosed}
+use Rattle.tl_check.specs.Truth.{IsOfDarts}
 use Rattle.tl_check.specs.Texts.{IsValidText, IsTrueOfText}
 use Rattle.tl_check.specs.Records.{HaveMap, IsTrueOfRecords, LeavesUnread}
 use Rattle.tl_check.specs.Verdicts.{Answer, OnSound, IfSound, IfMapFault, IfCertFault, IsReport}
@@ -94,15 +95,17 @@ names_fault layout known unread wrote answer (CertFault fault) is true_of alone 
 pub names_cert_fault : (layout : Layout) (known spelt : Option (List ℕ)) (wrote : List ℕ → Type 0) (answer : Answer) (verdict : Verdict) → answer ≡ Ok verdict
     → IfCertFault answer (λ fault. IfSome known (λ text. HaveMap (records_of layout text) (λ m.
     IfSome spelt (λ certificate. IsTrueOfText m certificate fault))))
+    → IfCertFault answer (λ fault. IsOfDarts fault → IfSome known (λ text. HaveMap (records_of layout text) (λ m. IsPlanar m.chains)))
     → CERT_FAULT ≡ verdict_status verdict → wrote (line_of (verdict_text verdict)) → NamesCertFault layout known spelt wrote
-names_cert_fault layout known spelt wrote answer (CertFault fault) is true_of status written = record {
+names_cert_fault layout known spelt wrote answer (CertFault fault) is true_of planar status written = record {
   fault = fault;
   written = written;
   holds = subst (λ a. IfCertFault a (λ fault. IfSome known (λ text. HaveMap (records_of layout text) (λ m.
       IfSome spelt (λ certificate. IsTrueOfText m certificate fault))))) is true_of;
+  behind = subst (λ a. IfCertFault a (λ fault. IsOfDarts fault → IfSome known (λ text. HaveMap (records_of layout text) (λ m. IsPlanar m.chains)))) is planar;
 }
-names_cert_fault layout known spelt wrote answer (Sound report) is true_of status written = cc status
-names_cert_fault layout known spelt wrote answer (MapFault fault) is true_of status written = cc status
+names_cert_fault layout known spelt wrote answer (Sound report) is true_of planar status written = cc status
+names_cert_fault layout known spelt wrote answer (MapFault fault) is true_of planar status written = cc status
 
 -- a status that isn't a stop's is the verdict's
 pub told_status : (status n : ℕ) (verdict : Verdict) → (status ≡ verdict_status verdict) ⊎ (status ≡ STOPPED) → status ≡ n → n ≢ STOPPED

@@ -41,7 +41,8 @@ use Rattle.tl_check.specs.Sound.{IsSound}
 use Rattle.tl_check.specs.Valid.{IsValid}
 use Rattle.tl_check.specs.Verdicts.{IsReport}
 use Rattle.tl_check.specs.Texts.{IsValidText, IsTrueOfText}
-use Rattle.tl_check.specs.Truth.{IsTrueOfMap}
+use Rattle.tl_planar.specs.Planar.{IsPlanar}
+use Rattle.tl_check.specs.Truth.{IsTrueOfMap, IsOfDarts}
 use Rattle.tl_check.specs.Records.{HaveMap, IsTrueOfRecords, LeavesUnread}
 use Rattle.tl_check.specs.Messages.{map_fault_text, cert_fault_text}
 use Rattle.tl_command.specs.Certificates.{converted_text}
@@ -137,12 +138,14 @@ pub record IsBuilt (layout : Layout) (known : Option (List ℕ)) (made wrote : L
   pub built : IsBuiltOf map made wrote
   pub drawn : IfSome known (λ text. IsReadFrom (records_of layout text) map)
 
--- the line of a fault of a certificate was written; the records have a map, and it is true of the certificate's text beside it
+-- the line of a fault of a certificate was written; the records have a map, and it is true of the certificate's text beside it;
+-- and where it is one of rounds or of walks, the map's chains are planar
 pub record NamesCertFault (layout : Layout) (known spelt : Option (List ℕ)) (wrote : List ℕ → Type 0) : Type 0 where
   pub fault : CertFault
   pub written : wrote (line_of (cert_fault_text fault))
   pub holds :
       IfSome known (λ text. HaveMap (records_of layout text) (λ m. IfSome spelt (λ certificate. IsTrueOfText m certificate fault)))
+  pub behind : IsOfDarts fault → IfSome known (λ text. HaveMap (records_of layout text) (λ m. IsPlanar m.chains))
 
 -- the column table that a plan's records are read by; a conversion reads none
 abbrev pub layout_of : Plan → Layout
