@@ -15,7 +15,7 @@ use Rattle.tl_check.specs.declared.verdict.Verdict.TheVariants as verdict
 use Rattle.tl_check.specs.Messages.{map_fault_text}
 use Rattle.tl_check.specs.Sound.{AreClosed}
 use Rattle.tl_check.specs.Records.{HaveMap, IsTrueOfRecords, LeavesUnread}
-use Rattle.tl_check.specs.Verdicts.{IsReport}
+use Rattle.tl_check.specs.Verdicts.{IsReport, OnSearched}
 use Rattle.tl_build.specs.Auditing.{Auditing, IfSound, OnSound}
 use Rattle.tl_build.specs.declared.answer.Audit.TheVariants.{Sound}
 use Rattle.tl_check.proofs.OneMap.{both, weaker}
@@ -74,7 +74,14 @@ unread (map_fault.Side node first next) = tt
 unread (map_fault.PolygonPoint misplaced) = tt
 unread (map_fault.Cell odds) = tt
 
+searched : (fault : MapFault) → OnSearched (Ok (verdict.MapFault fault)) ⊤
+searched (map_fault.Records fault) = tt
+searched (map_fault.Meet meet) = tt
+searched (map_fault.Side node first next) = tt
+searched (map_fault.PolygonPoint misplaced) = tt
+searched (map_fault.Cell odds) = tt
+
 -- the line of a fault that is true of the records
 pub names_fault_alone : (layout : Layout) (known : Option (List ℕ)) (wrote : List ℕ → Type 0) (fault : MapFault)
-    → wrote (line_of (map_fault_text fault)) → IfSome known (λ text. IsTrueOfRecords (records_of layout text) fault) → NamesFault layout known ⊤ wrote
-names_fault_alone layout known wrote fault written holds = record { fault = fault; written = written; holds = holds; alone = unread fault }
+    → wrote (line_of (map_fault_text fault)) → IfSome known (λ text. IsTrueOfRecords (records_of layout text) fault) → NamesFault layout known ⊤ ⊤ wrote
+names_fault_alone layout known wrote fault written holds = record { fault = fault; written = written; holds = holds; alone = unread fault; behind = searched fault }

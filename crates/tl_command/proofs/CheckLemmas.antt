@@ -12,9 +12,10 @@ use Rattle.tl_check.specs.declared.verdict.Report.{Report}
 use Rattle.tl_check.specs.declared.verdict.Verdict.{Verdict}
 use Rattle.tl_check.specs.declared.verdict.Verdict.TheVariants.{Sound, MapFault, CertFault}
 use Rattle.tl_check.specs.Sound.{AreClosed}
+use Rattle.tl_check.specs.Truth.{IsOfDarts}
 use Rattle.tl_check.specs.Texts.{IsValidText, IsTrueOfText}
 use Rattle.tl_check.specs.Records.{HaveMap, IsTrueOfRecords, LeavesUnread}
-use Rattle.tl_check.specs.Verdicts.{Answer, OnSound, IfSound, IfMapFault, IfCertFault, IsReport}
+use Rattle.tl_check.specs.Verdicts.{Answer, OnSound, IfSound, IfMapFault, IfCertFault, IsReport, OnSearched}
 use Rattle.tl_check.proofs.OneMap.{both, weaker}
 use Rattle.tl_output.specs.Writing.{line_of}
 use Rattle.tl_command.specs.declared.stop.TheConstants.{DONE, MAP_FAULT, CERT_FAULT, STOPPED}
@@ -77,32 +78,35 @@ is_checked layout budget known spelt wrote answer (MapFault fault) is planar sid
 is_checked layout budget known spelt wrote answer (CertFault fault) is planar sides closed points cells within valid reported done written = cc done
 
 -- a verdict with the status of a map's fault is that of one
-pub names_fault : (layout : Layout) (known : Option (List ℕ)) (unread : Type 0) (wrote : List ℕ → Type 0) (answer : Answer) (verdict : Verdict)
+pub names_fault : (layout : Layout) (known : Option (List ℕ)) (unread searched : Type 0) (wrote : List ℕ → Type 0) (answer : Answer) (verdict : Verdict)
     → answer ≡ Ok verdict
-    → IfMapFault answer (λ fault. IfSome known (λ text. IsTrueOfRecords (records_of layout text) fault)) → LeavesUnread answer unread
-    → MAP_FAULT ≡ verdict_status verdict → wrote (line_of (verdict_text verdict)) → NamesFault layout known unread wrote
-names_fault layout known unread wrote answer (MapFault fault) is true_of alone status written = record {
+    → IfMapFault answer (λ fault. IfSome known (λ text. IsTrueOfRecords (records_of layout text) fault)) → LeavesUnread answer unread → OnSearched answer searched
+    → MAP_FAULT ≡ verdict_status verdict → wrote (line_of (verdict_text verdict)) → NamesFault layout known unread searched wrote
+names_fault layout known unread searched wrote answer (MapFault fault) is true_of alone behind status written = record {
   fault = fault;
   written = written;
   holds = subst (λ a. IfMapFault a (λ fault. IfSome known (λ text. IsTrueOfRecords (records_of layout text) fault))) is true_of;
   alone = subst (λ a. LeavesUnread a unread) is alone;
+  behind = subst (λ a. OnSearched a searched) is behind;
 }
-names_fault layout known unread wrote answer (Sound report) is true_of alone status written = cc status
-names_fault layout known unread wrote answer (CertFault fault) is true_of alone status written = cc status
+names_fault layout known unread searched wrote answer (Sound report) is true_of alone behind status written = cc status
+names_fault layout known unread searched wrote answer (CertFault fault) is true_of alone behind status written = cc status
 
 -- a verdict with the status of a certificate's fault is that of one
 pub names_cert_fault : (layout : Layout) (known spelt : Option (List ℕ)) (wrote : List ℕ → Type 0) (answer : Answer) (verdict : Verdict) → answer ≡ Ok verdict
     → IfCertFault answer (λ fault. IfSome known (λ text. HaveMap (records_of layout text) (λ m.
     IfSome spelt (λ certificate. IsTrueOfText m certificate fault))))
+    → IfCertFault answer (λ fault. IsOfDarts fault → IfSome known (λ text. HaveMap (records_of layout text) (λ m. IsPlanar m.chains)))
     → CERT_FAULT ≡ verdict_status verdict → wrote (line_of (verdict_text verdict)) → NamesCertFault layout known spelt wrote
-names_cert_fault layout known spelt wrote answer (CertFault fault) is true_of status written = record {
+names_cert_fault layout known spelt wrote answer (CertFault fault) is true_of planar status written = record {
   fault = fault;
   written = written;
   holds = subst (λ a. IfCertFault a (λ fault. IfSome known (λ text. HaveMap (records_of layout text) (λ m.
       IfSome spelt (λ certificate. IsTrueOfText m certificate fault))))) is true_of;
+  behind = subst (λ a. IfCertFault a (λ fault. IsOfDarts fault → IfSome known (λ text. HaveMap (records_of layout text) (λ m. IsPlanar m.chains)))) is planar;
 }
-names_cert_fault layout known spelt wrote answer (Sound report) is true_of status written = cc status
-names_cert_fault layout known spelt wrote answer (MapFault fault) is true_of status written = cc status
+names_cert_fault layout known spelt wrote answer (Sound report) is true_of planar status written = cc status
+names_cert_fault layout known spelt wrote answer (MapFault fault) is true_of planar status written = cc status
 
 -- a status that isn't a stop's is the verdict's
 pub told_status : (status n : ℕ) (verdict : Verdict) → (status ≡ verdict_status verdict) ⊎ (status ≡ STOPPED) → status ≡ n → n ≢ STOPPED

@@ -28,30 +28,30 @@ done_where_sound : (layout : Layout) (known : Option (List ℕ)) (status : ℕ) 
 done_where_sound layout None status done fault which = tt
 done_where_sound layout (Some text) status done fault which = which_one (HaveMap (records_of layout text) IsSound) status DONE MAP_FAULT (λ e. cc e) done fault which
 
-faults_no_sound_map : (layout : Layout) (known : Option (List ℕ)) (unread : Type 0) (wrote : List ℕ → Type 0) → NamesFault layout known unread wrote
+faults_no_sound_map : (layout : Layout) (known : Option (List ℕ)) (unread searched : Type 0) (wrote : List ℕ → Type 0) → NamesFault layout known unread searched wrote
     → IfSome known (λ text. ¬ HaveMap (records_of layout text) IsSound)
-faults_no_sound_map layout known unread wrote names = IfSome_then known names.holds (λ text true. not_sound_records (records_of layout text) names.fault true)
+faults_no_sound_map layout known unread searched wrote names = IfSome_then known names.holds (λ text true. not_sound_records (records_of layout text) names.fault true)
 
-pub audit_decides : (layout : Layout) (known : Option (List ℕ)) (unread : Type 0) (wrote : List ℕ → Type 0) (status : ℕ) → (status ≡ DONE → IsAudited layout known wrote)
-    → (status ≡ MAP_FAULT → NamesFault layout known unread wrote) → (status ≡ DONE) ⊎ (status ≡ MAP_FAULT) → IsDoneWhereSound layout known status
-audit_decides layout known unread wrote status done fault =
+pub audit_decides : (layout : Layout) (known : Option (List ℕ)) (unread searched : Type 0) (wrote : List ℕ → Type 0) (status : ℕ) → (status ≡ DONE → IsAudited layout known wrote)
+    → (status ≡ MAP_FAULT → NamesFault layout known unread searched wrote) → (status ≡ DONE) ⊎ (status ≡ MAP_FAULT) → IsDoneWhereSound layout known status
+audit_decides layout known unread searched wrote status done fault =
     done_where_sound layout known status
     (λ is. IfSome_then known (done is).decided (λ text have. weaker (records_of layout text) _ _ (λ m so. so.sound) have))
-    (λ is. faults_no_sound_map layout known unread wrote (fault is))
+    (λ is. faults_no_sound_map layout known unread searched wrote (fault is))
 
-pub check_decides : (layout : Layout) (budget : ℕ) (known spelt : Option (List ℕ)) (unread : Type 0) (wrote : List ℕ → Type 0) (status : ℕ) → (status ≡ DONE → IsChecked layout budget known spelt wrote)
-    → (status ≡ MAP_FAULT → NamesFault layout known unread wrote) → (status ≡ DONE) ⊎ (status ≡ MAP_FAULT) → IsDoneWhereSound layout known status
-check_decides layout budget known spelt unread wrote status done fault =
+pub check_decides : (layout : Layout) (budget : ℕ) (known spelt : Option (List ℕ)) (unread searched : Type 0) (wrote : List ℕ → Type 0) (status : ℕ) → (status ≡ DONE → IsChecked layout budget known spelt wrote)
+    → (status ≡ MAP_FAULT → NamesFault layout known unread searched wrote) → (status ≡ DONE) ⊎ (status ≡ MAP_FAULT) → IsDoneWhereSound layout known status
+check_decides layout budget known spelt unread searched wrote status done fault =
     done_where_sound layout known status
     (λ is. IfSome_then known (done is).decided (λ text have. weaker (records_of layout text) _ _ (λ m so. so.sound) have))
-    (λ is. faults_no_sound_map layout known unread wrote (fault is))
+    (λ is. faults_no_sound_map layout known unread searched wrote (fault is))
 
-pub build_decides : (layout : Layout) (known : Option (List ℕ)) (unread : Type 0) (made wrote : List ℕ → Type 0) (status : ℕ) → (status ≡ DONE → IsBuilt layout known made wrote)
-    → (status ≡ MAP_FAULT → NamesFault layout known unread wrote) → (status ≡ DONE) ⊎ (status ≡ MAP_FAULT) → IsDoneWhereSound layout known status
-build_decides layout known unread made wrote status done fault =
+pub build_decides : (layout : Layout) (known : Option (List ℕ)) (unread searched : Type 0) (made wrote : List ℕ → Type 0) (status : ℕ) → (status ≡ DONE → IsBuilt layout known made wrote)
+    → (status ≡ MAP_FAULT → NamesFault layout known unread searched wrote) → (status ≡ DONE) ⊎ (status ≡ MAP_FAULT) → IsDoneWhereSound layout known status
+build_decides layout known unread searched made wrote status done fault =
     done_where_sound layout known status
     (λ is. IfSome_then known (done is).drawn (λ text read. record { map = (done is).map; is_read = read; so = (done is).built.decided.sound }))
-    (λ is. faults_no_sound_map layout known unread wrote (fault is))
+    (λ is. faults_no_sound_map layout known unread searched wrote (fault is))
 
 -- ---- what was built, and a check of it
 
@@ -82,18 +82,18 @@ not_cert_fault layout text spelt wrote are names =
 not_refused : (layout : Layout) (text spelt : List ℕ) (wrote : List ℕ → Type 0) → AreSoundWith layout text spelt → ¬ NamesRefusal layout (Some text) wrote
 not_refused layout text spelt wrote are names = cc (sym are.sound.is_read.no_refusal ∙ names.first)
 
-pub passes : (layout : Layout) (text spelt : List ℕ) (status : ℕ) (unread : Type 0) (wrote told : List ℕ → Type 0) → AreSoundWith layout text spelt → IsRunStatus status
-    → (status ≡ MAP_FAULT → NamesFault layout (Some text) unread wrote) → (status ≡ CERT_FAULT → NamesCertFault layout (Some text) (Some spelt) wrote)
+pub passes : (layout : Layout) (text spelt : List ℕ) (status : ℕ) (unread searched : Type 0) (wrote told : List ℕ → Type 0) → AreSoundWith layout text spelt → IsRunStatus status
+    → (status ≡ MAP_FAULT → NamesFault layout (Some text) unread searched wrote) → (status ≡ CERT_FAULT → NamesCertFault layout (Some text) (Some spelt) wrote)
     → (status ≡ REFUSED → NamesRefusal layout (Some text) told) → (status ≡ DONE) ⊎ (status ≡ STOPPED)
-passes layout text spelt status unread wrote told are (inl (inl is)) fault cert_fault refused = inl is
-passes layout text spelt status unread wrote told are (inl (inr is)) fault cert_fault refused = absurd (faults_no_sound_map layout (Some text) unread wrote (fault is) are.sound)
-passes layout text spelt status unread wrote told are (inr (inl is)) fault cert_fault refused = absurd (not_cert_fault layout text spelt wrote are (cert_fault is))
-passes layout text spelt status unread wrote told are (inr (inr (inl is))) fault cert_fault refused = absurd (not_refused layout text spelt told are (refused is))
-passes layout text spelt status unread wrote told are (inr (inr (inr is))) fault cert_fault refused = inr is
+passes layout text spelt status unread searched wrote told are (inl (inl is)) fault cert_fault refused = inl is
+passes layout text spelt status unread searched wrote told are (inl (inr is)) fault cert_fault refused = absurd (faults_no_sound_map layout (Some text) unread searched wrote (fault is) are.sound)
+passes layout text spelt status unread searched wrote told are (inr (inl is)) fault cert_fault refused = absurd (not_cert_fault layout text spelt wrote are (cert_fault is))
+passes layout text spelt status unread searched wrote told are (inr (inr (inl is))) fault cert_fault refused = absurd (not_refused layout text spelt told are (refused is))
+passes layout text spelt status unread searched wrote told are (inr (inr (inr is))) fault cert_fault refused = inr is
 
-pub not_spent : (layout : Layout) (text : List ℕ) (budget : ℕ) (told : List ℕ → Type 0) → HaveMap (records_of layout text) (λ m. meeting_segments m.chains ≤ budget)
-    → ¬ NamesBudget layout budget (Some text) told
-not_spent layout text budget told enough names =
+pub not_spent : (layout : Layout) (text : List ℕ) (spelt : Option (List ℕ)) (budget : ℕ) (told : List ℕ → Type 0) → HaveMap (records_of layout text) (λ m. meeting_segments m.chains ≤ budget)
+    → ¬ NamesBudget layout budget (Some text) spelt told
+not_spent layout text spelt budget told enough names =
     let one = both (records_of layout text) (λ m. meeting_segments m.chains ≤ budget) (λ m. AreBeyond m.chains budget) enough names.spent in
     let most : meeting_segments one.map.chains ≤ budget = one.so.0 in
     let more : budget < meeting_segments one.map.chains = one.so.1.more in

@@ -118,7 +118,7 @@ making_built layout known made begun wrote told same failed to_write well out_sa
 
 -- a fault that was told
 pub making_fault : (layout : Layout) (known : Option (List ℕ)) (made begun wrote told : List ℕ → Type 0) (same failed to_write well out_same err_same : Type 0) (making : Result Making Stop) (status : ℕ)
-    → Makes layout known made begun same failed making → TellsMaking making status wrote told to_write well out_same err_same → status ≡ MAP_FAULT → NamesFault layout known ⊤ wrote
+    → Makes layout known made begun same failed making → TellsMaking making status wrote told to_write well out_same err_same → status ≡ MAP_FAULT → NamesFault layout known ⊤ ⊤ wrote
 making_fault layout known made begun wrote told same failed to_write well out_same err_same (Ok (Fault fault)) status makes (inl is) e = names_fault_alone layout known wrote fault is.1 makes.0
 making_fault layout known made begun wrote told same failed to_write well out_same err_same (Ok (Fault fault)) status makes (inr is) e = absurd (cc (sym is.0 ∙ e))
 making_fault layout known made begun wrote told same failed to_write well out_same err_same (Ok (Made report)) status makes (inl is) e = absurd (cc (sym is.0 ∙ e))

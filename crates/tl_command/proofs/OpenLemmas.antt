@@ -31,7 +31,7 @@ use Rattle.tl_command.specs.declared.convert.Converted.{Converted}
 use Rattle.tl_check.specs.declared.stop.Stop.{Stop}
 use Rattle.tl_check.specs.declared.stop.Stop.TheVariants.{Record, Memory, Device, Budget}
 use Rattle.tl_command.specs.declared.stop.TheConstants.{DONE, MAP_FAULT, CERT_FAULT, REFUSED, STOPPED, USAGE}
-use Rattle.tl_command.specs.Running.{IsAnswered, IsBuilt, FaultsMap, NamesFault, FaultsCertificate, NamesRefusal, StopsRun, NamesStop, IsTold, IsRunStatus, ReadsNoCertificate, MakesNoCertificate, layout_of}
+use Rattle.tl_command.specs.Running.{IsAnswered, IsBuilt, FaultsMap, NamesFault, MayBeSearched, FaultsCertificate, NamesRefusal, StopsRun, NamesStop, IsTold, IsRunStatus, ReadsNoCertificate, MakesNoCertificate, layout_of}
 use Rattle.tl_command.specs.Making.{Makes, OfMap, IsBegunOf, TellsMaking, Rewrites, BeginsRewritten, TellsConverted, was_made}
 use Rattle.tl_command.specs.Deciding.{IsExact}
 use Rattle.tl_command.specs.Opening.{RunsOver, records_under, certificate_under, Stands, KeepsOthers, KeepsAll, RefusesName, IsBuildOf, IsCheckBy, IsConversionBy, Converts, IsNamed, FilesFail, names_read, read_by, made_by}
@@ -63,8 +63,8 @@ records_are f h plan under readers names same files =
 
 -- ---- a run that makes no file
 
-fault_read_of : (plan : Plan) (known : Option (List ℕ)) (unread : Type 0) (wrote : List ℕ → Type 0) → NamesFault (layout_of plan) known unread wrote → NamesFault (layout_of plan) known ⊤ wrote
-fault_read_of plan known unread wrote is = record { fault = is.fault; written = is.written; holds = is.holds; alone = alone is.fault }
+fault_read_of : (layout : Layout) (known : Option (List ℕ)) (unread searched : Type 0) (wrote : List ℕ → Type 0) → NamesFault layout known unread searched wrote → NamesFault layout known ⊤ searched wrote
+fault_read_of layout known unread searched wrote is = record { fault = is.fault; written = is.written; holds = is.holds; alone = alone is.fault; behind = is.behind }
   where
     alone : (fault : MapFault) → LeavesUnread (Ok (verdict.MapFault fault)) ⊤
     alone (Records fault) = tt
@@ -74,14 +74,34 @@ fault_read_of plan known unread wrote is = record { fault = is.fault; written = 
     alone (Cell odds) = tt
 
 -- a fault, with nothing said of the certificate
-fault_read : (plan : Plan) (known : Option (List ℕ)) (unread : Type 0) (wrote : List ℕ → Type 0) → FaultsMap plan known unread wrote → FaultsMap plan known ⊤ wrote
-fault_read (Show options files) known unread wrote is = is
-fault_read (Landmarks options files) known unread wrote is = is
-fault_read (Locate point options files) known unread wrote is = is
-fault_read (Convert cert to) known unread wrote is = is
-fault_read (Check cert budget options files) known unread wrote is = fault_read_of (Check cert budget options files) known unread wrote is
-fault_read (Audit options files) known unread wrote is = is
-fault_read (Build to options files) known unread wrote is = is
+fault_read : (plan : Plan) (known spelt : Option (List ℕ)) (unread : Type 0) (wrote : List ℕ → Type 0) → FaultsMap plan known spelt unread wrote → FaultsMap plan known spelt ⊤ wrote
+fault_read (Show options files) known spelt unread wrote is = is
+fault_read (Landmarks options files) known spelt unread wrote is = is
+fault_read (Locate point options files) known spelt unread wrote is = is
+fault_read (Convert cert to) known spelt unread wrote is = is
+fault_read (Check cert budget options files) known spelt unread wrote is = fault_read_of (layout_with options) known unread (MayBeSearched (layout_with options) known spelt) wrote is
+fault_read (Audit options files) known spelt unread wrote is = is
+fault_read (Build to options files) known spelt unread wrote is = is
+
+fault_plain : (plan : Plan) (known spelt other : Option (List ℕ)) (unread : Type 0) (wrote : List ℕ → Type 0) → ReadsNoCertificate plan → FaultsMap plan known spelt unread wrote → FaultsMap plan known other ⊤ wrote
+fault_plain (Show options files) known spelt other unread wrote reads is = is
+fault_plain (Landmarks options files) known spelt other unread wrote reads is = is
+fault_plain (Locate point options files) known spelt other unread wrote reads is = is
+fault_plain (Convert cert to) known spelt other unread wrote reads is = is
+fault_plain (Check cert budget options files) known spelt other unread wrote reads is = absurd reads
+fault_plain (Audit options files) known spelt other unread wrote reads is = is
+fault_plain (Build to options files) known spelt other unread wrote reads is = is
+
+-- a stop, in which no certificate has a part
+stop_plain : (plan : Plan) (known spelt other : Option (List ℕ)) (told : List ℕ → Type 0) (failed well : Type 0) → ReadsNoCertificate plan → StopsRun plan known spelt told failed well → StopsRun plan known other told failed well
+stop_plain plan known spelt other told failed well reads (inl named) = inl named
+stop_plain (Show options files) known spelt other told failed well reads (inr spent) = absurd spent.0
+stop_plain (Landmarks options files) known spelt other told failed well reads (inr spent) = absurd spent.0
+stop_plain (Locate point options files) known spelt other told failed well reads (inr spent) = absurd spent.0
+stop_plain (Convert cert to) known spelt other told failed well reads (inr spent) = absurd spent.0
+stop_plain (Check cert budget options files) known spelt other told failed well reads (inr spent) = absurd reads
+stop_plain (Audit options files) known spelt other told failed well reads (inr spent) = absurd spent.0
+stop_plain (Build to options files) known spelt other told failed well reads (inr spent) = absurd spent.0
 
 -- an answer in which no certificate has a part
 answered_plain : (plan : Plan) (known spelt other : Option (List ℕ)) (made kept wrote : List ℕ → Type 0) → ReadsNoCertificate plan → MakesNoCertificate plan → IsAnswered plan known spelt made wrote
@@ -113,19 +133,19 @@ no_usage status (inr (inr (inr is))) e = cc (sym is ∙ e)
 -- what is answered of the records of names, where no certificate has a part
 pub over_plain : (plan : Plan) (under : Under) (known spelt : Option (List ℕ)) (status : ℕ) (unread : Type 0) (made wrote told : List ℕ → Type 0) (failed well out_same err_same : Type 0)
     → ReadsNoCertificate plan → MakesNoCertificate plan → known ≡ records_under under plan
-    → IsRunStatus status → (status ≡ DONE → IsAnswered plan known spelt made wrote) → (status ≡ MAP_FAULT → FaultsMap plan known unread wrote)
+    → IsRunStatus status → (status ≡ DONE → IsAnswered plan known spelt made wrote) → (status ≡ MAP_FAULT → FaultsMap plan known spelt unread wrote)
     → ((status ≡ DONE) ⊎ (status ≡ MAP_FAULT) → IsExact plan known status)
     → (status ≡ CERT_FAULT → FaultsCertificate plan known spelt wrote) → (status ≡ REFUSED → NamesRefusal (layout_of plan) known told)
-    → (status ≡ STOPPED → StopsRun plan known told failed well) → ((status ≡ DONE) ⊎ ((status ≡ MAP_FAULT) ⊎ (status ≡ CERT_FAULT)) → err_same) → (status ≡ REFUSED → out_same)
+    → (status ≡ STOPPED → StopsRun plan known spelt told failed well) → ((status ≡ DONE) ⊎ ((status ≡ MAP_FAULT) ⊎ (status ≡ CERT_FAULT)) → err_same) → (status ≡ REFUSED → out_same)
     → RunsOver plan status under under wrote told failed well out_same err_same
 over_plain plan under known spelt status unread made wrote told failed well out_same err_same reads makes same is answered fault exactly cert_fault refused stopped err_stays out_stays = record {
   is_status = inl is;
   answered = λ e. rw (← same) (answered_plain plan known spelt (certificate_under under plan) made (Stands under plan) wrote reads makes (answered e));
-  fault = λ e. rw (← same) (fault_read plan known unread wrote (fault e));
+  fault = λ e. rw (← same) (fault_plain plan known spelt (certificate_under under plan) unread wrote reads (fault e));
   exactly = λ e. rw (← same) (exactly e);
   cert_fault = λ e. rw (← same) (cert_fault_plain plan known spelt (certificate_under under plan) wrote reads (cert_fault e));
   refused = λ e. rw (← same) (refused e);
-  stopped = λ e. rw (← same) (stopped e);
+  stopped = λ e. rw (← same) (stop_plain plan known spelt (certificate_under under plan) told failed well reads (stopped e));
   usage = λ e. absurd (no_usage status is e);
   err_stays = err_stays;
   out_stays = λ e. elim e [ inl r ↦ out_stays r | inr u ↦ absurd (no_usage status is u) ];
@@ -137,10 +157,10 @@ over_plain plan under known spelt status unread made wrote told failed well out_
 -- what is answered of the records of names, by the certificate of a name
 pub over_check : (plan : Plan) (name : List ℕ) (under : Under) (known spelt : Option (List ℕ)) (status : ℕ) (unread : Type 0) (made wrote told : List ℕ → Type 0) (failed well out_same err_same : Type 0)
     → IsCheckBy plan name → known ≡ records_under under plan → spelt ≡ bytes_under under name
-    → IsRunStatus status → (status ≡ DONE → IsAnswered plan known spelt made wrote) → (status ≡ MAP_FAULT → FaultsMap plan known unread wrote)
+    → IsRunStatus status → (status ≡ DONE → IsAnswered plan known spelt made wrote) → (status ≡ MAP_FAULT → FaultsMap plan known spelt unread wrote)
     → ((status ≡ DONE) ⊎ (status ≡ MAP_FAULT) → IsExact plan known status)
     → (status ≡ CERT_FAULT → FaultsCertificate plan known spelt wrote) → (status ≡ REFUSED → NamesRefusal (layout_of plan) known told)
-    → (status ≡ STOPPED → StopsRun plan known told failed well) → ((status ≡ DONE) ⊎ ((status ≡ MAP_FAULT) ⊎ (status ≡ CERT_FAULT)) → err_same) → (status ≡ REFUSED → out_same)
+    → (status ≡ STOPPED → StopsRun plan known spelt told failed well) → ((status ≡ DONE) ⊎ ((status ≡ MAP_FAULT) ⊎ (status ≡ CERT_FAULT)) → err_same) → (status ≡ REFUSED → out_same)
     → RunsOver plan status under under wrote told failed well out_same err_same
 over_check (Check cert budget options files) name under known spelt status unread made wrote told failed well out_same err_same of is_known is_spelt is answered fault exactly cert_fault refused stopped err_stays out_stays =
     let plan : Plan = Check cert budget options files in
@@ -149,12 +169,14 @@ over_check (Check cert budget options files) name under known spelt status unrea
       is_status = inl is;
       answered = λ e. subst (λ (k : Option (List ℕ)). IsAnswered plan k (certificate_under under plan) (Stands under plan) wrote) is_known
           (subst (λ (s : Option (List ℕ)). IsAnswered plan known s (Stands under plan) wrote) text (answered e));
-      fault = λ e. subst (λ (k : Option (List ℕ)). FaultsMap plan k ⊤ wrote) is_known (fault_read plan known unread wrote (fault e));
+      fault = λ e. subst (λ (k : Option (List ℕ)). FaultsMap plan k (certificate_under under plan) ⊤ wrote) is_known
+          (subst (λ (s : Option (List ℕ)). FaultsMap plan known s ⊤ wrote) text (fault_read plan known spelt unread wrote (fault e)));
       exactly = λ e. subst (λ (k : Option (List ℕ)). IsExact plan k status) is_known (exactly e);
       cert_fault = λ e. subst (λ (k : Option (List ℕ)). FaultsCertificate plan k (certificate_under under plan) wrote) is_known
           (subst (λ (s : Option (List ℕ)). FaultsCertificate plan known s wrote) text (cert_fault e));
       refused = λ e. subst (λ (k : Option (List ℕ)). NamesRefusal (layout_of plan) k told) is_known (refused e);
-      stopped = λ e. subst (λ (k : Option (List ℕ)). StopsRun plan k told failed well) is_known (stopped e);
+      stopped = λ e. subst (λ (k : Option (List ℕ)). StopsRun plan k (certificate_under under plan) told failed well) is_known
+          (subst (λ (s : Option (List ℕ)). StopsRun plan known s told failed well) text (stopped e));
       usage = λ e. absurd (no_usage status is e);
       err_stays = err_stays;
       out_stays = λ e. elim e [ inl r ↦ out_stays r | inr u ↦ absurd (no_usage status is u) ];
@@ -447,7 +469,7 @@ over_build (Build to options files) name chosen before after known made begun wr
       is_status = inl (run_status status statuses);
       answered = built;
       fault = faulty;
-      exactly = build_decides layout all ⊤ (Stands after plan) wrote status built faulty;
+      exactly = build_decides layout all ⊤ ⊤ (Stands after plan) wrote status built faulty;
       cert_fault = λ e. absurd (no_cert_fault status statuses e);
       refused = λ e. (making_refused layout all made begun wrote told same failed to_write well out_same err_same making status makes tells e).0;
       stopped = λ e. inl (making_stopped layout all made begun wrote told same failed to_write well out_same err_same any well making status 0 0 weaker or_write (λ reads written is. is) stays

@@ -119,11 +119,11 @@ Converts other to = ⊥
 pub record RunsOver (plan : Plan) (status : ℕ) (before after : Under) (wrote told : List ℕ → Type 0) (failed well out_same err_same : Type 0) : Type 0 where
   pub is_status : IsRunStatus status ⊎ (status ≡ USAGE)
   pub answered : status ≡ DONE → IsAnswered plan (records_under before plan) (certificate_under before plan) (Stands after plan) wrote
-  pub fault : status ≡ MAP_FAULT → FaultsMap plan (records_under before plan) ⊤ wrote
+  pub fault : status ≡ MAP_FAULT → FaultsMap plan (records_under before plan) (certificate_under before plan) ⊤ wrote
   pub exactly : (status ≡ DONE) ⊎ (status ≡ MAP_FAULT) → IsExact plan (records_under before plan) status
   pub cert_fault : status ≡ CERT_FAULT → FaultsCertificate plan (records_under before plan) (certificate_under before plan) wrote
   pub refused : status ≡ REFUSED → NamesRefusal (layout_of plan) (records_under before plan) told
-  pub stopped : status ≡ STOPPED → StopsRun plan (records_under before plan) told failed well
+  pub stopped : status ≡ STOPPED → StopsRun plan (records_under before plan) (certificate_under before plan) told failed well
   pub usage : status ≡ USAGE → RefusesOut before plan told
   pub err_stays : (status ≡ DONE) ⊎ ((status ≡ MAP_FAULT) ⊎ (status ≡ CERT_FAULT)) → err_same
   pub out_stays : (status ≡ REFUSED) ⊎ (status ≡ USAGE) → out_same

@@ -39,9 +39,10 @@ use Rattle.tl_check.specs.declared.verdict.Report.{Report}
 use Rattle.tl_check.specs.declared.verdict.Verdict.TheVariants as verdict
 use Rattle.tl_check.specs.Sound.{IsSound}
 use Rattle.tl_check.specs.Valid.{IsValid}
-use Rattle.tl_check.specs.Verdicts.{IsReport}
-use Rattle.tl_check.specs.Texts.{IsValidText, IsTrueOfText}
-use Rattle.tl_check.specs.Truth.{IsTrueOfMap}
+use Rattle.tl_check.specs.Verdicts.{IsReport, OnSearched}
+use Rattle.tl_check.specs.Texts.{IsValidText, IsTrueOfText, TextAllowsSearch}
+use Rattle.tl_planar.specs.Planar.{IsPlanar}
+use Rattle.tl_check.specs.Truth.{IsTrueOfMap, IsOfDarts}
 use Rattle.tl_check.specs.Records.{HaveMap, IsTrueOfRecords, LeavesUnread}
 use Rattle.tl_check.specs.Messages.{map_fault_text, cert_fault_text}
 use Rattle.tl_command.specs.Certificates.{converted_text}
@@ -137,12 +138,14 @@ pub record IsBuilt (layout : Layout) (known : Option (List ℕ)) (made wrote : L
   pub built : IsBuiltOf map made wrote
   pub drawn : IfSome known (λ text. IsReadFrom (records_of layout text) map)
 
--- the line of a fault of a certificate was written; the records have a map, and it is true of the certificate's text beside it
+-- the line of a fault of a certificate was written; the records have a map, and it is true of the certificate's text beside it;
+-- and where it is one of rounds or of walks, the map's chains are planar
 pub record NamesCertFault (layout : Layout) (known spelt : Option (List ℕ)) (wrote : List ℕ → Type 0) : Type 0 where
   pub fault : CertFault
   pub written : wrote (line_of (cert_fault_text fault))
   pub holds :
       IfSome known (λ text. HaveMap (records_of layout text) (λ m. IfSome spelt (λ certificate. IsTrueOfText m certificate fault)))
+  pub behind : IsOfDarts fault → IfSome known (λ text. HaveMap (records_of layout text) (λ m. IsPlanar m.chains))
 
 -- the column table that a plan's records are read by; a conversion reads none
 abbrev pub layout_of : Plan → Layout
@@ -222,13 +225,19 @@ pub record NamesRecordFault (layout : Layout) (known : Option (List ℕ)) (sough
   pub is : sought fault
   pub holds : IfSome known (λ text. HasFault layout text fault)
 
+-- a search may be made by the certificate's text, where both texts are known: it begins with the counts of the records' map
+-- and with a tree that fits
+abbrev pub MayBeSearched : Layout → (known spelt : Option (List ℕ)) → Type 0
+MayBeSearched layout known spelt = IfSome known (λ text. HaveMap (records_of layout text) (λ m. IfSome spelt (TextAllowsSearch m)))
+
 -- the line of a fault of the records or of their map was written, and it is true; where the records have no map, `unread`,
--- which says that nothing of the certificate was read
-pub record NamesFault (layout : Layout) (known : Option (List ℕ)) (unread : Type 0) (wrote : List ℕ → Type 0) : Type 0 where
+-- which says that nothing of the certificate was read, and else `searched`, which says that a search may be made by it
+pub record NamesFault (layout : Layout) (known : Option (List ℕ)) (unread searched : Type 0) (wrote : List ℕ → Type 0) : Type 0 where
   pub fault : MapFault
   pub written : wrote (line_of (map_fault_text fault))
   pub holds : IfSome known (λ text. IsTrueOfRecords (records_of layout text) fault)
   pub alone : LeavesUnread (Ok (verdict.MapFault fault)) unread
+  pub behind : OnSearched (Ok (verdict.MapFault fault)) searched
 
 -- the line of a fault of the map was written, and it is true
 pub record NamesMapFault (m : TheMap) (wrote : List ℕ → Type 0) : Type 0 where
@@ -237,14 +246,15 @@ pub record NamesMapFault (m : TheMap) (wrote : List ℕ → Type 0) : Type 0 whe
   pub holds : IsTrueOfMap m fault
 
 -- a fault was named that the plan's command looks for
-abbrev pub FaultsMap : Plan → Option (List ℕ) → Type 0 → (List ℕ → Type 0) → Type 0
-FaultsMap (Show options files) known unread wrote = NamesRecordFault (layout_with options) known IsFaultOfChains wrote
-FaultsMap (Landmarks options files) known unread wrote = NamesRecordFault (layout_with options) known (λ fault. ⊤) wrote
-FaultsMap (Locate point options files) known unread wrote = NamesRecordFault (layout_with options) known (λ fault. ⊤) wrote
-FaultsMap (Convert cert made) known unread wrote = ⊥
-FaultsMap (Check cert budget options files) known unread wrote = NamesFault (layout_with options) known unread wrote
-FaultsMap (Audit options files) known unread wrote = NamesFault (layout_with options) known ⊤ wrote
-FaultsMap (Build made options files) known unread wrote = NamesFault (layout_with options) known ⊤ wrote
+abbrev pub FaultsMap : Plan → (known spelt : Option (List ℕ)) → Type 0 → (List ℕ → Type 0) → Type 0
+FaultsMap (Show options files) known spelt unread wrote = NamesRecordFault (layout_with options) known IsFaultOfChains wrote
+FaultsMap (Landmarks options files) known spelt unread wrote = NamesRecordFault (layout_with options) known (λ fault. ⊤) wrote
+FaultsMap (Locate point options files) known spelt unread wrote = NamesRecordFault (layout_with options) known (λ fault. ⊤) wrote
+FaultsMap (Convert cert made) known spelt unread wrote = ⊥
+FaultsMap (Check cert budget options files) known spelt unread wrote =
+    NamesFault (layout_with options) known unread (MayBeSearched (layout_with options) known spelt) wrote
+FaultsMap (Audit options files) known spelt unread wrote = NamesFault (layout_with options) known ⊤ ⊤ wrote
+FaultsMap (Build made options files) known spelt unread wrote = NamesFault (layout_with options) known ⊤ ⊤ wrote
 
 -- the line of the first refusal was written
 pub record NamesRefusal (layout : Layout) (known : Option (List ℕ)) (wrote : List ℕ → Type 0) : Type 0 where
@@ -268,24 +278,25 @@ abbrev pub NamesStop : (List ℕ → Type 0) → (failed well : Type 0) → Type
 NamesStop wrote failed well = (wrote (line_of (stop_text Memory)) × well) ⊎ (wrote (line_of (stop_text Device)) × failed)
 
 -- the line of a spent budget was written, and more pairs of the map's segments than the budget have rectangles that meet, of
--- which as many as the budget don't conflict
-pub record NamesBudget (layout : Layout) (budget : ℕ) (known : Option (List ℕ)) (wrote : List ℕ → Type 0) : Type 0 where
+-- which as many as the budget don't conflict; and a search may be made by the certificate
+pub record NamesBudget (layout : Layout) (budget : ℕ) (known spelt : Option (List ℕ)) (wrote : List ℕ → Type 0) : Type 0 where
   pub written : wrote (line_of (stop_text Budget))
   pub spent : IfSome known (λ text. HaveMap (records_of layout text) (λ m. AreBeyond m.chains budget))
+  pub behind : MayBeSearched layout known spelt
 
 -- the plan has a budget, and it was spent
-abbrev pub SpendsBudget : Plan → Option (List ℕ) → (List ℕ → Type 0) → Type 0
-SpendsBudget (Show options files) known wrote = ⊥
-SpendsBudget (Landmarks options files) known wrote = ⊥
-SpendsBudget (Locate point options files) known wrote = ⊥
-SpendsBudget (Convert cert made) known wrote = ⊥
-SpendsBudget (Check cert budget options files) known wrote = NamesBudget (layout_with options) budget known wrote
-SpendsBudget (Audit options files) known wrote = ⊥
-SpendsBudget (Build made options files) known wrote = ⊥
+abbrev pub SpendsBudget : Plan → (known spelt : Option (List ℕ)) → (List ℕ → Type 0) → Type 0
+SpendsBudget (Show options files) known spelt wrote = ⊥
+SpendsBudget (Landmarks options files) known spelt wrote = ⊥
+SpendsBudget (Locate point options files) known spelt wrote = ⊥
+SpendsBudget (Convert cert made) known spelt wrote = ⊥
+SpendsBudget (Check cert budget options files) known spelt wrote = NamesBudget (layout_with options) budget known spelt wrote
+SpendsBudget (Audit options files) known spelt wrote = ⊥
+SpendsBudget (Build made options files) known spelt wrote = ⊥
 
 -- why the plan's command stopped was written; of a budget too only where no device failed
-abbrev pub StopsRun : Plan → Option (List ℕ) → (List ℕ → Type 0) → (failed well : Type 0) → Type 0
-StopsRun plan known wrote failed well = NamesStop wrote failed well ⊎ (SpendsBudget plan known wrote × well)
+abbrev pub StopsRun : Plan → (known spelt : Option (List ℕ)) → (List ℕ → Type 0) → (failed well : Type 0) → Type 0
+StopsRun plan known spelt wrote failed well = NamesStop wrote failed well ⊎ (SpendsBudget plan known spelt wrote × well)
 
 -- the statuses that a run answers with
 abbrev pub IsRunStatus : ℕ → Type 0

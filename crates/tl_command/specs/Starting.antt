@@ -28,7 +28,7 @@ AnswersSome words before after wrote = (plan : Plan) × AskFor words plan
 
 -- the words ask for a plan, and a fault of its records or of their map was named
 abbrev pub FaultsSome : List Text → Under → (List ℕ → Type 0) → Type 0
-FaultsSome words before wrote = (plan : Plan) × AskFor words plan × FaultsMap plan (records_under before plan) ⊤ wrote
+FaultsSome words before wrote = (plan : Plan) × AskFor words plan × FaultsMap plan (records_under before plan) (certificate_under before plan) ⊤ wrote
 
 -- the words ask for a plan, and a fault of its certificate was named
 abbrev pub FaultsText : List Text → Under → (List ℕ → Type 0) → Type 0
@@ -44,7 +44,7 @@ RefusesSome words before wrote = (plan : Plan) × AskFor words plan × NamesRefu
 -- plan's failed
 abbrev pub StopsSome : List Text → Under → (List ℕ → Type 0) → (of_files : Plan → Type 0) → (failed well : Type 0) → Type 0
 StopsSome words before wrote of_files failed well = NamesStop wrote failed well
-    ⊎ ((plan : Plan) × AskFor words plan × StopsRun plan (records_under before plan) wrote (of_files plan ⊎ failed) well)
+    ⊎ ((plan : Plan) × AskFor words plan × StopsRun plan (records_under before plan) (certificate_under before plan) wrote (of_files plan ⊎ failed) well)
 
 -- the words are no use of a command, or they ask for a plan, of which a status of 0 or 1 says exactly whether a map is sound
 abbrev pub DecidesSome : List Text → Under → ℕ → Type 0

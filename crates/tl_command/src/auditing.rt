@@ -25,7 +25,7 @@ pub fn audit<R: Source, W: Sink, E: Sink>(
     ensures status { ((result ≡ DONE) ⊎ (result ≡ MAP_FAULT)) ⊎ ((result ≡ REFUSED) ⊎ (result ≡ STOPPED)) }
     ensures audited { result ≡ DONE → IsAudited (layout_with options) (R.remaining records.old)
         (Writes W.contents W.failure_count out.old out.new) }
-    ensures fault { result ≡ MAP_FAULT → NamesFault (layout_with options) (R.remaining records.old) ⊤
+    ensures fault { result ≡ MAP_FAULT → NamesFault (layout_with options) (R.remaining records.old) ⊤ ⊤
         (Writes W.contents W.failure_count out.old out.new) }
     ensures refused { result ≡ REFUSED → NamesRefusal (layout_with options) (R.remaining records.old)
         (TriesToWrite E.contents E.failure_count err.old err.new) }

@@ -6,6 +6,7 @@ ghost use Rattle.tl_output.specs.Writing.{Writes, TriesToWrite, FailsToWrite, li
 ghost use Rattle.tl_command.specs.declared.stop.TheConstants.{DONE, MAP_FAULT, CERT_FAULT, REFUSED, STOPPED};
 ghost use Rattle.tl_command.specs.Verdicts.{verdict_text, verdict_status};
 ghost use Rattle.tl_command.specs.Running.{IsChecked, NamesFault, NamesCertFault, NamesRefusal, NamesStop, NamesBudget};
+ghost use Rattle.tl_command.specs.Running.{MayBeSearched};
 ghost use Rattle.tl_command.specs.Running.{IsRunStatus, FailsToRead, CountStays};
 
 use crate::reports::SoundMap;
@@ -30,7 +31,8 @@ pub fn decide<R: Source, S: Source, W: Sink, E: Sink>(
     ensures checked { result ≡ DONE → IsChecked (layout_with options) budget (R.remaining records.old) (S.remaining cert.old)
         (Writes W.contents W.failure_count out.old out.new) }
     ensures map_fault { result ≡ MAP_FAULT → NamesFault (layout_with options) (R.remaining records.old)
-        (cert.new ≡ cert.old) (Writes W.contents W.failure_count out.old out.new) }
+        (cert.new ≡ cert.old) (MayBeSearched (layout_with options) (R.remaining records.old) (S.remaining cert.old))
+        (Writes W.contents W.failure_count out.old out.new) }
     ensures cert_fault { result ≡ CERT_FAULT → NamesCertFault (layout_with options) (R.remaining records.old)
         (S.remaining cert.old) (Writes W.contents W.failure_count out.old out.new) }
     ensures refused { result ≡ REFUSED → NamesRefusal (layout_with options) (R.remaining records.old)
@@ -41,7 +43,7 @@ pub fn decide<R: Source, S: Source, W: Sink, E: Sink>(
         ⊎ FailsToWrite W.failure_count out.old out.new)
         ((CountStays R.failure_count records.old records.new × CountStays S.failure_count cert.old cert.new)
         × CountStays W.failure_count out.old out.new)
-        ⊎ (NamesBudget (layout_with options) budget (R.remaining records.old)
+        ⊎ (NamesBudget (layout_with options) budget (R.remaining records.old) (S.remaining cert.old)
         (TriesToWrite E.contents E.failure_count err.old err.new)
         × ((CountStays R.failure_count records.old records.new × CountStays S.failure_count cert.old cert.new)
         × CountStays W.failure_count out.old out.new)) }

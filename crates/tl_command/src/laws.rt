@@ -1,13 +1,13 @@
 //! Laws of what [`crate::run::run`] answers, each the contract of a function that does nothing.
 
-ghost use Rattle.std.specs.Prelude.{◌≡◌, ◌⊎◌, ◌≤◌, ℕ, List, [], Some};
+ghost use Rattle.std.specs.Prelude.{◌≡◌, ◌⊎◌, ◌≤◌, ℕ, List, [], Option, Some};
 ghost use Rattle.tl_record.specs.declared.layout.Layout.{Layout};
 ghost use Rattle.tl_record.specs.Records.{records_of};
 ghost use Rattle.tl_planar.specs.Searching.{meeting_segments};
 ghost use Rattle.tl_check.specs.Records.{HaveMap};
 ghost use Rattle.tl_output.specs.Writing.{Writes, TriesToWrite};
 ghost use Rattle.tl_command.specs.declared.stop.TheConstants.{DONE, MAP_FAULT, CERT_FAULT, REFUSED, STOPPED};
-ghost use Rattle.tl_command.specs.Running.{IsBuilt, NamesFault, NamesCertFault, NamesRefusal, NamesBudget, IsRunStatus};
+ghost use Rattle.tl_command.specs.Running.{IsBuilt, NamesFault, NamesCertFault, NamesRefusal, NamesBudget, MayBeSearched, IsRunStatus};
 ghost use Rattle.tl_command.specs.Deciding.{AreSoundWith};
 
 use tl_record::{Sink, Source};
@@ -27,13 +27,13 @@ pub fn what_was_built_passes<S: Source, W: Sink, E: Sink>()
     ensures status { (layout : Layout) (text spelt : List ℕ) (status : ℕ) (cert_old cert_new : S) (out_old out_new : W)
         (err_old err_new : E) →
         AreSoundWith layout text spelt → IsRunStatus status →
-        (status ≡ MAP_FAULT → NamesFault layout (Some text) (cert_new ≡ cert_old)
+        (status ≡ MAP_FAULT → NamesFault layout (Some text) (cert_new ≡ cert_old) (MayBeSearched layout (Some text) (Some spelt))
         (Writes W.contents W.failure_count out_old out_new)) →
         (status ≡ CERT_FAULT → NamesCertFault layout (Some text) (Some spelt)
         (Writes W.contents W.failure_count out_old out_new)) →
         (status ≡ REFUSED → NamesRefusal layout (Some text) (TriesToWrite E.contents E.failure_count err_old err_new)) →
         (status ≡ DONE) ⊎ (status ≡ STOPPED) }
-    ensures budget { (layout : Layout) (text : List ℕ) (budget : ℕ) (err_old err_new : E) →
+    ensures budget { (layout : Layout) (text : List ℕ) (spelt : Option (List ℕ)) (budget : ℕ) (err_old err_new : E) →
         HaveMap (records_of layout text) (λ m. meeting_segments m.chains ≤ budget) →
-        ¬ NamesBudget layout budget (Some text) (TriesToWrite E.contents E.failure_count err_old err_new) }
+        ¬ NamesBudget layout budget (Some text) spelt (TriesToWrite E.contents E.failure_count err_old err_new) }
 {}

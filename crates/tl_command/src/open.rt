@@ -424,7 +424,8 @@ pub fn run_on_readers<F: Source + Drop, S: Source, C: Sink, W: Sink, E: Sink>(
         → IsAnswered plan.now (joined_bytes F.remaining false readers.old.items) (S.remaining cert.old)
         (Writes C.contents C.failure_count made.old made.new) (Writes W.contents W.failure_count out.old out.new) }
     ensures fault { result ≡ MAP_FAULT
-        → FaultsMap plan.now (joined_bytes F.remaining false readers.old.items) (cert.new ≡ cert.old)
+        → FaultsMap plan.now (joined_bytes F.remaining false readers.old.items) (S.remaining cert.old)
+        (cert.new ≡ cert.old)
         (Writes W.contents W.failure_count out.old out.new) }
     ensures exactly { (result ≡ DONE) ⊎ (result ≡ MAP_FAULT)
         → IsExact plan.now (joined_bytes F.remaining false readers.old.items) result }
@@ -436,7 +437,7 @@ pub fn run_on_readers<F: Source + Drop, S: Source, C: Sink, W: Sink, E: Sink>(
         (TriesToWrite E.contents E.failure_count err.old err.new) }
     // Of a device only where a read of one of the readers or of the certificate failed, or a write.
     ensures stopped { result ≡ STOPPED
-        → StopsRun plan.now (joined_bytes F.remaining false readers.old.items)
+        → StopsRun plan.now (joined_bytes F.remaining false readers.old.items) (S.remaining cert.old)
         (TriesToWrite E.contents E.failure_count err.old err.new)
         ((FailsToRead (failures_of F.failure_count) readers.old.items readers.new.items
         ⊎ FailsToRead S.failure_count cert.old cert.new)

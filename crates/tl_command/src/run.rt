@@ -53,7 +53,7 @@ pub fn run<R: Source, S: Source, C: Sink, W: Sink, E: Sink>(
     // The output grew by the line of a fault that is true of the records or of their map. Where the records have no map,
     // nothing of the certificate was read.
     ensures fault { result ≡ MAP_FAULT
-        → FaultsMap plan.now (R.remaining records.old) (cert.new ≡ cert.old)
+        → FaultsMap plan.now (R.remaining records.old) (S.remaining cert.old) (cert.new ≡ cert.old)
         (Writes W.contents W.failure_count out.old out.new) }
     // Of `audit`, `build` and `check`: a status of 0 or 1 is 0 exactly where the records have a map that is sound.
     ensures exactly { (result ≡ DONE) ⊎ (result ≡ MAP_FAULT)
@@ -69,7 +69,8 @@ pub fn run<R: Source, S: Source, C: Sink, W: Sink, E: Sink>(
     // memory and of a spent budget only where none did, and of a budget only where more pairs of segments have rectangles
     // that meet.
     ensures stopped { result ≡ STOPPED
-        → StopsRun plan.now (R.remaining records.old) (TriesToWrite E.contents E.failure_count err.old err.new)
+        → StopsRun plan.now (R.remaining records.old) (S.remaining cert.old)
+        (TriesToWrite E.contents E.failure_count err.old err.new)
         ((FailsToRead R.failure_count records.old records.new ⊎ FailsToRead S.failure_count cert.old cert.new)
         ⊎ (FailsToWrite C.failure_count made.old made.new ⊎ FailsToWrite W.failure_count out.old out.new))
         ((CountStays R.failure_count records.old records.new × CountStays S.failure_count cert.old cert.new)

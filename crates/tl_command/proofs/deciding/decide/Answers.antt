@@ -16,13 +16,13 @@ returns-in-Ok-clause-checked g c = λ done.
 pub returns-in-Ok-clause-map_fault : goal.returns-in-Ok-clause-map_fault
 returns-in-Ok-clause-map_fault g c = λ fault.
     let status = told_status c.tell_verdict.result MAP_FAULT c.in-Ok.verdict c.tell_verdict.ensures.status fault (λ e. cc e) in
-    names_fault (layout_with c.args.options) _ _ _ c.check_with.result c.in-Ok.verdict c.in-Ok.is c.check_with.ensures.map_fault c.check_with.ensures.unread
+    names_fault (layout_with c.args.options) _ _ _ _ c.check_with.result c.in-Ok.verdict c.in-Ok.is c.check_with.ensures.map_fault c.check_with.ensures.unread c.check_with.ensures.searched
     (sym fault ∙ status) (c.tell_verdict.ensures.told status)
 
 pub returns-in-Ok-clause-cert_fault : goal.returns-in-Ok-clause-cert_fault
 returns-in-Ok-clause-cert_fault g c = λ fault.
     let status = told_status c.tell_verdict.result CERT_FAULT c.in-Ok.verdict c.tell_verdict.ensures.status fault (λ e. cc e) in
-    names_cert_fault (layout_with c.args.options) _ _ _ c.check_with.result c.in-Ok.verdict c.in-Ok.is c.check_with.ensures.cert_fault
+    names_cert_fault (layout_with c.args.options) _ _ _ c.check_with.result c.in-Ok.verdict c.in-Ok.is c.check_with.ensures.cert_fault c.check_with.ensures.behind
     (sym fault ∙ status) (c.tell_verdict.ensures.told status)
 
 pub returns-in-Err-clause-status : goal.returns-in-Err-clause-status
@@ -45,7 +45,7 @@ returns-in-Err-clause-unread g c = check_unread c.in-Err.stop _ _ c.in-Err.ensur
 
 pub returns-in-Err-clause-stopped : goal.returns-in-Err-clause-stopped
 returns-in-Err-clause-stopped g c =
-    check_stopped (layout_with c.args.options) c.args.budget _ c.in-Err.stop _ _ _ _ _ (TriesToWrite g.E.Sink.contents g.E.Sink.failure_count c.args.err.now c.stopped.new.err) _ _ c.in-Err.ensures.stops c.in-Err.ensures.failures refl c.stopped.ensures
+    check_stopped (layout_with c.args.options) c.args.budget _ _ c.in-Err.stop _ _ _ _ _ (TriesToWrite g.E.Sink.contents g.E.Sink.failure_count c.args.err.now c.stopped.new.err) _ _ c.in-Err.ensures.stops c.in-Err.ensures.searched c.in-Err.ensures.failures refl c.stopped.ensures
 
 pub returns-in-Err-clause-records_whole : goal.returns-in-Err-clause-records_whole
 returns-in-Err-clause-records_whole g c = λ going. (check_whole c.in-Err.stop _ _ _ _ _ c.in-Err.ensures.failures c.stopped.ensures.0 going).0

@@ -16,7 +16,7 @@ returns g c =
     let unmade = run.made (check_makes_none c.args.plan.now (string_bytes c.args.name.now) c.requires.plan) in
     over_check c.args.plan.now (string_bytes c.args.name.now) (g.F.FileSystem.under c.args.files.now) _ _ c.run_on_readers.result _ _ _ _ _ _ _ _ c.requires.plan c.requires.known c.in-Ok.ensures.bytes run.status run.answered
     run.fault run.exactly run.cert_fault run.refused
-    (λ e. weaker_stop c.args.plan.now _ (TriesToWrite g.E.Sink.contents g.E.Sink.failure_count c.args.err.now new.err) _ _ _ _ (λ failed. elim failed [
+    (λ e. weaker_stop c.args.plan.now _ _ (TriesToWrite g.E.Sink.contents g.E.Sink.failure_count c.args.err.now new.err) _ _ _ _ (λ failed. elim failed [
       | inl read ↦ inl (inr (inl (elim read [
         | inl records ↦ inr (c.args.readers.items, new.readers.items, records)
         | inr cert ↦ inl (c.in-Ok.cert.source, new.cert.source, cert)
