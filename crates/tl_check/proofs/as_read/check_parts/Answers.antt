@@ -224,3 +224,24 @@ pub conclude-requires-clause-held : goal.conclude-requires-clause-held
 conclude-requires-clause-held g c =
     let st = c.parts.invariant.stands in
     (st.cert, st.holds, c.parts.invariant.tree ∙ sym c.deref-in-Ok-None.ensures.value)
+
+pub returns-in-Err-clause-same_reference : goal.returns-in-Err-clause-same_reference
+returns-in-Err-clause-same_reference g c = c.next_part.ensures.same_reference
+
+pub returns-in-Err-next_part-clause-same_reference : goal.returns-in-Err-next_part-clause-same_reference
+returns-in-Err-next_part-clause-same_reference g c = c.next_part-2.ensures.same_reference ∙ c.next_part.ensures.same_reference
+
+pub returns-in-Err-take_tree-clause-same_reference : goal.returns-in-Err-take_tree-clause-same_reference
+returns-in-Err-take_tree-clause-same_reference g c = c.next_part-2.ensures.same_reference ∙ c.next_part.ensures.same_reference
+
+pub returns-in-Err-end_rounds-clause-same_reference : goal.returns-in-Err-end_rounds-clause-same_reference
+returns-in-Err-end_rounds-clause-same_reference g c = c.next_part-in-parts.ensures.same_reference ∙ c.parts.invariant.same
+
+pub returns-in-Err-take_walk-clause-same_reference : goal.returns-in-Err-take_walk-clause-same_reference
+returns-in-Err-take_walk-clause-same_reference g c = c.next_part-in-parts.ensures.same_reference ∙ c.parts.invariant.same
+
+pub returns-in-Err-next_part-2-clause-same_reference : goal.returns-in-Err-next_part-2-clause-same_reference
+returns-in-Err-next_part-2-clause-same_reference g c = c.next_part-in-parts.ensures.same_reference ∙ c.parts.invariant.same
+
+pub returns-in-Ok-None-clause-same_reference : goal.returns-in-Ok-None-clause-same_reference
+returns-in-Ok-None-clause-same_reference g c = c.next_part-in-parts.ensures.same_reference ∙ c.parts.invariant.same
