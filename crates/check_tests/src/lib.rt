@@ -1,6 +1,6 @@
 //! Worked examples of verdicts, of certificates that are built, and of the searches below them, with answers from outside;
-//! indexes beside one another; reads that give one byte or fail; and the line of each stop. They stand beside the
-//! libraries, so that these are proved once and not once more with their tests.
+//! indexes beside one another; reads that give one byte or fail; runs of the program over files in memory; and the line of
+//! each stop. They stand beside the libraries, so that these are proved once and not once more with their tests.
 #![tactic(auto)]
 
 #[cfg(test)]
@@ -11,6 +11,8 @@ mod maps;
 mod parts;
 #[cfg(test)]
 mod reads;
+#[cfg(test)]
+mod runs;
 #[cfg(test)]
 mod stops;
 #[cfg(test)]

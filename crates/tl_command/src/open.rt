@@ -409,7 +409,8 @@ fn open_certificate<F: FileSystem>(
 }
 
 /// Does what the plan asks over these readers, which are read one after the other as one text, and gives the program's
-/// exit status. Where the bytes of each reader are known, so is that text, and all that [`run`] promises holds of it.
+/// exit status. Where the bytes of each reader are known, so is that text, and all that [`run`] promises holds of it. The
+/// readers are left as far as they were read.
 pub fn run_on_readers<F: Source + Drop, S: Source, C: Sink, W: Sink, E: Sink>(
     alloc: Global,
     plan: &Plan,
