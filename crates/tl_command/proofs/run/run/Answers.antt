@@ -47,3 +47,138 @@ returns-in-Build-clause-stopped g c = λ e. elim (c.build.ensures.stopped e) [
   | inl memory ↦ inl (inl (memory.0, ((memory.1.0, refl), memory.1.1)))
   | inr device ↦ inl (inr (device.0, elim device.1 [ inl r ↦ inl (inl r) | inr w ↦ inr w ]))
 ]
+
+pub returns-in-Check-clause-read_whole : goal.returns-in-Check-clause-read_whole
+returns-in-Check-clause-read_whole g c = c.decide.ensures.records_whole
+
+pub returns-in-Check-clause-cert_whole : goal.returns-in-Check-clause-cert_whole
+returns-in-Check-clause-cert_whole g c = c.decide.ensures.cert_whole
+
+pub returns-in-Check-clause-err_stays : goal.returns-in-Check-clause-err_stays
+returns-in-Check-clause-err_stays g c = c.decide.ensures.err_stays
+
+pub returns-in-Check-clause-out_stays : goal.returns-in-Check-clause-out_stays
+returns-in-Check-clause-out_stays g c = c.decide.ensures.out_stays
+
+pub returns-in-Check-clause-unread : goal.returns-in-Check-clause-unread
+returns-in-Check-clause-unread g c = c.decide.ensures.unread
+
+pub returns-in-Check-clause-made : goal.returns-in-Check-clause-made
+returns-in-Check-clause-made g c = λ e. refl
+
+pub returns-in-Check-clause-unmade : goal.returns-in-Check-clause-unmade
+returns-in-Check-clause-unmade g c = λ e. refl
+
+pub returns-in-Check-clause-begun : goal.returns-in-Check-clause-begun
+returns-in-Check-clause-begun g c = λ e. inl refl
+
+pub returns-in-Check-clause-status : goal.returns-in-Check-clause-status
+returns-in-Check-clause-status g c = c.decide.ensures.status
+
+pub returns-in-Check-clause-answered : goal.returns-in-Check-clause-answered
+returns-in-Check-clause-answered g c = rw c.in-Check.is c.decide.ensures.checked
+
+pub returns-in-Check-clause-fault : goal.returns-in-Check-clause-fault
+returns-in-Check-clause-fault g c = rw c.in-Check.is c.decide.ensures.map_fault
+
+pub returns-in-Check-clause-cert_fault : goal.returns-in-Check-clause-cert_fault
+returns-in-Check-clause-cert_fault g c = rw c.in-Check.is c.decide.ensures.cert_fault
+
+pub returns-in-Check-clause-refused : goal.returns-in-Check-clause-refused
+returns-in-Check-clause-refused g c = rw c.in-Check.is c.decide.ensures.refused
+
+pub returns-in-Audit-clause-read_whole : goal.returns-in-Audit-clause-read_whole
+returns-in-Audit-clause-read_whole g c = c.audit.ensures.read_whole
+
+pub returns-in-Audit-clause-out_stays : goal.returns-in-Audit-clause-out_stays
+returns-in-Audit-clause-out_stays g c = c.audit.ensures.out_stays
+
+pub returns-in-Audit-clause-cert_whole : goal.returns-in-Audit-clause-cert_whole
+returns-in-Audit-clause-cert_whole g c = λ e. refl
+
+pub returns-in-Audit-clause-cert : goal.returns-in-Audit-clause-cert
+returns-in-Audit-clause-cert g c = λ e. refl
+
+pub returns-in-Audit-clause-made : goal.returns-in-Audit-clause-made
+returns-in-Audit-clause-made g c = λ e. refl
+
+pub returns-in-Audit-clause-unread : goal.returns-in-Audit-clause-unread
+returns-in-Audit-clause-unread g c = λ e. refl
+
+pub returns-in-Audit-clause-unmade : goal.returns-in-Audit-clause-unmade
+returns-in-Audit-clause-unmade g c = λ e. refl
+
+pub returns-in-Audit-clause-begun : goal.returns-in-Audit-clause-begun
+returns-in-Audit-clause-begun g c = λ e. inl refl
+
+pub returns-in-Audit-clause-answered : goal.returns-in-Audit-clause-answered
+returns-in-Audit-clause-answered g c = rw c.in-Audit.is c.audit.ensures.audited
+
+pub returns-in-Audit-clause-fault : goal.returns-in-Audit-clause-fault
+returns-in-Audit-clause-fault g c = rw c.in-Audit.is c.audit.ensures.fault
+
+pub returns-in-Audit-clause-refused : goal.returns-in-Audit-clause-refused
+returns-in-Audit-clause-refused g c = rw c.in-Audit.is c.audit.ensures.refused
+
+pub returns-in-Build-clause-read_whole : goal.returns-in-Build-clause-read_whole
+returns-in-Build-clause-read_whole g c = c.build.ensures.read_whole
+
+pub returns-in-Build-clause-out_stays : goal.returns-in-Build-clause-out_stays
+returns-in-Build-clause-out_stays g c = c.build.ensures.out_stays
+
+pub returns-in-Build-clause-cert_whole : goal.returns-in-Build-clause-cert_whole
+returns-in-Build-clause-cert_whole g c = λ e. refl
+
+pub returns-in-Build-clause-cert : goal.returns-in-Build-clause-cert
+returns-in-Build-clause-cert g c = λ e. refl
+
+pub returns-in-Build-clause-unread : goal.returns-in-Build-clause-unread
+returns-in-Build-clause-unread g c = λ e. refl
+
+pub returns-in-Build-clause-answered : goal.returns-in-Build-clause-answered
+returns-in-Build-clause-answered g c = rw c.in-Build.is c.build.ensures.built
+
+pub returns-in-Build-clause-fault : goal.returns-in-Build-clause-fault
+returns-in-Build-clause-fault g c = rw c.in-Build.is c.build.ensures.fault
+
+pub returns-in-Build-clause-refused : goal.returns-in-Build-clause-refused
+returns-in-Build-clause-refused g c = rw c.in-Build.is c.build.ensures.refused
+
+pub returns-in-Convert-clause-cert_whole : goal.returns-in-Convert-clause-cert_whole
+returns-in-Convert-clause-cert_whole g c = c.convert.ensures.read_whole
+
+pub returns-in-Convert-clause-read_whole : goal.returns-in-Convert-clause-read_whole
+returns-in-Convert-clause-read_whole g c = λ e. refl
+
+pub returns-in-Convert-clause-records : goal.returns-in-Convert-clause-records
+returns-in-Convert-clause-records g c = λ e. refl
+
+pub returns-in-Convert-clause-answered : goal.returns-in-Convert-clause-answered
+returns-in-Convert-clause-answered g c = rw c.in-Convert.is c.convert.ensures.converted
+
+pub returns-in-Convert-clause-cert_fault : goal.returns-in-Convert-clause-cert_fault
+returns-in-Convert-clause-cert_fault g c = rw c.in-Convert.is c.convert.ensures.fault
+
+pub returns-in_default-clause-read_whole : goal.returns-in_default-clause-read_whole
+returns-in_default-clause-read_whole g c = c.run_on_records.ensures.read_whole
+
+pub returns-in_default-clause-out_stays : goal.returns-in_default-clause-out_stays
+returns-in_default-clause-out_stays g c = c.run_on_records.ensures.out_stays
+
+pub returns-in_default-clause-cert_whole : goal.returns-in_default-clause-cert_whole
+returns-in_default-clause-cert_whole g c = λ e. refl
+
+pub returns-in_default-clause-cert : goal.returns-in_default-clause-cert
+returns-in_default-clause-cert g c = λ e. refl
+
+pub returns-in_default-clause-made : goal.returns-in_default-clause-made
+returns-in_default-clause-made g c = λ e. refl
+
+pub returns-in_default-clause-unread : goal.returns-in_default-clause-unread
+returns-in_default-clause-unread g c = λ e. refl
+
+pub returns-in_default-clause-unmade : goal.returns-in_default-clause-unmade
+returns-in_default-clause-unmade g c = λ e. refl
+
+pub returns-in_default-clause-begun : goal.returns-in_default-clause-begun
+returns-in_default-clause-begun g c = λ e. inl refl
