@@ -1,8 +1,6 @@
 -- What comes of writing a certificate in version 2, and of telling it.
-use Rattle.std.proofs.Common.{◌≡◌, ◌≢◌, ◌⊎◌, inl, inr, ℕ, List, Option, Some, Result, Ok, Err, length, sym, subst, ap, ◌∙◌}
-use Rattle.std.specs.Bool.{⊤}
+use Rattle.std.proofs.Common.{◌≡◌, ◌≢◌, ◌⊎◌, inl, inr, ℕ, List, Option, Result, Ok, Err, length, sym, subst, ap, ◌∙◌}
 use Rattle.std.specs.Option.{IfSome}
-use Rattle.tl_output.specs.Writing.{line_of}
 use Rattle.tl_cert.specs.declared.stop.CertStop.{CertStop}
 use Rattle.tl_cert.specs.declared.stop.CertStop.TheVariants.{Text, Memory, Device}
 use Rattle.tl_cert.specs.Certificates.{TheCertificate, IsCertificate}
@@ -10,7 +8,6 @@ use Rattle.tl_cert.specs.Text.{certificate_text}
 use Rattle.tl_cert.specs.Beginnings.{IsTextOf}
 use Rattle.tl_command.specs.declared.convert.Converted.{Converted}
 use Rattle.tl_command.specs.declared.stop.TheConstants.{DONE, CERT_FAULT, STOPPED}
-use Rattle.tl_command.specs.Certificates.{counts_text, converted_text}
 use Rattle.tl_command.specs.Running.{IsConverted, NamesBadLine, NamesStop}
 use Rattle.tl_command.specs.Making.{Rewrites, BeginsRewritten, KeepsText, KeepsCertCount, TellsConverted}
 

@@ -4,7 +4,6 @@ use Rattle.std.specs.Bool.{⊤}
 use Rattle.std.specs.Option.{IfSome}
 use Rattle.tl_record.specs.declared.layout.Layout.{Layout}
 use Rattle.tl_record.specs.Records.{records_of}
-use Rattle.tl_map.specs.declared.fault.MapStop.TheVariants as map_stop
 use Rattle.std.proofs.lemmas.List.{take_all}
 use Rattle.tl_output.specs.Writing.{Writes}
 use Rattle.tl_county.specs.TheMap.{TheMap}

@@ -1,5 +1,5 @@
 -- What is told of a stop.
-use Rattle.std.proofs.Common.{◌≡◌, ◌≢◌, ◌⊎◌, inl, inr, ℕ, List, Option, Err, refl, sym, ◌∙◌}
+use Rattle.std.proofs.Common.{◌≡◌, ◌≢◌, ◌⊎◌, inl, inr, ℕ, List, Option, Err, sym, ◌∙◌}
 use Rattle.std.specs.Option.{IfSome}
 use Rattle.tl_record.specs.Failures.{one_more}
 use Rattle.tl_record.specs.declared.layout.Layout.{Layout}
@@ -9,7 +9,7 @@ use Rattle.tl_check.specs.declared.stop.Stop.TheVariants.{Record, Memory, Device
 use Rattle.tl_check.specs.Records.{MayStopOn, TellsEither, LeavesUnread}
 use Rattle.tl_check.specs.Verdicts.{OnSearched}
 use Rattle.tl_plan.specs.declared.plan.Plan.{Plan}
-use Rattle.tl_command.specs.declared.stop.TheConstants.{DONE, MAP_FAULT, CERT_FAULT, REFUSED, STOPPED}
+use Rattle.tl_command.specs.declared.stop.TheConstants.{REFUSED, STOPPED}
 use Rattle.tl_command.specs.Running.{NamesStop, NamesBudget, NamesRefusal, StopsRun, MayBeSearched, IsRunStatus, IsTold, status_of}
 
 -- the same stop, of less that failed and of less that didn't

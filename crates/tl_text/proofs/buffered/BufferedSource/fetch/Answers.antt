@@ -1,4 +1,4 @@
-use Rattle.std.proofs.Common.{◌≡◌, ◌+◌, ◌-◌, ◌<◌, ◌≤◌, min, [], length, take, drop, slice_range, sym, ap, ◌∙◌, arith, length-take, length-drop}
+use Rattle.std.proofs.Common.{◌≡◌, ◌-◌, ◌<◌, min, [], length, take, drop, slice_range, ap, ◌∙◌, arith, length-take, length-drop}
 use Rattle.std.proofs.KnownBytes.{prepend_known-read}
 use Rattle.tl_text.proofs.JoiningLemmas.{advance, given, none_held}
 use Rattle.tl_text.proofs.buffered.BufferedSource.fetch.Goals as goal
