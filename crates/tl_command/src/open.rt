@@ -21,6 +21,7 @@ use crate::convert::{rewrite, tell_converted};
 use crate::run::run;
 use crate::stop::{DONE, Stop, USAGE, stopped};
 use std::alloc::Global;
+use std::hash::RandomState;
 use std::io::{BufReader, ErrorKind, Read};
 use std::{io, slice};
 use tl_files::{FileSystem, Room};
@@ -41,6 +42,7 @@ const IS_READ: &[u8] = b"OUT is one of the files that are read\n";
 pub fn start<F: FileSystem, W: Sink, E: Sink>(
     files: &mut F,
     alloc: Global,
+    hasher: RandomState,
     words: &[String],
     out: &mut W,
     err: &mut E,
@@ -77,7 +79,7 @@ pub fn start<F: FileSystem, W: Sink, E: Sink>(
     ensures files { KeepsSome (map string_bytes words.now) result (F.under files.old) (F.under files.new) }
 {
     match words::plan(alloc, words) {
-        Ok(plan) => open_and_run(files, alloc, &plan, out, err),
+        Ok(plan) => open_and_run(files, alloc, hasher, &plan, out, err),
         Err(PlanStop::Memory) => stopped(&Stop::Memory, err),
         Err(PlanStop::Usage(text)) => say_usage(&text, err),
         Err(PlanStop::Help(text)) => say_help(&text, out, err),
@@ -114,6 +116,7 @@ fn say_help<W: Sink, E: Sink>(text: &String, out: &mut W, err: &mut E) -> u8
 pub fn open_and_run<F: FileSystem, W: Sink, E: Sink>(
     files: &mut F,
     alloc: Global,
+    hasher: RandomState,
     plan: &Plan,
     out: &mut W,
     err: &mut E,
@@ -135,12 +138,16 @@ pub fn open_and_run<F: FileSystem, W: Sink, E: Sink>(
             out,
             err,
         ),
-        Plan::Check { cert, .. } => open_and_check(&*files, alloc, plan, readers, cert, out, err),
+        Plan::Check { cert, .. } => open_and_check(
+            &*files, alloc, hasher, plan, readers, cert, out, err,
+        ),
         Plan::Build { made, options, .. } => {
-            open_and_build(files, alloc, plan, readers, made, *options, out, err)
+            open_and_build(
+                files, alloc, hasher, plan, readers, made, *options, out, err,
+            )
         }
         Plan::Show { .. } | Plan::Landmarks { .. } | Plan::Locate { .. } | Plan::Audit { .. } =>
-            run_plainly(&*files, alloc, plan, readers, out, err),
+            run_plainly(&*files, alloc, hasher, plan, readers, out, err),
     }
 }
 
@@ -148,6 +155,7 @@ pub fn open_and_run<F: FileSystem, W: Sink, E: Sink>(
 fn run_plainly<F: FileSystem, W: Sink, E: Sink>(
     files: &F,
     alloc: Global,
+    hasher: RandomState,
     plan: &Plan,
     readers: Vec<F::Reader>,
     out: &mut W,
@@ -162,13 +170,14 @@ fn run_plainly<F: FileSystem, W: Sink, E: Sink>(
 {
     let mut cert = Meter::new(io::empty());
     let mut made = MeterOut::new(io::sink());
-    run_on_readers(alloc, plan, readers, &mut cert, &mut made, out, err)
+    run_on_readers(alloc, hasher, plan, readers, &mut cert, &mut made, out, err)
 }
 
 // Opens the certificate that is read, and decides by it.
 fn open_and_check<F: FileSystem, W: Sink, E: Sink>(
     files: &F,
     alloc: Global,
+    hasher: RandomState,
     plan: &Plan,
     readers: Vec<F::Reader>,
     name: &String,
@@ -186,13 +195,14 @@ fn open_and_check<F: FileSystem, W: Sink, E: Sink>(
         Err(stop) => return stopped(&stop, err),
     };
     let mut made = MeterOut::new(io::sink());
-    run_on_readers(alloc, plan, readers, &mut cert, &mut made, out, err)
+    run_on_readers(alloc, hasher, plan, readers, &mut cert, &mut made, out, err)
 }
 
 // Makes a certificate where it may take its name.
 fn open_and_build<F: FileSystem, W: Sink, E: Sink>(
     files: &mut F,
     alloc: Global,
+    hasher: RandomState,
     plan: &Plan,
     readers: Vec<F::Reader>,
     name: &String,
@@ -207,7 +217,7 @@ fn open_and_build<F: FileSystem, W: Sink, E: Sink>(
         (TriesToWrite E.contents E.failure_count err.old err.new) (out.new ≡ out.old) (err.new ≡ err.old) }
 {
     match room_for(&*files, name, plan.files()) {
-        Ok(Room::Free) => build_into(files, alloc, plan, readers, name, options, out, err),
+        Ok(Room::Free) => build_into(files, alloc, hasher, plan, readers, name, options, out, err),
         Ok(Room::Taken) => say_refusal(TAKEN, err),
         Ok(Room::IsRead) => say_refusal(IS_READ, err),
         Err(stop) => stopped(&stop, err),
@@ -218,6 +228,7 @@ fn open_and_build<F: FileSystem, W: Sink, E: Sink>(
 fn build_into<F: FileSystem, W: Sink, E: Sink>(
     files: &mut F,
     alloc: Global,
+    hasher: RandomState,
     plan: &Plan,
     readers: Vec<F::Reader>,
     name: &String,
@@ -238,7 +249,7 @@ fn build_into<F: FileSystem, W: Sink, E: Sink>(
         Ok(draft) => draft,
         Err(error) => return stopped(&stop_of(&error), err),
     };
-    let making = make(alloc, &mut records, &mut draft, options);
+    let making = make(alloc, hasher, &mut records, &mut draft, options);
     match settle(files, alloc, draft, name, is_made(&making)) {
         Some(stop) => stopped(&stop, err),
         None => tell_making(&making, out, err),
@@ -380,6 +391,7 @@ fn open_certificate<F: FileSystem>(
 /// exit status. Where the bytes of each reader are known, so is that text, and all that [`run`] promises holds of it.
 pub fn run_on_readers<F: Read + Drop, S: Source, C: Sink, W: Sink, E: Sink>(
     alloc: Global,
+    hasher: RandomState,
     plan: &Plan,
     readers: Vec<F>,
     cert: &mut S,
@@ -418,7 +430,7 @@ pub fn run_on_readers<F: Read + Drop, S: Source, C: Sink, W: Sink, E: Sink>(
     let Ok(mut records) = joined_source(alloc, readers) else {
         return stopped(&Stop::Memory, err);
     };
-    run(alloc, plan, &mut records, cert, made, out, err)
+    run(alloc, hasher, plan, &mut records, cert, made, out, err)
 }
 
 // A source of the readers' joined text.
