@@ -38,10 +38,12 @@ NAMES = {
     "grid": "a grid of squares",
     "nested": "islands of one polygon",
     "keys": "ordinary keys",
-    "hostile": "hostile keys",
+    "hostile": "keys against a fixed seed",
+    "sip": "keys against SipHash without keys",
 }
 MAKERS = {"streets": ["make_records.py"], "county": ["county.py"], "shuffled": ["county.py", "--shuffled"],
-          "grid": ["grid.py"], "nested": ["nested.py"], "keys": ["keys.py"], "hostile": ["keys.py", "--hostile"]}
+          "grid": ["grid.py"], "nested": ["nested.py"], "keys": ["keys.py"], "hostile": ["keys.py", "--hostile", "fixed"],
+          "sip": ["keys.py", "--hostile", "zero"]}
 
 
 def files_of(chains, kind):
@@ -247,7 +249,7 @@ def main():
     words = parser.parse_args()
     kinds = words.kinds.split(",")
     parts = [("streets", words.sizes), ("county", words.counties), ("shuffled", words.counties)]
-    parts += [("keys", words.keys), ("hostile", words.keys)]
+    parts += [("keys", words.keys), ("hostile", words.keys), ("sip", words.keys)]
     parts = [(kind, sizes) for kind, sizes in parts if kind in kinds]
     decided = [(chains, kind) for kind in ("county", "shuffled", "grid", "nested") for chains in numbers(words.decided)]
     decided = [(chains, kind) for chains, kind in decided if kind in kinds]

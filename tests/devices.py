@@ -1,9 +1,10 @@
 #!/usr/bin/env python3
-"""Fails each read and each write of the built program in its turn, and looks for an answer that isn't what it has to be.
+"""Fails each read and each write of the built program in its turn, and the keys that it asks of the system for its hasher,
+and looks for an answer that isn't what it has to be.
 
 usage: devices.py [PROGRAM]
 
-With a read that fails, interrupted or not, the program has to answer `stopped Device` with status 4 and print nothing else,
+With a read that fails, interrupted or not, and where there are no keys, the program has to answer `stopped Device` with status 4 and print nothing else,
 and to leave a file as it is over which it is to make a certificate. With a write that fails, interrupted or not, or takes
 no byte, it has to say the same, behind a beginning of what it prints otherwise, and that file is as it was or holds the
 whole certificate; with one that takes a single byte it has to answer as ever. It needs a C compiler, cc, and
@@ -45,7 +46,7 @@ FAIL = r"""
 #include <sys/syscall.h>
 #include <unistd.h>
 
-static long failed_read, interrupted_read, failed_write, interrupted_write, empty_write, short_write, told;
+static long failed_read, interrupted_read, failed_keys, failed_write, interrupted_write, empty_write, short_write, told;
 
 static long number(const char *name) {
     const char *which = getenv(name);
@@ -55,6 +56,7 @@ static long number(const char *name) {
 __attribute__((constructor)) static void begin(void) {
     failed_read = number("FAILED_READ");
     interrupted_read = number("INTERRUPTED_READ");
+    failed_keys = number("FAILED_KEYS");
     failed_write = number("FAILED_WRITE");
     interrupted_write = number("INTERRUPTED_WRITE");
     empty_write = number("EMPTY_WRITE");
@@ -73,6 +75,11 @@ ssize_t read(int file, void *bytes, size_t count) {
     if (is_it(&failed_read)) return errno = EIO, -1;
     if (is_it(&interrupted_read)) return errno = EINTR, -1;
     return syscall(SYS_read, file, bytes, count);
+}
+
+int getentropy(void *bytes, size_t count) {
+    if (is_it(&failed_keys)) return errno = EIO, -1;
+    return syscall(SYS_getrandom, bytes, count, 0) == (long)count ? 0 : -1;
 }
 
 ssize_t write(int file, const void *bytes, size_t count) {
@@ -100,8 +107,8 @@ def is_usual(answer, left, usual, whole):
     return (answer, left) == (usual, whole)
 
 
-KINDS = {"FAILED_READ": is_stopped_at_once, "INTERRUPTED_READ": is_stopped_at_once, "FAILED_WRITE": is_stopped,
-         "INTERRUPTED_WRITE": is_stopped, "EMPTY_WRITE": is_stopped, "SHORT_WRITE": is_usual}
+KINDS = {"FAILED_READ": is_stopped_at_once, "INTERRUPTED_READ": is_stopped_at_once, "FAILED_KEYS": is_stopped_at_once,
+         "FAILED_WRITE": is_stopped, "INTERRUPTED_WRITE": is_stopped, "EMPTY_WRITE": is_stopped, "SHORT_WRITE": is_usual}
 
 
 # A file that isn't there, a folder, and a file that can be opened and of which no byte can be read.
@@ -122,7 +129,7 @@ class Count:
 
 
 def play_calls(count, ask, runs):
-    """Fails each read and each write in its turn."""
+    """Fails each read and each write in its turn, and the keys of the hasher."""
     for words in runs:
         usual, whole, _ = ask(words, 0, "FAILED_READ")
         for kind, is_well in KINDS.items():

@@ -10,6 +10,7 @@ mod stop;
 use crate::stop::Stop;
 use std::env;
 use std::fs::File;
+use std::hash::RandomState;
 use std::io::BufReader;
 use std::time::{Duration, Instant};
 use tl_build::{Built, build};
@@ -35,7 +36,8 @@ fn read_records(rt: &HostRuntime, name: &str) -> anyhow::Result<Map> {
     let file = File::open(rt, name)?;
     let begun = Instant::now(rt)?;
     let mut source = Meter::new(BufReader::with_capacity(rt.alloc(), INPUT_BUFFER, file)?);
-    let map = read_map(rt.alloc(), &mut source).map_err(|stop| Stop::Records(stop))?;
+    let hasher = RandomState::new(rt)?;
+    let map = read_map(rt.alloc(), hasher, &mut source).map_err(|stop| Stop::Records(stop))?;
     tell(rt, "records read", begun.elapsed(rt)?)?;
     Ok(map)
 }

@@ -6,6 +6,8 @@
 #[cfg(test)]
 mod indexes;
 #[cfg(test)]
+mod keys;
+#[cfg(test)]
 mod maps;
 #[cfg(test)]
 mod parts;

@@ -1,5 +1,6 @@
 //! The records of small maps, and certificates.
 
+use crate::keys::fixed_keys;
 use std::alloc::Global;
 use tl_county::Map;
 use tl_map::read_map;
@@ -7,7 +8,12 @@ use tl_record::Meter;
 
 /// The map of records.
 pub fn map_of(alloc: Global, records: &str) -> Option<Map> {
-    read_map(alloc, &mut Meter::new(records.as_bytes())).ok()
+    read_map(
+        alloc,
+        fixed_keys().ok()?,
+        &mut Meter::new(records.as_bytes()),
+    )
+    .ok()
 }
 
 /// A square of polygon 1.

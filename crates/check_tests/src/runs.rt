@@ -1,7 +1,9 @@
 //! Runs of the program over files in memory.
 
+use crate::keys::fixed_keys;
 use crate::maps::SQUARE;
 use std::alloc::{AllocError, Global};
+use std::io;
 use tl_command::open::start;
 use tl_files::FilesInMemory;
 use tl_record::MeterOut;
@@ -24,7 +26,7 @@ impl Ran {
 }
 
 /// Does what these words ask.
-fn run(files: &mut FilesInMemory, alloc: Global, words: &[&str]) -> Result<Ran, AllocError> {
+fn run(files: &mut FilesInMemory, alloc: Global, words: &[&str]) -> io::Result<Ran> {
     let mut texts = Vec::new(alloc);
     for word in words {
         texts.push(String::from_str(alloc, word)?)?;
@@ -34,6 +36,7 @@ fn run(files: &mut FilesInMemory, alloc: Global, words: &[&str]) -> Result<Ran, 
     let status = start(
         files,
         alloc,
+        fixed_keys()?,
         texts.as_slice(),
         &mut MeterOut::new(&mut out),
         &mut MeterOut::new(&mut err),

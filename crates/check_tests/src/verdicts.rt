@@ -1,5 +1,6 @@
 //! What is decided of small maps by their certificates and with none, and what is built of them.
 
+use crate::keys::fixed_keys;
 use crate::maps::{
     DEAD_END, DEAD_END_CERT, EMPTY_CERT, HALF, ISLAND, ISLAND_CERT, SQUARE, SQUARE_CERT,
     TURNED_CERT, map_of,
@@ -38,14 +39,16 @@ fn built(alloc: Global, map: &Map) -> Option<Verdict> {
 
 /// What is decided of records by a certificate, where an audit agrees.
 fn of_records(alloc: Global, records: &str, cert: &str) -> Option<Verdict> {
+    let hasher = fixed_keys().ok()?;
     let mut source = Meter::new(records.as_bytes());
     let checked = check(
         alloc,
+        hasher,
         &mut source,
         &mut Meter::new(cert.as_bytes()),
         u64::MAX,
     );
-    let audited = audit(alloc, &mut Meter::new(records.as_bytes()));
+    let audited = audit(alloc, hasher, &mut Meter::new(records.as_bytes()));
     match (checked, audited) {
         (Ok(Verdict::Sound(found)), Ok(Audit::Sound(report))) if found == report => {
             Some(Verdict::Sound(found))

@@ -1,5 +1,6 @@
 //! Chains and maps from reads that give one byte, and from those that fail.
 
+use crate::keys::keys_of;
 use std::alloc::Global;
 use std::io;
 use std::io::{ErrorKind, Read};
@@ -57,7 +58,7 @@ fn answers(alloc: Global, others: u64) -> Option<Result<(), MapStop>> {
         Ok(_) => return None,
         Err(stop) => Err(stop),
     };
-    let map = match read_map(alloc, &mut failing(others)) {
+    let map = match read_map(alloc, keys_of(9).ok()?, &mut failing(others)) {
         Ok(map) if map.segments() == 5 && map.nodes() == 3 => Ok(()),
         Ok(_) => return None,
         Err(stop) => Err(stop),

@@ -1,5 +1,6 @@
 //! What a map says of its chains, polygons, landmarks, nodes, segments and darts.
 
+use crate::keys::keys_of;
 use std::test::Fail;
 use tl_geom::Point;
 use tl_map::{Map, Side, read_map, read_map_with};
@@ -92,10 +93,19 @@ fn has_dart(map: &Map, (dart, node, from, to, heading, left): Dart) -> bool {
 
 #[test]
 fn a_square_with_landmarks(rt: HostRuntime) -> Result<(), Fail> {
-    let map = read_map(rt.alloc(), &mut Meter::new(SQUARE.as_bytes()))?;
-    let polygons = has_polygons_and_landmarks(&map);
-    let darts = map.darts() == 4 && DARTS.iter().all(|dart| has_dart(&map, *dart));
-    assert!(rt; has_numbers(&map) && has_chains(&map) && polygons && has_segment(&map) && darts);
+    // whatever the keys are
+    for byte in [0, 5, 255] {
+        let map = read_map(
+            rt.alloc(),
+            keys_of(byte)?,
+            &mut Meter::new(SQUARE.as_bytes()),
+        )?;
+        let polygons = has_polygons_and_landmarks(&map);
+        let darts = map.darts() == 4 && DARTS.iter().all(|dart| has_dart(&map, *dart));
+        assert!(rt;
+            has_numbers(&map) && has_chains(&map) && polygons && has_segment(&map) && darts
+        );
+    }
     Ok(())
 }
 
@@ -113,7 +123,8 @@ fn ids_of_released_files(rt: HostRuntime) -> Result<(), Fail> {
         zero_cells: true,
         released: true,
     };
-    let map = read_map_with(rt.alloc(), &mut Meter::new(RELEASED.as_bytes()), options)?;
+    let mut records = Meter::new(RELEASED.as_bytes());
+    let map = read_map_with(rt.alloc(), keys_of(5)?, &mut records, options)?;
     assert!(rt; has_one_id(&map));
     Ok(())
 }

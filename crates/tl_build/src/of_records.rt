@@ -19,6 +19,7 @@ use crate::answer::Audit;
 use crate::judge::{Judged, judge};
 use crate::stop::{AuditStop, BuildStop};
 use std::alloc::Global;
+use std::hash::RandomState;
 use tl_check::MapFault;
 use tl_county::Map;
 use tl_map::{MapStop, read_map_with};
@@ -34,7 +35,11 @@ const PLAIN: Options = Options {
 /// is open.
 ///
 /// The records are read whole first. [`AuditStop::Memory`] comes where memory was refused.
-pub fn audit<R: Source>(alloc: Global, records: &mut R) -> Result<Audit, AuditStop>
+pub fn audit<R: Source>(
+    alloc: Global,
+    hasher: RandomState,
+    records: &mut R,
+) -> Result<Audit, AuditStop>
     // No rational point lies on two chains but an end of both, and no chain meets itself but at its ends.
     ensures planar { OnSound result (IfSome (R.remaining records.old) (λ text.
         HaveMap (records_of tiger_2006 text) (λ m. IsPlanar m.chains))) }
@@ -65,13 +70,14 @@ pub fn audit<R: Source>(alloc: Global, records: &mut R) -> Result<Audit, AuditSt
     // `Device` is answered where a read failed in this call, and nowhere else.
     ensures failures { TellsDevice (R.failure_count records.old) (R.failure_count records.new) result }
 {
-    audit_with(alloc, records, PLAIN)
+    audit_with(alloc, hasher, records, PLAIN)
 }
 
 /// Decides whether the map of a county is sound as [`audit`] does, with the columns that the options choose of type I.
 /// Where zero-cell ids are read, they have to agree in a sound map.
 pub fn audit_with<R: Source>(
     alloc: Global,
+    hasher: RandomState,
     records: &mut R,
     options: Options,
 ) -> Result<Audit, AuditStop>
@@ -96,7 +102,7 @@ pub fn audit_with<R: Source>(
         MayStopAudit (records_of (layout_with options) text) stop)) }
     ensures failures { TellsDevice (R.failure_count records.old) (R.failure_count records.new) result }
 {
-    match read_map_with(alloc, records, options) {
+    match read_map_with(alloc, hasher, records, options) {
         Ok(map) => audit_map(alloc, &map),
         Err(stop) => refused(stop),
     }

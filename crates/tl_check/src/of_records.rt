@@ -21,6 +21,7 @@ use crate::fault::MapFault;
 use crate::stop::Stop;
 use crate::verdict::Verdict;
 use std::alloc::Global;
+use std::hash::RandomState;
 use tl_map::{MapStop, read_map_with};
 use tl_record::{Options, Source};
 
@@ -36,6 +37,7 @@ const PLAIN: Options = Options {
 /// certificate isn't read. `budget` is how many pairs of segments may be tested whose rectangles meet.
 pub fn check<R: Source, S: Source>(
     alloc: Global,
+    hasher: RandomState,
     records: &mut R,
     cert: &mut S,
     budget: u64,
@@ -86,13 +88,14 @@ pub fn check<R: Source, S: Source>(
     ensures failures { TellsEither (R.failure_count records.old) (R.failure_count records.new)
         (S.failure_count cert.old) (S.failure_count cert.new) result }
 {
-    check_with(alloc, records, cert, budget, PLAIN)
+    check_with(alloc, hasher, records, cert, budget, PLAIN)
 }
 
 /// Decides whether the map of a county is sound as [`check`] does, with the columns that the options choose of type I.
 /// Where zero-cell ids are read, they have to agree in a sound map.
 pub fn check_with<R: Source, S: Source>(
     alloc: Global,
+    hasher: RandomState,
     records: &mut R,
     cert: &mut S,
     budget: u64,
@@ -130,7 +133,7 @@ pub fn check_with<R: Source, S: Source>(
     ensures failures { TellsEither (R.failure_count records.old) (R.failure_count records.new)
         (S.failure_count cert.old) (S.failure_count cert.new) result }
 {
-    match read_map_with(alloc, records, options) {
+    match read_map_with(alloc, hasher, records, options) {
         Ok(map) => check_cert(alloc, &map, cert, budget),
         Err(stop) => refused(stop),
     }

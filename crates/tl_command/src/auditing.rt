@@ -10,6 +10,7 @@ use crate::reports::SoundMap;
 use crate::stop::{DONE, MAP_FAULT, stopped};
 use crate::tell::tell_line;
 use std::alloc::Global;
+use std::hash::RandomState;
 use tl_build::{Audit, AuditStop, audit_with};
 use tl_check::Stop;
 use tl_record::{Options, Sink, Source};
@@ -17,6 +18,7 @@ use tl_record::{Options, Sink, Source};
 /// Decides with no certificate given whether the map of the records is sound, and gives the program's exit status.
 pub fn audit<R: Source, W: Sink, E: Sink>(
     alloc: Global,
+    hasher: RandomState,
     records: &mut R,
     options: Options,
     out: &mut W,
@@ -37,7 +39,7 @@ pub fn audit<R: Source, W: Sink, E: Sink>(
     ensures out_stays { result ≡ REFUSED → out.new ≡ out.old }
     ensures read_whole { result ≢ STOPPED → R.failure_count records.new ≡ R.failure_count records.old }
 {
-    match audit_with(alloc, records, options) {
+    match audit_with(alloc, hasher, records, options) {
         Ok(Audit::Sound(report)) => tell_line(&SoundMap(report), DONE, out, err),
         Ok(Audit::Fault(fault)) => tell_line(&fault, MAP_FAULT, out, err),
         Err(AuditStop::Record { line, cause }) => stopped(&Stop::Record { line, cause }, err),

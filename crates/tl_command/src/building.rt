@@ -13,6 +13,7 @@ use crate::reports::BuiltCertificate;
 use crate::stop::{DONE, MAP_FAULT, stopped};
 use crate::tell::tell_line;
 use std::alloc::Global;
+use std::hash::RandomState;
 use tl_build::{BuildStop, Built};
 use tl_cert::{Certificate, write_cert};
 use tl_check::{MapFault, Report, Stop, report};
@@ -33,6 +34,7 @@ pub enum Making {
 /// Nothing is written to `made` before the records were read whole and their map was found to be sound.
 pub fn build<R: Source, C: Sink, W: Sink, E: Sink>(
     alloc: Global,
+    hasher: RandomState,
     records: &mut R,
     made: &mut C,
     options: Options,
@@ -60,13 +62,14 @@ pub fn build<R: Source, C: Sink, W: Sink, E: Sink>(
         ⊎ (OfMap (layout_with options) (R.remaining records.old) (λ m. IsBegunOf m (Begins C.contents made.old made.new))) }
     ensures read_whole { result ≢ STOPPED → R.failure_count records.new ≡ R.failure_count records.old }
 {
-    let making = make(alloc, records, made, options);
+    let making = make(alloc, hasher, records, made, options);
     tell_making(&making, out, err)
 }
 
 /// Makes a certificate of the records' map where that is sound, and writes it to `made`.
 pub fn make<R: Source, C: Sink>(
     alloc: Global,
+    hasher: RandomState,
     records: &mut R,
     made: &mut C,
     options: Options,
@@ -76,7 +79,7 @@ pub fn make<R: Source, C: Sink>(
         (FailsToRead R.failure_count records.old records.new ⊎ FailsToWrite C.failure_count made.old made.new) result }
     ensures reads { KeepsCount (R.failure_count records.old) (R.failure_count records.new) result }
 {
-    match read_map_with(alloc, records, options) {
+    match read_map_with(alloc, hasher, records, options) {
         Ok(map) => make_of_map(alloc, &map, made),
         Err(MapStop::Fault(fault)) => Ok(Making::Fault(MapFault::Records(fault))),
         Err(MapStop::Refused { line, cause }) => Err(Stop::Record { line, cause }),

@@ -13,6 +13,7 @@ use crate::reports::SoundMap;
 use crate::stop::{CERT_FAULT, DONE, MAP_FAULT, stopped};
 use crate::tell::tell_line;
 use std::alloc::Global;
+use std::hash::RandomState;
 use tl_check::{Verdict, check_with};
 use tl_record::{Options, Sink, Source};
 
@@ -20,6 +21,7 @@ use tl_record::{Options, Sink, Source};
 /// refused or the records have no map, nothing of the certificate is read.
 pub fn decide<R: Source, S: Source, W: Sink, E: Sink>(
     alloc: Global,
+    hasher: RandomState,
     records: &mut R,
     cert: &mut S,
     budget: u64,
@@ -53,7 +55,7 @@ pub fn decide<R: Source, S: Source, W: Sink, E: Sink>(
     ensures records_whole { result ≢ STOPPED → R.failure_count records.new ≡ R.failure_count records.old }
     ensures cert_whole { result ≢ STOPPED → S.failure_count cert.new ≡ S.failure_count cert.old }
 {
-    match check_with(alloc, records, cert, budget, options) {
+    match check_with(alloc, hasher, records, cert, budget, options) {
         Ok(verdict) => tell_verdict(&verdict, out, err),
         Err(stop) => stopped(&stop, err),
     }

@@ -10,6 +10,7 @@ ghost use Rattle.tl_command.specs.Places.{place_text, TellsPlace, StopsTelling};
 ghost use Rattle.tl_command.specs.Running.{IsLocated, FailsToRead, StopsAnswer, KeepsReads};
 
 use std::alloc::Global;
+use std::hash::RandomState;
 use std::io;
 use tl_county::Map;
 use tl_geom::Point;
@@ -23,6 +24,7 @@ use tl_tree::PlainList;
 /// Writes where a point lies in the map of the records, by a pass over all segments.
 pub fn tell_place<R: Source, W: Sink>(
     alloc: Global,
+    hasher: RandomState,
     point: Point,
     options: Options,
     records: &mut R,
@@ -35,7 +37,7 @@ pub fn tell_place<R: Source, W: Sink>(
         (out.new ≡ out.old)) }
     ensures reads { KeepsReads (R.failure_count records.old) (R.failure_count records.new) result }
 {
-    let map = read_map_with(alloc, records, options)?;
+    let map = read_map_with(alloc, hasher, records, options)?;
     tell_on(alloc, &map, point, out)
 }
 

@@ -22,6 +22,7 @@ use crate::convert::{rewrite, tell_converted};
 use crate::run::run;
 use crate::stop::{DONE, USAGE, stopped};
 use std::alloc::{AllocError, Global};
+use std::hash::RandomState;
 use std::{io, mem, slice};
 use tl_check::Stop;
 use tl_files::{FileStop, FileSystem, Room};
@@ -42,6 +43,7 @@ const IS_READ: &[u8] = b"OUT is one of the files that are read\n";
 pub fn start<F: FileSystem, W: Sink, E: Sink>(
     files: &mut F,
     alloc: Global,
+    hasher: RandomState,
     words: &[String],
     out: &mut W,
     err: &mut E,
@@ -86,7 +88,7 @@ pub fn start<F: FileSystem, W: Sink, E: Sink>(
     ensures files { KeepsSome (map string_bytes words.now) result (F.under files.old) (F.under files.new) }
 {
     match words::plan(alloc, words) {
-        Ok(plan) => open_and_run(files, alloc, &plan, out, err),
+        Ok(plan) => open_and_run(files, alloc, hasher, &plan, out, err),
         Err(PlanStop::Memory) => stopped(&Stop::Memory, err),
         Err(PlanStop::Usage(text)) => say_usage(&text, err),
         Err(PlanStop::Help(text)) => say_help(&text, out, err),
@@ -123,6 +125,7 @@ fn say_help<W: Sink, E: Sink>(text: &String, out: &mut W, err: &mut E) -> u8
 pub fn open_and_run<F: FileSystem, W: Sink, E: Sink>(
     files: &mut F,
     alloc: Global,
+    hasher: RandomState,
     plan: &Plan,
     out: &mut W,
     err: &mut E,
@@ -147,12 +150,16 @@ pub fn open_and_run<F: FileSystem, W: Sink, E: Sink>(
             out,
             err,
         ),
-        Plan::Check { cert, .. } => open_and_check(&*files, alloc, plan, readers, cert, out, err),
+        Plan::Check { cert, .. } => open_and_check(
+            &*files, alloc, hasher, plan, readers, cert, out, err,
+        ),
         Plan::Build { made, options, .. } => {
-            open_and_build(files, alloc, plan, readers, made, *options, out, err)
+            open_and_build(
+                files, alloc, hasher, plan, readers, made, *options, out, err,
+            )
         }
         Plan::Show { .. } | Plan::Landmarks { .. } | Plan::Locate { .. } | Plan::Audit { .. } =>
-            run_plainly(&*files, alloc, plan, readers, out, err),
+            run_plainly(&*files, alloc, hasher, plan, readers, out, err),
     }
 }
 
@@ -160,6 +167,7 @@ pub fn open_and_run<F: FileSystem, W: Sink, E: Sink>(
 fn run_plainly<F: FileSystem, W: Sink, E: Sink>(
     files: &F,
     alloc: Global,
+    hasher: RandomState,
     plan: &Plan,
     readers: Vec<F::Reader>,
     out: &mut W,
@@ -178,13 +186,23 @@ fn run_plainly<F: FileSystem, W: Sink, E: Sink>(
     let mut readers = readers;
     let mut cert = Meter::new(io::empty());
     let mut made = MeterOut::new(io::sink());
-    run_on_readers(alloc, plan, &mut readers, &mut cert, &mut made, out, err)
+    run_on_readers(
+        alloc,
+        hasher,
+        plan,
+        &mut readers,
+        &mut cert,
+        &mut made,
+        out,
+        err,
+    )
 }
 
 // Opens the certificate that is read, and decides by it.
 fn open_and_check<F: FileSystem, W: Sink, E: Sink>(
     files: &F,
     alloc: Global,
+    hasher: RandomState,
     plan: &Plan,
     readers: Vec<F::Reader>,
     name: &String,
@@ -206,13 +224,23 @@ fn open_and_check<F: FileSystem, W: Sink, E: Sink>(
     };
     let mut readers = readers;
     let mut made = MeterOut::new(io::sink());
-    run_on_readers(alloc, plan, &mut readers, &mut cert, &mut made, out, err)
+    run_on_readers(
+        alloc,
+        hasher,
+        plan,
+        &mut readers,
+        &mut cert,
+        &mut made,
+        out,
+        err,
+    )
 }
 
 // Makes a certificate where it may take its name.
 fn open_and_build<F: FileSystem, W: Sink, E: Sink>(
     files: &mut F,
     alloc: Global,
+    hasher: RandomState,
     plan: &Plan,
     readers: Vec<F::Reader>,
     name: &String,
@@ -230,7 +258,7 @@ fn open_and_build<F: FileSystem, W: Sink, E: Sink>(
         (out.new ≡ out.old) (err.new ≡ err.old) }
 {
     match room_for(&*files, name, plan.files()) {
-        Ok(Room::Free) => build_into(files, alloc, plan, readers, name, options, out, err),
+        Ok(Room::Free) => build_into(files, alloc, hasher, plan, readers, name, options, out, err),
         Ok(Room::Taken) => say_refusal(TAKEN, err),
         Ok(Room::IsRead) => say_refusal(IS_READ, err),
         Err(stop) => stopped(&stop, err),
@@ -241,6 +269,7 @@ fn open_and_build<F: FileSystem, W: Sink, E: Sink>(
 fn build_into<F: FileSystem, W: Sink, E: Sink>(
     files: &mut F,
     alloc: Global,
+    hasher: RandomState,
     plan: &Plan,
     readers: Vec<F::Reader>,
     name: &String,
@@ -265,7 +294,7 @@ fn build_into<F: FileSystem, W: Sink, E: Sink>(
         Ok(draft) => draft,
         Err(stop) => return stopped(&stop_of(stop), err),
     };
-    let making = make(alloc, &mut records, &mut draft, options);
+    let making = make(alloc, hasher, &mut records, &mut draft, options);
     match settle(files, alloc, draft, name, is_made(&making)) {
         Some(stop) => stopped(&stop, err),
         None => tell_making(&making, out, err),
@@ -413,6 +442,7 @@ fn open_certificate<F: FileSystem>(
 /// readers are left as far as they were read.
 pub fn run_on_readers<F: Source + Drop, S: Source, C: Sink, W: Sink, E: Sink>(
     alloc: Global,
+    hasher: RandomState,
     plan: &Plan,
     readers: &mut Vec<F>,
     cert: &mut S,
@@ -464,7 +494,7 @@ pub fn run_on_readers<F: Source + Drop, S: Source, C: Sink, W: Sink, E: Sink>(
     };
     let taken = mem::replace(readers, Vec::new(alloc));
     let mut records = Buffered::new(JoinedSources::new(taken), room);
-    let status = run(alloc, plan, &mut records, cert, made, out, err);
+    let status = run(alloc, hasher, plan, &mut records, cert, made, out, err);
     *readers = records.into_source().into_readers();
     status
 }

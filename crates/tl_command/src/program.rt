@@ -6,7 +6,9 @@ use crate::open::start;
 use crate::stop::{USAGE, stopped};
 use std::alloc::{Alloc, Global};
 use std::fs::File;
+use std::hash::RandomState;
 use std::io::ErrorKind;
+use std::random::RandomSource;
 use std::rt::{Env, Files};
 use std::{env, io};
 use tl_check::Stop;
@@ -15,7 +17,7 @@ use tl_output::write_all;
 use tl_record::Sink;
 
 /// Does what the words of the command line ask, and gives the program's exit status.
-pub fn answer<R: Files<File = File> + Env + Alloc<A = Global>, W: Sink, E: Sink>(
+pub fn answer<R: Files<File = File> + Env + RandomSource + Alloc<A = Global>, W: Sink, E: Sink>(
     rt: &R,
     alloc: Global,
     out: &mut W,
@@ -56,9 +58,10 @@ fn unread_by(error: &io::Error) -> Unread {
     }
 }
 
-// Of all that `start` promises `answer` hears the status alone: its own proof, which is of what it owns, would go through
-// each other promise for each of its ways out.
-fn start_over_system<R: Files<File = File>, W: Sink, E: Sink>(
+// Asks the system once for the keys of hashers, so that nobody can make a file against them. Of all that `start` promises
+// `answer` hears the status alone: its own proof, which is of what it owns, would go through each other promise for each of
+// its ways out.
+fn start_over_system<R: Files<File = File> + RandomSource, W: Sink, E: Sink>(
     rt: &R,
     alloc: Global,
     words: &[String],
@@ -67,8 +70,11 @@ fn start_over_system<R: Files<File = File>, W: Sink, E: Sink>(
 ) -> u8
     ensures { IsStartStatus result }
 {
+    let Ok(hasher) = RandomState::new(rt) else {
+        return stopped(&Stop::Device, err);
+    };
     let mut files = SystemFiles::new(rt);
-    start(&mut files, alloc, words, out, err)
+    start(&mut files, alloc, hasher, words, out, err)
 }
 
 // Says that a word is no text. Where that can't be written, the status alone is left to tell it.

@@ -23,6 +23,7 @@ use crate::locating::tell_place;
 use crate::stop::{DONE, MAP_FAULT, stopped};
 use crate::tell::tell_line;
 use std::alloc::Global;
+use std::hash::RandomState;
 use std::io;
 use tl_check::{MapFault, Stop};
 use tl_county::{Chains, Map};
@@ -37,6 +38,7 @@ use tl_text::{print_chains, print_landmarks};
 /// leaves them alone, and one that reads no records leaves those alone.
 pub fn run<R: Source, S: Source, C: Sink, W: Sink, E: Sink>(
     alloc: Global,
+    hasher: RandomState,
     plan: &Plan,
     records: &mut R,
     cert: &mut S,
@@ -101,16 +103,17 @@ pub fn run<R: Source, S: Source, C: Sink, W: Sink, E: Sink>(
             budget,
             options,
             ..
-        } => decide(alloc, records, cert, *budget, *options, out, err),
-        Plan::Audit { options, .. } => audit(alloc, records, *options, out, err),
-        Plan::Build { options, .. } => build(alloc, records, made, *options, out, err),
-        _ => run_on_records(alloc, plan, records, out, err),
+        } => decide(alloc, hasher, records, cert, *budget, *options, out, err),
+        Plan::Audit { options, .. } => audit(alloc, hasher, records, *options, out, err),
+        Plan::Build { options, .. } => build(alloc, hasher, records, made, *options, out, err),
+        _ => run_on_records(alloc, hasher, plan, records, out, err),
     }
 }
 
 // Does what the plan asks of records alone.
 fn run_on_records<R: Source, W: Sink, E: Sink>(
     alloc: Global,
+    hasher: RandomState,
     plan: &Plan,
     records: &mut R,
     out: &mut W,
@@ -131,7 +134,7 @@ fn run_on_records<R: Source, W: Sink, E: Sink>(
     ensures out_stays { result ≡ REFUSED → out.new ≡ out.old }
     ensures read_whole { result ≢ STOPPED → R.failure_count records.new ≡ R.failure_count records.old }
 {
-    match answer(alloc, plan, records, out) {
+    match answer(alloc, hasher, plan, records, out) {
         Ok(()) => DONE,
         Err(MapStop::Fault(fault)) => tell_line(&MapFault::Records(fault), MAP_FAULT, out, err),
         Err(MapStop::Refused { line, cause }) => stopped(&Stop::Record { line, cause }, err),
@@ -143,6 +146,7 @@ fn run_on_records<R: Source, W: Sink, E: Sink>(
 // Writes the answer to what the plan asks of records.
 fn answer<R: Source, W: Sink>(
     alloc: Global,
+    hasher: RandomState,
     plan: &Plan,
     records: &mut R,
     out: &mut W,
@@ -157,8 +161,10 @@ fn answer<R: Source, W: Sink>(
 {
     match plan {
         Plan::Show { options, .. } => show(alloc, *options, records, out),
-        Plan::Landmarks { options, .. } => landmarks(alloc, *options, records, out),
-        Plan::Locate { point, options, .. } => tell_place(alloc, *point, *options, records, out),
+        Plan::Landmarks { options, .. } => landmarks(alloc, hasher, *options, records, out),
+        Plan::Locate { point, options, .. } => tell_place(
+            alloc, hasher, *point, *options, records, out,
+        ),
         // They ask nothing of records alone.
         Plan::Convert { .. } | Plan::Check { .. } | Plan::Audit { .. } | Plan::Build { .. } => Ok(
             (),
@@ -191,6 +197,7 @@ fn show<R: Source, W: Sink>(
 
 fn landmarks<R: Source, W: Sink>(
     alloc: Global,
+    hasher: RandomState,
     options: Options,
     records: &mut R,
     out: &mut W,
@@ -202,7 +209,7 @@ fn landmarks<R: Source, W: Sink>(
         (out.new ≡ out.old)) }
     ensures reads { KeepsReads (R.failure_count records.old) (R.failure_count records.new) result }
 {
-    let map = read_map_with(alloc, records, options)?;
+    let map = read_map_with(alloc, hasher, records, options)?;
     let mut buffer = OutputBuffer::new();
     match print_all_landmarks(&map, &mut buffer, out) {
         Ok(()) => Ok(()),

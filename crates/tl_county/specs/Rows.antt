@@ -1,6 +1,8 @@
 -- The chains and landmarks of rows, as the parts of a map keep them.
-use Rattle.std.specs.Prelude.{◌≡◌, ℕ, ◌+◌, ◌≤◌, List, [], ◌∷◌, length, map, take, drop, All}
+use Rattle.std.specs.Prelude.{◌≡◌, ℕ, ◌+◌, ◌≤◌, Option, List, [], ◌∷◌, length, map, take, drop, All}
 use Rattle.tl_geom.specs.declared.point.Point.{Point}
+use Rattle.tl_record.specs.declared.record.PolyKey.{PolyKey}
+use Rattle.tl_county.specs.declared.polygons.Polygon.{Polygon}
 use Rattle.tl_county.specs.declared.chains.ChainRow.{ChainRow}
 use Rattle.tl_county.specs.Chains.{CompleteChain, segment_count}
 use Rattle.tl_county.specs.declared.landmarks.LandmarkRow.{LandmarkRow}
@@ -29,13 +31,27 @@ pub record IsTable (points : List Point) (rows : List ChainRow) : Type 0 where
 abbrev pub IsRow : List ℕ → LandmarkRow → Type 0
 IsRow linked row = row.first + row.count ≤ length linked
 
--- the landmark of a row
-abbrev pub landmark_in : List ℕ → LandmarkRow → MapLandmark
-landmark_in linked row = record { land = row.land; point = row.point; polygons = take row.count (drop row.first linked) }
+-- the polygons of a row
+abbrev pub polygons_at : List ℕ → LandmarkRow → List ℕ
+polygons_at linked row = take row.count (drop row.first linked)
 
 -- the polygons of a row are among n, each once
 abbrev pub HasPolygonsOf : ℕ → List ℕ → LandmarkRow → Type 0
-HasPolygonsOf n linked row = ArePolygonsOf n (landmark_in linked row).polygons
+HasPolygonsOf n linked row = ArePolygonsOf n (polygons_at linked row)
+
+-- a LAND and a point with the polygons of a row
+abbrev pub landmark_in : List ℕ → ℕ × Option Point → LandmarkRow → MapLandmark
+landmark_in linked e row = record { land = e.0; point = e.1; polygons = polygons_at linked row }
+
+-- LANDs and points, each with the polygons of the row beside it
+abbrev pub landmarks_in : List ℕ → List (ℕ × Option Point) → List LandmarkRow → List MapLandmark
+landmarks_in linked [] rows = []
+landmarks_in linked (e ∷ es) [] = []
+landmarks_in linked (e ∷ es) (row ∷ rows) = landmark_in linked e row ∷ landmarks_in linked es rows
+
+-- the polygon of a key and its point
+abbrev pub polygon_in : PolyKey × Point → Polygon
+polygon_in e = record { key = e.0; point = e.1 }
 
 -- a chain with its sides
 abbrev pub with_sides : CompleteChain → ChainSides → MapChain

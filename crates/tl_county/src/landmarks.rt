@@ -1,19 +1,20 @@
 //! Landmarks as a map keeps them.
 
+use indexmap::IndexMap;
+use std::hash::RandomState;
 use tl_geom::Point;
 
-/// A landmark, and where its polygons stand among those of all landmarks.
+/// Where the polygons of a landmark stand among those of all landmarks.
 #[derive(Clone, Copy)]
 pub struct LandmarkRow {
-    pub land: u64,
-    pub point: Option<Point>,
     pub first: usize,
     pub count: usize,
 }
 
-/// Landmarks with their polygons, which stand in one list.
+/// Landmarks by their LANDs, and beside each, in `rows`, which polygons of one list are linked to it.
 #[derive(Drop)]
 pub struct LinkedLandmarks {
+    pub points: IndexMap<u64, Option<Point>, RandomState>,
     pub rows: Vec<LandmarkRow>,
     pub linked: Vec<u32>,
 }

@@ -11,9 +11,12 @@ use crate::nodes::{Nodes, number_nodes};
 use crate::polygons::Polygon;
 use crate::segments::{Segments, number_segments};
 use crate::sides::Side;
+use indexmap::IndexMap;
 use std::alloc::{AllocError, Global};
+use std::hash::RandomState;
 use std::marker::Model;
 use tl_geom::{Direction, Point, Segment};
+use tl_record::PolyKey;
 
 /// The map of a county: chains by rising TLID, polygons in the order of their type P records, landmarks in the order of
 /// their first type 7 record, each numbered from 0. Coordinates are in millionths of a degree.
@@ -21,7 +24,8 @@ use tl_geom::{Direction, Point, Segment};
 pub struct Map {
     chains: Chains,
     sides: Vec<KeptChainSides>,
-    polygons: Vec<Polygon>,
+    polygons: IndexMap<PolyKey, Point, RandomState>,
+    landmarks: IndexMap<u64, Option<Point>, RandomState>,
     rows: Vec<LandmarkRow>,
     linked: Vec<u32>,
     segments: Segments,
@@ -54,26 +58,27 @@ impl Model for Map {
 
     ghost use Rattle.tl_county.specs.Limits.{most_polygons, most_landmarks};
     ghost use Rattle.tl_county.specs.Chains.{CompleteChain, IsProper};
-    ghost use Rattle.tl_county.specs.Rows.{IsRow, HasPolygonsOf, landmark_in};
+    ghost use Rattle.tl_county.specs.Rows.{IsRow, HasPolygonsOf, landmarks_in, polygon_in};
     ghost use Rattle.tl_county.specs.Rows.{sided};
     ghost use Rattle.tl_county.specs.Keeping.Numbered.{AreNumberedSegments};
     ghost use Rattle.tl_county.specs.Keeping.Noded.{AreNumberedNodes};
 
     ghost view = { λ m. record {
       chains = sided m.chains.chains m.sides.items;
-      polygons = m.polygons.items;
-      landmarks = map (landmark_in m.linked.items) m.rows.items;
+      polygons = map polygon_in m.polygons.entries;
+      landmarks = landmarks_in m.linked.items m.landmarks.entries m.rows.items;
       skipped = m.chains.skipped;
     } };
 
     ghost invariant = { λ m. (length m.sides.items ≡ length m.chains.chains)
-        × (length m.polygons.items ≤ most_polygons)
-        × (length m.rows.items ≤ most_landmarks)
+        × (length m.polygons.entries ≤ most_polygons)
+        × (length m.landmarks.entries ≤ most_landmarks)
         × All (IsRow m.linked.items) m.rows.items
         × All (λ (c : CompleteChain). IsProper c.points) m.chains.chains
         × AreNumberedSegments m.chains.chains m.segments
         × AreNumberedNodes m.chains.chains m.nodes
-        × All (HasPolygonsOf (length m.polygons.items) m.linked.items) m.rows.items };
+        × All (HasPolygonsOf (length m.polygons.entries) m.linked.items) m.rows.items
+        × (length m.rows.items ≡ length m.landmarks.entries) };
 }
 
 impl Map {
@@ -84,7 +89,7 @@ impl Map {
     ghost use Rattle.tl_county.specs.Darts.{dart_left as dart_left_of, dart_cell as dart_cell_of, Heads};
     ghost use Rattle.tl_county.specs.Limits.{most_segments, most_polygons, most_landmarks};
     ghost use Rattle.tl_county.specs.Chains.{CompleteChain, IsProper};
-    ghost use Rattle.tl_county.specs.Rows.{IsRow, HasPolygonsOf, landmark_in};
+    ghost use Rattle.tl_county.specs.Rows.{IsRow, HasPolygonsOf, landmarks_in, polygon_in};
     ghost use Rattle.tl_county.specs.Rows.{sided};
     ghost use Rattle.tl_county.specs.Keeping.Noded.{AreNumberedNodes};
     ghost use Rattle.tl_county.specs.Nodes.{AreNodes};
@@ -99,29 +104,35 @@ impl Map {
         alloc: Global,
         chains: Chains,
         sides: Vec<KeptChainSides>,
-        polygons: Vec<Polygon>,
+        polygons: IndexMap<PolyKey, Point, RandomState>,
         landmarks: LinkedLandmarks,
     ) -> Result<Map, AllocError>
         requires paired { length sides.items ≡ length chains.chains }
-        requires polygons { length polygons.items ≤ most_polygons }
-        requires landmarks { length landmarks.rows.items ≤ most_landmarks }
+        requires polygons { length polygons.entries ≤ most_polygons }
+        requires landmarks { length landmarks.points.entries ≤ most_landmarks }
+        requires beside { length landmarks.rows.items ≡ length landmarks.points.entries }
         requires within { All (IsRow landmarks.linked.items) landmarks.rows.items }
         requires proper { All (λ (c : CompleteChain). IsProper c.points) chains.chains }
-        requires linked { All (HasPolygonsOf (length polygons.items) landmarks.linked.items) landmarks.rows.items }
+        requires linked { All (HasPolygonsOf (length polygons.entries) landmarks.linked.items) landmarks.rows.items }
         ensures { IfOk result (λ m. m ≡ record {
           chains = sided chains.chains sides.items;
-          polygons = polygons.items;
-          landmarks = map (landmark_in landmarks.linked.items) landmarks.rows.items;
+          polygons = map polygon_in polygons.entries;
+          landmarks = landmarks_in landmarks.linked.items landmarks.points.entries landmarks.rows.items;
           skipped = chains.skipped;
         }) }
     {
         let segments = number_segments(alloc, &chains)?;
         let nodes = number_nodes(alloc, &chains)?;
-        let LinkedLandmarks { rows, linked } = landmarks;
+        let LinkedLandmarks {
+            points,
+            rows,
+            linked,
+        } = landmarks;
         Ok(Map {
             chains,
             sides,
             polygons,
+            landmarks: points,
             rows,
             linked,
             segments,
@@ -164,7 +175,7 @@ impl Map {
         ensures polygons { (l : ℕ) (landmark : MapLandmark) → slice_get self.now.landmarks l ≡ Some landmark →
             ArePolygonsOf (length self.now.polygons) landmark.polygons }
     {
-        self.rows.len() as u32
+        self.landmarks.len() as u32
     }
 
     /// How many lines were passed over.
@@ -194,7 +205,13 @@ impl Map {
         requires { p < length self.now.polygons }
         ensures { slice_get self.now.polygons p ≡ Some result }
     {
-        self.polygons[p as usize]
+        match self.polygons.get_index(p as usize) {
+            Some((key, point)) => Polygon {
+                key: *key,
+                point: *point,
+            },
+            None => unreachable!(),
+        }
     }
 
     /// A landmark by its number.
@@ -205,10 +222,13 @@ impl Map {
         ensures polygons { ArePolygonsOf (length self.now.polygons) result.polygons.now }
     {
         let row = self.rows[l as usize];
-        Landmark {
-            land: row.land,
-            point: row.point,
-            polygons: &self.linked[row.first..row.first + row.count],
+        match self.landmarks.get_index(l as usize) {
+            Some((land, point)) => Landmark {
+                land: *land,
+                point: *point,
+                polygons: &self.linked[row.first..row.first + row.count],
+            },
+            None => unreachable!(),
         }
     }
 

@@ -9,7 +9,7 @@ use Rattle.tl_record.specs.declared.reader.RecordReader.{RecordReader}
 use Rattle.tl_record.specs.declared.stop.ReadStop.{ReadStop}
 use Rattle.tl_record.specs.declared.stop.ReadStop.TheVariants.{Refused, Device}
 use Rattle.tl_record.specs.Failures.{one_more}
-use Rattle.tl_record.specs.Reader.{Answer, Gives, Repeats, TellsFailure, with_entry, nothing_after, refusal_after}
+use Rattle.tl_record.specs.Reader.{Gives, Repeats, TellsFailure, with_entry, nothing_after, refusal_after}
 use Rattle.tl_map.specs.declared.areas.AreaRecords.{AreaRecords}
 use Rattle.tl_map.specs.declared.collect.Collected.{Collected}
 use Rattle.tl_map.specs.Reading.{records_in, stop_of, TellsDevice}

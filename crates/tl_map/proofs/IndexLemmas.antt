@@ -1,102 +1,63 @@
-use Rattle.std.proofs.Common.{◌≡◌, ℕ, zero, suc, ◌+◌, ◌<◌, ◌≤◌, Bool, true, false, cond, eqb, ◌&&◌, inl, inr, Option, Some, None, List, [], ◌∷◌, length, Contains, refl, sym, ap, ◌∙◌, arith}
+use Rattle.std.proofs.Common.{◌≡◌, ℕ, zero, suc, ◌+◌, ◌<◌, Bool, true, false, eqb, ◌&&◌, inl, inr, Option, Some, None, List, [], ◌∷◌, length, map, take, Contains, refl, sym, ap, ◌∙◌, arith}
 use Rattle.std.specs.Prelude.{slice_get, nat_eq, is_some}
-use Rattle.std.specs.Cmp.Lexicographic.{pointwise, slice_cmp, same_text}
-use Rattle.std.specs.declared.cmp.Ordering.{Ordering}
-use Rattle.std.specs.declared.cmp.Ordering.TheVariants.{Less, Equal, Greater}
-use Rattle.std.specs.Ordering.{nat_cmp, is_eq, ordering_then}
-use Rattle.std.specs.Cmp.{IsTotalOrder}
-use Rattle.std.proofs.lemmas.Option.{slice_get-get_or}
-use Rattle.std.proofs.lemmas.Bool.{cases_Bool, cases_lt, eq-eqb, eqb-true}
-use Rattle.std.proofs.lemmas.Cmp.{tied_itself, then_total, on_total, nat_cmp_total, lists_total, nat_list_eq_equiv}
-use Rattle.std.proofs.lemmas.Map.Lookups.{CmpEqualImpliesEq, exact_bytes, exact_unsigned}
-use Rattle.std.proofs.lemmas.Map.Views.{tells_apart}
+use Rattle.std.specs.Option.{option_map}
+use Rattle.std.specs.Cmp.{IsEquivalence, nat_eq_equiv, on_equiv, and_equiv}
+use Rattle.std.specs.Cmp.Lexicographic.{pointwise, same_text, nat_list_eq_equiv}
+use Rattle.std.specs.Map.{keys_of, lookup}
+use Rattle.std.proofs.lemmas.Option.{slice_get-get_or, slice_get-map}
+use Rattle.std.proofs.lemmas.Bool.{cases_Bool, eq-eqb, eqb-true}
+use Rattle.std.proofs.lemmas.List.{length-map}
+use Rattle.std.proofs.lemmas.List.Quantifiers.{position-Some}
+use Rattle.std.proofs.lemmas.Map.Entries.{place_from_lookup}
+use Rattle.std.specs.declared.hash.RandomState.{RandomState}
+use Rattle.indexmap.specs.IndexMap.{IndexMap, keys, index_of, IsUnique}
+use Rattle.indexmap.proofs.MapLemmas.{index-first}
+use Rattle.indexmap.proofs.RemoveLemmas.{own_first}
+use Rattle.tl_geom.specs.declared.point.Point.{Point}
 use Rattle.tl_record.specs.declared.record.PolyKey.{PolyKey}
+use Rattle.tl_county.specs.declared.polygons.Polygon.{Polygon}
+use Rattle.tl_county.specs.Rows.{polygon_in}
 use Rattle.tl_map.specs.MapOf.{same_key, place_of}
+use Rattle.tl_map.specs.MapOf as drawn
 use Rattle.tl_map.specs.Faults.{StandsTwice}
-use Rattle.tl_map.specs.Keeping.Index.{Numbers, key_cmp}
+use Rattle.tl_map.specs.Keeping.Index.{Numbers, Indexes, entry_of}
 use Rattle.tl_county.proofs.PlaceLemmas.{contained}
 
--- a look-up that knows the first i keys
-pub record NumbersUpTo {K : Type 0} (ks : List K) (i : ℕ) (found : K → Option ℕ) : Type 0 where
-  pub each : (j : ℕ) (k : K) → j < i → slice_get ks j ≡ Some k → found k ≡ Some j
-  pub only : (k : K) (n : ℕ) → found k ≡ Some n → (n < i) × (slice_get ks n ≡ Some k)
-
--- one key more
-pub numbers_more : {K : Type 0} (R : K → K → Ordering) → IsTotalOrder R → CmpEqualImpliesEq R → (ks : List K) (i v : ℕ) (k : K) (old new : K → Option ℕ) → v ≡ i → slice_get ks i ≡ Some k → ((q : K) → new q ≡ cond (is_eq (R k q)) (Some v) (old q)) → old k ≡ None → NumbersUpTo ks i old → NumbersUpTo ks (i + 1) new
-numbers_more {K} R total exact ks i v k old new same_number at is absent before = record { each = each; only = only }
+-- the places of a map's keys number them
+pub numbers_keys : {K X S : Type 0} (eq : K → K → Bool) → IsEquivalence eq → ((x y : K) → eq x y ≡ true → x ≡ y) → (m : IndexMap K X S) → IsUnique eq m → Numbers (keys m) (index_of eq m)
+numbers_keys {K} {X} {S} eq laws exact m unique = record { each = λ j k at. each j k (slice_get m.entries j) refl at; only = only }
   where
-    each : (j : ℕ) (q : K) → j < i + 1 → slice_get ks j ≡ Some q → new q ≡ Some j
-    each j q lt here = elim (cases_lt j i) [
-      | inl earlier ↦ elim (cases_Bool (is_eq (R k q))) [
-        | inl same ↦ absurd (let e : k ≡ q = tells_apart exact k q same in let two : old k ≡ Some j = rw e (before.each j q earlier here) in cc)
-        | inr other ↦ is q ∙ rw other (before.each j q earlier here)
-      ]
-      | inr last ↦
-          let e : j ≡ i = omega arith in
-          let same : k ≡ q = let h = rw e at here in cc in
-          is q ∙ rw (← same, tied_itself total k, e, same_number) refl
-    ]
+    each : (j : ℕ) (k : K) (e : Option (K × X)) → slice_get m.entries j ≡ e → slice_get (keys m) j ≡ Some k → index_of eq m k ≡ Some j
+    each j k None at key = absurd (let h = sym (slice_get-map (λ (x : K × X). x.0) m.entries j ∙ ap (option_map (λ (x : K × X). x.0)) at) ∙ key in let f : None ≡ Some k = h in cc)
+    each j k (Some e) at key =
+        let h : Some e.0 ≡ Some k = sym (slice_get-map (λ (x : K × X). x.0) m.entries j ∙ ap (option_map (λ (x : K × X). x.0)) at) ∙ key in
+        let same : e.0 ≡ k = cc in
+        rw same at (index-first (eq e.0) m.entries j (own_first eq laws m.entries j e.0 e.1 unique at))
 
-    only : (q : K) (n : ℕ) → new q ≡ Some n → (n < i + 1) × (slice_get ks n ≡ Some q)
-    only q n here = elim (cases_Bool (is_eq (R k q))) [
-      | inl same ↦
-          let e : k ≡ q = tells_apart exact k q same in
-          let num : Some v ≡ Some n = sym (is q ∙ rw same refl) ∙ here in
-          let at_n : n ≡ i = cc in
-          (omega arith, rw (at_n, ← e) at)
-      | inr other ↦
-          let was = before.only q n (sym (is q ∙ rw other refl) ∙ here) in
-          (omega (arith, was.0), was.1)
-    ]
+    only : (k : K) (n : ℕ) → index_of eq m k ≡ Some n → slice_get (keys m) n ≡ Some k
+    only k n here =
+        let found = position-Some (eq k) (keys m) n k here in
+        slice_get-get_or (keys m) n k found.0 ∙ ap Some (sym (exact k _ found.1))
 
--- a key that is there already stands twice
-pub twice : {K : Type 0} (ks : List K) (i : ℕ) (k : K) (n : ℕ) (found : K → Option ℕ) → slice_get ks i ≡ Some k → NumbersUpTo ks i found → found k ≡ Some n → StandsTwice ks k
-twice ks i k n found at before here = let was = before.only k n here in (n, i, was.0, was.1, at)
+-- the keys of polygons as entries
+pub keys_entries : (ps : List Polygon) → keys_of (map entry_of ps) ≡ drawn.keys ps
+keys_entries [] = refl
+keys_entries (p ∷ ps) = ap (λ ks. p.key ∷ ks) (keys_entries ps)
 
--- what a look-up has told
-pub twice_told : {K : Type 0} (ks : List K) (i : ℕ) (k : K) (told : Option ℕ) (found : K → Option ℕ) → slice_get ks i ≡ Some k → NumbersUpTo ks i found → told ≡ found k → is_some told ≡ true → StandsTwice ks k
-twice_told ks i k None found at before is told = absurd (let h : false ≡ true = told in cc)
-twice_told ks i k (Some n) found at before is told = twice ks i k n found at before (sym is)
+-- polygons as entries, and back
+pub polygons_entries : (ps : List Polygon) → map polygon_in (map entry_of ps) ≡ ps
+polygons_entries [] = refl
+polygons_entries (p ∷ ps) = ap (λ qs. p ∷ qs) (polygons_entries ps)
 
-pub none_told : (told : Option ℕ) → is_some told ≡ false → told ≡ None
-none_told None h = refl
-none_told (Some n) h = absurd (let e : true ≡ false = h in cc)
-
-pub some_told : (told : Option ℕ) → is_some told ≡ true → (n : ℕ) × (told ≡ Some n)
-some_told None h = absurd (let e : false ≡ true = h in cc)
-some_told (Some n) h = (n, refl)
-
--- an empty look-up
-pub numbers_none : {K : Type 0} (ks : List K) (found : K → Option ℕ) → ((k : K) → found k ≡ None) → NumbersUpTo ks 0 found
-numbers_none ks found none = record { each = λ j k lt at. absurd (omega arith); only = λ k n here. absurd (let e = none k in cc) }
-
-slice_get-within : {X : Type 0} (xs : List X) (j : ℕ) (x : X) → slice_get xs j ≡ Some x → j < length xs
-slice_get-within [] j x at = cc
-slice_get-within (y ∷ ys) zero x at = omega arith
-slice_get-within (y ∷ ys) (suc j) x at = let h = slice_get-within ys j x at in omega (arith, h)
-
--- all keys are known
-pub numbers_whole : {K : Type 0} (ks : List K) (i : ℕ) (found : K → Option ℕ) → length ks ≤ i → NumbersUpTo ks i found → Numbers ks found
-numbers_whole ks i found all before = record {
-  each = λ j k at. before.each j k (omega (arith, slice_get-within ks j k at)) at;
-  only = λ k n here. (before.only k n here).1;
-}
-
-pub key_total : IsTotalOrder key_cmp
-key_total = then_total (on_total (λ k. k.cenid) (lists_total nat_cmp_total)) (on_total (λ k. k.polyid) nat_cmp_total)
+-- an entry of the first polygons has the key that stands there
+key_there : (ps : List Polygon) (n i : ℕ) (e : PolyKey × Point) → slice_get (map entry_of (take n ps)) i ≡ Some e → (slice_get (drawn.keys ps) i ≡ Some e.0) × (i < n)
+key_there ps zero i e at = absurd (let h : None ≡ Some e = at in cc)
+key_there [] (suc n) i e at = absurd (let h : None ≡ Some e = at in cc)
+key_there (p ∷ ps) (suc n) zero e at = (let h : entry_of p ≡ e = cc in ap (λ (x : PolyKey × Point). Some x.0) h, omega arith)
+key_there (p ∷ ps) (suc n) (suc i) e at = let rest = key_there ps n i e at in (rest.0, omega (arith, rest.1))
 
 key_is : (k l : PolyKey) → k.cenid ≡ l.cenid → k.polyid ≡ l.polyid → k ≡ l
 key_is k l a b = λ i. record { cenid = a i; polyid = b i }
-
-then_equal : (a b : Ordering) → ordering_then a b ≡ Equal → (a ≡ Equal) × (b ≡ Equal)
-then_equal Less b e = absurd (let h : Less ≡ Equal = e in cc)
-then_equal Equal b e = (refl, e)
-then_equal Greater b e = absurd (let h : Greater ≡ Equal = e in cc)
-
-pub key_exact : CmpEqualImpliesEq key_cmp
-key_exact k l e =
-    let both = then_equal (slice_cmp nat_cmp k.cenid l.cenid) (nat_cmp k.polyid l.polyid) e in
-    key_is k l (exact_bytes k.cenid l.cenid both.0) (exact_unsigned k.polyid l.polyid both.1)
 
 -- one key is the same as itself, and as no other
 pub same_key-refl : (k : PolyKey) → same_key k k ≡ true
@@ -138,3 +99,28 @@ not_known ks k found numbers none has =
 -- a key that a look-up finds is one of the keys
 pub known_key : {K : Type 0} (ks : List K) (k : K) (n : ℕ) (found : K → Option ℕ) → Numbers ks found → found k ≡ Some n → Contains ks k
 known_key ks k n found numbers here = contained ks n k (numbers.only k n here)
+
+-- a key that is there already stands twice
+pub twice_told : (ps : List Polygon) (n : ℕ) (k : PolyKey) (told : Option Point) → slice_get (drawn.keys ps) n ≡ Some k → told ≡ lookup (same_key k) (map entry_of (take n ps)) → is_some told ≡ true → StandsTwice (drawn.keys ps) k
+twice_told ps n k None at is told = absurd (let h : false ≡ true = told in cc)
+twice_told ps n k (Some v) at is told =
+    let place = place_from_lookup (same_key k) (map entry_of (take n ps)) v (sym is) in
+    let key = key_there ps n place.0 (place.1, v) place.2 in
+    (place.0, n, key.1, key.0 ∙ ap Some (sym (same_key-is k place.1 place.3)), at)
+
+pub none_told : {X : Type 0} (told : Option X) → is_some told ≡ false → told ≡ None
+none_told None h = refl
+none_told (Some n) h = absurd (let e : true ≡ false = h in cc)
+
+pub key_laws : IsEquivalence same_key
+key_laws = and_equiv (on_equiv (λ (k : PolyKey). k.cenid) nat_list_eq_equiv) (on_equiv (λ (k : PolyKey). k.polyid) nat_eq_equiv)
+
+-- an index of polygons has their keys
+pub keys_are : (ps : List Polygon) (m : IndexMap PolyKey Point RandomState) → m.entries ≡ map entry_of ps → keys m ≡ drawn.keys ps
+keys_are ps m are = ap keys_of are ∙ keys_entries ps
+
+pub index_keys : (ps : List Polygon) (m : IndexMap PolyKey Point RandomState) → m.entries ≡ map entry_of ps → IsUnique same_key m → Indexes (drawn.keys ps) m
+index_keys ps m are unique = rw (keys_are ps m are) at (numbers_keys same_key key_laws same_key-is m unique)
+
+pub few_entries : (ps : List Polygon) (m : IndexMap PolyKey Point RandomState) → m.entries ≡ map entry_of ps → length m.entries ≡ length ps
+few_entries ps m are = ap length are ∙ length-map ps entry_of

@@ -1,83 +1,66 @@
-use Rattle.std.proofs.Common.{◌≡◌, ◌≢◌, ℕ, zero, suc, ◌+◌, ◌<◌, ◌≤◌, Bool, true, false, cond, eqb, not, ◌&&◌, ◌||◌, inl, inr, Option, Some, None, List, [], ◌∷◌, ◌++◌, length, drop, filter, get_or, Contains, refl, sym, ap, ◌∙◌, arith}
-use Rattle.std.specs.Prelude.{slice_get}
+use Rattle.std.proofs.Common.{◌≡◌, ◌≢◌, ℕ, suc, ◌+◌, ◌<◌, ◌≤◌, Bool, true, false, cond, eqb, not, ◌&&◌, inl, inr, Option, Some, None, List, [], ◌∷◌, ◌++◌, length, drop, map, filter, get_or, Contains, refl, sym, ap, ◌∙◌, arith}
+use Rattle.std.specs.Prelude.{nat_eq, is_some}
 use Rattle.std.specs.List.{list_any}
-use Rattle.std.specs.Ordering.{nat_cmp, is_eq, is_lt}
-use Rattle.std.proofs.lemmas.Bool.{cases_Bool, cases_lt, eq-eqb, eqb-true}
-use Rattle.std.proofs.lemmas.Cmp.{nat_cmp_total}
-use Rattle.std.proofs.lemmas.Map.Lookups.{exact_unsigned}
-use Rattle.std.proofs.lemmas.Option.{slice_get-get_or}
+use Rattle.std.specs.Map.{keys_of, lookup}
+use Rattle.std.specs.Ordering.{nat_cmp, is_lt}
+use Rattle.std.proofs.lemmas.Bool.{cases_lt, cases_eq, eq-eqb, ne_eqb}
 use Rattle.std.proofs.lemmas.List.{get_or_append_left, at_drop_more, at_drop_all, get_or_default, map_push, length-map, length_push, get_or-map}
 use Rattle.std.proofs.Math.Seq.{get_or-append_seam}
 use Rattle.std.proofs.lemmas.List.Elements.{Contains-push, Contains-push_cases, Contains-append_left}
+use Rattle.std.specs.declared.hash.RandomState.{RandomState}
+use Rattle.indexmap.specs.IndexMap.{IndexMap, IsUnique}
+use Rattle.tl_geom.specs.declared.point.Point.{Point}
 use Rattle.tl_map.specs.declared.entry.LandmarkEntry.{LandmarkEntry}
 use Rattle.tl_county.specs.declared.limits.TheConstants.{LANDMARK_LIMIT}
 use Rattle.tl_map.specs.MapOf.{firsts, firsts_after}
-use Rattle.std.specs.BTreeMap.{get}
 use Rattle.std.specs.List.Sorted.{IsNonDecreasingBy, IsPermutation, IsStableByKey}
 use Rattle.std.proofs.lemmas.Bool.Decides.{nat_tests}
 use Rattle.tl_record.specs.declared.record.PolyKey.{PolyKey}
 use Rattle.tl_map.specs.declared.entry.LinkEntry.{LinkEntry}
 use Rattle.tl_map.specs.declared.landmarks.Link.{Link}
 use Rattle.tl_map.specs.declared.fault.MapStop.{MapStop}
-use Rattle.tl_map.specs.declared.landmarks.FirstLandmarks.{FirstLandmarks}
-use Rattle.tl_map.specs.Keeping.Landmarks.{lands, ListsLandmarks, IsLink, AreLinks, StopsLink, StopsLinks, AreByLandmark}
-use Rattle.tl_map.proofs.IndexLemmas.{NumbersUpTo, numbers_more, numbers_whole}
+use Rattle.tl_map.specs.Keeping.Landmarks.{lands, first_of, ListsLandmarks, IsLink, AreLinks, StopsLink, StopsLinks, AreByLandmark}
 
 -- what is listed of the first i records
-pub record Listing (entries : List LandmarkEntry) (i : ℕ) (kept : List LandmarkEntry) (found : ℕ → Option ℕ) : Type 0 where
-  pub so_far : firsts_after (λ (e : LandmarkEntry). e.land) kept (drop i entries) ≡ firsts (λ (e : LandmarkEntry). e.land) entries
-  pub known : NumbersUpTo (lands kept) (length kept) found
-  pub all : (j : ℕ) (d : LandmarkEntry) → j < i → Contains (lands kept) (get_or entries j d).land
-  pub no_other : (n : ℕ) → Contains (lands kept) n → Contains (lands entries) n
+pub record Listing (entries : List LandmarkEntry) (i : ℕ) (kept : List (ℕ × Option Point)) : Type 0 where
+  pub so_far : firsts_after (λ (e : LandmarkEntry). e.land) (map first_of kept) (drop i entries) ≡ firsts (λ (e : LandmarkEntry). e.land) entries
+  pub all : (j : ℕ) (d : LandmarkEntry) → j < i → Contains (keys_of kept) (get_or entries j d).land
+  pub no_other : (n : ℕ) → Contains (keys_of kept) n → Contains (lands entries) n
   pub few : length kept ≤ LANDMARK_LIMIT
 
-any_told : (kept : List LandmarkEntry) (m : ℕ) → list_any (λ y. eqb y.land m) kept ≡ true → Contains (lands kept) m
-any_told [] m h = absurd (let e : false ≡ true = h in cc)
-any_told (x ∷ xs) m h = go (eqb x.land m) refl h (any_told xs m)
-  where
-    go : (b : Bool) → eqb x.land m ≡ b → (b || list_any (λ y. eqb y.land m) xs) ≡ true → (list_any (λ y. eqb y.land m) xs ≡ true → Contains (lands xs) m) → Contains (lands (x ∷ xs)) m
-    go true e h later = (0, omega arith, eqb-true x.land m e)
-    go false e h later = let found = later h in (suc found.0, omega (arith, found.1), found.2)
-
-any_from : (kept : List LandmarkEntry) (m : ℕ) (k : ℕ) → slice_get (lands kept) k ≡ Some m → list_any (λ y. eqb y.land m) kept ≡ true
-any_from [] m k at = absurd (let e : None ≡ Some m = at in cc)
-any_from (x ∷ xs) m zero at = let e : x.land ≡ m = cc in rw (eq-eqb x.land m e) refl
-any_from (x ∷ xs) m (suc k) at = rw (any_from xs m k at) (or_true (eqb x.land m))
-  where
-    or_true : (b : Bool) → (b || true) ≡ true
-    or_true true = refl
-    or_true false = refl
-
-slice_get-front : {X : Type 0} (xs ys : List X) (j : ℕ) → j < length xs → slice_get (xs ++ ys) j ≡ slice_get xs j
-slice_get-front [] ys j lt = absurd (omega arith)
-slice_get-front (x ∷ xs) ys zero lt = refl
-slice_get-front (x ∷ xs) ys (suc j) lt = slice_get-front xs ys j (omega arith)
-
-slice_get-last : {X : Type 0} (xs : List X) (x : X) → slice_get (xs ++ x ∷ []) (length xs) ≡ Some x
-slice_get-last [] x = refl
-slice_get-last (y ∷ ys) x = slice_get-last ys x
-
--- known places stay as keys are added behind
-numbers_behind : {K : Type 0} (ks more : List K) (found : K → Option ℕ) → NumbersUpTo ks (length ks) found → NumbersUpTo (ks ++ more) (length ks) found
-numbers_behind ks more found before = record {
-  each = λ j k lt at. before.each j k lt (sym (slice_get-front ks more j lt) ∙ at);
-  only = λ k n here. let was = before.only k n here in (was.0, slice_get-front ks more n was.0 ∙ was.1);
-}
+-- nothing is listed of no record
+pub listing_none : (entries : List LandmarkEntry) (kept : List (ℕ × Option Point)) → kept ≡ [] → Listing entries 0 kept
+listing_none entries kept empty = rw empty (record {
+  so_far = refl;
+  all = λ j d lt. absurd (omega arith);
+  no_other = λ n has. absurd (omega (arith, has.1));
+  few = omega arith;
+})
 
 -- a LAND that isn't found is of none of the kept records
-not_any : (kept : List LandmarkEntry) (m : ℕ) (found : ℕ → Option ℕ) → found m ≡ None → NumbersUpTo (lands kept) (length kept) found → list_any (λ y. eqb y.land m) kept ≡ false
-not_any kept m found absent known = elim (cases_Bool (list_any (λ y. eqb y.land m) kept)) [
-  | inl some_has ↦
-      let has = any_told kept m some_has in
-      let at : slice_get (lands kept) has.0 ≡ Some m = slice_get-get_or (lands kept) has.0 m has.1 ∙ ap Some has.2 in
-      absurd (let told = known.each has.0 m (let long = length-map kept (λ (x : LandmarkEntry). x.land) in omega (arith, has.1)) at in cc)
-  | inr none ↦ none
+not_any : (kept : List (ℕ × Option Point)) (m : ℕ) → lookup (nat_eq m) kept ≡ None → list_any (λ y. eqb y.land m) (map first_of kept) ≡ false
+not_any [] m absent = refl
+not_any (e ∷ es) m absent = elim (cases_eq e.0 m) [
+  | inl same ↦ absurd (let here : lookup (nat_eq m) (e ∷ es) ≡ Some e.1 = rw (eq-eqb m e.0 (sym same)) refl in let h : Some e.1 ≡ None = sym here ∙ absent in cc)
+  | inr other ↦
+      let later : lookup (nat_eq m) es ≡ None = rw (ne_eqb m e.0 (λ same. other (sym same))) at absent in
+      rw (ne_eqb e.0 m other) (not_any es m later)
+]
+
+-- one that is found is of one of them
+any_there : (kept : List (ℕ × Option Point)) (m : ℕ) (told : Option (Option Point)) → told ≡ lookup (nat_eq m) kept → is_some told ≡ true → (list_any (λ y. eqb y.land m) (map first_of kept) ≡ true) × Contains (keys_of kept) m
+any_there [] m told is some = absurd (let h : false ≡ true = sym (ap is_some is) ∙ some in cc)
+any_there (e ∷ es) m told is some = elim (cases_eq e.0 m) [
+  | inl same ↦ (rw (eq-eqb e.0 m same) refl, (0, omega arith, same))
+  | inr other ↦
+      let later = any_there es m told (rw (ne_eqb m e.0 (λ same. other (sym same))) at is) some in
+      (rw (ne_eqb e.0 m other) later.0, (suc later.1.0, omega (arith, later.1.1), later.1.2))
 ]
 
 -- one record more is kept
-so_far_new : (entries : List LandmarkEntry) (i : ℕ) (d : LandmarkEntry) (kept : List LandmarkEntry) (found : ℕ → Option ℕ) → i < length entries → found (get_or entries i d).land ≡ None → Listing entries i kept found → firsts_after (λ (e : LandmarkEntry). e.land) (kept ++ get_or entries i d ∷ []) (drop (i + 1) entries) ≡ firsts (λ (e : LandmarkEntry). e.land) entries
-so_far_new entries i d kept found lt absent before =
-    sym (at_drop_more (firsts_after (λ (e : LandmarkEntry). e.land) kept) entries i d lt ∙ rw (not_any kept (get_or entries i d).land found absent before.known) refl) ∙ before.so_far
+so_far_new : (entries : List LandmarkEntry) (i : ℕ) (d : LandmarkEntry) (kept : List (ℕ × Option Point)) → i < length entries → lookup (nat_eq (get_or entries i d).land) kept ≡ None → Listing entries i kept → firsts_after (λ (e : LandmarkEntry). e.land) (map first_of kept ++ get_or entries i d ∷ []) (drop (i + 1) entries) ≡ firsts (λ (e : LandmarkEntry). e.land) entries
+so_far_new entries i d kept lt absent before =
+    sym (at_drop_more (firsts_after (λ (e : LandmarkEntry). e.land) (map first_of kept)) entries i d lt ∙ rw (not_any kept (get_or entries i d).land absent) refl) ∙ before.so_far
 
 longer : (kept xs : List LandmarkEntry) → length kept ≤ length (firsts_after (λ (e : LandmarkEntry). e.land) kept xs)
 longer kept [] = omega arith
@@ -88,71 +71,53 @@ longer kept (x ∷ xs) = go (list_any (λ y. eqb y.land x.land) kept) (longer ke
     go false same more = omega (arith, more, length_push kept x)
 
 -- one record more is too many
-pub too_many : (entries : List LandmarkEntry) (i : ℕ) (d : LandmarkEntry) (kept : List LandmarkEntry) (found : ℕ → Option ℕ) → i < length entries → found (get_or entries i d).land ≡ None → length kept ≡ LANDMARK_LIMIT → Listing entries i kept found → LANDMARK_LIMIT < length (firsts (λ (e : LandmarkEntry). e.land) entries)
-too_many entries i d kept found lt absent full before =
-    omega (arith, ap length (so_far_new entries i d kept found lt absent before), longer (kept ++ get_or entries i d ∷ []) (drop (i + 1) entries), length_push kept (get_or entries i d))
+pub too_many : (entries : List LandmarkEntry) (i : ℕ) (d : LandmarkEntry) (kept : List (ℕ × Option Point)) → i < length entries → lookup (nat_eq (get_or entries i d).land) kept ≡ None → length kept ≡ LANDMARK_LIMIT → Listing entries i kept → LANDMARK_LIMIT < length (firsts (λ (e : LandmarkEntry). e.land) entries)
+too_many entries i d kept lt absent full before =
+    omega (arith, ap length (so_far_new entries i d kept lt absent before), longer (map first_of kept ++ get_or entries i d ∷ []) (drop (i + 1) entries), length_push (map first_of kept) (get_or entries i d), length-map kept first_of)
 
 -- the first record of a LAND
-pub listing_new : (entries : List LandmarkEntry) (i v : ℕ) (d : LandmarkEntry) (kept : List LandmarkEntry) (old new : ℕ → Option ℕ) → i < length entries → v ≡ length kept → length kept ≢ LANDMARK_LIMIT → old (get_or entries i d).land ≡ None → ((q : ℕ) → new q ≡ cond (is_eq (nat_cmp (get_or entries i d).land q)) (Some v) (old q)) → Listing entries i kept old → Listing entries (i + 1) (kept ++ get_or entries i d ∷ []) new
-listing_new entries i v d kept old new lt count room absent is before = record {
-  so_far = so_far_new entries i d kept old lt absent before;
-  known = known;
-  all = all;
-  no_other = λ n has. elim (Contains-push_cases (lands kept) (get_or entries i d).land n (rw lands_more at has)) [
+pub listing_new : (entries : List LandmarkEntry) (i : ℕ) (d : LandmarkEntry) (kept : List (ℕ × Option Point)) → i < length entries → length kept ≢ LANDMARK_LIMIT → lookup (nat_eq (get_or entries i d).land) kept ≡ None → Listing entries i kept → Listing entries (i + 1) (kept ++ ((get_or entries i d).land, (get_or entries i d).point) ∷ [])
+listing_new entries i d kept lt room absent before = record {
+  so_far = rw (map_push first_of kept ((get_or entries i d).land, (get_or entries i d).point)) (so_far_new entries i d kept lt absent before);
+  all = λ j x low. rw keys_more (elim (cases_lt j i) [
+    | inl earlier ↦ Contains-append_left _ _ _ (before.all j x earlier)
+    | inr last ↦ let same : j ≡ i = omega arith in rw (same, get_or_default entries i x d lt) (Contains-push (keys_of kept) (get_or entries i d).land)
+  ]);
+  no_other = λ n has. elim (Contains-push_cases (keys_of kept) (get_or entries i d).land n (rw keys_more at has)) [
     | inl earlier ↦ before.no_other n earlier
     | inr same ↦ (i, (let long = length-map entries (λ (x : LandmarkEntry). x.land) in omega arith), get_or-map (λ (x : LandmarkEntry). x.land) entries i d n lt ∙ same)
   ];
-  few = omega (arith, before.few, length_push kept (get_or entries i d));
+  few = omega (arith, before.few, length_push kept ((get_or entries i d).land, (get_or entries i d).point));
 }
   where
-    lands_more : lands (kept ++ get_or entries i d ∷ []) ≡ lands kept ++ (get_or entries i d).land ∷ []
-    lands_more = map_push (λ (x : LandmarkEntry). x.land) kept (get_or entries i d)
-
-    known : NumbersUpTo (lands (kept ++ get_or entries i d ∷ [])) (length (kept ++ get_or entries i d ∷ [])) new
-    known =
-        let long = length-map kept (λ (x : LandmarkEntry). x.land) in
-        let more : length (kept ++ get_or entries i d ∷ []) ≡ length kept + 1 = length_push kept (get_or entries i d) in
-        let at : slice_get (lands kept ++ (get_or entries i d).land ∷ []) (length kept) ≡ Some (get_or entries i d).land = rw (← long) (slice_get-last (lands kept) (get_or entries i d).land) in
-        let was : NumbersUpTo (lands kept ++ (get_or entries i d).land ∷ []) (length kept) old = rw long at (numbers_behind (lands kept) ((get_or entries i d).land ∷ []) old (rw (← long) at before.known)) in
-        rw (lands_more, more) (numbers_more nat_cmp nat_cmp_total exact_unsigned (lands kept ++ (get_or entries i d).land ∷ []) (length kept) v (get_or entries i d).land old new count at is absent was)
-
-    all : (j : ℕ) (x : LandmarkEntry) → j < i + 1 → Contains (lands (kept ++ get_or entries i d ∷ [])) (get_or entries j x).land
-    all j x low = rw lands_more (elim (cases_lt j i) [
-      | inl earlier ↦ Contains-append_left _ _ _ (before.all j x earlier)
-      | inr last ↦ let same : j ≡ i = omega arith in rw (same, get_or_default entries i x d lt) (Contains-push (lands kept) (get_or entries i d).land)
-    ])
+    keys_more : keys_of (kept ++ ((get_or entries i d).land, (get_or entries i d).point) ∷ []) ≡ keys_of kept ++ (get_or entries i d).land ∷ []
+    keys_more = map_push (λ (x : ℕ × Option Point). x.0) kept ((get_or entries i d).land, (get_or entries i d).point)
 
 -- a further record of a LAND
-pub listing_old : (entries : List LandmarkEntry) (i : ℕ) (d : LandmarkEntry) (kept : List LandmarkEntry) (found : ℕ → Option ℕ) (n : ℕ) → i < length entries → found (get_or entries i d).land ≡ Some n → Listing entries i kept found → Listing entries (i + 1) kept found
-listing_old entries i d kept found n lt here before =
-    let was = before.known.only (get_or entries i d).land n here in
+pub listing_old : (entries : List LandmarkEntry) (i : ℕ) (d : LandmarkEntry) (kept : List (ℕ × Option Point)) (told : Option (Option Point)) → i < length entries → told ≡ lookup (nat_eq (get_or entries i d).land) kept → is_some told ≡ true → Listing entries i kept → Listing entries (i + 1) kept
+listing_old entries i d kept told lt is some before =
+    let was = any_there kept (get_or entries i d).land told is some in
     record {
-      so_far = sym (at_drop_more (firsts_after (λ (e : LandmarkEntry). e.land) kept) entries i d lt ∙ rw (any_from kept (get_or entries i d).land n was.1) refl) ∙ before.so_far;
-      known = before.known;
+      so_far = sym (at_drop_more (firsts_after (λ (e : LandmarkEntry). e.land) (map first_of kept)) entries i d lt ∙ rw was.0 refl) ∙ before.so_far;
       all = λ j x low. elim (cases_lt j i) [
         | inl earlier ↦ before.all j x earlier
-        | inr last ↦ let same : j ≡ i = omega arith in rw (same, get_or_default entries i x d lt) (contained (lands kept) n (get_or entries i d).land was.1)
+        | inr last ↦ let same : j ≡ i = omega arith in rw (same, get_or_default entries i x d lt) was.1
       ];
       no_other = before.no_other;
       few = before.few;
     }
-  where
-    contained : (ns : List ℕ) (k m : ℕ) → slice_get ns k ≡ Some m → Contains ns m
-    contained [] k m at = absurd (let e : None ≡ Some m = at in cc)
-    contained (x ∷ xs) zero m at = (0, omega arith, (let e : x ≡ m = cc in e))
-    contained (x ∷ xs) (suc k) m at = let rest = contained xs k m at in (suc rest.0, omega (arith, rest.1), rest.2)
 
 -- all records are listed
-pub listed : (entries : List LandmarkEntry) (i : ℕ) (f : FirstLandmarks) → length entries ≤ i → Listing entries i f.firsts.items (get nat_cmp f.index) → ListsLandmarks entries f
-listed entries i f whole before = record {
-  firsts_are = sym (at_drop_all (firsts_after (λ (e : LandmarkEntry). e.land) f.firsts.items) entries i whole) ∙ before.so_far;
-  index = numbers_whole (lands f.firsts.items) (length f.firsts.items) (get nat_cmp f.index) (omega (arith, length-map f.firsts.items (λ (x : LandmarkEntry). x.land))) before.known;
+pub listed : (entries : List LandmarkEntry) (i : ℕ) (f : IndexMap ℕ (Option Point) RandomState) → length entries ≤ i → IsUnique nat_eq f → Listing entries i f.entries → ListsLandmarks entries f
+listed entries i f whole unique before = record {
+  firsts_are = sym (at_drop_all (firsts_after (λ (e : LandmarkEntry). e.land) (map first_of f.entries)) entries i whole) ∙ before.so_far;
+  unique = unique;
   all = λ n has. all entries n has (λ j d lt. before.all j d (omega arith));
   no_other = before.no_other;
   few = before.few;
 }
   where
-    all : (es : List LandmarkEntry) (n : ℕ) → Contains (lands es) n → ((j : ℕ) (d : LandmarkEntry) → j < length es → Contains (lands f.firsts.items) (get_or es j d).land) → Contains (lands f.firsts.items) n
+    all : (es : List LandmarkEntry) (n : ℕ) → Contains (lands es) n → ((j : ℕ) (d : LandmarkEntry) → j < length es → Contains (keys_of f.entries) (get_or es j d).land) → Contains (keys_of f.entries) n
     all [] n has each = absurd (omega (arith, has.1))
     all (e ∷ es) n has each =
         let lt : has.0 < length (e ∷ es) = omega (arith, has.1, length-map (e ∷ es) (λ (x : LandmarkEntry). x.land)) in

@@ -1,5 +1,6 @@
 use Rattle.std.proofs.Common.{◌≡◌, ℕ, suc, ◌+◌, ◌<◌, eqb, inl, inr, Option, Some, List, [], ◌∷◌, length, map, filter, get_or, All, refl, ap, ◌∙◌, arith}
-use Rattle.std.specs.Prelude.{slice_get}
+use Rattle.std.specs.Prelude.{slice_get, nat_eq}
+use Rattle.std.proofs.lemmas.List.{length-map}
 use Rattle.std.proofs.lemmas.Bool.{cases_eq, eq-eqb, ne_eqb}
 use Rattle.std.proofs.lemmas.Option.{slice_get_within}
 use Rattle.std.proofs.lemmas.List.Sorted.{All-permutation}
@@ -7,12 +8,17 @@ use Rattle.tl_record.specs.declared.record.PolyKey.{PolyKey}
 use Rattle.tl_map.specs.declared.entry.LandmarkEntry.{LandmarkEntry}
 use Rattle.tl_map.specs.declared.entry.LinkEntry.{LinkEntry}
 use Rattle.tl_map.specs.declared.landmarks.Link.{Link}
-use Rattle.tl_map.specs.declared.landmarks.FirstLandmarks.{FirstLandmarks}
+use Rattle.std.specs.declared.hash.RandomState.{RandomState}
+use Rattle.std.specs.Map.{keys_of}
+use Rattle.indexmap.specs.IndexMap.{IndexMap, keys, index_of}
+use Rattle.tl_geom.specs.declared.point.Point.{Point}
+use Rattle.tl_county.specs.declared.landmarks.LandmarkRow.{LandmarkRow}
+use Rattle.tl_county.specs.Rows.{polygons_at, landmarks_in}
 use Rattle.tl_county.specs.declared.landmarks.LinkedLandmarks.{LinkedLandmarks}
 use Rattle.tl_map.specs.declared.fault.MapStop.{MapStop}
-use Rattle.tl_map.specs.MapOf.{firsts, place_of}
+use Rattle.tl_map.specs.MapOf.{firsts, place_of, linked_to}
 use Rattle.tl_map.specs.Keeping.Index.{Numbers}
-use Rattle.tl_map.specs.Keeping.Landmarks.{lands, ListsLandmarks, IsLink, AreAllLinks, StopsLinks, StopsLinking, links_to, AreByLandmark, landmark_with, listed, IsLinked, landmark_from, AreLinked}
+use Rattle.tl_map.specs.Keeping.Landmarks.{first_of, ListsLandmarks, IsLink, AreAllLinks, StopsLinks, StopsLinking, links_to, AreByLandmark, polygons_to, AreRows, landmark_from, AreLinked}
 use Rattle.tl_county.proofs.PlaceLemmas.{contained}
 
 -- the links of the l-th LAND, by numbers and by keys
@@ -35,16 +41,18 @@ to_links ks ns found (k ∷ links) (m ∷ made) l n numbers at same each =
           rw (ne_eqb m.landmark l other, ne_eqb k.land n land) rest
     ]
 
--- the landmarks that are listed are those of the links
-listed_is : (ks : List PolyKey) (ns : List ℕ) (found : ℕ → Option ℕ) (links : List LinkEntry) (old new : List Link) (es : List LandmarkEntry) (l : ℕ) → Numbers ns found → AreAllLinks ks ns links old → AreByLandmark old new → ((j : ℕ) (n : ℕ) → slice_get (lands es) j ≡ Some n → slice_get ns (l + j) ≡ Some n) → listed new l es ≡ map (landmark_from ks links) es
-listed_is ks ns found links old new [] l numbers all sorted at = refl
-listed_is ks ns found links old new (e ∷ es) l numbers all sorted at =
-    let here : slice_get ns l ≡ Some e.land = let none : l + 0 ≡ l = omega arith in rw none at (at 0 e.land refl) in
-    let this : landmark_with new l e ≡ landmark_from ks links e =
-    ap (λ ps. record { land = e.land; point = e.point; polygons = firsts (λ p. p) ps })
-    (ap (map (λ (m : Link). m.polygon)) (sorted.same l) ∙ to_links ks ns found links old l e.land numbers here all.1 all.0.each) in
-    let rest = listed_is ks ns found links old new es (l + 1) numbers all sorted (λ j n h. let more : l + 1 + j ≡ l + suc j = omega arith in rw more (at (suc j) n h)) in
-    λ i. this i ∷ rest i
+-- the landmarks of rows are those of the links
+listed_is : (ks : List PolyKey) (ns : List ℕ) (found : ℕ → Option ℕ) (links : List LinkEntry) (old new : List Link) (linked : List ℕ) (es : List (ℕ × Option Point)) (rows : List LandmarkRow) (l : ℕ) → Numbers ns found → AreAllLinks ks ns links old → AreByLandmark old new → length rows ≡ length es → ((k : ℕ) (d : LandmarkRow) → k < length rows → polygons_at linked (get_or rows k d) ≡ polygons_to (l + k) new) → ((j : ℕ) (n : ℕ) → slice_get (keys_of es) j ≡ Some n → slice_get ns (l + j) ≡ Some n) → landmarks_in linked es rows ≡ map (landmark_from ks links) (map first_of es)
+listed_is ks ns found links old new linked [] rows l numbers all sorted same are at = refl
+listed_is ks ns found links old new linked (e ∷ es) [] l numbers all sorted same are at = absurd (omega arith)
+listed_is ks ns found links old new linked (e ∷ es) (row ∷ rows) l numbers all sorted same are at =
+    let none : l + 0 ≡ l = omega arith in
+    let here : slice_get ns l ≡ Some e.0 = rw none at (at 0 e.0 refl) in
+    let row_is : polygons_at linked row ≡ polygons_to l new = rw none at (are 0 row (omega arith)) in
+    let this : polygons_at linked row ≡ linked_to ks links e.0 =
+    row_is ∙ ap (λ ps. firsts (λ p. p) ps) (ap (map (λ (m : Link). m.polygon)) (sorted.same l) ∙ to_links ks ns found links old l e.0 numbers here all.1 all.0.each) in
+    let rest = listed_is ks ns found links old new linked es rows (l + 1) numbers all sorted (omega arith) (λ k d lt. let more : l + 1 + k ≡ l + suc k = omega arith in rw more (are (suc k) d (omega arith))) (λ j n h. let more : l + 1 + j ≡ l + suc j = omega arith in rw more (at (suc j) n h)) in
+    λ i. record { land = e.0; point = e.1; polygons = this i } ∷ rest i
 
 -- each link has a polygon
 pub links_inside : (ks : List PolyKey) (ns : List ℕ) (links : List LinkEntry) (old new : List Link) (count : ℕ) → length ks ≡ count → AreAllLinks ks ns links old → AreByLandmark old new → All (λ m. m.polygon < count) new
@@ -52,18 +60,20 @@ links_inside ks ns links old new count same all sorted =
     All-permutation (λ m. m.polygon < count) old new sorted.moved (λ k d lt. let x : LinkEntry = record { key = record { cenid = []; polyid = 0 }; land = 0 } in let h = slice_get_within ks (get_or old k d).polygon _ (all.0.each k x d lt).known in omega (arith, h, same))
 
 -- the landmarks with their links
-pub linked_all : (ks : List PolyKey) (entries : List LandmarkEntry) (f : FirstLandmarks) (found : ℕ → Option ℕ) (links : List LinkEntry) (old new : List Link) (l : LinkedLandmarks) → ListsLandmarks entries f → Numbers (lands f.firsts.items) found → AreAllLinks ks (lands f.firsts.items) links old → AreByLandmark old new → IsLinked (listed new 0 f.firsts.items) l.linked.items l.rows.items → AreLinked ks entries links l
-linked_all ks entries f found links old new l lists numbers all sorted are = record {
-  rows = rw (← lists.firsts_are, ← listed_is ks (lands f.firsts.items) found links old new f.firsts.items 0 numbers all sorted (λ j n h. let none : 0 + j ≡ j = omega arith in rw none h)) are;
+pub linked_all : (ks : List PolyKey) (entries : List LandmarkEntry) (links : List LinkEntry) (old new : List Link) (l : LinkedLandmarks) → ListsLandmarks entries l.points → Numbers (keys l.points) (index_of nat_eq l.points) → AreAllLinks ks (keys l.points) links old → AreByLandmark old new → AreRows new (length l.points.entries) l.linked.items l.rows.items → AreLinked ks entries links l
+linked_all ks entries links old new l lists numbers all sorted rows = record {
+  are = rw (← lists.firsts_are) (listed_is ks (keys l.points) _ links old new l.linked.items l.points.entries l.rows.items 0 numbers all sorted rows.count (λ k d lt. let none : 0 + k ≡ k = omega arith in rw none (rows.are k d lt)) (λ j n h. let none : 0 + j ≡ j = omega arith in rw none h));
+  beside = rows.count;
+  within = rows.within;
   known = λ k d lt.
       let m : Link = record { landmark = 0; polygon = 0 } in
       let this = all.0.each k d m (omega (arith, all.1)) in
-      (lists.no_other (get_or links k d).land (contained (lands f.firsts.items) (get_or old k m).landmark _ this.landmark), contained ks (get_or old k m).polygon _ this.known);
-  few = rw (← lists.firsts_are) lists.few;
+      (lists.no_other (get_or links k d).land (contained (keys l.points) (get_or old k m).landmark _ this.landmark), contained ks (get_or old k m).polygon _ this.known);
+  few = omega (arith, lists.few, ap length lists.firsts_are, length-map l.points.entries first_of);
 }
 
 -- what stops the links
-pub stops_linking : (ks : List PolyKey) (entries : List LandmarkEntry) (f : FirstLandmarks) (links : List LinkEntry) (stop : MapStop) → ListsLandmarks entries f → StopsLinks ks (lands f.firsts.items) links stop → StopsLinking ks entries links stop
+pub stops_linking : (ks : List PolyKey) (entries : List LandmarkEntry) (f : IndexMap ℕ (Option Point) RandomState) (links : List LinkEntry) (stop : MapStop) → ListsLandmarks entries f → StopsLinks ks (keys f) links stop → StopsLinking ks entries links stop
 stops_linking ks entries f links stop lists why = elim why [
   | inl memory ↦ inl (inl memory)
   | inr link ↦ inr (

@@ -25,11 +25,12 @@ use Rattle.tl_map.specs.Keeping.Areas.{KeepsAreas}
 use Rattle.tl_map.specs.Keeping.Built.{AreBuilt, StopsBuilding}
 use Rattle.tl_map.specs.Keeping.Index.{Numbers, StopsIndex}
 use Rattle.tl_map.specs.Keeping.Sided.{sided_by, NamesKnown, sides_tlids, ArePaired, StopsPairing, StopsSides}
-use Rattle.tl_county.specs.Rows.{landmark_in, sided}
+use Rattle.tl_county.specs.Rows.{landmarks_in as rows_in, sided}
 use Rattle.tl_map.specs.Keeping.Landmarks.{landmark_from, AreLinked, StopsLinking}
 use Rattle.tl_map.specs.Keeping.Mapped.{AreMapped}
 use Rattle.tl_map.proofs.CountLemmas.{none_counted}
 use Rattle.tl_map.proofs.PairLemmas.{far}
+use Rattle.tl_county.proofs.RowLemmas.{length-landmarks_in}
 
 -- a TLID of the chains is one of a type 1 record, and the other way round
 pub chain_known : (rs : List Record) (chains : List CompleteChain) (t : ℕ) → AreChainsOf rs chains → Contains (tlids chains) t → HasChain rs t
@@ -160,7 +161,7 @@ stops_linked rs polygons entries links stop p e l why = elim why [
 ]
 
 -- the map is that of the records
-pub mapped_all : (rs : List Record) (skipped : ℕ) (chains : ChainList) (areas : AreaRecords) (new : List SidesEntry) (sides : List ChainSides) (found : PolyKey → Option ℕ) (l : LinkedLandmarks) → AreBuilt rs skipped chains → KeepsAreas rs areas → ArePaired (tlids chains.chains) areas.sides.items new → Numbers (keys areas.polygons.items) found → All (NamesKnown (keys areas.polygons.items)) new → sides ≡ map (sided_by (keys areas.polygons.items)) new → length areas.polygons.items ≤ most_polygons → AreLinked (keys areas.polygons.items) areas.landmarks.items areas.links.items l → AreMapped rs skipped (record { chains = sided chains.chains sides; polygons = areas.polygons.items; landmarks = map (landmark_in l.linked.items) l.rows.items; skipped = chains.skipped })
+pub mapped_all : (rs : List Record) (skipped : ℕ) (chains : ChainList) (areas : AreaRecords) (new : List SidesEntry) (sides : List ChainSides) (found : PolyKey → Option ℕ) (l : LinkedLandmarks) → AreBuilt rs skipped chains → KeepsAreas rs areas → ArePaired (tlids chains.chains) areas.sides.items new → Numbers (keys areas.polygons.items) found → All (NamesKnown (keys areas.polygons.items)) new → sides ≡ map (sided_by (keys areas.polygons.items)) new → length areas.polygons.items ≤ most_polygons → AreLinked (keys areas.polygons.items) areas.landmarks.items areas.links.items l → AreMapped rs skipped (record { chains = sided chains.chains sides; polygons = areas.polygons.items; landmarks = rows_in l.linked.items l.points.entries l.rows.items; skipped = chains.skipped })
 mapped_all rs skipped chains areas new sides found l built keeps paired numbers known are few linked =
     let paired_in : ArePaired (tlids chains.chains) (sides_in rs) new = rw keeps.sides at paired in
     let numbers_in : Numbers (keys (polygons_in rs)) found = rw keeps.polygons at numbers in
@@ -175,7 +176,7 @@ mapped_all rs skipped chains areas new sides found l built keeps paired numbers 
         chains = rw (sides_are, all.1) built.chains;
         sides = rw sides_are all.0;
         polygons = keeps.polygons;
-        landmarks = linked_in.rows.are;
+        landmarks = linked_in.are;
       };
       skipped_lines = built.skipped_lines;
       no_fault = no_fault rs skipped chains new found l built paired_in numbers_in known_in few_in linked_in;
@@ -187,6 +188,6 @@ as_many rs skipped chains old new sides ks built paired are =
     omega (arith, ap length are, length-map new (sided_by ks), ap length paired.same, length-map new (λ (s : SidesEntry). s.tlid), length-map chains.chains (λ (c : CompleteChain). c.tlid))
 
 -- no more landmarks than the limit
-pub few_rows : (ks : List PolyKey) (entries : List LandmarkEntry) (links : List LinkEntry) (l : LinkedLandmarks) → AreLinked ks entries links l → length l.rows.items ≤ most_landmarks
+pub few_rows : (ks : List PolyKey) (entries : List LandmarkEntry) (links : List LinkEntry) (l : LinkedLandmarks) → AreLinked ks entries links l → length l.points.entries ≤ most_landmarks
 few_rows ks entries links l linked =
-    omega (arith, ap length linked.rows.are, length-map l.rows.items (landmark_in l.linked.items), length-map (firsts (λ (e : LandmarkEntry). e.land) entries) (landmark_from ks links), linked.few)
+    omega (arith, ap length linked.are, length-landmarks_in l.linked.items l.points.entries l.rows.items linked.beside, length-map (firsts (λ (e : LandmarkEntry). e.land) entries) (landmark_from ks links), linked.few)

@@ -1,4 +1,4 @@
-use Rattle.std.proofs.Common.{◌≡◌, ◌≢◌, ℕ, zero, suc, ◌<◌, Bool, true, false, eqb, ◌||◌, inl, inr, List, [], ◌∷◌, ◌++◌, length, map, filter, get_or, All, Contains, refl, sym, ◌∙◌, arith}
+use Rattle.std.proofs.Common.{◌≡◌, ◌≢◌, ℕ, zero, suc, ◌<◌, Bool, true, false, eqb, ◌||◌, inl, inr, Option, List, [], ◌∷◌, ◌++◌, length, map, filter, get_or, All, Contains, refl, sym, ap, ◌∙◌, arith}
 use Rattle.std.specs.List.{list_any}
 use Rattle.std.proofs.lemmas.Bool.{cases_Bool, eq-eqb}
 use Rattle.std.proofs.lemmas.List.{length-map, get_or-map}
@@ -6,12 +6,13 @@ use Rattle.std.proofs.lemmas.List.Elements.{All-push, All-map, All-filter, All-w
 use Rattle.tl_record.specs.declared.record.PolyKey.{PolyKey}
 use Rattle.tl_map.specs.declared.entry.LandmarkEntry.{LandmarkEntry}
 use Rattle.tl_map.specs.declared.entry.LinkEntry.{LinkEntry}
-use Rattle.tl_county.specs.declared.polygons.Polygon.{Polygon}
+use Rattle.tl_geom.specs.declared.point.Point.{Point}
+use Rattle.tl_county.specs.declared.landmarks.LandmarkRow.{LandmarkRow}
 use Rattle.tl_county.specs.declared.landmarks.LinkedLandmarks.{LinkedLandmarks}
-use Rattle.tl_map.specs.MapOf.{keys, same_key, place_of, firsts, firsts_after, linked_to}
+use Rattle.tl_map.specs.MapOf.{same_key, place_of, firsts, firsts_after, linked_to}
 use Rattle.tl_county.specs.TheMap.{MapLandmark}
 use Rattle.tl_county.specs.Landmarks.{AreOnce, ArePolygonsOf}
-use Rattle.tl_county.specs.Rows.{HasPolygonsOf, landmark_in}
+use Rattle.tl_county.specs.Rows.{HasPolygonsOf, polygons_at, landmarks_in}
 use Rattle.tl_map.specs.Keeping.Landmarks.{landmark_from, AreLinked}
 use Rattle.tl_map.proofs.IndexLemmas.{same_key-refl}
 
@@ -57,14 +58,20 @@ linked_once ks links n known =
     let both = firsts_once (λ p. p < length ks) [] (map (λ (l : LinkEntry). place_of ks l.key) (filter (λ (l : LinkEntry). eqb l.land n) links)) tt (λ k d lt. absurd (omega arith)) below in
     record { below = both.1; once = both.0 }
 
+-- the landmarks of rows have the rows' polygons
+polygons_of : (linked : List ℕ) (es : List (ℕ × Option Point)) (rows : List LandmarkRow) → length rows ≡ length es → map (λ (m : MapLandmark). m.polygons) (landmarks_in linked es rows) ≡ map (polygons_at linked) rows
+polygons_of linked [] [] same = refl
+polygons_of linked [] (row ∷ rows) same = absurd (omega arith)
+polygons_of linked (e ∷ es) [] same = absurd (omega arith)
+polygons_of linked (e ∷ es) (row ∷ rows) same = ap (λ ps. polygons_at linked row ∷ ps) (polygons_of linked es rows (omega arith))
+
 -- the polygons of each linked landmark are polygons of the map, each once
-pub rows_once : (polygons : List Polygon) (entries : List LandmarkEntry) (links : List LinkEntry) (l : LinkedLandmarks) → AreLinked (keys polygons) entries links l → All (HasPolygonsOf (length polygons) l.linked.items) l.rows.items
-rows_once polygons entries links l linked k d lt =
-    let count : length (keys polygons) ≡ length polygons = length-map polygons (λ (p : Polygon). p.key) in
-    let known : All (λ (x : LinkEntry). Contains (keys polygons) x.key) links = λ i e within. (linked.known i e within).1 in
-    let all : All (λ (m : MapLandmark). ArePolygonsOf (length polygons) m.polygons) (map (landmark_from (keys polygons) links) (firsts (λ (e : LandmarkEntry). e.land) entries)) =
-    All-map (λ (m : MapLandmark). ArePolygonsOf (length polygons) m.polygons) (landmark_from (keys polygons) links) (firsts (λ (e : LandmarkEntry). e.land) entries) (λ i e within. rw (← count) (linked_once (keys polygons) links _ known)) in
-    let here = rw (← linked.rows.are) at all in
-    let x : MapLandmark = landmark_in l.linked.items d in
-    let within : k < length (map (landmark_in l.linked.items) l.rows.items) = let h = length-map l.rows.items (landmark_in l.linked.items) in omega arith in
-    rw (get_or-map (landmark_in l.linked.items) l.rows.items k d x lt) at (here k x within)
+pub rows_once : (ks : List PolyKey) (entries : List LandmarkEntry) (links : List LinkEntry) (l : LinkedLandmarks) → AreLinked ks entries links l → All (HasPolygonsOf (length ks) l.linked.items) l.rows.items
+rows_once ks entries links l linked k d lt =
+    let known : All (λ (x : LinkEntry). Contains ks x.key) links = λ i e within. (linked.known i e within).1 in
+    let all : All (λ (m : MapLandmark). ArePolygonsOf (length ks) m.polygons) (map (landmark_from ks links) (firsts (λ (e : LandmarkEntry). e.land) entries)) =
+    All-map (λ (m : MapLandmark). ArePolygonsOf (length ks) m.polygons) (landmark_from ks links) (firsts (λ (e : LandmarkEntry). e.land) entries) (λ i e within. linked_once ks links _ known) in
+    let here = All-map (ArePolygonsOf (length ks)) (λ (m : MapLandmark). m.polygons) (landmarks_in l.linked.items l.points.entries l.rows.items) (rw (← linked.are) at all) in
+    let rows : All (ArePolygonsOf (length ks)) (map (polygons_at l.linked.items) l.rows.items) = rw (polygons_of l.linked.items l.points.entries l.rows.items linked.beside) at here in
+    let within : k < length (map (polygons_at l.linked.items) l.rows.items) = let h = length-map l.rows.items (polygons_at l.linked.items) in omega arith in
+    rw (get_or-map (polygons_at l.linked.items) l.rows.items k d [] lt) at (rows k [] within)

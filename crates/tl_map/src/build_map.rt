@@ -15,11 +15,13 @@ use crate::landmarks::build_landmarks;
 use crate::polygons::index_polygons;
 use crate::sides::{pair_sides, resolve_sides};
 use std::alloc::Global;
+use std::hash::RandomState;
 use tl_county::{Map, POLYGON_LIMIT};
 
 /// The map of the records.
 pub fn build_map(
     alloc: Global,
+    hasher: RandomState,
     collected: Collected,
     areas: AreaRecords,
     skipped: u64,
@@ -40,11 +42,11 @@ pub fn build_map(
     }
     let chains = build_chains(alloc, collected, skipped)?;
     let paired = pair_sides(&chains, sides)?;
-    let index = index_polygons(alloc, &polygons)?;
+    let index = index_polygons(alloc, hasher, &polygons)?;
+    drop(polygons);
     let sides = resolve_sides(alloc, &index, &paired)?;
     drop(paired);
-    let linked = build_landmarks(alloc, &index, polygons.len(), &landmarks, &links)?;
-    drop(index);
-    let map = Map::new(alloc, chains, sides, polygons, linked)?;
+    let linked = build_landmarks(alloc, hasher, &index, &landmarks, &links)?;
+    let map = Map::new(alloc, chains, sides, index, linked)?;
     Ok(map)
 }

@@ -1,48 +1,46 @@
 //! Landmarks and the polygons that are linked to them.
 
-ghost use Rattle.std.specs.Prelude.{◌≡◌, ◌≢◌, ◌<◌, ◌≤◌, ◌++◌, ℕ, List, IfOk, IfErr, OnOk, MatchResult, All, length};
+ghost use Rattle.std.specs.Prelude.{◌≡◌, ◌≢◌, ◌<◌, ◌≤◌, ◌^◌, ◌++◌, ℕ, List, IfOk, IfErr, OnOk, MatchResult, All, length};
 ghost use Rattle.std.specs.Prelude.{map, slice_index_or};
 ghost use Rattle.tl_record.specs.declared.record.PolyKey.{PolyKey};
 ghost use Rattle.tl_map.specs.Keeping.Index.{Indexes};
 ghost use Rattle.tl_map.specs.Keeping.Landmarks.{ListsLandmarks, StopsLandmarks, IsLink, IndexesLands, StopsLink};
-ghost use Rattle.tl_map.specs.Keeping.Landmarks.{AreAllLinks, StopsLinks, AreByLandmark, listed, IsLinked};
+ghost use Rattle.tl_map.specs.Keeping.Landmarks.{AreAllLinks, StopsLinks, AreByLandmark, AreRows};
 ghost use Rattle.tl_map.specs.Keeping.Landmarks.{AreLinked, StopsLinking};
-ghost use Rattle.tl_map.specs.MapOf.{firsts};
+ghost use Rattle.tl_map.specs.MapOf.{firsts, same_key};
+ghost use Rattle.indexmap.specs.IndexMap.{IsUnique, keys};
 ghost use Rattle.tl_county.specs.declared.limits.TheConstants.{LANDMARK_LIMIT};
 ghost use Rattle.tl_map.specs.declared.landmarks.Link.{Link};
 ghost use Rattle.std.specs.List.Sorted.{IsNonDecreasingBy};
 
 use crate::entry::{LandmarkEntry, LinkEntry};
 use crate::fault::{Limited, MapFault, MapStop};
+use indexmap::IndexMap;
 use std::alloc::{AllocError, Global};
-use std::collections::BTreeMap;
+use std::hash::RandomState;
 use tl_county::{LANDMARK_LIMIT, LandmarkRow, LinkedLandmarks};
+use tl_geom::Point;
 use tl_record::PolyKey;
 
-/// The first type 7 record of each LAND, and the place of each LAND among them.
-#[derive(Drop)]
-pub struct FirstLandmarks {
-    pub firsts: Vec<LandmarkEntry>,
-    pub index: BTreeMap<u64, u32>,
-}
-
-/// The first record of each LAND, by their order.
-pub fn first_landmarks(alloc: Global, entries: &[LandmarkEntry]) -> Result<FirstLandmarks, MapStop>
+/// The first record of each LAND, by their order: the LAND with the record's point.
+pub fn first_landmarks(
+    alloc: Global,
+    hasher: RandomState,
+    entries: &[LandmarkEntry],
+) -> Result<IndexMap<u64, Option<Point>, RandomState>, MapStop>
     ensures ok { IfOk result (ListsLandmarks entries.now) }
     ensures stops { IfErr result (StopsLandmarks entries.now) }
 {
-    let mut firsts = Vec::new(alloc);
-    let mut index = BTreeMap::new(alloc);
+    let mut firsts = IndexMap::with_hasher(alloc, hasher);
     for entry in entries {
-        if index.get(&entry.land).copied().is_none() {
+        if !firsts.contains_key(&entry.land) {
             if firsts.len() == LANDMARK_LIMIT as usize {
                 return Err(MapStop::Fault(MapFault::TooMany(Limited::Landmarks)));
             }
-            index.insert(entry.land, firsts.len() as u32)?;
-            firsts.push(*entry)?;
+            firsts.insert(entry.land, entry.point)?;
         }
     }
-    Ok(FirstLandmarks { firsts, index })
+    Ok(firsts)
 }
 
 /// A polygon that is linked to a landmark, both by number.
@@ -54,21 +52,26 @@ pub struct Link {
 
 /// The numbers of a link's landmark and polygon.
 fn resolve_link(
-    polygons: &BTreeMap<PolyKey, u32>,
-    landmarks: &BTreeMap<u64, u32>,
+    polygons: &IndexMap<PolyKey, Point, RandomState>,
+    landmarks: &IndexMap<u64, Option<Point>, RandomState>,
     link: LinkEntry,
 ) -> Result<Link, MapStop>
+    requires polygons { length polygons.now.entries < 2 ^ 32 }
+    requires landmarks { length landmarks.now.entries < 2 ^ 32 }
     ensures { (ks : List PolyKey) (lands : List ℕ) → Indexes ks polygons.now → IndexesLands lands landmarks.now →
         MatchResult result (IsLink ks lands link) (StopsLink ks lands link) }
 {
-    let landmark = match landmarks.get(&link.land).copied() {
-        Some(landmark) => landmark,
+    let landmark = match landmarks.get_index_of(&link.land) {
+        Some(landmark) => landmark as u32,
         None => {
             return Err(MapStop::Fault(MapFault::LinkWithoutLandmark { land: link.land }));
         }
     };
-    match polygons.get(&link.key).copied() {
-        Some(polygon) => Ok(Link { landmark, polygon }),
+    match polygons.get_index_of(&link.key) {
+        Some(polygon) => Ok(Link {
+            landmark,
+            polygon: polygon as u32,
+        }),
         None => Err(MapStop::Fault(MapFault::LinkWithoutPolygon {
             polygon: link.key,
             land: link.land,
@@ -79,10 +82,12 @@ fn resolve_link(
 /// The links by the numbers of landmarks and polygons, in file order.
 fn resolve_links(
     alloc: Global,
-    polygons: &BTreeMap<PolyKey, u32>,
-    landmarks: &BTreeMap<u64, u32>,
+    polygons: &IndexMap<PolyKey, Point, RandomState>,
+    landmarks: &IndexMap<u64, Option<Point>, RandomState>,
     links: &[LinkEntry],
 ) -> Result<Vec<Link>, MapStop>
+    requires polygons { length polygons.now.entries < 2 ^ 32 }
+    requires landmarks { length landmarks.now.entries < 2 ^ 32 }
     ensures ok { (ks : List PolyKey) (lands : List ℕ) → Indexes ks polygons.now → IndexesLands lands landmarks.now →
         IfOk result (λ made. AreAllLinks ks lands links.now made.items) }
     ensures stops { (ks : List PolyKey) (lands : List ℕ) → Indexes ks polygons.now →
@@ -142,54 +147,55 @@ fn links_end(links: &[Link], start: usize, landmark: u32) -> usize
     end
 }
 
-/// The landmarks with the polygons of their links, which are sorted by landmark.
+/// For each of so many landmarks the polygons of its links, which are sorted by landmark, in one list.
 fn list_linked(
     alloc: Global,
-    firsts: &[LandmarkEntry],
+    landmarks: u32,
     links: &[Link],
     polygons: usize,
-) -> Result<LinkedLandmarks, AllocError>
-    requires few { length firsts.now ≤ LANDMARK_LIMIT }
+) -> Result<(Vec<LandmarkRow>, Vec<u32>), AllocError>
+    requires few { landmarks ≤ LANDMARK_LIMIT }
     requires rising { IsNonDecreasingBy (λ (m : Link). m.landmark) links.now }
     requires inside { All (λ m. m.polygon < polygons) links.now }
-    ensures { IfOk result (λ l. IsLinked (listed links.now 0 firsts.now) l.linked.items l.rows.items) }
+    ensures { IfOk result (λ l. AreRows links.now landmarks l.1.items l.0.items) }
 {
     let mut marks = vec![in alloc; 0u32; polygons]?;
-    let mut rows = Vec::with_capacity(alloc, firsts.len())?;
+    let mut rows = Vec::with_capacity(alloc, landmarks as usize)?;
     let mut linked = Vec::new(alloc);
     let mut start = 0;
-    let mut number = 0;
-    for entry in firsts {
-        let end = links_end(links, start, number);
+    for landmark in 0..landmarks {
+        let end = links_end(links, start, landmark);
         let first = linked.len();
-        append_once(&mut linked, &mut marks, number + 1, &links[start..end])?;
+        append_once(&mut linked, &mut marks, landmark + 1, &links[start..end])?;
         rows.push(LandmarkRow {
-            land: entry.land,
-            point: entry.point,
             first,
             count: linked.len() - first,
         })?;
         start = end;
-        number += 1;
     }
-    Ok(LinkedLandmarks { rows, linked })
+    Ok((rows, linked))
 }
 
 /// The landmarks of the records with the polygons that are linked to them.
 pub fn build_landmarks(
     alloc: Global,
-    index: &BTreeMap<PolyKey, u32>,
-    polygons: usize,
+    hasher: RandomState,
+    index: &IndexMap<PolyKey, Point, RandomState>,
     entries: &[LandmarkEntry],
     links: &[LinkEntry],
 ) -> Result<LinkedLandmarks, MapStop>
-    requires { (ks : List PolyKey) × Indexes ks index.now × (length ks ≡ polygons) }
-    ensures { (ks : List PolyKey) → Indexes ks index.now →
-        MatchResult result (AreLinked ks entries.now links.now) (StopsLinking ks entries.now links.now) }
+    requires few { length index.now.entries < 2 ^ 32 }
+    requires unique { IsUnique same_key index.now }
+    ensures { MatchResult result (AreLinked (keys index.now) entries.now links.now)
+        (StopsLinking (keys index.now) entries.now links.now) }
 {
-    let landmarks = first_landmarks(alloc, entries)?;
-    let mut made = resolve_links(alloc, index, &landmarks.index, links)?;
+    let points = first_landmarks(alloc, hasher, entries)?;
+    let mut made = resolve_links(alloc, index, &points, links)?;
     sort_links(&mut made)?;
-    let linked = list_linked(alloc, &landmarks.firsts, &made, polygons)?;
-    Ok(linked)
+    let (rows, linked) = list_linked(alloc, points.len() as u32, &made, index.len())?;
+    Ok(LinkedLandmarks {
+        points,
+        rows,
+        linked,
+    })
 }

@@ -3,8 +3,8 @@
 //! [`read_map`] reads the records of a text and makes the county's [`Map`]: complete chains with their points and the
 //! polygons on both sides, polygons, and landmarks with their polygons; [`read_chains`] makes the chains alone. The
 //! answer is that of the whole text, its first refused line, or a fault that is true of its records. Records are
-//! gathered as they come, sorted once and joined by merging; the points of all chains lie in one list, and keys are
-//! looked up in their order, never by a hash that a file could be made against.
+//! gathered as they come, sorted once and joined by merging; the points of all chains lie in one list. Polygons and
+//! landmarks are kept in `indexmap` maps, whose hasher's keys come from the caller, so that no file can be made against it.
 #![tactic(auto)]
 
 mod areas;

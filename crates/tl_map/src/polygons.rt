@@ -1,33 +1,35 @@
-//! The numbers of polygons by their keys.
+//! Polygons by their keys.
 
-ghost use Rattle.std.specs.Prelude.{◌≡◌, ◌<◌, ◌^◌, List, IfOk, IfErr, length};
-ghost use Rattle.tl_map.specs.MapOf.{keys};
-ghost use Rattle.tl_map.specs.Keeping.Index.{Indexes, StopsIndex};
+ghost use Rattle.std.specs.Prelude.{◌≡◌, IfOk, IfErr, map};
+ghost use Rattle.indexmap.specs.IndexMap.{IsUnique};
+ghost use Rattle.tl_map.specs.MapOf.{keys, same_key};
+ghost use Rattle.tl_map.specs.Keeping.Index.{entry_of, StopsIndex};
 
 use crate::fault::{MapFault, MapStop};
+use indexmap::IndexMap;
 use std::alloc::Global;
-use std::collections::BTreeMap;
+use std::hash::RandomState;
 use tl_county::Polygon;
+use tl_geom::Point;
 use tl_record::PolyKey;
 
-/// The number of each polygon by its key, kept in the order of the keys: no file can make its look-ups slow.
+/// Polygons by their keys, in the order of their records.
 pub fn index_polygons(
     alloc: Global,
+    hasher: RandomState,
     polygons: &[Polygon],
-) -> Result<BTreeMap<PolyKey, u32>, MapStop>
-    requires { length polygons.now < 2 ^ 32 }
-    ensures index { IfOk result (Indexes (keys polygons.now)) }
+) -> Result<IndexMap<PolyKey, Point, RandomState>, MapStop>
+    ensures entries { IfOk result (λ index. index.entries ≡ map entry_of polygons.now) }
+    ensures unique { IfOk result (IsUnique same_key) }
     ensures stops { IfErr result (StopsIndex (keys polygons.now)) }
 {
-    let mut index = BTreeMap::new(alloc);
-    let mut number = 0;
+    let mut index = IndexMap::with_capacity_and_hasher(alloc, polygons.len(), hasher)?;
     for polygon in polygons {
-        if index.insert(polygon.key, number)?.is_some() {
+        if index.insert(polygon.key, polygon.point)?.is_some() {
             return Err(MapStop::Fault(MapFault::DuplicatePolygon {
                 polygon: polygon.key,
             }));
         }
-        number += 1;
     }
     Ok(index)
 }

@@ -15,6 +15,7 @@ use crate::build_map::build_map;
 use crate::collect::Collected;
 use crate::fault::MapStop;
 use std::alloc::Global;
+use std::hash::RandomState;
 use tl_county::{Chains, Map};
 use tl_record::{Options, RecordReader, Source};
 
@@ -112,9 +113,15 @@ pub fn read_chains_with<R: Source>(
 
 /// Reads the map of a county from the text of its record files, by the columns of [`Options`]'s default.
 ///
-/// All lines are read before a fault of the records is answered.
-pub fn read_map<R: Source>(alloc: Global, records: &mut R) -> Result<Map, MapStop>
-    // Where the bytes are known: the map of their records, where no line is refused and no fault is true.
+/// All lines are read before a fault of the records is answered. `hasher` has the keys by which polygons and landmarks
+/// are hashed: with random ones nobody can make a file whose look-ups are slow.
+pub fn read_map<R: Source>(
+    alloc: Global,
+    hasher: RandomState,
+    records: &mut R,
+) -> Result<Map, MapStop>
+    // Where the bytes are known: the map of their records, where no line is refused and no fault is true. It is the same
+    // whatever the keys are.
     ensures map { IfOk result (λ m. IfSome (R.remaining records.old)
         (λ text. IsReadFrom (records_of tiger_2006 text) m)) }
     // The first refused line, or where there is none, a fault that is true.
@@ -123,12 +130,13 @@ pub fn read_map<R: Source>(alloc: Global, records: &mut R) -> Result<Map, MapSto
     // `Device` is answered where a read failed in this call, and nowhere else.
     ensures failures { TellsDevice (R.failure_count records.old) (R.failure_count records.new) result }
 {
-    read_map_with(alloc, records, PLAIN)
+    read_map_with(alloc, hasher, records, PLAIN)
 }
 
 /// Reads the map of a county as [`read_map`] does, with the columns that the options choose of type I.
 pub fn read_map_with<R: Source>(
     alloc: Global,
+    hasher: RandomState,
     records: &mut R,
     options: Options,
 ) -> Result<Map, MapStop>
@@ -140,5 +148,5 @@ pub fn read_map_with<R: Source>(
 {
     let mut reader = RecordReader::with(records, options);
     let (collected, areas) = collect_all(alloc, &mut reader)?;
-    build_map(alloc, collected, areas, reader.skipped())
+    build_map(alloc, hasher, collected, areas, reader.skipped())
 }

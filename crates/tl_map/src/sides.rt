@@ -1,6 +1,6 @@
 //! The sides of chains by the keys of type I records.
 
-ghost use Rattle.std.specs.Prelude.{◌≡◌, ◌<◌, ◌≤◌, ◌==◌, List, length, slice_index, IfOk, OnOk, IfErr, MatchOption};
+ghost use Rattle.std.specs.Prelude.{◌≡◌, ◌<◌, ◌≤◌, ◌^◌, ◌==◌, List, length, slice_index, IfOk, OnOk, IfErr, MatchOption};
 ghost use Rattle.std.specs.Prelude.{MatchResult, map};
 ghost use Rattle.std.specs.Prelude.{count_by, All};
 ghost use Rattle.std.specs.List.Sorted.{IsNonDecreasingBy, IsStrictlyIncreasing, IsPermutation};
@@ -13,23 +13,26 @@ ghost use Rattle.tl_map.specs.Keeping.Sided.{IsUnpaired, ArePaired, StopsPairing
 
 use crate::fault::{MapFault, MapStop};
 use crate::kept::KeptSides;
+use indexmap::IndexMap;
 use std::alloc::Global;
-use std::collections::BTreeMap;
+use std::hash::RandomState;
 use tl_county::{ChainSides, Chains, KeptChainSides, Side};
+use tl_geom::Point;
 use tl_record::PolyKey;
 
 /// What lies on a side of a chain whose record has this key there.
 fn resolve_side(
-    index: &BTreeMap<PolyKey, u32>,
+    index: &IndexMap<PolyKey, Point, RandomState>,
     key: Option<PolyKey>,
     tlid: u64,
 ) -> Result<Side, MapStop>
+    requires { length index.now.entries < 2 ^ 32 }
     ensures { (ks : List PolyKey) → Indexes ks index.now → MatchResult result (IsSide ks key) (StopsSide ks key tlid) }
 {
     match key {
         None => Ok(Side::Outside),
-        Some(polygon) => match index.get(&polygon).copied() {
-            Some(number) => Ok(Side::Polygon(number)),
+        Some(polygon) => match index.get_index_of(&polygon) {
+            Some(number) => Ok(Side::Polygon(number as u32)),
             None => Err(MapStop::Fault(MapFault::SideWithoutPolygon { tlid, polygon })),
         },
     }
@@ -38,9 +41,10 @@ fn resolve_side(
 /// The sides of these records.
 pub fn resolve_sides(
     alloc: Global,
-    index: &BTreeMap<PolyKey, u32>,
+    index: &IndexMap<PolyKey, Point, RandomState>,
     entries: &[KeptSides],
 ) -> Result<Vec<KeptChainSides>, MapStop>
+    requires { length index.now.entries < 2 ^ 32 }
     ensures sides { (ks : List PolyKey) → Indexes ks index.now →
         IfOk result (λ sides. sides.items ≡ map (sided_by ks) entries.now) }
     ensures known { (ks : List PolyKey) → Indexes ks index.now → OnOk result (All (NamesKnown ks) entries.now) }

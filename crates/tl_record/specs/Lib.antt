@@ -9,6 +9,7 @@ pub mod Fields
 pub mod Layout
 pub mod Messages
 pub mod KeyText
+pub mod KeyWords
 pub mod Outcome
 pub mod Judgement
 pub mod Records

@@ -1,18 +1,19 @@
 -- Kept on the way: the place of each key among the polygons.
 use Rattle.std.specs.Prelude.{◌≡◌, ℕ, Option, Some, List, ◌⊎◌, slice_get}
-use Rattle.std.specs.Ordering.{nat_cmp, ordering_then}
-use Rattle.std.specs.Cmp.Lexicographic.{slice_cmp}
-use Rattle.std.specs.BTreeMap.{BTreeMap, get}
-use Rattle.std.specs.declared.cmp.Ordering.{Ordering}
+use Rattle.std.specs.declared.hash.RandomState.{RandomState}
+use Rattle.indexmap.specs.IndexMap.{IndexMap, index_of}
+use Rattle.tl_geom.specs.declared.point.Point.{Point}
+use Rattle.tl_county.specs.declared.polygons.Polygon.{Polygon}
 use Rattle.tl_record.specs.declared.record.PolyKey.{PolyKey}
 use Rattle.tl_map.specs.declared.fault.MapStop.{MapStop}
 use Rattle.tl_map.specs.declared.fault.MapStop.TheVariants.{Memory, Fault}
 use Rattle.tl_map.specs.declared.fault.MapFault.TheVariants.{DuplicatePolygon}
 use Rattle.tl_map.specs.Faults.{StandsTwice}
+use Rattle.tl_map.specs.MapOf.{same_key}
 
--- the order of keys, as `PolyKey` derives it
-abbrev pub key_cmp : PolyKey → PolyKey → Ordering
-key_cmp k l = ordering_then (slice_cmp nat_cmp k.cenid l.cenid) (nat_cmp k.polyid l.polyid)
+-- a polygon as an entry of a map by keys
+abbrev pub entry_of : Polygon → PolyKey × Point
+entry_of p = (p.key, p.point)
 
 -- a look-up gives the place of each of the keys, and nothing of any other
 pub record Numbers {K : Type 0} (ks : List K) (found : K → Option ℕ) : Type 0 where
@@ -20,8 +21,8 @@ pub record Numbers {K : Type 0} (ks : List K) (found : K → Option ℕ) : Type 
   pub only : (k : K) (n : ℕ) → found k ≡ Some n → slice_get ks n ≡ Some k
 
 -- the index has the place of each key
-abbrev pub Indexes : List PolyKey → BTreeMap PolyKey ℕ → Type 0
-Indexes ks index = Numbers ks (get key_cmp index)
+abbrev pub Indexes : List PolyKey → IndexMap PolyKey Point RandomState → Type 0
+Indexes ks index = Numbers ks (index_of same_key index)
 
 -- why keys aren't indexed: memory was refused, or one of them stands twice
 abbrev pub StopsIndex : List PolyKey → MapStop → Type 0

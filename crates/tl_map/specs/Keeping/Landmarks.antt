@@ -1,12 +1,12 @@
 -- Kept on the way: the first record of each landmark, links by number, and the rows of landmarks.
-use Rattle.std.specs.Prelude.{◌≡◌, ℕ, ◌+◌, ◌<◌, ◌≤◌, ◌==◌, ◌⊎◌, Some, List, [], ◌∷◌, All, length, map, filter, Any, Contains, slice_get, slice_index_or}
-use Rattle.std.specs.Ordering.{nat_cmp}
-use Rattle.std.specs.BTreeMap.{BTreeMap, get}
+use Rattle.std.specs.Prelude.{◌≡◌, ℕ, ◌<◌, ◌≤◌, ◌==◌, nat_eq, ◌⊎◌, Option, Some, List, All, length, map, filter, Any, Contains, slice_get, slice_index_or}
+use Rattle.std.specs.declared.hash.RandomState.{RandomState}
+use Rattle.indexmap.specs.IndexMap.{IndexMap, index_of, keys, IsUnique}
+use Rattle.tl_geom.specs.declared.point.Point.{Point}
 use Rattle.std.specs.List.Sorted.{IsNonDecreasingBy, IsPermutation}
 use Rattle.tl_record.specs.declared.record.PolyKey.{PolyKey}
 use Rattle.tl_map.specs.declared.entry.LandmarkEntry.{LandmarkEntry}
 use Rattle.tl_map.specs.declared.entry.LinkEntry.{LinkEntry}
-use Rattle.tl_map.specs.declared.landmarks.FirstLandmarks.{FirstLandmarks}
 use Rattle.tl_map.specs.declared.landmarks.Link.{Link}
 use Rattle.tl_map.specs.declared.fault.Limited.TheVariants.{Landmarks}
 use Rattle.tl_map.specs.declared.fault.MapFault.TheVariants.{TooMany, LinkWithoutLandmark, LinkWithoutPolygon}
@@ -18,23 +18,27 @@ use Rattle.tl_map.specs.MapOf.{firsts, place_of, linked_to}
 use Rattle.tl_county.specs.TheMap.{MapLandmark}
 use Rattle.tl_county.specs.Limits.{most_landmarks}
 use Rattle.tl_map.specs.Keeping.Index.{Numbers}
-use Rattle.tl_county.specs.Rows.{IsRow, landmark_in}
+use Rattle.tl_county.specs.Rows.{IsRow, polygons_at, landmarks_in}
 
 -- the LANDs of records
 abbrev pub lands : List LandmarkEntry → List ℕ
 lands entries = map (λ e. e.land) entries
 
 -- the index has the place of each LAND
-abbrev pub IndexesLands : List ℕ → BTreeMap ℕ ℕ → Type 0
-IndexesLands ns index = Numbers ns (get nat_cmp index)
+abbrev pub IndexesLands : List ℕ → IndexMap ℕ (Option Point) RandomState → Type 0
+IndexesLands ns index = Numbers ns (index_of nat_eq index)
 
--- the first record of each LAND, and their places
-pub record ListsLandmarks (entries : List LandmarkEntry) (f : FirstLandmarks) : Type 0 where
-  pub firsts_are : f.firsts.items ≡ firsts (λ e. e.land) entries
-  pub index : IndexesLands (lands f.firsts.items) f.index
-  pub all : (n : ℕ) → Contains (lands entries) n → Contains (lands f.firsts.items) n
-  pub no_other : (n : ℕ) → Contains (lands f.firsts.items) n → Contains (lands entries) n
-  pub few : length f.firsts.items ≤ most_landmarks
+-- a LAND and its point as a record
+abbrev pub first_of : ℕ × Option Point → LandmarkEntry
+first_of e = record { land = e.0; point = e.1 }
+
+-- the first record of each LAND
+pub record ListsLandmarks (entries : List LandmarkEntry) (f : IndexMap ℕ (Option Point) RandomState) : Type 0 where
+  pub firsts_are : map first_of f.entries ≡ firsts (λ e. e.land) entries
+  pub unique : IsUnique nat_eq f
+  pub all : (n : ℕ) → Contains (lands entries) n → Contains (keys f) n
+  pub no_other : (n : ℕ) → Contains (keys f) n → Contains (lands entries) n
+  pub few : length f.entries ≤ most_landmarks
 
 -- why the first records aren't listed: memory was refused, or there are too many
 abbrev pub StopsLandmarks : List LandmarkEntry → MapStop → Type 0
@@ -75,19 +79,15 @@ pub record AreByLandmark (old new : List Link) : Type 0 where
   pub moved : IsPermutation old new
   pub same : (l : ℕ) → links_to l new ≡ links_to l old
 
--- the landmark of a record with the links to the number
-abbrev pub landmark_with : List Link → ℕ → LandmarkEntry → MapLandmark
-landmark_with links l e = record { land = e.land; point = e.point; polygons = firsts (λ p. p) (map (λ m. m.polygon) (links_to l links)) }
+-- the polygons of the links to the number, each where it is linked first
+abbrev pub polygons_to : ℕ → List Link → List ℕ
+polygons_to l links = firsts (λ p. p) (map (λ m. m.polygon) (links_to l links))
 
--- the landmarks of records, numbered from l
-abbrev pub listed : List Link → ℕ → List LandmarkEntry → List MapLandmark
-listed links l [] = []
-listed links l (e ∷ es) = landmark_with links l e ∷ listed links (l + 1) es
-
--- the rows are those of the landmarks
-pub record IsLinked (landmarks : List MapLandmark) (linked : List ℕ) (rows : List LandmarkRow) : Type 0 where
+-- the first n landmarks have rows, each with the polygons of its links
+pub record AreRows (links : List Link) (n : ℕ) (linked : List ℕ) (rows : List LandmarkRow) : Type 0 where
+  pub count : length rows ≡ n
   pub within : All (IsRow linked) rows
-  pub are : map (landmark_in linked) rows ≡ landmarks
+  pub are : (k : ℕ) (d : LandmarkRow) → k < length rows → polygons_at linked (slice_index_or rows k d) ≡ polygons_to k links
 
 -- the landmark of a first record, by the polygons' keys and the links
 abbrev pub landmark_from : List PolyKey → List LinkEntry → LandmarkEntry → MapLandmark
@@ -95,7 +95,9 @@ landmark_from ks links e = record { land = e.land; point = e.point; polygons = l
 
 -- the landmarks of the records with the polygons of the links, each of which names one of both
 pub record AreLinked (ks : List PolyKey) (entries : List LandmarkEntry) (links : List LinkEntry) (l : LinkedLandmarks) : Type 0 where
-  pub rows : IsLinked (map (landmark_from ks links) (firsts (λ e. e.land) entries)) l.linked.items l.rows.items
+  pub are : landmarks_in l.linked.items l.points.entries l.rows.items ≡ map (landmark_from ks links) (firsts (λ e. e.land) entries)
+  pub beside : length l.rows.items ≡ length l.points.entries
+  pub within : All (IsRow l.linked.items) l.rows.items
   pub known : All (λ link. Contains (lands entries) link.land × Contains ks link.key) links
   pub few : length (firsts (λ (e : LandmarkEntry). e.land) entries) ≤ most_landmarks
 

@@ -3,7 +3,6 @@ use Rattle.std.proofs.lemmas.Result.{err_from_is_err_and}
 use Rattle.tl_map.specs.declared.entry.ChainEntry.{ChainEntry}
 use Rattle.std.proofs.lemmas.List.{take_all}
 use Rattle.tl_map.specs.Keeping.Entries.{IsInside, joined}
-use Rattle.tl_county.specs.Rows.{chains_in}
 use Rattle.tl_map.proofs.JoinLemmas.{run_is, above_run, behind_more, ahead_more, ahead_first, drawn_is, joined_more, stops_join, several_more}
 use Rattle.tl_map.proofs.ListedLemmas.{part_inside}
 use Rattle.tl_map.proofs.RowLemmas.{IsTable-nil}

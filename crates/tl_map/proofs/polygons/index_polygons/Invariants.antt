@@ -1,12 +1,11 @@
-use Rattle.std.proofs.Common.{◌≡◌}
-use Rattle.std.specs.BTreeMap.{get}
-use Rattle.tl_map.specs.MapOf.{keys}
-use Rattle.tl_map.specs.Keeping.Index.{key_cmp}
-use Rattle.tl_map.proofs.IndexLemmas.{NumbersUpTo}
+use Rattle.std.proofs.Common.{◌≡◌, map, take}
+use Rattle.indexmap.specs.IndexMap.{IsUnique}
+use Rattle.tl_map.specs.MapOf.{same_key}
+use Rattle.tl_map.specs.Keeping.Index.{entry_of}
 use Rattle.tl_map.proofs.polygons.index_polygons.Given as goal
 
 abbrev pub invariant-loop-polygon : goal.invariant-loop-polygon
 invariant-loop-polygon l = record {
-  number : l.number ≡ l.polygon-index;
-  known : NumbersUpTo (keys l.polygons) l.polygon-index (get key_cmp l.index);
+  entries : l.index.entries ≡ map entry_of (take l.polygon-index l.polygons);
+  unique : IsUnique same_key l.index;
 }
