@@ -1,0 +1,4 @@
+-- What the laws of sweeps cite.
+pub mod Heights
+pub mod Neighbours
+pub mod Slabs
