@@ -7,3 +7,6 @@ pub mod Walking
 pub mod Floors
 pub mod Vertices
 pub mod Planarity
+pub mod Crossed
+pub mod Flanked
+pub mod Between

@@ -2,3 +2,4 @@
 pub mod Heights
 pub mod Neighbours
 pub mod Slabs
+pub mod Beside
