@@ -10,3 +10,4 @@ pub mod Planarity
 pub mod Crossed
 pub mod Flanked
 pub mod Between
+pub mod Tests

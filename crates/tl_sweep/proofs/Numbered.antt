@@ -14,7 +14,7 @@ use Rattle.tl_sweep.specs.Neighbours.{IsNumbered, AreApartOrAtEnds}
 pub one_segment : (chains : List MapChain) (s : ℕ) (u w : Segment) → IsNumbered chains s u → IsNumbered chains s w → HaveSameEnds u w
 one_segment chains s u w m n = same_ends chains s m.c m.k n.c n.k u w m.number m.joins n.number n.joins
 
-on_same : (u w : Segment) (r : Rational) → HaveSameEnds u w → IsOn u r → IsOn w r
+pub on_same : (u w : Segment) (r : Rational) → HaveSameEnds u w → IsOn u r → IsOn w r
 on_same u w r e on = record {
   straight = rw (sym e.first, sym e.last) on.straight;
   x_between = rw (sym e.first, sym e.last) on.x_between;

@@ -8,6 +8,10 @@ use Rattle.tl_geom.specs.Plane.{cross, turn_of}
 -- `K` is a number above the difference of the longitudes of any two points at hand. So a point is higher than another where it
 -- is further north, or of one latitude and further west; different points have different heights, and no segment is level.
 
+-- the number that is above any difference of two i32
+abbrev pub widest : ℤ
+widest = pos 4294967296
+
 -- the height of a point
 abbrev pub height : ℤ → Point → ℤ
 height K p = K *ℤ p.y -ℤ p.x

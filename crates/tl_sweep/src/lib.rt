@@ -4,4 +4,9 @@
 //! follows from the tests alone, whatever way the places in the list were found.
 #![tactic(auto)]
 
+mod heights;
 pub mod laws;
+mod neighbours;
+
+pub use heights::{height, ends};
+pub use neighbours::are_tested;
