@@ -55,11 +55,11 @@ in_all : (P : ℕ → Type 0) (s : ℕ) (xs : List ℕ) → ((k d : ℕ) → k <
 in_all P s [] all i = absurd i
 in_all P s (x ∷ xs) all i = ⊎_elim (λ e. subst P (sym e) (all_head P x xs all)) (λ later. in_all P s xs (all_tail P x xs all) later) i
 
-two_back : (P : ℕ → ℕ → Type 0) (xs ys : List ℕ) → EachTwo P (xs ++ ys) → EachTwo P ys
+pub two_back : (P : ℕ → ℕ → Type 0) (xs ys : List ℕ) → EachTwo P (xs ++ ys) → EachTwo P ys
 two_back P [] ys two = two
 two_back P (x ∷ xs) ys two = two_back P xs ys (two_tail P x (xs ++ ys) two)
 
-two_front : (P : ℕ → ℕ → Type 0) (xs ys : List ℕ) → EachTwo P (xs ++ ys) → EachTwo P xs
+pub two_front : (P : ℕ → ℕ → Type 0) (xs ys : List ℕ) → EachTwo P (xs ++ ys) → EachTwo P xs
 two_front P [] ys two = tt
 two_front P (x ∷ []) ys two = tt
 two_front P (x ∷ (y ∷ xs)) ys two = (two.0, two_front P (y ∷ xs) ys two.1)

@@ -11,3 +11,4 @@ pub mod Crossed
 pub mod Flanked
 pub mod Between
 pub mod Tests
+pub mod Lining

@@ -6,6 +6,8 @@
 
 mod heights;
 pub mod laws;
+mod line;
+mod passing;
 mod neighbours;
 
 pub use heights::{height, ends};

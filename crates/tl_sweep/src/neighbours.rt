@@ -1,7 +1,6 @@
 //! What is tested of segments that stand side by side.
-ghost use Rattle.std.specs.Prelude.{◌<◌, ◌≤ℤ◌, ◌⊎◌, pos, length, IsTrue};
+ghost use Rattle.std.specs.Prelude.{◌≤ℤ◌, ◌⊎◌, pos, IsTrue};
 ghost use Rattle.tl_geom.specs.Plane.{turn_of};
-ghost use Rattle.tl_county.specs.Segments.{segments_before};
 ghost use Rattle.tl_sweep.specs.Heights.{widest};
 ghost use Rattle.tl_sweep.specs.Neighbours.{IsWestOf, AreApartOrAtEnds, AreTested};
 
@@ -45,12 +44,15 @@ fn are_free(u: Segment, w: Segment) -> bool
     }
 }
 
-/// Whether segment `s` is west of segment `t`, and they are apart or share an end of both alone.
+/// Whether segment `s` is west of segment `t`, and they are apart or share an end of both alone. It is not so of numbers of
+/// no segments.
 pub fn are_tested(map: &Map, s: u32, t: u32) -> bool
-    requires first { s < segments_before map.now.chains (length map.now.chains) }
-    requires second { t < segments_before map.now.chains (length map.now.chains) }
     ensures { IsTrue result → AreTested widest map.now.chains s t }
 {
+    let count = map.segments();
+    if s >= count || t >= count {
+        return false;
+    }
     let one = map.segment(s);
     let other = map.segment(t);
     is_west_of(one, other) && are_free(one, other)
