@@ -9,7 +9,8 @@ use Rattle.tl_inside.specs.declared.flanks.Flanks.{Flanks}
 use Rattle.tl_inside.specs.Inside.{flanks_at, balance}
 use Rattle.tl_sweep.specs.Beside.{AreFacing, seen_side}
 
-abbrev bit : Bool → ℕ
+-- 1 where it is so, else 0
+abbrev pub bit : Bool → ℕ
 bit b = cond b 1 0
 
 module _ (chains : List MapChain) (S : Side → Bool) (none : S Outside ≡ false) where

@@ -12,3 +12,4 @@ pub mod Flanked
 pub mod Between
 pub mod Tests
 pub mod Lining
+pub mod Listing

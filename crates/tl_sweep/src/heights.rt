@@ -1,5 +1,5 @@
 //! The heights of points, and the ends of segments by them.
-ghost use Rattle.std.specs.Prelude.{◌≡◌, ◌+ℤ◌, pos};
+ghost use Rattle.std.specs.Prelude.{◌≡◌, ◌+ℤ◌, pos, int_lt};
 ghost use Rattle.tl_sweep.specs.Heights.{height as height_by, widest, low_end, high_end};
 
 use tl_geom::{Point, Segment};
@@ -13,13 +13,21 @@ pub fn height(p: Point) -> i64
     i64::from(p.y) * 4_294_967_296 + (2_147_483_647 - i64::from(p.x))
 }
 
+/// Whether one point is lower than another.
+#[inline]
+pub fn is_lower(p: Point, q: Point) -> bool
+    ensures { result ≡ int_lt (height_by widest p) (height_by widest q) }
+{
+    height(p) < height(q)
+}
+
 /// The ends of a segment: the lower one, and the higher one.
 #[inline]
 pub fn ends(s: Segment) -> (Point, Point)
     ensures low { result.0 ≡ low_end widest s }
     ensures high { result.1 ≡ high_end widest s }
 {
-    if height(s.a()) < height(s.b()) {
+    if is_lower(s.a(), s.b()) {
         (s.a(), s.b())
     } else {
         (s.b(), s.a())

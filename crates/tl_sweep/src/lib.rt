@@ -4,11 +4,10 @@
 //! follows from the tests alone, whatever way the places in the list were found.
 #![tactic(auto)]
 
+mod events;
 mod heights;
 pub mod laws;
 mod line;
 mod passing;
 mod neighbours;
 
-pub use heights::{height, ends};
-pub use neighbours::are_tested;

@@ -4,7 +4,7 @@ ghost use Rattle.tl_geom.specs.Plane.{turn_of};
 ghost use Rattle.tl_sweep.specs.Heights.{widest};
 ghost use Rattle.tl_sweep.specs.Neighbours.{IsWestOf, AreApartOrAtEnds, AreTested};
 
-use crate::heights::{ends, height};
+use crate::heights::{ends, is_lower};
 use tl_county::Map;
 use tl_geom::{Contact, Point, Segment, contact, turn};
 
@@ -28,8 +28,8 @@ fn is_west_of(u: Segment, w: Segment) -> bool
 {
     let (a, b) = ends(u);
     let (c, e) = ends(w);
-    is_in_order(height(c) < height(a), a, b, a, c, e, c)
-        && is_in_order(height(b) < height(e), a, b, b, c, e, e)
+    is_in_order(is_lower(c, a), a, b, a, c, e, c)
+        && is_in_order(is_lower(b, e), a, b, b, c, e, e)
 }
 
 /// Whether two segments are apart or share an end of both alone.
