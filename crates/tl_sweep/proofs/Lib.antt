@@ -13,3 +13,5 @@ pub mod Between
 pub mod Tests
 pub mod Lining
 pub mod Listing
+pub mod Meeting
+pub mod Found

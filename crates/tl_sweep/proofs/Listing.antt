@@ -1,6 +1,6 @@
 -- The events of segments.
-use Rattle.std.proofs.Common.{◌≡◌, ℕ, ◌+◌, ◌<◌, ◌≤◌, ◌==◌, Bool, true, false, not, cond, ◌&&◌, if◌then◌else◌, ℤ, pos, ◌+ℤ◌, List, [], ◌∷◌, ◌++◌, length, count_by, refl, sym, ap, subst, ◌∙◌, arith}
-use Rattle.std.specs.Prelude.{int_lt, All}
+use Rattle.std.proofs.Common.{◌≡◌, ℕ, ◌+◌, ◌==◌, Bool, true, false, not, ◌&&◌, if◌then◌else◌, ℤ, pos, ◌+ℤ◌, List, [], ◌∷◌, ◌++◌, count_by, refl, sym, ap, ◌∙◌, arith}
+use Rattle.std.specs.Prelude.{int_lt}
 use Rattle.std.proofs.lemmas.Bool.Decides.{nat_tests}
 use Rattle.std.proofs.lemmas.List.Elements.{All-push}
 use Rattle.std.proofs.lemmas.List.Sums.{sum_by-cons, sum_by-append}
@@ -8,7 +8,7 @@ use Rattle.tl_geom.specs.declared.segment.Segment.{Segment}
 use Rattle.tl_county.specs.TheMap.{MapChain}
 use Rattle.tl_tree.proofs.Permuted.{same_or}
 use Rattle.tl_sweep.specs.declared.events.Event.{Event}
-use Rattle.tl_sweep.specs.Heights.{height, widest, low_end, high_end}
+use Rattle.tl_sweep.specs.Heights.{height, widest}
 use Rattle.tl_sweep.specs.Neighbours.{IsNumbered}
 use Rattle.tl_sweep.proofs.Flanked.{bit}
 use Rattle.tl_sweep.specs.Keeping.Listed.{IsEvent, begins_at, ends_at, AreEventsOf}

@@ -1,5 +1,5 @@
 -- What the tests of neighbours say.
-use Rattle.std.proofs.Common.{◌≡◌, ◌⊎◌, inl, inr, ⊎_elim, ℕ, Bool, true, IsTrue, Ordering, ℤ, pos, ◌<ℤ◌, ◌≤ℤ◌, List, refl, sym, subst, ◌∙◌, arith}
+use Rattle.std.proofs.Common.{◌≡◌, ◌⊎◌, inl, inr, ⊎_elim, ℕ, Bool, IsTrue, Ordering, ℤ, pos, ◌<ℤ◌, ◌≤ℤ◌, List, refl, sym, subst, ◌∙◌, arith}
 use Rattle.std.proofs.lemmas.Int.{ints}
 use Rattle.std.proofs.lemmas.Cmp.{int_ranked}
 use Rattle.std.specs.declared.cmp.Ordering.TheVariants.{Less, Equal, Greater}
@@ -7,7 +7,6 @@ use Rattle.std.specs.Ordering.{int_cmp, is_ge, is_le, MatchOrdering}
 use Rattle.tl_geom.specs.declared.point.Point.{Point}
 use Rattle.tl_geom.specs.declared.segment.Segment.{Segment}
 use Rattle.tl_geom.specs.Plane.{turn_of, IsSame, whole}
-use Rattle.tl_geom.specs.Contact.{AreApart, MeetAtEnds}
 use Rattle.tl_county.specs.TheMap.{MapChain}
 use Rattle.tl_inside.proofs.Hitting.{HaveSameEnds}
 use Rattle.tl_sweep.specs.Heights.{low_end, high_end}
@@ -49,10 +48,10 @@ module _ (K : ℤ) (u w : Segment) (a b c e : Point) (low : a ≡ low_end K u) (
 -- ---- by numbers
 
 -- the lower and the higher end by the ends
-same_low : (K : ℤ) (u w : Segment) → HaveSameEnds u w → low_end K u ≡ low_end K w
+pub same_low : (K : ℤ) (u w : Segment) → HaveSameEnds u w → low_end K u ≡ low_end K w
 same_low K u w e = rw (e.first, e.last) refl
 
-same_high : (K : ℤ) (u w : Segment) → HaveSameEnds u w → high_end K u ≡ high_end K w
+pub same_high : (K : ℤ) (u w : Segment) → HaveSameEnds u w → high_end K u ≡ high_end K w
 same_high K u w e = rw (e.first, e.last) refl
 
 west_same : (K : ℤ) (u w u' w' : Segment) → HaveSameEnds u u' → HaveSameEnds w w' → IsWestOf K u w → IsWestOf K u' w'
@@ -63,14 +62,17 @@ free_same : (u w u' w' : Segment) → HaveSameEnds u u' → HaveSameEnds w w' �
 free_same u w u' w' e f =
     ⊎_elim
     (λ apart. inl (λ r shared. apart r (record { on_first = on_same u' u r (turned u u' e) shared.on_first; on_second = on_same w' w r (turned w w' f) shared.on_second })))
-    (λ m. inr (m.0, record {
-      only = record {
-        shared = record { on_first = on_same u u' (whole m.0) e m.1.only.shared.on_first; on_second = on_same w w' (whole m.0) f m.1.only.shared.on_second };
-        only = λ q shared. m.1.only.only q (record { on_first = on_same u' u q (turned u u' e) shared.on_first; on_second = on_same w' w q (turned w w' f) shared.on_second });
-      };
-      first_end = ⊎_elim (λ k. inl (subst (λ p. IsSame (whole m.0) (whole p)) e.first k)) (λ k. inr (subst (λ p. IsSame (whole m.0) (whole p)) e.last k)) m.1.first_end;
-      second_end = ⊎_elim (λ k. inl (subst (λ p. IsSame (whole m.0) (whole p)) f.first k)) (λ k. inr (subst (λ p. IsSame (whole m.0) (whole p)) f.last k)) m.1.second_end;
-    }))
+    (λ m. inr (
+      m.0,
+      record {
+        only = record {
+          shared = record { on_first = on_same u u' (whole m.0) e m.1.only.shared.on_first; on_second = on_same w w' (whole m.0) f m.1.only.shared.on_second };
+          only = λ q shared. m.1.only.only q (record { on_first = on_same u' u q (turned u u' e) shared.on_first; on_second = on_same w' w q (turned w w' f) shared.on_second });
+        };
+        first_end = ⊎_elim (λ k. inl (subst (λ p. IsSame (whole m.0) (whole p)) e.first k)) (λ k. inr (subst (λ p. IsSame (whole m.0) (whole p)) e.last k)) m.1.first_end;
+        second_end = ⊎_elim (λ k. inl (subst (λ p. IsSame (whole m.0) (whole p)) f.first k)) (λ k. inr (subst (λ p. IsSame (whole m.0) (whole p)) f.last k)) m.1.second_end;
+      },
+    ))
   where
     turned : (u w : Segment) → HaveSameEnds u w → HaveSameEnds w u
     turned u w e = record { first = sym e.first; last = sym e.last }

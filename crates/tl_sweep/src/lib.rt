@@ -8,6 +8,6 @@ mod events;
 mod heights;
 pub mod laws;
 mod line;
-mod passing;
+mod meets;
 mod neighbours;
-
+mod passing;

@@ -28,8 +28,7 @@ fn is_west_of(u: Segment, w: Segment) -> bool
 {
     let (a, b) = ends(u);
     let (c, e) = ends(w);
-    is_in_order(is_lower(c, a), a, b, a, c, e, c)
-        && is_in_order(is_lower(b, e), a, b, b, c, e, e)
+    is_in_order(is_lower(c, a), a, b, a, c, e, c) && is_in_order(is_lower(b, e), a, b, b, c, e, e)
 }
 
 /// Whether two segments are apart or share an end of both alone.

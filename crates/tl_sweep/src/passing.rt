@@ -74,7 +74,13 @@ fn closes(map: &Map, line: &Line) -> bool
 
 /// Goes to a place, takes these segments off the list there and puts those in, if the former stand there and all that are
 /// neighbours for the first time may be.
-pub fn pass(map: &Map, line: &mut Line, place: usize, outs: &[u32], ins: &[u32]) -> Result<bool, AllocError>
+pub fn pass(
+    map: &Map,
+    line: &mut Line,
+    place: usize,
+    outs: &[u32],
+    ins: &[u32],
+) -> Result<bool, AllocError>
     ensures moved { IfOk result (λ done. IsTrue done → (s : ℕ) →
         times s (list_of line.new) + times s outs.now ≡ times s (list_of line.old) + times s ins.now) }
     ensures tested { IfOk result (λ done. IsTrue done → EachTwo (AreTested widest map.now.chains) (list_of line.old) →

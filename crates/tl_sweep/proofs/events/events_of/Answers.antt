@@ -1,7 +1,6 @@
-use Rattle.std.proofs.Common.{◌≡◌, ℤ, pos, ◌-ℤ◌, ◌+ℤ◌, ◌<ℤ◌, to_z, of_z, w64, subst, sym, ap, ap₂, ◌∙◌, refl, arith}
+use Rattle.std.proofs.Common.{◌≡◌, pos, ◌-ℤ◌, ◌+ℤ◌, ◌<ℤ◌, to_z, of_z, w64, subst, ap, ap₂, ◌∙◌, arith}
 use Rattle.std.specs.Prelude.{int_lt}
 use Rattle.std.proofs.lemmas.Int.{ints}
-use Rattle.tl_geom.specs.declared.segment.Segment.{Segment}
 use Rattle.tl_inside.proofs.Hitting.{HaveSameEnds}
 use Rattle.tl_sweep.specs.Heights.{height, widest, AreNear}
 use Rattle.tl_sweep.specs.Neighbours.{IsNumbered}

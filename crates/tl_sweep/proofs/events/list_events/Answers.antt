@@ -1,4 +1,4 @@
-use Rattle.std.proofs.Common.{◌≡◌, ◌<◌, ◌+◌, subst, sym, ap, ◌∙◌, arith, length}
+use Rattle.std.proofs.Common.{◌<◌, subst, arith, length}
 use Rattle.tl_county.specs.Segments.{segments_before}
 use Rattle.tl_planar.proofs.Numbering.{below_total}
 use Rattle.tl_tree.proofs.Permuted.{same_or}
@@ -8,7 +8,6 @@ use Rattle.tl_sweep.proofs.events.list_events.Goals as goal
 
 pub loop-s-preserved : goal.loop-s-preserved
 loop-s-preserved c =
-
     record {
       are = rw (c.in_ok-push-2.ensures.items, c.in_ok-push.ensures.items)
           (events_more c.args.map.now.chains c.loop-s.s c.loop-s.events.items _ _ c.events_of.ensures.of_one c.events_of.ensures.of_other c.events_of.ensures.ways c.events_of.ensures.one c.events_of.ensures.other c.loop-s.invariant.are);

@@ -1,4 +1,3 @@
-use Rattle.std.proofs.Common.{IsTrue}
 use Rattle.tl_sweep.specs.Heights.{widest}
 use Rattle.tl_sweep.proofs.Tests.{tested}
 use Rattle.tl_sweep.proofs.neighbours.are_tested.Goals as goal

@@ -1,4 +1,4 @@
-use Rattle.std.proofs.Common.{◌≡◌, ◌++◌, sym, ap, ap₂, subst, ◌∙◌}
+use Rattle.std.proofs.Common.{◌≡◌, ◌++◌, sym, ap₂, subst, ◌∙◌}
 use Rattle.tl_sweep.specs.Heights.{widest}
 use Rattle.tl_sweep.specs.Neighbours.{AreTested, EachTwo}
 use Rattle.tl_sweep.specs.Keeping.Lined.{list_of}
