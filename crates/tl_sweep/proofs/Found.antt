@@ -25,7 +25,7 @@ use Rattle.tl_sweep.proofs.Rising.{ends_of}
 use Rattle.tl_sweep.proofs.Numbered.{one_segment}
 use Rattle.tl_sweep.proofs.Tests.{same_low}
 
-pub no_event : Event
+abbrev pub no_event : Event
 no_event = record { height = pos 0; segment = 0; begins = false; first = false }
 
 -- ---- what is counted stands somewhere
@@ -49,7 +49,7 @@ both_true false b e = absurd (cc)
 pub is_number : (s t : ℕ) → (s == t) ≡ true → s ≡ t
 is_number s t e = grind (arith, nat_tests)
 
-not_true : (b : Bool) → not b ≡ true → b ≡ false
+pub not_true : (b : Bool) → not b ≡ true → b ≡ false
 not_true true e = absurd (cc)
 not_true false e = refl
 

@@ -15,3 +15,5 @@ pub mod Lining
 pub mod Listing
 pub mod Meeting
 pub mod Found
+pub mod Gathering
+pub mod Slab

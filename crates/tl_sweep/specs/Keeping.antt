@@ -2,3 +2,4 @@
 pub mod Lined
 pub mod Listed
 pub mod Vertices
+pub mod Swept

@@ -4,6 +4,7 @@
 //! follows from the tests alone, whatever way the places in the list were found.
 #![tactic(auto)]
 
+mod answer;
 mod events;
 mod heights;
 pub mod laws;
@@ -11,3 +12,6 @@ mod line;
 mod meets;
 mod neighbours;
 mod passing;
+mod sweeping;
+
+pub use answer::{Swept, sweep};
