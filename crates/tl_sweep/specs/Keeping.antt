@@ -1,0 +1,5 @@
+-- What is kept on the way. No public contract cites a file of this folder.
+pub mod Lined
+pub mod Listed
+pub mod Vertices
+pub mod Swept

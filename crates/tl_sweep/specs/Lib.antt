@@ -1,0 +1,6 @@
+-- What the laws of sweeps cite.
+pub mod Heights
+pub mod Neighbours
+pub mod Slabs
+pub mod Beside
+pub mod Keeping

@@ -1,0 +1,74 @@
+//! The events of a sweep: the ends of all segments, by height.
+ghost use Rattle.std.specs.Prelude.{◌≡◌, ◌<◌, ℕ, true, false, not, IfOk, length};
+ghost use Rattle.std.specs.List.Sorted.{IsPermutation};
+ghost use Rattle.tl_geom.specs.declared.segment.Segment.{Segment};
+ghost use Rattle.tl_county.specs.Segments.{segments_before};
+ghost use Rattle.tl_sweep.specs.Heights.{widest, AreNear};
+ghost use Rattle.tl_sweep.specs.Neighbours.{IsNumbered, IsWide};
+ghost use Rattle.tl_sweep.specs.Keeping.Listed.{IsEvent, AreEvents};
+
+use crate::heights::{height, is_lower};
+use std::alloc::{AllocError, Global};
+use tl_county::Map;
+
+/// An end of a segment, by its height.
+#[derive(Clone, Copy)]
+pub struct Event {
+    pub height: i64,
+    pub segment: u32,
+    /// Whether it is the segment's lower end, where it begins.
+    pub begins: bool,
+    /// Whether it is the first end of the segment on the way along its chain.
+    pub first: bool,
+}
+
+/// The two ends of a segment, in the order of its chain.
+fn events_of(map: &Map, s: u32) -> (Event, Event)
+    requires { s < segments_before map.now.chains (length map.now.chains) }
+    ensures near { (u : Segment) → IsNumbered map.now.chains s u → AreNear widest u.a u.b }
+    ensures one { IsEvent map.now.chains result.0 }
+    ensures other { IsEvent map.now.chains result.1 }
+    ensures of_one { result.0.segment ≡ s }
+    ensures of_other { result.1.segment ≡ s }
+    ensures ways { result.1.begins ≡ not result.0.begins }
+{
+    let segment = map.segment(s);
+    let (a, b) = (segment.a(), segment.b());
+    let rising = is_lower(a, b);
+    (
+        Event {
+            height: height(a),
+            segment: s,
+            begins: rising,
+            first: true,
+        },
+        Event {
+            height: height(b),
+            segment: s,
+            begins: !rising,
+            first: false,
+        },
+    )
+}
+
+/// The ends of all segments of a map, by the segments' numbers.
+pub fn list_events(alloc: Global, map: &Map) -> Result<Vec<Event>, AllocError>
+    ensures events { IfOk result (λ events. AreEvents map.now.chains events.items) }
+    ensures wide { IfOk result (λ events. IsWide widest map.now.chains) }
+{
+    let count = map.segments();
+    let mut events = Vec::with_capacity(alloc, count as usize * 2)?;
+    for s in 0..count {
+        let (one, other) = events_of(map, s);
+        events.push(one)?;
+        events.push(other)?;
+    }
+    Ok(events)
+}
+
+/// Sorts events by height, in place.
+pub fn sort_events(events: &mut Vec<Event>)
+    ensures { IsPermutation events.old.items events.new.items }
+{
+    events.sort_unstable_by_key(|event| event.height);
+}

@@ -1,0 +1,73 @@
+//! What is tested at vertices.
+ghost use Rattle.std.specs.Prelude.{◌≡◌, ◌<◌, ℕ, length, IsTrue};
+ghost use Rattle.tl_county.specs.Segments.{segments_before};
+ghost use Rattle.tl_crossings.specs.Headings.{AreProper};
+ghost use Rattle.tl_sweep.specs.Heights.{widest};
+ghost use Rattle.tl_sweep.specs.Neighbours.{IsWide};
+ghost use Rattle.tl_sweep.specs.Slabs.{AreVerticesTested};
+ghost use Rattle.tl_sweep.specs.Keeping.Listed.{AreEvents, AreRising};
+ghost use Rattle.tl_sweep.specs.Keeping.Vertices.{IsAtPlace, IsEndOfChain, MayMeet, AreInOrder, AreInOrderUpTo};
+
+use crate::events::Event;
+use tl_county::Map;
+
+/// Whether an event is at an end of its chain.
+fn is_chain_end(map: &Map, e: Event) -> bool
+    requires { e.segment < segments_before map.now.chains (length map.now.chains) }
+    ensures { IsTrue result → (c p : ℕ) → IsAtPlace map.now.chains e c p → IsEndOfChain map.now.chains c p }
+{
+    let count = map.segments();
+    let own = map.segment_chain(e.segment);
+    if e.first {
+        e.segment == 0 || map.segment_chain(e.segment - 1) != own
+    } else {
+        e.segment + 1 == count || map.segment_chain(e.segment + 1) != own
+    }
+}
+
+/// Whether the segment of `f` follows that of `e` in one chain, and both events are at the point between them.
+fn follows(map: &Map, e: Event, f: Event) -> bool
+    requires one { e.segment < segments_before map.now.chains (length map.now.chains) }
+    requires other { f.segment < segments_before map.now.chains (length map.now.chains) }
+    ensures { IsTrue result → MayMeet map.now.chains e f }
+{
+    if e.first || !f.first || f.segment == 0 || e.segment != f.segment - 1 {
+        return false;
+    }
+    map.segment_chain(e.segment) == map.segment_chain(f.segment)
+}
+
+/// Whether two events may be at one point.
+fn may_meet(map: &Map, e: Event, f: Event) -> bool
+    ensures { IsTrue result → MayMeet map.now.chains e f }
+{
+    let count = map.segments();
+    if e.segment >= count || f.segment >= count {
+        return false;
+    }
+    if follows(map, e, f) || follows(map, f, e) {
+        return true;
+    }
+    is_chain_end(map, e) && is_chain_end(map, f)
+}
+
+/// Whether an event isn't higher than another, and may meet it if it is as high.
+fn are_in_order(map: &Map, e: Event, f: Event) -> bool
+    ensures { IsTrue result → AreInOrder map.now.chains e f }
+{
+    e.height < f.height || e.height == f.height && may_meet(map, e, f)
+}
+
+/// Whether events rise, and those at one point may meet.
+pub fn are_vertices_tested(map: &Map, events: &[Event]) -> bool
+    ensures rising { IsTrue result → AreRising events.now }
+    ensures vertices { IsTrue result → AreEvents map.now.chains events.now → IsWide widest map.now.chains →
+        AreProper map.now.chains → AreVerticesTested map.now.chains }
+{
+    for k in 1..events.len() {
+        if !are_in_order(map, events[k - 1], events[k]) {
+            return false;
+        }
+    }
+    true
+}

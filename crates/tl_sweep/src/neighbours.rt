@@ -1,0 +1,58 @@
+//! What is tested of segments that stand side by side.
+ghost use Rattle.std.specs.Prelude.{◌≤ℤ◌, ◌⊎◌, pos, IsTrue};
+ghost use Rattle.tl_geom.specs.Plane.{turn_of};
+ghost use Rattle.tl_sweep.specs.Heights.{widest};
+ghost use Rattle.tl_sweep.specs.Neighbours.{IsWestOf, AreApartOrAtEnds, AreTested};
+
+use crate::heights::{ends, is_lower};
+use tl_county::Map;
+use tl_geom::{Contact, Point, Segment, contact, turn};
+
+/// Whether `p` of the line from `a` to `b` isn't east of the line from `c` to `e`, if `first`; else whether `q` of that line
+/// isn't west of the former.
+#[inline]
+fn is_in_order(first: bool, a: Point, b: Point, p: Point, c: Point, e: Point, q: Point) -> bool
+    ensures { IsTrue result → (pos 0 ≤ℤ turn_of c e p) ⊎ (turn_of a b q ≤ℤ pos 0) }
+{
+    if first {
+        turn(c, e, p).is_ge()
+    } else {
+        turn(a, b, q).is_le()
+    }
+}
+
+/// Whether `u` is west of `w`. The higher of their low ends is asked, and the lower of their high ends.
+#[inline]
+fn is_west_of(u: Segment, w: Segment) -> bool
+    ensures { IsTrue result → IsWestOf widest u w }
+{
+    let (a, b) = ends(u);
+    let (c, e) = ends(w);
+    is_in_order(is_lower(c, a), a, b, a, c, e, c) && is_in_order(is_lower(b, e), a, b, b, c, e, e)
+}
+
+/// Whether two segments are apart or share an end of both alone.
+#[inline]
+fn are_free(u: Segment, w: Segment) -> bool
+    ensures { IsTrue result → AreApartOrAtEnds u w }
+{
+    match contact(u, w) {
+        Contact::Apart => true,
+        Contact::AtEnds(_) => true,
+        Contact::Crossing(_) => false,
+    }
+}
+
+/// Whether segment `s` is west of segment `t`, and they are apart or share an end of both alone. It is not so of numbers of
+/// no segments.
+pub fn are_tested(map: &Map, s: u32, t: u32) -> bool
+    ensures { IsTrue result → AreTested widest map.now.chains s t }
+{
+    let count = map.segments();
+    if s >= count || t >= count {
+        return false;
+    }
+    let one = map.segment(s);
+    let other = map.segment(t);
+    is_west_of(one, other) && are_free(one, other)
+}
