@@ -105,7 +105,7 @@ fn push_field(text: &mut ArrayString<REFUSAL_ROOM>, name: &str, field: Field)
     ensures room { array_string_len text.new ≤ 127 }
 {
     text.push_str(name);
-    text.push_str(word_of(field));
+    text.push_str(field.word());
     if let Some(pair) = pair_of(field) {
         let mut digits = Buffer::new();
         text.push_str(digits.format(pair));
@@ -119,35 +119,5 @@ fn pair_of(field: Field) -> Option<u8>
     match field {
         Field::Long(pair) | Field::Lat(pair) => Some(pair),
         _ => None,
-    }
-}
-
-// A field's name, without the number of a shape pair.
-fn word_of(field: Field) -> &'static str
-    ensures word { result.now ≡ field_word field }
-    ensures room { length result.now ≤ 8 }
-{
-    match field {
-        Field::Tlid => "TLID",
-        Field::FrLong => "FRLONG",
-        Field::FrLat => "FRLAT",
-        Field::ToLong => "TOLONG",
-        Field::ToLat => "TOLAT",
-        Field::Rtsq => "RTSQ",
-        Field::Long(_) => "LONG",
-        Field::Lat(_) => "LAT",
-        Field::Tzids => "TZIDS",
-        Field::Tzide => "TZIDE",
-        Field::CenidL => "CENIDL",
-        Field::PolyidL => "POLYIDL",
-        Field::CenidR => "CENIDR",
-        Field::PolyidR => "POLYIDR",
-        Field::Cenid => "CENID",
-        Field::Polyid => "POLYID",
-        Field::PolyLong => "POLYLONG",
-        Field::PolyLat => "POLYLAT",
-        Field::Land => "LAND",
-        Field::LaLong => "LALONG",
-        Field::LaLat => "LALAT",
     }
 }

@@ -31,12 +31,13 @@ pub enum Field {
 }
 
 impl Field {
-    ghost use Rattle.std.specs.Prelude.{◌≡◌};
+    ghost use Rattle.std.specs.Prelude.{◌≡◌, ◌≤◌, length};
     ghost use Rattle.tl_record.specs.Messages.{field_word};
 
     /// The field's name, without the number of a shape pair.
-    fn word(&self) -> &'static str
-        ensures { result.now ≡ field_word self.now }
+    pub fn word(&self) -> &'static str
+        ensures word { result.now ≡ field_word self.now }
+        ensures room { length result.now ≤ 8 }
     {
         match self {
             Field::Tlid => "TLID",
