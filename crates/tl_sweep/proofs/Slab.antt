@@ -21,7 +21,7 @@ use Rattle.tl_sweep.specs.Keeping.Swept.{AreAbove, IsSwept}
 use Rattle.tl_sweep.proofs.Flanked.{bit}
 use Rattle.tl_sweep.proofs.Found.{no_event, found, both_true, is_number, not_true}
 use Rattle.tl_sweep.proofs.Numbered.{one_segment}
-use Rattle.tl_sweep.proofs.Tests.{same_low, same_high}
+use Rattle.tl_sweep.proofs.Tests.{low_height, high_height}
 
 -- ---- what is counted of the first events
 
@@ -116,7 +116,7 @@ module _ (chains : List MapChain) (events : List Event) (are : AreEvents chains 
         let other : (m : ℕ) × (m < length events) × (ends_at s (get_or events m no_event) ≡ true) = found (ends_at s) events no_event (omega (arith, ends)) in
         let last = ended_by s other.0 other.1 other.2 in
         let same : HaveSameEnds last.0 first.0 = one_segment chains s last.0 first.0 last.1 first.1 in
-        let top : height widest (high_end widest last.0) ≡ height widest (high_end widest first.0) = ap (height widest) (same_high widest last.0 first.0 same) in
+        let top : height widest (high_end widest last.0) ≡ height widest (high_end widest first.0) = high_height widest last.0 first.0 same in
         let begun = low one.0 one.1 one.2 in
         let at = first.2 in
         let at' = last.2 in
@@ -135,7 +135,7 @@ module _ (chains : List MapChain) (events : List Event) (are : AreEvents chains 
         let all = all_of (begins_at s) events from in
         let one : (m : ℕ) × (m < length events) × (begins_at s (get_or events m no_event) ≡ true) = found (begins_at s) events no_event (omega (arith, once)) in
         let first = begun_by s one.0 one.1 one.2 in
-        let bottom : height widest (low_end widest first.0) ≡ height widest (low_end widest a.segment) = ap (height widest) (same_low widest first.0 a.segment (one_segment chains s first.0 a.segment first.1 a.is)) in
+        let bottom : height widest (low_end widest first.0) ≡ height widest (low_end widest a.segment) = low_height widest first.0 a.segment (one_segment chains s first.0 a.segment first.1 a.is) in
         let at = first.2 in
         let begun = a.begun in
         let lasting = a.lasting in
@@ -148,7 +148,7 @@ module _ (chains : List MapChain) (events : List Event) (are : AreEvents chains 
               absurd (
               let other : (m : ℕ) × (m < from) × (m < length events) × (ends_at s (get_or events m no_event) ≡ true) = found_before (ends_at s) events from no_event more in
               let last = ended_by s other.0 other.2 other.3 in
-              let top : height widest (high_end widest last.0) ≡ height widest (high_end widest a.segment) = ap (height widest) (same_high widest last.0 a.segment (one_segment chains s last.0 a.segment last.1 a.is)) in
+              let top : height widest (high_end widest last.0) ≡ height widest (high_end widest a.segment) = high_height widest last.0 a.segment (one_segment chains s last.0 a.segment last.1 a.is) in
               let down = low other.0 other.1 other.2 in
               let at' = last.2 in
               omega (arith, ints, down, at', top, lasting))

@@ -1,5 +1,5 @@
 -- What the tests of neighbours say.
-use Rattle.std.proofs.Common.{◌≡◌, ◌⊎◌, inl, inr, ⊎_elim, ℕ, Bool, IsTrue, Ordering, ℤ, pos, ◌<ℤ◌, ◌≤ℤ◌, List, refl, sym, subst, ◌∙◌, arith}
+use Rattle.std.proofs.Common.{◌≡◌, ◌⊎◌, inl, inr, ⊎_elim, ℕ, Bool, IsTrue, Ordering, ℤ, pos, ◌<ℤ◌, ◌≤ℤ◌, List, refl, sym, ap, subst, ◌∙◌, arith}
 use Rattle.std.proofs.lemmas.Int.{ints}
 use Rattle.std.proofs.lemmas.Cmp.{int_ranked}
 use Rattle.std.specs.declared.cmp.Ordering.TheVariants.{Less, Equal, Greater}
@@ -9,7 +9,7 @@ use Rattle.tl_geom.specs.declared.segment.Segment.{Segment}
 use Rattle.tl_geom.specs.Plane.{turn_of, IsSame, whole}
 use Rattle.tl_county.specs.TheMap.{MapChain}
 use Rattle.tl_inside.proofs.Hitting.{HaveSameEnds}
-use Rattle.tl_sweep.specs.Heights.{low_end, high_end}
+use Rattle.tl_sweep.specs.Heights.{height, low_end, high_end}
 use Rattle.tl_sweep.specs.Neighbours.{IsNumbered, IsWestOf, AreApartOrAtEnds, AreTested}
 use Rattle.tl_sweep.proofs.Numbered.{one_segment, on_same}
 
@@ -53,6 +53,12 @@ same_low K u w e = rw (e.first, e.last) refl
 
 pub same_high : (K : ℤ) (u w : Segment) → HaveSameEnds u w → high_end K u ≡ high_end K w
 same_high K u w e = rw (e.first, e.last) refl
+
+pub low_height : (K : ℤ) (u w : Segment) → HaveSameEnds u w → height K (low_end K u) ≡ height K (low_end K w)
+low_height K u w e = ap (height K) (same_low K u w e)
+
+pub high_height : (K : ℤ) (u w : Segment) → HaveSameEnds u w → height K (high_end K u) ≡ height K (high_end K w)
+high_height K u w e = ap (height K) (same_high K u w e)
 
 west_same : (K : ℤ) (u w u' w' : Segment) → HaveSameEnds u u' → HaveSameEnds w w' → IsWestOf K u w → IsWestOf K u' w'
 west_same K u w u' w' e f west =

@@ -42,8 +42,8 @@ pub fn what_stands_east_is_crossed()
 /// Where facing sides agree along what stands east of it, the count of any sides at the point is 1 if the side that it sees to
 /// its east is one of them, else 0. So it is placed in the polygon that it sees there.
 pub fn a_point_is_placed_by_the_side_that_it_sees()
-    ensures counted { (K : ℤ) (chains : List MapChain) (q : Point) (front back : List ℕ) (S : Side → Bool) → IsWide K chains → IsNoVertex K chains q →
-        IsBetween K chains q front back → AreFacing chains back → S Outside ≡ false →
+    ensures counted { (K : ℤ) (chains : List MapChain) (q : Point) (front back : List ℕ) (S : Side → Bool) →
+        IsWide K chains → IsNoVertex K chains q → IsBetween K chains q front back → AreFacing chains back → S Outside ≡ false →
         IsCount chains q S (if S (seen_side chains back) then pos 1 else pos 0) }
     ensures placed { (K : ℤ) (m : TheMap) (q : Point) (front back : List ℕ) (p : ℕ) → IsWide K m.chains → IsNoVertex K m.chains q →
         IsBetween K m.chains q front back → AreFacing m.chains back → seen_side m.chains back ≡ Polygon p → IsPlacedIn m q p }

@@ -1,7 +1,9 @@
-//! How a sweep from south to north decides whether chains are planar.
+//! How one sweep from south to north decides that chains are planar.
 //!
-//! A list of the segments that are active at a height is tested, neighbour by neighbour, and not trusted: [`laws`] says what
-//! follows from the tests alone, whatever way the places in the list were found.
+//! The sweep keeps a list of the segments that are active at the height that it has reached, from west to east, and tests
+//! each two that are neighbours for the first time. Neither the order of the list nor the way in which a place in it was
+//! found is trusted: [`laws`] says what follows from the tests alone. So [`sweep`] answers [`Swept::Planar`] only where the
+//! chains are planar, and where a test fails it says nothing of the map.
 #![tactic(auto)]
 
 mod answer;
