@@ -11,17 +11,17 @@ use std::alloc::AllocError;
 use tl_county::Map;
 
 /// Takes these segments off the list behind the place, if they stand there in this order.
-fn leave(line: &mut Line, outs: &[u32]) -> bool
-    ensures front { line.new.front ≡ line.old.front }
-    ensures back { IsTrue result → line.old.back ≡ outs.now ++ line.new.back }
+fn leave(line: &mut Line, outs: &[u32]) -> Result<bool, AllocError>
+    ensures front { IfOk result (λ done. line.new.front ≡ line.old.front) }
+    ensures back { IfOk result (λ done. IsTrue done → line.old.back ≡ outs.now ++ line.new.back) }
 {
     for s in outs {
         if line.next() != Some(*s) {
-            return false;
+            return Ok(false);
         }
-        line.take();
+        line.take()?;
     }
-    true
+    Ok(true)
 }
 
 /// Whether two that are there may be neighbours.
@@ -72,7 +72,7 @@ fn closes(map: &Map, line: &Line) -> bool
     may_follow(map, line.previous(), line.next())
 }
 
-/// Goes to a place, takes these segments off the list there and puts those in, if the former stand there and all that are
+/// Goes to a place in the open block, takes these segments off the list there and puts those in, if the former stand there and all that are
 /// neighbours for the first time may be.
 pub fn pass(
     map: &Map,
@@ -87,7 +87,7 @@ pub fn pass(
         EachTwo (AreTested widest map.now.chains) (list_of line.new)) }
 {
     line.seek(place);
-    if !leave(line, outs) {
+    if !leave(line, outs)? {
         return Ok(false);
     }
     if !enter(map, line, ins)? {

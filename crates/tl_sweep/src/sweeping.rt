@@ -84,7 +84,71 @@ fn is_east(map: &Map, s: Option<u32>, p: Point) -> bool {
     }
 }
 
-/// The place of the first segment of the list that a point isn't east of.
+/// How many of the blocks west of the open one begin west of a point.
+fn begin_west(map: &Map, line: &Line, blocks: usize, p: Point) -> usize {
+    let mut low = 0;
+    let mut high = blocks;
+    while low < high {
+        let middle = low + (high - low) / 2;
+        if is_east(map, line.first_west(middle), p) {
+            low = middle + 1;
+        } else {
+            high = middle;
+        }
+    }
+    low
+}
+
+/// How many of the blocks east of the open one don't begin west of a point.
+fn begin_east(map: &Map, line: &Line, blocks: usize, p: Point) -> usize {
+    let mut low = 0;
+    let mut high = blocks;
+    while low < high {
+        let middle = low + (high - low) / 2;
+        if is_east(map, line.first_east(middle), p) {
+            high = middle;
+        } else {
+            low = middle + 1;
+        }
+    }
+    low
+}
+
+/// Goes so many blocks to the west.
+fn go_west(line: &mut Line, blocks: usize) -> Result<(), AllocError>
+    ensures { IfOk result (λ done. list_of line.new ≡ list_of line.old) }
+{
+    for _block in 0..blocks {
+        line.step_west()?;
+    }
+    Ok(())
+}
+
+/// Goes so many blocks to the east.
+fn go_east(line: &mut Line, blocks: usize) -> Result<(), AllocError>
+    ensures { IfOk result (λ done. list_of line.new ≡ list_of line.old) }
+{
+    for _block in 0..blocks {
+        line.step_east()?;
+    }
+    Ok(())
+}
+
+/// Opens the last block that begins west of a point, or the first one.
+fn open(map: &Map, line: &mut Line, p: Point) -> Result<(), AllocError>
+    ensures { IfOk result (λ done. list_of line.new ≡ list_of line.old) }
+{
+    let (west, east) = line.blocks();
+    if is_east(map, line.at(0), p) {
+        let behind = begin_east(map, line, east, p);
+        go_east(line, east.saturating_sub(behind))
+    } else {
+        let before = begin_west(map, line, west, p);
+        go_west(line, west.saturating_sub(before.saturating_sub(1)))
+    }
+}
+
+/// The place in the open block of the first segment that a point isn't east of.
 fn find(map: &Map, line: &Line, p: Point) -> usize {
     let mut low = 0;
     let mut high = line.len();
@@ -112,17 +176,9 @@ fn point_of(map: &Map, event: Event) -> Option<Point> {
     }
 }
 
-/// The place in the list where these events are, which are at one point.
-fn place_of(map: &Map, line: &Line, events: &[Event]) -> usize {
-    match events.first() {
-        Some(event) => {
-            match point_of(map, *event) {
-                Some(p) => find(map, line, p),
-                None => 0,
-            }
-        }
-        None => 0,
-    }
+/// The point of the first of these events.
+fn first_point(map: &Map, events: &[Event]) -> Option<Point> {
+    point_of(map, *events.first()?)
 }
 
 /// Passes the events of one point: what ends there leaves the list, and what begins there enters it.
@@ -141,7 +197,11 @@ fn step(
     gather(events, outs, ins)?;
     order(map, outs);
     order(map, ins);
-    let place = place_of(map, line, events);
+    let Some(p) = first_point(map, events) else {
+        return Ok(false);
+    };
+    open(map, line, p)?;
+    let place = find(map, line, p);
     pass(map, line, place, outs, ins)
 }
 
