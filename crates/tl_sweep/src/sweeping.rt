@@ -141,7 +141,13 @@ fn open(segments: &[Segment], line: &mut Line, p: Point) -> Result<(), AllocErro
     ensures { IfOk result (λ done. list_of line.new ≡ list_of line.old) }
 {
     let (west, east) = line.blocks();
-    if is_east(segments, line.at(0), p) {
+    // Where all that was in the open block has left it, what comes next is in the first block to the east.
+    let first = if line.len() > 0 {
+        line.at(0)
+    } else {
+        line.next()
+    };
+    if is_east(segments, first, p) {
         let behind = begin_east(segments, line, east, p);
         go_east(line, east.saturating_sub(behind))
     } else {
