@@ -1,5 +1,5 @@
 //! Stacks of blocks of numbers. None of their blocks is empty, and small ones are joined.
-ghost use Rattle.std.specs.Prelude.{◌≡◌, ◌<◌, ◌++◌, length, slice_get, IfOk, IsSome, drop};
+ghost use Rattle.std.specs.Prelude.{◌≡◌, ◌++◌, slice_get, IfOk, drop};
 ghost use Rattle.tl_sweep.specs.Keeping.Lined.{from_west, from_east, last_of, AreSome};
 
 use std::alloc::AllocError;

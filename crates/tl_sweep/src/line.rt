@@ -38,7 +38,7 @@ impl Model for Line {
 }
 
 impl Line {
-    ghost use Rattle.std.specs.Prelude.{◌≡◌, ◌++◌, ◌∷◌, [], drop, slice_get, IfOk, IsSome};
+    ghost use Rattle.std.specs.Prelude.{◌≡◌, ◌++◌, ◌∷◌, [], drop, slice_get, IfOk};
     ghost use Rattle.tl_sweep.specs.Keeping.Lined.{list_of, last_of};
 
     /// An empty list.
