@@ -17,3 +17,4 @@ pub mod Meeting
 pub mod Found
 pub mod Gathering
 pub mod Slab
+pub mod Stacked

@@ -2,7 +2,7 @@
 ghost use Rattle.std.specs.Prelude.{◌≡◌, IfOk};
 ghost use Rattle.tl_planar.specs.Planar.{IsPlanar};
 
-use crate::events::{list_events, sort_events};
+use crate::events::{list_events, list_segments, sort_events};
 use crate::meets::are_vertices_tested;
 use crate::sweeping::sweep_list;
 use std::alloc::{AllocError, Global};
@@ -28,7 +28,8 @@ pub fn sweep(alloc: Global, map: &Map) -> Result<Swept, AllocError>
     if !are_vertices_tested(map, &events) {
         return Ok(Swept::Unknown);
     }
-    if !sweep_list(alloc, map, &events)? {
+    let segments = list_segments(alloc, map)?;
+    if !sweep_list(alloc, map, &segments, &events)? {
         return Ok(Swept::Unknown);
     }
     Ok(Swept::Planar)

@@ -5,11 +5,12 @@ ghost use Rattle.tl_geom.specs.declared.segment.Segment.{Segment};
 ghost use Rattle.tl_county.specs.Segments.{segments_before};
 ghost use Rattle.tl_sweep.specs.Heights.{widest, AreNear};
 ghost use Rattle.tl_sweep.specs.Neighbours.{IsNumbered, IsWide};
-ghost use Rattle.tl_sweep.specs.Keeping.Listed.{IsEvent, AreEvents};
+ghost use Rattle.tl_sweep.specs.Keeping.Listed.{IsEvent, AreEvents, AreSegments};
 
 use crate::heights::{height, is_lower};
 use std::alloc::{AllocError, Global};
 use tl_county::Map;
+use tl_geom::Segment;
 
 /// An end of a segment, by its height.
 #[derive(Clone, Copy)]
@@ -20,6 +21,18 @@ pub struct Event {
     pub begins: bool,
     /// Whether it is the first end of the segment on the way along its chain.
     pub first: bool,
+}
+
+/// The segments of a map by their numbers, side by side.
+pub fn list_segments(alloc: Global, map: &Map) -> Result<Vec<Segment>, AllocError>
+    ensures { IfOk result (λ segments. AreSegments map.now.chains segments.items) }
+{
+    let count = map.segments();
+    let mut segments = Vec::with_capacity(alloc, count as usize)?;
+    for s in 0..count {
+        segments.push(map.segment(s))?;
+    }
+    Ok(segments)
 }
 
 /// The two ends of a segment, in the order of its chain.

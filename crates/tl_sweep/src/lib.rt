@@ -7,6 +7,7 @@
 #![tactic(auto)]
 
 mod answer;
+mod blocks;
 mod events;
 mod heights;
 pub mod laws;

@@ -1,28 +1,44 @@
-//! The list of active segments, parted at the place where the sweep is.
+//! The list of active segments, in blocks and parted at the place where the sweep is.
 
+use crate::blocks::{first_east, last_west, stack_east, stack_west, take_east};
 use std::alloc::{AllocError, Global};
 use std::marker::Model;
+use std::mem;
 
-/// The numbers of segments from west to east, and a place among them.
+/// How many numbers a block holds at most.
+const MOST: usize = 512;
+
+/// The numbers of segments from west to east, and a place among them. They stand in blocks, so that what is put in, what is
+/// taken off and each way from place to place moves few of them.
 #[derive(Drop)]
 pub struct Line {
+    alloc: Global,
+    /// The blocks west of the open one, from west to east.
+    west: Vec<Vec<u32>>,
+    /// The block that the place is in.
     items: Vec<u32>,
+    /// The place in the open block.
     place: usize,
+    /// The blocks east of the open one, from east to west.
+    east: Vec<Vec<u32>>,
 }
 
 impl Model for Line {
-    ghost use Rattle.std.specs.Prelude.{◌≤◌, length, take, drop};
-    ghost use Rattle.tl_sweep.specs.Keeping.Lined.{TheLine};
+    ghost use Rattle.std.specs.Prelude.{◌≤◌, ◌++◌, length, take, drop};
+    ghost use Rattle.tl_sweep.specs.Keeping.Lined.{TheLine, from_west, from_east, AreSome};
 
     ghost Value = { TheLine };
 
-    ghost view = { λ l. record { front = take l.place l.items.items; back = drop l.place l.items.items } };
+    ghost view = { λ l. record {
+      front = from_west l.west.items ++ take l.place l.items.items;
+      back = drop l.place l.items.items ++ from_east l.east.items;
+    } };
 
-    ghost invariant = { λ l. l.place ≤ length l.items.items };
+    ghost invariant = { λ l. (l.place ≤ length l.items.items) × AreSome l.west.items × AreSome l.east.items };
 }
 
 impl Line {
-    ghost use Rattle.std.specs.Prelude.{◌≡◌, ◌++◌, ◌∷◌, [], drop, slice_get, IfOk, IsSome};
+    ghost use Rattle.std.specs.Prelude.{◌≡◌, ◌++◌, ◌∷◌, [], drop, slice_get, IfOk};
     ghost use Rattle.tl_sweep.specs.Keeping.Lined.{list_of, last_of};
 
     /// An empty list.
@@ -30,22 +46,40 @@ impl Line {
         ensures { list_of result ≡ [] }
     {
         Line {
+            alloc,
+            west: Vec::new(alloc),
             items: Vec::new(alloc),
             place: 0,
+            east: Vec::new(alloc),
         }
     }
 
-    /// How many there are.
+    /// How many blocks stand west of the open one, and how many east of it.
+    pub fn blocks(&self) -> (usize, usize) {
+        (self.west.len(), self.east.len())
+    }
+
+    /// The first number of a block west of the open one, counted from the west.
+    pub fn first_west(&self, block: usize) -> Option<u32> {
+        self.west.get(block)?.first().copied()
+    }
+
+    /// The first number of a block east of the open one, counted from the east.
+    pub fn first_east(&self, block: usize) -> Option<u32> {
+        self.east.get(block)?.first().copied()
+    }
+
+    /// How many numbers the open block holds.
     pub fn len(&self) -> usize {
         self.items.len()
     }
 
-    /// The number at a place, if there is one.
+    /// The number at a place in the open block, if there is one.
     pub fn at(&self, place: usize) -> Option<u32> {
         self.items.get(place).copied()
     }
 
-    /// Goes to a place, or behind all.
+    /// Goes to a place in the open block, or to its end.
     pub fn seek(&mut self, place: usize)
         ensures { list_of self.new ≡ list_of self.old }
     {
@@ -56,6 +90,30 @@ impl Line {
         }
     }
 
+    /// Opens the next block to the west, if there is one.
+    pub fn step_west(&mut self) -> Result<(), AllocError>
+        ensures { IfOk result (λ done. list_of self.new ≡ list_of self.old) }
+    {
+        if let Some(block) = self.west.pop() {
+            let block_before = mem::replace(&mut self.items, block);
+            self.place = 0;
+            stack_east(&mut self.east, block_before)?;
+        }
+        Ok(())
+    }
+
+    /// Opens the next block to the east, if there is one.
+    pub fn step_east(&mut self) -> Result<(), AllocError>
+        ensures { IfOk result (λ done. list_of self.new ≡ list_of self.old) }
+    {
+        if let Some(block) = self.east.pop() {
+            let block_before = mem::replace(&mut self.items, block);
+            self.place = 0;
+            stack_west(&mut self.west, block_before)?;
+        }
+        Ok(())
+    }
+
     /// The first number behind the place.
     pub fn next(&self) -> Option<u32>
         ensures { result ≡ slice_get self.now.back 0 }
@@ -63,7 +121,7 @@ impl Line {
         if self.place < self.items.len() {
             Some(self.items[self.place])
         } else {
-            None
+            first_east(&self.east)
         }
     }
 
@@ -74,26 +132,60 @@ impl Line {
         if self.place > 0 {
             Some(self.items[self.place - 1])
         } else {
-            None
+            last_west(&self.west)
         }
     }
 
-    /// Takes off the first number behind the place.
-    pub fn take(&mut self)
-        requires { IsSome (slice_get self.old.back 0) }
-        ensures front { self.new.front ≡ self.old.front }
-        ensures back { self.new.back ≡ drop 1 self.old.back }
+    /// Takes off the first number behind the place, if there is one.
+    pub fn take(&mut self) -> Result<(), AllocError>
+        ensures front { IfOk result (λ done. self.new.front ≡ self.old.front) }
+        ensures back { IfOk result (λ done. self.new.back ≡ drop 1 self.old.back) }
     {
-        self.items.remove(self.place);
+        if self.place < self.items.len() {
+            self.items.remove(self.place);
+        } else {
+            take_east(&mut self.east)?;
+        }
+        Ok(())
     }
 
-    /// Puts a number in at the place, and goes behind it. Where memory is refused, nothing changes.
-    pub fn put(&mut self, s: u32) -> Result<(), AllocError>
+    /// Parts the open block in two.
+    fn part(&mut self) -> Result<(), AllocError>
+        ensures front { IfOk result (λ done. self.new.front ≡ self.old.front) }
+        ensures back { IfOk result (λ done. self.new.back ≡ self.old.back) }
+    {
+        let half = self.items.len() / 2;
+        let mut behind = Vec::with_capacity(self.alloc, MOST)?;
+        behind.extend_from_slice(&self.items[half..])?;
+        self.items.truncate(half);
+        if self.place <= half {
+            stack_east(&mut self.east, behind)?;
+        } else {
+            self.place -= half;
+            let before = mem::replace(&mut self.items, behind);
+            stack_west(&mut self.west, before)?;
+        }
+        Ok(())
+    }
+
+    /// Puts a number in at the place in the open block, and goes behind it.
+    fn put_open(&mut self, s: u32) -> Result<(), AllocError>
         ensures front { IfOk result (λ done. self.new.front ≡ self.old.front ++ s ∷ []) }
         ensures back { IfOk result (λ done. self.new.back ≡ self.old.back) }
     {
         self.items.insert(self.place, s)?;
         self.place += 1;
         Ok(())
+    }
+
+    /// Puts a number in at the place, and goes behind it.
+    pub fn put(&mut self, s: u32) -> Result<(), AllocError>
+        ensures front { IfOk result (λ done. self.new.front ≡ self.old.front ++ s ∷ []) }
+        ensures back { IfOk result (λ done. self.new.back ≡ self.old.back) }
+    {
+        if self.items.len() >= MOST {
+            self.part()?;
+        }
+        self.put_open(s)
     }
 }

@@ -3,6 +3,7 @@ ghost use Rattle.std.specs.Prelude.{◌≤ℤ◌, ◌⊎◌, pos, IsTrue};
 ghost use Rattle.tl_geom.specs.Plane.{turn_of};
 ghost use Rattle.tl_sweep.specs.Heights.{widest};
 ghost use Rattle.tl_sweep.specs.Neighbours.{IsWestOf, AreApartOrAtEnds, AreTested};
+ghost use Rattle.tl_sweep.specs.Keeping.Listed.{AreSegments};
 
 use crate::heights::{ends, is_lower};
 use tl_county::Map;
@@ -45,14 +46,14 @@ fn are_free(u: Segment, w: Segment) -> bool
 
 /// Whether segment `s` is west of segment `t`, and they are apart or share an end of both alone. It is not so of numbers of
 /// no segments.
-pub fn are_tested(map: &Map, s: u32, t: u32) -> bool
+pub fn are_tested(map: &Map, segments: &[Segment], s: u32, t: u32) -> bool
+    requires { AreSegments map.now.chains segments.now }
     ensures { IsTrue result → AreTested widest map.now.chains s t }
 {
-    let count = map.segments();
-    if s >= count || t >= count {
+    if s as usize >= segments.len() || t as usize >= segments.len() {
         return false;
     }
-    let one = map.segment(s);
-    let other = map.segment(t);
+    let one = segments[s as usize];
+    let other = segments[t as usize];
     is_west_of(one, other) && are_free(one, other)
 }

@@ -4,45 +4,49 @@ ghost use Rattle.tl_tree.specs.Hits.{times};
 ghost use Rattle.tl_sweep.specs.Heights.{widest};
 ghost use Rattle.tl_sweep.specs.Neighbours.{AreTested, EachTwo};
 ghost use Rattle.tl_sweep.specs.Keeping.Lined.{list_of};
+ghost use Rattle.tl_sweep.specs.Keeping.Listed.{AreSegments};
 
 use crate::line::Line;
 use crate::neighbours::are_tested;
 use std::alloc::AllocError;
 use tl_county::Map;
+use tl_geom::Segment;
 
 /// Takes these segments off the list behind the place, if they stand there in this order.
-fn leave(line: &mut Line, outs: &[u32]) -> bool
-    ensures front { line.new.front ≡ line.old.front }
-    ensures back { IsTrue result → line.old.back ≡ outs.now ++ line.new.back }
+fn leave(line: &mut Line, outs: &[u32]) -> Result<bool, AllocError>
+    ensures front { IfOk result (λ done. line.new.front ≡ line.old.front) }
+    ensures back { IfOk result (λ done. IsTrue done → line.old.back ≡ outs.now ++ line.new.back) }
 {
     for s in outs {
         if line.next() != Some(*s) {
-            return false;
+            return Ok(false);
         }
-        line.take();
+        line.take()?;
     }
-    true
+    Ok(true)
 }
 
 /// Whether two that are there may be neighbours.
-fn may_follow(map: &Map, before: Option<u32>, after: Option<u32>) -> bool
+fn may_follow(map: &Map, segments: &[Segment], before: Option<u32>, after: Option<u32>) -> bool
+    requires { AreSegments map.now.chains segments.now }
     ensures { IsTrue result → (s t : ℕ) → before ≡ Some s → after ≡ Some t → AreTested widest map.now.chains s t }
 {
     match (before, after) {
-        (Some(s), Some(t)) => are_tested(map, s, t),
+        (Some(s), Some(t)) => are_tested(map, segments, s, t),
         (None, _) => true,
         (Some(_), None) => true,
     }
 }
 
 /// Puts a segment in at the place, if it may stand behind the one before it.
-fn enter_one(map: &Map, line: &mut Line, s: u32) -> Result<bool, AllocError>
+fn enter_one(map: &Map, segments: &[Segment], line: &mut Line, s: u32) -> Result<bool, AllocError>
+    requires { AreSegments map.now.chains segments.now }
     ensures back { IfOk result (λ done. IsTrue done → line.new.back ≡ line.old.back) }
     ensures front { IfOk result (λ done. IsTrue done → line.new.front ≡ line.old.front ++ s ∷ []) }
     ensures tested { IfOk result (λ done. IsTrue done → EachTwo (AreTested widest map.now.chains) line.old.front →
         EachTwo (AreTested widest map.now.chains) line.new.front) }
 {
-    if !may_follow(map, line.previous(), Some(s)) {
+    if !may_follow(map, segments, line.previous(), Some(s)) {
         return Ok(false);
     }
     line.put(s)?;
@@ -50,14 +54,15 @@ fn enter_one(map: &Map, line: &mut Line, s: u32) -> Result<bool, AllocError>
 }
 
 /// Puts these segments in at the place, in this order, if each may stand behind the one before it.
-fn enter(map: &Map, line: &mut Line, ins: &[u32]) -> Result<bool, AllocError>
+fn enter(map: &Map, segments: &[Segment], line: &mut Line, ins: &[u32]) -> Result<bool, AllocError>
+    requires { AreSegments map.now.chains segments.now }
     ensures back { IfOk result (λ done. IsTrue done → line.new.back ≡ line.old.back) }
     ensures front { IfOk result (λ done. IsTrue done → line.new.front ≡ line.old.front ++ ins.now) }
     ensures tested { IfOk result (λ done. IsTrue done → EachTwo (AreTested widest map.now.chains) line.old.front →
         EachTwo (AreTested widest map.now.chains) line.new.front) }
 {
     for s in ins {
-        if !enter_one(map, line, *s)? {
+        if !enter_one(map, segments, line, *s)? {
             return Ok(false);
         }
     }
@@ -65,33 +70,36 @@ fn enter(map: &Map, line: &mut Line, ins: &[u32]) -> Result<bool, AllocError>
 }
 
 /// Whether those that stand before and behind the place may be neighbours.
-fn closes(map: &Map, line: &Line) -> bool
+fn closes(map: &Map, segments: &[Segment], line: &Line) -> bool
+    requires { AreSegments map.now.chains segments.now }
     ensures { IsTrue result → EachTwo (AreTested widest map.now.chains) line.now.front →
         EachTwo (AreTested widest map.now.chains) line.now.back → EachTwo (AreTested widest map.now.chains) (list_of line.now) }
 {
-    may_follow(map, line.previous(), line.next())
+    may_follow(map, segments, line.previous(), line.next())
 }
 
-/// Goes to a place, takes these segments off the list there and puts those in, if the former stand there and all that are
+/// Goes to a place in the open block, takes these segments off the list there and puts those in, if the former stand there and all that are
 /// neighbours for the first time may be.
 pub fn pass(
     map: &Map,
+    segments: &[Segment],
     line: &mut Line,
     place: usize,
     outs: &[u32],
     ins: &[u32],
 ) -> Result<bool, AllocError>
+    requires { AreSegments map.now.chains segments.now }
     ensures moved { IfOk result (λ done. IsTrue done → (s : ℕ) →
         times s (list_of line.new) + times s outs.now ≡ times s (list_of line.old) + times s ins.now) }
     ensures tested { IfOk result (λ done. IsTrue done → EachTwo (AreTested widest map.now.chains) (list_of line.old) →
         EachTwo (AreTested widest map.now.chains) (list_of line.new)) }
 {
     line.seek(place);
-    if !leave(line, outs) {
+    if !leave(line, outs)? {
         return Ok(false);
     }
-    if !enter(map, line, ins)? {
+    if !enter(map, segments, line, ins)? {
         return Ok(false);
     }
-    Ok(closes(map, line))
+    Ok(closes(map, segments, line))
 }

@@ -5,7 +5,7 @@ ghost use Rattle.tl_sweep.specs.Heights.{widest};
 ghost use Rattle.tl_sweep.specs.Neighbours.{AreTested, EachTwo, IsWide};
 ghost use Rattle.tl_sweep.specs.Slabs.{AreSlabsTested};
 ghost use Rattle.tl_sweep.specs.Keeping.Lined.{list_of};
-ghost use Rattle.tl_sweep.specs.Keeping.Listed.{begins_at, ends_at, AreEvents, AreRising};
+ghost use Rattle.tl_sweep.specs.Keeping.Listed.{begins_at, ends_at, AreEvents, AreRising, AreSegments};
 ghost use Rattle.tl_sweep.specs.declared.events.Event.{Event};
 
 use crate::events::Event;
@@ -15,7 +15,7 @@ use crate::passing::pass;
 use std::alloc::{AllocError, Global};
 use std::cmp::Ordering;
 use tl_county::Map;
-use tl_geom::{Point, turn};
+use tl_geom::{Point, Segment, turn};
 
 /// How far the events at one height go that begin at a place.
 fn run_end(events: &[Event], from: usize) -> usize
@@ -51,46 +51,48 @@ fn gather(events: &[Event], outs: &mut Vec<u32>, ins: &mut Vec<u32>) -> Result<(
 }
 
 /// Which of two segments that share their low end, or their high end, comes first from west to east.
-fn west_first(map: &Map, s: u32, t: u32) -> Ordering {
-    let count = map.segments();
-    if s >= count || t >= count {
-        return Ordering::Equal;
+fn west_first(segments: &[Segment], s: u32, t: u32) -> Ordering {
+    match (segments.get(s as usize), segments.get(t as usize)) {
+        (Some(one), Some(other)) => {
+            let (a, b) = ends(*one);
+            let (c, e) = ends(*other);
+            if a == c { turn(a, b, e) } else { turn(a, b, c) }
+        }
+        (None, _) => Ordering::Equal,
+        (Some(_), None) => Ordering::Equal,
     }
-    let (a, b) = ends(map.segment(s));
-    let (c, e) = ends(map.segment(t));
-    if a == c { turn(a, b, e) } else { turn(a, b, c) }
 }
 
 /// Sorts segments that share their low end, or their high end, from west to east.
-fn order(map: &Map, segments: &mut Vec<u32>)
-    ensures { (s : ℕ) → times s segments.new.items ≡ times s segments.old.items }
+fn order(segments: &[Segment], numbers: &mut Vec<u32>)
+    ensures { (s : ℕ) → times s numbers.new.items ≡ times s numbers.old.items }
 {
-    if segments.len() > 1 {
-        segments.sort_unstable_by(|s, t| west_first(map, *s, *t));
+    if numbers.len() > 1 {
+        numbers.sort_unstable_by(|s, t| west_first(segments, *s, *t));
     }
 }
 
 /// Whether a point lies strictly east of a segment.
-fn is_east(map: &Map, s: Option<u32>, p: Point) -> bool {
-    match s {
-        Some(s) => {
-            if s >= map.segments() {
-                return false;
-            }
-            let (a, b) = ends(map.segment(s));
+fn is_east(segments: &[Segment], s: Option<u32>, p: Point) -> bool {
+    let Some(s) = s else {
+        return false;
+    };
+    match segments.get(s as usize) {
+        Some(segment) => {
+            let (a, b) = ends(*segment);
             turn(a, b, p).is_lt()
         }
         None => false,
     }
 }
 
-/// The place of the first segment of the list that a point isn't east of.
-fn find(map: &Map, line: &Line, p: Point) -> usize {
+/// How many of the blocks west of the open one begin west of a point.
+fn begin_west(segments: &[Segment], line: &Line, blocks: usize, p: Point) -> usize {
     let mut low = 0;
-    let mut high = line.len();
+    let mut high = blocks;
     while low < high {
         let middle = low + (high - low) / 2;
-        if is_east(map, line.at(middle), p) {
+        if is_east(segments, line.first_west(middle), p) {
             low = middle + 1;
         } else {
             high = middle;
@@ -99,54 +101,121 @@ fn find(map: &Map, line: &Line, p: Point) -> usize {
     low
 }
 
-/// The point of an event.
-fn point_of(map: &Map, event: Event) -> Option<Point> {
-    if event.segment >= map.segments() {
-        return None;
+/// How many of the blocks east of the open one don't begin west of a point.
+fn begin_east(segments: &[Segment], line: &Line, blocks: usize, p: Point) -> usize {
+    let mut low = 0;
+    let mut high = blocks;
+    while low < high {
+        let middle = low + (high - low) / 2;
+        if is_east(segments, line.first_east(middle), p) {
+            high = middle;
+        } else {
+            low = middle + 1;
+        }
     }
-    let segment = map.segment(event.segment);
-    if event.first {
-        Some(segment.a())
+    low
+}
+
+/// Goes so many blocks to the west.
+fn go_west(line: &mut Line, blocks: usize) -> Result<(), AllocError>
+    ensures { IfOk result (λ done. list_of line.new ≡ list_of line.old) }
+{
+    for _block in 0..blocks {
+        line.step_west()?;
+    }
+    Ok(())
+}
+
+/// Goes so many blocks to the east.
+fn go_east(line: &mut Line, blocks: usize) -> Result<(), AllocError>
+    ensures { IfOk result (λ done. list_of line.new ≡ list_of line.old) }
+{
+    for _block in 0..blocks {
+        line.step_east()?;
+    }
+    Ok(())
+}
+
+/// Opens the last block that begins west of a point, or the first one.
+fn open(segments: &[Segment], line: &mut Line, p: Point) -> Result<(), AllocError>
+    ensures { IfOk result (λ done. list_of line.new ≡ list_of line.old) }
+{
+    let (west, east) = line.blocks();
+    // Where all that was in the open block has left it, what comes next is in the first block to the east.
+    let first = if line.len() > 0 {
+        line.at(0)
     } else {
-        Some(segment.b())
+        line.next()
+    };
+    if is_east(segments, first, p) {
+        let behind = begin_east(segments, line, east, p);
+        go_east(line, east.saturating_sub(behind))
+    } else {
+        let before = begin_west(segments, line, west, p);
+        go_west(line, west.saturating_sub(before.saturating_sub(1)))
     }
 }
 
-/// The place in the list where these events are, which are at one point.
-fn place_of(map: &Map, line: &Line, events: &[Event]) -> usize {
-    match events.first() {
-        Some(event) => {
-            match point_of(map, *event) {
-                Some(p) => find(map, line, p),
-                None => 0,
-            }
+/// The place in the open block of the first segment that a point isn't east of.
+fn find(segments: &[Segment], line: &Line, p: Point) -> usize {
+    let mut low = 0;
+    let mut high = line.len();
+    while low < high {
+        let middle = low + (high - low) / 2;
+        if is_east(segments, line.at(middle), p) {
+            low = middle + 1;
+        } else {
+            high = middle;
         }
-        None => 0,
     }
+    low
+}
+
+/// The point of the first of these events.
+fn first_point(segments: &[Segment], events: &[Event]) -> Option<Point> {
+    let event = events.first()?;
+    let segment = segments.get(event.segment as usize)?;
+    Some(if event.first {
+        segment.a()
+    } else {
+        segment.b()
+    })
 }
 
 /// Passes the events of one point: what ends there leaves the list, and what begins there enters it.
 fn step(
     map: &Map,
+    segments: &[Segment],
     line: &mut Line,
     events: &[Event],
     outs: &mut Vec<u32>,
     ins: &mut Vec<u32>,
 ) -> Result<bool, AllocError>
+    requires { AreSegments map.now.chains segments.now }
     ensures moved { IfOk result (λ done. IsTrue done → (s : ℕ) →
         times s (list_of line.new) + count_by (ends_at s) events.now ≡ times s (list_of line.old) + count_by (begins_at s) events.now) }
     ensures tested { IfOk result (λ done. IsTrue done → EachTwo (AreTested widest map.now.chains) (list_of line.old) →
         EachTwo (AreTested widest map.now.chains) (list_of line.new)) }
 {
     gather(events, outs, ins)?;
-    order(map, outs);
-    order(map, ins);
-    let place = place_of(map, line, events);
-    pass(map, line, place, outs, ins)
+    order(segments, outs);
+    order(segments, ins);
+    let Some(p) = first_point(segments, events) else {
+        return Ok(false);
+    };
+    open(segments, line, p)?;
+    let place = find(segments, line, p);
+    pass(map, segments, line, place, outs, ins)
 }
 
 /// Sweeps over all events from the lowest to the highest. Where a test fails it ends, and answers no.
-pub fn sweep_list(alloc: Global, map: &Map, events: &[Event]) -> Result<bool, AllocError>
+pub fn sweep_list(
+    alloc: Global,
+    map: &Map,
+    segments: &[Segment],
+    events: &[Event],
+) -> Result<bool, AllocError>
+    requires segments { AreSegments map.now.chains segments.now }
     requires events { AreEvents map.now.chains events.now }
     requires rising { AreRising events.now }
     requires wide { IsWide widest map.now.chains }
@@ -158,7 +227,14 @@ pub fn sweep_list(alloc: Global, map: &Map, events: &[Event]) -> Result<bool, Al
     let mut from = 0;
     while from < events.len() {
         let to = run_end(events, from);
-        if !step(map, &mut line, &events[from..to], &mut outs, &mut ins)? {
+        if !step(
+            map,
+            segments,
+            &mut line,
+            &events[from..to],
+            &mut outs,
+            &mut ins,
+        )? {
             return Ok(false);
         }
         from = to;

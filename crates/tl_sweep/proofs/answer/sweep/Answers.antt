@@ -9,7 +9,7 @@ use Rattle.tl_sweep.proofs.answer.sweep.Goals as goal
 pub sweep_list-requires-clause-events : goal.sweep_list-requires-clause-events
 sweep_list-requires-clause-events c =
     let chains = c.args.map.now.chains in
-    subst (AreEvents c.args.map.now.chains) (sym c.deref-2.ensures.value)
+    subst (AreEvents c.args.map.now.chains) (sym c.deref-3.ensures.value)
     (events_moved c.args.map.now.chains (segments_before c.args.map.now.chains (length c.args.map.now.chains)) _ _ c.sort_events.ensures c.in_ok-events.ensures.events)
 
 pub returns : goal.returns

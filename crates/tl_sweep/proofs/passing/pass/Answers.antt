@@ -7,17 +7,17 @@ use Rattle.tl_sweep.proofs.passing.pass.Goals as goal
 
 pub returns-clause-moved : goal.returns-clause-moved
 returns-clause-moved c = λ h s.
-    let off = c.leave.ensures.back c.if-not-leave.false in
-    let old : list_of c.args.line.now ≡ c.leave.new.line.front ++ (c.args.outs.now ++ c.leave.new.line.back) = sym c.seek.ensures ∙ ap₂ (λ f b. f ++ b) (sym c.leave.ensures.front) off in
+    let off = c.in_ok-leave.ensures.back c.if-not-branch.false in
+    let old : list_of c.args.line.now ≡ c.leave.new.line.front ++ (c.args.outs.now ++ c.leave.new.line.back) = sym c.seek.ensures ∙ ap₂ (λ f b. f ++ b) (sym c.in_ok-leave.ensures.front) off in
     let new : list_of c.enter.new.line ≡ (c.leave.new.line.front ++ c.args.ins.now) ++ c.leave.new.line.back =
-    ap₂ (λ f b. f ++ b) (c.in_ok-enter.ensures.front c.if-not-branch.false) (c.in_ok-enter.ensures.back c.if-not-branch.false) in
+    ap₂ (λ f b. f ++ b) (c.in_ok-enter.ensures.front c.if-not-branch-2.false) (c.in_ok-enter.ensures.back c.if-not-branch-2.false) in
     moved s c.leave.new.line.front c.args.outs.now c.args.ins.now c.leave.new.line.back (list_of c.args.line.now) (list_of c.enter.new.line) old new
 
 pub returns-clause-tested : goal.returns-clause-tested
 returns-clause-tested c = λ h two.
-    let off = c.leave.ensures.back c.if-not-leave.false in
-    let old : list_of c.args.line.now ≡ c.leave.new.line.front ++ (c.args.outs.now ++ c.leave.new.line.back) = sym c.seek.ensures ∙ ap₂ (λ f b. f ++ b) (sym c.leave.ensures.front) off in
+    let off = c.in_ok-leave.ensures.back c.if-not-branch.false in
+    let old : list_of c.args.line.now ≡ c.leave.new.line.front ++ (c.args.outs.now ++ c.leave.new.line.back) = sym c.seek.ensures ∙ ap₂ (λ f b. f ++ b) (sym c.in_ok-leave.ensures.front) off in
     let P = AreTested widest c.args.map.now.chains in
     let both : EachTwo (AreTested widest c.args.map.now.chains) c.leave.new.line.front × EachTwo (AreTested widest c.args.map.now.chains) c.leave.new.line.back =
     before_tested (AreTested widest c.args.map.now.chains) c.leave.new.line.front c.args.outs.now c.leave.new.line.back (list_of c.args.line.now) old two in
-    c.closes.ensures h (c.in_ok-enter.ensures.tested c.if-not-branch.false both.0) (subst (EachTwo (AreTested widest c.args.map.now.chains)) (sym (c.in_ok-enter.ensures.back c.if-not-branch.false)) both.1)
+    c.closes.ensures h (c.in_ok-enter.ensures.tested c.if-not-branch-2.false both.0) (subst (EachTwo (AreTested widest c.args.map.now.chains)) (sym (c.in_ok-enter.ensures.back c.if-not-branch-2.false)) both.1)

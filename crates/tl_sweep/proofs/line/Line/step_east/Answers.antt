@@ -1,0 +1,11 @@
+use Rattle.std.proofs.Common.{sym, ap, ◌∙◌, ◌++◌}
+use Rattle.tl_sweep.specs.Keeping.Lined.{from_west, from_east, list_of}
+use Rattle.tl_sweep.proofs.Stacked.{east_more, east_step}
+use Rattle.tl_sweep.proofs.line.Line.step_east.Goals as goal
+
+pub returns-in_ok-stack_west : goal.returns-in_ok-stack_west
+returns-in_ok-stack_west c =
+    east_step (from_west c.self.inside.west.items) (from_west c.stack_west.new.blocks.items) c.self.inside.items.items (from_east c.self.inside.east.items)
+    (from_east c.pop.new.self.items) c.replace-block_before.new.dest.items c.self.inside.place
+    (ap from_east c.in-Some.ensures.items ∙ east_more c.pop.new.self.items c.in-Some.block ∙ ap (λ b. b.items ++ from_east c.pop.new.self.items) (sym c.replace-block_before.ensures.after))
+    (c.in_ok-stack_west.ensures.numbers ∙ ap (λ b. from_west c.self.inside.west.items ++ b.items) c.replace-block_before.ensures.value) ∙ ap list_of c.self.view_is

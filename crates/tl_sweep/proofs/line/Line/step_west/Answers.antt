@@ -1,0 +1,11 @@
+use Rattle.std.proofs.Common.{sym, ap, ◌∙◌, ◌++◌}
+use Rattle.tl_sweep.specs.Keeping.Lined.{from_west, from_east, list_of}
+use Rattle.tl_sweep.proofs.Stacked.{west_more, west_step}
+use Rattle.tl_sweep.proofs.line.Line.step_west.Goals as goal
+
+pub returns-in_ok-stack_east : goal.returns-in_ok-stack_east
+returns-in_ok-stack_east c =
+    west_step (from_west c.self.inside.west.items) (from_west c.pop.new.self.items) c.self.inside.items.items (from_east c.self.inside.east.items)
+    (from_east c.stack_east.new.blocks.items) c.replace-block_before.new.dest.items c.self.inside.place
+    (ap from_west c.in-Some.ensures.items ∙ west_more c.pop.new.self.items c.in-Some.block ∙ ap (λ b. from_west c.pop.new.self.items ++ b.items) (sym c.replace-block_before.ensures.after))
+    (c.in_ok-stack_east.ensures.numbers ∙ ap (λ b. b.items ++ from_east c.self.inside.east.items) c.replace-block_before.ensures.value) ∙ ap list_of c.self.view_is
