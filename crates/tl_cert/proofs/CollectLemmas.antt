@@ -1,6 +1,7 @@
 -- Parts that are collected one after the other.
 use Rattle.std.proofs.Common.{◌≡◌, ℕ, List, [], Option, None, Some, Result, Ok, Err, refl, sym, subst, ◌∙◌}
 use Rattle.std.specs.Option.{IfSome}
+use Rattle.std.proofs.lemmas.Option.{IfSome_then}
 use Rattle.tl_cert.specs.declared.place.Place.{Place}
 use Rattle.tl_cert.specs.declared.place.Place.TheVariants.{Start}
 use Rattle.tl_cert.specs.declared.place.CertPart.{CertPart}
@@ -12,7 +13,7 @@ use Rattle.tl_cert.specs.declared.stop.CertStop.TheVariants.{Text, Memory, Devic
 use Rattle.tl_cert.specs.Certificates.{TheCertificate, IsCertificate}
 use Rattle.tl_cert.specs.Beginnings.{IsTextOf, IsRefused}
 use Rattle.tl_cert.specs.Given.{with_part}
-use Rattle.tl_cert.specs.Reading.{GivesAt, Gives, GoesOn, StopsReading, unread, lines_of, standing_of, whole, TellsFailure}
+use Rattle.tl_cert.specs.Reading.{GivesAt, Gives, GoesOn, StopsReading, BreaksOff, unread, lines_of, standing_of, whole, TellsFailure}
 use Rattle.tl_cert.specs.Keeping.Collecting.{Collects, Follows}
 
 -- where the reader reads
@@ -53,11 +54,11 @@ collects_all remaining place first old new c so gives =
     let last = gives.1 c so.behind in (last.0, whole_of (unread remaining first) (unread remaining old) place c so.text last.1)
 
 -- a stop
-refused_of : (first left : Option (List ℕ)) (place : Place) (c : TheCertificate) (line : ℕ) → Follows first left place c → IfSome left (λ text. IsRefused (whole place c text) line)
-    → IfSome first (λ text. IsRefused text line)
+refused_of : (first left : Option (List ℕ)) (place : Place) (c : TheCertificate) (line : ℕ) → Follows first left place c → IfSome left (λ text. IsRefused (whole place c text) line × BreaksOff place (whole place c text))
+    → IfSome first (λ text. IsRefused text line × BreaksOff place text)
 refused_of None left place c line so is = tt
 refused_of (Some text) None place c line so is = absurd so
-refused_of (Some text) (Some rest) place c line so is = subst (λ b. IsRefused b line) (sym so) is
+refused_of (Some text) (Some rest) place c line so is = subst (λ b. IsRefused b line × BreaksOff place b) (sym so) is
 
 always : (first : Option (List ℕ)) → IfSome first (λ text. Unit {0})
 always None = tt
@@ -65,9 +66,14 @@ always (Some text) = tt
 
 pub stops_all : {R : Type 0} (remaining : R → Option (List ℕ)) (place : Place) (first old new : CertReader R) (c : TheCertificate) (stop : CertStop) → Collects remaining place first old c
     → GivesAt remaining place old new (Err stop) → IfSome (unread remaining first) (λ text. StopsReading text stop)
-stops_all remaining place first old new c (Text line) so gives = refused_of (unread remaining first) (unread remaining old) place c line so.text (gives c so.behind)
+stops_all remaining place first old new c (Text line) so gives = IfSome_then (unread remaining first) (refused_of (unread remaining first) (unread remaining old) place c line so.text (gives c so.behind)) (λ text is. is.0)
 stops_all remaining place first old new c Memory so gives = always (unread remaining first)
 stops_all remaining place first old new c Device so gives = always (unread remaining first)
+
+-- where the whole text breaks off
+pub breaks_all : {R : Type 0} (remaining : R → Option (List ℕ)) (place : Place) (first old new : CertReader R) (c : TheCertificate) (line : ℕ) → Collects remaining place first old c
+    → GivesAt remaining place old new (Err (Text line)) → IfSome (unread remaining first) (BreaksOff place)
+breaks_all remaining place first old new c line so gives = IfSome_then (unread remaining first) (refused_of (unread remaining first) (unread remaining old) place c line so.text (gives c so.behind)) (λ text is. is.1)
 
 -- before any part
 follows_none : (first : Option (List ℕ)) (c : TheCertificate) → Follows first first Start c

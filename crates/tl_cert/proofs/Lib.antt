@@ -8,6 +8,7 @@ pub mod KindLemmas
 pub mod NodeLineLemmas
 pub mod CountLemmas
 pub mod LineLemmas
+pub mod FailureLemmas
 pub mod FrontLemmas
 pub mod LineWords
 pub mod StepLemmas
@@ -22,7 +23,9 @@ pub mod PartLemmas
 pub mod AllowedLemmas
 pub mod TreeLemmas
 pub mod PlaceLemmas
+pub mod Lacking
 pub mod ReaderLemmas
+pub mod Leading
 pub mod CollectLemmas
 pub mod WriteLemmas
 pub mod PutLemmas

@@ -153,6 +153,20 @@ one_by_lines c d is too same =
     is.0.walks too.0.walks is.1.walks too.1.walks the_rounds.1 in
     λ i. record { version = version i; counts = counts i; tree = the_tree.0 i; rounds = the_rounds.0 i; walks = the_walks.0 i }
 
+-- the lines of counts and tree, and others behind them
+pub leading_only : (c d : TheCertificate) (front behind : List (List ℕ)) → IsCertificate c → IsCertificate d
+    → head_line c.version ∷ counts_line c.counts ∷ (tree_lines c.version c.tree ++ front) ≡ head_line d.version ∷ counts_line d.counts ∷ (tree_lines d.version d.tree ++ behind)
+    → (c.counts ≡ d.counts) × (c.tree ≡ d.tree)
+leading_only c d front behind is too same =
+    let version = number_line_only (codes "TIGERCERT") c.version d.version (version_small c.version is.0.version) (version_small d.version too.0.version)
+    (first_same _ _ _ _ same) in
+    let behind_head = rest_same _ _ _ _ same in
+    let counts = counts_only c.counts d.counts is.1.counts too.1.counts (first_same _ _ _ _ behind_head) in
+    let other_nodes = subst (λ v. AreNodes v (roots (length d.tree)) d.tree) (sym version) (nodes_of d too) in
+    let the_tree = tree_only c.version c.tree d.tree front behind (low_known c.version is.0.version) is.0.counted too.0.counted
+    (nodes_of c is) other_nodes (rest_same _ _ _ _ behind_head ∙ ap (λ v. tree_lines v d.tree ++ behind) (sym version)) in
+    (counts, the_tree.0)
+
 -- nothing leads on from the end
 ended_run : (t : State) (lines : List (List ℕ)) → Runs ended lines t → lines ≡ []
 ended_run t [] run = refl

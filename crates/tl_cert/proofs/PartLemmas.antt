@@ -1,5 +1,5 @@
 -- Lines that are taken one after the other, and texts that are refused behind some of them.
-use Rattle.std.proofs.Common.{◌≡◌, ℕ, suc, ◌+◌, ◌<◌, List, [], ◌∷◌, ◌++◌, length, map, All, Option, None, Some, Err, refl, sym, ap, subst, ◌∙◌, arith, append_assoc, length-append, codes}
+use Rattle.std.proofs.Common.{◌≡◌, ℕ, zero, suc, ◌+◌, ◌<◌, List, [], ◌∷◌, ◌++◌, length, map, All, Option, None, Some, Err, refl, sym, ap, subst, ◌∙◌, arith, append_assoc, length-append, codes}
 use Rattle.std.specs.Option.{IfSome}
 use Rattle.std.specs.Io.KnownBytes.{Consumes, prepend_known}
 use Rattle.std.proofs.KnownBytes.{Consumes-trans, Consumes-nil}
@@ -15,7 +15,7 @@ use Rattle.tl_cert.specs.Text.{numbered_line, item_lines, dart_lines}
 use Rattle.tl_cert.specs.declared.lines.Lines.{Lines}
 use Rattle.tl_cert.specs.Keeping.Lines.{LineState, NoLineBegins, TakesLines, TakesFetched, ReadsLine, at, taken, untaken}
 use Rattle.tl_cert.specs.Keeping.Parts.{IsStuckAfter, Reads, letter_of, among}
-use Rattle.tl_cert.specs.Keeping.Steps.{State, tree, ended, Steps, at_item, at_round, at_round_dart, at_walk, at_walk_dart, Runs, no_line, first_line}
+use Rattle.tl_cert.specs.Keeping.Steps.{State, tree, ended, Steps, at_item, at_round, at_round_dart, at_walk, at_walk_dart, Runs, no_line, first_line, stage}
 use Rattle.tl_cert.proofs.StepLemmas.{step_short}
 use Rattle.tl_cert.proofs.RunLemmas.{runs-append}
 use Rattle.tl_cert.proofs.Completing.{joined-append}
@@ -51,6 +51,7 @@ stuck_here (Some text) s P before line allowed goes told none = record {
   state = s;
   rest = text;
   runs = no_line s;
+  within = refl;
   whole = refl;
   stuck = record {
     none = λ l rest u step same. let short = step_short s u l step in none l rest (allowed l u step) (record { none = short.0; few = short.1 }) same;
@@ -61,14 +62,15 @@ stuck_here (Some text) s P before line allowed goes told none = record {
 
 -- and so it is behind lines that were taken before
 pub stuck_later : (left after : Option (List ℕ)) (s t : State) (lines : List (List ℕ)) (before mid line : ℕ) → Consumes left after (joined_lines lines) → mid ≡ before + length lines
-    → Runs s lines t → IfSome after (λ text. IsStuckAfter t mid text line) → IfSome left (λ text. IsStuckAfter s before text line)
-stuck_later None after s t lines before mid line bytes counted runs stuck = tt
-stuck_later (Some text) None s t lines before mid line bytes counted runs stuck = absurd bytes
-stuck_later (Some text) (Some rest) s t lines before mid line bytes counted runs stuck = record {
+    → Runs s lines t → IfSome after (λ text. IsStuckAfter t mid text line) → stage t ≡ stage s → IfSome left (λ text. IsStuckAfter s before text line)
+stuck_later None after s t lines before mid line bytes counted runs stuck same = tt
+stuck_later (Some text) None s t lines before mid line bytes counted runs stuck same = absurd bytes
+stuck_later (Some text) (Some rest) s t lines before mid line bytes counted runs stuck same = record {
   lines = lines ++ stuck.lines;
   state = stuck.state;
   rest = stuck.rest;
   runs = runs-append s t stuck.state lines stuck.lines runs stuck.runs;
+  within = stuck.within ∙ same;
   whole = bytes ∙ ap (λ b. joined_lines lines ++ b) stuck.whole ∙ sym (append_assoc (joined_lines lines) (joined_lines stuck.lines) stuck.rest)
       ∙ ap (λ b. b ++ stuck.rest) (sym (joined-append lines stuck.lines));
   stuck = stuck.stuck;
@@ -78,22 +80,22 @@ stuck_later (Some text) (Some rest) s t lines before mid line bytes counted runs
 -- a stop behind lines that were taken
 pub stops_later : {R S T : Type 0} (remaining : R → Option (List ℕ)) (may : S → Type 0) (some : S → List (List ℕ)) (fits : T → Type 0) (part : T → List (List ℕ)) (s t : State) (lines : List (List ℕ))
     (old mid new end : LineState R) (stop : CertStop)
-    → Runs s lines t → TakesLines remaining old mid lines → Reads {T = S} remaining may some t mid new (Err stop) → Reads {T = T} remaining fits part s old end (Err stop)
-stops_later remaining may some fits part s t lines old mid new end (Text line) runs takes reads =
-    stuck_later (untaken remaining old) (untaken remaining mid) s t lines (taken old) (taken mid) line takes.bytes takes.counted runs reads
-stops_later remaining may some fits part s t lines old mid new end Memory runs takes reads = tt
-stops_later remaining may some fits part s t lines old mid new end Device runs takes reads = tt
+    → Runs s lines t → TakesLines remaining old mid lines → Reads {T = S} remaining may some t mid new (Err stop) → stage t ≡ stage s → Reads {T = T} remaining fits part s old end (Err stop)
+stops_later remaining may some fits part s t lines old mid new end (Text line) runs takes reads same =
+    stuck_later (untaken remaining old) (untaken remaining mid) s t lines (taken old) (taken mid) line takes.bytes takes.counted runs reads same
+stops_later remaining may some fits part s t lines old mid new end Memory runs takes reads same = tt
+stops_later remaining may some fits part s t lines old mid new end Device runs takes reads same = tt
 
 -- a line that isn't there, behind lines that were taken
 pub line_missing : {R V T : Type 0} (remaining : R → Option (List ℕ)) (spelt : V → List ℕ) (may : V → Type 0) (fits : T → Type 0) (part : T → List (List ℕ)) (s t : State) (lines : List (List ℕ))
     (old mid new end : LineState R) (stop : CertStop) → Runs s lines t → TakesLines remaining old mid lines
     → ((l : List ℕ) (u : State) → Steps t l u → (value : V) × may value × (l ≡ spelt value)) → (t ≡ ended → ⊥)
-    → ReadsLine remaining spelt may mid new (Err stop) → Reads {T = T} remaining fits part s old end (Err stop)
-line_missing {R} {V} {T} remaining spelt may fits part s t lines old mid new end (Text line) runs takes allowed goes reads =
+    → ReadsLine remaining spelt may mid new (Err stop) → stage t ≡ stage s → Reads {T = T} remaining fits part s old end (Err stop)
+line_missing {R} {V} {T} remaining spelt may fits part s t lines old mid new end (Text line) runs takes allowed goes reads same =
     stuck_later (untaken remaining old) (untaken remaining mid) s t lines (taken old) (taken mid) line takes.bytes takes.counted runs
-    (stuck_here (untaken remaining mid) t (λ l. (value : V) × may value × (l ≡ spelt value)) (taken mid) line allowed goes reads.0 reads.1)
-line_missing remaining spelt may fits part s t lines old mid new end Memory runs takes allowed goes reads = absurd reads
-line_missing remaining spelt may fits part s t lines old mid new end Device runs takes allowed goes reads = tt
+    (stuck_here (untaken remaining mid) t (λ l. (value : V) × may value × (l ≡ spelt value)) (taken mid) line allowed goes reads.0 reads.1) same
+line_missing remaining spelt may fits part s t lines old mid new end Memory runs takes allowed goes reads same = absurd reads
+line_missing remaining spelt may fits part s t lines old mid new end Device runs takes allowed goes reads same = tt
 
 -- a number more in a list of lines
 pub lines_more : (word xs ys : List ℕ) (x : ℕ) → ys ≡ xs ++ x ∷ [] → map (numbered_line word) ys ≡ map (numbered_line word) xs ++ numbered_line word x ∷ []
@@ -134,3 +136,12 @@ list_run lists m count left darts some small whole all =
     first_line (among lists (suc m) 0) (among lists m count) (among lists m left) (numbered_line (letter_of lists ∷ []) count) (dart_lines darts)
     (list_step lists m count some small)
     (subst (λ n. Runs (among lists m n) (dart_lines darts) (among lists m left)) (sym whole) (darts_run_on lists m left darts all))
+
+-- where items of a leaf, or darts, are still to come
+pub stage_items : (v p r i : ℕ) → 0 < i → stage (tree v p r i) ≡ 1
+stage_items v p r zero some = absurd (omega (arith, some))
+stage_items v p r (suc i) some = refl
+
+pub stage_lists : (lists : DartLists) (m n k l : ℕ) → stage (among lists m k) ≡ stage (among lists n l)
+stage_lists Rounds m n k l = refl
+stage_lists Walks m n k l = refl

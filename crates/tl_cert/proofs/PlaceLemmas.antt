@@ -21,7 +21,7 @@ use Rattle.tl_cert.specs.Given.{AreGiven, given_lines, with_part, parts_left, Is
 use Rattle.tl_cert.specs.Keeping.Lines.{LineState, taken, untaken, TakesLines, ReadsLine, EndsText}
 use Rattle.tl_cert.specs.Keeping.Parts.{IsTree, AreDarts, AreVersionedCounts, versioned_lines, IsStuckAfter, Reads}
 use Rattle.tl_cert.specs.Keeping.Places.{Adds, Ends, ReadsPart, FitsPlace, state_at}
-use Rattle.tl_cert.specs.Keeping.Steps.{State, rounds, walks, ended, Steps, at_end, Runs, no_line, first_line}
+use Rattle.tl_cert.specs.Keeping.Steps.{State, rounds, walks, ended, Steps, at_end, Runs, no_line, first_line, stage}
 use Rattle.tl_cert.proofs.PartLemmas.{takes_none, takes_more, stuck_later, line_missing}
 use Rattle.tl_cert.proofs.AllowedLemmas.{Tells}
 use Rattle.tl_cert.proofs.StepLemmas.{leads}
@@ -178,8 +178,8 @@ walk_for_round (part.Walk darts) next h = h
 pub passed : {R : Type 0} (remaining : R → Option (List ℕ)) (place next : Place) (line : List ℕ) (old mid new : LineState R) (answer : Result (Option (CertPart × Place)) CertStop)
     → Passes place next line → parts_left next ≤ parts_left place → ((given : CertPart) (then : Place) → LeadsTo next given then → LeadsTo place given then) → MayEnd place
     → Steps (state_at place) line (state_at next) → TakesLines remaining old mid (line ∷ []) → ReadsPart remaining next mid new answer
-    → ReadsPart remaining place old new answer
-passed remaining place next line old mid new (Ok (Some (given, then))) passes fewer leads ends step takes reads = (
+    → stage (state_at next) ≡ stage (state_at place) → ReadsPart remaining place old new answer
+passed remaining place next line old mid new (Ok (Some (given, then))) passes fewer leads ends step takes reads same = (
   line ∷ reads.0,
   takes_more remaining old mid new (line ∷ []) reads.0 takes reads.1,
   λ c are. let here = passes c are in
@@ -189,7 +189,7 @@ passed remaining place next line old mid new (Ok (Some (given, then))) passes fe
   omega (arith, reads.4, fewer),
   leads given then reads.5,
 )
-passed remaining place next line old mid new (Ok None) passes fewer leads ends step takes reads = (
+passed remaining place next line old mid new (Ok None) passes fewer leads ends step takes reads same = (
   line ∷ reads.0,
   λ c are. let here = passes c are in
       let more = reads.1 c here.0 in
@@ -198,11 +198,11 @@ passed remaining place next line old mid new (Ok None) passes fewer leads ends s
   reads.3,
   ends,
 )
-passed remaining place next line old mid new (Err (Text number)) passes fewer leads ends step takes reads =
+passed remaining place next line old mid new (Err (Text number)) passes fewer leads ends step takes reads same =
     stuck_later (untaken remaining old) (untaken remaining mid) (state_at place) (state_at next) (line ∷ []) (taken old) (taken mid) number takes.bytes takes.counted
-    (first_line (state_at place) (state_at next) (state_at next) line [] step (no_line (state_at next))) reads
-passed remaining place next line old mid new (Err Memory) passes fewer leads ends step takes reads = tt
-passed remaining place next line old mid new (Err Device) passes fewer leads ends step takes reads = tt
+    (first_line (state_at place) (state_at next) (state_at next) line [] step (no_line (state_at next))) reads same
+passed remaining place next line old mid new (Err Memory) passes fewer leads ends step takes reads same = tt
+passed remaining place next line old mid new (Err Device) passes fewer leads ends step takes reads same = tt
 
 -- a stop while a part is read
 pub stops_part : {R T : Type 0} (remaining : R → Option (List ℕ)) (fits : T → Type 0) (lines : T → List (List ℕ)) (place : Place) (old new end : LineState R) (stop : CertStop)
@@ -287,6 +287,7 @@ stuck_at_end (Some text) before number told some = record {
   state = ended;
   rest = text;
   runs = no_line ended;
+  within = refl;
   whole = refl;
   stuck = record { none = λ l rest u step same. leads ended u l step; some = λ e. some };
   told = omega (arith, told);
@@ -296,7 +297,7 @@ pub text_goes_on : {R : Type 0} (remaining : R → Option (List ℕ)) (old mid e
     → ReadsPart remaining (Walks 0) old end (Err stop)
 text_goes_on remaining old mid end (Text number) takes ends =
     stuck_later (untaken remaining old) (untaken remaining mid) (walks 0 0) ended (end_line ∷ []) (taken old) (taken mid) number takes.bytes takes.counted end_run
-    (stuck_at_end (untaken remaining mid) (taken mid) number ends.0 ends.1)
+    (stuck_at_end (untaken remaining mid) (taken mid) number ends.0 ends.1) refl
 text_goes_on remaining old mid end Memory takes ends = absurd ends
 text_goes_on remaining old mid end Device takes ends = tt
 
@@ -306,7 +307,7 @@ pub end_missing : {R : Type 0} (remaining : R → Option (List ℕ)) (old new en
 end_missing remaining old new end stop reads =
     stops_part {T = ℕ} remaining (λ n. Unit {0}) (λ n. []) (Walks 0) old new end stop
     (line_missing {V = Unit {0}} {T = ℕ} remaining (λ v. end_line) (λ v. Unit {0}) (λ n. Unit {0}) (λ n. []) (walks 0 0) (walks 0 0) [] old old new new stop (no_line (walks 0 0)) (takes_none remaining old)
-    (λ l u step. (tt, tt, (leads (walks 0 0) u l step).0)) (λ e. cc e) reads)
+    (λ l u step. (tt, tt, (leads (walks 0 0) u l step).0)) (λ e. cc e) reads refl)
 
 pub number_missing : {R : Type 0} (remaining : R → Option (List ℕ)) (letter : ℕ) (place : Place) (old new end : LineState R) (stop : CertStop)
     → ((l : List ℕ) (u : State) → Steps (state_at place) l u → Tells letter (λ n. IsNumber n × (0 ≤ n)) l) → (state_at place ≡ ended → ⊥)
@@ -314,7 +315,7 @@ pub number_missing : {R : Type 0} (remaining : R → Option (List ℕ)) (letter 
 number_missing remaining letter place old new end stop allowed goes reads =
     stops_part {T = ℕ} remaining (λ n. Unit {0}) (λ n. []) place old new end stop
     (line_missing {V = ℕ} {T = ℕ} remaining (numbered_line (letter ∷ [])) (λ n. IsNumber n × (0 ≤ n)) (λ n. Unit {0}) (λ n. []) (state_at place) (state_at place) [] old old new new stop
-    (no_line (state_at place)) (takes_none remaining old) allowed goes reads)
+    (no_line (state_at place)) (takes_none remaining old) allowed goes reads refl)
 
 -- the nodes of a tree
 pub tree_read : {R : Type 0} (remaining : R → Option (List ℕ)) (place : Place) (version : ℕ) (nodes : Vec TreeNode Global) (old new : LineState R) → place ≡ Counted version → FitsPlace place (taken old)

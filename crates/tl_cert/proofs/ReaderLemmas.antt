@@ -15,33 +15,37 @@ use Rattle.tl_cert.specs.Certificates.{TheCertificate, IsCertificate}
 use Rattle.tl_cert.specs.Text.{head_line, counts_line, tree_lines, rounds_lines, walks_lines, all_darts_lines, numbered_line, certificate_lines}
 use Rattle.tl_cert.specs.Beginnings.{IsTextOf, IsRefused}
 use Rattle.tl_cert.specs.Given.{AreGiven, given_lines, with_part, MayEnd}
-use Rattle.tl_cert.specs.Reading.{IsBehind, GoesOn, GivesAt, Gives, whole}
+use Rattle.tl_cert.specs.Reading.{IsBehind, GoesOn, GivesAt, Gives, BreaksOff, whole}
 use Rattle.tl_cert.specs.Keeping.Lines.{LineState, taken, untaken}
 use Rattle.tl_cert.specs.Keeping.Collecting.{state_of}
 use Rattle.tl_cert.specs.Keeping.Parts.{IsStuckAfter}
 use Rattle.tl_cert.specs.Keeping.Places.{ReadsPart, state_at}
-use Rattle.tl_cert.specs.Keeping.Steps.{start, headed, counted, tree, rounds, walks, at_head, at_counts, at_rounds, at_walks, Runs, no_line, first_line}
+use Rattle.tl_cert.specs.Keeping.Steps.{State, start, headed, counted, tree, rounds, walks, at_head, at_counts, at_rounds, at_walks, Runs, no_line, first_line, IsStuck, stage}
 use Rattle.tl_cert.proofs.RunLemmas.{runs-append, tree_runs, rounds_run, walks_run, all_rounds_run}
 use Rattle.tl_cert.proofs.Completing.{joined-append}
 use Rattle.tl_cert.proofs.Stuck.{stuck_is_refused}
+use Rattle.tl_cert.proofs.Lacking.{stuck_before}
 
 -- head, counts and tree
 abbrev front : TheCertificate → List (List ℕ)
 front c = head_line c.version ∷ counts_line c.counts ∷ tree_lines c.version c.tree
 
-front_runs : (c : TheCertificate) → IsCertificate c → Runs start (front c) (tree c.version 0 0 0)
+pub front_runs : (c : TheCertificate) → IsCertificate c → Runs start (front c) (tree c.version 0 0 0)
 front_runs c is =
     first_line start (headed c.version) (tree c.version 0 0 0) (head_line c.version) (counts_line c.counts ∷ tree_lines c.version c.tree) (at_head c.version is.0.version)
     (first_line (headed c.version) (counted c.version) (tree c.version 0 0 0) (counts_line c.counts) (tree_lines c.version c.tree) (at_counts c.version c.counts is.1.counts)
     (tree_runs c.version c.tree is.0.preorder is.0.counted is.0.nodes is.1.tree is.0.version))
 
+counts_run : (c : TheCertificate) → IsCertificate c → Runs start (given_lines (Counted c.version) c) (counted c.version)
+counts_run c is =
+    first_line start (headed c.version) (counted c.version) (head_line c.version) (counts_line c.counts ∷ []) (at_head c.version is.0.version)
+    (first_line (headed c.version) (counted c.version) (counted c.version) (counts_line c.counts) [] (at_counts c.version c.counts is.1.counts) (no_line (counted c.version)))
+
 -- the lines of the parts that were given lead to their place
 pub given_runs : (place : Place) (c : TheCertificate) → AreGiven place c → Runs start (given_lines place c) (state_at place)
 given_runs Start c given = no_line start
 given_runs (Counted version) c given =
-    subst (λ v. Runs start (given_lines (Counted version) c) (counted v)) given.1
-    (first_line start (headed c.version) (counted c.version) (head_line c.version) (counts_line c.counts ∷ []) (at_head c.version given.0.0.version)
-    (first_line (headed c.version) (counted c.version) (counted c.version) (counts_line c.counts) [] (at_counts c.version c.counts given.0.1.counts) (no_line (counted c.version))))
+    subst (λ v. Runs start (given_lines (Counted version) c) (counted v)) given.1 (counts_run c given.0)
 given_runs (Treed version) c given = subst (λ v. Runs start (front c) (tree v 0 0 0)) given.1 (front_runs c given.0)
 given_runs (Rounds left) c given =
     let n = length c.rounds + left in
@@ -89,8 +93,19 @@ given_end remaining place old new reads = (
   reads.4,
 )
 
+-- lines that stand where the text is refused within a part
+breaks_off : (place : Place) (lines : List (List ℕ)) (t : State) (rest text : List ℕ) → Runs start lines t → stage t ≡ stage (state_at place) → IsStuck t rest
+    → joined_lines lines ++ rest ≡ text → BreaksOff place text
+breaks_off Start lines t rest text run within stuck same = λ c other is begins.
+    stuck_before start t (counted c.version) lines (given_lines (Counted c.version) c) rest other run stuck (counts_run c is) (omega (arith, within)) (same ∙ begins)
+breaks_off (Counted version) lines t rest text run within stuck same = λ c other is begins.
+    stuck_before start t (tree c.version 0 0 0) lines (front c) rest other run stuck (front_runs c is) (omega (arith, within)) (same ∙ begins)
+breaks_off (Treed version) lines t rest text run within stuck same = tt
+breaks_off (Rounds left) lines t rest text run within stuck same = tt
+breaks_off (Walks left) lines t rest text run within stuck same = tt
+
 refused_at : (left : Option (List ℕ)) (place : Place) (c : TheCertificate) (before line : ℕ) → AreGiven place c → before ≡ length (given_lines place c)
-    → IfSome left (λ text. IsStuckAfter (state_at place) before text line) → IfSome left (λ text. IsRefused (whole place c text) line)
+    → IfSome left (λ text. IsStuckAfter (state_at place) before text line) → IfSome left (λ text. IsRefused (whole place c text) line × BreaksOff place (whole place c text))
 refused_at None place c before line given counts stuck = tt
 refused_at (Some text) place c before line given counts stuck =
     let all = given_lines place c ++ stuck.lines in
@@ -99,8 +114,10 @@ refused_at (Some text) place c before line given counts stuck =
     let same : joined_lines all ++ stuck.rest ≡ whole place c text =
     ap (λ (b : List ℕ). b ++ stuck.rest) (joined-append (given_lines place c) stuck.lines) ∙ append_assoc (joined_lines (given_lines place c)) (joined_lines stuck.lines) stuck.rest
     ∙ ap (λ (b : List ℕ). joined_lines (given_lines place c) ++ b) (sym stuck.whole) in
-    let number : 1 + length all ≡ line = omega (arith, stuck.told, counts, length-append (given_lines place c) stuck.lines) in
-    subst (λ n. IsRefused (whole place c text) n) number (subst (λ (b : List ℕ). IsRefused b (1 + length all)) same refused)
+    let number : 1 + length all ≡ line = omega (arith, stuck.told, counts, length-append (given_lines place c) stuck.lines) in (
+      subst (λ n. IsRefused (whole place c text) n) number (subst (λ (b : List ℕ). IsRefused b (1 + length all)) same refused),
+      breaks_off place all stuck.state stuck.rest (whole place c text) runs stuck.within stuck.stuck same,
+    )
 
 pub given_stop : {R : Type 0} (remaining : R → Option (List ℕ)) (place : Place) (old new : CertReader R) (mid : LineState R) (stop : CertStop) → ReadsPart remaining place (state_of old) mid (Err stop)
     → GivesAt remaining place old new (Err stop)

@@ -8,6 +8,7 @@ use Rattle.tl_cert.specs.declared.reader.CertReader.{CertReader}
 use Rattle.tl_cert.specs.declared.reader.Standing.{Standing}
 use Rattle.tl_cert.specs.declared.reader.Standing.TheVariants.{Reading, Ended, Stopped}
 use Rattle.tl_cert.specs.declared.place.Place.{Place}
+use Rattle.tl_cert.specs.declared.place.Place.TheVariants.{Start, Counted, Treed, Rounds, Walks}
 use Rattle.tl_cert.specs.declared.place.CertPart.{CertPart}
 use Rattle.tl_cert.specs.declared.stop.CertStop.{CertStop}
 use Rattle.tl_cert.specs.declared.stop.CertStop.TheVariants.{Text, Memory, Device}
@@ -47,8 +48,17 @@ GoesOn None new place next c d = ⊤
 GoesOn (Some text) None place next c d = ⊥
 GoesOn (Some text) (Some rest) place next c d = whole place c text ≡ whole next d rest
 
+-- where a text is refused: where no certificate's counts begin it, or no certificate's counts and tree; elsewhere behind them
+abbrev pub BreaksOff : Place → List ℕ → Type 0
+BreaksOff Start text = (c : TheCertificate) (rest : List ℕ) → IsCertificate c → ¬ (text ≡ whole (Counted c.version) c rest)
+BreaksOff (Counted version) text = (c : TheCertificate) (rest : List ℕ) → IsCertificate c → ¬ (text ≡ whole (Treed c.version) c rest)
+BreaksOff (Treed version) text = ⊤
+BreaksOff (Rounds left) text = ⊤
+BreaksOff (Walks left) text = ⊤
+
 -- What an answer says, whatever parts c were given before: it is a part more, and the text behind it is what is left; or
--- the end, of the source too, and the whole text is that of c; or no certificate has the whole text, and this is the line.
+-- the end, of the source too, and the whole text is that of c; or no certificate has the whole text, this is the line, and
+-- the counts and the tree are what was given, or the text breaks off in the one that comes.
 abbrev pub GivesAt : {R : Type 0} → (R → Option (List ℕ)) → Place → CertReader R → CertReader R → Answer → Type 0
 GivesAt remaining place old new (Ok (Some given)) =
     (next : Place) × (standing_of new ≡ Reading next) × (parts_left next < parts_left place)
@@ -60,7 +70,7 @@ GivesAt remaining place old new (Ok None) =
     × ((c : TheCertificate) → IsBehind (lines_of old) place c → IsCertificate c × IfSome (unread remaining old) (λ text. IsTextOf c (whole place c text)))
     × MayEnd place
 GivesAt remaining place old new (Err (Text line)) =
-    (c : TheCertificate) → IsBehind (lines_of old) place c → IfSome (unread remaining old) (λ text. IsRefused (whole place c text) line)
+    (c : TheCertificate) → IsBehind (lines_of old) place c → IfSome (unread remaining old) (λ text. IsRefused (whole place c text) line × BreaksOff place (whole place c text))
 GivesAt remaining place old new (Err Memory) = ⊤
 GivesAt remaining place old new (Err Device) = ⊤
 

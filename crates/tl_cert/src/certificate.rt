@@ -9,7 +9,7 @@ use std::marker::Model;
 use tl_tree::TreeNode;
 
 /// How many chains, segments, nodes and polygons a map has.
-#[derive(Clone, Copy, Debug, PartialEq, Eq)]
+#[derive(Clone, Copy, PartialEq, Eq)]
 pub struct Counts {
     pub chains: u32,
     pub segments: u32,

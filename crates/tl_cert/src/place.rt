@@ -17,7 +17,7 @@ pub enum CertPart {
 }
 
 /// Which part comes next.
-#[derive(Clone, Copy, Debug)]
+#[derive(Clone, Copy)]
 pub enum Place {
     /// The head and the counts.
     Start,

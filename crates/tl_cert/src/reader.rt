@@ -11,7 +11,7 @@ use std::alloc::Global;
 use tl_record::Source;
 
 /// Whether a reader still reads.
-#[derive(Clone, Copy, Debug)]
+#[derive(Clone, Copy)]
 pub enum Standing {
     /// It reads the part at this place when it is asked.
     Reading(Place),

@@ -15,7 +15,7 @@ use Rattle.tl_cert.specs.declared.stop.CertStop.TheVariants.{Text, Memory, Devic
 use Rattle.tl_cert.specs.Certificates.{IsNumber, IsCounted, IsDartList, IsNode, IsNodeInRange, AreCountsInRange}
 use Rattle.tl_cert.specs.Text.{head_line, counts_line, nodes_lines, numbered_line}
 use Rattle.tl_cert.specs.Keeping.Lines.{LineState, taken, untaken, TakesLines}
-use Rattle.tl_cert.specs.Keeping.Steps.{State, counted, tree, rounds, walks, CanHave, roots, Runs, IsStuck}
+use Rattle.tl_cert.specs.Keeping.Steps.{State, counted, tree, rounds, walks, CanHave, roots, Runs, IsStuck, stage}
 
 -- the nodes are p trees, by what follows each
 abbrev pub Stand : List TreeNode → ℕ → Type 0
@@ -23,13 +23,14 @@ Stand [] p = p ≡ 0
 Stand (Leaf r v ∷ nodes) p = (q : ℕ) × (p ≡ suc q) × Stand nodes q
 Stand (Inner r k ∷ nodes) p = (q : ℕ) × (p ≡ suc q) × (2 ≤ k) × (k ≤ 8) × Stand nodes (k + q)
 
--- some lines of the text lead on from this state, and no line leads on behind them: the answer is the number of the line
--- after them, where so many stand before the text
+-- some lines of the text lead on from this state, within the counts or within the tree where it is there, and no line leads on
+-- behind them: the answer is the number of the line after them, where so many stand before the text
 pub record IsStuckAfter (s : State) (before : ℕ) (text : List ℕ) (answer : ℕ) : Type 0 where
   pub lines : List (List ℕ)
   pub state : State
   pub rest : List ℕ
   pub runs : Runs s lines state
+  pub within : stage state ≡ stage s
   pub whole : text ≡ joined_lines lines ++ rest
   pub stuck : IsStuck state rest
   pub told : answer ≡ 1 + (before + length lines)

@@ -1,4 +1,4 @@
--- Where a reader stands between two lines of a certificate, and which lines take it on.
+-- Where a reader stands between two lines of a certificate, which lines take it on, and how many parts they spell.
 use Rattle.std.specs.Prelude.{◌≡◌, ℕ, zero, suc, ◌+◌, ◌*◌, ◌<◌, ◌≤◌, ◌⊎◌, List, [], ◌∷◌, ◌++◌, codes}
 use Rattle.tl_geom.specs.declared.rect.Rect.{Rect}
 use Rattle.tl_record.specs.Lines.{line_feed}
@@ -56,3 +56,18 @@ pub data Runs : State → List (List ℕ) → State → Type 0 where
 pub record IsStuck (s : State) (text : List ℕ) : Type 0 where
   pub none : (line rest : List ℕ) (t : State) → Steps s line t → ¬ (text ≡ line ++ line_feed ∷ rest)
   pub some : s ≡ ended → ¬ (text ≡ [])
+
+-- how many of the counts and the tree are behind a state: 2 where both are
+abbrev pub tree_stage : (items nodes : ℕ) → ℕ
+tree_stage (suc items) nodes = 1
+tree_stage zero (suc nodes) = 1
+tree_stage zero zero = 2
+
+abbrev pub stage : State → ℕ
+stage start = 0
+stage (headed v) = 0
+stage (counted v) = 1
+stage (tree v p r i) = tree_stage i r
+stage (rounds m k) = 2
+stage (walks m k) = 2
+stage ended = 2

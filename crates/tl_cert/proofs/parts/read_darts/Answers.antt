@@ -1,4 +1,4 @@
-use Rattle.std.proofs.Common.{◌≡◌, ◌∷◌, [], ◌-◌, ◌≤◌, ◌++◌, ℕ, suc, Vec, length, length-append, subst, sym, ap, ◌∙◌, arith}
+use Rattle.std.proofs.Common.{◌≡◌, ◌∷◌, [], ◌-◌, ◌≤◌, ◌++◌, ℕ, suc, Vec, length, length-append, subst, sym, ap, ◌∙◌, refl, arith}
 use Rattle.std.specs.Global.{Global}
 use Rattle.tl_cert.specs.Certificates.{IsNumber}
 use Rattle.tl_cert.specs.Text.{numbered_line, dart_lines, darts_lines}
@@ -6,8 +6,9 @@ use Rattle.tl_cert.specs.Keeping.Lines.{TakesLines}
 use Rattle.tl_cert.specs.Keeping.Parts.{AreDarts, letter_of, among}
 use Rattle.tl_cert.specs.Keeping.Steps.{no_line}
 use Rattle.tl_cert.specs.Keeping.Lines.{at}
-use Rattle.tl_cert.proofs.PartLemmas.{takes_none, takes_more, takes_fetched, line_missing, lines_more, numbers_more, list_run}
+use Rattle.tl_cert.proofs.PartLemmas.{takes_none, takes_more, takes_fetched, line_missing, lines_more, numbers_more, list_run, stage_lists}
 use Rattle.tl_cert.proofs.AllowedLemmas.{allowed_list, allowed_dart, never_ended, Tells}
+use Rattle.tl_cert.proofs.FailureLemmas.{fails_later}
 use Rattle.tl_cert.proofs.parts.read_darts.Goals as goal
 
 pub returns-in-Err-clause-reads : goal.returns-in-Err-clause-reads
@@ -16,7 +17,7 @@ returns-in-Err-clause-reads g c = λ others.
     (among c.args.lists (suc others) 0) (among c.args.lists (suc others) 0) [] (at c.args.lines.now c.args.source.now) (at c.args.lines.now c.args.source.now) (at c.read.new.self c.read.new.source) (at c.read.new.self c.read.new.source) c.in-Err.stop
     (no_line (among c.args.lists (suc others) 0)) (takes_none g.R.Source.remaining (at c.args.lines.now c.args.source.now))
     (λ l u step. subst (λ n. Tells n (λ m. IsNumber m × (1 ≤ m)) l) (sym c.letter.ensures) (allowed_list c.args.lists others l u step))
-    (never_ended c.args.lists (suc others) 0) c.in-Err.ensures.reads
+    (never_ended c.args.lists (suc others) 0) c.in-Err.ensures.reads refl
 
 pub returns-in-Err-read-clause-reads : goal.returns-in-Err-read-clause-reads
 returns-in-Err-read-clause-reads g c = λ others.
@@ -27,6 +28,7 @@ returns-in-Err-read-clause-reads g c = λ others.
     (list_run c.args.lists others c.in-Ok.count left c.loop-index.darts.items (omega (arith, c.in-Ok.ensures.reads.0.1)) c.in-Ok.ensures.reads.0.0
     (omega (arith, c.loop-index.invariant.size)) c.loop-index.invariant.numbers)
     c.loop-index.invariant.takes (allowed_dart c.args.lists others left (omega arith)) (never_ended c.args.lists others left) c.in-Err-read.ensures.reads
+    (stage_lists c.args.lists others (suc others) left 0)
 
 pub loop-index-preserved : goal.loop-index-preserved
 loop-index-preserved g c =
@@ -68,3 +70,39 @@ loop-index-init g c =
       failures = c.in-Ok.ensures.failures;
       same = c.in-Ok.ensures.same_reference;
     }
+
+pub returns-in-Err-clause-failures : goal.returns-in-Err-clause-failures
+returns-in-Err-clause-failures g c = fails_later ℕ (Vec ℕ Global) _ _ _ c.in-Err.stop refl c.in-Err.ensures.failures
+
+pub returns-in-Err-clause-same_reference : goal.returns-in-Err-clause-same_reference
+returns-in-Err-clause-same_reference g c = c.in-Err.ensures.same_reference
+
+pub returns-in-Err-darts_at_once-clause-reads : goal.returns-in-Err-darts_at_once-clause-reads
+returns-in-Err-darts_at_once-clause-reads g c = λ others. tt
+
+pub returns-in-Err-darts_at_once-clause-failures : goal.returns-in-Err-darts_at_once-clause-failures
+returns-in-Err-darts_at_once-clause-failures g c = c.in-Ok.ensures.failures
+
+pub returns-in-Err-darts_at_once-clause-same_reference : goal.returns-in-Err-darts_at_once-clause-same_reference
+returns-in-Err-darts_at_once-clause-same_reference g c = c.in-Ok.ensures.same_reference
+
+pub returns-in-Err-push-clause-reads : goal.returns-in-Err-push-clause-reads
+returns-in-Err-push-clause-reads g c = λ others. tt
+
+pub returns-in-Err-push-clause-failures : goal.returns-in-Err-push-clause-failures
+returns-in-Err-push-clause-failures g c = c.in-Ok-read.ensures.failures ∙ c.loop-index.invariant.failures
+
+pub returns-in-Err-push-clause-same_reference : goal.returns-in-Err-push-clause-same_reference
+returns-in-Err-push-clause-same_reference g c = c.in-Ok-read.ensures.same_reference ∙ c.loop-index.invariant.same
+
+pub returns-in-Err-read-clause-failures : goal.returns-in-Err-read-clause-failures
+returns-in-Err-read-clause-failures g c = fails_later ℕ (Vec ℕ Global) _ _ _ c.in-Err-read.stop c.loop-index.invariant.failures c.in-Err-read.ensures.failures
+
+pub returns-in-Err-read-clause-same_reference : goal.returns-in-Err-read-clause-same_reference
+returns-in-Err-read-clause-same_reference g c = c.in-Err-read.ensures.same_reference ∙ c.loop-index.invariant.same
+
+pub returns-clause-failures : goal.returns-clause-failures
+returns-clause-failures g c = c.loop-index.invariant.failures
+
+pub returns-clause-same_reference : goal.returns-clause-same_reference
+returns-clause-same_reference g c = c.loop-index.invariant.same

@@ -5,8 +5,9 @@ use Rattle.tl_cert.specs.Keeping.Lines.{TakesLines}
 use Rattle.tl_cert.specs.Keeping.Parts.{AreItems}
 use Rattle.tl_cert.specs.Keeping.Steps.{tree, Runs}
 use Rattle.tl_cert.specs.Keeping.Lines.{at}
-use Rattle.tl_cert.proofs.PartLemmas.{takes_fetched, takes_more, line_missing, lines_more, numbers_more, items_run_on}
+use Rattle.tl_cert.proofs.PartLemmas.{takes_fetched, takes_more, line_missing, lines_more, numbers_more, items_run_on, stage_items}
 use Rattle.tl_cert.proofs.AllowedLemmas.{allowed_item}
+use Rattle.tl_cert.proofs.FailureLemmas.{fails_later}
 use Rattle.tl_cert.proofs.parts.read_items.Goals as goal
 
 pub returns-in-Err-clause-reads : goal.returns-in-Err-clause-reads
@@ -17,6 +18,7 @@ returns-in-Err-clause-reads g c = λ v p r.
     (tree v p r c.args.count) (tree v p r left) (item_lines c.loop-index.items.items) (at c.args.lines.now c.args.source.now) (at c.loop-index.lines c.loop-index.source) (at c.read.new.self c.read.new.source) (at c.read.new.self c.read.new.source) c.in-Err.stop
     (subst (λ n. Runs (tree v p r n) (item_lines c.loop-index.items.items) (tree v p r left)) whole (items_run_on v p r left c.loop-index.items.items c.loop-index.invariant.numbers))
     c.loop-index.invariant.takes (allowed_item v p r left (omega arith)) (λ e. cc e) c.in-Err.ensures.reads
+    (stage_items v p r left (omega arith) ∙ sym (stage_items v p r c.args.count (omega arith)))
 
 pub loop-index-preserved : goal.loop-index-preserved
 loop-index-preserved g c =
@@ -43,3 +45,15 @@ loop-index-init g c = record {
   failures = refl;
   same = refl;
 }
+
+pub returns-in-Err-clause-failures : goal.returns-in-Err-clause-failures
+returns-in-Err-clause-failures g c = fails_later ℕ (ArrayVec ℕ) _ _ _ c.in-Err.stop c.loop-index.invariant.failures c.in-Err.ensures.failures
+
+pub returns-in-Err-clause-same_reference : goal.returns-in-Err-clause-same_reference
+returns-in-Err-clause-same_reference g c = c.in-Err.ensures.same_reference ∙ c.loop-index.invariant.same
+
+pub returns-clause-failures : goal.returns-clause-failures
+returns-clause-failures g c = c.loop-index.invariant.failures
+
+pub returns-clause-same_reference : goal.returns-clause-same_reference
+returns-clause-same_reference g c = c.loop-index.invariant.same

@@ -9,13 +9,14 @@ use Rattle.tl_cert.specs.Keeping.Lines.{at}
 use Rattle.tl_cert.proofs.PartLemmas.{takes_none, stops_later, line_missing}
 use Rattle.tl_cert.proofs.TreeLemmas.{node_added, no_node, whole_tree, so_far_same, can_some, again}
 use Rattle.tl_cert.proofs.AllowedLemmas.{allowed_size}
+use Rattle.tl_cert.proofs.FailureLemmas.{fails_later}
 use Rattle.tl_cert.proofs.parts.read_tree.Goals as goal
 
 pub returns-in-Err-clause-reads : goal.returns-in-Err-clause-reads
 returns-in-Err-clause-reads g c =
     line_missing {T = Vec TreeNode Global} g.R.Source.remaining (numbered_line (84 ∷ [])) _ (λ v. IsTree c.args.version v.items) (λ v. tree_lines c.args.version v.items)
     (counted c.args.version) (counted c.args.version) [] (at c.args.lines.now c.args.source.now) (at c.args.lines.now c.args.source.now) (at c.read.new.self c.read.new.source) (at c.read.new.self c.read.new.source) c.in-Err.stop
-    (no_line (counted c.args.version)) (takes_none g.R.Source.remaining (at c.args.lines.now c.args.source.now)) (allowed_size c.args.version) (λ e. cc e) c.in-Err.ensures.reads
+    (no_line (counted c.args.version)) (takes_none g.R.Source.remaining (at c.args.lines.now c.args.source.now)) (allowed_size c.args.version) (λ e. cc e) c.in-Err.ensures.reads refl
 
 pub loop-left-init : goal.loop-left-init
 loop-left-init g c = record {
@@ -55,7 +56,7 @@ returns-in-Err-read_node-clause-reads g c =
     stops_later {S = TreeNode × ℕ} {T = Vec TreeNode Global} g.R.Source.remaining (IsNodeRead c.args.version p r) (λ read. nodes_lines c.args.version (read.0 ∷ []))
     (λ v. IsTree c.args.version v.items) (λ v. tree_lines c.args.version v.items) (counted c.args.version) (tree c.args.version (suc p) (suc r) 0)
     (numbered_line (84 ∷ []) c.in-Ok.count ∷ nodes_lines c.args.version c.loop-left.nodes.items)
-    (at c.args.lines.now c.args.source.now) (at c.loop-left.lines c.loop-left.source) (at c.read_node.new.lines c.read_node.new.source) (at c.read_node.new.lines c.read_node.new.source) c.in-Err-read_node.stop before.runs before.takes c.in-Err-read_node.ensures.reads
+    (at c.args.lines.now c.args.source.now) (at c.loop-left.lines c.loop-left.source) (at c.read_node.new.lines c.read_node.new.source) (at c.read_node.new.lines c.read_node.new.source) c.in-Err-read_node.stop before.runs before.takes c.in-Err-read_node.ensures.reads refl
 
 pub returns-clause-reads : goal.returns-clause-reads
 returns-clause-reads g c =
@@ -72,3 +73,30 @@ returns-clause-reads g c =
       },
       subst (λ n. TakesLines g.R.Source.remaining (at c.args.lines.now c.args.source.now) (at c.loop-left.lines c.loop-left.source) (numbered_line (84 ∷ []) n ∷ nodes_lines c.args.version nodes)) size far.takes,
     )
+
+pub returns-in-Err-clause-failures : goal.returns-in-Err-clause-failures
+returns-in-Err-clause-failures g c = fails_later ℕ (Vec TreeNode Global) _ _ _ c.in-Err.stop refl c.in-Err.ensures.failures
+
+pub returns-in-Err-clause-same_reference : goal.returns-in-Err-clause-same_reference
+returns-in-Err-clause-same_reference g c = c.in-Err.ensures.same_reference
+
+pub returns-in-Err-push-clause-reads : goal.returns-in-Err-push-clause-reads
+returns-in-Err-push-clause-reads g c = tt
+
+pub returns-in-Err-push-clause-failures : goal.returns-in-Err-push-clause-failures
+returns-in-Err-push-clause-failures g c = c.in-Ok-read_node.ensures.failures ∙ c.loop-left.invariant.failures
+
+pub returns-in-Err-push-clause-same_reference : goal.returns-in-Err-push-clause-same_reference
+returns-in-Err-push-clause-same_reference g c = c.in-Ok-read_node.ensures.same_reference ∙ c.loop-left.invariant.same
+
+pub returns-in-Err-read_node-clause-failures : goal.returns-in-Err-read_node-clause-failures
+returns-in-Err-read_node-clause-failures g c = fails_later (TreeNode × ℕ) (Vec TreeNode Global) _ _ _ c.in-Err-read_node.stop c.loop-left.invariant.failures c.in-Err-read_node.ensures.failures
+
+pub returns-in-Err-read_node-clause-same_reference : goal.returns-in-Err-read_node-clause-same_reference
+returns-in-Err-read_node-clause-same_reference g c = c.in-Err-read_node.ensures.same_reference ∙ c.loop-left.invariant.same
+
+pub returns-clause-failures : goal.returns-clause-failures
+returns-clause-failures g c = c.loop-left.invariant.failures
+
+pub returns-clause-same_reference : goal.returns-clause-same_reference
+returns-clause-same_reference g c = c.loop-left.invariant.same
