@@ -28,8 +28,8 @@ use Rattle.tl_check.specs.declared.fault.MapFault.TheVariants.{Records, Meet, Si
 use Rattle.tl_check.specs.declared.fault.CertFault.{CertFault}
 use Rattle.tl_check.specs.declared.fault.CertFault.TheVariants as fault
 use Rattle.tl_check.specs.Sound.{IsSound}
-use Rattle.tl_check.specs.Truth.{IsTrueOfMap, IsTrueOfCert}
-use Rattle.tl_check.specs.Valid.{IsValid}
+use Rattle.tl_check.specs.Truth.{IsTrueOfMap, IsTrueOfCert, IsOfDarts}
+use Rattle.tl_check.specs.Valid.{AllowsSearch, IsValid}
 
 -- darts that are at odds deny that cells agree
 odds_deny : (chains : List MapChain) (a b id_a id_b : ℕ) → AreCellsAtOdds chains a b id_a id_b → ¬ CellsAgree chains
@@ -110,6 +110,15 @@ no_walk_fault chains walks (walk.WrongStep w) are true =
     let step = true.1 in step.wrong.not ((are.rings w true.0).follows (suc step.place) step.within)
 no_walk_fault chains walks (walk.NotClosed w) are true =
     let step = true.1 in step.wrong.not ((are.rings w true.0).follows zero step.some)
+
+-- a fault that is true where a search may be made is of rounds or of walks
+pub of_darts_alone : (m : TheMap) (c : TheCertificate) (f : CertFault) → IsTrueOfCert m c f → AllowsSearch m c → IsOfDarts f
+of_darts_alone m c (fault.Text line) true allows = absurd true
+of_darts_alone m c fault.Counts true allows = absurd (true allows.counts)
+of_darts_alone m c (fault.Tree t) true allows = absurd (no_tree_fault _ _ _ t allows.tree.fits true)
+of_darts_alone m c fault.TooDeep true allows = let shallow = allows.tree.shallow in absurd (omega (arith, shallow, true))
+of_darts_alone m c (fault.Round r) true allows = tt
+of_darts_alone m c (fault.Walk w) true allows = tt
 
 pub not_valid : (m : TheMap) (c : TheCertificate) (f : CertFault) → IsTrueOfCert m c f → ¬ IsValid m c
 not_valid m c (fault.Text line) true valid = absurd true

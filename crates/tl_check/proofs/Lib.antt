@@ -9,4 +9,5 @@ pub mod Walking
 pub mod OneMap
 pub mod Deciding
 pub mod Searched
+pub mod Meeting
 pub mod Halting

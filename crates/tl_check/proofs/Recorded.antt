@@ -17,11 +17,12 @@ use Rattle.tl_check.specs.declared.fault.CertFault.{CertFault}
 use Rattle.tl_check.specs.declared.stop.Stop.{Stop}
 use Rattle.tl_check.specs.declared.stop.Stop.TheVariants as stop
 use Rattle.tl_check.specs.Truth.{IsTrueOfMap, IsOfDarts}
-use Rattle.tl_check.specs.Verdicts.{Answer, OnSound, IfSound, IfMapFault, IfCertFault, OnSearched}
+use Rattle.tl_check.specs.Verdicts.{Answer, OnSound, IfSound, IfMapFault, IfCertFault, UnlessMeet, OnSearched}
 use Rattle.tl_check.specs.Texts.{MayStopReading, TellsDevice}
 use Rattle.tl_check.specs.Records.{HaveMap, IsTrueOfRecords, MayStopOn, TellsEither, LeavesUnread}
 use Rattle.tl_check.specs.Keeping.Answers.{refusal_of}
 use Rattle.tl_check.proofs.Searched.{searched_so}
+use Rattle.tl_check.proofs.Meeting.{meets_leads}
 
 true_of_records : (all : AllRecords) (m : TheMap) (f : MapFault) → IsReadFrom all m → IsTrueOfMap m f → IsTrueOfRecords all f
 true_of_records all m (Records fault) is true = absurd true
@@ -70,6 +71,9 @@ module _ (of : List ℕ → AllRecords) (text : Option (List ℕ)) (m : TheMap) 
 
   pub searched : (P : TheMap → Type 0) (answer : Answer) → OnSearched answer (P m) → OnSearched answer (IfSome text (λ t. HaveMap (of t) P))
   searched P answer so = searched_so answer (P m) (IfSome text (λ t. HaveMap (of t) P)) so (λ p. IfSome_then text is (λ t read. record { map = m; is_read = read; so = p }))
+
+  pub meets : (P : TheMap → Type 0) (answer : Answer) → UnlessMeet answer (P m) → UnlessMeet answer (IfSome text (λ t. HaveMap (of t) P))
+  meets P answer so = meets_leads answer (P m) (IfSome text (λ t. HaveMap (of t) P)) so (λ p. IfSome_then text is (λ t read. record { map = m; is_read = read; so = p }))
 
   stop_on : (budget : ℕ) (why : Stop) → MayStopReading m budget why → IfSome text (λ t. MayStopOn (of t) budget why)
   stop_on budget (stop.Record line cause) may = absurd may

@@ -6,7 +6,7 @@ use Rattle.tl_county.specs.Nodes.{AreNodes}
 use Rattle.tl_planar.specs.Searching.{AreBeyond}
 use Rattle.tl_sides.specs.Walks.{AreWalks}
 use Rattle.tl_check.specs.declared.fault.MapFault.{MapFault}
-use Rattle.tl_check.specs.declared.fault.MapFault.TheVariants.{Records}
+use Rattle.tl_check.specs.declared.fault.MapFault.TheVariants.{Records, Meet}
 use Rattle.tl_check.specs.declared.fault.CertFault.{CertFault}
 use Rattle.tl_check.specs.declared.verdict.Report.{Report}
 use Rattle.tl_check.specs.declared.verdict.Verdict.{Verdict}
@@ -43,6 +43,15 @@ OnSearched (Ok (verdict.MapFault (Records fault))) P = ⊤
 OnSearched (Ok (verdict.MapFault fault)) P = P
 OnSearched (Err Budget) P = P
 OnSearched other P = ⊤
+
+-- so that is true, unless the answer is that chains meet where they may not, that the records have no map, or a stop
+abbrev pub UnlessMeet : Answer → Type 0 → Type 0
+UnlessMeet (Ok (verdict.Sound report)) P = P
+UnlessMeet (Ok (verdict.MapFault (Records fault))) P = ⊤
+UnlessMeet (Ok (verdict.MapFault (Meet meet))) P = ⊤
+UnlessMeet (Ok (verdict.MapFault fault)) P = P
+UnlessMeet (Ok (verdict.CertFault fault)) P = P
+UnlessMeet (Err stop) P = ⊤
 
 -- the report has the map's numbers, and its rings are the length of a list of rings in which each dart stands once
 pub record IsReport (m : TheMap) (r : Report) : Type 0 where

@@ -15,7 +15,7 @@ ghost use Rattle.tl_cert.specs.Reading.{source_of, lines_of, standing_of, unread
 ghost use Rattle.tl_check.specs.Sound.{AreClosed};
 ghost use Rattle.tl_check.specs.Valid.{AllowsSearch};
 ghost use Rattle.tl_check.specs.Truth.{IsTrueOfMap, IsOfDarts};
-ghost use Rattle.tl_check.specs.Verdicts.{OnSound, IfSound, IfMapFault, IfCertFault, OnSearched, IsReport};
+ghost use Rattle.tl_check.specs.Verdicts.{OnSound, IfSound, IfMapFault, IfCertFault, UnlessMeet, OnSearched, IsReport};
 ghost use Rattle.tl_check.specs.Texts.{IsTrueOfText, IsValidText, TextAllowsSearch, MayStopReading, TellsDevice};
 ghost use Rattle.tl_check.specs.Keeping.Parts.{Holds, IsSearched, IsBehindSearch};
 ghost use Rattle.tl_check.specs.Keeping.Streams.{Stands, Decides, Concludes};
@@ -65,6 +65,10 @@ pub fn check_cert<S: Source>(
         IfSome (S.remaining cert.old) (λ text. IsTrueOfText map.now text fault)) }
     // One of rounds or of walks comes only where the chains are planar.
     ensures behind { IfCertFault result (λ fault. IsOfDarts fault → IsPlanar map.now.chains) }
+    // Where a search may be made by the text, and two segments meet where they may not, the answer is such a meet, or a stop: a
+    // fault of the certificate is answered only where the chains are planar, though the text may break off behind its tree.
+    ensures meets { UnlessMeet result (IfSome (S.remaining cert.old) (λ text.
+        TextAllowsSearch map.now text → IsPlanar map.now.chains)) }
     // A fault of the map comes only where a search may be made by the text, and so does a stop for the budget.
     ensures searched { OnSearched result (IfSome (S.remaining cert.old) (TextAllowsSearch map.now)) }
     // It stops where memory was refused, a read failed, or more than the budget had to be tested.
@@ -88,6 +92,8 @@ fn check_parts<R: Source>(
     ensures decides { Decides map.now budget (unread R.remaining reader.old) result }
     ensures within { OnSound result (meeting_segments map.now.chains ≤ budget) }
     ensures behind { IfCertFault result (λ fault. IsOfDarts fault → IsPlanar map.now.chains) }
+    ensures meets { UnlessMeet result (IfSome (unread R.remaining reader.old) (λ text.
+        TextAllowsSearch map.now text → IsPlanar map.now.chains)) }
     ensures searched { OnSearched result (IfSome (unread R.remaining reader.old) (TextAllowsSearch map.now)) }
     ensures failures { TellsDevice (R.failure_count (source_of reader.old))
         (R.failure_count (source_of reader.new)) result }

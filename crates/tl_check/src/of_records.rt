@@ -11,7 +11,7 @@ ghost use Rattle.tl_inside.specs.Placed.{ArePlaced};
 ghost use Rattle.tl_cells.specs.Cells.{CellsAgree};
 ghost use Rattle.tl_check.specs.Sound.{AreClosed};
 ghost use Rattle.tl_check.specs.Truth.{IsOfDarts};
-ghost use Rattle.tl_check.specs.Verdicts.{OnSound, IfSound, IfMapFault, IfCertFault, OnSearched, IsReport};
+ghost use Rattle.tl_check.specs.Verdicts.{OnSound, IfSound, IfMapFault, IfCertFault, UnlessMeet, OnSearched, IsReport};
 ghost use Rattle.tl_check.specs.Texts.{IsTrueOfText, IsValidText, TextAllowsSearch};
 ghost use Rattle.tl_check.specs.Records.{HaveMap, IsTrueOfRecords, MayStopOn, TellsEither, LeavesUnread};
 ghost use Rattle.tl_check.specs.Keeping.Answers.{refusal_of};
@@ -75,6 +75,11 @@ pub fn check<R: Source, S: Source>(
     // One of rounds or of walks comes only where the map's chains are planar.
     ensures behind { IfCertFault result (λ fault. IsOfDarts fault → IfSome (R.remaining records.old) (λ text.
         HaveMap (records_of tiger_2006 text) (λ m. IsPlanar m.chains))) }
+    // Where a search may be made by the certificate's text, and two segments of the map meet where they may not, the answer is
+    // such a meet, or a stop: never a fault of the certificate, though its text may break off behind its tree.
+    ensures meets { UnlessMeet result (IfSome (R.remaining records.old) (λ text.
+        HaveMap (records_of tiger_2006 text) (λ m.
+        IfSome (S.remaining cert.old) (λ spelt. TextAllowsSearch m spelt → IsPlanar m.chains)))) }
     // A fault of the map comes only where a search may be made by the certificate's text, and so does a stop for the budget.
     ensures searched { OnSearched result (IfSome (R.remaining records.old) (λ text.
         HaveMap (records_of tiger_2006 text) (λ m. IfSome (S.remaining cert.old) (TextAllowsSearch m)))) }
@@ -125,6 +130,9 @@ pub fn check_with<R: Source, S: Source>(
         IfSome (S.remaining cert.old) (λ spelt. IsTrueOfText m spelt fault)))) }
     ensures behind { IfCertFault result (λ fault. IsOfDarts fault → IfSome (R.remaining records.old) (λ text.
         HaveMap (records_of (layout_with options) text) (λ m. IsPlanar m.chains))) }
+    ensures meets { UnlessMeet result (IfSome (R.remaining records.old) (λ text.
+        HaveMap (records_of (layout_with options) text) (λ m.
+        IfSome (S.remaining cert.old) (λ spelt. TextAllowsSearch m spelt → IsPlanar m.chains)))) }
     ensures searched { OnSearched result (IfSome (R.remaining records.old) (λ text.
         HaveMap (records_of (layout_with options) text) (λ m. IfSome (S.remaining cert.old) (TextAllowsSearch m)))) }
     ensures stops { IfErr result (λ stop. IfSome (R.remaining records.old) (λ text.

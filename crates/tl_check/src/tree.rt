@@ -3,10 +3,11 @@
 ghost use Rattle.std.specs.Prelude.{◌≡◌, ◌<◌, ◌^◌, [], length, OnOk, IfOk, IfErr};
 ghost use Rattle.tl_tree.specs.Preorder.{IsPreorder};
 ghost use Rattle.tl_sides.specs.Keeping.Rounded.{AreSized, HaveTaken};
+ghost use Rattle.tl_planar.specs.Planar.{IsPlanar};
 ghost use Rattle.tl_cells.specs.Cells.{CellsAgree};
 ghost use Rattle.tl_cert.specs.Certificates.{TheCertificate};
 ghost use Rattle.tl_check.specs.Valid.{AreCounts, IsTree};
-ghost use Rattle.tl_check.specs.Keeping.Parts.{Holds, TakesRounds, IsSearched, IsBehindSearch, MayHalt, MayEnd, UnlessMemory};
+ghost use Rattle.tl_check.specs.Keeping.Parts.{Holds, TakesRounds, IsSearched, IsBehindSearch, MayHalt, MayEnd, UnlessMemory, UnlessMet};
 
 use crate::fault::{CertFault, MapFault};
 use crate::state::{Halt, State};
@@ -34,6 +35,7 @@ pub fn take_tree<'a>(
     ensures behind { IfOk result (IsBehindSearch map.now) }
     ensures halts { IfErr result (MayHalt map.now budget) }
     ensures tree { IfErr result (λ halt. UnlessMemory halt (IsTree map.now nodes.now)) }
+    ensures meets { IfErr result (λ halt. UnlessMet halt (IsPlanar map.now.chains)) }
 {
     let tree = match FlatTree::from_nodes(alloc, nodes) {
         Ok(tree) => tree,

@@ -18,6 +18,7 @@ use Rattle.tl_check.specs.declared.state.State.{State}
 use Rattle.tl_check.specs.declared.state.State.TheVariants as state
 use Rattle.tl_check.specs.declared.state.Halt.{Halt}
 use Rattle.tl_check.specs.declared.state.Halt.TheVariants as halt
+use Rattle.tl_check.specs.declared.fault.MapFault.TheVariants.{Meet}
 use Rattle.tl_check.specs.Valid.{AreCounts, IsTree, IsValid}
 use Rattle.tl_check.specs.Truth.{IsTrueOfMap, IsTrueOfCert, IsOfDarts}
 
@@ -107,6 +108,13 @@ abbrev pub UnlessMemory : Halt → Type 0 → Type 0
 UnlessMemory (halt.Fault fault) P = P
 UnlessMemory halt.Memory P = ⊤
 UnlessMemory halt.Budget P = P
+
+-- so that is true, unless two segments meet where they may not, memory was refused, or the budget is spent
+abbrev pub UnlessMet : Halt → Type 0 → Type 0
+UnlessMet (halt.Fault (Meet meet)) P = ⊤
+UnlessMet (halt.Fault fault) P = P
+UnlessMet halt.Memory P = ⊤
+UnlessMet halt.Budget P = ⊤
 
 -- the same behind the search
 abbrev pub MayEnd : TheMap → Halt → Type 0

@@ -5,6 +5,7 @@ use Rattle.tl_cert.specs.Reading.{Gives, source_of, standing_of}
 use Rattle.tl_check.specs.Keeping.Parts.{Holds, TakesRounds, IsSearched, IsBehindSearch, with_round, with_walk}
 use Rattle.tl_check.proofs.Searched.{stopped_searched, stopped_behind, answered_behind, halted_searched, ended_searched, searched_so, reads_allowed}
 use Rattle.tl_check.proofs.Streaming.{stop_decides, nothing, begun, counts_read, tree_read, round_read, walk_read, end_decides, no_device, wrong_counts, gives_as}
+use Rattle.tl_check.proofs.Meeting.{meets_so, halted_meets, planar_by, start_meets, counted_meets, taken_planar}
 use Rattle.std.proofs.lemmas.Bool.{false≢true}
 use Rattle.tl_cert.proofs.CollectLemmas.{tells_here}
 use Rattle.tl_check.specs.Valid.{AreCounts, IsTree}
@@ -66,6 +67,7 @@ parts-init g c =
       searched = held.2;
       behind = held.3;
       allowed = reads_allowed g.R.Source.remaining c.args.map.now t.version t.cert c.args.reader.now c.next_part-2.new.self t.collects;
+      planar = taken_planar g.R.Source.remaining c.args.map.now c.args.reader.now t.version c.next_part-2.new.self t.cert c.if-are_counts.state t.collects held.0 held.3;
       failures =
           tells_here (standing_of c.next_part.new.self) (Counted r.version) (g.R.Source.failure_count (source_of c.next_part.new.self)) (g.R.Source.failure_count (source_of c.next_part-2.new.self)) (Ok c.in-Ok-Some-Tree.field-0) r.collects.standing c.in-Ok-Some-Tree.ensures.failures
           ∙ tells_here (standing_of c.args.reader.now) Start (g.R.Source.failure_count (source_of c.args.reader.now)) (g.R.Source.failure_count (source_of c.next_part.new.self)) (Ok c.in-Ok-Some-Counts.field-0) c.requires.standing c.in-Ok-Some-Counts.ensures.failures;
@@ -95,6 +97,7 @@ parts-preserved-in-Ok-Some-Round g c =
       searched = c.take_round-state.ensures.searched c.args.budget c.parts.invariant.searched;
       behind = c.take_round-state.ensures.behind c.parts.invariant.behind;
       allowed = λ allows. c.parts.invariant.allowed (record { counts = allows.counts; tree = allows.tree });
+      planar = c.parts.invariant.planar;
       failures = tells_here (standing_of c.parts.reader) st.place (g.R.Source.failure_count (source_of c.parts.reader)) (g.R.Source.failure_count (source_of c.next_part-in-parts.new.self)) (Ok c.in-Ok-Some-Round.field-0) st.collects.standing c.in-Ok-Some-Round.ensures.failures ∙ c.parts.invariant.failures;
       same = c.next_part-in-parts.ensures.same_reference ∙ c.parts.invariant.same;
     }
@@ -127,6 +130,7 @@ parts-preserved g c =
       searched = c.in-Ok-take_walk.ensures.searched c.args.budget (c.in-Ok-end_rounds.ensures.searched c.args.budget c.parts.invariant.searched);
       behind = c.in-Ok-take_walk.ensures.behind (c.in-Ok-end_rounds.ensures.behind c.parts.invariant.behind);
       allowed = λ allows. c.parts.invariant.allowed (record { counts = allows.counts; tree = allows.tree });
+      planar = c.parts.invariant.planar;
       failures = tells_here (standing_of c.parts.reader) st.place (g.R.Source.failure_count (source_of c.parts.reader)) (g.R.Source.failure_count (source_of c.next_part-in-parts.new.self)) (Ok c.in-Ok-Some-Walk.field-0) st.collects.standing c.in-Ok-Some-Walk.ensures.failures ∙ c.parts.invariant.failures;
       same = c.next_part-in-parts.ensures.same_reference ∙ c.parts.invariant.same;
     }
@@ -245,3 +249,32 @@ returns-in-Err-next_part-2-clause-same_reference g c = c.next_part-in-parts.ensu
 
 pub returns-in-Ok-None-clause-same_reference : goal.returns-in-Ok-None-clause-same_reference
 returns-in-Ok-None-clause-same_reference g c = c.next_part-in-parts.ensures.same_reference ∙ c.parts.invariant.same
+
+pub returns-in-Err-clause-meets : goal.returns-in-Err-clause-meets
+returns-in-Err-clause-meets g c =
+    rw c.stopped.ensures
+    (start_meets g.R.Source.remaining c.args.map.now c.args.reader.now c.next_part.new.self (nothing g.R.Source.remaining c.args.map.now c.args.budget c.args.reader.now) c.in-Err.stop
+    (begun g.R.Source.remaining c.args.map.now c.args.budget c.args.reader.now c.requires.standing c.requires.lines) c.in-Err.ensures.gives)
+
+pub returns-in-Err-next_part-clause-meets : goal.returns-in-Err-next_part-clause-meets
+returns-in-Err-next_part-clause-meets g c =
+    let first = gives_as g.R.Source.remaining c.args.reader.now c.next_part.new.self c.in-Ok-Some-Counts.field-0 c.in-Ok-Some-Counts.field-0-0 (part.Counts c.in-Ok-Some-Counts.counts c.in-Ok-Some-Counts.field-0-0-1) c.in-Ok-Some-Counts.field-0-is c.in-Ok-Some-Counts.field-0-0-is c.in-Ok-Some-Counts.ensures.gives in
+    let r = counts_read g.R.Source.remaining c.args.map.now c.args.budget c.args.reader.now c.next_part.new.self c.in-Ok-Some-Counts.counts c.in-Ok-Some-Counts.field-0-0-1 c.requires.standing c.requires.lines first in
+    rw c.stopped-in-Err-next_part.ensures
+    (counted_meets g.R.Source.remaining c.args.map.now c.args.reader.now r.version c.next_part.new.self c.next_part-2.new.self r.cert c.in-Err-next_part.stop r.collects c.in-Err-next_part.ensures.gives)
+
+pub returns-in-Err-take_tree-clause-meets : goal.returns-in-Err-take_tree-clause-meets
+returns-in-Err-take_tree-clause-meets g c =
+    rw c.answer.ensures (halted_meets c.in-Err-take_tree.halt _ _ c.in-Err-take_tree.ensures.meets (planar_by c.args.map.now _))
+
+pub returns-in-Err-end_rounds-clause-meets : goal.returns-in-Err-end_rounds-clause-meets
+returns-in-Err-end_rounds-clause-meets g c = meets_so c.answer-in-Err-end_rounds.result _ c.parts.invariant.planar
+
+pub returns-in-Err-take_walk-clause-meets : goal.returns-in-Err-take_walk-clause-meets
+returns-in-Err-take_walk-clause-meets g c = meets_so c.answer-in-Err-take_walk.result _ c.parts.invariant.planar
+
+pub returns-in-Err-next_part-2-clause-meets : goal.returns-in-Err-next_part-2-clause-meets
+returns-in-Err-next_part-2-clause-meets g c = meets_so c.stopped-in-Err-next_part-2.result _ c.parts.invariant.planar
+
+pub returns-in-Ok-None-clause-meets : goal.returns-in-Ok-None-clause-meets
+returns-in-Ok-None-clause-meets g c = meets_so c.conclude.result _ c.parts.invariant.planar

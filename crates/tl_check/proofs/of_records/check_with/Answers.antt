@@ -11,7 +11,8 @@ use Rattle.tl_cells.specs.Cells.{CellsAgree}
 use Rattle.tl_check.specs.Sound.{AreClosed}
 use Rattle.tl_check.specs.Verdicts.{IsReport}
 use Rattle.tl_check.specs.Texts.{IsTrueOfText, IsValidText, TextAllowsSearch}
-use Rattle.tl_check.proofs.Recorded.{on_sound, on_sound_text, if_sound, map_fault, cert_fault, behind, searched, stops, unread, tells_either, refused_sound, refused_cert, refused_searched, refused_fault, refused_stops, refused_unread, refused_tells}
+use Rattle.tl_check.proofs.Recorded.{on_sound, on_sound_text, if_sound, map_fault, cert_fault, behind, searched, meets, stops, unread, tells_either, refused_sound, refused_cert, refused_searched, refused_fault, refused_stops, refused_unread, refused_tells}
+use Rattle.tl_check.proofs.Meeting.{refused_meets}
 use Rattle.tl_check.proofs.of_records.check_with.Goals as goal
 
 pub returns-in-Ok-clause-planar : goal.returns-in-Ok-clause-planar
@@ -103,3 +104,9 @@ returns-in-Err-clause-unread g c = rw c.refused.ensures (refused_unread c.in-Err
 
 pub returns-in-Err-clause-failures : goal.returns-in-Err-clause-failures
 returns-in-Err-clause-failures g c = rw c.refused.ensures (refused_tells Map _ _ _ c.in-Err.stop c.in-Err.ensures.failures)
+
+pub returns-in-Ok-clause-meets : goal.returns-in-Ok-clause-meets
+returns-in-Ok-clause-meets g c = meets (λ t. records_of (layout_with c.args.options) t) (g.R.Source.remaining c.args.records.now) c.in-Ok.map c.in-Ok.ensures.map (λ m. IfSome (g.S.Source.remaining c.args.cert.now) (λ spelt. TextAllowsSearch m spelt → IsPlanar m.chains)) c.check_cert.result c.check_cert.ensures.meets
+
+pub returns-in-Err-clause-meets : goal.returns-in-Err-clause-meets
+returns-in-Err-clause-meets g c = rw c.refused.ensures (refused_meets c.in-Err.stop _)

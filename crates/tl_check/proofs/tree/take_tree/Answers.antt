@@ -98,3 +98,24 @@ returns-clause-halts c = tt
 
 pub returns-clause-tree : goal.returns-clause-tree
 returns-clause-tree c = tt
+
+pub returns-in-Err-TooDeep-clause-meets : goal.returns-in-Err-TooDeep-clause-meets
+returns-in-Err-TooDeep-clause-meets c = tt
+
+pub returns-in-Ok-Some-clause-meets : goal.returns-in-Ok-Some-clause-meets
+returns-in-Ok-Some-clause-meets c = tt
+
+pub returns-in-Err-Memory-clause-meets : goal.returns-in-Err-Memory-clause-meets
+returns-in-Err-Memory-clause-meets c = tt
+
+pub returns-in-Err-clause-meets : goal.returns-in-Err-clause-meets
+returns-in-Err-clause-meets c = tt
+
+pub returns-in-Found-clause-meets : goal.returns-in-Found-clause-meets
+returns-in-Found-clause-meets c = tt
+
+pub returns-in-Budget-clause-meets : goal.returns-in-Budget-clause-meets
+returns-in-Budget-clause-meets c = tt
+
+pub returns-clause-meets : goal.returns-clause-meets
+returns-clause-meets c = tt
