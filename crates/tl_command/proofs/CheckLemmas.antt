@@ -13,9 +13,9 @@ use Rattle.tl_check.specs.declared.verdict.Verdict.{Verdict}
 use Rattle.tl_check.specs.declared.verdict.Verdict.TheVariants.{Sound, MapFault, CertFault}
 use Rattle.tl_check.specs.Sound.{AreClosed}
 use Rattle.tl_check.specs.Truth.{IsOfDarts}
-use Rattle.tl_check.specs.Texts.{IsValidText, IsTrueOfText}
+use Rattle.tl_check.specs.Texts.{IsValidText, IsTrueOfText, TextAllowsSearch}
 use Rattle.tl_check.specs.Records.{HaveMap, IsTrueOfRecords, LeavesUnread}
-use Rattle.tl_check.specs.Verdicts.{Answer, OnSound, IfSound, IfMapFault, IfCertFault, IsReport, OnSearched}
+use Rattle.tl_check.specs.Verdicts.{Answer, OnSound, IfSound, IfMapFault, IfCertFault, UnlessMeet, IsReport, OnSearched}
 use Rattle.tl_check.proofs.OneMap.{both, weaker}
 use Rattle.tl_output.specs.Writing.{line_of}
 use Rattle.tl_command.specs.declared.stop.TheConstants.{DONE, MAP_FAULT, CERT_FAULT, STOPPED}
@@ -97,16 +97,18 @@ pub names_cert_fault : (layout : Layout) (known spelt : Option (List ℕ)) (wrot
     → IfCertFault answer (λ fault. IfSome known (λ text. HaveMap (records_of layout text) (λ m.
     IfSome spelt (λ certificate. IsTrueOfText m certificate fault))))
     → IfCertFault answer (λ fault. IsOfDarts fault → IfSome known (λ text. HaveMap (records_of layout text) (λ m. IsPlanar m.chains)))
+    → UnlessMeet answer (IfSome known (λ text. HaveMap (records_of layout text) (λ m. IfSome spelt (λ certificate. TextAllowsSearch m certificate → IsPlanar m.chains))))
     → CERT_FAULT ≡ verdict_status verdict → wrote (line_of (verdict_text verdict)) → NamesCertFault layout known spelt wrote
-names_cert_fault layout known spelt wrote answer (CertFault fault) is true_of planar status written = record {
+names_cert_fault layout known spelt wrote answer (CertFault fault) is true_of planar meets status written = record {
   fault = fault;
   written = written;
   holds = subst (λ a. IfCertFault a (λ fault. IfSome known (λ text. HaveMap (records_of layout text) (λ m.
       IfSome spelt (λ certificate. IsTrueOfText m certificate fault))))) is true_of;
   behind = subst (λ a. IfCertFault a (λ fault. IsOfDarts fault → IfSome known (λ text. HaveMap (records_of layout text) (λ m. IsPlanar m.chains)))) is planar;
+  searched = subst (λ a. UnlessMeet a (IfSome known (λ text. HaveMap (records_of layout text) (λ m. IfSome spelt (λ certificate. TextAllowsSearch m certificate → IsPlanar m.chains))))) is meets;
 }
-names_cert_fault layout known spelt wrote answer (Sound report) is true_of planar status written = cc status
-names_cert_fault layout known spelt wrote answer (MapFault fault) is true_of planar status written = cc status
+names_cert_fault layout known spelt wrote answer (Sound report) is true_of planar meets status written = cc status
+names_cert_fault layout known spelt wrote answer (MapFault fault) is true_of planar meets status written = cc status
 
 -- a status that isn't a stop's is the verdict's
 pub told_status : (status n : ℕ) (verdict : Verdict) → (status ≡ verdict_status verdict) ⊎ (status ≡ STOPPED) → status ≡ n → n ≢ STOPPED

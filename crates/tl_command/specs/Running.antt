@@ -139,13 +139,16 @@ pub record IsBuilt (layout : Layout) (known : Option (List ℕ)) (made wrote : L
   pub drawn : IfSome known (λ text. IsReadFrom (records_of layout text) map)
 
 -- the line of a fault of a certificate was written; the records have a map, and it is true of the certificate's text beside it;
--- and where it is one of rounds or of walks, the map's chains are planar
+-- and where it is one of rounds or of walks, or a search may be made by the text, the map's chains are planar
 pub record NamesCertFault (layout : Layout) (known spelt : Option (List ℕ)) (wrote : List ℕ → Type 0) : Type 0 where
   pub fault : CertFault
   pub written : wrote (line_of (cert_fault_text fault))
   pub holds :
       IfSome known (λ text. HaveMap (records_of layout text) (λ m. IfSome spelt (λ certificate. IsTrueOfText m certificate fault)))
   pub behind : IsOfDarts fault → IfSome known (λ text. HaveMap (records_of layout text) (λ m. IsPlanar m.chains))
+  pub searched :
+      IfSome known (λ text. HaveMap (records_of layout text) (λ m.
+      IfSome spelt (λ certificate. TextAllowsSearch m certificate → IsPlanar m.chains)))
 
 -- the column table that a plan's records are read by; a conversion reads none
 abbrev pub layout_of : Plan → Layout

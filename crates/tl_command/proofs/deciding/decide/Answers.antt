@@ -22,7 +22,7 @@ returns-in-Ok-clause-map_fault g c = λ fault.
 pub returns-in-Ok-clause-cert_fault : goal.returns-in-Ok-clause-cert_fault
 returns-in-Ok-clause-cert_fault g c = λ fault.
     let status = told_status c.tell_verdict.result CERT_FAULT c.in-Ok.verdict c.tell_verdict.ensures.status fault (λ e. cc e) in
-    names_cert_fault (layout_with c.args.options) _ _ _ c.check_with.result c.in-Ok.verdict c.in-Ok.is c.check_with.ensures.cert_fault c.check_with.ensures.behind
+    names_cert_fault (layout_with c.args.options) _ _ _ c.check_with.result c.in-Ok.verdict c.in-Ok.is c.check_with.ensures.cert_fault c.check_with.ensures.behind c.check_with.ensures.meets
     (sym fault ∙ status) (c.tell_verdict.ensures.told status)
 
 pub returns-in-Err-clause-status : goal.returns-in-Err-clause-status
