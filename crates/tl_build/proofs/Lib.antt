@@ -12,3 +12,5 @@ pub mod Budgets
 pub mod Recorded
 pub mod Packed
 pub mod Exactly
+pub mod SideLemmas
+pub mod Decided

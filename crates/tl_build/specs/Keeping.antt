@@ -4,3 +4,5 @@ pub mod Sorting
 pub mod Following
 pub mod Proposed
 pub mod Judging
+pub mod Siding
+pub mod Deciding

@@ -1,4 +1,4 @@
-//! The decision of a map with no certificate given.
+//! The decision of a map by a search, with no certificate given.
 
 ghost use Rattle.std.specs.Prelude.{◌≡◌, ◌≤◌};
 ghost use Rattle.tl_tree.specs.Trees.{depth, tree_of};

@@ -1,17 +1,21 @@
 //! The builder: whether a map is sound with no certificate given, and a certificate of a map that is.
 //!
-//! [`audit`] decides records, and [`build`] makes a certificate. Both propose one, and the checker of `tl_check` has the
-//! last word: a map is told to be sound only where its certificate was found to be valid, and each fault is one that the
-//! checker found. The proposal is the tree that `tl_pack` makes over the segments, the darts sorted about their nodes,
-//! and the walks that follow from their next darts.
+//! [`audit`] decides records, and [`build`] makes a certificate. Both sweep over the map first (`tl_sweep`). Where its chains
+//! are found to be planar, the walks that follow from the darts sorted about their nodes tell whether sides agree, and its
+//! rings where the points of polygons lie. Where the sweep says nothing, a certificate is proposed, and the checker of
+//! `tl_check` has the last word: it searches by the tree that `tl_pack` makes over the segments. Each certificate that is
+//! made has that tree, and those darts and walks.
 #![tactic(auto)]
 
 mod answer;
 mod judge;
 mod of_map;
 mod of_records;
+mod planar;
+mod points;
 mod propose;
 mod rounds;
+mod sides;
 mod stop;
 mod walks;
 

@@ -11,12 +11,15 @@ ghost use Rattle.tl_check.specs.Sound.{AreClosed, IsSound};
 ghost use Rattle.tl_check.specs.Valid.{IsValid};
 ghost use Rattle.tl_check.specs.Truth.{IsTrueOfMap};
 ghost use Rattle.tl_build.specs.Building.{IfCert, OnCert, IfFault, HasCert};
+ghost use Rattle.tl_build.specs.Keeping.Deciding.{Builds};
 
 use crate::answer::Built;
 use crate::judge::{Judged, judge};
+use crate::planar::build_planar;
 use crate::stop::BuildStop;
 use std::alloc::Global;
 use tl_county::Map;
+use tl_sweep::{Swept, sweep};
 
 /// Makes a certificate of version 2 of a map that is sound, or names a fault of one that isn't. Which of several faults is
 /// named, and which valid certificate is made, is open.
@@ -45,6 +48,24 @@ pub fn build(alloc: Global, map: &Map) -> Result<Built, BuildStop>
     ensures fault { IfFault result (IsTrueOfMap map.now) }
     // If it isn't stopped, a certificate is made exactly where the map is sound, and a fault is named where it isn't.
     ensures exactly { IfOk result (λ built. HasCert built ↔ IsSound map.now) }
+{
+    decide(alloc, map)
+}
+
+/// Makes a certificate or names a fault: by a sweep, and where that says nothing of the map by a search.
+fn decide(alloc: Global, map: &Map) -> Result<Built, BuildStop>
+    ensures { Builds map.now result }
+{
+    match sweep(alloc, map) {
+        Ok(Swept::Planar) => build_planar(alloc, map, false),
+        Ok(Swept::Unknown) => build_by_search(alloc, map),
+        Err(_) => Err(BuildStop::Memory),
+    }
+}
+
+/// Makes a certificate or names a fault by a search.
+fn build_by_search(alloc: Global, map: &Map) -> Result<Built, BuildStop>
+    ensures { Builds map.now result }
 {
     match judge(alloc, map) {
         Ok(Judged::Sound(cert, _)) => Ok(Built::Cert(cert)),

@@ -14,9 +14,11 @@ ghost use Rattle.tl_check.specs.Verdicts.{IsReport};
 ghost use Rattle.tl_check.specs.Records.{HaveMap, IsTrueOfRecords};
 ghost use Rattle.tl_build.specs.Auditing.{IfSound, OnSound, IfFaulty, SaysSound, MayStopAudit, TellsDevice};
 ghost use Rattle.tl_build.specs.Keeping.Judging.{refusal_of, IsMapStop};
+ghost use Rattle.tl_build.specs.Keeping.Deciding.{Audits};
 
 use crate::answer::Audit;
 use crate::judge::{Judged, judge};
+use crate::planar::audit_planar;
 use crate::stop::{AuditStop, BuildStop};
 use std::alloc::Global;
 use std::hash::RandomState;
@@ -24,6 +26,7 @@ use tl_check::MapFault;
 use tl_county::Map;
 use tl_map::{MapStop, read_map_with};
 use tl_record::{Options, Source};
+use tl_sweep::{Swept, sweep};
 
 // Neither choice of columns.
 const PLAIN: Options = Options {
@@ -119,6 +122,24 @@ fn audit_map(alloc: Global, map: &Map) -> Result<Audit, AuditStop>
     ensures fault { IfFaulty result (IsTrueOfMap map.now) }
     ensures exactly { IfOk result (λ answer. SaysSound answer ↔ IsSound map.now) }
     ensures stops { IfErr result IsMapStop }
+{
+    decide(alloc, map)
+}
+
+/// Decides whether a map is sound: by a sweep, and where that says nothing of it by a search.
+fn decide(alloc: Global, map: &Map) -> Result<Audit, AuditStop>
+    ensures { Audits map.now result }
+{
+    match sweep(alloc, map) {
+        Ok(Swept::Planar) => audit_planar(alloc, map, false),
+        Ok(Swept::Unknown) => audit_by_search(alloc, map),
+        Err(_) => Err(AuditStop::Memory),
+    }
+}
+
+/// Decides whether a map is sound by a search.
+fn audit_by_search(alloc: Global, map: &Map) -> Result<Audit, AuditStop>
+    ensures { Audits map.now result }
 {
     match judge(alloc, map) {
         Ok(Judged::Sound(_, report)) => Ok(Audit::Sound(report)),

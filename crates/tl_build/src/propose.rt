@@ -49,7 +49,7 @@ fn counts_of(map: &Map) -> Counts
 }
 
 /// The tree over the segments of a map.
-fn propose_tree(alloc: Global, map: &Map) -> Result<Vec<TreeNode>, AllocError>
+pub fn propose_tree(alloc: Global, map: &Map) -> Result<Vec<TreeNode>, AllocError>
     ensures tree { IfOk result (λ nodes. IsTree map.now nodes.items) }
     ensures shallow { IfOk result (λ nodes. depth (tree_of nodes.items) ≤ 8) }
     ensures split { IfOk result (λ nodes. IsEvenlySplit (tree_of nodes.items)) }
@@ -64,7 +64,7 @@ fn propose_tree(alloc: Global, map: &Map) -> Result<Vec<TreeNode>, AllocError>
 }
 
 /// The rounds and the walks of a map.
-fn propose_rings(alloc: Global, map: &Map) -> Result<(Vec<Vec<u32>>, Vec<Vec<u32>>), AllocError>
+pub fn propose_rings(alloc: Global, map: &Map) -> Result<(Vec<Vec<u32>>, Vec<Vec<u32>>), AllocError>
     ensures rounds { IfOk result (λ made.
         HoldOnce (2 * length map.now.chains) (lists_in made.0.items)) }
     ensures walks { IfOk result (λ made.

@@ -62,7 +62,7 @@ fn link_round(following: &mut [u32], round: &[u32])
 }
 
 /// The reverse of a dart: the other dart of its chain.
-fn reverse(dart: u32) -> u32
+pub fn reverse(dart: u32) -> u32
     ensures { result ≡ reverse_dart dart }
 {
     if dart % 2 == 0 { dart + 1 } else { dart - 1 }

@@ -1,0 +1,108 @@
+-- What the clauses of answers to maps read off what these say.
+use Rattle.std.proofs.Common.{◌≡◌, ◌↔◌, ℕ, List, length, Option, Some, None, Result, Ok, Err, subst, ◌∙◌}
+use Rattle.std.specs.Prelude.{IfOk, IfErr, MatchOption}
+use Rattle.tl_county.specs.declared.sides.Side.TheVariants.{Outside, Polygon}
+use Rattle.tl_county.specs.TheMap.{TheMap}
+use Rattle.tl_planar.specs.Planar.{IsPlanar}
+use Rattle.tl_sides.specs.Sides.{SidesAgree}
+use Rattle.tl_sides.specs.Walks.{AreWalks}
+use Rattle.tl_sides.proofs.Boundaries.{boundary_of}
+use Rattle.tl_inside.specs.Placed.{ArePlaced}
+use Rattle.tl_cells.specs.Cells.{CellsAgree}
+use Rattle.tl_cert.specs.Certificates.{TheCertificate}
+use Rattle.tl_tree.specs.declared.index.Memory.{Memory}
+use Rattle.tl_check.specs.declared.fault.MapFault.{MapFault}
+use Rattle.tl_check.specs.declared.verdict.Report.{Report}
+use Rattle.tl_check.specs.Sound.{AreClosed, IsSound}
+use Rattle.tl_check.specs.Truth.{IsTrueOfMap}
+use Rattle.tl_check.specs.Verdicts.{IsReport, AreNumbers}
+use Rattle.tl_check.proofs.Denials.{not_sound}
+use Rattle.tl_build.specs.declared.answer.Audit.TheVariants as audit
+use Rattle.tl_build.specs.declared.answer.Built.TheVariants as built
+use Rattle.tl_build.specs.Auditing.{Auditing, IfSound, OnSound, IfFaulty, SaysSound}
+use Rattle.tl_build.specs.Building.{Building, IfCert, OnCert, IfFault, HasCert}
+use Rattle.tl_build.specs.Keeping.Deciding.{Audits, Builds, IsBuilt}
+use Rattle.tl_build.specs.Keeping.Judging.{IsMapStop}
+
+-- ---- a sound map
+
+pub closed_by : (m : TheMap) (walks : List (List ℕ)) → AreWalks m.chains walks → SidesAgree m.chains → AreClosed m
+closed_by m walks are sides = record {
+  polygons = λ p h. boundary_of m.chains walks (Polygon p) are sides;
+  outside = boundary_of m.chains walks Outside are sides;
+}
+
+pub sound_by : (m : TheMap) (walks : List (List ℕ)) → AreWalks m.chains walks → IsPlanar m.chains → SidesAgree m.chains × CellsAgree m.chains → ArePlaced m → IsSound m
+sound_by m walks are planar agree placed = record { planar = planar; sides = agree.0; closed = closed_by m walks are agree.0; points = placed; cells = agree.1 }
+
+-- where nothing was found to be at odds
+pub none_found : (m : TheMap) (found : Option MapFault) → found ≡ None → MatchOption found (SidesAgree m.chains × CellsAgree m.chains) (IsTrueOfMap m) → SidesAgree m.chains × CellsAgree m.chains
+none_found m found is told = subst (λ f. MatchOption f (SidesAgree m.chains × CellsAgree m.chains) (IsTrueOfMap m)) is told
+
+-- and a point may be found that is misplaced
+pub sound_where : (m : TheMap) (walks : List (List ℕ)) → AreWalks m.chains walks → IsPlanar m.chains → SidesAgree m.chains × CellsAgree m.chains → (answer : Result (Option MapFault) Memory) →
+    IfOk answer (λ found. MatchOption found (ArePlaced m) (IsTrueOfMap m)) → IfOk answer (λ found. MatchOption found (IsSound m) (IsTrueOfMap m))
+sound_where m walks are planar agree (Ok None) told = sound_by m walks are planar agree told
+sound_where m walks are planar agree (Ok (Some fault)) told = told
+sound_where m walks are planar agree (Err refused) told = tt
+
+pub report_by : (m : TheMap) (walks : List (List ℕ)) (rings : ℕ) (r : Report) → AreWalks m.chains walks → rings ≡ length walks → AreNumbers m rings r → IsReport m r
+report_by m walks rings r are many n = record {
+  chains = n.chains;
+  segments = n.segments;
+  nodes = n.nodes;
+  polygons = n.polygons;
+  landmarks = n.landmarks;
+  walks = walks;
+  rings = are;
+  counted = n.rings_are ∙ many;
+}
+
+-- ---- audits
+
+module _ (m : TheMap) where
+  pub on_sound : (P : Type 0) → (IsSound m → P) → (answer : Auditing) → Audits m answer → OnSound answer P
+  on_sound P leads (Ok (audit.Sound report)) says = leads says.0
+  on_sound P leads (Ok (audit.Fault fault)) says = tt
+  on_sound P leads (Err stop) says = tt
+
+  pub reported : (answer : Auditing) → Audits m answer → IfSound answer (IsReport m)
+  reported (Ok (audit.Sound report)) says = says.1
+  reported (Ok (audit.Fault fault)) says = tt
+  reported (Err stop) says = tt
+
+  pub faulty : (answer : Auditing) → Audits m answer → IfFaulty answer (IsTrueOfMap m)
+  faulty (Ok (audit.Sound report)) says = tt
+  faulty (Ok (audit.Fault fault)) says = says
+  faulty (Err stop) says = tt
+
+  pub exactly : (answer : Auditing) → Audits m answer → IfOk answer (λ a. SaysSound a ↔ IsSound m)
+  exactly (Ok (audit.Sound report)) says = ((λ said. says.0), (λ sound. tt))
+  exactly (Ok (audit.Fault fault)) says = ((λ said. absurd said), (λ sound. absurd (not_sound m fault says sound)))
+  exactly (Err stop) says = tt
+
+  pub stops : (answer : Auditing) → Audits m answer → IfErr answer IsMapStop
+  stops (Ok told) says = tt
+  stops (Err stop) says = says
+
+  -- ---- builds
+
+  pub on_cert : (P : Type 0) → (IsSound m → P) → (answer : Building) → Builds m answer → OnCert answer P
+  on_cert P leads (Ok (built.Cert cert)) says = leads says.0
+  on_cert P leads (Ok (built.Fault fault)) says = tt
+  on_cert P leads (Err stop) says = tt
+
+  pub if_cert : (P : TheCertificate → Type 0) → ((cert : TheCertificate) → IsBuilt m cert → P cert) → (answer : Building) → Builds m answer → IfCert answer P
+  if_cert P leads (Ok (built.Cert cert)) says = leads cert says.1
+  if_cert P leads (Ok (built.Fault fault)) says = tt
+  if_cert P leads (Err stop) says = tt
+
+  pub if_fault : (answer : Building) → Builds m answer → IfFault answer (IsTrueOfMap m)
+  if_fault (Ok (built.Cert cert)) says = tt
+  if_fault (Ok (built.Fault fault)) says = says
+  if_fault (Err stop) says = tt
+
+  pub built_exactly : (answer : Building) → Builds m answer → IfOk answer (λ b. HasCert b ↔ IsSound m)
+  built_exactly (Ok (built.Cert cert)) says = ((λ said. says.0), (λ sound. tt))
+  built_exactly (Ok (built.Fault fault)) says = ((λ said. absurd said), (λ sound. absurd (not_sound m fault says sound)))
+  built_exactly (Err stop) says = tt

@@ -1,0 +1,15 @@
+use Rattle.std.proofs.Common.{None, subst}
+use Rattle.std.specs.Prelude.{MatchOption}
+use Rattle.tl_sides.specs.Sides.{SidesAgree}
+use Rattle.tl_cells.specs.Cells.{CellsAgree}
+use Rattle.tl_check.specs.Truth.{IsTrueOfMap}
+use Rattle.tl_check.specs.declared.fault.MapFault.{MapFault}
+use Rattle.tl_build.specs.Keeping.Lists.{lists_in}
+use Rattle.tl_build.proofs.Decided.{none_found, sound_by, sound_where}
+use Rattle.tl_build.proofs.planar.find_fault_beside.Goals as goal
+
+pub returns-then-placed : goal.returns-then-placed
+returns-then-placed c = sound_by c.args.map.now c.args.cert.now.walks (c.requires.proposed.are_walks c.requires.proper c.requires.planar) c.requires.planar (none_found c.args.map.now c.in_ok-fault.field-0 c.in-None.is c.in_ok-fault.ensures) (c.requires.placed c.if-placed.true)
+
+pub returns-else-placed : goal.returns-else-placed
+returns-else-placed c = sound_where c.args.map.now c.args.cert.now.walks (c.requires.proposed.are_walks c.requires.proper c.requires.planar) c.requires.planar (none_found c.args.map.now c.in_ok-fault.field-0 c.in-None.is c.in_ok-fault.ensures) c.find_misplaced_by.result c.find_misplaced_by.ensures

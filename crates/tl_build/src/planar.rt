@@ -1,0 +1,146 @@
+//! The decision of maps whose chains are planar, with no certificate given.
+
+ghost use Rattle.std.specs.Prelude.{◌<◌, ◌^◌, length, IfOk, IsTrue, MatchOption};
+ghost use Rattle.tl_planar.specs.Planar.{IsPlanar};
+ghost use Rattle.tl_sides.specs.Sides.{SidesAgree};
+ghost use Rattle.tl_sides.specs.Walks.{AreWalks};
+ghost use Rattle.tl_inside.specs.Placed.{ArePlaced};
+ghost use Rattle.tl_cells.specs.Cells.{CellsAgree};
+ghost use Rattle.tl_cert.specs.Certificates.{TheCertificate};
+ghost use Rattle.tl_crossings.specs.Headings.{AreProper};
+ghost use Rattle.tl_check.specs.Sound.{IsSound};
+ghost use Rattle.tl_check.specs.Truth.{IsTrueOfMap};
+ghost use Rattle.tl_build.specs.Keeping.Deciding.{Audits, Builds};
+ghost use Rattle.tl_build.specs.Keeping.Lists.{lists_in};
+ghost use Rattle.tl_build.specs.Keeping.Proposed.{IsProposal};
+
+use crate::answer::{Audit, Built};
+use crate::points::{find_misplaced_beside, find_misplaced_by};
+use crate::propose::{propose, propose_rings};
+use crate::sides::find_sides_at_odds;
+use crate::stop::{AuditStop, BuildStop};
+use std::alloc::Global;
+use tl_cells::find_cells_at_odds;
+use tl_cert::Certificate;
+use tl_check::{MapFault, report};
+use tl_county::Map;
+use tl_crossings::look_at_chains;
+use tl_tree::Memory;
+
+/// Decides whether a map is sound whose chains are planar, and whose polygons' points may be known to be placed.
+pub fn audit_planar(alloc: Global, map: &Map, placed: bool) -> Result<Audit, AuditStop>
+    requires planar { IsPlanar map.now.chains }
+    requires placed { IsTrue placed → ArePlaced map.now }
+    ensures { Audits map.now result }
+{
+    look_at_chains(map);
+    match propose_rings(alloc, map) {
+        Ok((_, walks)) => audit_walks(alloc, map, &walks, placed),
+        Err(_) => Err(AuditStop::Memory),
+    }
+}
+
+/// The same by the map's walks.
+fn audit_walks(
+    alloc: Global,
+    map: &Map,
+    walks: &[Vec<u32>],
+    placed: bool,
+) -> Result<Audit, AuditStop>
+    requires planar { IsPlanar map.now.chains }
+    requires proper { AreProper map.now.chains }
+    requires walks { AreWalks map.now.chains (lists_in walks.now) }
+    requires few { length walks.now < 2 ^ 32 }
+    requires placed { IsTrue placed → ArePlaced map.now }
+    ensures { Audits map.now result }
+{
+    match find_fault(alloc, map, walks, placed) {
+        Ok(None) => Ok(Audit::Sound(report(map, walks.len() as u32))),
+        Ok(Some(fault)) => Ok(Audit::Fault(fault)),
+        Err(_) => Err(AuditStop::Memory),
+    }
+}
+
+/// What is wrong with a map whose chains are planar, if anything is, by its walks.
+fn find_fault(
+    alloc: Global,
+    map: &Map,
+    walks: &[Vec<u32>],
+    placed: bool,
+) -> Result<Option<MapFault>, Memory>
+    requires planar { IsPlanar map.now.chains }
+    requires proper { AreProper map.now.chains }
+    requires walks { AreWalks map.now.chains (lists_in walks.now) }
+    requires few { length walks.now < 2 ^ 32 }
+    requires placed { IsTrue placed → ArePlaced map.now }
+    ensures { IfOk result (λ found. MatchOption found (IsSound map.now) (IsTrueOfMap map.now)) }
+{
+    match find_at_odds(alloc, map, walks)? {
+        Some(fault) => Ok(Some(fault)),
+        None => {
+            if placed {
+                Ok(None)
+            } else {
+                find_misplaced_beside(alloc, map, walks)
+            }
+        }
+    }
+}
+
+/// Zero-cell ids or sides that are at odds, if any are.
+fn find_at_odds(alloc: Global, map: &Map, walks: &[Vec<u32>]) -> Result<Option<MapFault>, Memory>
+    requires planar { IsPlanar map.now.chains }
+    requires proper { AreProper map.now.chains }
+    requires walks { AreWalks map.now.chains (lists_in walks.now) }
+    ensures { IfOk result (λ found. MatchOption found (SidesAgree map.now.chains × CellsAgree map.now.chains) (IsTrueOfMap map.now)) }
+{
+    match find_cells_at_odds(alloc, map) {
+        Ok(Some(odds)) => Ok(Some(MapFault::Cell(odds))),
+        Ok(None) => Ok(find_sides_at_odds(map, walks)),
+        Err(_) => Err(Memory),
+    }
+}
+
+/// Makes a certificate of a map whose chains are planar, and whose polygons' points may be known to be placed, or names a
+/// fault of it.
+pub fn build_planar(alloc: Global, map: &Map, placed: bool) -> Result<Built, BuildStop>
+    requires planar { IsPlanar map.now.chains }
+    requires placed { IsTrue placed → ArePlaced map.now }
+    ensures { Builds map.now result }
+{
+    look_at_chains(map);
+    let cert = match propose(alloc, map) {
+        Ok(cert) => cert,
+        Err(_) => return Err(BuildStop::Memory),
+    };
+    match find_fault_beside(alloc, map, &cert, placed) {
+        Ok(None) => Ok(Built::Cert(cert)),
+        Ok(Some(fault)) => Ok(Built::Fault(fault)),
+        Err(_) => Err(BuildStop::Memory),
+    }
+}
+
+/// What is wrong with a map whose chains are planar, if anything is, by the certificate that is proposed for it.
+fn find_fault_beside(
+    alloc: Global,
+    map: &Map,
+    cert: &Certificate,
+    placed: bool,
+) -> Result<Option<MapFault>, Memory>
+    requires planar { IsPlanar map.now.chains }
+    requires proper { AreProper map.now.chains }
+    requires proposed { IsProposal map.now cert.now }
+    requires placed { IsTrue placed → ArePlaced map.now }
+    ensures { IfOk result (λ found. MatchOption found (IsSound map.now) (IsTrueOfMap map.now)) }
+{
+    match find_at_odds(alloc, map, cert.walks())? {
+        Some(fault) => Ok(Some(fault)),
+        None => {
+            if placed {
+                Ok(None)
+            } else {
+                find_misplaced_by(alloc, map, cert.tree(), cert.walks())
+            }
+        }
+    }
+}
