@@ -1,6 +1,6 @@
 //! Doing what a plan asks.
 
-ghost use Rattle.std.specs.Prelude.{◌≡◌, ◌≢◌, ◌⊎◌, [], OnOk, IfErr};
+ghost use Rattle.std.specs.Prelude.{◌≡◌, ◌≢◌, ◌⊎◌, OnOk, IfErr};
 ghost use Rattle.tl_record.specs.Layout.{layout_with};
 ghost use Rattle.tl_text.specs.Printing.{shown_text, listing_text};
 ghost use Rattle.tl_output.specs.Writing.{Writes, TriesToWrite, FailsToWrite, CountsFailure, line_of};
@@ -13,6 +13,7 @@ ghost use Rattle.tl_command.specs.Running.{IsRunStatus, FailsToRead, CountStays,
 ghost use Rattle.tl_map.specs.Faults.{IsFaultOfChains};
 ghost use Rattle.tl_map.specs.Reading.{IfFault};
 ghost use Rattle.tl_command.specs.Deciding.{IsExact};
+ghost use Rattle.tl_command.specs.Places.{StopsTelling};
 ghost use Rattle.tl_command.specs.Making.{Begins, IsBegunBy};
 
 use crate::auditing::audit;
@@ -188,11 +189,7 @@ fn show<R: Source, W: Sink>(
     ensures reads { KeepsReads (R.failure_count records.old) (R.failure_count records.new) result }
 {
     let chains = read_chains_with(alloc, records, options)?;
-    let mut buffer = OutputBuffer::new();
-    match print_all_chains(&chains, &mut buffer, out) {
-        Ok(()) => Ok(()),
-        Err(_) => Err(MapStop::Device),
-    }
+    tell_chains(&chains, out)
 }
 
 fn landmarks<R: Source, W: Sink>(
@@ -210,31 +207,43 @@ fn landmarks<R: Source, W: Sink>(
     ensures reads { KeepsReads (R.failure_count records.old) (R.failure_count records.new) result }
 {
     let map = read_map_with(alloc, hasher, records, options)?;
-    let mut buffer = OutputBuffer::new();
-    match print_all_landmarks(&map, &mut buffer, out) {
+    tell_landmarks(&map, out)
+}
+
+fn tell_chains<W: Sink>(chains: &Chains, out: &mut W) -> Result<(), MapStop>
+    ensures told { OnOk result (Writes W.contents W.failure_count out.old out.new (shown_text chains.now)) }
+    ensures stops { IfErr result (StopsTelling (FailsToWrite W.failure_count out.old out.new) (out.new ≡ out.old)) }
+{
+    match print_all_chains(chains, out) {
         Ok(()) => Ok(()),
         Err(_) => Err(MapStop::Device),
     }
 }
 
-fn print_all_chains<W: Sink>(
-    chains: &Chains,
-    buffer: &mut OutputBuffer,
-    out: &mut W,
-) -> io::Result<()>
-    requires { buffer.old ≡ [] }
+fn tell_landmarks<W: Sink>(map: &Map, out: &mut W) -> Result<(), MapStop>
+    ensures told { OnOk result (Writes W.contents W.failure_count out.old out.new (listing_text map.now)) }
+    ensures stops { IfErr result (StopsTelling (FailsToWrite W.failure_count out.old out.new) (out.new ≡ out.old)) }
+{
+    match print_all_landmarks(map, out) {
+        Ok(()) => Ok(()),
+        Err(_) => Err(MapStop::Device),
+    }
+}
+
+fn print_all_chains<W: Sink>(chains: &Chains, out: &mut W) -> io::Result<()>
     ensures bytes { OnOk result (Appends (W.contents out.old) (W.contents out.new) (shown_text chains.now)) }
     ensures failures { CountsFailure (W.failure_count out.old) (W.failure_count out.new) result }
 {
-    print_chains(chains, buffer, out)?;
+    let mut buffer = OutputBuffer::new();
+    print_chains(chains, &mut buffer, out)?;
     buffer.flush(out)
 }
 
-fn print_all_landmarks<W: Sink>(map: &Map, buffer: &mut OutputBuffer, out: &mut W) -> io::Result<()>
-    requires { buffer.old ≡ [] }
+fn print_all_landmarks<W: Sink>(map: &Map, out: &mut W) -> io::Result<()>
     ensures bytes { OnOk result (Appends (W.contents out.old) (W.contents out.new) (listing_text map.now)) }
     ensures failures { CountsFailure (W.failure_count out.old) (W.failure_count out.new) result }
 {
-    print_landmarks(map, buffer, out)?;
+    let mut buffer = OutputBuffer::new();
+    print_landmarks(map, &mut buffer, out)?;
     buffer.flush(out)
 }
