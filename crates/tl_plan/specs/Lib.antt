@@ -4,3 +4,4 @@ pub mod Points
 pub mod CommandLine
 pub mod Plans
 pub mod Spelling
+pub mod Keeping

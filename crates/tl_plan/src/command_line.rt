@@ -1,14 +1,12 @@
 //! The command line that `clap` is told of.
 
 ghost use Rattle.std.specs.Prelude.{◌≡◌, false, IfOk};
-ghost use Rattle.clap.specs.Simple.{App, app_of, with_rule, with_subcommand};
-ghost use Rattle.clap.specs.Walk.{Rule, rule_of};
-ghost use Rattle.tl_plan.specs.Commands.{IsLocal};
-ghost use Rattle.tl_plan.specs.Commands.{program, with_listings, command_line, command_on_files as app_on_files};
-ghost use Rattle.tl_plan.specs.Commands.{on_a_map as app_on_a_map, audit_app, build_app, check_app};
-ghost use Rattle.tl_plan.specs.Commands.{locate_app, conversion_app, name_argument as name_rule};
+ghost use Rattle.clap.specs.Simple.{app_of, new_app};
+ghost use Rattle.clap.specs.Walk.{rule_of};
+ghost use Rattle.tl_plan.specs.Commands.{IsLocal, program, command_line, name_argument as name_rule};
 ghost use Rattle.tl_plan.specs.Commands.{switch as switch_rule, files_argument as files_rule};
 ghost use Rattle.tl_plan.specs.Commands.{certificate_argument as certificate_rule, tests_argument as tests_rule};
+ghost use Rattle.tl_plan.specs.Keeping.{rule_for, with_each, app_named, with_named};
 
 use crate::help::{
     ABOUT, AUDIT_ABOUT, AUDIT_EXAMPLE, BUILD_ABOUT, BUILD_EXAMPLE, CHECK_ABOUT, CHECK_EXAMPLE,
@@ -20,48 +18,70 @@ use std::alloc::{AllocError, Global};
 
 const VERSION: &str = "0.1.0";
 
+/// A command of the program.
+pub enum Named {
+    Show,
+    Landmarks,
+    Locate,
+    Audit,
+    Build,
+    Check,
+    Convert,
+}
+
+// An argument of a command.
+enum Argument {
+    // --zero-cells
+    ZeroCells,
+    // --released
+    Released,
+    // FILES..
+    Files,
+    // @X,Y
+    Point,
+    // --cert CERT
+    CertOption,
+    // --out CERT
+    OutOption,
+    // --tests N
+    Tests,
+    // CERT
+    Cert,
+    // OUT
+    Out,
+}
+
 /// The program with its commands.
 pub fn command<'a>(alloc: Global) -> Result<Command<'a>, AllocError>
     ensures { IfOk result (λ command. app_of command ≡ command_line) }
 {
-    let program = with_command(listings(alloc), locate(alloc));
-    let program = with_command(program, audit(alloc));
-    let program = with_command(program, build(alloc));
-    let program = with_command(program, check(alloc));
-    with_command(program, conversion(alloc))
+    with_commands(
+        alloc,
+        program(alloc)?,
+        &[
+            Named::Show,
+            Named::Landmarks,
+            Named::Locate,
+            Named::Audit,
+            Named::Build,
+            Named::Check,
+            Named::Convert,
+        ],
+    )
 }
 
-// The program with the commands that take files and nothing else but --released.
-fn listings<'a>(alloc: Global) -> Result<Command<'a>, AllocError>
-    ensures { IfOk result (λ command. app_of command ≡ with_listings) }
-{
-    let show = command_on_files(alloc, "show", SHOW_ABOUT, SHOW_EXAMPLE);
-    let program = with_command(program(alloc), show);
-    let landmarks = command_on_files(alloc, "landmarks", LANDMARKS_ABOUT, LANDMARKS_EXAMPLE);
-    with_command(program, landmarks)
-}
-
-// The program with a command more, where memory sufficed for both.
-fn with_command<'a>(
-    program: Result<Command<'a>, AllocError>,
-    command: Result<Command<'a>, AllocError>,
+// The program with these commands more.
+fn with_commands<'a>(
+    alloc: Global,
+    mut program: Command<'a>,
+    commands: &[Named],
 ) -> Result<Command<'a>, AllocError>
-    ensures { (whole added : App) → IfOk program.entry (λ known. app_of known ≡ whole) → IfOk command.entry (IsLocal added)
-        → IfOk result (λ known. app_of known ≡ with_subcommand whole added.top) }
+    ensures { IfOk result (λ whole. app_of whole ≡ with_named (app_of program.entry) commands.now) }
 {
-    program?.subcommand(command?)
-}
-
-// The command with an argument more, where memory sufficed for it.
-fn with_argument<'a>(
-    command: Result<Command<'a>, AllocError>,
-    argument: Arg<'a>,
-) -> Result<Command<'a>, AllocError>
-    requires { argument.global ≡ false }
-    ensures { (app : App) (rule : Rule) → rule_of argument.entry ≡ rule → IfOk command.entry (IsLocal app)
-        → IfOk result (IsLocal (with_rule app rule)) }
-{
-    command?.arg(argument)
+    for named in commands {
+        program = program.subcommand(subcommand(alloc, named)?)?;
+    }
+    Ok(program)
 }
 
 fn program<'a>(alloc: Global) -> Result<Command<'a>, AllocError>
@@ -76,82 +96,124 @@ fn program<'a>(alloc: Global) -> Result<Command<'a>, AllocError>
         .bin_name("tigertopo")
 }
 
-fn command_on_files<'a>(
+/// The command of the program.
+pub fn subcommand<'a>(alloc: Global, named: &Named) -> Result<Command<'a>, AllocError>
+    ensures { IfOk result (IsLocal (app_named named.now)) }
+{
+    match named {
+        Named::Show => command_with(
+            alloc,
+            "show",
+            SHOW_ABOUT,
+            SHOW_EXAMPLE,
+            &[Argument::Released, Argument::Files],
+        ),
+        Named::Landmarks => command_with(
+            alloc,
+            "landmarks",
+            LANDMARKS_ABOUT,
+            LANDMARKS_EXAMPLE,
+            &[Argument::Released, Argument::Files],
+        ),
+        Named::Locate => command_with(
+            alloc,
+            "locate",
+            LOCATE_ABOUT,
+            LOCATE_EXAMPLE,
+            &[Argument::Released, Argument::Point, Argument::Files],
+        ),
+        Named::Audit => command_with(
+            alloc,
+            "audit",
+            AUDIT_ABOUT,
+            AUDIT_EXAMPLE,
+            &[Argument::ZeroCells, Argument::Released, Argument::Files],
+        ),
+        Named::Build => command_with(
+            alloc,
+            "build",
+            BUILD_ABOUT,
+            BUILD_EXAMPLE,
+            &[
+                Argument::OutOption,
+                Argument::ZeroCells,
+                Argument::Released,
+                Argument::Files,
+            ],
+        ),
+        Named::Check => command_with(
+            alloc,
+            "check",
+            CHECK_ABOUT,
+            CHECK_EXAMPLE,
+            &[
+                Argument::CertOption,
+                Argument::Tests,
+                Argument::ZeroCells,
+                Argument::Released,
+                Argument::Files,
+            ],
+        ),
+        Named::Convert => command_with(
+            alloc,
+            "convert",
+            CONVERT_ABOUT,
+            CONVERT_EXAMPLE,
+            &[Argument::Cert, Argument::Out],
+        ),
+    }
+}
+
+// A command of this name with these arguments.
+fn command_with<'a>(
     alloc: Global,
     name: &'a str,
     about: &'a str,
     example: &'a str,
+    arguments: &[Argument],
 ) -> Result<Command<'a>, AllocError>
-    ensures { IfOk result (IsLocal (app_on_files name.entry.now)) }
+    ensures { IfOk result (IsLocal (with_each (new_app name.entry.now) arguments.now)) }
 {
-    let command = Command::new(alloc, name)
-        .about(about)
-        .after_help(example)
-        .arg(switch(alloc, "released", RELEASED));
-    with_argument(command, files_argument(alloc))
+    let command = Command::new(alloc, name).about(about).after_help(example);
+    with_arguments(alloc, command, arguments)
 }
 
-/// The command that locates a point.
-pub fn locate<'a>(alloc: Global) -> Result<Command<'a>, AllocError>
-    ensures { IfOk result (IsLocal locate_app) }
-{
-    let command = Command::new(alloc, "locate")
-        .about(LOCATE_ABOUT)
-        .after_help(LOCATE_EXAMPLE)
-        .arg(switch(alloc, "released", RELEASED));
-    let point = name_argument(
-        alloc,
-        "point",
-        "@X,Y",
-        "The point, in millionths of a degree",
-    );
-    let command = with_argument(command, point);
-    with_argument(command, files_argument(alloc))
-}
-
-fn audit<'a>(alloc: Global) -> Result<Command<'a>, AllocError>
-    ensures { IfOk result (IsLocal audit_app) }
-{
-    let command = Command::new(alloc, "audit")
-        .about(AUDIT_ABOUT)
-        .after_help(AUDIT_EXAMPLE);
-    on_a_map(alloc, Ok(command))
-}
-
-fn build<'a>(alloc: Global) -> Result<Command<'a>, AllocError>
-    ensures { IfOk result (IsLocal build_app) }
-{
-    let out = certificate_argument(alloc, "out", "The certificate that is made");
-    let command = Command::new(alloc, "build")
-        .about(BUILD_ABOUT)
-        .after_help(BUILD_EXAMPLE)
-        .arg(out);
-    on_a_map(alloc, command)
-}
-
-/// The command that checks.
-pub fn check<'a>(alloc: Global) -> Result<Command<'a>, AllocError>
-    ensures { IfOk result (IsLocal check_app) }
-{
-    let cert = certificate_argument(alloc, "cert", "The certificate");
-    let command = Command::new(alloc, "check")
-        .about(CHECK_ABOUT)
-        .after_help(CHECK_EXAMPLE)
-        .arg(cert);
-    let command = with_argument(command, tests_argument(alloc));
-    on_a_map(alloc, command)
-}
-
-// The command with what stands last for each that decides whether a map is sound: --zero-cells, --released and FILES..
-fn on_a_map<'a>(
+// The command with these arguments more.
+fn with_arguments<'a>(
     alloc: Global,
-    command: Result<Command<'a>, AllocError>,
+    mut command: Command<'a>,
+    arguments: &[Argument],
 ) -> Result<Command<'a>, AllocError>
-    ensures { (app : App) → IfOk command.entry (IsLocal app) → IfOk result (IsLocal (app_on_a_map app)) }
+    requires { IsLocal (app_of command) command }
+    ensures { IfOk result (IsLocal (with_each (app_of command.entry) arguments.now)) }
 {
-    let command = with_argument(command, switch(alloc, "zero-cells", ZERO_CELLS));
-    let command = with_argument(command, switch(alloc, "released", RELEASED));
-    with_argument(command, files_argument(alloc))
+    for argument in arguments {
+        command = command.arg(told(alloc, argument))?;
+    }
+    Ok(command)
+}
+
+// The argument, as clap is told of it.
+fn told<'a>(alloc: Global, argument: &Argument) -> Arg<'a>
+    ensures rule { rule_of result ≡ rule_for argument.now }
+    ensures local { result.global ≡ false }
+{
+    match argument {
+        Argument::ZeroCells => switch(alloc, "zero-cells", ZERO_CELLS),
+        Argument::Released => switch(alloc, "released", RELEASED),
+        Argument::Files => files_argument(alloc),
+        Argument::Point => name_argument(
+            alloc,
+            "point",
+            "@X,Y",
+            "The point, in millionths of a degree",
+        ),
+        Argument::CertOption => certificate_argument(alloc, "cert", "The certificate"),
+        Argument::OutOption => certificate_argument(alloc, "out", "The certificate that is made"),
+        Argument::Tests => tests_argument(alloc),
+        Argument::Cert => name_argument(alloc, "cert", "CERT", "The certificate that is read"),
+        Argument::Out => name_argument(alloc, "out", "OUT", "The certificate that is made"),
+    }
 }
 
 // The name of a certificate, behind an option that has to be given.
@@ -159,11 +221,7 @@ fn certificate_argument<'a>(alloc: Global, id: &'a str, help: &'a str) -> Arg<'a
     ensures rule { rule_of result ≡ certificate_rule id.entry.now }
     ensures local { result.global ≡ false }
 {
-    Arg::new(alloc, id)
-        .long(id)
-        .value_name("CERT")
-        .help(help)
-        .required(true)
+    name_argument(alloc, id, "CERT", help).long(id)
 }
 
 fn tests_argument<'a>(alloc: Global) -> Arg<'a>
@@ -186,18 +244,6 @@ fn switch<'a>(alloc: Global, id: &'a str, help: &'a str) -> Arg<'a>
         .action(ArgAction::SetTrue)
 }
 
-fn conversion<'a>(alloc: Global) -> Result<Command<'a>, AllocError>
-    ensures { IfOk result (IsLocal conversion_app) }
-{
-    let cert = name_argument(alloc, "cert", "CERT", "The certificate that is read");
-    let command = Command::new(alloc, "convert")
-        .about(CONVERT_ABOUT)
-        .after_help(CONVERT_EXAMPLE)
-        .arg(cert);
-    let out = name_argument(alloc, "out", "OUT", "The certificate that is made");
-    with_argument(command, out)
-}
-
 fn name_argument<'a>(alloc: Global, id: &'a str, shown: &'a str, help: &'a str) -> Arg<'a>
     ensures rule { rule_of result ≡ name_rule id.entry.now }
     ensures local { result.global ≡ false }
@@ -212,10 +258,12 @@ fn files_argument<'a>(alloc: Global) -> Arg<'a>
     ensures rule { rule_of result ≡ files_rule }
     ensures local { result.global ≡ false }
 {
-    Arg::new(alloc, "files")
-        .value_name("FILES")
-        .help("Record files, which are read one after the other as one text")
-        .required(true)
-        .num_args(1..)
-        .action(ArgAction::Append)
+    name_argument(
+        alloc,
+        "files",
+        "FILES",
+        "Record files, which are read one after the other as one text",
+    )
+    .num_args(1..)
+    .action(ArgAction::Append)
 }

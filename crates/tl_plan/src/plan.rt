@@ -9,7 +9,7 @@ use tl_record::Options;
 
 /// What the program is asked to do: with record files, which are read one after the other as one text, by the columns
 /// that the options choose, or with a certificate.
-#[derive(Debug, Drop)]
+#[derive(Drop)]
 pub enum Plan {
     /// To print the chains.
     Show {
@@ -74,7 +74,7 @@ impl Plan {
 }
 
 /// Why the words are no plan.
-#[derive(Debug, Drop)]
+#[derive(Drop)]
 pub enum PlanStop {
     /// They don't name a command as it is used. The text says what is wrong.
     Usage(String),

@@ -5,7 +5,7 @@ ghost use Rattle.clap.specs.Values.{kind_of};
 ghost use Rattle.tl_plan.specs.CommandLine.{IsStopOf};
 ghost use Rattle.tl_plan.specs.Plans.{plain_text, HasNoEscape, ShowsNoEscape};
 
-use crate::command_line::{check, locate};
+use crate::command_line::{Named, subcommand};
 use crate::plan::PlanStop;
 use clap::error::ErrorKind;
 use clap::{ArgMatches, Command, Error};
@@ -82,7 +82,12 @@ fn misspelt_tests(alloc: Global, tests: &str) -> Result<String, AllocError>
     ensures { IfOk result HasNoEscape }
 {
     let wrong = format!(in alloc; "invalid value '{tests}' for '--tests <N>': {SPELLING}")?;
-    misspelt(alloc, check(alloc), "tigertopo check", wrong.as_str())
+    misspelt(
+        alloc,
+        subcommand(alloc, &Named::Check),
+        "tigertopo check",
+        wrong.as_str(),
+    )
 }
 
 // What is wrong with a point that isn't spelt as one.
@@ -90,7 +95,12 @@ fn misspelt_point(alloc: Global, point: &str) -> Result<String, AllocError>
     ensures { IfOk result HasNoEscape }
 {
     let wrong = format!(in alloc; "invalid value '{point}' for '<@X,Y>': {POINT_SPELLING}")?;
-    misspelt(alloc, locate(alloc), "tigertopo locate", wrong.as_str())
+    misspelt(
+        alloc,
+        subcommand(alloc, &Named::Locate),
+        "tigertopo locate",
+        wrong.as_str(),
+    )
 }
 
 // What the command of this name says of a word that isn't spelt as it wants.
