@@ -69,7 +69,7 @@ two_front P (x ∷ (y ∷ xs)) ys two = (two.0, two_front P (y ∷ xs) ys two.1)
 times_one : (z : ℤ) → pos 1 *ℤ z ≡ z
 times_one z = same (num (pos 1) ⊗ num z) (num z) (omega arith)
 
-turn_same : (K : ℤ) (q : Point) (u w : Segment) → HaveSameEnds u w → turn_to K u q ≡ turn_to K w q
+pub turn_same : (K : ℤ) (q : Point) (u w : Segment) → HaveSameEnds u w → turn_to K u q ≡ turn_to K w q
 turn_same K q u w e = rw (e.first, e.last) refl
 
 module _ (K : ℤ) (chains : List MapChain) (wide : IsWide K chains) (q : Point) (clear : IsNoVertex K chains q) where

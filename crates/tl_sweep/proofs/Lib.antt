@@ -18,3 +18,5 @@ pub mod Found
 pub mod Gathering
 pub mod Slab
 pub mod Stacked
+pub mod Gaps
+pub mod Spotting

@@ -8,7 +8,7 @@ use Rattle.tl_sweep.specs.Neighbours.{EachTwo}
 use Rattle.tl_sweep.specs.Keeping.Lined.{last_of}
 use Rattle.tl_sweep.proofs.Between.{two_front, two_back}
 
-last_more : (x y : ℕ) (xs : List ℕ) → last_of (x ∷ (y ∷ xs)) ≡ last_of (y ∷ xs)
+pub last_more : (x y : ℕ) (xs : List ℕ) → last_of (x ∷ (y ∷ xs)) ≡ last_of (y ∷ xs)
 last_more x y xs = ap (slice_get (x ∷ (y ∷ xs))) (let one : length (x ∷ (y ∷ xs)) - 1 ≡ suc (length (y ∷ xs) - 1) = omega arith in one)
 
 pub pushed : (P : ℕ → ℕ → Type 0) (xs : List ℕ) (s : ℕ) → EachTwo P xs → ((t : ℕ) → last_of xs ≡ Some t → P t s) → EachTwo P (xs ++ s ∷ [])

@@ -88,19 +88,19 @@ each_in P list all k d lt = all (get_or list k d) (in_list list k d lt)
 module _ (chains : List MapChain) (events : List Event) (are : AreEvents chains events) (from : ℕ) (list : List ℕ)
     (counted : (s : ℕ) → times s list + count_by (ends_at s) (take from events) ≡ count_by (begins_at s) (take from events)) where
   -- a segment by an event where it begins, and one where it ends
-  begun_by : (s m : ℕ) → m < length events → begins_at s (get_or events m no_event) ≡ true → (u : Segment) × IsNumbered chains s u × ((get_or events m no_event).height ≡ height widest (low_end widest u) +ℤ pos 2147483647)
+  pub begun_by : (s m : ℕ) → m < length events → begins_at s (get_or events m no_event) ≡ true → (u : Segment) × IsNumbered chains s u × ((get_or events m no_event).height ≡ height widest (low_end widest u) +ℤ pos 2147483647)
   begun_by s m lt is =
       let both = both_true (get_or events m no_event).begins ((get_or events m no_event).segment == s) is in
       let tell : IsEvent chains (get_or events m no_event) = are.each m no_event lt in
       (tell.segment, subst (λ n. IsNumbered chains n tell.segment) (is_number (get_or events m no_event).segment s both.1) tell.is, tell.height_is ∙ ap (λ p. height widest p +ℤ pos 2147483647) (tell.low both.0))
 
-  ended_by : (s m : ℕ) → m < length events → ends_at s (get_or events m no_event) ≡ true → (u : Segment) × IsNumbered chains s u × ((get_or events m no_event).height ≡ height widest (high_end widest u) +ℤ pos 2147483647)
+  pub ended_by : (s m : ℕ) → m < length events → ends_at s (get_or events m no_event) ≡ true → (u : Segment) × IsNumbered chains s u × ((get_or events m no_event).height ≡ height widest (high_end widest u) +ℤ pos 2147483647)
   ended_by s m lt is =
       let both = both_true (not (get_or events m no_event).begins) ((get_or events m no_event).segment == s) is in
       let tell : IsEvent chains (get_or events m no_event) = are.each m no_event lt in
       (tell.segment, subst (λ n. IsNumbered chains n tell.segment) (is_number (get_or events m no_event).segment s both.1) tell.is, tell.height_is ∙ ap (λ p. height widest p +ℤ pos 2147483647) (tell.high (not_true (get_or events m no_event).begins both.0)))
 
-  known : (s : ℕ) (u : Segment) → IsNumbered chains s u → s < segments_before chains (length chains)
+  pub known : (s : ℕ) (u : Segment) → IsNumbered chains s u → s < segments_before chains (length chains)
   known s u is = below_total chains s is.c is.k is.number
 
   module _ (n : ℤ) (low : (k : ℕ) → k < from → k < length events → (get_or events k no_event).height ≤ℤ (n +ℤ pos 2147483647)) (above : AreAbove n from events) where

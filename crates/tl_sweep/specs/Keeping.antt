@@ -3,3 +3,5 @@ pub mod Lined
 pub mod Listed
 pub mod Vertices
 pub mod Swept
+pub mod Facing
+pub mod Spotted

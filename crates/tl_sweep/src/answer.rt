@@ -1,9 +1,16 @@
 //! What a sweep says of a map.
 ghost use Rattle.std.specs.Prelude.{◌≡◌, IfOk};
 ghost use Rattle.tl_planar.specs.Planar.{IsPlanar};
+ghost use Rattle.tl_inside.specs.Placed.{ArePlaced};
+ghost use Rattle.tl_sweep.specs.Heights.{widest};
+ghost use Rattle.tl_sweep.specs.Neighbours.{IsWide};
+ghost use Rattle.tl_sweep.specs.Slabs.{AreVerticesTested};
+ghost use Rattle.tl_sweep.specs.Keeping.Listed.{AreEvents, AreRising};
+ghost use Rattle.tl_sweep.specs.Keeping.Spotted.{AreInRange};
 
-use crate::events::{list_events, list_segments, sort_events};
+use crate::events::{Event, list_events, list_segments, sort_events};
 use crate::meets::are_vertices_tested;
+use crate::spots::Spots;
 use crate::sweeping::sweep_list;
 use std::alloc::{AllocError, Global};
 use tl_county::Map;
@@ -12,7 +19,9 @@ use tl_crossings::look_at_chains;
 /// What a sweep answers.
 #[derive(Clone, Copy, Debug, PartialEq, Eq)]
 pub enum Swept {
-    /// The map's chains are planar.
+    /// The map's chains are planar, and the point of each polygon lies where it has to.
+    Placed,
+    /// The map's chains are planar. Nothing is said of the points of its polygons.
     Planar,
     /// A test failed, which says nothing of the map.
     Unknown,
@@ -20,7 +29,8 @@ pub enum Swept {
 
 /// Sweeps over the chains of a map from south to north. The error is that memory was refused.
 pub fn sweep(alloc: Global, map: &Map) -> Result<Swept, AllocError>
-    ensures { IfOk result (λ answer. answer ≡ Swept.Planar → IsPlanar map.now.chains) }
+    ensures placed { IfOk result (λ answer. answer ≡ Swept.Placed → IsPlanar map.now.chains × ArePlaced map.now) }
+    ensures planar { IfOk result (λ answer. answer ≡ Swept.Planar → IsPlanar map.now.chains) }
 {
     look_at_chains(map);
     let mut events = list_events(alloc, map)?;
@@ -28,9 +38,27 @@ pub fn sweep(alloc: Global, map: &Map) -> Result<Swept, AllocError>
     if !are_vertices_tested(map, &events) {
         return Ok(Swept::Unknown);
     }
+    sweep_events(alloc, map, &events)
+}
+
+/// The same by the ends of all segments, which are sorted and tested.
+fn sweep_events(alloc: Global, map: &Map, events: &[Event]) -> Result<Swept, AllocError>
+    requires events { AreEvents map.now.chains events.now }
+    requires rising { AreRising events.now }
+    requires wide { IsWide widest map.now.chains }
+    requires ranges { AreInRange map.now.chains }
+    requires vertices { AreVerticesTested map.now.chains }
+    ensures placed { IfOk result (λ answer. answer ≡ Swept.Placed → IsPlanar map.now.chains × ArePlaced map.now) }
+    ensures planar { IfOk result (λ answer. answer ≡ Swept.Planar → IsPlanar map.now.chains) }
+{
     let segments = list_segments(alloc, map)?;
-    if !sweep_list(alloc, map, &segments, &events)? {
+    let mut spots = Spots::new(alloc, map)?;
+    if !sweep_list(alloc, map, &segments, events, &mut spots)? {
         return Ok(Swept::Unknown);
     }
-    Ok(Swept::Planar)
+    if spots.are_placed(map) {
+        Ok(Swept::Placed)
+    } else {
+        Ok(Swept::Planar)
+    }
 }

@@ -3,9 +3,10 @@ ghost use Rattle.std.specs.Prelude.{◌≡◌, ◌<◌, ℕ, true, false, not, I
 ghost use Rattle.std.specs.List.Sorted.{IsPermutation};
 ghost use Rattle.tl_geom.specs.declared.segment.Segment.{Segment};
 ghost use Rattle.tl_county.specs.Segments.{segments_before};
-ghost use Rattle.tl_sweep.specs.Heights.{widest, AreNear};
+ghost use Rattle.tl_sweep.specs.Heights.{widest};
 ghost use Rattle.tl_sweep.specs.Neighbours.{IsNumbered, IsWide};
 ghost use Rattle.tl_sweep.specs.Keeping.Listed.{IsEvent, AreEvents, AreSegments};
+ghost use Rattle.tl_sweep.specs.Keeping.Spotted.{IsInRange, AreInRange};
 
 use crate::heights::{height, is_lower};
 use std::alloc::{AllocError, Global};
@@ -38,7 +39,7 @@ pub fn list_segments(alloc: Global, map: &Map) -> Result<Vec<Segment>, AllocErro
 /// The two ends of a segment, in the order of its chain.
 fn events_of(map: &Map, s: u32) -> (Event, Event)
     requires { s < segments_before map.now.chains (length map.now.chains) }
-    ensures near { (u : Segment) → IsNumbered map.now.chains s u → AreNear widest u.a u.b }
+    ensures ranges { (u : Segment) → IsNumbered map.now.chains s u → IsInRange u.a × IsInRange u.b }
     ensures one { IsEvent map.now.chains result.0 }
     ensures other { IsEvent map.now.chains result.1 }
     ensures of_one { result.0.segment ≡ s }
@@ -68,6 +69,7 @@ fn events_of(map: &Map, s: u32) -> (Event, Event)
 pub fn list_events(alloc: Global, map: &Map) -> Result<Vec<Event>, AllocError>
     ensures events { IfOk result (λ events. AreEvents map.now.chains events.items) }
     ensures wide { IfOk result (λ events. IsWide widest map.now.chains) }
+    ensures ranges { IfOk result (λ events. AreInRange map.now.chains) }
 {
     let count = map.segments();
     let mut events = Vec::with_capacity(alloc, count as usize * 2)?;

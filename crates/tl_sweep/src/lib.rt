@@ -9,12 +9,16 @@
 mod answer;
 mod blocks;
 mod events;
+mod facing;
+mod finding;
 mod heights;
 pub mod laws;
 mod line;
 mod meets;
 mod neighbours;
 mod passing;
+mod placing;
+mod spots;
 mod sweeping;
 
 pub use answer::{Swept, sweep};

@@ -3,9 +3,11 @@ ghost use Rattle.std.specs.Prelude.{◌≡◌, ◌+◌, ◌++◌, ◌∷◌, ℕ
 ghost use Rattle.tl_tree.specs.Hits.{times};
 ghost use Rattle.tl_sweep.specs.Heights.{widest};
 ghost use Rattle.tl_sweep.specs.Neighbours.{AreTested, EachTwo};
+ghost use Rattle.tl_sweep.specs.Keeping.Facing.{IsCounted};
 ghost use Rattle.tl_sweep.specs.Keeping.Lined.{list_of};
 ghost use Rattle.tl_sweep.specs.Keeping.Listed.{AreSegments};
 
+use crate::facing::recount;
 use crate::line::Line;
 use crate::neighbours::are_tested;
 use std::alloc::AllocError;
@@ -79,7 +81,7 @@ fn closes(map: &Map, segments: &[Segment], line: &Line) -> bool
 }
 
 /// Goes to a place in the open block, takes these segments off the list there and puts those in, if the former stand there and all that are
-/// neighbours for the first time may be.
+/// neighbours for the first time may be. The places where facing sides differ are counted again.
 pub fn pass(
     map: &Map,
     segments: &[Segment],
@@ -87,17 +89,21 @@ pub fn pass(
     place: usize,
     outs: &[u32],
     ins: &[u32],
+    gaps: &mut Option<u64>,
 ) -> Result<bool, AllocError>
     requires { AreSegments map.now.chains segments.now }
     ensures moved { IfOk result (λ done. IsTrue done → (s : ℕ) →
         times s (list_of line.new) + times s outs.now ≡ times s (list_of line.old) + times s ins.now) }
     ensures tested { IfOk result (λ done. IsTrue done → EachTwo (AreTested widest map.now.chains) (list_of line.old) →
         EachTwo (AreTested widest map.now.chains) (list_of line.new)) }
+    ensures counted { IfOk result (λ done. IsTrue done → IsCounted map.now.chains gaps.old (list_of line.old) →
+        IsCounted map.now.chains gaps.new (list_of line.new)) }
 {
     line.seek(place);
     if !leave(line, outs)? {
         return Ok(false);
     }
+    *gaps = recount(map, segments, line, outs, ins, *gaps);
     if !enter(map, segments, line, ins)? {
         return Ok(false);
     }

@@ -4,14 +4,18 @@ ghost use Rattle.tl_tree.specs.Hits.{times};
 ghost use Rattle.tl_sweep.specs.Heights.{widest};
 ghost use Rattle.tl_sweep.specs.Neighbours.{AreTested, EachTwo, IsWide};
 ghost use Rattle.tl_sweep.specs.Slabs.{AreSlabsTested};
+ghost use Rattle.tl_sweep.specs.Keeping.Facing.{IsCounted};
 ghost use Rattle.tl_sweep.specs.Keeping.Lined.{list_of};
 ghost use Rattle.tl_sweep.specs.Keeping.Listed.{begins_at, ends_at, AreEvents, AreRising, AreSegments};
+ghost use Rattle.tl_sweep.specs.Keeping.Spotted.{AreInRange, AreMarks};
 ghost use Rattle.tl_sweep.specs.declared.events.Event.{Event};
 
 use crate::events::Event;
+use crate::finding::{find, open};
 use crate::heights::ends;
 use crate::line::Line;
 use crate::passing::pass;
+use crate::spots::Spots;
 use std::alloc::{AllocError, Global};
 use std::cmp::Ordering;
 use tl_county::Map;
@@ -72,105 +76,6 @@ fn order(segments: &[Segment], numbers: &mut Vec<u32>)
     }
 }
 
-/// Whether a point lies strictly east of a segment.
-fn is_east(segments: &[Segment], s: Option<u32>, p: Point) -> bool {
-    let Some(s) = s else {
-        return false;
-    };
-    match segments.get(s as usize) {
-        Some(segment) => {
-            let (a, b) = ends(*segment);
-            turn(a, b, p).is_lt()
-        }
-        None => false,
-    }
-}
-
-/// How many of the blocks west of the open one begin west of a point.
-fn begin_west(segments: &[Segment], line: &Line, blocks: usize, p: Point) -> usize {
-    let mut low = 0;
-    let mut high = blocks;
-    while low < high {
-        let middle = low + (high - low) / 2;
-        if is_east(segments, line.first_west(middle), p) {
-            low = middle + 1;
-        } else {
-            high = middle;
-        }
-    }
-    low
-}
-
-/// How many of the blocks east of the open one don't begin west of a point.
-fn begin_east(segments: &[Segment], line: &Line, blocks: usize, p: Point) -> usize {
-    let mut low = 0;
-    let mut high = blocks;
-    while low < high {
-        let middle = low + (high - low) / 2;
-        if is_east(segments, line.first_east(middle), p) {
-            high = middle;
-        } else {
-            low = middle + 1;
-        }
-    }
-    low
-}
-
-/// Goes so many blocks to the west.
-fn go_west(line: &mut Line, blocks: usize) -> Result<(), AllocError>
-    ensures { IfOk result (λ done. list_of line.new ≡ list_of line.old) }
-{
-    for _block in 0..blocks {
-        line.step_west()?;
-    }
-    Ok(())
-}
-
-/// Goes so many blocks to the east.
-fn go_east(line: &mut Line, blocks: usize) -> Result<(), AllocError>
-    ensures { IfOk result (λ done. list_of line.new ≡ list_of line.old) }
-{
-    for _block in 0..blocks {
-        line.step_east()?;
-    }
-    Ok(())
-}
-
-/// Opens the last block that begins west of a point, or the first one.
-fn open(segments: &[Segment], line: &mut Line, p: Point) -> Result<(), AllocError>
-    ensures { IfOk result (λ done. list_of line.new ≡ list_of line.old) }
-{
-    let (west, east) = line.blocks();
-    // Where all that was in the open block has left it, what comes next is in the first block to the east.
-    let first = if line.len() > 0 {
-        line.at(0)
-    } else {
-        line.next()
-    };
-    if is_east(segments, first, p) {
-        let behind = begin_east(segments, line, east, p);
-        go_east(line, east.saturating_sub(behind))
-    } else {
-        let before = begin_west(segments, line, west, p);
-        go_west(line, west.saturating_sub(before.saturating_sub(1)))
-    }
-}
-
-/// The place in the open block of the first segment that a point isn't east of.
-fn find(segments: &[Segment], line: &Line, p: Point) -> usize {
-    let mut low = 0;
-    let mut high = line.len();
-    while low < high {
-        let middle = low + (high - low) / 2;
-        if is_east(segments, line.at(middle), p) {
-            low = middle + 1;
-        } else {
-            high = middle;
-        }
-    }
-    low
-}
-
 /// The point of the first of these events.
 fn first_point(segments: &[Segment], events: &[Event]) -> Option<Point> {
     let event = events.first()?;
@@ -190,12 +95,15 @@ fn step(
     events: &[Event],
     outs: &mut Vec<u32>,
     ins: &mut Vec<u32>,
+    gaps: &mut Option<u64>,
 ) -> Result<bool, AllocError>
     requires { AreSegments map.now.chains segments.now }
     ensures moved { IfOk result (λ done. IsTrue done → (s : ℕ) →
         times s (list_of line.new) + count_by (ends_at s) events.now ≡ times s (list_of line.old) + count_by (begins_at s) events.now) }
     ensures tested { IfOk result (λ done. IsTrue done → EachTwo (AreTested widest map.now.chains) (list_of line.old) →
         EachTwo (AreTested widest map.now.chains) (list_of line.new)) }
+    ensures counted { IfOk result (λ done. IsTrue done → IsCounted map.now.chains gaps.old (list_of line.old) →
+        IsCounted map.now.chains gaps.new (list_of line.new)) }
 {
     gather(events, outs, ins)?;
     order(segments, outs);
@@ -205,27 +113,34 @@ fn step(
     };
     open(segments, line, p)?;
     let place = find(segments, line, p);
-    pass(map, segments, line, place, outs, ins)
+    pass(map, segments, line, place, outs, ins, gaps)
 }
 
-/// Sweeps over all events from the lowest to the highest. Where a test fails it ends, and answers no.
+/// Sweeps over all events from the lowest to the highest, and looks at the points of polygons on the way. Where a test fails
+/// it ends, and answers no.
 pub fn sweep_list(
     alloc: Global,
     map: &Map,
     segments: &[Segment],
     events: &[Event],
+    spots: &mut Spots,
 ) -> Result<bool, AllocError>
     requires segments { AreSegments map.now.chains segments.now }
     requires events { AreEvents map.now.chains events.now }
     requires rising { AreRising events.now }
     requires wide { IsWide widest map.now.chains }
-    ensures { IfOk result (λ done. IsTrue done → AreSlabsTested widest map.now.chains) }
+    requires ranges { AreInRange map.now.chains }
+    requires marks { AreMarks map.now spots.old.marks.items }
+    ensures slabs { IfOk result (λ done. IsTrue done → AreSlabsTested widest map.now.chains) }
+    ensures marks { IfOk result (λ done. IsTrue done → AreMarks map.now spots.new.marks.items) }
 {
     let mut line = Line::new(alloc);
     let mut outs = Vec::new(alloc);
     let mut ins = Vec::new(alloc);
+    let mut gaps = Some(0u64);
     let mut from = 0;
     while from < events.len() {
+        spots.look(map, segments, &mut line, events, from, gaps)?;
         let to = run_end(events, from);
         if !step(
             map,
@@ -234,6 +149,7 @@ pub fn sweep_list(
             &events[from..to],
             &mut outs,
             &mut ins,
+            &mut gaps,
         )? {
             return Ok(false);
         }

@@ -1,21 +1,21 @@
-use Rattle.std.proofs.Common.{◌≡◌, pos, ◌-ℤ◌, ◌+ℤ◌, ◌<ℤ◌, to_z, of_z, w64, subst, ap, ap₂, ◌∙◌, arith}
+use Rattle.std.proofs.Common.{◌≡◌, pos, ◌+ℤ◌, to_z, of_z, w64, subst, ap, ap₂, ◌∙◌, arith}
 use Rattle.std.specs.Prelude.{int_lt}
 use Rattle.std.proofs.lemmas.Int.{ints}
 use Rattle.tl_inside.proofs.Hitting.{HaveSameEnds}
-use Rattle.tl_sweep.specs.Heights.{height, widest, AreNear}
+use Rattle.tl_sweep.specs.Heights.{height, widest}
 use Rattle.tl_sweep.specs.Neighbours.{IsNumbered}
+use Rattle.tl_sweep.specs.Keeping.Spotted.{IsInRange}
 use Rattle.tl_sweep.proofs.Numbered.{one_segment}
 use Rattle.tl_sweep.proofs.Listing.{event_one, event_other}
 use Rattle.tl_sweep.proofs.events.events_of.Goals as goal
 
-pub returns-clause-near : goal.returns-clause-near
-returns-clause-near c = λ u is.
+pub returns-clause-ranges : goal.returns-clause-ranges
+returns-clause-ranges c = λ u is.
     let own : IsNumbered c.args.map.now.chains c.args.s c.segment-segment.result = record { c = c.segment-segment.ensures.0; k = c.segment-segment.ensures.1; number = c.segment-segment.ensures.2; joins = c.segment-segment.ensures.3 } in
     let same : HaveSameEnds c.segment-segment.result u = one_segment c.args.map.now.chains c.args.s c.segment-segment.result u own is in
-    let west : (c.a-a.result.x -ℤ c.b-b.result.x) <ℤ pos 4294967296 = omega (arith, ints) in
-    let east : (c.b-b.result.x -ℤ c.a-a.result.x) <ℤ pos 4294967296 = omega (arith, ints) in
-    let near : AreNear widest c.a-a.result c.b-b.result = record { west = west; east = east } in
-    subst (λ p. AreNear widest p u.b) (c.a-a.ensures ∙ same.first) (subst (λ p. AreNear widest c.a-a.result p) (c.b-b.ensures ∙ same.last) near)
+    let a : IsInRange c.a-a.result = record { west = omega (arith, ints); east = omega (arith, ints) } in
+    let b : IsInRange c.b-b.result = record { west = omega (arith, ints); east = omega (arith, ints) } in
+    (subst IsInRange (c.a-a.ensures ∙ same.first) a, subst IsInRange (c.b-b.ensures ∙ same.last) b)
 
 pub returns-clause-one : goal.returns-clause-one
 returns-clause-one c =

@@ -2,15 +2,15 @@ use Rattle.std.proofs.Common.{ℕ, ◌<◌, List}
 use Rattle.tl_geom.specs.declared.segment.Segment.{Segment}
 use Rattle.tl_county.specs.TheMap.{MapChain}
 use Rattle.tl_sweep.specs.declared.events.Event.{Event}
-use Rattle.tl_sweep.specs.Heights.{widest, AreNear}
 use Rattle.tl_sweep.specs.Neighbours.{IsNumbered}
 use Rattle.tl_sweep.specs.Keeping.Listed.{AreEventsOf}
+use Rattle.tl_sweep.specs.Keeping.Spotted.{IsInRange}
 use Rattle.tl_sweep.proofs.events.list_events.Given as goal
 
 -- the events so far
 pub record AreSoFar (chains : List MapChain) (n : ℕ) (events : List Event) : Type 0 where
   pub are : AreEventsOf chains n events
-  pub near : (s : ℕ) (u : Segment) → s < n → IsNumbered chains s u → AreNear widest u.a u.b
+  pub ranges : (s : ℕ) (u : Segment) → s < n → IsNumbered chains s u → IsInRange u.a × IsInRange u.b
 
 abbrev pub invariant-loop-s : goal.invariant-loop-s
 invariant-loop-s l = AreSoFar l.map.chains l.s l.events.items

@@ -1,0 +1,135 @@
+//! How often facing sides differ along the list of active segments.
+ghost use Rattle.std.specs.Prelude.{◌≡◌, ◌+◌, ◌<◌, ℕ, Option, Some, List, IsTrue, length};
+ghost use Rattle.tl_county.specs.declared.sides.Side.{Side};
+ghost use Rattle.tl_county.specs.declared.sides.Side.TheVariants.{Outside};
+ghost use Rattle.tl_county.specs.Segments.{segments_before};
+ghost use Rattle.tl_inside.specs.declared.flanks.Flanks.{Flanks};
+ghost use Rattle.tl_inside.specs.Inside.{flanks_at};
+ghost use Rattle.tl_sweep.specs.Beside.{seen_side};
+ghost use Rattle.tl_sweep.specs.Keeping.Facing.{gap as gap_of, gaps_between, last_far};
+ghost use Rattle.tl_sweep.specs.Keeping.Listed.{AreSegments};
+
+use crate::line::Line;
+use tl_county::{Map, Side};
+use tl_geom::Segment;
+use tl_inside::Flanks;
+
+/// The sides of a segment: the near side, which a point west of it sees, and the far side.
+fn flanks_of(map: &Map, segments: &[Segment], s: u32) -> Flanks
+    requires segments { AreSegments map.now.chains segments.now }
+    requires known { s < segments_before map.now.chains (length map.now.chains) }
+    requires listed { s < length segments.now }
+    ensures { result ≡ flanks_at map.now.chains s }
+{
+    let segment = segments[s as usize];
+    let chain = map.chain(map.segment_chain(s));
+    if segment.a().y < segment.b().y {
+        Flanks {
+            near: chain.left,
+            far: chain.right,
+        }
+    } else {
+        Flanks {
+            near: chain.right,
+            far: chain.left,
+        }
+    }
+}
+
+/// The sides of the segment with this number, if there is one.
+fn find_flanks(map: &Map, segments: &[Segment], s: u32) -> Option<Flanks>
+    requires { AreSegments map.now.chains segments.now }
+    ensures { (flanks : Flanks) → result ≡ Some flanks → flanks ≡ flanks_at map.now.chains s }
+{
+    if s >= map.segments() || s as usize >= segments.len() {
+        return None;
+    }
+    Some(flanks_of(map, segments, s))
+}
+
+/// 1 where sides that face each other differ, else 0.
+fn gap(west: Side, east: Side) -> u64
+    ensures { result ≡ gap_of west east }
+{
+    if west == east { 0 } else { 1 }
+}
+
+/// What lies east of the segment before the place, or of none.
+fn far_side(map: &Map, segments: &[Segment], line: &Line) -> Option<Side>
+    requires { AreSegments map.now.chains segments.now }
+    ensures { (side : Side) → result ≡ Some side → side ≡ last_far map.now.chains Outside line.now.front }
+{
+    match line.previous() {
+        Some(s) => Some(find_flanks(map, segments, s)?.far),
+        None => Some(Side::Outside),
+    }
+}
+
+/// What lies west of the segment behind the place, or of none.
+pub fn near_side(map: &Map, segments: &[Segment], line: &Line) -> Option<Side>
+    requires { AreSegments map.now.chains segments.now }
+    ensures { (side : Side) → result ≡ Some side → side ≡ seen_side map.now.chains line.now.back }
+{
+    match line.next() {
+        Some(s) => Some(find_flanks(map, segments, s)?.near),
+        None => Some(Side::Outside),
+    }
+}
+
+/// How often facing sides differ along these segments between one side and another.
+fn count_gaps(map: &Map, segments: &[Segment], west: Side, list: &[u32], east: Side) -> Option<u64>
+    requires { AreSegments map.now.chains segments.now }
+    ensures { (n : ℕ) → result ≡ Some n → n ≡ gaps_between map.now.chains west list.now east }
+{
+    let mut before = west;
+    let mut count = 0u64;
+    for s in list {
+        let flanks = find_flanks(map, segments, *s)?;
+        count = count.checked_add(gap(before, flanks.near))?;
+        before = flanks.far;
+    }
+    count.checked_add(gap(before, east))
+}
+
+/// Whether these segments are one each, with the same sides.
+fn are_alike(map: &Map, segments: &[Segment], outs: &[u32], ins: &[u32]) -> bool
+    requires { AreSegments map.now.chains segments.now }
+    ensures { IsTrue result → (west east : Side) →
+        gaps_between map.now.chains west outs.now east ≡ gaps_between map.now.chains west ins.now east }
+{
+    if outs.len() != 1 || ins.len() != 1 {
+        return false;
+    }
+    match (
+        find_flanks(map, segments, outs[0]),
+        find_flanks(map, segments, ins[0]),
+    ) {
+        (Some(one), Some(other)) => one == other,
+        (None, _) => false,
+        (Some(_), None) => false,
+    }
+}
+
+/// How often facing sides differ where they did so often, and those segments stand at the place in the stead of these.
+pub fn recount(
+    map: &Map,
+    segments: &[Segment],
+    line: &Line,
+    outs: &[u32],
+    ins: &[u32],
+    count: Option<u64>,
+) -> Option<u64>
+    requires { AreSegments map.now.chains segments.now }
+    ensures { (n : ℕ) → result ≡ Some n → (old : ℕ) × (count ≡ Some old) ×
+        (n + gaps_between map.now.chains (last_far map.now.chains Outside line.now.front) outs.now (seen_side map.now.chains line.now.back)
+        ≡ old + gaps_between map.now.chains (last_far map.now.chains Outside line.now.front) ins.now (seen_side map.now.chains line.now.back)) }
+{
+    if are_alike(map, segments, outs, ins) {
+        return count;
+    }
+    let west = far_side(map, segments, line)?;
+    let east = near_side(map, segments, line)?;
+    let gone = count_gaps(map, segments, west, outs, east)?;
+    let come = count_gaps(map, segments, west, ins, east)?;
+    count?.checked_sub(gone)?.checked_add(come)
+}

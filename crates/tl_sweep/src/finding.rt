@@ -1,0 +1,107 @@
+//! Places in the list of active segments.
+ghost use Rattle.std.specs.Prelude.{◌≡◌, IfOk};
+ghost use Rattle.tl_sweep.specs.Keeping.Lined.{list_of};
+
+use crate::heights::ends;
+use crate::line::Line;
+use std::alloc::AllocError;
+use tl_geom::{Point, Segment, turn};
+
+/// Whether a point lies strictly east of a segment.
+fn is_east(segments: &[Segment], s: Option<u32>, p: Point) -> bool {
+    let Some(s) = s else {
+        return false;
+    };
+    match segments.get(s as usize) {
+        Some(segment) => {
+            let (a, b) = ends(*segment);
+            turn(a, b, p).is_lt()
+        }
+        None => false,
+    }
+}
+
+/// How many of the blocks west of the open one begin west of a point.
+fn begin_west(segments: &[Segment], line: &Line, blocks: usize, p: Point) -> usize {
+    let mut low = 0;
+    let mut high = blocks;
+    while low < high {
+        let middle = low + (high - low) / 2;
+        if is_east(segments, line.first_west(middle), p) {
+            low = middle + 1;
+        } else {
+            high = middle;
+        }
+    }
+    low
+}
+
+/// How many of the blocks east of the open one don't begin west of a point.
+fn begin_east(segments: &[Segment], line: &Line, blocks: usize, p: Point) -> usize {
+    let mut low = 0;
+    let mut high = blocks;
+    while low < high {
+        let middle = low + (high - low) / 2;
+        if is_east(segments, line.first_east(middle), p) {
+            high = middle;
+        } else {
+            low = middle + 1;
+        }
+    }
+    low
+}
+
+/// Goes so many blocks to the west.
+fn go_west(line: &mut Line, blocks: usize) -> Result<(), AllocError>
+    ensures { IfOk result (λ done. list_of line.new ≡ list_of line.old) }
+{
+    for _block in 0..blocks {
+        line.step_west()?;
+    }
+    Ok(())
+}
+
+/// Goes so many blocks to the east.
+fn go_east(line: &mut Line, blocks: usize) -> Result<(), AllocError>
+    ensures { IfOk result (λ done. list_of line.new ≡ list_of line.old) }
+{
+    for _block in 0..blocks {
+        line.step_east()?;
+    }
+    Ok(())
+}
+
+/// Opens the last block that begins west of a point, or the first one.
+pub fn open(segments: &[Segment], line: &mut Line, p: Point) -> Result<(), AllocError>
+    ensures { IfOk result (λ done. list_of line.new ≡ list_of line.old) }
+{
+    let (west, east) = line.blocks();
+    // Where all that was in the open block has left it, what comes next is in the first block to the east.
+    let first = if line.len() > 0 {
+        line.at(0)
+    } else {
+        line.next()
+    };
+    if is_east(segments, first, p) {
+        let behind = begin_east(segments, line, east, p);
+        go_east(line, east.saturating_sub(behind))
+    } else {
+        let before = begin_west(segments, line, west, p);
+        go_west(line, west.saturating_sub(before.saturating_sub(1)))
+    }
+}
+
+/// The place in the open block of the first segment that a point isn't east of.
+pub fn find(segments: &[Segment], line: &Line, p: Point) -> usize {
+    let mut low = 0;
+    let mut high = line.len();
+    while low < high {
+        let middle = low + (high - low) / 2;
+        if is_east(segments, line.at(middle), p) {
+            low = middle + 1;
+        } else {
+            high = middle;
+        }
+    }
+    low
+}

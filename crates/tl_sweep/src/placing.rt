@@ -1,0 +1,117 @@
+//! Whether the list of active segments shows that a polygon's point is placed.
+ghost use Rattle.std.specs.Prelude.{◌≡◌, ◌<◌, ◌≤◌, ◌-◌, ◌+ℤ◌, ◌<ℤ◌, ℕ, pos, Some, IfOk, IsTrue, length, slice_index_or};
+ghost use Rattle.tl_county.specs.declared.sides.Side.TheVariants.{Polygon};
+ghost use Rattle.tl_sweep.specs.declared.events.Event.{Event};
+ghost use Rattle.tl_sweep.specs.Beside.{IsEastOf, IsWestOfIt, IsEastOfLast, IsWestOfFirst, seen_side};
+ghost use Rattle.tl_sweep.specs.Heights.{widest};
+ghost use Rattle.tl_sweep.specs.Keeping.Facing.{IsCounted};
+ghost use Rattle.tl_sweep.specs.Keeping.Lined.{list_of};
+ghost use Rattle.tl_sweep.specs.Keeping.Listed.{AreEvents, AreRising, AreSegments};
+ghost use Rattle.tl_sweep.specs.Keeping.Spotted.{AreInRange, IsPlacedPolygon};
+ghost use Rattle.tl_sweep.specs.Keeping.Swept.{IsSwept};
+
+use crate::events::Event;
+use crate::facing::near_side;
+use crate::finding::{find, open};
+use crate::heights::{ends, height};
+use crate::line::Line;
+use std::alloc::AllocError;
+use tl_county::{Map, Side};
+use tl_geom::{Point, Segment, turn};
+
+/// Whether the point of a polygon is found to be placed, between the events up to a place and those behind it, where the
+/// list has so many places where facing sides differ.
+pub fn is_placed(
+    map: &Map,
+    segments: &[Segment],
+    line: &mut Line,
+    events: &[Event],
+    from: usize,
+    gaps: Option<u64>,
+    polygon: u32,
+) -> Result<bool, AllocError>
+    requires segments { AreSegments map.now.chains segments.now }
+    requires events { AreEvents map.now.chains events.now }
+    requires rising { AreRising events.now }
+    requires ranges { AreInRange map.now.chains }
+    requires swept { IsSwept map.now.chains events.now from (list_of line.old) }
+    requires counted { IsCounted map.now.chains gaps (list_of line.old) }
+    ensures list { IfOk result (λ done. list_of line.new ≡ list_of line.old) }
+    ensures placed { IfOk result (λ done. IsTrue done → IsPlacedPolygon map.now polygon) }
+{
+    if !are_facing(gaps) || polygon >= map.polygons() {
+        return Ok(false);
+    }
+    let p = map.polygon(polygon).point;
+    if !is_between(events, from, height(p)) {
+        return Ok(false);
+    }
+    open(segments, line, p)?;
+    line.seek(find(segments, line, p));
+    Ok(sees(map, segments, line, p, polygon))
+}
+
+/// Whether there is a count, and it is 0.
+fn are_facing(gaps: Option<u64>) -> bool
+    ensures { IsTrue result → gaps ≡ Some 0 }
+{
+    gaps == Some(0)
+}
+
+/// Whether a height is above the events before a place, and below those from it on.
+fn is_between(events: &[Event], from: usize, h: i64) -> bool
+    ensures below { IsTrue result → (d : Event) → 0 < from → from ≤ length events.now →
+        (slice_index_or events.now (from - 1) d).height <ℤ h }
+    ensures above { IsTrue result → (d : Event) → from < length events.now → h <ℤ (slice_index_or events.now from d).height }
+{
+    if from > 0 && from <= events.len() && events[from - 1].height >= h {
+        return false;
+    }
+    from >= events.len() || h < events[from].height
+}
+
+/// Whether a point lies strictly between those that stand before and behind the place, and sees a polygon to its east.
+fn sees(map: &Map, segments: &[Segment], line: &Line, p: Point, polygon: u32) -> bool
+    requires { AreSegments map.now.chains segments.now }
+    ensures east { IsTrue result → IsEastOfLast widest map.now.chains p line.now.front }
+    ensures west { IsTrue result → IsWestOfFirst widest map.now.chains p line.now.back }
+    ensures sees { IsTrue result → seen_side map.now.chains line.now.back ≡ Polygon polygon }
+{
+    if !is_east_of(map, segments, line.previous(), p) {
+        return false;
+    }
+    if !is_west_of(map, segments, line.next(), p) {
+        return false;
+    }
+    near_side(map, segments, line) == Some(Side::Polygon(polygon))
+}
+
+/// Whether a point lies strictly east of a segment, if there is one.
+fn is_east_of(map: &Map, segments: &[Segment], s: Option<u32>, p: Point) -> bool
+    requires { AreSegments map.now.chains segments.now }
+    ensures { IsTrue result → (t : ℕ) → s ≡ Some t → IsEastOf widest map.now.chains p t }
+{
+    let Some(s) = s else {
+        return true;
+    };
+    if s as usize >= segments.len() {
+        return false;
+    }
+    let (a, b) = ends(segments[s as usize]);
+    turn(a, b, p).is_lt()
+}
+
+/// Whether a point lies strictly west of a segment, if there is one.
+fn is_west_of(map: &Map, segments: &[Segment], s: Option<u32>, p: Point) -> bool
+    requires { AreSegments map.now.chains segments.now }
+    ensures { IsTrue result → (t : ℕ) → s ≡ Some t → IsWestOfIt widest map.now.chains p t }
+{
+    let Some(s) = s else {
+        return true;
+    };
+    if s as usize >= segments.len() {
+        return false;
+    }
+    let (a, b) = ends(segments[s as usize]);
+    turn(a, b, p).is_gt()
+}

@@ -1,0 +1,125 @@
+//! The points of polygons, on the way of a sweep.
+ghost use Rattle.std.specs.Prelude.{◌≡◌, ◌⊎◌, ◌<◌, ℕ, false, true, IfOk, IsTrue, length, slice_index_or};
+ghost use Rattle.tl_inside.specs.Placed.{ArePlaced};
+ghost use Rattle.tl_sweep.specs.Keeping.Facing.{IsCounted};
+ghost use Rattle.tl_sweep.specs.Keeping.Lined.{list_of};
+ghost use Rattle.tl_sweep.specs.Keeping.Listed.{AreEvents, AreRising, AreSegments};
+ghost use Rattle.tl_sweep.specs.Keeping.Spotted.{AreInRange, AreMarks};
+ghost use Rattle.tl_sweep.specs.Keeping.Swept.{IsSwept};
+
+use crate::events::Event;
+use crate::heights::height;
+use crate::line::Line;
+use crate::placing::is_placed;
+use std::alloc::{AllocError, Global};
+use tl_county::Map;
+use tl_geom::Segment;
+
+/// The point of a polygon, by its height.
+#[derive(Clone, Copy)]
+struct Spot {
+    height: i64,
+    polygon: u32,
+}
+
+/// The points of polygons from the lowest to the highest, and the polygons whose points were found to be placed.
+#[derive(Drop)]
+pub struct Spots {
+    spots: Vec<Spot>,
+    next: usize,
+    marks: Vec<bool>,
+}
+
+impl Spots {
+    /// The points of a map's polygons, none of which is found to be placed yet.
+    pub fn new(alloc: Global, map: &Map) -> Result<Spots, AllocError>
+        ensures { IfOk result (λ spots. AreMarks map.now spots.marks.items) }
+    {
+        let marks = vec![in alloc; false; map.polygons() as usize]?;
+        let mut spots = list_spots(alloc, map)?;
+        spots.sort_unstable_by_key(|spot| spot.height);
+        Ok(Spots {
+            spots,
+            next: 0,
+            marks,
+        })
+    }
+
+    /// Looks at the points below the next event by the list of the segments that are active there.
+    pub fn look(
+        &mut self,
+        map: &Map,
+        segments: &[Segment],
+        line: &mut Line,
+        events: &[Event],
+        from: usize,
+        gaps: Option<u64>,
+    ) -> Result<(), AllocError>
+        requires segments { AreSegments map.now.chains segments.now }
+        requires events { AreEvents map.now.chains events.now }
+        requires rising { AreRising events.now }
+        requires ranges { AreInRange map.now.chains }
+        requires swept { IsSwept map.now.chains events.now from (list_of line.old) }
+        requires counted { IsCounted map.now.chains gaps (list_of line.old) }
+        requires marks { AreMarks map.now self.old.marks.items }
+        ensures list { IfOk result (λ done. list_of line.new ≡ list_of line.old) }
+        ensures marks { IfOk result (λ done. AreMarks map.now self.new.marks.items) }
+    {
+        while self.next < self.spots.len() && is_below(self.spots[self.next], events, from) {
+            let polygon = self.spots[self.next].polygon;
+            self.next += 1;
+            if is_placed(map, segments, line, events, from, gaps, polygon)? {
+                mark(&mut self.marks, polygon);
+            }
+        }
+        Ok(())
+    }
+
+    /// Whether all polygons' points were found to be placed.
+    pub fn are_placed(&self, map: &Map) -> bool
+        requires { AreMarks map.now self.now.marks.items }
+        ensures { IsTrue result → ArePlaced map.now }
+    {
+        are_all(&self.marks)
+    }
+}
+
+/// The points of a map's polygons.
+fn list_spots(alloc: Global, map: &Map) -> Result<Vec<Spot>, AllocError> {
+    let mut spots = Vec::with_capacity(alloc, map.polygons() as usize)?;
+    for polygon in 0..map.polygons() {
+        spots.push(Spot {
+            height: height(map.polygon(polygon).point),
+            polygon,
+        })?;
+    }
+    Ok(spots)
+}
+
+/// Whether a point is below the events from a place on.
+fn is_below(spot: Spot, events: &[Event], from: usize) -> bool {
+    from < events.len() && spot.height < events[from].height
+}
+
+/// Marks a polygon.
+fn mark(marks: &mut Vec<bool>, polygon: u32)
+    ensures long { length marks.new.items ≡ length marks.old.items }
+    ensures only { (p : ℕ) → slice_index_or marks.new.items p false ≡ true →
+        (slice_index_or marks.old.items p false ≡ true) ⊎ (p ≡ polygon) }
+{
+    if (polygon as usize) < marks.len() {
+        marks[polygon as usize] = true;
+    }
+}
+
+/// Whether all are marked.
+fn are_all(marks: &[bool]) -> bool
+    ensures { IsTrue result → (p : ℕ) → p < length marks.now → slice_index_or marks.now p false ≡ true }
+{
+    for mark in marks {
+        if !*mark {
+            return false;
+        }
+    }
+    true
+}
