@@ -57,6 +57,7 @@ fn decide(alloc: Global, map: &Map) -> Result<Built, BuildStop>
     ensures { Builds map.now result }
 {
     match sweep(alloc, map) {
+        Ok(Swept::Placed) => build_planar(alloc, map, true),
         Ok(Swept::Planar) => build_planar(alloc, map, false),
         Ok(Swept::Unknown) => build_by_search(alloc, map),
         Err(_) => Err(BuildStop::Memory),
