@@ -1,0 +1,4 @@
+use Rattle.tl_build.proofs.of_map.decide.Goals as goal
+
+pub build_planar-requires-clause-placed : goal.build_planar-requires-clause-placed
+build_planar-requires-clause-placed c = λ h. (c.in-Ok-Placed.ensures.placed c.in-Ok-Placed.field-0-is).1
