@@ -1,7 +1,9 @@
 //! What a sweep answers of small maps.
 
 use crate::maps::{DEAD_END, HALF, IN_HOLE, ISLAND, ON_CHAIN, OPEN, SQUARE};
-use crate::sweep_maps::{AT_CORNER, CORNERS, CROSSED, LAID, STAIRS, STAR, THROUGH, TOUCHED, TWICE, map_of};
+use crate::sweep_maps::{
+    AT_CORNER, CORNERS, CROSSED, LAID, STAIRS, STAR, THROUGH, TOUCHED, TWICE, map_of,
+};
 use std::alloc::Global;
 use tl_sweep::{Swept, sweep};
 
