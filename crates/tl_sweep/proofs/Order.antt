@@ -1,13 +1,14 @@
 -- Of two lines that rise: where one is west of the other at two heights, it is at each height between.
 --     lean       the turn to a place, by heights
 --     in_order       the order of the turns to a place, from that of the turns to a point below it and to one above it
+--     west_between       and so where one is strictly west of the other
 use Rattle.std.proofs.Common.{◌≡◌, ℤ, pos, ◌+ℤ◌, ◌-ℤ◌, ◌*ℤ◌, ◌<ℤ◌, ◌≤ℤ◌, ap₂, sym, subst, ◌∙◌, arith}
 use Rattle.std.proofs.lemmas.Int.{ints, by_lt_z}
 use Rattle.tl_geom.specs.declared.point.Point.{Point}
 use Rattle.tl_geom.specs.declared.rational.Rational.{Rational}
 use Rattle.tl_geom.specs.Plane.{whole, turn_of}
 use Rattle.tl_geom.proofs.Polynomials.{num, ◌⊕◌, ◌⊖◌, ◌⊗◌, same}
-use Rattle.tl_geom.proofs.Signs.{mono, product_at_least, at_least_of_product}
+use Rattle.tl_geom.proofs.Signs.{mono, product_at_least, product_above, at_least_of_product, above_of_product}
 use Rattle.tl_sweep.specs.Heights.{height, height_of, turn_at}
 
 -- ---- how heights differ
@@ -80,6 +81,20 @@ linear A B h d l m above low high from to =
     subst (λ z. pos 0 ≤ℤ (A *ℤ z +ℤ B *ℤ d)) is
     (subst (λ z. pos 0 ≤ℤ z) (sym (drawn_out A B d l)) (product_at_least d (A *ℤ l +ℤ B *ℤ pos 1) (omega (arith, ints, above)) low)))
 
+-- where it is above 0 at two heights, it is between them
+linear_above : (A B h d l m : ℤ) → pos 0 <ℤ d → pos 0 <ℤ (A *ℤ l +ℤ B *ℤ pos 1) → pos 0 <ℤ (A *ℤ m +ℤ B *ℤ pos 1) → (d *ℤ l) ≤ℤ h → h ≤ℤ (d *ℤ m) → pos 0 <ℤ (A *ℤ h +ℤ B *ℤ d)
+linear_above A B h d l m above low high from to =
+    by_lt_z (d *ℤ l) h
+    (λ beyond.
+    let rising : l <ℤ m = by_lt_z l m (λ lt. lt) (λ le. absurd (let back : (d *ℤ m) ≤ℤ (d *ℤ l) = mono d m l (omega (arith, ints, above)) le in omega (arith, ints, back, beyond, to))) in
+    let first : pos 0 ≤ℤ ((d *ℤ m -ℤ h) *ℤ (A *ℤ l +ℤ B *ℤ pos 1)) = product_at_least (d *ℤ m -ℤ h) (A *ℤ l +ℤ B *ℤ pos 1) (omega (arith, ints, to)) (omega (arith, ints, low)) in
+    let last : pos 0 <ℤ ((h -ℤ d *ℤ l) *ℤ (A *ℤ m +ℤ B *ℤ pos 1)) = product_above (h -ℤ d *ℤ l) (A *ℤ m +ℤ B *ℤ pos 1) (omega (arith, ints, beyond)) high in
+    above_of_product (m -ℤ l) (A *ℤ h +ℤ B *ℤ d) (omega (arith, ints, rising)) (omega (arith, ints, mixed A B h d l m, first, last)))
+    (λ le.
+    let is : d *ℤ l ≡ h = omega (arith, ints, le, from) in
+    subst (λ z. pos 0 <ℤ (A *ℤ z +ℤ B *ℤ d)) is
+    (subst (λ z. pos 0 <ℤ z) (sym (drawn_out A B d l)) (product_above d (A *ℤ l +ℤ B *ℤ pos 1) above low)))
+
 -- ---- two lines
 
 joined : (U W u w ha hc ax cx h x d : ℤ) →
@@ -121,6 +136,10 @@ module _ (K : ℤ) (a b c e : Point) where
   abbrev pub AreInOrder : Rational → Type 0
   AreInOrder r = (last_rise *ℤ turn_at a b r) ≤ℤ (first_rise *ℤ turn_at c e r)
 
+  -- the first is west of the second there
+  abbrev pub IsWestAt : Rational → Type 0
+  IsWestAt r = (last_rise *ℤ turn_at a b r) <ℤ (first_rise *ℤ turn_at c e r)
+
   module _ (above : pos 0 <ℤ K) where
     gap : (r : Rational) → AreInOrder r → pos 0 ≤ℤ (slope *ℤ height_of K r +ℤ start *ℤ r.d)
     gap r o =
@@ -133,4 +152,17 @@ module _ (K : ℤ) (a b c e : Point) where
         linear slope start (height_of K r) r.d (height K p) (height K q) r.above_zero (gap (whole p) low) (gap (whole q) high) from to in
         let more : pos 0 ≤ℤ (first_rise *ℤ turn_at c e r -ℤ last_rise *ℤ turn_at a b r) =
         at_least_of_product K (first_rise *ℤ turn_at c e r -ℤ last_rise *ℤ turn_at a b r) above (subst (λ z. pos 0 ≤ℤ z) (sym (lead r)) far) in
+        omega (arith, ints, more)
+
+    gap_above : (r : Rational) → IsWestAt r → pos 0 <ℤ (slope *ℤ height_of K r +ℤ start *ℤ r.d)
+    gap_above r o =
+        subst (λ z. pos 0 <ℤ z) (lead r)
+        (product_above K (first_rise *ℤ turn_at c e r -ℤ last_rise *ℤ turn_at a b r) above (omega (arith, ints, o)))
+
+    pub west_between : (p q : Point) (r : Rational) → IsWestAt (whole p) → IsWestAt (whole q) → (r.d *ℤ height K p) ≤ℤ height_of K r → height_of K r ≤ℤ (r.d *ℤ height K q) → IsWestAt r
+    west_between p q r low high from to =
+        let far : pos 0 <ℤ (slope *ℤ height_of K r +ℤ start *ℤ r.d) =
+        linear_above slope start (height_of K r) r.d (height K p) (height K q) r.above_zero (gap_above (whole p) low) (gap_above (whole q) high) from to in
+        let more : pos 0 <ℤ (first_rise *ℤ turn_at c e r -ℤ last_rise *ℤ turn_at a b r) =
+        above_of_product K (first_rise *ℤ turn_at c e r -ℤ last_rise *ℤ turn_at a b r) (omega (arith, ints, above)) (subst (λ z. pos 0 <ℤ z) (sym (lead r)) far) in
         omega (arith, ints, more)

@@ -1,16 +1,19 @@
 -- What the tests of neighbours say.
-use Rattle.std.proofs.Common.{◌≡◌, ◌⊎◌, inl, inr, ⊎_elim, ℕ, Bool, IsTrue, Ordering, ℤ, pos, ◌<ℤ◌, ◌≤ℤ◌, List, refl, sym, ap, subst, ◌∙◌, arith}
+use Rattle.std.proofs.Common.{◌≡◌, ◌⊎◌, inl, inr, ⊎_elim, ℕ, Bool, true, false, IsTrue, Ordering, ℤ, pos, ◌<ℤ◌, ◌≤ℤ◌, List, refl, sym, ap, subst, ◌∙◌, arith}
 use Rattle.std.proofs.lemmas.Int.{ints}
 use Rattle.std.proofs.lemmas.Cmp.{int_ranked}
 use Rattle.std.specs.declared.cmp.Ordering.TheVariants.{Less, Equal, Greater}
-use Rattle.std.specs.Ordering.{int_cmp, is_ge, is_le, MatchOrdering}
+use Rattle.std.specs.Prelude.{int_lt, if◌then◌else◌}
+use Rattle.std.specs.Ordering.{int_cmp, is_ge, is_gt, is_le, MatchOrdering}
 use Rattle.tl_geom.specs.declared.point.Point.{Point}
 use Rattle.tl_geom.specs.declared.segment.Segment.{Segment}
 use Rattle.tl_geom.specs.Plane.{turn_of, IsSame, whole}
 use Rattle.tl_county.specs.TheMap.{MapChain}
 use Rattle.tl_inside.proofs.Hitting.{HaveSameEnds}
-use Rattle.tl_sweep.specs.Heights.{height, low_end, high_end}
+use Rattle.tl_sweep.specs.Heights.{height, widest, AreNear, low_end, high_end}
 use Rattle.tl_sweep.specs.Neighbours.{IsNumbered, IsWestOf, AreApartOrAtEnds, AreTested}
+use Rattle.tl_sweep.specs.Keeping.Clear.{IsClearlyWestOf}
+use Rattle.tl_sweep.proofs.Rising.{near_back}
 use Rattle.tl_sweep.proofs.Numbered.{one_segment, on_same}
 
 -- ---- turns
@@ -44,6 +47,44 @@ module _ (K : ℤ) (u w : Segment) (a b c e : Point) (low : a ≡ low_end K u) (
             ⊎_elim (λ k. inl (subst (λ z. pos 0 ≤ℤ z) (λ i. turn_of (low' i) (high' i) (high i)) k))
             (λ k. inr (subst (λ z. z ≤ℤ pos 0) (λ i. turn_of (low i) (high i) (high' i)) k)) above;
       }
+
+-- ---- which of two is clearly west
+
+gt_cases : (z : ℤ) (o : Ordering) → MatchOrdering o (z <ℤ pos 0) (z ≡ pos 0) (pos 0 <ℤ z) → IsTrue (is_gt o) → pos 0 <ℤ z
+gt_cases z Less m h = absurd (cc)
+gt_cases z Equal m h = absurd (cc)
+gt_cases z Greater m h = m
+
+pub gt_test : (z : ℤ) (o : Ordering) (t : Bool) → o ≡ int_cmp z (pos 0) → t ≡ is_gt o → IsTrue t → pos 0 <ℤ z
+gt_test z o t e f h = gt_cases z o (int_ranked z (pos 0) o e) (sym f ∙ h)
+
+module _ (K : ℤ) (u w : Segment) (a b c e : Point) (low : a ≡ low_end K u) (high : b ≡ high_end K u) (low' : c ≡ low_end K w) (high' : e ≡ high_end K w) where
+  pub is_clear : (pos 0 <ℤ turn_of c e a) ⊎ (turn_of a b c <ℤ pos 0) → (pos 0 <ℤ turn_of c e b) ⊎ (turn_of a b e <ℤ pos 0) → IsClearlyWestOf K u w
+  is_clear below above =
+      record {
+        below =
+            ⊎_elim (λ k. inl (subst (λ z. pos 0 <ℤ z) (λ i. turn_of (low' i) (high' i) (low i)) k))
+            (λ k. inr (subst (λ z. z <ℤ pos 0) (λ i. turn_of (low i) (high i) (low' i)) k)) below;
+        above =
+            ⊎_elim (λ k. inl (subst (λ z. pos 0 <ℤ z) (λ i. turn_of (low' i) (high' i) (high i)) k))
+            (λ k. inr (subst (λ z. z <ℤ pos 0) (λ i. turn_of (low i) (high i) (high' i)) k)) above;
+      }
+
+pub clear_is_west : (K : ℤ) (u w : Segment) → IsClearlyWestOf K u w → IsWestOf K u w
+clear_is_west K u w clear =
+    record {
+      below = ⊎_elim (λ k. inl (omega (arith, ints, k))) (λ k. inr (omega (arith, ints, k))) clear.below;
+      above = ⊎_elim (λ k. inl (omega (arith, ints, k))) (λ k. inr (omega (arith, ints, k))) clear.above;
+    }
+
+-- ends that are near are so in either order
+near_either : (K : ℤ) (p q : Point) (t : Bool) → AreNear K (if t then p else q) (if t then q else p) → AreNear K p q
+near_either K p q true near = near
+near_either K p q false near = near_back K q p near
+
+pub near_by_ends : (u : Segment) (a b : Point) → a ≡ low_end widest u → b ≡ high_end widest u → AreNear widest a b → AreNear widest u.a u.b
+near_by_ends u a b low high near =
+    near_either widest u.a u.b (int_lt (height widest u.a) (height widest u.b)) (subst (λ p. AreNear widest (low_end widest u) p) high (subst (λ p. AreNear widest p b) low near))
 
 -- ---- by numbers
 

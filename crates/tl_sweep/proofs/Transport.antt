@@ -5,10 +5,12 @@ use Rattle.tl_geom.specs.declared.point.Point.{Point}
 use Rattle.tl_geom.specs.declared.rational.Rational.{Rational}
 use Rattle.tl_geom.specs.declared.segment.Segment.{Segment}
 use Rattle.tl_geom.specs.Plane.{IsOn, whole, turn_of}
+use Rattle.tl_geom.specs.Contact.{AreApart}
 use Rattle.tl_geom.proofs.Signs.{mono, mono_lt, product_at_least, product_above, at_least_of_product, above_of_product, cancel_lt, times_zero, zero_product}
 use Rattle.tl_sweep.specs.Heights.{height, height_of, AreNear, low_end, high_end, turn_to, turn_at, Spans, IsNotEast}
 use Rattle.tl_sweep.specs.Neighbours.{IsWestOf}
-use Rattle.tl_sweep.proofs.Order.{in_order, turn_whole, turn_first, turn_last}
+use Rattle.tl_sweep.specs.Keeping.Clear.{IsClearlyWestOf}
+use Rattle.tl_sweep.proofs.Order.{in_order, west_between, turn_whole, turn_first, turn_last}
 use Rattle.tl_sweep.proofs.Rising.{AreEndsOf, ends_of, above_zero}
 use Rattle.tl_sweep.proofs.Lying.{heights_of, lies_on}
 
@@ -98,3 +100,43 @@ module _ (K : ℤ) (u w : Segment) (near : AreNear K u.a u.b) (near' : AreNear K
         let straight : turn_at (low_end K u) (high_end K u) r ≡ pos 0 =
         zero_product rise_w (turn_at (low_end K u) (high_end K u) r) (λ e. omega (arith, ints, up, e)) (omega (arith, ints, o, none, first)) in
         lies_on K u (low_end K u) (high_end K u) ends r straight spans.from spans.to
+
+  -- ---- one clearly west of the other
+
+  -- the first is west of the second at the height of a place
+  abbrev AreParted : Rational → Type 0
+  AreParted r = (rise_w *ℤ turn_at (low_end K u) (high_end K u) r) <ℤ (rise_u *ℤ turn_at (low_end K w) (high_end K w) r)
+
+  parted_first : (p : Point) → turn_of (low_end K u) (high_end K u) p ≡ pos 0 → pos 0 <ℤ turn_to K w p → AreParted (whole p)
+  parted_first p zero west =
+      let none : rise_w *ℤ turn_at (low_end K u) (high_end K u) (whole p) ≡ pos 0 = ap (λ z. rise_w *ℤ z) (turn_whole (low_end K u) (high_end K u) p ∙ zero) ∙ times_zero rise_w in
+      let more : pos 0 <ℤ (rise_u *ℤ turn_at (low_end K w) (high_end K w) (whole p)) =
+      product_above rise_u (turn_at (low_end K w) (high_end K w) (whole p)) up_u (subst (λ z. pos 0 <ℤ z) (sym (turn_whole (low_end K w) (high_end K w) p)) west) in
+      omega (arith, ints, none, more)
+
+  parted_second : (p : Point) → turn_of (low_end K w) (high_end K w) p ≡ pos 0 → turn_to K u p <ℤ pos 0 → AreParted (whole p)
+  parted_second p zero east =
+      let none : rise_u *ℤ turn_at (low_end K w) (high_end K w) (whole p) ≡ pos 0 = ap (λ z. rise_u *ℤ z) (turn_whole (low_end K w) (high_end K w) p ∙ zero) ∙ times_zero rise_u in
+      let less : (rise_w *ℤ turn_at (low_end K u) (high_end K u) (whole p)) <ℤ (rise_w *ℤ pos 0) =
+      mono_lt rise_w (turn_at (low_end K u) (high_end K u) (whole p)) (pos 0) up_w (subst (λ z. z <ℤ pos 0) (sym (turn_whole (low_end K u) (high_end K u) p)) east) in
+      omega (arith, ints, none, less, times_zero rise_w)
+
+  pub clearly_apart : IsClearlyWestOf K u w → AreApart u w
+  clearly_apart west r shared =
+      let up = above_zero K u.a u.b near in
+      let own = heights_of K u (low_end K u) (high_end K u) ends r shared.on_first in
+      let own' = heights_of K w (low_end K w) (high_end K w) ends' r shared.on_second in
+      let carried : (p q : Point) → AreParted (whole p) → AreParted (whole q) → (r.d *ℤ height K p) ≤ℤ height_of K r → height_of K r ≤ℤ (r.d *ℤ height K q) → AreParted r =
+      λ p q. west_between K (low_end K u) (high_end K u) (low_end K w) (high_end K w) up p q r in
+      let low_u : pos 0 <ℤ turn_to K w (low_end K u) → AreParted (whole (low_end K u)) = parted_first (low_end K u) (turn_first (low_end K u) (high_end K u)) in
+      let low_w : turn_to K u (low_end K w) <ℤ pos 0 → AreParted (whole (low_end K w)) = parted_second (low_end K w) (turn_first (low_end K w) (high_end K w)) in
+      let high_u : pos 0 <ℤ turn_to K w (high_end K u) → AreParted (whole (high_end K u)) = parted_first (high_end K u) (turn_last (low_end K u) (high_end K u)) in
+      let high_w : turn_to K u (high_end K w) <ℤ pos 0 → AreParted (whole (high_end K w)) = parted_second (high_end K w) (turn_last (low_end K w) (high_end K w)) in
+      let parted : AreParted r =
+      ⊎_elim
+      (λ l. ⊎_elim (λ h. carried (low_end K u) (high_end K u) (low_u l) (high_u h) own.1 own.2) (λ h. carried (low_end K u) (high_end K w) (low_u l) (high_w h) own.1 own'.2) west.above)
+      (λ l. ⊎_elim (λ h. carried (low_end K w) (high_end K u) (low_w l) (high_u h) own'.1 own.2) (λ h. carried (low_end K w) (high_end K w) (low_w l) (high_w h) own'.1 own'.2) west.above)
+      west.below in
+      let none : rise_w *ℤ turn_at (low_end K u) (high_end K u) r ≡ pos 0 = ap (λ z. rise_w *ℤ z) own.0 ∙ times_zero rise_w in
+      let none' : rise_u *ℤ turn_at (low_end K w) (high_end K w) r ≡ pos 0 = ap (λ z. rise_u *ℤ z) own'.0 ∙ times_zero rise_u in
+      omega (arith, ints, parted, none, none')

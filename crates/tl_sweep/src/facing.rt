@@ -92,10 +92,12 @@ fn count_gaps(map: &Map, segments: &[Segment], west: Side, list: &[u32], east: S
 }
 
 /// Whether these segments are one each, with the same sides.
-fn are_alike(map: &Map, segments: &[Segment], outs: &[u32], ins: &[u32]) -> bool
+pub fn are_alike(map: &Map, segments: &[Segment], outs: &[u32], ins: &[u32]) -> bool
     requires { AreSegments map.now.chains segments.now }
-    ensures { IsTrue result → (west east : Side) →
+    ensures gaps { IsTrue result → (west east : Side) →
         gaps_between map.now.chains west outs.now east ≡ gaps_between map.now.chains west ins.now east }
+    ensures one_out { IsTrue result → length outs.now ≡ 1 }
+    ensures one_in { IsTrue result → length ins.now ≡ 1 }
 {
     if outs.len() != 1 || ins.len() != 1 {
         return false;

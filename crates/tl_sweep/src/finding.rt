@@ -2,10 +2,10 @@
 ghost use Rattle.std.specs.Prelude.{◌≡◌, IfOk};
 ghost use Rattle.tl_sweep.specs.Keeping.Lined.{list_of};
 
-use crate::heights::ends;
+use crate::heights::is_lower;
 use crate::line::Line;
 use std::alloc::AllocError;
-use tl_geom::{Point, Segment, turn};
+use tl_geom::{Point, Segment};
 
 /// Whether a point lies strictly east of a segment.
 fn is_east(segments: &[Segment], s: Option<u32>, p: Point) -> bool {
@@ -13,11 +13,22 @@ fn is_east(segments: &[Segment], s: Option<u32>, p: Point) -> bool {
         return false;
     };
     match segments.get(s as usize) {
-        Some(segment) => {
-            let (a, b) = ends(*segment);
-            turn(a, b, p).is_lt()
-        }
+        Some(segment) => is_east_of(*segment, p),
         None => false,
+    }
+}
+
+/// Whether a point lies strictly east of a segment. It is told by products of 64 bits, which hold those of a map's points:
+/// nothing rests on it, since whatever stands side by side is tested.
+#[inline]
+fn is_east_of(s: Segment, p: Point) -> bool {
+    let (a, b) = (s.a(), s.b());
+    let along = (i64::from(b.x) - i64::from(a.x)).wrapping_mul(i64::from(p.y) - i64::from(a.y));
+    let aside = (i64::from(b.y) - i64::from(a.y)).wrapping_mul(i64::from(p.x) - i64::from(a.x));
+    if is_lower(a, b) {
+        along < aside
+    } else {
+        along > aside
     }
 }
 

@@ -38,7 +38,7 @@ impl Model for Line {
 }
 
 impl Line {
-    ghost use Rattle.std.specs.Prelude.{◌≡◌, ◌++◌, ◌∷◌, [], drop, slice_get, IfOk};
+    ghost use Rattle.std.specs.Prelude.{◌≡◌, ◌++◌, ◌∷◌, [], drop, slice_get, IfOk, IsTrue};
     ghost use Rattle.tl_sweep.specs.Keeping.Lined.{list_of, last_of};
 
     /// An empty list.
@@ -147,6 +147,25 @@ impl Line {
             take_east(&mut self.east)?;
         }
         Ok(())
+    }
+
+    /// Whether the first number behind the place stands in the open block.
+    pub fn is_inside(&self) -> bool {
+        self.place < self.items.len()
+    }
+
+    /// Puts a number in the stead of the first one behind the place, and goes behind it, if that one stands in the open
+    /// block.
+    pub fn change(&mut self, s: u32) -> bool
+        ensures front { IsTrue result → self.new.front ≡ self.old.front ++ s ∷ [] }
+        ensures back { IsTrue result → self.new.back ≡ drop 1 self.old.back }
+    {
+        if self.place >= self.items.len() {
+            return false;
+        }
+        self.items[self.place] = s;
+        self.place += 1;
+        true
     }
 
     /// Parts the open block in two.

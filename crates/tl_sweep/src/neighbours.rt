@@ -1,5 +1,5 @@
 //! What is tested of segments that stand side by side.
-ghost use Rattle.std.specs.Prelude.{◌≤ℤ◌, ◌⊎◌, pos, IsTrue};
+ghost use Rattle.std.specs.Prelude.{◌≤ℤ◌, ◌<ℤ◌, ◌⊎◌, pos, IsTrue};
 ghost use Rattle.tl_geom.specs.Plane.{turn_of};
 ghost use Rattle.tl_sweep.specs.Heights.{widest};
 ghost use Rattle.tl_sweep.specs.Neighbours.{IsWestOf, AreApartOrAtEnds, AreTested};
@@ -32,6 +32,30 @@ fn is_west_of(u: Segment, w: Segment) -> bool
     is_in_order(is_lower(c, a), a, b, a, c, e, c) && is_in_order(is_lower(b, e), a, b, b, c, e, e)
 }
 
+/// Whether `p` of the line from `a` to `b` is west of the line from `c` to `e`, if `first`; else whether `q` of that line is east
+/// of the former.
+#[inline]
+fn is_parted(first: bool, a: Point, b: Point, p: Point, c: Point, e: Point, q: Point) -> bool
+    ensures { IsTrue result → (pos 0 <ℤ turn_of c e p) ⊎ (turn_of a b q <ℤ pos 0) }
+{
+    if first {
+        turn(c, e, p).is_gt()
+    } else {
+        turn(a, b, q).is_lt()
+    }
+}
+
+/// Whether `u` is west of `w` and doesn't touch it, as it is of most neighbours. The same ends are asked.
+#[inline]
+fn is_clearly_west_of(u: Segment, w: Segment) -> bool
+    ensures west { IsTrue result → IsWestOf widest u w }
+    ensures apart { IsTrue result → AreApartOrAtEnds u w }
+{
+    let (a, b) = ends(u);
+    let (c, e) = ends(w);
+    is_parted(is_lower(c, a), a, b, a, c, e, c) && is_parted(is_lower(b, e), a, b, b, c, e, e)
+}
+
 /// Whether two segments are apart or share an end of both alone.
 #[inline]
 fn are_free(u: Segment, w: Segment) -> bool
@@ -55,5 +79,8 @@ pub fn are_tested(map: &Map, segments: &[Segment], s: u32, t: u32) -> bool
     }
     let one = segments[s as usize];
     let other = segments[t as usize];
+    if is_clearly_west_of(one, other) {
+        return true;
+    }
     is_west_of(one, other) && are_free(one, other)
 }

@@ -1,5 +1,5 @@
 //! A step of the sweep at a vertex: the segments that end there leave the list, and those that begin there enter it.
-ghost use Rattle.std.specs.Prelude.{◌≡◌, ◌+◌, ◌++◌, ◌∷◌, ℕ, Some, [], IfOk, IsTrue};
+ghost use Rattle.std.specs.Prelude.{◌≡◌, ◌+◌, ◌++◌, ◌∷◌, ℕ, Some, [], IfOk, IsTrue, length};
 ghost use Rattle.tl_tree.specs.Hits.{times};
 ghost use Rattle.tl_sweep.specs.Heights.{widest};
 ghost use Rattle.tl_sweep.specs.Neighbours.{AreTested, EachTwo};
@@ -7,7 +7,7 @@ ghost use Rattle.tl_sweep.specs.Keeping.Facing.{IsCounted};
 ghost use Rattle.tl_sweep.specs.Keeping.Lined.{list_of};
 ghost use Rattle.tl_sweep.specs.Keeping.Listed.{AreSegments};
 
-use crate::facing::recount;
+use crate::facing::{are_alike, recount};
 use crate::line::Line;
 use crate::neighbours::are_tested;
 use std::alloc::AllocError;
@@ -80,8 +80,53 @@ fn closes(map: &Map, segments: &[Segment], line: &Line) -> bool
     may_follow(map, segments, line.previous(), line.next())
 }
 
-/// Goes to a place in the open block, takes these segments off the list there and puts those in, if the former stand there and all that are
-/// neighbours for the first time may be. The places where facing sides differ are counted again.
+/// Puts one segment in the stead of another, if that one stands behind the place and the one before it may be followed by the
+/// new one.
+fn bend(map: &Map, segments: &[Segment], line: &mut Line, outs: &[u32], ins: &[u32]) -> bool
+    requires segments { AreSegments map.now.chains segments.now }
+    requires one_out { length outs.now ≡ 1 }
+    requires one_in { length ins.now ≡ 1 }
+    ensures front { IsTrue result → line.new.front ≡ line.old.front ++ ins.now }
+    ensures back { IsTrue result → line.old.back ≡ outs.now ++ line.new.back }
+    ensures tested { IsTrue result → EachTwo (AreTested widest map.now.chains) line.old.front →
+        EachTwo (AreTested widest map.now.chains) line.new.front }
+{
+    if line.next() != Some(outs[0]) || !may_follow(map, segments, line.previous(), Some(ins[0])) {
+        return false;
+    }
+    line.change(ins[0])
+}
+
+/// Takes these segments off the list at the place and puts those in, if the former stand there and all that are neighbours for
+/// the first time may be. The places where facing sides differ are counted again.
+fn exchange(
+    map: &Map,
+    segments: &[Segment],
+    line: &mut Line,
+    outs: &[u32],
+    ins: &[u32],
+    gaps: &mut Option<u64>,
+) -> Result<bool, AllocError>
+    requires { AreSegments map.now.chains segments.now }
+    ensures moved { IfOk result (λ done. IsTrue done → (s : ℕ) →
+        times s (list_of line.new) + times s outs.now ≡ times s (list_of line.old) + times s ins.now) }
+    ensures tested { IfOk result (λ done. IsTrue done → EachTwo (AreTested widest map.now.chains) (list_of line.old) →
+        EachTwo (AreTested widest map.now.chains) (list_of line.new)) }
+    ensures counted { IfOk result (λ done. IsTrue done → IsCounted map.now.chains gaps.old (list_of line.old) →
+        IsCounted map.now.chains gaps.new (list_of line.new)) }
+{
+    if !leave(line, outs)? {
+        return Ok(false);
+    }
+    *gaps = recount(map, segments, line, outs, ins, *gaps);
+    if !enter(map, segments, line, ins)? {
+        return Ok(false);
+    }
+    Ok(closes(map, segments, line))
+}
+
+/// Goes to a place in the open block, and does so there. At a bend of a chain, the commonest vertex, one segment stands in the
+/// stead of another, and nothing else moves.
 pub fn pass(
     map: &Map,
     segments: &[Segment],
@@ -100,12 +145,11 @@ pub fn pass(
         IsCounted map.now.chains gaps.new (list_of line.new)) }
 {
     line.seek(place);
-    if !leave(line, outs)? {
-        return Ok(false);
+    if line.is_inside() && are_alike(map, segments, outs, ins) {
+        if !bend(map, segments, line, outs, ins) {
+            return Ok(false);
+        }
+        return Ok(closes(map, segments, line));
     }
-    *gaps = recount(map, segments, line, outs, ins, *gaps);
-    if !enter(map, segments, line, ins)? {
-        return Ok(false);
-    }
-    Ok(closes(map, segments, line))
+    exchange(map, segments, line, outs, ins, gaps)
 }

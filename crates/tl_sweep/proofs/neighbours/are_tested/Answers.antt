@@ -12,3 +12,12 @@ returns-then-is_west_of c = λ h.
     (subst (IsNumbered c.args.map.now.chains c.args.s) (sym c.index-segments-s.is) (c.requires c.args.s c.index-segments-s.result (omega (arith, one))))
     (subst (IsNumbered c.args.map.now.chains c.args.t) (sym c.index-segments-t.is) (c.requires c.args.t c.index-segments-t.result (omega (arith, other))))
     (c.is_west_of.ensures c.if-is_west_of.true) (c.are_free.ensures h)
+
+pub returns-then-is_clearly_west_of : goal.returns-then-is_clearly_west_of
+returns-then-is_clearly_west_of c = λ h.
+    let one = c.if-s-segments.false in
+    let other = c.if-t-segments.false in
+    tested widest c.args.map.now.chains c.args.s c.args.t c.index-segments-s.result c.index-segments-t.result
+    (subst (IsNumbered c.args.map.now.chains c.args.s) (sym c.index-segments-s.is) (c.requires c.args.s c.index-segments-s.result (omega (arith, one))))
+    (subst (IsNumbered c.args.map.now.chains c.args.t) (sym c.index-segments-t.is) (c.requires c.args.t c.index-segments-t.result (omega (arith, other))))
+    (c.is_clearly_west_of.ensures.west c.if-is_clearly_west_of.true) (c.is_clearly_west_of.ensures.apart c.if-is_clearly_west_of.true)

@@ -1,33 +1,33 @@
-use Rattle.std.proofs.Common.{◌≡◌, ◌++◌, sym, ap₂, subst, ◌∙◌}
+use Rattle.std.proofs.Common.{◌≡◌, ◌+◌, ◌++◌, sym, ap, ◌∙◌}
 use Rattle.tl_sweep.specs.Heights.{widest}
 use Rattle.tl_sweep.specs.Neighbours.{AreTested, EachTwo}
+use Rattle.tl_sweep.specs.Beside.{seen_side}
+use Rattle.tl_county.specs.declared.sides.Side.TheVariants.{Outside}
+use Rattle.tl_sweep.specs.Keeping.Facing.{last_far}
 use Rattle.tl_sweep.specs.Keeping.Lined.{list_of}
 use Rattle.tl_sweep.proofs.Gaps.{in_stead}
 use Rattle.tl_sweep.proofs.Lining.{moved, before_tested}
 use Rattle.tl_sweep.proofs.passing.pass.Goals as goal
 
-pub returns-clause-moved : goal.returns-clause-moved
-returns-clause-moved c = λ h s.
-    let off = c.in_ok-leave.ensures.back c.if-not-branch.false in
-    let old : list_of c.args.line.now ≡ c.leave.new.line.front ++ (c.args.outs.now ++ c.leave.new.line.back) = sym c.seek.ensures ∙ ap₂ (λ f b. f ++ b) (sym c.in_ok-leave.ensures.front) off in
-    let new : list_of c.enter.new.line ≡ (c.leave.new.line.front ++ c.args.ins.now) ++ c.leave.new.line.back =
-    ap₂ (λ f b. f ++ b) (c.in_ok-enter.ensures.front c.if-not-branch-2.false) (c.in_ok-enter.ensures.back c.if-not-branch-2.false) in
-    moved s c.leave.new.line.front c.args.outs.now c.args.ins.now c.leave.new.line.back (list_of c.args.line.now) (list_of c.enter.new.line) old new
+pub returns-then-are_alike-clause-moved : goal.returns-then-are_alike-clause-moved
+returns-then-are_alike-clause-moved c = λ h s.
+    let front = c.seek.new.self.front in
+    let back = c.bend.new.line.back in
+    moved s front c.args.outs.now c.args.ins.now back (list_of c.args.line.now) (list_of c.bend.new.line)
+    (sym c.seek.ensures ∙ ap (λ b. front ++ b) (c.bend.ensures.back c.if-not-bend.false)) (ap (λ f. f ++ back) (c.bend.ensures.front c.if-not-bend.false))
 
-pub returns-clause-tested : goal.returns-clause-tested
-returns-clause-tested c = λ h two.
-    let off = c.in_ok-leave.ensures.back c.if-not-branch.false in
-    let old : list_of c.args.line.now ≡ c.leave.new.line.front ++ (c.args.outs.now ++ c.leave.new.line.back) = sym c.seek.ensures ∙ ap₂ (λ f b. f ++ b) (sym c.in_ok-leave.ensures.front) off in
-    let P = AreTested widest c.args.map.now.chains in
-    let both : EachTwo (AreTested widest c.args.map.now.chains) c.leave.new.line.front × EachTwo (AreTested widest c.args.map.now.chains) c.leave.new.line.back =
-    before_tested (AreTested widest c.args.map.now.chains) c.leave.new.line.front c.args.outs.now c.leave.new.line.back (list_of c.args.line.now) old two in
-    c.closes.ensures h (c.in_ok-enter.ensures.tested c.if-not-branch-2.false both.0) (subst (EachTwo (AreTested widest c.args.map.now.chains)) (sym (c.in_ok-enter.ensures.back c.if-not-branch-2.false)) both.1)
+pub returns-then-are_alike-clause-tested : goal.returns-then-are_alike-clause-tested
+returns-then-are_alike-clause-tested c = λ h two.
+    let front = c.seek.new.self.front in
+    let both = before_tested (AreTested widest c.args.map.now.chains) front c.args.outs.now c.bend.new.line.back (list_of c.args.line.now)
+    (sym c.seek.ensures ∙ ap (λ b. front ++ b) (c.bend.ensures.back c.if-not-bend.false)) two in
+    c.closes.ensures h (c.bend.ensures.tested c.if-not-bend.false both.0) both.1
 
-pub returns-clause-counted : goal.returns-clause-counted
-returns-clause-counted c = λ h counted n is.
-    let off = c.in_ok-leave.ensures.back c.if-not-branch.false in
-    let old : list_of c.args.line.now ≡ c.leave.new.line.front ++ (c.args.outs.now ++ c.leave.new.line.back) = sym c.seek.ensures ∙ ap₂ (λ f b. f ++ b) (sym c.in_ok-leave.ensures.front) off in
-    let new : list_of c.enter.new.line ≡ (c.leave.new.line.front ++ c.args.ins.now) ++ c.leave.new.line.back =
-    ap₂ (λ f b. f ++ b) (c.in_ok-enter.ensures.front c.if-not-branch-2.false) (c.in_ok-enter.ensures.back c.if-not-branch-2.false) in
-    let told = c.recount.ensures n is in
-    in_stead c.args.map.now.chains c.leave.new.line.front c.args.outs.now c.args.ins.now c.leave.new.line.back (list_of c.args.line.now) (list_of c.enter.new.line) n told.0 old new (counted told.0 told.1) told.2
+pub returns-then-are_alike-clause-counted : goal.returns-then-are_alike-clause-counted
+returns-then-are_alike-clause-counted c = λ h counted n is.
+    let chains = c.args.map.now.chains in
+    let front = c.seek.new.self.front in
+    let back = c.bend.new.line.back in
+    in_stead chains front c.args.outs.now c.args.ins.now back (list_of c.args.line.now) (list_of c.bend.new.line) n n
+    (sym c.seek.ensures ∙ ap (λ b. front ++ b) (c.bend.ensures.back c.if-not-bend.false)) (ap (λ f. f ++ back) (c.bend.ensures.front c.if-not-bend.false))
+    (counted n is) (ap (λ g. n + g) (c.are_alike.ensures.gaps c.if-are_alike.true (last_far chains Outside front) (seen_side chains back)))
