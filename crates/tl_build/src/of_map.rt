@@ -18,6 +18,7 @@ use crate::judge::{Judged, judge};
 use crate::planar::build_planar;
 use crate::stop::BuildStop;
 use std::alloc::Global;
+use tl_check::MapFault;
 use tl_county::Map;
 use tl_sweep::{Swept, sweep};
 
@@ -59,6 +60,7 @@ fn decide(alloc: Global, map: &Map) -> Result<Built, BuildStop>
     match sweep(alloc, map) {
         Ok(Swept::Placed) => build_planar(alloc, map, true),
         Ok(Swept::Planar) => build_planar(alloc, map, false),
+        Ok(Swept::Meet(meet)) => Ok(Built::Fault(MapFault::Meet(meet))),
         Ok(Swept::Unknown) => build_by_search(alloc, map),
         Err(_) => Err(BuildStop::Memory),
     }

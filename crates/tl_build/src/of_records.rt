@@ -133,6 +133,7 @@ fn decide(alloc: Global, map: &Map) -> Result<Audit, AuditStop>
     match sweep(alloc, map) {
         Ok(Swept::Placed) => audit_planar(alloc, map, true),
         Ok(Swept::Planar) => audit_planar(alloc, map, false),
+        Ok(Swept::Meet(meet)) => Ok(Audit::Fault(MapFault::Meet(meet))),
         Ok(Swept::Unknown) => audit_by_search(alloc, map),
         Err(_) => Err(AuditStop::Memory),
     }

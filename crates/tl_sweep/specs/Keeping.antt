@@ -6,3 +6,4 @@ pub mod Swept
 pub mod Facing
 pub mod Spotted
 pub mod Clear
+pub mod Told

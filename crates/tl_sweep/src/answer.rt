@@ -1,20 +1,25 @@
 //! What a sweep says of a map.
-ghost use Rattle.std.specs.Prelude.{◌≡◌, IfOk};
+ghost use Rattle.std.specs.Prelude.{◌≡◌, IfOk, IfSome};
 ghost use Rattle.tl_planar.specs.Planar.{IsPlanar};
+ghost use Rattle.tl_planar.specs.declared.meet.Meet.{Meet};
+ghost use Rattle.tl_planar.specs.Searching.{IsTrueMeet};
 ghost use Rattle.tl_inside.specs.Placed.{ArePlaced};
 ghost use Rattle.tl_sweep.specs.Heights.{widest};
 ghost use Rattle.tl_sweep.specs.Neighbours.{IsWide};
 ghost use Rattle.tl_sweep.specs.Slabs.{AreVerticesTested};
 ghost use Rattle.tl_sweep.specs.Keeping.Listed.{AreEvents, AreRising};
 ghost use Rattle.tl_sweep.specs.Keeping.Spotted.{AreInRange};
+ghost use Rattle.tl_sweep.specs.Keeping.Told.{IsMeetOrUnknown};
 
 use crate::events::{Event, list_events, list_segments, sort_events};
 use crate::meets::are_vertices_tested;
 use crate::spots::Spots;
+use crate::suspects::{find_meet, find_meet_at_vertex};
 use crate::sweeping::sweep_list;
 use std::alloc::{AllocError, Global};
 use tl_county::Map;
 use tl_crossings::look_at_chains;
+use tl_planar::Meet;
 
 /// What a sweep answers.
 #[derive(Clone, Copy, Debug, PartialEq, Eq)]
@@ -23,6 +28,8 @@ pub enum Swept {
     Placed,
     /// The map's chains are planar. Nothing is said of the points of its polygons.
     Planar,
+    /// Two segments meet where they may not.
+    Meet(Meet),
     /// A test failed, which says nothing of the map.
     Unknown,
 }
@@ -31,14 +38,27 @@ pub enum Swept {
 pub fn sweep(alloc: Global, map: &Map) -> Result<Swept, AllocError>
     ensures placed { IfOk result (λ answer. answer ≡ Swept.Placed → IsPlanar map.now.chains × ArePlaced map.now) }
     ensures planar { IfOk result (λ answer. answer ≡ Swept.Planar → IsPlanar map.now.chains) }
+    ensures meet { IfOk result (λ answer. (meet : Meet) → answer ≡ Swept.Meet meet → IsTrueMeet map.now.chains meet) }
 {
     look_at_chains(map);
     let mut events = list_events(alloc, map)?;
     sort_events(&mut events);
     if !are_vertices_tested(map, &events) {
-        return Ok(Swept::Unknown);
+        return Ok(told(map, find_meet_at_vertex(map, &events)));
     }
     sweep_events(alloc, map, &events)
+}
+
+/// What is answered where a test failed, and two segments may have been found that meet where they may not.
+fn told(map: &Map, found: Option<Meet>) -> Swept
+    requires { IfSome found (IsTrueMeet map.now.chains) }
+    ensures meet { (meet : Meet) → result ≡ Swept.Meet meet → IsTrueMeet map.now.chains meet }
+    ensures none { IsMeetOrUnknown result }
+{
+    match found {
+        Some(meet) => Swept::Meet(meet),
+        None => Swept::Unknown,
+    }
 }
 
 /// The same by the ends of all segments, which are sorted and tested.
@@ -50,11 +70,13 @@ fn sweep_events(alloc: Global, map: &Map, events: &[Event]) -> Result<Swept, All
     requires vertices { AreVerticesTested map.now.chains }
     ensures placed { IfOk result (λ answer. answer ≡ Swept.Placed → IsPlanar map.now.chains × ArePlaced map.now) }
     ensures planar { IfOk result (λ answer. answer ≡ Swept.Planar → IsPlanar map.now.chains) }
+    ensures meet { IfOk result (λ answer. (meet : Meet) → answer ≡ Swept.Meet meet → IsTrueMeet map.now.chains meet) }
 {
     let segments = list_segments(alloc, map)?;
     let mut spots = Spots::new(alloc, map)?;
-    if !sweep_list(alloc, map, &segments, events, &mut spots)? {
-        return Ok(Swept::Unknown);
+    let mut suspects = Vec::new(alloc);
+    if !sweep_list(alloc, map, &segments, events, &mut spots, &mut suspects)? {
+        return Ok(told(map, find_meet(map, &suspects)));
     }
     if spots.are_placed(map) {
         Ok(Swept::Placed)

@@ -19,6 +19,7 @@ mod neighbours;
 mod passing;
 mod placing;
 mod spots;
+mod suspects;
 mod sweeping;
 
 pub use answer::{Swept, sweep};

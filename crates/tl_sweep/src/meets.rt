@@ -52,7 +52,7 @@ fn may_meet(map: &Map, e: Event, f: Event) -> bool
 }
 
 /// Whether an event isn't higher than another, and may meet it if it is as high.
-fn are_in_order(map: &Map, e: Event, f: Event) -> bool
+pub fn are_in_order(map: &Map, e: Event, f: Event) -> bool
     ensures { IsTrue result → AreInOrder map.now.chains e f }
 {
     e.height < f.height || e.height == f.height && may_meet(map, e, f)

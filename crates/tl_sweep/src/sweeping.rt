@@ -16,6 +16,7 @@ use crate::heights::ends;
 use crate::line::Line;
 use crate::passing::pass;
 use crate::spots::Spots;
+use crate::suspects::list_suspects;
 use std::alloc::{AllocError, Global};
 use std::cmp::Ordering;
 use tl_county::Map;
@@ -117,13 +118,14 @@ fn step(
 }
 
 /// Sweeps over all events from the lowest to the highest, and looks at the points of polygons on the way. Where a test fails
-/// it ends, and answers no.
+/// it ends, answers no, and lists the segments there.
 pub fn sweep_list(
     alloc: Global,
     map: &Map,
     segments: &[Segment],
     events: &[Event],
     spots: &mut Spots,
+    suspects: &mut Vec<u32>,
 ) -> Result<bool, AllocError>
     requires segments { AreSegments map.now.chains segments.now }
     requires events { AreEvents map.now.chains events.now }
@@ -151,6 +153,7 @@ pub fn sweep_list(
             &mut ins,
             &mut gaps,
         )? {
+            list_suspects(&line, &outs, &ins, suspects)?;
             return Ok(false);
         }
         from = to;
