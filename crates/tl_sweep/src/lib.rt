@@ -3,7 +3,7 @@
 //! The sweep keeps a list of the segments that are active at the height that it has reached, from west to east, and tests
 //! each two that are neighbours for the first time. Neither the order of the list nor the way in which a place in it was
 //! found is trusted: [`laws`] says what follows from the tests alone. So [`sweep`] answers [`Swept::Planar`] only where the
-//! chains are planar, and where a test fails it says nothing of the map.
+//! chains are planar. Where a test fails it names two segments that meet where they may not, or says nothing of the map.
 #![tactic(auto)]
 
 mod answer;
