@@ -6,6 +6,7 @@
 //! definition over that value. Nothing here takes memory.
 #![tactic(auto)]
 
+mod aligned;
 mod answer;
 mod columns;
 mod fail_at;
