@@ -10,7 +10,9 @@ records-preserved g c = record {
   so_far =
       let gives = c.in-Ok-Some.ensures.gives in
       gathers_more _ _ _ _ _ _ _ _ _ _ (rw c.in-Ok-Some.field-0-is at gives) c.in_ok-add-in-Ok-Some.ensures c.in_ok-add-in-Ok-Some-2.ensures c.records.invariant.so_far;
-  failures = none_failed (standing_of c.records.reader) _ _ _ c.in-Ok-Some.ensures.failures ∙ c.records.invariant.failures;
+  failures =
+      let failures = c.in-Ok-Some.ensures.failures in
+      none_failed (standing_of c.records.reader) _ _ _ (rw c.in-Ok-Some.field-0-is at failures) ∙ c.records.invariant.failures;
   same = c.read_next.ensures.same_reference ∙ c.records.invariant.same;
   standing =
       let settles = c.in-Ok-Some.ensures.settles in

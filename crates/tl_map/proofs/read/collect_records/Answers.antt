@@ -9,7 +9,9 @@ records-preserved g c = record {
   so_far =
       let gives = c.in-Ok-Some.ensures.gives in
       gathers_one_more _ _ _ _ _ _ _ _ (rw c.in-Ok-Some.field-0-is at gives) c.in_ok-add-in-Ok-Some.ensures c.records.invariant.so_far;
-  failures = none_failed (standing_of c.records.reader) _ _ _ c.in-Ok-Some.ensures.failures ∙ c.records.invariant.failures;
+  failures =
+      let failures = c.in-Ok-Some.ensures.failures in
+      none_failed (standing_of c.records.reader) _ _ _ (rw c.in-Ok-Some.field-0-is at failures) ∙ c.records.invariant.failures;
   same = c.read_next.ensures.same_reference ∙ c.records.invariant.same;
   standing =
       let settles = c.in-Ok-Some.ensures.settles in
@@ -30,7 +32,9 @@ returns-in-Ok-None g c = record {
       let gives = c.in-Ok-None.ensures.gives in
       record { records = c.records.invariant.so_far.records; kept = c.records.invariant.so_far.kept; known = known_whole (outcome g.R.Source.remaining c.args.reader.now) _ _ _ _ (rw c.in-Ok-None.field-0-is at gives) c.records.invariant.so_far.known };
   stops = tt;
-  failures = none_failed (standing_of c.records.reader) _ _ _ c.in-Ok-None.ensures.failures ∙ c.records.invariant.failures;
+  failures =
+      let failures = c.in-Ok-None.ensures.failures in
+      none_failed (standing_of c.records.reader) _ _ _ (rw c.in-Ok-None.field-0-is at failures) ∙ c.records.invariant.failures;
   same_reference = c.read_next.ensures.same_reference ∙ c.records.invariant.same;
 }
 
