@@ -118,6 +118,7 @@ fn negated(magnitude: Spelt<u64>) -> Spelt<i64>
 }
 
 /// What the bytes of a number's field spell: digits, with blanks before them, after them or both.
+#[inline(never)]
 pub fn number_spelt(bytes: &[u8]) -> Spelt<u64>
     requires { length bytes.now ≤ 18 }
     ensures { result ≡ number_spelt bytes.now }
