@@ -9,7 +9,7 @@ ghost use Rattle.tl_record.specs.Meaning.{with_record, judgement_with, KeepsUnre
 
 use crate::columns::Columns;
 use crate::field::{
-    cells_at, key_at, number_at, optional_point_at, point_at, side_at, unless_zero,
+    cells_at, key_at, number_at, optional_point_at, point_at, shape_pair_at, side_at,
 };
 use crate::layout::{
     AreaLinkColumns, ChainColumns, LandmarkColumns, Layout, PointColumns, PolyPointColumns,
@@ -102,14 +102,7 @@ fn shape_pairs(
 {
     let mut pairs = [None; PAIRS];
     for index in 0..PAIRS {
-        let number = index as u8 + 1;
-        let pair = optional_point_at(
-            Field::Long(number),
-            Field::Lat(number),
-            &columns[index],
-            line,
-        )?;
-        pairs[index] = unless_zero(pair);
+        pairs[index] = shape_pair_at(index as u8 + 1, &columns[index], line)?;
     }
     Ok(pairs)
 }
