@@ -3,17 +3,14 @@
 #![tactic(auto)]
 
 use std::fs::File;
-use std::io::BufReader;
 use std::process::ExitCode;
 use std::{env, io};
-use tl_record::{Meter, ReadStop, RecordReader, Source};
-
-// As many bytes at a time as tigertopo reads.
-const INPUT_BUFFER: usize = 131_072;
+use tl_record::{Meter, NO_RECORD, ReadStop, RecordReader, Source};
 
 fn count_all<R: Source>(reader: &mut RecordReader<R>) -> Result<u64, ReadStop> {
+    let mut record = NO_RECORD;
     for count in 0..u64::MAX {
-        if reader.next_record()?.is_none() {
+        if reader.read_next(&mut record)?.is_none() {
             return Ok(count);
         }
     }
@@ -24,8 +21,7 @@ fn main(rt: HostRuntime) -> io::Result<ExitCode> {
     let (mut records, mut skipped) = (0u64, 0u64);
     for name in env::args(&rt)?.skip(1) {
         let file = File::open(&rt, name)?;
-        let source = Meter::new(BufReader::with_capacity(rt.alloc(), INPUT_BUFFER, file)?);
-        let mut reader = RecordReader::new(source);
+        let mut reader = RecordReader::new(Meter::new(file));
         match count_all(&mut reader) {
             Ok(count) => records = records.saturating_add(count),
             Err(stop) => {

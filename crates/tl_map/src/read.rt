@@ -17,7 +17,7 @@ use crate::fault::MapStop;
 use std::alloc::Global;
 use std::hash::RandomState;
 use tl_county::{Chains, Map};
-use tl_record::{Options, RecordReader, Source};
+use tl_record::{NO_RECORD, Options, RecordReader, Source};
 
 /// The default of [`Options`]: nothing is chosen.
 const PLAIN: Options = Options {
@@ -38,9 +38,10 @@ fn collect_records<R: Source>(
     ensures same_reference { R.reference (source_of reader.new) ≡ R.reference (source_of reader.old) }
 {
     let mut collected = Collected::new(alloc);
+    let mut next = NO_RECORD;
     'records: loop {
-        match reader.next_record() {
-            Ok(Some((_, next))) => collected.add(&next)?,
+        match reader.read_next(&mut next) {
+            Ok(Some(_)) => collected.add(&next)?,
             Ok(None) => return Ok(collected),
             Err(stop) => return Err(MapStop::from(stop)),
         }
@@ -62,9 +63,10 @@ fn collect_all<R: Source>(
 {
     let mut collected = Collected::new(alloc);
     let mut areas = AreaRecords::new(alloc);
+    let mut next = NO_RECORD;
     'records: loop {
-        match reader.next_record() {
-            Ok(Some((_, next))) => {
+        match reader.read_next(&mut next) {
+            Ok(Some(_)) => {
                 collected.add(&next)?;
                 areas.add(&next)?;
             }

@@ -1,8 +1,13 @@
 -- Blanks at the end of a field.
 use Rattle.std.proofs.Common.{◌≡◌, ℕ, zero, suc, ◌+◌, ◌-◌, ◌<◌, ◌≤◌, true, false, ◌&&◌, Bool, List, [], ◌∷◌, ◌++◌, length, take, drop, get_or, refl, ap, sym, ◌∙◌, arith, replicate}
-use Rattle.std.proofs.Common.{inl, inr, take_all}
+use Rattle.std.proofs.Common.{inl, inr, take_all, map, not, cond, eqb}
 use Rattle.std.proofs.lemmas.Bool.{cases_Bool, cases_lt}
-use Rattle.std.proofs.lemmas.List.{take_more, take-append-le}
+use Rattle.std.proofs.lemmas.List.{take_more, take-append-le, take-take}
+use Rattle.std.proofs.lemmas.List.Sums.{prefix_len-le-length}
+use Rattle.std.proofs.lemmas.Simd.{first_set_mask_l}
+use Rattle.std.specs.List.{prefix_len}
+use lib.Lanes.{mask_l}
+use lib.Count.{count_trailing_zeros}
 use Rattle.std.proofs.Math.Seq.{take-append-add}
 use Rattle.std.specs.List.{list_all}
 use Rattle.std.proofs.lemmas.List.Folds.{list_all-append}
@@ -86,3 +91,29 @@ trimmed-field line range =
           ap trimmed parts ∙ trimmed-append bytes (take (width_of range - length bytes) blanks) (all_blank_take (width_of range - length bytes) (width_of range)) ∙ ap trimmed (sym whole)
       | inr long ↦ ap trimmed (take-append-le (width_of range) bytes blanks long)
     ]
+
+-- ---- blanks at the front, as a mask of lanes tells them
+
+front_more : (byte : ℕ) (bytes : List ℕ) (n : ℕ) → is_blank byte ≡ true → list_all is_blank (take n bytes) ≡ true → list_all is_blank (take (1 + n) (byte ∷ bytes)) ≡ true
+front_more byte bytes n is rest =
+    let next : 1 + n ≡ suc n = omega arith in ap (λ k. list_all is_blank (take k (byte ∷ bytes))) next ∙ rw is rest
+
+front_blank : (bytes : List ℕ) → list_all is_blank (take (prefix_len (λ x. not (not (is_blank x))) bytes) bytes) ≡ true
+front_blank [] = refl
+front_blank (byte ∷ bytes) =
+    elim (cases_Bool (is_blank byte)) [
+      | inl is ↦ rw is (front_more byte bytes _ is (front_blank bytes))
+      | inr is ↦ rw is refl
+    ]
+
+-- as many lanes as no bit is set for, from the first
+pub blanks_told : (bytes lanes : List ℕ) (others found : ℕ) → lanes ≡ take 16 bytes → length lanes ≡ 16 → others ≡ mask_l (map (λ x. not (is_blank x)) lanes)
+    → found ≡ cond (eqb others 0) 16 (count_trailing_zeros 64 others) → (found ≤ 16) × (list_all is_blank (take found bytes) ≡ true)
+blanks_told bytes lanes others found same long mask is =
+    let p : ℕ → Bool = λ x. not (is_blank x) in
+    let run : found ≡ prefix_len (λ x. not (p x)) lanes = is ∙ ap (λ n. cond (eqb n 0) 16 (count_trailing_zeros 64 n)) mask ∙ first_set_mask_l p lanes 16 long (omega arith) in
+    let few : found ≤ 16 = omega (arith, run, long, prefix_len-le-length (λ x. not (p x)) lanes) in
+    let front : take found bytes ≡ take found lanes = sym (ap (take found) same ∙ take-take found 16 bytes few) in (
+      few,
+      ap (list_all is_blank) front ∙ ap (λ n. list_all is_blank (take n lanes)) run ∙ front_blank lanes,
+    )

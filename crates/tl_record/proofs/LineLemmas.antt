@@ -95,12 +95,11 @@ after_first_line_whole [] none = refl
 after_first_line_whole (byte ∷ text) none = let parts = no_feed_here byte text none in rw parts.0 (after_first_line_whole text parts.1)
 
 -- the first line of a text goes at least as far as its bytes with no line feed
-pub first_line_long : (front : List ℕ) (byte : ℕ) (rest : List ℕ) → line_feeds front ≡ 0 → is_byte line_feed byte ≡ false
-    → length front < length (first_line (front ++ byte ∷ rest))
-first_line_long [] byte rest none other = rw other (omega arith)
-first_line_long (first ∷ front) byte rest none other =
+pub first_line_over : (front rest : List ℕ) → line_feeds front ≡ 0 → length front ≤ length (first_line (front ++ rest))
+first_line_over [] rest none = omega arith
+first_line_over (first ∷ front) rest none =
     let parts = no_feed_here first front none in
-    let longer = first_line_long front byte rest parts.1 other in
+    let longer = first_line_over front rest parts.1 in
     rw parts.0 (omega (arith, longer))
 
 -- a byte before a text stands before its first line

@@ -1,13 +1,19 @@
 -- What a reader answers, from the lines that it passed over and the line that it judged last.
 use Rattle.std.proofs.Common.{◌≡◌, ℕ, ◌+◌, List, Option, None, Some, Ok, Err, refl, sym, ap, ◌∙◌, arith, inl, inr, subst}
-use Rattle.std.specs.Option.{unwrap_or}
+use Rattle.std.specs.Option.{unwrap_or, option_map}
+use Rattle.std.specs.Prelude.{Result}
+use Rattle.tl_record.specs.declared.stop.ReadStop.{ReadStop}
 use Rattle.tl_record.specs.declared.stop.ReadStop.TheVariants as stop
+use Rattle.tl_record.specs.declared.record.Record.{Record}
+use Rattle.tl_record.specs.declared.judge.Meaning.{Meaning}
+use Rattle.tl_record.specs.declared.judge.Meaning.TheVariants as meaning
+use Rattle.tl_record.specs.Meaning.{judgement_with, KeepsUnread}
 use Rattle.tl_record.specs.declared.judge.Judgement.{Judgement}
 use Rattle.tl_record.specs.declared.judge.Judgement.TheVariants.{PassedOver, Read, Refused}
 use Rattle.tl_record.specs.declared.reader.NextLine.TheVariants as next
 use Rattle.tl_record.specs.declared.reader.Standing.TheVariants.{Reading, Ended, Stopped}
 use Rattle.tl_record.specs.declared.reader.RecordReader.{RecordReader}
-use Rattle.tl_record.specs.Reader.{Answer, source_of, lines_of, skipped_of, standing_of, pending_of, layout_of, unjudged, outcome, to_come, nothing_after, StepsTo, CountsLine, PassesOver, Moves, Gives, answer_of, lines_with, skipped_with, standing_with}
+use Rattle.tl_record.specs.Reader.{Answer, source_of, lines_of, skipped_of, standing_of, pending_of, layout_of, unjudged, outcome, to_come, nothing_after, StepsTo, CountsLine, PassesOver, Moves, Gives, answer_of, answer_with, KeepsUnanswered, lines_with, skipped_with, standing_with}
 use Rattle.tl_record.specs.Failures.{one_more}
 use Rattle.tl_record.specs.Lines.{line_feeds}
 use Rattle.tl_record.specs.Records.{Records}
@@ -172,3 +178,35 @@ answers_failed remaining failure_count first before found after passed step stan
             (rw (same, layout, lines, skipped) (read_failed before.layout before.lines before.skipped (unjudged remaining before) (unjudged remaining found) step.finds));
       };
     }
+
+-- ---- the record's place
+
+keeps_any : (answer : Result (Option ℕ) ReadStop) (old new : Record) → new ≡ old → KeepsUnanswered answer old new
+keeps_any (Ok (Some number)) old new same = tt
+keeps_any (Ok None) old new same = same
+keeps_any (Err stop) old new same = same
+
+-- a line that is answered leaves the place as it was, unless a record is answered
+pub line_keeps : (meaning : Meaning) (answer : Result (Option ℕ) ReadStop) (number : ℕ) (first before new : Record) → before ≡ first → KeepsUnread meaning before new
+    → Some (answer_with answer new) ≡ answer_of number (judgement_with meaning new) → KeepsUnanswered answer first new
+line_keeps meaning.PassedOver answer number first before new same kept is = keeps_any answer first new (kept ∙ same)
+line_keeps meaning.Read (Ok (Some n)) number first before new same kept is = tt
+line_keeps meaning.Read (Ok None) number first before new same kept is = absurd (let wrong = is in cc)
+line_keeps meaning.Read (Err stop) number first before new same kept is = absurd (let wrong = is in cc)
+line_keeps (meaning.Refused cause) answer number first before new same kept is = keeps_any answer first new (kept ∙ same)
+
+-- and so does one that is passed over
+pub passed_keeps : (meaning : Meaning) (number : ℕ) (before new : Record) → KeepsUnread meaning before new → None ≡ answer_of number (judgement_with meaning new) → new ≡ before
+passed_keeps meaning.PassedOver number before new kept is = kept
+passed_keeps meaning.Read number before new kept is = absurd (let wrong = is in cc)
+passed_keeps (meaning.Refused cause) number before new kept is = kept
+
+pub last_keeps : (meaning : Meaning) (told : Option (Result (Option ℕ) ReadStop)) (number : ℕ) (first before new : Record) → before ≡ first → KeepsUnread meaning before new
+    → option_map (λ answer. answer_with answer new) told ≡ answer_of number (judgement_with meaning new) → KeepsUnanswered (unwrap_or told (Ok None)) first new
+last_keeps meaning None number first before new same kept is = passed_keeps meaning number before new kept is ∙ same
+last_keeps meaning (Some answer) number first before new same kept is = line_keeps meaning answer number first before new same kept is
+
+pub unwrapped_with : (told : Option (Result (Option ℕ) ReadStop)) (r : Record)
+    → unwrap_or (option_map (λ answer. answer_with answer r) told) (Ok None) ≡ answer_with (unwrap_or told (Ok None)) r
+unwrapped_with None r = refl
+unwrapped_with (Some answer) r = refl

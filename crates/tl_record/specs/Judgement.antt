@@ -73,6 +73,12 @@ abbrev pub unless_zero : Option Point → Option Point
 unless_zero None = None
 unless_zero (Some p) = if unsigned_abs p.x == 0 && unsigned_abs p.y == 0 then None else Some p
 
+-- the shape pair with this number, where it is used
+abbrev pub shape_pair_at : ℕ → PointColumns → List ℕ → Result (Option Point) Cause
+shape_pair_at number columns line = do
+  pair ← optional_point_at (field_name.Long number) (field_name.Lat number) columns line
+  Ok (unless_zero pair)
+
 -- the shape pairs of a line, of which the first has this number
 unfoldable pub shape_pairs : ℕ → List PointColumns → List ℕ → Result (List (Option Point)) Cause
 shape_pairs number [] line = Ok []

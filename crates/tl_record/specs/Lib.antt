@@ -12,6 +12,7 @@ pub mod KeyText
 pub mod KeyWords
 pub mod Outcome
 pub mod Judgement
+pub mod Meaning
 pub mod Records
 pub mod NextLine
 pub mod Reader

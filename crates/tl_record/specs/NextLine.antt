@@ -11,6 +11,9 @@ use Rattle.tl_record.specs.declared.reader.NextLine.TheVariants as next
 use Rattle.tl_record.specs.Failures.{one_more}
 use Rattle.tl_record.specs.Lines.{line_feed, line_feeds, first_line, after_first_line}
 use Rattle.tl_record.specs.Judgement.{judgement}
+use Rattle.tl_record.specs.Meaning.{judgement_with, KeepsUnread}
+use Rattle.tl_record.specs.declared.judge.Meaning.{Meaning}
+use Rattle.tl_record.specs.declared.record.Record.{Record}
 
 -- what the bytes of a buffer with so much room and the state of its source show: the line's length, that it is the
 -- last, or neither
@@ -39,7 +42,7 @@ IfAccepted (Read r) P = P
 IfAccepted (Refused cause) P = ⊤
 
 -- some line has this judgement
-abbrev pub JudgesSome : Layout → ℕ → NextLine → Type 0
+abbrev pub JudgesSome : Layout → ℕ → NextLine Judgement → Type 0
 JudgesSome layout number (next.Line j) = (line : List ℕ) × (j ≡ judgement layout number line)
 JudgesSome layout number (next.Last j) = (line : List ℕ) × (j ≡ judgement layout number line)
 JudgesSome layout number next.End = ⊤
@@ -52,7 +55,7 @@ pub record TakesLine (layout : Layout) (number : ℕ) (text : List ℕ) (new : O
   pub feeds : IfAccepted j (line_feeds text ≡ line_feeds (after_first_line text) + 1)
 
 -- what was found in the text that wasn't judged before, where that is known
-abbrev pub FindsNext : Layout → ℕ → Option (List ℕ) → Option (List ℕ) → NextLine → Type 0
+abbrev pub FindsNext : Layout → ℕ → Option (List ℕ) → Option (List ℕ) → NextLine Judgement → Type 0
 FindsNext layout number None new found = ⊤
 FindsNext layout number (Some text) new (next.Line j) = TakesLine layout number text new j
 FindsNext layout number (Some text) new (next.Last j) = JudgesFirst layout number text j × (after_first_line text ≡ [])
@@ -60,15 +63,29 @@ FindsNext layout number (Some text) new next.End = text ≡ []
 FindsNext layout number (Some text) new next.Failed = new ≡ Some text
 
 -- a failed fetch counts
-abbrev pub CountsNext : ℕ → ℕ → NextLine → Type 0
+abbrev pub CountsNext : ℕ → ℕ → NextLine Judgement → Type 0
 CountsNext old new (next.Line j) = new ≡ old
 CountsNext old new (next.Last j) = new ≡ old
 CountsNext old new next.End = new ≡ old
 CountsNext old new next.Failed = new ≡ one_more old
 
 -- where a fetch failed, no line feed is among the bytes that were fetched
-abbrev pub PendingWhole : List ℕ → NextLine → Type 0
+abbrev pub PendingWhole : List ℕ → NextLine Judgement → Type 0
 PendingWhole pending (next.Line j) = ⊤
 PendingWhole pending (next.Last j) = ⊤
 PendingWhole pending next.End = ⊤
 PendingWhole pending next.Failed = line_feeds pending ≡ 0
+
+-- what was found, of what it means and what stands in the record's place
+abbrev pub found_with : NextLine Meaning → Record → NextLine Judgement
+found_with (next.Line meaning) r = next.Line (judgement_with meaning r)
+found_with (next.Last meaning) r = next.Last (judgement_with meaning r)
+found_with next.End r = next.End
+found_with next.Failed r = next.Failed
+
+-- where no record is found, its place stays as it was
+abbrev pub KeepsUnfound : NextLine Meaning → Record → Record → Type 0
+KeepsUnfound (next.Line meaning) old new = KeepsUnread meaning old new
+KeepsUnfound (next.Last meaning) old new = KeepsUnread meaning old new
+KeepsUnfound next.End old new = new ≡ old
+KeepsUnfound next.Failed old new = new ≡ old

@@ -75,6 +75,18 @@ outcome remaining reader = outcome_standing (standing_of reader) (to_come remain
 abbrev pub Answer : Type 0
 Answer = Result (Option (ℕ × Record)) ReadStop
 
+-- an answer, of the line's number and what stands in the record's place
+abbrev pub answer_with : Result (Option ℕ) ReadStop → Record → Answer
+answer_with (Ok (Some number)) r = Ok (Some (number, r))
+answer_with (Ok None) r = Ok None
+answer_with (Err stop) r = Err stop
+
+-- where no record is answered, its place stays as it was
+abbrev pub KeepsUnanswered : Result (Option ℕ) ReadStop → Record → Record → Type 0
+KeepsUnanswered (Ok (Some number)) old new = ⊤
+KeepsUnanswered (Ok None) old new = new ≡ old
+KeepsUnanswered (Err stop) old new = new ≡ old
+
 -- these records, with one more entry before them
 abbrev pub with_entry : ℕ × Record → Records → Records
 with_entry entry rest = record { entries = entry ∷ rest.entries; refusal = rest.refusal; skipped = rest.skipped }
@@ -153,7 +165,7 @@ pub record KeepsProgress {R : Type 0} (old new : RecordReader R) : Type 0 where
   pub standing : standing_of new ≡ standing_of old
 
 -- a search for the next line, judged under the number after those that were accepted
-pub record StepsTo {R : Type 0} (remaining : R → Option (List ℕ)) (failure_count : R → ℕ) (old new : RecordReader R) (found : NextLine) : Type 0 where
+pub record StepsTo {R : Type 0} (remaining : R → Option (List ℕ)) (failure_count : R → ℕ) (old new : RecordReader R) (found : NextLine Judgement) : Type 0 where
   pub finds : FindsNext (layout_of old) (lines_of old + 1) (unjudged remaining old) (unjudged remaining new) found
   pub judges : JudgesSome (layout_of old) (lines_of old + 1) found
   pub pending : PendingWhole (pending_of new) found

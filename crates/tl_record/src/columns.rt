@@ -1,8 +1,8 @@
 //! Columns of a line.
 
-ghost use Rattle.std.specs.Prelude.{◌≡◌, ℕ, ◌+◌, ◌-◌, ◌^◌, ◌<◌, ◌≤◌, List, length, take, drop};
+ghost use Rattle.std.specs.Prelude.{◌≡◌, ℕ, ◌+◌, ◌-◌, ◌^◌, ◌<◌, ◌≤◌, List, length, take, drop, IfSome};
 ghost use Rattle.tl_record.specs.Range.{Range, IsRange, columns};
-ghost use Rattle.tl_record.specs.Fields.{field};
+ghost use Rattle.tl_record.specs.Fields.{field, width_of};
 
 use std::marker::Model;
 
@@ -40,6 +40,25 @@ impl ColumnRange {
     {
         line.field(self.first, self.last)
     }
+
+    /// How many columns these are.
+    #[inline(always)]
+    pub(crate) fn width(self) -> usize
+        ensures width { result ≡ width_of self }
+        ensures some { 0 < result }
+        ensures narrow { result ≤ 18 }
+    {
+        usize::from(self.last) + 1 - usize::from(self.first)
+    }
+
+    /// The bytes of a line from the first of these columns on, where they are sixteen or more.
+    #[inline(always)]
+    pub(crate) fn onward<'a>(self, line: &Columns<'a>) -> Option<&'a [u8]>
+        ensures bytes { IfSome result (λ rest. rest.now ≡ drop (self.first - 1) line.now) }
+        ensures many { IfSome result (λ rest. 16 ≤ length rest.now) }
+    {
+        line.onward(self.first)
+    }
 }
 
 /// Five columns, of which this is the first.
@@ -73,6 +92,9 @@ impl FiveColumns {
         ensures { result ≡ field line.now self }
     {
         let given = line.field(self.first, self.first + 4);
+        if let Ok(whole) = <[u8; 5]>::try_from(given) {
+            return whole;
+        }
         let mut bytes = [b' '; 5];
         bytes[..given.len()].copy_from_slice(given);
         bytes
@@ -109,5 +131,19 @@ impl<'a> Columns<'a> {
         let end = self.bytes.len().min(last as usize);
         let start = end.min(first as usize - 1);
         &self.bytes[start..end]
+    }
+    /// The bytes from a column on, where they are sixteen or more.
+    #[inline(always)]
+    fn onward(&self, first: u16) -> Option<&'a [u8]>
+        requires { 1 ≤ first }
+        ensures bytes { IfSome result (λ rest. rest.now ≡ drop (first - 1) self.now) }
+        ensures many { IfSome result (λ rest. 16 ≤ length rest.now) }
+    {
+        let start = usize::from(first) - 1;
+        if start + 16 <= self.bytes.len() {
+            Some(&self.bytes[start..])
+        } else {
+            None
+        }
     }
 }

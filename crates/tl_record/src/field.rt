@@ -1,15 +1,16 @@
 //! Reading a field of one kind.
 
-ghost use Rattle.std.specs.Prelude.{◌≡◌, ◌≤◌, ◌<◌, ◌^◌};
+ghost use Rattle.std.specs.Prelude.{◌≡◌, ◌≤◌, ◌<◌, ◌^◌, true, pos, IfSome};
 ghost use Rattle.tl_record.specs.Fields.{field, is_cenid_byte, number_spelt, coordinate_spelt};
 ghost use Rattle.std.specs.List.{list_all};
 ghost use Rattle.tl_record.specs.Judgement.{required, number_at, coordinate, point, point_at, optional_point};
 ghost use Rattle.tl_record.specs.Judgement.{optional_point_at, unless_zero, cenid_at, key_at, side_at, optional_id};
-ghost use Rattle.tl_record.specs.Judgement.{id_at, cells_at};
+ghost use Rattle.tl_record.specs.Judgement.{id_at, cells_at, shape_pair_at};
 
+use crate::aligned::aligned_number;
 use crate::columns::{ColumnRange, Columns, FiveColumns};
 use crate::layout::{CellColumns, KeyColumns, PointColumns};
-use crate::number::{Spelt, coordinate_spelt, number_spelt};
+use crate::number::{Spelt, coordinate_spelt, is_plus_zero, number_spelt};
 use crate::record::PolyKey;
 use crate::stop::{Cause, Field};
 use tl_geom::Point;
@@ -24,7 +25,25 @@ pub const MAX_LATITUDE: u32 = 90_000_000;
 fn number_spelt_at(columns: ColumnRange, line: &Columns<'_>) -> Spelt<u64>
     ensures { result ≡ number_spelt (field line.now columns) }
 {
-    number_spelt(columns.of(line))
+    match aligned_number_at(columns, line) {
+        Some(value) => Spelt::Value(value),
+        None => number_spelt(columns.of(line)),
+    }
+}
+
+/// What a number's field spells that holds blanks and then digits, as most do. `None` says nothing.
+#[inline(always)]
+fn aligned_number_at(columns: ColumnRange, line: &Columns<'_>) -> Option<u64>
+    ensures { IfSome result (λ value. number_spelt (field line.now columns) ≡ Spelt.Value value) }
+{
+    let width = columns.width();
+    if width > 16 {
+        return None;
+    }
+    match columns.onward(line) {
+        Some(rest) => aligned_number(rest, width),
+        None => None,
+    }
 }
 
 /// A field that has to be given, with the value that it spells.
@@ -110,8 +129,32 @@ pub(crate) fn optional_point_at(
     Ok(Some(point(long_name, lat_name, long, lat)?))
 }
 
+/// Whether a coordinate's field is zeros behind a plus. `false` says nothing.
+#[inline(always)]
+fn is_plus_zero_at(columns: ColumnRange, line: &Columns<'_>) -> bool
+    ensures { result ≡ true → coordinate_spelt (field line.now columns) ≡ Spelt.Value (pos 0) }
+{
+    is_plus_zero(columns.of(line))
+}
+
+/// A shape pair, `None` where it isn't used. Most that aren't are zeros.
+#[inline(always)]
+pub(crate) fn shape_pair_at(
+    number: u8,
+    columns: &PointColumns,
+    line: &Columns<'_>,
+) -> Result<Option<Point>, Cause>
+    ensures { result ≡ shape_pair_at number columns.now line.now }
+{
+    if is_plus_zero_at(columns.long, line) && is_plus_zero_at(columns.lat, line) {
+        return Ok(None);
+    }
+    let pair = optional_point_at(Field::Long(number), Field::Lat(number), columns, line)?;
+    Ok(unless_zero(pair))
+}
+
 /// A shape pair, unless both its fields read as 0.
-pub(crate) fn unless_zero(pair: Option<Point>) -> Option<Point>
+fn unless_zero(pair: Option<Point>) -> Option<Point>
     ensures { result ≡ unless_zero pair }
 {
     match pair {
@@ -161,10 +204,13 @@ pub(crate) fn side_at(
 ) -> Result<Option<PolyKey>, Cause>
     ensures { result ≡ side_at cenid_name polyid_name columns.now line.now }
 {
-    if let Spelt::Blank = number_spelt_at(columns.polyid, line) {
+    let spelt = number_spelt_at(columns.polyid, line);
+    if let Spelt::Blank = spelt {
         return Ok(None);
     }
-    Ok(Some(key_at(cenid_name, polyid_name, columns, line)?))
+    let cenid = cenid_at(cenid_name, columns.cenid, line)?;
+    let polyid = required(polyid_name, spelt)?;
+    Ok(Some(PolyKey { cenid, polyid }))
 }
 
 fn optional_id(name: Field, spelt: Spelt<u64>) -> Result<Option<u64>, Cause>

@@ -1,20 +1,21 @@
 //! What a line means.
 
-ghost use Rattle.std.specs.Prelude.{◌≡◌, ◌+◌, ◌≤◌, ◌<◌};
+ghost use Rattle.std.specs.Prelude.{◌≡◌, ◌+◌, ◌≤◌, ◌<◌, OnErr};
 ghost use Rattle.tl_record.specs.Lines.{content};
 ghost use Rattle.tl_record.specs.Judgement.{judgement, content_judgement, chain_record, shape_record, sides_record};
 ghost use Rattle.tl_record.specs.Judgement.{poly_point_record, landmark_record, area_link_record, shape_pairs};
 ghost use Rattle.tl_record.specs.Judgement.{sequence_number, judged};
+ghost use Rattle.tl_record.specs.Meaning.{with_record, judgement_with, KeepsUnread};
 
 use crate::columns::Columns;
 use crate::field::{
-    cells_at, key_at, number_at, optional_point_at, point_at, side_at, unless_zero,
+    cells_at, key_at, number_at, optional_point_at, point_at, shape_pair_at, side_at,
 };
 use crate::layout::{
     AreaLinkColumns, ChainColumns, LandmarkColumns, Layout, PointColumns, PolyPointColumns,
     ShapeColumns, SidesColumns,
 };
-use crate::record::{PAIRS, Record};
+use crate::record::{NO_RECORD, PAIRS, Record};
 use crate::stop::{Cause, Field};
 use tl_geom::Point;
 
@@ -35,6 +36,18 @@ pub enum Judgement {
     Refused(Cause),
 }
 
+/// What a line means, where the record that it may hold stands in a place of the caller's: a record takes many times as
+/// many bytes, which would be copied at each return.
+#[derive(Clone, Copy)]
+pub(crate) enum Meaning {
+    /// It is empty, or of a type that isn't read.
+    PassedOver,
+    /// It holds the record that was put into the caller's place.
+    Read,
+    /// It is refused.
+    Refused(Cause),
+}
+
 /// A raw line without one carriage return at its end.
 fn content(raw: &[u8]) -> &[u8]
     ensures { result.now ≡ content raw.now }
@@ -47,13 +60,15 @@ fn content(raw: &[u8]) -> &[u8]
 }
 
 #[tactic(auto, unfolding(crate::specs::Judgement::chain_record))]
-fn chain_record(columns: &ChainColumns, line: &Columns<'_>) -> Result<Record, Cause>
-    ensures { result ≡ chain_record columns.now line.now }
+fn read_chain(columns: &ChainColumns, line: &Columns<'_>, place: &mut Record) -> Result<(), Cause>
+    ensures read { with_record result place.new ≡ chain_record columns.now line.now }
+    ensures kept { OnErr result (place.new ≡ place.old) }
 {
     let tlid = number_at(Field::Tlid, columns.tlid, line)?;
     let from = point_at(Field::FrLong, Field::FrLat, &columns.from, line)?;
     let to = point_at(Field::ToLong, Field::ToLat, &columns.to, line)?;
-    Ok(Record::Chain { tlid, from, to })
+    *place = Record::Chain { tlid, from, to };
+    Ok(())
 }
 
 fn sequence_number(number: u64) -> Result<u16, Cause>
@@ -67,14 +82,16 @@ fn sequence_number(number: u64) -> Result<u16, Cause>
 }
 
 #[tactic(auto, unfolding(crate::specs::Judgement::shape_record))]
-fn shape_record(columns: &ShapeColumns, line: &Columns<'_>) -> Result<Record, Cause>
-    ensures { result ≡ shape_record columns.now line.now }
+fn read_shape(columns: &ShapeColumns, line: &Columns<'_>, place: &mut Record) -> Result<(), Cause>
+    ensures read { with_record result place.new ≡ shape_record columns.now line.now }
+    ensures kept { OnErr result (place.new ≡ place.old) }
 {
     let tlid = number_at(Field::Tlid, columns.tlid, line)?;
     let number = number_at(Field::Rtsq, columns.rtsq, line)?;
     let rtsq = sequence_number(number)?;
     let pairs = shape_pairs(&columns.pairs, line)?;
-    Ok(Record::Shape { tlid, rtsq, pairs })
+    *place = Record::Shape { tlid, rtsq, pairs };
+    Ok(())
 }
 
 fn shape_pairs(
@@ -85,95 +102,124 @@ fn shape_pairs(
 {
     let mut pairs = [None; PAIRS];
     for index in 0..PAIRS {
-        let number = index as u8 + 1;
-        let pair = optional_point_at(
-            Field::Long(number),
-            Field::Lat(number),
-            &columns[index],
-            line,
-        )?;
-        pairs[index] = unless_zero(pair);
+        pairs[index] = shape_pair_at(index as u8 + 1, &columns[index], line)?;
     }
     Ok(pairs)
 }
 
 #[tactic(auto, unfolding(crate::specs::Judgement::sides_record))]
-fn sides_record(columns: &SidesColumns, line: &Columns<'_>) -> Result<Record, Cause>
-    ensures { result ≡ sides_record columns.now line.now }
+fn read_sides(columns: &SidesColumns, line: &Columns<'_>, place: &mut Record) -> Result<(), Cause>
+    ensures read { with_record result place.new ≡ sides_record columns.now line.now }
+    ensures kept { OnErr result (place.new ≡ place.old) }
 {
     let tlid = number_at(Field::Tlid, columns.tlid, line)?;
     let (start_cell, end_cell) = cells_at(columns.cells, line)?;
     let left = side_at(Field::CenidL, Field::PolyidL, &columns.left, line)?;
     let right = side_at(Field::CenidR, Field::PolyidR, &columns.right, line)?;
-    Ok(Record::Sides {
+    *place = Record::Sides {
         tlid,
         start_cell,
         end_cell,
         left,
         right,
-    })
+    };
+    Ok(())
 }
 
 #[tactic(auto, unfolding(crate::specs::Judgement::poly_point_record))]
-fn poly_point_record(columns: &PolyPointColumns, line: &Columns<'_>) -> Result<Record, Cause>
-    ensures { result ≡ poly_point_record columns.now line.now }
+fn read_poly_point(
+    columns: &PolyPointColumns,
+    line: &Columns<'_>,
+    place: &mut Record,
+) -> Result<(), Cause>
+    ensures read { with_record result place.new ≡ poly_point_record columns.now line.now }
+    ensures kept { OnErr result (place.new ≡ place.old) }
 {
     let key = key_at(Field::Cenid, Field::Polyid, &columns.key, line)?;
     let point = point_at(Field::PolyLong, Field::PolyLat, &columns.point, line)?;
-    Ok(Record::PolyPoint { key, point })
+    *place = Record::PolyPoint { key, point };
+    Ok(())
 }
 
 #[tactic(auto, unfolding(crate::specs::Judgement::landmark_record))]
-fn landmark_record(columns: &LandmarkColumns, line: &Columns<'_>) -> Result<Record, Cause>
-    ensures { result ≡ landmark_record columns.now line.now }
+fn read_landmark(
+    columns: &LandmarkColumns,
+    line: &Columns<'_>,
+    place: &mut Record,
+) -> Result<(), Cause>
+    ensures read { with_record result place.new ≡ landmark_record columns.now line.now }
+    ensures kept { OnErr result (place.new ≡ place.old) }
 {
     let land = number_at(Field::Land, columns.land, line)?;
     let point = optional_point_at(Field::LaLong, Field::LaLat, &columns.point, line)?;
-    Ok(Record::Landmark { land, point })
+    *place = Record::Landmark { land, point };
+    Ok(())
 }
 
 #[tactic(auto, unfolding(crate::specs::Judgement::area_link_record))]
-fn area_link_record(columns: &AreaLinkColumns, line: &Columns<'_>) -> Result<Record, Cause>
-    ensures { result ≡ area_link_record columns.now line.now }
+fn read_area_link(
+    columns: &AreaLinkColumns,
+    line: &Columns<'_>,
+    place: &mut Record,
+) -> Result<(), Cause>
+    ensures read { with_record result place.new ≡ area_link_record columns.now line.now }
+    ensures kept { OnErr result (place.new ≡ place.old) }
 {
     let key = key_at(Field::Cenid, Field::Polyid, &columns.key, line)?;
     let land = number_at(Field::Land, columns.land, line)?;
-    Ok(Record::AreaLink { key, land })
+    *place = Record::AreaLink { key, land };
+    Ok(())
 }
 
-fn judged(read: Result<Record, Cause>) -> Judgement
-    ensures { result ≡ judged read }
+fn meaning_of(read: Result<(), Cause>) -> Meaning
+    ensures judged { (r : Record) → judgement_with result r ≡ judged (with_record read r) }
+    ensures kept { (old new : Record) → OnErr read (new ≡ old) → KeepsUnread result old new }
 {
     match read {
-        Ok(record) => Judgement::Read(record),
-        Err(cause) => Judgement::Refused(cause),
+        Ok(()) => Meaning::Read,
+        Err(cause) => Meaning::Refused(cause),
     }
 }
 
-fn content_judgement(layout: &Layout, content: &[u8]) -> Judgement
-    ensures { result ≡ content_judgement layout.now content.now }
+fn judge_content(layout: &Layout, content: &[u8], place: &mut Record) -> Meaning
+    ensures judged { judgement_with result place.new ≡ content_judgement layout.now content.now }
+    ensures kept { KeepsUnread result place.old place.new }
 {
     let line = Columns::new(content);
     match content {
-        [b'1', ..] => judged(chain_record(&layout.chain, &line)),
-        [b'2', ..] => judged(shape_record(&layout.shape, &line)),
-        [b'I', ..] => judged(sides_record(&layout.sides, &line)),
-        [b'P', ..] => judged(poly_point_record(&layout.poly_point, &line)),
-        [b'7', ..] => judged(landmark_record(&layout.landmark, &line)),
-        [b'8', ..] => judged(area_link_record(&layout.area_link, &line)),
-        _ => Judgement::PassedOver,
+        [b'1', ..] => meaning_of(read_chain(&layout.chain, &line, place)),
+        [b'2', ..] => meaning_of(read_shape(&layout.shape, &line, place)),
+        [b'I', ..] => meaning_of(read_sides(&layout.sides, &line, place)),
+        [b'P', ..] => meaning_of(read_poly_point(&layout.poly_point, &line, place)),
+        [b'7', ..] => meaning_of(read_landmark(&layout.landmark, &line, place)),
+        [b'8', ..] => meaning_of(read_area_link(&layout.area_link, &line, place)),
+        _ => Meaning::PassedOver,
     }
+}
+
+/// What a raw line, which stands without its line feed, means under its number, counted from 1. A record that it holds
+/// is put into `place`, which otherwise stays as it is.
+pub(crate) fn judge_into(layout: &Layout, number: u64, raw: &[u8], place: &mut Record) -> Meaning
+    ensures judged { judgement_with result place.new ≡ judgement layout.now number raw.now }
+    ensures kept { KeepsUnread result place.old place.new }
+{
+    if number > MAX_LINES {
+        return Meaning::Refused(Cause::TooManyLines);
+    }
+    if raw.len() > MAX_LINE_BYTES {
+        return Meaning::Refused(Cause::LineTooLong);
+    }
+    judge_content(layout, content(raw), place)
 }
 
 /// What a raw line, which stands without its line feed, means under its number, counted from 1.
 pub fn judge_line(layout: &Layout, number: u64, raw: &[u8]) -> Judgement
     ensures { result ≡ judgement layout.now number raw.now }
 {
-    if number > MAX_LINES {
-        return Judgement::Refused(Cause::TooManyLines);
+    let mut record = NO_RECORD;
+    match judge_into(layout, number, raw, &mut record) {
+        Meaning::PassedOver => Judgement::PassedOver,
+        Meaning::Read => Judgement::Read(record),
+        Meaning::Refused(cause) => Judgement::Refused(cause),
     }
-    if raw.len() > MAX_LINE_BYTES {
-        return Judgement::Refused(Cause::LineTooLong);
-    }
-    content_judgement(layout, content(raw))
 }

@@ -6,6 +6,8 @@
 //! definition over that value. Nothing here takes memory.
 #![tactic(auto)]
 
+mod aligned;
+mod answer;
 mod columns;
 mod fail_at;
 mod fail_at_out;
@@ -39,7 +41,7 @@ pub use meter::{Meter, MeterOut};
 pub use number::{Spelt, coordinate_spelt};
 pub use options::Options;
 pub use reader::RecordReader;
-pub use record::{PAIRS, PolyKey, Record};
+pub use record::{NO_RECORD, PAIRS, PolyKey, Record};
 pub use sink::Sink;
 pub use source::Source;
 pub use stop::{Cause, Field, ReadStop};

@@ -1,12 +1,12 @@
 //! What the bytes of a field spell.
 
-ghost use Rattle.std.specs.Prelude.{◌≡◌, ◌<◌, ◌≤◌, ◌^◌, true, length, IfSome};
+ghost use Rattle.std.specs.Prelude.{◌≡◌, ◌<◌, ◌≤◌, ◌^◌, true, length, pos, IfSome};
 ghost use Rattle.std.specs.List.{list_all};
 ghost use Rattle.std.specs.Char.{is_ascii_digit};
 ghost use Rattle.tl_record.specs.Fields.{without_leading_blanks, without_trailing_blanks, trimmed, decimal};
 ghost use Rattle.tl_record.specs.Fields.{digits_spell, IsBelow, negated, not_negated, number_spelt, coordinate_spelt};
 
-use crate::word::eight_digits;
+use crate::word::{are_eight_zeros, eight_digits};
 
 /// What a field's bytes spell, where it holds a number.
 #[derive(Clone, Copy)]
@@ -118,6 +118,7 @@ fn negated(magnitude: Spelt<u64>) -> Spelt<i64>
 }
 
 /// What the bytes of a number's field spell: digits, with blanks before them, after them or both.
+#[inline(never)]
 pub fn number_spelt(bytes: &[u8]) -> Spelt<u64>
     requires { length bytes.now ≤ 18 }
     ensures { result ≡ number_spelt bytes.now }
@@ -143,6 +144,19 @@ fn filled_spelt(bytes: &[u8]) -> Option<i64>
         b'-' => Some(0 - value as i64),
         b'+' => Some(value as i64),
         _ => None,
+    }
+}
+
+/// Whether the bytes of such a field are a plus and eight or nine zeros, as in a shape pair that isn't used. `false` says
+/// nothing.
+#[inline(always)]
+pub(crate) fn is_plus_zero(bytes: &[u8]) -> bool
+    ensures { result ≡ true → coordinate_spelt bytes.now ≡ Spelt.Value (pos 0) }
+{
+    match bytes {
+        [b'+', b'0', zeros @ ..] if zeros.len() == 8 => are_eight_zeros(zeros),
+        [b'+', zeros @ ..] => are_eight_zeros(zeros),
+        _ => false,
     }
 }
 

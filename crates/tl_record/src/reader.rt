@@ -7,25 +7,32 @@ ghost use Rattle.tl_record.specs.Limits.{most_lines, most_line_bytes};
 ghost use Rattle.tl_record.specs.declared.layout.Layout.{Layout};
 ghost use Rattle.tl_record.specs.Lines.{line_feeds};
 ghost use Rattle.tl_record.specs.Layout.{tiger_2006, layout_with};
+ghost use Rattle.tl_record.specs.declared.judge.Judgement.TheVariants.{Refused};
 ghost use Rattle.tl_record.specs.Judgement.{judgement, judgement as judgement_of};
 ghost use Rattle.tl_record.specs.Records.{records_of};
-ghost use Rattle.tl_record.specs.NextLine.{Shows, CountsFetch};
+ghost use Rattle.tl_record.specs.NextLine.{Shows, CountsFetch, found_with, KeepsUnfound};
+ghost use Rattle.tl_record.specs.Meaning.{judgement_with, KeepsUnread};
+ghost use Rattle.tl_record.specs.declared.record.Record.{Record};
 
-use crate::judge::{Judgement, MAX_LINE_BYTES, MAX_LINES, judge_line};
+use crate::answer::with_record;
+use crate::judge::{MAX_LINES, Meaning, judge_into};
 use crate::layout::{Layout, layout_with};
 use crate::line_buffer::{Fetched, LineBuffer, fetch_line};
 use crate::options::Options;
-use crate::record::Record;
+use crate::record::{NO_RECORD, Record};
 use crate::source::Source;
 use crate::stop::{Cause, ReadStop};
 
-/// The next line, judged.
+// How many bytes of the text are kept: what is fetched at once.
+const BLOCK: usize = 65_536;
+
+/// The next line, judged: `J` is what is told of it.
 #[derive(Clone, Copy)]
-enum NextLine {
+enum NextLine<J> {
     /// A line that ends in a line feed.
-    Line(Judgement),
+    Line(J),
     /// A last line with no line feed.
-    Last(Judgement),
+    Last(J),
     /// There is none.
     End,
     /// A read failed.
@@ -45,12 +52,12 @@ pub enum Standing {
 
 /// Gives the records of a source's text one after the other, up to its end or to its first refused line.
 ///
-/// It keeps at most one line of the text, and takes no memory.
+/// It keeps at most 65,536 bytes of the text, in an array, and takes no memory.
 #[derive(Drop)]
 pub struct RecordReader<R> {
     source: R,
     layout: Layout,
-    buffer: LineBuffer<MAX_LINE_BYTES>,
+    buffer: LineBuffer<BLOCK>,
     lines: u64,
     skipped: u64,
     standing: Standing,
@@ -61,7 +68,7 @@ pub struct RecordReader<R> {
 /// Why a line is refused that is longer than any that is read.
 fn long_line_cause(number: u64) -> Cause
     ensures { (layout : Layout) (line : List ℕ) → most_line_bytes < length line
-        → judgement layout number line ≡ Judgement.Refused result }
+        → judgement layout number line ≡ Refused result }
 {
     if number > MAX_LINES {
         Cause::TooManyLines
@@ -73,6 +80,7 @@ fn long_line_cause(number: u64) -> Cause
 impl<R: Source> RecordReader<R> {
     ghost use Rattle.tl_record.specs.Reader.{source_of, layout_of, lines_of, skipped_of, standing_of, pending_of};
     ghost use Rattle.tl_record.specs.Reader.{outcome, StepsTo, CountsLine, Moves, Gives, Settles, Repeats, Counts};
+    ghost use Rattle.tl_record.specs.Reader.{answer_with, KeepsUnanswered};
     ghost use Rattle.tl_record.specs.Reader.{TellsFailure, FailsWhole, WhereReading};
 
     /// A reader of the source's records, by the column table of the TIGER/Line files of 2006.
@@ -113,89 +121,68 @@ impl<R: Source> RecordReader<R> {
     }
 
     // What the first bytes that were fetched mean as the next line.
-    fn judge_pending(&self, len: usize) -> Judgement
+    fn judge_pending(&self, len: usize, place: &mut Record) -> Meaning
         requires { len ≤ length (pending_of self.now) }
-        ensures judged { result
+        ensures judged { judgement_with result place.new
             ≡ judgement (layout_of self.now) (lines_of self.now + 1) (take len (pending_of self.now)) }
-        ensures room { length (pending_of self.now) ≤ most_line_bytes }
+        ensures kept { KeepsUnread result place.old place.new }
+        ensures room { length (pending_of self.now) ≤ BLOCK }
     {
-        judge_line(&self.layout, self.lines + 1, &self.buffer.bytes()[..len])
+        let bytes = &self.buffer.bytes()[..len];
+        judge_into(&self.layout, self.lines + 1, bytes, place)
     }
 
     // The last line, where the source is at its end.
-    fn judge_last(&mut self) -> NextLine
-        requires ended { IsAtEnd (R.remaining (source_of self.old)) }
-        requires none { line_feeds (pending_of self.old) ≡ 0 }
-        ensures steps { StepsTo R.remaining R.failure_count self.old self.new result }
-        ensures same_reference { R.reference (source_of self.new) ≡ R.reference (source_of self.old) }
+    fn judge_last(&self, place: &mut Record) -> NextLine<Meaning>
+        requires ended { IsAtEnd (R.remaining (source_of self.now)) }
+        requires none { line_feeds (pending_of self.now) ≡ 0 }
+        ensures steps { StepsTo R.remaining R.failure_count self.now self.now (found_with result place.new) }
+        ensures kept { KeepsUnfound result place.old place.new }
     {
         let len = self.buffer.bytes().len();
         if len == 0 {
             return NextLine::End;
         }
-        NextLine::Last(self.judge_pending(len))
-    }
-
-    // The next line, where the buffer is full: one more byte tells whether it is too long.
-    fn judge_full(&mut self) -> NextLine
-        requires full { length (pending_of self.old) ≡ most_line_bytes }
-        requires none { line_feeds (pending_of self.old) ≡ 0 }
-        ensures steps { StepsTo R.remaining R.failure_count self.old self.new result }
-        ensures same_reference { R.reference (source_of self.new) ≡ R.reference (source_of self.old) }
-    {
-        let mut next = [0u8; 1];
-        match self.source.fetch(&mut next) {
-            Ok(0) => self.judge_last(),
-            Ok(_) => {
-                if next[0] == b'\n' {
-                    let judgement = self.judge_pending(MAX_LINE_BYTES);
-                    self.buffer.consume(MAX_LINE_BYTES);
-                    NextLine::Line(judgement)
-                } else {
-                    NextLine::Line(Judgement::Refused(long_line_cause(self.lines + 1)))
-                }
-            }
-            Err(_) => NextLine::Failed,
-        }
+        NextLine::Last(self.judge_pending(len, place))
     }
 
     // Finds the next line and judges it.
-    fn next_line(&mut self) -> NextLine
-        ensures steps { StepsTo R.remaining R.failure_count self.old self.new result }
+    fn next_line(&mut self, place: &mut Record) -> NextLine<Meaning>
+        ensures steps { StepsTo R.remaining R.failure_count self.old self.new (found_with result place.new) }
+        ensures kept { KeepsUnfound result place.old place.new }
         ensures same_reference { R.reference (source_of self.new) ≡ R.reference (source_of self.old) }
     {
         match fetch_line(&mut self.buffer, &mut self.source) {
             Fetched::Whole(len) => {
-                let judgement = self.judge_pending(len);
+                let meaning = self.judge_pending(len, place);
                 self.buffer.consume(len + 1);
-                NextLine::Line(judgement)
+                NextLine::Line(meaning)
             }
-            Fetched::Rest => self.judge_last(),
-            Fetched::Full => self.judge_full(),
+            Fetched::Rest => self.judge_last(place),
+            Fetched::Full => { NextLine::Line(Meaning::Refused(long_line_cause(self.lines + 1))) }
             Fetched::Failed => NextLine::Failed,
         }
     }
 
     // Counts a judged line, and says what to answer of it: nothing where it is passed over.
-    fn count_line(
-        &mut self,
-        judgement: Judgement,
-    ) -> Option<Result<Option<(u64, Record)>, ReadStop>>
-        requires { (line : List ℕ) × (judgement ≡ judgement_of (layout_of self.old) (lines_of self.old + 1) line) }
-        ensures { CountsLine self.old self.new judgement result }
+    fn count_line(&mut self, meaning: Meaning) -> Option<Result<Option<u64>, ReadStop>>
+        requires { (r : Record) × (line : List ℕ)
+            × (judgement_with meaning r ≡ judgement_of (layout_of self.old) (lines_of self.old + 1) line) }
+        ensures { (r : Record) → CountsLine self.old self.new (judgement_with meaning r)
+            (option_map (λ answer. answer_with answer r) result) }
     {
         let number = self.lines + 1;
-        match judgement {
-            Judgement::PassedOver => {
+        match meaning {
+            Meaning::PassedOver => {
                 self.lines += 1;
                 self.skipped += 1;
                 None
             }
-            Judgement::Read(entry) => {
+            Meaning::Read => {
                 self.lines = number;
-                Some(Ok(Some((number, entry))))
+                Some(Ok(Some(number)))
             }
-            Judgement::Refused(cause) => {
+            Meaning::Refused(cause) => {
                 let stop = ReadStop::Refused {
                     line: number,
                     cause,
@@ -207,21 +194,22 @@ impl<R: Source> RecordReader<R> {
     }
 
     // Reads on, up to a line that isn't passed over.
-    fn read_on(&mut self) -> Result<Option<(u64, Record)>, ReadStop>
+    fn read_on(&mut self, place: &mut Record) -> Result<Option<u64>, ReadStop>
         requires { standing_of self.old ≡ Standing.Reading }
-        ensures moves { Moves R.remaining R.failure_count self.old self.new result }
+        ensures moves { Moves R.remaining R.failure_count self.old self.new (answer_with result place.new) }
+        ensures kept { KeepsUnanswered result place.old place.new }
         ensures same_reference { R.reference (source_of self.new) ≡ R.reference (source_of self.old) }
     {
         'lines: loop {
-            match self.next_line() {
-                NextLine::Line(judgement) => {
-                    if let Some(answer) = self.count_line(judgement) {
+            match self.next_line(place) {
+                NextLine::Line(meaning) => {
+                    if let Some(answer) = self.count_line(meaning) {
                         return answer;
                     }
                 }
-                NextLine::Last(judgement) => {
+                NextLine::Last(meaning) => {
                     self.standing = Standing::Ended;
-                    return self.count_line(judgement).unwrap_or(Ok(None));
+                    return self.count_line(meaning).unwrap_or(Ok(None));
                 }
                 NextLine::End => {
                     self.standing = Standing::Ended;
@@ -232,6 +220,32 @@ impl<R: Source> RecordReader<R> {
                     return Err(ReadStop::Device);
                 }
             }
+        }
+    }
+
+    /// Puts the next record into `place`, and answers its line's number, counted from 1, or `None` at the end of the text.
+    ///
+    /// It answers as [`RecordReader::next_record`] does, and moves no record. Where none is answered `place` stays as it
+    /// is.
+    pub fn read_next(&mut self, place: &mut Record) -> Result<Option<u64>, ReadStop>
+        ensures gives { Gives (outcome R.remaining self.old) (outcome R.remaining self.new) (skipped_of self.new)
+            (answer_with result place.new) }
+        ensures settles { Settles (standing_of self.new) (answer_with result place.new) }
+        ensures repeats { Repeats (standing_of self.old) self.old self.new (answer_with result place.new) }
+        ensures counts { WhereReading (standing_of self.old)
+            (Counts (lines_of self.old) (skipped_of self.old) (lines_of self.new) (skipped_of self.new)
+            (answer_with result place.new)) }
+        ensures failures { TellsFailure (standing_of self.old) (R.failure_count (source_of self.old))
+            (R.failure_count (source_of self.new)) (answer_with result place.new) }
+        ensures same_reference { R.reference (source_of self.new) ≡ R.reference (source_of self.old) }
+        ensures whole_lines { WhereReading (standing_of self.old)
+            (FailsWhole R.remaining self.old self.new (answer_with result place.new)) }
+        ensures kept { KeepsUnanswered result place.old place.new }
+    {
+        match self.standing {
+            Standing::Reading => self.read_on(place),
+            Standing::Ended => Ok(None),
+            Standing::Stopped(stop) => Err(stop),
         }
     }
 
@@ -257,10 +271,8 @@ impl<R: Source> RecordReader<R> {
         ensures same_reference { R.reference (source_of self.new) ≡ R.reference (source_of self.old) }
         ensures whole_lines { WhereReading (standing_of self.old) (FailsWhole R.remaining self.old self.new result) }
     {
-        match self.standing {
-            Standing::Reading => self.read_on(),
-            Standing::Ended => Ok(None),
-            Standing::Stopped(stop) => Err(stop),
-        }
+        let mut record = NO_RECORD;
+        let answer = self.read_next(&mut record);
+        with_record(answer, record)
     }
 }

@@ -71,3 +71,9 @@ pub enum Record {
         land: u64,
     },
 }
+
+/// What may stand in the place of a record before one is read into it.
+pub const NO_RECORD: Record = Record::Landmark {
+    land: 0,
+    point: None,
+};

@@ -1,6 +1,6 @@
 //! Up to eight digits at once, with no branch for each.
 
-ghost use Rattle.std.specs.Prelude.{◌≡◌, ℕ, List, ◌+◌, ◌<◌, ◌≤◌, ◌^◌, true, take, map, IfSome};
+ghost use Rattle.std.specs.Prelude.{◌≡◌, ℕ, List, ◌+◌, ◌<◌, ◌≤◌, ◌^◌, true, take, map, replicate, IfSome};
 ghost use Rattle.std.specs.List.{list_all};
 ghost use Rattle.std.specs.Char.{is_ascii_digit};
 ghost use Rattle.tl_record.specs.Fields.{decimal};
@@ -84,4 +84,15 @@ pub fn leading_digits(bytes: [u8; 8]) -> Option<(u64, usize)>
         return None;
     }
     Some((digits_value(digits << (64 - 8 * count)), count))
+}
+
+/// Whether the bytes are eight times the digit 0.
+#[inline(always)]
+pub(crate) fn are_eight_zeros(bytes: &[u8]) -> bool
+    ensures { result ≡ true → bytes.now ≡ replicate 8 48 }
+{
+    match <[u8; 8]>::try_from(bytes) {
+        Ok(eight) => u64::from_le_bytes(eight) == ZEROS,
+        Err(_) => false,
+    }
 }

@@ -10,8 +10,10 @@ records-preserved g c = record {
   so_far =
       let gives = c.in-Ok-Some.ensures.gives in
       gathers_more _ _ _ _ _ _ _ _ _ _ (rw c.in-Ok-Some.field-0-is at gives) c.in_ok-add-in-Ok-Some.ensures c.in_ok-add-in-Ok-Some-2.ensures c.records.invariant.so_far;
-  failures = none_failed (standing_of c.records.reader) _ _ _ c.in-Ok-Some.ensures.failures ∙ c.records.invariant.failures;
-  same = c.next_record.ensures.same_reference ∙ c.records.invariant.same;
+  failures =
+      let failures = c.in-Ok-Some.ensures.failures in
+      none_failed (standing_of c.records.reader) _ _ _ (rw c.in-Ok-Some.field-0-is at failures) ∙ c.records.invariant.failures;
+  same = c.read_next.ensures.same_reference ∙ c.records.invariant.same;
   standing =
       let settles = c.in-Ok-Some.ensures.settles in
       rw c.in-Ok-Some.field-0-is at settles;
@@ -28,7 +30,7 @@ records-init g c = record {
 pub returns-in-Err : goal.returns-in-Err
 returns-in-Err g c = rw c.from.ensures (record {
   all = tt;
-  stops = stop_told (outcome g.R.Source.remaining c.args.reader.now) (outcome g.R.Source.remaining c.records.reader) (outcome g.R.Source.remaining c.next_record.new.self) _ c.records.invariant.so_far.records c.in-Err.stop c.in-Err.ensures.gives c.records.invariant.so_far.known;
-  failures = failure_told (Collected × AreaRecords) (standing_of c.records.reader) c.records.reader c.next_record.new.self _ _ _ c.in-Err.stop c.records.invariant.standing c.in-Err.ensures.repeats c.in-Err.ensures.failures c.records.invariant.failures;
-  same_reference = c.next_record.ensures.same_reference ∙ c.records.invariant.same;
+  stops = stop_told (outcome g.R.Source.remaining c.args.reader.now) (outcome g.R.Source.remaining c.records.reader) (outcome g.R.Source.remaining c.read_next.new.self) _ c.records.invariant.so_far.records c.in-Err.stop c.in-Err.ensures.gives c.records.invariant.so_far.known;
+  failures = failure_told (Collected × AreaRecords) (standing_of c.records.reader) c.records.reader c.read_next.new.self _ _ _ c.in-Err.stop c.records.invariant.standing c.in-Err.ensures.repeats c.in-Err.ensures.failures c.records.invariant.failures;
+  same_reference = c.read_next.ensures.same_reference ∙ c.records.invariant.same;
 })

@@ -1,5 +1,6 @@
 use Rattle.std.proofs.Common.{◌≡◌, ◌≢◌, ◌+◌, [], refl, ap, ◌∙◌, length, take, take_all, arith}
 use Rattle.tl_record.specs.Judgement.{judgement}
+use Rattle.tl_record.specs.Meaning.{judgement_with}
 use Rattle.tl_record.proofs.NextLemmas.{finds_last}
 use Rattle.tl_record.proofs.reader.RecordReader.judge_last.Goals as goal
 
@@ -12,7 +13,7 @@ returns-clause-steps g c =
     let some : bytes ≢ [] = λ none. c.if-len-eq0.false (same ∙ ap length none) in
     let is = c.judge_pending.ensures.judged ∙ ap (judgement reader.layout (reader.lines + 1)) all in
     record {
-      finds = finds_last reader.layout (reader.lines + 1) (g.R.Source.remaining reader.source) _ bytes c.judge_pending.result some c.requires.ended c.requires.none is;
+      finds = finds_last reader.layout (reader.lines + 1) (g.R.Source.remaining reader.source) _ bytes (judgement_with c.judge_pending.result c.judge_pending.new.place) some c.requires.ended c.requires.none is;
       judges = (bytes, is);
       pending = tt;
       failures = refl;

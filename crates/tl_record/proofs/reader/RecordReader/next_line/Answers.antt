@@ -1,20 +1,36 @@
-use Rattle.std.proofs.Common.{◌+◌, refl, take, arith}
-use Rattle.tl_record.proofs.NextLemmas.{finds_line}
+use Rattle.std.proofs.Common.{◌+◌, refl, sym, take, arith}
+use Rattle.tl_record.specs.Meaning.{judgement_with}
+use Rattle.tl_record.proofs.NextLemmas.{finds_line, finds_full, longer, longer_is}
 use Rattle.tl_record.proofs.reader.RecordReader.next_line.Goals as goal
 
 pub overflow_add-len : goal.overflow_add-len
-overflow_add-len g c = omega (arith, c.in-Whole.ensures.shows.0, c.judge_pending-judgement.ensures.room)
+overflow_add-len g c = omega (arith, c.in-Whole.ensures.shows.0, c.judge_pending-meaning.ensures.room)
 
 pub returns-in-Whole-clause-steps : goal.returns-in-Whole-clause-steps
 returns-in-Whole-clause-steps g c =
     let reader = c.args.self.now in
     let bytes = c.fetch_line.new.buffer in
     let shows = c.in-Whole.ensures.shows in
+    let judged = c.judge_pending-meaning.ensures.judged in
     record {
-      finds = finds_line reader.layout (reader.lines + 1) _ (g.R.Source.remaining c.fetch_line.new.source) bytes c.consume.new.self c.in-Whole.len c.judge_pending-judgement.result
-          c.in-Whole.ensures.bytes shows.0 shows.1 shows.2 c.judge_pending-judgement.ensures.judged c.consume.ensures;
-      judges = (take c.in-Whole.len bytes, c.judge_pending-judgement.ensures.judged);
+      finds = finds_line reader.layout (reader.lines + 1) _ (g.R.Source.remaining c.fetch_line.new.source) bytes c.consume.new.self c.in-Whole.len (judgement_with c.judge_pending-meaning.result c.judge_pending-meaning.new.place)
+          c.in-Whole.ensures.bytes shows.0 shows.1 shows.2 judged c.consume.ensures;
+      judges = (take c.in-Whole.len bytes, judged);
       pending = tt;
       failures = c.in-Whole.ensures.failures;
+      progress = record { layout = refl; lines = refl; skipped = refl; standing = refl };
+    }
+
+pub returns-in-Full-clause-steps : goal.returns-in-Full-clause-steps
+returns-in-Full-clause-steps g c =
+    let reader = c.args.self.now in
+    let shows = c.in-Full.ensures.shows in
+    let cause = c.long_line_cause.ensures reader.layout in
+    record {
+      finds = finds_full reader.layout (reader.lines + 1) _ (g.R.Source.remaining c.fetch_line.new.source) _ c.fetch_line.new.buffer c.long_line_cause.result
+          c.in-Full.ensures.bytes shows.0 (omega (arith, shows.1)) (λ line long. cause line (omega (arith, long, shows.1)));
+      judges = (longer 1024, sym (cause (longer 1024) (longer_is 1024)));
+      pending = tt;
+      failures = c.in-Full.ensures.failures;
       progress = record { layout = refl; lines = refl; skipped = refl; standing = refl };
     }

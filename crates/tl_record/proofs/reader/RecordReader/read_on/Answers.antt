@@ -1,23 +1,40 @@
-use Rattle.std.proofs.Common.{ap, ◌∙◌, refl}
-use Rattle.tl_record.proofs.ReadOn.{passes_on, answers_line, answers_last, answers_end, answers_failed}
+use Rattle.std.proofs.Common.{ap, ◌∙◌, refl, ◌+◌}
+use Rattle.tl_record.specs.Meaning.{judgement_with}
+use Rattle.tl_record.proofs.ReadOn.{passes_on, answers_line, answers_last, answers_end, answers_failed, line_keeps, passed_keeps, last_keeps, unwrapped_with}
 use Rattle.tl_record.proofs.reader.RecordReader.read_on.Goals as goal
 
 pub returns-in-Some-clause-moves : goal.returns-in-Some-clause-moves
 returns-in-Some-clause-moves g c =
-    answers_line g.R.Source.remaining g.R.Source.failure_count c.args.self.now c.lines.self c.next_line.new.self c.count_line.new.self c.in-Line.judgement c.in-Some.answer c.lines.invariant.passes c.in-Line.ensures.steps c.in-Some.ensures
+    let record_now = c.next_line.new.place in
+    answers_line g.R.Source.remaining g.R.Source.failure_count c.args.self.now c.lines.self c.next_line.new.self c.count_line.new.self (judgement_with c.in-Line.meaning record_now) _ c.lines.invariant.passes c.in-Line.ensures.steps (c.in-Some.ensures record_now)
+
+pub returns-in-Some-clause-kept : goal.returns-in-Some-clause-kept
+returns-in-Some-clause-kept g c =
+    line_keeps c.in-Line.meaning c.in-Some.answer (c.next_line.new.self.lines + 1) c.args.place.now c.lines.place c.next_line.new.place c.lines.invariant.kept c.in-Line.ensures.kept (c.in-Some.ensures c.next_line.new.place).is
 
 pub lines-preserved : goal.lines-preserved
 lines-preserved g c =
+    let record_now = c.next_line.new.place in
+    let counted = c.in_default.ensures record_now in
     record {
-      passes = passes_on g.R.Source.remaining g.R.Source.failure_count c.args.self.now c.lines.self c.next_line.new.self c.count_line.new.self c.in-Line.judgement c.lines.invariant.passes c.in-Line.ensures.steps c.in_default.ensures;
-      same = ap g.R.Source.reference c.in_default.ensures.source ∙ c.in-Line.ensures.same_reference ∙ c.lines.invariant.same;
+      passes = passes_on g.R.Source.remaining g.R.Source.failure_count c.args.self.now c.lines.self c.next_line.new.self c.count_line.new.self (judgement_with c.in-Line.meaning record_now) c.lines.invariant.passes c.in-Line.ensures.steps counted;
+      same = ap g.R.Source.reference counted.source ∙ c.in-Line.ensures.same_reference ∙ c.lines.invariant.same;
+      kept = passed_keeps c.in-Line.meaning (c.next_line.new.self.lines + 1) c.lines.place record_now c.in-Line.ensures.kept counted.is ∙ c.lines.invariant.kept;
     }
 
 pub returns-in-Last-clause-moves : goal.returns-in-Last-clause-moves
 returns-in-Last-clause-moves g c =
-    let counted = c.count_line-in-Last.ensures in
-    rw c.unwrap_or.ensures (answers_last g.R.Source.remaining g.R.Source.failure_count c.args.self.now c.lines.self c.next_line.new.self c.count_line-in-Last.new.self c.in-Last.judgement c.count_line-in-Last.result
-    c.lines.invariant.passes c.in-Last.ensures.steps record { is = counted.is; lines = counted.lines; skipped = counted.skipped; standing = counted.standing; source = counted.source })
+    let record_now = c.next_line.new.place in
+    let counted = c.count_line-in-Last.ensures record_now in
+    let answered = answers_last g.R.Source.remaining g.R.Source.failure_count c.args.self.now c.lines.self c.next_line.new.self c.count_line-in-Last.new.self (judgement_with c.in-Last.meaning record_now) _
+    c.lines.invariant.passes c.in-Last.ensures.steps record { is = counted.is; lines = counted.lines; skipped = counted.skipped; standing = counted.standing; source = counted.source } in
+    rw c.unwrap_or.ensures (rw (unwrapped_with c.count_line-in-Last.result record_now) at answered)
+
+pub returns-in-Last-clause-kept : goal.returns-in-Last-clause-kept
+returns-in-Last-clause-kept g c =
+    let record_now = c.next_line.new.place in
+    let counted = c.count_line-in-Last.ensures record_now in
+    rw c.unwrap_or.ensures (last_keeps c.in-Last.meaning c.count_line-in-Last.result (c.next_line.new.self.lines + 1) c.args.place.now c.lines.place record_now c.lines.invariant.kept c.in-Last.ensures.kept counted.is)
 
 pub returns-in-End-clause-moves : goal.returns-in-End-clause-moves
 returns-in-End-clause-moves g c =

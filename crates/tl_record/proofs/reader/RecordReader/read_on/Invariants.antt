@@ -6,6 +6,7 @@ abbrev pub invariant-lines : goal.invariant-lines
 invariant-lines g l = record {
   passes : PassesOver g.R.Source.remaining g.R.Source.failure_count l.initial.self l.self;
   same : g.R.Source.reference (source_of l.self) ≡ g.R.Source.reference (source_of l.initial.self);
+  kept : l.place ≡ l.initial.place;
 }
 
 abbrev pub decreases-lines : goal.decreases-lines
