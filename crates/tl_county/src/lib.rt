@@ -13,6 +13,7 @@ mod limits;
 mod map;
 mod nodes;
 mod polygons;
+mod presort;
 mod segments;
 mod sides;
 

@@ -121,8 +121,8 @@ impl Map {
           skipped = chains.skipped;
         }) }
     {
-        let segments = number_segments(alloc, &chains)?;
         let nodes = number_nodes(alloc, &chains)?;
+        let segments = number_segments(alloc, &chains)?;
         let LinkedLandmarks {
             points,
             rows,

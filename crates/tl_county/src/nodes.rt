@@ -1,12 +1,13 @@
 //! The numbers of nodes.
 
-ghost use Rattle.std.specs.Prelude.{◌≡◌, ◌+◌, ◌*◌, ◌<◌, ◌^◌, All, IfOk, Option, length};
+ghost use Rattle.std.specs.Prelude.{◌≡◌, ◌+◌, ◌*◌, ◌<◌, ◌^◌, All, IfOk, OnOk, Option, length};
 ghost use Rattle.std.specs.List.Sorted.{IsPermutation};
 ghost use Rattle.tl_county.specs.Chains.{CompleteChain, IsProper};
 ghost use Rattle.tl_county.specs.Keeping.Noded.{start_in, TellStarts, AreByPoint, AreDarts, AreNumbered, CountsOn};
 ghost use Rattle.tl_county.specs.Keeping.Noded.{AreNumberedNodes};
 
 use crate::chains::{Chains, point_along};
+use crate::presort::presort;
 use std::alloc::{AllocError, Global};
 use tl_geom::Point;
 
@@ -41,11 +42,13 @@ fn dart_starts(alloc: Global, chains: &Chains) -> Result<Vec<DartStart>, AllocEr
 }
 
 /// Sorts the starts of darts by point, in place.
-fn sort_starts(starts: &mut Vec<DartStart>)
-    ensures ordered { AreByPoint starts.new.items }
+fn sort_starts(alloc: Global, starts: &mut Vec<DartStart>) -> Result<(), AllocError>
+    ensures ordered { OnOk result (AreByPoint starts.new.items) }
     ensures moved { IsPermutation starts.old.items starts.new.items }
 {
+    presort(alloc, starts)?;
     starts.sort_unstable_by_key(|start| start.point);
+    Ok(())
 }
 
 /// How many points there are with one more, in a list where equal ones stand together.
@@ -85,7 +88,7 @@ pub fn number_nodes(alloc: Global, chains: &Chains) -> Result<Nodes, AllocError>
     ensures { IfOk result (AreNumberedNodes chains.now.chains) }
 {
     let mut starts = dart_starts(alloc, chains)?;
-    sort_starts(&mut starts);
+    sort_starts(alloc, &mut starts)?;
     let nodes = number_starts(alloc, &starts)?;
     Ok(nodes)
 }

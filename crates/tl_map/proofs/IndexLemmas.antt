@@ -1,6 +1,7 @@
 use Rattle.std.proofs.Common.{◌≡◌, ℕ, zero, suc, ◌+◌, ◌<◌, Bool, true, false, eqb, ◌&&◌, inl, inr, Option, Some, None, List, [], ◌∷◌, length, map, take, Contains, refl, sym, ap, ◌∙◌, arith}
 use Rattle.std.specs.Prelude.{slice_get, nat_eq, is_some}
 use Rattle.std.specs.Option.{option_map}
+use Rattle.std.specs.Bool.{OnTrue}
 use Rattle.std.specs.Cmp.{IsEquivalence, nat_eq_equiv, on_equiv, and_equiv}
 use Rattle.std.specs.Cmp.Lexicographic.{pointwise, same_text, nat_list_eq_equiv}
 use Rattle.std.specs.Map.{keys_of, lookup}
@@ -124,3 +125,14 @@ index_keys ps m are unique = rw (keys_are ps m are) at (numbers_keys same_key ke
 
 pub few_entries : (ps : List Polygon) (m : IndexMap PolyKey Point RandomState) → m.entries ≡ map entry_of ps → length m.entries ≡ length ps
 few_entries ps m are = ap length are ∙ length-map ps entry_of
+
+-- the entry that a look-up by number gives has this number
+pub number_there : {X S : Type 0} (m : IndexMap PolyKey X S) (n : ℕ) (k : PolyKey) (e : PolyKey × X) → IsUnique same_key m → Some e ≡ slice_get m.entries n → same_key e.0 k ≡ true → index_of same_key m k ≡ Some n
+number_there {X} {S} m n k e unique at same =
+    let here : e.0 ≡ k = same_key-is e.0 k same in
+    rw (← here) (index-first (same_key e.0) m.entries n (own_first same_key key_laws m.entries n e.0 e.1 unique (sym at)))
+
+-- the same, where a test says whether the entry has the key
+pub number_tested : {X S : Type 0} (m : IndexMap PolyKey X S) (n : ℕ) (k : PolyKey) (e : PolyKey × X) (test : Bool) → IsUnique same_key m → Some e ≡ slice_get m.entries n → test ≡ same_key e.0 k → OnTrue test (index_of same_key m k ≡ Some n)
+number_tested m n k e true unique at is = number_there m n k e unique at (sym is)
+number_tested m n k e false unique at is = tt

@@ -131,7 +131,9 @@ pub fn join(
     ensures few { OnOk result (segment_count (map (joined pool.now shapes.now) chains.now) ≤ SEGMENT_LIMIT) }
     ensures err { IfErr result (StopsJoin (map (joined pool.now shapes.now) chains.now)) }
 {
-    let mut points = Vec::new(alloc);
+    // Each point but for a few has its place at once, so that the list doesn't grow beside its older self.
+    let most = (chains.len() * 2).saturating_add(pool.len());
+    let mut points = Vec::with_capacity(alloc, most)?;
     let mut rows = Vec::with_capacity(alloc, chains.len())?;
     let mut start = 0;
     for chain in chains {

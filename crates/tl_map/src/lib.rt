@@ -13,6 +13,7 @@ mod build_map;
 mod collect;
 mod entry;
 mod fault;
+mod guess;
 mod join;
 mod kept;
 mod landmarks;

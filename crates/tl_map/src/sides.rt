@@ -12,6 +12,7 @@ ghost use Rattle.tl_map.specs.Keeping.Sided.{sided_by, IsSide, NamesKnown, Stops
 ghost use Rattle.tl_map.specs.Keeping.Sided.{IsUnpaired, ArePaired, StopsPairing};
 
 use crate::fault::{MapFault, MapStop};
+use crate::guess::Guesses;
 use crate::kept::KeptSides;
 use indexmap::IndexMap;
 use std::alloc::Global;
@@ -23,6 +24,7 @@ use tl_record::PolyKey;
 /// What lies on a side of a chain whose record has this key there.
 fn resolve_side(
     index: &IndexMap<PolyKey, Point, RandomState>,
+    guesses: &mut Guesses,
     key: Option<PolyKey>,
     tlid: u64,
 ) -> Result<Side, MapStop>
@@ -31,7 +33,7 @@ fn resolve_side(
 {
     match key {
         None => Ok(Side::Outside),
-        Some(polygon) => match index.get_index_of(&polygon) {
+        Some(polygon) => match guesses.number_of(index, polygon) {
             Some(number) => Ok(Side::Polygon(number as u32)),
             None => Err(MapStop::Fault(MapFault::SideWithoutPolygon { tlid, polygon })),
         },
@@ -50,11 +52,12 @@ pub fn resolve_sides(
     ensures known { (ks : List PolyKey) → Indexes ks index.now → OnOk result (All (NamesKnown ks) entries.now) }
     ensures stops { (ks : List PolyKey) → Indexes ks index.now → IfErr result (StopsSides ks entries.now) }
 {
+    let mut guesses = Guesses::new(alloc, index)?;
     let mut sides = Vec::with_capacity(alloc, entries.len())?;
     for kept in entries {
         let entry = kept.whole();
-        let left = resolve_side(index, entry.left, entry.tlid)?;
-        let right = resolve_side(index, entry.right, entry.tlid)?;
+        let left = resolve_side(index, &mut guesses, entry.left, entry.tlid)?;
+        let right = resolve_side(index, &mut guesses, entry.right, entry.tlid)?;
         sides.push(KeptChainSides::new(ChainSides {
             left,
             right,

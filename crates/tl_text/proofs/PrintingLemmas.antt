@@ -42,3 +42,7 @@ pub OnOk-appends : {T E : Type 0} (result : Result T E) (old mid new : Option (L
 OnOk-appends (Ok x) old mid new xs ys all before last same =
     subst (Appends old new) same (Appends-trans old mid new xs ys before last)
 OnOk-appends (Err e) old mid new xs ys all before last same = tt
+
+-- a blank, a text, a comma and a text before the rest, piece by piece
+pub point_parts : (x y rest : List ℕ) → 32 ∷ (x ++ 44 ∷ (y ++ rest)) ≡ 32 ∷ x ++ 44 ∷ [] ++ y ++ rest
+point_parts x y rest = ap (λ l. 32 ∷ l) (sym (append_assoc (x ++ 44 ∷ []) y rest ∙ append_assoc x (44 ∷ []) (y ++ rest)))

@@ -1,12 +1,13 @@
 //! The lines of chains.
 
-ghost use Rattle.std.specs.Prelude.{◌≡◌, ◌++◌, OnOk, codes, decimal};
+ghost use Rattle.std.specs.Prelude.{◌≡◌, ◌+◌, ◌≤◌, ◌++◌, OnOk, codes, decimal, drop, length};
+ghost use Rattle.std.specs.Fmt.{signed_decimal};
 ghost use Rattle.std.specs.Io.KnownBytes.{Appends, append_known};
 ghost use Rattle.tl_text.specs.Printing.{point_text, chain_text, counts_text, shown_text};
 ghost use Rattle.tl_output.specs.Writing.{CountsFailure};
 
 use arrayvec::ArrayString;
-use itoa::Buffer;
+use itoa::{Buffer, write_digits};
 use std::io;
 use tl_county::Chains;
 use tl_geom::Point;
@@ -96,18 +97,36 @@ pub fn print_point<S: Sink>(point: Point, buffer: &mut OutputBuffer, out: &mut S
         (append_known (S.contents out.new) buffer.new) (point_text point)) }
     ensures failures { CountsFailure (S.failure_count out.old) (S.failure_count out.new) result }
 {
-    buffer.add(text_of_point(point).as_str().as_bytes(), out)
+    let mut text = [0; LONGEST_POINT];
+    let start = put_point(point, &mut text, LONGEST_POINT);
+    buffer.add(&text[start..], out)
 }
 
-// A blank, the longitude, a comma and the latitude, put together before they are added.
-fn text_of_point(point: Point) -> ArrayString<LONGEST_POINT>
-    ensures { result.bytes ≡ point_text point }
+// A blank, the longitude, a comma and the latitude, put so that they end at `end`. Gives where they start.
+fn put_point(point: Point, text: &mut [u8], end: usize) -> usize
+    requires room { 24 ≤ end }
+    requires within { end ≤ length text.old }
+    ensures start { (result ≤ end) × (end ≤ result + 24) }
+    ensures text { drop result text.new ≡ point_text point ++ drop end text.old }
 {
-    let mut text = ArrayString::new();
-    let mut digits = Buffer::new();
-    text.push_str(" ");
-    text.push_str(digits.format(point.x));
-    text.push_str(",");
-    text.push_str(digits.format(point.y));
-    text
+    let latitude = put_number(point.y, text, end);
+    text[latitude - 1] = b',';
+    let longitude = put_number(point.x, text, latitude - 1);
+    text[longitude - 1] = b' ';
+    longitude - 1
+}
+
+// A number with its sign, put so that it ends at `end`. Gives where it starts.
+fn put_number(number: i32, text: &mut [u8], end: usize) -> usize
+    requires room { 11 ≤ end }
+    requires within { end ≤ length text.old }
+    ensures start { (result ≤ end) × (end ≤ result + 11) }
+    ensures text { drop result text.new ≡ signed_decimal number ++ drop end text.old }
+{
+    let start = write_digits(u64::from(number.unsigned_abs()), text, end);
+    if number >= 0 {
+        return start;
+    }
+    text[start - 1] = b'-';
+    start - 1
 }

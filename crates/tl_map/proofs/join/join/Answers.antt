@@ -13,9 +13,9 @@ loop-chain-init c = record {
   within = omega arith;
   behind = λ k m d e lt. absurd (omega arith);
   ahead = ahead_first c.args.chains.now c.args.shapes.now c.requires.rising c.requires.known;
-  table = IsTable-nil _ _ c.new-points.ensures.items c.in_ok-rows.ensures.items;
+  table = IsTable-nil _ _ c.in_ok-points.ensures.items c.in_ok-rows.ensures.items;
   count = rw c.in_ok-rows.ensures.items refl;
-  few = let none : length c.new-points.result.items ≡ 0 = rw c.new-points.ensures.items refl in omega (arith, none);
+  few = let none : length c.in_ok-points.points.items ≡ 0 = rw c.in_ok-points.ensures.items refl in omega (arith, none);
   are = rw c.in_ok-rows.ensures.items refl;
   several = λ k d lt. absurd (omega arith);
 }

@@ -6,14 +6,14 @@ use Rattle.tl_map.proofs.sides.resolve_side.Goals as goal
 pub returns-in-None : goal.returns-in-None
 returns-in-None c = λ ks h. rw c.in-None.is (record { is = refl; known = λ k e. absurd (let f : None ≡ Some k = e in cc) })
 
-pub returns-in-Some-get_index_of : goal.returns-in-Some-get_index_of
-returns-in-Some-get_index_of c = λ ks h.
-    let here = sym c.get_index_of.ensures.index ∙ c.in-Some-get_index_of.is in
+pub returns-in-Some-number_of : goal.returns-in-Some-number_of
+returns-in-Some-number_of c = λ ks h.
+    let here = sym c.number_of.ensures.index ∙ c.in-Some-number_of.is in
     rw c.in-Some.is (record {
-      is = ap Polygon (sym (place_is ks c.in-Some.polygon c.in-Some-get_index_of.number _ h here));
-      known = λ k e. let same : c.in-Some.polygon ≡ k = cc in rw (← same) (known_key ks c.in-Some.polygon c.in-Some-get_index_of.number _ h here);
+      is = ap Polygon (sym (place_is ks c.in-Some.polygon c.in-Some-number_of.number _ h here));
+      known = λ k e. let same : c.in-Some.polygon ≡ k = cc in rw (← same) (known_key ks c.in-Some.polygon c.in-Some-number_of.number _ h here);
     })
 
-pub returns-in-None-get_index_of : goal.returns-in-None-get_index_of
-returns-in-None-get_index_of c = λ ks h.
-    (c.in-Some.polygon, refl, c.in-Some.is, not_known ks c.in-Some.polygon _ h (sym c.get_index_of.ensures.index ∙ c.in-None-get_index_of.is))
+pub returns-in-None-number_of : goal.returns-in-None-number_of
+returns-in-None-number_of c = λ ks h.
+    (c.in-Some.polygon, refl, c.in-Some.is, not_known ks c.in-Some.polygon _ h (sym c.number_of.ensures.index ∙ c.in-None-number_of.is))

@@ -22,7 +22,7 @@ loop-kept-preserved c =
     let d = c.kept-item.result in
     let entry : c.whole-entry.result ≡ get_or c.args.entries.now c.loop-kept.kept-index d = c.whole-entry.ensures ∙ c.kept-item.is in
     record {
-      sides = λ ks h. sides_more ks c.args.entries.now c.loop-kept.kept-index d c.loop-kept.sides.items _ c.in_ok-left.left c.in_ok-right.right c.loop-kept-test.true (c.loop-kept.invariant.sides ks h) (rw entry at (c.in_ok-left.ensures ks h)) (rw entry at (c.in_ok-right.ensures ks h)) (rw (c.new.ensures, entry) at c.in_ok-push.ensures.items);
+      sides = λ ks h. sides_more ks c.args.entries.now c.loop-kept.kept-index d c.loop-kept.sides.items _ c.in_ok-left.left c.in_ok-right.right c.loop-kept-test.true (c.loop-kept.invariant.sides ks h) (rw entry at (c.in_ok-left.ensures ks h)) (rw entry at (c.in_ok-right.ensures ks h)) (rw (c.new-in-loop-kept.ensures, entry) at c.in_ok-push.ensures.items);
       known = λ ks h. known_more ks c.args.entries.now c.loop-kept.kept-index d c.in_ok-left.left c.in_ok-right.right c.loop-kept-test.true (rw entry at (c.in_ok-left.ensures ks h)) (rw entry at (c.in_ok-right.ensures ks h)) (c.loop-kept.invariant.known ks h);
     }
 
