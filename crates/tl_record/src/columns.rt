@@ -132,6 +132,7 @@ impl<'a> Columns<'a> {
         let start = end.min(first as usize - 1);
         &self.bytes[start..end]
     }
+
     /// The bytes from a column on, where they are sixteen or more.
     #[inline(always)]
     fn onward(&self, first: u16) -> Option<&'a [u8]>
