@@ -2,16 +2,17 @@
 """Measures `tigertopo show`, `landmarks` and `locate`, and a program that only counts records, beside `wc -l` of the same files;
 `check` by a plain maker's certificate beside `show`, with the parts of a check as `bench_check` tells them, in a second table;
 `audit`, `build`, `check` of what was built and `locate` beside `show` in a third, with the parts of that work as `bench_check`
-tells them in a fourth; `bench_tree`, which makes the segments of a county and searches them, in a fifth; and `bench_cert`,
-which writes and reads certificates, beside `wc -l` of the same file, in a sixth.
+tells them in a fourth; `audit` of maps of long segments in a fifth; `bench_tree`, which makes the segments of a county and
+searches them, in a sixth; and `bench_cert`, which writes and reads certificates, beside `wc -l` of the same file, in a seventh.
 
-usage: run.py [--sizes N,N,..] [--counties N,N,..] [--keys N] [--decided N,N,..] [--segments N,N,..] [--certificates N,N,..]
-              [--kinds KIND,KIND,..] [--runs N]
+usage: run.py [--sizes N,N,..] [--counties N,N,..] [--keys N] [--decided N,N,..] [--long N,N,..] [--segments N,N,..]
+              [--certificates N,N,..] [--kinds KIND,KIND,..] [--runs N]
 
 The files of --sizes hold types 1 and 2; those of --counties are whole counties of all six types, by rising TLID and, in a
 second row of files, in random order. Those of --keys have as many polygons as chains, with ordinary keys and, in a second
 row, with keys that were chosen against a hash function. Those of --decided are such counties in both orders, and grids of
-squares. A list may be empty, which leaves its table out; --kinds leaves out files of other kinds than those.
+squares; those of --long maps whose segments are long and stand side by side, each also in a mirror, turned by a quarter, both,
+and with one crossing. A list may be empty, which leaves its table out; --kinds leaves out files of other kinds than those.
 
 Each program runs once for its peak of memory and then RUNS times for its seconds, in turn with the others, with its
 output thrown away. The tables have medians. Files are made in bench/out, once. `make bench` builds the programs first.
@@ -41,9 +42,20 @@ NAMES = {
     "hostile": "keys against a fixed seed",
     "sip": "keys against SipHash without keys",
 }
+LONG = {
+    "comb": "slanted lines side by side",
+    "lines": "nearly level lines side by side",
+    "star": "spokes and their rim",
+    "squares": "squares in squares",
+    "spiral": "a spiral",
+}
+SEEN = {"": "", "mirrored": " in a mirror", "turned": ", turned", "mirrored-turned": " in a mirror, turned",
+        "crossed": ", one crossing more"}
 MAKERS = {"streets": ["make_records.py"], "county": ["county.py"], "shuffled": ["county.py", "--shuffled"],
           "grid": ["grid.py"], "nested": ["nested.py"], "keys": ["keys.py"], "hostile": ["keys.py", "--hostile", "fixed"],
           "sip": ["keys.py", "--hostile", "zero"]}
+MAKERS |= {f"{kind}-{seen}": ["long.py", f"--{kind}", *(f"--{it}" for it in seen.split("-") if it)]
+           for kind in LONG for seen in SEEN}
 
 
 def files_of(chains, kind):
@@ -72,11 +84,11 @@ def certificate_of(chains):
     return certificate, records
 
 
-def seconds_of(words):
+def seconds_of(words, status=0):
     begun = time.perf_counter()
     done = subprocess.run(words, stdout=subprocess.DEVNULL)
     seconds = time.perf_counter() - begun
-    if done.returncode != 0:
+    if done.returncode != status:
         sys.exit(f"{words[0]} ended with status {done.returncode}")
     return seconds
 
@@ -174,6 +186,17 @@ def part_rows(chains, kind, runs):
            f"{sides / shown:.2f}", f"{points / shown:.2f}")
 
 
+def long_rows(chains, kind, runs):
+    """What `audit` takes of one map of long segments, however it is seen."""
+    for seen, said in SEEN.items():
+        words = [PROGRAM, "audit", *files_of(chains, f"{kind}-{seen}")]
+        answer = subprocess.run(words, stdout=subprocess.PIPE, text=True).stdout
+        peak = peak_of(words)
+        found = statistics.median(seconds_of(words, 1 if seen == "crossed" else 0) for _ in range(runs))
+        yield (f"{chains:,} {LONG[kind]}{said}", "a meet" if answer.startswith("map fault G1") else answer.split()[0],
+               f"{found * 1e3:.1f}", f"{found * 1e6 / chains:.2f}", f"{peak:.1f}" if peak >= 0.1 else "-")
+
+
 def searched(segments):
     """What one run of `bench_tree` prints: the microseconds of each step, in order, and the pairs that were tested."""
     done = subprocess.run([TREE, str(segments)], capture_output=True, text=True, check=True)
@@ -242,9 +265,10 @@ def main():
     parser.add_argument("--counties", default="10000,100000,1000000")
     parser.add_argument("--keys", default="100000")
     parser.add_argument("--decided", default="1000,10000,100000,1000000")
+    parser.add_argument("--long", default="10000,100000,1000000")
     parser.add_argument("--segments", default="27500,275000,2750000")
     parser.add_argument("--certificates", default="10000,100000,1000000")
-    parser.add_argument("--kinds", default=",".join(NAMES))
+    parser.add_argument("--kinds", default=",".join((*NAMES, *LONG)))
     parser.add_argument("--runs", type=int, default=5)
     words = parser.parse_args()
     kinds = words.kinds.split(",")
@@ -269,6 +293,9 @@ def main():
          "rounds and walks taken, ms", "points looked at, ms", "all checked in memory, ms", "certificate read, ms",
          "search, times `show`", "rounds and walks, times `show`", "points, times `show`"),
         (row for chains, kind in decided for row in part_rows(chains, kind, words.runs)))
+    print_table(
+        ("Chains", "Answer", "`audit`, ms", "us a chain", "peak MB"),
+        (row for kind in LONG if kind in kinds for chains in numbers(words.long) for row in long_rows(chains, kind, words.runs)))
     print_table(
         ("Segments", "Tree", "rectangles made and sorted, ms", "tree packed, ms", "search, ms", "times", "tests a segment",
          "check, ns an item"),
