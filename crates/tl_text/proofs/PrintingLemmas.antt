@@ -1,6 +1,7 @@
 -- What is written piece by piece.
-use Rattle.std.proofs.Common.{◌≡◌, ℕ, zero, suc, ◌+◌, ◌<◌, List, [], ◌∷◌, ◌++◌, length, take, map, slice_get, slice_index_or, Some, Result, Ok, Err, OnOk, refl, sym, ap, subst, ◌∙◌, append_assoc, append-nil, add-one}
-use Rattle.std.proofs.Math.Seq.{take-suc}
+use Rattle.std.proofs.Common.{◌≡◌, ℕ, zero, suc, ◌+◌, ◌-◌, ◌<◌, ◌≤◌, List, [], ◌∷◌, ◌++◌, length, take, drop, map, slice_get, slice_index_or, Some, Result, Ok, Err, OnOk, refl, sym, ap, subst, ◌∙◌, append_assoc, append-nil, add-one, zero-add, arith, drop-cons}
+use Rattle.std.proofs.Math.Seq.{take-nil}
+use Rattle.std.proofs.lemmas.List.{take_all}
 use Rattle.std.proofs.KnownBytes.{Appends-trans}
 use Rattle.std.specs.Io.KnownBytes.{Appends}
 use Rattle.std.specs.Prelude.{Option}
@@ -12,11 +13,6 @@ pub points_text-append : (xs ys : List Point) → points_text (xs ++ ys) ≡ poi
 points_text-append [] ys = refl
 points_text-append (x ∷ xs) ys =
     ap (λ l. point_text x ++ l) (points_text-append xs ys) ∙ sym (append_assoc (point_text x) (points_text xs) (points_text ys))
-
--- one point more
-pub points_text-next : (points : List Point) (i : ℕ) (d : Point) → i < length points
-    → points_text (take (i + 1) points) ≡ points_text (take i points) ++ point_text (slice_index_or points i d)
-points_text-next points i d within = rw (add-one, take-suc points i d, points_text-append, append-nil) refl
 
 chains_text-suc : (list : List CompleteChain) (i t : ℕ) (points : List Point) → slice_get (tlids list) i ≡ Some t
     → slice_get (map (λ chain. chain.points) list) i ≡ Some points
@@ -46,3 +42,24 @@ OnOk-appends (Err e) old mid new xs ys all before last same = tt
 -- a blank, a text, a comma and a text before the rest, piece by piece
 pub point_parts : (x y rest : List ℕ) → 32 ∷ (x ++ 44 ∷ (y ++ rest)) ≡ 32 ∷ x ++ 44 ∷ [] ++ y ++ rest
 point_parts x y rest = ap (λ l. 32 ∷ l) (sym (append_assoc (x ++ 44 ∷ []) y rest ∙ append_assoc x (44 ∷ []) (y ++ rest)))
+
+-- a point before the text of those behind it
+pub points_text-back : (points : List Point) (i : ℕ) (d : Point) (rest : List ℕ) → i < length points
+    → point_text (slice_index_or points i d) ++ (points_text (drop (i + 1) points) ++ rest) ≡ points_text (drop i points) ++ rest
+points_text-back points i d rest within = rw (add-one, drop-cons points i d within) (sym (append_assoc _ _ rest))
+
+take_two : (i n : ℕ) (points : List Point) → take (i + n) points ≡ take i points ++ take n (drop i points)
+take_two zero n points = ap (λ k. take k points) (zero-add n)
+take_two (suc i) n [] = take-nil (suc i + n) ∙ sym (take-nil n)
+take_two (suc i) n (p ∷ points) = let e : suc i + n ≡ suc (i + n) = omega arith in rw e (ap (λ l. p ∷ l) (take_two i n points))
+
+-- several points more
+pub points_text-several : (points : List Point) (i n : ℕ) → points_text (take (i + n) points) ≡ points_text (take i points) ++ points_text (take n (drop i points))
+points_text-several points i n = rw (take_two i n points) (points_text-append _ _)
+
+-- a line whose points come in two parts
+pub chain_parts : (head : List ℕ) (points : List Point) (i : ℕ) (end : List ℕ) → i ≤ length points
+    → head ++ points_text (take i points) ++ points_text (take (length points - i) (drop i points)) ++ end ≡ head ++ points_text points ++ end
+chain_parts head points i end within =
+    let all : take (i + (length points - i)) points ≡ points = take_all _ points (omega arith) in
+    ap (λ l. l ++ end) (append_assoc head _ _ ∙ ap (λ l. head ++ l) (sym (points_text-several points i (length points - i)) ∙ ap points_text all))

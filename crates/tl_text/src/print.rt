@@ -1,9 +1,9 @@
 //! The lines of chains.
 
-ghost use Rattle.std.specs.Prelude.{◌≡◌, ◌+◌, ◌≤◌, ◌++◌, OnOk, codes, decimal, drop, length};
+ghost use Rattle.std.specs.Prelude.{◌≡◌, ◌+◌, ◌*◌, ◌≤◌, ◌++◌, OnOk, codes, decimal, drop, length};
 ghost use Rattle.std.specs.Fmt.{signed_decimal};
 ghost use Rattle.std.specs.Io.KnownBytes.{Appends, append_known};
-ghost use Rattle.tl_text.specs.Printing.{point_text, chain_text, counts_text, shown_text};
+ghost use Rattle.tl_text.specs.Printing.{point_text, points_text, chain_text, counts_text, shown_text};
 ghost use Rattle.tl_output.specs.Writing.{CountsFailure};
 
 use arrayvec::ArrayString;
@@ -19,6 +19,11 @@ const LONGEST_TLID: usize = 25;
 
 // A blank, a comma, and two numbers with a sign and ten digits each.
 const LONGEST_POINT: usize = 24;
+
+// How many points are put together before they are added.
+const TOGETHER: usize = 8;
+
+const LONGEST_POINTS: usize = TOGETHER * LONGEST_POINT;
 
 /// Writes a line for each chain and a line of counts. An error says that a write failed.
 pub fn print_chains<S: Sink>(
@@ -74,9 +79,12 @@ fn print_chain<S: Sink>(
     ensures failures { CountsFailure (S.failure_count out.old) (S.failure_count out.new) result }
 {
     buffer.add(text_of_tlid(tlid).as_str().as_bytes(), out)?;
-    for point in points {
-        print_point(*point, buffer, out)?;
+    let mut printed = 0;
+    while points.len() - printed > TOGETHER {
+        print_points(&points[printed..printed + TOGETHER], buffer, out)?;
+        printed += TOGETHER;
     }
+    print_points(&points[printed..], buffer, out)?;
     buffer.add(b"\n", out)
 }
 
@@ -89,6 +97,34 @@ fn text_of_tlid(tlid: u64) -> ArrayString<LONGEST_TLID>
     text.push_str("tlid ");
     text.push_str(digits.format(tlid));
     text
+}
+
+// Points one after the other, put together before they are added.
+fn print_points<S: Sink>(points: &[Point], buffer: &mut OutputBuffer, out: &mut S) -> io::Result<()>
+    requires { length points.now ≤ 8 }
+    ensures bytes { OnOk result (Appends (append_known (S.contents out.old) buffer.old)
+        (append_known (S.contents out.new) buffer.new) (points_text points.now)) }
+    ensures failures { CountsFailure (S.failure_count out.old) (S.failure_count out.new) result }
+{
+    let mut text = [0; LONGEST_POINTS];
+    let start = put_points(points, &mut text, LONGEST_POINTS);
+    buffer.add(&text[start..], out)
+}
+
+// Points one after the other, put so that they end at `end`. Gives where they start.
+fn put_points(points: &[Point], text: &mut [u8], end: usize) -> usize
+    requires room { 24 * length points.now ≤ end }
+    requires within { end ≤ length text.old }
+    ensures start { result ≤ end }
+    ensures text { drop result text.new ≡ points_text points.now ++ drop end text.old }
+{
+    let mut start = end;
+    let mut left = points.len();
+    while left > 0 {
+        left -= 1;
+        start = put_point(points[left], text, start);
+    }
+    start
 }
 
 /// Writes a blank, the longitude, a comma and the latitude. An error says that a write failed.

@@ -1,22 +1,24 @@
-use Rattle.std.proofs.Common.{◌≡◌, ◌∙◌, ◌++◌, take, decimal, rules, refl, arith, pos}
+use Rattle.std.proofs.Common.{◌≡◌, ◌∙◌, ◌+◌, ◌-◌, ◌++◌, decimal, rules, arith}
 use Rattle.std.specs.Prelude.{codes}
-use Rattle.std.proofs.lemmas.List.{take_all}
 use Rattle.std.proofs.KnownBytes.{Appends-trans}
-use Rattle.tl_text.proofs.PrintingLemmas.{OnOk-appends, points_text-next}
+use Rattle.tl_text.proofs.PrintingLemmas.{OnOk-appends, points_text-several, chain_parts}
 use Rattle.tl_text.specs.Printing.{chain_text}
 use Rattle.tl_text.proofs.print.print_chain.Goals as goal
 
-pub loop-point-preserved : goal.loop-point-preserved
-loop-point-preserved g c = (
-  rw (points_text-next c.args.points.now c.loop-point.point-index (record { x = pos 0; y = pos 0 }) c.loop-point-test.true)
-      (Appends-trans _ _ _ _ _ c.loop-point.invariant.0 c.in_ok-print_point.ensures.bytes),
-  c.in_ok-print_point.ensures.failures ∙ c.loop-point.invariant.1,
-)
+pub loop-printed-preserved : goal.loop-printed-preserved
+loop-printed-preserved g c =
+    let eight : c.loop-printed.printed + 8 - c.loop-printed.printed ≡ 8 = omega arith in
+    record {
+      within = omega (arith, c.loop-printed-test.true);
+      bytes = rw (points_text-several c.args.points.now c.loop-printed.printed 8)
+          (Appends-trans _ _ _ _ _ c.loop-printed.invariant.bytes (rw eight at c.in_ok-print_points.ensures.bytes));
+      failures = c.in_ok-print_points.ensures.failures ∙ c.loop-printed.invariant.failures;
+    }
 
 pub returns-clause-bytes : goal.returns-clause-bytes
 unfolding chain_text
 returns-clause-bytes g c =
-    let all : take c.loop-point.point-index c.args.points.now ≡ c.args.points.now = take_all _ _ (omega arith) in
     let head : c.as_bytes.result.now ≡ codes "tlid " ++ decimal c.args.tlid = search rules in
-    let points = Appends-trans _ _ _ _ _ c.in_ok-add.ensures.bytes c.loop-point.invariant.0 in
-    OnOk-appends c.add-2.result _ _ _ _ _ _ points c.add-2.ensures.bytes (rw (all, head) refl)
+    let points = Appends-trans _ _ _ _ _ c.in_ok-add.ensures.bytes c.loop-printed.invariant.bytes in
+    let all = Appends-trans _ _ _ _ _ points c.in_ok-print_points-2.ensures.bytes in
+    OnOk-appends c.add-2.result _ _ _ _ _ _ all c.add-2.ensures.bytes (rw head (chain_parts (codes "tlid " ++ decimal c.args.tlid) c.args.points.now c.loop-printed.printed (codes "\n") c.loop-printed.invariant.within))
