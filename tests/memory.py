@@ -5,8 +5,8 @@ usage: memory.py [PROGRAM]
 
 With each allocation refused, the program has to answer `stopped Memory` with status 4 and print nothing else, or, where
 it can do without that allocation, what it answers otherwise. A certificate that it is to make over a file is made whole
-then, and beside `stopped Memory` it is whole or the file is as it was. It needs a C compiler, cc, and glibc, whose malloc
-it stands before.
+then, and beside `stopped Memory` it is whole or the file is as it was. Of words that are no use of a command it may say
+that alone, and not why. It needs a C compiler, cc, and glibc, whose malloc it stands before.
 """
 
 import os
@@ -21,6 +21,8 @@ from small_maps import MADE, write_all
 EXAMPLES = TOP / "examples"
 # What stands under the name of what is made before each run.
 STANDS = b"TIGERCERT 2\na file that stands\n"
+# What is said of words that are no use of a command, where memory was refused for a text that says why.
+NO_USE = (64, b"", b"error: the words are no use of a command\n")
 # What is asked beside what is asked of the small maps.
 RUNS = [
     ["show", EXAMPLES / "square.RT1", EXAMPLES / "square.RT2"],
@@ -115,6 +117,8 @@ def answer_over_a_file(words, library, which, asked, folder):
 
 def is_well(answer, left, usual, whole):
     """Memory was refused, and what is made is whole or the file is as it was; or the program could do without."""
+    if usual[0] == 64 and (answer, left) == (NO_USE, STANDS):
+        return True
     return (answer, left) == (usual, whole) or answer == (4, b"", b"stopped Memory\n") and left in (STANDS, whole)
 
 

@@ -4,7 +4,7 @@ use crate::keys::fixed_keys;
 use crate::maps::SQUARE;
 use std::alloc::{AllocError, Global};
 use std::io;
-use tl_command::open::start;
+use tl_command::start::start;
 use tl_files::FilesInMemory;
 use tl_record::MeterOut;
 

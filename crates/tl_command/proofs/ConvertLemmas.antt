@@ -8,8 +8,8 @@ use Rattle.tl_cert.specs.Text.{certificate_text}
 use Rattle.tl_cert.specs.Beginnings.{IsTextOf}
 use Rattle.tl_command.specs.declared.convert.Converted.{Converted}
 use Rattle.tl_command.specs.declared.stop.TheConstants.{DONE, CERT_FAULT, STOPPED}
-use Rattle.tl_command.specs.Running.{IsConverted, NamesBadLine, NamesStop}
-use Rattle.tl_command.specs.Making.{Rewrites, BeginsRewritten, KeepsText, KeepsCertCount, TellsConverted}
+use Rattle.tl_command.specs.Running.{IsConverted, NamesBadLine, NamesStop, StaysUnless}
+use Rattle.tl_command.specs.Making.{Rewrites, BeginsRewritten, KeepsText, TellsConverted}
 
 -- what is written of a certificate that was read
 pub rewrites : (known : Option (List ℕ)) (made begun : List ℕ → Type 0) (same failed_to_write failed : Type 0) (c d : TheCertificate) (answer : Result Converted CertStop) → IsCertificate c
@@ -27,13 +27,6 @@ rewrites known made begun same failed_to_write failed c d (Err (Text line)) is r
 rewrites known made begun same failed_to_write failed c d (Err Memory) is read version weaker keeps = absurd keeps
 rewrites known made begun same failed_to_write failed c d (Err Device) is read version weaker keeps =
     (weaker keeps.0, inr (c, is, read, subst (λ e. begun (certificate_text e)) version keeps.1))
-
--- the count of failed reads stays
-pub keeps_cert_count : (old new : ℕ) (answer : Result Converted CertStop) → new ≡ old → KeepsCertCount old new answer
-keeps_cert_count old new (Ok counts) same = same
-keeps_cert_count old new (Err (Text line)) same = same
-keeps_cert_count old new (Err Memory) same = same
-keeps_cert_count old new (Err Device) same = tt
 
 -- the statuses with which it is told
 pub converted_status : (answer : Result Converted CertStop) (status : ℕ) (wrote told : List ℕ → Type 0) (to_write well out_same err_same : Type 0) → TellsConverted answer status wrote told to_write well out_same err_same
@@ -73,7 +66,7 @@ converted_fault known made begun wrote told same failed to_write well out_same e
 
 -- a stop that was told: `weaker` and `or_write` say of what failed that it did so, `calm` that nothing did
 pub converted_stopped : (known : Option (List ℕ)) (made begun wrote told : List ℕ → Type 0) (same failed to_write well out_same err_same any all : Type 0) (answer : Result Converted CertStop) (status old new : ℕ)
-    → (failed → any) → (to_write → any) → (new ≡ old → same ⊎ ((text : List ℕ) × made text) → well → all) → (out_same → well) → KeepsCertCount old new answer
+    → (failed → any) → (to_write → any) → (new ≡ old → same ⊎ ((text : List ℕ) × made text) → well → all) → (out_same → well) → StaysUnless Device old new answer
     → Rewrites known made begun same failed answer → TellsConverted answer status wrote told to_write well out_same err_same → status ≡ STOPPED → NamesStop told any all
 converted_stopped known made begun wrote told same failed to_write well out_same err_same any all (Ok counts) status old new weaker or_write calm stays keeps made_of (inl is) e = absurd (cc (sym is.0 ∙ e))
 converted_stopped known made begun wrote told same failed to_write well out_same err_same any all (Ok counts) status old new weaker or_write calm stays keeps made_of (inr is) e = elim is.1 [
@@ -82,8 +75,8 @@ converted_stopped known made begun wrote told same failed to_write well out_same
 ]
 converted_stopped known made begun wrote told same failed to_write well out_same err_same any all (Err (Text line)) status old new weaker or_write calm stays keeps made_of (inl is) e = absurd (cc (sym is.0 ∙ e))
 converted_stopped known made begun wrote told same failed to_write well out_same err_same any all (Err (Text line)) status old new weaker or_write calm stays keeps made_of (inr is) e =
-    elim is.1 [ inl m ↦ inl (m.0, calm keeps (inl made_of.1) m.1) | inr d ↦ inr (d.0, or_write d.1) ]
-converted_stopped known made begun wrote told same failed to_write well out_same err_same any all (Err Memory) status old new weaker or_write calm stays keeps made_of tells e = inl (tells.0.1, calm keeps (inl made_of) (stays tells.1))
+    elim is.1 [ inl m ↦ inl (m.0, calm (keeps (λ same. cc)) (inl made_of.1) m.1) | inr d ↦ inr (d.0, or_write d.1) ]
+converted_stopped known made begun wrote told same failed to_write well out_same err_same any all (Err Memory) status old new weaker or_write calm stays keeps made_of tells e = inl (tells.0.1, calm (keeps (λ same. cc)) (inl made_of) (stays tells.1))
 converted_stopped known made begun wrote told same failed to_write well out_same err_same any all (Err Device) status old new weaker or_write calm stays keeps made_of tells e = inr (tells.0.1, weaker made_of.0)
 
 -- where an answer was given, nothing was told of a stop
@@ -97,11 +90,11 @@ converted_err_stays (Err Memory) status wrote told to_write well out_same err_sa
 converted_err_stays (Err Device) status wrote told to_write well out_same err_same tells e = absurd (elim e [ inl d ↦ cc (sym tells.0.0 ∙ d) | inr d ↦ cc (sym tells.0.0 ∙ d) ])
 
 -- no read failed where it doesn't stop
-pub converted_whole : (answer : Result Converted CertStop) (status old new : ℕ) (wrote told : List ℕ → Type 0) (to_write well out_same err_same : Type 0) → KeepsCertCount old new answer
+pub converted_whole : (answer : Result Converted CertStop) (status old new : ℕ) (wrote told : List ℕ → Type 0) (to_write well out_same err_same : Type 0) → StaysUnless Device old new answer
     → TellsConverted answer status wrote told to_write well out_same err_same → status ≢ STOPPED → new ≡ old
 converted_whole (Ok counts) status old new wrote told to_write well out_same err_same keeps tells going = keeps
-converted_whole (Err (Text line)) status old new wrote told to_write well out_same err_same keeps tells going = keeps
-converted_whole (Err Memory) status old new wrote told to_write well out_same err_same keeps tells going = keeps
+converted_whole (Err (Text line)) status old new wrote told to_write well out_same err_same keeps tells going = keeps (λ same. cc)
+converted_whole (Err Memory) status old new wrote told to_write well out_same err_same keeps tells going = keeps (λ same. cc)
 converted_whole (Err Device) status old new wrote told to_write well out_same err_same keeps tells going = absurd (going tells.0.0)
 
 -- where it stops, nothing was written, or a beginning of the certificate

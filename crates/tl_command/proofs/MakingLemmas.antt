@@ -22,8 +22,8 @@ use Rattle.tl_command.specs.declared.building.Making.TheVariants.{Made, Fault}
 use Rattle.tl_check.specs.declared.stop.Stop.{Stop}
 use Rattle.tl_check.specs.declared.stop.Stop.TheVariants.{Record, Memory, Device, Budget}
 use Rattle.tl_command.specs.declared.stop.TheConstants.{DONE, MAP_FAULT, REFUSED, STOPPED}
-use Rattle.tl_command.specs.Running.{IsBuilt, NamesFault, NamesRefusal, NamesStop, IsTold}
-use Rattle.tl_command.specs.Making.{IsMadeOf, IsBegunOf, MakesOf, OfMap, Makes, KeepsCount, IsLine, TellsMaking, Begins}
+use Rattle.tl_command.specs.Running.{IsBuilt, NamesFault, NamesRefusal, NamesStop, IsTold, StaysUnless}
+use Rattle.tl_command.specs.Making.{IsMadeOf, IsBegunOf, MakesOf, OfMap, Makes, IsLine, TellsMaking, Begins}
 use Rattle.tl_command.proofs.AuditLemmas.{names_fault_alone}
 
 -- what was written of a sound map
@@ -63,13 +63,10 @@ makes_of_map layout known made begun same failed_to_write failed m (Err Device) 
     (weaker makes.0, elim makes.1 [ inl same ↦ inl same | inr begins ↦ inr (m, drawn, begins) ])
 makes_of_map layout known made begun same failed_to_write failed m (Err Budget) drawn weaker makes = absurd makes
 
--- the count of failed reads stays
-pub keeps_count : (old new : ℕ) (making : Result Making Stop) → new ≡ old → KeepsCount old new making
-keeps_count old new (Ok making) same = same
-keeps_count old new (Err (Record line cause)) same = same
-keeps_count old new (Err Memory) same = same
-keeps_count old new (Err Device) same = tt
-keeps_count old new (Err Budget) same = same
+-- a count that stays
+pub stays_unless : {T E : Type 0} (error : E) (old new : ℕ) (answer : Result T E) → new ≡ old → StaysUnless error old new answer
+stays_unless error old new (Ok made) same = same
+stays_unless error old new (Err other) same = λ differs. same
 
 -- a line that was written, or not
 pub line_told : (status wanted : ℕ) (written : Type 0) (told : List ℕ → Type 0) (failed well err_same : Type 0) → (status ≡ wanted) ⊎ (status ≡ STOPPED) → (status ≡ wanted → written)
@@ -139,7 +136,7 @@ making_refused layout known made begun wrote told same failed to_write well out_
 
 -- a stop that was told: `weaker` and `or_write` say of what failed that it did so, `calm` that nothing did
 pub making_stopped : (layout : Layout) (known : Option (List ℕ)) (made begun wrote told : List ℕ → Type 0) (same failed to_write well out_same err_same any all : Type 0) (making : Result Making Stop) (status old new : ℕ)
-    → (failed → any) → (to_write → any) → (new ≡ old → same ⊎ ((text : List ℕ) × made text) → well → all) → (out_same → well) → KeepsCount old new making
+    → (failed → any) → (to_write → any) → (new ≡ old → same ⊎ ((text : List ℕ) × made text) → well → all) → (out_same → well) → StaysUnless Device old new making
     → Makes layout known made begun same failed making → TellsMaking making status wrote told to_write well out_same err_same → status ≡ STOPPED → NamesStop told any all
 making_stopped layout known made begun wrote told same failed to_write well out_same err_same any all (Ok (Made report)) status old new weaker or_write calm stays keeps makes (inl is) e = absurd (cc (sym is.0 ∙ e))
 making_stopped layout known made begun wrote told same failed to_write well out_same err_same any all (Ok (Made report)) status old new weaker or_write calm stays keeps makes (inr is) e = elim is.1 [
@@ -150,7 +147,7 @@ making_stopped layout known made begun wrote told same failed to_write well out_
 making_stopped layout known made begun wrote told same failed to_write well out_same err_same any all (Ok (Fault fault)) status old new weaker or_write calm stays keeps makes (inr is) e =
     elim is.1 [ inl m ↦ inl (m.0, calm keeps (inl makes.1) m.1) | inr d ↦ inr (d.0, or_write d.1) ]
 making_stopped layout known made begun wrote told same failed to_write well out_same err_same any all (Err (Record line cause)) status old new weaker or_write calm stays keeps makes tells e = absurd (cc (sym tells.0.0 ∙ e))
-making_stopped layout known made begun wrote told same failed to_write well out_same err_same any all (Err Memory) status old new weaker or_write calm stays keeps makes tells e = inl (tells.0.1, calm keeps (inl makes) (stays tells.1))
+making_stopped layout known made begun wrote told same failed to_write well out_same err_same any all (Err Memory) status old new weaker or_write calm stays keeps makes tells e = inl (tells.0.1, calm (keeps (λ same. cc)) (inl makes) (stays tells.1))
 making_stopped layout known made begun wrote told same failed to_write well out_same err_same any all (Err Device) status old new weaker or_write calm stays keeps makes tells e = inr (tells.0.1, weaker makes.0)
 making_stopped layout known made begun wrote told same failed to_write well out_same err_same any all (Err Budget) status old new weaker or_write calm stays keeps makes tells e = absurd makes
 
@@ -189,13 +186,13 @@ making_begun layout known made begun wrote told same failed to_write well out_sa
 making_begun layout known made begun wrote told same failed to_write well out_same err_same (Err Budget) status whole makes tells e = absurd makes
 
 -- no read failed where it doesn't stop
-pub making_whole : (making : Result Making Stop) (status old new : ℕ) (wrote told : List ℕ → Type 0) (to_write well out_same err_same : Type 0) → KeepsCount old new making
+pub making_whole : (making : Result Making Stop) (status old new : ℕ) (wrote told : List ℕ → Type 0) (to_write well out_same err_same : Type 0) → StaysUnless Device old new making
     → TellsMaking making status wrote told to_write well out_same err_same → status ≢ STOPPED → new ≡ old
 making_whole (Ok making) status old new wrote told to_write well out_same err_same keeps tells going = keeps
-making_whole (Err (Record line cause)) status old new wrote told to_write well out_same err_same keeps tells going = keeps
-making_whole (Err Memory) status old new wrote told to_write well out_same err_same keeps tells going = keeps
+making_whole (Err (Record line cause)) status old new wrote told to_write well out_same err_same keeps tells going = keeps (λ same. cc)
+making_whole (Err Memory) status old new wrote told to_write well out_same err_same keeps tells going = keeps (λ same. cc)
 making_whole (Err Device) status old new wrote told to_write well out_same err_same keeps tells going = absurd (going tells.0.0)
-making_whole (Err Budget) status old new wrote told to_write well out_same err_same keeps tells going = keeps
+making_whole (Err Budget) status old new wrote told to_write well out_same err_same keeps tells going = keeps (λ same. cc)
 
 -- a text that was written whole was begun
 pub begins_whole : {S : Type 0} (contents : S → Option (List ℕ)) (failures : S → ℕ) (old new : S) (text : List ℕ) → Writes contents failures old new text → Begins contents old new text

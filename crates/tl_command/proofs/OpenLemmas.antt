@@ -38,8 +38,8 @@ use Rattle.tl_command.specs.Opening.{RunsOver, records_under, certificate_under,
 use Rattle.tl_command.specs.Starting.{StopsOpening, StopsOpeningAll, told_of}
 use Rattle.std.proofs.lemmas.List.{get_or-map, length-map}
 use Rattle.tl_command.proofs.DecidingLemmas.{build_decides}
-use Rattle.tl_command.proofs.MakingLemmas.{keeps_count, not_done, making_status, making_built, making_fault, making_refused, making_stopped, making_err_stays}
-use Rattle.tl_command.proofs.ConvertLemmas.{keeps_cert_count, converted_status, converted_is, converted_fault, converted_stopped, converted_err_stays}
+use Rattle.tl_command.proofs.MakingLemmas.{stays_unless, not_done, making_status, making_built, making_fault, making_refused, making_stopped, making_err_stays}
+use Rattle.tl_command.proofs.ConvertLemmas.{converted_status, converted_is, converted_fault, converted_stopped, converted_err_stays}
 
 -- ---- the joined text
 
@@ -473,7 +473,7 @@ over_build (Build to options files) name chosen before after known made begun wr
       cert_fault = λ e. absurd (no_cert_fault status statuses e);
       refused = λ e. (making_refused layout all made begun wrote told same failed to_write well out_same err_same making status makes tells e).0;
       stopped = λ e. inl (making_stopped layout all made begun wrote told same failed to_write well out_same err_same any well making status 0 0 weaker or_write (λ reads written is. is) stays
-          (keeps_count 0 0 making refl) makes tells e);
+          (stays_unless Device 0 0 making refl) makes tells e);
       usage = λ e. absurd (no_usage status (run_status status statuses) e);
       err_stays = λ any. elim any [
         | inl d ↦ making_err_stays making status wrote told to_write well out_same err_same tells (inl d)
@@ -554,7 +554,7 @@ over_conversion (Convert cert target) to before after spelt made begun wrote tol
       cert_fault = λ e. (converted_fault text made begun wrote told same failed to_write well out_same err_same answer status rewrites tells e).0;
       refused = λ e. absurd ((no_fault status statuses).1 e);
       stopped = λ e. inl (converted_stopped text made begun wrote told same failed to_write well out_same err_same any well answer status 0 0 weaker or_write (λ reads written is. is) stays
-          (keeps_cert_count 0 0 answer refl) rewrites tells e);
+          (stays_unless cert_stop.Device 0 0 answer refl) rewrites tells e);
       usage = λ e. absurd (no_usage status (cert_status status statuses) e);
       err_stays = λ any. elim any [
         | inl d ↦ converted_err_stays answer status wrote told to_write well out_same err_same tells (inl d)

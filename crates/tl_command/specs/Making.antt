@@ -2,7 +2,7 @@
 --
 -- `made` says of a text that it was written into the certificate that is made, `begun` that a beginning of it was, `same`
 -- that nothing was; `failed` that a read or a write failed.
-use Rattle.std.specs.Prelude.{◌≡◌, ◌⊎◌, ℕ, Bool, true, false, List, Option, IfSome, Result, Ok, Err, length, take, ⊤}
+use Rattle.std.specs.Prelude.{◌≡◌, ◌⊎◌, ℕ, Bool, true, false, List, Option, IfSome, Result, Ok, Err, length, take}
 use Rattle.std.specs.Io.KnownBytes.{Appends}
 use Rattle.tl_record.specs.declared.layout.Layout.{Layout}
 use Rattle.tl_record.specs.Layout.{layout_with}
@@ -81,14 +81,6 @@ was_made (Ok (Made report)) = true
 was_made (Ok (Fault fault)) = false
 was_made (Err stop) = false
 
--- the count of failed reads stays, but for an answer that a device failed
-abbrev pub KeepsCount : {T : Type 0} → ℕ → ℕ → Result T Stop → Type 0
-KeepsCount old new (Ok made) = new ≡ old
-KeepsCount old new (Err (Record line cause)) = new ≡ old
-KeepsCount old new (Err Memory) = new ≡ old
-KeepsCount old new (Err Device) = ⊤
-KeepsCount old new (Err Budget) = new ≡ old
-
 -- a beginning of the text in version 2 of the certificate that is read was written
 abbrev pub BeginsRewritten : Option (List ℕ) → (List ℕ → Type 0) → Type 0
 BeginsRewritten known begun =
@@ -134,11 +126,6 @@ KeepsText c made begun failed (Ok counts) =
 KeepsText c made begun failed (Err (cert_stop.Text line)) = ⊥
 KeepsText c made begun failed (Err cert_stop.Memory) = ⊥
 KeepsText c made begun failed (Err cert_stop.Device) = failed × begun (certificate_text c)
-
--- the count of failed reads stays, but for an answer that a device failed
-abbrev pub KeepsCertCount : {T : Type 0} → ℕ → ℕ → Result T CertStop → Type 0
-KeepsCertCount old new (Err cert_stop.Device) = ⊤
-KeepsCertCount old new other = new ≡ old
 
 -- how what was rewritten is told
 abbrev pub TellsConverted : Result Converted CertStop → ℕ → (wrote told : List ℕ → Type 0) → (failed well out_same err_same : Type 0) → Type 0

@@ -2,7 +2,7 @@
 --
 -- `layout` is the column table that the records are read by; `known` is the text of the record files, where it is known, and
 -- `spelt` that of the certificate; `wrote` says of a text that it was written.
-use Rattle.std.specs.Prelude.{◌≡◌, ◌⊎◌, ◌≤◌, ℕ, List, Option, None, Some, IfSome, Result, Ok, Err, ⊤}
+use Rattle.std.specs.Prelude.{◌≡◌, ◌≢◌, ◌⊎◌, ◌≤◌, ℕ, List, Option, None, Some, IfSome, Result, Ok, Err, ⊤}
 use Rattle.tl_record.specs.declared.stop.Cause.{Cause}
 use Rattle.tl_record.specs.Failures.{one_more}
 use Rattle.tl_record.specs.declared.layout.Layout.{Layout}
@@ -331,10 +331,7 @@ StopsAnswer layout known failed stays map_stop.Memory = stays
 StopsAnswer layout known failed stays (map_stop.Refused line cause) = stays × IfSome known (λ text. IsFirstRefusal layout text line cause)
 StopsAnswer layout known failed stays (map_stop.Fault fault) = stays × IfSome known (λ text. HasFault layout text fault)
 
--- the count of failed reads stays, but for an answer that a device failed
-abbrev pub KeepsReads : ℕ → ℕ → Result (Unit {0}) MapStop → Type 0
-KeepsReads old new (Ok done) = new ≡ old
-KeepsReads old new (Err map_stop.Device) = ⊤
-KeepsReads old new (Err map_stop.Memory) = new ≡ old
-KeepsReads old new (Err (map_stop.Refused line cause)) = new ≡ old
-KeepsReads old new (Err (map_stop.Fault fault)) = new ≡ old
+-- the count stays, unless this error is answered
+abbrev pub StaysUnless : {T E : Type 0} → E → ℕ → ℕ → Result T E → Type 0
+StaysUnless error old new (Ok made) = new ≡ old
+StaysUnless error old new (Err other) = other ≢ error → new ≡ old

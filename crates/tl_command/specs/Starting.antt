@@ -1,5 +1,5 @@
 -- What the program answers to its words.
-use Rattle.std.specs.Prelude.{◌≡◌, ◌≢◌, ◌⊎◌, ℕ, List, [], None, All, Contains, ⊤}
+use Rattle.std.specs.Prelude.{◌≡◌, ◌≢◌, ◌⊎◌, ℕ, true, List, [], None, All, Contains, ⊤}
 use Rattle.clap.specs.Faults.{fault_of}
 use Rattle.clap.specs.Walk.{Text}
 use Rattle.tl_plan.specs.declared.plan.Plan.{Plan}
@@ -7,7 +7,7 @@ use Rattle.tl_check.specs.declared.stop.Stop.{Stop}
 use Rattle.tl_check.specs.declared.stop.Stop.TheVariants.{Record, Memory, Device, Budget}
 use Rattle.tl_command.specs.declared.stop.TheConstants.{DONE, STOPPED, USAGE}
 use Rattle.tl_plan.specs.Commands.{command_line}
-use Rattle.tl_plan.specs.CommandLine.{AskFor, AreAUse, HasMistake, HasAnswer}
+use Rattle.tl_plan.specs.CommandLine.{AskFor, AreAUse, HasMistake, HasAnswer, may_be_use}
 use Rattle.tl_plan.specs.Plans.{escape}
 use Rattle.tl_files.specs.declared.file_system.FileStop.{FileStop}
 use Rattle.tl_files.specs.declared.file_system.FileStop.TheVariants as file
@@ -39,11 +39,11 @@ FaultsText words before wrote = (plan : Plan) × AskFor words plan
 abbrev pub RefusesSome : List Text → Under → (List ℕ → Type 0) → Type 0
 RefusesSome words before wrote = (plan : Plan) × AskFor words plan × NamesRefusal (layout_of plan) (records_under before plan) wrote
 
--- the words make no plan for want of memory, or wish for help that can't be written, or they ask for a plan that is stopped;
--- and why was written: `failed` says that a write of the output failed, `well` that none did, and `of_files` that a file of a
--- plan's failed
+-- the first word doesn't show that the words are no use of a command, and they make no plan for want of memory, or wish for help
+-- that can't be written; or they ask for a plan that is stopped; and why was written: `failed` says that a write of the output
+-- failed, `well` that none did, and `of_files` that a file of a plan's failed
 abbrev pub StopsSome : List Text → Under → (List ℕ → Type 0) → (of_files : Plan → Type 0) → (failed well : Type 0) → Type 0
-StopsSome words before wrote of_files failed well = NamesStop wrote failed well
+StopsSome words before wrote of_files failed well = ((may_be_use words ≡ true) × NamesStop wrote failed well)
     ⊎ ((plan : Plan) × AskFor words plan × StopsRun plan (records_under before plan) (certificate_under before plan) wrote (of_files plan ⊎ failed) well)
 
 -- the words are no use of a command, or they ask for a plan, of which a status of 0 or 1 says exactly whether a map is sound

@@ -6,8 +6,8 @@ ghost use Rattle.tl_output.specs.Writing.{Writes, TriesToWrite, FailsToWrite};
 ghost use Rattle.tl_check.specs.Sound.{IsSound};
 ghost use Rattle.tl_check.specs.Valid.{IsValid};
 ghost use Rattle.tl_command.specs.declared.stop.TheConstants.{DONE, MAP_FAULT, REFUSED, STOPPED};
-ghost use Rattle.tl_command.specs.Running.{IsBuilt, NamesFault, NamesRefusal, NamesStop, FailsToRead, CountStays};
-ghost use Rattle.tl_command.specs.Making.{Begins, Makes, MakesOf, OfMap, IsBegunOf, KeepsCount, TellsMaking, was_made};
+ghost use Rattle.tl_command.specs.Running.{IsBuilt, NamesFault, NamesRefusal, NamesStop, FailsToRead, CountStays, StaysUnless};
+ghost use Rattle.tl_command.specs.Making.{Begins, Makes, MakesOf, OfMap, IsBegunOf, TellsMaking, was_made};
 
 use crate::reports::BuiltCertificate;
 use crate::stop::{DONE, MAP_FAULT, stopped};
@@ -77,7 +77,7 @@ pub fn make<R: Source, C: Sink>(
     ensures made { Makes (layout_with options) (R.remaining records.old) (Writes C.contents C.failure_count made.old made.new)
         (Begins C.contents made.old made.new) (made.new ≡ made.old)
         (FailsToRead R.failure_count records.old records.new ⊎ FailsToWrite C.failure_count made.old made.new) result }
-    ensures reads { KeepsCount (R.failure_count records.old) (R.failure_count records.new) result }
+    ensures reads { StaysUnless Stop.Device (R.failure_count records.old) (R.failure_count records.new) result }
 {
     match read_map_with(alloc, hasher, records, options) {
         Ok(map) => make_of_map(alloc, &map, made),

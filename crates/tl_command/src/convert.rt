@@ -3,8 +3,8 @@
 ghost use Rattle.std.specs.Prelude.{◌≡◌, ◌≢◌, ◌⊎◌};
 ghost use Rattle.tl_output.specs.Writing.{Writes, TriesToWrite, FailsToWrite};
 ghost use Rattle.tl_command.specs.declared.stop.TheConstants.{DONE, CERT_FAULT, STOPPED};
-ghost use Rattle.tl_command.specs.Running.{IsConverted, NamesBadLine, NamesStop, FailsToRead, CountStays};
-ghost use Rattle.tl_command.specs.Making.{Begins, BeginsRewritten, Rewrites, KeepsText, KeepsCertCount, TellsConverted};
+ghost use Rattle.tl_command.specs.Running.{IsConverted, NamesBadLine, NamesStop, FailsToRead, CountStays, StaysUnless};
+ghost use Rattle.tl_command.specs.Making.{Begins, BeginsRewritten, Rewrites, KeepsText, TellsConverted};
 
 use crate::stop::{CERT_FAULT, DONE, stopped};
 use crate::tell::tell_line;
@@ -77,7 +77,7 @@ pub fn rewrite<S: Source, C: Sink>(
     ensures made { Rewrites (S.remaining cert.old) (Writes C.contents C.failure_count made.old made.new)
         (Begins C.contents made.old made.new) (made.new ≡ made.old)
         (FailsToRead S.failure_count cert.old cert.new ⊎ FailsToWrite C.failure_count made.old made.new) result }
-    ensures reads { KeepsCertCount (S.failure_count cert.old) (S.failure_count cert.new) result }
+    ensures reads { StaysUnless CertStop.Device (S.failure_count cert.old) (S.failure_count cert.new) result }
 {
     match read_cert(alloc, cert) {
         Ok(certificate) => keep(&certificate.to_v2(), made),

@@ -7,7 +7,7 @@ ghost use Rattle.tl_record.specs.Layout.{layout_with};
 ghost use Rattle.tl_output.specs.Writing.{Writes, FailsToWrite, CountsFailure};
 ghost use Rattle.tl_inside.specs.Places.{IsPlaceOf};
 ghost use Rattle.tl_command.specs.Places.{place_text, TellsPlace, StopsTelling};
-ghost use Rattle.tl_command.specs.Running.{IsLocated, FailsToRead, StopsAnswer, KeepsReads};
+ghost use Rattle.tl_command.specs.Running.{IsLocated, FailsToRead, StopsAnswer, StaysUnless};
 
 use std::alloc::Global;
 use std::hash::RandomState;
@@ -35,7 +35,7 @@ pub fn tell_place<R: Source, W: Sink>(
     ensures stops { IfErr result (StopsAnswer (layout_with options) (R.remaining records.old)
         (FailsToRead R.failure_count records.old records.new ⊎ FailsToWrite W.failure_count out.old out.new)
         (out.new ≡ out.old)) }
-    ensures reads { KeepsReads (R.failure_count records.old) (R.failure_count records.new) result }
+    ensures reads { StaysUnless MapStop.Device (R.failure_count records.old) (R.failure_count records.new) result }
 {
     let map = read_map_with(alloc, hasher, records, options)?;
     tell_on(alloc, &map, point, out)

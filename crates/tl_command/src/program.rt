@@ -2,7 +2,7 @@
 
 ghost use Rattle.tl_command.specs.Starting.{IsStartStatus};
 
-use crate::open::start;
+use crate::start::start;
 use crate::stop::{USAGE, stopped};
 use std::alloc::{Alloc, Global};
 use std::fs::File;

@@ -9,7 +9,7 @@ ghost use Rattle.tl_command.specs.declared.stop.TheConstants.{DONE, MAP_FAULT, C
 ghost use Rattle.tl_command.specs.Running.{IsAnswered, AnswersRecords, IsShown, IsListed, NamesRecordFault, NamesRefusal};
 ghost use Rattle.tl_command.specs.Running.{NamesStop, StopsRun, FaultsMap, FaultsCertificate};
 ghost use Rattle.tl_command.specs.Running.{ReadsNoCertificate, MakesNoCertificate, ReadsNoRecords};
-ghost use Rattle.tl_command.specs.Running.{IsRunStatus, FailsToRead, CountStays, StopsAnswer, KeepsReads, LooksFor, layout_of};
+ghost use Rattle.tl_command.specs.Running.{IsRunStatus, FailsToRead, CountStays, StopsAnswer, LooksFor, layout_of, StaysUnless};
 ghost use Rattle.tl_map.specs.Faults.{IsFaultOfChains};
 ghost use Rattle.tl_map.specs.Reading.{IfFault};
 ghost use Rattle.tl_command.specs.Deciding.{IsExact};
@@ -158,7 +158,7 @@ fn answer<R: Source, W: Sink>(
         (FailsToRead R.failure_count records.old records.new ⊎ FailsToWrite W.failure_count out.old out.new)
         (out.new ≡ out.old)) }
     ensures sought { IfErr result (IfFault (LooksFor plan.now)) }
-    ensures reads { KeepsReads (R.failure_count records.old) (R.failure_count records.new) result }
+    ensures reads { StaysUnless MapStop.Device (R.failure_count records.old) (R.failure_count records.new) result }
 {
     match plan {
         Plan::Show { options, .. } => show(alloc, *options, records, out),
@@ -186,7 +186,7 @@ fn show<R: Source, W: Sink>(
         (out.new ≡ out.old)) }
     // A fault is one of the chains.
     ensures of_chains { IfErr result (IfFault IsFaultOfChains) }
-    ensures reads { KeepsReads (R.failure_count records.old) (R.failure_count records.new) result }
+    ensures reads { StaysUnless MapStop.Device (R.failure_count records.old) (R.failure_count records.new) result }
 {
     let chains = read_chains_with(alloc, records, options)?;
     tell_chains(&chains, out)
@@ -204,7 +204,7 @@ fn landmarks<R: Source, W: Sink>(
     ensures stops { IfErr result (StopsAnswer (layout_with options) (R.remaining records.old)
         (FailsToRead R.failure_count records.old records.new ⊎ FailsToWrite W.failure_count out.old out.new)
         (out.new ≡ out.old)) }
-    ensures reads { KeepsReads (R.failure_count records.old) (R.failure_count records.new) result }
+    ensures reads { StaysUnless MapStop.Device (R.failure_count records.old) (R.failure_count records.new) result }
 {
     let map = read_map_with(alloc, hasher, records, options)?;
     tell_landmarks(&map, out)

@@ -24,8 +24,8 @@ use Rattle.tl_plan.specs.declared.plan.PlanStop.TheVariants.{Usage, Help, Memory
 use Rattle.tl_geom.specs.declared.point.Point.{Point}
 use Rattle.tl_plan.specs.Points.{Spells}
 use Rattle.tl_plan.specs.Commands.{command_line, convert_name, check_name, locate_name, show_name, landmarks_name, audit_name, build_name}
-use Rattle.tl_plan.specs.CommandLine.{IsStopOf, StopsPlanning, Request, request_in, named_in}
-use Rattle.tl_plan.specs.CommandLine.{IsConversionOf, IsPlanOf, IsWhole, HasFiles, IsBudget, AreAUse, HasMistake, AskFor}
+use Rattle.tl_plan.specs.CommandLine.{IsStopOf, IsUsage, StopsPlanning, Request, request_in, named_in}
+use Rattle.tl_plan.specs.CommandLine.{IsConversionOf, IsPlanOf, IsWhole, HasFiles, IsBudget, AskFor}
 use Rattle.tl_plan.specs.declared.plan.Plan.{Plan}
 use Rattle.tl_plan.specs.declared.plan.Plan.TheVariants.{Show, Landmarks, Locate, Convert, Check, Audit, Build}
 
@@ -42,14 +42,14 @@ among : (kinds : Kinds) (kind : ErrorKind) → kind ≢ OutOfMemory → (kind �
 among kinds kind other (inl memory) = absurd (other memory)
 among kinds kind other (inr one) = one
 
--- no plan is made where clap gives an error
-pub stops_for : (words : List Text) (kind : ErrorKind) (stop : PlanStop) → IsStopOf kind stop
+-- no plan is made where clap gives an error, and memory wasn't refused
+pub stops_for : (words : List Text) (kind : ErrorKind) (stop : PlanStop) → stop ≢ Memory → IsStopOf kind stop
     → (takes command_line words ≡ true → kind ≡ OutOfMemory)
     → (kind ≡ OutOfMemory) ⊎ IsAmong kind (fault_of command_line words) → StopsPlanning words stop
-stops_for words kind (Usage text) is passes kinds =
+stops_for words kind (Usage text) told is passes kinds =
     (λ use_of. is.0 (passes use_of.taken), inl (kind, among _ kind is.0 kinds, is.1))
-stops_for words kind (Help text) is passes kinds = (λ use_of. is.0 (passes use_of.taken), (kind, among _ kind is.0 kinds, is.1))
-stops_for words kind Memory is passes kinds = tt
+stops_for words kind (Help text) told is passes kinds = (λ use_of. is.0 (passes use_of.taken), (kind, among _ kind is.0 kinds, is.1))
+stops_for words kind Memory told is passes kinds = absurd (told refl)
 
 -- the name of the command that was found
 pub name_found : (m : ArgMatches) → option_map (λ p. p.0) (subcommand_rows_of m) ≡ subcommand_name_of m
@@ -198,6 +198,8 @@ pub one_plan : (words : List Text) (found : Option (Text × List Row)) (plan : P
 one_plan words found plan is made right = record { taken = right; asked = subst (λ f. IsPlanOf (named_in f) (Some plan)) is made }
 
 -- words that clap takes, and that name no plan
-pub no_plan : (words : List Text) (found : Option (Text × List Row)) → found ≡ subcommand_of command_line words → IsPlanOf (named_in found) None → fault_of command_line words ≡ []
-    → (AreAUse words → ⊥) × (HasMistake (fault_of command_line words) ⊎ (fault_of command_line words ≡ []))
-no_plan words found is none right = (λ use_of. none (subst (λ f. IsWhole (named_in f)) (sym is) use_of.whole), inr right)
+pub no_plan : (words : List Text) (found : Option (Text × List Row)) (stop : PlanStop) → found ≡ subcommand_of command_line words → IsPlanOf (named_in found) None → fault_of command_line words ≡ []
+    → IsUsage stop → StopsPlanning words stop
+no_plan words found (Usage text) is none right usage = (λ use_of. none (subst (λ f. IsWhole (named_in f)) (sym is) use_of.whole), inr right)
+no_plan words found (Help text) is none right usage = absurd usage
+no_plan words found Memory is none right usage = absurd usage

@@ -1,8 +1,10 @@
 -- What the words of the command line mean. How a simple command's words are read is clap's own definition: `subcommand_of`
 -- (the command that the words name, with its arguments), `takes` (whether the words are a use of it) and `fault_of` (which
 -- kinds of error they are, if they aren't).
-use Rattle.std.specs.Prelude.{◌≡◌, ◌≢◌, ◌<◌, ◌≤◌, ◌↔◌, ◌⊎◌, ℕ, true, IsTrue, List, [], Option, Some, None, length, map, option_map, ⊤}
+use Rattle.std.specs.Prelude.{◌≡◌, ◌≢◌, ◌<◌, ◌≤◌, ◌↔◌, ◌⊎◌, ◌==◌, ◌||◌, ℕ, Bool, true, false, IsTrue, List, [], ◌∷◌, Option, Some, None, length, map, option_map, ⊤}
 use Rattle.std.specs.Prelude.{codes, decimal, string_bytes}
+use Rattle.std.specs.List.{list_any}
+use Rattle.std.specs.Str.{bytes_eq}
 use Rattle.clap.specs.Simple.{subcommand_of}
 use Rattle.clap.specs.Walk.{Row, Text, all_of, first_of}
 use Rattle.clap.specs.Takes.{takes}
@@ -240,15 +242,35 @@ pub record AreAUse (words : List Text) : Type 0 where
   pub taken : takes command_line words ≡ true
   pub whole : IsWhole (named_command words)
 
+-- the names that a first word may have: those of the commands, and clap's own help
+abbrev pub first_names : List Text
+first_names = show_name ∷ landmarks_name ∷ locate_name ∷ audit_name ∷ build_name ∷ check_name ∷ convert_name ∷ codes "help" ∷ []
+
+-- does the word begin with a hyphen, as options do
+abbrev pub is_option : Text → Bool
+is_option [] = false
+is_option (first ∷ rest) = first == 45
+
+-- may the words be a use of a command, or a wish for help or for the version, by the first of them
+abbrev pub may_be_use : List Text → Bool
+may_be_use [] = false
+may_be_use (first ∷ rest) = is_option first || list_any (bytes_eq first) first_names
+
 -- an error of this kind answers a wish, for help or for the version
 abbrev pub IsAnswer : ErrorKind → Type 0
 IsAnswer kind = (kind ≡ DisplayHelp) ⊎ (kind ≡ DisplayVersion)
 
--- what an error of this kind makes of the words, where it isn't for want of memory
+-- what an error of this kind makes of the words: a want of memory is told of no mistake
 abbrev pub IsStopOf : ErrorKind → PlanStop → Type 0
 IsStopOf kind (Usage text) = (kind ≢ OutOfMemory) × (¬ IsAnswer kind)
 IsStopOf kind (Help text) = (kind ≢ OutOfMemory) × IsAnswer kind
-IsStopOf kind Memory = ⊤
+IsStopOf kind Memory = (kind ≡ OutOfMemory) ⊎ IsAnswer kind
+
+-- the words are told to be no use of a command
+abbrev pub IsUsage : PlanStop → Type 0
+IsUsage (Usage text) = ⊤
+IsUsage (Help text) = ⊥
+IsUsage Memory = ⊥
 
 -- one of the kinds is a mistake
 abbrev pub HasMistake : Kinds → Type 0
@@ -259,8 +281,9 @@ abbrev pub HasAnswer : Kinds → Type 0
 HasAnswer kinds = (kind : ErrorKind) × IsAmong kind kinds × IsAnswer kind
 
 -- Why the words make no plan: they are no use of a command, and either a mistake, a wish for help or for the version, or
--- taken by clap, as those with a budget that is no number or a point that isn't spelt as one; or memory was refused.
+-- taken by clap, as those with a budget that is no number or a point that isn't spelt as one; or memory was refused, and the
+-- first of them doesn't show that they are no use of a command.
 abbrev pub StopsPlanning : List Text → PlanStop → Type 0
 StopsPlanning words (Usage text) = (¬ AreAUse words) × (HasMistake (fault_of command_line words) ⊎ (fault_of command_line words ≡ []))
 StopsPlanning words (Help text) = (¬ AreAUse words) × HasAnswer (fault_of command_line words)
-StopsPlanning words Memory = ⊤
+StopsPlanning words Memory = may_be_use words ≡ true

@@ -3,6 +3,7 @@
 
 mod budget;
 mod command_line;
+mod first_word;
 mod help;
 mod plan;
 mod point;

@@ -76,11 +76,11 @@ impl Plan {
 /// Why the words are no plan.
 #[derive(Drop)]
 pub enum PlanStop {
-    /// They don't name a command as it is used. The text says what is wrong.
-    Usage(String),
+    /// They don't name a command as it is used. The text says what is wrong, unless memory was refused for it.
+    Usage(Option<String>),
     /// They ask for help or for the version. The text is the answer.
     Help(String),
-    /// Memory was refused.
+    /// Memory was refused, and nothing shows that they name no command.
     Memory,
 }
 

@@ -2,7 +2,7 @@
 
 ghost use Rattle.std.specs.Prelude.{◌≡◌, IfOk, string_bytes};
 ghost use Rattle.clap.specs.Values.{kind_of};
-ghost use Rattle.tl_plan.specs.CommandLine.{IsStopOf};
+ghost use Rattle.tl_plan.specs.CommandLine.{IsStopOf, IsUsage};
 ghost use Rattle.tl_plan.specs.Plans.{plain_text, HasNoEscape, ShowsNoEscape};
 
 use crate::command_line::{Named, subcommand};
@@ -28,13 +28,12 @@ pub fn stop_of(alloc: Global, error: &Error) -> PlanStop
     if error.kind() == ErrorKind::OutOfMemory {
         return PlanStop::Memory;
     }
-    let Ok(text) = text_of(alloc, error) else {
-        return PlanStop::Memory;
-    };
     if error.use_stderr() {
-        PlanStop::Usage(text)
-    } else {
-        PlanStop::Help(text)
+        return PlanStop::Usage(text_of(alloc, error).ok());
+    }
+    match text_of(alloc, error) {
+        Ok(text) => PlanStop::Help(text),
+        Err(_) => PlanStop::Memory,
     }
 }
 
@@ -55,8 +54,16 @@ fn without_escapes(alloc: Global, text: &str) -> Result<String, AllocError>
     Ok(plain)
 }
 
-/// What is wrong with words that `clap` takes and that are no plan.
-pub fn usage_of(
+/// Why there is no plan of words that `clap` takes.
+pub fn misuse(alloc: Global, command: &mut Command<'_>, matches: &ArgMatches<'_>) -> PlanStop
+    ensures usage { IsUsage result }
+    ensures texts { ShowsNoEscape result }
+{
+    PlanStop::Usage(usage_of(alloc, command, matches).ok())
+}
+
+// What is wrong with words that `clap` takes and that are no plan.
+fn usage_of(
     alloc: Global,
     command: &mut Command<'_>,
     matches: &ArgMatches<'_>,

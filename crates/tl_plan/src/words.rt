@@ -11,9 +11,10 @@ ghost use Rattle.tl_plan.specs.Plans.{ShowsNoEscape};
 
 use crate::budget::budget_of;
 use crate::command_line::command;
+use crate::first_word::unread;
 use crate::plan::{Plan, PlanStop};
 use crate::point::point_of;
-use crate::refusal::{stop_of, usage_of};
+use crate::refusal::{misuse, stop_of};
 use clap::{ArgMatches, Command};
 use std::alloc::{AllocError, Global};
 use std::convert::AsStr;
@@ -26,11 +27,14 @@ pub fn plan<S: AsStr>(alloc: Global, words: &[S]) -> Result<Plan, PlanStop>
     // The plan is what the words ask for: they are none that `clap` has an error for, and its command, its switches, its
     // budget, and the names of its files, word for word and in their order, are theirs.
     ensures plan { IfOk result (AskFor (map S.text words.now)) }
-    // Words that are a use of a command are refused for want of memory alone.
+    // Words that are a use of a command are refused for want of memory alone, and words of which the first shows that they are
+    // none never for that.
     ensures stops { IfErr result (StopsPlanning (map S.text words.now)) }
     ensures texts { IfErr result ShowsNoEscape }
 {
-    let mut command = command(alloc)?;
+    let Ok(mut command) = command(alloc) else {
+        return Err(unread(words));
+    };
     plan_by(alloc, &mut command, words)
 }
 
@@ -47,12 +51,15 @@ fn plan_by<'a, S: AsStr>(
 {
     let matches = match command.try_get_matches_from_mut(words) {
         Ok(matches) => matches,
-        Err(error) => return Err(stop_of(alloc, &error)),
+        Err(error) => match stop_of(alloc, &error) {
+            PlanStop::Memory => return Err(unread(words)),
+            stop => return Err(stop),
+        },
     };
     match plan_of(alloc, &matches)? {
         Some(plan) => Ok(plan),
         // The words name a number or a point that isn't spelt so: clap has refused others before.
-        None => Err(PlanStop::Usage(usage_of(alloc, command, &matches)?)),
+        None => Err(misuse(alloc, command, &matches)),
     }
 }
 

@@ -2,7 +2,7 @@ use Rattle.std.proofs.Common.{inl, inr, refl, string_bytes, ap, ◌∙◌}
 use Rattle.tl_output.specs.Writing.{Writes}
 use Rattle.tl_command.specs.Making.{Begins}
 use Rattle.tl_command.proofs.OpenLemmas.{over_build, over_unmade, made_by_build, keeps_others, keeps_all, stands, stops_opening}
-use Rattle.tl_command.proofs.open.build_into.Goals as goal
+use Rattle.tl_command.proofs.new_file.build_into.Goals as goal
 
 pub returns : goal.returns
 returns g c =

@@ -1,6 +1,6 @@
 use Rattle.std.proofs.Common.{◌≡◌, ◌++◌, map, drop, string_bytes}
 use Rattle.tl_files.specs.Files.{bytes_under}
-use Rattle.tl_command.proofs.open.open_all.Given as goal
+use Rattle.tl_command.proofs.opening.open_all.Given as goal
 
 abbrev pub invariant-loop-name : goal.invariant-loop-name
 invariant-loop-name g l =

@@ -1,6 +1,6 @@
 use Rattle.std.proofs.Common.{string_bytes}
 use Rattle.tl_command.proofs.OpenLemmas.{unopened_item}
-use Rattle.tl_command.proofs.open.open_all.Goals as goal
+use Rattle.tl_command.proofs.opening.open_all.Goals as goal
 
 pub returns-in-Err-clause-stops : goal.returns-in-Err-clause-stops
 returns-in-Err-clause-stops g c =

@@ -1,5 +1,5 @@
 use Rattle.std.proofs.Common.{inl, refl}
-use Rattle.tl_command.proofs.open.run_on_readers.Goals as goal
+use Rattle.tl_command.proofs.readers.run_on_readers.Goals as goal
 
 pub returns-clause-status : goal.returns-clause-status
 returns-clause-status g c = c.run-status.ensures.status

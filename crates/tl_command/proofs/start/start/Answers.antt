@@ -1,5 +1,8 @@
-use Rattle.std.proofs.Common.{inl, inr}
-use Rattle.tl_command.proofs.open.start.Goals as goal
+use Rattle.std.proofs.Common.{inl, inr, map, string_bytes}
+use Rattle.tl_plan.proofs.FirstWord.{wish_may}
+use Rattle.tl_plan.proofs.PlansLemmas.{All-plain_text}
+use Rattle.tl_command.specs.declared.start.TheConstants.{NO_USE}
+use Rattle.tl_command.proofs.start.start.Goals as goal
 
 pub returns-in-Ok-clause-done : goal.returns-in-Ok-clause-done
 returns-in-Ok-clause-done g c = λ done. inl (c.in-Ok.plan, c.in-Ok.ensures.plan, c.open_and_run.ensures.answered done)
@@ -27,3 +30,20 @@ returns-in-Ok-clause-begun g c = λ stopped. inr (c.in-Ok.plan, c.in-Ok.ensures.
 
 pub returns-in-Ok-clause-stopped : goal.returns-in-Ok-clause-stopped
 returns-in-Ok-clause-stopped g c = λ stopped. inr (c.in-Ok.plan, c.in-Ok.ensures.plan, c.open_and_run.ensures.stopped stopped)
+
+pub returns-in-Err-Help-clause-stopped : goal.returns-in-Err-Help-clause-stopped
+returns-in-Err-Help-clause-stopped g c = λ stopped.
+    let wish = rw c.in-Err-Help.field-0-is at c.in-Err-Help.ensures.stops in
+    let told = c.say_help.ensures.stopped stopped in
+    inl (wish_may (map string_bytes c.args.words.now) wish.1, inr (told.0, told.1))
+
+pub returns-in-Err-Usage-None-clause-usage : goal.returns-in-Err-Usage-None-clause-usage
+returns-in-Err-Usage-None-clause-usage g c = λ usage.
+    let no_use = rw c.in-Err-Usage-None.field-0-is at c.in-Err-Usage-None.ensures.stops in
+    inl (record {
+      no_use = no_use.0;
+      mistake = no_use.1;
+      text = NO_USE.now;
+      no_escape = All-plain_text NO_USE.now;
+      written = c.say_usage-in-Err-Usage-None.ensures.said;
+    })

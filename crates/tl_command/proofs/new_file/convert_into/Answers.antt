@@ -2,7 +2,7 @@ use Rattle.std.proofs.Common.{inl, inr, refl, string_bytes, ap, ◌∙◌}
 use Rattle.tl_output.specs.Writing.{Writes}
 use Rattle.tl_command.specs.Making.{Begins}
 use Rattle.tl_command.proofs.OpenLemmas.{over_conversion, over_unmade, made_by_conversion, keeps_others, keeps_all, stands, stops_opening}
-use Rattle.tl_command.proofs.open.convert_into.Goals as goal
+use Rattle.tl_command.proofs.new_file.convert_into.Goals as goal
 
 pub returns-in-None : goal.returns-in-None
 returns-in-None g c =

@@ -1,0 +1,143 @@
+//! Certificates that are made over files: each takes its name when it is whole.
+
+ghost use Rattle.std.specs.Prelude.{◌≡◌, ◌≢◌, ◌⊎◌, ℕ, List, true, false, None, IfOk, IfErr, IfSome, IsSome, map, string_bytes};
+ghost use Rattle.tl_text.specs.Joining.{joined_bytes};
+ghost use Rattle.tl_output.specs.Writing.{Writes, TriesToWrite, FailsToWrite};
+ghost use Rattle.tl_files.specs.Files.{bytes_under, standing, beside, IsRoom};
+ghost use Rattle.tl_command.specs.declared.stop.TheConstants.{USAGE};
+ghost use Rattle.tl_command.specs.Running.{CountStays};
+ghost use Rattle.tl_command.specs.Opening.{RunsOver, IsBuildOf, Converts, records_under, certificate_under, FilesFail};
+ghost use Rattle.tl_command.specs.Starting.{StopsOpening};
+
+use crate::building::{is_made, make, tell_making};
+use crate::convert::{rewrite, tell_converted};
+use crate::opening::{room_for_bytes, stop_of};
+use crate::stop::{USAGE, stopped};
+use std::alloc::Global;
+use std::hash::RandomState;
+use tl_check::Stop;
+use tl_files::{FileSystem, Room};
+use tl_output::write_all;
+use tl_plan::Plan;
+use tl_record::{Options, Sink, Source};
+use tl_text::{Buffered, JoinedSources};
+
+/// What is said where another file stands under the name of the certificate that is made.
+pub const TAKEN: &[u8] = b"OUT stands and is no certificate\n";
+
+/// What is said where that name is one of the files that are read.
+pub const IS_READ: &[u8] = b"OUT is one of the files that are read\n";
+
+/// Whether a certificate may take the name, where those of these names are read.
+pub fn room_for<F: FileSystem>(files: &F, name: &String, read: &[String]) -> Result<Room, Stop>
+    ensures room { IfOk result (IsRoom (F.under files.now) (string_bytes name.now) (map string_bytes read.now)) }
+    ensures stops { IfErr result (StopsOpening (bytes_under (F.under files.now) (string_bytes name.now) ≡ None)) }
+{
+    match files.room(name.as_str(), read) {
+        Ok(room) => Ok(room),
+        Err(stop) => Err(stop_of(stop)),
+    }
+}
+
+/// Says why a certificate may not take its name. Where that can't be written, the status alone is left to tell it.
+pub fn say_refusal<E: Sink>(text: &[u8], err: &mut E) -> u8
+    ensures status { result ≡ USAGE }
+    ensures said { TriesToWrite E.contents E.failure_count err.old err.new text.now }
+{
+    let _ = write_all(text, err);
+    USAGE
+}
+
+/// Makes a certificate, which takes its name when it is whole.
+pub fn build_into<F: FileSystem, W: Sink, E: Sink>(
+    files: &mut F,
+    alloc: Global,
+    hasher: RandomState,
+    plan: &Plan,
+    readers: Vec<F::Reader>,
+    name: &String,
+    options: Options,
+    out: &mut W,
+    err: &mut E,
+) -> u8
+    requires plan { IsBuildOf plan.now (string_bytes name.now) options }
+    requires known { joined_bytes F.Reader.remaining false readers.items ≡ records_under (F.under files.old) plan.now }
+    ensures { RunsOver plan.now result (F.under files.old) (F.under files.new)
+        (Writes W.contents W.failure_count out.old out.new)
+        (TriesToWrite E.contents E.failure_count err.old err.new)
+        (FilesFail F.Reader.failure_count F.Draft.failure_count F.knows (F.under files.old) plan.now
+        ⊎ FailsToWrite W.failure_count out.old out.new) (CountStays W.failure_count out.old out.new)
+        (out.new ≡ out.old) (err.new ≡ err.old) }
+{
+    let Ok(room) = room_for_bytes(alloc) else {
+        return stopped(&Stop::Memory, err);
+    };
+    let mut records = Buffered::new(JoinedSources::new(readers), room);
+    let mut draft = match files.draft(alloc, name.as_str()) {
+        Ok(draft) => draft,
+        Err(stop) => return stopped(&stop_of(stop), err),
+    };
+    let making = make(alloc, hasher, &mut records, &mut draft, options);
+    match settle(files, alloc, draft, name, is_made(&making)) {
+        Some(stop) => stopped(&stop, err),
+        None => tell_making(&making, out, err),
+    }
+}
+
+/// Writes a certificate that is read in version 2; it takes its name when it is whole.
+pub fn convert_into<F: FileSystem, W: Sink, E: Sink>(
+    files: &mut F,
+    alloc: Global,
+    plan: &Plan,
+    cert: &mut Buffered<F::Reader>,
+    name: &String,
+    out: &mut W,
+    err: &mut E,
+) -> u8
+    requires plan { Converts plan.now (string_bytes name.now) }
+    requires known { ⟦<Buffered<F::Reader> as Source>⟧.remaining cert.old
+        ≡ certificate_under (F.under files.old) plan.now }
+    ensures { RunsOver plan.now result (F.under files.old) (F.under files.new)
+        (Writes W.contents W.failure_count out.old out.new)
+        (TriesToWrite E.contents E.failure_count err.old err.new)
+        (FilesFail F.Reader.failure_count F.Draft.failure_count F.knows (F.under files.old) plan.now
+        ⊎ FailsToWrite W.failure_count out.old out.new) (CountStays W.failure_count out.old out.new)
+        (out.new ≡ out.old) (err.new ≡ err.old) }
+{
+    let mut draft = match files.draft(alloc, name.as_str()) {
+        Ok(draft) => draft,
+        Err(stop) => return stopped(&stop_of(stop), err),
+    };
+    let converted = rewrite(alloc, cert, &mut draft);
+    match settle(files, alloc, draft, name, converted.is_ok()) {
+        Some(stop) => stopped(&stop, err),
+        None => tell_converted(&converted, out, err),
+    }
+}
+
+// Lets a new file take its name where it is whole, and else takes it away. Says why it stops where it may not have it.
+fn settle<F: FileSystem>(
+    files: &mut F,
+    alloc: Global,
+    draft: F::Draft,
+    name: &String,
+    is_whole: bool,
+) -> Option<Stop>
+    ensures others { (other : List ℕ) → other ≢ string_bytes name.now → other ≢ beside (string_bytes name.now) →
+        F.under files.new other ≡ F.under files.old other }
+    ensures kept { is_whole ≡ true → result ≡ None →
+        F.under files.new (string_bytes name.now) ≡ standing (F.Draft.contents draft) }
+    ensures stays { (is_whole ≡ false) ⊎ IsSome result → (other : List ℕ) → other ≢ beside (string_bytes name.now) →
+        F.under files.new other ≡ F.under files.old other }
+    ensures stops { IfSome result (StopsOpening (F.knows ≡ false)) }
+    ensures whole { IsSome result → is_whole ≡ true }
+{
+    if !is_whole {
+        files.discard(draft, name.as_str());
+        return None;
+    }
+    match files.keep(alloc, draft, name.as_str()) {
+        Ok(()) => None,
+        Err(stop) => Some(stop_of(stop)),
+    }
+}

@@ -1,0 +1,105 @@
+//! The program from its words to its status.
+
+ghost use Rattle.std.specs.Prelude.{◌≡◌, ◌⊎◌, map, string_bytes};
+ghost use Rattle.tl_output.specs.Writing.{Writes, TriesToWrite, FailsToWrite, line_of};
+ghost use Rattle.tl_command.specs.declared.stop.TheConstants.{DONE, MAP_FAULT, CERT_FAULT, REFUSED, STOPPED, USAGE};
+ghost use Rattle.tl_check.specs.declared.stop.Stop.TheVariants.{Device};
+ghost use Rattle.tl_check.specs.Stops.{stop_text};
+ghost use Rattle.tl_command.specs.Running.{CountStays};
+ghost use Rattle.tl_command.specs.Opening.{FilesFail};
+ghost use Rattle.tl_command.specs.Starting.{IsStartStatus, ShowsUsage, ShowsHelp, AnswersSome, FaultsSome, RefusesSome};
+ghost use Rattle.tl_command.specs.Starting.{FaultsText, StopsSome, DecidesSome, BeginsSome, RefusesSomeOut, KeepsSome};
+
+use crate::open::open_and_run;
+use crate::stop::{DONE, USAGE, stopped};
+use std::alloc::Global;
+use std::hash::RandomState;
+use tl_check::Stop;
+use tl_files::FileSystem;
+use tl_output::write_all;
+use tl_plan::{PlanStop, words};
+use tl_record::Sink;
+
+// What is said of words that are no use of a command, where memory was refused for a text that says why.
+const NO_USE: &str = "error: the words are no use of a command\n";
+
+/// Does what the words after the program's name ask, over these files, and gives the program's exit status.
+pub fn start<F: FileSystem, W: Sink, E: Sink>(
+    files: &mut F,
+    alloc: Global,
+    hasher: RandomState,
+    words: &[String],
+    out: &mut W,
+    err: &mut E,
+) -> u8
+    ensures status { IsStartStatus result }
+    // Words that are no use of a command, or a certificate that may not take its name: what is wrong was written to
+    // `err`, or the write failed.
+    ensures usage { result ≡ USAGE
+        → ShowsUsage (map string_bytes words.now) (TriesToWrite E.contents E.failure_count err.old err.new)
+        ⊎ RefusesSomeOut (map string_bytes words.now) (F.under files.old)
+        (TriesToWrite E.contents E.failure_count err.old err.new) }
+    // The output grew by the answer to what the words ask for, or by the help that they ask for.
+    ensures done { result ≡ DONE
+        → AnswersSome (map string_bytes words.now) (F.under files.old) (F.under files.new)
+        (Writes W.contents W.failure_count out.old out.new)
+        ⊎ ShowsHelp (map string_bytes words.now) (Writes W.contents W.failure_count out.old out.new) }
+    // The words ask for a plan, and the output or `err` grew by the line that its run writes.
+    ensures fault { result ≡ MAP_FAULT
+        → FaultsSome (map string_bytes words.now) (F.under files.old)
+        (Writes W.contents W.failure_count out.old out.new) }
+    ensures cert_fault { result ≡ CERT_FAULT
+        → FaultsText (map string_bytes words.now) (F.under files.old)
+        (Writes W.contents W.failure_count out.old out.new) }
+    ensures refused { result ≡ REFUSED
+        → RefusesSome (map string_bytes words.now) (F.under files.old)
+        (TriesToWrite E.contents E.failure_count err.old err.new) }
+    ensures stopped { result ≡ STOPPED
+        → StopsSome (map string_bytes words.now) (F.under files.old)
+        (TriesToWrite E.contents E.failure_count err.old err.new)
+        (FilesFail F.Reader.failure_count F.Draft.failure_count F.knows (F.under files.old))
+        (FailsToWrite W.failure_count out.old out.new) (CountStays W.failure_count out.old out.new) }
+    // The other stream stays as it was.
+    ensures err_stays { (result ≡ DONE) ⊎ ((result ≡ MAP_FAULT) ⊎ (result ≡ CERT_FAULT)) → err.new ≡ err.old }
+    ensures out_stays { (result ≡ REFUSED) ⊎ (result ≡ USAGE) → out.new ≡ out.old }
+    // Of `audit`, `build` and `check`: a status of 0 or 1 is 0 exactly where the records have a map that is sound.
+    ensures exactly { (result ≡ DONE) ⊎ (result ≡ MAP_FAULT)
+        → DecidesSome (map string_bytes words.now) (F.under files.old) result }
+    // Where it stops, no name stands for other bytes, or a certificate that is valid took the name of the one that is made.
+    ensures begun { result ≡ STOPPED
+        → BeginsSome (map string_bytes words.now) (F.under files.old) (F.under files.new) }
+    // No name stands for other bytes than before but that of the certificate that is made.
+    ensures files { KeepsSome (map string_bytes words.now) result (F.under files.old) (F.under files.new) }
+{
+    match words::plan(alloc, words) {
+        Ok(plan) => open_and_run(files, alloc, hasher, &plan, out, err),
+        Err(PlanStop::Memory) => stopped(&Stop::Memory, err),
+        Err(PlanStop::Usage(Some(text))) => say_usage(text.as_str(), err),
+        Err(PlanStop::Usage(None)) => say_usage(NO_USE, err),
+        Err(PlanStop::Help(text)) => say_help(&text, out, err),
+    }
+}
+
+// Says what is wrong with the words. Where that can't be written, the status alone is left to tell it.
+fn say_usage<E: Sink>(text: &str, err: &mut E) -> u8
+    ensures status { result ≡ USAGE }
+    ensures said { TriesToWrite E.contents E.failure_count err.old err.new text.now }
+{
+    let _ = write_all(text.as_bytes(), err);
+    USAGE
+}
+
+// Gives the help that the words wish for. Where that can't be written, the program is stopped.
+fn say_help<W: Sink, E: Sink>(text: &String, out: &mut W, err: &mut E) -> u8
+    ensures status { (result ≡ DONE) ⊎ (result ≡ STOPPED) }
+    ensures said { result ≡ DONE → Writes W.contents W.failure_count out.old out.new (string_bytes text.now) }
+    ensures err_stays { result ≡ DONE → err.new ≡ err.old }
+    ensures stopped { result ≡ STOPPED
+        → (TriesToWrite E.contents E.failure_count err.old err.new (line_of (stop_text Device)))
+        × FailsToWrite W.failure_count out.old out.new }
+{
+    match write_all(text.as_str().as_bytes(), out) {
+        Ok(()) => DONE,
+        Err(_) => stopped(&Stop::Device, err),
+    }
+}
