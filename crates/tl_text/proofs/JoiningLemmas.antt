@@ -3,7 +3,7 @@ use Rattle.std.proofs.Common.{◌≡◌, ℕ, zero, suc, ◌+◌, ◌-◌, ◌^�
 use Rattle.std.proofs.Common.{Some, None, refl, ap, ◌∙◌, append_assoc, arith, map, option_map, if◌then◌else◌, slice_index_or, slice_set, slice_range, add-one, sym, drop-drop, take_at, take-append-drop}
 use Rattle.std.proofs.Math.Seq.{drop-cons}
 use Rattle.std.proofs.lemmas.List.{drop-set, drop-set-lt, drop-take, get_or-take, length-take-le}
-use Rattle.std.specs.Io.KnownBytes.{Consumes, IsAtEnd}
+use Rattle.std.specs.Io.KnownBytes.{Consumes, IsAtEnd, prepend_known}
 use Rattle.std.specs.Prelude.{Option}
 use Rattle.std.specs.Fmt.{option_append}
 use Rattle.tl_record.specs.Failures.{one_more}
@@ -144,3 +144,14 @@ none_held [] buf_old buf_new n count copied nothing some = refl
 none_held (byte ∷ held) buf_old buf_new n count copied nothing some =
     let same : length buf_new ≡ length buf_old = ap length copied ∙ ap (λ k. length (take k (byte ∷ held) ++ drop k buf_old)) nothing in
     absurd (omega (arith, count, nothing, same, some))
+
+with_nothing : (left : Option (List ℕ)) → prepend_known [] left ≡ left
+with_nothing None = refl
+with_nothing (Some bytes) = refl
+
+-- where nothing is held, what is still to come are the other source's bytes
+pub nothing_held : (items : List ℕ) (start end : ℕ) (left : Option (List ℕ)) → start ≡ end → left ≡ prepend_known (slice_range items start end) left
+nothing_held items start end left same =
+    let none : end - start ≡ 0 = omega (arith, same) in
+    let empty : slice_range items start end ≡ [] = ap (λ n. take n (drop start items)) none in
+    sym (ap (λ held. prepend_known held left) empty ∙ with_nothing left)

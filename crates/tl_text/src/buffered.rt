@@ -9,7 +9,12 @@ use std::io;
 use std::io::Read;
 use tl_record::Source;
 
+// A read of as many bytes or more is of many bytes itself.
+const MANY: usize = 16_384;
+
 /// A source that reads many bytes of another one at a time. Its failures are those of the other.
+///
+/// A read of 16,384 bytes or more goes straight to the other one where nothing is held, and isn't copied.
 #[derive(Drop)]
 pub struct Buffered<S> {
     source: S,
@@ -70,6 +75,9 @@ impl<S: Source> Source for Buffered<S> {
     ghost failure_count = { λ b. S.failure_count b.source };
 
     fn fetch(&mut self, buf: &mut [u8]) -> io::Result<usize> {
+        if self.start == self.end && buf.len() >= MANY {
+            return self.source.fetch(buf);
+        }
         self.fill()?;
         let (start, end) = (self.start, self.end);
         let held = self.bytes.as_slice();

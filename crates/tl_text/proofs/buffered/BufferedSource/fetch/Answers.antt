@@ -1,7 +1,18 @@
-use Rattle.std.proofs.Common.{◌≡◌, ◌-◌, ◌<◌, min, [], length, take, drop, slice_range, ap, ◌∙◌, arith, length-take, length-drop}
+use Rattle.std.proofs.Common.{◌≡◌, ◌-◌, ◌<◌, min, [], length, take, drop, slice_range, ap, subst, ◌∙◌, arith, length-take, length-drop}
 use Rattle.std.proofs.KnownBytes.{prepend_known-read}
-use Rattle.tl_text.proofs.JoiningLemmas.{advance, given, none_held}
+use Rattle.std.specs.Io.KnownBytes.{ReadConsumes, prepend_known}
+use Rattle.tl_text.proofs.JoiningLemmas.{advance, given, none_held, nothing_held}
 use Rattle.tl_text.proofs.buffered.BufferedSource.fetch.Goals as goal
+
+pub returns-then-buf-ge-MANY-clause-bytes : goal.returns-then-buf-ge-MANY-clause-bytes
+returns-then-buf-ge-MANY-clause-bytes g c =
+    let b = c.args.self.now in
+    let none : b.start ≡ b.end = omega arith in
+    let held = slice_range b.bytes.items b.start b.end in
+    let before = g.S.Source.remaining b.source in
+    let after = g.S.Source.remaining c.fetch.new.self in
+    subst (λ from. ReadConsumes from (prepend_known held after) c.fetch.result c.fetch.new.buf) (nothing_held b.bytes.items b.start b.end before none)
+    (subst (λ to. ReadConsumes before to c.fetch.result c.fetch.new.buf) (nothing_held b.bytes.items b.start b.end after none) c.fetch.ensures.bytes)
 
 pub returns-clause-bytes : goal.returns-clause-bytes
 returns-clause-bytes g c =
