@@ -31,6 +31,7 @@ use Rattle.tl_check.specs.Verdicts.{Answer, UnlessMeet}
 use Rattle.tl_check.specs.Keeping.Answers.{answer_of, stop_of, refusal_of}
 use Rattle.tl_check.specs.Keeping.Parts.{Holds, IsBehindSearch, UnlessMet}
 use Rattle.tl_check.proofs.Denials.{of_darts_alone}
+use Rattle.tl_check.proofs.Prefixes.{first_rounds, first_walks}
 use Rattle.tl_check.proofs.Whole.{goes_on_with_nothing}
 
 -- what is so anyway
@@ -93,6 +94,20 @@ refused_meets map.Device P = tt
 refused_meets map.Memory P = tt
 refused_meets (map.Fault fault) P = tt
 
+-- chains are planar behind parts that were taken, where their certificate allows a search
+allowed_planar : (m : TheMap) (c : TheCertificate) (s : State) → Holds m c s → IsBehindSearch m s → AllowsSearch m c → IsPlanar m.chains
+allowed_planar m c (state.Rounding rounds) held behind allows = behind
+allowed_planar m c (state.Walking walks rings) held behind allows = behind
+allowed_planar m c (state.Unrounded fault) held behind allows = behind
+allowed_planar m c (state.Wrong fault) held behind allows = behind (of_darts_alone m c fault (held c (goes_on_with_nothing c)) allows)
+
+-- the same of a certificate in memory, behind some of its rounds and behind some of its walks
+pub rounds_planar : (m : TheMap) (c : TheCertificate) (n : ℕ) (s : State) → Holds m (first_rounds c n) s → IsBehindSearch m s → AllowsSearch m c → IsPlanar m.chains
+rounds_planar m c n s held behind allows = allowed_planar m (first_rounds c n) s held behind (record { counts = allows.counts; tree = allows.tree })
+
+pub walks_planar : (m : TheMap) (c : TheCertificate) (n : ℕ) (s : State) → Holds m (first_walks c n) s → IsBehindSearch m s → AllowsSearch m c → IsPlanar m.chains
+walks_planar m c n s held behind allows = allowed_planar m (first_walks c n) s held behind (record { counts = allows.counts; tree = allows.tree })
+
 -- chains are planar, where a search may be made by the text
 abbrev pub PlanarBy : TheMap → Option (List ℕ) → Type 0
 PlanarBy m text = IfSome text (λ t. TextAllowsSearch m t → IsPlanar m.chains)
@@ -139,17 +154,11 @@ module _ {R : Type 0} (remaining : R → Option (List ℕ)) (m : TheMap) (first 
       let same = one_beginning allows.certificate c allows.rest rest allows.is_one is (sym allows.begins ∙ begins) in
       record { counts = subst (AreCounts m) same.0 allows.allows.counts; tree = subst (IsTree m) same.1 allows.allows.tree }
 
-  allowed_planar : (c : TheCertificate) (s : State) → Holds m c s → IsBehindSearch m s → AllowsSearch m c → IsPlanar m.chains
-  allowed_planar c (state.Rounding rounds) held behind allows = behind
-  allowed_planar c (state.Walking walks rings) held behind allows = behind
-  allowed_planar c (state.Unrounded fault) held behind allows = behind
-  allowed_planar c (state.Wrong fault) held behind allows = behind (of_darts_alone m c fault (held c (goes_on_with_nothing c)) allows)
-
   text_planar : (version : ℕ) (c : TheCertificate) (s : State) (text left : Option (List ℕ)) → IsCertificate c → Follows text left (Treed version) c → Holds m c s → IsBehindSearch m s
       → PlanarBy m text
   text_planar version c s None left is follows held behind = tt
   text_planar version c s (Some text) None is follows held behind = absurd follows
-  text_planar version c s (Some text) (Some rest) is follows held behind = λ allows. allowed_planar c s held behind (allows_alone c text rest is follows allows)
+  text_planar version c s (Some text) (Some rest) is follows held behind = λ allows. allowed_planar m c s held behind (allows_alone c text rest is follows allows)
 
   -- behind the tree
   pub taken_planar : (version : ℕ) (now : CertReader R) (c : TheCertificate) (s : State) → Collects remaining (Treed version) first now c → Holds m c s → IsBehindSearch m s

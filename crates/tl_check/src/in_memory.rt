@@ -10,7 +10,7 @@ ghost use Rattle.tl_check.specs.Sound.{AreClosed};
 ghost use Rattle.tl_check.specs.Valid.{AllowsSearch, IsValid};
 ghost use Rattle.tl_check.specs.Truth.{IsTrueOfMap, IsTrueOfCert, IsOfDarts};
 ghost use Rattle.tl_check.specs.Keeping.Streams.{Shows};
-ghost use Rattle.tl_check.specs.Verdicts.{OnSound, IfSound, IfMapFault, IfCertFault, OnSearched, IsReport, MayStop};
+ghost use Rattle.tl_check.specs.Verdicts.{OnSound, IfSound, IfMapFault, IfCertFault, UnlessMeet, OnSearched, IsReport, MayStop};
 
 use crate::answer::{answer, report};
 use crate::counts::are_counts;
@@ -50,6 +50,9 @@ pub fn check_map(alloc: Global, map: &Map, cert: &Certificate, budget: u64) -> R
     ensures cert_fault { IfCertFault result (IsTrueOfCert map.now cert.now) }
     // One of rounds or of walks comes only where the chains are planar.
     ensures behind { IfCertFault result (λ fault. IsOfDarts fault → IsPlanar map.now.chains) }
+    // Where a search may be made by the certificate, and two segments meet where they may not, the answer is such a meet, or a
+    // stop.
+    ensures meets { UnlessMeet result (AllowsSearch map.now cert.now → IsPlanar map.now.chains) }
     // A fault of the map comes only where a search may be made by the certificate, and so does a stop for the budget.
     ensures searched { OnSearched result (AllowsSearch map.now cert.now) }
     // It stops where memory was refused, or more than the budget had to be tested.
@@ -58,9 +61,10 @@ pub fn check_map(alloc: Global, map: &Map, cert: &Certificate, budget: u64) -> R
     check_whole(alloc, map, cert, budget)
 }
 
-// The answer, with one clause for all that it says.
+// The answer, with one clause for what it says by its kind.
 fn check_whole(alloc: Global, map: &Map, cert: &Certificate, budget: u64) -> Result<Verdict, Stop>
-    ensures { Shows map.now cert.now budget result }
+    ensures shows { Shows map.now cert.now budget result }
+    ensures meets { UnlessMeet result (AllowsSearch map.now cert.now → IsPlanar map.now.chains) }
 {
     if !are_counts(map, cert.counts()) {
         return Ok(Verdict::CertFault(CertFault::Counts));

@@ -53,7 +53,7 @@ fn list_ring(map: &Map, ring: &[u32], point: Point, flanks: &mut Vec<Flanks>) ->
 /// Whether a ring has the outside on its left.
 pub fn has_outside(map: &Map, ring: &[u32]) -> bool
     requires { IsRing map.now.chains ring.now }
-    ensures { IsTrue result → dart_left map.now.chains (slice_index ring.now 0) ≡ Some Outside }
+    ensures { IsTrue result ↔ (dart_left map.now.chains (slice_index ring.now 0) ≡ Some Outside) }
 {
     match map.dart_left(ring[0]) {
         Side::Outside => true,

@@ -1,6 +1,6 @@
 //! Lists of numbers that are laid end to end.
 
-ghost use Rattle.std.specs.Prelude.{◌≡◌, ◌<◌, ◌≤◌, ◌-◌, [], ◌∷◌, ◌++◌, length, take, drop, IsTrue};
+ghost use Rattle.std.specs.Prelude.{◌≡◌, ◌<◌, ◌≤◌, ◌-◌, ◌↔◌, [], ◌∷◌, ◌++◌, length, take, drop, IsTrue};
 ghost use Rattle.std.specs.Prelude.{IfOk, OnOk, OnErr};
 ghost use Rattle.tl_sides.specs.Lists.{and_list, list_at};
 ghost use Rattle.tl_rings.specs.Keeping.Laid.{pieces, start_of, AreEnds};
@@ -44,7 +44,7 @@ impl Laid {
 
     /// Whether no list is laid.
     pub fn is_empty(&self) -> bool
-        ensures { IsTrue result → self.now ≡ [] }
+        ensures { IsTrue result ↔ (self.now ≡ []) }
     {
         are_none(&self.ends)
     }
@@ -67,7 +67,7 @@ impl Laid {
 
 /// Whether there is no place.
 fn are_none(ends: &[usize]) -> bool
-    ensures { IsTrue result → ends.now ≡ [] }
+    ensures { IsTrue result ↔ (ends.now ≡ []) }
 {
     ends.is_empty()
 }

@@ -5,6 +5,8 @@ use Rattle.tl_check.specs.Keeping.Parts.{Holds, IsShown, UnlessMemory}
 use Rattle.tl_check.proofs.Prefixes.{first_rounds, first_walks, all_rounds, all_walks, list_is, as_many, round_taken, walk_taken, has_some}
 use Rattle.tl_check.proofs.Walking.{told_ok, told_err}
 use Rattle.tl_check.proofs.Halting.{halted, ended, allowed_rounds, allowed_walks}
+use Rattle.tl_check.proofs.Meeting.{halted_meets, meets_so, rounds_planar, walks_planar}
+use Rattle.tl_check.specs.Keeping.Answers.{answer_of}
 use Rattle.tl_check.proofs.in_memory.check_whole.Goals as goal
 
 pub loop-round-init : goal.loop-round-init
@@ -94,16 +96,16 @@ shown c =
     subst (λ d. IsShown c.args.map.now d c.in-Ok-Ok.rings) (all_walks c.args.cert.now i (omega (arith, many, test)))
     (told_ok _ c.in-Ok-Ok.field-0 c.in-Ok-Ok.rings c.in-Ok-Ok.field-0-is c.in-Ok-Ok.ensures.shown (first_walks c.args.cert.now i) c.loop-walk.invariant.holds)
 
-pub returns-in-Ok-Ok : goal.returns-in-Ok-Ok
-returns-in-Ok-Ok c = record {
+pub returns-in-Ok-Ok-clause-shows : goal.returns-in-Ok-Ok-clause-shows
+returns-in-Ok-Ok-clause-shows c = record {
   rings = c.in-Ok-Ok.rings;
   shown = shown c;
   numbers = c.report.ensures;
   within = told_ok _ c.in-Ok-Ok.field-0 c.in-Ok-Ok.rings c.in-Ok-Ok.field-0-is c.in-Ok-Ok.ensures.searched c.args.budget c.loop-walk.invariant.searched;
 }
 
-pub returns-in-Ok-Err : goal.returns-in-Ok-Err
-returns-in-Ok-Err c =
+pub returns-in-Ok-Err-clause-shows : goal.returns-in-Ok-Err-clause-shows
+returns-in-Ok-Err-clause-shows c =
     let vs = c.walks-walk-items.result.now in
     let i = c.loop-walk.walk-index in
     let test = c.loop-walk-test.false in
@@ -113,22 +115,46 @@ returns-in-Ok-Err c =
       told_err _ c.in-Ok-Err.field-0 c.in-Ok-Err.fault c.in-Ok-Err.field-0-is c.in-Ok-Err.ensures.behind c.loop-walk.invariant.behind,
     )
 
-pub returns-then-not-are_counts : goal.returns-then-not-are_counts
-returns-then-not-are_counts c = (search rules, λ of_darts. absurd of_darts)
+pub returns-then-not-are_counts-clause-shows : goal.returns-then-not-are_counts-clause-shows
+returns-then-not-are_counts-clause-shows c = (search rules, λ of_darts. absurd of_darts)
 
-pub returns-in-Err : goal.returns-in-Err
-returns-in-Err c = rw c.answer.ensures (halted c.args.map.now c.args.cert.now c.args.budget c.in-Err.halt c.in-Err.ensures.halts
+pub returns-in-Err-clause-shows : goal.returns-in-Err-clause-shows
+returns-in-Err-clause-shows c = rw c.answer.ensures (halted c.args.map.now c.args.cert.now c.args.budget c.in-Err.halt c.in-Err.ensures.halts
     (rw (← c.counts.ensures) (c.are_counts.ensures.0 c.if-not-are_counts.false))
     (subst (λ t. UnlessMemory c.in-Err.halt (IsTree c.args.map.now t)) c.tree.ensures.tree c.in-Err.ensures.tree))
 
-pub returns-in-Err-end_rounds : goal.returns-in-Err-end_rounds
-returns-in-Err-end_rounds c = rw c.answer-in-Err-end_rounds.ensures (ended c.args.map.now c.args.cert.now c.args.budget c.in-Err-end_rounds.halt c.in-Err-end_rounds.ensures.halts
+pub returns-in-Err-end_rounds-clause-shows : goal.returns-in-Err-end_rounds-clause-shows
+returns-in-Err-end_rounds-clause-shows c = rw c.answer-in-Err-end_rounds.ensures (ended c.args.map.now c.args.cert.now c.args.budget c.in-Err-end_rounds.halt c.in-Err-end_rounds.ensures.halts
     (allowed_rounds c.args.map.now c.args.cert.now c.loop-round.round-index (c.in-Err-end_rounds.ensures.allowed (first_rounds c.args.cert.now c.loop-round.round-index) c.loop-round.invariant.holds)))
 
-pub returns-in-Err-take_walk : goal.returns-in-Err-take_walk
-returns-in-Err-take_walk c = rw c.answer-in-Err-take_walk.ensures (ended c.args.map.now c.args.cert.now c.args.budget c.in-Err-take_walk.halt c.in-Err-take_walk.ensures.halts
+pub returns-in-Err-take_walk-clause-shows : goal.returns-in-Err-take_walk-clause-shows
+returns-in-Err-take_walk-clause-shows c = rw c.answer-in-Err-take_walk.ensures (ended c.args.map.now c.args.cert.now c.args.budget c.in-Err-take_walk.halt c.in-Err-take_walk.ensures.halts
     (allowed_walks c.args.map.now c.args.cert.now c.loop-walk.walk-index (c.in-Err-take_walk.ensures.allowed (first_walks c.args.cert.now c.loop-walk.walk-index) c.loop-walk.invariant.holds)))
 
-pub returns-in-Err-finish_walks : goal.returns-in-Err-finish_walks
-returns-in-Err-finish_walks c = rw c.answer-in-Err-finish_walks.ensures (ended c.args.map.now c.args.cert.now c.args.budget c.in-Err-finish_walks.halt c.in-Err-finish_walks.ensures.halts
+pub returns-in-Err-finish_walks-clause-shows : goal.returns-in-Err-finish_walks-clause-shows
+returns-in-Err-finish_walks-clause-shows c = rw c.answer-in-Err-finish_walks.ensures (ended c.args.map.now c.args.cert.now c.args.budget c.in-Err-finish_walks.halt c.in-Err-finish_walks.ensures.halts
     (allowed_walks c.args.map.now c.args.cert.now c.loop-walk.walk-index (c.in-Err-finish_walks.ensures.allowed (first_walks c.args.cert.now c.loop-walk.walk-index) c.loop-walk.invariant.holds)))
+
+pub returns-then-not-are_counts-clause-meets : goal.returns-then-not-are_counts-clause-meets
+returns-then-not-are_counts-clause-meets c = λ allows. absurd ((returns-then-not-are_counts-clause-shows c).0 allows.counts)
+
+pub returns-in-Err-clause-meets : goal.returns-in-Err-clause-meets
+returns-in-Err-clause-meets c = rw c.answer.ensures (halted_meets c.in-Err.halt _ _ c.in-Err.ensures.meets (λ planar allows. planar))
+
+pub returns-in-Err-end_rounds-clause-meets : goal.returns-in-Err-end_rounds-clause-meets
+returns-in-Err-end_rounds-clause-meets c = rw c.answer-in-Err-end_rounds.ensures (meets_so (answer_of c.in-Err-end_rounds.halt) _
+    (rounds_planar c.args.map.now c.args.cert.now c.loop-round.round-index _ c.loop-round.invariant.holds c.loop-round.invariant.behind))
+
+pub returns-in-Err-take_walk-clause-meets : goal.returns-in-Err-take_walk-clause-meets
+returns-in-Err-take_walk-clause-meets c = rw c.answer-in-Err-take_walk.ensures (meets_so (answer_of c.in-Err-take_walk.halt) _
+    (walks_planar c.args.map.now c.args.cert.now c.loop-walk.walk-index _ c.loop-walk.invariant.holds c.loop-walk.invariant.behind))
+
+pub returns-in-Err-finish_walks-clause-meets : goal.returns-in-Err-finish_walks-clause-meets
+returns-in-Err-finish_walks-clause-meets c = rw c.answer-in-Err-finish_walks.ensures (meets_so (answer_of c.in-Err-finish_walks.halt) _
+    (walks_planar c.args.map.now c.args.cert.now c.loop-walk.walk-index _ c.loop-walk.invariant.holds c.loop-walk.invariant.behind))
+
+pub returns-in-Ok-Ok-clause-meets : goal.returns-in-Ok-Ok-clause-meets
+returns-in-Ok-Ok-clause-meets c = λ allows. (shown c).planar
+
+pub returns-in-Ok-Err-clause-meets : goal.returns-in-Ok-Err-clause-meets
+returns-in-Ok-Err-clause-meets c = walks_planar c.args.map.now c.args.cert.now c.loop-walk.walk-index _ c.loop-walk.invariant.holds c.loop-walk.invariant.behind

@@ -9,7 +9,7 @@ returns-then-is_at c =
     let at = c.is_at.ensures c.if-is_at.true in
     let less = at.0 in
     record {
-      lists = taken_more c.args.lent.now c.args.taken.now c.args.laid.now c.args.list.now (c.is_empty.ensures c.if-is_empty.true) at.0 at.1;
+      lists = taken_more c.args.lent.now c.args.taken.now c.args.laid.now c.args.list.now (c.is_empty.ensures.0 c.if-is_empty.true) at.0 at.1;
       within = omega (arith, less);
     }
 
