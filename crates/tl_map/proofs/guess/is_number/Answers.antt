@@ -1,5 +1,3 @@
-use Rattle.std.proofs.Common.{◌≡◌, Some, ap}
-use Rattle.std.specs.Option.{option_map}
 use Rattle.tl_map.proofs.IndexLemmas.{number_tested}
 use Rattle.tl_map.proofs.guess.is_number.Goals as goal
 
