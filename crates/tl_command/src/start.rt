@@ -74,8 +74,13 @@ pub fn start<F: FileSystem, W: Sink, E: Sink>(
     match words::plan(alloc, words) {
         Ok(plan) => open_and_run(files, alloc, hasher, &plan, out, err),
         Err(PlanStop::Memory) => stopped(&Stop::Memory, err),
-        Err(PlanStop::Usage(Some(text))) => say_usage(text.as_str(), err),
-        Err(PlanStop::Usage(None)) => say_usage(NO_USE, err),
+        Err(PlanStop::Usage(text)) => {
+            if text.is_empty() {
+                say_usage(NO_USE, err)
+            } else {
+                say_usage(text.as_str(), err)
+            }
+        }
         Err(PlanStop::Help(text)) => say_help(&text, out, err),
     }
 }

@@ -1,5 +1,5 @@
 -- Texts that are shown where words make no plan.
-use Rattle.std.specs.Prelude.{◌≢◌, ◌==◌, ℕ, List, not, All, IfSome, ⊤, String, string_bytes, filter}
+use Rattle.std.specs.Prelude.{◌≢◌, ◌==◌, ℕ, List, not, All, ⊤, String, string_bytes, filter}
 use Rattle.tl_plan.specs.declared.plan.PlanStop.{PlanStop}
 use Rattle.tl_plan.specs.declared.plan.PlanStop.TheVariants.{Usage, Help, Memory}
 
@@ -17,6 +17,6 @@ HasNoEscape text = All (λ byte. byte ≢ escape) (string_bytes text)
 
 -- the text that is shown, if there is one, has no escape
 abbrev pub ShowsNoEscape : PlanStop → Type 0
-ShowsNoEscape (Usage text) = IfSome text HasNoEscape
+ShowsNoEscape (Usage text) = HasNoEscape text
 ShowsNoEscape (Help text) = HasNoEscape text
 ShowsNoEscape Memory = ⊤

@@ -7,18 +7,19 @@ ghost use Rattle.tl_plan.specs.CommandLine.{StopsPlanning, may_be_use as may_be_
 ghost use Rattle.tl_plan.specs.Plans.{ShowsNoEscape};
 
 use crate::plan::PlanStop;
+use std::alloc::Global;
 use std::convert::AsStr;
 
 /// Why there is no plan of words that couldn't be read for want of memory: for that, unless their first word shows that they
 /// are no use of a command.
-pub fn unread<S: AsStr>(words: &[S]) -> PlanStop
+pub fn unread<S: AsStr>(alloc: Global, words: &[S]) -> PlanStop
     ensures stops { StopsPlanning (map S.text words.now) result }
     ensures texts { ShowsNoEscape result }
 {
     if may_be_use(words) {
         PlanStop::Memory
     } else {
-        PlanStop::Usage(None)
+        PlanStop::Usage(String::new(alloc))
     }
 }
 

@@ -76,8 +76,8 @@ impl Plan {
 /// Why the words are no plan.
 #[derive(Drop)]
 pub enum PlanStop {
-    /// They don't name a command as it is used. The text says what is wrong, unless memory was refused for it.
-    Usage(Option<String>),
+    /// They don't name a command as it is used. The text says what is wrong; it is empty where memory was refused for it.
+    Usage(String),
     /// They ask for help or for the version. The text is the answer.
     Help(String),
     /// Memory was refused, and nothing shows that they name no command.

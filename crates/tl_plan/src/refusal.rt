@@ -29,11 +29,22 @@ pub fn stop_of(alloc: Global, error: &Error) -> PlanStop
         return PlanStop::Memory;
     }
     if error.use_stderr() {
-        return PlanStop::Usage(text_of(alloc, error).ok());
+        return PlanStop::Usage(or_empty(alloc, text_of(alloc, error)));
     }
     match text_of(alloc, error) {
         Ok(text) => PlanStop::Help(text),
         Err(_) => PlanStop::Memory,
+    }
+}
+
+// The text, or an empty one where memory was refused for it.
+fn or_empty(alloc: Global, text: Result<String, AllocError>) -> String
+    requires { IfOk text HasNoEscape }
+    ensures { HasNoEscape result }
+{
+    match text {
+        Ok(text) => text,
+        Err(_) => String::new(alloc),
     }
 }
 
@@ -59,7 +70,7 @@ pub fn misuse(alloc: Global, command: &mut Command<'_>, matches: &ArgMatches<'_>
     ensures usage { IsUsage result }
     ensures texts { ShowsNoEscape result }
 {
-    PlanStop::Usage(usage_of(alloc, command, matches).ok())
+    PlanStop::Usage(or_empty(alloc, usage_of(alloc, command, matches)))
 }
 
 // What is wrong with words that `clap` takes and that are no plan.

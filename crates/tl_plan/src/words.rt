@@ -33,7 +33,7 @@ pub fn plan<S: AsStr>(alloc: Global, words: &[S]) -> Result<Plan, PlanStop>
     ensures texts { IfErr result ShowsNoEscape }
 {
     let Ok(mut command) = command(alloc) else {
-        return Err(unread(words));
+        return Err(unread(alloc, words));
     };
     plan_by(alloc, &mut command, words)
 }
@@ -52,7 +52,7 @@ fn plan_by<'a, S: AsStr>(
     let matches = match command.try_get_matches_from_mut(words) {
         Ok(matches) => matches,
         Err(error) => match stop_of(alloc, &error) {
-            PlanStop::Memory => return Err(unread(words)),
+            PlanStop::Memory => return Err(unread(alloc, words)),
             stop => return Err(stop),
         },
     };

@@ -31,19 +31,19 @@ returns-in-Ok-clause-begun g c = λ stopped. inr (c.in-Ok.plan, c.in-Ok.ensures.
 pub returns-in-Ok-clause-stopped : goal.returns-in-Ok-clause-stopped
 returns-in-Ok-clause-stopped g c = λ stopped. inr (c.in-Ok.plan, c.in-Ok.ensures.plan, c.open_and_run.ensures.stopped stopped)
 
-pub returns-in-Err-Help-clause-stopped : goal.returns-in-Err-Help-clause-stopped
-returns-in-Err-Help-clause-stopped g c = λ stopped.
+pub returns-clause-stopped : goal.returns-clause-stopped
+returns-clause-stopped g c = λ stopped.
     let wish = rw c.in-Err-Help.field-0-is at c.in-Err-Help.ensures.stops in
     let told = c.say_help.ensures.stopped stopped in
     inl (wish_may (map string_bytes c.args.words.now) wish.1, inr (told.0, told.1))
 
-pub returns-in-Err-Usage-None-clause-usage : goal.returns-in-Err-Usage-None-clause-usage
-returns-in-Err-Usage-None-clause-usage g c = λ usage.
-    let no_use = rw c.in-Err-Usage-None.field-0-is at c.in-Err-Usage-None.ensures.stops in
+pub returns-then-is_empty-clause-usage : goal.returns-then-is_empty-clause-usage
+returns-then-is_empty-clause-usage g c = λ usage.
+    let no_use = rw c.in-Err-Usage.field-0-is at c.in-Err-Usage.ensures.stops in
     inl (record {
       no_use = no_use.0;
       mistake = no_use.1;
       text = NO_USE.now;
       no_escape = All-plain_text NO_USE.now;
-      written = c.say_usage-in-Err-Usage-None.ensures.said;
+      written = c.say_usage.ensures.said;
     })
