@@ -152,13 +152,9 @@ class Proof:
 
     def prove_and_build(self, words):
         """Proves a program, and builds it from what was proved."""
-        checked = str(self.folder / "checked")
-        status = self.crate.prove(["check", *words, "-o", checked])
-        for flag in ("--logic-built", "--jobs"):
-            at = words.index(flag)
-            words = [*words[:at], *words[at + 2 :]]
-        words += ["--crate-checked", checked, "--toolchain", f"{self.rt.KIT}/toolchain"]
-        return status or self.crate.compile_by("llvm", words, f"out/{self.crate.name}")
+        made = f"out/{self.crate.name}"
+        words = [*words, "--toolchain", f"{self.rt.KIT}/toolchain", "--backend", "llvm", "-o", f"{made}.o"]
+        return self.crate.prove(["build", *words]) or self.crate.link(f"{made}.o", made)
 
 
 class Lanes:

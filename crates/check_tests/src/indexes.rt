@@ -3,7 +3,7 @@
 ghost use Rattle.std.specs.Prelude.{◌<◌, ◌^◌, length};
 ghost use Rattle.tl_county.specs.Segments.{segments_before};
 ghost use Rattle.tl_planar.specs.Rectangles.{segment_rect};
-ghost use Rattle.tl_tree.specs.Preorder.{IsPreorder};
+ghost use Rattle.tl_index.specs.Preorder.{IsPreorder};
 
 use crate::maps::{ISLAND, map_of};
 use std::alloc::Global;

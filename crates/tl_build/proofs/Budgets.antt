@@ -2,8 +2,8 @@
 use Rattle.std.proofs.Common.{◌≡◌, ℕ, zero, suc, ◌+◌, ◌*◌, ◌^◌, ◌<◌, ◌≤◌, ◌==◌, Bool, true, false, if◌then◌else◌, List, [], ◌∷◌, length, refl, arith}
 use Rattle.std.proofs.lemmas.Nat.{mul-le}
 use Rattle.tl_geom.specs.declared.rect.Rect.{Rect}
-use Rattle.tl_tree.specs.Pairs.{indices, row_sum, pair_sum, meeting, overlaps}
-use Rattle.tl_tree.specs.Searches.{meeting_pairs}
+use Rattle.tl_index.specs.Pairs.{indices, row_sum, pair_sum, meeting, overlaps}
+use Rattle.tl_index.specs.Searches.{meeting_pairs}
 
 one_at_most : (a b : Bool) → (if a then 0 else (if b then 1 else 0)) ≤ 1
 one_at_most true b = omega arith

@@ -10,7 +10,7 @@ use Rattle.tl_sides.proofs.Boundaries.{boundary_of}
 use Rattle.tl_inside.specs.Placed.{ArePlaced}
 use Rattle.tl_cells.specs.Cells.{CellsAgree}
 use Rattle.tl_cert.specs.Certificates.{TheCertificate}
-use Rattle.tl_tree.specs.declared.index.Memory.{Memory}
+use Rattle.tl_index.specs.declared.index.Memory.{Memory}
 use Rattle.tl_check.specs.declared.fault.MapFault.{MapFault}
 use Rattle.tl_check.specs.declared.verdict.Report.{Report}
 use Rattle.tl_check.specs.Sound.{AreClosed, IsSound}

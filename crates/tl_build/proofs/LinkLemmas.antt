@@ -3,7 +3,7 @@ use Rattle.std.proofs.Common.{◌≡◌, ◌≢◌, inl, inr, ℕ, suc, ◌+◌,
 use Rattle.std.specs.Prelude.{slice_index}
 use Rattle.std.proofs.lemmas.Bool.{cases_lt}
 use Rattle.tl_county.specs.Darts.{reverse_dart}
-use Rattle.tl_tree.specs.Hits.{times}
+use Rattle.tl_index.specs.Hits.{times}
 use Rattle.tl_sides.specs.Lists.{before}
 use Rattle.tl_sides.proofs.Boundaries.{back_again}
 use Rattle.tl_sides.proofs.ListLemmas.{one_place, stands}

@@ -1,9 +1,8 @@
 -- Darts that a walk takes, one after the other.
 use Rattle.std.proofs.Common.{◌≡◌, ℕ, zero, suc, ◌<◌, ◌≤◌, Bool, true, cond, false, Vec, Global, map, replicate, append-nil, subst, List, [], ◌∷◌, ◌++◌, length, get_or, set, refl, ap, sym, ◌∙◌, length-set, length-append, get_or-set_same, get_or-set_other, arith}
-use Rattle.tl_tree.specs.Keeping.Checking.{mark_at}
-use Rattle.tl_tree.proofs.Permuted.{same_or, times-same, times-other}
-use Rattle.tl_tree.proofs.Hitting.{times-append}
-use Rattle.tl_tree.proofs.Marks.{unmarked}
+use Rattle.tl_index.specs.Keeping.Marked.{mark_at}
+use Rattle.tl_index.proofs.Times.{same_or, times-same, times-other, times-append}
+use Rattle.tl_index.proofs.Marks.{unmarked}
 use Rattle.std.proofs.lemmas.List.{map-append}
 use Rattle.tl_tree.proofs.Checks.{none-marked}
 use Rattle.tl_sides.specs.Lists.{and_list}

@@ -5,10 +5,10 @@ use Rattle.std.proofs.lemmas.List.Elements.{All-nil, All-cons, All-head, All-tai
 use Rattle.tl_county.specs.Limits.{most_segments}
 use Rattle.tl_county.specs.TheMap.{TheMap}
 use Rattle.tl_planar.specs.Rectangles.{segment_rect}
-use Rattle.tl_tree.specs.declared.node.TreeNode.{TreeNode}
-use Rattle.tl_tree.specs.declared.node.TreeNode.TheVariants.{Inner, Leaf}
-use Rattle.tl_tree.specs.Fits.{Fits}
-use Rattle.tl_tree.specs.Trees.{depth, tree_of}
+use Rattle.tl_index.specs.declared.node.TreeNode.{TreeNode}
+use Rattle.tl_index.specs.declared.node.TreeNode.TheVariants.{Inner, Leaf}
+use Rattle.tl_index.specs.Fits.{Fits}
+use Rattle.tl_index.specs.Trees.{depth, tree_of}
 use Rattle.tl_pack.specs.Packed.{IsFilled, IsShallow}
 use Rattle.tl_cert.specs.Certificates.{IsNode}
 use Rattle.tl_check.specs.Valid.{segments_of, IsTree}

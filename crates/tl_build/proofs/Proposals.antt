@@ -3,7 +3,7 @@ use Rattle.std.proofs.Common.{arith}
 use Rattle.tl_county.specs.TheMap.{TheMap}
 use Rattle.tl_planar.specs.Planar.{IsPlanar}
 use Rattle.tl_planar.specs.Rectangles.{segment_rect}
-use Rattle.tl_tree.specs.Trees.{tree_of}
+use Rattle.tl_index.specs.Trees.{tree_of}
 use Rattle.tl_tree.proofs.Checks.{fault-unfit}
 use Rattle.tl_crossings.specs.Headings.{AreProper}
 use Rattle.tl_cert.specs.Certificates.{TheCertificate}

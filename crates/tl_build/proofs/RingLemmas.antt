@@ -7,7 +7,7 @@ use Rattle.std.proofs.lemmas.List.{length-map, get_or-map}
 use Rattle.std.proofs.lemmas.List.Elements.{All-get_or}
 use Rattle.tl_county.specs.TheMap.{MapChain}
 use Rattle.tl_county.specs.Darts.{reverse_dart, is_along, dart_start}
-use Rattle.tl_tree.specs.Hits.{times}
+use Rattle.tl_index.specs.Hits.{times}
 use Rattle.tl_sides.specs.Lists.{before, HoldOnce, EachList, list_at}
 use Rattle.tl_sides.specs.Sides.{dart_count, IsNext, Follows}
 use Rattle.tl_sides.specs.Rounds.{AreRounds}

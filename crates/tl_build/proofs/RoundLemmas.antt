@@ -9,7 +9,7 @@ use Rattle.tl_county.specs.TheMap.{MapChain}
 use Rattle.tl_county.specs.Darts.{dart_start, Heads}
 use Rattle.tl_county.specs.Nodes.{AreNodes}
 use Rattle.tl_county.proofs.NodeLemmas.{one_number}
-use Rattle.tl_tree.specs.Hits.{times}
+use Rattle.tl_index.specs.Hits.{times}
 use Rattle.tl_sides.specs.Lists.{HoldOnce, list_at}
 use Rattle.tl_sides.specs.Sides.{dart_count}
 use Rattle.tl_sides.specs.Rounds.{AreRounds, HasOneNode, AreRising, round_start}

@@ -3,9 +3,9 @@ use Rattle.std.proofs.Common.{◌≡◌, ◌≢◌, ◌⊎◌, inl, inr, ℕ, ze
 use Rattle.std.specs.Prelude.{slice_index}
 use Rattle.std.proofs.lemmas.Bool.{cases_lt}
 use Rattle.std.proofs.lemmas.List.{get_or_append_left, get_or-append-add}
-use Rattle.tl_tree.specs.Keeping.Checking.{mark_at}
-use Rattle.tl_tree.proofs.Permuted.{same_or}
-use Rattle.tl_tree.proofs.Marks.{unmarked}
+use Rattle.tl_index.specs.Keeping.Marked.{mark_at}
+use Rattle.tl_index.proofs.Times.{same_or}
+use Rattle.tl_index.proofs.Marks.{unmarked}
 use Rattle.tl_build.specs.Keeping.Following.{IsOneToOne, FollowsTaken, AreFollowed, GoesBy}
 use Rattle.tl_build.proofs.MarkFacts.{mark_same, mark_other}
 

@@ -1,7 +1,7 @@
 //! The decision of a map by a search, with no certificate given.
 
 ghost use Rattle.std.specs.Prelude.{◌≡◌, ◌≤◌};
-ghost use Rattle.tl_tree.specs.Trees.{depth, tree_of};
+ghost use Rattle.tl_index.specs.Trees.{depth, tree_of};
 ghost use Rattle.tl_pack.specs.Packed.{IsEvenlySplit};
 ghost use Rattle.tl_planar.specs.Planar.{IsPlanar};
 ghost use Rattle.tl_sides.specs.Sides.{SidesAgree};

@@ -25,7 +25,7 @@ use tl_cert::Certificate;
 use tl_check::{MapFault, report};
 use tl_county::Map;
 use tl_crossings::look_at_chains;
-use tl_tree::Memory;
+use tl_index::Memory;
 
 /// Decides whether a map is sound whose chains are planar, and whose polygons' points may be known to be placed.
 pub fn audit_planar(alloc: Global, map: &Map, placed: bool) -> Result<Audit, AuditStop>

@@ -1,7 +1,7 @@
 //! The points of polygons, by the rings of a map.
 
 ghost use Rattle.std.specs.Prelude.{◌≡◌, ◌<◌, ◌^◌, length, IfOk, MatchOption};
-ghost use Rattle.tl_tree.specs.Preorder.{IsPreorder};
+ghost use Rattle.tl_index.specs.Preorder.{IsPreorder};
 ghost use Rattle.tl_sides.specs.Sides.{SidesAgree};
 ghost use Rattle.tl_sides.specs.Walks.{AreWalks};
 ghost use Rattle.tl_inside.specs.Placed.{ArePlaced};
@@ -14,8 +14,9 @@ use crate::propose::propose_tree;
 use std::alloc::Global;
 use tl_check::MapFault;
 use tl_county::Map;
+use tl_index::{Memory, TreeNode, TreeStop};
 use tl_rings::{Rings, find_misplaced};
-use tl_tree::{FlatTree, Memory, TreeNode, TreeStop};
+use tl_tree::FlatTree;
 
 /// A polygon whose point doesn't lie where it has to, if there is one, by the walks of a map and a tree that is made of its
 /// segments.

@@ -1,8 +1,8 @@
 //! The certificate that is proposed for a map.
 
 ghost use Rattle.std.specs.Prelude.{◌*◌, ◌≤◌, length, All, IfOk};
-ghost use Rattle.tl_tree.specs.Preorder.{IsPreorder};
-ghost use Rattle.tl_tree.specs.Trees.{depth, tree_of};
+ghost use Rattle.tl_index.specs.Preorder.{IsPreorder};
+ghost use Rattle.tl_index.specs.Trees.{depth, tree_of};
 ghost use Rattle.tl_pack.specs.Packed.{IsEvenlySplit};
 ghost use Rattle.tl_planar.specs.Planar.{IsPlanar};
 ghost use Rattle.tl_sides.specs.Lists.{HoldOnce};
@@ -19,9 +19,9 @@ use crate::walks::{link_darts, trace_walks};
 use std::alloc::{AllocError, Global};
 use tl_cert::{Certificate, Counts};
 use tl_county::Map;
+use tl_index::TreeNode;
 use tl_pack::pack;
 use tl_planar::Segments;
-use tl_tree::TreeNode;
 
 /// The certificate of version 2 that is proposed for a map.
 pub fn propose(alloc: Global, map: &Map) -> Result<Certificate, AllocError>

@@ -4,8 +4,8 @@ ghost use Rattle.std.specs.Prelude.{◌≡◌, ℕ, ◌<◌, ◌≤◌, ◌%◌,
 ghost use Rattle.std.specs.Prelude.{length, map, All, IfOk, OnOk, slice_get, slice_index};
 ghost use Rattle.std.specs.List.{concat};
 ghost use Rattle.tl_county.specs.Darts.{reverse_dart};
-ghost use Rattle.tl_tree.specs.Keeping.Checking.{mark_at};
-ghost use Rattle.tl_tree.specs.Hits.{times};
+ghost use Rattle.tl_index.specs.Keeping.Marked.{mark_at};
+ghost use Rattle.tl_index.specs.Hits.{times};
 ghost use Rattle.tl_sides.specs.Lists.{HoldOnce, EachList};
 ghost use Rattle.tl_sides.specs.Keeping.Marked.{AddMarks};
 ghost use Rattle.tl_build.specs.Keeping.Following.{IsOneToOne, IsLinkedIn, AreFollowed, GoesBy};

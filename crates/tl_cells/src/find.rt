@@ -8,7 +8,7 @@ use crate::at_odds::CellsAtOdds;
 use crate::kept::{NodeCell, find_repeat, sort_by_id};
 use std::alloc::Global;
 use tl_county::Map;
-use tl_tree::Memory;
+use tl_index::Memory;
 
 /// Two darts whose zero-cell ids are at odds, if those of a map don't agree. Where there are several such pairs, which
 /// one is found is open.

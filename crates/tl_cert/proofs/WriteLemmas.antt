@@ -10,8 +10,8 @@ use Rattle.std.specs.Prelude.{codes, Option, Vec}
 use Rattle.tl_output.specs.Writing.{PassesOn, PassesSome, TriesToPassOn, Writes, FailsToWrite, line_of}
 use Rattle.tl_output.proofs.WritingLemmas.{passes_both, passes_some_more, passes_then}
 use Rattle.tl_record.specs.Lines.{line_feed, joined_lines}
-use Rattle.tl_tree.specs.declared.node.TreeNode.{TreeNode}
-use Rattle.tl_tree.specs.declared.node.TreeNode.TheVariants.{Inner, Leaf}
+use Rattle.tl_index.specs.declared.node.TreeNode.{TreeNode}
+use Rattle.tl_index.specs.declared.node.TreeNode.TheVariants.{Inner, Leaf}
 use Rattle.tl_cert.specs.Certificates.{TheCertificate}
 use Rattle.tl_cert.specs.declared.certificate.Counts.{Counts}
 use Rattle.tl_cert.specs.Text.{numbered_line, head_line, counts_line, nodes_lines, tree_lines, leaf_line, inner_line, item_lines}

@@ -1,7 +1,7 @@
 //! The parts of a certificate, and the places between them.
 
 use crate::certificate::Counts;
-use tl_tree::TreeNode;
+use tl_index::TreeNode;
 
 /// A part of a certificate.
 #[derive(Drop)]

@@ -8,7 +8,7 @@ ghost use Rattle.tl_cert.specs.Text.{number, coordinate, rectangle, numbered_lin
 
 use itoa::write_digits;
 use tl_geom::Rect;
-use tl_tree::TreeNode;
+use tl_index::TreeNode;
 
 // Puts a line for each number, one behind the other, before what stands at `end`, and tells where they start.
 #[inline(always)]

@@ -16,9 +16,9 @@ use crate::stop::WriteStop;
 use arrayvec::ArrayString;
 use itoa::{Buffer, write_digits};
 use std::io;
+use tl_index::TreeNode;
 use tl_output::OutputBuffer;
 use tl_record::Sink;
-use tl_tree::TreeNode;
 
 // Room for the head or the line of the counts, with its line feed.
 const ROOM: usize = 64;

@@ -4,11 +4,11 @@ use Rattle.std.proofs.lemmas.Bool.{cases_lt}
 use Rattle.std.proofs.lemmas.Option.{slice_get_within}
 use Rattle.tl_geom.specs.declared.rect.Rect.{Rect}
 use Rattle.tl_county.specs.TheMap.{TheMap, MapChain}
-use Rattle.tl_tree.specs.declared.fault.TreeFault.{TreeFault}
-use Rattle.tl_tree.specs.declared.fault.TreeFault.TheVariants.{UnknownIndex, IndexTwice, IndexMissing, RectTooSmall}
-use Rattle.tl_tree.specs.Trees.{Forest, none, leaf, inner, node_count, leaf_items}
-use Rattle.tl_tree.specs.Fits.{CoversBelow, Fits, IsTooSmall, IsFaultOf}
-use Rattle.tl_tree.proofs.Hitting.{times-above}
+use Rattle.tl_index.specs.declared.fault.TreeFault.{TreeFault}
+use Rattle.tl_index.specs.declared.fault.TreeFault.TheVariants.{UnknownIndex, IndexTwice, IndexMissing, RectTooSmall}
+use Rattle.tl_index.specs.Trees.{Forest, none, leaf, inner, node_count, leaf_items}
+use Rattle.tl_index.specs.Fits.{CoversBelow, Fits, IsTooSmall, IsFaultOf}
+use Rattle.tl_index.proofs.Times.{times-above}
 use Rattle.tl_planar.proofs.Planes.{meet_not_planar}
 use Rattle.tl_sides.specs.declared.fault.RoundFault.{RoundFault}
 use Rattle.tl_sides.specs.declared.fault.RoundFault.TheVariants as round

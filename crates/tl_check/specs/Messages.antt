@@ -3,12 +3,12 @@ use Rattle.std.specs.Prelude.{ℕ, List, ◌++◌, codes, decimal}
 use Rattle.std.specs.Fmt.{signed_decimal}
 use Rattle.tl_geom.specs.declared.point.Point.{Point}
 use Rattle.tl_geom.specs.declared.rational.Rational.{Rational}
-use Rattle.tl_record.specs.KeyText.{key_text}
+use Rattle.tl_key.specs.KeyText.{key_text}
 use Rattle.tl_map.specs.Messages.{fault_text}
 use Rattle.tl_inside.specs.declared.misplaced.Misplaced.{Misplaced}
 use Rattle.tl_inside.specs.declared.misplaced.Misplaced.TheVariants.{OnChain, Outside, InOther}
-use Rattle.tl_tree.specs.declared.fault.TreeFault.{TreeFault}
-use Rattle.tl_tree.specs.declared.fault.TreeFault.TheVariants.{UnknownIndex, IndexTwice, IndexMissing, RectTooSmall}
+use Rattle.tl_index.specs.declared.fault.TreeFault.{TreeFault}
+use Rattle.tl_index.specs.declared.fault.TreeFault.TheVariants.{UnknownIndex, IndexTwice, IndexMissing, RectTooSmall}
 use Rattle.tl_sides.specs.declared.fault.RoundFault.{RoundFault}
 use Rattle.tl_sides.specs.declared.fault.RoundFault.TheVariants as round
 use Rattle.tl_sides.specs.declared.fault.WalkFault.{WalkFault}

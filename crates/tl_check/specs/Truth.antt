@@ -3,8 +3,8 @@ use Rattle.std.specs.Prelude.{⊤, ◌≡◌, ◌≢◌, ℕ, ◌<◌, Some}
 use Rattle.tl_geom.specs.declared.point.Point.{Point}
 use Rattle.tl_county.specs.TheMap.{TheMap}
 use Rattle.tl_county.specs.Darts.{dart_start, dart_left}
-use Rattle.tl_tree.specs.Fits.{IsFaultOf}
-use Rattle.tl_tree.specs.Trees.{depth, tree_of}
+use Rattle.tl_index.specs.Fits.{IsFaultOf}
+use Rattle.tl_index.specs.Trees.{depth, tree_of}
 use Rattle.tl_planar.specs.Rectangles.{segment_rect}
 use Rattle.tl_planar.specs.Searching.{IsTrueMeet}
 use Rattle.tl_sides.specs.Sides.{IsNext, dart_right}

@@ -4,9 +4,9 @@ use Rattle.tl_geom.specs.declared.point.Point.{Point}
 use Rattle.tl_county.specs.TheMap.{TheMap}
 use Rattle.tl_county.specs.Nodes.{AreNodes}
 use Rattle.tl_county.specs.Segments.{segments_before}
-use Rattle.tl_tree.specs.declared.node.TreeNode.{TreeNode}
-use Rattle.tl_tree.specs.Fits.{Fits}
-use Rattle.tl_tree.specs.Trees.{depth, tree_of}
+use Rattle.tl_index.specs.declared.node.TreeNode.{TreeNode}
+use Rattle.tl_index.specs.Fits.{Fits}
+use Rattle.tl_index.specs.Trees.{depth, tree_of}
 use Rattle.tl_planar.specs.Rectangles.{segment_rect}
 use Rattle.tl_sides.specs.Rounds.{AreRounds}
 use Rattle.tl_sides.specs.Walks.{AreWalks}

@@ -2,7 +2,7 @@
 
 ghost use Rattle.std.specs.Prelude.{◌≡◌, ℕ, ◌<◌, ◌≤◌, ◌^◌, length, IfErr};
 ghost use Rattle.std.specs.Option.{IfSome};
-ghost use Rattle.tl_tree.specs.Preorder.{IsPreorder};
+ghost use Rattle.tl_index.specs.Preorder.{IsPreorder};
 ghost use Rattle.tl_planar.specs.Planar.{IsPlanar};
 ghost use Rattle.tl_planar.specs.Searching.{meeting_segments};
 ghost use Rattle.tl_sides.specs.Sides.{SidesAgree};
@@ -32,8 +32,8 @@ use crate::walks::{finish_walks, take_walk};
 use std::alloc::Global;
 use tl_cert::{CertPart, CertReader};
 use tl_county::Map;
+use tl_index::TreeNode;
 use tl_record::Source;
-use tl_tree::TreeNode;
 
 /// Decides whether a map is sound, by the text of a certificate of it, read to its end unless segments meet that may not
 /// or a stop comes first. Of the certificate its tree is kept, and its walks as they come.

@@ -6,10 +6,10 @@ ghost use Rattle.tl_check.specs.Messages.{tree_text, round_text, walk_text};
 use std::fmt;
 use tl_cells::CellsAtOdds;
 use tl_geom::{Point, Rational};
+use tl_index::TreeFault;
 use tl_inside::Misplaced;
 use tl_planar::Meet;
 use tl_sides::{RoundFault, WalkFault};
-use tl_tree::TreeFault;
 
 /// Why a map isn't sound, or why records have no map. It is printed as `map fault`, its code and name, and what it is
 /// about: points in millionths of a degree, that of a meet as two numerators and their denominator.

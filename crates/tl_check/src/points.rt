@@ -1,7 +1,7 @@
 //! The points of polygons.
 
 ghost use Rattle.std.specs.Prelude.{◌<◌, ◌^◌, length, OnOk, IfErr};
-ghost use Rattle.tl_tree.specs.Preorder.{IsPreorder};
+ghost use Rattle.tl_index.specs.Preorder.{IsPreorder};
 ghost use Rattle.tl_sides.specs.Sides.{SidesAgree};
 ghost use Rattle.tl_sides.specs.Walks.{AreWalks};
 ghost use Rattle.tl_inside.specs.Placed.{ArePlaced};
@@ -13,8 +13,9 @@ use crate::fault::MapFault;
 use crate::state::Halt;
 use std::alloc::Global;
 use tl_county::Map;
+use tl_index::{TreeNode, TreeStop};
 use tl_rings::{Rings, find_misplaced};
-use tl_tree::{FlatTree, TreeNode, TreeStop};
+use tl_tree::FlatTree;
 
 /// Looks at the points of polygons, where sides agree, by a tree of the map's segments and the map's rings.
 pub fn look_at_points(

@@ -1,7 +1,7 @@
 //! The tree of a certificate, and the search for a place where chains meet that they may not.
 
 ghost use Rattle.std.specs.Prelude.{◌≡◌, ◌<◌, ◌^◌, [], length, OnOk, IfOk, IfErr};
-ghost use Rattle.tl_tree.specs.Preorder.{IsPreorder};
+ghost use Rattle.tl_index.specs.Preorder.{IsPreorder};
 ghost use Rattle.tl_sides.specs.Keeping.Rounded.{AreSized, HaveTaken};
 ghost use Rattle.tl_planar.specs.Planar.{IsPlanar};
 ghost use Rattle.tl_cells.specs.Cells.{CellsAgree};
@@ -14,9 +14,10 @@ use crate::state::{Halt, State};
 use std::alloc::Global;
 use tl_cells::find_cells_at_odds;
 use tl_county::Map;
+use tl_index::{TreeNode, TreeStop};
 use tl_planar::{Meeting, Segments, first_meet};
 use tl_sides::Rounds;
-use tl_tree::{FlatTree, TreeNode, TreeStop};
+use tl_tree::FlatTree;
 
 /// Takes the tree, behind counts that are the map's: it fits the map's segments and the chains are planar, or it is wrong,
 /// or no further part is looked at.

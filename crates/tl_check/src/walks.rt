@@ -1,7 +1,7 @@
 //! The walks of a certificate.
 
 ghost use Rattle.std.specs.Prelude.{◌≡◌, ℕ, ◌<◌, ◌≤◌, ◌^◌, zero, length, OnOk, OnErr, IfOk, IfErr};
-ghost use Rattle.tl_tree.specs.Preorder.{IsPreorder};
+ghost use Rattle.tl_index.specs.Preorder.{IsPreorder};
 ghost use Rattle.tl_planar.specs.Planar.{IsPlanar};
 ghost use Rattle.tl_planar.specs.Searching.{meeting_segments};
 ghost use Rattle.tl_cert.specs.Certificates.{TheCertificate};
@@ -14,8 +14,8 @@ use crate::points::look_at_points;
 use crate::state::{Halt, State};
 use std::alloc::Global;
 use tl_county::Map;
+use tl_index::TreeNode;
 use tl_rings::Rings;
-use tl_tree::TreeNode;
 
 /// Takes one walk more, and keeps it.
 pub fn take_walk<'a>(map: &Map, state: State<'a>, walk: &[u32]) -> Result<State<'a>, Halt>

@@ -1,7 +1,7 @@
 -- The chains and landmarks of rows, as the parts of a map keep them.
 use Rattle.std.specs.Prelude.{◌≡◌, ℕ, ◌+◌, ◌≤◌, Option, List, [], ◌∷◌, length, map, take, drop, All}
 use Rattle.tl_geom.specs.declared.point.Point.{Point}
-use Rattle.tl_record.specs.declared.record.PolyKey.{PolyKey}
+use Rattle.tl_key.specs.declared.key.PolyKey.{PolyKey}
 use Rattle.tl_county.specs.declared.polygons.Polygon.{Polygon}
 use Rattle.tl_county.specs.declared.chains.ChainRow.{ChainRow}
 use Rattle.tl_county.specs.Chains.{CompleteChain, segment_count}

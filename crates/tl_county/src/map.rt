@@ -16,7 +16,7 @@ use std::alloc::{AllocError, Global};
 use std::hash::RandomState;
 use std::marker::Model;
 use tl_geom::{Direction, Point, Segment};
-use tl_record::PolyKey;
+use tl_key::PolyKey;
 
 /// The map of a county: chains by rising TLID, polygons in the order of their type P records, landmarks in the order of
 /// their first type 7 record, each numbered from 0. Coordinates are in millionths of a degree.

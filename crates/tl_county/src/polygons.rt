@@ -1,7 +1,7 @@
 //! Polygons.
 
 use tl_geom::Point;
-use tl_record::PolyKey;
+use tl_key::PolyKey;
 
 /// A GT-polygon: its key, and its internal point in millionths of a degree.
 #[derive(Clone, Copy, Debug, PartialEq, Eq)]

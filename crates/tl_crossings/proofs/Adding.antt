@@ -5,7 +5,7 @@ use Rattle.std.specs.List.{concat}
 use Rattle.std.proofs.lemmas.Int.{ints}
 use Rattle.std.proofs.lemmas.List.Sums.{sum_by-cons}
 use borrow.Author.Differences.{up, down}
-use Rattle.tl_tree.specs.Hits.{times}
+use Rattle.tl_index.specs.Hits.{times}
 use Rattle.tl_sides.specs.Lists.{before, list_at}
 use Rattle.tl_inside.specs.Inside.{total}
 use Rattle.tl_crossings.proofs.Sums.{sum_below, sum_below-none, sum_below-suc, sum_same}

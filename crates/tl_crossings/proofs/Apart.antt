@@ -12,7 +12,7 @@ use Rattle.tl_geom.proofs.Order.{one_back}
 use Rattle.tl_geom.proofs.Places.{same_sym, same_trans}
 use Rattle.tl_county.specs.TheMap.{MapChain}
 use Rattle.tl_county.specs.Darts.{is_along, dart_start, dart_second, Heads}
-use Rattle.tl_tree.proofs.Permuted.{same_or}
+use Rattle.tl_index.proofs.Times.{same_or}
 use Rattle.tl_planar.specs.Planar.{IsVertex, IsOnSegment, IsChainEnd, IsSimple, IsPlanar}
 use Rattle.tl_planar.specs.Keeping.Apart.{one_found}
 use Rattle.tl_planar.proofs.Ends.{at_vertex}

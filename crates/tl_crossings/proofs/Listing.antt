@@ -7,8 +7,8 @@ use Rattle.tl_geom.specs.declared.point.Point.{Point}
 use Rattle.tl_county.specs.declared.sides.Side.{Side}
 use Rattle.tl_county.specs.TheMap.{MapChain}
 use Rattle.tl_county.specs.Segments.{segments_before}
-use Rattle.tl_tree.specs.Hits.{times, AreHits}
-use Rattle.tl_tree.proofs.Permuted.{same_or, times-same, times-other}
+use Rattle.tl_index.specs.Hits.{times, AreHits}
+use Rattle.tl_index.proofs.Times.{same_or, times-same, times-other}
 use Rattle.tl_inside.specs.declared.flanks.Flanks.{Flanks}
 use Rattle.tl_inside.specs.Inside.{flanks_between}
 use Rattle.tl_crossings.specs.Heights.{parts, crossed_from, crossed_along, crossed_at}

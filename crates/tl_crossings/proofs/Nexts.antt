@@ -8,7 +8,7 @@ use Rattle.tl_geom.proofs.Places.{point_same}
 use Rattle.tl_geom.proofs.Signs.{sign}
 use Rattle.tl_county.specs.TheMap.{MapChain}
 use Rattle.tl_county.specs.Darts.{dart_start, Heads}
-use Rattle.tl_tree.proofs.Permuted.{same_or}
+use Rattle.tl_index.proofs.Times.{same_or}
 use Rattle.tl_sides.specs.Sides.{dart_count, IsNext}
 use Rattle.tl_sides.proofs.Headings.{dart_within, heads_alike}
 use Rattle.tl_crossings.specs.Headings.{AreProper, HeadApart}

@@ -11,7 +11,7 @@ use Rattle.tl_geom.specs.Rectangle.{Holds}
 use Rattle.tl_county.specs.declared.sides.Side.{Side}
 use Rattle.tl_county.specs.TheMap.{MapChain}
 use Rattle.tl_county.specs.Darts.{is_along}
-use Rattle.tl_tree.specs.Hits.{times, AreHits}
+use Rattle.tl_index.specs.Hits.{times, AreHits}
 use Rattle.tl_sides.specs.Lists.{list_at}
 use Rattle.tl_sides.specs.Sides.{dart_count, SidesAgree, IsRing}
 use Rattle.tl_sides.specs.Walks.{AreWalks}

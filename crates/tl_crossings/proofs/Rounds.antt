@@ -4,8 +4,8 @@ use Rattle.std.specs.Prelude.{slice_index}
 use Rattle.std.specs.List.{concat}
 use Rattle.std.proofs.lemmas.Bool.{cases_lt}
 use Rattle.tl_county.specs.TheMap.{MapChain}
-use Rattle.tl_tree.specs.Hits.{times}
-use Rattle.tl_tree.proofs.Hitting.{times-append}
+use Rattle.tl_index.specs.Hits.{times}
+use Rattle.tl_index.proofs.Times.{times-append}
 use Rattle.tl_sides.specs.Lists.{before, HoldOnce, list_at, times_in}
 use Rattle.tl_sides.specs.Sides.{dart_count, IsNext}
 use Rattle.tl_sides.specs.Rounds.{AreRounds}

@@ -1,7 +1,7 @@
 -- Sums over the numbers below a bound.
 use Rattle.std.proofs.Common.{◌≡◌, ℕ, zero, suc, ◌+◌, ◌*◌, ◌<◌, ◌≤◌, Bool, true, false, cond, eqb, refl, sym, ap, ◌∙◌, arith}
 use Rattle.std.proofs.lemmas.Bool.{eqb-true, eq-eqb}
-use Rattle.tl_tree.proofs.Permuted.{same_or}
+use Rattle.tl_index.proofs.Times.{same_or}
 
 pub sum_below : (ℕ → ℕ) → ℕ → ℕ
 sum_below f zero = 0

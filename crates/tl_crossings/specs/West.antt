@@ -8,7 +8,7 @@ use Rattle.tl_geom.specs.Ray.{IsParted}
 use Rattle.tl_county.specs.declared.sides.Side.{Side}
 use Rattle.tl_county.specs.TheMap.{TheMap, MapChain, MapLandmark}
 use Rattle.tl_county.specs.Segments.{segments_before, IsSegmentOf, Joins}
-use Rattle.tl_tree.specs.Hits.{AreHits}
+use Rattle.tl_index.specs.Hits.{AreHits}
 use Rattle.tl_inside.specs.declared.flanks.Flanks.{Flanks}
 use Rattle.tl_inside.specs.Inside.{flanks_at, balance, is_polygon, is_among}
 

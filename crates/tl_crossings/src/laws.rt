@@ -14,7 +14,7 @@ ghost use Rattle.tl_sides.specs.Lists.{before, list_at};
 ghost use Rattle.tl_sides.specs.Rounds.{AreRounds};
 ghost use Rattle.tl_sides.specs.Sides.{IsNext, IsRing, SidesAgree};
 ghost use Rattle.tl_sides.specs.Walks.{AreWalks};
-ghost use Rattle.tl_tree.specs.Hits.{AreHits};
+ghost use Rattle.tl_index.specs.Hits.{AreHits};
 ghost use Rattle.tl_inside.specs.declared.place.Place.{Place};
 ghost use Rattle.tl_inside.specs.Inside.{balance, is_polygon, IsCount, IsPolygonCount};
 ghost use Rattle.tl_inside.specs.Places.{IsOffChains, IsPlaceOf};

@@ -8,8 +8,8 @@ use Rattle.std.proofs.lemmas.List.Sums.{sum_by-cons}
 use Rattle.tl_geom.specs.declared.point.Point.{Point}
 use Rattle.tl_county.specs.declared.sides.Side.{Side}
 use Rattle.tl_county.specs.TheMap.{MapChain}
-use Rattle.tl_tree.specs.Hits.{times, AreHits}
-use Rattle.tl_tree.proofs.Permuted.{same_or, times-same, times-other}
+use Rattle.tl_index.specs.Hits.{times, AreHits}
+use Rattle.tl_index.proofs.Times.{same_or, times-same, times-other}
 use Rattle.tl_inside.specs.declared.flanks.Flanks.{Flanks}
 use Rattle.tl_inside.specs.Inside.{flanks_at, balance, is_polygon, AreCrossed, IsCount, IsPolygonCount, IsInside, IsClear}
 use Rattle.tl_inside.specs.Keeping.Tallies.{AreTallies, TellCounts}

@@ -8,9 +8,9 @@ use Rattle.tl_geom.specs.declared.segment.Segment.{Segment}
 use Rattle.tl_geom.specs.Plane.{IsOn, whole}
 use Rattle.tl_county.specs.TheMap.{MapChain}
 use Rattle.tl_county.specs.Segments.{segments_before, IsSegmentOf, Joins}
-use Rattle.tl_tree.specs.Hits.{times, AreHits, Adds}
-use Rattle.tl_tree.proofs.Marks.{times-at}
-use Rattle.tl_tree.proofs.Permuted.{times-other}
+use Rattle.tl_index.specs.Hits.{times, AreHits, Adds}
+use Rattle.tl_index.proofs.Marks.{times-at}
+use Rattle.tl_index.proofs.Times.{times-other}
 use Rattle.tl_planar.proofs.Numbering.{in_order, below_total, one_chain}
 use Rattle.tl_inside.specs.Places.{IsHeldBy, IsLowestOn, IsOffChains}
 use Rattle.tl_inside.specs.Keeping.Listed.{IsLeastOf}

@@ -5,8 +5,8 @@ use Rattle.tl_geom.specs.declared.point.Point.{Point}
 use Rattle.tl_geom.proofs.Rays.{ray_meets}
 use Rattle.tl_county.specs.TheMap.{MapChain}
 use Rattle.tl_county.specs.Segments.{segments_before}
-use Rattle.tl_tree.specs.Hits.{times, AreHits, Adds}
-use Rattle.tl_tree.proofs.Permuted.{times-same}
+use Rattle.tl_index.specs.Hits.{times, AreHits, Adds}
+use Rattle.tl_index.proofs.Times.{times-same}
 use Rattle.tl_inside.specs.Inside.{IsCrossed, AreCrossed}
 use Rattle.tl_inside.specs.Keeping.Probing.{IsReached, ChainsAreInReach}
 use Rattle.tl_inside.proofs.Hitting.{meets_back}

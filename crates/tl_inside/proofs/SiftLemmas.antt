@@ -6,9 +6,8 @@ use Rattle.std.proofs.lemmas.List.{map-append, take_more, take_all}
 use Rattle.tl_geom.specs.declared.point.Point.{Point}
 use Rattle.tl_county.specs.TheMap.{MapChain}
 use Rattle.tl_county.specs.Segments.{IsSegmentOf}
-use Rattle.tl_tree.specs.Hits.{times}
-use Rattle.tl_tree.proofs.Hitting.{times-append}
-use Rattle.tl_tree.proofs.Permuted.{times-other}
+use Rattle.tl_index.specs.Hits.{times}
+use Rattle.tl_index.proofs.Times.{times-append, times-other}
 use Rattle.tl_planar.proofs.Numbering.{below_total, one_chain}
 use Rattle.tl_inside.specs.declared.flanks.Flanks.{Flanks}
 use Rattle.tl_inside.specs.Inside.{flanks_at, IsCrossed, AreCrossed}

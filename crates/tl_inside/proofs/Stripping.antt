@@ -10,7 +10,7 @@ use Rattle.tl_county.specs.TheMap.{MapChain}
 use Rattle.tl_county.specs.Segments.{segments_before}
 use Rattle.tl_planar.specs.Rectangles.{segment_rect}
 use Rattle.tl_planar.proofs.Numbering.{below_total}
-use Rattle.tl_tree.specs.Hits.{AreHits, Adds}
+use Rattle.tl_index.specs.Hits.{AreHits, Adds}
 use Rattle.tl_inside.specs.declared.strips.Site.{Site}
 use Rattle.tl_inside.specs.Keeping.Probing.{IsReached, IsTouching, ChainsAreInReach, holding_meets}
 use Rattle.tl_inside.specs.Keeping.Strips.{IsInStrip, AreEnough}

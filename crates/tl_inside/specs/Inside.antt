@@ -9,7 +9,7 @@ use Rattle.tl_county.specs.declared.sides.Side.{Side}
 use Rattle.tl_county.specs.declared.sides.Side.TheVariants.{Outside, Polygon}
 use Rattle.tl_county.specs.TheMap.{MapChain}
 use Rattle.tl_county.specs.Segments.{segments_before, IsSegmentOf, Joins}
-use Rattle.tl_tree.specs.Hits.{AreHits}
+use Rattle.tl_index.specs.Hits.{AreHits}
 use Rattle.tl_inside.specs.declared.flanks.Flanks.{Flanks}
 
 -- `Flanks` are the two sides of a segment: the near side, which a point west of it sees, and the far side.

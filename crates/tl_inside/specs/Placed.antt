@@ -1,7 +1,7 @@
 -- Where the points of polygons have to lie, and what is wrong where one lies elsewhere.
 use Rattle.std.specs.Prelude.{◌≡◌, ◌≢◌, ℕ, ◌<◌, Some, length, slice_get}
 use Rattle.tl_geom.specs.declared.point.Point.{Point}
-use Rattle.tl_record.specs.declared.record.PolyKey.{PolyKey}
+use Rattle.tl_key.specs.declared.key.PolyKey.{PolyKey}
 use Rattle.tl_county.specs.declared.polygons.Polygon.{Polygon}
 use Rattle.tl_county.specs.TheMap.{TheMap}
 use Rattle.tl_inside.specs.declared.misplaced.Misplaced.{Misplaced}

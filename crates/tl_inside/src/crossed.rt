@@ -9,8 +9,8 @@ ghost use Rattle.tl_inside.specs.Keeping.Probing.{ChainsAreInReach};
 use crate::probes::Ray;
 use tl_county::Map;
 use tl_geom::Point;
+use tl_index::{BoxIndex, Memory};
 use tl_planar::Segments;
-use tl_tree::{BoxIndex, Memory};
 
 /// Lists the segments that the ray from a point to the east crosses, in the place of those that were listed.
 pub fn list_crossed<X: BoxIndex>(

@@ -6,7 +6,7 @@ ghost use Rattle.tl_inside.specs.Inside.{flanks_at};
 ghost use Rattle.tl_inside.specs.Keeping.Tallies.{flanks_in};
 
 use tl_county::{Map, Side};
-use tl_tree::Memory;
+use tl_index::Memory;
 
 /// The two sides of a segment: the near side, which a point west of it sees, and the far side. The near side is the left
 /// one where the segment goes up, and the right one where it doesn't.

@@ -4,15 +4,15 @@ ghost use Rattle.std.specs.Prelude.{◌≡◌, length, IfOk, MatchOption};
 ghost use Rattle.tl_county.specs.Segments.{segments_before};
 ghost use Rattle.tl_planar.specs.Rectangles.{segment_rect};
 ghost use Rattle.tl_inside.specs.Places.{IsLowestOn, IsOffChains};
-ghost use Rattle.tl_tree.specs.Hits.{AreHits};
+ghost use Rattle.tl_index.specs.Hits.{AreHits};
 ghost use Rattle.tl_inside.specs.Keeping.Listed.{IsLeastOf};
 ghost use Rattle.tl_inside.specs.Keeping.Probing.{IsHolding};
 
 use crate::probes::Spot;
 use tl_county::Map;
 use tl_geom::{Point, on};
+use tl_index::{BoxIndex, Memory};
 use tl_planar::Segments;
-use tl_tree::{BoxIndex, Memory};
 
 /// The lowest chain that holds a point, if one does. The hits on the way take the place of those that stood there.
 pub fn chain_at<X: BoxIndex>(

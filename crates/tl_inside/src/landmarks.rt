@@ -8,7 +8,7 @@ ghost use Rattle.tl_inside.specs.Keeping.Sums.{sum_at, sums_differ};
 
 use std::alloc::Global;
 use tl_county::Map;
-use tl_tree::Memory;
+use tl_index::Memory;
 
 /// The numbers of the landmarks whose polygons are near and far not equally often, by rising number.
 pub fn unbalanced_landmarks(

@@ -5,7 +5,7 @@ ghost use Rattle.tl_inside.specs.Keeping.Listed.{passing, differ_at};
 
 use std::alloc::Global;
 use tl_county::Map;
-use tl_tree::Memory;
+use tl_index::Memory;
 
 /// The numbers of the polygons that are near and far not equally often, by rising number.
 pub fn unbalanced(alloc: Global, map: &Map, near: &[u64], far: &[u64]) -> Result<Vec<u32>, Memory>

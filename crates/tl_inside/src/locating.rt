@@ -20,7 +20,7 @@ use crate::tallies::{no_counts, tally};
 use std::alloc::Global;
 use tl_county::Map;
 use tl_geom::Point;
-use tl_tree::{BoxIndex, Memory};
+use tl_index::{BoxIndex, Memory};
 
 /// Where a point lies in a map, by any index that fits the map's segments: on the lowest chain that holds it, or on none,
 /// in the polygons and the landmarks whose counts aren't 0. The map need not be sound. It stops where memory was refused,

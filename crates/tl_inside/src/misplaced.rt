@@ -17,8 +17,8 @@ use crate::strips::{Site, list_in_strip, sites_of, sort_northward};
 use crate::tallies::{no_counts, take_back, tally};
 use std::alloc::Global;
 use tl_county::{Map, Polygon, Side};
-use tl_record::PolyKey;
-use tl_tree::{BoxIndex, Memory};
+use tl_index::{BoxIndex, Memory};
+use tl_key::PolyKey;
 
 /// What is wrong with where a polygon's point lies. Polygons are told by their keys, chains by their TLID.
 #[derive(Clone, Copy, Debug, PartialEq, Eq)]

@@ -4,8 +4,8 @@ ghost use Rattle.std.specs.Prelude.{◌≡◌};
 
 use tl_geom::laws::crossed_segment;
 use tl_geom::{Point, Rect, crosses_ray, on};
+use tl_index::{Items, Probe};
 use tl_planar::Segments;
-use tl_tree::{Items, Probe};
 
 /// The segments that hold a point.
 #[derive(Clone, Copy)]

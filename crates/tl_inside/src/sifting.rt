@@ -12,7 +12,7 @@ ghost use Rattle.tl_inside.specs.Keeping.Tallies.{TellCounts};
 use crate::flanks::{Flanks, flanks_of};
 use tl_county::Map;
 use tl_geom::{Point, crosses_ray, on};
-use tl_tree::Memory;
+use tl_index::Memory;
 
 /// A chain that holds the point, if one does; else the flanks of the segments that the ray crosses are listed, in the place
 /// of those that were.

@@ -12,8 +12,8 @@ use crate::probes::Strip;
 use std::alloc::Global;
 use tl_county::Map;
 use tl_geom::{Point, Rect};
+use tl_index::{BoxIndex, Memory};
 use tl_planar::Segments;
-use tl_tree::{BoxIndex, Memory};
 
 /// A polygon by its number, and its point.
 #[derive(Clone, Copy)]

@@ -7,7 +7,7 @@ ghost use Rattle.tl_inside.specs.Keeping.Tallies.{AreTallies, AreNone};
 use crate::flanks::Flanks;
 use std::alloc::Global;
 use tl_county::Side;
-use tl_tree::Memory;
+use tl_index::Memory;
 
 /// So many counts of nothing.
 pub fn no_counts(alloc: Global, polygons: usize) -> Result<Vec<u64>, Memory>

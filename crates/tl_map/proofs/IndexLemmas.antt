@@ -15,7 +15,7 @@ use Rattle.indexmap.specs.IndexMap.{IndexMap, keys, index_of, IsUnique}
 use Rattle.indexmap.proofs.MapLemmas.{index-first}
 use Rattle.indexmap.proofs.RemoveLemmas.{own_first}
 use Rattle.tl_geom.specs.declared.point.Point.{Point}
-use Rattle.tl_record.specs.declared.record.PolyKey.{PolyKey}
+use Rattle.tl_key.specs.declared.key.PolyKey.{PolyKey}
 use Rattle.tl_county.specs.declared.polygons.Polygon.{Polygon}
 use Rattle.tl_county.specs.Rows.{polygon_in}
 use Rattle.tl_map.specs.MapOf.{same_key, place_of}

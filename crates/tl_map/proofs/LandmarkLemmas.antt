@@ -15,7 +15,7 @@ use Rattle.tl_county.specs.declared.limits.TheConstants.{LANDMARK_LIMIT}
 use Rattle.tl_map.specs.MapOf.{firsts, firsts_after}
 use Rattle.std.specs.List.Sorted.{IsNonDecreasingBy, IsPermutation, IsStableByKey}
 use Rattle.std.proofs.lemmas.Bool.Decides.{nat_tests}
-use Rattle.tl_record.specs.declared.record.PolyKey.{PolyKey}
+use Rattle.tl_key.specs.declared.key.PolyKey.{PolyKey}
 use Rattle.tl_map.specs.declared.entry.LinkEntry.{LinkEntry}
 use Rattle.tl_map.specs.declared.landmarks.Link.{Link}
 use Rattle.tl_map.specs.declared.fault.MapStop.{MapStop}

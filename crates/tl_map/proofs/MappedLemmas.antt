@@ -4,7 +4,7 @@ use Rattle.std.proofs.lemmas.Bool.{ne_eqb, eqb-true}
 use Rattle.std.proofs.lemmas.List.{get_or_default, length-map, get_or-map}
 use Rattle.std.proofs.lemmas.List.Sums.{sum_by-cons}
 use Rattle.std.proofs.lemmas.List.Sorted.{IsPermutation-map, IsPermutation-sym, Contains-permutation, All-permutation, sum_by-IsPermutation}
-use Rattle.tl_record.specs.declared.record.PolyKey.{PolyKey}
+use Rattle.tl_key.specs.declared.key.PolyKey.{PolyKey}
 use Rattle.tl_record.specs.declared.record.Record.{Record}
 use Rattle.tl_map.specs.declared.areas.AreaRecords.{AreaRecords}
 use Rattle.tl_map.specs.declared.entry.SidesEntry.{SidesEntry}

@@ -3,7 +3,7 @@ use Rattle.std.specs.List.{list_any}
 use Rattle.std.proofs.lemmas.Bool.{cases_Bool, eq-eqb}
 use Rattle.std.proofs.lemmas.List.{length-map, get_or-map}
 use Rattle.std.proofs.lemmas.List.Elements.{All-push, All-map, All-filter, All-weaker}
-use Rattle.tl_record.specs.declared.record.PolyKey.{PolyKey}
+use Rattle.tl_key.specs.declared.key.PolyKey.{PolyKey}
 use Rattle.tl_map.specs.declared.entry.LandmarkEntry.{LandmarkEntry}
 use Rattle.tl_map.specs.declared.entry.LinkEntry.{LinkEntry}
 use Rattle.tl_geom.specs.declared.point.Point.{Point}

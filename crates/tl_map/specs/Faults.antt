@@ -1,7 +1,7 @@
 -- Each fault of the records as a statement about the whole list of them.
 use Rattle.std.specs.Prelude.{◌≡◌, ℕ, ◌<◌, ◌≤◌, ◌==◌, ◌⊎◌, ⊤, true, Some, List, length, map, count_by, Any, Contains, slice_get}
 use Rattle.tl_geom.specs.declared.point.Point.{Point}
-use Rattle.tl_record.specs.declared.record.PolyKey.{PolyKey}
+use Rattle.tl_key.specs.declared.key.PolyKey.{PolyKey}
 use Rattle.tl_record.specs.declared.record.Record.{Record}
 use Rattle.tl_record.specs.declared.record.Record.TheVariants.{Chain}
 use Rattle.tl_map.specs.declared.fault.Limited.{Limited}

@@ -1,7 +1,7 @@
 -- What is printed of a fault of the records and of each stop of reading them.
 use Rattle.std.specs.Prelude.{ℕ, List, ◌++◌, codes, decimal}
 use Rattle.tl_record.specs.Messages.{refusal_text}
-use Rattle.tl_record.specs.KeyText.{key_text}
+use Rattle.tl_key.specs.KeyText.{key_text}
 use Rattle.tl_map.specs.declared.fault.Limited.{Limited}
 use Rattle.tl_map.specs.declared.fault.Limited.TheVariants.{Chains, Segments, Polygons, Landmarks}
 use Rattle.tl_map.specs.declared.fault.MapFault.{MapFault}

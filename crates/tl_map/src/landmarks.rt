@@ -2,7 +2,7 @@
 
 ghost use Rattle.std.specs.Prelude.{◌≡◌, ◌≢◌, ◌<◌, ◌≤◌, ◌^◌, ◌++◌, ℕ, List, IfOk, IfErr, OnOk, MatchResult, All, length};
 ghost use Rattle.std.specs.Prelude.{map, slice_index_or};
-ghost use Rattle.tl_record.specs.declared.record.PolyKey.{PolyKey};
+ghost use Rattle.tl_key.specs.declared.key.PolyKey.{PolyKey};
 ghost use Rattle.tl_map.specs.Keeping.Index.{Indexes};
 ghost use Rattle.tl_map.specs.Keeping.Landmarks.{ListsLandmarks, StopsLandmarks, IsLink, IndexesLands, StopsLink};
 ghost use Rattle.tl_map.specs.Keeping.Landmarks.{AreAllLinks, StopsLinks, AreByLandmark, AreRows};

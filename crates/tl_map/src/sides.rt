@@ -6,7 +6,7 @@ ghost use Rattle.std.specs.Prelude.{count_by, All};
 ghost use Rattle.std.specs.List.Sorted.{IsNonDecreasingBy, IsStrictlyIncreasing, IsPermutation};
 ghost use Rattle.tl_map.specs.declared.entry.SidesEntry.{SidesEntry};
 ghost use Rattle.tl_county.specs.Chains.{tlids};
-ghost use Rattle.tl_record.specs.declared.record.PolyKey.{PolyKey};
+ghost use Rattle.tl_key.specs.declared.key.PolyKey.{PolyKey};
 ghost use Rattle.tl_map.specs.Keeping.Index.{Indexes};
 ghost use Rattle.tl_map.specs.Keeping.Sided.{sided_by, IsSide, NamesKnown, StopsSide, StopsSides, sides_tlids};
 ghost use Rattle.tl_map.specs.Keeping.Sided.{IsUnpaired, ArePaired, StopsPairing};

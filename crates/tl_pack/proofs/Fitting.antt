@@ -1,10 +1,10 @@
 -- Nodes over all items.
 use Rattle.std.proofs.Common.{ℕ, List, ap, sym, subst, ◌∙◌}
 use Rattle.tl_geom.specs.declared.rect.Rect.{Rect}
-use Rattle.tl_tree.specs.declared.node.TreeNode.{TreeNode}
-use Rattle.tl_tree.specs.Fits.{Fits, AreBelow}
-use Rattle.tl_tree.specs.Hits.{times}
-use Rattle.tl_tree.specs.Trees.{tree_of}
+use Rattle.tl_index.specs.declared.node.TreeNode.{TreeNode}
+use Rattle.tl_index.specs.Fits.{Fits, AreBelow}
+use Rattle.tl_index.specs.Hits.{times}
+use Rattle.tl_index.specs.Trees.{tree_of}
 use Rattle.tl_pack.specs.declared.order.Placed.{Placed}
 use Rattle.tl_pack.specs.Lists.{HoldsAll, items_in, AreItemsBelow}
 use Rattle.tl_pack.specs.Keeping.Nodes.{AreNodesOver}

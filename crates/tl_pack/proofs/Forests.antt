@@ -2,11 +2,11 @@
 use Rattle.std.proofs.Common.{◌≡◌, ℕ, suc, ◌+◌, ◌≤◌, ◌++◌, List, [], ◌∷◌, refl, ap, sym, ◌∙◌, append_assoc, arith}
 use Rattle.tl_geom.specs.declared.rect.Rect.{Rect}
 use Rattle.tl_geom.specs.Rectangle.{Covers}
-use Rattle.tl_tree.specs.declared.node.TreeNode.{TreeNode}
-use Rattle.tl_tree.specs.declared.node.TreeNode.TheVariants.{Inner}
-use Rattle.tl_tree.specs.Preorder.{AreTrees, no_tree, leaf_first, inner_first}
-use Rattle.tl_tree.specs.Trees.{Forest, none, leaf, inner, depth, leaf_items, first_trees, other_trees, trees_of, tree_of}
-use Rattle.tl_tree.specs.Fits.{CoversAll, CoversBelow}
+use Rattle.tl_index.specs.declared.node.TreeNode.{TreeNode}
+use Rattle.tl_index.specs.declared.node.TreeNode.TheVariants.{Inner}
+use Rattle.tl_index.specs.Preorder.{AreTrees, no_tree, leaf_first, inner_first}
+use Rattle.tl_index.specs.Trees.{Forest, none, leaf, inner, depth, leaf_items, first_trees, other_trees, trees_of, tree_of}
+use Rattle.tl_index.specs.Fits.{CoversAll, CoversBelow}
 use Rattle.tl_pack.specs.Packed.{tree_count, AreSized, IsEvenlySplit}
 
 -- the trees of both, in order

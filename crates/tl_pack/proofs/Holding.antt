@@ -5,10 +5,9 @@ use Rattle.std.specs.List.Sorted.{IsPermutation}
 use Rattle.std.proofs.lemmas.List.Elements.{All-head, All-tail}
 use Rattle.std.proofs.lemmas.List.Sorted.{sum_by-IsPermutation, length_permutation}
 use Rattle.std.proofs.lemmas.List.Sums.{sum_by-cons}
-use Rattle.tl_tree.specs.Fits.{AreBelow}
-use Rattle.tl_tree.specs.Hits.{times}
-use Rattle.tl_tree.proofs.Hitting.{times-append}
-use Rattle.tl_tree.proofs.Permuted.{same_or, times-same, times-other}
+use Rattle.tl_index.specs.Fits.{AreBelow}
+use Rattle.tl_index.specs.Hits.{times}
+use Rattle.tl_index.proofs.Times.{times-append, same_or, times-same, times-other}
 use Rattle.tl_pack.specs.declared.order.Placed.{Placed}
 use Rattle.tl_pack.specs.Lists.{up, HoldsAll, items_in, AreItemsBelow}
 

@@ -6,12 +6,12 @@ use Rattle.std.proofs.lemmas.List.Elements.{All-append, All-cons, All-nil}
 use Rattle.arrayvec.specs.ArrayVec.{ArrayVec}
 use Rattle.tl_geom.specs.declared.rect.Rect.{Rect}
 use Rattle.tl_geom.specs.Rectangle.{Covers}
-use Rattle.tl_tree.specs.declared.node.TreeNode.{TreeNode}
-use Rattle.tl_tree.specs.declared.node.TreeNode.TheVariants.{Inner, Leaf}
-use Rattle.tl_tree.specs.Fits.{CoversAll, CoversBelow}
-use Rattle.tl_tree.specs.Preorder.{AreTrees, no_tree, leaf_first, inner_first}
-use Rattle.tl_tree.specs.Trees.{Forest, none, inner, depth, leaf_items, trees_of}
-use Rattle.tl_tree.proofs.Hulls.{all-append}
+use Rattle.tl_index.specs.declared.node.TreeNode.{TreeNode}
+use Rattle.tl_index.specs.declared.node.TreeNode.TheVariants.{Inner, Leaf}
+use Rattle.tl_index.specs.Fits.{CoversAll, CoversBelow}
+use Rattle.tl_index.specs.Preorder.{AreTrees, no_tree, leaf_first, inner_first}
+use Rattle.tl_index.specs.Trees.{Forest, none, inner, depth, leaf_items, trees_of}
+use Rattle.tl_index.proofs.Covering.{all-append}
 use Rattle.tl_pack.specs.Packed.{IsFilled, IsShallow, AreSized, IsEvenlySplit, tree_count}
 use Rattle.tl_pack.specs.Keeping.Nodes.{most_items, Push, AreNodesOver}
 use Rattle.tl_pack.proofs.Forests.{tree_whole, trees_behind, trees_inner, items_joined, depth_joined, covers_joined, covers_more, split_joined, sized_joined, sized_within, count_joined}

@@ -1,8 +1,8 @@
 -- What is said of the tree of packed items.
 use Rattle.std.specs.Prelude.{◌≡◌, ℕ, ◌+◌, ◌/◌, ◌<◌, ◌≤◌, ◌^◌, min, length, ⊤}
-use Rattle.tl_tree.specs.declared.node.TreeNode.{TreeNode}
-use Rattle.tl_tree.specs.declared.node.TreeNode.TheVariants.{Inner, Leaf}
-use Rattle.tl_tree.specs.Trees.{Forest, none, leaf, inner, depth, leaf_items}
+use Rattle.tl_index.specs.declared.node.TreeNode.{TreeNode}
+use Rattle.tl_index.specs.declared.node.TreeNode.TheVariants.{Inner, Leaf}
+use Rattle.tl_index.specs.Trees.{Forest, none, leaf, inner, depth, leaf_items}
 
 -- a leaf that holds an item, or an inner node
 abbrev pub IsFilled : TreeNode → Type 0

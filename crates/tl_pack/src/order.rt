@@ -7,7 +7,7 @@ ghost use Rattle.tl_pack.specs.Lists.{up, HoldsAll, items_in, AreItemsBelow};
 use crate::curve::place_along;
 use std::alloc::{AllocError, Global};
 use tl_geom::Rect;
-use tl_tree::Items;
+use tl_index::Items;
 
 /// An item by its number, and where the middle of its rectangle stands along the curve.
 #[derive(Clone, Copy)]

@@ -1,15 +1,15 @@
 //! The tree over all items.
 
 ghost use Rattle.std.specs.Prelude.{◌≤◌, ◌<◌, ◌^◌, length, All, IfOk};
-ghost use Rattle.tl_tree.specs.Fits.{Fits};
-ghost use Rattle.tl_tree.specs.Preorder.{IsPreorder};
-ghost use Rattle.tl_tree.specs.Trees.{depth, tree_of};
+ghost use Rattle.tl_index.specs.Fits.{Fits};
+ghost use Rattle.tl_index.specs.Preorder.{IsPreorder};
+ghost use Rattle.tl_index.specs.Trees.{depth, tree_of};
 ghost use Rattle.tl_pack.specs.Packed.{IsFilled, IsShallow, IsEvenlySplit};
 
 use crate::order::order_items;
 use crate::tree::tree_over;
 use std::alloc::{AllocError, Global};
-use tl_tree::{Items, TreeNode};
+use tl_index::{Items, TreeNode};
 
 /// The tree over all items, its nodes in preorder: leaves of at most eight items, and inner nodes of two to eight children.
 /// There is no node where there is no item. Which items stand together is open.

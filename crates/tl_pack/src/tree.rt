@@ -8,7 +8,7 @@ use crate::order::Placed;
 use arrayvec::ArrayVec;
 use std::alloc::{AllocError, Global};
 use tl_geom::Rect;
-use tl_tree::{Items, TreeNode};
+use tl_index::{Items, TreeNode};
 
 // How many items a leaf has at most, and how many children an inner node.
 const LEAF: usize = 8;

@@ -3,7 +3,7 @@ use Rattle.std.proofs.Common.{◌≡◌, ℕ, Some, List, length, ap, subst, ◌
 use Rattle.std.specs.Prelude.{slice_get}
 use Rattle.tl_county.specs.TheMap.{MapChain}
 use Rattle.tl_county.specs.Segments.{segments_before, IsSegmentOf}
-use Rattle.tl_tree.specs.Searches.{IsConflict, IsClear}
+use Rattle.tl_index.specs.Searches.{IsConflict, IsClear}
 use Rattle.tl_planar.specs.declared.meet.Meet.{Meet}
 use Rattle.tl_planar.specs.Rectangles.{segment_rect}
 use Rattle.tl_planar.specs.Searching.{MayTell, IsTrueMeet, ArePlanarWithin}

@@ -7,7 +7,7 @@ use Rattle.tl_geom.specs.Plane.{whole}
 use Rattle.tl_geom.specs.Contact.{MeetAtEnds, IsCrossing}
 use Rattle.tl_county.specs.TheMap.{MapChain}
 use Rattle.tl_county.specs.Segments.{segments_before, Joins}
-use Rattle.tl_tree.specs.Searches.{meeting_pairs, IsBeyond}
+use Rattle.tl_index.specs.Searches.{meeting_pairs, IsBeyond}
 use Rattle.tl_planar.specs.declared.meet.Meet.{Meet}
 use Rattle.tl_planar.specs.declared.meet.Meeting.{Meeting}
 use Rattle.tl_planar.specs.declared.meet.Meeting.TheVariants.{Found, Clear, Budget}

@@ -7,7 +7,7 @@ ghost use Rattle.tl_planar.specs.Searching.{MayMeet};
 use crate::Segments;
 use tl_county::Map;
 use tl_geom::Rational;
-use tl_tree::{BoxIndex, Search};
+use tl_index::{BoxIndex, Search};
 
 /// Segment `s` of the chain `tlid` and segment `t` of the chain `other`, `s` below `t`, share the point `at`, and they may
 /// not. The point is that of their contact, in millionths of a degree, unless that one is allowed.

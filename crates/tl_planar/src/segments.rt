@@ -5,7 +5,7 @@ use crate::pair::refused_point;
 use std::marker::Model;
 use tl_county::Map;
 use tl_geom::{Rational, Rect};
-use tl_tree::Items;
+use tl_index::Items;
 
 /// The segments of a map, by their numbers. Two of them conflict where they share a point that they may not share; it is
 /// told by the point of their contact, unless that one is allowed, and then by an end of their overlap. No call takes

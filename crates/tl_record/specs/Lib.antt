@@ -8,8 +8,6 @@ pub mod Range
 pub mod Fields
 pub mod Layout
 pub mod Messages
-pub mod KeyText
-pub mod KeyWords
 pub mod Outcome
 pub mod Judgement
 pub mod Meaning

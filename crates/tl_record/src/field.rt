@@ -11,9 +11,9 @@ use crate::aligned::aligned_number;
 use crate::columns::{ColumnRange, Columns, FiveColumns};
 use crate::layout::{CellColumns, KeyColumns, PointColumns};
 use crate::number::{Spelt, coordinate_spelt, is_plus_zero, number_spelt};
-use crate::record::PolyKey;
 use crate::stop::{Cause, Field};
 use tl_geom::Point;
+use tl_key::PolyKey;
 
 /// The greatest distance of a longitude from 0, in millionths of a degree.
 pub const MAX_LONGITUDE: u32 = 180_000_000;

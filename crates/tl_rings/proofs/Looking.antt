@@ -7,7 +7,7 @@ use Rattle.std.proofs.lemmas.List.{length-append, get_or_default, get_or_append_
 use Rattle.std.proofs.lemmas.Option.{slice_get_within}
 use Rattle.tl_geom.specs.declared.point.Point.{Point}
 use Rattle.tl_county.specs.TheMap.{TheMap, MapChain}
-use Rattle.tl_tree.specs.Hits.{AreHits, Adds}
+use Rattle.tl_index.specs.Hits.{AreHits, Adds}
 use Rattle.tl_sides.specs.Lists.{list_at}
 use Rattle.tl_sides.specs.Sides.{dart_count, IsRing, SidesAgree}
 use Rattle.tl_sides.specs.Walks.{AreWalks}

@@ -13,8 +13,8 @@ ghost use Rattle.tl_rings.specs.Keeping.Looking.{AddCounts, on_side, left_count}
 use crate::rings::Rings;
 use tl_county::{Map, Side};
 use tl_geom::{Point, turn};
+use tl_index::Memory;
 use tl_inside::Flanks;
-use tl_tree::Memory;
 
 /// Appends flanks that tell the counts at a point which the rings of these numbers add.
 pub fn list_rings(

@@ -3,7 +3,7 @@
 use std::alloc::Global;
 use tl_county::Map;
 use tl_geom::Point;
-use tl_tree::Memory;
+use tl_index::Memory;
 
 // How many heights are told apart.
 const ROWS: usize = 4096;

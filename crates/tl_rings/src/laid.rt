@@ -7,7 +7,7 @@ ghost use Rattle.tl_rings.specs.Keeping.Laid.{pieces, start_of, AreEnds};
 
 use std::alloc::Global;
 use std::marker::Model;
-use tl_tree::Memory;
+use tl_index::Memory;
 
 /// Lists of numbers, laid end to end.
 #[derive(Drop)]

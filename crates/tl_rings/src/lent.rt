@@ -5,7 +5,7 @@ ghost use Rattle.tl_sides.specs.Lists.{and_list, list_at};
 ghost use Rattle.tl_rings.specs.Keeping.Lent.{lists_in, taken_of};
 
 use crate::laid::Laid;
-use tl_tree::Memory;
+use tl_index::Memory;
 
 /// Takes one list more: the next of those that are lent, where it is that one and none is laid yet, or else it is laid down.
 pub fn take_or_lay(

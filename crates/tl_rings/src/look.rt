@@ -18,8 +18,8 @@ use crate::rings::Rings;
 use crate::spot::Spot;
 use tl_county::Map;
 use tl_geom::Point;
+use tl_index::{BoxIndex, Memory};
 use tl_inside::{Flanks, Misplaced, Site, chain_at, misplaced_by, on_chain};
-use tl_tree::{BoxIndex, Memory};
 
 /// What is found of a polygon's point.
 #[derive(Clone, Copy)]
@@ -85,7 +85,7 @@ pub fn look_at<X: BoxIndex, Y: BoxIndex>(
     )
 }
 
-ghost use Rattle.tl_tree.specs.Hits.{AreHits};
+ghost use Rattle.tl_index.specs.Hits.{AreHits};
 ghost use Rattle.tl_rings.specs.Keeping.Spots.{IsBoxAt};
 
 /// Lists the rings whose rectangles hold a point, in the place of what was listed.

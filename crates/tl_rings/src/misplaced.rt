@@ -20,9 +20,10 @@ use crate::sites::{polygons_along, site_of};
 use std::alloc::Global;
 use tl_county::Map;
 use tl_crossings::look_at_chains;
+use tl_index::{BoxIndex, Memory, TreeStop};
 use tl_inside::{Flanks, Misplaced, Site, find_among, no_counts, push_site};
 use tl_pack::pack;
-use tl_tree::{BoxIndex, FlatTree, Memory, TreeStop};
+use tl_tree::FlatTree;
 
 /// Looks for a polygon whose point is on a chain, isn't inside its polygon or isn't clear of another, by any index that
 /// fits the map's segments and the rings of the map, where sides agree. A point is looked at by the rings whose boxes

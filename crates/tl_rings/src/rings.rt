@@ -11,7 +11,7 @@ use std::alloc::Global;
 use std::marker::Model;
 use tl_county::Map;
 use tl_geom::Rect;
-use tl_tree::{Items, Memory};
+use tl_index::{Items, Memory};
 
 /// Rings of darts of a map, and a rectangle about each. They are the items of a tree. Rings that are lent are kept where
 /// they stand, and others are laid end to end.

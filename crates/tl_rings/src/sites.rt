@@ -8,9 +8,9 @@ use std::alloc::Global;
 use std::marker::Model;
 use tl_county::Map;
 use tl_geom::Rect;
+use tl_index::{Items, Memory};
 use tl_inside::Site;
 use tl_pack::{Placed, order_items};
-use tl_tree::{Items, Memory};
 
 /// The polygons of a map as items, each with the rectangle of its point.
 #[derive(Drop)]

@@ -4,7 +4,7 @@ ghost use Rattle.std.specs.Prelude.{◌≡◌};
 
 use crate::rings::Rings;
 use tl_geom::{Point, Rect};
-use tl_tree::{Items, Probe};
+use tl_index::{Items, Probe};
 
 /// The rings whose rectangles hold a point.
 #[derive(Clone, Copy)]

@@ -8,8 +8,8 @@ use Rattle.tl_county.specs.declared.sides.Side.{Side}
 use Rattle.tl_county.specs.declared.sides.Side.TheVariants.{Outside, Polygon}
 use Rattle.tl_county.specs.TheMap.{MapChain}
 use Rattle.tl_county.specs.Darts.{is_along, reverse_dart, dart_left}
-use Rattle.tl_tree.specs.Hits.{times}
-use Rattle.tl_tree.proofs.Hitting.{times-append}
+use Rattle.tl_index.specs.Hits.{times}
+use Rattle.tl_index.proofs.Times.{times-append}
 use Rattle.tl_sides.specs.Lists.{EachList}
 use Rattle.tl_sides.specs.Sides.{dart_count, SidesAgree, Follows, IsRing, IsClosed}
 use Rattle.tl_sides.specs.Walks.{AreWalks}

@@ -3,7 +3,7 @@ use Rattle.std.proofs.Common.{◌≡◌, ℕ, ◌<◌, ◌≤◌, Bool, false, c
 use Rattle.std.proofs.lemmas.List.{get_or_past}
 use Rattle.std.specs.Prelude.{slice_index}
 use Rattle.tl_county.specs.TheMap.{MapChain}
-use Rattle.tl_tree.specs.Keeping.Checking.{mark_at}
+use Rattle.tl_index.specs.Keeping.Marked.{mark_at}
 use Rattle.tl_sides.specs.declared.next.Next.{Next}
 use Rattle.tl_sides.specs.declared.rounds.Rounds.{Rounds}
 use Rattle.tl_sides.specs.Lists.{HoldOnce}

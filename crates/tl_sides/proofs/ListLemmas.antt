@@ -4,10 +4,9 @@ use Rattle.std.specs.List.{concat}
 use Rattle.std.specs.Prelude.{slice_index}
 use Rattle.std.proofs.lemmas.Bool.{cases_lt}
 use Rattle.std.proofs.lemmas.List.{append-nil, append_assoc, length_push, get_or_push}
-use Rattle.tl_tree.specs.Hits.{times}
-use Rattle.tl_tree.proofs.Hitting.{times-append}
-use Rattle.tl_tree.proofs.Permuted.{same_or, times-same, times-other}
-use Rattle.tl_tree.proofs.Marks.{times-at}
+use Rattle.tl_index.specs.Hits.{times}
+use Rattle.tl_index.proofs.Times.{times-append, same_or, times-same, times-other}
+use Rattle.tl_index.proofs.Marks.{times-at}
 use Rattle.tl_sides.specs.Lists.{before, times_in, and_list, list_at, EachList}
 
 -- ---- one list

@@ -1,10 +1,10 @@
 -- Marks of darts, one after the other.
 use Rattle.std.proofs.Common.{◌≡◌, ℕ, zero, suc, ◌+◌, ◌<◌, ◌≤◌, Bool, true, false, true≢false, cond, List, [], ◌∷◌, length, get_or, take, set, refl, ap, ◌∙◌, length-set, length-take, get_or-set_same, get_or-set_other, arith}
 use Rattle.std.proofs.lemmas.List.{take_all}
-use Rattle.tl_tree.specs.Hits.{times}
-use Rattle.tl_tree.specs.Keeping.Checking.{mark_at}
-use Rattle.tl_tree.proofs.Permuted.{same_or, times-same, times-other}
-use Rattle.tl_tree.proofs.Marks.{times-at, times-take, times-more, unmarked, is-marked}
+use Rattle.tl_index.specs.Hits.{times}
+use Rattle.tl_index.specs.Keeping.Marked.{mark_at}
+use Rattle.tl_index.proofs.Times.{same_or, times-same, times-other}
+use Rattle.tl_index.proofs.Marks.{times-at, times-take, times-more, unmarked, is-marked}
 use Rattle.tl_sides.specs.Keeping.Marked.{marked_count, AddMarks}
 
 mark-same : (marks : List Bool) (d : ℕ) → d < length marks → mark_at (set marks d true) d ≡ 1

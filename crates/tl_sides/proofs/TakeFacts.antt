@@ -8,11 +8,11 @@ use Rattle.tl_geom.specs.declared.point.Point.{Point}
 use Rattle.tl_county.specs.TheMap.{MapChain}
 use Rattle.tl_county.specs.Darts.{dart_start}
 use Rattle.tl_county.specs.Nodes.{AreNodes}
-use Rattle.tl_tree.specs.Hits.{times}
-use Rattle.tl_tree.specs.Keeping.Checking.{mark_at}
+use Rattle.tl_index.specs.Hits.{times}
+use Rattle.tl_index.specs.Keeping.Marked.{mark_at}
 use Rattle.tl_county.proofs.NodeLemmas.{one_number}
-use Rattle.tl_tree.proofs.Permuted.{same_or}
-use Rattle.tl_tree.proofs.Marks.{times-at}
+use Rattle.tl_index.proofs.Times.{same_or}
+use Rattle.tl_index.proofs.Marks.{times-at}
 use Rattle.tl_sides.specs.declared.rounds.Rounds.{Rounds}
 use Rattle.tl_sides.specs.Lists.{before, times_in, and_list, list_at, EachList}
 use Rattle.tl_sides.specs.Sides.{dart_count}

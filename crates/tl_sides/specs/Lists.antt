@@ -1,7 +1,7 @@
 -- Lists of darts, taken round and taken together.
 use Rattle.std.specs.Prelude.{◌≡◌, ℕ, zero, suc, ◌<◌, ◌≤◌, ◌-◌, List, [], ◌∷◌, ◌++◌, length, slice_index, slice_index_or}
 use Rattle.std.specs.List.{concat}
-use Rattle.tl_tree.specs.Hits.{times}
+use Rattle.tl_index.specs.Hits.{times}
 
 -- the one before place k of a list that is taken round: before the first comes the last
 abbrev pub before : List ℕ → ℕ → ℕ

@@ -8,7 +8,7 @@ use Rattle.tl_geom.specs.Turning.{IsWithin}
 use Rattle.tl_county.specs.declared.sides.Side.{Side}
 use Rattle.tl_county.specs.TheMap.{MapChain}
 use Rattle.tl_county.specs.Darts.{reverse_dart, dart_start, dart_end, dart_left, Heads}
-use Rattle.tl_tree.specs.Hits.{times}
+use Rattle.tl_index.specs.Hits.{times}
 use Rattle.tl_sides.specs.Lists.{before}
 
 -- how many darts there are: two for each chain

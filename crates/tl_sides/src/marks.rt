@@ -1,7 +1,7 @@
 //! Marks of darts.
 
 ghost use Rattle.std.specs.Prelude.{◌≡◌, ℕ, ◌<◌, ◌≤◌, ◌^◌, List, length, OnOk, IfErr, IsNone, IfSome};
-ghost use Rattle.tl_tree.specs.Keeping.Checking.{mark_at};
+ghost use Rattle.tl_index.specs.Keeping.Marked.{mark_at};
 ghost use Rattle.tl_sides.specs.Keeping.Marked.{marked_count, AddMarks, IsMarkFault};
 
 /// Why a list of darts can't be marked.

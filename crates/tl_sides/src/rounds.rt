@@ -3,7 +3,7 @@
 ghost use Rattle.std.specs.Prelude.{◌≡◌, ℕ, zero, suc, ◌<◌, ◌≤◌, ◌++◌, List, [], length, slice_index, IsTrue, IsFalse, OnOk, IfOk, IfErr};
 ghost use Rattle.tl_geom.specs.declared.point.Point.{Point};
 ghost use Rattle.tl_county.specs.Nodes.{AreNodes};
-ghost use Rattle.tl_tree.specs.Hits.{times};
+ghost use Rattle.tl_index.specs.Hits.{times};
 ghost use Rattle.tl_sides.specs.Lists.{and_list};
 ghost use Rattle.tl_sides.specs.Sides.{dart_count};
 ghost use Rattle.tl_sides.specs.Rounds.{AreRounds, HasOneNode, HasTwoNodes, AreRising, HasFall, IsRoundFault};
@@ -16,7 +16,7 @@ use std::alloc::Global;
 use std::cmp::Ordering;
 use tl_county::Map;
 use tl_geom::round_cmp;
-use tl_tree::Memory;
+use tl_index::Memory;
 
 /// The rounds of a map that were taken so far, none of which was wrong. No round is kept: beside marks, only the next dart
 /// about its node of each dart is.

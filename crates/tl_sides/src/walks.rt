@@ -12,7 +12,7 @@ use crate::marks::{MarkFault, first_unmarked, mark_darts};
 use crate::next::Next;
 use std::alloc::Global;
 use tl_county::Map;
-use tl_tree::Memory;
+use tl_index::Memory;
 
 /// The walks of a map that were taken so far, none of which was wrong. No walk is kept.
 #[derive(Drop)]

@@ -13,9 +13,8 @@ use Rattle.tl_county.specs.TheMap.{TheMap, MapChain}
 use Rattle.tl_county.specs.Segments.{segments_before}
 use Rattle.tl_planar.specs.Planar.{IsOnSegment}
 use Rattle.tl_planar.proofs.Numbering.{below_total}
-use Rattle.tl_tree.specs.Hits.{times}
-use Rattle.tl_tree.proofs.Permuted.{same_or, times-other}
-use Rattle.tl_tree.proofs.Hitting.{times-append}
+use Rattle.tl_index.specs.Hits.{times}
+use Rattle.tl_index.proofs.Times.{same_or, times-other, times-append}
 use Rattle.tl_inside.specs.Inside.{AreCrossed, IsCrossed, IsCount, is_polygon}
 use Rattle.tl_inside.specs.Places.{IsOffChains}
 use Rattle.tl_inside.specs.Placed.{IsPlacedIn}

@@ -4,8 +4,8 @@ use Rattle.std.specs.List.Sorted.{IsPermutation}
 use Rattle.std.proofs.lemmas.Bool.Decides.{nat_tests}
 use Rattle.std.proofs.lemmas.List.Sorted.{sum_by-IsPermutation}
 use Rattle.std.proofs.lemmas.List.Sums.{sum_by-cons, sum_by-append}
-use Rattle.tl_tree.specs.Hits.{times}
-use Rattle.tl_tree.proofs.Hitting.{times-append}
+use Rattle.tl_index.specs.Hits.{times}
+use Rattle.tl_index.proofs.Times.{times-append}
 use Rattle.tl_sweep.specs.declared.events.Event.{Event}
 use Rattle.tl_sweep.specs.Keeping.Listed.{begins_at, ends_at}
 use Rattle.tl_sweep.proofs.Flanked.{bit}

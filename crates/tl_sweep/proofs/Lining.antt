@@ -1,8 +1,8 @@
 -- Lists to which numbers are added, or which are joined, where each two neighbours are tested; and what a step moves.
 use Rattle.std.proofs.Common.{◌≡◌, ℕ, suc, ◌+◌, ◌-◌, Some, List, [], ◌∷◌, ◌++◌, length, take, drop, append_assoc, refl, sym, ap, subst, ◌∙◌, arith}
 use Rattle.std.specs.Prelude.{slice_get}
-use Rattle.tl_tree.specs.Hits.{times}
-use Rattle.tl_tree.proofs.Hitting.{times-append}
+use Rattle.tl_index.specs.Hits.{times}
+use Rattle.tl_index.proofs.Times.{times-append}
 use Rattle.tl_planar.specs.Keeping.Apart.{one_found}
 use Rattle.tl_sweep.specs.Neighbours.{EachTwo}
 use Rattle.tl_sweep.specs.Keeping.Lined.{last_of}

@@ -10,7 +10,7 @@ use Rattle.std.proofs.lemmas.List.Sorted.{All-permutation, sum_by-IsPermutation}
 use Rattle.std.proofs.lemmas.List.Sums.{sum_by-cons, sum_by-append}
 use Rattle.tl_geom.specs.declared.segment.Segment.{Segment}
 use Rattle.tl_county.specs.TheMap.{MapChain}
-use Rattle.tl_tree.proofs.Permuted.{same_or}
+use Rattle.tl_index.proofs.Times.{same_or}
 use Rattle.tl_sweep.specs.declared.events.Event.{Event}
 use Rattle.tl_sweep.specs.Heights.{height, widest}
 use Rattle.tl_sweep.specs.Neighbours.{IsNumbered}

@@ -9,8 +9,8 @@ use Rattle.tl_geom.specs.declared.segment.Segment.{Segment}
 use Rattle.tl_county.specs.TheMap.{MapChain}
 use Rattle.tl_county.specs.Segments.{segments_before}
 use Rattle.tl_planar.proofs.Numbering.{below_total}
-use Rattle.tl_tree.specs.Hits.{times}
-use Rattle.tl_tree.proofs.Permuted.{same_or, times-same, times-other}
+use Rattle.tl_index.specs.Hits.{times}
+use Rattle.tl_index.proofs.Times.{same_or, times-same, times-other}
 use Rattle.tl_inside.proofs.Hitting.{HaveSameEnds}
 use Rattle.tl_sweep.specs.declared.events.Event.{Event}
 use Rattle.tl_sweep.specs.Heights.{height, widest, low_end, high_end}

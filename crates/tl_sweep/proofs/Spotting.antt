@@ -12,7 +12,7 @@ use Rattle.tl_geom.specs.Plane.{turn_of}
 use Rattle.tl_county.specs.declared.sides.Side.TheVariants.{Polygon}
 use Rattle.tl_county.specs.TheMap.{TheMap, MapChain}
 use Rattle.tl_inside.specs.Placed.{IsPlacedIn}
-use Rattle.tl_tree.specs.Hits.{times}
+use Rattle.tl_index.specs.Hits.{times}
 use Rattle.tl_sweep.specs.declared.events.Event.{Event}
 use Rattle.tl_sweep.specs.Beside.{IsNoVertex, IsEastOf, IsWestOfIt, IsEastOfLast, IsWestOfFirst, seen_side}
 use Rattle.tl_sweep.specs.Heights.{height, widest, low_end, high_end, turn_to, AreNear}

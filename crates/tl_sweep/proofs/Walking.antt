@@ -8,8 +8,8 @@ use Rattle.tl_geom.specs.Plane.{IsOn}
 use Rattle.tl_geom.specs.Contact.{IsEnd}
 use Rattle.tl_geom.proofs.Signs.{mono}
 use Rattle.tl_county.specs.TheMap.{MapChain}
-use Rattle.tl_tree.specs.Hits.{times}
-use Rattle.tl_tree.proofs.Permuted.{same_or, times-other}
+use Rattle.tl_index.specs.Hits.{times}
+use Rattle.tl_index.proofs.Times.{same_or, times-other}
 use Rattle.tl_sweep.specs.Heights.{height, height_of, low_end, high_end, turn_at, AreNear, Spans, IsNotEast}
 use Rattle.tl_sweep.specs.Neighbours.{IsNumbered, IsWide, AreTested, EachTwo, IsWestOf}
 use Rattle.tl_sweep.specs.Slabs.{IsActive}

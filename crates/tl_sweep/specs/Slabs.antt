@@ -3,7 +3,7 @@ use Rattle.std.specs.Prelude.{◌≡◌, ◌⊎◌, ℕ, ◌+◌, ℤ, ◌≤ℤ
 use Rattle.tl_geom.specs.declared.point.Point.{Point}
 use Rattle.tl_geom.specs.declared.segment.Segment.{Segment}
 use Rattle.tl_county.specs.TheMap.{MapChain}
-use Rattle.tl_tree.specs.Hits.{times}
+use Rattle.tl_index.specs.Hits.{times}
 use Rattle.tl_sweep.specs.Heights.{height, low_end, high_end}
 use Rattle.tl_sweep.specs.Neighbours.{IsNumbered, AreTested, EachTwo}
 

@@ -7,8 +7,8 @@ use crate::line::Line;
 use crate::meets::are_in_order;
 use std::alloc::AllocError;
 use tl_county::Map;
+use tl_index::Items;
 use tl_planar::{Meet, Segments};
-use tl_tree::Items;
 
 /// The meet of two segments, if they meet where they may not and the first has the lower number.
 fn meet_in_order(map: &Map, s: u32, t: u32) -> Option<Meet>

@@ -1,6 +1,6 @@
 //! The sweep: from event to event, with the list of active segments.
 ghost use Rattle.std.specs.Prelude.{◌≡◌, ◌+◌, ◌<◌, ◌≤◌, ℕ, IfOk, IsTrue, length, count_by, slice_index_or};
-ghost use Rattle.tl_tree.specs.Hits.{times};
+ghost use Rattle.tl_index.specs.Hits.{times};
 ghost use Rattle.tl_sweep.specs.Heights.{widest};
 ghost use Rattle.tl_sweep.specs.Neighbours.{AreTested, EachTwo, IsWide};
 ghost use Rattle.tl_sweep.specs.Slabs.{AreSlabsTested};

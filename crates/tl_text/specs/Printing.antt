@@ -3,7 +3,7 @@ use Rattle.std.specs.Prelude.{ℕ, List, [], ◌∷◌, ◌++◌, Option, Some, 
 use Rattle.std.specs.Option.{option_map_or}
 use Rattle.std.specs.Fmt.{signed_decimal}
 use Rattle.tl_geom.specs.declared.point.Point.{Point}
-use Rattle.tl_record.specs.KeyText.{key_text}
+use Rattle.tl_key.specs.KeyText.{key_text}
 use Rattle.tl_county.specs.declared.polygons.Polygon.{Polygon}
 use Rattle.tl_county.specs.TheMap.{TheMap, MapLandmark}
 use Rattle.tl_county.specs.Chains.{CompleteChain, ChainList, segment_count}

@@ -2,7 +2,7 @@
 
 ghost use Rattle.std.specs.Prelude.{◌<◌, OnOk, All, encode_utf8, length};
 ghost use Rattle.std.specs.Io.KnownBytes.{Appends, append_known};
-ghost use Rattle.tl_record.specs.KeyText.{key_text};
+ghost use Rattle.tl_key.specs.KeyText.{key_text};
 ghost use Rattle.tl_text.specs.Printing.{polygon_text, listed_text, polygons_text, place_text, landmark_text};
 ghost use Rattle.tl_text.specs.Printing.{landmark_count_text, listing_text};
 ghost use Rattle.tl_output.specs.Writing.{CountsFailure};

@@ -2,18 +2,19 @@
 use Rattle.std.proofs.Common.{◌≡◌, ℕ, zero, suc, ◌+◌, ◌-◌, ◌<◌, ◌≤◌, inl, inr, ◌↔◌, Bool, true, false, List, length, get_or, replicate, Option, Some, None, Result, Ok, Err, IfOk, refl, sym, subst, arith}
 use Rattle.tl_geom.specs.declared.rect.Rect.{Rect}
 use Rattle.tl_geom.specs.Rectangle.{Covers}
-use Rattle.tl_tree.specs.declared.fault.TreeFault.{TreeFault}
-use Rattle.tl_tree.specs.declared.fault.TreeFault.TheVariants.{UnknownIndex, IndexTwice, IndexMissing, RectTooSmall}
+use Rattle.tl_index.specs.declared.fault.TreeFault.{TreeFault}
+use Rattle.tl_index.specs.declared.fault.TreeFault.TheVariants.{UnknownIndex, IndexTwice, IndexMissing, RectTooSmall}
 use Rattle.tl_tree.specs.declared.walk.Below.{Below}
 use Rattle.tl_tree.specs.declared.walk.Below.TheVariants.{Items, Children}
-use Rattle.tl_tree.specs.Fits.{AreBelow, CoversAll, CoversBelow, IsTooSmall, Fits, IsFaultOf, MayFind}
-use Rattle.tl_tree.specs.Hits.{times}
-use Rattle.tl_tree.specs.Trees.{Forest, none, leaf, inner, leaf_items, node_count}
+use Rattle.tl_index.specs.Fits.{AreBelow, CoversAll, CoversBelow, IsTooSmall, Fits, IsFaultOf, MayFind}
+use Rattle.tl_index.specs.Hits.{times}
+use Rattle.tl_index.specs.Trees.{Forest, none, leaf, inner, leaf_items, node_count}
 use Rattle.tl_tree.specs.Keeping.Walking.{followed, items_below, size_of}
-use Rattle.tl_tree.specs.Keeping.Checking.{mark_at, AreMarked, IsHull, AreChecked, IsChecked, IsFaultAt, IsFaultBelow}
-use Rattle.tl_tree.proofs.Hitting.{times-append, times-above}
+use Rattle.tl_index.specs.Keeping.Marked.{mark_at, AreMarked}
+use Rattle.tl_tree.specs.Keeping.Checking.{IsHull, AreChecked, IsChecked, IsFaultAt, IsFaultBelow}
+use Rattle.tl_index.proofs.Times.{times-append, times-above}
 use Rattle.tl_tree.proofs.Hulls.{hull-both}
-use Rattle.tl_tree.proofs.Marks.{marked-both, unmarked, is-marked}
+use Rattle.tl_index.proofs.Marks.{marked-both, unmarked, is-marked}
 
 pub ok-map : {T E : Type 0} {P Q : T → Type 0} (r : Result T E) → ((x : T) → P x → Q x) → IfOk r P → IfOk r Q
 ok-map (Ok x) f h = f x h

@@ -3,24 +3,10 @@ use Rattle.std.proofs.Common.{◌≡◌, ℕ, ◌+◌, ◌<◌, ◌≤◌, List,
 use Rattle.std.proofs.lemmas.List.{take_more}
 use Rattle.tl_geom.specs.declared.rect.Rect.{Rect}
 use Rattle.tl_geom.specs.Rectangle.{AreMeeting}
-use Rattle.tl_tree.specs.Fits.{AreBelow, CoversAll}
-use Rattle.tl_tree.specs.Hits.{times, AreHits, Adds}
+use Rattle.tl_index.specs.Fits.{AreBelow, CoversAll}
+use Rattle.tl_index.specs.Hits.{times, AreHits, Adds}
 use Rattle.tl_tree.specs.Keeping.Walking.{Collects, Grows}
-use Rattle.tl_tree.proofs.Permuted.{same_or, times-same, times-other}
-
-pub times-append : (i : ℕ) (xs ys : List ℕ) → times i (xs ++ ys) ≡ times i xs + times i ys
-times-append i [] ys = omega arith
-times-append i (x ∷ xs) ys = omega (arith, times-append i xs ys)
-
-times-one : (i : ℕ) → times i (i ∷ []) ≡ 1
-times-one i = times-same i i [] refl
-
-times-unhit : (i x : ℕ) → (i ≡ x → ⊥) → times i (x ∷ []) ≡ 0
-times-unhit i x ne = times-other i x [] ne
-
-pub times-above : (n i : ℕ) (xs : List ℕ) → AreBelow n xs → n ≤ i → times i xs ≡ 0
-times-above n i [] h k = refl
-times-above n i (x ∷ xs) h k = times-other i x xs (λ e. omega (arith, h.0, k, e)) ∙ times-above n i xs h.1 k
+use Rattle.tl_index.proofs.Times.{same_or, times-same, times-other}
 
 pub grows-nothing : (xs : List ℕ) → Grows xs xs
 grows-nothing xs = record { added = []; appended = sym (append-nil xs) }

@@ -3,7 +3,7 @@ use Rattle.std.proofs.Common.{ℕ, pos, ◌<ℤ◌, ◌≤ℤ◌, ◌↔◌, Lis
 use Rattle.std.proofs.lemmas.Int.{ints, by_lt_z}
 use Rattle.tl_geom.specs.declared.rect.Rect.{Rect}
 use Rattle.tl_geom.specs.Rectangle.{Holds, Covers, IsEmpty}
-use Rattle.tl_tree.specs.Fits.{CoversAll}
+use Rattle.tl_index.specs.Fits.{CoversAll}
 use Rattle.tl_tree.specs.Keeping.Checking.{IsHull}
 
 pub empty-x : (r : Rect) → r.xmax <ℤ r.xmin → IsEmpty r
@@ -40,17 +40,6 @@ pub covers-empty : (r q : Rect) → IsEmpty q → Covers r q
 covers-empty r q e p k = absurd (e p k)
 
 -- ---- items
-
-pub all-append : (b : ℕ → Rect) (r : Rect) (xs ys : List ℕ) → CoversAll b r (xs ++ ys) ↔ (CoversAll b r xs × CoversAll b r ys)
-all-append b r xs ys = (parted xs, joined xs)
-  where
-    parted : (xs : List ℕ) → CoversAll b r (xs ++ ys) → CoversAll b r xs × CoversAll b r ys
-    parted [] h = (tt, h)
-    parted (x ∷ xs) h = let k : CoversAll b r xs × CoversAll b r ys = parted xs h.1 in ((h.0, k.0), k.1)
-
-    joined : (xs : List ℕ) → CoversAll b r xs × CoversAll b r ys → CoversAll b r (xs ++ ys)
-    joined [] h = h.1
-    joined (x ∷ xs) h = (h.0.0, joined xs (h.0.1, h.1))
 
 -- the hull of two lists of items, from that of each
 pub hull-both : (b : ℕ → Rect) (xs ys : List ℕ) (h k hull : Rect) → IsHull b xs h → IsHull b ys k → ((s : Rect) → Covers s hull ↔ (Covers s h × Covers s k)) → IsHull b (xs ++ ys) hull

@@ -10,9 +10,7 @@ pub mod Finishing
 pub mod Indices
 pub mod Hitting
 pub mod Flat
-pub mod Counting
 pub mod Hulls
-pub mod Marks
 pub mod Checks
 pub mod Whole
 mod Marks8

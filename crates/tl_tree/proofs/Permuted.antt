@@ -1,22 +1,10 @@
 -- Sums over a list in which each number below n stands once.
 use Rattle.std.proofs.Common.{◌≡◌, ℕ, zero, suc, ◌+◌, ◌<◌, cond, eqb, List, [], ◌∷◌, refl, sym, ap, ◌∙◌, subst, arith}
 use Rattle.std.proofs.lemmas.Bool.Decides.{nat_tests}
-use Rattle.tl_tree.specs.Pairs.{indices, row_sum, pair_sum, AllRow, AllPairs}
-use Rattle.tl_tree.specs.Hits.{times}
-use Rattle.tl_tree.specs.Fits.{AreBelow}
+use Rattle.tl_index.specs.Pairs.{indices, row_sum, pair_sum, AllRow, AllPairs}
+use Rattle.tl_index.specs.Hits.{times}
+use Rattle.tl_index.specs.Fits.{AreBelow}
 use Rattle.tl_tree.proofs.PairLemmas.{IsSymmetric, Turns}
-
-pub same_or : {P : Type 0} (n x : ℕ) → (n ≡ x → P) → ((n ≡ x → ⊥) → P) → P
-same_or zero zero f g = f refl
-same_or zero (suc x) f g = g (λ e. omega (arith, e))
-same_or (suc n) zero f g = g (λ e. omega (arith, e))
-same_or (suc n) (suc x) f g = same_or n x (λ e. f (ap suc e)) (λ ne. g (λ e. ne (omega (arith, e))))
-
-pub times-same : (n x : ℕ) (xs : List ℕ) → n ≡ x → times n (x ∷ xs) ≡ 1 + times n xs
-times-same n x xs e = grind (arith, nat_tests)
-
-pub times-other : (n x : ℕ) (xs : List ℕ) → (n ≡ x → ⊥) → times n (x ∷ xs) ≡ times n xs
-times-other n x xs ne = grind (arith, nat_tests)
 
 -- the list without each n
 without : ℕ → List ℕ → List ℕ

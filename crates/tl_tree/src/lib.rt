@@ -12,31 +12,22 @@ mod cells;
 mod check;
 mod cursor;
 mod depth;
-mod fault;
 mod flat_tree;
 mod hits;
 mod hull;
-mod index;
-mod items;
 mod lanes;
 pub mod laws;
 mod leaf;
 mod near;
 mod near_items;
-mod node;
 mod own_pairs;
 mod plain_list;
-mod preorder;
-mod probe;
 mod search;
 mod walk;
 
 pub use box_tree::BoxTree;
-pub use fault::{TreeFault, TreeStop};
 pub use flat_tree::FlatTree;
-pub use index::{BoxIndex, Memory};
-pub use items::{Items, Search};
-pub use node::TreeNode;
 pub use plain_list::PlainList;
-pub use preorder::is_preorder;
-pub use probe::Probe;
+pub use tl_index::{
+    BoxIndex, Items, Memory, Probe, Search, TreeFault, TreeNode, TreeStop, is_preorder,
+};

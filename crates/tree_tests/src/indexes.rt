@@ -1,6 +1,6 @@
 //! What indexes over the same items answer.
 ghost use Rattle.std.specs.Prelude.{◌<◌, ◌^◌, length};
-ghost use Rattle.tl_tree.specs.Preorder.{IsPreorder};
+ghost use Rattle.tl_index.specs.Preorder.{IsPreorder};
 
 use crate::items::{Counting, Pin, rect};
 use arrayvec::ArrayVec;

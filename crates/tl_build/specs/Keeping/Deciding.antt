@@ -1,7 +1,7 @@
 -- Answers to maps, with one clause for all that each says.
 use Rattle.std.specs.Prelude.{◌≡◌, ◌≤◌, Ok, Err, ⊤}
 use Rattle.tl_county.specs.TheMap.{TheMap}
-use Rattle.tl_tree.specs.Trees.{depth, tree_of}
+use Rattle.tl_index.specs.Trees.{depth, tree_of}
 use Rattle.tl_pack.specs.Packed.{IsEvenlySplit}
 use Rattle.tl_cert.specs.Certificates.{TheCertificate}
 use Rattle.tl_check.specs.Sound.{IsSound}

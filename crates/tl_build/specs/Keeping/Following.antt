@@ -1,7 +1,7 @@
 -- Walks that go by a list, which has of each dart the one that follows it.
 use Rattle.std.specs.Prelude.{◌≡◌, ℕ, Bool, ◌<◌, List, length, slice_index}
 use Rattle.tl_county.specs.Darts.{reverse_dart}
-use Rattle.tl_tree.specs.Keeping.Checking.{mark_at}
+use Rattle.tl_index.specs.Keeping.Marked.{mark_at}
 use Rattle.tl_sides.specs.Lists.{before}
 
 -- no two places of the list have one dart

@@ -1,7 +1,7 @@
 -- Lists of darts.
 use Rattle.std.specs.Prelude.{◌≡◌, ℕ, Bool, ◌<◌, List, map, All, Vec}
 use Rattle.std.specs.Global.{Global}
-use Rattle.tl_tree.specs.Keeping.Checking.{mark_at}
+use Rattle.tl_index.specs.Keeping.Marked.{mark_at}
 use Rattle.tl_sides.specs.Keeping.Marked.{marked_count}
 use Rattle.tl_build.specs.declared.rounds.DartStart.{DartStart}
 

@@ -1,7 +1,7 @@
 -- What is known of the certificate that is proposed for a map, whether the map is sound or not.
 use Rattle.std.specs.Prelude.{◌≡◌, ◌≤◌}
 use Rattle.tl_county.specs.TheMap.{TheMap}
-use Rattle.tl_tree.specs.Trees.{depth, tree_of}
+use Rattle.tl_index.specs.Trees.{depth, tree_of}
 use Rattle.tl_pack.specs.Packed.{IsEvenlySplit}
 use Rattle.tl_planar.specs.Planar.{IsPlanar}
 use Rattle.tl_sides.specs.Lists.{HoldOnce}

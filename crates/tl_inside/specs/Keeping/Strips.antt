@@ -6,7 +6,7 @@ use Rattle.tl_geom.specs.Rectangle.{Covers, ray_rect}
 use Rattle.tl_county.specs.declared.polygons.Polygon.{Polygon}
 use Rattle.tl_county.specs.TheMap.{TheMap, MapChain}
 use Rattle.tl_county.specs.Segments.{segments_before}
-use Rattle.tl_tree.specs.Hits.{times}
+use Rattle.tl_index.specs.Hits.{times}
 use Rattle.tl_inside.specs.declared.strips.Site.{Site}
 use Rattle.tl_inside.specs.Inside.{IsCrossed}
 use Rattle.tl_inside.specs.Placed.{IsPlacedIn}

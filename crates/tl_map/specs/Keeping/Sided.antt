@@ -1,6 +1,6 @@
 -- Kept on the way: type I records by TLID, and the sides that their keys name.
 use Rattle.std.specs.Prelude.{◌≡◌, ℕ, ◌≤◌, ◌==◌, Option, Some, List, ◌⊎◌, map, count_by, Any, Contains}
-use Rattle.tl_record.specs.declared.record.PolyKey.{PolyKey}
+use Rattle.tl_key.specs.declared.key.PolyKey.{PolyKey}
 use Rattle.tl_map.specs.declared.entry.SidesEntry.{SidesEntry}
 use Rattle.tl_county.specs.declared.sides.ChainSides.{ChainSides}
 use Rattle.tl_county.specs.declared.sides.Side.{Side}

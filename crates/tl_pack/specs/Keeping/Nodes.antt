@@ -1,10 +1,10 @@
 -- Nodes of trees, pushed behind others.
 use Rattle.std.specs.Prelude.{◌≡◌, ℕ, suc, ◌+◌, ◌*◌, ◌^◌, ◌<◌, ◌≤◌, List, ◌++◌, length, All}
 use Rattle.tl_geom.specs.declared.rect.Rect.{Rect}
-use Rattle.tl_tree.specs.declared.node.TreeNode.{TreeNode}
-use Rattle.tl_tree.specs.Fits.{CoversAll, CoversBelow}
-use Rattle.tl_tree.specs.Preorder.{AreTrees, IsPreorder}
-use Rattle.tl_tree.specs.Trees.{depth, leaf_items, trees_of, tree_of}
+use Rattle.tl_index.specs.declared.node.TreeNode.{TreeNode}
+use Rattle.tl_index.specs.Fits.{CoversAll, CoversBelow}
+use Rattle.tl_index.specs.Preorder.{AreTrees, IsPreorder}
+use Rattle.tl_index.specs.Trees.{depth, leaf_items, trees_of, tree_of}
 use Rattle.tl_pack.specs.Packed.{IsFilled, IsShallow, IsEvenlySplit, AreSized, tree_count}
 
 -- how many items a tree of this depth has at most

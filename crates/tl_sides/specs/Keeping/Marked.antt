@@ -1,7 +1,7 @@
 -- Marks of darts.
 use Rattle.std.specs.Prelude.{◌≡◌, ℕ, suc, ◌+◌, ◌≤◌, Bool, if◌then◌else◌, List, [], ◌∷◌, length}
-use Rattle.tl_tree.specs.Hits.{times}
-use Rattle.tl_tree.specs.Keeping.Checking.{mark_at}
+use Rattle.tl_index.specs.Hits.{times}
+use Rattle.tl_index.specs.Keeping.Marked.{mark_at}
 use Rattle.tl_sides.specs.declared.marks.MarkFault.{MarkFault}
 use Rattle.tl_sides.specs.declared.marks.MarkFault.TheVariants.{Unknown, Twice}
 use Rattle.tl_sides.specs.Lists.{times_in}

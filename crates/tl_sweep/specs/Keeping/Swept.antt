@@ -1,7 +1,7 @@
 -- How far a sweep has come.
 use Rattle.std.specs.Prelude.{◌≡◌, ℕ, ◌+◌, ◌<◌, ◌≤◌, ℤ, pos, ◌+ℤ◌, ◌<ℤ◌, List, length, take, count_by, slice_index_or}
 use Rattle.tl_county.specs.TheMap.{MapChain}
-use Rattle.tl_tree.specs.Hits.{times}
+use Rattle.tl_index.specs.Hits.{times}
 use Rattle.tl_sweep.specs.declared.events.Event.{Event}
 use Rattle.tl_sweep.specs.Heights.{widest}
 use Rattle.tl_sweep.specs.Neighbours.{AreTested, EachTwo}

@@ -2,24 +2,15 @@
 use Rattle.std.specs.Prelude.{◌≡◌, ℕ, Bool, false, ◌≤◌, ◌+◌, ◌-◌, ◌↔◌, List, length, slice_index_or, if◌then◌else◌}
 use Rattle.tl_geom.specs.declared.rect.Rect.{Rect}
 use Rattle.tl_geom.specs.Rectangle.{Covers}
-use Rattle.tl_tree.specs.declared.fault.TreeFault.{TreeFault}
-use Rattle.tl_tree.specs.declared.fault.TreeFault.TheVariants.{UnknownIndex, IndexTwice, IndexMissing, RectTooSmall}
+use Rattle.tl_index.specs.declared.fault.TreeFault.{TreeFault}
+use Rattle.tl_index.specs.declared.fault.TreeFault.TheVariants.{UnknownIndex, IndexTwice, IndexMissing, RectTooSmall}
 use Rattle.tl_tree.specs.declared.walk.Below.{Below}
 use Rattle.tl_tree.specs.declared.walk.Below.TheVariants.{Items, Children}
-use Rattle.tl_tree.specs.Fits.{AreBelow, CoversAll, CoversBelow, IsTooSmall}
-use Rattle.tl_tree.specs.Hits.{times}
-use Rattle.tl_tree.specs.Trees.{Forest, leaf_items}
+use Rattle.tl_index.specs.Fits.{AreBelow, CoversAll, CoversBelow, IsTooSmall}
+use Rattle.tl_index.specs.Hits.{times}
+use Rattle.tl_index.specs.Trees.{Forest, leaf_items}
+use Rattle.tl_index.specs.Keeping.Marked.{mark_at, AreMarked}
 use Rattle.tl_tree.specs.Keeping.Walking.{items_below, CoveredBelow}
-
--- 1 where item i is marked, else 0
-abbrev pub mark_at : List Bool → ℕ → ℕ
-mark_at marks i = if slice_index_or marks i false then 1 else 0
-
--- new marks the items of xs beside those that old marks: none of them was marked, and none stands in xs twice
-pub record AreMarked (old : List Bool) (xs : List ℕ) (new : List Bool) : Type 0 where
-  pub complete : length new ≡ length old
-  pub known : AreBelow (length old) xs
-  pub marked : (i : ℕ) → mark_at new i ≡ mark_at old i + times i xs
 
 -- the rectangle is covered exactly where the bounds of all items are
 abbrev pub IsHull : (ℕ → Rect) → List ℕ → Rect → Type 0

@@ -1,5 +1,5 @@
 use Rattle.std.proofs.Common.{◌≡◌, ◌≤◌}
-use Rattle.tl_tree.specs.Trees.{depth, tree_of}
+use Rattle.tl_index.specs.Trees.{depth, tree_of}
 use Rattle.tl_pack.specs.Packed.{IsEvenlySplit}
 use Rattle.tl_planar.specs.Planar.{IsPlanar}
 use Rattle.tl_sides.specs.Sides.{SidesAgree}

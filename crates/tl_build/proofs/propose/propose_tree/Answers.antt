@@ -1,9 +1,9 @@
 use Rattle.std.proofs.Common.{length, subst, arith}
 use Rattle.tl_county.specs.Segments.{segments_before}
 use Rattle.tl_planar.specs.Rectangles.{segment_rect}
-use Rattle.tl_tree.specs.Fits.{Fits}
+use Rattle.tl_index.specs.Fits.{Fits}
 use Rattle.tl_pack.specs.Packed.{IsShallow}
-use Rattle.tl_tree.specs.Trees.{tree_of}
+use Rattle.tl_index.specs.Trees.{tree_of}
 use Rattle.tl_build.proofs.Packed.{is_tree, eight_levels, new_nodes}
 use Rattle.tl_build.proofs.propose.propose_tree.Goals as goal
 

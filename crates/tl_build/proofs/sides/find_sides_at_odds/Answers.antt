@@ -1,5 +1,5 @@
 use Rattle.std.proofs.Common.{ℕ, length, sym, subst, ◌∙◌, arith}
-use Rattle.tl_tree.proofs.Permuted.{same_or}
+use Rattle.tl_index.proofs.Times.{same_or}
 use Rattle.tl_sides.specs.Sides.{IsRing}
 use Rattle.tl_sides.specs.Lists.{list_at}
 use Rattle.tl_build.specs.Keeping.Lists.{lists_in}

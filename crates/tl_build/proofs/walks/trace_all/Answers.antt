@@ -1,8 +1,8 @@
 use Rattle.std.proofs.Common.{◌≡◌, ℕ, zero, ◌<◌, [], length, map, ap, subst, sym, ◌∙◌, Vec, Global, arith, rules, inl, inr}
 use Rattle.std.proofs.lemmas.Bool.{cases_lt}
 use Rattle.std.proofs.lemmas.List.Elements.{All-nil, All-push, All-same}
-use Rattle.tl_tree.specs.Keeping.Checking.{mark_at}
-use Rattle.tl_tree.proofs.Marks.{unmarked}
+use Rattle.tl_index.specs.Keeping.Marked.{mark_at}
+use Rattle.tl_index.proofs.Marks.{unmarked}
 use Rattle.tl_sides.specs.Keeping.Marked.{MarkLists}
 use Rattle.tl_sides.proofs.MarkLemmas.{count-within}
 use Rattle.tl_sides.proofs.Ends.{hold_once}

@@ -1,6 +1,6 @@
 use Rattle.std.proofs.Common.{◌≡◌, ℕ, zero, ◌<◌, length, map}
 use Rattle.std.specs.List.{All, concat}
-use Rattle.tl_tree.specs.Keeping.Checking.{mark_at}
+use Rattle.tl_index.specs.Keeping.Marked.{mark_at}
 use Rattle.tl_sides.specs.Keeping.Marked.{marked_count, MarkLists}
 use Rattle.tl_build.specs.Keeping.Following.{IsOneToOne, AreFollowed, GoesBy}
 use Rattle.tl_build.proofs.walks.trace_all.Given as goal

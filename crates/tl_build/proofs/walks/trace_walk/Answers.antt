@@ -2,9 +2,9 @@ use Rattle.std.proofs.Common.{◌≡◌, ◌<◌, true, false, [], ◌∷◌, �
 use Rattle.std.proofs.lemmas.Option.{get_or_from_slice_get}
 use Rattle.tl_sides.specs.Keeping.Marked.{AddMarks}
 use Rattle.tl_sides.proofs.MarkLemmas.{none-added}
-use Rattle.tl_tree.specs.Keeping.Checking.{mark_at}
-use Rattle.tl_tree.proofs.Permuted.{same_or}
-use Rattle.tl_tree.proofs.Marks.{is-marked, unmarked}
+use Rattle.tl_index.specs.Keeping.Marked.{mark_at}
+use Rattle.tl_index.proofs.Times.{same_or}
+use Rattle.tl_index.proofs.Marks.{is-marked, unmarked}
 use Rattle.tl_build.proofs.MarkFacts.{add_taken, begun_more, some_taken}
 use Rattle.tl_build.proofs.WalkLemmas.{GoesSoFar, begin, one_more, goes_round, are_followed}
 use Rattle.tl_build.proofs.walks.trace_walk.Goals as goal

@@ -1,7 +1,7 @@
 use Rattle.std.proofs.Common.{◌≡◌, ◌<◌, length}
 use Rattle.std.specs.List.{count_by}
 use Rattle.std.specs.Prelude.{not}
-use Rattle.tl_tree.specs.Keeping.Checking.{mark_at}
+use Rattle.tl_index.specs.Keeping.Marked.{mark_at}
 use Rattle.tl_sides.specs.Keeping.Marked.{AddMarks}
 use Rattle.tl_build.proofs.WalkLemmas.{GoesSoFar}
 use Rattle.tl_build.proofs.walks.trace_walk.Given as goal

@@ -1,6 +1,6 @@
 use Rattle.std.proofs.Common.{◌∷◌, [], ℕ, Vec, Option, Some, Ok, Err, refl, arith, sym, subst, ◌∙◌}
 use Rattle.std.specs.Global.{Global}
-use Rattle.tl_tree.specs.declared.node.TreeNode.{TreeNode}
+use Rattle.tl_index.specs.declared.node.TreeNode.{TreeNode}
 use Rattle.tl_cert.specs.declared.certificate.Counts.{Counts}
 use Rattle.tl_cert.specs.declared.place.Place.{Place}
 use Rattle.tl_cert.specs.declared.place.Place.TheVariants.{Start, Counted, Treed, Rounds}

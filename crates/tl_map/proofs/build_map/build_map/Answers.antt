@@ -7,7 +7,7 @@ use Rattle.tl_map.proofs.MappedLemmas.{stops_pairing, stops_index, stops_sides, 
 use Rattle.tl_map.proofs.OnceLemmas.{rows_once}
 use Rattle.tl_map.proofs.IndexLemmas.{keys_are, index_keys, few_entries, polygons_entries}
 use Rattle.tl_geom.specs.declared.point.Point.{Point}
-use Rattle.tl_record.specs.declared.record.PolyKey.{PolyKey}
+use Rattle.tl_key.specs.declared.key.PolyKey.{PolyKey}
 use Rattle.tl_county.specs.Rows.{polygon_in}
 use Rattle.tl_map.proofs.build_map.build_map.Goals as goal
 

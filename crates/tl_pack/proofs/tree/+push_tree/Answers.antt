@@ -2,7 +2,7 @@ use Rattle.std.proofs.Common.{◌≡◌, ◌<◌, ◌≤◌, ◌+◌, ◌-◌, �
 use Rattle.std.proofs.lemmas.List.{map-append, length-map}
 use Rattle.std.proofs.lemmas.List.Elements.{All-same, All-drop}
 use Rattle.tl_geom.specs.declared.rect.Rect.{Rect}
-use Rattle.tl_tree.specs.declared.node.TreeNode.TheVariants.{Inner}
+use Rattle.tl_index.specs.declared.node.TreeNode.TheVariants.{Inner}
 use Rattle.tl_pack.specs.declared.order.Placed.{Placed}
 use Rattle.tl_pack.specs.Keeping.Nodes.{Push}
 use Rattle.tl_pack.proofs.ListLemmas.{no_items}

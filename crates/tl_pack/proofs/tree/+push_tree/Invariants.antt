@@ -1,6 +1,6 @@
 use Rattle.std.proofs.Common.{length, ◌≡◌, ◌-◌, ◌*◌, ◌≤◌, List, ◌++◌, [], ◌∷◌}
 use Rattle.tl_geom.specs.declared.rect.Rect.{Rect}
-use Rattle.tl_tree.specs.declared.node.TreeNode.TheVariants.{Inner}
+use Rattle.tl_index.specs.declared.node.TreeNode.TheVariants.{Inner}
 use Rattle.tl_pack.specs.declared.order.Placed.{Placed}
 use Rattle.tl_pack.specs.Lists.{items_in, AreItemsBelow}
 use Rattle.tl_pack.specs.Keeping.Nodes.{Push}

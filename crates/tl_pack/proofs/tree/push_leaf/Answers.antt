@@ -1,8 +1,8 @@
 use Rattle.std.proofs.Common.{◌≡◌, ◌<◌, ◌+◌, ◌++◌, [], ◌∷◌, length, take, get_or, ◌∙◌, ap, sym, map, subst, arith}
 use Rattle.std.proofs.lemmas.List.{take_all, take_more, length-map, map-append}
 use Rattle.tl_geom.specs.Rectangle.{Covers}
-use Rattle.tl_tree.specs.Fits.{CoversAll}
-use Rattle.tl_tree.proofs.Hulls.{all-append}
+use Rattle.tl_index.specs.Fits.{CoversAll}
+use Rattle.tl_index.proofs.Covering.{all-append}
 use Rattle.tl_pack.specs.declared.order.Placed.{Placed}
 use Rattle.tl_pack.specs.Keeping.Nodes.{Push}
 use Rattle.tl_pack.proofs.Forests.{covers_more}

@@ -1,5 +1,5 @@
 use Rattle.std.proofs.Common.{◌≡◌, take}
-use Rattle.tl_tree.specs.Fits.{CoversAll}
+use Rattle.tl_index.specs.Fits.{CoversAll}
 use Rattle.tl_pack.specs.Lists.{items_in}
 use Rattle.tl_pack.proofs.tree.push_leaf.Given as goal
 

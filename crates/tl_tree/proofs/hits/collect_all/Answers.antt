@@ -1,5 +1,5 @@
 use Rattle.tl_tree.proofs.Hitting.{adds-collected, on-ok}
-use Rattle.tl_tree.specs.Trees.{leaf_items}
+use Rattle.tl_index.specs.Trees.{leaf_items}
 use Rattle.tl_tree.proofs.hits.collect_all.Goals as goal
 
 pub returns-else-is_err-clause-hits : goal.returns-else-is_err-clause-hits

@@ -1,5 +1,5 @@
 use Rattle.std.proofs.Common.{ℕ, List, IfSome, ap, sym, subst, take, ◌∙◌}
-use Rattle.tl_tree.specs.Fits.{AreBelow}
+use Rattle.tl_index.specs.Fits.{AreBelow}
 use Rattle.tl_tree.specs.declared.walk.Below.{Below}
 use Rattle.tl_tree.specs.Keeping.Listing.{first_items, StandsForItems}
 use Rattle.tl_tree.specs.Keeping.Walking.{items_below}

@@ -1,5 +1,5 @@
 use Rattle.std.proofs.Common.{◌≤◌, ◌%◌, ◌⊎◌, length, inl, inr, arith}
-use Rattle.tl_tree.specs.Pairs.{meeting, AreFree}
+use Rattle.tl_index.specs.Pairs.{meeting, AreFree}
 use Rattle.tl_tree.specs.Keeping.OwnPairs.{partner}
 use Rattle.tl_tree.proofs.Leaving.{enough_all}
 use Rattle.tl_tree.proofs.OwnPairs.{own-out, all-own-out}

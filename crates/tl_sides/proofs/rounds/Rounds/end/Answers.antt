@@ -1,5 +1,5 @@
 use Rattle.std.proofs.Common.{◌≡◌, ℕ, ◌<◌, length, refl, sym, ap, ◌∙◌, arith}
-use Rattle.tl_tree.specs.Keeping.Checking.{mark_at}
+use Rattle.tl_index.specs.Keeping.Marked.{mark_at}
 use Rattle.tl_sides.specs.Lists.{HoldOnce}
 use Rattle.tl_sides.specs.Sides.{dart_count}
 use Rattle.tl_sides.proofs.Ends.{hold_once, whole_of, keep_next}

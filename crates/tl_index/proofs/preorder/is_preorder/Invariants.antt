@@ -1,6 +1,6 @@
 use Rattle.std.proofs.Common.{◌≡◌, ◌≤◌, ◌+◌, ◌*◌, drop}
-use Rattle.tl_tree.proofs.Counting.{counted}
-use Rattle.tl_tree.proofs.preorder.is_preorder.Given as goal
+use Rattle.tl_index.proofs.Counting.{counted}
+use Rattle.tl_index.proofs.preorder.is_preorder.Given as goal
 
 -- the nodes that are left are counted from the trees still to come
 abbrev pub invariant-loop-node : goal.invariant-loop-node

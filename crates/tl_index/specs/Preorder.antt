@@ -2,8 +2,8 @@
 use Rattle.std.specs.Prelude.{◌≡◌, ℕ, suc, ◌≤◌, ◌⊎◌, List, [], ◌∷◌, ◌++◌}
 use Rattle.arrayvec.specs.ArrayVec.{ArrayVec}
 use Rattle.tl_geom.specs.declared.rect.Rect.{Rect}
-use Rattle.tl_tree.specs.declared.node.TreeNode.{TreeNode}
-use Rattle.tl_tree.specs.declared.node.TreeNode.TheVariants.{Inner, Leaf}
+use Rattle.tl_index.specs.declared.node.TreeNode.{TreeNode}
+use Rattle.tl_index.specs.declared.node.TreeNode.TheVariants.{Inner, Leaf}
 
 -- the nodes are p whole trees, one after the other: a leaf is a tree, and so is an inner node with 2 to 8 children that
 -- is followed by that many trees

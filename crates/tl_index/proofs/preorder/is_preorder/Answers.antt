@@ -1,7 +1,7 @@
 use Rattle.std.proofs.Common.{◌≡◌, ◌+◌, drop, false, eqb, inl, inr, sym, ◌∙◌, ap, arith}
-use Rattle.tl_tree.proofs.Counting.{counted, decides, not-empty, step-leaf, step-inner, step-wrong, step-closed, step-end}
-use Rattle.tl_tree.proofs.preorder.is_preorder.Goals as goal
-use Rattle.tl_tree.proofs.preorder.is_preorder.Goals.{in-Leaf, in-Inner+else-children-lt-LEAST+else-children-gt-MOST, then-children-lt-LEAST-via-then-children-lt-LEAST, then-children-lt-LEAST-via-else-children-lt-LEAST+then-children-gt-MOST}
+use Rattle.tl_index.proofs.Counting.{counted, decides, not-empty, step-leaf, step-inner, step-wrong, step-closed, step-end}
+use Rattle.tl_index.proofs.preorder.is_preorder.Goals as goal
+use Rattle.tl_index.proofs.preorder.is_preorder.Goals.{in-Leaf, in-Inner+else-children-lt-LEAST+else-children-gt-MOST, then-children-lt-LEAST-via-then-children-lt-LEAST, then-children-lt-LEAST-via-else-children-lt-LEAST+then-children-gt-MOST}
 
 pub returns-then-awaited-eq0 : goal.returns-then-awaited-eq0
 returns-then-awaited-eq0 c =

@@ -1,8 +1,8 @@
 //! Indexes: what finds conflicts and hits among items.
 ghost use Rattle.std.specs.Prelude.{◌≡◌, ℕ, OnOk, OnErr};
 ghost use Rattle.tl_geom.specs.declared.rect.Rect.{Rect};
-ghost use Rattle.tl_tree.specs.Searches.{MayAnswer};
-ghost use Rattle.tl_tree.specs.Hits.{Adds};
+ghost use Rattle.tl_index.specs.Searches.{MayAnswer};
+ghost use Rattle.tl_index.specs.Hits.{Adds};
 
 use crate::{Items, Probe, Search};
 

@@ -1,6 +1,6 @@
-use Rattle.tl_record.specs.KeyText.{shown_byte}
+use Rattle.tl_key.specs.KeyText.{shown_byte}
 use Rattle.std.proofs.Common.{◌≡◌, ℕ, ap, sym, ◌∙◌, refl, rules}
-use Rattle.tl_record.proofs.key_display.shown.Goals as goal
+use Rattle.tl_key.proofs.text.shown.Goals as goal
 
 other_byte : (b : ℕ) → (b ≡ 32 → ⊥) → b ≡ shown_byte b
 other_byte b h = search rules

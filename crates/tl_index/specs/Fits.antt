@@ -2,10 +2,10 @@
 use Rattle.std.specs.Prelude.{◌≡◌, ℕ, zero, suc, ◌<◌, ◌≤◌, ◌-◌, ◌⊎◌, List, [], ◌∷◌, Option, Some, None}
 use Rattle.tl_geom.specs.declared.rect.Rect.{Rect}
 use Rattle.tl_geom.specs.Rectangle.{Covers}
-use Rattle.tl_tree.specs.declared.fault.TreeFault.{TreeFault}
-use Rattle.tl_tree.specs.declared.fault.TreeFault.TheVariants.{UnknownIndex, IndexTwice, IndexMissing, RectTooSmall}
-use Rattle.tl_tree.specs.Hits.{times}
-use Rattle.tl_tree.specs.Trees.{Forest, none, leaf, inner, node_count, leaf_items}
+use Rattle.tl_index.specs.declared.fault.TreeFault.{TreeFault}
+use Rattle.tl_index.specs.declared.fault.TreeFault.TheVariants.{UnknownIndex, IndexTwice, IndexMissing, RectTooSmall}
+use Rattle.tl_index.specs.Hits.{times}
+use Rattle.tl_index.specs.Trees.{Forest, none, leaf, inner, node_count, leaf_items}
 
 -- each number is below n
 abbrev pub AreBelow : ℕ → List ℕ → Type 0

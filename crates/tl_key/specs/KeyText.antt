@@ -1,7 +1,7 @@
 -- What is printed of a polygon's key.
 use Rattle.std.specs.Prelude.{ℕ, ◌==◌, if◌then◌else◌, List, [], ◌∷◌, ◌++◌, codes, decimal, slice_index}
 use Rattle.std.specs.Char.{encode_utf8}
-use Rattle.tl_record.specs.declared.record.PolyKey.{PolyKey}
+use Rattle.tl_key.specs.declared.key.PolyKey.{PolyKey}
 
 -- a blank is printed as an underscore, any other byte as the character of its number
 abbrev pub shown_byte : ℕ → ℕ

@@ -1,9 +1,9 @@
 //! Keys of polygons as they are printed.
 
 ghost use Rattle.std.specs.Prelude.{◌≡◌};
-ghost use Rattle.tl_record.specs.KeyText.{shown_byte, shown_cenid};
+ghost use Rattle.tl_key.specs.KeyText.{shown_byte, shown_cenid};
 
-use crate::record::PolyKey;
+use crate::key::PolyKey;
 use std::fmt;
 
 /// A byte of a CENID as it is printed: a blank as an underscore.
@@ -31,7 +31,7 @@ impl PolyKey {
 
 impl fmt::Display for PolyKey {
     ghost use Rattle.std.specs.Prelude.{Some};
-    ghost use Rattle.tl_record.specs.KeyText.{key_text};
+    ghost use Rattle.tl_key.specs.KeyText.{key_text};
 
     ghost output = { λ key. Some (key_text key) };
 

@@ -1,11 +1,10 @@
 -- Marks of items.
 use Rattle.std.proofs.Common.{◌≡◌, ℕ, zero, suc, ◌+◌, ◌<◌, ◌≤◌, Bool, true, false, cond, List, [], ◌∷◌, ◌++◌, length, get_or, take, set, refl, ap, ◌∙◌, length-set, get_or-set_same, get_or-set_other, arith}
 use Rattle.std.proofs.lemmas.List.{take_more}
-use Rattle.tl_tree.specs.Fits.{AreBelow}
-use Rattle.tl_tree.specs.Hits.{times}
-use Rattle.tl_tree.specs.Keeping.Checking.{mark_at, AreMarked}
-use Rattle.tl_tree.proofs.Permuted.{same_or, times-same, times-other}
-use Rattle.tl_tree.proofs.Hitting.{times-append}
+use Rattle.tl_index.specs.Fits.{AreBelow}
+use Rattle.tl_index.specs.Hits.{times}
+use Rattle.tl_index.specs.Keeping.Marked.{mark_at, AreMarked}
+use Rattle.tl_index.proofs.Times.{same_or, times-same, times-other, times-append}
 
 pub times-at : (xs : List ℕ) (k : ℕ) → k < length xs → 1 ≤ times (get_or xs k 0) xs
 times-at [] k h = absurd (omega (arith, h))

@@ -1,6 +1,6 @@
 //! Which lists of nodes are a whole tree in preorder.
 ghost use Rattle.std.specs.Prelude.{◌↔◌, IsTrue};
-ghost use Rattle.tl_tree.specs.Preorder.{IsPreorder};
+ghost use Rattle.tl_index.specs.Preorder.{IsPreorder};
 
 use crate::TreeNode;
 

@@ -2,9 +2,9 @@
 use Rattle.std.specs.Prelude.{ℕ, ◌<◌, ◌≤◌, Bool, IsTrue, Option, Some, None, if◌then◌else◌}
 use Rattle.tl_geom.specs.declared.rect.Rect.{Rect}
 use Rattle.tl_geom.specs.Rectangle.{AreMeeting}
-use Rattle.tl_tree.specs.declared.items.Search.{Search}
-use Rattle.tl_tree.specs.declared.items.Search.TheVariants.{Found, Clear, Budget}
-use Rattle.tl_tree.specs.Pairs.{indices, pair_sum, meeting}
+use Rattle.tl_index.specs.declared.items.Search.{Search}
+use Rattle.tl_index.specs.declared.items.Search.TheVariants.{Found, Clear, Budget}
+use Rattle.tl_index.specs.Pairs.{indices, pair_sum, meeting}
 
 -- the number of pairs of the items 0 to n-1 whose bounds meet
 abbrev pub meeting_pairs : (ℕ → Rect) → ℕ → ℕ

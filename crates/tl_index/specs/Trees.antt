@@ -1,8 +1,8 @@
 -- Trees of rectangles, and the trees that a list of nodes in preorder spells.
 use Rattle.std.specs.Prelude.{ℕ, zero, suc, ◌+◌, max, List, [], ◌∷◌, ◌++◌}
 use Rattle.tl_geom.specs.declared.rect.Rect.{Rect}
-use Rattle.tl_tree.specs.declared.node.TreeNode.{TreeNode}
-use Rattle.tl_tree.specs.declared.node.TreeNode.TheVariants.{Inner, Leaf}
+use Rattle.tl_index.specs.declared.node.TreeNode.{TreeNode}
+use Rattle.tl_index.specs.declared.node.TreeNode.TheVariants.{Inner, Leaf}
 
 -- some trees in order: none; or a first one, which is a leaf with its rectangle and items or an inner node with its
 -- rectangle and its children, and then the others

@@ -1,0 +1,4 @@
+pub mod Times
+pub mod Marks
+pub mod Covering
+mod Counting

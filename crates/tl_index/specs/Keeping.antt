@@ -1,0 +1,2 @@
+-- What checks and walks keep on their way. No public contract cites a file of this folder.
+pub mod Marked

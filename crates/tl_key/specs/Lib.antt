@@ -1,0 +1,2 @@
+pub mod KeyText
+pub mod KeyWords
