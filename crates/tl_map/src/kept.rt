@@ -6,6 +6,7 @@ ghost use Rattle.tl_county.specs.Kept.{given};
 
 use crate::entry::SidesEntry;
 use std::marker::Model;
+use tl_county::Ranked;
 use tl_record::PolyKey;
 
 /// A type I record.
@@ -37,6 +38,13 @@ impl Model for KeptSides {
       left = given s.has_left (record { cenid = s.left_cenid; polyid = s.left_polyid });
       right = given s.has_right (record { cenid = s.right_cenid; polyid = s.right_polyid });
     } };
+}
+
+impl Ranked for KeptSides {
+    /// By TLID.
+    fn rank(&self) -> u64 {
+        self.tlid
+    }
 }
 
 impl KeptSides {

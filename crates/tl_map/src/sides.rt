@@ -15,9 +15,9 @@ use crate::fault::{MapFault, MapStop};
 use crate::guess::Guesses;
 use crate::kept::KeptSides;
 use indexmap::IndexMap;
-use std::alloc::Global;
+use std::alloc::{AllocError, Global};
 use std::hash::RandomState;
-use tl_county::{ChainSides, Chains, KeptChainSides, Side};
+use tl_county::{ChainSides, Chains, KeptChainSides, Side, presort_by_rank};
 use tl_geom::Point;
 use tl_record::PolyKey;
 
@@ -69,11 +69,13 @@ pub fn resolve_sides(
 }
 
 /// Sorts type I records by TLID, in place.
-fn sort_sides(sides: &mut Vec<KeptSides>)
-    ensures ordered { IsNonDecreasingBy (λ (s : SidesEntry). s.tlid) sides.new.items }
+fn sort_sides(alloc: Global, sides: &mut Vec<KeptSides>) -> Result<(), AllocError>
+    ensures ordered { OnOk result (IsNonDecreasingBy (λ (s : SidesEntry). s.tlid) sides.new.items) }
     ensures moved { IsPermutation sides.old.items sides.new.items }
 {
+    presort_by_rank(alloc, sides)?;
     sides.sort_unstable_by_key(|kept| kept.tlid());
+    Ok(())
 }
 
 /// A TLID that two type I records have, in records sorted by TLID.
@@ -131,12 +133,16 @@ fn unpaired(chains: &Chains, sides: &[KeptSides]) -> Option<MapFault>
 }
 
 /// The type I record of each chain, in the order of the chains, which rise by TLID.
-pub fn pair_sides(chains: &Chains, mut sides: Vec<KeptSides>) -> Result<Vec<KeptSides>, MapStop>
+pub fn pair_sides(
+    alloc: Global,
+    chains: &Chains,
+    mut sides: Vec<KeptSides>,
+) -> Result<Vec<KeptSides>, MapStop>
     requires { IsStrictlyIncreasing (tlids chains.now.chains) }
     ensures { MatchResult result (λ made. ArePaired (tlids chains.now.chains) sides.items made.items)
         (StopsPairing (tlids chains.now.chains) sides.items) }
 {
-    sort_sides(&mut sides);
+    sort_sides(alloc, &mut sides)?;
     if let Some(tlid) = repeated_sides(&sides) {
         return Err(MapStop::Fault(MapFault::DuplicateSides { tlid }));
     }
