@@ -1,4 +1,4 @@
-use Rattle.std.proofs.Common.{◌≡◌, ◌<◌, ◌∙◌, length, sym, arith}
+use Rattle.std.proofs.Common.{◌<◌, ◌∙◌, length, sym, arith}
 use Rattle.tl_map.specs.declared.entry.SidesEntry.{SidesEntry}
 use Rattle.tl_map.proofs.PairLemmas.{tlid_at, no_sides}
 use Rattle.tl_map.proofs.CountLemmas.{repeat_found, rising_keys, last_key, rising_more}

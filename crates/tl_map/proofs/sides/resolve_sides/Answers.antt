@@ -1,5 +1,5 @@
 use Rattle.std.proofs.lemmas.Result.{err_from_is_err_and}
-use Rattle.std.proofs.Common.{◌≡◌, ◌∙◌, get_or, arith}
+use Rattle.std.proofs.Common.{◌≡◌, get_or, arith}
 use Rattle.tl_map.proofs.SideLemmas.{stops_left, stops_right, sides_more, known_more}
 use Rattle.tl_map.proofs.PairLemmas.{no_sides}
 use Rattle.tl_map.proofs.sides.resolve_sides.Goals as goal
