@@ -22,6 +22,7 @@ use tl_geom::Point;
 use tl_record::PolyKey;
 
 /// What lies on a side of a chain whose record has this key there.
+#[inline(always)]
 fn resolve_side(
     index: &IndexMap<PolyKey, Point, RandomState>,
     guesses: &mut Guesses,
