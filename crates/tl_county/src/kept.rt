@@ -1,8 +1,10 @@
 //! What lies on the sides of chains, as it is kept for all of them: whether a part is there stands beside the parts,
-//! where each option of its own would take eight bytes more.
+//! where each option of its own would take eight bytes more, and ids stand as bytes, so that all takes 28 of them and not
+//! the next multiple of eight.
 
-ghost use Rattle.std.specs.Prelude.{◌≡◌};
-ghost use Rattle.tl_county.specs.Kept.{given_side, is_polygon};
+ghost use Rattle.std.specs.Prelude.{◌≡◌, is_some};
+ghost use Rattle.std.specs.Int.{w64, from_le_bytes};
+ghost use Rattle.tl_county.specs.Kept.{given, given_side, is_polygon};
 
 use crate::sides::{ChainSides, Side};
 use std::marker::Model;
@@ -10,8 +12,8 @@ use std::marker::Model;
 /// What lies on both sides of a chain.
 #[derive(Drop)]
 pub struct KeptChainSides {
-    start_cell: u64,
-    end_cell: u64,
+    start_cell: [u8; 8],
+    end_cell: [u8; 8],
     left: u32,
     right: u32,
     has_start: bool,
@@ -20,17 +22,20 @@ pub struct KeptChainSides {
     has_right: bool,
 }
 
+const _: () = prove!(size_of::<KeptChainSides>() == 28);
+
 impl Model for KeptChainSides {
     ghost use Rattle.tl_county.specs.declared.sides.ChainSides.{ChainSides};
     ghost use Rattle.tl_county.specs.Kept.{given, given_side};
+    ghost use Rattle.std.specs.Int.{w64, from_le_bytes};
 
     ghost Value = { ChainSides };
 
     ghost view = { λ s. record {
       left = given_side s.has_left s.left;
       right = given_side s.has_right s.right;
-      start_cell = given s.has_start s.start_cell;
-      end_cell = given s.has_end s.end_cell;
+      start_cell = given s.has_start (from_le_bytes w64 s.start_cell);
+      end_cell = given s.has_end (from_le_bytes w64 s.end_cell);
     } };
 }
 
@@ -40,8 +45,8 @@ impl KeptChainSides {
         ensures { result ≡ sides }
     {
         KeptChainSides {
-            start_cell: sides.start_cell.unwrap_or(0),
-            end_cell: sides.end_cell.unwrap_or(0),
+            start_cell: bytes_or_zeros(sides.start_cell),
+            end_cell: bytes_or_zeros(sides.end_cell),
             left: polygon_or_zero(sides.left),
             right: polygon_or_zero(sides.right),
             has_start: sides.start_cell.is_some(),
@@ -58,10 +63,24 @@ impl KeptChainSides {
         ChainSides {
             left: side_if(self.has_left, self.left),
             right: side_if(self.has_right, self.right),
-            start_cell: self.has_start.then_some(self.start_cell),
-            end_cell: self.has_end.then_some(self.end_cell),
+            start_cell: id_if(self.has_start, self.start_cell),
+            end_cell: id_if(self.has_end, self.end_cell),
         }
     }
+}
+
+/// The bytes of the id, or zeros where none is given.
+fn bytes_or_zeros(id: Option<u64>) -> [u8; 8]
+    ensures { given (is_some id) (from_le_bytes w64 result) ≡ id }
+{
+    id.unwrap_or(0).to_le_bytes()
+}
+
+/// The id of these bytes, where one is given.
+fn id_if(is_there: bool, bytes: [u8; 8]) -> Option<u64>
+    ensures { result ≡ given is_there (from_le_bytes w64 bytes) }
+{
+    is_there.then_some(u64::from_le_bytes(bytes))
 }
 
 /// Does a polygon lie there?

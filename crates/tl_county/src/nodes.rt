@@ -7,7 +7,7 @@ ghost use Rattle.tl_county.specs.Keeping.Noded.{start_in, TellStarts, AreByPoint
 ghost use Rattle.tl_county.specs.Keeping.Noded.{AreNumberedNodes};
 
 use crate::chains::{Chains, point_along};
-use crate::presort::presort;
+use crate::presort::{Ranked, presort_by_rank};
 use std::alloc::{AllocError, Global};
 use tl_geom::Point;
 
@@ -23,6 +23,18 @@ pub struct Nodes {
 pub struct DartStart {
     pub point: Point,
     pub dart: u32,
+}
+
+impl Ranked for DartStart {
+    /// From west to east, and at one longitude from south to north.
+    fn rank(&self) -> u64 {
+        u64::from(from_least(self.point.x)) << 32 | u64::from(from_least(self.point.y))
+    }
+}
+
+/// How far the coordinate is from the least that there is.
+fn from_least(coordinate: i32) -> u32 {
+    coordinate.abs_diff(i32::MIN)
 }
 
 /// The points where the darts of the chains start, by rising dart.
@@ -46,7 +58,7 @@ fn sort_starts(alloc: Global, starts: &mut Vec<DartStart>) -> Result<(), AllocEr
     ensures ordered { OnOk result (AreByPoint starts.new.items) }
     ensures moved { IsPermutation starts.old.items starts.new.items }
 {
-    presort(alloc, starts)?;
+    presort_by_rank(alloc, starts)?;
     starts.sort_unstable_by_key(|start| start.point);
     Ok(())
 }

@@ -20,7 +20,7 @@ added h rs r y items more some before is =
 -- a record of another type
 pub kept_all : (rs : List Record) (r : Record) (a : AreaRecords) → sides_at r ≡ None → polygon_at r ≡ None → landmark_at r ≡ None → link_at r ≡ None → KeepsAreas rs a → KeepsAreas (rs ++ r ∷ []) a
 kept_all rs r a i p s e h = record {
-  sides = kept sides_at rs r a.sides.items i h.sides;
+  sides = kept sides_at rs r a.sides i h.sides;
   polygons = kept polygon_at rs r a.polygons.items p h.polygons;
   landmarks = kept landmark_at rs r a.landmarks.items s h.landmarks;
   links = kept link_at rs r a.links.items e h.links;

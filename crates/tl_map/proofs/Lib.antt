@@ -20,3 +20,4 @@ pub mod GatherLemmas
 pub mod ProperLemmas
 pub mod OneMapLemmas
 pub mod OnceLemmas
+pub mod KeptLemmas

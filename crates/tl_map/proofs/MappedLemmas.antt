@@ -161,7 +161,7 @@ stops_linked rs polygons entries links stop p e l why = elim why [
 ]
 
 -- the map is that of the records
-pub mapped_all : (rs : List Record) (skipped : ℕ) (chains : ChainList) (areas : AreaRecords) (new : List SidesEntry) (sides : List ChainSides) (found : PolyKey → Option ℕ) (l : LinkedLandmarks) → AreBuilt rs skipped chains → KeepsAreas rs areas → ArePaired (tlids chains.chains) areas.sides.items new → Numbers (keys areas.polygons.items) found → All (NamesKnown (keys areas.polygons.items)) new → sides ≡ map (sided_by (keys areas.polygons.items)) new → length areas.polygons.items ≤ most_polygons → AreLinked (keys areas.polygons.items) areas.landmarks.items areas.links.items l → AreMapped rs skipped (record { chains = sided chains.chains sides; polygons = areas.polygons.items; landmarks = rows_in l.linked.items l.points.entries l.rows.items; skipped = chains.skipped })
+pub mapped_all : (rs : List Record) (skipped : ℕ) (chains : ChainList) (areas : AreaRecords) (new : List SidesEntry) (sides : List ChainSides) (found : PolyKey → Option ℕ) (l : LinkedLandmarks) → AreBuilt rs skipped chains → KeepsAreas rs areas → ArePaired (tlids chains.chains) areas.sides new → Numbers (keys areas.polygons.items) found → All (NamesKnown (keys areas.polygons.items)) new → sides ≡ map (sided_by (keys areas.polygons.items)) new → length areas.polygons.items ≤ most_polygons → AreLinked (keys areas.polygons.items) areas.landmarks.items areas.links.items l → AreMapped rs skipped (record { chains = sided chains.chains sides; polygons = areas.polygons.items; landmarks = rows_in l.linked.items l.points.entries l.rows.items; skipped = chains.skipped })
 mapped_all rs skipped chains areas new sides found l built keeps paired numbers known are few linked =
     let paired_in : ArePaired (tlids chains.chains) (sides_in rs) new = rw keeps.sides at paired in
     let numbers_in : Numbers (keys (polygons_in rs)) found = rw keeps.polygons at numbers in

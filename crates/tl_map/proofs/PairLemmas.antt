@@ -1,4 +1,4 @@
-use Rattle.std.proofs.Common.{◌≡◌, ℕ, suc, ◌+◌, ◌<◌, ◌≤◌, inl, inr, Some, List, [], ◌∷◌, length, get_or, Contains, refl, ◌∙◌, arith, cond, eqb, count_by}
+use Rattle.std.proofs.Common.{◌≡◌, ℕ, suc, ◌+◌, ◌<◌, ◌≤◌, inl, inr, Some, None, List, [], ◌∷◌, length, get_or, Contains, refl, ◌∙◌, arith, cond, eqb, count_by}
 use Rattle.std.specs.Prelude.{slice_get}
 use Rattle.std.specs.List.Sorted.{IsStrictlyIncreasing, IsPermutation}
 use Rattle.std.proofs.lemmas.Bool.{cases_lt}
@@ -35,6 +35,10 @@ present xs i x lt at = (i, lt, get_or_default xs i x 0 lt ∙ at)
 -- what a look-up of a list gives
 pub told : (xs : List ℕ) (i x : ℕ) → i < length xs → slice_get xs i ≡ Some x → get_or xs i 0 ≡ x
 told xs i x lt at = let h = slice_get-get_or xs i 0 lt in cc
+
+-- a record, for where a list has none
+pub no_sides : SidesEntry
+no_sides = record { tlid = 0; start_cell = None; end_cell = None; left = None; right = None }
 
 -- the TLID of the i-th sides
 pub tlid_at : (sides : List SidesEntry) (i : ℕ) (d : SidesEntry) → i < length sides → get_or (sides_tlids sides) i 0 ≡ (get_or sides i d).tlid

@@ -6,6 +6,7 @@ pub mod Built
 pub mod Gathering
 pub mod Index
 pub mod Sided
+pub mod Kept
 pub mod Areas
 pub mod Landmarks
 pub mod Mapped

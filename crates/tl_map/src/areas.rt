@@ -11,7 +11,7 @@ use tl_record::Record;
 /// The type I, P, 7 and 8 records read so far, each in file order.
 #[derive(Drop)]
 pub struct AreaRecords {
-    pub sides: Vec<KeptSides>,
+    pub sides: KeptSides,
     pub polygons: Vec<Polygon>,
     pub landmarks: Vec<LandmarkEntry>,
     pub links: Vec<LinkEntry>,
@@ -27,7 +27,7 @@ impl AreaRecords {
         ensures { KeepsAreas [] result }
     {
         AreaRecords {
-            sides: Vec::new(alloc),
+            sides: KeptSides::new(alloc),
             polygons: Vec::new(alloc),
             landmarks: Vec::new(alloc),
             links: Vec::new(alloc),
@@ -54,7 +54,7 @@ impl AreaRecords {
                     left: *left,
                     right: *right,
                 };
-                append(&mut self.sides, KeptSides::new(entry))
+                self.sides.push(entry)
             }
             Record::PolyPoint { key, point } => {
                 let polygon = Polygon {

@@ -59,8 +59,8 @@ pub fn build_chains(alloc: Global, collected: Collected, skipped: u64) -> Result
         pool,
         too_many: _,
     } = collected;
-    sort_chains(&mut chains)?;
-    sort_shapes(&mut shapes)?;
+    sort_chains(alloc, &mut chains)?;
+    sort_shapes(alloc, &mut shapes)?;
     if let Some(fault) = first_fault(&chains, &shapes) {
         return Err(MapStop::Fault(fault));
     }

@@ -41,7 +41,7 @@ pub fn build_map(
         return Err(MapStop::Fault(MapFault::TooMany(Limited::Polygons)));
     }
     let chains = build_chains(alloc, collected, skipped)?;
-    let paired = pair_sides(&chains, sides)?;
+    let paired = pair_sides(alloc, &chains, sides)?;
     let index = index_polygons(alloc, hasher, &polygons)?;
     drop(polygons);
     let sides = resolve_sides(alloc, &index, &paired)?;

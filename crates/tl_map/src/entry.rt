@@ -1,5 +1,6 @@
 //! Records as they are kept until all of them are read.
 
+use tl_county::Ranked;
 use tl_geom::Point;
 use tl_record::PolyKey;
 
@@ -9,6 +10,13 @@ pub struct ChainEntry {
     pub tlid: u64,
     pub from: Point,
     pub to: Point,
+}
+
+impl Ranked for ChainEntry {
+    /// By TLID.
+    fn rank(&self) -> u64 {
+        self.tlid
+    }
 }
 
 /// How the used pairs of a type 2 record lie among the unused ones.
@@ -30,6 +38,15 @@ pub struct ShapeEntry {
     pub rtsq: u16,
     pub used: u8,
     pub fill: Fill,
+}
+
+impl Ranked for ShapeEntry {
+    /// By TLID, and within one TLID by RTSQ, which has three digits.
+    fn rank(&self) -> u64 {
+        self.tlid
+            .wrapping_mul(1000)
+            .wrapping_add(u64::from(self.rtsq))
+    }
 }
 
 /// A type I record.

@@ -36,7 +36,8 @@ impl Guesses {
         Ok(Guesses { numbers })
     }
 
-    /// The number of the polygon with this key.
+    /// The number of the polygon with this key. What a right guess takes stands where the call is.
+    #[inline(always)]
     pub fn number_of(
         &mut self,
         index: &IndexMap<PolyKey, Point, RandomState>,
@@ -50,6 +51,20 @@ impl Guesses {
         if is_number(index, guess, key) {
             return Some(guess);
         }
+        self.look_up(index, key)
+    }
+
+    /// The number of the polygon with this key, by its hash. It is the next guess at the key's place.
+    #[inline(never)]
+    fn look_up(
+        &mut self,
+        index: &IndexMap<PolyKey, Point, RandomState>,
+        key: PolyKey,
+    ) -> Option<usize>
+        requires { length index.now.entries < 2 ^ 32 }
+        ensures index { result ≡ index_of same_key index.now key }
+        ensures within { IfSome result (λ number. number < length index.now.entries) }
+    {
         let found = index.get_index_of(&key);
         if let Some(number) = found {
             note(&mut self.numbers, key, number as u32);
@@ -59,6 +74,7 @@ impl Guesses {
 }
 
 /// Is this the number of the polygon with the key?
+#[inline(always)]
 fn is_number(index: &IndexMap<PolyKey, Point, RandomState>, number: usize, key: PolyKey) -> bool
     ensures index { OnTrue result (index_of same_key index.now key ≡ Some number) }
     ensures within { OnTrue result (number < length index.now.entries) }
@@ -73,6 +89,7 @@ fn is_number(index: &IndexMap<PolyKey, Point, RandomState>, number: usize, key: 
 }
 
 /// The guess at the key's place.
+#[inline(always)]
 fn guess_at(numbers: &[u32], key: PolyKey) -> usize {
     match numbers.get(place_of(key, numbers.len())) {
         Some(number) => *number as usize,
@@ -89,6 +106,7 @@ fn note(numbers: &mut [u32], key: PolyKey, number: u32) {
 }
 
 /// The place of a key among so many: both parts are mixed by products, whose upper bits hang on all bits of the key.
+#[inline(always)]
 fn place_of(key: PolyKey, count: usize) -> usize {
     let [first, second, third, fourth, fifth] = key.cenid;
     let cenid = u64::from_le_bytes([first, second, third, fourth, fifth, 0, 0, 0]);

@@ -1,9 +1,9 @@
 //! The sides of chains by the keys of type I records.
 
-ghost use Rattle.std.specs.Prelude.{◌≡◌, ◌<◌, ◌≤◌, ◌^◌, ◌==◌, List, length, slice_index, IfOk, OnOk, IfErr, MatchOption};
+ghost use Rattle.std.specs.Prelude.{◌≡◌, ◌<◌, ◌≤◌, ◌^◌, ◌==◌, List, length, IfOk, OnOk, IfErr, MatchOption};
 ghost use Rattle.std.specs.Prelude.{MatchResult, map};
 ghost use Rattle.std.specs.Prelude.{count_by, All};
-ghost use Rattle.std.specs.List.Sorted.{IsNonDecreasingBy, IsStrictlyIncreasing, IsPermutation};
+ghost use Rattle.std.specs.List.Sorted.{IsNonDecreasingBy, IsStrictlyIncreasing};
 ghost use Rattle.tl_map.specs.declared.entry.SidesEntry.{SidesEntry};
 ghost use Rattle.tl_county.specs.Chains.{tlids};
 ghost use Rattle.tl_key.specs.declared.key.PolyKey.{PolyKey};
@@ -22,6 +22,7 @@ use tl_geom::Point;
 use tl_record::PolyKey;
 
 /// What lies on a side of a chain whose record has this key there.
+#[inline(always)]
 fn resolve_side(
     index: &IndexMap<PolyKey, Point, RandomState>,
     guesses: &mut Guesses,
@@ -44,7 +45,7 @@ fn resolve_side(
 pub fn resolve_sides(
     alloc: Global,
     index: &IndexMap<PolyKey, Point, RandomState>,
-    entries: &[KeptSides],
+    entries: &KeptSides,
 ) -> Result<Vec<KeptChainSides>, MapStop>
     requires { length index.now.entries < 2 ^ 32 }
     ensures sides { (ks : List PolyKey) → Indexes ks index.now →
@@ -54,8 +55,9 @@ pub fn resolve_sides(
 {
     let mut guesses = Guesses::new(alloc, index)?;
     let mut sides = Vec::with_capacity(alloc, entries.len())?;
-    for kept in entries {
-        let entry = kept.whole();
+    let count = entries.len();
+    for place in 0..count {
+        let entry = entries.get(place);
         let left = resolve_side(index, &mut guesses, entry.left, entry.tlid)?;
         let right = resolve_side(index, &mut guesses, entry.right, entry.tlid)?;
         sides.push(KeptChainSides::new(ChainSides {
@@ -68,23 +70,16 @@ pub fn resolve_sides(
     Ok(sides)
 }
 
-/// Sorts type I records by TLID, in place.
-fn sort_sides(sides: &mut Vec<KeptSides>)
-    ensures ordered { IsNonDecreasingBy (λ (s : SidesEntry). s.tlid) sides.new.items }
-    ensures moved { IsPermutation sides.old.items sides.new.items }
-{
-    sides.sort_unstable_by_key(|kept| kept.tlid());
-}
-
 /// A TLID that two type I records have, in records sorted by TLID.
-fn repeated_sides(sides: &[KeptSides]) -> Option<u64>
+fn repeated_sides(sides: &KeptSides) -> Option<u64>
     requires { IsNonDecreasingBy (λ (s : SidesEntry). s.tlid) sides.now }
     ensures { MatchOption result (IsStrictlyIncreasing (sides_tlids sides.now))
         (λ t. 2 ≤ count_by (λ s. s.tlid == t) sides.now) }
 {
     let mut previous = None;
-    for entry in sides {
-        let tlid = entry.tlid();
+    let count = sides.len();
+    for place in 0..count {
+        let tlid = sides.tlid(place);
         if previous == Some(tlid) {
             return previous;
         }
@@ -93,16 +88,8 @@ fn repeated_sides(sides: &[KeptSides]) -> Option<u64>
     None
 }
 
-/// The TLID of a record by its place.
-fn tlid_at(sides: &[KeptSides], place: usize) -> u64
-    requires { place < length sides.now }
-    ensures { slice_index (sides_tlids sides.now) place ≡ result }
-{
-    sides[place].tlid()
-}
-
 /// A chain without sides, or sides without a chain, where both rise by TLID.
-fn unpaired(chains: &Chains, sides: &[KeptSides]) -> Option<MapFault>
+fn unpaired(chains: &Chains, sides: &KeptSides) -> Option<MapFault>
     requires chains { IsStrictlyIncreasing (tlids chains.now.chains) }
     requires sides { IsStrictlyIncreasing (sides_tlids sides.now) }
     ensures { MatchOption result (sides_tlids sides.now ≡ tlids chains.now.chains)
@@ -115,7 +102,7 @@ fn unpaired(chains: &Chains, sides: &[KeptSides]) -> Option<MapFault>
         if place == sides.len() {
             return Some(MapFault::ChainWithoutSides { tlid });
         }
-        let here = tlid_at(sides, place);
+        let here = sides.tlid(place);
         if tlid < here {
             return Some(MapFault::ChainWithoutSides { tlid });
         }
@@ -124,19 +111,23 @@ fn unpaired(chains: &Chains, sides: &[KeptSides]) -> Option<MapFault>
         }
     }
     if sides.len() > count as usize {
-        let here = tlid_at(sides, count as usize);
+        let here = sides.tlid(count as usize);
         return Some(MapFault::SidesWithoutChain { tlid: here });
     }
     None
 }
 
 /// The type I record of each chain, in the order of the chains, which rise by TLID.
-pub fn pair_sides(chains: &Chains, mut sides: Vec<KeptSides>) -> Result<Vec<KeptSides>, MapStop>
+pub fn pair_sides(
+    alloc: Global,
+    chains: &Chains,
+    mut sides: KeptSides,
+) -> Result<KeptSides, MapStop>
     requires { IsStrictlyIncreasing (tlids chains.now.chains) }
-    ensures { MatchResult result (λ made. ArePaired (tlids chains.now.chains) sides.items made.items)
-        (StopsPairing (tlids chains.now.chains) sides.items) }
+    ensures { MatchResult result (λ made. ArePaired (tlids chains.now.chains) sides made)
+        (StopsPairing (tlids chains.now.chains) sides) }
 {
-    sort_sides(&mut sides);
+    sides.sort_by_tlid(alloc)?;
     if let Some(tlid) = repeated_sides(&sides) {
         return Err(MapStop::Fault(MapFault::DuplicateSides { tlid }));
     }

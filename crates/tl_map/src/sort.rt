@@ -7,25 +7,28 @@ ghost use Rattle.tl_record.specs.declared.record.Record.{Record};
 ghost use Rattle.tl_map.specs.Keeping.Entries.{AreChainEntries, AreShapeEntries, AreInOrder};
 
 use crate::entry::{ChainEntry, ShapeEntry};
-use std::alloc::AllocError;
+use std::alloc::{AllocError, Global};
+use tl_county::presort_by_rank;
 
 /// Sorts chains by TLID.
-pub fn sort_chains(chains: &mut Vec<ChainEntry>) -> Result<(), AllocError>
+pub fn sort_chains(alloc: Global, chains: &mut Vec<ChainEntry>) -> Result<(), AllocError>
     ensures ordered { OnOk result (IsNonDecreasingBy (λ (c : ChainEntry). c.tlid) chains.new.items) }
     ensures same { OnOk result ((rs : List Record) → AreChainEntries rs chains.old.items →
         AreChainEntries rs chains.new.items) }
     ensures length { OnOk result (length chains.new.items ≡ length chains.old.items) }
 {
-    chains.sort_by_key(|chain| chain.tlid)?;
+    presort_by_rank(alloc, chains)?;
+    chains.sort_unstable_by_key(|chain| chain.tlid);
     Ok(())
 }
 
 /// Sorts shapes by TLID, and within one TLID by RTSQ.
-pub fn sort_shapes(shapes: &mut Vec<ShapeEntry>) -> Result<(), AllocError>
+pub fn sort_shapes(alloc: Global, shapes: &mut Vec<ShapeEntry>) -> Result<(), AllocError>
     ensures ordered { OnOk result (AreInOrder shapes.new.items) }
     ensures same { OnOk result ((rs : List Record) (pool : List Point) → AreShapeEntries rs pool shapes.old.items →
         AreShapeEntries rs pool shapes.new.items) }
 {
-    shapes.sort_by_key(|shape| (shape.tlid, shape.rtsq))?;
+    presort_by_rank(alloc, shapes)?;
+    shapes.sort_unstable_by_key(|shape| (shape.tlid, shape.rtsq));
     Ok(())
 }

@@ -6,7 +6,7 @@ use Rattle.tl_map.specs.MapOf.{sides_in, polygons_in, landmarks_in, links_in}
 
 -- the type I, P, 7 and 8 records are kept, each in file order
 pub record KeepsAreas (rs : List Record) (a : AreaRecords) : Type 0 where
-  pub sides : a.sides.items ≡ sides_in rs
+  pub sides : a.sides ≡ sides_in rs
   pub polygons : a.polygons.items ≡ polygons_in rs
   pub landmarks : a.landmarks.items ≡ landmarks_in rs
   pub links : a.links.items ≡ links_in rs

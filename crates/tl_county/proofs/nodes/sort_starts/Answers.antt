@@ -9,4 +9,4 @@ returns-clause-ordered c =
     c.sort_unstable_by_key.ensures.sorted (λ (x : DartStart). x.point) (always_returns_same _ (λ a r. r ≡ a.0.now.point) _ (λ a r q k. search rules))
 
 pub returns-clause-moved : goal.returns-clause-moved
-returns-clause-moved c = IsPermutation-trans _ _ _ c.in_ok-presort.ensures c.sort_unstable_by_key.ensures.permutation
+returns-clause-moved c = IsPermutation-trans _ _ _ c.in_ok-presort_by_rank.ensures c.sort_unstable_by_key.ensures.permutation

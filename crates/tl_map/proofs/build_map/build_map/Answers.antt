@@ -17,7 +17,7 @@ pair_sides-requires c = (c.in_ok-chains.ensures.built c.requires.0 c.requires.1)
 pub returns-in_err-paired : goal.returns-in_err-paired
 returns-in_err-paired c = λ rs h k.
     let p = err_from_is_err_and c.from_residual-in_err-paired.result c.from_residual-in_err-paired.ensures.1 in
-    rw (p.1, p.2) (stops_pairing rs c.args.skipped c.in_ok-chains.chains c.args.areas.sides.items c.in_err-paired.field-0.0 (c.in_ok-chains.ensures.built rs h) k.sides c.in_err-paired.ensures)
+    rw (p.1, p.2) (stops_pairing rs c.args.skipped c.in_ok-chains.chains c.args.areas.sides c.in_err-paired.field-0.0 (c.in_ok-chains.ensures.built rs h) k.sides c.in_err-paired.ensures)
 
 pub returns-in_err-index : goal.returns-in_err-index
 returns-in_err-index c = λ rs h k.
@@ -27,21 +27,21 @@ returns-in_err-index c = λ rs h k.
 pub returns-in_err-sides : goal.returns-in_err-sides
 returns-in_err-sides c = λ rs h k.
     let p = err_from_is_err_and c.from_residual-in_err-sides.result c.from_residual-in_err-sides.ensures.1 in
-    rw (p.1, p.2) (stops_sides rs c.args.areas.polygons.items _ c.args.areas.sides.items c.in_ok-paired.paired.items c.in_err-sides.field-0.0 k.polygons k.sides c.in_ok-paired.ensures
-    (rw c.deref-2.ensures.value at (c.in_err-sides.ensures.stops (keys c.args.areas.polygons.items) (index_keys c.args.areas.polygons.items c.in_ok-index.index (rw c.deref.ensures.value at c.in_ok-index.ensures.entries) c.in_ok-index.ensures.unique))))
+    rw (p.1, p.2) (stops_sides rs c.args.areas.polygons.items _ c.args.areas.sides c.in_ok-paired.paired c.in_err-sides.field-0.0 k.polygons k.sides c.in_ok-paired.ensures
+    ((c.in_err-sides.ensures.stops (keys c.args.areas.polygons.items) (index_keys c.args.areas.polygons.items c.in_ok-index.index (rw c.deref.ensures.value at c.in_ok-index.ensures.entries) c.in_ok-index.ensures.unique))))
 
 pub returns-in_err-linked : goal.returns-in_err-linked
 returns-in_err-linked c = λ rs h k.
     let p = err_from_is_err_and c.from_residual-in_err-linked.result c.from_residual-in_err-linked.ensures.1 in
     rw (p.1, p.2) (stops_linked rs c.args.areas.polygons.items c.args.areas.landmarks.items c.args.areas.links.items c.in_err-linked.field-0.0 k.polygons k.landmarks k.links
-    (rw (c.deref-3.ensures.value, c.deref-4.ensures.value, keys_are c.args.areas.polygons.items c.in_ok-index.index (rw c.deref.ensures.value at c.in_ok-index.ensures.entries)) at c.in_err-linked.ensures))
+    (rw (c.deref-2.ensures.value, c.deref-3.ensures.value, keys_are c.args.areas.polygons.items c.in_ok-index.index (rw c.deref.ensures.value at c.in_ok-index.ensures.entries)) at c.in_err-linked.ensures))
 
 pub new-requires-clause-paired : goal.new-requires-clause-paired
 new-requires-clause-paired c =
     let ks = keys c.args.areas.polygons.items in
     let index = index_keys c.args.areas.polygons.items c.in_ok-index.index (rw c.deref.ensures.value at c.in_ok-index.ensures.entries) c.in_ok-index.ensures.unique in
-    let are = rw c.deref-2.ensures.value at (c.in_ok-sides.ensures.sides ks index) in
-    as_many c.requires.0 c.args.skipped c.in_ok-chains.chains c.args.areas.sides.items c.in_ok-paired.paired.items c.in_ok-sides.sides.items ks (c.in_ok-chains.ensures.built c.requires.0 c.requires.1) c.in_ok-paired.ensures are
+    let are = (c.in_ok-sides.ensures.sides ks index) in
+    as_many c.requires.0 c.args.skipped c.in_ok-chains.chains c.args.areas.sides c.in_ok-paired.paired c.in_ok-sides.sides.items ks (c.in_ok-chains.ensures.built c.requires.0 c.requires.1) c.in_ok-paired.ensures are
 
 pub new-requires-clause-landmarks : goal.new-requires-clause-landmarks
 new-requires-clause-landmarks c = few_rows _ _ _ c.in_ok-linked.linked c.in_ok-linked.ensures
@@ -73,13 +73,13 @@ pub returns : goal.returns
 returns c = λ rs h k.
     let ks = keys c.args.areas.polygons.items in
     let index = index_keys c.args.areas.polygons.items c.in_ok-index.index (rw c.deref.ensures.value at c.in_ok-index.ensures.entries) c.in_ok-index.ensures.unique in
-    let are = rw c.deref-2.ensures.value at (c.in_ok-sides.ensures.sides ks index) in
-    let known = rw c.deref-2.ensures.value at (c.in_ok-sides.ensures.known ks index) in
+    let are = (c.in_ok-sides.ensures.sides ks index) in
+    let known = (c.in_ok-sides.ensures.known ks index) in
     let few : length c.args.areas.polygons.items ≤ most_polygons = omega (arith, c.len.ensures, c.if-len.false, c.args.areas.polygons.ok.0) in
     let entries = rw c.deref.ensures.value at c.in_ok-index.ensures.entries in
-    let linked = rw (c.deref-3.ensures.value, c.deref-4.ensures.value, keys_are c.args.areas.polygons.items c.in_ok-index.index entries) at c.in_ok-linked.ensures in
+    let linked = rw (c.deref-2.ensures.value, c.deref-3.ensures.value, keys_are c.args.areas.polygons.items c.in_ok-index.index entries) at c.in_ok-linked.ensures in
     let polygons = ap (map polygon_in) entries ∙ polygons_entries c.args.areas.polygons.items in
-    rw (c.in_ok-map.ensures, polygons) (mapped_all rs c.args.skipped c.in_ok-chains.chains c.args.areas c.in_ok-paired.paired.items c.in_ok-sides.sides.items _ c.in_ok-linked.linked (c.in_ok-chains.ensures.built rs h) k c.in_ok-paired.ensures index known are few linked)
+    rw (c.in_ok-map.ensures, polygons) (mapped_all rs c.args.skipped c.in_ok-chains.chains c.args.areas c.in_ok-paired.paired c.in_ok-sides.sides.items _ c.in_ok-linked.linked (c.in_ok-chains.ensures.built rs h) k c.in_ok-paired.ensures index known are few linked)
 
 pub returns-in_err-map : goal.returns-in_err-map
 returns-in_err-map c = λ rs h k.

@@ -6,20 +6,20 @@ use Rattle.tl_map.proofs.AreaLemmas.{kept, added, kept_all}
 use Rattle.tl_map.proofs.areas.AreaRecords.add.Goals as goal
 
 pub returns-in-Sides : goal.returns-in-Sides
-returns-in-Sides c = λ rs h. rw c.in-Sides.is (on_ok_weaker c.append.result (λ (more : c.append.new.items.items ≡ c.args.self.now.sides.items ++ c.new.result ∷ []). record {
-  sides = added sides_at rs (Sides c.in-Sides.tlid c.in-Sides.start_cell c.in-Sides.end_cell c.in-Sides.left c.in-Sides.right) _ _ _ refl h.sides (rw c.new.ensures at more);
+returns-in-Sides c = λ rs h. rw c.in-Sides.is (on_ok_weaker c.push.result (λ (more : c.push.new.self ≡ c.args.self.now.sides ++ record { tlid = c.in-Sides.tlid; start_cell = c.in-Sides.start_cell; end_cell = c.in-Sides.end_cell; left = c.in-Sides.left; right = c.in-Sides.right } ∷ []). record {
+  sides = added sides_at rs (Sides c.in-Sides.tlid c.in-Sides.start_cell c.in-Sides.end_cell c.in-Sides.left c.in-Sides.right) _ _ _ refl h.sides more;
   polygons = kept polygon_at rs (Sides c.in-Sides.tlid c.in-Sides.start_cell c.in-Sides.end_cell c.in-Sides.left c.in-Sides.right) _ refl h.polygons;
   landmarks = kept landmark_at rs (Sides c.in-Sides.tlid c.in-Sides.start_cell c.in-Sides.end_cell c.in-Sides.left c.in-Sides.right) _ refl h.landmarks;
   links = kept link_at rs (Sides c.in-Sides.tlid c.in-Sides.start_cell c.in-Sides.end_cell c.in-Sides.left c.in-Sides.right) _ refl h.links;
-}) c.append.ensures)
+}) c.push.ensures)
 
 pub returns-in-PolyPoint : goal.returns-in-PolyPoint
-returns-in-PolyPoint c = λ rs h. rw c.in-PolyPoint.is (on_ok_weaker c.append-in-PolyPoint.result (λ (more : c.append-in-PolyPoint.new.items.items ≡ c.args.self.now.polygons.items ++ record { key = c.in-PolyPoint.key; point = c.in-PolyPoint.point } ∷ []). record {
+returns-in-PolyPoint c = λ rs h. rw c.in-PolyPoint.is (on_ok_weaker c.append.result (λ (more : c.append.new.items.items ≡ c.args.self.now.polygons.items ++ record { key = c.in-PolyPoint.key; point = c.in-PolyPoint.point } ∷ []). record {
   sides = kept sides_at rs (PolyPoint c.in-PolyPoint.key c.in-PolyPoint.point) _ refl h.sides;
   polygons = added polygon_at rs (PolyPoint c.in-PolyPoint.key c.in-PolyPoint.point) _ _ _ refl h.polygons more;
   landmarks = kept landmark_at rs (PolyPoint c.in-PolyPoint.key c.in-PolyPoint.point) _ refl h.landmarks;
   links = kept link_at rs (PolyPoint c.in-PolyPoint.key c.in-PolyPoint.point) _ refl h.links;
-}) c.append-in-PolyPoint.ensures)
+}) c.append.ensures)
 
 pub returns-in-Landmark : goal.returns-in-Landmark
 returns-in-Landmark c = λ rs h. rw c.in-Landmark.is (on_ok_weaker c.append-in-Landmark.result (λ (more : c.append-in-Landmark.new.items.items ≡ c.args.self.now.landmarks.items ++ record { land = c.in-Landmark.land; point = c.in-Landmark.point } ∷ []). record {
