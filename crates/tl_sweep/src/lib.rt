@@ -8,6 +8,7 @@
 
 mod answer;
 mod blocks;
+mod dealing;
 mod events;
 mod facing;
 mod finding;
