@@ -18,6 +18,7 @@ mod line;
 mod meets;
 mod neighbours;
 mod passing;
+mod places;
 mod placing;
 mod spots;
 mod suspects;
