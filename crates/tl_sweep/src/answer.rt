@@ -11,7 +11,8 @@ ghost use Rattle.tl_sweep.specs.Keeping.Listed.{AreEvents, AreRising};
 ghost use Rattle.tl_sweep.specs.Keeping.Spotted.{AreInRange};
 ghost use Rattle.tl_sweep.specs.Keeping.Told.{IsMeetOrUnknown};
 
-use crate::events::{Event, list_events, list_segments, sort_events};
+use crate::dealing::sort_events;
+use crate::events::{Event, list_events, list_segments};
 use crate::meets::are_vertices_tested;
 use crate::spots::Spots;
 use crate::suspects::{find_meet, find_meet_at_vertex};
@@ -42,7 +43,7 @@ pub fn sweep(alloc: Global, map: &Map) -> Result<Swept, AllocError>
 {
     look_at_chains(map);
     let mut events = list_events(alloc, map)?;
-    sort_events(&mut events);
+    sort_events(alloc, &mut events)?;
     if !are_vertices_tested(map, &events) {
         return Ok(told(map, find_meet_at_vertex(map, &events)));
     }

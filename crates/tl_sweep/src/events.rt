@@ -1,6 +1,5 @@
 //! The events of a sweep: the ends of all segments, by height.
 ghost use Rattle.std.specs.Prelude.{◌≡◌, ◌<◌, ℕ, true, false, not, IfOk, length};
-ghost use Rattle.std.specs.List.Sorted.{IsPermutation};
 ghost use Rattle.tl_geom.specs.declared.segment.Segment.{Segment};
 ghost use Rattle.tl_county.specs.Segments.{segments_before};
 ghost use Rattle.tl_sweep.specs.Heights.{widest};
@@ -79,11 +78,4 @@ pub fn list_events(alloc: Global, map: &Map) -> Result<Vec<Event>, AllocError>
         events.push(other)?;
     }
     Ok(events)
-}
-
-/// Sorts events by height, in place.
-pub fn sort_events(events: &mut Vec<Event>)
-    ensures { IsPermutation events.old.items events.new.items }
-{
-    events.sort_unstable_by_key(|event| event.height);
 }

@@ -55,7 +55,7 @@ fn gap(west: Side, east: Side) -> u64
 }
 
 /// What lies east of the segment before the place, or of none.
-fn far_side(map: &Map, segments: &[Segment], line: &Line) -> Option<Side>
+pub fn far_side(map: &Map, segments: &[Segment], line: &Line) -> Option<Side>
     requires { AreSegments map.now.chains segments.now }
     ensures { (side : Side) → result ≡ Some side → side ≡ last_far map.now.chains Outside line.now.front }
 {
@@ -94,10 +94,8 @@ fn count_gaps(map: &Map, segments: &[Segment], west: Side, list: &[u32], east: S
 /// Whether these segments are one each, with the same sides.
 pub fn are_alike(map: &Map, segments: &[Segment], outs: &[u32], ins: &[u32]) -> bool
     requires { AreSegments map.now.chains segments.now }
-    ensures gaps { IsTrue result → (west east : Side) →
+    ensures { IsTrue result → (west east : Side) →
         gaps_between map.now.chains west outs.now east ≡ gaps_between map.now.chains west ins.now east }
-    ensures one_out { IsTrue result → length outs.now ≡ 1 }
-    ensures one_in { IsTrue result → length ins.now ≡ 1 }
 {
     if outs.len() != 1 || ins.len() != 1 {
         return false;
@@ -112,25 +110,22 @@ pub fn are_alike(map: &Map, segments: &[Segment], outs: &[u32], ins: &[u32]) -> 
     }
 }
 
-/// How often facing sides differ where they did so often, and those segments stand at the place in the stead of these.
+/// How often facing sides differ where they did so often, and between a side in the west and one in the east those segments stand
+/// in the stead of these.
 pub fn recount(
     map: &Map,
     segments: &[Segment],
-    line: &Line,
+    west: Option<Side>,
     outs: &[u32],
     ins: &[u32],
+    east: Option<Side>,
     count: Option<u64>,
 ) -> Option<u64>
     requires { AreSegments map.now.chains segments.now }
-    ensures { (n : ℕ) → result ≡ Some n → (old : ℕ) × (count ≡ Some old) ×
-        (n + gaps_between map.now.chains (last_far map.now.chains Outside line.now.front) outs.now (seen_side map.now.chains line.now.back)
-        ≡ old + gaps_between map.now.chains (last_far map.now.chains Outside line.now.front) ins.now (seen_side map.now.chains line.now.back)) }
+    ensures { (n : ℕ) → result ≡ Some n → (old : ℕ) × (w : Side) × (e : Side) × (count ≡ Some old) × (west ≡ Some w) × (east ≡ Some e) ×
+        (n + gaps_between map.now.chains w outs.now e ≡ old + gaps_between map.now.chains w ins.now e) }
 {
-    if are_alike(map, segments, outs, ins) {
-        return count;
-    }
-    let west = far_side(map, segments, line)?;
-    let east = near_side(map, segments, line)?;
+    let (west, east) = (west?, east?);
     let gone = count_gaps(map, segments, west, outs, east)?;
     let come = count_gaps(map, segments, west, ins, east)?;
     count?.checked_sub(gone)?.checked_add(come)

@@ -87,6 +87,9 @@ pub fn open(segments: &[Segment], line: &mut Line, p: Point) -> Result<(), Alloc
     ensures { IfOk result (λ done. list_of line.new ≡ list_of line.old) }
 {
     let (west, east) = line.blocks();
+    if west == 0 && east == 0 {
+        return Ok(());
+    }
     // Where all that was in the open block has left it, what comes next is in the first block to the east.
     let first = if line.len() > 0 {
         line.at(0)

@@ -8,6 +8,7 @@
 
 mod answer;
 mod blocks;
+mod dealing;
 mod events;
 mod facing;
 mod finding;
@@ -17,6 +18,7 @@ mod line;
 mod meets;
 mod neighbours;
 mod passing;
+mod places;
 mod placing;
 mod spots;
 mod suspects;

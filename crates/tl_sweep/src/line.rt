@@ -38,7 +38,7 @@ impl Model for Line {
 }
 
 impl Line {
-    ghost use Rattle.std.specs.Prelude.{◌≡◌, ◌++◌, ◌∷◌, [], drop, slice_get, IfOk, IsTrue};
+    ghost use Rattle.std.specs.Prelude.{◌≡◌, ◌++◌, ◌∷◌, [], drop, slice_get, IfOk};
     ghost use Rattle.tl_sweep.specs.Keeping.Lined.{list_of, last_of};
 
     /// An empty list.
@@ -77,6 +77,22 @@ impl Line {
     /// The number at a place in the open block, if there is one.
     pub fn at(&self, place: usize) -> Option<u32> {
         self.items.get(place).copied()
+    }
+
+    /// The place in the open block.
+    pub fn place(&self) -> usize {
+        self.place
+    }
+
+    /// The place of a number among these of the open block, if it is there.
+    pub fn find(&self, s: u32, from: usize, to: usize) -> Option<usize> {
+        let to = to.min(self.items.len());
+        let place = self
+            .items
+            .get(from..to)?
+            .iter()
+            .position(|item| *item == s)?;
+        Some(from.saturating_add(place))
     }
 
     /// Goes to a place in the open block, or to its end.
@@ -149,25 +165,6 @@ impl Line {
         Ok(())
     }
 
-    /// Whether the first number behind the place stands in the open block.
-    pub fn is_inside(&self) -> bool {
-        self.place < self.items.len()
-    }
-
-    /// Puts a number in the stead of the first one behind the place, and goes behind it, if that one stands in the open
-    /// block.
-    pub fn change(&mut self, s: u32) -> bool
-        ensures front { IsTrue result → self.new.front ≡ self.old.front ++ s ∷ [] }
-        ensures back { IsTrue result → self.new.back ≡ drop 1 self.old.back }
-    {
-        if self.place >= self.items.len() {
-            return false;
-        }
-        self.items[self.place] = s;
-        self.place += 1;
-        true
-    }
-
     /// Parts the open block in two.
     fn part(&mut self) -> Result<(), AllocError>
         ensures front { IfOk result (λ done. self.new.front ≡ self.old.front) }
@@ -206,5 +203,18 @@ impl Line {
             self.part()?;
         }
         self.put_open(s)
+    }
+    /// Puts a number in the stead of the first one behind the place, and goes behind it. Of a list without one nothing is taken.
+    pub fn change(&mut self, s: u32) -> Result<(), AllocError>
+        ensures front { IfOk result (λ done. self.new.front ≡ self.old.front ++ s ∷ []) }
+        ensures back { IfOk result (λ done. self.new.back ≡ drop 1 self.old.back) }
+    {
+        if self.place < self.items.len() {
+            self.items[self.place] = s;
+            self.place += 1;
+            return Ok(());
+        }
+        self.take()?;
+        self.put(s)
     }
 }

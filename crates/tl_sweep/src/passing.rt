@@ -7,7 +7,7 @@ ghost use Rattle.tl_sweep.specs.Keeping.Facing.{IsCounted};
 ghost use Rattle.tl_sweep.specs.Keeping.Lined.{list_of};
 ghost use Rattle.tl_sweep.specs.Keeping.Listed.{AreSegments};
 
-use crate::facing::{are_alike, recount};
+use crate::facing::{are_alike, far_side, near_side, recount};
 use crate::line::Line;
 use crate::neighbours::are_tested;
 use std::alloc::AllocError;
@@ -80,25 +80,79 @@ fn closes(map: &Map, segments: &[Segment], line: &Line) -> bool
     may_follow(map, segments, line.previous(), line.next())
 }
 
-/// Puts one segment in the stead of another, if that one stands behind the place and the one before it may be followed by the
-/// new one.
-fn bend(map: &Map, segments: &[Segment], line: &mut Line, outs: &[u32], ins: &[u32]) -> bool
-    requires segments { AreSegments map.now.chains segments.now }
-    requires one_out { length outs.now ≡ 1 }
-    requires one_in { length ins.now ≡ 1 }
-    ensures front { IsTrue result → line.new.front ≡ line.old.front ++ ins.now }
-    ensures back { IsTrue result → line.old.back ≡ outs.now ++ line.new.back }
-    ensures tested { IsTrue result → EachTwo (AreTested widest map.now.chains) line.old.front →
-        EachTwo (AreTested widest map.now.chains) line.new.front }
+/// Puts a segment in the stead of the first one behind the place, if that is the one to go and the one before it may be followed
+/// by the new one.
+fn replace_one(
+    map: &Map,
+    segments: &[Segment],
+    line: &mut Line,
+    out: u32,
+    s: u32,
+) -> Result<bool, AllocError>
+    requires { AreSegments map.now.chains segments.now }
+    ensures front { IfOk result (λ done. IsTrue done → line.new.front ≡ line.old.front ++ s ∷ []) }
+    ensures back { IfOk result (λ done. IsTrue done → line.old.back ≡ out ∷ line.new.back) }
+    ensures tested { IfOk result (λ done. IsTrue done → EachTwo (AreTested widest map.now.chains) line.old.front →
+        EachTwo (AreTested widest map.now.chains) line.new.front) }
 {
-    if line.next() != Some(outs[0]) || !may_follow(map, segments, line.previous(), Some(ins[0])) {
-        return false;
+    if line.next() != Some(out) || !may_follow(map, segments, line.previous(), Some(s)) {
+        return Ok(false);
     }
-    line.change(ins[0])
+    line.change(s)?;
+    Ok(true)
 }
 
-/// Takes these segments off the list at the place and puts those in, if the former stand there and all that are neighbours for
-/// the first time may be. The places where facing sides differ are counted again.
+/// Puts segments in the stead of as many behind the place, one by one.
+fn replace(
+    map: &Map,
+    segments: &[Segment],
+    line: &mut Line,
+    outs: &[u32],
+    ins: &[u32],
+) -> Result<bool, AllocError>
+    requires segments { AreSegments map.now.chains segments.now }
+    requires long { length outs.now ≡ length ins.now }
+    ensures front { IfOk result (λ done. IsTrue done → line.new.front ≡ line.old.front ++ ins.now) }
+    ensures back { IfOk result (λ done. IsTrue done → line.old.back ≡ outs.now ++ line.new.back) }
+    ensures tested { IfOk result (λ done. IsTrue done → EachTwo (AreTested widest map.now.chains) line.old.front →
+        EachTwo (AreTested widest map.now.chains) line.new.front) }
+{
+    for k in 0..outs.len() {
+        if !replace_one(map, segments, line, outs[k], ins[k])? {
+            return Ok(false);
+        }
+    }
+    Ok(true)
+}
+
+/// Takes these segments off the list at the place and puts those in, if the former stand there and each of the latter may stand
+/// behind the one before it. As many as there are of both stand in each other's stead, and only the others move what is behind.
+fn shift(
+    map: &Map,
+    segments: &[Segment],
+    line: &mut Line,
+    outs: &[u32],
+    ins: &[u32],
+) -> Result<bool, AllocError>
+    requires { AreSegments map.now.chains segments.now }
+    ensures front { IfOk result (λ done. IsTrue done → line.new.front ≡ line.old.front ++ ins.now) }
+    ensures back { IfOk result (λ done. IsTrue done → line.old.back ≡ outs.now ++ line.new.back) }
+    ensures tested { IfOk result (λ done. IsTrue done → EachTwo (AreTested widest map.now.chains) line.old.front →
+        EachTwo (AreTested widest map.now.chains) line.new.front) }
+{
+    let both = outs.len().min(ins.len());
+    let (replaced, gone) = outs.split_at(both);
+    let (replacing, more) = ins.split_at(both);
+    if !replace(map, segments, line, replaced, replacing)? {
+        return Ok(false);
+    }
+    if !leave(line, gone)? {
+        return Ok(false);
+    }
+    enter(map, segments, line, more)
+}
+
+/// Does so, if all that are neighbours for the first time may be. The places where facing sides differ are counted again.
 fn exchange(
     map: &Map,
     segments: &[Segment],
@@ -115,18 +169,17 @@ fn exchange(
     ensures counted { IfOk result (λ done. IsTrue done → IsCounted map.now.chains gaps.old (list_of line.old) →
         IsCounted map.now.chains gaps.new (list_of line.new)) }
 {
-    if !leave(line, outs)? {
+    let west = far_side(map, segments, line);
+    if !shift(map, segments, line, outs, ins)? {
         return Ok(false);
     }
-    *gaps = recount(map, segments, line, outs, ins, *gaps);
-    if !enter(map, segments, line, ins)? {
-        return Ok(false);
-    }
+    let east = near_side(map, segments, line);
+    *gaps = recount(map, segments, west, outs, ins, east, *gaps);
     Ok(closes(map, segments, line))
 }
 
 /// Goes to a place in the open block, and does so there. At a bend of a chain, the commonest vertex, one segment stands in the
-/// stead of another, and nothing else moves.
+/// stead of another of the same sides.
 pub fn pass(
     map: &Map,
     segments: &[Segment],
@@ -145,8 +198,8 @@ pub fn pass(
         IsCounted map.now.chains gaps.new (list_of line.new)) }
 {
     line.seek(place);
-    if line.is_inside() && are_alike(map, segments, outs, ins) {
-        if !bend(map, segments, line, outs, ins) {
+    if are_alike(map, segments, outs, ins) {
+        if !shift(map, segments, line, outs, ins)? {
             return Ok(false);
         }
         return Ok(closes(map, segments, line));

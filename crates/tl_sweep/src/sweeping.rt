@@ -15,6 +15,7 @@ use crate::finding::{find, open};
 use crate::heights::ends;
 use crate::line::Line;
 use crate::passing::pass;
+use crate::places::Places;
 use crate::spots::Spots;
 use crate::suspects::list_suspects;
 use std::alloc::{AllocError, Global};
@@ -72,7 +73,11 @@ fn west_first(segments: &[Segment], s: u32, t: u32) -> Ordering {
 fn order(segments: &[Segment], numbers: &mut Vec<u32>)
     ensures { (s : ℕ) → times s numbers.new.items ≡ times s numbers.old.items }
 {
-    if numbers.len() > 1 {
+    if numbers.len() == 2 {
+        if west_first(segments, numbers[1], numbers[0]).is_lt() {
+            numbers.swap(0, 1);
+        }
+    } else if numbers.len() > 2 {
         numbers.sort_unstable_by(|s, t| west_first(segments, *s, *t));
     }
 }
@@ -96,6 +101,7 @@ fn step(
     events: &[Event],
     outs: &mut Vec<u32>,
     ins: &mut Vec<u32>,
+    places: &mut Places,
     gaps: &mut Option<u64>,
 ) -> Result<bool, AllocError>
     requires { AreSegments map.now.chains segments.now }
@@ -112,9 +118,28 @@ fn step(
     let Some(p) = first_point(segments, events) else {
         return Ok(false);
     };
+    let place = find_place(segments, line, places, outs, p)?;
+    let is_passed = pass(map, segments, line, place, outs, ins, gaps)?;
+    places.keep(line, ins);
+    Ok(is_passed)
+}
+
+/// Opens the block that a point is in, and gives the place there of the first of the segments that end at the point or, if none
+/// does or it isn't found at once, of the first segment that the point isn't east of.
+fn find_place(
+    segments: &[Segment],
+    line: &mut Line,
+    places: &Places,
+    outs: &[u32],
+    p: Point,
+) -> Result<usize, AllocError>
+    ensures { IfOk result (λ place. list_of line.new ≡ list_of line.old) }
+{
     open(segments, line, p)?;
-    let place = find(segments, line, p);
-    pass(map, segments, line, place, outs, ins, gaps)
+    match places.find(line, outs) {
+        Some(place) => Ok(place),
+        None => Ok(find(segments, line, p)),
+    }
 }
 
 /// Sweeps over all events from the lowest to the highest, and looks at the points of polygons on the way. Where a test fails
@@ -139,6 +164,7 @@ pub fn sweep_list(
     let mut line = Line::new(alloc);
     let mut outs = Vec::new(alloc);
     let mut ins = Vec::new(alloc);
+    let mut places = Places::new(alloc, segments.len())?;
     let mut gaps = Some(0u64);
     let mut from = 0;
     while from < events.len() {
@@ -151,6 +177,7 @@ pub fn sweep_list(
             &events[from..to],
             &mut outs,
             &mut ins,
+            &mut places,
             &mut gaps,
         )? {
             list_suspects(&line, &outs, &ins, suspects)?;

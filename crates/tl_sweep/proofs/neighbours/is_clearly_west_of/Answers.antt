@@ -1,7 +1,6 @@
 use Rattle.std.proofs.Common.{inl, arith}
 use Rattle.std.proofs.lemmas.Int.{ints}
 use Rattle.tl_sweep.specs.Heights.{widest, AreNear}
-use Rattle.tl_sweep.specs.Keeping.Clear.{IsClearlyWestOf}
 use Rattle.tl_sweep.proofs.Tests.{is_clear, clear_is_west, near_by_ends}
 use Rattle.tl_sweep.proofs.Transport.{clearly_apart}
 use Rattle.tl_sweep.proofs.neighbours.is_clearly_west_of.Goals as goal

@@ -1,6 +1,9 @@
-use Rattle.std.proofs.Common.{◌≡◌, ◌++◌, sym, ap₂, subst, ◌∙◌}
+use Rattle.std.proofs.Common.{◌≡◌, ◌+◌, ◌++◌, refl, ap, sym, ◌∙◌}
+use Rattle.tl_county.specs.declared.sides.Side.TheVariants.{Outside}
 use Rattle.tl_sweep.specs.Heights.{widest}
-use Rattle.tl_sweep.specs.Neighbours.{AreTested, EachTwo}
+use Rattle.tl_sweep.specs.Neighbours.{AreTested}
+use Rattle.tl_sweep.specs.Beside.{seen_side}
+use Rattle.tl_sweep.specs.Keeping.Facing.{gaps_between, last_far}
 use Rattle.tl_sweep.specs.Keeping.Lined.{list_of}
 use Rattle.tl_sweep.proofs.Gaps.{in_stead}
 use Rattle.tl_sweep.proofs.Lining.{moved, before_tested}
@@ -8,26 +11,28 @@ use Rattle.tl_sweep.proofs.passing.exchange.Goals as goal
 
 pub returns-clause-moved : goal.returns-clause-moved
 returns-clause-moved c = λ h s.
-    let off = c.in_ok-leave.ensures.back c.if-not-branch.false in
-    let old : list_of c.args.line.now ≡ c.leave.new.line.front ++ (c.args.outs.now ++ c.leave.new.line.back) = ap₂ (λ f b. f ++ b) (sym c.in_ok-leave.ensures.front) off in
-    let new : list_of c.enter.new.line ≡ (c.leave.new.line.front ++ c.args.ins.now) ++ c.leave.new.line.back =
-    ap₂ (λ f b. f ++ b) (c.in_ok-enter.ensures.front c.if-not-branch-2.false) (c.in_ok-enter.ensures.back c.if-not-branch-2.false) in
-    moved s c.leave.new.line.front c.args.outs.now c.args.ins.now c.leave.new.line.back (list_of c.args.line.now) (list_of c.enter.new.line) old new
+    let front = c.args.line.now.front in
+    let back = c.shift.new.line.back in
+    moved s front c.args.outs.now c.args.ins.now back (list_of c.args.line.now) (list_of c.shift.new.line)
+    (ap (λ b. front ++ b) (c.in_ok-shift.ensures.back c.if-not-branch.false)) (ap (λ f. f ++ back) (c.in_ok-shift.ensures.front c.if-not-branch.false))
 
 pub returns-clause-tested : goal.returns-clause-tested
 returns-clause-tested c = λ h two.
-    let off = c.in_ok-leave.ensures.back c.if-not-branch.false in
-    let old : list_of c.args.line.now ≡ c.leave.new.line.front ++ (c.args.outs.now ++ c.leave.new.line.back) = ap₂ (λ f b. f ++ b) (sym c.in_ok-leave.ensures.front) off in
-    let P = AreTested widest c.args.map.now.chains in
-    let both : EachTwo (AreTested widest c.args.map.now.chains) c.leave.new.line.front × EachTwo (AreTested widest c.args.map.now.chains) c.leave.new.line.back =
-    before_tested (AreTested widest c.args.map.now.chains) c.leave.new.line.front c.args.outs.now c.leave.new.line.back (list_of c.args.line.now) old two in
-    c.closes.ensures h (c.in_ok-enter.ensures.tested c.if-not-branch-2.false both.0) (subst (EachTwo (AreTested widest c.args.map.now.chains)) (sym (c.in_ok-enter.ensures.back c.if-not-branch-2.false)) both.1)
+    let front = c.args.line.now.front in
+    let both = before_tested (AreTested widest c.args.map.now.chains) front c.args.outs.now c.shift.new.line.back (list_of c.args.line.now)
+    (ap (λ b. front ++ b) (c.in_ok-shift.ensures.back c.if-not-branch.false)) two in
+    c.closes.ensures h (c.in_ok-shift.ensures.tested c.if-not-branch.false both.0) both.1
 
 pub returns-clause-counted : goal.returns-clause-counted
 returns-clause-counted c = λ h counted n is.
-    let off = c.in_ok-leave.ensures.back c.if-not-branch.false in
-    let old : list_of c.args.line.now ≡ c.leave.new.line.front ++ (c.args.outs.now ++ c.leave.new.line.back) = ap₂ (λ f b. f ++ b) (sym c.in_ok-leave.ensures.front) off in
-    let new : list_of c.enter.new.line ≡ (c.leave.new.line.front ++ c.args.ins.now) ++ c.leave.new.line.back =
-    ap₂ (λ f b. f ++ b) (c.in_ok-enter.ensures.front c.if-not-branch-2.false) (c.in_ok-enter.ensures.back c.if-not-branch-2.false) in
+    let chains = c.args.map.now.chains in
+    let front = c.args.line.now.front in
+    let back = c.shift.new.line.back in
     let told = c.recount.ensures n is in
-    in_stead c.args.map.now.chains c.leave.new.line.front c.args.outs.now c.args.ins.now c.leave.new.line.back (list_of c.args.line.now) (list_of c.enter.new.line) n told.0 old new (counted told.0 told.1) told.2
+    let west : told.1 ≡ last_far c.args.map.now.chains Outside c.args.line.now.front = c.far_side-west.ensures told.1 told.4 in
+    let east : told.2 ≡ seen_side c.args.map.now.chains c.shift.new.line.back = c.near_side-east.ensures told.2 told.5 in
+    let between : (list : _) → gaps_between c.args.map.now.chains told.1 list told.2 ≡ gaps_between c.args.map.now.chains (last_far c.args.map.now.chains Outside c.args.line.now.front) list (seen_side c.args.map.now.chains c.shift.new.line.back) =
+    λ list. rw (west, east) refl in
+    in_stead chains front c.args.outs.now c.args.ins.now back (list_of c.args.line.now) (list_of c.shift.new.line) n told.0
+    (ap (λ b. front ++ b) (c.in_ok-shift.ensures.back c.if-not-branch.false)) (ap (λ f. f ++ back) (c.in_ok-shift.ensures.front c.if-not-branch.false))
+    (counted told.0 told.3) (sym (ap (λ g. n + g) (between c.args.outs.now)) ∙ told.6 ∙ ap (λ g. told.0 + g) (between c.args.ins.now))

@@ -1,6 +1,6 @@
-use Rattle.std.proofs.Common.{◌≡◌, ◌+◌, ◌++◌, sym, ap, ◌∙◌}
+use Rattle.std.proofs.Common.{◌+◌, ◌++◌, sym, ap, ◌∙◌}
 use Rattle.tl_sweep.specs.Heights.{widest}
-use Rattle.tl_sweep.specs.Neighbours.{AreTested, EachTwo}
+use Rattle.tl_sweep.specs.Neighbours.{AreTested}
 use Rattle.tl_sweep.specs.Beside.{seen_side}
 use Rattle.tl_county.specs.declared.sides.Side.TheVariants.{Outside}
 use Rattle.tl_sweep.specs.Keeping.Facing.{last_far}
@@ -12,22 +12,22 @@ use Rattle.tl_sweep.proofs.passing.pass.Goals as goal
 pub returns-then-are_alike-clause-moved : goal.returns-then-are_alike-clause-moved
 returns-then-are_alike-clause-moved c = λ h s.
     let front = c.seek.new.self.front in
-    let back = c.bend.new.line.back in
-    moved s front c.args.outs.now c.args.ins.now back (list_of c.args.line.now) (list_of c.bend.new.line)
-    (sym c.seek.ensures ∙ ap (λ b. front ++ b) (c.bend.ensures.back c.if-not-bend.false)) (ap (λ f. f ++ back) (c.bend.ensures.front c.if-not-bend.false))
+    let back = c.shift.new.line.back in
+    moved s front c.args.outs.now c.args.ins.now back (list_of c.args.line.now) (list_of c.shift.new.line)
+    (sym c.seek.ensures ∙ ap (λ b. front ++ b) (c.in_ok-shift.ensures.back c.if-not-branch.false)) (ap (λ f. f ++ back) (c.in_ok-shift.ensures.front c.if-not-branch.false))
 
 pub returns-then-are_alike-clause-tested : goal.returns-then-are_alike-clause-tested
 returns-then-are_alike-clause-tested c = λ h two.
     let front = c.seek.new.self.front in
-    let both = before_tested (AreTested widest c.args.map.now.chains) front c.args.outs.now c.bend.new.line.back (list_of c.args.line.now)
-    (sym c.seek.ensures ∙ ap (λ b. front ++ b) (c.bend.ensures.back c.if-not-bend.false)) two in
-    c.closes.ensures h (c.bend.ensures.tested c.if-not-bend.false both.0) both.1
+    let both = before_tested (AreTested widest c.args.map.now.chains) front c.args.outs.now c.shift.new.line.back (list_of c.args.line.now)
+    (sym c.seek.ensures ∙ ap (λ b. front ++ b) (c.in_ok-shift.ensures.back c.if-not-branch.false)) two in
+    c.closes.ensures h (c.in_ok-shift.ensures.tested c.if-not-branch.false both.0) both.1
 
 pub returns-then-are_alike-clause-counted : goal.returns-then-are_alike-clause-counted
 returns-then-are_alike-clause-counted c = λ h counted n is.
     let chains = c.args.map.now.chains in
     let front = c.seek.new.self.front in
-    let back = c.bend.new.line.back in
-    in_stead chains front c.args.outs.now c.args.ins.now back (list_of c.args.line.now) (list_of c.bend.new.line) n n
-    (sym c.seek.ensures ∙ ap (λ b. front ++ b) (c.bend.ensures.back c.if-not-bend.false)) (ap (λ f. f ++ back) (c.bend.ensures.front c.if-not-bend.false))
-    (counted n is) (ap (λ g. n + g) (c.are_alike.ensures.gaps c.if-are_alike.true (last_far chains Outside front) (seen_side chains back)))
+    let back = c.shift.new.line.back in
+    in_stead chains front c.args.outs.now c.args.ins.now back (list_of c.args.line.now) (list_of c.shift.new.line) n n
+    (sym c.seek.ensures ∙ ap (λ b. front ++ b) (c.in_ok-shift.ensures.back c.if-not-branch.false)) (ap (λ f. f ++ back) (c.in_ok-shift.ensures.front c.if-not-branch.false))
+    (counted n is) (ap (λ g. n + g) (c.are_alike.ensures c.if-are_alike.true (last_far chains Outside front) (seen_side chains back)))
