@@ -11,12 +11,12 @@ use Rattle.tl_inside.specs.Placed.{ArePlaced}
 use Rattle.tl_cells.specs.Cells.{CellsAgree}
 use Rattle.tl_cert.specs.Certificates.{TheCertificate}
 use Rattle.tl_index.specs.declared.index.Memory.{Memory}
-use Rattle.tl_check.specs.declared.fault.MapFault.{MapFault}
-use Rattle.tl_check.specs.declared.verdict.Report.{Report}
-use Rattle.tl_check.specs.Sound.{AreClosed, IsSound}
-use Rattle.tl_check.specs.Truth.{IsTrueOfMap}
-use Rattle.tl_check.specs.Verdicts.{IsReport, AreNumbers}
-use Rattle.tl_check.proofs.Denials.{not_sound}
+use Rattle.tl_verdict.specs.declared.fault.MapFault.{MapFault}
+use Rattle.tl_verdict.specs.declared.verdict.Report.{Report}
+use Rattle.tl_verdict.specs.Sound.{AreClosed, IsSound}
+use Rattle.tl_verdict.specs.Truth.{IsTrueOfMap}
+use Rattle.tl_verdict.specs.Verdicts.{IsReport, AreNumbers}
+use Rattle.tl_verdict.proofs.Denials.{not_sound}
 use Rattle.tl_build.specs.declared.answer.Audit.TheVariants as audit
 use Rattle.tl_build.specs.declared.answer.Built.TheVariants as built
 use Rattle.tl_build.specs.Auditing.{Auditing, IfSound, OnSound, IfFaulty, SaysSound}

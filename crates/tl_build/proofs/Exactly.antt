@@ -8,9 +8,9 @@ use Rattle.tl_map.specs.declared.fault.MapStop.{MapStop}
 use Rattle.tl_map.specs.declared.fault.MapStop.TheVariants as map
 use Rattle.tl_county.specs.TheMap.{TheMap}
 use Rattle.tl_map.specs.Reading.{IsReadFrom, StopsReading}
-use Rattle.tl_check.specs.Sound.{IsSound}
-use Rattle.tl_check.specs.Records.{HaveMap}
-use Rattle.tl_check.proofs.OneMap.{same_map}
+use Rattle.tl_verdict.specs.Sound.{IsSound}
+use Rattle.tl_verdict.specs.Records.{HaveMap}
+use Rattle.tl_verdict.proofs.OneMap.{same_map}
 use Rattle.tl_build.specs.Auditing.{Auditing, SaysSound}
 use Rattle.tl_build.specs.Keeping.Judging.{refusal_of}
 

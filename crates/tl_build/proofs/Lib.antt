@@ -1,16 +1,5 @@
-pub mod ListLemmas
-pub mod SortLemmas
-pub mod CutLemmas
-pub mod RoundLemmas
-pub mod WalkLemmas
-pub mod LinkLemmas
-pub mod RingLemmas
-pub mod MarkFacts
-pub mod Holding
 pub mod Proposals
 pub mod Budgets
 pub mod Recorded
-pub mod Packed
 pub mod Exactly
-pub mod SideLemmas
 pub mod Decided

@@ -7,12 +7,12 @@ use Rattle.tl_index.specs.Trees.{tree_of}
 use Rattle.tl_tree.proofs.Checks.{fault-unfit}
 use Rattle.tl_crossings.specs.Headings.{AreProper}
 use Rattle.tl_cert.specs.Certificates.{TheCertificate}
-use Rattle.tl_check.specs.declared.fault.CertFault.{CertFault}
-use Rattle.tl_check.specs.declared.fault.CertFault.TheVariants.{Text, Counts, Tree, TooDeep, Round, Walk}
-use Rattle.tl_check.specs.Truth.{IsTrueOfCert, IsOfDarts}
-use Rattle.tl_check.specs.Valid.{IsValid, segments_of}
-use Rattle.tl_check.proofs.Denials.{not_valid}
-use Rattle.tl_build.specs.Keeping.Proposed.{IsProposal}
+use Rattle.tl_verdict.specs.declared.fault.CertFault.{CertFault}
+use Rattle.tl_verdict.specs.declared.fault.CertFault.TheVariants.{Text, Counts, Tree, TooDeep, Round, Walk}
+use Rattle.tl_verdict.specs.Truth.{IsTrueOfCert, IsOfDarts}
+use Rattle.tl_verdict.specs.Valid.{IsValid, segments_of}
+use Rattle.tl_verdict.proofs.Denials.{not_valid}
+use Rattle.tl_propose.specs.Keeping.Proposed.{IsProposal}
 
 -- where the chains are planar it is valid
 pub is_valid : (m : TheMap) (c : TheCertificate) → IsProposal m c → AreProper m.chains → IsPlanar m.chains → IsValid m c

@@ -8,10 +8,10 @@ use Rattle.tl_map.specs.declared.fault.MapStop.{MapStop}
 use Rattle.tl_map.specs.declared.fault.MapStop.TheVariants as map
 use Rattle.tl_county.specs.TheMap.{TheMap}
 use Rattle.tl_map.specs.Reading.{IsReadFrom, StopsReading, TellsDevice as TellsReading}
-use Rattle.tl_check.specs.declared.verdict.Report.{Report}
-use Rattle.tl_check.specs.declared.verdict.Verdict.TheVariants as verdict
-use Rattle.tl_check.specs.Truth.{IsTrueOfMap}
-use Rattle.tl_check.specs.Records.{HaveMap, IsTrueOfRecords}
+use Rattle.tl_verdict.specs.declared.verdict.Report.{Report}
+use Rattle.tl_verdict.specs.declared.verdict.Verdict.TheVariants as verdict
+use Rattle.tl_verdict.specs.Truth.{IsTrueOfMap}
+use Rattle.tl_verdict.specs.Records.{HaveMap, IsTrueOfRecords}
 use Rattle.tl_check.proofs.Recorded.{map_fault}
 use Rattle.tl_build.specs.declared.answer.Audit.TheVariants as audit
 use Rattle.tl_build.specs.declared.stop.AuditStop.{AuditStop}

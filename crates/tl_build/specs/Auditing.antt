@@ -2,8 +2,8 @@
 use Rattle.std.specs.Prelude.{◌≡◌, ℕ, Some, Result, Ok, Err, ⊤}
 use Rattle.tl_record.specs.Failures.{one_more}
 use Rattle.tl_record.specs.Records.{Records}
-use Rattle.tl_check.specs.declared.fault.MapFault.{MapFault}
-use Rattle.tl_check.specs.declared.verdict.Report.{Report}
+use Rattle.tl_verdict.specs.declared.fault.MapFault.{MapFault}
+use Rattle.tl_verdict.specs.declared.verdict.Report.{Report}
 use Rattle.tl_build.specs.declared.answer.Audit.{Audit}
 use Rattle.tl_build.specs.declared.answer.Audit.TheVariants.{Sound, Fault}
 use Rattle.tl_build.specs.declared.stop.AuditStop.{AuditStop}

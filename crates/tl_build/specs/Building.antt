@@ -1,7 +1,7 @@
 -- What is said of a certificate that was built, and of a fault that was found in its place.
 use Rattle.std.specs.Prelude.{Result, Ok, ⊤}
 use Rattle.tl_cert.specs.Certificates.{TheCertificate}
-use Rattle.tl_check.specs.declared.fault.MapFault.{MapFault}
+use Rattle.tl_verdict.specs.declared.fault.MapFault.{MapFault}
 use Rattle.tl_build.specs.declared.answer.Built.{Built}
 use Rattle.tl_build.specs.declared.answer.Built.TheVariants.{Cert, Fault}
 use Rattle.tl_build.specs.declared.stop.BuildStop.{BuildStop}

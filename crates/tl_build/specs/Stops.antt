@@ -1,7 +1,7 @@
 -- What is printed of a build and of an audit that stop: the texts of the check's stops.
 use Rattle.std.specs.Prelude.{ℕ, List}
-use Rattle.tl_check.specs.declared.stop.Stop.TheVariants as check
-use Rattle.tl_check.specs.Stops.{stop_text}
+use Rattle.tl_verdict.specs.declared.stop.Stop.TheVariants as check
+use Rattle.tl_verdict.specs.Stops.{stop_text}
 use Rattle.tl_build.specs.declared.stop.BuildStop.{BuildStop}
 use Rattle.tl_build.specs.declared.stop.BuildStop.TheVariants as build
 use Rattle.tl_build.specs.declared.stop.AuditStop.{AuditStop}

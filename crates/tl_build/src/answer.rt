@@ -1,7 +1,7 @@
 //! What is built of a map, and what is decided of records.
 
 use tl_cert::Certificate;
-use tl_check::{MapFault, Report};
+use tl_verdict::{MapFault, Report};
 
 /// What is built of a map.
 #[derive(Drop)]

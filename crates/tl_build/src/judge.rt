@@ -7,19 +7,20 @@ ghost use Rattle.tl_planar.specs.Planar.{IsPlanar};
 ghost use Rattle.tl_sides.specs.Sides.{SidesAgree};
 ghost use Rattle.tl_inside.specs.Placed.{ArePlaced};
 ghost use Rattle.tl_cells.specs.Cells.{CellsAgree};
-ghost use Rattle.tl_check.specs.Sound.{AreClosed};
-ghost use Rattle.tl_check.specs.Valid.{IsValid};
-ghost use Rattle.tl_check.specs.Truth.{IsTrueOfMap};
-ghost use Rattle.tl_check.specs.Verdicts.{IsReport};
+ghost use Rattle.tl_verdict.specs.Sound.{AreClosed};
+ghost use Rattle.tl_verdict.specs.Valid.{IsValid};
+ghost use Rattle.tl_verdict.specs.Truth.{IsTrueOfMap};
+ghost use Rattle.tl_verdict.specs.Verdicts.{IsReport};
 ghost use Rattle.tl_build.specs.Keeping.Judging.{IfJudgedSound, OnJudgedSound, IfJudgedFault};
 
-use crate::propose::propose;
 use crate::stop::BuildStop;
 use std::alloc::Global;
 use tl_cert::Certificate;
-use tl_check::{MapFault, Report, Stop, Verdict, check_map};
+use tl_check::check_map;
 use tl_county::Map;
 use tl_crossings::look_at_chains;
+use tl_propose::propose;
+use tl_verdict::{MapFault, Report, Stop, Verdict};
 
 /// What is decided of a map.
 #[derive(Drop)]

@@ -12,12 +12,7 @@ mod judge;
 mod of_map;
 mod of_records;
 mod planar;
-mod points;
-mod propose;
-mod rounds;
-mod sides;
 mod stop;
-mod walks;
 
 pub use answer::{Audit, Built};
 pub use of_map::build;

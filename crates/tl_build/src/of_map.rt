@@ -7,9 +7,9 @@ ghost use Rattle.tl_planar.specs.Planar.{IsPlanar};
 ghost use Rattle.tl_sides.specs.Sides.{SidesAgree};
 ghost use Rattle.tl_inside.specs.Placed.{ArePlaced};
 ghost use Rattle.tl_cells.specs.Cells.{CellsAgree};
-ghost use Rattle.tl_check.specs.Sound.{AreClosed, IsSound};
-ghost use Rattle.tl_check.specs.Valid.{IsValid};
-ghost use Rattle.tl_check.specs.Truth.{IsTrueOfMap};
+ghost use Rattle.tl_verdict.specs.Sound.{AreClosed, IsSound};
+ghost use Rattle.tl_verdict.specs.Valid.{IsValid};
+ghost use Rattle.tl_verdict.specs.Truth.{IsTrueOfMap};
 ghost use Rattle.tl_build.specs.Building.{IfCert, OnCert, IfFault, HasCert};
 ghost use Rattle.tl_build.specs.Keeping.Deciding.{Builds};
 
@@ -18,9 +18,9 @@ use crate::judge::{Judged, judge};
 use crate::planar::build_planar;
 use crate::stop::BuildStop;
 use std::alloc::Global;
-use tl_check::MapFault;
 use tl_county::Map;
 use tl_sweep::{Swept, sweep};
+use tl_verdict::MapFault;
 
 /// Makes a certificate of version 2 of a map that is sound, or names a fault of one that isn't. Which of several faults is
 /// named, and which valid certificate is made, is open.

@@ -8,10 +8,10 @@ ghost use Rattle.tl_planar.specs.Planar.{IsPlanar};
 ghost use Rattle.tl_sides.specs.Sides.{SidesAgree};
 ghost use Rattle.tl_inside.specs.Placed.{ArePlaced};
 ghost use Rattle.tl_cells.specs.Cells.{CellsAgree};
-ghost use Rattle.tl_check.specs.Sound.{AreClosed, IsSound};
-ghost use Rattle.tl_check.specs.Truth.{IsTrueOfMap};
-ghost use Rattle.tl_check.specs.Verdicts.{IsReport};
-ghost use Rattle.tl_check.specs.Records.{HaveMap, IsTrueOfRecords};
+ghost use Rattle.tl_verdict.specs.Sound.{AreClosed, IsSound};
+ghost use Rattle.tl_verdict.specs.Truth.{IsTrueOfMap};
+ghost use Rattle.tl_verdict.specs.Verdicts.{IsReport};
+ghost use Rattle.tl_verdict.specs.Records.{HaveMap, IsTrueOfRecords};
 ghost use Rattle.tl_build.specs.Auditing.{IfSound, OnSound, IfFaulty, SaysSound, MayStopAudit, TellsDevice};
 ghost use Rattle.tl_build.specs.Keeping.Judging.{refusal_of, IsMapStop};
 ghost use Rattle.tl_build.specs.Keeping.Deciding.{Audits};
@@ -22,11 +22,11 @@ use crate::planar::audit_planar;
 use crate::stop::{AuditStop, BuildStop};
 use std::alloc::Global;
 use std::hash::RandomState;
-use tl_check::MapFault;
 use tl_county::Map;
 use tl_map::{MapStop, read_map_with};
 use tl_record::{Options, Source};
 use tl_sweep::{Swept, sweep};
+use tl_verdict::MapFault;
 
 // Neither choice of columns.
 const PLAIN: Options = Options {

@@ -8,24 +8,24 @@ ghost use Rattle.tl_inside.specs.Placed.{ArePlaced};
 ghost use Rattle.tl_cells.specs.Cells.{CellsAgree};
 ghost use Rattle.tl_cert.specs.Certificates.{TheCertificate};
 ghost use Rattle.tl_crossings.specs.Headings.{AreProper};
-ghost use Rattle.tl_check.specs.Sound.{IsSound};
-ghost use Rattle.tl_check.specs.Truth.{IsTrueOfMap};
+ghost use Rattle.tl_verdict.specs.Sound.{IsSound};
+ghost use Rattle.tl_verdict.specs.Truth.{IsTrueOfMap};
 ghost use Rattle.tl_build.specs.Keeping.Deciding.{Audits, Builds};
-ghost use Rattle.tl_build.specs.Keeping.Lists.{lists_in};
-ghost use Rattle.tl_build.specs.Keeping.Proposed.{IsProposal};
+ghost use Rattle.tl_propose.specs.Keeping.Lists.{lists_in};
+ghost use Rattle.tl_propose.specs.Keeping.Proposed.{IsProposal};
 
 use crate::answer::{Audit, Built};
-use crate::points::{find_misplaced_beside, find_misplaced_by};
-use crate::propose::{propose, propose_rings};
-use crate::sides::find_sides_at_odds;
 use crate::stop::{AuditStop, BuildStop};
 use std::alloc::Global;
 use tl_cells::find_cells_at_odds;
 use tl_cert::Certificate;
-use tl_check::{MapFault, report};
 use tl_county::Map;
 use tl_crossings::look_at_chains;
 use tl_index::Memory;
+use tl_propose::{
+    find_misplaced_beside, find_misplaced_by, find_sides_at_odds, propose, propose_rings,
+};
+use tl_verdict::{MapFault, report};
 
 /// Decides whether a map is sound whose chains are planar, and whose polygons' points may be known to be placed.
 pub fn audit_planar(alloc: Global, map: &Map, placed: bool) -> Result<Audit, AuditStop>

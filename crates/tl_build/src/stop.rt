@@ -2,8 +2,8 @@
 
 use std::fmt;
 use thiserror::Error;
-use tl_check::Stop;
 use tl_record::Cause;
+use tl_verdict::Stop;
 
 /// Why a map isn't decided: for want of memory, and for no other reason. Its message is the line that the program prints,
 /// which is that of the check's stop.

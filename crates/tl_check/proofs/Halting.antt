@@ -10,13 +10,13 @@ use Rattle.tl_cells.specs.Cells.{CellsAgree}
 use Rattle.tl_cert.specs.Certificates.{TheCertificate}
 use Rattle.tl_check.specs.declared.state.Halt.{Halt}
 use Rattle.tl_check.specs.declared.state.Halt.TheVariants as halt
-use Rattle.tl_check.specs.declared.verdict.Report.{Report}
-use Rattle.tl_check.specs.declared.verdict.Verdict.TheVariants as verdict
-use Rattle.tl_check.specs.declared.stop.Stop.TheVariants.{Record, Memory, Device, Budget}
-use Rattle.tl_check.specs.Sound.{AreClosed}
-use Rattle.tl_check.specs.Valid.{AreCounts, IsTree, AllowsSearch, IsValid}
-use Rattle.tl_check.specs.Truth.{IsTrueOfMap, IsTrueOfCert, IsOfDarts}
-use Rattle.tl_check.specs.Verdicts.{Answer, OnSound, IfSound, IfMapFault, IfCertFault, OnSearched, IsReport, MayStop}
+use Rattle.tl_verdict.specs.declared.verdict.Report.{Report}
+use Rattle.tl_verdict.specs.declared.verdict.Verdict.TheVariants as verdict
+use Rattle.tl_verdict.specs.declared.stop.Stop.TheVariants.{Record, Memory, Device, Budget}
+use Rattle.tl_verdict.specs.Sound.{AreClosed}
+use Rattle.tl_verdict.specs.Valid.{AreCounts, IsTree, AllowsSearch, IsValid}
+use Rattle.tl_verdict.specs.Truth.{IsTrueOfMap, IsTrueOfCert, IsOfDarts}
+use Rattle.tl_verdict.specs.Verdicts.{Answer, OnSound, IfSound, IfMapFault, IfCertFault, OnSearched, IsReport, MayStop}
 use Rattle.tl_check.specs.Keeping.Answers.{answer_of}
 use Rattle.tl_check.specs.Keeping.Parts.{MayHalt, MayEnd, UnlessMemory}
 use Rattle.tl_check.specs.Keeping.Streams.{IsSoundByCert, Shows}

@@ -1,13 +1,9 @@
-pub mod NodeCounts
 pub mod Whole
 pub mod Prefixes
 pub mod Shown
 pub mod Streaming
 pub mod Recorded
-pub mod Denials
 pub mod Walking
-pub mod OneMap
-pub mod Deciding
 pub mod Searched
 pub mod Meeting
 pub mod Halting

@@ -27,11 +27,6 @@ all_rounds c n h = λ i. record c { rounds = take_all n c.rounds h i; walks = []
 pub all_walks : (c : TheCertificate) (n : ℕ) → length c.walks ≤ n → first_walks c n ≡ c
 all_walks c n h = λ i. record c { walks = take_all n c.walks h i }
 
--- the lists of a lender, by place
-pub list_is : (vs : List (Vec ℕ Global)) (lists : List (List ℕ)) (i : ℕ) (v : Vec ℕ Global) (now : List ℕ) → map (λ r. r.items) vs ≡ lists → i < length vs → v ≡ get_or vs i v → now ≡ v.items → list_at lists i ≡ now
-list_is vs lists i v now are h v_is now_is =
-    ap (λ ls. list_at ls i) (sym are) ∙ get_or-map (λ (r : Vec ℕ Global). r.items) vs i v [] h ∙ ap (λ (r : Vec ℕ Global). r.items) (sym v_is) ∙ sym now_is
-
 pub as_many : (vs : List (Vec ℕ Global)) (lists : List (List ℕ)) → map (λ r. r.items) vs ≡ lists → length vs ≡ length lists
 as_many vs lists are = sym (length-map vs (λ (r : Vec ℕ Global). r.items)) ∙ ap length are
 

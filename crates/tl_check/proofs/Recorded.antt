@@ -9,17 +9,17 @@ use Rattle.tl_map.specs.declared.fault.MapStop.TheVariants as map
 use Rattle.tl_county.specs.TheMap.{TheMap}
 use Rattle.tl_planar.specs.Planar.{IsPlanar}
 use Rattle.tl_map.specs.Reading.{IsReadFrom, StopsReading, TellsDevice as TellsReading}
-use Rattle.tl_check.specs.declared.fault.MapFault.{MapFault}
-use Rattle.tl_check.specs.declared.fault.MapFault.TheVariants.{Records, Meet, Side, PolygonPoint, Cell}
-use Rattle.tl_check.specs.declared.verdict.Report.{Report}
-use Rattle.tl_check.specs.declared.verdict.Verdict.TheVariants as verdict
-use Rattle.tl_check.specs.declared.fault.CertFault.{CertFault}
-use Rattle.tl_check.specs.declared.stop.Stop.{Stop}
-use Rattle.tl_check.specs.declared.stop.Stop.TheVariants as stop
-use Rattle.tl_check.specs.Truth.{IsTrueOfMap, IsOfDarts}
-use Rattle.tl_check.specs.Verdicts.{Answer, OnSound, IfSound, IfMapFault, IfCertFault, UnlessMeet, OnSearched}
-use Rattle.tl_check.specs.Texts.{MayStopReading, TellsDevice}
-use Rattle.tl_check.specs.Records.{HaveMap, IsTrueOfRecords, MayStopOn, TellsEither, LeavesUnread}
+use Rattle.tl_verdict.specs.declared.fault.MapFault.{MapFault}
+use Rattle.tl_verdict.specs.declared.fault.MapFault.TheVariants.{Records, Meet, Side, PolygonPoint, Cell}
+use Rattle.tl_verdict.specs.declared.verdict.Report.{Report}
+use Rattle.tl_verdict.specs.declared.verdict.Verdict.TheVariants as verdict
+use Rattle.tl_verdict.specs.declared.fault.CertFault.{CertFault}
+use Rattle.tl_verdict.specs.declared.stop.Stop.{Stop}
+use Rattle.tl_verdict.specs.declared.stop.Stop.TheVariants as stop
+use Rattle.tl_verdict.specs.Truth.{IsTrueOfMap, IsOfDarts}
+use Rattle.tl_verdict.specs.Verdicts.{Answer, OnSound, IfSound, IfMapFault, IfCertFault, UnlessMeet, OnSearched}
+use Rattle.tl_verdict.specs.Texts.{MayStopReading, TellsDevice}
+use Rattle.tl_verdict.specs.Records.{HaveMap, IsTrueOfRecords, MayStopOn, TellsEither, LeavesUnread}
 use Rattle.tl_check.specs.Keeping.Answers.{refusal_of}
 use Rattle.tl_check.proofs.Searched.{searched_so}
 use Rattle.tl_check.proofs.Meeting.{meets_leads}

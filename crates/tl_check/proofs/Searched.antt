@@ -9,16 +9,16 @@ use Rattle.tl_cert.specs.declared.stop.CertStop.TheVariants as cert
 use Rattle.tl_cert.specs.Certificates.{TheCertificate, IsCertificate}
 use Rattle.tl_cert.specs.Reading.{unread}
 use Rattle.tl_cert.specs.Keeping.Collecting.{Collects, Follows}
-use Rattle.tl_check.specs.declared.fault.MapFault.{MapFault}
-use Rattle.tl_check.specs.declared.fault.MapFault.TheVariants.{Records, Meet, Side, PolygonPoint, Cell}
-use Rattle.tl_check.specs.declared.verdict.Verdict.TheVariants as verdict
-use Rattle.tl_check.specs.declared.stop.Stop.TheVariants.{Record, Memory, Device, Budget}
+use Rattle.tl_verdict.specs.declared.fault.MapFault.{MapFault}
+use Rattle.tl_verdict.specs.declared.fault.MapFault.TheVariants.{Records, Meet, Side, PolygonPoint, Cell}
+use Rattle.tl_verdict.specs.declared.verdict.Verdict.TheVariants as verdict
+use Rattle.tl_verdict.specs.declared.stop.Stop.TheVariants.{Record, Memory, Device, Budget}
 use Rattle.tl_check.specs.declared.state.Halt.{Halt}
 use Rattle.tl_check.specs.declared.state.Halt.TheVariants as halt
-use Rattle.tl_check.specs.Valid.{AllowsSearch}
-use Rattle.tl_check.specs.Truth.{IsOfDarts}
-use Rattle.tl_check.specs.Texts.{TextAllowsSearch}
-use Rattle.tl_check.specs.Verdicts.{Answer, OnSearched, IfCertFault}
+use Rattle.tl_verdict.specs.Valid.{AllowsSearch}
+use Rattle.tl_verdict.specs.Truth.{IsOfDarts}
+use Rattle.tl_verdict.specs.Texts.{TextAllowsSearch}
+use Rattle.tl_verdict.specs.Verdicts.{Answer, OnSearched, IfCertFault}
 use Rattle.tl_check.specs.Keeping.Answers.{answer_of, stop_of}
 use Rattle.tl_check.specs.Keeping.Parts.{UnlessMemory}
 

@@ -21,16 +21,16 @@ use Rattle.tl_cert.specs.Reading.{Gives, GivesAt, unread, lines_of, standing_of}
 use Rattle.tl_cert.specs.Keeping.Collecting.{Collects}
 use Rattle.tl_cert.proofs.CollectLemmas.{gives_here, collects_more, collects_all, collects_none, stops_all}
 use Rattle.tl_sides.proofs.ListLemmas.{length-and, list-last}
-use Rattle.tl_check.specs.declared.fault.CertFault.{CertFault}
-use Rattle.tl_check.specs.declared.fault.CertFault.TheVariants as fault
-use Rattle.tl_check.specs.declared.verdict.Verdict.TheVariants as verdict
-use Rattle.tl_check.specs.declared.stop.Stop.TheVariants.{Record, Memory, Device, Budget}
+use Rattle.tl_verdict.specs.declared.fault.CertFault.{CertFault}
+use Rattle.tl_verdict.specs.declared.fault.CertFault.TheVariants as fault
+use Rattle.tl_verdict.specs.declared.verdict.Verdict.TheVariants as verdict
+use Rattle.tl_verdict.specs.declared.stop.Stop.TheVariants.{Record, Memory, Device, Budget}
 use Rattle.tl_check.specs.declared.state.State.{State}
 use Rattle.tl_check.specs.declared.state.State.TheVariants as state
-use Rattle.tl_check.specs.Valid.{AreCounts}
-use Rattle.tl_check.specs.Truth.{IsTrueOfCert}
-use Rattle.tl_check.specs.Texts.{IsTrueOfText, TellsDevice}
-use Rattle.tl_check.specs.Verdicts.{Answer}
+use Rattle.tl_verdict.specs.Valid.{AreCounts}
+use Rattle.tl_verdict.specs.Truth.{IsTrueOfCert}
+use Rattle.tl_verdict.specs.Texts.{IsTrueOfText, TellsDevice}
+use Rattle.tl_verdict.specs.Verdicts.{Answer}
 use Rattle.tl_check.specs.Keeping.Answers.{stop_of}
 use Rattle.tl_check.specs.Keeping.Parts.{Holds, TakesRounds, with_round, with_walk}
 use Rattle.tl_check.specs.Keeping.Streams.{Stands, Suits, Decides, Concludes}

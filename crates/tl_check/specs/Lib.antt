@@ -1,11 +1,2 @@
--- What the contracts of the checker cite.
-pub mod Sound
-pub mod Valid
-pub mod Truth
-pub mod Verdicts
-pub mod Texts
-pub mod Messages
-pub mod Records
-pub mod Deciding
+-- What the checker keeps on its way.
 pub mod Keeping
-pub mod Stops

@@ -12,28 +12,26 @@ ghost use Rattle.tl_cert.specs.declared.reader.Standing.TheVariants.{Reading};
 ghost use Rattle.tl_cert.specs.declared.place.Place.TheVariants.{Start};
 ghost use Rattle.tl_cert.specs.Certificates.{TheCertificate};
 ghost use Rattle.tl_cert.specs.Reading.{source_of, lines_of, standing_of, unread};
-ghost use Rattle.tl_check.specs.Sound.{AreClosed};
-ghost use Rattle.tl_check.specs.Valid.{AllowsSearch};
-ghost use Rattle.tl_check.specs.Truth.{IsTrueOfMap, IsOfDarts};
-ghost use Rattle.tl_check.specs.Verdicts.{OnSound, IfSound, IfMapFault, IfCertFault, UnlessMeet, OnSearched, IsReport};
-ghost use Rattle.tl_check.specs.Texts.{IsTrueOfText, IsValidText, TextAllowsSearch, MayStopReading, TellsDevice};
+ghost use Rattle.tl_verdict.specs.Sound.{AreClosed};
+ghost use Rattle.tl_verdict.specs.Valid.{AllowsSearch};
+ghost use Rattle.tl_verdict.specs.Truth.{IsTrueOfMap, IsOfDarts};
+ghost use Rattle.tl_verdict.specs.Verdicts.{OnSound, IfSound, IfMapFault, IfCertFault, UnlessMeet, OnSearched, IsReport};
+ghost use Rattle.tl_verdict.specs.Texts.{IsTrueOfText, IsValidText, TextAllowsSearch, MayStopReading, TellsDevice};
 ghost use Rattle.tl_check.specs.Keeping.Parts.{Holds, IsSearched, IsBehindSearch};
 ghost use Rattle.tl_check.specs.Keeping.Streams.{Stands, Decides, Concludes};
 
 use crate::answer::{answer, report, stopped};
 use crate::counts::are_counts;
-use crate::fault::CertFault;
 use crate::rounds::{end_rounds, take_round};
 use crate::state::State;
-use crate::stop::Stop;
 use crate::tree::take_tree;
-use crate::verdict::Verdict;
 use crate::walks::{finish_walks, take_walk};
 use std::alloc::Global;
 use tl_cert::{CertPart, CertReader};
 use tl_county::Map;
 use tl_index::TreeNode;
 use tl_record::Source;
+use tl_verdict::{CertFault, Stop, Verdict};
 
 /// Decides whether a map is sound, by the text of a certificate of it, read to its end unless segments meet that may not
 /// or a stop comes first. Of the certificate its tree is kept, and its walks as they come.

@@ -3,7 +3,7 @@
 ghost use Rattle.std.specs.Prelude.{◌≡◌, ◌≢◌, ◌↔◌, List, IsTrue, IsFalse};
 ghost use Rattle.tl_geom.specs.declared.point.Point.{Point};
 ghost use Rattle.tl_county.specs.Nodes.{AreNodes};
-ghost use Rattle.tl_check.specs.Valid.{AreCounts};
+ghost use Rattle.tl_verdict.specs.Valid.{AreCounts};
 
 use tl_cert::Counts;
 use tl_county::Map;

@@ -6,23 +6,21 @@ ghost use Rattle.tl_planar.specs.Searching.{meeting_segments};
 ghost use Rattle.tl_sides.specs.Sides.{SidesAgree};
 ghost use Rattle.tl_inside.specs.Placed.{ArePlaced};
 ghost use Rattle.tl_cells.specs.Cells.{CellsAgree};
-ghost use Rattle.tl_check.specs.Sound.{AreClosed};
-ghost use Rattle.tl_check.specs.Valid.{AllowsSearch, IsValid};
-ghost use Rattle.tl_check.specs.Truth.{IsTrueOfMap, IsTrueOfCert, IsOfDarts};
+ghost use Rattle.tl_verdict.specs.Sound.{AreClosed};
+ghost use Rattle.tl_verdict.specs.Valid.{AllowsSearch, IsValid};
+ghost use Rattle.tl_verdict.specs.Truth.{IsTrueOfMap, IsTrueOfCert, IsOfDarts};
 ghost use Rattle.tl_check.specs.Keeping.Streams.{Shows};
-ghost use Rattle.tl_check.specs.Verdicts.{OnSound, IfSound, IfMapFault, IfCertFault, UnlessMeet, OnSearched, IsReport, MayStop};
+ghost use Rattle.tl_verdict.specs.Verdicts.{OnSound, IfSound, IfMapFault, IfCertFault, UnlessMeet, OnSearched, IsReport, MayStop};
 
 use crate::answer::{answer, report};
 use crate::counts::are_counts;
-use crate::fault::CertFault;
 use crate::rounds::{end_rounds, take_round};
-use crate::stop::Stop;
 use crate::tree::take_tree;
-use crate::verdict::Verdict;
 use crate::walks::{finish_walks, take_walk};
 use std::alloc::Global;
 use tl_cert::Certificate;
 use tl_county::Map;
+use tl_verdict::{CertFault, Stop, Verdict};
 
 /// Decides whether a map is sound, by a certificate of it. `budget` is how many pairs of segments may be tested whose
 /// rectangles meet.

@@ -9,22 +9,15 @@
 mod answer;
 mod as_read;
 mod counts;
-mod fault;
 mod in_memory;
-pub mod laws;
 mod of_records;
 mod points;
 mod rounds;
 mod state;
-mod stop;
 mod tree;
-mod verdict;
 mod walks;
 
-pub use answer::report;
 pub use as_read::check_cert;
-pub use fault::{CertFault, MapFault};
 pub use in_memory::check_map;
 pub use of_records::{check, check_with};
-pub use stop::Stop;
-pub use verdict::{Report, Verdict};
+pub use tl_verdict::{CertFault, MapFault, Report, Stop, Verdict, laws, report};

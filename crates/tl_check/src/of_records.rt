@@ -9,21 +9,19 @@ ghost use Rattle.tl_planar.specs.Searching.{meeting_segments};
 ghost use Rattle.tl_sides.specs.Sides.{SidesAgree};
 ghost use Rattle.tl_inside.specs.Placed.{ArePlaced};
 ghost use Rattle.tl_cells.specs.Cells.{CellsAgree};
-ghost use Rattle.tl_check.specs.Sound.{AreClosed};
-ghost use Rattle.tl_check.specs.Truth.{IsOfDarts};
-ghost use Rattle.tl_check.specs.Verdicts.{OnSound, IfSound, IfMapFault, IfCertFault, UnlessMeet, OnSearched, IsReport};
-ghost use Rattle.tl_check.specs.Texts.{IsTrueOfText, IsValidText, TextAllowsSearch};
-ghost use Rattle.tl_check.specs.Records.{HaveMap, IsTrueOfRecords, MayStopOn, TellsEither, LeavesUnread};
+ghost use Rattle.tl_verdict.specs.Sound.{AreClosed};
+ghost use Rattle.tl_verdict.specs.Truth.{IsOfDarts};
+ghost use Rattle.tl_verdict.specs.Verdicts.{OnSound, IfSound, IfMapFault, IfCertFault, UnlessMeet, OnSearched, IsReport};
+ghost use Rattle.tl_verdict.specs.Texts.{IsTrueOfText, IsValidText, TextAllowsSearch};
+ghost use Rattle.tl_verdict.specs.Records.{HaveMap, IsTrueOfRecords, MayStopOn, TellsEither, LeavesUnread};
 ghost use Rattle.tl_check.specs.Keeping.Answers.{refusal_of};
 
 use crate::as_read::check_cert;
-use crate::fault::MapFault;
-use crate::stop::Stop;
-use crate::verdict::Verdict;
 use std::alloc::Global;
 use std::hash::RandomState;
 use tl_map::{MapStop, read_map_with};
 use tl_record::{Options, Source};
+use tl_verdict::{MapFault, Stop, Verdict};
 
 // Neither choice of columns.
 const PLAIN: Options = Options {

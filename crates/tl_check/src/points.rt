@@ -6,16 +6,16 @@ ghost use Rattle.tl_sides.specs.Sides.{SidesAgree};
 ghost use Rattle.tl_sides.specs.Walks.{AreWalks};
 ghost use Rattle.tl_inside.specs.Placed.{ArePlaced};
 ghost use Rattle.tl_rings.specs.Rings.{AreBoxed};
-ghost use Rattle.tl_check.specs.Valid.{IsTree};
+ghost use Rattle.tl_verdict.specs.Valid.{IsTree};
 ghost use Rattle.tl_check.specs.Keeping.Parts.{MayEnd};
 
-use crate::fault::MapFault;
 use crate::state::Halt;
 use std::alloc::Global;
 use tl_county::Map;
 use tl_index::{TreeNode, TreeStop};
 use tl_rings::{Rings, find_misplaced};
 use tl_tree::FlatTree;
+use tl_verdict::MapFault;
 
 /// Looks at the points of polygons, where sides agree, by a tree of the map's segments and the map's rings.
 pub fn look_at_points(

@@ -4,15 +4,15 @@ ghost use Rattle.std.specs.Prelude.{ℕ, ◌<◌, ◌≤◌, zero, length, IfOk,
 ghost use Rattle.tl_planar.specs.Planar.{IsPlanar};
 ghost use Rattle.tl_planar.specs.Searching.{meeting_segments};
 ghost use Rattle.tl_cert.specs.Certificates.{TheCertificate};
-ghost use Rattle.tl_check.specs.Valid.{AllowsSearch};
+ghost use Rattle.tl_verdict.specs.Valid.{AllowsSearch};
 ghost use Rattle.tl_check.specs.Keeping.Parts.{with_round, Holds, TakesRounds, TakesWalks, IsSearched, IsBehindSearch, MayEnd};
 
-use crate::fault::{CertFault, MapFault};
 use crate::state::{Halt, State};
 use std::alloc::Global;
 use tl_county::Map;
 use tl_rings::Rings;
 use tl_sides::{Rounds, Walks};
+use tl_verdict::{CertFault, MapFault};
 
 /// Takes one round more.
 pub fn take_round<'a>(map: &Map, state: State<'a>, round: &[u32]) -> State<'a>

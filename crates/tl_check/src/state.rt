@@ -1,8 +1,8 @@
 //! What the checker keeps of a certificate's parts.
 
-use crate::fault::{CertFault, MapFault};
 use tl_rings::Rings;
 use tl_sides::{RoundFault, Rounds, Walks};
+use tl_verdict::{CertFault, MapFault};
 
 /// What was found of the rounds and walks so far, behind counts that are the map's and a tree.
 #[derive(Drop)]

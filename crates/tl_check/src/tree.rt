@@ -6,10 +6,9 @@ ghost use Rattle.tl_sides.specs.Keeping.Rounded.{AreSized, HaveTaken};
 ghost use Rattle.tl_planar.specs.Planar.{IsPlanar};
 ghost use Rattle.tl_cells.specs.Cells.{CellsAgree};
 ghost use Rattle.tl_cert.specs.Certificates.{TheCertificate};
-ghost use Rattle.tl_check.specs.Valid.{AreCounts, IsTree};
+ghost use Rattle.tl_verdict.specs.Valid.{AreCounts, IsTree};
 ghost use Rattle.tl_check.specs.Keeping.Parts.{Holds, TakesRounds, IsSearched, IsBehindSearch, MayHalt, MayEnd, UnlessMemory, UnlessMet};
 
-use crate::fault::{CertFault, MapFault};
 use crate::state::{Halt, State};
 use std::alloc::Global;
 use tl_cells::find_cells_at_odds;
@@ -18,6 +17,7 @@ use tl_index::{TreeNode, TreeStop};
 use tl_planar::{Meeting, Segments, first_meet};
 use tl_sides::Rounds;
 use tl_tree::FlatTree;
+use tl_verdict::{CertFault, MapFault};
 
 /// Takes the tree, behind counts that are the map's: it fits the map's segments and the chains are planar, or it is wrong,
 /// or no further part is looked at.

@@ -5,17 +5,17 @@ ghost use Rattle.tl_index.specs.Preorder.{IsPreorder};
 ghost use Rattle.tl_planar.specs.Planar.{IsPlanar};
 ghost use Rattle.tl_planar.specs.Searching.{meeting_segments};
 ghost use Rattle.tl_cert.specs.Certificates.{TheCertificate};
-ghost use Rattle.tl_check.specs.Valid.{AllowsSearch};
-ghost use Rattle.tl_check.specs.Truth.{IsTrueOfCert, IsOfDarts};
+ghost use Rattle.tl_verdict.specs.Valid.{AllowsSearch};
+ghost use Rattle.tl_verdict.specs.Truth.{IsTrueOfCert, IsOfDarts};
 ghost use Rattle.tl_check.specs.Keeping.Parts.{with_walk, Holds, TakesWalks, IsSearched, IsBehindSearch, IsShown, IsWalked, MayEnd};
 
-use crate::fault::CertFault;
 use crate::points::look_at_points;
 use crate::state::{Halt, State};
 use std::alloc::Global;
 use tl_county::Map;
 use tl_index::TreeNode;
 use tl_rings::Rings;
+use tl_verdict::CertFault;
 
 /// Takes one walk more, and keeps it.
 pub fn take_walk<'a>(map: &Map, state: State<'a>, walk: &[u32]) -> Result<State<'a>, Halt>

@@ -8,17 +8,17 @@ use Rattle.tl_planar.specs.Planar.{IsPlanar}
 use Rattle.tl_sides.specs.Sides.{SidesAgree}
 use Rattle.tl_inside.specs.Placed.{ArePlaced}
 use Rattle.tl_cells.specs.Cells.{CellsAgree}
-use Rattle.tl_check.specs.declared.fault.MapFault.{MapFault}
-use Rattle.tl_check.specs.declared.fault.MapFault.TheVariants as map_fault
-use Rattle.tl_check.specs.declared.verdict.Report.{Report}
-use Rattle.tl_check.specs.declared.verdict.Verdict.TheVariants as verdict
-use Rattle.tl_check.specs.Messages.{map_fault_text}
-use Rattle.tl_check.specs.Sound.{AreClosed}
-use Rattle.tl_check.specs.Records.{HaveMap, IsTrueOfRecords, LeavesUnread}
-use Rattle.tl_check.specs.Verdicts.{IsReport, OnSearched}
+use Rattle.tl_verdict.specs.declared.fault.MapFault.{MapFault}
+use Rattle.tl_verdict.specs.declared.fault.MapFault.TheVariants as map_fault
+use Rattle.tl_verdict.specs.declared.verdict.Report.{Report}
+use Rattle.tl_verdict.specs.declared.verdict.Verdict.TheVariants as verdict
+use Rattle.tl_verdict.specs.Messages.{map_fault_text}
+use Rattle.tl_verdict.specs.Sound.{AreClosed}
+use Rattle.tl_verdict.specs.Records.{HaveMap, IsTrueOfRecords, LeavesUnread}
+use Rattle.tl_verdict.specs.Verdicts.{IsReport, OnSearched}
 use Rattle.tl_build.specs.Auditing.{Auditing, IfSound, OnSound}
 use Rattle.tl_build.specs.declared.answer.Audit.TheVariants.{Sound}
-use Rattle.tl_check.proofs.OneMap.{both, weaker}
+use Rattle.tl_verdict.proofs.OneMap.{both, weaker}
 use Rattle.tl_output.specs.Writing.{line_of}
 use Rattle.tl_command.specs.Verdicts.{sound_text}
 use Rattle.tl_command.specs.Running.{IsSoundWith, IsAudited, NamesFault}

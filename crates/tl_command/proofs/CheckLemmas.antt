@@ -8,15 +8,15 @@ use Rattle.tl_planar.specs.Searching.{meeting_segments}
 use Rattle.tl_sides.specs.Sides.{SidesAgree}
 use Rattle.tl_inside.specs.Placed.{ArePlaced}
 use Rattle.tl_cells.specs.Cells.{CellsAgree}
-use Rattle.tl_check.specs.declared.verdict.Report.{Report}
-use Rattle.tl_check.specs.declared.verdict.Verdict.{Verdict}
-use Rattle.tl_check.specs.declared.verdict.Verdict.TheVariants.{Sound, MapFault, CertFault}
-use Rattle.tl_check.specs.Sound.{AreClosed}
-use Rattle.tl_check.specs.Truth.{IsOfDarts}
-use Rattle.tl_check.specs.Texts.{IsValidText, IsTrueOfText, TextAllowsSearch}
-use Rattle.tl_check.specs.Records.{HaveMap, IsTrueOfRecords, LeavesUnread}
-use Rattle.tl_check.specs.Verdicts.{Answer, OnSound, IfSound, IfMapFault, IfCertFault, UnlessMeet, IsReport, OnSearched}
-use Rattle.tl_check.proofs.OneMap.{both, weaker}
+use Rattle.tl_verdict.specs.declared.verdict.Report.{Report}
+use Rattle.tl_verdict.specs.declared.verdict.Verdict.{Verdict}
+use Rattle.tl_verdict.specs.declared.verdict.Verdict.TheVariants.{Sound, MapFault, CertFault}
+use Rattle.tl_verdict.specs.Sound.{AreClosed}
+use Rattle.tl_verdict.specs.Truth.{IsOfDarts}
+use Rattle.tl_verdict.specs.Texts.{IsValidText, IsTrueOfText, TextAllowsSearch}
+use Rattle.tl_verdict.specs.Records.{HaveMap, IsTrueOfRecords, LeavesUnread}
+use Rattle.tl_verdict.specs.Verdicts.{Answer, OnSound, IfSound, IfMapFault, IfCertFault, UnlessMeet, IsReport, OnSearched}
+use Rattle.tl_verdict.proofs.OneMap.{both, weaker}
 use Rattle.tl_output.specs.Writing.{line_of}
 use Rattle.tl_command.specs.declared.stop.TheConstants.{DONE, MAP_FAULT, CERT_FAULT, STOPPED}
 use Rattle.tl_command.specs.Verdicts.{verdict_text, verdict_status}

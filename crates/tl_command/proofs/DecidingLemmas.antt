@@ -7,11 +7,11 @@ use Rattle.tl_record.specs.declared.layout.Layout.{Layout}
 use Rattle.tl_record.specs.Records.{records_of}
 use Rattle.tl_planar.specs.Searching.{meeting_segments, AreBeyond}
 use Rattle.tl_cert.specs.Text.{certificate_text}
-use Rattle.tl_check.specs.Sound.{IsSound}
-use Rattle.tl_check.specs.Texts.{IsValidText, IsTrueOfText}
-use Rattle.tl_check.specs.Records.{HaveMap}
-use Rattle.tl_check.proofs.OneMap.{both, weaker}
-use Rattle.tl_check.proofs.Deciding.{not_sound_records, not_valid_text}
+use Rattle.tl_verdict.specs.Sound.{IsSound}
+use Rattle.tl_verdict.specs.Texts.{IsValidText, IsTrueOfText}
+use Rattle.tl_verdict.specs.Records.{HaveMap}
+use Rattle.tl_verdict.proofs.OneMap.{both, weaker}
+use Rattle.tl_verdict.proofs.Deciding.{not_sound_records, not_valid_text}
 use Rattle.tl_output.specs.Writing.{Writes}
 use Rattle.tl_command.specs.declared.stop.TheConstants.{DONE, MAP_FAULT, CERT_FAULT, REFUSED, STOPPED}
 use Rattle.tl_command.specs.Running.{IsChecked, IsAudited, IsBuilt, NamesFault, NamesCertFault, NamesRefusal, NamesBudget, IsRunStatus}

@@ -11,16 +11,16 @@ use Rattle.tl_map.specs.Reading.{IsReadFrom}
 use Rattle.tl_cert.specs.Certificates.{TheCertificate}
 use Rattle.tl_cert.specs.Text.{certificate_text}
 use Rattle.tl_cert.specs.Beginnings.{IsTextOf}
-use Rattle.tl_check.specs.declared.verdict.Report.{Report}
-use Rattle.tl_check.specs.declared.verdict.Verdict.TheVariants as verdict
-use Rattle.tl_check.specs.Sound.{IsSound}
-use Rattle.tl_check.specs.Valid.{IsValid}
-use Rattle.tl_check.specs.Verdicts.{AreNumbers}
+use Rattle.tl_verdict.specs.declared.verdict.Report.{Report}
+use Rattle.tl_verdict.specs.declared.verdict.Verdict.TheVariants as verdict
+use Rattle.tl_verdict.specs.Sound.{IsSound}
+use Rattle.tl_verdict.specs.Valid.{IsValid}
+use Rattle.tl_verdict.specs.Verdicts.{AreNumbers}
 use Rattle.tl_check.proofs.Recorded.{map_fault}
 use Rattle.tl_command.specs.declared.building.Making.{Making}
 use Rattle.tl_command.specs.declared.building.Making.TheVariants.{Made, Fault}
-use Rattle.tl_check.specs.declared.stop.Stop.{Stop}
-use Rattle.tl_check.specs.declared.stop.Stop.TheVariants.{Record, Memory, Device, Budget}
+use Rattle.tl_verdict.specs.declared.stop.Stop.{Stop}
+use Rattle.tl_verdict.specs.declared.stop.Stop.TheVariants.{Record, Memory, Device, Budget}
 use Rattle.tl_command.specs.declared.stop.TheConstants.{DONE, MAP_FAULT, REFUSED, STOPPED}
 use Rattle.tl_command.specs.Running.{IsBuilt, NamesFault, NamesRefusal, NamesStop, IsTold, StaysUnless}
 use Rattle.tl_command.specs.Making.{IsMadeOf, IsBegunOf, MakesOf, OfMap, Makes, IsLine, TellsMaking, Begins}

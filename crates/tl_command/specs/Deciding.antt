@@ -5,9 +5,9 @@ use Rattle.tl_record.specs.Layout.{layout_with}
 use Rattle.tl_record.specs.Records.{records_of}
 use Rattle.tl_plan.specs.declared.plan.Plan.{Plan}
 use Rattle.tl_plan.specs.declared.plan.Plan.TheVariants.{Show, Landmarks, Locate, Convert, Check, Audit, Build}
-use Rattle.tl_check.specs.Sound.{IsSound}
-use Rattle.tl_check.specs.Texts.{IsValidText}
-use Rattle.tl_check.specs.Records.{HaveMap}
+use Rattle.tl_verdict.specs.Sound.{IsSound}
+use Rattle.tl_verdict.specs.Texts.{IsValidText}
+use Rattle.tl_verdict.specs.Records.{HaveMap}
 use Rattle.tl_command.specs.declared.stop.TheConstants.{DONE}
 
 -- the status is 0 exactly where the records, if their text is known, have a map that is sound

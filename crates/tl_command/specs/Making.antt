@@ -17,17 +17,17 @@ use Rattle.tl_cert.specs.declared.stop.CertStop.TheVariants as cert_stop
 use Rattle.tl_cert.specs.Certificates.{TheCertificate, IsCertificate}
 use Rattle.tl_cert.specs.Text.{certificate_text}
 use Rattle.tl_cert.specs.Beginnings.{IsTextOf, IsRefused}
-use Rattle.tl_check.specs.declared.fault.CertFault.TheVariants as cert_fault
-use Rattle.tl_check.specs.declared.verdict.Report.{Report}
-use Rattle.tl_check.specs.Valid.{IsValid}
-use Rattle.tl_check.specs.Records.{IsTrueOfRecords}
-use Rattle.tl_check.specs.Truth.{IsTrueOfMap}
-use Rattle.tl_check.specs.Messages.{map_fault_text, cert_fault_text}
+use Rattle.tl_verdict.specs.declared.fault.CertFault.TheVariants as cert_fault
+use Rattle.tl_verdict.specs.declared.verdict.Report.{Report}
+use Rattle.tl_verdict.specs.Valid.{IsValid}
+use Rattle.tl_verdict.specs.Records.{IsTrueOfRecords}
+use Rattle.tl_verdict.specs.Truth.{IsTrueOfMap}
+use Rattle.tl_verdict.specs.Messages.{map_fault_text, cert_fault_text}
 use Rattle.tl_command.specs.declared.building.Making.{Making}
 use Rattle.tl_command.specs.declared.building.Making.TheVariants.{Made, Fault}
 use Rattle.tl_command.specs.declared.convert.Converted.{Converted}
-use Rattle.tl_check.specs.declared.stop.Stop.{Stop}
-use Rattle.tl_check.specs.declared.stop.Stop.TheVariants.{Record, Memory, Device, Budget}
+use Rattle.tl_verdict.specs.declared.stop.Stop.{Stop}
+use Rattle.tl_verdict.specs.declared.stop.Stop.TheVariants.{Record, Memory, Device, Budget}
 use Rattle.tl_command.specs.declared.stop.TheConstants.{DONE, MAP_FAULT, CERT_FAULT, STOPPED}
 use Rattle.tl_command.specs.Certificates.{counts_text}
 use Rattle.tl_command.specs.Verdicts.{built_text}

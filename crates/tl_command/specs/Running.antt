@@ -20,9 +20,9 @@ use Rattle.tl_county.specs.TheMap.{TheMap}
 use Rattle.tl_map.specs.Reading.{AreReadFrom, IsReadFrom, records_in}
 use Rattle.tl_text.specs.Printing.{shown_text, listing_text}
 use Rattle.tl_output.specs.Writing.{line_of}
-use Rattle.tl_check.specs.declared.stop.Stop.{Stop}
-use Rattle.tl_check.specs.declared.stop.Stop.TheVariants.{Record, Memory, Device, Budget}
-use Rattle.tl_check.specs.Stops.{stop_text}
+use Rattle.tl_verdict.specs.declared.stop.Stop.{Stop}
+use Rattle.tl_verdict.specs.declared.stop.Stop.TheVariants.{Record, Memory, Device, Budget}
+use Rattle.tl_verdict.specs.Stops.{stop_text}
 use Rattle.tl_command.specs.declared.stop.TheConstants.{DONE, MAP_FAULT, CERT_FAULT, REFUSED, STOPPED}
 use Rattle.tl_plan.specs.declared.plan.Plan.{Plan}
 use Rattle.tl_plan.specs.declared.plan.Plan.TheVariants.{Show, Landmarks, Locate, Convert, Check, Audit, Build}
@@ -32,19 +32,19 @@ use Rattle.tl_cert.specs.Beginnings.{IsTextOf, IsRefused}
 use Rattle.tl_planar.specs.Searching.{meeting_segments, AreBeyond}
 use Rattle.tl_inside.specs.declared.place.Place.{Place}
 use Rattle.tl_inside.specs.Places.{IsPlaceOf}
-use Rattle.tl_check.specs.declared.fault.MapFault.{MapFault}
-use Rattle.tl_check.specs.declared.fault.CertFault.{CertFault}
-use Rattle.tl_check.specs.declared.fault.CertFault.TheVariants as cert_fault
-use Rattle.tl_check.specs.declared.verdict.Report.{Report}
-use Rattle.tl_check.specs.declared.verdict.Verdict.TheVariants as verdict
-use Rattle.tl_check.specs.Sound.{IsSound}
-use Rattle.tl_check.specs.Valid.{IsValid}
-use Rattle.tl_check.specs.Verdicts.{IsReport, OnSearched}
-use Rattle.tl_check.specs.Texts.{IsValidText, IsTrueOfText, TextAllowsSearch}
+use Rattle.tl_verdict.specs.declared.fault.MapFault.{MapFault}
+use Rattle.tl_verdict.specs.declared.fault.CertFault.{CertFault}
+use Rattle.tl_verdict.specs.declared.fault.CertFault.TheVariants as cert_fault
+use Rattle.tl_verdict.specs.declared.verdict.Report.{Report}
+use Rattle.tl_verdict.specs.declared.verdict.Verdict.TheVariants as verdict
+use Rattle.tl_verdict.specs.Sound.{IsSound}
+use Rattle.tl_verdict.specs.Valid.{IsValid}
+use Rattle.tl_verdict.specs.Verdicts.{IsReport, OnSearched}
+use Rattle.tl_verdict.specs.Texts.{IsValidText, IsTrueOfText, TextAllowsSearch}
 use Rattle.tl_planar.specs.Planar.{IsPlanar}
-use Rattle.tl_check.specs.Truth.{IsTrueOfMap, IsOfDarts}
-use Rattle.tl_check.specs.Records.{HaveMap, IsTrueOfRecords, LeavesUnread}
-use Rattle.tl_check.specs.Messages.{map_fault_text, cert_fault_text}
+use Rattle.tl_verdict.specs.Truth.{IsTrueOfMap, IsOfDarts}
+use Rattle.tl_verdict.specs.Records.{HaveMap, IsTrueOfRecords, LeavesUnread}
+use Rattle.tl_verdict.specs.Messages.{map_fault_text, cert_fault_text}
 use Rattle.tl_command.specs.Certificates.{converted_text}
 use Rattle.tl_command.specs.Verdicts.{sound_text, built_text}
 use Rattle.tl_command.specs.Places.{place_text}

@@ -1,9 +1,9 @@
 -- What is printed of verdicts, and with which status.
 use Rattle.std.specs.Prelude.{ℕ, List, ◌++◌, codes}
-use Rattle.tl_check.specs.declared.verdict.Report.{Report}
-use Rattle.tl_check.specs.declared.verdict.Verdict.{Verdict}
-use Rattle.tl_check.specs.declared.verdict.Verdict.TheVariants.{Sound, MapFault, CertFault}
-use Rattle.tl_check.specs.Messages.{report_text, map_fault_text, cert_fault_text}
+use Rattle.tl_verdict.specs.declared.verdict.Report.{Report}
+use Rattle.tl_verdict.specs.declared.verdict.Verdict.{Verdict}
+use Rattle.tl_verdict.specs.declared.verdict.Verdict.TheVariants.{Sound, MapFault, CertFault}
+use Rattle.tl_verdict.specs.Messages.{report_text, map_fault_text, cert_fault_text}
 use Rattle.tl_command.specs.declared.stop.TheConstants.{DONE, MAP_FAULT, CERT_FAULT}
 
 -- a sound map, with its numbers

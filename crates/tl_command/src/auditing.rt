@@ -12,8 +12,8 @@ use crate::tell::tell_line;
 use std::alloc::Global;
 use std::hash::RandomState;
 use tl_build::{Audit, AuditStop, audit_with};
-use tl_check::Stop;
 use tl_record::{Options, Sink, Source};
+use tl_verdict::Stop;
 
 /// Decides with no certificate given whether the map of the records is sound, and gives the program's exit status.
 pub fn audit<R: Source, W: Sink, E: Sink>(

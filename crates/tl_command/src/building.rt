@@ -3,8 +3,8 @@
 ghost use Rattle.std.specs.Prelude.{◌≡◌, ◌≢◌, ◌⊎◌, ⊤, length};
 ghost use Rattle.tl_record.specs.Layout.{layout_with};
 ghost use Rattle.tl_output.specs.Writing.{Writes, TriesToWrite, FailsToWrite};
-ghost use Rattle.tl_check.specs.Sound.{IsSound};
-ghost use Rattle.tl_check.specs.Valid.{IsValid};
+ghost use Rattle.tl_verdict.specs.Sound.{IsSound};
+ghost use Rattle.tl_verdict.specs.Valid.{IsValid};
 ghost use Rattle.tl_command.specs.declared.stop.TheConstants.{DONE, MAP_FAULT, REFUSED, STOPPED};
 ghost use Rattle.tl_command.specs.Running.{IsBuilt, NamesFault, NamesRefusal, NamesStop, FailsToRead, CountStays, StaysUnless};
 ghost use Rattle.tl_command.specs.Making.{Begins, Makes, MakesOf, OfMap, IsBegunOf, TellsMaking, was_made};
@@ -16,10 +16,10 @@ use std::alloc::Global;
 use std::hash::RandomState;
 use tl_build::{BuildStop, Built};
 use tl_cert::{Certificate, write_cert};
-use tl_check::{MapFault, Report, Stop, report};
 use tl_county::Map;
 use tl_map::{MapStop, read_map_with};
 use tl_record::{Options, Sink, Source};
+use tl_verdict::{MapFault, Report, Stop, report};
 
 /// What comes of making a certificate of records.
 #[derive(Clone, Copy)]

@@ -11,8 +11,8 @@ use crate::tell::tell_line;
 use std::alloc::Global;
 use std::fmt;
 use tl_cert::{CertStop, Certificate, read_cert, write_cert};
-use tl_check::{CertFault, Stop};
 use tl_record::{Sink, Source};
+use tl_verdict::{CertFault, Stop};
 
 /// What was converted: how many nodes, rounds and walks the certificate has.
 #[derive(Clone, Copy)]

@@ -14,8 +14,9 @@ use crate::stop::{CERT_FAULT, DONE, MAP_FAULT, stopped};
 use crate::tell::tell_line;
 use std::alloc::Global;
 use std::hash::RandomState;
-use tl_check::{Verdict, check_with};
+use tl_check::check_with;
 use tl_record::{Options, Sink, Source};
+use tl_verdict::Verdict;
 
 /// Decides by a certificate whether the map of the records is sound, and gives the program's exit status. Where a line is
 /// refused or the records have no map, nothing of the certificate is read.

@@ -15,12 +15,12 @@ use crate::opening::{room_for_bytes, stop_of};
 use crate::stop::{USAGE, stopped};
 use std::alloc::Global;
 use std::hash::RandomState;
-use tl_check::Stop;
 use tl_files::{FileSystem, Room};
 use tl_output::write_all;
 use tl_plan::Plan;
 use tl_record::{Options, Sink, Source};
 use tl_text::{Buffered, JoinedSources};
+use tl_verdict::Stop;
 
 /// What is said where another file stands under the name of the certificate that is made.
 pub const TAKEN: &[u8] = b"OUT stands and is no certificate\n";

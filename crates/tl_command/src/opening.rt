@@ -5,10 +5,10 @@ ghost use Rattle.tl_files.specs.Files.{bytes_under};
 ghost use Rattle.tl_command.specs.Starting.{StopsOpening, StopsOpeningAll, told_of};
 
 use std::alloc::{AllocError, Global};
-use tl_check::Stop;
 use tl_files::{FileStop, FileSystem};
 use tl_record::Source;
 use tl_text::Buffered;
+use tl_verdict::Stop;
 
 // How many bytes are read at a time, of the record files and of a certificate.
 const INPUT_BUFFER: usize = 131_072;

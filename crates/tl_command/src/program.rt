@@ -11,10 +11,10 @@ use std::io::ErrorKind;
 use std::random::RandomSource;
 use std::rt::{Env, Files};
 use std::{env, io};
-use tl_check::Stop;
 use tl_files::SystemFiles;
 use tl_output::write_all;
 use tl_record::Sink;
+use tl_verdict::Stop;
 
 /// Does what the words of the command line ask, and gives the program's exit status.
 pub fn answer<R: Files<File = File> + Env + RandomSource + Alloc<A = Global>, W: Sink, E: Sink>(

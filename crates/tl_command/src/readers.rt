@@ -15,10 +15,10 @@ use crate::stop::stopped;
 use std::alloc::Global;
 use std::hash::RandomState;
 use std::mem;
-use tl_check::Stop;
 use tl_plan::Plan;
 use tl_record::{Sink, Source};
 use tl_text::{Buffered, JoinedSources};
+use tl_verdict::Stop;
 
 /// Does what the plan asks over these readers, which are read one after the other as one text, and gives the program's
 /// exit status. Where the bytes of each reader are known, so is that text, and all that [`run`] promises holds of it. The

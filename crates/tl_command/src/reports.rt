@@ -1,7 +1,7 @@
 //! Lines with the numbers of a map.
 
 use std::fmt;
-use tl_check::Report;
+use tl_verdict::Report;
 
 /// A sound map, with its numbers.
 #[derive(Clone, Copy)]

@@ -26,13 +26,13 @@ use crate::tell::tell_line;
 use std::alloc::Global;
 use std::hash::RandomState;
 use std::io;
-use tl_check::{MapFault, Stop};
 use tl_county::{Chains, Map};
 use tl_map::{MapStop, read_chains_with, read_map_with};
 use tl_output::OutputBuffer;
 use tl_plan::Plan;
 use tl_record::{Options, Sink, Source};
 use tl_text::{print_chains, print_landmarks};
+use tl_verdict::{MapFault, Stop};
 
 /// Does what the plan asks and gives the program's exit status. Answers and faults go to `out`, refusals and stops to
 /// `err`. `cert` is the certificate that is read, and `made` takes the one that is written; a command that has none

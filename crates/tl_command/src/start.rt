@@ -3,8 +3,8 @@
 ghost use Rattle.std.specs.Prelude.{◌≡◌, ◌⊎◌, map, string_bytes};
 ghost use Rattle.tl_output.specs.Writing.{Writes, TriesToWrite, FailsToWrite, line_of};
 ghost use Rattle.tl_command.specs.declared.stop.TheConstants.{DONE, MAP_FAULT, CERT_FAULT, REFUSED, STOPPED, USAGE};
-ghost use Rattle.tl_check.specs.declared.stop.Stop.TheVariants.{Device};
-ghost use Rattle.tl_check.specs.Stops.{stop_text};
+ghost use Rattle.tl_verdict.specs.declared.stop.Stop.TheVariants.{Device};
+ghost use Rattle.tl_verdict.specs.Stops.{stop_text};
 ghost use Rattle.tl_command.specs.Running.{CountStays};
 ghost use Rattle.tl_command.specs.Opening.{FilesFail};
 ghost use Rattle.tl_command.specs.Starting.{IsStartStatus, ShowsUsage, ShowsHelp, AnswersSome, FaultsSome, RefusesSome};
@@ -14,11 +14,11 @@ use crate::open::open_and_run;
 use crate::stop::{DONE, USAGE, stopped};
 use std::alloc::Global;
 use std::hash::RandomState;
-use tl_check::Stop;
 use tl_files::FileSystem;
 use tl_output::write_all;
 use tl_plan::{PlanStop, words};
 use tl_record::Sink;
+use tl_verdict::Stop;
 
 // What is said of words that are no use of a command, where memory was refused for a text that says why.
 const NO_USE: &str = "error: the words are no use of a command\n";

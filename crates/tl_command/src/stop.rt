@@ -10,9 +10,9 @@ ghost use Rattle.tl_command.specs.Stops.{pair_text};
 
 use arrayvec::ArrayString;
 use itoa::Buffer;
-use tl_check::Stop;
 use tl_output::write_all;
 use tl_record::{Cause, Field, Sink};
+use tl_verdict::Stop;
 
 /// The status of a command that is done, and of help.
 pub const DONE: u8 = 0;

@@ -7,9 +7,9 @@ ghost use Rattle.tl_command.specs.Running.{NamesStop, CountStays};
 
 use crate::stop::stopped;
 use std::fmt::Display;
-use tl_check::Stop;
 use tl_output::{LineStop, print_line};
 use tl_record::Sink;
+use tl_verdict::Stop;
 
 /// Writes the value's line to `out` and gives this status. Where that can't be written, the command is stopped: for a
 /// device where the write failed, and for want of memory where the line has no room.

@@ -11,3 +11,4 @@ pub mod FollowFacts
 pub mod WalkFacts
 pub mod Boundaries
 pub mod Lasting
+pub mod Lent

@@ -15,14 +15,14 @@ use Rattle.tl_planar.proofs.Numbering.{one_chain, one_place, below_total}
 use Rattle.tl_inside.proofs.Hitting.{HaveSameEnds}
 use Rattle.tl_crossings.specs.Headings.{AreProper}
 use Rattle.tl_sweep.specs.declared.events.Event.{Event}
-use Rattle.tl_sweep.specs.Heights.{height, widest, low_end, high_end}
-use Rattle.tl_sweep.specs.Neighbours.{IsNumbered, IsWide}
-use Rattle.tl_sweep.specs.Slabs.{IsPointOf, AreVerticesTested}
+use Rattle.tl_slabs.specs.Heights.{height, widest, low_end, high_end}
+use Rattle.tl_slabs.specs.Neighbours.{IsNumbered, IsWide}
+use Rattle.tl_slabs.specs.Slabs.{IsPointOf, AreVerticesTested}
 use Rattle.tl_sweep.specs.Keeping.Listed.{end_at, IsEvent, begins_at, ends_at, AreEvents, AreRising}
 use Rattle.tl_sweep.specs.Keeping.Vertices.{IsAtPlace, IsEndOfChain, MayMeet, AreInOrderUpTo}
-use Rattle.tl_sweep.proofs.Flanked.{bit}
-use Rattle.tl_sweep.proofs.Rising.{ends_of}
-use Rattle.tl_sweep.proofs.Numbered.{one_segment}
+use Rattle.tl_slabs.proofs.Flanked.{bit}
+use Rattle.tl_slabs.proofs.Rising.{ends_of}
+use Rattle.tl_slabs.proofs.Numbered.{one_segment}
 use Rattle.tl_sweep.proofs.Tests.{same_low}
 
 abbrev pub no_event : Event

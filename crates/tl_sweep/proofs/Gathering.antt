@@ -8,7 +8,7 @@ use Rattle.tl_index.specs.Hits.{times}
 use Rattle.tl_index.proofs.Times.{times-append}
 use Rattle.tl_sweep.specs.declared.events.Event.{Event}
 use Rattle.tl_sweep.specs.Keeping.Listed.{begins_at, ends_at}
-use Rattle.tl_sweep.proofs.Flanked.{bit}
+use Rattle.tl_slabs.proofs.Flanked.{bit}
 
 -- ---- numbers
 

@@ -4,9 +4,9 @@ use Rattle.std.specs.Prelude.{slice_get}
 use Rattle.tl_index.specs.Hits.{times}
 use Rattle.tl_index.proofs.Times.{times-append}
 use Rattle.tl_planar.specs.Keeping.Apart.{one_found}
-use Rattle.tl_sweep.specs.Neighbours.{EachTwo}
+use Rattle.tl_slabs.specs.Neighbours.{EachTwo}
 use Rattle.tl_sweep.specs.Keeping.Lined.{last_of}
-use Rattle.tl_sweep.proofs.Between.{two_front, two_back}
+use Rattle.tl_slabs.proofs.Between.{two_front, two_back}
 
 pub last_more : (x y : ℕ) (xs : List ℕ) → last_of (x ∷ (y ∷ xs)) ≡ last_of (y ∷ xs)
 last_more x y xs = ap (slice_get (x ∷ (y ∷ xs))) (let one : length (x ∷ (y ∷ xs)) - 1 ≡ suc (length (y ∷ xs) - 1) = omega arith in one)

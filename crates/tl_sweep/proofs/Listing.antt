@@ -12,9 +12,9 @@ use Rattle.tl_geom.specs.declared.segment.Segment.{Segment}
 use Rattle.tl_county.specs.TheMap.{MapChain}
 use Rattle.tl_index.proofs.Times.{same_or}
 use Rattle.tl_sweep.specs.declared.events.Event.{Event}
-use Rattle.tl_sweep.specs.Heights.{height, widest}
-use Rattle.tl_sweep.specs.Neighbours.{IsNumbered}
-use Rattle.tl_sweep.proofs.Flanked.{bit}
+use Rattle.tl_slabs.specs.Heights.{height, widest}
+use Rattle.tl_slabs.specs.Neighbours.{IsNumbered}
+use Rattle.tl_slabs.proofs.Flanked.{bit}
 use Rattle.tl_sweep.specs.Keeping.Listed.{IsEvent, begins_at, ends_at, AreEventsOf, AreSegments}
 
 -- ---- one more segment

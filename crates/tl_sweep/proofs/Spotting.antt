@@ -14,21 +14,21 @@ use Rattle.tl_county.specs.TheMap.{TheMap, MapChain}
 use Rattle.tl_inside.specs.Placed.{IsPlacedIn}
 use Rattle.tl_index.specs.Hits.{times}
 use Rattle.tl_sweep.specs.declared.events.Event.{Event}
-use Rattle.tl_sweep.specs.Beside.{IsNoVertex, IsEastOf, IsWestOfIt, IsEastOfLast, IsWestOfFirst, seen_side}
-use Rattle.tl_sweep.specs.Heights.{height, widest, low_end, high_end, turn_to, AreNear}
-use Rattle.tl_sweep.specs.Neighbours.{IsNumbered, IsWide}
-use Rattle.tl_sweep.specs.Slabs.{IsListOf}
+use Rattle.tl_slabs.specs.Beside.{IsNoVertex, IsEastOf, IsWestOfIt, IsEastOfLast, IsWestOfFirst, seen_side}
+use Rattle.tl_slabs.specs.Heights.{height, widest, low_end, high_end, turn_to, AreNear}
+use Rattle.tl_slabs.specs.Neighbours.{IsNumbered, IsWide}
+use Rattle.tl_slabs.specs.Slabs.{IsListOf}
 use Rattle.tl_sweep.specs.Keeping.Facing.{gaps_of}
 use Rattle.tl_sweep.specs.Keeping.Lined.{last_of}
 use Rattle.tl_sweep.specs.Keeping.Listed.{begins_at, ends_at, AreEvents, AreRising}
 use Rattle.tl_sweep.specs.Keeping.Spotted.{IsInRange, AreInRange}
 use Rattle.tl_sweep.specs.Keeping.Swept.{IsSwept}
-use Rattle.tl_sweep.proofs.Between.{placed, turn_same}
+use Rattle.tl_slabs.proofs.Between.{placed, turn_same}
 use Rattle.tl_sweep.proofs.Found.{no_event, found}
 use Rattle.tl_sweep.proofs.Gaps.{facing_behind}
 use Rattle.tl_sweep.proofs.Lining.{last_more}
-use Rattle.tl_sweep.proofs.Numbered.{one_segment}
-use Rattle.tl_sweep.proofs.Rising.{AreEndsOf, ends_of}
+use Rattle.tl_slabs.proofs.Numbered.{one_segment}
+use Rattle.tl_slabs.proofs.Rising.{AreEndsOf, ends_of}
 use Rattle.tl_sweep.proofs.Slab.{begun_by, ended_by, known, list_of_slab}
 use Rattle.tl_sweep.proofs.Tests.{low_height, high_height}
 

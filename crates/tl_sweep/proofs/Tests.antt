@@ -10,11 +10,11 @@ use Rattle.tl_geom.specs.declared.segment.Segment.{Segment}
 use Rattle.tl_geom.specs.Plane.{turn_of, IsSame, whole}
 use Rattle.tl_county.specs.TheMap.{MapChain}
 use Rattle.tl_inside.proofs.Hitting.{HaveSameEnds}
-use Rattle.tl_sweep.specs.Heights.{height, widest, AreNear, low_end, high_end}
-use Rattle.tl_sweep.specs.Neighbours.{IsNumbered, IsWestOf, AreApartOrAtEnds, AreTested}
-use Rattle.tl_sweep.specs.Keeping.Clear.{IsClearlyWestOf}
-use Rattle.tl_sweep.proofs.Rising.{near_back}
-use Rattle.tl_sweep.proofs.Numbered.{one_segment, on_same}
+use Rattle.tl_slabs.specs.Heights.{height, widest, AreNear, low_end, high_end}
+use Rattle.tl_slabs.specs.Neighbours.{IsNumbered, IsWestOf, AreApartOrAtEnds, AreTested}
+use Rattle.tl_slabs.specs.Keeping.Clear.{IsClearlyWestOf}
+use Rattle.tl_slabs.proofs.Rising.{near_back}
+use Rattle.tl_slabs.proofs.Numbered.{one_segment, on_same}
 
 -- ---- turns
 

@@ -5,5 +5,4 @@ pub mod Vertices
 pub mod Swept
 pub mod Facing
 pub mod Spotted
-pub mod Clear
 pub mod Told

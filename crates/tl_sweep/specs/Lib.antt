@@ -1,6 +1,2 @@
 -- What the laws of sweeps cite.
-pub mod Heights
-pub mod Neighbours
-pub mod Slabs
-pub mod Beside
 pub mod Keeping

@@ -2,8 +2,8 @@
 ghost use Rattle.std.specs.Prelude.{◌≡◌, ◌<◌, ℕ, true, false, not, IfOk, length};
 ghost use Rattle.tl_geom.specs.declared.segment.Segment.{Segment};
 ghost use Rattle.tl_county.specs.Segments.{segments_before};
-ghost use Rattle.tl_sweep.specs.Heights.{widest};
-ghost use Rattle.tl_sweep.specs.Neighbours.{IsNumbered, IsWide};
+ghost use Rattle.tl_slabs.specs.Heights.{widest};
+ghost use Rattle.tl_slabs.specs.Neighbours.{IsNumbered, IsWide};
 ghost use Rattle.tl_sweep.specs.Keeping.Listed.{IsEvent, AreEvents, AreSegments};
 ghost use Rattle.tl_sweep.specs.Keeping.Spotted.{IsInRange, AreInRange};
 

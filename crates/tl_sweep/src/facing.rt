@@ -5,7 +5,7 @@ ghost use Rattle.tl_county.specs.declared.sides.Side.TheVariants.{Outside};
 ghost use Rattle.tl_county.specs.Segments.{segments_before};
 ghost use Rattle.tl_inside.specs.declared.flanks.Flanks.{Flanks};
 ghost use Rattle.tl_inside.specs.Inside.{flanks_at};
-ghost use Rattle.tl_sweep.specs.Beside.{seen_side};
+ghost use Rattle.tl_slabs.specs.Beside.{seen_side};
 ghost use Rattle.tl_sweep.specs.Keeping.Facing.{gap as gap_of, gaps_between, last_far};
 ghost use Rattle.tl_sweep.specs.Keeping.Listed.{AreSegments};
 

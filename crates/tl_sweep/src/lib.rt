@@ -2,7 +2,7 @@
 //!
 //! The sweep keeps a list of the segments that are active at the height that it has reached, from west to east, and tests
 //! each two that are neighbours for the first time. Neither the order of the list nor the way in which a place in it was
-//! found is trusted: [`laws`] says what follows from the tests alone. So [`sweep`] answers [`Swept::Planar`] only where the
+//! found is trusted: `tl_slabs` says what follows from the tests alone. So [`sweep`] answers [`Swept::Planar`] only where the
 //! chains are planar. Where a test fails it names two segments that meet where they may not, or says nothing of the map.
 #![tactic(auto)]
 
@@ -13,7 +13,6 @@ mod events;
 mod facing;
 mod finding;
 mod heights;
-pub mod laws;
 mod line;
 mod meets;
 mod neighbours;

@@ -2,9 +2,9 @@
 ghost use Rattle.std.specs.Prelude.{◌≡◌, ◌<◌, ℕ, length, IsTrue};
 ghost use Rattle.tl_county.specs.Segments.{segments_before};
 ghost use Rattle.tl_crossings.specs.Headings.{AreProper};
-ghost use Rattle.tl_sweep.specs.Heights.{widest};
-ghost use Rattle.tl_sweep.specs.Neighbours.{IsWide};
-ghost use Rattle.tl_sweep.specs.Slabs.{AreVerticesTested};
+ghost use Rattle.tl_slabs.specs.Heights.{widest};
+ghost use Rattle.tl_slabs.specs.Neighbours.{IsWide};
+ghost use Rattle.tl_slabs.specs.Slabs.{AreVerticesTested};
 ghost use Rattle.tl_sweep.specs.Keeping.Listed.{AreEvents, AreRising};
 ghost use Rattle.tl_sweep.specs.Keeping.Vertices.{IsAtPlace, IsEndOfChain, MayMeet, AreInOrder, AreInOrderUpTo};
 

@@ -1,8 +1,8 @@
 //! What is tested of segments that stand side by side.
 ghost use Rattle.std.specs.Prelude.{◌≤ℤ◌, ◌<ℤ◌, ◌⊎◌, pos, IsTrue};
 ghost use Rattle.tl_geom.specs.Plane.{turn_of};
-ghost use Rattle.tl_sweep.specs.Heights.{widest};
-ghost use Rattle.tl_sweep.specs.Neighbours.{IsWestOf, AreApartOrAtEnds, AreTested};
+ghost use Rattle.tl_slabs.specs.Heights.{widest};
+ghost use Rattle.tl_slabs.specs.Neighbours.{IsWestOf, AreApartOrAtEnds, AreTested};
 ghost use Rattle.tl_sweep.specs.Keeping.Listed.{AreSegments};
 
 use crate::heights::{ends, is_lower};

@@ -1,8 +1,8 @@
 //! A step of the sweep at a vertex: the segments that end there leave the list, and those that begin there enter it.
 ghost use Rattle.std.specs.Prelude.{◌≡◌, ◌+◌, ◌++◌, ◌∷◌, ℕ, Some, [], IfOk, IsTrue, length};
 ghost use Rattle.tl_index.specs.Hits.{times};
-ghost use Rattle.tl_sweep.specs.Heights.{widest};
-ghost use Rattle.tl_sweep.specs.Neighbours.{AreTested, EachTwo};
+ghost use Rattle.tl_slabs.specs.Heights.{widest};
+ghost use Rattle.tl_slabs.specs.Neighbours.{AreTested, EachTwo};
 ghost use Rattle.tl_sweep.specs.Keeping.Facing.{IsCounted};
 ghost use Rattle.tl_sweep.specs.Keeping.Lined.{list_of};
 ghost use Rattle.tl_sweep.specs.Keeping.Listed.{AreSegments};

@@ -2,8 +2,8 @@
 ghost use Rattle.std.specs.Prelude.{◌≡◌, ◌<◌, ◌≤◌, ◌-◌, ◌+ℤ◌, ◌<ℤ◌, ℕ, pos, Some, IfOk, IsTrue, length, slice_index_or};
 ghost use Rattle.tl_county.specs.declared.sides.Side.TheVariants.{Polygon};
 ghost use Rattle.tl_sweep.specs.declared.events.Event.{Event};
-ghost use Rattle.tl_sweep.specs.Beside.{IsEastOf, IsWestOfIt, IsEastOfLast, IsWestOfFirst, seen_side};
-ghost use Rattle.tl_sweep.specs.Heights.{widest};
+ghost use Rattle.tl_slabs.specs.Beside.{IsEastOf, IsWestOfIt, IsEastOfLast, IsWestOfFirst, seen_side};
+ghost use Rattle.tl_slabs.specs.Heights.{widest};
 ghost use Rattle.tl_sweep.specs.Keeping.Facing.{IsCounted};
 ghost use Rattle.tl_sweep.specs.Keeping.Lined.{list_of};
 ghost use Rattle.tl_sweep.specs.Keeping.Listed.{AreEvents, AreRising, AreSegments};

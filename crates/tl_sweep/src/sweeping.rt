@@ -1,9 +1,9 @@
 //! The sweep: from event to event, with the list of active segments.
 ghost use Rattle.std.specs.Prelude.{◌≡◌, ◌+◌, ◌<◌, ◌≤◌, ℕ, IfOk, IsTrue, length, count_by, slice_index_or};
 ghost use Rattle.tl_index.specs.Hits.{times};
-ghost use Rattle.tl_sweep.specs.Heights.{widest};
-ghost use Rattle.tl_sweep.specs.Neighbours.{AreTested, EachTwo, IsWide};
-ghost use Rattle.tl_sweep.specs.Slabs.{AreSlabsTested};
+ghost use Rattle.tl_slabs.specs.Heights.{widest};
+ghost use Rattle.tl_slabs.specs.Neighbours.{AreTested, EachTwo, IsWide};
+ghost use Rattle.tl_slabs.specs.Slabs.{AreSlabsTested};
 ghost use Rattle.tl_sweep.specs.Keeping.Facing.{IsCounted};
 ghost use Rattle.tl_sweep.specs.Keeping.Lined.{list_of};
 ghost use Rattle.tl_sweep.specs.Keeping.Listed.{begins_at, ends_at, AreEvents, AreRising, AreSegments};

@@ -4,10 +4,10 @@ use Rattle.tl_county.specs.TheMap.{TheMap}
 use Rattle.tl_index.specs.Trees.{depth, tree_of}
 use Rattle.tl_pack.specs.Packed.{IsEvenlySplit}
 use Rattle.tl_cert.specs.Certificates.{TheCertificate}
-use Rattle.tl_check.specs.Sound.{IsSound}
-use Rattle.tl_check.specs.Valid.{IsValid}
-use Rattle.tl_check.specs.Truth.{IsTrueOfMap}
-use Rattle.tl_check.specs.Verdicts.{IsReport}
+use Rattle.tl_verdict.specs.Sound.{IsSound}
+use Rattle.tl_verdict.specs.Valid.{IsValid}
+use Rattle.tl_verdict.specs.Truth.{IsTrueOfMap}
+use Rattle.tl_verdict.specs.Verdicts.{IsReport}
 use Rattle.tl_build.specs.declared.answer.Audit.TheVariants as audit
 use Rattle.tl_build.specs.declared.answer.Built.TheVariants as built
 use Rattle.tl_build.specs.Auditing.{Auditing}

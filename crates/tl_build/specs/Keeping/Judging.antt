@@ -3,9 +3,9 @@ use Rattle.std.specs.Prelude.{Result, Ok, Err, ⊤}
 use Rattle.tl_map.specs.declared.fault.MapStop.{MapStop}
 use Rattle.tl_map.specs.declared.fault.MapStop.TheVariants as map
 use Rattle.tl_cert.specs.Certificates.{TheCertificate}
-use Rattle.tl_check.specs.declared.fault.MapFault.{MapFault}
-use Rattle.tl_check.specs.declared.fault.MapFault.TheVariants as of_map
-use Rattle.tl_check.specs.declared.verdict.Report.{Report}
+use Rattle.tl_verdict.specs.declared.fault.MapFault.{MapFault}
+use Rattle.tl_verdict.specs.declared.fault.MapFault.TheVariants as of_map
+use Rattle.tl_verdict.specs.declared.verdict.Report.{Report}
 use Rattle.tl_build.specs.declared.judge.Judged.{Judged}
 use Rattle.tl_build.specs.declared.judge.Judged.TheVariants as judged
 use Rattle.tl_build.specs.declared.stop.BuildStop.{BuildStop}

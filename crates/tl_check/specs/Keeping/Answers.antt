@@ -1,16 +1,16 @@
 -- Answers, before anything is shown of them.
 use Rattle.std.specs.Prelude.{Ok, Err}
-use Rattle.tl_check.specs.declared.verdict.Verdict.TheVariants as verdict
-use Rattle.tl_check.specs.declared.stop.Stop.TheVariants as stop
+use Rattle.tl_verdict.specs.declared.verdict.Verdict.TheVariants as verdict
+use Rattle.tl_verdict.specs.declared.stop.Stop.TheVariants as stop
 use Rattle.tl_check.specs.declared.state.Halt.{Halt}
 use Rattle.tl_check.specs.declared.state.Halt.TheVariants as halt
 use Rattle.tl_map.specs.declared.fault.MapStop.{MapStop}
 use Rattle.tl_map.specs.declared.fault.MapStop.TheVariants as map
-use Rattle.tl_check.specs.declared.fault.MapFault.TheVariants as of_map
+use Rattle.tl_verdict.specs.declared.fault.MapFault.TheVariants as of_map
 use Rattle.tl_cert.specs.declared.stop.CertStop.{CertStop}
 use Rattle.tl_cert.specs.declared.stop.CertStop.TheVariants as cert
-use Rattle.tl_check.specs.declared.fault.CertFault.TheVariants as fault
-use Rattle.tl_check.specs.Verdicts.{Answer}
+use Rattle.tl_verdict.specs.declared.fault.CertFault.TheVariants as fault
+use Rattle.tl_verdict.specs.Verdicts.{Answer}
 
 -- the answer where no further part is looked at
 abbrev pub answer_of : Halt → Answer

@@ -18,9 +18,9 @@ use Rattle.tl_check.specs.declared.state.State.{State}
 use Rattle.tl_check.specs.declared.state.State.TheVariants as state
 use Rattle.tl_check.specs.declared.state.Halt.{Halt}
 use Rattle.tl_check.specs.declared.state.Halt.TheVariants as halt
-use Rattle.tl_check.specs.declared.fault.MapFault.TheVariants.{Meet}
-use Rattle.tl_check.specs.Valid.{AreCounts, IsTree, IsValid}
-use Rattle.tl_check.specs.Truth.{IsTrueOfMap, IsTrueOfCert, IsOfDarts}
+use Rattle.tl_verdict.specs.declared.fault.MapFault.TheVariants.{Meet}
+use Rattle.tl_verdict.specs.Valid.{AreCounts, IsTree, IsValid}
+use Rattle.tl_verdict.specs.Truth.{IsTrueOfMap, IsTrueOfCert, IsOfDarts}
 
 -- the certificate with a round more, or a walk
 abbrev pub with_round : TheCertificate → List ℕ → TheCertificate

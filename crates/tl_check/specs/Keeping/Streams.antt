@@ -12,15 +12,15 @@ use Rattle.tl_cert.specs.declared.place.Place.TheVariants as place
 use Rattle.tl_cert.specs.declared.reader.CertReader.{CertReader}
 use Rattle.tl_cert.specs.Certificates.{TheCertificate}
 use Rattle.tl_cert.specs.Keeping.Collecting.{Collects}
-use Rattle.tl_check.specs.declared.verdict.Report.{Report}
-use Rattle.tl_check.specs.declared.verdict.Verdict.TheVariants as verdict
-use Rattle.tl_check.specs.declared.stop.Stop.TheVariants.{Record, Memory, Device, Budget}
+use Rattle.tl_verdict.specs.declared.verdict.Report.{Report}
+use Rattle.tl_verdict.specs.declared.verdict.Verdict.TheVariants as verdict
+use Rattle.tl_verdict.specs.declared.stop.Stop.TheVariants.{Record, Memory, Device, Budget}
 use Rattle.tl_check.specs.declared.state.State.{State}
-use Rattle.tl_check.specs.Sound.{AreClosed}
-use Rattle.tl_check.specs.Valid.{AllowsSearch}
-use Rattle.tl_check.specs.Truth.{IsTrueOfMap, IsTrueOfCert, IsOfDarts}
-use Rattle.tl_check.specs.Texts.{IsTrueOfText, IsValidText}
-use Rattle.tl_check.specs.Verdicts.{Answer, IsReport, AreNumbers}
+use Rattle.tl_verdict.specs.Sound.{AreClosed}
+use Rattle.tl_verdict.specs.Valid.{AllowsSearch}
+use Rattle.tl_verdict.specs.Truth.{IsTrueOfMap, IsTrueOfCert, IsOfDarts}
+use Rattle.tl_verdict.specs.Texts.{IsTrueOfText, IsValidText}
+use Rattle.tl_verdict.specs.Verdicts.{Answer, IsReport, AreNumbers}
 use Rattle.tl_check.specs.Keeping.Parts.{Holds, TakesRounds, TakesWalks, IsShown}
 
 -- at this place the state takes what may come

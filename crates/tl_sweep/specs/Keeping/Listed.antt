@@ -5,8 +5,8 @@ use Rattle.tl_geom.specs.declared.segment.Segment.{Segment}
 use Rattle.tl_county.specs.TheMap.{MapChain}
 use Rattle.tl_county.specs.Segments.{segments_before}
 use Rattle.tl_sweep.specs.declared.events.Event.{Event}
-use Rattle.tl_sweep.specs.Heights.{height, widest, low_end, high_end}
-use Rattle.tl_sweep.specs.Neighbours.{IsNumbered}
+use Rattle.tl_slabs.specs.Heights.{height, widest, low_end, high_end}
+use Rattle.tl_slabs.specs.Neighbours.{IsNumbered}
 
 -- the segments by their numbers
 abbrev pub AreSegments : List MapChain → List Segment → Type 0

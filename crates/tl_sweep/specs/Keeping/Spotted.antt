@@ -5,7 +5,7 @@ use Rattle.tl_geom.specs.declared.segment.Segment.{Segment}
 use Rattle.tl_county.specs.declared.polygons.Polygon.{Polygon}
 use Rattle.tl_county.specs.TheMap.{TheMap, MapChain}
 use Rattle.tl_inside.specs.Placed.{IsPlacedIn}
-use Rattle.tl_sweep.specs.Neighbours.{IsNumbered}
+use Rattle.tl_slabs.specs.Neighbours.{IsNumbered}
 
 -- its longitude is a signed number of 32 bits
 pub record IsInRange (p : Point) : Type 0 where

@@ -3,9 +3,9 @@ use Rattle.std.specs.Prelude.{◌≡◌, ℕ, ◌+◌, ◌<◌, ◌≤◌, ℤ, 
 use Rattle.tl_county.specs.TheMap.{MapChain}
 use Rattle.tl_index.specs.Hits.{times}
 use Rattle.tl_sweep.specs.declared.events.Event.{Event}
-use Rattle.tl_sweep.specs.Heights.{widest}
-use Rattle.tl_sweep.specs.Neighbours.{AreTested, EachTwo}
-use Rattle.tl_sweep.specs.Slabs.{IsListOf}
+use Rattle.tl_slabs.specs.Heights.{widest}
+use Rattle.tl_slabs.specs.Neighbours.{AreTested, EachTwo}
+use Rattle.tl_slabs.specs.Slabs.{IsListOf}
 use Rattle.tl_sweep.specs.Keeping.Listed.{begins_at, ends_at}
 
 -- all events from a place on are above height n

@@ -3,7 +3,7 @@ use Rattle.std.specs.Prelude.{◌≡◌, ◌⊎◌, ℕ, ◌+◌, ◌<◌, ◌�
 use Rattle.tl_county.specs.TheMap.{MapChain}
 use Rattle.tl_county.specs.Segments.{IsSegmentOf}
 use Rattle.tl_sweep.specs.declared.events.Event.{Event}
-use Rattle.tl_sweep.specs.Slabs.{IsEndPlace}
+use Rattle.tl_slabs.specs.Slabs.{IsEndPlace}
 
 -- the event is at point p of chain c
 pub record IsAtPlace (chains : List MapChain) (e : Event) (c p : ℕ) : Type 0 where

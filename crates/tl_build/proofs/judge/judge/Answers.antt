@@ -2,11 +2,11 @@ use Rattle.std.proofs.Common.{length, refl, subst, Ok, arith}
 use Rattle.tl_county.specs.Segments.{segments_before}
 use Rattle.tl_planar.specs.Planar.{IsPlanar}
 use Rattle.tl_planar.specs.Rectangles.{segment_rect}
-use Rattle.tl_check.specs.declared.stop.Stop.{Stop}
-use Rattle.tl_check.specs.declared.stop.Stop.TheVariants.{Budget}
-use Rattle.tl_check.specs.Verdicts.{MayStop, IfCertFault}
-use Rattle.tl_check.specs.Truth.{IsTrueOfCert, IsOfDarts}
-use Rattle.tl_check.specs.declared.verdict.Verdict.{Verdict}
+use Rattle.tl_verdict.specs.declared.stop.Stop.{Stop}
+use Rattle.tl_verdict.specs.declared.stop.Stop.TheVariants.{Budget}
+use Rattle.tl_verdict.specs.Verdicts.{MayStop, IfCertFault}
+use Rattle.tl_verdict.specs.Truth.{IsTrueOfCert, IsOfDarts}
+use Rattle.tl_verdict.specs.declared.verdict.Verdict.{Verdict}
 use Rattle.tl_build.proofs.Budgets.{never_beyond}
 use Rattle.tl_build.proofs.Proposals.{no_fault}
 use Rattle.tl_build.proofs.judge.judge.Goals as goal

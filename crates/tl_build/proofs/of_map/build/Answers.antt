@@ -5,8 +5,8 @@ use Rattle.tl_planar.specs.Planar.{IsPlanar}
 use Rattle.tl_sides.specs.Sides.{SidesAgree}
 use Rattle.tl_inside.specs.Placed.{ArePlaced}
 use Rattle.tl_cells.specs.Cells.{CellsAgree}
-use Rattle.tl_check.specs.Sound.{AreClosed}
-use Rattle.tl_check.specs.Valid.{IsValid}
+use Rattle.tl_verdict.specs.Sound.{AreClosed}
+use Rattle.tl_verdict.specs.Valid.{IsValid}
 use Rattle.tl_build.proofs.Decided.{on_cert, if_cert, if_fault, built_exactly}
 use Rattle.tl_build.proofs.of_map.build.Goals as goal
 

@@ -2,7 +2,7 @@ use Rattle.tl_planar.specs.Planar.{IsPlanar}
 use Rattle.tl_sides.specs.Sides.{SidesAgree}
 use Rattle.tl_inside.specs.Placed.{ArePlaced}
 use Rattle.tl_cells.specs.Cells.{CellsAgree}
-use Rattle.tl_check.specs.Sound.{AreClosed}
+use Rattle.tl_verdict.specs.Sound.{AreClosed}
 use Rattle.tl_build.proofs.Decided.{on_sound, reported, faulty, exactly, stops}
 use Rattle.tl_build.proofs.of_records.audit_map.Goals as goal
 

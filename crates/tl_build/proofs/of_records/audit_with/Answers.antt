@@ -5,8 +5,8 @@ use Rattle.tl_planar.specs.Planar.{IsPlanar}
 use Rattle.tl_sides.specs.Sides.{SidesAgree}
 use Rattle.tl_inside.specs.Placed.{ArePlaced}
 use Rattle.tl_cells.specs.Cells.{CellsAgree}
-use Rattle.tl_check.specs.Sound.{AreClosed}
-use Rattle.tl_check.specs.Verdicts.{IsReport}
+use Rattle.tl_verdict.specs.Sound.{AreClosed}
+use Rattle.tl_verdict.specs.Verdicts.{IsReport}
 use Rattle.tl_build.proofs.Exactly.{of_map, of_refusal}
 use Rattle.tl_build.proofs.Recorded.{faulty, on_sound, if_sound, stops, tells_none, refused_sound, refused_fault, refused_stops, refused_tells}
 use Rattle.tl_build.proofs.of_records.audit_with.Goals as goal

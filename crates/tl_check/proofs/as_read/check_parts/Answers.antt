@@ -8,7 +8,7 @@ use Rattle.tl_check.proofs.Streaming.{stop_decides, nothing, begun, counts_read,
 use Rattle.tl_check.proofs.Meeting.{meets_so, halted_meets, planar_by, start_meets, counted_meets, taken_planar}
 use Rattle.std.proofs.lemmas.Bool.{false≢true}
 use Rattle.tl_cert.proofs.CollectLemmas.{tells_here}
-use Rattle.tl_check.specs.Valid.{AreCounts, IsTree}
+use Rattle.tl_verdict.specs.Valid.{AreCounts, IsTree}
 use Rattle.tl_check.proofs.as_read.check_parts.Goals.{then-are_counts+in-Ok-take_tree, else-are_counts}
 use Rattle.tl_check.proofs.as_read.check_parts.Goals as goal
 

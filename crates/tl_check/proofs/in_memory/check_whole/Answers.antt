@@ -1,8 +1,9 @@
 use Rattle.std.proofs.Common.{◌≡◌, length, refl, sym, subst, rules, arith}
-use Rattle.tl_check.specs.Valid.{IsTree}
-use Rattle.tl_check.specs.Truth.{IsTrueOfCert}
+use Rattle.tl_verdict.specs.Valid.{IsTree}
+use Rattle.tl_verdict.specs.Truth.{IsTrueOfCert}
 use Rattle.tl_check.specs.Keeping.Parts.{Holds, IsShown, UnlessMemory}
-use Rattle.tl_check.proofs.Prefixes.{first_rounds, first_walks, all_rounds, all_walks, list_is, as_many, round_taken, walk_taken, has_some}
+use Rattle.tl_sides.proofs.Lent.{list_is}
+use Rattle.tl_check.proofs.Prefixes.{first_rounds, first_walks, all_rounds, all_walks, as_many, round_taken, walk_taken, has_some}
 use Rattle.tl_check.proofs.Walking.{told_ok, told_err}
 use Rattle.tl_check.proofs.Halting.{halted, ended, allowed_rounds, allowed_walks}
 use Rattle.tl_check.proofs.Meeting.{halted_meets, meets_so, rounds_planar, walks_planar}

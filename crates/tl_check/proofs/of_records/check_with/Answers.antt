@@ -8,9 +8,9 @@ use Rattle.tl_planar.specs.Searching.{meeting_segments}
 use Rattle.tl_sides.specs.Sides.{SidesAgree}
 use Rattle.tl_inside.specs.Placed.{ArePlaced}
 use Rattle.tl_cells.specs.Cells.{CellsAgree}
-use Rattle.tl_check.specs.Sound.{AreClosed}
-use Rattle.tl_check.specs.Verdicts.{IsReport}
-use Rattle.tl_check.specs.Texts.{IsTrueOfText, IsValidText, TextAllowsSearch}
+use Rattle.tl_verdict.specs.Sound.{AreClosed}
+use Rattle.tl_verdict.specs.Verdicts.{IsReport}
+use Rattle.tl_verdict.specs.Texts.{IsTrueOfText, IsValidText, TextAllowsSearch}
 use Rattle.tl_check.proofs.Recorded.{on_sound, on_sound_text, if_sound, map_fault, cert_fault, behind, searched, meets, stops, unread, tells_either, refused_sound, refused_cert, refused_searched, refused_fault, refused_stops, refused_unread, refused_tells}
 use Rattle.tl_check.proofs.Meeting.{refused_meets}
 use Rattle.tl_check.proofs.of_records.check_with.Goals as goal

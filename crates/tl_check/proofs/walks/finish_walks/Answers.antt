@@ -1,6 +1,6 @@
 use Rattle.std.proofs.Common.{length, sym, subst, ap, ◌<◌, ◌^◌, ◌∙◌}
 use Rattle.tl_sides.specs.Walks.{AreWalks}
-use Rattle.tl_check.specs.Valid.{IsTree}
+use Rattle.tl_verdict.specs.Valid.{IsTree}
 use Rattle.tl_check.specs.Keeping.Parts.{IsWalked}
 use Rattle.tl_check.proofs.Walking.{shown_by}
 use Rattle.tl_check.proofs.walks.finish_walks.Goals as goal

@@ -1,5 +1,5 @@
-use Rattle.tl_sweep.specs.Heights.{widest}
-use Rattle.tl_sweep.proofs.Planarity.{planar}
+use Rattle.tl_slabs.specs.Heights.{widest}
+use Rattle.tl_slabs.proofs.Planarity.{planar}
 use Rattle.tl_sweep.proofs.answer.sweep_events.Goals as goal
 
 pub returns-then-are_placed-clause-placed : goal.returns-then-are_placed-clause-placed

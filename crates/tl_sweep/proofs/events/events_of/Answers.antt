@@ -2,10 +2,10 @@ use Rattle.std.proofs.Common.{◌≡◌, pos, ◌+ℤ◌, to_z, of_z, w64, subst
 use Rattle.std.specs.Prelude.{int_lt}
 use Rattle.std.proofs.lemmas.Int.{ints}
 use Rattle.tl_inside.proofs.Hitting.{HaveSameEnds}
-use Rattle.tl_sweep.specs.Heights.{height, widest}
-use Rattle.tl_sweep.specs.Neighbours.{IsNumbered}
+use Rattle.tl_slabs.specs.Heights.{height, widest}
+use Rattle.tl_slabs.specs.Neighbours.{IsNumbered}
 use Rattle.tl_sweep.specs.Keeping.Spotted.{IsInRange}
-use Rattle.tl_sweep.proofs.Numbered.{one_segment}
+use Rattle.tl_slabs.proofs.Numbered.{one_segment}
 use Rattle.tl_sweep.proofs.Listing.{event_one, event_other}
 use Rattle.tl_sweep.proofs.events.events_of.Goals as goal
 

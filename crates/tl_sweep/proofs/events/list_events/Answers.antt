@@ -2,7 +2,7 @@ use Rattle.std.proofs.Common.{◌<◌, subst, arith, length}
 use Rattle.tl_county.specs.Segments.{segments_before}
 use Rattle.tl_planar.proofs.Numbering.{below_total}
 use Rattle.tl_index.proofs.Times.{same_or}
-use Rattle.tl_sweep.specs.Neighbours.{IsNumbered}
+use Rattle.tl_slabs.specs.Neighbours.{IsNumbered}
 use Rattle.tl_sweep.proofs.Listing.{events_more}
 use Rattle.tl_sweep.proofs.Spotting.{wide_by_range}
 use Rattle.tl_sweep.proofs.events.list_events.Goals as goal

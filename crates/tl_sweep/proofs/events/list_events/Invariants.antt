@@ -2,7 +2,7 @@ use Rattle.std.proofs.Common.{ℕ, ◌<◌, List}
 use Rattle.tl_geom.specs.declared.segment.Segment.{Segment}
 use Rattle.tl_county.specs.TheMap.{MapChain}
 use Rattle.tl_sweep.specs.declared.events.Event.{Event}
-use Rattle.tl_sweep.specs.Neighbours.{IsNumbered}
+use Rattle.tl_slabs.specs.Neighbours.{IsNumbered}
 use Rattle.tl_sweep.specs.Keeping.Listed.{AreEventsOf}
 use Rattle.tl_sweep.specs.Keeping.Spotted.{IsInRange}
 use Rattle.tl_sweep.proofs.events.list_events.Given as goal

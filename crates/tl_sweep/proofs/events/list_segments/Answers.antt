@@ -1,5 +1,5 @@
 use Rattle.std.proofs.Common.{ap, ◌+◌, ◌∙◌, ◌∷◌, [], length, arith, length-append}
-use Rattle.tl_sweep.specs.Neighbours.{IsNumbered}
+use Rattle.tl_slabs.specs.Neighbours.{IsNumbered}
 use Rattle.tl_sweep.proofs.Listing.{segments_more}
 use Rattle.tl_sweep.proofs.events.list_segments.Goals as goal
 

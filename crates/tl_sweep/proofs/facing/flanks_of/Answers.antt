@@ -1,7 +1,7 @@
 use Rattle.std.proofs.Common.{◌<ℤ◌, ◌≤ℤ◌, subst, sym, arith}
 use Rattle.std.proofs.lemmas.Int.{ints}
 use Rattle.tl_inside.proofs.Sides.{upward, downward}
-use Rattle.tl_sweep.specs.Neighbours.{IsNumbered}
+use Rattle.tl_slabs.specs.Neighbours.{IsNumbered}
 use Rattle.tl_sweep.proofs.facing.flanks_of.Goals as goal
 
 pub returns-then-a-b : goal.returns-then-a-b

@@ -1,6 +1,6 @@
 use Rattle.std.proofs.Common.{sym, subst, arith}
-use Rattle.tl_sweep.specs.Heights.{widest}
-use Rattle.tl_sweep.specs.Neighbours.{IsNumbered}
+use Rattle.tl_slabs.specs.Heights.{widest}
+use Rattle.tl_slabs.specs.Neighbours.{IsNumbered}
 use Rattle.tl_sweep.proofs.Tests.{tested}
 use Rattle.tl_sweep.proofs.neighbours.are_tested.Goals as goal
 

@@ -1,8 +1,8 @@
 use Rattle.std.proofs.Common.{inl, arith}
 use Rattle.std.proofs.lemmas.Int.{ints}
-use Rattle.tl_sweep.specs.Heights.{widest, AreNear}
+use Rattle.tl_slabs.specs.Heights.{widest, AreNear}
 use Rattle.tl_sweep.proofs.Tests.{is_clear, clear_is_west, near_by_ends}
-use Rattle.tl_sweep.proofs.Transport.{clearly_apart}
+use Rattle.tl_slabs.proofs.Transport.{clearly_apart}
 use Rattle.tl_sweep.proofs.neighbours.is_clearly_west_of.Goals as goal
 
 pub returns-then-is_parted-clause-west : goal.returns-then-is_parted-clause-west

@@ -1,4 +1,4 @@
-use Rattle.tl_sweep.specs.Heights.{widest}
+use Rattle.tl_slabs.specs.Heights.{widest}
 use Rattle.tl_sweep.proofs.Tests.{is_west}
 use Rattle.tl_sweep.proofs.neighbours.is_west_of.Goals as goal
 

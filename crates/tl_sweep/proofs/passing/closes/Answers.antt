@@ -1,6 +1,6 @@
 use Rattle.std.proofs.Common.{◌∙◌}
-use Rattle.tl_sweep.specs.Heights.{widest}
-use Rattle.tl_sweep.specs.Neighbours.{AreTested}
+use Rattle.tl_slabs.specs.Heights.{widest}
+use Rattle.tl_slabs.specs.Neighbours.{AreTested}
 use Rattle.tl_sweep.proofs.Lining.{joined}
 use Rattle.tl_sweep.proofs.passing.closes.Goals as goal
 

@@ -1,8 +1,8 @@
 use Rattle.std.proofs.Common.{◌≡◌, ◌+◌, ◌++◌, refl, ap, sym, ◌∙◌}
 use Rattle.tl_county.specs.declared.sides.Side.TheVariants.{Outside}
-use Rattle.tl_sweep.specs.Heights.{widest}
-use Rattle.tl_sweep.specs.Neighbours.{AreTested}
-use Rattle.tl_sweep.specs.Beside.{seen_side}
+use Rattle.tl_slabs.specs.Heights.{widest}
+use Rattle.tl_slabs.specs.Neighbours.{AreTested}
+use Rattle.tl_slabs.specs.Beside.{seen_side}
 use Rattle.tl_sweep.specs.Keeping.Facing.{gaps_between, last_far}
 use Rattle.tl_sweep.specs.Keeping.Lined.{list_of}
 use Rattle.tl_sweep.proofs.Gaps.{in_stead}

@@ -1,7 +1,7 @@
 use Rattle.std.proofs.Common.{◌+◌, ◌++◌, sym, ap, ◌∙◌}
-use Rattle.tl_sweep.specs.Heights.{widest}
-use Rattle.tl_sweep.specs.Neighbours.{AreTested}
-use Rattle.tl_sweep.specs.Beside.{seen_side}
+use Rattle.tl_slabs.specs.Heights.{widest}
+use Rattle.tl_slabs.specs.Neighbours.{AreTested}
+use Rattle.tl_slabs.specs.Beside.{seen_side}
 use Rattle.tl_county.specs.declared.sides.Side.TheVariants.{Outside}
 use Rattle.tl_sweep.specs.Keeping.Facing.{last_far}
 use Rattle.tl_sweep.specs.Keeping.Lined.{list_of}

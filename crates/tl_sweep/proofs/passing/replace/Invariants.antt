@@ -1,7 +1,7 @@
 use Rattle.std.proofs.Common.{◌≡◌, ◌++◌, List, ℕ, take}
 use Rattle.tl_county.specs.TheMap.{MapChain}
-use Rattle.tl_sweep.specs.Heights.{widest}
-use Rattle.tl_sweep.specs.Neighbours.{AreTested, EachTwo}
+use Rattle.tl_slabs.specs.Heights.{widest}
+use Rattle.tl_slabs.specs.Neighbours.{AreTested, EachTwo}
 use Rattle.tl_sweep.proofs.passing.replace.Given as goal
 
 -- of both lists the first k stand in each other's stead

@@ -1,6 +1,6 @@
 use Rattle.std.proofs.Common.{refl, subst, sym, ◌∙◌}
-use Rattle.tl_sweep.specs.Heights.{widest}
-use Rattle.tl_sweep.specs.Neighbours.{AreTested, EachTwo}
+use Rattle.tl_slabs.specs.Heights.{widest}
+use Rattle.tl_slabs.specs.Neighbours.{AreTested, EachTwo}
 use Rattle.tl_sweep.proofs.Lining.{pushed}
 use Rattle.tl_sweep.proofs.passing.replace_one.Goals as goal
 

@@ -1,8 +1,8 @@
 use Rattle.std.proofs.Common.{subst, sym, arith}
 use Rattle.tl_geom.specs.Plane.{turn_of}
 use Rattle.tl_planar.specs.Keeping.Apart.{one_found}
-use Rattle.tl_sweep.specs.Heights.{widest}
-use Rattle.tl_sweep.specs.Neighbours.{IsNumbered}
+use Rattle.tl_slabs.specs.Heights.{widest}
+use Rattle.tl_slabs.specs.Neighbours.{IsNumbered}
 use Rattle.tl_sweep.proofs.Spotting.{west_by, gt_test}
 use Rattle.tl_sweep.proofs.placing.is_west_of.Goals as goal
 

@@ -1,5 +1,5 @@
 use Rattle.std.proofs.Common.{◌∙◌}
-use Rattle.tl_sweep.specs.Heights.{widest}
+use Rattle.tl_slabs.specs.Heights.{widest}
 use Rattle.tl_sweep.proofs.Spotting.{east_of_last, west_of_first}
 use Rattle.tl_sweep.proofs.placing.sees.Goals as goal
 

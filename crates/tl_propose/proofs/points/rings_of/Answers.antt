@@ -1,0 +1,21 @@
+use Rattle.std.proofs.Common.{length, take, sym, ap, subst, ◌∙◌, ◌<◌, ◌*◌, All, ◌++◌, ◌∷◌, [], arith}
+use Rattle.std.proofs.lemmas.List.Elements.{All-get_or}
+use Rattle.tl_sides.specs.Sides.{dart_count, IsRing}
+use Rattle.tl_propose.specs.Keeping.Lists.{lists_in}
+use Rattle.tl_propose.proofs.SideLemmas.{darts_in, walk_at, walk_more, many_walks, all_walks}
+use Rattle.tl_propose.proofs.points.rings_of.Goals as goal
+
+pub push-requires : goal.push-requires
+push-requires c =
+    let within = c.loop-walk-test.true in
+    let ring = c.requires.rings c.loop-walk.walk-index (omega (arith, within, many_walks c.args.walks.now)) in
+    let is = walk_at c.args.walks.now c.loop-walk.walk-index c.walk-item.result within c.walk-item.is ∙ sym c.deref.ensures.value in
+    record { known = darts_in c.args.map.now.chains c.deref.result.now (subst (IsRing c.args.map.now.chains) is ring) }
+
+pub loop-walk-preserved : goal.loop-walk-preserved
+loop-walk-preserved c = record {
+  laid =
+      c.in_ok-push.ensures.rings ∙ ap (λ rs. rs ++ c.deref.result.now ∷ []) c.loop-walk.invariant.laid ∙ ap (λ r. take c.loop-walk.walk-index (lists_in c.args.walks.now) ++ r ∷ []) c.deref.ensures.value
+      ∙ sym (walk_more c.args.walks.now c.loop-walk.walk-index c.walk-item.result c.loop-walk-test.true c.walk-item.is);
+  boxed = c.in_ok-push.ensures.boxed c.loop-walk.invariant.boxed;
+}

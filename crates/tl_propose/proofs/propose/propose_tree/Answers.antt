@@ -1,0 +1,24 @@
+use Rattle.std.proofs.Common.{length, subst, arith}
+use Rattle.tl_county.specs.Segments.{segments_before}
+use Rattle.tl_planar.specs.Rectangles.{segment_rect}
+use Rattle.tl_index.specs.Fits.{Fits}
+use Rattle.tl_pack.specs.Packed.{IsShallow}
+use Rattle.tl_index.specs.Trees.{tree_of}
+use Rattle.tl_propose.proofs.Packed.{is_tree, eight_levels, new_nodes}
+use Rattle.tl_propose.proofs.propose.propose_tree.Goals as goal
+
+pub returns-clause-tree : goal.returns-clause-tree
+returns-clause-tree c =
+    let nodes = c.in_ok-nodes.nodes.items in
+    is_tree c.args.map.now nodes
+    (subst (λ chains. Fits (tree_of nodes) (segments_before chains (length chains)) (segment_rect chains)) c.new.ensures c.in_ok-nodes.ensures.fits)
+    c.in_ok-nodes.ensures.levels
+
+pub returns-clause-each : goal.returns-clause-each
+returns-clause-each c = new_nodes _ c.in_ok-nodes.ensures.filled
+
+pub returns-clause-shallow : goal.returns-clause-shallow
+returns-clause-shallow c =
+    let nodes = c.in_ok-nodes.nodes.items in
+    let shallow = subst (λ chains. IsShallow (segments_before chains (length chains)) (tree_of nodes)) c.new.ensures c.in_ok-nodes.ensures.shallow in
+    eight_levels _ nodes shallow (omega (arith, c.segments-segments.ensures.count, c.segments-segments.ensures.few))

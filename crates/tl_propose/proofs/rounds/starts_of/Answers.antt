@@ -1,0 +1,29 @@
+use Rattle.std.proofs.Common.{◌<◌, ◌*◌, length, [], refl, sym, ◌∙◌, ap, map, length-append, arith}
+use Rattle.std.proofs.lemmas.List.Elements.{All-nil, All-push, All-same}
+use Rattle.tl_propose.specs.Keeping.Sorting.{IsStartOf}
+use Rattle.tl_propose.specs.declared.rounds.DartStart.{DartStart}
+use Rattle.tl_pack.proofs.ListLemmas.{up_none, up_pushed}
+use Rattle.tl_propose.proofs.rounds.starts_of.Goals as goal
+
+pub loop-dart-init : goal.loop-dart-init
+loop-dart-init c =
+    let n = 2 * length c.args.map.now.chains in
+    record {
+      all = ap (map (λ (s : DartStart). s.dart)) c.in_ok-starts.ensures.items ∙ sym up_none;
+      known = All-same (λ (s : DartStart). s.dart < n) _ [] c.in_ok-starts.ensures.items (All-nil _);
+      long = ap length c.in_ok-starts.ensures.items;
+      each = All-same (IsStartOf c.args.map.now.chains) _ [] c.in_ok-starts.ensures.items (All-nil _);
+    }
+
+pub loop-dart-preserved : goal.loop-dart-preserved
+loop-dart-preserved c =
+    let n = 2 * length c.args.map.now.chains in
+    let one : c.loop-dart.dart < n = omega arith in
+    record {
+      all = up_pushed (λ (s : DartStart). s.dart) _ _ c.loop-dart.dart _ c.in_ok-push.ensures.items refl c.loop-dart.invariant.all;
+      known = All-same (λ (s : DartStart). s.dart < n) _ _ c.in_ok-push.ensures.items (All-push (λ (s : DartStart). s.dart < n) _ _ c.loop-dart.invariant.known one);
+      long = omega (arith, simp length-append at (ap length c.in_ok-push.ensures.items), c.loop-dart.invariant.long);
+      each = All-same (IsStartOf c.args.map.now.chains) _ _ c.in_ok-push.ensures.items
+          (All-push (IsStartOf c.args.map.now.chains) _ _ c.loop-dart.invariant.each
+          (record { starts = c.dart_node-node.ensures.start; within = c.dart_node-node.ensures.within; heads = c.dart_heading-heading.ensures }));
+    }

@@ -1,0 +1,19 @@
+use Rattle.std.proofs.Common.{◌≡◌, ◌+◌, ◌-◌, Some, refl, sym, ap, subst, ◌∙◌, arith}
+use Rattle.std.specs.Prelude.{slice_index}
+use Rattle.tl_county.specs.declared.sides.Side.{Side}
+use Rattle.tl_county.specs.Darts.{dart_left}
+use Rattle.tl_verdict.specs.Truth.{AreAtOdds}
+use Rattle.tl_propose.proofs.SideLemmas.{at_odds, one_given}
+use Rattle.tl_propose.proofs.sides.side_at_odds.Goals as goal
+
+pub returns-then-not-is_one_side : goal.returns-then-not-is_one_side
+returns-then-not-is_one_side c =
+    let some = c.loop-place.auto.place in
+    let chains = c.args.map.now.chains in
+    let ring = c.args.ring.now in
+    let place = c.loop-place.place in
+    let within = c.loop-place-test.true in
+    let before : dart_left c.args.map.now.chains (slice_index c.args.ring.now (c.loop-place.place - 1)) ≡ Some c.dart_left-left.result = c.loop-place.invariant (place - 1) (omega (arith, some)) in
+    subst (AreAtOdds c.args.map.now c.dart_start.result (slice_index ring place)) (sym c.reverse.ensures)
+    (at_odds c.args.map.now ring c.requires place (place - 1) c.dart_start.result (slice_index ring place) (slice_index ring (place - 1)) (omega (arith, some)) within refl refl c.dart_start.ensures
+    (λ same. c.is_one_side.ensures.other c.if-not-is_one_side.true (one_given c.dart_left.result c.dart_left-left.result (sym c.dart_left.ensures ∙ same ∙ before))))

@@ -1,0 +1,14 @@
+//! What follows from a map's darts, and is proposed of it: the rounds about its nodes, the walks along its boundaries and the tree
+//! over its segments, which make a certificate, and by these whether sides agree and polygons' points lie where they have to.
+//! Of planar chains all of it is right; of others nothing is claimed.
+#![tactic(auto)]
+
+mod points;
+mod propose;
+mod rounds;
+mod sides;
+mod walks;
+
+pub use points::{find_misplaced_beside, find_misplaced_by};
+pub use propose::{propose, propose_rings, propose_tree};
+pub use sides::find_sides_at_odds;

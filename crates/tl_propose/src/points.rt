@@ -1,0 +1,99 @@
+//! The points of polygons, by the rings of a map.
+
+ghost use Rattle.std.specs.Prelude.{◌≡◌, ◌<◌, ◌^◌, length, IfOk, MatchOption};
+ghost use Rattle.tl_index.specs.Preorder.{IsPreorder};
+ghost use Rattle.tl_sides.specs.Sides.{SidesAgree};
+ghost use Rattle.tl_sides.specs.Walks.{AreWalks};
+ghost use Rattle.tl_inside.specs.Placed.{ArePlaced};
+ghost use Rattle.tl_rings.specs.Rings.{AreBoxed};
+ghost use Rattle.tl_verdict.specs.Truth.{IsTrueOfMap};
+ghost use Rattle.tl_verdict.specs.Valid.{IsTree};
+ghost use Rattle.tl_propose.specs.Keeping.Lists.{lists_in};
+
+use crate::propose::propose_tree;
+use std::alloc::Global;
+use tl_county::Map;
+use tl_index::{Memory, TreeNode, TreeStop};
+use tl_rings::{Rings, find_misplaced};
+use tl_tree::FlatTree;
+use tl_verdict::MapFault;
+
+/// A polygon whose point doesn't lie where it has to, if there is one, by the walks of a map and a tree that is made of its
+/// segments.
+pub fn find_misplaced_beside(
+    alloc: Global,
+    map: &Map,
+    walks: &[Vec<u32>],
+) -> Result<Option<MapFault>, Memory>
+    requires sides { SidesAgree map.now.chains }
+    requires walks { AreWalks map.now.chains (lists_in walks.now) }
+    requires few { length walks.now < 2 ^ 32 }
+    ensures { IfOk result (λ found. MatchOption found (ArePlaced map.now) (IsTrueOfMap map.now)) }
+{
+    match propose_tree(alloc, map) {
+        Ok(nodes) => find_misplaced_by(alloc, map, &nodes, walks),
+        Err(_) => Err(Memory),
+    }
+}
+
+/// The same by a tree of the map's segments.
+pub fn find_misplaced_by(
+    alloc: Global,
+    map: &Map,
+    nodes: &[TreeNode],
+    walks: &[Vec<u32>],
+) -> Result<Option<MapFault>, Memory>
+    requires whole { IsPreorder nodes.now }
+    requires numbered { length nodes.now < 2 ^ 32 }
+    requires tree { IsTree map.now nodes.now }
+    requires sides { SidesAgree map.now.chains }
+    requires walks { AreWalks map.now.chains (lists_in walks.now) }
+    requires few { length walks.now < 2 ^ 32 }
+    ensures { IfOk result (λ found. MatchOption found (ArePlaced map.now) (IsTrueOfMap map.now)) }
+{
+    match rings_of(alloc, map, walks) {
+        Ok(rings) => find_misplaced_among(alloc, map, nodes, &rings),
+        Err(_) => Err(Memory),
+    }
+}
+
+/// The same by the map's rings.
+fn find_misplaced_among(
+    alloc: Global,
+    map: &Map,
+    nodes: &[TreeNode],
+    rings: &Rings,
+) -> Result<Option<MapFault>, Memory>
+    requires whole { IsPreorder nodes.now }
+    requires numbered { length nodes.now < 2 ^ 32 }
+    requires tree { IsTree map.now nodes.now }
+    requires sides { SidesAgree map.now.chains }
+    requires walks { AreWalks map.now.chains rings.now.rings }
+    requires boxed { AreBoxed map.now.chains rings.now }
+    requires few { length rings.now.rings < 2 ^ 32 }
+    ensures { IfOk result (λ found. MatchOption found (ArePlaced map.now) (IsTrueOfMap map.now)) }
+{
+    let tree = match FlatTree::from_nodes(alloc, nodes) {
+        Ok(tree) => tree,
+        Err(TreeStop::Memory) => return Err(Memory),
+        Err(TreeStop::TooDeep) => unreachable!(),
+    };
+    match find_misplaced(alloc, map, &tree, rings) {
+        Ok(Some(fault)) => Ok(Some(MapFault::PolygonPoint(fault))),
+        Ok(None) => Ok(None),
+        Err(_) => Err(Memory),
+    }
+}
+
+/// The walks of a map as rings, each with a rectangle about it.
+fn rings_of<'a>(alloc: Global, map: &Map, walks: &'a [Vec<u32>]) -> Result<Rings<'a>, Memory>
+    requires { AreWalks map.now.chains (lists_in walks.now) }
+    ensures rings { IfOk result (λ rings. rings.rings ≡ lists_in walks.now) }
+    ensures boxed { IfOk result (AreBoxed map.now.chains) }
+{
+    let mut rings = Rings::new(alloc, map.darts(), walks)?;
+    for walk in walks {
+        rings.push(map, walk)?;
+    }
+    Ok(rings)
+}

@@ -1,0 +1,85 @@
+//! The certificate that is proposed for a map.
+
+ghost use Rattle.std.specs.Prelude.{◌*◌, ◌≤◌, length, All, IfOk};
+ghost use Rattle.tl_index.specs.Preorder.{IsPreorder};
+ghost use Rattle.tl_index.specs.Trees.{depth, tree_of};
+ghost use Rattle.tl_pack.specs.Packed.{IsEvenlySplit};
+ghost use Rattle.tl_planar.specs.Planar.{IsPlanar};
+ghost use Rattle.tl_sides.specs.Lists.{HoldOnce};
+ghost use Rattle.tl_sides.specs.Rounds.{AreRounds};
+ghost use Rattle.tl_sides.specs.Walks.{AreWalks};
+ghost use Rattle.tl_crossings.specs.Headings.{AreProper};
+ghost use Rattle.tl_cert.specs.Certificates.{AreDartLists, IsCounted, IsNode};
+ghost use Rattle.tl_verdict.specs.Valid.{AreCounts, IsTree};
+ghost use Rattle.tl_propose.specs.Keeping.Lists.{lists_in};
+ghost use Rattle.tl_propose.specs.Keeping.Proposed.{IsProposal};
+
+use crate::rounds::{cut_rounds, sort_starts};
+use crate::walks::{link_darts, trace_walks};
+use std::alloc::{AllocError, Global};
+use tl_cert::{Certificate, Counts};
+use tl_county::Map;
+use tl_index::TreeNode;
+use tl_pack::pack;
+use tl_planar::Segments;
+
+/// The certificate of version 2 that is proposed for a map.
+pub fn propose(alloc: Global, map: &Map) -> Result<Certificate, AllocError>
+    ensures { IfOk result (IsProposal map.now) }
+{
+    let counts = counts_of(map);
+    let tree = propose_tree(alloc, map)?;
+    let (rounds, walks) = propose_rings(alloc, map)?;
+    match Certificate::new(counts, tree, rounds, walks, 2) {
+        Some(certificate) => Ok(certificate),
+        None => unreachable!(),
+    }
+}
+
+/// The counts of a map.
+fn counts_of(map: &Map) -> Counts
+    ensures { AreCounts map.now result }
+{
+    Counts {
+        chains: map.chains(),
+        segments: map.segments(),
+        nodes: map.nodes(),
+        polygons: map.polygons(),
+    }
+}
+
+/// The tree over the segments of a map.
+pub fn propose_tree(alloc: Global, map: &Map) -> Result<Vec<TreeNode>, AllocError>
+    ensures tree { IfOk result (λ nodes. IsTree map.now nodes.items) }
+    ensures shallow { IfOk result (λ nodes. depth (tree_of nodes.items) ≤ 8) }
+    ensures split { IfOk result (λ nodes. IsEvenlySplit (tree_of nodes.items)) }
+    ensures whole { IfOk result (λ nodes. IsPreorder nodes.items) }
+    ensures counted { IfOk result (λ nodes. IsCounted nodes.items) }
+    ensures each { IfOk result (λ nodes. All (IsNode 2) nodes.items) }
+{
+    // that there are at most 8 ^ 8 segments, which need 8 levels
+    let _segments = map.segments();
+    let nodes = pack(alloc, &Segments::new(map))?;
+    Ok(nodes)
+}
+
+/// The rounds and the walks of a map.
+pub fn propose_rings(alloc: Global, map: &Map) -> Result<(Vec<Vec<u32>>, Vec<Vec<u32>>), AllocError>
+    ensures rounds { IfOk result (λ made.
+        HoldOnce (2 * length map.now.chains) (lists_in made.0.items)) }
+    ensures walks { IfOk result (λ made.
+        HoldOnce (2 * length map.now.chains) (lists_in made.1.items)) }
+    ensures are_rounds { IfOk result (λ made. AreProper map.now.chains → IsPlanar map.now.chains →
+        AreRounds map.now.chains (lists_in made.0.items)) }
+    ensures are_walks { IfOk result (λ made. AreProper map.now.chains → IsPlanar map.now.chains →
+        AreWalks map.now.chains (lists_in made.1.items)) }
+    ensures rounds_counted { IfOk result (λ made. AreDartLists (lists_in made.0.items)) }
+    ensures walks_counted { IfOk result (λ made. AreDartLists (lists_in made.1.items)) }
+{
+    let starts = sort_starts(alloc, map)?;
+    let rounds = cut_rounds(alloc, map.nodes(), &starts)?;
+    drop(starts);
+    let following = link_darts(alloc, map.darts(), &rounds)?;
+    let walks = trace_walks(alloc, &following)?;
+    Ok((rounds, walks))
+}

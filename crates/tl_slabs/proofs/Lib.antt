@@ -1,0 +1,12 @@
+pub mod Order
+pub mod Rising
+pub mod Lying
+pub mod Transport
+pub mod Numbered
+pub mod Walking
+pub mod Floors
+pub mod Vertices
+pub mod Planarity
+pub mod Crossed
+pub mod Flanked
+pub mod Between

@@ -1,0 +1,2 @@
+-- What proofs keep on their way. No public contract cites a file of this folder.
+pub mod Clear

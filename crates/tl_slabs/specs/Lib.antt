@@ -1,0 +1,5 @@
+pub mod Heights
+pub mod Neighbours
+pub mod Slabs
+pub mod Beside
+pub mod Keeping

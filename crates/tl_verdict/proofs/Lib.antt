@@ -1,0 +1,4 @@
+pub mod NodeCounts
+pub mod Denials
+pub mod OneMap
+pub mod Deciding

@@ -1,0 +1,17 @@
+//! What is decided of a map, and what each answer says: a verdict, a fault of the map or of a certificate, or why there is none.
+//!
+//! A map is sound where its chains are planar, its sides agree, the boundary of each polygon and that of the outside is closed
+//! rings, and the points of polygons lie inside their own rings alone (`specs/Sound`). Each fault has one meaning
+//! (`specs/Truth`). `tl_check` and `tl_build` answer so.
+#![tactic(auto)]
+
+mod fault;
+pub mod laws;
+mod report;
+mod stop;
+mod verdict;
+
+pub use fault::{CertFault, MapFault};
+pub use report::report;
+pub use stop::Stop;
+pub use verdict::{Report, Verdict};

@@ -1,0 +1,35 @@
+//! Why nothing is decided.
+
+use std::fmt;
+use thiserror::Error;
+use tl_record::Cause;
+
+/// Why there is no verdict. Its message is the line that the program prints; it isn't the derive's, which no contract
+/// could state.
+#[derive(Clone, Copy, Debug, PartialEq, Eq, Error)]
+pub enum Stop {
+    /// This line of the records, counted from 1, is the first that is refused.
+    Record { line: u64, cause: Cause },
+    /// Memory was refused.
+    Memory,
+    /// A read failed.
+    Device,
+    /// More pairs of segments than the budget have rectangles that meet, and as many of these as the budget don't conflict.
+    Budget,
+}
+
+impl fmt::Display for Stop {
+    ghost use Rattle.std.specs.Prelude.{Some};
+    ghost use Rattle.tl_verdict.specs.Stops.{stop_text};
+
+    ghost output = { λ stop. Some (stop_text stop) };
+
+    fn fmt<W: fmt::Write>(&self, f: &mut fmt::Formatter<W>) -> fmt::Result {
+        match self {
+            Stop::Record { line, cause } => write!(f, "refused line {line} {cause}"),
+            Stop::Memory => f.write_str("stopped Memory"),
+            Stop::Device => f.write_str("stopped Device"),
+            Stop::Budget => f.write_str("stopped Budget"),
+        }
+    }
+}
