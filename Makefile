@@ -10,9 +10,9 @@
 # make examples            runs the commands of README.md, examples/README.md and docs/faults.md, and compares what they print
 # make counties            runs the commands of docs/many-counties.md on a few counties
 # make bench               measures the program on record files of 1,000 to 1,000,000 chains, checks of counties, maps
-#                          decided and certificates built with none given, maps of long segments, searches in trees, and
-#                          certificates written and read, and counts instructions where valgrind is there (beside another program's with
-#                          BESIDE=PROGRAM)
+#                          decided and certificates built with none given, maps of long segments, what sweeps say of all
+#                          these, searches in trees, and certificates written and read, and counts instructions where
+#                          valgrind is there (beside another program's with BESIDE=PROGRAM)
 # make speed               prints the tables of docs/speed.md, which are the rows of 100,000 chains among these
 # make install PREFIX=..   installs the program as PREFIX/bin/tigertopo
 
@@ -57,12 +57,12 @@ counties: build
 	python3 tests/counties.py
 
 bench: build
-	python3 proving/prove.py bench_records bench_tree bench_cert bench_check
+	python3 proving/prove.py bench_records bench_tree bench_cert bench_check bench_sweep
 	python3 bench/run.py
 	python3 bench/instructions.py $(if $(BESIDE),--beside $(BESIDE))
 
 speed: build
-	python3 proving/prove.py bench_records bench_tree bench_cert bench_check
+	python3 proving/prove.py bench_records bench_tree bench_cert bench_check bench_sweep
 	python3 bench/run.py --kinds county,comb,lines,star,squares,spiral --counties 100000 --decided 100000 --long 100000 --segments 2750000 --certificates 1000000
 	python3 bench/instructions.py $(if $(BESIDE),--beside $(BESIDE))
 

@@ -1,13 +1,14 @@
 #!/usr/bin/env python3
 """Makes the record files of maps whose segments are long and stand side by side, as no county's do: a stranger's file may.
 
-usage: long.py FOLDER CHAINS --comb|--lines|--star|--squares|--spiral [--mirrored] [--turned] [--crossed]
+usage: long.py FOLDER CHAINS --comb|--lines|--star|--squares|--spiral [--mirrored] [--turned] [--crossed] [--exchanged]
 
 --comb: slanted lines side by side. --lines: lines of three segments, nearly level. --star: spokes about one node, and its
 rim, with a polygon between each two spokes. --squares: squares in squares, a polygon between each two. --spiral: one line
 round and round, cut into chains of 9,991 segments; CHAINS is the number of its segments. In all of them the rectangles of
 most segments meet, or a point lies within most rings. The map is sound, also as it is seen in a mirror, and turned by a
-quarter; with --crossed one chain more crosses the first segment, so that it isn't.
+quarter; with --crossed one chain more crosses the first segment, so that it isn't. With --exchanged, of a star or of squares,
+the sides of one chain in the middle are told the wrong way round, so that sides which face each other differ there.
 """
 
 import math
@@ -81,6 +82,11 @@ def crossing(points):
     return [(x - north, y + east), (x + north, y - east)], None, None
 
 
+def exchanged(chain):
+    points, left, right = chain
+    return points, right, left
+
+
 def moved(chain, words):
     points, left, right = chain
     if words.mirrored:
@@ -95,7 +101,7 @@ def key(number):
 
 
 def main():
-    words = words_given(*(f"--{it}" for it in (*FAMILIES, "mirrored", "turned", "crossed")))
+    words = words_given(*(f"--{it}" for it in (*FAMILIES, "mirrored", "turned", "crossed", "exchanged")))
     rng = random.Random(words.chains)
     family = next(it for it in FAMILIES if getattr(words, it))
     chains = list(globals()[family](rng, words.chains))
@@ -106,6 +112,8 @@ def main():
         inside = square_points(words.chains)
     if words.crossed:
         chains.append(crossing(chains[0][0]))
+    if words.exchanged:
+        chains[len(chains) // 2] = exchanged(chains[len(chains) // 2])
     nodes, files = {}, {name: [] for name in ("RT1", "RT2", "RTI", "RTP")}
     for tlid, (points, left, right) in enumerate((moved(chain, words) for chain in chains), 60_000_001):
         cells = [nodes.setdefault(point, len(nodes) + 1) for point in (points[0], points[-1])]

@@ -2,8 +2,9 @@
 """Measures `tigertopo show`, `landmarks` and `locate`, and a program that only counts records, beside `wc -l` of the same files;
 `check` by a plain maker's certificate beside `show`, with the parts of a check as `bench_check` tells them, in a second table;
 `audit`, `build`, `check` of what was built and `locate` beside `show` in a third, with the parts of that work as `bench_check`
-tells them in a fourth; `audit` of maps of long segments in a fifth; `bench_tree`, which makes the segments of a county and
-searches them, in a sixth; and `bench_cert`, which writes and reads certificates, beside `wc -l` of the same file, in a seventh.
+tells them in a fourth; `audit` of maps of long segments in a fifth; what `bench_sweep` says of all these maps in a sixth;
+`bench_tree`, which makes the segments of a county and searches them, in a seventh; and `bench_cert`, which writes and reads
+certificates, beside `wc -l` of the same file, in an eighth.
 
 usage: run.py [--sizes N,N,..] [--counties N,N,..] [--keys N] [--decided N,N,..] [--long N,N,..] [--segments N,N,..]
               [--certificates N,N,..] [--kinds KIND,KIND,..] [--runs N]
@@ -12,7 +13,7 @@ The files of --sizes hold types 1 and 2; those of --counties are whole counties 
 second row of files, in random order. Those of --keys have as many polygons as chains, with ordinary keys and, in a second
 row, with keys that were chosen against a hash function. Those of --decided are such counties in both orders, and grids of
 squares; those of --long maps whose segments are long and stand side by side, each also in a mirror, turned by a quarter, both,
-and with one crossing. A list may be empty, which leaves its table out; --kinds leaves out files of other kinds than those.
+with one crossing and, where there are polygons, with the sides of one chain exchanged. A list may be empty, which leaves its table out; --kinds leaves out files of other kinds than those.
 
 Each program runs once for its peak of memory and then RUNS times for its seconds, in turn with the others, with its
 output thrown away. The tables have medians. Files are made in bench/out, once. `make bench` builds the programs first.
@@ -32,6 +33,7 @@ COUNT = CRATES / "bench_records" / "out" / "bench_records"
 TREE = CRATES / "bench_tree" / "out" / "bench_tree"
 CERT = CRATES / "bench_cert" / "out" / "bench_cert"
 CHECK = CRATES / "bench_check" / "out" / "bench_check"
+SWEEP = CRATES / "bench_sweep" / "out" / "bench_sweep"
 NAMES = {
     "streets": "streets alone",
     "county": "a county",
@@ -50,7 +52,11 @@ LONG = {
     "spiral": "a spiral",
 }
 SEEN = {"": "", "mirrored": " in a mirror", "turned": ", turned", "mirrored-turned": " in a mirror, turned",
-        "crossed": ", one crossing more"}
+        "crossed": ", one crossing more", "exchanged": ", the sides of one chain exchanged"}
+# Those that are sound.
+SOUND = ("", "mirrored", "turned", "mirrored-turned")
+# Those that have polygons.
+SIDED = ("star", "squares")
 MAKERS = {"streets": ["make_records.py"], "county": ["county.py"], "shuffled": ["county.py", "--shuffled"],
           "grid": ["grid.py"], "nested": ["nested.py"], "keys": ["keys.py"], "hostile": ["keys.py", "--hostile", "fixed"],
           "sip": ["keys.py", "--hostile", "zero"]}
@@ -186,15 +192,32 @@ def part_rows(chains, kind, runs):
            f"{sides / shown:.2f}", f"{points / shown:.2f}")
 
 
+def seen_of(kind):
+    """How maps of long segments are seen, of one kind."""
+    return [seen for seen in SEEN if kind in SIDED or seen != "exchanged"]
+
+
 def long_rows(chains, kind, runs):
     """What `audit` takes of one map of long segments, however it is seen."""
-    for seen, said in SEEN.items():
+    for seen in seen_of(kind):
         words = [PROGRAM, "audit", *files_of(chains, f"{kind}-{seen}")]
         answer = subprocess.run(words, stdout=subprocess.PIPE, text=True).stdout
         peak = peak_of(words)
-        found = statistics.median(seconds_of(words, 1 if seen == "crossed" else 0) for _ in range(runs))
-        yield (f"{chains:,} {LONG[kind]}{said}", "a meet" if answer.startswith("map fault G1") else answer.split()[0],
+        found = statistics.median(seconds_of(words, 0 if seen in SOUND else 1) for _ in range(runs))
+        yield (f"{chains:,} {LONG[kind]}{SEEN[seen]}", "a meet" if answer.startswith("map fault G1") else answer.split()[0],
                f"{found * 1e3:.1f}", f"{found * 1e6 / chains:.2f}", f"{peak:.1f}" if peak >= 0.1 else "-")
+
+
+def swept_rows(maps, runs):
+    """What a sweep says of maps and how long it takes, and how often it says nothing."""
+    said = []
+    for chains, kind, name in maps:
+        words = [SWEEP, records_of(chains, kind)]
+        said.append(subprocess.run(words, capture_output=True, text=True, check=True).stdout.strip())
+        read, swept = (statistics.median(column) for column in zip(*(steps_of(words) for _ in range(runs))))
+        yield f"{chains:,} {name}", said[-1], f"{read:.1f}", f"{swept:.1f}"
+    if said:
+        yield f"{len(said)} maps", f"unknown of {said.count('unknown')}", "", ""
 
 
 def searched(segments):
@@ -277,6 +300,9 @@ def main():
     parts = [(kind, sizes) for kind, sizes in parts if kind in kinds]
     decided = [(chains, kind) for kind in ("county", "shuffled", "grid", "nested") for chains in numbers(words.decided)]
     decided = [(chains, kind) for chains, kind in decided if kind in kinds]
+    swept = [(chains, kind, NAMES[kind]) for chains, kind in decided]
+    swept += [(chains, f"{kind}-{seen}", f"{LONG[kind]}{SEEN[seen]}")
+              for kind in LONG if kind in kinds for chains in numbers(words.long) for seen in seen_of(kind)]
     print_table(
         ("Chains", "Lines", "MB", "Program", "ms", "times `wc -l`", "million lines a second", "peak MB"),
         (row for kind, sizes in parts for chains in numbers(sizes) for row in rows(chains, kind, words.runs)))
@@ -296,6 +322,7 @@ def main():
     print_table(
         ("Chains", "Answer", "`audit`, ms", "us a chain", "peak MB"),
         (row for kind in LONG if kind in kinds for chains in numbers(words.long) for row in long_rows(chains, kind, words.runs)))
+    print_table(("Chains", "Sweep", "records read, ms", "swept, ms"), swept_rows(swept, words.runs))
     print_table(
         ("Segments", "Tree", "rectangles made and sorted, ms", "tree packed, ms", "search, ms", "times", "tests a segment",
          "check, ns an item"),

@@ -6,9 +6,9 @@ usage: rows.py [PROGRAM]
 A row begins with a line `== TITLE`. Then come its files:
 
     like TITLE      the files of an earlier row
-    file NAME       its lines follow indented; tests/layout.py says how a line is written
-    text NAME       its lines follow indented as they stand, several of them with ` / ` between two; behind `for A..B:` they
-                    are written for each number from A to B, which stands for `{}`
+    file NAME       its lines follow indented; tests/layout.py says how a line is written; behind `for A..B:` a line is
+                    written for each number from A to B, which stands for `{}`
+    text NAME       its lines follow indented as they stand, several of them with ` / ` between two, or so for each number
     swap NAME A -> B    the file with the lines B in place of the lines A, which stand in it once, each written as in `text`
     cut NAME N      the file's first N bytes alone, or with N below 0 all but so many
 
@@ -103,13 +103,23 @@ class Beginning(Row):
         return text in [line + "\n" for line in self.line.split(" or ")]
 
 
+def each_of(line):
+    """The line for each of its numbers, if it has such, or the line."""
+    repeated = re.fullmatch(r"for (\d+)\.\.(\d+): (.*)", line)
+    if not repeated:
+        return [line]
+    first, last, rest = int(repeated[1]), int(repeated[2]), repeated[3]
+    return [rest.replace("{}", str(number)) for number in range(first, last + 1)]
+
+
+def records_of(line):
+    """The bytes of the records that are written as one line."""
+    return b"".join(map(line_of, each_of(line)))
+
+
 def text_of(line):
     """The bytes of the lines that are written as one."""
-    repeated = re.fullmatch(r"for (\d+)\.\.(\d+): (.*)", line)
-    if repeated:
-        first, last, rest = int(repeated[1]), int(repeated[2]), repeated[3]
-        return b"".join(text_of(rest.replace("{}", str(number))) for number in range(first, last + 1))
-    return line.replace(" / ", "\n").encode() + b"\n"
+    return b"".join(it.replace(" / ", "\n").encode() + b"\n" for it in each_of(line))
 
 
 def refused(title, line, cause):
@@ -208,7 +218,7 @@ def rows_of(path):
             if word == "file":
                 name = shlex.split(rest)[0]
                 row.files[name] = b""
-                into = (row.files, name, line_of)
+                into = (row.files, name, records_of)
             elif word == "text":
                 row.files[rest] = b""
                 into = (row.files, rest, text_of)
