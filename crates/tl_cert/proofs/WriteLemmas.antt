@@ -1,14 +1,13 @@
 -- A certificate's text, passed on piece by piece.
-use Rattle.std.proofs.Common.{◌≡◌, ℕ, ◌+◌, ◌-◌, ◌<◌, ◌≤◌, List, [], ◌∷◌, ◌++◌, length, take, drop, map, get_or, Result, Ok, Err, OnOk, refl, sym, ap, subst, ◌∙◌, arith}
+use Rattle.std.proofs.Common.{◌≡◌, ℕ, ◌+◌, ◌-◌, ◌<◌, ◌≤◌, List, [], ◌∷◌, ◌++◌, length, take, drop, map, get_or, refl, sym, ap, subst, ◌∙◌, arith}
 use Rattle.std.proofs.Common.{append_assoc, append-nil, add-one, take-append-drop, decimal, set, length-set, length-drop}
 use Rattle.std.proofs.Math.Seq.{take-suc}
 use Rattle.std.proofs.lemmas.List.{take_all, map-append, length-map, drop-set}
-use lib.Seq.{take-append_seam}
 use Rattle.std.specs.Global.{Global}
 use Rattle.std.specs.Io.KnownBytes.{Appends}
 use Rattle.std.specs.Prelude.{codes, Option, Vec}
-use Rattle.tl_output.specs.Writing.{PassesOn, PassesSome, TriesToPassOn, Writes, FailsToWrite, line_of}
-use Rattle.tl_output.proofs.WritingLemmas.{passes_both, passes_some_more, passes_then}
+use Rattle.tl_output.specs.Writing.{PassesOn, PassesSome, Writes, line_of}
+use Rattle.tl_output.proofs.WritingLemmas.{passes_both, passes_some_more, passes_some_then}
 use Rattle.tl_record.specs.Lines.{line_feed, joined_lines}
 use Rattle.tl_index.specs.declared.node.TreeNode.{TreeNode}
 use Rattle.tl_index.specs.declared.node.TreeNode.TheVariants.{Inner, Leaf}
@@ -16,16 +15,9 @@ use Rattle.tl_cert.specs.Certificates.{TheCertificate}
 use Rattle.tl_cert.specs.declared.certificate.Counts.{Counts}
 use Rattle.tl_cert.specs.Text.{numbered_line, head_line, counts_line, nodes_lines, tree_lines, leaf_line, inner_line, item_lines}
 use Rattle.tl_cert.specs.Text.{darts_lines, all_darts_lines, rounds_lines, walks_lines, end_line, certificate_text}
-use Rattle.tl_cert.specs.Writing.{WritesSome}
 use Rattle.tl_cert.proofs.Completing.{joined-append}
 
--- one text is passed on whole, and another behind it isn't
-pub passes_some_then : (old mid new : Option (List ℕ)) (held kept front behind : List ℕ) → PassesOn old mid held kept front
-    → PassesSome mid new kept behind → PassesSome old new held (front ++ behind)
-passes_some_then old mid new held kept front behind p q =
-    record { lost = q.lost; passes = passes_both old mid new held kept q.lost front behind p q.passes }
-
--- the same, and there is more behind it
+-- one text is passed on whole, another behind it isn't, and there is more
 pub passes_some_of : (old mid new : Option (List ℕ)) (held kept front behind more : List ℕ) → PassesOn old mid held kept front
     → PassesSome mid new kept behind → PassesSome old new held (front ++ behind ++ more)
 passes_some_of old mid new held kept front behind more p q =
@@ -173,42 +165,9 @@ parts_of c version counts nodes rounds walks v k n r w =
     ∙ ap (λ x. parts_text c.version c.counts c.tree c.rounds x) w
     ∙ whole_text c
 
--- ---- what a call passes on
-
--- the last part of a whole
-pub passes_last : {T E : Type 0} (r : Result T E) (old mid new : Option (List ℕ)) (held kept last front behind whole : List ℕ)
-    → PassesOn old mid held kept front → TriesToPassOn mid new kept last behind r → front ++ behind ≡ whole
-    → TriesToPassOn old new held last whole r
-passes_last r old mid new held kept last front behind whole p q same =
-    subst (λ l. TriesToPassOn old new held last l r) same (passes_then r old mid new held kept last front behind p q)
-
--- the first part of a whole got lost
-pub passes_some_first : (old new : Option (List ℕ)) (held front more whole : List ℕ) → PassesSome old new held front → front ++ more ≡ whole
-    → PassesSome old new held whole
-passes_some_first old new held front more whole p same =
-    subst (PassesSome old new held) same (passes_some_more old new held front more p)
-
--- nothing is kept at the end
-pub passes_emptied : {T E : Type 0} (r : Result T E) (old new : Option (List ℕ)) (held kept text : List ℕ)
-    → OnOk r (kept ≡ []) → TriesToPassOn old new held kept text r → TriesToPassOn old new held [] text r
-passes_emptied (Ok x) old new held kept text empty p = subst (λ l. PassesOn old new held l text) empty p
-passes_emptied (Err e) old new held kept text empty p = p
-
 -- ---- what is written
 
 pub writes_whole : {S : Type 0} (contents : S → Option (List ℕ)) (failures : S → ℕ) (old new : S) (text : List ℕ)
     → PassesOn (contents old) (contents new) [] [] text → failures new ≡ failures old → Writes contents failures old new text
 writes_whole contents failures old new text p same =
     record { grown = subst (Appends (contents old) (contents new)) (sym (append-nil p.taken) ∙ p.whole) p.grown; no_failure = same }
-
-pub writes_some : {S : Type 0} (contents : S → Option (List ℕ)) (failures : S → ℕ) (old new : S) (text : List ℕ)
-    → PassesSome (contents old) (contents new) [] text → FailsToWrite failures old new → WritesSome contents failures old new text
-writes_some contents failures old new text some failure =
-    let p = some.passes in
-    record {
-      len = length p.taken;
-      grown =
-          subst (Appends (contents old) (contents new))
-          (sym (take-append_seam p.taken some.lost) ∙ ap (take (length p.taken)) p.whole) p.grown;
-      failure = failure;
-    }

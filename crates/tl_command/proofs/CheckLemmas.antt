@@ -1,5 +1,5 @@
 -- What the claims of a check make of a run.
-use Rattle.std.proofs.Common.{◌≡◌, ◌≢◌, ◌⊎◌, inl, inr, ℕ, ◌≤◌, List, Option, Some, None, Ok, sym, subst, ◌∙◌}
+use Rattle.std.proofs.Common.{◌≡◌, ◌≢◌, ◌⊎◌, inl, inr, ℕ, ◌≤◌, List, Option, Some, None, Ok, refl, sym, subst, ◌∙◌}
 use Rattle.std.specs.Option.{IfSome}
 use Rattle.tl_record.specs.declared.layout.Layout.{Layout}
 use Rattle.tl_record.specs.Records.{Records, records_of}
@@ -109,6 +109,29 @@ names_cert_fault layout known spelt wrote answer (CertFault fault) is true_of pl
 }
 names_cert_fault layout known spelt wrote answer (Sound report) is true_of planar meets status written = cc status
 names_cert_fault layout known spelt wrote answer (MapFault fault) is true_of planar meets status written = cc status
+
+-- the line of the verdict was begun: that of a sound map, of a map's fault or of a certificate's
+pub verdict_breaks : (layout : Layout) (budget : ℕ) (known spelt : Option (List ℕ)) (unread searched : Type 0) (part : List ℕ → Type 0) (answer : Answer) (verdict : Verdict) → answer ≡ Ok verdict
+    → OnSound answer (IfSome known (λ text. HaveMap (records_of layout text) (λ m. IsPlanar m.chains)))
+    → OnSound answer (IfSome known (λ text. HaveMap (records_of layout text) (λ m. SidesAgree m.chains)))
+    → OnSound answer (IfSome known (λ text. HaveMap (records_of layout text) AreClosed))
+    → OnSound answer (IfSome known (λ text. HaveMap (records_of layout text) ArePlaced))
+    → OnSound answer (IfSome known (λ text. HaveMap (records_of layout text) (λ m. CellsAgree m.chains)))
+    → OnSound answer (IfSome known (λ text. HaveMap (records_of layout text) (λ m. meeting_segments m.chains ≤ budget)))
+    → OnSound answer (IfSome known (λ text. IfSome spelt (λ certificate. HaveMap (records_of layout text) (λ m. IsValidText m certificate))))
+    → IfSound answer (λ report. IfSome known (λ text. HaveMap (records_of layout text) (λ m. IsReport m report)))
+    → IfMapFault answer (λ fault. IfSome known (λ text. IsTrueOfRecords (records_of layout text) fault)) → LeavesUnread answer unread → OnSearched answer searched
+    → IfCertFault answer (λ fault. IfSome known (λ text. HaveMap (records_of layout text) (λ m.
+    IfSome spelt (λ certificate. IsTrueOfText m certificate fault))))
+    → IfCertFault answer (λ fault. IsOfDarts fault → IfSome known (λ text. HaveMap (records_of layout text) (λ m. IsPlanar m.chains)))
+    → UnlessMeet answer (IfSome known (λ text. HaveMap (records_of layout text) (λ m. IfSome spelt (λ certificate. TextAllowsSearch m certificate → IsPlanar m.chains))))
+    → part (line_of (verdict_text verdict)) → IsChecked layout budget known spelt part ⊎ (NamesFault layout known unread searched part ⊎ NamesCertFault layout known spelt part)
+verdict_breaks layout budget known spelt unread searched part answer (Sound report) is planar sides closed points cells within valid reported true_of alone behind true_of_text of_darts meets written =
+    inl (is_checked layout budget known spelt part answer (Sound report) is planar sides closed points cells within valid reported refl written)
+verdict_breaks layout budget known spelt unread searched part answer (MapFault fault) is planar sides closed points cells within valid reported true_of alone behind true_of_text of_darts meets written =
+    inr (inl (names_fault layout known unread searched part answer (MapFault fault) is true_of alone behind refl written))
+verdict_breaks layout budget known spelt unread searched part answer (CertFault fault) is planar sides closed points cells within valid reported true_of alone behind true_of_text of_darts meets written =
+    inr (inr (names_cert_fault layout known spelt part answer (CertFault fault) is true_of_text of_darts meets refl written))
 
 -- a status that isn't a stop's is the verdict's
 pub told_status : (status n : ℕ) (verdict : Verdict) → (status ≡ verdict_status verdict) ⊎ (status ≡ STOPPED) → status ≡ n → n ≢ STOPPED

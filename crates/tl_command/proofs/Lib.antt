@@ -5,3 +5,4 @@ pub mod OpenLemmas
 pub mod CheckLemmas
 pub mod DecidingLemmas
 pub mod ToldLemmas
+pub mod StartLemmas

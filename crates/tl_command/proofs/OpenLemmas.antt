@@ -31,7 +31,7 @@ use Rattle.tl_command.specs.declared.convert.Converted.{Converted}
 use Rattle.tl_verdict.specs.declared.stop.Stop.{Stop}
 use Rattle.tl_verdict.specs.declared.stop.Stop.TheVariants.{Record, Memory, Device, Budget}
 use Rattle.tl_command.specs.declared.stop.TheConstants.{DONE, MAP_FAULT, CERT_FAULT, REFUSED, STOPPED, USAGE}
-use Rattle.tl_command.specs.Running.{IsAnswered, IsBuilt, FaultsMap, NamesFault, MayBeSearched, FaultsCertificate, NamesRefusal, StopsRun, NamesStop, IsTold, IsRunStatus, ReadsNoCertificate, MakesNoCertificate, layout_of}
+use Rattle.tl_command.specs.Running.{IsAnswered, IsBuilt, IsConverted, BreaksOff, FaultsMap, NamesFault, MayBeSearched, FaultsCertificate, NamesRefusal, StopsRun, NamesStop, IsTold, IsRunStatus, ReadsNoCertificate, MakesNoCertificate, layout_of}
 use Rattle.tl_command.specs.Making.{Makes, OfMap, IsBegunOf, TellsMaking, Rewrites, BeginsRewritten, TellsConverted, was_made}
 use Rattle.tl_command.specs.Deciding.{IsExact}
 use Rattle.tl_command.specs.Opening.{RunsOver, records_under, certificate_under, Stands, KeepsOthers, KeepsAll, RefusesName, IsBuildOf, IsCheckBy, IsConversionBy, Converts, IsNamed, FilesFail, names_read, read_by, made_by}
@@ -92,17 +92,6 @@ fault_plain (Check cert budget options files) known spelt other unread wrote rea
 fault_plain (Audit options files) known spelt other unread wrote reads is = is
 fault_plain (Build to options files) known spelt other unread wrote reads is = is
 
--- a stop, in which no certificate has a part
-stop_plain : (plan : Plan) (known spelt other : Option (List ℕ)) (told : List ℕ → Type 0) (failed well : Type 0) → ReadsNoCertificate plan → StopsRun plan known spelt told failed well → StopsRun plan known other told failed well
-stop_plain plan known spelt other told failed well reads (inl named) = inl named
-stop_plain (Show options files) known spelt other told failed well reads (inr spent) = absurd spent.0
-stop_plain (Landmarks options files) known spelt other told failed well reads (inr spent) = absurd spent.0
-stop_plain (Locate point options files) known spelt other told failed well reads (inr spent) = absurd spent.0
-stop_plain (Convert cert to) known spelt other told failed well reads (inr spent) = absurd spent.0
-stop_plain (Check cert budget options files) known spelt other told failed well reads (inr spent) = absurd reads
-stop_plain (Audit options files) known spelt other told failed well reads (inr spent) = absurd spent.0
-stop_plain (Build to options files) known spelt other told failed well reads (inr spent) = absurd spent.0
-
 -- an answer in which no certificate has a part
 answered_plain : (plan : Plan) (known spelt other : Option (List ℕ)) (made kept wrote : List ℕ → Type 0) → ReadsNoCertificate plan → MakesNoCertificate plan → IsAnswered plan known spelt made wrote
     → IsAnswered plan known other kept wrote
@@ -123,6 +112,32 @@ cert_fault_plain (Check cert budget options files) known spelt other wrote reads
 cert_fault_plain (Audit options files) known spelt other wrote reads is = is
 cert_fault_plain (Build to options files) known spelt other wrote reads is = is
 
+-- a beginning of what is true to write, in which no certificate has a part
+breaks_plain : (plan : Plan) (known spelt other : Option (List ℕ)) (unread : Type 0) (made kept part : List ℕ → Type 0) → ReadsNoCertificate plan → MakesNoCertificate plan → BreaksOff plan known spelt unread made part
+    → BreaksOff plan known other ⊤ kept part
+breaks_plain plan known spelt other unread made kept part reads makes (inl answered) = inl (answered_plain plan known spelt other made kept part reads makes answered)
+breaks_plain plan known spelt other unread made kept part reads makes (inr (inl fault)) = inr (inl (fault_plain plan known spelt other unread part reads fault))
+breaks_plain plan known spelt other unread made kept part reads makes (inr (inr fault)) = inr (inr (cert_fault_plain plan known spelt other part reads fault))
+
+-- a stop, where less is said of a write that failed
+stop_read : (plan : Plan) (known spelt : Option (List ℕ)) (told : List ℕ → Type 0) (failed well same cut broken : Type 0) → (cut → broken) → StopsRun plan known spelt told failed well same cut
+    → StopsRun plan known spelt told failed well same broken
+stop_read plan known spelt told failed well same cut broken breaks (inl (inl memory)) = inl (inl memory)
+stop_read plan known spelt told failed well same cut broken breaks (inl (inr device)) = inl (inr (device.0, elim device.1 [ inl one ↦ inl one | inr more ↦ inr (breaks more) ]))
+stop_read plan known spelt told failed well same cut broken breaks (inr spent) = inr spent
+
+-- a stop, in which no certificate has a part
+stop_plain : (plan : Plan) (known spelt other : Option (List ℕ)) (told : List ℕ → Type 0) (failed well same cut : Type 0) → ReadsNoCertificate plan → StopsRun plan known spelt told failed well same cut
+    → StopsRun plan known other told failed well same cut
+stop_plain plan known spelt other told failed well same cut reads (inl named) = inl named
+stop_plain (Show options files) known spelt other told failed well same cut reads (inr spent) = absurd spent.0
+stop_plain (Landmarks options files) known spelt other told failed well same cut reads (inr spent) = absurd spent.0
+stop_plain (Locate point options files) known spelt other told failed well same cut reads (inr spent) = absurd spent.0
+stop_plain (Convert cert to) known spelt other told failed well same cut reads (inr spent) = absurd spent.0
+stop_plain (Check cert budget options files) known spelt other told failed well same cut reads (inr spent) = absurd reads
+stop_plain (Audit options files) known spelt other told failed well same cut reads (inr spent) = absurd spent.0
+stop_plain (Build to options files) known spelt other told failed well same cut reads (inr spent) = absurd spent.0
+
 no_usage : (status : ℕ) → IsRunStatus status → status ≢ USAGE
 no_usage status (inl (inl is)) e = cc (sym is ∙ e)
 no_usage status (inl (inr is)) e = cc (sym is ∙ e)
@@ -131,21 +146,23 @@ no_usage status (inr (inr (inl is))) e = cc (sym is ∙ e)
 no_usage status (inr (inr (inr is))) e = cc (sym is ∙ e)
 
 -- what is answered of the records of names, where no certificate has a part
-pub over_plain : (plan : Plan) (under : Under) (known spelt : Option (List ℕ)) (status : ℕ) (unread : Type 0) (made wrote told : List ℕ → Type 0) (failed well out_same err_same : Type 0)
+pub over_plain : (plan : Plan) (under : Under) (known spelt : Option (List ℕ)) (status : ℕ) (unread : Type 0) (made wrote told part : List ℕ → Type 0) (failed out_same err_same : Type 0)
     → ReadsNoCertificate plan → MakesNoCertificate plan → known ≡ records_under under plan
     → IsRunStatus status → (status ≡ DONE → IsAnswered plan known spelt made wrote) → (status ≡ MAP_FAULT → FaultsMap plan known spelt unread wrote)
     → ((status ≡ DONE) ⊎ (status ≡ MAP_FAULT) → IsExact plan known status)
     → (status ≡ CERT_FAULT → FaultsCertificate plan known spelt wrote) → (status ≡ REFUSED → NamesRefusal (layout_of plan) known told)
-    → (status ≡ STOPPED → StopsRun plan known spelt told failed well) → ((status ≡ DONE) ⊎ ((status ≡ MAP_FAULT) ⊎ (status ≡ CERT_FAULT)) → err_same) → (status ≡ REFUSED → out_same)
-    → RunsOver plan status under under wrote told failed well out_same err_same
-over_plain plan under known spelt status unread made wrote told failed well out_same err_same reads makes same is answered fault exactly cert_fault refused stopped err_stays out_stays = record {
+    → (status ≡ STOPPED → StopsRun plan known spelt told failed ⊤ out_same (BreaksOff plan known spelt unread made part)) → ((status ≡ DONE) ⊎ ((status ≡ MAP_FAULT) ⊎ (status ≡ CERT_FAULT)) → err_same) → (status ≡ REFUSED → out_same)
+    → RunsOver plan status under under wrote told part failed out_same err_same
+over_plain plan under known spelt status unread made wrote told part failed out_same err_same reads makes same is answered fault exactly cert_fault refused stopped err_stays out_stays = record {
   is_status = inl is;
   answered = λ e. rw (← same) (answered_plain plan known spelt (certificate_under under plan) made (Stands under plan) wrote reads makes (answered e));
   fault = λ e. rw (← same) (fault_plain plan known spelt (certificate_under under plan) unread wrote reads (fault e));
   exactly = λ e. rw (← same) (exactly e);
   cert_fault = λ e. rw (← same) (cert_fault_plain plan known spelt (certificate_under under plan) wrote reads (cert_fault e));
   refused = λ e. rw (← same) (refused e);
-  stopped = λ e. rw (← same) (stop_plain plan known spelt (certificate_under under plan) told failed well reads (stopped e));
+  stopped = λ e. rw (← same) (stop_plain plan known spelt (certificate_under under plan) told failed ⊤ out_same (BreaksOff plan known (certificate_under under plan) ⊤ (Stands under plan) part) reads
+      (stop_read plan known spelt told failed ⊤ out_same _ (BreaksOff plan known (certificate_under under plan) ⊤ (Stands under plan) part)
+      (breaks_plain plan known spelt (certificate_under under plan) unread made (Stands under plan) part reads makes) (stopped e)));
   usage = λ e. absurd (no_usage status is e);
   err_stays = err_stays;
   out_stays = λ e. elim e [ inl r ↦ out_stays r | inr u ↦ absurd (no_usage status is u) ];
@@ -155,14 +172,14 @@ over_plain plan under known spelt status unread made wrote told failed well out_
 }
 
 -- what is answered of the records of names, by the certificate of a name
-pub over_check : (plan : Plan) (name : List ℕ) (under : Under) (known spelt : Option (List ℕ)) (status : ℕ) (unread : Type 0) (made wrote told : List ℕ → Type 0) (failed well out_same err_same : Type 0)
+pub over_check : (plan : Plan) (name : List ℕ) (under : Under) (known spelt : Option (List ℕ)) (status : ℕ) (unread : Type 0) (made wrote told part : List ℕ → Type 0) (failed out_same err_same : Type 0)
     → IsCheckBy plan name → known ≡ records_under under plan → spelt ≡ bytes_under under name
     → IsRunStatus status → (status ≡ DONE → IsAnswered plan known spelt made wrote) → (status ≡ MAP_FAULT → FaultsMap plan known spelt unread wrote)
     → ((status ≡ DONE) ⊎ (status ≡ MAP_FAULT) → IsExact plan known status)
     → (status ≡ CERT_FAULT → FaultsCertificate plan known spelt wrote) → (status ≡ REFUSED → NamesRefusal (layout_of plan) known told)
-    → (status ≡ STOPPED → StopsRun plan known spelt told failed well) → ((status ≡ DONE) ⊎ ((status ≡ MAP_FAULT) ⊎ (status ≡ CERT_FAULT)) → err_same) → (status ≡ REFUSED → out_same)
-    → RunsOver plan status under under wrote told failed well out_same err_same
-over_check (Check cert budget options files) name under known spelt status unread made wrote told failed well out_same err_same of is_known is_spelt is answered fault exactly cert_fault refused stopped err_stays out_stays =
+    → (status ≡ STOPPED → StopsRun plan known spelt told failed ⊤ out_same (BreaksOff plan known spelt unread made part)) → ((status ≡ DONE) ⊎ ((status ≡ MAP_FAULT) ⊎ (status ≡ CERT_FAULT)) → err_same) → (status ≡ REFUSED → out_same)
+    → RunsOver plan status under under wrote told part failed out_same err_same
+over_check (Check cert budget options files) name under known spelt status unread made wrote told part failed out_same err_same of is_known is_spelt is answered fault exactly cert_fault refused stopped err_stays out_stays =
     let plan : Plan = Check cert budget options files in
     let text : spelt ≡ certificate_under under plan = is_spelt ∙ ap (bytes_under under) (sym of) in
     record {
@@ -175,8 +192,10 @@ over_check (Check cert budget options files) name under known spelt status unrea
       cert_fault = λ e. subst (λ (k : Option (List ℕ)). FaultsCertificate plan k (certificate_under under plan) wrote) is_known
           (subst (λ (s : Option (List ℕ)). FaultsCertificate plan known s wrote) text (cert_fault e));
       refused = λ e. subst (λ (k : Option (List ℕ)). NamesRefusal (layout_of plan) k told) is_known (refused e);
-      stopped = λ e. subst (λ (k : Option (List ℕ)). StopsRun plan k (certificate_under under plan) told failed well) is_known
-          (subst (λ (s : Option (List ℕ)). StopsRun plan known s told failed well) text (stopped e));
+      stopped = λ e. subst (λ (k : Option (List ℕ)). StopsRun plan k (certificate_under under plan) told failed ⊤ out_same (BreaksOff plan k (certificate_under under plan) ⊤ (Stands under plan) part)) is_known
+          (subst (λ (s : Option (List ℕ)). StopsRun plan known s told failed ⊤ out_same (BreaksOff plan known s ⊤ (Stands under plan) part)) text
+          (stop_read plan known spelt told failed ⊤ out_same (BreaksOff plan known spelt unread made part) (BreaksOff plan known spelt ⊤ (Stands under plan) part)
+          (λ broken. elim broken [ inl answer ↦ inl answer | inr more ↦ inr (elim more [ inl names ↦ inl (fault_read plan known spelt unread part names) | inr names ↦ inr names ]) ]) (stopped e)));
       usage = λ e. absurd (no_usage status is e);
       err_stays = err_stays;
       out_stays = λ e. elim e [ inl r ↦ out_stays r | inr u ↦ absurd (no_usage status is u) ];
@@ -184,12 +203,12 @@ over_check (Check cert budget options files) name under known spelt status unrea
       begun = λ e. inl (λ other differs. refl);
       unmade = λ not_done not_stopped other differs. refl;
     }
-over_check (Show options files) name under known spelt status unread made wrote told failed well out_same err_same of is_known is_spelt is answered fault exactly cert_fault refused stopped err_stays out_stays = absurd of
-over_check (Landmarks options files) name under known spelt status unread made wrote told failed well out_same err_same of is_known is_spelt is answered fault exactly cert_fault refused stopped err_stays out_stays = absurd of
-over_check (Locate point options files) name under known spelt status unread made wrote told failed well out_same err_same of is_known is_spelt is answered fault exactly cert_fault refused stopped err_stays out_stays = absurd of
-over_check (Convert cert to) name under known spelt status unread made wrote told failed well out_same err_same of is_known is_spelt is answered fault exactly cert_fault refused stopped err_stays out_stays = absurd of
-over_check (Audit options files) name under known spelt status unread made wrote told failed well out_same err_same of is_known is_spelt is answered fault exactly cert_fault refused stopped err_stays out_stays = absurd of
-over_check (Build to options files) name under known spelt status unread made wrote told failed well out_same err_same of is_known is_spelt is answered fault exactly cert_fault refused stopped err_stays out_stays = absurd of
+over_check (Show options files) name under known spelt status unread made wrote told part failed out_same err_same of is_known is_spelt is answered fault exactly cert_fault refused stopped err_stays out_stays = absurd of
+over_check (Landmarks options files) name under known spelt status unread made wrote told part failed out_same err_same of is_known is_spelt is answered fault exactly cert_fault refused stopped err_stays out_stays = absurd of
+over_check (Locate point options files) name under known spelt status unread made wrote told part failed out_same err_same of is_known is_spelt is answered fault exactly cert_fault refused stopped err_stays out_stays = absurd of
+over_check (Convert cert to) name under known spelt status unread made wrote told part failed out_same err_same of is_known is_spelt is answered fault exactly cert_fault refused stopped err_stays out_stays = absurd of
+over_check (Audit options files) name under known spelt status unread made wrote told part failed out_same err_same of is_known is_spelt is answered fault exactly cert_fault refused stopped err_stays out_stays = absurd of
+over_check (Build to options files) name under known spelt status unread made wrote told part failed out_same err_same of is_known is_spelt is answered fault exactly cert_fault refused stopped err_stays out_stays = absurd of
 
 -- no certificate is made of a check
 pub check_makes_none : (plan : Plan) (name : List ℕ) → IsCheckBy plan name → MakesNoCertificate plan
@@ -220,9 +239,9 @@ stops_opening failed file.Device may = may
 -- ---- a run that is stopped before it begins, or where a file may not take its name
 
 -- a certificate that may not take its name
-pub over_refusal : (plan : Plan) (name : List ℕ) (status : ℕ) (under : Under) (wrote told : List ℕ → Type 0) (failed well out_same err_same : Type 0) → made_by plan ≡ Some name → out_same → status ≡ USAGE
-    → RefusesName under name (names_read plan) told → RunsOver plan status under under wrote told failed well out_same err_same
-over_refusal plan name status under wrote told failed well out_same err_same made stays e refuses = record {
+pub over_refusal : (plan : Plan) (name : List ℕ) (status : ℕ) (under : Under) (wrote told part : List ℕ → Type 0) (failed out_same err_same : Type 0) → made_by plan ≡ Some name → out_same → status ≡ USAGE
+    → RefusesName under name (names_read plan) told → RunsOver plan status under under wrote told part failed out_same err_same
+over_refusal plan name status under wrote told part failed out_same err_same made stays e refuses = record {
   is_status = inr e;
   answered = λ d. absurd (cc (sym e ∙ d));
   fault = λ d. absurd (cc (sym e ∙ d));
@@ -245,17 +264,17 @@ others_too None before after all name differs = all name tt
 others_too (Some m) before after all name differs = all name differs.1
 
 -- the line of a stop at files was told: `why` says what failed
-stop_at_files : (stop : Stop) (status : ℕ) (told : List ℕ → Type 0) (why failed well : Type 0) → StopsOpening why stop → (why → failed) → well → IsTold stop status told
-    → (status ≡ STOPPED) × NamesStop told failed well
-stop_at_files (Record line cause) status told why failed well may leads calm is = absurd may
-stop_at_files Memory status told why failed well may leads calm is = (is.0, inl (is.1, calm))
-stop_at_files Device status told why failed well may leads calm is = (is.0, inr (is.1, leads may))
-stop_at_files Budget status told why failed well may leads calm is = absurd may
+stop_at_files : (stop : Stop) (status : ℕ) (told : List ℕ → Type 0) (why failed same cut : Type 0) → StopsOpening why stop → (why → failed) → same → IsTold stop status told
+    → (status ≡ STOPPED) × NamesStop told failed ⊤ same cut
+stop_at_files (Record line cause) status told why failed same cut may leads stays is = absurd may
+stop_at_files Memory status told why failed same cut may leads stays is = (is.0, inl (is.1, tt, stays))
+stop_at_files Device status told why failed same cut may leads stays is = (is.0, inr (is.1, inl (leads may, stays)))
+stop_at_files Budget status told why failed same cut may leads stays is = absurd may
 
-pub over_stop : (plan : Plan) (stop : Stop) (status : ℕ) (before after : Under) (wrote told : List ℕ → Type 0) (why failed well out_same err_same : Type 0) → StopsOpening why stop → (why → failed) → well
-    → IsTold stop status told → KeepsAll before after plan → RunsOver plan status before after wrote told failed well out_same err_same
-over_stop plan stop status before after wrote told why failed well out_same err_same may leads calm is all =
-    let names = stop_at_files stop status told why failed well may leads calm is in
+pub over_stop : (plan : Plan) (stop : Stop) (status : ℕ) (before after : Under) (wrote told part : List ℕ → Type 0) (why failed out_same err_same : Type 0) → StopsOpening why stop → (why → failed) → out_same
+    → IsTold stop status told → KeepsAll before after plan → RunsOver plan status before after wrote told part failed out_same err_same
+over_stop plan stop status before after wrote told part why failed out_same err_same may leads stays is all =
+    let names = stop_at_files stop status told why failed out_same (BreaksOff plan (records_under before plan) (certificate_under before plan) ⊤ (Stands after plan) part) may leads stays is in
     let e : status ≡ STOPPED = names.0 in
     record {
       is_status = inl (inr (inr (inr e)));
@@ -274,26 +293,26 @@ over_stop plan stop status before after wrote told why failed well out_same err_
     }
 
 -- one of the plan's names can't be opened, or a new file can't be made, or takes no name
-pub over_unopened : {R D : Type 0} (reads : R → ℕ) (writes : D → ℕ) (knows : Bool) (plan : Plan) (name : List ℕ) (stop : Stop) (status : ℕ) (before : Under) (wrote told : List ℕ → Type 0)
-    (to_write well out_same err_same : Type 0) → IsNamed plan name → StopsOpening (bytes_under before name ≡ None) stop → well → IsTold stop status told
-    → RunsOver plan status before before wrote told (FilesFail reads writes knows before plan ⊎ to_write) well out_same err_same
-over_unopened reads writes knows plan name stop status before wrote told to_write well out_same err_same named may calm is =
-    over_stop plan stop status before before wrote told (bytes_under before name ≡ None) (FilesFail reads writes knows before plan ⊎ to_write) well out_same err_same may (λ unknown. inl (inl (name, named, unknown))) calm is
+pub over_unopened : {R D : Type 0} (reads : R → ℕ) (writes : D → ℕ) (knows : Bool) (plan : Plan) (name : List ℕ) (stop : Stop) (status : ℕ) (before : Under) (wrote told part : List ℕ → Type 0)
+    (out_same err_same : Type 0) → IsNamed plan name → StopsOpening (bytes_under before name ≡ None) stop → out_same → IsTold stop status told
+    → RunsOver plan status before before wrote told part (FilesFail reads writes knows before plan) out_same err_same
+over_unopened reads writes knows plan name stop status before wrote told part out_same err_same named may stays is =
+    over_stop plan stop status before before wrote told part (bytes_under before name ≡ None) (FilesFail reads writes knows before plan) out_same err_same may (λ unknown. inl (name, named, unknown)) stays is
     (λ other differs. refl)
 
-pub over_unopened_records : {R D : Type 0} (reads : R → ℕ) (writes : D → ℕ) (knows : Bool) (plan : Plan) (names : List (List ℕ)) (stop : Stop) (status : ℕ) (before : Under) (wrote told : List ℕ → Type 0)
-    (to_write well out_same err_same : Type 0) → names ≡ files_of plan → StopsOpeningAll before names stop → well → IsTold stop status told
-    → RunsOver plan status before before wrote told (FilesFail reads writes knows before plan ⊎ to_write) well out_same err_same
-over_unopened_records reads writes knows plan names stop status before wrote told to_write well out_same err_same files may calm is =
-    over_stop plan stop status before before wrote told ((name : List ℕ) × Contains names name × (bytes_under before name ≡ None)) (FilesFail reads writes knows before plan ⊎ to_write) well out_same err_same may
-    (λ unknown. inl (inl (unknown.0, inl (subst (λ ns. Contains ns unknown.0) files unknown.1), unknown.2))) calm is
+pub over_unopened_records : {R D : Type 0} (reads : R → ℕ) (writes : D → ℕ) (knows : Bool) (plan : Plan) (names : List (List ℕ)) (stop : Stop) (status : ℕ) (before : Under) (wrote told part : List ℕ → Type 0)
+    (out_same err_same : Type 0) → names ≡ files_of plan → StopsOpeningAll before names stop → out_same → IsTold stop status told
+    → RunsOver plan status before before wrote told part (FilesFail reads writes knows before plan) out_same err_same
+over_unopened_records reads writes knows plan names stop status before wrote told part out_same err_same files may stays is =
+    over_stop plan stop status before before wrote told part ((name : List ℕ) × Contains names name × (bytes_under before name ≡ None)) (FilesFail reads writes knows before plan) out_same err_same may
+    (λ unknown. inl (unknown.0, inl (subst (λ ns. Contains ns unknown.0) files unknown.1), unknown.2)) stays is
     (λ other differs. refl)
 
-pub over_unmade : {R D : Type 0} (reads : R → ℕ) (writes : D → ℕ) (knows : Bool) (plan : Plan) (stop : Stop) (status : ℕ) (before after : Under) (wrote told : List ℕ → Type 0)
-    (to_write well out_same err_same : Type 0) → StopsOpening (knows ≡ false) stop → well → IsTold stop status told → KeepsAll before after plan
-    → RunsOver plan status before after wrote told (FilesFail reads writes knows before plan ⊎ to_write) well out_same err_same
-over_unmade reads writes knows plan stop status before after wrote told to_write well out_same err_same may calm is all =
-    over_stop plan stop status before after wrote told (knows ≡ false) (FilesFail reads writes knows before plan ⊎ to_write) well out_same err_same may (λ unknown. inl (inr (inr (inl unknown)))) calm is all
+pub over_unmade : {R D : Type 0} (reads : R → ℕ) (writes : D → ℕ) (knows : Bool) (plan : Plan) (stop : Stop) (status : ℕ) (before after : Under) (wrote told part : List ℕ → Type 0)
+    (out_same err_same : Type 0) → StopsOpening (knows ≡ false) stop → out_same → IsTold stop status told → KeepsAll before after plan
+    → RunsOver plan status before after wrote told part (FilesFail reads writes knows before plan) out_same err_same
+over_unmade reads writes knows plan stop status before after wrote told part out_same err_same may stays is all =
+    over_stop plan stop status before after wrote told part (knows ≡ false) (FilesFail reads writes knows before plan) out_same err_same may (λ unknown. inr (inr (inl unknown))) stays is all
 
 -- a name among others
 among : {X : Type 0} (f : X → List ℕ) (xs : List X) (i : ℕ) (x : X) → i < length xs → x ≡ get_or xs i x → Contains (map f xs) (f x)
@@ -365,17 +384,17 @@ names_by_conversion (Audit options files) from to of = absurd of
 names_by_conversion (Build made options files) from to of = absurd of
 
 -- a build, and a conversion, whose certificate may not take its name
-pub refused_build : (plan : Plan) (name : List ℕ) (options : Options) (read : List (List ℕ)) (room : Room) (status : ℕ) (under : Under) (wrote told : List ℕ → Type 0) (failed well out_same err_same : Type 0) → IsBuildOf plan name options
-    → read ≡ files_of plan → IsRoom under name read room → out_same → status ≡ USAGE → SaysRoom room told → RunsOver plan status under under wrote told failed well out_same err_same
-refused_build plan name options read room status under wrote told failed well out_same err_same of files is stays e says =
+pub refused_build : (plan : Plan) (name : List ℕ) (options : Options) (read : List (List ℕ)) (room : Room) (status : ℕ) (under : Under) (wrote told part : List ℕ → Type 0) (failed out_same err_same : Type 0) → IsBuildOf plan name options
+    → read ≡ files_of plan → IsRoom under name read room → out_same → status ≡ USAGE → SaysRoom room told → RunsOver plan status under under wrote told part failed out_same err_same
+refused_build plan name options read room status under wrote told part failed out_same err_same of files is stays e says =
     let names = names_of_build plan name options of in
-    over_refusal plan name status under wrote told failed well out_same err_same names.0 stays e (refuses_by under name (names_read plan) room told (subst (λ ns. IsRoom under name ns room) (files ∙ sym names.1) is) says)
+    over_refusal plan name status under wrote told part failed out_same err_same names.0 stays e (refuses_by under name (names_read plan) room told (subst (λ ns. IsRoom under name ns room) (files ∙ sym names.1) is) says)
 
-pub refused_conversion : (plan : Plan) (from name : List ℕ) (read : List (List ℕ)) (room : Room) (status : ℕ) (under : Under) (wrote told : List ℕ → Type 0) (failed well out_same err_same : Type 0) → IsConversionBy plan from name
-    → read ≡ from ∷ [] → IsRoom under name read room → out_same → status ≡ USAGE → SaysRoom room told → RunsOver plan status under under wrote told failed well out_same err_same
-refused_conversion plan from name read room status under wrote told failed well out_same err_same of files is stays e says =
+pub refused_conversion : (plan : Plan) (from name : List ℕ) (read : List (List ℕ)) (room : Room) (status : ℕ) (under : Under) (wrote told part : List ℕ → Type 0) (failed out_same err_same : Type 0) → IsConversionBy plan from name
+    → read ≡ from ∷ [] → IsRoom under name read room → out_same → status ≡ USAGE → SaysRoom room told → RunsOver plan status under under wrote told part failed out_same err_same
+refused_conversion plan from name read room status under wrote told part failed out_same err_same of files is stays e says =
     let names = names_of_conversion plan from name of in
-    over_refusal plan name status under wrote told failed well out_same err_same names.0 stays e (refuses_by under name (names_read plan) room told (subst (λ ns. IsRoom under name ns room) (files ∙ sym names.1) is) says)
+    over_refusal plan name status under wrote told part failed out_same err_same names.0 stays e (refuses_by under name (names_read plan) room told (subst (λ ns. IsRoom under name ns room) (files ∙ sym names.1) is) says)
 
 -- what stays of names, by the name of the certificate
 pub keeps_others : (plan : Plan) (name : List ℕ) (before after : Under) → made_by plan ≡ Some name → ((other : List ℕ) → other ≢ name → other ≢ beside name → after other ≡ before other) → KeepsOthers before after plan
@@ -390,20 +409,20 @@ keeps_all plan name before after is stays other differs =
 -- ---- a certificate that is made
 
 -- where it is told that it was written, it was
-is_made : (making : Result Making Stop) (status : ℕ) (wrote told : List ℕ → Type 0) (to_write well out_same err_same : Type 0) → TellsMaking making status wrote told to_write well out_same err_same → status ≡ DONE
+is_made : (making : Result Making Stop) (status : ℕ) (wrote told part : List ℕ → Type 0) (out_same err_same : Type 0) → TellsMaking making status wrote told part out_same err_same → status ≡ DONE
     → was_made making ≡ true
-is_made (Ok (Made report)) status wrote told to_write well out_same err_same tells done = refl
-is_made (Ok (Fault fault)) status wrote told to_write well out_same err_same (inl is) done = cc (sym is.0 ∙ done)
-is_made (Ok (Fault fault)) status wrote told to_write well out_same err_same (inr is) done = cc (sym is.0 ∙ done)
-is_made (Err stop) status wrote told to_write well out_same err_same tells done = absurd ((not_done stop status told tells.0).0 done)
+is_made (Ok (Made report)) status wrote told part out_same err_same tells done = refl
+is_made (Ok (Fault fault)) status wrote told part out_same err_same (inl is) done = cc (sym is.0 ∙ done)
+is_made (Ok (Fault fault)) status wrote told part out_same err_same (inr is) done = cc (sym is.0 ∙ done)
+is_made (Err stop) status wrote told part out_same err_same tells done = absurd ((not_done stop status told tells.0).0 done)
 
 -- where another thing is told and no stop, it wasn't
-not_made : (making : Result Making Stop) (status : ℕ) (wrote told : List ℕ → Type 0) (to_write well out_same err_same : Type 0) → TellsMaking making status wrote told to_write well out_same err_same → status ≢ DONE → status ≢ STOPPED
+not_made : (making : Result Making Stop) (status : ℕ) (wrote told part : List ℕ → Type 0) (out_same err_same : Type 0) → TellsMaking making status wrote told part out_same err_same → status ≢ DONE → status ≢ STOPPED
     → was_made making ≡ false
-not_made (Ok (Made report)) status wrote told to_write well out_same err_same (inl is) no_done no_stop = absurd (no_done is.0)
-not_made (Ok (Made report)) status wrote told to_write well out_same err_same (inr is) no_done no_stop = absurd (no_stop is.0)
-not_made (Ok (Fault fault)) status wrote told to_write well out_same err_same tells no_done no_stop = refl
-not_made (Err stop) status wrote told to_write well out_same err_same tells no_done no_stop = refl
+not_made (Ok (Made report)) status wrote told part out_same err_same (inl is) no_done no_stop = absurd (no_done is.0)
+not_made (Ok (Made report)) status wrote told part out_same err_same (inr is) no_done no_stop = absurd (no_stop is.0)
+not_made (Ok (Fault fault)) status wrote told part out_same err_same tells no_done no_stop = refl
+not_made (Err stop) status wrote told part out_same err_same tells no_done no_stop = refl
 
 run_status : (status : ℕ) → ((status ≡ DONE) ⊎ (status ≡ MAP_FAULT)) ⊎ ((status ≡ REFUSED) ⊎ (status ≡ STOPPED)) → IsRunStatus status
 run_status status (inl is) = inl is
@@ -436,79 +455,93 @@ whole_or_none layout known made begun same failed plan before after (Ok (Made re
 whole_or_none layout known made begun same failed plan before after (Ok (Fault fault)) makes kept unkept = inl (unkept refl)
 whole_or_none layout known made begun same failed plan before after (Err stop) makes kept unkept = inl (unkept refl)
 
+-- what was written into a file stands under its name
+built_stands : (layout : Layout) (known : Option (List ℕ)) (made kept wrote : List ℕ → Type 0) → ((text : List ℕ) → made text → kept text) → IsBuilt layout known made wrote → IsBuilt layout known kept wrote
+built_stands layout known made kept wrote stand it = record {
+  map = it.map;
+  built = record {
+    certificate = it.built.certificate;
+    is = it.built.is;
+    report = it.built.report;
+    decided = it.built.decided;
+    valid = it.built.valid;
+    version = it.built.version;
+    kept = stand (certificate_text it.built.certificate) it.built.kept;
+    written = it.built.written;
+  };
+  drawn = it.drawn;
+}
+
+converted_stands : (known : Option (List ℕ)) (made kept wrote : List ℕ → Type 0) → ((text : List ℕ) → made text → kept text) → IsConverted known made wrote → IsConverted known kept wrote
+converted_stands known made kept wrote stand it = record {
+  certificate = it.certificate;
+  is = it.is;
+  read = it.read;
+  kept = stand (certificate_text (record it.certificate { version = 2 })) it.kept;
+  written = it.written;
+}
+
 -- the records' fault, refusal or certificate was told, and the file took its name or was taken away
-pub over_build : (plan : Plan) (name : List ℕ) (chosen : Options) (before after : Under) (known : Option (List ℕ)) (made begun wrote told : List ℕ → Type 0) (same failed to_write well out_same err_same any : Type 0)
-    (making : Result Making Stop) (status : ℕ) → (failed → any) → (to_write → any) → (out_same → well) → IsBuildOf plan name chosen → known ≡ records_under before plan → Makes (layout_with chosen) known made begun same failed making
-    → TellsMaking making status wrote told to_write well out_same err_same → KeepsOthers before after plan → (was_made making ≡ true → (text : List ℕ) → made text → Stands after plan text)
-    → (was_made making ≡ false → KeepsAll before after plan) → RunsOver plan status before after wrote told any well out_same err_same
-over_build (Build to options files) name chosen before after known made begun wrote told same failed to_write well out_same err_same any making status weaker or_write stays of is_known makes_chosen tells others kept unkept =
+pub over_build : (plan : Plan) (name : List ℕ) (chosen : Options) (before after : Under) (known : Option (List ℕ)) (made begun wrote told part : List ℕ → Type 0) (same failed out_same err_same any : Type 0)
+    (making : Result Making Stop) (status : ℕ) → (failed → any) → IsBuildOf plan name chosen → known ≡ records_under before plan → Makes (layout_with chosen) known made begun same failed making
+    → TellsMaking making status wrote told part out_same err_same → KeepsOthers before after plan → (was_made making ≡ true → (text : List ℕ) → made text → Stands after plan text)
+    → (was_made making ≡ false → KeepsAll before after plan) → RunsOver plan status before after wrote told part any out_same err_same
+over_build (Build to options files) name chosen before after known made begun wrote told part same failed out_same err_same any making status weaker of is_known makes_chosen tells others kept unkept =
     let plan : Plan = Build to options files in
     let all : Option (List ℕ) = records_under before plan in
     let layout : Layout = layout_with options in
     let makes : Makes layout all made begun same failed making =
     subst (λ (o : Options). Makes (layout_with o) all made begun same failed making) (sym of.1) (subst (λ (k : Option (List ℕ)). Makes (layout_with chosen) k made begun same failed making) is_known makes_chosen) in
-    let statuses = making_status making status wrote told to_write well out_same err_same tells in
+    let statuses = making_status making status wrote told part out_same err_same tells in
     let built : status ≡ DONE → IsBuilt layout all (Stands after plan) wrote = λ done.
-    let it = making_built layout all made begun wrote told same failed to_write well out_same err_same making status makes tells done in
-    record {
-      map = it.map;
-      built = record {
-        certificate = it.built.certificate;
-        is = it.built.is;
-        report = it.built.report;
-        decided = it.built.decided;
-        valid = it.built.valid;
-        version = it.built.version;
-        kept = kept (is_made making status wrote told to_write well out_same err_same tells done) (certificate_text it.built.certificate) it.built.kept;
-        written = it.built.written;
-      };
-      drawn = it.drawn;
-    } in
-    let faulty = making_fault layout all made begun wrote told same failed to_write well out_same err_same making status makes tells in
+    built_stands layout all made (Stands after plan) wrote (kept (is_made making status wrote told part out_same err_same tells done))
+    (making_built layout all made begun wrote told part same failed out_same err_same making status makes tells done) in
+    let faulty = making_fault layout all made begun wrote told part same failed out_same err_same making status makes tells in
     record {
       is_status = inl (run_status status statuses);
       answered = built;
       fault = faulty;
       exactly = build_decides layout all ⊤ ⊤ (Stands after plan) wrote status built faulty;
       cert_fault = λ e. absurd (no_cert_fault status statuses e);
-      refused = λ e. (making_refused layout all made begun wrote told same failed to_write well out_same err_same making status makes tells e).0;
-      stopped = λ e. inl (making_stopped layout all made begun wrote told same failed to_write well out_same err_same any well making status 0 0 weaker or_write (λ reads written is. is) stays
+      refused = λ e. (making_refused layout all made begun wrote told part same failed out_same err_same making status makes tells e).0;
+      stopped = λ e. inl (making_stopped layout all made begun wrote told part same failed out_same err_same any ⊤ (BreaksOff plan all (certificate_under before plan) ⊤ (Stands after plan) part) making status 0 0 weaker (λ reads written. tt)
+          (λ whole is. inl (built_stands layout all made (Stands after plan) part (kept whole) is)) (λ is. inr (inl is))
           (stays_unless Device 0 0 making refl) makes tells e);
       usage = λ e. absurd (no_usage status (run_status status statuses) e);
       err_stays = λ any. elim any [
-        | inl d ↦ making_err_stays making status wrote told to_write well out_same err_same tells (inl d)
-        | inr more ↦ elim more [ inl d ↦ making_err_stays making status wrote told to_write well out_same err_same tells (inr d) | inr e ↦ absurd (no_cert_fault status statuses e) ]
+        | inl d ↦ making_err_stays making status wrote told part out_same err_same tells (inl d)
+        | inr more ↦ elim more [ inl d ↦ making_err_stays making status wrote told part out_same err_same tells (inr d) | inr e ↦ absurd (no_cert_fault status statuses e) ]
       ];
       out_stays = λ any. elim any [
-        | inl r ↦ (making_refused layout all made begun wrote told same failed to_write well out_same err_same making status makes tells r).1
+        | inl r ↦ (making_refused layout all made begun wrote told part same failed out_same err_same making status makes tells r).1
         | inr u ↦ absurd (no_usage status (run_status status statuses) u)
       ];
       others = others;
       begun = λ e. whole_or_none layout all made begun same failed plan before after making makes kept unkept;
-      unmade = λ not_done not_stopped. unkept (not_made making status wrote told to_write well out_same err_same tells not_done not_stopped);
+      unmade = λ not_done not_stopped. unkept (not_made making status wrote told part out_same err_same tells not_done not_stopped);
     }
-over_build (Show options files) name chosen before after known made begun wrote told same failed to_write well out_same err_same any making status weaker or_write stays of is_known makes tells others kept unkept = absurd of
-over_build (Landmarks options files) name chosen before after known made begun wrote told same failed to_write well out_same err_same any making status weaker or_write stays of is_known makes tells others kept unkept = absurd of
-over_build (Locate point options files) name chosen before after known made begun wrote told same failed to_write well out_same err_same any making status weaker or_write stays of is_known makes tells others kept unkept = absurd of
-over_build (Convert cert to) name chosen before after known made begun wrote told same failed to_write well out_same err_same any making status weaker or_write stays of is_known makes tells others kept unkept = absurd of
-over_build (Check cert budget options files) name chosen before after known made begun wrote told same failed to_write well out_same err_same any making status weaker or_write stays of is_known makes tells others kept unkept = absurd of
-over_build (Audit options files) name chosen before after known made begun wrote told same failed to_write well out_same err_same any making status weaker or_write stays of is_known makes tells others kept unkept = absurd of
+over_build (Show options files) name chosen before after known made begun wrote told part same failed out_same err_same any making status weaker of is_known makes tells others kept unkept = absurd of
+over_build (Landmarks options files) name chosen before after known made begun wrote told part same failed out_same err_same any making status weaker of is_known makes tells others kept unkept = absurd of
+over_build (Locate point options files) name chosen before after known made begun wrote told part same failed out_same err_same any making status weaker of is_known makes tells others kept unkept = absurd of
+over_build (Convert cert to) name chosen before after known made begun wrote told part same failed out_same err_same any making status weaker of is_known makes tells others kept unkept = absurd of
+over_build (Check cert budget options files) name chosen before after known made begun wrote told part same failed out_same err_same any making status weaker of is_known makes tells others kept unkept = absurd of
+over_build (Audit options files) name chosen before after known made begun wrote told part same failed out_same err_same any making status weaker of is_known makes tells others kept unkept = absurd of
 
 -- ---- a certificate that is written in version 2
 
-is_rewritten : (answer : Result Converted CertStop) (status : ℕ) (wrote told : List ℕ → Type 0) (to_write well out_same err_same : Type 0) → TellsConverted answer status wrote told to_write well out_same err_same → status ≡ DONE
+is_rewritten : (answer : Result Converted CertStop) (status : ℕ) (wrote told part : List ℕ → Type 0) (out_same err_same : Type 0) → TellsConverted answer status wrote told part out_same err_same → status ≡ DONE
     → is_ok answer ≡ true
-is_rewritten (Ok counts) status wrote told to_write well out_same err_same tells done = refl
-is_rewritten (Err (cert_stop.Text line)) status wrote told to_write well out_same err_same (inl is) done = cc (sym is.0 ∙ done)
-is_rewritten (Err (cert_stop.Text line)) status wrote told to_write well out_same err_same (inr is) done = cc (sym is.0 ∙ done)
-is_rewritten (Err cert_stop.Memory) status wrote told to_write well out_same err_same tells done = cc (sym tells.0.0 ∙ done)
-is_rewritten (Err cert_stop.Device) status wrote told to_write well out_same err_same tells done = cc (sym tells.0.0 ∙ done)
+is_rewritten (Ok counts) status wrote told part out_same err_same tells done = refl
+is_rewritten (Err (cert_stop.Text line)) status wrote told part out_same err_same (inl is) done = cc (sym is.0 ∙ done)
+is_rewritten (Err (cert_stop.Text line)) status wrote told part out_same err_same (inr is) done = cc (sym is.0 ∙ done)
+is_rewritten (Err cert_stop.Memory) status wrote told part out_same err_same tells done = cc (sym tells.0.0 ∙ done)
+is_rewritten (Err cert_stop.Device) status wrote told part out_same err_same tells done = cc (sym tells.0.0 ∙ done)
 
-not_rewritten : (answer : Result Converted CertStop) (status : ℕ) (wrote told : List ℕ → Type 0) (to_write well out_same err_same : Type 0) → TellsConverted answer status wrote told to_write well out_same err_same → status ≢ DONE
+not_rewritten : (answer : Result Converted CertStop) (status : ℕ) (wrote told part : List ℕ → Type 0) (out_same err_same : Type 0) → TellsConverted answer status wrote told part out_same err_same → status ≢ DONE
     → status ≢ STOPPED → is_ok answer ≡ false
-not_rewritten (Ok counts) status wrote told to_write well out_same err_same (inl is) no_done no_stop = absurd (no_done is.0)
-not_rewritten (Ok counts) status wrote told to_write well out_same err_same (inr is) no_done no_stop = absurd (no_stop is.0)
-not_rewritten (Err stop) status wrote told to_write well out_same err_same tells no_done no_stop = refl
+not_rewritten (Ok counts) status wrote told part out_same err_same (inl is) no_done no_stop = absurd (no_done is.0)
+not_rewritten (Ok counts) status wrote told part out_same err_same (inr is) no_done no_stop = absurd (no_stop is.0)
+not_rewritten (Err stop) status wrote told part out_same err_same tells no_done no_stop = refl
 
 cert_status : (status : ℕ) → (status ≡ DONE) ⊎ ((status ≡ CERT_FAULT) ⊎ (status ≡ STOPPED)) → IsRunStatus status
 cert_status status (inl is) = inl (inl is)
@@ -529,45 +562,40 @@ rewritten_or_none known made begun same failed plan before after (Ok counts) mad
 rewritten_or_none known made begun same failed plan before after (Err stop) made_of kept unkept = inl (unkept refl)
 
 -- the certificate was told, or what is wrong with its text, and the file took its name or was taken away
-pub over_conversion : (plan : Plan) (to : List ℕ) (before after : Under) (spelt : Option (List ℕ)) (made begun wrote told : List ℕ → Type 0) (same failed to_write well out_same err_same any : Type 0)
-    (answer : Result Converted CertStop) (status : ℕ) → (failed → any) → (to_write → any) → (out_same → well) → Converts plan to → spelt ≡ certificate_under before plan → Rewrites spelt made begun same failed answer
-    → TellsConverted answer status wrote told to_write well out_same err_same → KeepsOthers before after plan → (is_ok answer ≡ true → (text : List ℕ) → made text → Stands after plan text)
-    → (is_ok answer ≡ false → KeepsAll before after plan) → RunsOver plan status before after wrote told any well out_same err_same
-over_conversion (Convert cert target) to before after spelt made begun wrote told same failed to_write well out_same err_same any answer status weaker or_write stays of is_known rewrites_spelt tells others kept unkept =
-    let statuses = converted_status answer status wrote told to_write well out_same err_same tells in
+pub over_conversion : (plan : Plan) (to : List ℕ) (before after : Under) (spelt : Option (List ℕ)) (made begun wrote told part : List ℕ → Type 0) (same failed out_same err_same any : Type 0)
+    (answer : Result Converted CertStop) (status : ℕ) → (failed → any) → Converts plan to → spelt ≡ certificate_under before plan → Rewrites spelt made begun same failed answer
+    → TellsConverted answer status wrote told part out_same err_same → KeepsOthers before after plan → (is_ok answer ≡ true → (text : List ℕ) → made text → Stands after plan text)
+    → (is_ok answer ≡ false → KeepsAll before after plan) → RunsOver plan status before after wrote told part any out_same err_same
+over_conversion (Convert cert target) to before after spelt made begun wrote told part same failed out_same err_same any answer status weaker of is_known rewrites_spelt tells others kept unkept =
+    let statuses = converted_status answer status wrote told part out_same err_same tells in
     let plan : Plan = Convert cert target in
     let text : Option (List ℕ) = certificate_under before plan in
     let rewrites : Rewrites text made begun same failed answer = subst (λ (s : Option (List ℕ)). Rewrites s made begun same failed answer) is_known rewrites_spelt in
     record {
       is_status = inl (cert_status status statuses);
       answered = λ done.
-          let it = converted_is text made begun wrote told same failed to_write well out_same err_same answer status rewrites tells done in
-          record {
-            certificate = it.certificate;
-            is = it.is;
-            read = it.read;
-            kept = kept (is_rewritten answer status wrote told to_write well out_same err_same tells done) (certificate_text (record it.certificate { version = 2 })) it.kept;
-            written = it.written;
-          };
+          converted_stands text made (Stands after plan) wrote (kept (is_rewritten answer status wrote told part out_same err_same tells done))
+          (converted_is text made begun wrote told part same failed out_same err_same answer status rewrites tells done);
       fault = λ e. absurd ((no_fault status statuses).0 e);
       exactly = λ any. tt;
-      cert_fault = λ e. (converted_fault text made begun wrote told same failed to_write well out_same err_same answer status rewrites tells e).0;
+      cert_fault = λ e. (converted_fault text made begun wrote told part same failed out_same err_same answer status rewrites tells e).0;
       refused = λ e. absurd ((no_fault status statuses).1 e);
-      stopped = λ e. inl (converted_stopped text made begun wrote told same failed to_write well out_same err_same any well answer status 0 0 weaker or_write (λ reads written is. is) stays
+      stopped = λ e. inl (converted_stopped text made begun wrote told part same failed out_same err_same any ⊤ (BreaksOff plan (records_under before plan) text ⊤ (Stands after plan) part) answer status 0 0 weaker (λ reads written. tt)
+          (λ whole is. inl (converted_stands text made (Stands after plan) part (kept whole) is)) (λ is. inr (inr is))
           (stays_unless cert_stop.Device 0 0 answer refl) rewrites tells e);
       usage = λ e. absurd (no_usage status (cert_status status statuses) e);
       err_stays = λ any. elim any [
-        | inl d ↦ converted_err_stays answer status wrote told to_write well out_same err_same tells (inl d)
-        | inr more ↦ elim more [ inl d ↦ absurd ((no_fault status statuses).0 d) | inr e ↦ converted_err_stays answer status wrote told to_write well out_same err_same tells (inr e) ]
+        | inl d ↦ converted_err_stays answer status wrote told part out_same err_same tells (inl d)
+        | inr more ↦ elim more [ inl d ↦ absurd ((no_fault status statuses).0 d) | inr e ↦ converted_err_stays answer status wrote told part out_same err_same tells (inr e) ]
       ];
       out_stays = λ any. absurd (elim any [ inl r ↦ (no_fault status statuses).1 r | inr u ↦ no_usage status (cert_status status statuses) u ]);
       others = others;
       begun = λ e. rewritten_or_none text made begun same failed plan before after answer rewrites kept unkept;
-      unmade = λ not_done not_stopped. unkept (not_rewritten answer status wrote told to_write well out_same err_same tells not_done not_stopped);
+      unmade = λ not_done not_stopped. unkept (not_rewritten answer status wrote told part out_same err_same tells not_done not_stopped);
     }
-over_conversion (Show options files) to before after spelt made begun wrote told same failed to_write well out_same err_same any answer status weaker or_write stays of is_known rewrites tells others kept unkept = absurd of
-over_conversion (Landmarks options files) to before after spelt made begun wrote told same failed to_write well out_same err_same any answer status weaker or_write stays of is_known rewrites tells others kept unkept = absurd of
-over_conversion (Locate point options files) to before after spelt made begun wrote told same failed to_write well out_same err_same any answer status weaker or_write stays of is_known rewrites tells others kept unkept = absurd of
-over_conversion (Check cert budget options files) to before after spelt made begun wrote told same failed to_write well out_same err_same any answer status weaker or_write stays of is_known rewrites tells others kept unkept = absurd of
-over_conversion (Audit options files) to before after spelt made begun wrote told same failed to_write well out_same err_same any answer status weaker or_write stays of is_known rewrites tells others kept unkept = absurd of
-over_conversion (Build made_name options files) to before after spelt made begun wrote told same failed to_write well out_same err_same any answer status weaker or_write stays of is_known rewrites tells others kept unkept = absurd of
+over_conversion (Show options files) to before after spelt made begun wrote told part same failed out_same err_same any answer status weaker of is_known rewrites tells others kept unkept = absurd of
+over_conversion (Landmarks options files) to before after spelt made begun wrote told part same failed out_same err_same any answer status weaker of is_known rewrites tells others kept unkept = absurd of
+over_conversion (Locate point options files) to before after spelt made begun wrote told part same failed out_same err_same any answer status weaker of is_known rewrites tells others kept unkept = absurd of
+over_conversion (Check cert budget options files) to before after spelt made begun wrote told part same failed out_same err_same any answer status weaker of is_known rewrites tells others kept unkept = absurd of
+over_conversion (Audit options files) to before after spelt made begun wrote told part same failed out_same err_same any answer status weaker of is_known rewrites tells others kept unkept = absurd of
+over_conversion (Build made_name options files) to before after spelt made begun wrote told part same failed out_same err_same any answer status weaker of is_known rewrites tells others kept unkept = absurd of

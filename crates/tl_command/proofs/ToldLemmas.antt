@@ -1,5 +1,6 @@
 -- What is told of a stop.
 use Rattle.std.proofs.Common.{◌≡◌, ◌≢◌, ◌⊎◌, inl, inr, ℕ, List, Option, Err, sym, ◌∙◌}
+use Rattle.std.specs.Bool.{⊤}
 use Rattle.std.specs.Option.{IfSome}
 use Rattle.tl_record.specs.Failures.{one_more}
 use Rattle.tl_record.specs.declared.layout.Layout.{Layout}
@@ -13,11 +14,17 @@ use Rattle.tl_command.specs.declared.stop.TheConstants.{REFUSED, STOPPED}
 use Rattle.tl_command.specs.Running.{NamesStop, NamesBudget, NamesRefusal, StopsRun, MayBeSearched, IsRunStatus, IsTold, status_of}
 
 -- the same stop, of less that failed and of less that didn't
-pub weaker_stop : (plan : Plan) (known spelt : Option (List ℕ)) (told : List ℕ → Type 0) (failed other well calm : Type 0) → (failed → other) → (well → calm) → StopsRun plan known spelt told failed well
-    → StopsRun plan known spelt told other calm
-weaker_stop plan known spelt told failed other well calm fails stays (inl (inl memory)) = inl (inl (memory.0, stays memory.1))
-weaker_stop plan known spelt told failed other well calm fails stays (inl (inr device)) = inl (inr (device.0, fails device.1))
-weaker_stop plan known spelt told failed other well calm fails stays (inr spent) = inr (spent.0, stays spent.1)
+pub weaker_stop : (plan : Plan) (known spelt : Option (List ℕ)) (told : List ℕ → Type 0) (failed other well calm same cut : Type 0) → (failed → other) → (well → calm)
+    → StopsRun plan known spelt told failed well same cut → StopsRun plan known spelt told other calm same cut
+weaker_stop plan known spelt told failed other well calm same cut fails stays (inl (inl memory)) = inl (inl (memory.0, stays memory.1, memory.2))
+weaker_stop plan known spelt told failed other well calm same cut fails stays (inl (inr device)) =
+    inl (inr (device.0, elim device.1 [ inl one ↦ inl (fails one.0, one.1) | inr broken ↦ inr broken ]))
+weaker_stop plan known spelt told failed other well calm same cut fails stays (inr spent) = inr (spent.0, stays spent.1, spent.2)
+
+-- a line that isn't told, where else nothing failed
+pub line_stops : (told : List ℕ → Type 0) (failed well same cut broken : Type 0) → well → (cut → broken) → NamesStop told ⊥ ⊤ same cut → NamesStop told failed well same broken
+line_stops told failed well same cut broken calm breaks (inl memory) = inl (memory.0, calm, memory.2)
+line_stops told failed well same cut broken calm breaks (inr device) = inr (device.0, elim device.1 [ inl none ↦ absurd none.0 | inr more ↦ inr (breaks more) ])
 
 -- the statuses of stops
 pub stop_status : (stop : Stop) (status : ℕ) → status ≡ status_of stop → (status ≡ REFUSED) ⊎ (status ≡ STOPPED)
@@ -49,16 +56,16 @@ check_unread Device status unread leaves is e = absurd (cc (sym is ∙ e))
 check_unread Budget status unread leaves is e = absurd (cc (sym is ∙ e))
 
 -- a check that stops for another reason; the counts of failed reads go from old to new
-pub check_stopped : (layout : Layout) (budget : ℕ) (known spelt : Option (List ℕ)) (stop : Stop) (status records_old records_new cert_old cert_new : ℕ) (told : List ℕ → Type 0) (to_write well : Type 0)
-    → IfSome known (λ text. MayStopOn (records_of layout text) budget stop) → OnSearched (Err stop) (MayBeSearched layout known spelt) → TellsEither records_old records_new cert_old cert_new (Err stop) → well → IsTold stop status told → status ≡ STOPPED
-    → NamesStop told (((records_new ≡ one_more records_old) ⊎ (cert_new ≡ one_more cert_old)) ⊎ to_write) (((records_new ≡ records_old) × (cert_new ≡ cert_old)) × well)
-    ⊎ (NamesBudget layout budget known spelt told × (((records_new ≡ records_old) × (cert_new ≡ cert_old)) × well))
-check_stopped layout budget known spelt (Record line cause) status records_old records_new cert_old cert_new told to_write well may searched tells calm is e = absurd (cc (sym is.0 ∙ e))
-check_stopped layout budget known spelt Memory status records_old records_new cert_old cert_new told to_write well may searched tells calm is e = inl (inl (is.1, (tells, calm)))
-check_stopped layout budget known spelt Device status records_old records_new cert_old cert_new told to_write well may searched tells calm is e =
-    inl (inr (is.1, inl (elim tells [ inl r ↦ inl r.0 | inr c ↦ inr c.1 ])))
-check_stopped layout budget known spelt Budget status records_old records_new cert_old cert_new told to_write well may searched tells calm is e =
-    inr (record { written = is.1; spent = may; behind = searched }, (tells, calm))
+pub check_stopped : (layout : Layout) (budget : ℕ) (known spelt : Option (List ℕ)) (stop : Stop) (status records_old records_new cert_old cert_new : ℕ) (told : List ℕ → Type 0) (same cut : Type 0)
+    → IfSome known (λ text. MayStopOn (records_of layout text) budget stop) → OnSearched (Err stop) (MayBeSearched layout known spelt) → TellsEither records_old records_new cert_old cert_new (Err stop) → same → IsTold stop status told → status ≡ STOPPED
+    → NamesStop told ((records_new ≡ one_more records_old) ⊎ (cert_new ≡ one_more cert_old)) ((records_new ≡ records_old) × (cert_new ≡ cert_old)) same cut
+    ⊎ (NamesBudget layout budget known spelt told × ((records_new ≡ records_old) × (cert_new ≡ cert_old)) × same)
+check_stopped layout budget known spelt (Record line cause) status records_old records_new cert_old cert_new told same cut may searched tells stays is e = absurd (cc (sym is.0 ∙ e))
+check_stopped layout budget known spelt Memory status records_old records_new cert_old cert_new told same cut may searched tells stays is e = inl (inl (is.1, tells, stays))
+check_stopped layout budget known spelt Device status records_old records_new cert_old cert_new told same cut may searched tells stays is e =
+    inl (inr (is.1, inl (elim tells [ inl r ↦ inl r.0 | inr c ↦ inr c.1 ], stays)))
+check_stopped layout budget known spelt Budget status records_old records_new cert_old cert_new told same cut may searched tells stays is e =
+    inr (record { written = is.1; spent = may; behind = searched }, tells, stays)
 
 -- no read failed where it is no such stop
 pub check_whole : (stop : Stop) (status records_old records_new cert_old cert_new : ℕ) → TellsEither records_old records_new cert_old cert_new (Err stop) → status ≡ status_of stop

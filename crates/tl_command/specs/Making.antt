@@ -2,7 +2,7 @@
 --
 -- `made` says of a text that it was written into the certificate that is made, `begun` that a beginning of it was, `same`
 -- that nothing was; `failed` that a read or a write failed.
-use Rattle.std.specs.Prelude.{◌≡◌, ◌⊎◌, ℕ, Bool, true, false, List, Option, IfSome, Result, Ok, Err, length, take}
+use Rattle.std.specs.Prelude.{◌≡◌, ◌⊎◌, ℕ, Bool, true, false, List, Option, IfSome, Result, Ok, Err, length, take, ⊤}
 use Rattle.std.specs.Io.KnownBytes.{Appends}
 use Rattle.tl_record.specs.declared.layout.Layout.{Layout}
 use Rattle.tl_record.specs.Layout.{layout_with}
@@ -98,17 +98,18 @@ IsBegunBy (Audit options files) known spelt begun = ⊥
 IsBegunBy (Build made options files) known spelt begun = OfMap (layout_with options) known (λ m. IsBegunOf m begun)
 
 -- a line was written to the output, and the status is that of it; or that failed, and why was told
-abbrev pub IsLine : (status wanted : ℕ) → Type 0 → (told : List ℕ → Type 0) → (failed well err_same : Type 0) → Type 0
-IsLine status wanted written told failed well err_same = ((status ≡ wanted) × written × err_same) ⊎ ((status ≡ STOPPED) × NamesStop told failed well)
+abbrev pub IsLine : (status wanted : ℕ) → List ℕ → (wrote told part : List ℕ → Type 0) → (out_same err_same : Type 0) → Type 0
+IsLine status wanted line wrote told part out_same err_same =
+    ((status ≡ wanted) × wrote line × err_same) ⊎ ((status ≡ STOPPED) × NamesStop told ⊥ ⊤ out_same (part line))
 
--- how what was made is told: `wrote` says of a text that it was written to the output, `told` to the error output; `failed`
--- that a write of the output failed, `well` that none did
-abbrev pub TellsMaking : Result Making Stop → ℕ → (wrote told : List ℕ → Type 0) → (failed well out_same err_same : Type 0) → Type 0
-TellsMaking (Ok (Made report)) status wrote told failed well out_same err_same =
-    IsLine status DONE (wrote (line_of (built_text report))) told failed well err_same
-TellsMaking (Ok (Fault fault)) status wrote told failed well out_same err_same =
-    IsLine status MAP_FAULT (wrote (line_of (map_fault_text fault))) told failed well err_same
-TellsMaking (Err stop) status wrote told failed well out_same err_same = IsTold stop status told × out_same
+-- how what was made is told: `wrote` says of a text that it was written to the output, `told` to the error output; `part`
+-- that a beginning of it was written to the output, and that a write failed
+abbrev pub TellsMaking : Result Making Stop → ℕ → (wrote told part : List ℕ → Type 0) → (out_same err_same : Type 0) → Type 0
+TellsMaking (Ok (Made report)) status wrote told part out_same err_same =
+    IsLine status DONE (line_of (built_text report)) wrote told part out_same err_same
+TellsMaking (Ok (Fault fault)) status wrote told part out_same err_same =
+    IsLine status MAP_FAULT (line_of (map_fault_text fault)) wrote told part out_same err_same
+TellsMaking (Err stop) status wrote told part out_same err_same = IsTold stop status told × out_same
 
 -- what writing a certificate in version 2 answers that is read
 abbrev pub Rewrites : Option (List ℕ) → (made begun : List ℕ → Type 0) → (same failed : Type 0) → Result Converted CertStop → Type 0
@@ -128,10 +129,10 @@ KeepsText c made begun failed (Err cert_stop.Memory) = ⊥
 KeepsText c made begun failed (Err cert_stop.Device) = failed × begun (certificate_text c)
 
 -- how what was rewritten is told
-abbrev pub TellsConverted : Result Converted CertStop → ℕ → (wrote told : List ℕ → Type 0) → (failed well out_same err_same : Type 0) → Type 0
-TellsConverted (Ok counts) status wrote told failed well out_same err_same =
-    IsLine status DONE (wrote (line_of (counts_text counts.nodes counts.rounds counts.walks))) told failed well err_same
-TellsConverted (Err (cert_stop.Text line)) status wrote told failed well out_same err_same =
-    IsLine status CERT_FAULT (wrote (line_of (cert_fault_text (cert_fault.Text line)))) told failed well err_same
-TellsConverted (Err cert_stop.Memory) status wrote told failed well out_same err_same = IsTold Memory status told × out_same
-TellsConverted (Err cert_stop.Device) status wrote told failed well out_same err_same = IsTold Device status told × out_same
+abbrev pub TellsConverted : Result Converted CertStop → ℕ → (wrote told part : List ℕ → Type 0) → (out_same err_same : Type 0) → Type 0
+TellsConverted (Ok counts) status wrote told part out_same err_same =
+    IsLine status DONE (line_of (counts_text counts.nodes counts.rounds counts.walks)) wrote told part out_same err_same
+TellsConverted (Err (cert_stop.Text line)) status wrote told part out_same err_same =
+    IsLine status CERT_FAULT (line_of (cert_fault_text (cert_fault.Text line))) wrote told part out_same err_same
+TellsConverted (Err cert_stop.Memory) status wrote told part out_same err_same = IsTold Memory status told × out_same
+TellsConverted (Err cert_stop.Device) status wrote told part out_same err_same = IsTold Device status told × out_same

@@ -1,6 +1,6 @@
 -- What a run over the files of a file system answers. `before` and `after` say what stands under each name, where that is
--- known; `wrote` and `told` say of a text that it was written to the output and to the error output; `failed` says that a
--- file failed, or a write of the output, and `well` that none of the output did.
+-- known; `wrote` and `told` say of a text that it was written to the output and to the error output; `part` that a
+-- beginning of it was written to the output, and that a write failed; `failed` that a file failed.
 use Rattle.std.specs.Prelude.{◌≡◌, ◌≢◌, ◌⊎◌, ℕ, Bool, false, Contains, List, [], ◌∷◌, Option, Some, None, IfSome, codes, string_bytes, ⊤}
 use Rattle.tl_files.specs.Files.{Under, bytes_under, beside, IsRoom}
 use Rattle.tl_files.specs.declared.file_system.Room.TheVariants.{Taken, IsRead}
@@ -11,7 +11,7 @@ use Rattle.tl_plan.specs.CommandLine.{files_of}
 use Rattle.tl_output.specs.Writing.{FailsToWrite, line_of}
 use Rattle.tl_command.specs.declared.stop.TheConstants.{DONE, MAP_FAULT, CERT_FAULT, REFUSED, STOPPED, USAGE}
 use Rattle.tl_record.specs.declared.options.Options.{Options}
-use Rattle.tl_command.specs.Running.{IsRunStatus, IsAnswered, FaultsMap, FaultsCertificate, NamesRefusal, StopsRun, FailsToRead, layout_of}
+use Rattle.tl_command.specs.Running.{IsRunStatus, IsAnswered, FaultsMap, FaultsCertificate, NamesRefusal, BreaksOff, StopsRun, FailsToRead, layout_of}
 use Rattle.tl_command.specs.Deciding.{IsExact}
 use Rattle.tl_command.specs.Making.{IsBegunBy}
 
@@ -116,14 +116,15 @@ Converts (Convert cert made) to = string_bytes made ≡ to
 Converts other to = ⊥
 
 -- what a run answers
-pub record RunsOver (plan : Plan) (status : ℕ) (before after : Under) (wrote told : List ℕ → Type 0) (failed well out_same err_same : Type 0) : Type 0 where
+pub record RunsOver (plan : Plan) (status : ℕ) (before after : Under) (wrote told part : List ℕ → Type 0) (failed out_same err_same : Type 0) : Type 0 where
   pub is_status : IsRunStatus status ⊎ (status ≡ USAGE)
   pub answered : status ≡ DONE → IsAnswered plan (records_under before plan) (certificate_under before plan) (Stands after plan) wrote
   pub fault : status ≡ MAP_FAULT → FaultsMap plan (records_under before plan) (certificate_under before plan) ⊤ wrote
   pub exactly : (status ≡ DONE) ⊎ (status ≡ MAP_FAULT) → IsExact plan (records_under before plan) status
   pub cert_fault : status ≡ CERT_FAULT → FaultsCertificate plan (records_under before plan) (certificate_under before plan) wrote
   pub refused : status ≡ REFUSED → NamesRefusal (layout_of plan) (records_under before plan) told
-  pub stopped : status ≡ STOPPED → StopsRun plan (records_under before plan) (certificate_under before plan) told failed well
+  pub stopped : status ≡ STOPPED → StopsRun plan (records_under before plan) (certificate_under before plan) told failed ⊤ out_same
+      (BreaksOff plan (records_under before plan) (certificate_under before plan) ⊤ (Stands after plan) part)
   pub usage : status ≡ USAGE → RefusesOut before plan told
   pub err_stays : (status ≡ DONE) ⊎ ((status ≡ MAP_FAULT) ⊎ (status ≡ CERT_FAULT)) → err_same
   pub out_stays : (status ≡ REFUSED) ⊎ (status ≡ USAGE) → out_same

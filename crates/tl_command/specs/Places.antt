@@ -18,9 +18,9 @@ place_text m (In polygons landmarks) = inside_text m polygons.items landmarks.it
 abbrev pub TellsPlace : TheMap → Point → (List ℕ → Type 0) → Type 0
 TellsPlace m point wrote = (place : Place) × IsPlaceOf m point place × wrote (place_text m place)
 
--- why it wasn't: `failed` says that the write failed, `stays` that the output is as it was
-abbrev pub StopsTelling : Type 0 → Type 0 → MapStop → Type 0
-StopsTelling failed stays map_stop.Device = failed
-StopsTelling failed stays map_stop.Memory = stays
-StopsTelling failed stays (map_stop.Refused line cause) = ⊥
-StopsTelling failed stays (map_stop.Fault fault) = ⊥
+-- why it wasn't: `same` says that the output is as it was, `cut` that a write of it failed behind a beginning of the line
+abbrev pub StopsTelling : (same cut : Type 0) → MapStop → Type 0
+StopsTelling same cut map_stop.Device = cut
+StopsTelling same cut map_stop.Memory = same
+StopsTelling same cut (map_stop.Refused line cause) = ⊥
+StopsTelling same cut (map_stop.Fault fault) = ⊥

@@ -276,9 +276,17 @@ FaultsCertificate (Check cert budget options files) records spelt wrote = NamesC
 FaultsCertificate (Audit options files) records spelt wrote = ⊥
 FaultsCertificate (Build made options files) records spelt wrote = ⊥
 
--- the line of a stop was written: of a want of memory, where no device failed (`well`), or of a device, where one did
-abbrev pub NamesStop : (List ℕ → Type 0) → (failed well : Type 0) → Type 0
-NamesStop wrote failed well = (wrote (line_of (stop_text Memory)) × well) ⊎ (wrote (line_of (stop_text Device)) × failed)
+-- a write of the output failed behind a beginning of what is true to write: `part` says of a text that a beginning of it was
+-- written, and that a write failed
+abbrev pub BreaksOff : Plan → (known spelt : Option (List ℕ)) → Type 0 → (made part : List ℕ → Type 0) → Type 0
+BreaksOff plan known spelt unread made part =
+    IsAnswered plan known spelt made part ⊎ (FaultsMap plan known spelt unread part ⊎ FaultsCertificate plan known spelt part)
+
+-- the line of a stop was written: of a want of memory, where no device failed (`well`) and the output is as it was (`same`);
+-- or of a device, where one failed and the output is as it was, or where a write of the output failed (`cut`)
+abbrev pub NamesStop : (List ℕ → Type 0) → (failed well same cut : Type 0) → Type 0
+NamesStop wrote failed well same cut =
+    (wrote (line_of (stop_text Memory)) × well × same) ⊎ (wrote (line_of (stop_text Device)) × ((failed × same) ⊎ cut))
 
 -- the line of a spent budget was written, and more pairs of the map's segments than the budget have rectangles that meet, of
 -- which as many as the budget don't conflict; and a search may be made by the certificate
@@ -297,9 +305,10 @@ SpendsBudget (Check cert budget options files) known spelt wrote = NamesBudget (
 SpendsBudget (Audit options files) known spelt wrote = ⊥
 SpendsBudget (Build made options files) known spelt wrote = ⊥
 
--- why the plan's command stopped was written; of a budget too only where no device failed
-abbrev pub StopsRun : Plan → (known spelt : Option (List ℕ)) → (List ℕ → Type 0) → (failed well : Type 0) → Type 0
-StopsRun plan known spelt wrote failed well = NamesStop wrote failed well ⊎ (SpendsBudget plan known spelt wrote × well)
+-- why the plan's command stopped was written; of a budget too only where no device failed and the output is as it was
+abbrev pub StopsRun : Plan → (known spelt : Option (List ℕ)) → (List ℕ → Type 0) → (failed well same cut : Type 0) → Type 0
+StopsRun plan known spelt wrote failed well same cut =
+    NamesStop wrote failed well same cut ⊎ (SpendsBudget plan known spelt wrote × well × same)
 
 -- the statuses that a run answers with
 abbrev pub IsRunStatus : ℕ → Type 0
@@ -324,12 +333,13 @@ status_of Budget = STOPPED
 abbrev pub IsTold : Stop → ℕ → (List ℕ → Type 0) → Type 0
 IsTold stop status wrote = (status ≡ status_of stop) × wrote (line_of (stop_text stop))
 
--- why nothing was answered: `failed` says that a read or a write failed, `stays` that the output is as it was
-abbrev pub StopsAnswer : Layout → Option (List ℕ) → Type 0 → Type 0 → MapStop → Type 0
-StopsAnswer layout known failed stays map_stop.Device = failed
-StopsAnswer layout known failed stays map_stop.Memory = stays
-StopsAnswer layout known failed stays (map_stop.Refused line cause) = stays × IfSome known (λ text. IsFirstRefusal layout text line cause)
-StopsAnswer layout known failed stays (map_stop.Fault fault) = stays × IfSome known (λ text. HasFault layout text fault)
+-- why nothing was answered: `failed` says that a read failed, `same` that the output is as it was, `cut` that a write of it
+-- failed behind a beginning of the answer
+abbrev pub StopsAnswer : Layout → Option (List ℕ) → (failed same cut : Type 0) → MapStop → Type 0
+StopsAnswer layout known failed same cut map_stop.Device = (failed × same) ⊎ cut
+StopsAnswer layout known failed same cut map_stop.Memory = same
+StopsAnswer layout known failed same cut (map_stop.Refused line cause) = same × IfSome known (λ text. IsFirstRefusal layout text line cause)
+StopsAnswer layout known failed same cut (map_stop.Fault fault) = same × IfSome known (λ text. HasFault layout text fault)
 
 -- the count stays, unless this error is answered
 abbrev pub StaysUnless : {T E : Type 0} → E → ℕ → ℕ → Result T E → Type 0

@@ -1,11 +1,13 @@
 -- What the program answers to its words.
-use Rattle.std.specs.Prelude.{◌≡◌, ◌≢◌, ◌⊎◌, ℕ, true, List, [], None, All, Contains, ⊤}
+use Rattle.std.specs.Prelude.{◌≡◌, ◌≢◌, ◌⊎◌, ℕ, true, List, [], None, All, Contains, codes, ⊤}
 use Rattle.clap.specs.Faults.{fault_of}
 use Rattle.clap.specs.Walk.{Text}
 use Rattle.tl_plan.specs.declared.plan.Plan.{Plan}
+use Rattle.tl_output.specs.Writing.{line_of}
+use Rattle.tl_verdict.specs.Stops.{stop_text}
 use Rattle.tl_verdict.specs.declared.stop.Stop.{Stop}
 use Rattle.tl_verdict.specs.declared.stop.Stop.TheVariants.{Record, Memory, Device, Budget}
-use Rattle.tl_command.specs.declared.stop.TheConstants.{DONE, STOPPED, USAGE}
+use Rattle.tl_command.specs.declared.stop.TheConstants.{DONE, MAP_FAULT, CERT_FAULT, REFUSED, STOPPED, USAGE}
 use Rattle.tl_plan.specs.Commands.{command_line}
 use Rattle.tl_plan.specs.CommandLine.{AskFor, AreAUse, HasMistake, HasAnswer, may_be_use}
 use Rattle.tl_plan.specs.Plans.{escape}
@@ -15,7 +17,7 @@ use Rattle.tl_files.specs.Files.{Under, bytes_under}
 use Rattle.tl_command.specs.Opening.{records_under, certificate_under, Stands, KeepsOthers, KeepsAll, RefusesOut}
 use Rattle.tl_command.specs.Deciding.{IsExact}
 use Rattle.tl_command.specs.Making.{IsBegunBy}
-use Rattle.tl_command.specs.Running.{IsRunStatus, IsAnswered, FaultsMap, NamesRefusal, FaultsCertificate, NamesStop, StopsRun, layout_of}
+use Rattle.tl_command.specs.Running.{IsRunStatus, IsAnswered, FaultsMap, NamesRefusal, FaultsCertificate, NamesStop, BreaksOff, StopsRun, layout_of}
 
 -- the statuses of the program
 abbrev pub IsStartStatus : ℕ → Type 0
@@ -39,12 +41,23 @@ FaultsText words before wrote = (plan : Plan) × AskFor words plan
 abbrev pub RefusesSome : List Text → Under → (List ℕ → Type 0) → Type 0
 RefusesSome words before wrote = (plan : Plan) × AskFor words plan × NamesRefusal (layout_of plan) (records_under before plan) wrote
 
+-- the words wish for help or for the version, and a text without an escape was written, which isn't empty
+pub record ShowsHelp (words : List Text) (wrote : List ℕ → Type 0) : Type 0 where
+  pub no_use : ¬ AreAUse words
+  pub wish : HasAnswer (fault_of command_line words)
+  pub text : List ℕ
+  pub some : text ≢ []
+  pub no_escape : All (λ byte. byte ≢ escape) text
+  pub written : wrote text
+
 -- the first word doesn't show that the words are no use of a command, and they make no plan for want of memory, or wish for help
--- that can't be written; or they ask for a plan that is stopped; and why was written: `failed` says that a write of the output
--- failed, `well` that none did, and `of_files` that a file of a plan's failed
-abbrev pub StopsSome : List Text → Under → (List ℕ → Type 0) → (of_files : Plan → Type 0) → (failed well : Type 0) → Type 0
-StopsSome words before wrote of_files failed well = ((may_be_use words ≡ true) × NamesStop wrote failed well)
-    ⊎ ((plan : Plan) × AskFor words plan × StopsRun plan (records_under before plan) (certificate_under before plan) wrote (of_files plan ⊎ failed) well)
+-- that can't be written; or they ask for a plan that is stopped; and why was written: `part` says of a text that a beginning of
+-- it was written to the output, and that a write failed, `of_files` that a file of a plan's failed, and `same` that the output
+-- is as it was
+abbrev pub StopsSome : List Text → (before after : Under) → (wrote part : List ℕ → Type 0) → (of_files : Plan → Type 0) → (same : Type 0) → Type 0
+StopsSome words before after wrote part of_files same = ((may_be_use words ≡ true) × NamesStop wrote ⊥ ⊤ same (ShowsHelp words part))
+    ⊎ ((plan : Plan) × AskFor words plan × StopsRun plan (records_under before plan) (certificate_under before plan) wrote (of_files plan) ⊤ same
+    (BreaksOff plan (records_under before plan) (certificate_under before plan) ⊤ (Stands after plan) part))
 
 -- the words are no use of a command, or they ask for a plan, of which a status of 0 or 1 says exactly whether a map is sound
 abbrev pub DecidesSome : List Text → Under → ℕ → Type 0
@@ -67,21 +80,36 @@ abbrev pub KeepsSome : List Text → ℕ → Under → Under → Type 0
 KeepsSome words status before after = ((plan : Plan) × AskFor words plan × KeepsOthers before after plan
     × ((status ≢ DONE) → (status ≢ STOPPED) → KeepsAll before after plan)) ⊎ ((name : List ℕ) → after name ≡ before name)
 
--- the words are no use of a command, and a text without an escape was written
+-- the words are no use of a command, and a text without an escape was written, which isn't empty
 pub record ShowsUsage (words : List Text) (wrote : List ℕ → Type 0) : Type 0 where
   pub no_use : ¬ AreAUse words
   pub mistake : HasMistake (fault_of command_line words) ⊎ (fault_of command_line words ≡ [])
   pub text : List ℕ
+  pub some : text ≢ []
   pub no_escape : All (λ byte. byte ≢ escape) text
   pub written : wrote text
 
--- the words wish for help or for the version, and a text without an escape was written
-pub record ShowsHelp (words : List Text) (wrote : List ℕ → Type 0) : Type 0 where
-  pub no_use : ¬ AreAUse words
-  pub wish : HasAnswer (fault_of command_line words)
-  pub text : List ℕ
-  pub no_escape : All (λ byte. byte ≢ escape) text
-  pub written : wrote text
+-- nothing is known of what stands under any name, as of the system's files
+abbrev pub unknown : Under
+unknown name = None
+
+-- what the program answers to words over such files
+pub record AnswersWords (words : List Text) (status : ℕ) (wrote told part : List ℕ → Type 0) (out_same err_same : Type 0) : Type 0 where
+  pub is_status : IsStartStatus status
+  pub usage : status ≡ USAGE → ShowsUsage words told ⊎ RefusesSomeOut words unknown told
+  pub done : status ≡ DONE → AnswersSome words unknown unknown wrote ⊎ ShowsHelp words wrote
+  pub fault : status ≡ MAP_FAULT → FaultsSome words unknown wrote
+  pub cert_fault : status ≡ CERT_FAULT → FaultsText words unknown wrote
+  pub refused : status ≡ REFUSED → RefusesSome words unknown told
+  pub stopped : status ≡ STOPPED → StopsSome words unknown unknown told part (λ plan. ⊤) out_same
+  pub err_stays : (status ≡ DONE) ⊎ ((status ≡ MAP_FAULT) ⊎ (status ≡ CERT_FAULT)) → err_same
+  pub out_stays : (status ≡ REFUSED) ⊎ (status ≡ USAGE) → out_same
+
+-- the words can't be read, or there are no keys for hashers: why was written, and the output is as it was
+abbrev pub StopsBefore : ℕ → (told : List ℕ → Type 0) → (out_same : Type 0) → Type 0
+StopsBefore status told out_same =
+    (((status ≡ STOPPED) × (told (line_of (stop_text Memory)) ⊎ told (line_of (stop_text Device))))
+    ⊎ ((status ≡ USAGE) × told (line_of (codes "error: a word of the command line is no UTF-8 text")))) × out_same
 
 -- files aren't opened for want of memory, or where a device fails
 abbrev pub StopsOpening : Type 0 → Stop → Type 0

@@ -2,7 +2,7 @@
 
 ghost use Rattle.std.specs.Prelude.{◌≡◌, ◌≢◌, ◌⊎◌, ⊤};
 ghost use Rattle.tl_record.specs.Layout.{layout_with};
-ghost use Rattle.tl_output.specs.Writing.{Writes, TriesToWrite, FailsToWrite};
+ghost use Rattle.tl_output.specs.Writing.{Writes, WritesSome, TriesToWrite};
 ghost use Rattle.tl_command.specs.declared.stop.TheConstants.{DONE, MAP_FAULT, REFUSED, STOPPED};
 ghost use Rattle.tl_command.specs.Running.{IsAudited, NamesFault, NamesRefusal, NamesStop, FailsToRead, CountStays};
 
@@ -33,8 +33,10 @@ pub fn audit<R: Source, W: Sink, E: Sink>(
         (TriesToWrite E.contents E.failure_count err.old err.new) }
     ensures stopped { result ≡ STOPPED
         → NamesStop (TriesToWrite E.contents E.failure_count err.old err.new)
-        (FailsToRead R.failure_count records.old records.new ⊎ FailsToWrite W.failure_count out.old out.new)
-        (CountStays R.failure_count records.old records.new × CountStays W.failure_count out.old out.new) }
+        (FailsToRead R.failure_count records.old records.new) (CountStays R.failure_count records.old records.new)
+        (out.new ≡ out.old)
+        (IsAudited (layout_with options) (R.remaining records.old) (WritesSome W.contents W.failure_count out.old out.new)
+        ⊎ NamesFault (layout_with options) (R.remaining records.old) ⊤ ⊤ (WritesSome W.contents W.failure_count out.old out.new)) }
     ensures err_stays { (result ≡ DONE) ⊎ (result ≡ MAP_FAULT) → err.new ≡ err.old }
     ensures out_stays { result ≡ REFUSED → out.new ≡ out.old }
     ensures read_whole { result ≢ STOPPED → R.failure_count records.new ≡ R.failure_count records.old }

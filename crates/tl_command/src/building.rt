@@ -2,7 +2,7 @@
 
 ghost use Rattle.std.specs.Prelude.{◌≡◌, ◌≢◌, ◌⊎◌, ⊤, length};
 ghost use Rattle.tl_record.specs.Layout.{layout_with};
-ghost use Rattle.tl_output.specs.Writing.{Writes, TriesToWrite, FailsToWrite};
+ghost use Rattle.tl_output.specs.Writing.{Writes, WritesSome, TriesToWrite, FailsToWrite};
 ghost use Rattle.tl_verdict.specs.Sound.{IsSound};
 ghost use Rattle.tl_verdict.specs.Valid.{IsValid};
 ghost use Rattle.tl_command.specs.declared.stop.TheConstants.{DONE, MAP_FAULT, REFUSED, STOPPED};
@@ -50,10 +50,12 @@ pub fn build<R: Source, C: Sink, W: Sink, E: Sink>(
         (TriesToWrite E.contents E.failure_count err.old err.new) }
     ensures stopped { result ≡ STOPPED
         → NamesStop (TriesToWrite E.contents E.failure_count err.old err.new)
-        (FailsToRead R.failure_count records.old records.new
-        ⊎ (FailsToWrite C.failure_count made.old made.new ⊎ FailsToWrite W.failure_count out.old out.new))
-        (CountStays R.failure_count records.old records.new
-        × (CountStays C.failure_count made.old made.new × CountStays W.failure_count out.old out.new)) }
+        (FailsToRead R.failure_count records.old records.new ⊎ FailsToWrite C.failure_count made.old made.new)
+        (CountStays R.failure_count records.old records.new × CountStays C.failure_count made.old made.new)
+        (out.new ≡ out.old)
+        (IsBuilt (layout_with options) (R.remaining records.old) (Writes C.contents C.failure_count made.old made.new)
+        (WritesSome W.contents W.failure_count out.old out.new)
+        ⊎ NamesFault (layout_with options) (R.remaining records.old) ⊤ ⊤ (WritesSome W.contents W.failure_count out.old out.new)) }
     ensures err_stays { (result ≡ DONE) ⊎ (result ≡ MAP_FAULT) → err.new ≡ err.old }
     ensures out_stays { result ≡ REFUSED → out.new ≡ out.old }
     ensures unmade { (result ≡ MAP_FAULT) ⊎ (result ≡ REFUSED) → made.new ≡ made.old }
@@ -117,8 +119,8 @@ fn keep<C: Sink>(map: &Map, certificate: &Certificate, made: &mut C) -> Result<M
 /// Tells what came of making a certificate, and gives the program's exit status.
 pub fn tell_making<W: Sink, E: Sink>(making: &Result<Making, Stop>, out: &mut W, err: &mut E) -> u8
     ensures { TellsMaking making.now result (Writes W.contents W.failure_count out.old out.new)
-        (TriesToWrite E.contents E.failure_count err.old err.new) (FailsToWrite W.failure_count out.old out.new)
-        (CountStays W.failure_count out.old out.new) (out.new ≡ out.old) (err.new ≡ err.old) }
+        (TriesToWrite E.contents E.failure_count err.old err.new) (WritesSome W.contents W.failure_count out.old out.new)
+        (out.new ≡ out.old) (err.new ≡ err.old) }
 {
     match making {
         Ok(Making::Made(report)) => tell_line(&BuiltCertificate(*report), DONE, out, err),

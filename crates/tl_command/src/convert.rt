@@ -1,7 +1,7 @@
 //! Certificates in version 2.
 
 ghost use Rattle.std.specs.Prelude.{◌≡◌, ◌≢◌, ◌⊎◌};
-ghost use Rattle.tl_output.specs.Writing.{Writes, TriesToWrite, FailsToWrite};
+ghost use Rattle.tl_output.specs.Writing.{Writes, WritesSome, TriesToWrite, FailsToWrite};
 ghost use Rattle.tl_command.specs.declared.stop.TheConstants.{DONE, CERT_FAULT, STOPPED};
 ghost use Rattle.tl_command.specs.Running.{IsConverted, NamesBadLine, NamesStop, FailsToRead, CountStays, StaysUnless};
 ghost use Rattle.tl_command.specs.Making.{Begins, BeginsRewritten, Rewrites, KeepsText, TellsConverted};
@@ -53,10 +53,12 @@ pub fn convert<S: Source, C: Sink, W: Sink, E: Sink>(
         → NamesBadLine (S.remaining cert.old) (Writes W.contents W.failure_count out.old out.new) }
     ensures stopped { result ≡ STOPPED
         → NamesStop (TriesToWrite E.contents E.failure_count err.old err.new)
-        (FailsToRead S.failure_count cert.old cert.new
-        ⊎ (FailsToWrite C.failure_count made.old made.new ⊎ FailsToWrite W.failure_count out.old out.new))
-        (CountStays S.failure_count cert.old cert.new
-        × (CountStays C.failure_count made.old made.new × CountStays W.failure_count out.old out.new)) }
+        (FailsToRead S.failure_count cert.old cert.new ⊎ FailsToWrite C.failure_count made.old made.new)
+        (CountStays S.failure_count cert.old cert.new × CountStays C.failure_count made.old made.new)
+        (out.new ≡ out.old)
+        (IsConverted (S.remaining cert.old) (Writes C.contents C.failure_count made.old made.new)
+        (WritesSome W.contents W.failure_count out.old out.new)
+        ⊎ NamesBadLine (S.remaining cert.old) (WritesSome W.contents W.failure_count out.old out.new)) }
     ensures err_stays { (result ≡ DONE) ⊎ (result ≡ CERT_FAULT) → err.new ≡ err.old }
     ensures made_stays { result ≡ CERT_FAULT → made.new ≡ made.old }
     // A certificate of another text is not even begun.
@@ -107,8 +109,8 @@ pub fn tell_converted<W: Sink, E: Sink>(
     err: &mut E,
 ) -> u8
     ensures { TellsConverted converted.now result (Writes W.contents W.failure_count out.old out.new)
-        (TriesToWrite E.contents E.failure_count err.old err.new) (FailsToWrite W.failure_count out.old out.new)
-        (CountStays W.failure_count out.old out.new) (out.new ≡ out.old) (err.new ≡ err.old) }
+        (TriesToWrite E.contents E.failure_count err.old err.new) (WritesSome W.contents W.failure_count out.old out.new)
+        (out.new ≡ out.old) (err.new ≡ err.old) }
 {
     match converted {
         Ok(counts) => tell_line(counts, DONE, out, err),

@@ -1,8 +1,8 @@
 //! Whether a map is sound, by a certificate.
 
-ghost use Rattle.std.specs.Prelude.{◌≡◌, ◌≢◌, ◌⊎◌};
+ghost use Rattle.std.specs.Prelude.{◌≡◌, ◌≢◌, ◌⊎◌, ⊤};
 ghost use Rattle.tl_record.specs.Layout.{layout_with};
-ghost use Rattle.tl_output.specs.Writing.{Writes, TriesToWrite, FailsToWrite, line_of};
+ghost use Rattle.tl_output.specs.Writing.{Writes, WritesSome, TriesToWrite, line_of};
 ghost use Rattle.tl_command.specs.declared.stop.TheConstants.{DONE, MAP_FAULT, CERT_FAULT, REFUSED, STOPPED};
 ghost use Rattle.tl_command.specs.Verdicts.{verdict_text, verdict_status};
 ghost use Rattle.tl_command.specs.Running.{IsChecked, NamesFault, NamesCertFault, NamesRefusal, NamesStop, NamesBudget};
@@ -42,14 +42,18 @@ pub fn decide<R: Source, S: Source, W: Sink, E: Sink>(
         (TriesToWrite E.contents E.failure_count err.old err.new) }
     ensures stopped { result ≡ STOPPED
         → NamesStop (TriesToWrite E.contents E.failure_count err.old err.new)
-        ((FailsToRead R.failure_count records.old records.new ⊎ FailsToRead S.failure_count cert.old cert.new)
-        ⊎ FailsToWrite W.failure_count out.old out.new)
-        ((CountStays R.failure_count records.old records.new × CountStays S.failure_count cert.old cert.new)
-        × CountStays W.failure_count out.old out.new)
+        (FailsToRead R.failure_count records.old records.new ⊎ FailsToRead S.failure_count cert.old cert.new)
+        (CountStays R.failure_count records.old records.new × CountStays S.failure_count cert.old cert.new)
+        (out.new ≡ out.old)
+        (IsChecked (layout_with options) budget (R.remaining records.old) (S.remaining cert.old) (WritesSome W.contents W.failure_count out.old out.new)
+        ⊎ (NamesFault (layout_with options) (R.remaining records.old)
+        (cert.new ≡ cert.old) (MayBeSearched (layout_with options) (R.remaining records.old) (S.remaining cert.old))
+        (WritesSome W.contents W.failure_count out.old out.new)
+        ⊎ NamesCertFault (layout_with options) (R.remaining records.old) (S.remaining cert.old) (WritesSome W.contents W.failure_count out.old out.new)))
         ⊎ (NamesBudget (layout_with options) budget (R.remaining records.old) (S.remaining cert.old)
         (TriesToWrite E.contents E.failure_count err.old err.new)
-        × ((CountStays R.failure_count records.old records.new × CountStays S.failure_count cert.old cert.new)
-        × CountStays W.failure_count out.old out.new)) }
+        × (CountStays R.failure_count records.old records.new × CountStays S.failure_count cert.old cert.new)
+        × (out.new ≡ out.old)) }
     ensures err_stays { (result ≡ DONE) ⊎ ((result ≡ MAP_FAULT) ⊎ (result ≡ CERT_FAULT)) → err.new ≡ err.old }
     ensures out_stays { result ≡ REFUSED → out.new ≡ out.old }
     ensures unread { result ≡ REFUSED → cert.new ≡ cert.old }
@@ -70,7 +74,7 @@ fn tell_verdict<W: Sink, E: Sink>(verdict: &Verdict, out: &mut W, err: &mut E) -
     ensures err_stays { result ≡ verdict_status verdict.now → err.new ≡ err.old }
     ensures stopped { result ≡ STOPPED
         → NamesStop (TriesToWrite E.contents E.failure_count err.old err.new)
-        (FailsToWrite W.failure_count out.old out.new) (CountStays W.failure_count out.old out.new) }
+        ⊥ ⊤ (out.new ≡ out.old) (WritesSome W.contents W.failure_count out.old out.new (line_of (verdict_text verdict.now))) }
 {
     match verdict {
         Verdict::Sound(report) => tell_line(&SoundMap(*report), DONE, out, err),

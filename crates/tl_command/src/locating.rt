@@ -1,10 +1,9 @@
 //! Where a point lies.
 
 ghost use Rattle.std.specs.Prelude.{◌≡◌, ◌⊎◌, [], OnOk, IfErr};
-ghost use Rattle.std.specs.Io.KnownBytes.{Appends};
 ghost use Rattle.tl_geom.specs.declared.point.Point.{Point};
 ghost use Rattle.tl_record.specs.Layout.{layout_with};
-ghost use Rattle.tl_output.specs.Writing.{Writes, FailsToWrite, CountsFailure};
+ghost use Rattle.tl_output.specs.Writing.{Writes, WritesSome, CountsFailure, TriesToPassOn};
 ghost use Rattle.tl_inside.specs.Places.{IsPlaceOf};
 ghost use Rattle.tl_command.specs.Places.{place_text, TellsPlace, StopsTelling};
 ghost use Rattle.tl_command.specs.Running.{IsLocated, FailsToRead, StopsAnswer, StaysUnless};
@@ -33,8 +32,9 @@ pub fn tell_place<R: Source, W: Sink>(
     ensures answered { OnOk result (IsLocated (layout_with options) point (R.remaining records.old)
         (Writes W.contents W.failure_count out.old out.new)) }
     ensures stops { IfErr result (StopsAnswer (layout_with options) (R.remaining records.old)
-        (FailsToRead R.failure_count records.old records.new ⊎ FailsToWrite W.failure_count out.old out.new)
-        (out.new ≡ out.old)) }
+        (FailsToRead R.failure_count records.old records.new) (out.new ≡ out.old)
+        (IsLocated (layout_with options) point (R.remaining records.old)
+        (WritesSome W.contents W.failure_count out.old out.new))) }
     ensures reads { StaysUnless MapStop.Device (R.failure_count records.old) (R.failure_count records.new) result }
 {
     let map = read_map_with(alloc, hasher, records, options)?;
@@ -44,7 +44,8 @@ pub fn tell_place<R: Source, W: Sink>(
 // Writes where a point lies in a map.
 fn tell_on<W: Sink>(alloc: Global, map: &Map, point: Point, out: &mut W) -> Result<(), MapStop>
     ensures told { OnOk result (TellsPlace map.now point (Writes W.contents W.failure_count out.old out.new)) }
-    ensures stops { IfErr result (StopsTelling (FailsToWrite W.failure_count out.old out.new) (out.new ≡ out.old)) }
+    ensures stops { IfErr result (StopsTelling (out.new ≡ out.old)
+        (TellsPlace map.now point (WritesSome W.contents W.failure_count out.old out.new))) }
 {
     let Ok(place) = locate(alloc, map, &PlainList::new(map.segments()), point) else {
         return Err(MapStop::Memory);
@@ -58,16 +59,31 @@ fn tell_on<W: Sink>(alloc: Global, map: &Map, point: Point, out: &mut W) -> Resu
 // Writes the line of a place.
 fn print_place<W: Sink>(map: &Map, place: &Place, out: &mut W) -> io::Result<()>
     requires { (point : Point) × IsPlaceOf map.now point place.now }
-    ensures bytes { OnOk result (Appends (W.contents out.old) (W.contents out.new) (place_text map.now place.now)) }
+    ensures bytes { TriesToPassOn (W.contents out.old) (W.contents out.new) [] [] (place_text map.now place.now) result }
     ensures failures { CountsFailure (W.failure_count out.old) (W.failure_count out.new) result }
 {
     let mut buffer = OutputBuffer::new();
+    add_place(map, place, &mut buffer, out)?;
+    buffer.flush(out)
+}
+
+// Adds the line of a place to the output.
+fn add_place<W: Sink>(
+    map: &Map,
+    place: &Place,
+    buffer: &mut OutputBuffer,
+    out: &mut W,
+) -> io::Result<()>
+    requires { (point : Point) × IsPlaceOf map.now point place.now }
+    ensures bytes { TriesToPassOn (W.contents out.old) (W.contents out.new) buffer.old buffer.new
+        (place_text map.now place.now) result }
+    ensures failures { CountsFailure (W.failure_count out.old) (W.failure_count out.new) result }
+{
     match place {
-        Place::OnChain(chain) => print_on_chain(map, *chain, &mut buffer, out)?,
+        Place::OnChain(chain) => print_on_chain(map, *chain, buffer, out),
         Place::In {
             polygons,
             landmarks,
-        } => print_inside(map, polygons, landmarks, &mut buffer, out)?,
+        } => print_inside(map, polygons, landmarks, buffer, out),
     }
-    buffer.flush(out)
 }

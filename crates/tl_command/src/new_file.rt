@@ -2,10 +2,9 @@
 
 ghost use Rattle.std.specs.Prelude.{◌≡◌, ◌≢◌, ◌⊎◌, ℕ, List, true, false, None, IfOk, IfErr, IfSome, IsSome, map, string_bytes};
 ghost use Rattle.tl_text.specs.Joining.{joined_bytes};
-ghost use Rattle.tl_output.specs.Writing.{Writes, TriesToWrite, FailsToWrite};
+ghost use Rattle.tl_output.specs.Writing.{Writes, WritesSome, TriesToWrite};
 ghost use Rattle.tl_files.specs.Files.{bytes_under, standing, beside, IsRoom};
 ghost use Rattle.tl_command.specs.declared.stop.TheConstants.{USAGE};
-ghost use Rattle.tl_command.specs.Running.{CountStays};
 ghost use Rattle.tl_command.specs.Opening.{RunsOver, IsBuildOf, Converts, records_under, certificate_under, FilesFail};
 ghost use Rattle.tl_command.specs.Starting.{StopsOpening};
 
@@ -64,9 +63,8 @@ pub fn build_into<F: FileSystem, W: Sink, E: Sink>(
     requires known { joined_bytes F.Reader.remaining false readers.items ≡ records_under (F.under files.old) plan.now }
     ensures { RunsOver plan.now result (F.under files.old) (F.under files.new)
         (Writes W.contents W.failure_count out.old out.new)
-        (TriesToWrite E.contents E.failure_count err.old err.new)
-        (FilesFail F.Reader.failure_count F.Draft.failure_count F.knows (F.under files.old) plan.now
-        ⊎ FailsToWrite W.failure_count out.old out.new) (CountStays W.failure_count out.old out.new)
+        (TriesToWrite E.contents E.failure_count err.old err.new) (WritesSome W.contents W.failure_count out.old out.new)
+        (FilesFail F.Reader.failure_count F.Draft.failure_count F.knows (F.under files.old) plan.now)
         (out.new ≡ out.old) (err.new ≡ err.old) }
 {
     let Ok(room) = room_for_bytes(alloc) else {
@@ -99,9 +97,8 @@ pub fn convert_into<F: FileSystem, W: Sink, E: Sink>(
         ≡ certificate_under (F.under files.old) plan.now }
     ensures { RunsOver plan.now result (F.under files.old) (F.under files.new)
         (Writes W.contents W.failure_count out.old out.new)
-        (TriesToWrite E.contents E.failure_count err.old err.new)
-        (FilesFail F.Reader.failure_count F.Draft.failure_count F.knows (F.under files.old) plan.now
-        ⊎ FailsToWrite W.failure_count out.old out.new) (CountStays W.failure_count out.old out.new)
+        (TriesToWrite E.contents E.failure_count err.old err.new) (WritesSome W.contents W.failure_count out.old out.new)
+        (FilesFail F.Reader.failure_count F.Draft.failure_count F.knows (F.under files.old) plan.now)
         (out.new ≡ out.old) (err.new ≡ err.old) }
 {
     let mut draft = match files.draft(alloc, name.as_str()) {

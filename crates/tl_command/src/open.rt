@@ -2,8 +2,8 @@
 
 ghost use Rattle.std.specs.Prelude.{◌≡◌, ◌⊎◌, false, string_bytes};
 ghost use Rattle.tl_text.specs.Joining.{joined_bytes};
-ghost use Rattle.tl_output.specs.Writing.{Writes, TriesToWrite, FailsToWrite};
-ghost use Rattle.tl_command.specs.Running.{CountStays, ReadsNoCertificate, MakesNoCertificate};
+ghost use Rattle.tl_output.specs.Writing.{Writes, WritesSome, TriesToWrite};
+ghost use Rattle.tl_command.specs.Running.{ReadsNoCertificate, MakesNoCertificate};
 ghost use Rattle.tl_command.specs.Opening.{RunsOver, IsCheckBy, IsBuildOf, IsConversionBy, records_under, FilesFail};
 
 use crate::new_file::{IS_READ, TAKEN, build_into, convert_into, room_for, say_refusal};
@@ -19,7 +19,8 @@ use tl_record::{Meter, MeterOut, Options, Sink};
 
 /// Opens the plan's files, each once and in the order of their names, does what it asks, and gives the program's exit
 /// status. All files are opened before the first is read, and where one can't be, nothing is printed on `out`. A
-/// certificate that is made takes its name when it is whole.
+/// certificate that is made takes its name when it is whole. Where it stops, the output is as it was, unless a write of it
+/// failed: then it grew by a beginning of what is true to write.
 pub fn open_and_run<F: FileSystem, W: Sink, E: Sink>(
     files: &mut F,
     alloc: Global,
@@ -30,9 +31,8 @@ pub fn open_and_run<F: FileSystem, W: Sink, E: Sink>(
 ) -> u8
     ensures { RunsOver plan.now result (F.under files.old) (F.under files.new)
         (Writes W.contents W.failure_count out.old out.new)
-        (TriesToWrite E.contents E.failure_count err.old err.new)
-        (FilesFail F.Reader.failure_count F.Draft.failure_count F.knows (F.under files.old) plan.now
-        ⊎ FailsToWrite W.failure_count out.old out.new) (CountStays W.failure_count out.old out.new)
+        (TriesToWrite E.contents E.failure_count err.old err.new) (WritesSome W.contents W.failure_count out.old out.new)
+        (FilesFail F.Reader.failure_count F.Draft.failure_count F.knows (F.under files.old) plan.now)
         (out.new ≡ out.old) (err.new ≡ err.old) }
 {
     let readers = match open_all(&*files, alloc, plan.files()) {
@@ -76,9 +76,8 @@ fn run_plainly<F: FileSystem, W: Sink, E: Sink>(
     requires known { joined_bytes F.Reader.remaining false readers.items ≡ records_under (F.under files.now) plan.now }
     ensures { RunsOver plan.now result (F.under files.now) (F.under files.now)
         (Writes W.contents W.failure_count out.old out.new)
-        (TriesToWrite E.contents E.failure_count err.old err.new)
-        (FilesFail F.Reader.failure_count F.Draft.failure_count F.knows (F.under files.now) plan.now
-        ⊎ FailsToWrite W.failure_count out.old out.new) (CountStays W.failure_count out.old out.new)
+        (TriesToWrite E.contents E.failure_count err.old err.new) (WritesSome W.contents W.failure_count out.old out.new)
+        (FilesFail F.Reader.failure_count F.Draft.failure_count F.knows (F.under files.now) plan.now)
         (out.new ≡ out.old) (err.new ≡ err.old) }
 {
     let mut readers = readers;
@@ -111,9 +110,8 @@ fn open_and_check<F: FileSystem, W: Sink, E: Sink>(
     requires known { joined_bytes F.Reader.remaining false readers.items ≡ records_under (F.under files.now) plan.now }
     ensures { RunsOver plan.now result (F.under files.now) (F.under files.now)
         (Writes W.contents W.failure_count out.old out.new)
-        (TriesToWrite E.contents E.failure_count err.old err.new)
-        (FilesFail F.Reader.failure_count F.Draft.failure_count F.knows (F.under files.now) plan.now
-        ⊎ FailsToWrite W.failure_count out.old out.new) (CountStays W.failure_count out.old out.new)
+        (TriesToWrite E.contents E.failure_count err.old err.new) (WritesSome W.contents W.failure_count out.old out.new)
+        (FilesFail F.Reader.failure_count F.Draft.failure_count F.knows (F.under files.now) plan.now)
         (out.new ≡ out.old) (err.new ≡ err.old) }
 {
     let mut cert = match open_certificate(files, alloc, name) {
@@ -150,9 +148,8 @@ fn open_and_build<F: FileSystem, W: Sink, E: Sink>(
     requires known { joined_bytes F.Reader.remaining false readers.items ≡ records_under (F.under files.old) plan.now }
     ensures { RunsOver plan.now result (F.under files.old) (F.under files.new)
         (Writes W.contents W.failure_count out.old out.new)
-        (TriesToWrite E.contents E.failure_count err.old err.new)
-        (FilesFail F.Reader.failure_count F.Draft.failure_count F.knows (F.under files.old) plan.now
-        ⊎ FailsToWrite W.failure_count out.old out.new) (CountStays W.failure_count out.old out.new)
+        (TriesToWrite E.contents E.failure_count err.old err.new) (WritesSome W.contents W.failure_count out.old out.new)
+        (FilesFail F.Reader.failure_count F.Draft.failure_count F.knows (F.under files.old) plan.now)
         (out.new ≡ out.old) (err.new ≡ err.old) }
 {
     match room_for(&*files, name, plan.files()) {
@@ -175,9 +172,8 @@ fn open_and_convert<F: FileSystem, W: Sink, E: Sink>(
     requires { IsConversionBy plan.now (string_bytes names.0.now) (string_bytes names.1.now) }
     ensures { RunsOver plan.now result (F.under files.old) (F.under files.new)
         (Writes W.contents W.failure_count out.old out.new)
-        (TriesToWrite E.contents E.failure_count err.old err.new)
-        (FilesFail F.Reader.failure_count F.Draft.failure_count F.knows (F.under files.old) plan.now
-        ⊎ FailsToWrite W.failure_count out.old out.new) (CountStays W.failure_count out.old out.new)
+        (TriesToWrite E.contents E.failure_count err.old err.new) (WritesSome W.contents W.failure_count out.old out.new)
+        (FilesFail F.Reader.failure_count F.Draft.failure_count F.knows (F.under files.old) plan.now)
         (out.new ≡ out.old) (err.new ≡ err.old) }
 {
     let mut cert = match open_certificate(&*files, alloc, names.0) {

@@ -1,6 +1,10 @@
 //! The program: its words, over the files of the system.
 
-ghost use Rattle.tl_command.specs.Starting.{IsStartStatus};
+ghost use Rattle.std.specs.Prelude.{◌≡◌, ◌⊎◌, List, map, string_bytes, codes};
+ghost use Rattle.clap.specs.Walk.{Text};
+ghost use Rattle.tl_output.specs.Writing.{Writes, WritesSome, TriesToWrite, line_of};
+ghost use Rattle.tl_command.specs.declared.stop.TheConstants.{USAGE};
+ghost use Rattle.tl_command.specs.Starting.{AnswersWords, StopsBefore};
 
 use crate::start::start;
 use crate::stop::{USAGE, stopped};
@@ -16,14 +20,18 @@ use tl_output::write_all;
 use tl_record::Sink;
 use tl_verdict::Stop;
 
-/// Does what the words of the command line ask, and gives the program's exit status.
+/// Does what the words of the command line ask, and gives the program's exit status. Which words these are no contract
+/// knows.
 pub fn answer<R: Files<File = File> + Env + RandomSource + Alloc<A = Global>, W: Sink, E: Sink>(
     rt: &R,
     alloc: Global,
     out: &mut W,
     err: &mut E,
 ) -> u8
-    ensures { IsStartStatus result }
+    ensures { StopsBefore result (TriesToWrite E.contents E.failure_count err.old err.new) (out.new ≡ out.old)
+        ⊎ ((words : List Text) × AnswersWords words result (Writes W.contents W.failure_count out.old out.new)
+        (TriesToWrite E.contents E.failure_count err.old err.new) (WritesSome W.contents W.failure_count out.old out.new)
+        (out.new ≡ out.old) (err.new ≡ err.old)) }
 {
     match words_of(rt, alloc) {
         Ok(words) => start_over_system(rt, alloc, words.as_slice(), out, err),
@@ -58,9 +66,8 @@ fn unread_by(error: &io::Error) -> Unread {
     }
 }
 
-// Asks the system once for the keys of hashers, so that nobody can make a file against them. Of all that `start` promises
-// `answer` hears the status alone: its own proof, which is of what it owns, would go through each other promise for each of
-// its ways out.
+// Asks the system once for the keys of hashers, so that nobody can make a file against them. What `start` promises is one
+// clause here: the proof of `answer`, which is of what it owns, would go through each of several for each of its ways out.
 fn start_over_system<R: Files<File = File> + RandomSource, W: Sink, E: Sink>(
     rt: &R,
     alloc: Global,
@@ -68,7 +75,10 @@ fn start_over_system<R: Files<File = File> + RandomSource, W: Sink, E: Sink>(
     out: &mut W,
     err: &mut E,
 ) -> u8
-    ensures { IsStartStatus result }
+    ensures { StopsBefore result (TriesToWrite E.contents E.failure_count err.old err.new) (out.new ≡ out.old)
+        ⊎ AnswersWords (map string_bytes words.now) result (Writes W.contents W.failure_count out.old out.new)
+        (TriesToWrite E.contents E.failure_count err.old err.new) (WritesSome W.contents W.failure_count out.old out.new)
+        (out.new ≡ out.old) (err.new ≡ err.old) }
 {
     let Ok(hasher) = RandomState::new(rt) else {
         return stopped(&Stop::Device, err);
@@ -79,7 +89,9 @@ fn start_over_system<R: Files<File = File> + RandomSource, W: Sink, E: Sink>(
 
 // Says that a word is no text. Where that can't be written, the status alone is left to tell it.
 fn say_no_text<E: Sink>(err: &mut E) -> u8
-    ensures { IsStartStatus result }
+    ensures status { result ≡ USAGE }
+    ensures said { TriesToWrite E.contents E.failure_count err.old err.new
+        (line_of (codes "error: a word of the command line is no UTF-8 text")) }
 {
     let _ = write_all(b"error: a word of the command line is no UTF-8 text\n", err);
     USAGE

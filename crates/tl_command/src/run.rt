@@ -1,13 +1,12 @@
 //! Doing what a plan asks.
 
-ghost use Rattle.std.specs.Prelude.{◌≡◌, ◌≢◌, ◌⊎◌, OnOk, IfErr};
+ghost use Rattle.std.specs.Prelude.{◌≡◌, ◌≢◌, ◌⊎◌, [], OnOk, IfErr};
 ghost use Rattle.tl_record.specs.Layout.{layout_with};
 ghost use Rattle.tl_text.specs.Printing.{shown_text, listing_text};
-ghost use Rattle.tl_output.specs.Writing.{Writes, TriesToWrite, FailsToWrite, CountsFailure, line_of};
-ghost use Rattle.std.specs.Io.KnownBytes.{Appends};
+ghost use Rattle.tl_output.specs.Writing.{Writes, WritesSome, TriesToWrite, FailsToWrite, CountsFailure, TriesToPassOn, line_of};
 ghost use Rattle.tl_command.specs.declared.stop.TheConstants.{DONE, MAP_FAULT, CERT_FAULT, REFUSED, STOPPED};
 ghost use Rattle.tl_command.specs.Running.{IsAnswered, AnswersRecords, IsShown, IsListed, NamesRecordFault, NamesRefusal};
-ghost use Rattle.tl_command.specs.Running.{NamesStop, StopsRun, FaultsMap, FaultsCertificate};
+ghost use Rattle.tl_command.specs.Running.{BreaksOff, NamesStop, StopsRun, FaultsMap, FaultsCertificate};
 ghost use Rattle.tl_command.specs.Running.{ReadsNoCertificate, MakesNoCertificate, ReadsNoRecords};
 ghost use Rattle.tl_command.specs.Running.{IsRunStatus, FailsToRead, CountStays, StopsAnswer, LooksFor, layout_of, StaysUnless};
 ghost use Rattle.tl_map.specs.Faults.{IsFaultOfChains};
@@ -70,14 +69,18 @@ pub fn run<R: Source, S: Source, C: Sink, W: Sink, E: Sink>(
         → NamesRefusal (layout_of plan.now) (R.remaining records.old) (TriesToWrite E.contents E.failure_count err.old err.new) }
     // The line of a stop was, or the write of it failed; of a device only where a read or a write failed, of a want of
     // memory and of a spent budget only where none did, and of a budget only where more pairs of segments have rectangles
-    // that meet.
+    // that meet. The output is as it was, unless a write of it failed: then it grew by a beginning of an answer or of a
+    // fault's line, which is true.
     ensures stopped { result ≡ STOPPED
         → StopsRun plan.now (R.remaining records.old) (S.remaining cert.old)
         (TriesToWrite E.contents E.failure_count err.old err.new)
         ((FailsToRead R.failure_count records.old records.new ⊎ FailsToRead S.failure_count cert.old cert.new)
-        ⊎ (FailsToWrite C.failure_count made.old made.new ⊎ FailsToWrite W.failure_count out.old out.new))
+        ⊎ FailsToWrite C.failure_count made.old made.new)
         ((CountStays R.failure_count records.old records.new × CountStays S.failure_count cert.old cert.new)
-        × (CountStays C.failure_count made.old made.new × CountStays W.failure_count out.old out.new)) }
+        × CountStays C.failure_count made.old made.new)
+        (out.new ≡ out.old)
+        (BreaksOff plan.now (R.remaining records.old) (S.remaining cert.old) (cert.new ≡ cert.old)
+        (Writes C.contents C.failure_count made.old made.new) (WritesSome W.contents W.failure_count out.old out.new)) }
 
     // The other stream stays as it was.
     ensures err_stays { (result ≡ DONE) ⊎ ((result ≡ MAP_FAULT) ⊎ (result ≡ CERT_FAULT)) → err.new ≡ err.old }
@@ -129,8 +132,10 @@ fn run_on_records<R: Source, W: Sink, E: Sink>(
         → NamesRefusal (layout_of plan.now) (R.remaining records.old) (TriesToWrite E.contents E.failure_count err.old err.new) }
     ensures stopped { result ≡ STOPPED
         → NamesStop (TriesToWrite E.contents E.failure_count err.old err.new)
-        (FailsToRead R.failure_count records.old records.new ⊎ FailsToWrite W.failure_count out.old out.new)
-        (CountStays R.failure_count records.old records.new × CountStays W.failure_count out.old out.new) }
+        (FailsToRead R.failure_count records.old records.new) (CountStays R.failure_count records.old records.new)
+        (out.new ≡ out.old)
+        (AnswersRecords plan.now (R.remaining records.old) (WritesSome W.contents W.failure_count out.old out.new)
+        ⊎ NamesRecordFault (layout_of plan.now) (R.remaining records.old) (LooksFor plan.now) (WritesSome W.contents W.failure_count out.old out.new)) }
     ensures err_stays { (result ≡ DONE) ⊎ (result ≡ MAP_FAULT) → err.new ≡ err.old }
     ensures out_stays { result ≡ REFUSED → out.new ≡ out.old }
     ensures read_whole { result ≢ STOPPED → R.failure_count records.new ≡ R.failure_count records.old }
@@ -155,8 +160,9 @@ fn answer<R: Source, W: Sink>(
     ensures answered { OnOk result (AnswersRecords plan.now (R.remaining records.old)
         (Writes W.contents W.failure_count out.old out.new)) }
     ensures stops { IfErr result (StopsAnswer (layout_of plan.now) (R.remaining records.old)
-        (FailsToRead R.failure_count records.old records.new ⊎ FailsToWrite W.failure_count out.old out.new)
-        (out.new ≡ out.old)) }
+        (FailsToRead R.failure_count records.old records.new) (out.new ≡ out.old)
+        (AnswersRecords plan.now (R.remaining records.old)
+        (WritesSome W.contents W.failure_count out.old out.new))) }
     ensures sought { IfErr result (IfFault (LooksFor plan.now)) }
     ensures reads { StaysUnless MapStop.Device (R.failure_count records.old) (R.failure_count records.new) result }
 {
@@ -182,8 +188,9 @@ fn show<R: Source, W: Sink>(
     ensures answered { OnOk result (IsShown (layout_with options) (R.remaining records.old)
         (Writes W.contents W.failure_count out.old out.new)) }
     ensures stops { IfErr result (StopsAnswer (layout_with options) (R.remaining records.old)
-        (FailsToRead R.failure_count records.old records.new ⊎ FailsToWrite W.failure_count out.old out.new)
-        (out.new ≡ out.old)) }
+        (FailsToRead R.failure_count records.old records.new) (out.new ≡ out.old)
+        (IsShown (layout_with options) (R.remaining records.old)
+        (WritesSome W.contents W.failure_count out.old out.new))) }
     // A fault is one of the chains.
     ensures of_chains { IfErr result (IfFault IsFaultOfChains) }
     ensures reads { StaysUnless MapStop.Device (R.failure_count records.old) (R.failure_count records.new) result }
@@ -202,8 +209,9 @@ fn landmarks<R: Source, W: Sink>(
     ensures answered { OnOk result (IsListed (layout_with options) (R.remaining records.old)
         (Writes W.contents W.failure_count out.old out.new)) }
     ensures stops { IfErr result (StopsAnswer (layout_with options) (R.remaining records.old)
-        (FailsToRead R.failure_count records.old records.new ⊎ FailsToWrite W.failure_count out.old out.new)
-        (out.new ≡ out.old)) }
+        (FailsToRead R.failure_count records.old records.new) (out.new ≡ out.old)
+        (IsListed (layout_with options) (R.remaining records.old)
+        (WritesSome W.contents W.failure_count out.old out.new))) }
     ensures reads { StaysUnless MapStop.Device (R.failure_count records.old) (R.failure_count records.new) result }
 {
     let map = read_map_with(alloc, hasher, records, options)?;
@@ -212,7 +220,8 @@ fn landmarks<R: Source, W: Sink>(
 
 fn tell_chains<W: Sink>(chains: &Chains, out: &mut W) -> Result<(), MapStop>
     ensures told { OnOk result (Writes W.contents W.failure_count out.old out.new (shown_text chains.now)) }
-    ensures stops { IfErr result (StopsTelling (FailsToWrite W.failure_count out.old out.new) (out.new ≡ out.old)) }
+    ensures stops { IfErr result (StopsTelling (out.new ≡ out.old)
+        (WritesSome W.contents W.failure_count out.old out.new (shown_text chains.now))) }
 {
     match print_all_chains(chains, out) {
         Ok(()) => Ok(()),
@@ -222,7 +231,8 @@ fn tell_chains<W: Sink>(chains: &Chains, out: &mut W) -> Result<(), MapStop>
 
 fn tell_landmarks<W: Sink>(map: &Map, out: &mut W) -> Result<(), MapStop>
     ensures told { OnOk result (Writes W.contents W.failure_count out.old out.new (listing_text map.now)) }
-    ensures stops { IfErr result (StopsTelling (FailsToWrite W.failure_count out.old out.new) (out.new ≡ out.old)) }
+    ensures stops { IfErr result (StopsTelling (out.new ≡ out.old)
+        (WritesSome W.contents W.failure_count out.old out.new (listing_text map.now))) }
 {
     match print_all_landmarks(map, out) {
         Ok(()) => Ok(()),
@@ -231,7 +241,7 @@ fn tell_landmarks<W: Sink>(map: &Map, out: &mut W) -> Result<(), MapStop>
 }
 
 fn print_all_chains<W: Sink>(chains: &Chains, out: &mut W) -> io::Result<()>
-    ensures bytes { OnOk result (Appends (W.contents out.old) (W.contents out.new) (shown_text chains.now)) }
+    ensures bytes { TriesToPassOn (W.contents out.old) (W.contents out.new) [] [] (shown_text chains.now) result }
     ensures failures { CountsFailure (W.failure_count out.old) (W.failure_count out.new) result }
 {
     let mut buffer = OutputBuffer::new();
@@ -240,7 +250,7 @@ fn print_all_chains<W: Sink>(chains: &Chains, out: &mut W) -> io::Result<()>
 }
 
 fn print_all_landmarks<W: Sink>(map: &Map, out: &mut W) -> io::Result<()>
-    ensures bytes { OnOk result (Appends (W.contents out.old) (W.contents out.new) (listing_text map.now)) }
+    ensures bytes { TriesToPassOn (W.contents out.old) (W.contents out.new) [] [] (listing_text map.now) result }
     ensures failures { CountsFailure (W.failure_count out.old) (W.failure_count out.new) result }
 {
     let mut buffer = OutputBuffer::new();

@@ -1,11 +1,10 @@
 //! The program from its words to its status.
 
 ghost use Rattle.std.specs.Prelude.{◌≡◌, ◌⊎◌, map, string_bytes};
-ghost use Rattle.tl_output.specs.Writing.{Writes, TriesToWrite, FailsToWrite, line_of};
+ghost use Rattle.tl_output.specs.Writing.{Writes, WritesSome, TriesToWrite, line_of};
 ghost use Rattle.tl_command.specs.declared.stop.TheConstants.{DONE, MAP_FAULT, CERT_FAULT, REFUSED, STOPPED, USAGE};
 ghost use Rattle.tl_verdict.specs.declared.stop.Stop.TheVariants.{Device};
 ghost use Rattle.tl_verdict.specs.Stops.{stop_text};
-ghost use Rattle.tl_command.specs.Running.{CountStays};
 ghost use Rattle.tl_command.specs.Opening.{FilesFail};
 ghost use Rattle.tl_command.specs.Starting.{IsStartStatus, ShowsUsage, ShowsHelp, AnswersSome, FaultsSome, RefusesSome};
 ghost use Rattle.tl_command.specs.Starting.{FaultsText, StopsSome, DecidesSome, BeginsSome, RefusesSomeOut, KeepsSome};
@@ -55,10 +54,10 @@ pub fn start<F: FileSystem, W: Sink, E: Sink>(
         → RefusesSome (map string_bytes words.now) (F.under files.old)
         (TriesToWrite E.contents E.failure_count err.old err.new) }
     ensures stopped { result ≡ STOPPED
-        → StopsSome (map string_bytes words.now) (F.under files.old)
-        (TriesToWrite E.contents E.failure_count err.old err.new)
+        → StopsSome (map string_bytes words.now) (F.under files.old) (F.under files.new)
+        (TriesToWrite E.contents E.failure_count err.old err.new) (WritesSome W.contents W.failure_count out.old out.new)
         (FilesFail F.Reader.failure_count F.Draft.failure_count F.knows (F.under files.old))
-        (FailsToWrite W.failure_count out.old out.new) (CountStays W.failure_count out.old out.new) }
+        (out.new ≡ out.old) }
     // The other stream stays as it was.
     ensures err_stays { (result ≡ DONE) ⊎ ((result ≡ MAP_FAULT) ⊎ (result ≡ CERT_FAULT)) → err.new ≡ err.old }
     ensures out_stays { (result ≡ REFUSED) ⊎ (result ≡ USAGE) → out.new ≡ out.old }
@@ -75,13 +74,22 @@ pub fn start<F: FileSystem, W: Sink, E: Sink>(
         Ok(plan) => open_and_run(files, alloc, hasher, &plan, out, err),
         Err(PlanStop::Memory) => stopped(&Stop::Memory, err),
         Err(PlanStop::Usage(text)) => {
-            if text.is_empty() {
+            let shown = text.as_str();
+            if shown.is_empty() {
                 say_usage(NO_USE, err)
             } else {
-                say_usage(text.as_str(), err)
+                say_usage(shown, err)
             }
         }
-        Err(PlanStop::Help(text)) => say_help(&text, out, err),
+        Err(PlanStop::Help(text)) => {
+            let shown = text.as_str();
+            if shown.is_empty() {
+                // It never is: `clap` has a text for each wish.
+                stopped(&Stop::Memory, err)
+            } else {
+                say_help(shown, out, err)
+            }
+        }
     }
 }
 
@@ -95,15 +103,15 @@ fn say_usage<E: Sink>(text: &str, err: &mut E) -> u8
 }
 
 // Gives the help that the words wish for. Where that can't be written, the program is stopped.
-fn say_help<W: Sink, E: Sink>(text: &String, out: &mut W, err: &mut E) -> u8
+fn say_help<W: Sink, E: Sink>(text: &str, out: &mut W, err: &mut E) -> u8
     ensures status { (result ≡ DONE) ⊎ (result ≡ STOPPED) }
-    ensures said { result ≡ DONE → Writes W.contents W.failure_count out.old out.new (string_bytes text.now) }
+    ensures said { result ≡ DONE → Writes W.contents W.failure_count out.old out.new text.now }
     ensures err_stays { result ≡ DONE → err.new ≡ err.old }
     ensures stopped { result ≡ STOPPED
         → (TriesToWrite E.contents E.failure_count err.old err.new (line_of (stop_text Device)))
-        × FailsToWrite W.failure_count out.old out.new }
+        × WritesSome W.contents W.failure_count out.old out.new text.now }
 {
-    match write_all(text.as_str().as_bytes(), out) {
+    match write_all(text.as_bytes(), out) {
         Ok(()) => DONE,
         Err(_) => stopped(&Stop::Device, err),
     }

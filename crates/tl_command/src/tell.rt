@@ -1,9 +1,9 @@
 //! Answers that are one line.
 
-ghost use Rattle.std.specs.Prelude.{◌≡◌, ◌≢◌, ◌⊎◌, IfSome};
-ghost use Rattle.tl_output.specs.Writing.{Writes, TriesToWrite, FailsToWrite, line_of};
+ghost use Rattle.std.specs.Prelude.{◌≡◌, ◌≢◌, ◌⊎◌, IfSome, ⊤};
+ghost use Rattle.tl_output.specs.Writing.{Writes, WritesSome, TriesToWrite, FailsToWrite, line_of};
 ghost use Rattle.tl_command.specs.declared.stop.TheConstants.{STOPPED};
-ghost use Rattle.tl_command.specs.Running.{NamesStop, CountStays};
+ghost use Rattle.tl_command.specs.Running.{NamesStop};
 
 use crate::stop::stopped;
 use std::fmt::Display;
@@ -12,7 +12,7 @@ use tl_record::Sink;
 use tl_verdict::Stop;
 
 /// Writes the value's line to `out` and gives this status. Where that can't be written, the command is stopped: for a
-/// device where the write failed, and for want of memory where the line has no room.
+/// device where the write failed behind a beginning of the line, and for want of memory where the line has no room.
 pub fn tell_line<D: Display, W: Sink, E: Sink>(
     value: &D,
     status: u8,
@@ -26,7 +26,8 @@ pub fn tell_line<D: Display, W: Sink, E: Sink>(
     ensures err_stays { result ≡ status → err.new ≡ err.old }
     ensures stopped { result ≡ STOPPED
         → NamesStop (TriesToWrite E.contents E.failure_count err.old err.new)
-        (FailsToWrite W.failure_count out.old out.new) (CountStays W.failure_count out.old out.new) }
+        ⊥ ⊤ (out.new ≡ out.old) (FailsToWrite W.failure_count out.old out.new × IfSome (D.output value.now)
+        (λ text. WritesSome W.contents W.failure_count out.old out.new (line_of text))) }
 {
     match print_line(value, out) {
         Ok(()) => status,

@@ -1,5 +1,5 @@
 -- What a line holds once it is put together.
-use Rattle.std.proofs.Common.{◌≡◌, ℕ, ◌<◌, ◌≤◌, List, [], ◌∷◌, ◌++◌, length, append_assoc, append-nil, sym, subst}
+use Rattle.std.proofs.Common.{◌≡◌, ℕ, ◌<◌, ◌≤◌, List, [], ◌∷◌, ◌++◌, length, append_assoc, append-nil, sym, subst, ◌∙◌}
 use Rattle.std.specs.Prelude.{Option, Some, None, IfSome, Result, Ok, Err, IfOk, IfErr, MatchResult}
 use Rattle.std.specs.Fmt.{WritesText, option_append}
 use Rattle.std.specs.List.{FoldsTo, concat}
@@ -39,3 +39,8 @@ stop_told None line (Ok l) held whole is = tt
 stop_told None line (Err stop) held whole is = rw is tt
 stop_told (Some t) line (Ok l) held whole is = tt
 stop_told (Some t) line (Err stop) held whole is = rw is (whole (line_of t) held)
+
+-- the line that is written is the value's, where its text is known
+pub is_line : (text : Option (List ℕ)) (line bytes : List ℕ) → line ≡ bytes → IfSome text (λ t. (bytes ≡ line_of t) × (length (line_of t) ≤ line_room)) → IfSome text (λ t. line ≡ line_of t)
+is_line None line bytes same is = tt
+is_line (Some t) line bytes same is = same ∙ is.0

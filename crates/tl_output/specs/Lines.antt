@@ -2,7 +2,7 @@
 use Rattle.std.specs.Prelude.{◌≡◌, ℕ, ◌<◌, List, length, Option, IfSome, ⊤}
 use Rattle.tl_output.specs.declared.line.LineStop.{LineStop}
 use Rattle.tl_output.specs.declared.line.LineStop.TheVariants.{Failed, NoRoom, NoText}
-use Rattle.tl_output.specs.Writing.{FailsToWrite, line_of}
+use Rattle.tl_output.specs.Writing.{FailsToWrite, WritesSome, line_of}
 
 -- how many bytes a line may have, its line feed counted
 abbrev pub line_room : ℕ
@@ -18,8 +18,10 @@ LacksLine text Failed = ⊥
 LacksLine text NoRoom = IsTooLong text
 LacksLine text NoText = ⊤
 
--- why the line of this text isn't printed: a write failed; or the sink is as it was, and there is no line
-abbrev pub StopsLine : {S : Type 0} → Option (List ℕ) → (S → ℕ) → S → S → LineStop → Type 0
-StopsLine text failures old new Failed = FailsToWrite failures old new
-StopsLine text failures old new NoRoom = (new ≡ old) × IsTooLong text
-StopsLine text failures old new NoText = new ≡ old
+-- why the line of this text isn't printed: a write failed, and the sink took a beginning of the line; or the sink is as it was,
+-- and there is no line
+abbrev pub StopsLine : {S : Type 0} → Option (List ℕ) → (S → Option (List ℕ)) → (S → ℕ) → S → S → LineStop → Type 0
+StopsLine text contents failures old new Failed =
+    FailsToWrite failures old new × IfSome text (λ t. WritesSome contents failures old new (line_of t))
+StopsLine text contents failures old new NoRoom = (new ≡ old) × IsTooLong text
+StopsLine text contents failures old new NoText = new ≡ old

@@ -1,5 +1,5 @@
 -- What a sink has taken: its contents and its count of failed writes, before and after.
-use Rattle.std.specs.Prelude.{◌≡◌, ◌⊎◌, ℕ, List, ◌∷◌, [], ◌++◌, Option, Result, MatchResult}
+use Rattle.std.specs.Prelude.{◌≡◌, ◌⊎◌, ℕ, List, ◌∷◌, [], ◌++◌, take, Option, Result, MatchResult}
 use Rattle.std.specs.Io.KnownBytes.{Appends}
 use Rattle.tl_record.specs.Failures.{one_more}
 
@@ -19,6 +19,12 @@ pub record Writes {S : Type 0} (contents : S → Option (List ℕ)) (failures : 
 -- it did, or a write failed
 abbrev pub TriesToWrite : {S : Type 0} → (S → Option (List ℕ)) → (S → ℕ) → S → S → List ℕ → Type 0
 TriesToWrite contents failures old new text = Writes contents failures old new text ⊎ FailsToWrite failures old new
+
+-- the sink took a beginning of the text and nothing else, and a write failed
+pub record WritesSome {S : Type 0} (contents : S → Option (List ℕ)) (failures : S → ℕ) (old new : S) (text : List ℕ) : Type 0 where
+  pub len : ℕ
+  pub grown : Appends (contents old) (contents new) (take len text)
+  pub failure : FailsToWrite failures old new
 
 -- of what was held and the text behind it the sink took the front, and this is kept
 pub record PassesOn (old new : Option (List ℕ)) (held kept text : List ℕ) : Type 0 where

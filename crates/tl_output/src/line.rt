@@ -18,7 +18,7 @@ const LINE_ROOM: usize = 256;
 /// Why a line wasn't printed.
 #[derive(Clone, Copy, Debug, PartialEq, Eq)]
 pub enum LineStop {
-    /// A write failed.
+    /// A write failed. A beginning of the line was written.
     Failed,
     /// The line is longer than the memory that is kept for one, 256 bytes. Nothing was written.
     NoRoom,
@@ -34,8 +34,9 @@ pub fn print_line<D: Display, S: Sink>(value: &D, out: &mut S) -> Result<(), Lin
     // A line that is printed has room.
     ensures room { IfSome (D.output value.now) (λ text. OnOk result (length (line_of text) ≤ line_room)) }
     ensures no_failure { OnOk result (S.failure_count out.new ≡ S.failure_count out.old) }
-    // Where it isn't, a write failed, or nothing was written: of a line without room, or of a value that has no text.
-    ensures stop { IfErr result (StopsLine (D.output value.now) S.failure_count out.old out.new) }
+    // Where it isn't, a write failed behind a beginning of the line, or nothing was written: of a line without room, or of a
+    // value that has no text.
+    ensures stop { IfErr result (StopsLine (D.output value.now) S.contents S.failure_count out.old out.new) }
 {
     let line = line_text(value)?;
     match write_all(line.as_str().as_bytes(), out) {

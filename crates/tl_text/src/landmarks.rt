@@ -1,11 +1,10 @@
 //! The lines of landmarks.
 
-ghost use Rattle.std.specs.Prelude.{◌<◌, OnOk, All, encode_utf8, length};
-ghost use Rattle.std.specs.Io.KnownBytes.{Appends, append_known};
+ghost use Rattle.std.specs.Prelude.{◌<◌, All, encode_utf8, length};
 ghost use Rattle.tl_key.specs.KeyText.{key_text};
 ghost use Rattle.tl_text.specs.Printing.{polygon_text, listed_text, polygons_text, place_text, landmark_text};
 ghost use Rattle.tl_text.specs.Printing.{landmark_count_text, listing_text};
-ghost use Rattle.tl_output.specs.Writing.{CountsFailure};
+ghost use Rattle.tl_output.specs.Writing.{CountsFailure, TriesToPassOn};
 
 use crate::print::print_point;
 use itoa::Buffer;
@@ -16,10 +15,10 @@ use tl_output::OutputBuffer;
 use tl_record::{PolyKey, Sink};
 
 /// Writes a line for each landmark, with the keys of its polygons, and a line of their number. An error says that a write
-/// failed.
+/// failed: the sink took some of what was held and of the lines, from the front.
 pub fn print_landmarks<S: Sink>(map: &Map, buffer: &mut OutputBuffer, out: &mut S) -> io::Result<()>
-    ensures bytes { OnOk result (Appends (append_known (S.contents out.old) buffer.old)
-        (append_known (S.contents out.new) buffer.new) (listing_text map.now)) }
+    ensures bytes { TriesToPassOn (S.contents out.old) (S.contents out.new) buffer.old buffer.new
+        (listing_text map.now) result }
     ensures failures { CountsFailure (S.failure_count out.old) (S.failure_count out.new) result }
 {
     for number in 0..map.landmarks() {
@@ -29,8 +28,8 @@ pub fn print_landmarks<S: Sink>(map: &Map, buffer: &mut OutputBuffer, out: &mut 
 }
 
 fn print_count<S: Sink>(count: u32, buffer: &mut OutputBuffer, out: &mut S) -> io::Result<()>
-    ensures bytes { OnOk result (Appends (append_known (S.contents out.old) buffer.old)
-        (append_known (S.contents out.new) buffer.new) (landmark_count_text count)) }
+    ensures bytes { TriesToPassOn (S.contents out.old) (S.contents out.new) buffer.old buffer.new
+        (landmark_count_text count) result }
     ensures failures { CountsFailure (S.failure_count out.old) (S.failure_count out.new) result }
 {
     let mut digits = Buffer::new();
@@ -46,10 +45,9 @@ fn print_landmark<S: Sink>(
     out: &mut S,
 ) -> io::Result<()>
     requires { All (λ p. p < length map.now.polygons) landmark.now.polygons.now }
-    ensures bytes { OnOk result (Appends (append_known (S.contents out.old) buffer.old)
-        (append_known (S.contents out.new) buffer.new)
+    ensures bytes { TriesToPassOn (S.contents out.old) (S.contents out.new) buffer.old buffer.new
         (landmark_text map.now.polygons
-        (record { land = landmark.now.land; point = landmark.now.point; polygons = landmark.now.polygons.now }))) }
+        (record { land = landmark.now.land; point = landmark.now.point; polygons = landmark.now.polygons.now })) result }
     ensures failures { CountsFailure (S.failure_count out.old) (S.failure_count out.new) result }
 {
     let mut digits = Buffer::new();
@@ -66,8 +64,8 @@ fn print_place<S: Sink>(
     buffer: &mut OutputBuffer,
     out: &mut S,
 ) -> io::Result<()>
-    ensures bytes { OnOk result (Appends (append_known (S.contents out.old) buffer.old)
-        (append_known (S.contents out.new) buffer.new) (place_text point)) }
+    ensures bytes { TriesToPassOn (S.contents out.old) (S.contents out.new) buffer.old buffer.new
+        (place_text point) result }
     ensures failures { CountsFailure (S.failure_count out.old) (S.failure_count out.new) result }
 {
     match point {
@@ -79,7 +77,8 @@ fn print_place<S: Sink>(
     }
 }
 
-/// Writes the keys of the polygons with these numbers, or that there are none. An error says that a write failed.
+/// Writes the keys of the polygons with these numbers, or that there are none. An error says that a write failed: the
+/// sink took some of what was held and of the keys, from the front.
 pub fn print_listed<S: Sink>(
     map: &Map,
     numbers: &[u32],
@@ -87,8 +86,8 @@ pub fn print_listed<S: Sink>(
     out: &mut S,
 ) -> io::Result<()>
     requires { All (λ p. p < length map.now.polygons) numbers.now }
-    ensures bytes { OnOk result (Appends (append_known (S.contents out.old) buffer.old)
-        (append_known (S.contents out.new) buffer.new) (listed_text map.now.polygons numbers.now)) }
+    ensures bytes { TriesToPassOn (S.contents out.old) (S.contents out.new) buffer.old buffer.new
+        (listed_text map.now.polygons numbers.now) result }
     ensures failures { CountsFailure (S.failure_count out.old) (S.failure_count out.new) result }
 {
     if numbers.is_empty() {
@@ -104,8 +103,8 @@ fn print_polygons<S: Sink>(
     out: &mut S,
 ) -> io::Result<()>
     requires { All (λ p. p < length map.now.polygons) numbers.now }
-    ensures bytes { OnOk result (Appends (append_known (S.contents out.old) buffer.old)
-        (append_known (S.contents out.new) buffer.new) (polygons_text map.now.polygons numbers.now)) }
+    ensures bytes { TriesToPassOn (S.contents out.old) (S.contents out.new) buffer.old buffer.new
+        (polygons_text map.now.polygons numbers.now) result }
     ensures failures { CountsFailure (S.failure_count out.old) (S.failure_count out.new) result }
 {
     for number in numbers {
@@ -121,17 +120,18 @@ fn print_polygon<S: Sink>(
     out: &mut S,
 ) -> io::Result<()>
     requires { number < length map.now.polygons }
-    ensures bytes { OnOk result (Appends (append_known (S.contents out.old) buffer.old)
-        (append_known (S.contents out.new) buffer.new) (polygon_text map.now.polygons number)) }
+    ensures bytes { TriesToPassOn (S.contents out.old) (S.contents out.new) buffer.old buffer.new
+        (polygon_text map.now.polygons number) result }
     ensures failures { CountsFailure (S.failure_count out.old) (S.failure_count out.new) result }
 {
+    let key = map.polygon(number).key;
     buffer.add(b" ", out)?;
-    print_key(map.polygon(number).key, buffer, out)
+    print_key(key, buffer, out)
 }
 
 fn print_key<S: Sink>(key: PolyKey, buffer: &mut OutputBuffer, out: &mut S) -> io::Result<()>
-    ensures bytes { OnOk result (Appends (append_known (S.contents out.old) buffer.old)
-        (append_known (S.contents out.new) buffer.new) (key_text key)) }
+    ensures bytes { TriesToPassOn (S.contents out.old) (S.contents out.new) buffer.old buffer.new
+        (key_text key) result }
     ensures failures { CountsFailure (S.failure_count out.old) (S.failure_count out.new) result }
 {
     let [first, second, third, fourth, fifth] = key.shown_cenid();
@@ -146,8 +146,8 @@ fn print_key<S: Sink>(key: PolyKey, buffer: &mut OutputBuffer, out: &mut S) -> i
 }
 
 fn print_char<S: Sink>(c: char, buffer: &mut OutputBuffer, out: &mut S) -> io::Result<()>
-    ensures bytes { OnOk result (Appends (append_known (S.contents out.old) buffer.old)
-        (append_known (S.contents out.new) buffer.new) (encode_utf8 c)) }
+    ensures bytes { TriesToPassOn (S.contents out.old) (S.contents out.new) buffer.old buffer.new
+        (encode_utf8 c) result }
     ensures failures { CountsFailure (S.failure_count out.old) (S.failure_count out.new) result }
 {
     let mut bytes = [0; 4];

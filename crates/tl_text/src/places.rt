@@ -1,9 +1,8 @@
 //! The line of a place.
 
-ghost use Rattle.std.specs.Prelude.{◌<◌, OnOk, All, length};
-ghost use Rattle.std.specs.Io.KnownBytes.{Appends, append_known};
+ghost use Rattle.std.specs.Prelude.{◌<◌, All, length};
 ghost use Rattle.tl_text.specs.Places.{on_text, land_text, lands_text, listed_lands, inside_text};
-ghost use Rattle.tl_output.specs.Writing.{CountsFailure};
+ghost use Rattle.tl_output.specs.Writing.{CountsFailure, TriesToPassOn};
 
 use crate::landmarks::print_listed;
 use itoa::Buffer;
@@ -12,7 +11,8 @@ use tl_county::Map;
 use tl_output::OutputBuffer;
 use tl_record::Sink;
 
-/// Writes the line of a point on a chain, which is given by its number: its TLID. An error says that a write failed.
+/// Writes the line of a point on a chain, which is given by its number: its TLID. An error says that a write failed: the
+/// sink took some of what was held and of the line, from the front.
 pub fn print_on_chain<S: Sink>(
     map: &Map,
     chain: u32,
@@ -20,18 +20,20 @@ pub fn print_on_chain<S: Sink>(
     out: &mut S,
 ) -> io::Result<()>
     requires { chain < length map.now.chains }
-    ensures bytes { OnOk result (Appends (append_known (S.contents out.old) buffer.old)
-        (append_known (S.contents out.new) buffer.new) (on_text map.now.chains chain)) }
+    ensures bytes { TriesToPassOn (S.contents out.old) (S.contents out.new) buffer.old buffer.new
+        (on_text map.now.chains chain) result }
     ensures failures { CountsFailure (S.failure_count out.old) (S.failure_count out.new) result }
 {
+    let tlid = map.chain(chain).tlid;
     let mut digits = Buffer::new();
     buffer.add(b"on tlid ", out)?;
-    buffer.add(digits.format(map.chain(chain).tlid).as_bytes(), out)?;
+    buffer.add(digits.format(tlid).as_bytes(), out)?;
     buffer.add(b"\n", out)
 }
 
 /// Writes the line of a point on no chain: the keys of the polygons that it lies in and the LAND numbers of the
-/// landmarks, each given by its number. An error says that a write failed.
+/// landmarks, each given by its number. An error says that a write failed: the sink took some of what was held and of the
+/// line, from the front.
 pub fn print_inside<S: Sink>(
     map: &Map,
     polygons: &[u32],
@@ -41,8 +43,8 @@ pub fn print_inside<S: Sink>(
 ) -> io::Result<()>
     requires polygons { All (λ p. p < length map.now.polygons) polygons.now }
     requires landmarks { All (λ l. l < length map.now.landmarks) landmarks.now }
-    ensures bytes { OnOk result (Appends (append_known (S.contents out.old) buffer.old)
-        (append_known (S.contents out.new) buffer.new) (inside_text map.now polygons.now landmarks.now)) }
+    ensures bytes { TriesToPassOn (S.contents out.old) (S.contents out.new) buffer.old buffer.new
+        (inside_text map.now polygons.now landmarks.now) result }
     ensures failures { CountsFailure (S.failure_count out.old) (S.failure_count out.new) result }
 {
     buffer.add(b"in polygons", out)?;
@@ -59,8 +61,8 @@ fn print_listed_lands<S: Sink>(
     out: &mut S,
 ) -> io::Result<()>
     requires { All (λ l. l < length map.now.landmarks) numbers.now }
-    ensures bytes { OnOk result (Appends (append_known (S.contents out.old) buffer.old)
-        (append_known (S.contents out.new) buffer.new) (listed_lands map.now.landmarks numbers.now)) }
+    ensures bytes { TriesToPassOn (S.contents out.old) (S.contents out.new) buffer.old buffer.new
+        (listed_lands map.now.landmarks numbers.now) result }
     ensures failures { CountsFailure (S.failure_count out.old) (S.failure_count out.new) result }
 {
     if numbers.is_empty() {
@@ -76,8 +78,8 @@ fn print_lands<S: Sink>(
     out: &mut S,
 ) -> io::Result<()>
     requires { All (λ l. l < length map.now.landmarks) numbers.now }
-    ensures bytes { OnOk result (Appends (append_known (S.contents out.old) buffer.old)
-        (append_known (S.contents out.new) buffer.new) (lands_text map.now.landmarks numbers.now)) }
+    ensures bytes { TriesToPassOn (S.contents out.old) (S.contents out.new) buffer.old buffer.new
+        (lands_text map.now.landmarks numbers.now) result }
     ensures failures { CountsFailure (S.failure_count out.old) (S.failure_count out.new) result }
 {
     for number in numbers {
@@ -93,11 +95,12 @@ fn print_land<S: Sink>(
     out: &mut S,
 ) -> io::Result<()>
     requires { number < length map.now.landmarks }
-    ensures bytes { OnOk result (Appends (append_known (S.contents out.old) buffer.old)
-        (append_known (S.contents out.new) buffer.new) (land_text map.now.landmarks number)) }
+    ensures bytes { TriesToPassOn (S.contents out.old) (S.contents out.new) buffer.old buffer.new
+        (land_text map.now.landmarks number) result }
     ensures failures { CountsFailure (S.failure_count out.old) (S.failure_count out.new) result }
 {
+    let land = map.landmark(number).land;
     let mut digits = Buffer::new();
     buffer.add(b" ", out)?;
-    buffer.add(digits.format(map.landmark(number).land).as_bytes(), out)
+    buffer.add(digits.format(land).as_bytes(), out)
 }

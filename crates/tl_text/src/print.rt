@@ -1,10 +1,9 @@
 //! The lines of chains.
 
-ghost use Rattle.std.specs.Prelude.{◌≡◌, ◌+◌, ◌*◌, ◌≤◌, ◌++◌, OnOk, codes, decimal, drop, length};
+ghost use Rattle.std.specs.Prelude.{◌≡◌, ◌+◌, ◌*◌, ◌≤◌, ◌++◌, codes, decimal, drop, length};
 ghost use Rattle.std.specs.Fmt.{signed_decimal};
-ghost use Rattle.std.specs.Io.KnownBytes.{Appends, append_known};
 ghost use Rattle.tl_text.specs.Printing.{point_text, points_text, chain_text, counts_text, shown_text};
-ghost use Rattle.tl_output.specs.Writing.{CountsFailure};
+ghost use Rattle.tl_output.specs.Writing.{CountsFailure, TriesToPassOn};
 
 use arrayvec::ArrayString;
 use itoa::{Buffer, write_digits};
@@ -25,14 +24,15 @@ const TOGETHER: usize = 8;
 
 const LONGEST_POINTS: usize = TOGETHER * LONGEST_POINT;
 
-/// Writes a line for each chain and a line of counts. An error says that a write failed.
+/// Writes a line for each chain and a line of counts. An error says that a write failed: the sink took some of what was
+/// held and of the lines, from the front.
 pub fn print_chains<S: Sink>(
     chains: &Chains,
     buffer: &mut OutputBuffer,
     out: &mut S,
 ) -> io::Result<()>
-    ensures bytes { OnOk result (Appends (append_known (S.contents out.old) buffer.old)
-        (append_known (S.contents out.new) buffer.new) (shown_text chains.now)) }
+    ensures bytes { TriesToPassOn (S.contents out.old) (S.contents out.new) buffer.old buffer.new
+        (shown_text chains.now) result }
     ensures failures { CountsFailure (S.failure_count out.old) (S.failure_count out.new) result }
 {
     for chain in 0..chains.len() {
@@ -54,8 +54,8 @@ fn print_counts<S: Sink>(
     buffer: &mut OutputBuffer,
     out: &mut S,
 ) -> io::Result<()>
-    ensures bytes { OnOk result (Appends (append_known (S.contents out.old) buffer.old)
-        (append_known (S.contents out.new) buffer.new) (counts_text chains segments skipped)) }
+    ensures bytes { TriesToPassOn (S.contents out.old) (S.contents out.new) buffer.old buffer.new
+        (counts_text chains segments skipped) result }
     ensures failures { CountsFailure (S.failure_count out.old) (S.failure_count out.new) result }
 {
     let mut digits = Buffer::new();
@@ -74,8 +74,8 @@ fn print_chain<S: Sink>(
     buffer: &mut OutputBuffer,
     out: &mut S,
 ) -> io::Result<()>
-    ensures bytes { OnOk result (Appends (append_known (S.contents out.old) buffer.old)
-        (append_known (S.contents out.new) buffer.new) (chain_text (record { tlid = tlid; points = points.now }))) }
+    ensures bytes { TriesToPassOn (S.contents out.old) (S.contents out.new) buffer.old buffer.new
+        (chain_text (record { tlid = tlid; points = points.now })) result }
     ensures failures { CountsFailure (S.failure_count out.old) (S.failure_count out.new) result }
 {
     buffer.add(text_of_tlid(tlid).as_str().as_bytes(), out)?;
@@ -102,8 +102,8 @@ fn text_of_tlid(tlid: u64) -> ArrayString<LONGEST_TLID>
 // Points one after the other, put together before they are added.
 fn print_points<S: Sink>(points: &[Point], buffer: &mut OutputBuffer, out: &mut S) -> io::Result<()>
     requires { length points.now ≤ 8 }
-    ensures bytes { OnOk result (Appends (append_known (S.contents out.old) buffer.old)
-        (append_known (S.contents out.new) buffer.new) (points_text points.now)) }
+    ensures bytes { TriesToPassOn (S.contents out.old) (S.contents out.new) buffer.old buffer.new
+        (points_text points.now) result }
     ensures failures { CountsFailure (S.failure_count out.old) (S.failure_count out.new) result }
 {
     let mut text = [0; LONGEST_POINTS];
@@ -127,10 +127,11 @@ fn put_points(points: &[Point], text: &mut [u8], end: usize) -> usize
     start
 }
 
-/// Writes a blank, the longitude, a comma and the latitude. An error says that a write failed.
+/// Writes a blank, the longitude, a comma and the latitude. An error says that a write failed: the sink took some of what
+/// was held and of these, from the front.
 pub fn print_point<S: Sink>(point: Point, buffer: &mut OutputBuffer, out: &mut S) -> io::Result<()>
-    ensures bytes { OnOk result (Appends (append_known (S.contents out.old) buffer.old)
-        (append_known (S.contents out.new) buffer.new) (point_text point)) }
+    ensures bytes { TriesToPassOn (S.contents out.old) (S.contents out.new) buffer.old buffer.new
+        (point_text point) result }
     ensures failures { CountsFailure (S.failure_count out.old) (S.failure_count out.new) result }
 {
     let mut text = [0; LONGEST_POINT];

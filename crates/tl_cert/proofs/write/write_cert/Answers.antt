@@ -1,4 +1,4 @@
-use Rattle.tl_cert.proofs.WriteLemmas.{writes_some}
+use Rattle.tl_output.proofs.WritingLemmas.{writes_some}
 use Rattle.tl_cert.proofs.write.write_cert.Goals as goal
 
 pub returns-in-Err-clause-writes : goal.returns-in-Err-clause-writes

@@ -1,6 +1,7 @@
 use Rattle.std.proofs.Common.{◌∷◌, [], rules, length}
 use Rattle.tl_cert.specs.Text.{numbered_line, dart_lines}
-use Rattle.tl_cert.proofs.WriteLemmas.{line_first, passes_last, passes_some_first}
+use Rattle.tl_output.proofs.WritingLemmas.{passes_last, passes_some_first}
+use Rattle.tl_cert.proofs.WriteLemmas.{line_first}
 use Rattle.tl_cert.proofs.write.write_dart_list.Goals as goal
 
 pub returns-in_err-write_number-clause-bytes : goal.returns-in_err-write_number-clause-bytes

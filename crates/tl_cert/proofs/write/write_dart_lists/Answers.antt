@@ -1,5 +1,6 @@
 use Rattle.std.proofs.Common.{◌∷◌, [], rules}
-use Rattle.tl_cert.proofs.WriteLemmas.{lists_counted, passes_last, passes_some_first}
+use Rattle.tl_output.proofs.WritingLemmas.{passes_last, passes_some_first}
+use Rattle.tl_cert.proofs.WriteLemmas.{lists_counted}
 use Rattle.tl_cert.proofs.write.write_dart_lists.Goals as goal
 
 pub returns-in_err-write_number-clause-bytes : goal.returns-in_err-write_number-clause-bytes

@@ -1,7 +1,8 @@
 use Rattle.std.proofs.Common.{◌≡◌, ◌++◌, ◌∷◌, [], ap, ◌∙◌, rules}
 use Rattle.tl_output.specs.Writing.{line_of}
 use Rattle.tl_cert.specs.Text.{head_line, counts_line}
-use Rattle.tl_cert.proofs.WriteLemmas.{line_first, passes_last, passes_some_first}
+use Rattle.tl_output.proofs.WritingLemmas.{passes_last, passes_some_first}
+use Rattle.tl_cert.proofs.WriteLemmas.{line_first}
 use Rattle.tl_cert.proofs.write.write_head.Goals as goal
 
 pub returns-in_err-add-clause-bytes : goal.returns-in_err-add-clause-bytes

@@ -1,9 +1,9 @@
 use Rattle.std.proofs.Common.{refl, subst, rules, length, codes}
 use Rattle.tl_record.specs.Lines.{joined_lines}
 use Rattle.tl_output.specs.Writing.{PassesSome}
-use Rattle.tl_output.proofs.WritingLemmas.{passes_both, passes_some_more}
+use Rattle.tl_output.proofs.WritingLemmas.{passes_both, passes_some_more, passes_last, passes_some_then}
 use Rattle.tl_cert.specs.Text.{tree_lines, rounds_lines, walks_lines}
-use Rattle.tl_cert.proofs.WriteLemmas.{parts_of, passes_last, passes_some_then}
+use Rattle.tl_cert.proofs.WriteLemmas.{parts_of}
 use Rattle.tl_cert.proofs.write.write_parts.Goals as goal
 
 pub returns-in_err-write_head-clause-bytes : goal.returns-in_err-write_head-clause-bytes

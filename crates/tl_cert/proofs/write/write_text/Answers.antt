@@ -1,6 +1,6 @@
 use Rattle.std.proofs.Common.{append-nil}
 use Rattle.tl_cert.specs.Text.{certificate_text}
-use Rattle.tl_cert.proofs.WriteLemmas.{passes_last, passes_emptied}
+use Rattle.tl_output.proofs.WritingLemmas.{passes_last, passes_emptied}
 use Rattle.tl_cert.proofs.write.write_text.Goals as goal
 
 pub returns-clause-bytes : goal.returns-clause-bytes

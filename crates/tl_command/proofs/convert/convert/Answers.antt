@@ -7,7 +7,7 @@ use Rattle.tl_command.proofs.convert.convert.Goals as goal
 
 pub returns-clause-converted : goal.returns-clause-converted
 returns-clause-converted g c =
-    converted_is _ _ (Begins g.C.Sink.contents c.args.made.now c.rewrite-converted.new.made) _ _ _ _ _ _ _ _ c.rewrite-converted.result c.tell_converted.result c.rewrite-converted.ensures.made c.tell_converted.ensures
+    converted_is _ _ (Begins g.C.Sink.contents c.args.made.now c.rewrite-converted.new.made) _ _ _ _ _ _ _ c.rewrite-converted.result c.tell_converted.result c.rewrite-converted.ensures.made c.tell_converted.ensures
 
 pub returns-clause-begun : goal.returns-clause-begun
 returns-clause-begun g c = λ stopped.
@@ -17,6 +17,4 @@ returns-clause-begun g c = λ stopped.
 pub returns-clause-stopped : goal.returns-clause-stopped
 returns-clause-stopped g c =
     converted_stopped _ (Writes g.C.Sink.contents g.C.Sink.failure_count c.args.made.now c.rewrite-converted.new.made) (Begins g.C.Sink.contents c.args.made.now c.rewrite-converted.new.made) _ _ _ _ _ _ _ _ _ _ c.rewrite-converted.result c.tell_converted.result _ _
-    (λ any. elim any [ inl r ↦ inl r | inr w ↦ inr (inl w) ]) (λ w. inr (inr w))
-    (λ reads written well. (reads, (elim written [ inl same ↦ ap g.C.Sink.failure_count same | inr text ↦ text.1.no_failure ], well)))
-    (λ same. ap g.W.Sink.failure_count same) c.rewrite-converted.ensures.reads c.rewrite-converted.ensures.made c.tell_converted.ensures
+    (λ any. any) (λ reads written. (reads, elim written [ inl same ↦ ap g.C.Sink.failure_count same | inr text ↦ text.1.no_failure ])) (λ whole is. inl is) (λ is. inr is) c.rewrite-converted.ensures.reads c.rewrite-converted.ensures.made c.tell_converted.ensures

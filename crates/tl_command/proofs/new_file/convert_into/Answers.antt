@@ -1,4 +1,4 @@
-use Rattle.std.proofs.Common.{inl, inr, refl, string_bytes, ap, ◌∙◌}
+use Rattle.std.proofs.Common.{inl, inr, refl, string_bytes, ◌∙◌}
 use Rattle.tl_output.specs.Writing.{Writes}
 use Rattle.tl_command.specs.Making.{Begins}
 use Rattle.tl_command.proofs.OpenLemmas.{over_conversion, over_unmade, made_by_conversion, keeps_others, keeps_all, stands, stops_opening}
@@ -13,11 +13,11 @@ returns-in-None g c =
     let draft = c.in-Ok.draft in
     let written = c.rewrite-converted.new.made in
     let made_by = made_by_conversion plan name c.requires.plan in
-    over_conversion plan name before after _ (Writes g.F.Draft.Sink.contents g.F.Draft.Sink.failure_count draft written) (Begins g.F.Draft.Sink.contents draft written) _ _ _ _ _ _ _ _ _
+    over_conversion plan name before after _ (Writes g.F.Draft.Sink.contents g.F.Draft.Sink.failure_count draft written) (Begins g.F.Draft.Sink.contents draft written) _ _ _ _ _ _ _ _
     c.rewrite-converted.result c.tell_converted.result (λ failed. elim failed [
-      | inl read ↦ inl (inr (inl (inl (c.args.cert.now.source, c.rewrite-converted.new.cert.source, read))))
-      | inr write ↦ inl (inr (inr (inr (draft, written, write))))
-    ]) (λ out. inr out) (λ same. ap g.W.Sink.failure_count same) c.requires.plan c.requires.known c.rewrite-converted.ensures.made c.tell_converted.ensures
+      | inl read ↦ inr (inl (inl (c.args.cert.now.source, c.rewrite-converted.new.cert.source, read)))
+      | inr write ↦ inr (inr (inr (draft, written, write)))
+    ]) c.requires.plan c.requires.known c.rewrite-converted.ensures.made c.tell_converted.ensures
     (keeps_others plan name before after made_by c.settle.ensures.others)
     (λ whole text writes. stands _ g.F.FileSystem.knows after name _ _ text made_by (g.met.F.FileSystem.alike draft) (g.met.F.FileSystem.alike written) c.in-Ok.ensures.empty writes.grown
     (c.settle.ensures.kept (c.is_ok.ensures.value ∙ whole) c.in-None.is))
@@ -25,12 +25,12 @@ returns-in-None g c =
 
 pub returns-in-Err : goal.returns-in-Err
 returns-in-Err g c =
-    over_unmade _ _ _ c.args.plan.now c.stop_of.result _ _ _ _ _ _ _ _ _ (rw c.stop_of.ensures (stops_opening _ c.in-Err.stop c.in-Err.ensures.refused)) refl c.stopped.ensures (λ other differs. refl)
+    over_unmade _ _ _ c.args.plan.now c.stop_of.result _ _ _ _ _ _ _ _ (rw c.stop_of.ensures (stops_opening _ c.in-Err.stop c.in-Err.ensures.refused)) refl c.stopped.ensures (λ other differs. refl)
 
 pub returns-in-Some : goal.returns-in-Some
 returns-in-Some g c =
     let plan = c.args.plan.now in
     let name = string_bytes c.args.name.now in
     let made_by = made_by_conversion plan name c.requires.plan in
-    over_unmade _ _ _ plan c.in-Some.stop _ _ _ _ _ _ _ _ _ c.in-Some.ensures.stops refl c.stopped-in-Some.ensures
+    over_unmade _ _ _ plan c.in-Some.stop _ _ _ _ _ _ _ _ c.in-Some.ensures.stops refl c.stopped-in-Some.ensures
     (keeps_all plan name _ _ made_by (c.settle.ensures.stays (inr (rw c.in-Some.is refl))))

@@ -15,5 +15,5 @@ returns-in-Ok-IsRead g c =
 
 pub returns-in-Err : goal.returns-in-Err
 returns-in-Err g c =
-    over_unopened _ _ _ c.args.plan.now (string_bytes c.args.name.now) c.in-Err.stop _ _ _ _ _ _ _ _ (inr (inr (made_by_build c.args.plan.now (string_bytes c.args.name.now) c.args.options c.requires.plan)))
+    over_unopened _ _ _ c.args.plan.now (string_bytes c.args.name.now) c.in-Err.stop _ _ _ _ _ _ _ (inr (inr (made_by_build c.args.plan.now (string_bytes c.args.name.now) c.args.options c.requires.plan)))
     c.in-Err.ensures.stops refl c.stopped.ensures

@@ -6,7 +6,7 @@ use Rattle.tl_command.proofs.open.open_and_check.Goals as goal
 
 pub returns-in-Err : goal.returns-in-Err
 returns-in-Err g c =
-    over_unopened _ _ _ c.args.plan.now (string_bytes c.args.name.now) c.in-Err.stop _ _ _ _ _ _ _ _ (inr (inl (read_by_check c.args.plan.now (string_bytes c.args.name.now) c.requires.plan)))
+    over_unopened _ _ _ c.args.plan.now (string_bytes c.args.name.now) c.in-Err.stop _ _ _ _ _ _ _ (inr (inl (read_by_check c.args.plan.now (string_bytes c.args.name.now) c.requires.plan)))
     c.in-Err.ensures.stops refl c.stopped.ensures
 
 pub returns : goal.returns
@@ -16,14 +16,11 @@ returns g c =
     let unmade = run.made (check_makes_none c.args.plan.now (string_bytes c.args.name.now) c.requires.plan) in
     over_check c.args.plan.now (string_bytes c.args.name.now) (g.F.FileSystem.under c.args.files.now) _ _ c.run_on_readers.result _ _ _ _ _ _ _ _ c.requires.plan c.requires.known c.in-Ok.ensures.bytes run.status run.answered
     run.fault run.exactly run.cert_fault run.refused
-    (λ e. weaker_stop c.args.plan.now _ _ (TriesToWrite g.E.Sink.contents g.E.Sink.failure_count c.args.err.now new.err) _ _ _ _ (λ failed. elim failed [
-      | inl read ↦ inl (inr (inl (elim read [
+    (λ e. weaker_stop c.args.plan.now _ _ (TriesToWrite g.E.Sink.contents g.E.Sink.failure_count c.args.err.now new.err) _ _ _ _ _ _ (λ failed. elim failed [
+      | inl read ↦ inr (inl (elim read [
         | inl records ↦ inr (c.args.readers.items, new.readers.items, records)
         | inr cert ↦ inl (c.in-Ok.cert.source, new.cert.source, cert)
-      ])))
-      | inr write ↦ elim write [
-        | inl made ↦ absurd (none_failed _ c.new-made.ensures.failures (rw unmade at made))
-        | inr out ↦ inr out
-      ]
-    ]) (λ well. well.1.1) (run.stopped e))
+      ]))
+      | inr made ↦ absurd (none_failed _ c.new-made.ensures.failures (rw unmade at made))
+    ]) (λ well. tt) (run.stopped e))
     run.err_stays run.out_stays

@@ -15,9 +15,9 @@ returns-in-Ok-IsRead g c =
 
 pub returns-in-Err : goal.returns-in-Err
 returns-in-Err g c =
-    over_unopened _ _ _ c.args.plan.now (string_bytes c.args.names.0.now) c.in-Err.stop _ _ _ _ _ _ _ _ (inr (inl (names_by_conversion c.args.plan.now _ _ c.requires).0)) c.in-Err.ensures.stops refl c.stopped.ensures
+    over_unopened _ _ _ c.args.plan.now (string_bytes c.args.names.0.now) c.in-Err.stop _ _ _ _ _ _ _ (inr (inl (names_by_conversion c.args.plan.now _ _ c.requires).0)) c.in-Err.ensures.stops refl c.stopped.ensures
 
 pub returns : goal.returns
 returns g c =
-    over_unopened _ _ _ c.args.plan.now (string_bytes c.args.names.1.now) c.in-Err-room_for.stop _ _ _ _ _ _ _ _ (inr (inr (names_by_conversion c.args.plan.now _ _ c.requires).1)) c.in-Err-room_for.ensures.stops refl
+    over_unopened _ _ _ c.args.plan.now (string_bytes c.args.names.1.now) c.in-Err-room_for.stop _ _ _ _ _ _ _ (inr (inr (names_by_conversion c.args.plan.now _ _ c.requires).1)) c.in-Err-room_for.ensures.stops refl
     c.stopped-in-Err-room_for.ensures

@@ -15,4 +15,4 @@ run_plainly-requires-clause-known g c =
     records_are g.F.Reader.Source.remaining string_bytes c.args.plan.now (g.F.FileSystem.under c.args.files.now) c.in-Ok.readers.items c.files.result.now c.in-Ok.ensures.opened c.files.ensures
 
 pub returns-in-Err : goal.returns-in-Err
-returns-in-Err g c = over_unopened_records _ _ _ c.args.plan.now _ c.in-Err.stop _ _ _ _ _ _ _ _ c.files.ensures c.in-Err.ensures.stops refl c.stopped.ensures
+returns-in-Err g c = over_unopened_records _ _ _ c.args.plan.now _ c.in-Err.stop _ _ _ _ _ _ _ c.files.ensures c.in-Err.ensures.stops refl c.stopped.ensures

@@ -10,14 +10,11 @@ returns g c =
     let new = c.run_on_readers.new in
     over_plain c.args.plan.now (g.F.FileSystem.under c.args.files.now) _ _ c.run_on_readers.result _ _ _ _ _ _ _ _ c.requires.reads c.requires.makes c.requires.known run.status run.answered
     run.fault run.exactly run.cert_fault run.refused
-    (λ e. weaker_stop c.args.plan.now _ _ (TriesToWrite g.E.Sink.contents g.E.Sink.failure_count c.args.err.now new.err) _ _ _ _ (λ failed. elim failed [
+    (λ e. weaker_stop c.args.plan.now _ _ (TriesToWrite g.E.Sink.contents g.E.Sink.failure_count c.args.err.now new.err) _ _ _ _ _ _ (λ failed. elim failed [
       | inl read ↦ elim read [
-        | inl records ↦ inl (inr (inl (inr (c.args.readers.items, new.readers.items, records))))
+        | inl records ↦ inr (inl (inr (c.args.readers.items, new.readers.items, records)))
         | inr cert ↦ absurd (none_failed _ c.new-cert.ensures.failures (rw (run.cert c.requires.reads) at cert))
       ]
-      | inr write ↦ elim write [
-        | inl made ↦ absurd (none_failed _ c.new-made.ensures.failures (rw (run.made c.requires.makes) at made))
-        | inr out ↦ inr out
-      ]
-    ]) (λ well. well.1.1) (run.stopped e))
+      | inr made ↦ absurd (none_failed _ c.new-made.ensures.failures (rw (run.made c.requires.makes) at made))
+    ]) (λ well. tt) (run.stopped e))
     run.err_stays run.out_stays

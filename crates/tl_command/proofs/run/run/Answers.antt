@@ -22,31 +22,49 @@ pub returns-in-Convert-clause-begun : goal.returns-in-Convert-clause-begun
 returns-in-Convert-clause-begun g c = rw c.in-Convert.is c.convert.ensures.begun
 
 pub returns-in-Convert-clause-stopped : goal.returns-in-Convert-clause-stopped
-returns-in-Convert-clause-stopped g c = λ e. elim (c.convert.ensures.stopped e) [
-  | inl memory ↦ inl (inl (memory.0, ((refl, memory.1.0), memory.1.1)))
-  | inr device ↦ inl (inr (device.0, elim device.1 [ inl s ↦ inl (inr s) | inr w ↦ inr w ]))
-]
+returns-in-Convert-clause-stopped g c = rw c.in-Convert.is (λ e. elim (c.convert.ensures.stopped e) [
+  | inl memory ↦ inl (inl (memory.0, ((refl, memory.1.0), memory.1.1), memory.2))
+  | inr device ↦ inl (inr (
+    device.0,
+    elim device.1 [
+      | inl one ↦ inl (elim one.0 [ inl s ↦ inl (inr s) | inr w ↦ inr w ], one.1)
+      | inr broken ↦ inr (elim broken [ inl is ↦ inl is | inr is ↦ inr (inr is) ])
+    ],
+  ))
+])
 
 pub returns-in-Check-clause-stopped : goal.returns-in-Check-clause-stopped
 returns-in-Check-clause-stopped g c = rw c.in-Check.is (λ e. elim (c.decide.ensures.stopped e) [
   | inl named ↦ elim named [
-    | inl memory ↦ inl (inl (memory.0, (memory.1.0, (refl, memory.1.1))))
-    | inr device ↦ inl (inr (device.0, elim device.1 [ inl r ↦ inl r | inr w ↦ inr (inr w) ]))
+    | inl memory ↦ inl (inl (memory.0, (memory.1, refl), memory.2))
+    | inr device ↦ inl (inr (device.0, elim device.1 [ inl one ↦ inl (inl one.0, one.1) | inr broken ↦ inr broken ]))
   ]
-  | inr spent ↦ inr (spent.0, (spent.1.0, (refl, spent.1.1)))
+  | inr spent ↦ inr (spent.0, (spent.1, refl), spent.2)
 ])
 
 pub returns-in-Audit-clause-stopped : goal.returns-in-Audit-clause-stopped
-returns-in-Audit-clause-stopped g c = λ e. elim (c.audit.ensures.stopped e) [
-  | inl memory ↦ inl (inl (memory.0, ((memory.1.0, refl), (refl, memory.1.1))))
-  | inr device ↦ inl (inr (device.0, elim device.1 [ inl r ↦ inl (inl r) | inr w ↦ inr (inr w) ]))
-]
+returns-in-Audit-clause-stopped g c = rw c.in-Audit.is (λ e. elim (c.audit.ensures.stopped e) [
+  | inl memory ↦ inl (inl (memory.0, ((memory.1, refl), refl), memory.2))
+  | inr device ↦ inl (inr (
+    device.0,
+    elim device.1 [
+      | inl one ↦ inl (inl (inl one.0), one.1)
+      | inr broken ↦ inr (elim broken [ inl is ↦ inl is | inr is ↦ inr (inl is) ])
+    ],
+  ))
+])
 
 pub returns-in-Build-clause-stopped : goal.returns-in-Build-clause-stopped
-returns-in-Build-clause-stopped g c = λ e. elim (c.build.ensures.stopped e) [
-  | inl memory ↦ inl (inl (memory.0, ((memory.1.0, refl), memory.1.1)))
-  | inr device ↦ inl (inr (device.0, elim device.1 [ inl r ↦ inl (inl r) | inr w ↦ inr w ]))
-]
+returns-in-Build-clause-stopped g c = rw c.in-Build.is (λ e. elim (c.build.ensures.stopped e) [
+  | inl memory ↦ inl (inl (memory.0, ((memory.1.0, refl), memory.1.1), memory.2))
+  | inr device ↦ inl (inr (
+    device.0,
+    elim device.1 [
+      | inl one ↦ inl (elim one.0 [ inl r ↦ inl (inl r) | inr w ↦ inr w ], one.1)
+      | inr broken ↦ inr (elim broken [ inl is ↦ inl is | inr is ↦ inr (inl is) ])
+    ],
+  ))
+])
 
 pub returns-in-Check-clause-read_whole : goal.returns-in-Check-clause-read_whole
 returns-in-Check-clause-read_whole g c = c.decide.ensures.records_whole

@@ -1,7 +1,9 @@
-use Rattle.std.proofs.Common.{inl, inr, map, string_bytes}
+use Rattle.std.proofs.Common.{inl, inr, map, string_bytes, refl}
+use Rattle.tl_output.specs.Writing.{WritesSome}
 use Rattle.tl_plan.proofs.FirstWord.{wish_may}
 use Rattle.tl_plan.proofs.PlansLemmas.{All-plain_text}
 use Rattle.tl_command.specs.declared.start.TheConstants.{NO_USE}
+use Rattle.tl_command.proofs.StartLemmas.{help_breaks}
 use Rattle.tl_command.proofs.start.start.Goals as goal
 
 pub returns-in-Ok-clause-done : goal.returns-in-Ok-clause-done
@@ -31,11 +33,20 @@ returns-in-Ok-clause-begun g c = λ stopped. inr (c.in-Ok.plan, c.in-Ok.ensures.
 pub returns-in-Ok-clause-stopped : goal.returns-in-Ok-clause-stopped
 returns-in-Ok-clause-stopped g c = λ stopped. inr (c.in-Ok.plan, c.in-Ok.ensures.plan, c.open_and_run.ensures.stopped stopped)
 
+pub returns-then-is_empty-2-clause-stopped : goal.returns-then-is_empty-2-clause-stopped
+returns-then-is_empty-2-clause-stopped g c = λ stopped.
+    let wish = rw c.in-Err-Help.field-0-is at c.in-Err-Help.ensures.stops in
+    inl (wish_may (map string_bytes c.args.words.now) wish.1, inl (c.stopped-then-is_empty-2.ensures.1, tt, refl))
+
 pub returns-clause-stopped : goal.returns-clause-stopped
 returns-clause-stopped g c = λ stopped.
+    let words = map string_bytes c.args.words.now in
     let wish = rw c.in-Err-Help.field-0-is at c.in-Err-Help.ensures.stops in
+    let plain = rw c.in-Err-Help.field-0-is at c.in-Err-Help.ensures.texts in
+    let same = rw c.in-Err-Help.field-0-is at c.as_str-shown-in-Err-Help.ensures.value in
     let told = c.say_help.ensures.stopped stopped in
-    inl (wish_may (map string_bytes c.args.words.now) wish.1, inr (told.0, told.1))
+    let part = WritesSome g.W.Sink.contents g.W.Sink.failure_count c.args.out.now c.say_help.new.out in
+    inl (wish_may words wish.1, inr (told.0, inr (help_breaks words part _ _ c.is_empty-in-Err-Help.result wish plain same c.is_empty-in-Err-Help.ensures c.if-is_empty-2.false told.1)))
 
 pub returns-then-is_empty-clause-usage : goal.returns-then-is_empty-clause-usage
 returns-then-is_empty-clause-usage g c = λ usage.
@@ -44,6 +55,7 @@ returns-then-is_empty-clause-usage g c = λ usage.
       no_use = no_use.0;
       mistake = no_use.1;
       text = NO_USE.now;
+      some = λ e. cc e;
       no_escape = All-plain_text NO_USE.now;
       written = c.say_usage.ensures.said;
     })

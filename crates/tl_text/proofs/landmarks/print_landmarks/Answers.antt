@@ -1,11 +1,30 @@
-use Rattle.std.proofs.Common.{◌∙◌}
-use Rattle.std.proofs.KnownBytes.{Appends-trans}
-use Rattle.tl_text.proofs.LandmarkLemmas.{landmark_lines-next}
+use Rattle.std.proofs.Common.{◌≡◌, ◌∷◌, [], ◌++◌, ◌+◌, ap, take, drop, length, refl, arith, rules, ◌∙◌}
+use Rattle.std.proofs.lemmas.List.{take_all}
+use Rattle.tl_output.proofs.WritingLemmas.{passes_both, passes_some_then, passes_last}
+use Rattle.tl_text.specs.Printing.{landmark_lines, landmark_count_text, listing_text}
+use Rattle.tl_text.proofs.PrintingLemmas.{passes_lost}
+use Rattle.tl_text.proofs.LandmarkLemmas.{landmark_lines-next, landmark_lines-split}
 use Rattle.tl_text.proofs.landmarks.print_landmarks.Goals as goal
 
 pub loop-number-preserved : goal.loop-number-preserved
 loop-number-preserved g c = (
   rw (landmark_lines-next c.args.map.now.polygons c.args.map.now.landmarks c.loop-number.number _ c.landmark.ensures.landmark)
-      (Appends-trans _ _ _ _ _ c.loop-number.invariant.0 c.in_ok-print_landmark.ensures.bytes),
+      (passes_both _ _ _ _ _ _ _ _ c.loop-number.invariant.0 c.in_ok-print_landmark.ensures.bytes),
   c.in_ok-print_landmark.ensures.failures ∙ c.loop-number.invariant.1,
 )
+
+pub returns-in_err-print_landmark-clause-bytes : goal.returns-in_err-print_landmark-clause-bytes
+returns-in_err-print_landmark-clause-bytes g c =
+    let m = c.args.map.now in
+    let count = landmark_count_text (length m.landmarks) in
+    let lost = passes_lost _ _ _ _ (landmark_lines m.polygons (drop (c.loop-number.number + 1) m.landmarks) ∷ count ∷ []) (listing_text m)
+    (passes_some_then _ _ _ _ _ _ _ c.loop-number.invariant.0 c.in_err-print_landmark.ensures.bytes)
+    (ap (λ l. l ++ count) (landmark_lines-split m.polygons m.landmarks c.loop-number.number _ c.landmark.ensures.landmark)) in
+    search (rules, lost)
+
+pub returns-clause-bytes : goal.returns-clause-bytes
+returns-clause-bytes g c =
+    let m = c.args.map.now in
+    let all : take c.loop-number.number m.landmarks ≡ m.landmarks = take_all _ _ (omega (arith, c.loop-number-test.false, c.landmarks-number-end.ensures.count)) in
+    passes_last c.print_count.result _ _ _ _ _ _ _ _ _ c.loop-number.invariant.0 c.print_count.ensures.bytes
+    (rw (all, c.landmarks.ensures.count) refl)

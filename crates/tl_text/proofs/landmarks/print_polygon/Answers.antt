@@ -1,6 +1,15 @@
-use Rattle.std.proofs.Common.{refl}
-use Rattle.tl_text.proofs.PrintingLemmas.{OnOk-appends}
+use Rattle.std.proofs.Common.{◌∷◌, [], refl, rules}
+use Rattle.tl_output.proofs.WritingLemmas.{passes_last}
+use Rattle.tl_text.specs.Printing.{polygon_text}
+use Rattle.tl_key.specs.KeyText.{key_text}
+use Rattle.tl_text.proofs.PrintingLemmas.{passes_lost}
 use Rattle.tl_text.proofs.landmarks.print_polygon.Goals as goal
 
+pub returns-in_err-add-clause-bytes : goal.returns-in_err-add-clause-bytes
+returns-in_err-add-clause-bytes g c =
+    let lost = passes_lost _ _ _ _ (key_text c.polygon.result.key ∷ []) (polygon_text c.args.map.now.polygons c.args.number) c.in_err-add.ensures.passes (rw c.polygon.ensures refl) in
+    search (rules, lost)
+
 pub returns-clause-bytes : goal.returns-clause-bytes
-returns-clause-bytes g c = OnOk-appends c.print_key.result _ _ _ _ _ _ c.in_ok-add.ensures.bytes c.print_key.ensures.bytes (rw c.polygon.ensures refl)
+returns-clause-bytes g c =
+    passes_last c.print_key.result _ _ _ _ _ _ _ _ _ c.in_ok-add.ensures.passes c.print_key.ensures.bytes (rw c.polygon.ensures refl)

@@ -1,13 +1,42 @@
-use Rattle.std.proofs.Common.{refl}
-use Rattle.std.proofs.KnownBytes.{Appends-trans}
-use Rattle.tl_text.proofs.PrintingLemmas.{OnOk-appends}
-use Rattle.tl_text.specs.Places.{inside_text}
+use Rattle.std.proofs.Common.{◌∷◌, [], refl, rules}
+use Rattle.std.specs.Prelude.{codes}
+use Rattle.tl_output.proofs.WritingLemmas.{passes_both, passes_some_then, passes_last}
+use Rattle.tl_text.specs.Printing.{listed_text}
+use Rattle.tl_text.specs.Places.{listed_lands, inside_text}
+use Rattle.tl_text.proofs.PrintingLemmas.{passes_lost}
 use Rattle.tl_text.proofs.places.print_inside.Goals as goal
+
+pub returns-in_err-add-clause-bytes : goal.returns-in_err-add-clause-bytes
+unfolding inside_text
+returns-in_err-add-clause-bytes g c =
+    let lost = passes_lost _ _ _ _ (listed_text c.args.map.now.polygons c.args.polygons.now ∷ codes " landmarks" ∷ listed_lands c.args.map.now.landmarks c.args.landmarks.now ∷ codes "\n" ∷ []) (inside_text c.args.map.now c.args.polygons.now c.args.landmarks.now) c.in_err-add.ensures.passes refl in
+    search (rules, lost)
+
+pub returns-in_err-print_listed-clause-bytes : goal.returns-in_err-print_listed-clause-bytes
+unfolding inside_text
+returns-in_err-print_listed-clause-bytes g c =
+    let lost = passes_lost _ _ _ _ (codes " landmarks" ∷ listed_lands c.args.map.now.landmarks c.args.landmarks.now ∷ codes "\n" ∷ []) (inside_text c.args.map.now c.args.polygons.now c.args.landmarks.now) (passes_some_then _ _ _ _ _ _ _ c.in_ok-add.ensures.passes c.in_err-print_listed.ensures.bytes) refl in
+    search (rules, lost)
+
+pub returns-in_err-add-2-clause-bytes : goal.returns-in_err-add-2-clause-bytes
+unfolding inside_text
+returns-in_err-add-2-clause-bytes g c =
+    let s2 = passes_both _ _ _ _ _ _ _ _ c.in_ok-add.ensures.passes c.in_ok-print_listed.ensures.bytes in
+    let lost = passes_lost _ _ _ _ (listed_lands c.args.map.now.landmarks c.args.landmarks.now ∷ codes "\n" ∷ []) (inside_text c.args.map.now c.args.polygons.now c.args.landmarks.now) (passes_some_then _ _ _ _ _ _ _ s2 c.in_err-add-2.ensures.passes) refl in
+    search (rules, lost)
+
+pub returns-in_err-print_listed_lands-clause-bytes : goal.returns-in_err-print_listed_lands-clause-bytes
+unfolding inside_text
+returns-in_err-print_listed_lands-clause-bytes g c =
+    let s2 = passes_both _ _ _ _ _ _ _ _ c.in_ok-add.ensures.passes c.in_ok-print_listed.ensures.bytes in
+    let s3 = passes_both _ _ _ _ _ _ _ _ s2 c.in_ok-add-2.ensures.passes in
+    let lost = passes_lost _ _ _ _ (codes "\n" ∷ []) (inside_text c.args.map.now c.args.polygons.now c.args.landmarks.now) (passes_some_then _ _ _ _ _ _ _ s3 c.in_err-print_listed_lands.ensures.bytes) refl in
+    search (rules, lost)
 
 pub returns-clause-bytes : goal.returns-clause-bytes
 unfolding inside_text
 returns-clause-bytes g c =
-    let two = Appends-trans _ _ _ _ _ c.in_ok-add.ensures.bytes c.in_ok-print_listed.ensures.bytes in
-    let three = Appends-trans _ _ _ _ _ two c.in_ok-add-2.ensures.bytes in
-    let four = Appends-trans _ _ _ _ _ three c.in_ok-print_listed_lands.ensures.bytes in
-    OnOk-appends c.add-3.result _ _ _ _ _ _ four c.add-3.ensures.bytes refl
+    let s2 = passes_both _ _ _ _ _ _ _ _ c.in_ok-add.ensures.passes c.in_ok-print_listed.ensures.bytes in
+    let s3 = passes_both _ _ _ _ _ _ _ _ s2 c.in_ok-add-2.ensures.passes in
+    let s4 = passes_both _ _ _ _ _ _ _ _ s3 c.in_ok-print_listed_lands.ensures.bytes in
+    passes_last c.add-3.result _ _ _ _ _ _ _ _ _ s4 c.add-3.ensures.passes refl

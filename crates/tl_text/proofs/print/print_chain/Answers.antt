@@ -1,8 +1,8 @@
-use Rattle.std.proofs.Common.{◌≡◌, ◌∙◌, ◌+◌, ◌-◌, ◌++◌, decimal, rules, arith}
-use Rattle.std.specs.Prelude.{codes}
-use Rattle.std.proofs.KnownBytes.{Appends-trans}
-use Rattle.tl_text.proofs.PrintingLemmas.{OnOk-appends, points_text-several, chain_parts}
-use Rattle.tl_text.specs.Printing.{chain_text}
+use Rattle.std.proofs.Common.{◌≡◌, ◌∷◌, [], ◌∙◌, ◌+◌, ◌-◌, ◌++◌, drop, refl, rules, arith}
+use Rattle.std.specs.Prelude.{codes, decimal}
+use Rattle.tl_output.proofs.WritingLemmas.{passes_both, passes_some_then, passes_last}
+use Rattle.tl_text.proofs.PrintingLemmas.{points_text-several, chain_parts, chain_pieces, passes_lost}
+use Rattle.tl_text.specs.Printing.{points_text, chain_text}
 use Rattle.tl_text.proofs.print.print_chain.Goals as goal
 
 pub loop-printed-preserved : goal.loop-printed-preserved
@@ -11,14 +11,43 @@ loop-printed-preserved g c =
     record {
       within = omega (arith, c.loop-printed-test.true);
       bytes = rw (points_text-several c.args.points.now c.loop-printed.printed 8)
-          (Appends-trans _ _ _ _ _ c.loop-printed.invariant.bytes (rw eight at c.in_ok-print_points.ensures.bytes));
+          (passes_both _ _ _ _ _ _ _ _ c.loop-printed.invariant.bytes (rw eight at c.in_ok-print_points.ensures.bytes));
       failures = c.in_ok-print_points.ensures.failures ∙ c.loop-printed.invariant.failures;
     }
+
+pub returns-in_err-add-clause-bytes : goal.returns-in_err-add-clause-bytes
+unfolding chain_text
+returns-in_err-add-clause-bytes g c =
+    let head : c.as_bytes.result.now ≡ codes "tlid " ++ decimal c.args.tlid = search rules in
+    let lost = passes_lost _ _ _ _ (points_text c.args.points.now ∷ codes "\n" ∷ []) (chain_text (record { tlid = c.args.tlid; points = c.args.points.now })) c.in_err-add.ensures.passes (rw head refl) in
+    search (rules, lost)
+
+pub returns-in_err-print_points-clause-bytes : goal.returns-in_err-print_points-clause-bytes
+unfolding chain_text
+returns-in_err-print_points-clause-bytes g c =
+    let head : c.as_bytes.result.now ≡ codes "tlid " ++ decimal c.args.tlid = search rules in
+    let eight : c.loop-printed.printed + 8 - c.loop-printed.printed ≡ 8 = omega arith in
+    let points = passes_both _ _ _ _ _ _ _ _ c.in_ok-add.ensures.passes c.loop-printed.invariant.bytes in
+    let some = passes_some_then _ _ _ _ _ _ _ points (rw eight at c.in_err-print_points.ensures.bytes) in
+    let lost = passes_lost _ _ _ _ (points_text (drop (c.loop-printed.printed + 8) c.args.points.now) ∷ codes "\n" ∷ []) (chain_text (record { tlid = c.args.tlid; points = c.args.points.now })) some
+    (rw head (chain_pieces (codes "tlid " ++ decimal c.args.tlid) c.args.points.now c.loop-printed.printed 8 (codes "\n"))) in
+    search (rules, lost)
+
+pub returns-in_err-print_points-2-clause-bytes : goal.returns-in_err-print_points-2-clause-bytes
+unfolding chain_text
+returns-in_err-print_points-2-clause-bytes g c =
+    let head : c.as_bytes.result.now ≡ codes "tlid " ++ decimal c.args.tlid = search rules in
+    let points = passes_both _ _ _ _ _ _ _ _ c.in_ok-add.ensures.passes c.loop-printed.invariant.bytes in
+    let some = passes_some_then _ _ _ _ _ _ _ points c.in_err-print_points-2.ensures.bytes in
+    let lost = passes_lost _ _ _ _ (codes "\n" ∷ []) (chain_text (record { tlid = c.args.tlid; points = c.args.points.now })) some
+    (rw head (chain_parts (codes "tlid " ++ decimal c.args.tlid) c.args.points.now c.loop-printed.printed (codes "\n") c.loop-printed.invariant.within)) in
+    search (rules, lost)
 
 pub returns-clause-bytes : goal.returns-clause-bytes
 unfolding chain_text
 returns-clause-bytes g c =
     let head : c.as_bytes.result.now ≡ codes "tlid " ++ decimal c.args.tlid = search rules in
-    let points = Appends-trans _ _ _ _ _ c.in_ok-add.ensures.bytes c.loop-printed.invariant.bytes in
-    let all = Appends-trans _ _ _ _ _ points c.in_ok-print_points-2.ensures.bytes in
-    OnOk-appends c.add-2.result _ _ _ _ _ _ all c.add-2.ensures.bytes (rw head (chain_parts (codes "tlid " ++ decimal c.args.tlid) c.args.points.now c.loop-printed.printed (codes "\n") c.loop-printed.invariant.within))
+    let points = passes_both _ _ _ _ _ _ _ _ c.in_ok-add.ensures.passes c.loop-printed.invariant.bytes in
+    let all = passes_both _ _ _ _ _ _ _ _ points c.in_ok-print_points-2.ensures.bytes in
+    passes_last c.add-2.result _ _ _ _ _ _ _ _ _ all c.add-2.ensures.passes
+    (rw head (chain_parts (codes "tlid " ++ decimal c.args.tlid) c.args.points.now c.loop-printed.printed (codes "\n") c.loop-printed.invariant.within))
