@@ -1,7 +1,8 @@
 -- What is counted of lists of events and of numbers.
-use Rattle.std.proofs.Common.{◌≡◌, ℕ, ◌+◌, ◌==◌, Bool, true, false, not, ◌&&◌, if◌then◌else◌, List, [], ◌∷◌, ◌++◌, sum_by, count_by, refl, sym, ap, ◌∙◌, arith}
+use Rattle.std.proofs.Common.{◌≡◌, ℕ, ◌+◌, ◌-◌, ◌<◌, ◌≤◌, ◌==◌, Bool, true, false, not, ◌&&◌, if◌then◌else◌, List, [], ◌∷◌, ◌++◌, length, take, drop, get_or, sum_by, count_by, refl, sym, ap, ◌∙◌, arith}
 use Rattle.std.specs.List.Sorted.{IsPermutation}
 use Rattle.std.proofs.lemmas.Bool.Decides.{nat_tests}
+use Rattle.std.proofs.lemmas.List.{get_or-drop, length-drop, take_more}
 use Rattle.std.proofs.lemmas.List.Sorted.{sum_by-IsPermutation}
 use Rattle.std.proofs.lemmas.List.Sums.{sum_by-cons, sum_by-append}
 use Rattle.tl_index.specs.Hits.{times}
@@ -57,3 +58,12 @@ module _ (events : List Event) (x : Event) (s : ℕ) (list : List ℕ) where
 
   pub none_begins : x.begins ≡ false → times s list ≡ count_by (begins_at s) events → times s list ≡ count_by (begins_at s) (events ++ x ∷ [])
   none_begins e are = listed_same (begins_at s) (ap (λ b. b && (x.segment == s)) e) are
+
+-- ---- one event more of those from a place on
+
+pub one_further : (events : List Event) (from k : ℕ) (d : Event) → from ≤ k → k < length events → take (k + 1 - from) (drop from events) ≡ take (k - from) (drop from events) ++ get_or events k d ∷ []
+one_further events from k d le lt =
+    let rest = length-drop from events in
+    ap (λ n. take n (drop from events)) (let next : k + 1 - from ≡ (k - from) + 1 = omega (arith, le) in next) ∙
+    take_more (drop from events) (k - from) d (omega (arith, rest, lt, le)) ∙
+    ap (λ e. take (k - from) (drop from events) ++ e ∷ []) (get_or-drop from events (k - from) d ∙ ap (λ n. get_or events n d) (let there : from + (k - from) ≡ k = omega (arith, le) in there))

@@ -1,6 +1,7 @@
 pub mod Tests
 pub mod Lining
 pub mod Listing
+pub mod Ending
 pub mod Meeting
 pub mod Found
 pub mod Gathering

@@ -7,12 +7,11 @@ ghost use Rattle.tl_inside.specs.Placed.{ArePlaced};
 ghost use Rattle.tl_slabs.specs.Heights.{widest};
 ghost use Rattle.tl_slabs.specs.Neighbours.{IsWide};
 ghost use Rattle.tl_slabs.specs.Slabs.{AreVerticesTested};
-ghost use Rattle.tl_sweep.specs.Keeping.Listed.{AreEvents, AreRising};
+ghost use Rattle.tl_sweep.specs.Keeping.Listed.{AreEvents, AreRising, AreSegments};
 ghost use Rattle.tl_sweep.specs.Keeping.Spotted.{AreInRange};
 ghost use Rattle.tl_sweep.specs.Keeping.Told.{IsMeetOrUnknown};
 
-use crate::dealing::sort_events;
-use crate::events::{Event, list_events, list_segments};
+use crate::events::{Events, list_segments};
 use crate::meets::are_vertices_tested;
 use crate::spots::Spots;
 use crate::suspects::{find_meet, find_meet_at_vertex};
@@ -20,6 +19,7 @@ use crate::sweeping::sweep_list;
 use std::alloc::{AllocError, Global};
 use tl_county::Map;
 use tl_crossings::look_at_chains;
+use tl_geom::Segment;
 use tl_planar::Meet;
 
 /// What a sweep answers.
@@ -42,12 +42,13 @@ pub fn sweep(alloc: Global, map: &Map) -> Result<Swept, AllocError>
     ensures meet { IfOk result (λ answer. (meet : Meet) → answer ≡ Swept.Meet meet → IsTrueMeet map.now.chains meet) }
 {
     look_at_chains(map);
-    let mut events = list_events(alloc, map)?;
-    sort_events(alloc, &mut events)?;
+    let segments = list_segments(alloc, map)?;
+    let mut events = Events::new(alloc, map, &segments)?;
+    events.sort(alloc)?;
     if !are_vertices_tested(map, &events) {
         return Ok(told(map, find_meet_at_vertex(map, &events)));
     }
-    sweep_events(alloc, map, &events)
+    sweep_events(alloc, map, &segments, &events)
 }
 
 /// What is answered where a test failed, and two segments may have been found that meet where they may not.
@@ -63,7 +64,13 @@ fn told(map: &Map, found: Option<Meet>) -> Swept
 }
 
 /// The same by the ends of all segments, which are sorted and tested.
-fn sweep_events(alloc: Global, map: &Map, events: &[Event]) -> Result<Swept, AllocError>
+fn sweep_events(
+    alloc: Global,
+    map: &Map,
+    segments: &[Segment],
+    events: &Events,
+) -> Result<Swept, AllocError>
+    requires segments { AreSegments map.now.chains segments.now }
     requires events { AreEvents map.now.chains events.now }
     requires rising { AreRising events.now }
     requires wide { IsWide widest map.now.chains }
@@ -73,10 +80,9 @@ fn sweep_events(alloc: Global, map: &Map, events: &[Event]) -> Result<Swept, All
     ensures planar { IfOk result (λ answer. answer ≡ Swept.Planar → IsPlanar map.now.chains) }
     ensures meet { IfOk result (λ answer. (meet : Meet) → answer ≡ Swept.Meet meet → IsTrueMeet map.now.chains meet) }
 {
-    let segments = list_segments(alloc, map)?;
     let mut spots = Spots::new(alloc, map)?;
     let mut suspects = Vec::new(alloc);
-    if !sweep_list(alloc, map, &segments, events, &mut spots, &mut suspects)? {
+    if !sweep_list(alloc, map, segments, events, &mut spots, &mut suspects)? {
         return Ok(told(map, find_meet(map, &suspects)));
     }
     if spots.are_placed(map) {

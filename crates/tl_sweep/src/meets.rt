@@ -8,7 +8,7 @@ ghost use Rattle.tl_slabs.specs.Slabs.{AreVerticesTested};
 ghost use Rattle.tl_sweep.specs.Keeping.Listed.{AreEvents, AreRising};
 ghost use Rattle.tl_sweep.specs.Keeping.Vertices.{IsAtPlace, IsEndOfChain, MayMeet, AreInOrder, AreInOrderUpTo};
 
-use crate::events::Event;
+use crate::events::{Event, Events};
 use tl_county::Map;
 
 /// Whether an event is at an end of its chain.
@@ -59,13 +59,13 @@ pub fn are_in_order(map: &Map, e: Event, f: Event) -> bool
 }
 
 /// Whether events rise, and those at one point may meet.
-pub fn are_vertices_tested(map: &Map, events: &[Event]) -> bool
+pub fn are_vertices_tested(map: &Map, events: &Events) -> bool
     ensures rising { IsTrue result → AreRising events.now }
     ensures vertices { IsTrue result → AreEvents map.now.chains events.now → IsWide widest map.now.chains →
         AreProper map.now.chains → AreVerticesTested map.now.chains }
 {
     for k in 1..events.len() {
-        if !are_in_order(map, events[k - 1], events[k]) {
+        if !are_in_order(map, events.at(k - 1), events.at(k)) {
             return false;
         }
     }

@@ -10,7 +10,7 @@ ghost use Rattle.tl_sweep.specs.Keeping.Listed.{AreEvents, AreRising, AreSegment
 ghost use Rattle.tl_sweep.specs.Keeping.Spotted.{AreInRange, IsPlacedPolygon};
 ghost use Rattle.tl_sweep.specs.Keeping.Swept.{IsSwept};
 
-use crate::events::Event;
+use crate::events::Events;
 use crate::facing::near_side;
 use crate::finding::{find, open};
 use crate::heights::{ends, height};
@@ -25,7 +25,7 @@ pub fn is_placed(
     map: &Map,
     segments: &[Segment],
     line: &mut Line,
-    events: &[Event],
+    events: &Events,
     from: usize,
     gaps: Option<u64>,
     polygon: u32,
@@ -59,15 +59,15 @@ fn are_facing(gaps: Option<u64>) -> bool
 }
 
 /// Whether a height is above the events before a place, and below those from it on.
-fn is_between(events: &[Event], from: usize, h: i64) -> bool
+fn is_between(events: &Events, from: usize, h: i64) -> bool
     ensures below { IsTrue result → (d : Event) → 0 < from → from ≤ length events.now →
         (slice_index_or events.now (from - 1) d).height <ℤ h }
     ensures above { IsTrue result → (d : Event) → from < length events.now → h <ℤ (slice_index_or events.now from d).height }
 {
-    if from > 0 && from <= events.len() && events[from - 1].height >= h {
+    if from > 0 && from <= events.len() && events.at(from - 1).height >= h {
         return false;
     }
-    from >= events.len() || h < events[from].height
+    from >= events.len() || h < events.at(from).height
 }
 
 /// Whether a point lies strictly between those that stand before and behind the place, and sees a polygon to its east.

@@ -7,7 +7,7 @@ ghost use Rattle.tl_sweep.specs.Keeping.Listed.{AreEvents, AreRising, AreSegment
 ghost use Rattle.tl_sweep.specs.Keeping.Spotted.{AreInRange, AreMarks};
 ghost use Rattle.tl_sweep.specs.Keeping.Swept.{IsSwept};
 
-use crate::events::Event;
+use crate::events::Events;
 use crate::heights::height;
 use crate::line::Line;
 use crate::placing::is_placed;
@@ -51,7 +51,7 @@ impl Spots {
         map: &Map,
         segments: &[Segment],
         line: &mut Line,
-        events: &[Event],
+        events: &Events,
         from: usize,
         gaps: Option<u64>,
     ) -> Result<(), AllocError>
@@ -97,8 +97,8 @@ fn list_spots(alloc: Global, map: &Map) -> Result<Vec<Spot>, AllocError> {
 }
 
 /// Whether a point is below the events from a place on.
-fn is_below(spot: Spot, events: &[Event], from: usize) -> bool {
-    from < events.len() && spot.height < events[from].height
+fn is_below(spot: Spot, events: &Events, from: usize) -> bool {
+    from < events.len() && spot.height < events.at(from).height
 }
 
 /// Marks a polygon.

@@ -2,7 +2,7 @@
 ghost use Rattle.std.specs.Prelude.{IfSome, IsTrue};
 ghost use Rattle.tl_planar.specs.Searching.{IsTrueMeet};
 
-use crate::events::Event;
+use crate::events::Events;
 use crate::line::Line;
 use crate::meets::are_in_order;
 use std::alloc::AllocError;
@@ -66,11 +66,11 @@ pub fn find_meet(map: &Map, suspects: &[u32]) -> Option<Meet>
 }
 
 /// A meet of two segments with ends at one point that may not meet there, if there are such.
-pub fn find_meet_at_vertex(map: &Map, events: &[Event]) -> Option<Meet>
+pub fn find_meet_at_vertex(map: &Map, events: &Events) -> Option<Meet>
     ensures { IfSome result (IsTrueMeet map.now.chains) }
 {
     for k in 1..events.len() {
-        let (e, f) = (events[k - 1], events[k]);
+        let (e, f) = (events.at(k - 1), events.at(k));
         if !are_in_order(map, e, f) {
             if let Some(meet) = meet_of(map, e.segment, f.segment) {
                 return Some(meet);

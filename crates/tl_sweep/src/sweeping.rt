@@ -1,5 +1,5 @@
 //! The sweep: from event to event, with the list of active segments.
-ghost use Rattle.std.specs.Prelude.{◌≡◌, ◌+◌, ◌<◌, ◌≤◌, ℕ, IfOk, IsTrue, length, count_by, slice_index_or};
+ghost use Rattle.std.specs.Prelude.{◌≡◌, ◌+◌, ◌-◌, ◌<◌, ◌≤◌, ℕ, IfOk, IsTrue, length, count_by, slice_index_or, take, drop};
 ghost use Rattle.tl_index.specs.Hits.{times};
 ghost use Rattle.tl_slabs.specs.Heights.{widest};
 ghost use Rattle.tl_slabs.specs.Neighbours.{AreTested, EachTwo, IsWide};
@@ -10,7 +10,7 @@ ghost use Rattle.tl_sweep.specs.Keeping.Listed.{begins_at, ends_at, AreEvents, A
 ghost use Rattle.tl_sweep.specs.Keeping.Spotted.{AreInRange, AreMarks};
 ghost use Rattle.tl_sweep.specs.declared.events.Event.{Event};
 
-use crate::events::Event;
+use crate::events::Events;
 use crate::finding::{find, open};
 use crate::heights::ends;
 use crate::line::Line;
@@ -24,29 +24,39 @@ use tl_county::Map;
 use tl_geom::{Point, Segment, turn};
 
 /// How far the events at one height go that begin at a place.
-fn run_end(events: &[Event], from: usize) -> usize
+fn run_end(events: &Events, from: usize) -> usize
     requires { from < length events.now }
     ensures past { from < result }
     ensures within { result ≤ length events.now }
     ensures level { (k : ℕ) (d : Event) → from ≤ k → k < result →
         (slice_index_or events.now k d).height ≡ (slice_index_or events.now from d).height }
 {
-    let height = events[from].height;
+    let count = events.len();
+    let height = events.at(from).height;
     let mut to = from + 1;
-    while to < events.len() && events[to].height == height {
+    while to < count && events.at(to).height == height {
         to += 1;
     }
     to
 }
 
-/// The segments that end at these events, and those that begin.
-fn gather(events: &[Event], outs: &mut Vec<u32>, ins: &mut Vec<u32>) -> Result<(), AllocError>
-    ensures outs { IfOk result (λ done. (s : ℕ) → times s outs.new.items ≡ count_by (ends_at s) events.now) }
-    ensures ins { IfOk result (λ done. (s : ℕ) → times s ins.new.items ≡ count_by (begins_at s) events.now) }
+/// The segments that end at the events from one place up to another, and those that begin.
+fn gather(
+    events: &Events,
+    from: usize,
+    to: usize,
+    outs: &mut Vec<u32>,
+    ins: &mut Vec<u32>,
+) -> Result<(), AllocError>
+    requires some { from ≤ to }
+    requires within { to ≤ length events.now }
+    ensures outs { IfOk result (λ done. (s : ℕ) → times s outs.new.items ≡ count_by (ends_at s) (take (to - from) (drop from events.now))) }
+    ensures ins { IfOk result (λ done. (s : ℕ) → times s ins.new.items ≡ count_by (begins_at s) (take (to - from) (drop from events.now))) }
 {
     outs.clear();
     ins.clear();
-    for event in events {
+    for place in from..to {
+        let event = events.at(place);
         if event.begins {
             ins.push(event.segment)?;
         } else {
@@ -82,23 +92,19 @@ fn order(segments: &[Segment], numbers: &mut Vec<u32>)
     }
 }
 
-/// The point of the first of these events.
-fn first_point(segments: &[Segment], events: &[Event]) -> Option<Point> {
-    let event = events.first()?;
-    let segment = segments.get(event.segment as usize)?;
-    Some(if event.first {
-        segment.a()
-    } else {
-        segment.b()
-    })
+/// The point where these segments end, or where those begin.
+fn vertex(segments: &[Segment], outs: &[u32], ins: &[u32]) -> Option<Point> {
+    match outs.first() {
+        Some(s) => Some(ends(*segments.get(*s as usize)?).1),
+        None => Some(ends(*segments.get(*ins.first()? as usize)?).0),
+    }
 }
 
-/// Passes the events of one point: what ends there leaves the list, and what begins there enters it.
+/// Passes a vertex: what ends there leaves the list, and what begins there enters it.
 fn step(
     map: &Map,
     segments: &[Segment],
     line: &mut Line,
-    events: &[Event],
     outs: &mut Vec<u32>,
     ins: &mut Vec<u32>,
     places: &mut Places,
@@ -106,16 +112,15 @@ fn step(
 ) -> Result<bool, AllocError>
     requires { AreSegments map.now.chains segments.now }
     ensures moved { IfOk result (λ done. IsTrue done → (s : ℕ) →
-        times s (list_of line.new) + count_by (ends_at s) events.now ≡ times s (list_of line.old) + count_by (begins_at s) events.now) }
+        times s (list_of line.new) + times s outs.old.items ≡ times s (list_of line.old) + times s ins.old.items) }
     ensures tested { IfOk result (λ done. IsTrue done → EachTwo (AreTested widest map.now.chains) (list_of line.old) →
         EachTwo (AreTested widest map.now.chains) (list_of line.new)) }
     ensures counted { IfOk result (λ done. IsTrue done → IsCounted map.now.chains gaps.old (list_of line.old) →
         IsCounted map.now.chains gaps.new (list_of line.new)) }
 {
-    gather(events, outs, ins)?;
     order(segments, outs);
     order(segments, ins);
-    let Some(p) = first_point(segments, events) else {
+    let Some(p) = vertex(segments, outs, ins) else {
         return Ok(false);
     };
     let place = find_place(segments, line, places, outs, p)?;
@@ -148,7 +153,7 @@ pub fn sweep_list(
     alloc: Global,
     map: &Map,
     segments: &[Segment],
-    events: &[Event],
+    events: &Events,
     spots: &mut Spots,
     suspects: &mut Vec<u32>,
 ) -> Result<bool, AllocError>
@@ -170,11 +175,11 @@ pub fn sweep_list(
     while from < events.len() {
         spots.look(map, segments, &mut line, events, from, gaps)?;
         let to = run_end(events, from);
+        gather(events, from, to, &mut outs, &mut ins)?;
         if !step(
             map,
             segments,
             &mut line,
-            &events[from..to],
             &mut outs,
             &mut ins,
             &mut places,

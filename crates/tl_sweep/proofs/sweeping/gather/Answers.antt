@@ -1,30 +1,38 @@
-use Rattle.std.proofs.Common.{◌≡◌, ◌+◌, ◌++◌, ◌∷◌, [], List, Vec, Global, ℕ, get_or, take, count_by, sym, ap, ◌∙◌}
-use Rattle.std.proofs.lemmas.List.{take_more}
+use Rattle.std.proofs.Common.{◌≡◌, ◌+◌, ◌-◌, ◌++◌, ◌∷◌, [], List, Vec, Global, ℕ, take, drop, count_by, sym, ap, ◌∙◌, arith}
 use Rattle.tl_index.specs.Hits.{times}
 use Rattle.tl_sweep.specs.declared.events.Event.{Event}
 use Rattle.tl_sweep.specs.Keeping.Listed.{begins_at, ends_at}
-use Rattle.tl_sweep.proofs.Found.{no_event}
-use Rattle.tl_sweep.proofs.Gathering.{one_begins, none_begins, one_ends, none_ends}
+use Rattle.tl_sweep.proofs.Gathering.{one_begins, none_begins, one_ends, none_ends, one_further}
 use Rattle.tl_sweep.proofs.sweeping.gather.Goals as goal
 use Rattle.tl_sweep.proofs.sweeping.gather.Goals.{then-event+in_ok-push, else-event+in_ok-push-2}
 
-pub loop-event-preserved : goal.loop-event-preserved
-loop-event-preserved c =
-    let k : ℕ = c.loop-event.event-index in
-    let x : Event = get_or c.args.events.now c.loop-event.event-index no_event in
-    let before : List Event = take c.loop-event.event-index c.args.events.now in
-    let more : take (c.loop-event.event-index + 1) c.args.events.now ≡ take c.loop-event.event-index c.args.events.now ++ get_or c.args.events.now c.loop-event.event-index no_event ∷ [] =
-    take_more c.args.events.now c.loop-event.event-index no_event c.loop-event-test.true in
-    let now = c.loop-event.invariant in
+pub loop-place-preserved : goal.loop-place-preserved
+loop-place-preserved c =
+    let x : Event = c.at-event.result in
+    let before : List Event = take (c.loop-place.place - c.args.from) (drop c.args.from c.args.events.now) in
+    let more : take (c.loop-place.place + 1 - c.args.from) (drop c.args.from c.args.events.now) ≡ take (c.loop-place.place - c.args.from) (drop c.args.from c.args.events.now) ++ c.at-event.result ∷ [] =
+    one_further c.args.events.now c.args.from c.loop-place.place c.at-event.result c.loop-place.auto.place (let lt = c.loop-place-test.true in let within = c.requires.within in omega (arith, lt, within))
+    ∙ ap (λ e. take (c.loop-place.place - c.args.from) (drop c.args.from c.args.events.now) ++ e ∷ []) (sym (c.at-event.ensures c.at-event.result)) in
+    let now = c.loop-place.invariant in
     elim c.if-event.branch [
       | then-event+in_ok-push w ↦
           record {
-            off = λ s. ap (λ (v : Vec ℕ Global). times s v.items) w.outs-is ∙ none_ends before x s c.loop-event.outs.items w.if-event.true (now.off s) ∙ ap (count_by (ends_at s)) (sym more);
-            on = λ s. ap (λ (v : Vec ℕ Global). times s v.items) w.ins-is ∙ ap (times s) w.in_ok-push.ensures.items ∙ one_begins before x s c.loop-event.ins.items w.if-event.true (now.on s) ∙ ap (count_by (begins_at s)) (sym more);
+            off = λ s. ap (λ (v : Vec ℕ Global). times s v.items) w.outs-is ∙ none_ends before x s c.loop-place.outs.items w.if-event.true (now.off s) ∙ ap (count_by (ends_at s)) (sym more);
+            on = λ s. ap (λ (v : Vec ℕ Global). times s v.items) w.ins-is ∙ ap (times s) w.in_ok-push.ensures.items ∙ one_begins before x s c.loop-place.ins.items w.if-event.true (now.on s) ∙ ap (count_by (begins_at s)) (sym more);
           }
       | else-event+in_ok-push-2 w ↦
           record {
-            off = λ s. ap (λ (v : Vec ℕ Global). times s v.items) w.outs-is ∙ ap (times s) w.in_ok-push-2.ensures.items ∙ one_ends before x s c.loop-event.outs.items w.if-event.false (now.off s) ∙ ap (count_by (ends_at s)) (sym more);
-            on = λ s. ap (λ (v : Vec ℕ Global). times s v.items) w.ins-is ∙ none_begins before x s c.loop-event.ins.items w.if-event.false (now.on s) ∙ ap (count_by (begins_at s)) (sym more);
+            off = λ s. ap (λ (v : Vec ℕ Global). times s v.items) w.outs-is ∙ ap (times s) w.in_ok-push-2.ensures.items ∙ one_ends before x s c.loop-place.outs.items w.if-event.false (now.off s) ∙ ap (count_by (ends_at s)) (sym more);
+            on = λ s. ap (λ (v : Vec ℕ Global). times s v.items) w.ins-is ∙ none_begins before x s c.loop-place.ins.items w.if-event.false (now.on s) ∙ ap (count_by (begins_at s)) (sym more);
           }
     ]
+
+pub returns-clause-outs : goal.returns-clause-outs
+returns-clause-outs c = λ s.
+    let end : c.loop-place.place ≡ c.args.to = let done = c.loop-place-test.false in let le = c.loop-place.auto.place-end c.requires.some in omega (arith, done, le) in
+    c.loop-place.invariant.off s ∙ ap (λ n. count_by (ends_at s) (take (n - c.args.from) (drop c.args.from c.args.events.now))) end
+
+pub returns-clause-ins : goal.returns-clause-ins
+returns-clause-ins c = λ s.
+    let end : c.loop-place.place ≡ c.args.to = let done = c.loop-place-test.false in let le = c.loop-place.auto.place-end c.requires.some in omega (arith, done, le) in
+    c.loop-place.invariant.on s ∙ ap (λ n. count_by (begins_at s) (take (n - c.args.from) (drop c.args.from c.args.events.now))) end
