@@ -15,7 +15,7 @@ import sys
 import tempfile
 from pathlib import Path
 
-from rows import PROGRAM, TOP
+from rows import PROGRAM, TOP, rows_of
 from small_maps import MADE, write_all
 
 EXAMPLES = TOP / "examples"
@@ -54,6 +54,16 @@ RUNS = [
     ["show", "--help"],
     ["show"],
     ["shown", "a"],
+]
+# What is asked of the files of rows, where records stand in no order or have numbers of more than 32 bits.
+OF_ROWS = [
+    ("show.rows", "chains come by rising TLID, to the limits of coordinates and with their signs", ["show", "two"]),
+    ("audit.rows", "ids and a POLYID of more than 32 bits", ["audit", "--zero-cells", "B"]),
+    (
+        "landmarks.rows",
+        "landmarks by their first records, with that record's point; links in their order, whatever the order of lines",
+        ["landmarks", "links", "square"],
+    ),
 ]
 REFUSE = r"""
 #include <stdlib.h>
@@ -122,13 +132,22 @@ def is_well(answer, left, usual, whole):
     return (answer, left) == (usual, whole) or answer == (4, b"", b"stopped Memory\n") and left in (STANDS, whole)
 
 
+def write_rows(folder):
+    """Writes the files of the rows into the folder, and gives the words of all runs over them."""
+    for rows, title, _ in OF_ROWS:
+        files = next(row.files for row in rows_of(TOP / "tests" / rows) if row.title == title)
+        for name, text in files.items():
+            Path(folder, name).write_bytes(text)
+    return [words for _, _, words in OF_ROWS]
+
+
 def play_all(program=PROGRAM):
     """How many refused allocations were answered well, and how many weren't."""
     with tempfile.TemporaryDirectory() as folder:
         library = library_of(folder, REFUSE)
         ask = lambda words, which: answer_over_a_file([program, *words], library, which, "REFUSED_ALLOCATION", folder)
         count = failed = 0
-        for words in RUNS + write_all(folder):
+        for words in RUNS + write_all(folder) + write_rows(folder):
             usual, whole, _ = ask(words, 0)
             for which in range(1, 10_000):
                 answer, left, was_reached = ask(words, which)
