@@ -4,10 +4,11 @@ use Rattle.std.specs.List.Sorted.{IsStrictlyIncreasing, IsPermutation}
 use Rattle.std.proofs.lemmas.Bool.{cases_lt}
 use Rattle.std.proofs.lemmas.Option.{slice_get-get_or}
 use Rattle.std.proofs.lemmas.List.{get_or_default, get_or-map}
-use Rattle.std.proofs.lemmas.List.Sorted.{IsPermutation-map, IsPermutation-sym, Contains-permutation, sum_by-IsPermutation}
+use Rattle.std.proofs.lemmas.List.Sorted.{IsPermutation-map, IsPermutation-sym, IsPermutation-trans, Contains-permutation, sum_by-IsPermutation}
 use Rattle.tl_map.specs.declared.fault.MapFault.{MapFault}
+use Rattle.tl_map.specs.declared.fault.MapStop.{MapStop}
 use Rattle.tl_map.specs.declared.entry.SidesEntry.{SidesEntry}
-use Rattle.tl_map.specs.Keeping.Sided.{sides_tlids, IsUnpaired}
+use Rattle.tl_map.specs.Keeping.Sided.{sides_tlids, IsUnpaired, ArePaired, StopsPairing}
 use Rattle.tl_map.proofs.CountLemmas.{rising_pairs}
 
 -- numbers that rise by neighbours rise
@@ -73,3 +74,16 @@ pub twice_moved : (old new : List SidesEntry) (t : ℕ) → IsPermutation old ne
 twice_moved old new t moved twice =
     let same = sum_by-IsPermutation (λ (s : SidesEntry). cond (eqb s.tlid t) 1 0) old new moved in
     omega (arith, same, twice)
+
+-- what is paired, or not, in another order of the records is so in theirs
+pub paired_moved : (ts : List ℕ) (old mid new : List SidesEntry) → IsPermutation old mid → ArePaired ts mid new → ArePaired ts old new
+paired_moved ts old mid new moved h = record { same = h.same; moved = IsPermutation-trans old mid new moved h.moved }
+
+pub stop_moved : (ts : List ℕ) (old mid : List SidesEntry) (stop : MapStop) → IsPermutation old mid → StopsPairing ts mid stop → StopsPairing ts old stop
+stop_moved ts old mid stop moved why = elim why [
+  | inl memory ↦ inl memory
+  | inr fault ↦ elim fault [
+    | inl twice ↦ inr (inl (twice.0, twice.1, twice_moved old mid twice.0 moved twice.2))
+    | inr unpaired ↦ inr (inr (unpaired.0, unpaired.1, unpaired_moved ts old mid unpaired.0 moved unpaired.2))
+  ]
+]

@@ -22,7 +22,7 @@ use tl_county::{Map, POLYGON_LIMIT};
 pub fn build_map(
     alloc: Global,
     hasher: RandomState,
-    collected: Collected,
+    mut collected: Collected,
     areas: AreaRecords,
     skipped: u64,
 ) -> Result<Map, MapStop>
@@ -32,7 +32,7 @@ pub fn build_map(
         MatchResult result (AreMapped rs skipped) (StopsBuilding rs) }
 {
     let AreaRecords {
-        sides,
+        mut sides,
         polygons,
         landmarks,
         links,
@@ -40,6 +40,7 @@ pub fn build_map(
     if polygons.len() > POLYGON_LIMIT as usize {
         return Err(MapStop::Fault(MapFault::TooMany(Limited::Polygons)));
     }
+    collected.presort_with(alloc, &mut sides)?;
     let chains = build_chains(alloc, collected, skipped)?;
     let paired = pair_sides(alloc, &chains, sides)?;
     let index = index_polygons(alloc, hasher, &polygons)?;

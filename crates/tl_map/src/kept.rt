@@ -8,10 +8,10 @@ ghost use Rattle.tl_map.specs.declared.kept.SidesRow.{SidesRow};
 ghost use Rattle.tl_county.specs.Kept.{given};
 ghost use Rattle.tl_map.specs.Keeping.Kept.{short_of, kept_in, IsRow};
 
-use crate::entry::SidesEntry;
+use crate::entry::{ChainEntry, SidesEntry};
 use std::alloc::{AllocError, Global};
 use std::marker::Model;
-use tl_county::{Ranked, presort_by_rank};
+use tl_county::{Ranked, presort_by_rank, presort_together};
 use tl_record::PolyKey;
 
 /// A type I record whose numbers take 32 bits, or, where it `is_long`, one that is kept whole, with its TLID.
@@ -111,6 +111,18 @@ impl KeptSides {
         } else {
             short_entry(row)
         }
+    }
+
+    /// Presorts chains by TLID, and the records with them, where they stand in the chains' order.
+    pub fn presort_with(
+        &mut self,
+        alloc: Global,
+        chains: &mut Vec<ChainEntry>,
+    ) -> Result<(), AllocError>
+        ensures moved { IsPermutation self.old self.new }
+        ensures chains { IsPermutation chains.old.items chains.new.items }
+    {
+        presort_together(alloc, chains, &mut self.rows)
     }
 
     /// Sorts the records by TLID, in place.
