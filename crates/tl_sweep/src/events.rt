@@ -9,8 +9,8 @@ ghost use Rattle.tl_sweep.specs.Keeping.Ended.{event_at, event_by, events_in};
 ghost use Rattle.tl_sweep.specs.Keeping.Listed.{AreEvents, AreSegments};
 ghost use Rattle.tl_sweep.specs.Keeping.Spotted.{IsInRange, AreInRange};
 
-use crate::dealing::sort_ends;
 use crate::heights::{height, is_lower};
+use crate::sorting::sort_ends;
 use std::alloc::{AllocError, Global};
 use std::marker::Model;
 use tl_county::Map;

@@ -19,8 +19,10 @@ mod neighbours;
 mod passing;
 mod places;
 mod placing;
+mod sorting;
 mod spots;
 mod suspects;
 mod sweeping;
 
 pub use answer::{Swept, sweep};
+pub use dealing::{Dealt, deal};
