@@ -4,6 +4,7 @@ use Rattle.std.proofs.lemmas.Bool.Decides.{nat_tests}
 use Rattle.tl_index.specs.Pairs.{indices, row_sum, pair_sum, AllRow, AllPairs}
 use Rattle.tl_index.specs.Hits.{times}
 use Rattle.tl_index.specs.Fits.{AreBelow}
+use Rattle.tl_index.proofs.Times.{same_or, times-same, times-other}
 use Rattle.tl_tree.proofs.PairLemmas.{IsSymmetric, Turns}
 
 -- the list without each n
