@@ -1,5 +1,8 @@
 -- What is told of a stop.
-use Rattle.std.proofs.Common.{◌≡◌, ◌≢◌, ◌⊎◌, inl, inr, ℕ, List, Option, Err, sym, ◌∙◌}
+use Rattle.std.proofs.Common.{◌≡◌, ◌≢◌, ◌⊎◌, inl, inr, ℕ, List, [], Option, Result, Ok, Err, OnOk, sym, ◌∙◌}
+use Rattle.std.specs.Io.KnownBytes.{Appends}
+use Rattle.tl_output.specs.Writing.{TriesToPassOn, CountsFailure}
+use Rattle.tl_output.proofs.WritingLemmas.{writes_some}
 use Rattle.std.specs.Bool.{⊤}
 use Rattle.std.specs.Option.{IfSome}
 use Rattle.tl_record.specs.Failures.{one_more}
@@ -11,7 +14,7 @@ use Rattle.tl_verdict.specs.Records.{MayStopOn, TellsEither, LeavesUnread}
 use Rattle.tl_verdict.specs.Verdicts.{OnSearched}
 use Rattle.tl_plan.specs.declared.plan.Plan.{Plan}
 use Rattle.tl_command.specs.declared.stop.TheConstants.{REFUSED, STOPPED}
-use Rattle.tl_command.specs.Running.{NamesStop, NamesBudget, NamesRefusal, StopsRun, MayBeSearched, IsRunStatus, IsTold, status_of}
+use Rattle.tl_command.specs.Running.{TriesToWrite, NamesStop, NamesBudget, NamesRefusal, StopsRun, MayBeSearched, IsRunStatus, IsTold, status_of}
 
 -- the same stop, of less that failed and of less that didn't
 pub weaker_stop : (plan : Plan) (known spelt : Option (List ℕ)) (told : List ℕ → Type 0) (failed other well calm same cut : Type 0) → (failed → other) → (well → calm)
@@ -20,6 +23,12 @@ weaker_stop plan known spelt told failed other well calm same cut fails stays (i
 weaker_stop plan known spelt told failed other well calm same cut fails stays (inl (inr device)) =
     inl (inr (device.0, elim device.1 [ inl one ↦ inl (fails one.0, one.1) | inr broken ↦ inr broken ]))
 weaker_stop plan known spelt told failed other well calm same cut fails stays (inr spent) = inr (spent.0, stays spent.1, spent.2)
+
+-- what a write of a text tells of it
+pub tries : {S T E : Type 0} (contents : S → Option (List ℕ)) (failures : S → ℕ) (old new : S) (text : List ℕ) (r : Result T E) → OnOk r (Appends (contents old) (contents new) text)
+    → TriesToPassOn (contents old) (contents new) [] [] text r → CountsFailure (failures old) (failures new) r → TriesToWrite contents failures old new text
+tries contents failures old new text (Ok done) bytes passes counts = inl (record { grown = bytes; no_failure = counts })
+tries contents failures old new text (Err error) bytes passes counts = inr (writes_some contents failures old new text passes counts)
 
 -- a line that isn't told, where else nothing failed
 pub line_stops : (told : List ℕ → Type 0) (failed well same cut broken : Type 0) → well → (cut → broken) → NamesStop told ⊥ ⊤ same cut → NamesStop told failed well same broken

@@ -19,7 +19,7 @@ use Rattle.tl_map.specs.Messages.{fault_text}
 use Rattle.tl_county.specs.TheMap.{TheMap}
 use Rattle.tl_map.specs.Reading.{AreReadFrom, IsReadFrom, records_in}
 use Rattle.tl_text.specs.Printing.{shown_text, listing_text}
-use Rattle.tl_output.specs.Writing.{line_of}
+use Rattle.tl_output.specs.Writing.{Writes, WritesSome, line_of}
 use Rattle.tl_verdict.specs.declared.stop.Stop.{Stop}
 use Rattle.tl_verdict.specs.declared.stop.Stop.TheVariants.{Record, Memory, Device, Budget}
 use Rattle.tl_verdict.specs.Stops.{stop_text}
@@ -313,6 +313,10 @@ StopsRun plan known spelt wrote failed well same cut =
 -- the statuses that a run answers with
 abbrev pub IsRunStatus : ℕ → Type 0
 IsRunStatus status = ((status ≡ DONE) ⊎ (status ≡ MAP_FAULT)) ⊎ ((status ≡ CERT_FAULT) ⊎ ((status ≡ REFUSED) ⊎ (status ≡ STOPPED)))
+
+-- the sink took the text, or a write failed behind a beginning of it
+abbrev pub TriesToWrite : {S : Type 0} → (S → Option (List ℕ)) → (S → ℕ) → S → S → List ℕ → Type 0
+TriesToWrite contents failures old new text = Writes contents failures old new text ⊎ WritesSome contents failures old new text
 
 -- a read failed: the source counted it
 abbrev pub FailsToRead : {S : Type 0} → (S → ℕ) → S → S → Type 0

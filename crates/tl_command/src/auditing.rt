@@ -2,9 +2,9 @@
 
 ghost use Rattle.std.specs.Prelude.{◌≡◌, ◌≢◌, ◌⊎◌, ⊤};
 ghost use Rattle.tl_record.specs.Layout.{layout_with};
-ghost use Rattle.tl_output.specs.Writing.{Writes, WritesSome, TriesToWrite};
+ghost use Rattle.tl_output.specs.Writing.{Writes, WritesSome};
 ghost use Rattle.tl_command.specs.declared.stop.TheConstants.{DONE, MAP_FAULT, REFUSED, STOPPED};
-ghost use Rattle.tl_command.specs.Running.{IsAudited, NamesFault, NamesRefusal, NamesStop, FailsToRead, CountStays};
+ghost use Rattle.tl_command.specs.Running.{IsAudited, NamesFault, NamesRefusal, NamesStop, FailsToRead, CountStays, TriesToWrite};
 
 use crate::reports::SoundMap;
 use crate::stop::{DONE, MAP_FAULT, stopped};

@@ -1,9 +1,9 @@
 //! Certificates in version 2.
 
 ghost use Rattle.std.specs.Prelude.{◌≡◌, ◌≢◌, ◌⊎◌};
-ghost use Rattle.tl_output.specs.Writing.{Writes, WritesSome, TriesToWrite, FailsToWrite};
+ghost use Rattle.tl_output.specs.Writing.{Writes, WritesSome, FailsToWrite};
 ghost use Rattle.tl_command.specs.declared.stop.TheConstants.{DONE, CERT_FAULT, STOPPED};
-ghost use Rattle.tl_command.specs.Running.{IsConverted, NamesBadLine, NamesStop, FailsToRead, CountStays, StaysUnless};
+ghost use Rattle.tl_command.specs.Running.{IsConverted, NamesBadLine, NamesStop, FailsToRead, CountStays, StaysUnless, TriesToWrite};
 ghost use Rattle.tl_command.specs.Making.{Begins, BeginsRewritten, Rewrites, KeepsText, TellsConverted};
 
 use crate::stop::{CERT_FAULT, DONE, stopped};

@@ -2,10 +2,10 @@
 
 ghost use Rattle.std.specs.Prelude.{◌≡◌, ◌≢◌, ◌⊎◌, ⊤};
 ghost use Rattle.tl_record.specs.Layout.{layout_with};
-ghost use Rattle.tl_output.specs.Writing.{Writes, WritesSome, TriesToWrite, line_of};
+ghost use Rattle.tl_output.specs.Writing.{Writes, WritesSome, line_of};
 ghost use Rattle.tl_command.specs.declared.stop.TheConstants.{DONE, MAP_FAULT, CERT_FAULT, REFUSED, STOPPED};
 ghost use Rattle.tl_command.specs.Verdicts.{verdict_text, verdict_status};
-ghost use Rattle.tl_command.specs.Running.{IsChecked, NamesFault, NamesCertFault, NamesRefusal, NamesStop, NamesBudget};
+ghost use Rattle.tl_command.specs.Running.{IsChecked, NamesFault, NamesCertFault, NamesRefusal, NamesStop, NamesBudget, TriesToWrite};
 ghost use Rattle.tl_command.specs.Running.{MayBeSearched};
 ghost use Rattle.tl_command.specs.Running.{IsRunStatus, FailsToRead, CountStays};
 

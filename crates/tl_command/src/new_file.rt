@@ -2,11 +2,12 @@
 
 ghost use Rattle.std.specs.Prelude.{◌≡◌, ◌≢◌, ◌⊎◌, ℕ, List, true, false, None, IfOk, IfErr, IfSome, IsSome, map, string_bytes};
 ghost use Rattle.tl_text.specs.Joining.{joined_bytes};
-ghost use Rattle.tl_output.specs.Writing.{Writes, WritesSome, TriesToWrite};
+ghost use Rattle.tl_output.specs.Writing.{Writes, WritesSome};
 ghost use Rattle.tl_files.specs.Files.{bytes_under, standing, beside, IsRoom};
 ghost use Rattle.tl_command.specs.declared.stop.TheConstants.{USAGE};
 ghost use Rattle.tl_command.specs.Opening.{RunsOver, IsBuildOf, Converts, records_under, certificate_under, FilesFail};
 ghost use Rattle.tl_command.specs.Starting.{StopsOpening};
+ghost use Rattle.tl_command.specs.Running.{TriesToWrite};
 
 use crate::building::{is_made, make, tell_making};
 use crate::convert::{rewrite, tell_converted};

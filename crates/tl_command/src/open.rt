@@ -2,8 +2,8 @@
 
 ghost use Rattle.std.specs.Prelude.{◌≡◌, ◌⊎◌, false, string_bytes};
 ghost use Rattle.tl_text.specs.Joining.{joined_bytes};
-ghost use Rattle.tl_output.specs.Writing.{Writes, WritesSome, TriesToWrite};
-ghost use Rattle.tl_command.specs.Running.{ReadsNoCertificate, MakesNoCertificate};
+ghost use Rattle.tl_output.specs.Writing.{Writes, WritesSome};
+ghost use Rattle.tl_command.specs.Running.{ReadsNoCertificate, MakesNoCertificate, TriesToWrite};
 ghost use Rattle.tl_command.specs.Opening.{RunsOver, IsCheckBy, IsBuildOf, IsConversionBy, records_under, FilesFail};
 
 use crate::new_file::{IS_READ, TAKEN, build_into, convert_into, room_for, say_refusal};

@@ -2,9 +2,10 @@
 
 ghost use Rattle.std.specs.Prelude.{◌≡◌, ◌⊎◌, List, map, string_bytes, codes};
 ghost use Rattle.clap.specs.Walk.{Text};
-ghost use Rattle.tl_output.specs.Writing.{Writes, WritesSome, TriesToWrite, line_of};
+ghost use Rattle.tl_output.specs.Writing.{Writes, WritesSome, line_of};
 ghost use Rattle.tl_command.specs.declared.stop.TheConstants.{USAGE};
 ghost use Rattle.tl_command.specs.Starting.{AnswersWords, StopsBefore};
+ghost use Rattle.tl_command.specs.Running.{TriesToWrite};
 
 use crate::start::start;
 use crate::stop::{USAGE, stopped};

@@ -2,9 +2,9 @@
 
 ghost use Rattle.std.specs.Prelude.{◌≡◌, ◌≢◌, ◌⊎◌, false};
 ghost use Rattle.tl_text.specs.Joining.{joined_bytes, failures_of};
-ghost use Rattle.tl_output.specs.Writing.{Writes, WritesSome, TriesToWrite, FailsToWrite};
+ghost use Rattle.tl_output.specs.Writing.{Writes, WritesSome, FailsToWrite};
 ghost use Rattle.tl_command.specs.declared.stop.TheConstants.{DONE, MAP_FAULT, CERT_FAULT, REFUSED, STOPPED};
-ghost use Rattle.tl_command.specs.Running.{IsAnswered, FaultsMap, NamesRefusal, BreaksOff, StopsRun, IsRunStatus, CountStays, FailsToRead, layout_of};
+ghost use Rattle.tl_command.specs.Running.{IsAnswered, FaultsMap, NamesRefusal, BreaksOff, StopsRun, IsRunStatus, CountStays, FailsToRead, layout_of, TriesToWrite};
 ghost use Rattle.tl_command.specs.Running.{FaultsCertificate, ReadsNoCertificate, MakesNoCertificate};
 ghost use Rattle.tl_command.specs.Deciding.{IsExact};
 ghost use Rattle.tl_command.specs.Making.{Begins, IsBegunBy};

@@ -3,9 +3,9 @@
 ghost use Rattle.std.specs.Prelude.{◌≡◌, ◌≢◌, ◌⊎◌, [], OnOk, IfErr};
 ghost use Rattle.tl_record.specs.Layout.{layout_with};
 ghost use Rattle.tl_text.specs.Printing.{shown_text, listing_text};
-ghost use Rattle.tl_output.specs.Writing.{Writes, WritesSome, TriesToWrite, FailsToWrite, CountsFailure, TriesToPassOn, line_of};
+ghost use Rattle.tl_output.specs.Writing.{Writes, WritesSome, FailsToWrite, CountsFailure, TriesToPassOn, line_of};
 ghost use Rattle.tl_command.specs.declared.stop.TheConstants.{DONE, MAP_FAULT, CERT_FAULT, REFUSED, STOPPED};
-ghost use Rattle.tl_command.specs.Running.{IsAnswered, AnswersRecords, IsShown, IsListed, NamesRecordFault, NamesRefusal};
+ghost use Rattle.tl_command.specs.Running.{IsAnswered, AnswersRecords, IsShown, IsListed, NamesRecordFault, NamesRefusal, TriesToWrite};
 ghost use Rattle.tl_command.specs.Running.{BreaksOff, NamesStop, StopsRun, FaultsMap, FaultsCertificate};
 ghost use Rattle.tl_command.specs.Running.{ReadsNoCertificate, MakesNoCertificate, ReadsNoRecords};
 ghost use Rattle.tl_command.specs.Running.{IsRunStatus, FailsToRead, CountStays, StopsAnswer, LooksFor, layout_of, StaysUnless};

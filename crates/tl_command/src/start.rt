@@ -1,13 +1,14 @@
 //! The program from its words to its status.
 
 ghost use Rattle.std.specs.Prelude.{◌≡◌, ◌⊎◌, map, string_bytes};
-ghost use Rattle.tl_output.specs.Writing.{Writes, WritesSome, TriesToWrite, line_of};
+ghost use Rattle.tl_output.specs.Writing.{Writes, WritesSome, line_of};
 ghost use Rattle.tl_command.specs.declared.stop.TheConstants.{DONE, MAP_FAULT, CERT_FAULT, REFUSED, STOPPED, USAGE};
 ghost use Rattle.tl_verdict.specs.declared.stop.Stop.TheVariants.{Device};
 ghost use Rattle.tl_verdict.specs.Stops.{stop_text};
 ghost use Rattle.tl_command.specs.Opening.{FilesFail};
 ghost use Rattle.tl_command.specs.Starting.{IsStartStatus, ShowsUsage, ShowsHelp, AnswersSome, FaultsSome, RefusesSome};
 ghost use Rattle.tl_command.specs.Starting.{FaultsText, StopsSome, DecidesSome, BeginsSome, RefusesSomeOut, KeepsSome};
+ghost use Rattle.tl_command.specs.Running.{TriesToWrite};
 
 use crate::open::open_and_run;
 use crate::stop::{DONE, USAGE, stopped};

@@ -3,9 +3,9 @@
 ghost use Rattle.std.specs.Prelude.{◌≡◌, ◌++◌, ◌≤◌, length};
 ghost use Rattle.arrayvec.specs.ArrayString.{array_string_len};
 ghost use Rattle.tl_record.specs.Messages.{cause_text, field_text, field_word, refusal_text};
-ghost use Rattle.tl_output.specs.Writing.{TriesToWrite, line_of};
+ghost use Rattle.tl_output.specs.Writing.{line_of};
 ghost use Rattle.tl_command.specs.declared.stop.TheConstants.{REFUSED, STOPPED};
-ghost use Rattle.tl_command.specs.Running.{IsTold};
+ghost use Rattle.tl_command.specs.Running.{IsTold, TriesToWrite};
 ghost use Rattle.tl_command.specs.Stops.{pair_text};
 
 use arrayvec::ArrayString;

@@ -1,9 +1,9 @@
 //! Answers that are one line.
 
 ghost use Rattle.std.specs.Prelude.{◌≡◌, ◌≢◌, ◌⊎◌, IfSome, ⊤};
-ghost use Rattle.tl_output.specs.Writing.{Writes, WritesSome, TriesToWrite, FailsToWrite, line_of};
+ghost use Rattle.tl_output.specs.Writing.{Writes, WritesSome, FailsToWrite, line_of};
 ghost use Rattle.tl_command.specs.declared.stop.TheConstants.{STOPPED};
-ghost use Rattle.tl_command.specs.Running.{NamesStop};
+ghost use Rattle.tl_command.specs.Running.{NamesStop, TriesToWrite};
 
 use crate::stop::stopped;
 use std::fmt::Display;

@@ -1,5 +1,5 @@
 -- What a sink has taken: its contents and its count of failed writes, before and after.
-use Rattle.std.specs.Prelude.{◌≡◌, ◌⊎◌, ℕ, List, ◌∷◌, [], ◌++◌, take, Option, Result, MatchResult}
+use Rattle.std.specs.Prelude.{◌≡◌, ℕ, List, ◌∷◌, [], ◌++◌, take, Option, Result, MatchResult}
 use Rattle.std.specs.Io.KnownBytes.{Appends}
 use Rattle.tl_record.specs.Failures.{one_more}
 
@@ -15,10 +15,6 @@ FailsToWrite failures old new = failures new ≡ one_more (failures old)
 pub record Writes {S : Type 0} (contents : S → Option (List ℕ)) (failures : S → ℕ) (old new : S) (text : List ℕ) : Type 0 where
   pub grown : Appends (contents old) (contents new) text
   pub no_failure : failures new ≡ failures old
-
--- it did, or a write failed
-abbrev pub TriesToWrite : {S : Type 0} → (S → Option (List ℕ)) → (S → ℕ) → S → S → List ℕ → Type 0
-TriesToWrite contents failures old new text = Writes contents failures old new text ⊎ FailsToWrite failures old new
 
 -- the sink took a beginning of the text and nothing else, and a write failed
 pub record WritesSome {S : Type 0} (contents : S → Option (List ℕ)) (failures : S → ℕ) (old new : S) (text : List ℕ) : Type 0 where

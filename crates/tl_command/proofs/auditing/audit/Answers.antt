@@ -1,6 +1,6 @@
+use Rattle.tl_command.specs.Running.{TriesToWrite}
 use Rattle.std.proofs.Common.{inl, inr, Ok, ap, ◌∙◌}
 use Rattle.tl_record.specs.Layout.{layout_with}
-use Rattle.tl_output.specs.Writing.{TriesToWrite}
 use Rattle.tl_command.proofs.ToldLemmas.{line_stops}
 use Rattle.tl_command.proofs.AuditLemmas.{is_audited, names_fault_alone}
 use Rattle.tl_command.proofs.auditing.audit.Goals as goal

@@ -1,6 +1,6 @@
+use Rattle.tl_command.specs.Running.{TriesToWrite}
 use Rattle.std.proofs.Common.{inl, refl, sym, ◌∙◌}
 use Rattle.tl_record.specs.Layout.{layout_with}
-use Rattle.tl_output.specs.Writing.{TriesToWrite}
 use Rattle.tl_command.specs.declared.stop.TheConstants.{DONE, MAP_FAULT, CERT_FAULT}
 use Rattle.tl_command.proofs.CheckLemmas.{is_checked, names_fault, names_cert_fault, verdict_breaks, told_status}
 use Rattle.tl_command.proofs.ToldLemmas.{line_stops, stop_runs, no_answer, check_refused, check_unread, check_stopped, check_whole}

@@ -1,5 +1,5 @@
+use Rattle.tl_command.specs.Running.{TriesToWrite}
 use Rattle.std.proofs.Common.{inl, inr}
-use Rattle.tl_output.specs.Writing.{TriesToWrite}
 use Rattle.tl_command.proofs.ToldLemmas.{weaker_stop}
 use Rattle.tl_command.proofs.OpenLemmas.{over_plain, none_failed}
 use Rattle.tl_command.proofs.open.run_plainly.Goals as goal

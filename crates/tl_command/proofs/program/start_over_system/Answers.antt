@@ -1,5 +1,6 @@
+use Rattle.tl_command.specs.Running.{TriesToWrite}
 use Rattle.std.proofs.Common.{inr, map, string_bytes}
-use Rattle.tl_output.specs.Writing.{TriesToWrite, WritesSome}
+use Rattle.tl_output.specs.Writing.{WritesSome}
 use Rattle.tl_command.specs.Starting.{unknown}
 use Rattle.tl_command.proofs.StartLemmas.{stops_any}
 use Rattle.tl_command.proofs.program.start_over_system.Goals as goal
