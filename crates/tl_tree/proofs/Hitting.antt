@@ -6,7 +6,7 @@ use Rattle.tl_geom.specs.Rectangle.{AreMeeting}
 use Rattle.tl_index.specs.Fits.{AreBelow, CoversAll}
 use Rattle.tl_index.specs.Hits.{times, AreHits, Adds}
 use Rattle.tl_tree.specs.Keeping.Walking.{Collects, Grows}
-use Rattle.tl_index.proofs.Times.{same_or, times-above, times-append, times-one, times-unhit}
+use Rattle.tl_index.proofs.Times.{same_or, times-above, times-append, times-one, times-other, times-unhit}
 
 pub grows-nothing : (xs : List ℕ) → Grows xs xs
 grows-nothing xs = record { added = []; appended = sym (append-nil xs) }
