@@ -7,11 +7,11 @@
 
 mod fault;
 pub mod laws;
-mod report;
+mod reports;
 mod stop;
 mod verdict;
 
 pub use fault::{CertFault, MapFault};
-pub use report::report;
+pub use reports::report;
 pub use stop::Stop;
 pub use verdict::{Report, Verdict};

@@ -1,6 +1,6 @@
 use Rattle.std.proofs.Common.{refl}
 use Rattle.tl_verdict.proofs.NodeCounts.{of_each}
-use Rattle.tl_verdict.proofs.report.report.Goals as goal
+use Rattle.tl_verdict.proofs.reports.report.Goals as goal
 
 pub returns : goal.returns
 returns c =
