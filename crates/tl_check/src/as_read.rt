@@ -20,7 +20,7 @@ ghost use Rattle.tl_verdict.specs.Texts.{IsTrueOfText, IsValidText, TextAllowsSe
 ghost use Rattle.tl_check.specs.Keeping.Parts.{Holds, IsSearched, IsBehindSearch};
 ghost use Rattle.tl_check.specs.Keeping.Streams.{Stands, Decides, Concludes};
 
-use crate::answer::{answer, report, stopped};
+use crate::answer::{answer, stopped};
 use crate::counts::are_counts;
 use crate::rounds::{end_rounds, take_round};
 use crate::state::State;
@@ -31,7 +31,7 @@ use tl_cert::{CertPart, CertReader};
 use tl_county::Map;
 use tl_index::TreeNode;
 use tl_record::Source;
-use tl_verdict::{CertFault, Stop, Verdict};
+use tl_verdict::{CertFault, Stop, Verdict, report};
 
 /// Decides whether a map is sound, by the text of a certificate of it, read to its end unless segments meet that may not
 /// or a stop comes first. Of the certificate its tree is kept, and its walks as they come.

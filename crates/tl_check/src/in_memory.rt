@@ -12,7 +12,7 @@ ghost use Rattle.tl_verdict.specs.Truth.{IsTrueOfMap, IsTrueOfCert, IsOfDarts};
 ghost use Rattle.tl_check.specs.Keeping.Streams.{Shows};
 ghost use Rattle.tl_verdict.specs.Verdicts.{OnSound, IfSound, IfMapFault, IfCertFault, UnlessMeet, OnSearched, IsReport, MayStop};
 
-use crate::answer::{answer, report};
+use crate::answer::answer;
 use crate::counts::are_counts;
 use crate::rounds::{end_rounds, take_round};
 use crate::tree::take_tree;
@@ -20,7 +20,7 @@ use crate::walks::{finish_walks, take_walk};
 use std::alloc::Global;
 use tl_cert::Certificate;
 use tl_county::Map;
-use tl_verdict::{CertFault, Stop, Verdict};
+use tl_verdict::{CertFault, Stop, Verdict, report};
 
 /// Decides whether a map is sound, by a certificate of it. `budget` is how many pairs of segments may be tested whose
 /// rectangles meet.

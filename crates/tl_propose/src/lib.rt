@@ -4,11 +4,11 @@
 #![tactic(auto)]
 
 mod points;
-mod propose;
+mod proposal;
 mod rounds;
 mod sides;
 mod walks;
 
 pub use points::{find_misplaced_beside, find_misplaced_by};
-pub use propose::{propose, propose_rings, propose_tree};
+pub use proposal::{propose, propose_rings, propose_tree};
 pub use sides::find_sides_at_odds;

@@ -10,7 +10,7 @@ ghost use Rattle.tl_verdict.specs.Truth.{IsTrueOfMap};
 ghost use Rattle.tl_verdict.specs.Valid.{IsTree};
 ghost use Rattle.tl_propose.specs.Keeping.Lists.{lists_in};
 
-use crate::propose::propose_tree;
+use crate::proposal::propose_tree;
 use std::alloc::Global;
 use tl_county::Map;
 use tl_index::{Memory, TreeNode, TreeStop};

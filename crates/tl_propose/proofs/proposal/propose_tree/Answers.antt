@@ -5,7 +5,7 @@ use Rattle.tl_index.specs.Fits.{Fits}
 use Rattle.tl_pack.specs.Packed.{IsShallow}
 use Rattle.tl_index.specs.Trees.{tree_of}
 use Rattle.tl_propose.proofs.Packed.{is_tree, eight_levels, new_nodes}
-use Rattle.tl_propose.proofs.propose.propose_tree.Goals as goal
+use Rattle.tl_propose.proofs.proposal.propose_tree.Goals as goal
 
 pub returns-clause-tree : goal.returns-clause-tree
 returns-clause-tree c =

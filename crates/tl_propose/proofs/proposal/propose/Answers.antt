@@ -1,7 +1,7 @@
 use Rattle.std.proofs.Common.{refl, sym, subst, inr}
 use Rattle.tl_cert.specs.Certificates.{TheCertificate, MakesCertificate, made}
 use Rattle.tl_propose.specs.Keeping.Proposed.{IsProposal}
-use Rattle.tl_propose.proofs.propose.propose.Goals as goal
+use Rattle.tl_propose.proofs.proposal.propose.Goals as goal
 
 pub unreachable-requires : goal.unreachable-requires
 unreachable-requires c =

@@ -11,7 +11,7 @@ use Rattle.tl_propose.proofs.ListLemmas.{all_in}
 use Rattle.tl_propose.proofs.Holding.{cut_once, dart_lists}
 use Rattle.tl_propose.proofs.RoundLemmas.{are_rounds}
 use Rattle.tl_propose.proofs.RingLemmas.{one_to_one, each_of, are_walks}
-use Rattle.tl_propose.proofs.propose.propose_rings.Goals as goal
+use Rattle.tl_propose.proofs.proposal.propose_rings.Goals as goal
 
 pub returns-clause-rounds : goal.returns-clause-rounds
 returns-clause-rounds c =

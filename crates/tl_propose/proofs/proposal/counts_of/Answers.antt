@@ -1,5 +1,5 @@
 use Rattle.tl_verdict.proofs.NodeCounts.{of_each}
-use Rattle.tl_propose.proofs.propose.counts_of.Goals as goal
+use Rattle.tl_propose.proofs.proposal.counts_of.Goals as goal
 
 pub returns : goal.returns
 returns c =
