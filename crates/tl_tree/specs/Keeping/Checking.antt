@@ -1,12 +1,12 @@
 -- What the check of a tree keeps on its way: marks of the items met so far, and a rectangle that stands for their bounds.
-use Rattle.std.specs.Prelude.{◌≡◌, ℕ, Bool, false, ◌≤◌, ◌+◌, ◌-◌, ◌↔◌, List, length, slice_index_or, if◌then◌else◌}
+use Rattle.std.specs.Prelude.{ℕ, Bool, ◌≤◌, ◌+◌, ◌-◌, ◌↔◌, List, length}
 use Rattle.tl_geom.specs.declared.rect.Rect.{Rect}
 use Rattle.tl_geom.specs.Rectangle.{Covers}
 use Rattle.tl_index.specs.declared.fault.TreeFault.{TreeFault}
 use Rattle.tl_index.specs.declared.fault.TreeFault.TheVariants.{UnknownIndex, IndexTwice, IndexMissing, RectTooSmall}
 use Rattle.tl_tree.specs.declared.walk.Below.{Below}
 use Rattle.tl_tree.specs.declared.walk.Below.TheVariants.{Items, Children}
-use Rattle.tl_index.specs.Fits.{AreBelow, CoversAll, CoversBelow, IsTooSmall}
+use Rattle.tl_index.specs.Fits.{CoversAll, CoversBelow, IsTooSmall}
 use Rattle.tl_index.specs.Hits.{times}
 use Rattle.tl_index.specs.Trees.{Forest, leaf_items}
 use Rattle.tl_index.specs.Keeping.Marked.{mark_at, AreMarked}

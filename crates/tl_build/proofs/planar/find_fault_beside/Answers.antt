@@ -1,10 +1,3 @@
-use Rattle.std.proofs.Common.{None, subst}
-use Rattle.std.specs.Prelude.{MatchOption}
-use Rattle.tl_sides.specs.Sides.{SidesAgree}
-use Rattle.tl_cells.specs.Cells.{CellsAgree}
-use Rattle.tl_verdict.specs.Truth.{IsTrueOfMap}
-use Rattle.tl_verdict.specs.declared.fault.MapFault.{MapFault}
-use Rattle.tl_propose.specs.Keeping.Lists.{lists_in}
 use Rattle.tl_build.proofs.Decided.{none_found, sound_by, sound_where}
 use Rattle.tl_build.proofs.planar.find_fault_beside.Goals as goal
 

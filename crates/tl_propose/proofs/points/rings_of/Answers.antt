@@ -1,8 +1,7 @@
-use Rattle.std.proofs.Common.{length, take, sym, ap, subst, ◌∙◌, ◌<◌, ◌*◌, All, ◌++◌, ◌∷◌, [], arith}
-use Rattle.std.proofs.lemmas.List.Elements.{All-get_or}
-use Rattle.tl_sides.specs.Sides.{dart_count, IsRing}
+use Rattle.std.proofs.Common.{take, sym, ap, subst, ◌∙◌, ◌++◌, ◌∷◌, [], arith}
+use Rattle.tl_sides.specs.Sides.{IsRing}
 use Rattle.tl_propose.specs.Keeping.Lists.{lists_in}
-use Rattle.tl_propose.proofs.SideLemmas.{darts_in, walk_at, walk_more, many_walks, all_walks}
+use Rattle.tl_propose.proofs.SideLemmas.{darts_in, walk_at, walk_more, many_walks}
 use Rattle.tl_propose.proofs.points.rings_of.Goals as goal
 
 pub push-requires : goal.push-requires

@@ -1,4 +1,4 @@
-use Rattle.std.proofs.Common.{ℕ, length, sym, subst, ◌∙◌, arith}
+use Rattle.std.proofs.Common.{sym, subst, ◌∙◌, arith}
 use Rattle.tl_index.proofs.Times.{same_or}
 use Rattle.tl_sides.specs.Sides.{IsRing}
 use Rattle.tl_sides.specs.Lists.{list_at}

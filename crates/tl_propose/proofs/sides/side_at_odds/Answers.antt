@@ -1,6 +1,5 @@
-use Rattle.std.proofs.Common.{◌≡◌, ◌+◌, ◌-◌, Some, refl, sym, ap, subst, ◌∙◌, arith}
+use Rattle.std.proofs.Common.{◌≡◌, ◌-◌, Some, refl, sym, subst, ◌∙◌, arith}
 use Rattle.std.specs.Prelude.{slice_index}
-use Rattle.tl_county.specs.declared.sides.Side.{Side}
 use Rattle.tl_county.specs.Darts.{dart_left}
 use Rattle.tl_verdict.specs.Truth.{AreAtOdds}
 use Rattle.tl_propose.proofs.SideLemmas.{at_odds, one_given}
