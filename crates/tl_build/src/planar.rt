@@ -6,7 +6,6 @@ ghost use Rattle.tl_sides.specs.Sides.{SidesAgree};
 ghost use Rattle.tl_sides.specs.Walks.{AreWalks};
 ghost use Rattle.tl_inside.specs.Placed.{ArePlaced};
 ghost use Rattle.tl_cells.specs.Cells.{CellsAgree};
-ghost use Rattle.tl_cert.specs.Certificates.{TheCertificate};
 ghost use Rattle.tl_crossings.specs.Headings.{AreProper};
 ghost use Rattle.tl_verdict.specs.Sound.{IsSound};
 ghost use Rattle.tl_verdict.specs.Truth.{IsTrueOfMap};

@@ -1,6 +1,5 @@
 //! Reports of sound maps.
 
-ghost use Rattle.std.specs.Prelude.{◌≡◌};
 ghost use Rattle.tl_verdict.specs.Verdicts.{AreNumbers};
 
 use crate::verdict::Report;
