@@ -44,7 +44,7 @@ def kit():
 
 
 def shares():
-    """What the proof of each crate takes on one processor, in seconds, as tests/times.py once found it."""
+    """What the proof of each crate takes on one processor, in seconds, as last seen."""
     found = {}
     for line in (TOP / "proving" / "seconds.txt").read_text().splitlines():
         if line and not line.startswith("#"):
