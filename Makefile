@@ -57,12 +57,12 @@ counties: build
 	python3 tests/counties.py
 
 bench: build
-	python3 proving/prove.py bench_records bench_tree bench_cert bench_check bench_sweep
+	python3 proving/prove.py bench_records bench_tree bench_cert bench_check
 	python3 bench/run.py
 	python3 bench/instructions.py $(if $(BESIDE),--beside $(BESIDE))
 
 speed: build
-	python3 proving/prove.py bench_records bench_tree bench_cert bench_check bench_sweep
+	python3 proving/prove.py bench_records bench_tree bench_cert bench_check
 	python3 bench/run.py --kinds county,comb,lines,star,squares,spiral --counties 100000 --decided 100000 --long 100000 --segments 2750000 --certificates 1000000
 	python3 bench/instructions.py $(if $(BESIDE),--beside $(BESIDE))
 

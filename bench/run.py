@@ -2,7 +2,7 @@
 """Measures `tigertopo show`, `landmarks` and `locate`, and a program that only counts records, beside `wc -l` of the same files;
 `check` by a plain maker's certificate beside `show`, with the parts of a check as `bench_check` tells them, in a second table;
 `audit`, `build`, `check` of what was built and `locate` beside `show` in a third, with the parts of that work as `bench_check`
-tells them in a fourth; `audit` of maps of long segments in a fifth; what `bench_sweep` says of all these maps in a sixth;
+tells them in a fourth; `audit` of maps of long segments in a fifth; what a sweep says of all these maps in a sixth;
 `bench_tree`, which makes the segments of a county and searches them, in a seventh; and `bench_cert`, which writes and reads
 certificates, beside `wc -l` of the same file, in an eighth.
 
@@ -33,7 +33,6 @@ COUNT = CRATES / "bench_records" / "out" / "bench_records"
 TREE = CRATES / "bench_tree" / "out" / "bench_tree"
 CERT = CRATES / "bench_cert" / "out" / "bench_cert"
 CHECK = CRATES / "bench_check" / "out" / "bench_check"
-SWEEP = CRATES / "bench_sweep" / "out" / "bench_sweep"
 NAMES = {
     "streets": "streets alone",
     "county": "a county",
@@ -212,7 +211,7 @@ def swept_rows(maps, runs):
     """What a sweep says of maps and how long it takes, and how often it says nothing."""
     said = []
     for chains, kind, name in maps:
-        words = [SWEEP, records_of(chains, kind)]
+        words = [CHECK, "--sweep", records_of(chains, kind)]
         said.append(subprocess.run(words, capture_output=True, text=True, check=True).stdout.strip())
         read, swept = (statistics.median(column) for column in zip(*(steps_of(words) for _ in range(runs))))
         yield f"{chains:,} {name}", said[-1], f"{read:.1f}", f"{swept:.1f}"

@@ -163,11 +163,11 @@ class Lanes:
 
     def __init__(self, rt, proofs, share):
         self.processors = rt.processors()
-        # Some checks take a fifth more than is reckoned.
         self.memory = 0.85 * rt.free()
         self.proofs = {it.crate.name: it for it in proofs}
         self.share = share
-        self.needs = {name: rt.need(it.crate) for name, it in self.proofs.items()}
+        # No check has been seen to take half of what the kit reckons with.
+        self.needs = {name: rt.need(it.crate) / 2 for name, it in self.proofs.items()}
         self.below = {name: [d.name for d in it.crate.below() if d.name in self.proofs] for name, it in self.proofs.items()}
         self.chain = {}
         for name in reversed(self.proofs):

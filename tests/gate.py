@@ -11,13 +11,26 @@ from concurrent.futures import ThreadPoolExecutor
 from pathlib import Path
 
 TOP = Path(__file__).resolve().parent.parent
-sys.path += [str(TOP / "tests"), str(TOP / "examples")]
+sys.path += [str(TOP / "tests"), str(TOP / "examples"), str(TOP / "proving")]
+
+# More memory than any task of `rt ci` has been seen to take, in bytes.
+LANE = 5_000_000_000
+
+
+def lanes():
+    """How many of its tasks `rt ci` is to run side by side. By itself it plans with twice the memory that any of them has
+    been seen to take, and leaves processors idle."""
+    from prove import kit
+
+    rt = kit()
+    return max(1, min(rt.processors(), rt.free() // LANE))
 
 
 def prove():
     """Runs `rt ci`, prints what it says, and gives its two numbers."""
     numbers = None
-    with subprocess.Popen(["rt", "ci"], cwd=TOP, stdout=subprocess.PIPE, text=True, errors="replace") as proofs:
+    words = {"cwd": TOP, "env": {**os.environ, "RT_JOBS": str(lanes())}, "stdout": subprocess.PIPE}
+    with subprocess.Popen(["rt", "ci"], text=True, errors="replace", **words) as proofs:
         for line in proofs.stdout:
             numbers = re.fullmatch(r"(\d+) passed, (\d+) failed\n", line)
             if not numbers:

@@ -1,7 +1,8 @@
-//! How long the parts of a check take, and building: `bench_check RECORDS [CERT]` reads the records and the certificate, or
-//! makes one of their map, with a check in it, where none is given. It checks the tree, searches for two chains that meet
-//! where they may not, takes the rounds and walks, and checks the whole. It prints the report and, on the error output, the
-//! microseconds that each step takes.
+//! How long the parts of a check take, building, and a sweep: `bench_check RECORDS [CERT]` reads the records and the
+//! certificate, or makes one of their map, with a check in it, where none is given. It checks the tree, searches for two
+//! chains that meet where they may not, takes the rounds and walks, and checks the whole. It prints the report and, on the
+//! error output, the microseconds that each step takes. `bench_check --sweep RECORDS` sweeps over the map instead, and prints
+//! `placed`, `planar`, `meet` or `unknown`.
 #![tactic(auto)]
 
 mod sides;
@@ -20,6 +21,7 @@ use tl_county::Map;
 use tl_map::read_map;
 use tl_planar::{Meeting, Segments, first_meet};
 use tl_record::Meter;
+use tl_sweep::{Swept, sweep};
 use tl_tree::FlatTree;
 
 // As many bytes at a time as tigertopo reads.
@@ -102,24 +104,40 @@ fn check(rt: &HostRuntime, map: &Map, certificate: &Certificate) -> anyhow::Resu
     Ok(())
 }
 
-/// Measures the parts of a check of the map by the certificate.
-fn measure(rt: &HostRuntime, map: &Map, certificate: &Certificate) -> anyhow::Result<()> {
-    search(rt, map, certificate)?;
-    take_sides(rt, map, certificate)?;
-    check(rt, map, certificate)
+/// Measures the parts of a check of the records' map by a certificate, or by one that is made.
+fn measure(rt: &HostRuntime, records: &str, certificate: Option<&str>) -> anyhow::Result<()> {
+    let map = read_records(rt, records)?;
+    let certificate = match certificate {
+        Some(name) => read_certificate(rt, name)?,
+        None => build_certificate(rt, &map)?,
+    };
+    search(rt, &map, &certificate)?;
+    take_sides(rt, &map, &certificate)?;
+    check(rt, &map, &certificate)
+}
+
+/// Sweeps over the records' map.
+fn measure_sweep(rt: &HostRuntime, records: &str) -> anyhow::Result<()> {
+    let map = read_records(rt, records)?;
+    let begun = Instant::now(rt)?;
+    let swept = sweep(rt.alloc(), &map).map_err(|_| Stop::Memory)?;
+    tell(rt, "swept", begun.elapsed(rt)?)?;
+    let said = match swept {
+        Swept::Placed => "placed",
+        Swept::Planar => "planar",
+        Swept::Meet(_) => "meet",
+        Swept::Unknown => "unknown",
+    };
+    println!(rt; "{said}")?;
+    Ok(())
 }
 
 fn main(rt: HostRuntime) -> anyhow::Result<()> {
     let words: Vec<String> = env::args(&rt)?.skip(1).collect(rt.alloc())?;
-    let (records, certificate) = match words.as_slice() {
-        [records] => (records, None),
-        [records, certificate] => (records, Some(certificate)),
-        _ => return Err(Stop::Usage.into()),
-    };
-    let map = read_records(&rt, records.as_str())?;
-    let certificate = match certificate {
-        Some(name) => read_certificate(&rt, name.as_str())?,
-        None => build_certificate(&rt, &map)?,
-    };
-    measure(&rt, &map, &certificate)
+    match words.as_slice() {
+        [word, records] if word.as_str() == "--sweep" => measure_sweep(&rt, records.as_str()),
+        [records] => measure(&rt, records.as_str(), None),
+        [records, certificate] => measure(&rt, records.as_str(), Some(certificate.as_str())),
+        _ => Err(Stop::Usage.into()),
+    }
 }

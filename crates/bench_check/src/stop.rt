@@ -26,9 +26,11 @@ pub enum Stop {
 impl fmt::Display for Stop {
     fn fmt<W: fmt::Write>(&self, f: &mut fmt::Formatter<W>) -> fmt::Result {
         match self {
-            Stop::Usage => f.write_str("usage: bench_check RECORDS [CERT]"),
+            Stop::Usage => f.write_str(
+                "usage: bench_check RECORDS [CERT] or bench_check --sweep RECORDS",
+            ),
             Stop::Memory => f.write_str("memory was refused"),
-            Stop::Records(stop) => write!(f, "no map: {stop:?}"),
+            Stop::Records(stop) => write!(f, "no map: {stop}"),
             Stop::Read(stop) => write!(f, "no certificate: {stop:?}"),
             Stop::Build(stop) => write!(f, "{stop}"),
             Stop::Unsound => f.write_str("not told to be sound"),

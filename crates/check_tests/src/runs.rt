@@ -5,7 +5,7 @@ use crate::maps::SQUARE;
 use std::alloc::{AllocError, Global};
 use std::io;
 use tl_command::start::start;
-use tl_files::FilesInMemory;
+use tl_memory_files::FilesInMemory;
 use tl_record::MeterOut;
 
 /// What a run printed, and its status.

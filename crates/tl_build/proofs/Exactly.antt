@@ -4,10 +4,10 @@ use Rattle.std.specs.Option.{IfSome}
 use Rattle.std.specs.Result.{IfOk}
 use Rattle.std.proofs.lemmas.Option.{IfSome_then}
 use Rattle.tl_record.specs.Records.{Records as AllRecords}
-use Rattle.tl_map.specs.declared.fault.MapStop.{MapStop}
-use Rattle.tl_map.specs.declared.fault.MapStop.TheVariants as map
+use Rattle.tl_drawn.specs.declared.fault.MapStop.{MapStop}
+use Rattle.tl_drawn.specs.declared.fault.MapStop.TheVariants as map
 use Rattle.tl_county.specs.TheMap.{TheMap}
-use Rattle.tl_map.specs.Reading.{IsReadFrom, StopsReading}
+use Rattle.tl_drawn.specs.Reading.{IsReadFrom, StopsReading}
 use Rattle.tl_verdict.specs.Sound.{IsSound}
 use Rattle.tl_verdict.specs.Records.{HaveMap}
 use Rattle.tl_verdict.proofs.OneMap.{same_map}

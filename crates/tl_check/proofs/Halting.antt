@@ -34,6 +34,18 @@ ended m c budget (halt.Fault fault) may allows = (may, allows)
 ended m c budget halt.Memory may allows = tt
 ended m c budget halt.Budget may allows = absurd may
 
+-- what ends behind the search may halt there
+pub may_halt : (m : TheMap) (budget : ℕ) (why : Halt) → MayEnd m why → MayHalt m budget why
+may_halt m budget (halt.Fault fault) may = may
+may_halt m budget halt.Memory may = tt
+may_halt m budget halt.Budget may = absurd may
+
+-- what is so anyway
+pub so_unless_memory : (why : Halt) (P : Type 0) → P → UnlessMemory why P
+so_unless_memory (halt.Fault fault) P p = p
+so_unless_memory halt.Memory P p = tt
+so_unless_memory halt.Budget P p = p
+
 -- a certificate of the first rounds, or of the first walks, allows what the whole one does
 pub allowed_rounds : (m : TheMap) (c : TheCertificate) (n : ℕ) → AllowsSearch m (first_rounds c n) → AllowsSearch m c
 allowed_rounds m c n h = record { counts = h.counts; tree = h.tree }

@@ -7,3 +7,6 @@ pub mod Walking
 pub mod Searched
 pub mod Meeting
 pub mod Halting
+pub mod Treed
+pub mod Stopping
+pub mod Rounding

@@ -5,8 +5,8 @@ use Rattle.std.proofs.lemmas.Option.{IfSome_then}
 use Rattle.tl_record.specs.Lines.{joined_lines}
 use Rattle.tl_county.specs.TheMap.{TheMap}
 use Rattle.tl_planar.specs.Planar.{IsPlanar}
-use Rattle.tl_map.specs.declared.fault.MapStop.{MapStop}
-use Rattle.tl_map.specs.declared.fault.MapStop.TheVariants as map
+use Rattle.tl_drawn.specs.declared.fault.MapStop.{MapStop}
+use Rattle.tl_drawn.specs.declared.fault.MapStop.TheVariants as map
 use Rattle.tl_cert.specs.declared.place.Place.TheVariants.{Start, Counted, Treed}
 use Rattle.tl_cert.specs.declared.reader.CertReader.{CertReader}
 use Rattle.tl_cert.specs.declared.stop.CertStop.{CertStop}

@@ -18,7 +18,7 @@ use Rattle.tl_check.specs.declared.state.Halt.TheVariants as halt
 use Rattle.tl_verdict.specs.Valid.{AllowsSearch}
 use Rattle.tl_verdict.specs.Truth.{IsOfDarts}
 use Rattle.tl_verdict.specs.Texts.{TextAllowsSearch}
-use Rattle.tl_verdict.specs.Verdicts.{Answer, OnSearched, IfCertFault}
+use Rattle.tl_verdict.specs.Verdicts.{Answer, OnSound, OnSearched, IfCertFault}
 use Rattle.tl_check.specs.Keeping.Answers.{answer_of, stop_of}
 use Rattle.tl_check.specs.Keeping.Parts.{UnlessMemory}
 
@@ -33,11 +33,21 @@ stopped_behind (cert.Text line) P = λ of_darts. absurd of_darts
 stopped_behind cert.Memory P = tt
 stopped_behind cert.Device P = tt
 
+pub stopped_within : (why : CertStop) (P : Type 0) → OnSound (stop_of why) P
+stopped_within (cert.Text line) P = tt
+stopped_within cert.Memory P = tt
+stopped_within cert.Device P = tt
+
 -- where no further part is looked at
 pub answered_behind : (why : Halt) (P : Type 0) → IfCertFault (answer_of why) (λ fault. IsOfDarts fault → P)
 answered_behind (halt.Fault fault) P = tt
 answered_behind halt.Memory P = tt
 answered_behind halt.Budget P = tt
+
+pub answered_within : (why : Halt) (P : Type 0) → OnSound (answer_of why) P
+answered_within (halt.Fault fault) P = tt
+answered_within halt.Memory P = tt
+answered_within halt.Budget P = tt
 
 pub fault_searched : (fault : MapFault) (P : Type 0) → P → OnSearched (Ok (verdict.MapFault fault)) P
 fault_searched (Records fault) P p = tt

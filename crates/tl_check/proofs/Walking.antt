@@ -1,5 +1,5 @@
 -- Walks that are kept as rings.
-use Rattle.std.proofs.Common.{◌≡◌, ℕ, Result, Ok, Err, IfOk, IfErr, ◌*◌, ◌<◌, List, [], length, All, refl, sym, subst, ap, ◌∙◌, arith}
+use Rattle.std.proofs.Common.{◌≡◌, ℕ, Result, Ok, Err, IfOk, IfErr, ◌*◌, ◌<◌, List, [], ◌∷◌, length, All, refl, sym, subst, ap, ◌∙◌, append_assoc, arith}
 use Rattle.std.specs.Prelude.{slice_index}
 use Rattle.std.proofs.lemmas.List.{get_or_default}
 use Rattle.tl_county.specs.TheMap.{TheMap, MapChain}
@@ -12,7 +12,7 @@ use Rattle.tl_sides.proofs.ListLemmas.{length-and, list-last}
 use Rattle.tl_inside.specs.Placed.{ArePlaced}
 use Rattle.tl_rings.specs.Rings.{TheRings, AreBoxed}
 use Rattle.tl_cert.specs.Certificates.{TheCertificate}
-use Rattle.tl_check.specs.Keeping.Parts.{AreWalksSoFar, IsWalked, IsShown, with_walk}
+use Rattle.tl_check.specs.Keeping.Parts.{Continues, AreWalksSoFar, IsWalked, IsShown, with_walk}
 
 -- a walk that was taken is of darts
 pub darts_known : (chains : List MapChain) (walks : List (List ℕ)) (walk : List ℕ) (w : Walks) → HaveWalked chains (and_list walks walk) w → All (λ d. d < 2 * length chains) walk
@@ -55,3 +55,14 @@ told_ok P r x is told = subst (λ z. IfOk z P) is told
 
 pub told_err : {X E : Type 0} (P : E → Type 0) (r : Result X E) (e : E) → r ≡ Err e → IfErr r P → P e
 told_err P r e is told = subst (λ z. IfErr z P) is told
+
+-- what goes on behind one walk more goes on before it
+pub goes_on_before : (c d : TheCertificate) (walk : List ℕ) → Continues (with_walk c walk) d → Continues c d
+goes_on_before c d walk on = record {
+  counts = on.counts;
+  tree = on.tree;
+  more_rounds = on.more_rounds;
+  rounds = on.rounds;
+  more_walks = walk ∷ on.more_walks;
+  walks = on.walks ∙ append_assoc c.walks (walk ∷ []) on.more_walks;
+}

@@ -51,7 +51,10 @@ pub fn take_tree<'a>(
     match first_meet(map, &tree, budget) {
         Meeting::Found(meet) => Err(Halt::Fault(MapFault::Meet(meet))),
         Meeting::Budget => Err(Halt::Budget),
-        Meeting::Clear => Ok(State::Rounding(begin_rounds(alloc, map)?)),
+        Meeting::Clear => match begin_rounds(alloc, map) {
+            Ok(rounds) => Ok(State::Rounding(rounds)),
+            Err(halt) => Err(halt),
+        },
     }
 }
 

@@ -6,3 +6,5 @@ pub mod CheckLemmas
 pub mod DecidingLemmas
 pub mod ToldLemmas
 pub mod StartLemmas
+pub mod RunLemmas
+pub mod OpeningLemmas

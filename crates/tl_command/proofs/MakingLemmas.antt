@@ -7,7 +7,7 @@ use Rattle.tl_record.specs.Records.{records_of}
 use Rattle.std.proofs.lemmas.List.{take_all}
 use Rattle.tl_output.specs.Writing.{Writes, line_of}
 use Rattle.tl_county.specs.TheMap.{TheMap}
-use Rattle.tl_map.specs.Reading.{IsReadFrom}
+use Rattle.tl_drawn.specs.Reading.{IsReadFrom}
 use Rattle.tl_cert.specs.Certificates.{TheCertificate}
 use Rattle.tl_cert.specs.Text.{certificate_text}
 use Rattle.tl_cert.specs.Beginnings.{IsTextOf}

@@ -13,7 +13,7 @@ use Rattle.tl_verdict.specs.declared.stop.Stop.TheVariants.{Record, Memory, Devi
 use Rattle.tl_verdict.specs.Records.{MayStopOn, TellsEither, LeavesUnread}
 use Rattle.tl_verdict.specs.Verdicts.{OnSearched}
 use Rattle.tl_plan.specs.declared.plan.Plan.{Plan}
-use Rattle.tl_command.specs.declared.stop.TheConstants.{REFUSED, STOPPED}
+use Rattle.tl_command.specs.declared.stop.TheConstants.{DONE, MAP_FAULT, REFUSED, STOPPED}
 use Rattle.tl_command.specs.Running.{TriesToWrite, NamesStop, NamesBudget, NamesRefusal, StopsRun, MayBeSearched, IsRunStatus, IsTold, status_of}
 
 -- the same stop, of less that failed and of less that didn't
@@ -48,6 +48,51 @@ stop_runs stop status is = inr (inr (stop_status stop status is))
 pub no_answer : (stop : Stop) (status wanted : ℕ) → status ≡ status_of stop → wanted ≢ REFUSED → wanted ≢ STOPPED → status ≢ wanted
 no_answer stop status wanted is no_refusal no_stop e =
     elim (stop_status stop status is) [ inl refused ↦ no_refusal (sym e ∙ refused) | inr stopped ↦ no_stop (sym e ∙ stopped) ]
+
+-- no two statuses are one
+pub done_not_fault : DONE ≢ MAP_FAULT
+done_not_fault e = cc e
+
+pub done_not_refused : DONE ≢ REFUSED
+done_not_refused e = cc e
+
+pub done_not_stopped : DONE ≢ STOPPED
+done_not_stopped e = cc e
+
+pub fault_not_done : MAP_FAULT ≢ DONE
+fault_not_done e = cc e
+
+pub fault_not_refused : MAP_FAULT ≢ REFUSED
+fault_not_refused e = cc e
+
+pub fault_not_stopped : MAP_FAULT ≢ STOPPED
+fault_not_stopped e = cc e
+
+pub refused_not_done : REFUSED ≢ DONE
+refused_not_done e = cc e
+
+pub refused_not_fault : REFUSED ≢ MAP_FAULT
+refused_not_fault e = cc e
+
+pub refused_not_stopped : REFUSED ≢ STOPPED
+refused_not_stopped e = cc e
+
+pub stopped_not_done : STOPPED ≢ DONE
+stopped_not_done e = cc e
+
+pub stopped_not_fault : STOPPED ≢ MAP_FAULT
+stopped_not_fault e = cc e
+
+pub stopped_not_refused : STOPPED ≢ REFUSED
+stopped_not_refused e = cc e
+
+-- what has one status has no other
+pub is_not : (status first wanted : ℕ) → status ≡ first → first ≢ wanted → status ≢ wanted
+is_not status first wanted is other e = other (sym is ∙ e)
+
+-- a line that is told has its status or that of a stop, and no other
+pub no_other : (status first wanted : ℕ) → (status ≡ first) ⊎ (status ≡ STOPPED) → first ≢ wanted → STOPPED ≢ wanted → status ≢ wanted
+no_other status first wanted told not_first no_stop e = elim told [ inl is ↦ not_first (sym is ∙ e) | inr is ↦ no_stop (sym is ∙ e) ]
 
 -- a check that stops at a refused line
 pub check_refused : (layout : Layout) (budget : ℕ) (known : Option (List ℕ)) (stop : Stop) (status : ℕ) (told : List ℕ → Type 0) → IfSome known (λ text. MayStopOn (records_of layout text) budget stop)

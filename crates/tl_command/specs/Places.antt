@@ -4,8 +4,8 @@ use Rattle.tl_geom.specs.declared.point.Point.{Point}
 use Rattle.tl_county.specs.TheMap.{TheMap}
 use Rattle.tl_text.specs.Places.{on_text, inside_text}
 use Rattle.tl_inside.specs.Places.{IsPlaceOf}
-use Rattle.tl_map.specs.declared.fault.MapStop.{MapStop}
-use Rattle.tl_map.specs.declared.fault.MapStop.TheVariants as map_stop
+use Rattle.tl_drawn.specs.declared.fault.MapStop.{MapStop}
+use Rattle.tl_drawn.specs.declared.fault.MapStop.TheVariants as map_stop
 use Rattle.tl_inside.specs.declared.place.Place.{Place}
 use Rattle.tl_inside.specs.declared.place.Place.TheVariants.{OnChain, In}
 

@@ -10,14 +10,14 @@ use Rattle.tl_record.specs.Layout.{tiger_2006, layout_with}
 use Rattle.tl_record.specs.Messages.{refusal_text}
 use Rattle.tl_record.specs.Records.{records_of}
 use Rattle.tl_geom.specs.declared.point.Point.{Point}
-use Rattle.tl_map.specs.declared.fault.MapFault.{MapFault as RecordFault}
-use Rattle.tl_map.specs.declared.fault.MapStop.{MapStop}
-use Rattle.tl_map.specs.declared.fault.MapStop.TheVariants as map_stop
+use Rattle.tl_drawn.specs.declared.fault.MapFault.{MapFault as RecordFault}
+use Rattle.tl_drawn.specs.declared.fault.MapStop.{MapStop}
+use Rattle.tl_drawn.specs.declared.fault.MapStop.TheVariants as map_stop
 use Rattle.tl_county.specs.Chains.{ChainList}
-use Rattle.tl_map.specs.Faults.{IsTrueOf, IsFaultOfChains}
-use Rattle.tl_map.specs.Messages.{fault_text}
+use Rattle.tl_drawn.specs.Faults.{IsTrueOf, IsFaultOfChains}
+use Rattle.tl_drawn.specs.Messages.{fault_text}
 use Rattle.tl_county.specs.TheMap.{TheMap}
-use Rattle.tl_map.specs.Reading.{AreReadFrom, IsReadFrom, records_in}
+use Rattle.tl_drawn.specs.Reading.{AreReadFrom, IsReadFrom, records_in}
 use Rattle.tl_text.specs.Printing.{shown_text, listing_text}
 use Rattle.tl_output.specs.Writing.{Writes, WritesSome, line_of}
 use Rattle.tl_verdict.specs.declared.stop.Stop.{Stop}

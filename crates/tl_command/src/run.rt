@@ -9,8 +9,8 @@ ghost use Rattle.tl_command.specs.Running.{IsAnswered, AnswersRecords, IsShown, 
 ghost use Rattle.tl_command.specs.Running.{BreaksOff, NamesStop, StopsRun, FaultsMap, FaultsCertificate};
 ghost use Rattle.tl_command.specs.Running.{ReadsNoCertificate, MakesNoCertificate, ReadsNoRecords};
 ghost use Rattle.tl_command.specs.Running.{IsRunStatus, FailsToRead, CountStays, StopsAnswer, LooksFor, layout_of, StaysUnless};
-ghost use Rattle.tl_map.specs.Faults.{IsFaultOfChains};
-ghost use Rattle.tl_map.specs.Reading.{IfFault};
+ghost use Rattle.tl_drawn.specs.Faults.{IsFaultOfChains};
+ghost use Rattle.tl_drawn.specs.Reading.{IfFault};
 ghost use Rattle.tl_command.specs.Deciding.{IsExact};
 ghost use Rattle.tl_command.specs.Places.{StopsTelling};
 ghost use Rattle.tl_command.specs.Making.{Begins, IsBegunBy};

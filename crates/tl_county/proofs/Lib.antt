@@ -5,3 +5,4 @@ pub mod NumberLemmas
 pub mod SegmentLemmas
 pub mod NodeLemmas
 pub mod NumberingLemmas
+pub mod SettleLemmas

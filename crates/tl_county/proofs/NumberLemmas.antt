@@ -1,4 +1,4 @@
-use Rattle.std.proofs.Common.{◌≡◌, ℕ, ◌+◌, ◌-◌, ◌<◌, ◌≤◌, inl, inr, Some, List, [], ◌∷◌, ◌++◌, length, map, get_or, All, ap, ◌∙◌, arith}
+use Rattle.std.proofs.Common.{◌≡◌, ℕ, ◌+◌, ◌-◌, ◌<◌, ◌≤◌, inl, inr, Some, List, [], ◌∷◌, ◌++◌, length, map, get_or, All, refl, ap, ◌∙◌, arith}
 use Rattle.std.specs.Prelude.{slice_get}
 use Rattle.std.proofs.lemmas.Bool.{cases_lt}
 use Rattle.std.proofs.Math.Seq.{get_or-append_seam}
@@ -43,3 +43,12 @@ several_told cs n ps lt points all =
     let d : CompleteChain = record { tlid = 0; points = [] } in
     let proper : IsProper (get_or cs n d).points = all n d lt in
     omega (arith, proper.several, ap length (points_told cs n ps lt points d))
+
+-- no segment is numbered before the first chain
+pub number_none : (cs : List CompleteChain) (of firsts : List ℕ) → of ≡ [] → firsts ≡ [] → NumberUpTo cs 0 of firsts
+number_none cs of firsts none empty = rw (none, empty) (record {
+  count = refl;
+  chains = refl;
+  first = λ c lt. absurd (omega (arith, lt));
+  each = λ s lt. absurd (omega (arith, lt));
+})

@@ -1,8 +1,11 @@
 //! The map: chains with their sides, polygons, and landmarks with their polygons.
 
-ghost use Rattle.std.specs.Prelude.{◌≡◌, ◌≢◌, ◌<◌, ◌-ℤ◌, length, slice_get, Some};
+ghost use Rattle.std.specs.Prelude.{◌≡◌, ◌≢◌, ◌<◌, ◌-ℤ◌, All, IfOk, length, slice_get, Some};
 ghost use Rattle.tl_geom.specs.Plane.{end_a, end_b};
 ghost use Rattle.tl_county.specs.TheMap.{IsChain};
+ghost use Rattle.tl_county.specs.Chains.{CompleteChain, IsProper};
+ghost use Rattle.tl_county.specs.Keeping.Numbered.{AreNumberedSegments};
+ghost use Rattle.tl_county.specs.Keeping.Noded.{AreNumberedNodes};
 
 use crate::chains::{Chains, point_along};
 use crate::kept::KeptChainSides;
@@ -81,6 +84,17 @@ impl Model for Map {
         × (length m.rows.items ≡ length m.landmarks.entries) };
 }
 
+/// Numbers the nodes and the segments of the chains.
+fn number_parts(alloc: Global, chains: &Chains) -> Result<(Nodes, Segments), AllocError>
+    requires { All (λ (c : CompleteChain). IsProper c.points) chains.now.chains }
+    ensures nodes { IfOk result (λ made. AreNumberedNodes chains.now.chains made.0) }
+    ensures segments { IfOk result (λ made. AreNumberedSegments chains.now.chains made.1) }
+{
+    let nodes = number_nodes(alloc, chains)?;
+    let segments = number_segments(alloc, chains)?;
+    Ok((nodes, segments))
+}
+
 impl Map {
     ghost use Rattle.std.specs.Prelude.{◌≡◌, ℕ, ◌<◌, ◌≤◌, ◌*◌, All, IfOk, length, map};
     ghost use Rattle.tl_county.specs.Segments.{segments_before, IsSegmentOf, Joins};
@@ -121,8 +135,7 @@ impl Map {
           skipped = chains.skipped;
         }) }
     {
-        let nodes = number_nodes(alloc, &chains)?;
-        let segments = number_segments(alloc, &chains)?;
+        let (nodes, segments) = number_parts(alloc, &chains)?;
         let LinkedLandmarks {
             points,
             rows,

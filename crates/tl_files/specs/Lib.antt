@@ -1,2 +1,1 @@
 pub mod Files
-pub mod Keeping

@@ -63,10 +63,10 @@ pub fn find_among<X: BoxIndex>(
     look_at_points(map);
     sort_northward(sites);
     let polygons = map.polygons() as usize;
-    let mut hits = Vec::new(alloc);
-    let mut crossed = Vec::new(alloc);
     let mut near = no_counts(alloc, polygons)?;
     let mut far = no_counts(alloc, polygons)?;
+    let mut hits = Vec::new(alloc);
+    let mut crossed = Vec::new(alloc);
     find_in_order(
         map,
         index,

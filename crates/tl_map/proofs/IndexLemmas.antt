@@ -18,9 +18,9 @@ use Rattle.tl_geom.specs.declared.point.Point.{Point}
 use Rattle.tl_key.specs.declared.key.PolyKey.{PolyKey}
 use Rattle.tl_county.specs.declared.polygons.Polygon.{Polygon}
 use Rattle.tl_county.specs.Rows.{polygon_in}
-use Rattle.tl_map.specs.MapOf.{same_key, place_of}
-use Rattle.tl_map.specs.MapOf as drawn
-use Rattle.tl_map.specs.Faults.{StandsTwice}
+use Rattle.tl_drawn.specs.MapOf.{same_key, place_of}
+use Rattle.tl_drawn.specs.MapOf as drawn
+use Rattle.tl_drawn.specs.Faults.{StandsTwice}
 use Rattle.tl_map.specs.Keeping.Index.{Numbers, Indexes, entry_of}
 use Rattle.tl_county.proofs.PlaceLemmas.{contained}
 

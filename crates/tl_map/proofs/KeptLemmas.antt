@@ -2,7 +2,7 @@ use Rattle.std.proofs.Common.{◌≡◌, ◌<◌, ℕ, Bool, true, false, cond, 
 use Rattle.std.specs.List.Sorted.{IsNonDecreasingBy}
 use Rattle.std.proofs.lemmas.List.{get_or_append_left, get_or-map, map-append, length-map, length-append}
 use Rattle.std.proofs.lemmas.List.Elements.{All-append, All-cons, All-nil, All-head, All-tail}
-use Rattle.tl_map.specs.declared.entry.SidesEntry.{SidesEntry}
+use Rattle.tl_drawn.specs.declared.entry.SidesEntry.{SidesEntry}
 use Rattle.tl_map.specs.declared.kept.SidesRow.{SidesRow}
 use Rattle.tl_map.specs.Keeping.Kept.{short_of, kept_in, IsRow}
 use Rattle.tl_map.specs.Keeping.Sided.{sides_tlids}

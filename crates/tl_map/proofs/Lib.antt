@@ -1,4 +1,3 @@
-pub mod CountLemmas
 pub mod SequenceLemmas
 pub mod GapLemmas
 pub mod StrayLemmas
@@ -18,6 +17,7 @@ pub mod PairLemmas
 pub mod MappedLemmas
 pub mod GatherLemmas
 pub mod ProperLemmas
-pub mod OneMapLemmas
 pub mod OnceLemmas
 pub mod KeptLemmas
+pub mod ReadLemmas
+pub mod ScanLemmas

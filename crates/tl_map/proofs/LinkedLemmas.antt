@@ -5,8 +5,8 @@ use Rattle.std.proofs.lemmas.Bool.{cases_eq, eq-eqb, ne_eqb}
 use Rattle.std.proofs.lemmas.Option.{slice_get_within}
 use Rattle.std.proofs.lemmas.List.Sorted.{All-permutation}
 use Rattle.tl_key.specs.declared.key.PolyKey.{PolyKey}
-use Rattle.tl_map.specs.declared.entry.LandmarkEntry.{LandmarkEntry}
-use Rattle.tl_map.specs.declared.entry.LinkEntry.{LinkEntry}
+use Rattle.tl_drawn.specs.declared.entry.LandmarkEntry.{LandmarkEntry}
+use Rattle.tl_drawn.specs.declared.entry.LinkEntry.{LinkEntry}
 use Rattle.tl_map.specs.declared.landmarks.Link.{Link}
 use Rattle.std.specs.declared.hash.RandomState.{RandomState}
 use Rattle.std.specs.Map.{keys_of}
@@ -15,8 +15,8 @@ use Rattle.tl_geom.specs.declared.point.Point.{Point}
 use Rattle.tl_county.specs.declared.landmarks.LandmarkRow.{LandmarkRow}
 use Rattle.tl_county.specs.Rows.{polygons_at, landmarks_in}
 use Rattle.tl_county.specs.declared.landmarks.LinkedLandmarks.{LinkedLandmarks}
-use Rattle.tl_map.specs.declared.fault.MapStop.{MapStop}
-use Rattle.tl_map.specs.MapOf.{firsts, place_of, linked_to}
+use Rattle.tl_drawn.specs.declared.fault.MapStop.{MapStop}
+use Rattle.tl_drawn.specs.MapOf.{firsts, place_of, linked_to}
 use Rattle.tl_map.specs.Keeping.Index.{Numbers}
 use Rattle.tl_map.specs.Keeping.Landmarks.{first_of, ListsLandmarks, IsLink, AreAllLinks, StopsLinks, StopsLinking, links_to, AreByLandmark, polygons_to, AreRows, landmark_from, AreLinked}
 use Rattle.tl_county.proofs.PlaceLemmas.{contained}

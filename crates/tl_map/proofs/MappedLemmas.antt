@@ -1,5 +1,9 @@
-use Rattle.std.proofs.Common.{◌≡◌, ℕ, zero, suc, ◌+◌, ◌<◌, ◌≤◌, Bool, true, false, cond, eqb, inl, inr, Option, List, [], ◌∷◌, length, drop, map, get_or, count_by, All, Contains, refl, sym, ap, ◌∙◌, arith}
-use Rattle.std.specs.Prelude.{Any}
+use Rattle.std.proofs.Common.{◌≡◌, ℕ, zero, suc, ◌+◌, ◌<◌, ◌≤◌, Bool, true, false, cond, eqb, inl, inr, Option, Result, Ok, Err, List, [], ◌∷◌, length, drop, map, get_or, count_by, All, Contains, refl, ap, ◌∙◌, arith}
+use Rattle.std.specs.Prelude.{Any, MatchResult}
+use Rattle.std.specs.declared.hash.RandomState.{RandomState}
+use Rattle.indexmap.specs.IndexMap.{IndexMap, keys as index_keys_of}
+use Rattle.tl_geom.specs.declared.point.Point.{Point}
+use Rattle.tl_county.specs.TheMap.{TheMap}
 use Rattle.std.proofs.lemmas.Bool.{ne_eqb, eqb-true}
 use Rattle.std.proofs.lemmas.List.{get_or_default, length-map, get_or-map}
 use Rattle.std.proofs.lemmas.List.Sums.{sum_by-cons}
@@ -7,39 +11,31 @@ use Rattle.std.proofs.lemmas.List.Sorted.{IsPermutation-map, IsPermutation-sym, 
 use Rattle.tl_key.specs.declared.key.PolyKey.{PolyKey}
 use Rattle.tl_record.specs.declared.record.Record.{Record}
 use Rattle.tl_map.specs.declared.areas.AreaRecords.{AreaRecords}
-use Rattle.tl_map.specs.declared.entry.SidesEntry.{SidesEntry}
-use Rattle.tl_map.specs.declared.entry.LandmarkEntry.{LandmarkEntry}
-use Rattle.tl_map.specs.declared.entry.LinkEntry.{LinkEntry}
+use Rattle.tl_drawn.specs.declared.entry.SidesEntry.{SidesEntry}
+use Rattle.tl_drawn.specs.declared.entry.LandmarkEntry.{LandmarkEntry}
+use Rattle.tl_drawn.specs.declared.entry.LinkEntry.{LinkEntry}
 use Rattle.tl_county.specs.declared.polygons.Polygon.{Polygon}
 use Rattle.tl_county.specs.declared.sides.ChainSides.{ChainSides}
 use Rattle.tl_county.specs.declared.landmarks.LinkedLandmarks.{LinkedLandmarks}
-use Rattle.tl_map.specs.declared.fault.Limited.TheVariants.{Chains, Segments, Polygons, Landmarks}
-use Rattle.tl_map.specs.declared.fault.MapFault.TheVariants.{DuplicateChain, ShapeWithoutChain, ShapeSequence, ShapeGap, ChainWithoutSides, SidesWithoutChain, DuplicateSides, DuplicatePolygon, SideWithoutPolygon, LinkWithoutLandmark, LinkWithoutPolygon, DegenerateChain, TooMany}
-use Rattle.tl_map.specs.declared.fault.MapStop.{MapStop}
+use Rattle.tl_drawn.specs.declared.fault.Limited.TheVariants.{Chains, Segments, Polygons, Landmarks}
+use Rattle.tl_drawn.specs.declared.fault.MapFault.TheVariants.{DuplicateChain, ShapeWithoutChain, ShapeSequence, ShapeGap, ChainWithoutSides, SidesWithoutChain, DuplicateSides, DuplicatePolygon, SideWithoutPolygon, LinkWithoutLandmark, LinkWithoutPolygon, DegenerateChain, TooMany}
+use Rattle.tl_drawn.specs.declared.fault.MapStop.{MapStop}
 use Rattle.tl_county.specs.Chains.{CompleteChain, ChainList, tlids}
-use Rattle.tl_map.specs.ChainsOf.{IsDrawn, AreChainsOf}
-use Rattle.tl_map.specs.MapOf.{sides_in, polygons_in, landmarks_in, links_in, keys, without_sides, IsSided, firsts}
-use Rattle.tl_map.specs.Faults.{HasChain, HaveNoFault}
+use Rattle.tl_drawn.specs.ChainsOf.{AreChainsOf}
+use Rattle.tl_drawn.specs.MapOf.{sides_in, polygons_in, landmarks_in, links_in, keys, without_sides, IsSided, firsts}
+use Rattle.tl_drawn.specs.Faults.{HasChain, HaveNoFault}
 use Rattle.tl_county.specs.Limits.{most_polygons, most_landmarks}
 use Rattle.tl_map.specs.Keeping.Areas.{KeepsAreas}
 use Rattle.tl_map.specs.Keeping.Built.{AreBuilt, StopsBuilding}
 use Rattle.tl_map.specs.Keeping.Index.{Numbers, StopsIndex}
 use Rattle.tl_map.specs.Keeping.Sided.{sided_by, NamesKnown, sides_tlids, ArePaired, StopsPairing, StopsSides}
-use Rattle.tl_county.specs.Rows.{landmarks_in as rows_in, sided}
+use Rattle.tl_county.specs.Rows.{landmarks_in as rows_in, sided, polygon_in}
 use Rattle.tl_map.specs.Keeping.Landmarks.{landmark_from, AreLinked, StopsLinking}
-use Rattle.tl_map.specs.Keeping.Mapped.{AreMapped}
-use Rattle.tl_map.proofs.CountLemmas.{none_counted}
-use Rattle.tl_map.proofs.PairLemmas.{far}
+use Rattle.tl_map.specs.Keeping.Mapped.{AreMapped, ArePairedChains, AreIndexedSides, StopsIndexedSides, IsLinkedMap}
+use Rattle.tl_drawn.proofs.CountLemmas.{none_counted}
+use Rattle.tl_drawn.proofs.KnownLemmas.{far, chain_known}
 use Rattle.tl_county.proofs.RowLemmas.{length-landmarks_in}
-
--- a TLID of the chains is one of a type 1 record, and the other way round
-pub chain_known : (rs : List Record) (chains : List CompleteChain) (t : ℕ) → AreChainsOf rs chains → Contains (tlids chains) t → HasChain rs t
-chain_known rs [] t are has = absurd (omega (arith, has.1))
-chain_known rs (x ∷ chains) t are has =
-    let lt : has.0 < length (x ∷ chains) = omega (arith, has.1, length-map (x ∷ chains) (λ (c : CompleteChain). c.tlid)) in
-    let drawn : IsDrawn rs (get_or (x ∷ chains) has.0 x) = are.drawn has.0 x lt in
-    let same : (get_or (x ∷ chains) has.0 x).tlid ≡ t = sym (get_or-map (λ (c : CompleteChain). c.tlid) (x ∷ chains) has.0 x t lt) ∙ has.2 in
-    rw (← same) (drawn.from, drawn.to, drawn.record_of_it)
+use Rattle.tl_map.proofs.IndexLemmas.{keys_are, index_keys, polygons_entries}
 
 chain_there : (rs : List Record) (chains : List CompleteChain) (t : ℕ) → AreChainsOf rs chains → HasChain rs t → Contains (tlids chains) t
 chain_there rs chains t are has = are.complete t has.0 has.1 has.2
@@ -150,6 +146,13 @@ stops_sides rs polygons ts old new stop is same paired why = elim why [
       rw side.2 ((there.0, any.1, there.1, there.2, any.4), λ has. side.4 (rw is has))
 ]
 
+-- why polygons aren't indexed with the sides is true of the records
+pub stops_indexed : (rs : List Record) (skipped : ℕ) (chains : ChainList) (polygons : List Polygon) (paired : List SidesEntry) (stop : MapStop) → polygons ≡ polygons_in rs → ArePairedChains rs skipped chains paired → StopsIndexedSides polygons paired stop → StopsBuilding rs stop
+stops_indexed rs skipped chains polygons paired stop is are why = elim why [
+  | inl index ↦ stops_index rs polygons stop is index
+  | inr sides ↦ stops_sides rs polygons (tlids chains.chains) (sides_in rs) paired stop is refl are.pairs sides
+]
+
 -- why landmarks aren't linked is true of the records
 pub stops_linked : (rs : List Record) (polygons : List Polygon) (entries : List LandmarkEntry) (links : List LinkEntry) (stop : MapStop) → polygons ≡ polygons_in rs → entries ≡ landmarks_in rs → links ≡ links_in rs → StopsLinking (keys polygons) entries links stop → StopsBuilding rs stop
 stops_linked rs polygons entries links stop p e l why = elim why [
@@ -181,6 +184,17 @@ mapped_all rs skipped chains areas new sides found l built keeps paired numbers 
       skipped_lines = built.skipped_lines;
       no_fault = no_fault rs skipped chains new found l built paired_in numbers_in known_in few_in linked_in;
     }
+
+-- the map is that of the records, or why there is none is true of them
+pub linked_all : (rs : List Record) (skipped : ℕ) (chains : ChainList) (areas : AreaRecords) (paired : List SidesEntry) (index : IndexMap PolyKey Point RandomState) (sides : List ChainSides) (r : Result TheMap MapStop) → KeepsAreas rs areas → ArePairedChains rs skipped chains paired → AreIndexedSides areas.polygons.items paired index sides → length areas.polygons.items ≤ most_polygons → MatchResult r (IsLinkedMap chains sides index areas.landmarks.items areas.links.items) (StopsLinking (index_keys_of index) areas.landmarks.items areas.links.items) → MatchResult r (AreMapped rs skipped) (StopsBuilding rs)
+linked_all rs skipped chains areas paired index sides (Ok m) keeps are indexed few made =
+    let numbers = index_keys areas.polygons.items index indexed.entries indexed.unique in
+    let linked = rw (keys_are areas.polygons.items index indexed.entries) at made.linked in
+    let polygons = ap (map polygon_in) indexed.entries ∙ polygons_entries areas.polygons.items in
+    let paired_of : ArePaired (tlids chains.chains) areas.sides paired = rw keeps.sides are.pairs in
+    rw (made.is, polygons) (mapped_all rs skipped chains areas paired sides _ made.landmarks are.built keeps paired_of numbers indexed.known indexed.resolved few linked)
+linked_all rs skipped chains areas paired index sides (Err stop) keeps are indexed few why =
+    stops_linked rs areas.polygons.items areas.landmarks.items areas.links.items stop keeps.polygons keeps.landmarks keeps.links (rw (keys_are areas.polygons.items index indexed.entries) at why)
 
 -- as many sides as chains, and no more landmarks than the limit
 pub as_many : (rs : List Record) (skipped : ℕ) (chains : ChainList) (old new : List SidesEntry) (sides : List ChainSides) (ks : List PolyKey) → AreBuilt rs skipped chains → ArePaired (tlids chains.chains) old new → sides ≡ map (sided_by ks) new → length sides ≡ length chains.chains

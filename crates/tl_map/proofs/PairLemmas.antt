@@ -5,16 +5,11 @@ use Rattle.std.proofs.lemmas.Bool.{cases_lt}
 use Rattle.std.proofs.lemmas.Option.{slice_get-get_or}
 use Rattle.std.proofs.lemmas.List.{get_or_default, get_or-map}
 use Rattle.std.proofs.lemmas.List.Sorted.{IsPermutation-map, IsPermutation-sym, IsPermutation-trans, Contains-permutation, sum_by-IsPermutation}
-use Rattle.tl_map.specs.declared.fault.MapFault.{MapFault}
-use Rattle.tl_map.specs.declared.fault.MapStop.{MapStop}
-use Rattle.tl_map.specs.declared.entry.SidesEntry.{SidesEntry}
+use Rattle.tl_drawn.specs.declared.fault.MapFault.{MapFault}
+use Rattle.tl_drawn.specs.declared.fault.MapStop.{MapStop}
+use Rattle.tl_drawn.specs.declared.entry.SidesEntry.{SidesEntry}
 use Rattle.tl_map.specs.Keeping.Sided.{sides_tlids, IsUnpaired, ArePaired, StopsPairing}
-use Rattle.tl_map.proofs.CountLemmas.{rising_pairs}
-
--- numbers that rise by neighbours rise
-pub far : (xs : List ℕ) → IsStrictlyIncreasing xs → (i j : ℕ) → i < j → j < length xs → get_or xs i 0 < get_or xs j 0
-far xs up i j before within =
-    rising_pairs (λ (x : ℕ). x) xs (λ k d lt. let one = get_or_default xs k 0 d (omega arith) in let two = get_or_default xs (k + 1) 0 d lt in omega (arith, up k lt, one, two)) i j 0 before within
+use Rattle.tl_drawn.proofs.KnownLemmas.{far}
 
 -- two lists are one up to i, and the i-th of the first isn't in the second
 pub absent : (xs ys : List ℕ) (i x : ℕ) → IsStrictlyIncreasing xs → IsStrictlyIncreasing ys → ((k : ℕ) → k < i → get_or ys k 0 ≡ get_or xs k 0) → i < length xs → get_or xs i 0 ≡ x → (i < length ys → x < get_or ys i 0) → ¬ Contains ys x

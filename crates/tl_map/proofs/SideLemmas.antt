@@ -4,8 +4,8 @@ use Rattle.tl_county.specs.declared.sides.Side.{Side}
 use Rattle.tl_county.specs.declared.sides.ChainSides.{ChainSides}
 use Rattle.std.proofs.lemmas.List.{get_or_default, map_more}
 use Rattle.tl_key.specs.declared.key.PolyKey.{PolyKey}
-use Rattle.tl_map.specs.declared.entry.SidesEntry.{SidesEntry}
-use Rattle.tl_map.specs.declared.fault.MapStop.{MapStop}
+use Rattle.tl_drawn.specs.declared.entry.SidesEntry.{SidesEntry}
+use Rattle.tl_drawn.specs.declared.fault.MapStop.{MapStop}
 use Rattle.tl_map.specs.Keeping.Sided.{sided_by, IsSide, NamesKnown, StopsSide, StopsSides}
 
 -- what stops one side stops the sides

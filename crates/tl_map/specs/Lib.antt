@@ -1,8 +1,3 @@
-pub mod ChainsOf
-pub mod MapOf
-pub mod Faults
-pub mod Messages
-pub mod Reading
 pub mod Keeping
 pub use Rattle.tl_county.specs.Chains
 pub use Rattle.tl_county.specs.TheMap

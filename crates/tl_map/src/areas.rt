@@ -2,10 +2,10 @@
 
 ghost use Rattle.std.specs.Prelude.{◌≡◌, ◌∷◌, [], ◌++◌, OnOk};
 
-use crate::entry::{LandmarkEntry, LinkEntry, SidesEntry};
 use crate::kept::KeptSides;
 use std::alloc::{AllocError, Global};
 use tl_county::Polygon;
+use tl_drawn::{LandmarkEntry, LinkEntry, SidesEntry};
 use tl_record::Record;
 
 /// The type I, P, 7 and 8 records read so far, each in file order.

@@ -3,7 +3,7 @@
 ghost use Rattle.std.specs.Prelude.{◌≡◌, ◌<◌, ◌^◌, IfSome, length};
 ghost use Rattle.std.specs.Bool.{OnTrue};
 ghost use Rattle.indexmap.specs.IndexMap.{index_of};
-ghost use Rattle.tl_map.specs.MapOf.{same_key};
+ghost use Rattle.tl_drawn.specs.MapOf.{same_key};
 
 use indexmap::IndexMap;
 use std::alloc::{AllocError, Global};

@@ -3,7 +3,7 @@
 ghost use Rattle.std.specs.Prelude.{◌≡◌, ◌≢◌, ℕ, ◌+◌, ◌<◌, ◌≤◌, ◌∷◌, [], ◌++◌, List, OnOk, IfOk, IfErr, length};
 ghost use Rattle.std.specs.Prelude.{map, slice_index_or, All};
 ghost use Rattle.tl_geom.specs.declared.point.Point.{Point};
-ghost use Rattle.tl_map.specs.declared.entry.ShapeEntry.{ShapeEntry};
+ghost use Rattle.tl_drawn.specs.declared.entry.ShapeEntry.{ShapeEntry};
 ghost use Rattle.tl_county.specs.declared.limits.TheConstants.{CHAIN_LIMIT, SEGMENT_LIMIT};
 ghost use Rattle.std.specs.List.{flat_map};
 ghost use Rattle.tl_map.specs.Keeping.Entries.{entry_points, IsInside, AreRising, AreInOrder, chains_with, joined};
@@ -12,10 +12,9 @@ ghost use Rattle.tl_map.specs.Keeping.Rows.{dedup_after, drawn_through, drawn_by
 ghost use Rattle.tl_map.specs.Keeping.Rows.{StopsJoin};
 ghost use Rattle.tl_county.specs.Chains.{segment_count};
 
-use crate::entry::{ChainEntry, ShapeEntry};
-use crate::fault::{Limited, MapFault, MapStop};
 use std::alloc::{AllocError, Global};
 use tl_county::{CHAIN_LIMIT, ChainRow, Chains, SEGMENT_LIMIT};
+use tl_drawn::{ChainEntry, Limited, MapFault, MapStop, ShapeEntry};
 use tl_geom::Point;
 
 /// Appends the points that differ from the one before, where `last` is the one before the first. Gives the last.

@@ -3,15 +3,15 @@
 
 ghost use Rattle.std.specs.Prelude.{◌≡◌, ◌++◌, false, is_some, IfOk, IfSome, OnOk, List};
 ghost use Rattle.std.specs.List.Sorted.{IsNonDecreasingBy, IsPermutation};
-ghost use Rattle.tl_map.specs.declared.entry.SidesEntry.{SidesEntry};
+ghost use Rattle.tl_drawn.specs.declared.entry.SidesEntry.{SidesEntry};
 ghost use Rattle.tl_map.specs.declared.kept.SidesRow.{SidesRow};
 ghost use Rattle.tl_county.specs.Kept.{given};
 ghost use Rattle.tl_map.specs.Keeping.Kept.{short_of, kept_in, IsRow};
 
-use crate::entry::{ChainEntry, SidesEntry};
 use std::alloc::{AllocError, Global};
 use std::marker::Model;
 use tl_county::{Ranked, presort_by_rank, presort_together};
+use tl_drawn::{ChainEntry, SidesEntry};
 use tl_record::PolyKey;
 
 /// A type I record whose numbers take 32 bits, or, where it `is_long`, one that is kept whole, with its TLID.
@@ -50,7 +50,7 @@ pub struct KeptSides {
 
 impl Model for KeptSides {
     ghost use Rattle.std.specs.Prelude.{List, All, map};
-    ghost use Rattle.tl_map.specs.declared.entry.SidesEntry.{SidesEntry};
+    ghost use Rattle.tl_drawn.specs.declared.entry.SidesEntry.{SidesEntry};
     ghost use Rattle.tl_map.specs.Keeping.Kept.{kept_in, IsRow};
 
     ghost Value = { List SidesEntry };
@@ -63,7 +63,7 @@ impl Model for KeptSides {
 impl KeptSides {
     ghost use Rattle.std.specs.Prelude.{◌≡◌, ◌<◌, [], ◌∷◌, ◌++◌, OnOk, length, slice_index, slice_index_or};
     ghost use Rattle.std.specs.List.Sorted.{IsNonDecreasingBy, IsPermutation};
-    ghost use Rattle.tl_map.specs.declared.entry.SidesEntry.{SidesEntry};
+    ghost use Rattle.tl_drawn.specs.declared.entry.SidesEntry.{SidesEntry};
     ghost use Rattle.tl_map.specs.Keeping.Sided.{sides_tlids};
 
     /// No record.

@@ -1,24 +1,23 @@
 //! Landmarks and the polygons that are linked to them.
 
 ghost use Rattle.std.specs.Prelude.{◌≡◌, ◌≢◌, ◌<◌, ◌≤◌, ◌^◌, ◌++◌, ℕ, List, IfOk, IfErr, OnOk, MatchResult, All, length};
-ghost use Rattle.std.specs.Prelude.{map, slice_index_or};
+ghost use Rattle.std.specs.Prelude.{map, nat_eq, slice_index_or};
 ghost use Rattle.tl_key.specs.declared.key.PolyKey.{PolyKey};
 ghost use Rattle.tl_map.specs.Keeping.Index.{Indexes};
 ghost use Rattle.tl_map.specs.Keeping.Landmarks.{ListsLandmarks, StopsLandmarks, IsLink, IndexesLands, StopsLink};
 ghost use Rattle.tl_map.specs.Keeping.Landmarks.{AreAllLinks, StopsLinks, AreByLandmark, AreRows};
-ghost use Rattle.tl_map.specs.Keeping.Landmarks.{AreLinked, StopsLinking};
-ghost use Rattle.tl_map.specs.MapOf.{firsts, same_key};
+ghost use Rattle.tl_map.specs.Keeping.Landmarks.{AreLinkRows, AreLinked, StopsLinking};
+ghost use Rattle.tl_drawn.specs.MapOf.{firsts, same_key};
 ghost use Rattle.indexmap.specs.IndexMap.{IsUnique, keys};
 ghost use Rattle.tl_county.specs.declared.limits.TheConstants.{LANDMARK_LIMIT};
 ghost use Rattle.tl_map.specs.declared.landmarks.Link.{Link};
 ghost use Rattle.std.specs.List.Sorted.{IsNonDecreasingBy};
 
-use crate::entry::{LandmarkEntry, LinkEntry};
-use crate::fault::{Limited, MapFault, MapStop};
 use indexmap::IndexMap;
 use std::alloc::{AllocError, Global};
 use std::hash::RandomState;
 use tl_county::{LANDMARK_LIMIT, LandmarkRow, LinkedLandmarks};
+use tl_drawn::{LandmarkEntry, Limited, LinkEntry, MapFault, MapStop};
 use tl_geom::Point;
 use tl_record::PolyKey;
 
@@ -176,6 +175,26 @@ fn list_linked(
     Ok((rows, linked))
 }
 
+/// For each landmark the polygons of its links, in one list.
+fn link_landmarks(
+    alloc: Global,
+    polygons: &IndexMap<PolyKey, Point, RandomState>,
+    landmarks: &IndexMap<u64, Option<Point>, RandomState>,
+    links: &[LinkEntry],
+) -> Result<(Vec<LandmarkRow>, Vec<u32>), MapStop>
+    requires polygons { length polygons.now.entries < 2 ^ 32 }
+    requires few { length landmarks.now.entries ≤ LANDMARK_LIMIT }
+    requires keys { IsUnique same_key polygons.now }
+    requires lands { IsUnique nat_eq landmarks.now }
+    ensures { MatchResult result (λ l. AreLinkRows (keys polygons.now) (keys landmarks.now) links.now
+        (length landmarks.now.entries) l.1.items l.0.items) (StopsLinks (keys polygons.now) (keys landmarks.now) links.now) }
+{
+    let mut made = resolve_links(alloc, polygons, landmarks, links)?;
+    sort_links(&mut made)?;
+    let rows = list_linked(alloc, landmarks.len() as u32, &made, polygons.len())?;
+    Ok(rows)
+}
+
 /// The landmarks of the records with the polygons that are linked to them.
 pub fn build_landmarks(
     alloc: Global,
@@ -190,9 +209,7 @@ pub fn build_landmarks(
         (StopsLinking (keys index.now) entries.now links.now) }
 {
     let points = first_landmarks(alloc, hasher, entries)?;
-    let mut made = resolve_links(alloc, index, &points, links)?;
-    sort_links(&mut made)?;
-    let (rows, linked) = list_linked(alloc, points.len() as u32, &made, index.len())?;
+    let (rows, linked) = link_landmarks(alloc, index, &points, links)?;
     Ok(LinkedLandmarks {
         points,
         rows,

@@ -11,22 +11,19 @@ mod areas;
 mod build;
 mod build_map;
 mod collect;
-mod entry;
-mod fault;
 mod guess;
 mod join;
 mod kept;
 mod landmarks;
-pub mod laws;
 mod passes;
 mod polygons;
 mod read;
 mod sides;
 mod sort;
 
-pub use fault::{Limited, MapFault, MapStop};
 pub use read::{read_chains, read_chains_with, read_map, read_map_with};
 pub use tl_county::{
     CHAIN_LIMIT, Chain, Chains, LANDMARK_LIMIT, Landmark, Map, POLYGON_LIMIT, Polygon,
     SEGMENT_LIMIT, Side,
 };
+pub use tl_drawn::{Limited, MapFault, MapStop};

@@ -2,14 +2,14 @@
 
 ghost use Rattle.std.specs.Prelude.{◌≡◌, IfOk, IfErr, map};
 ghost use Rattle.indexmap.specs.IndexMap.{IsUnique};
-ghost use Rattle.tl_map.specs.MapOf.{keys, same_key};
+ghost use Rattle.tl_drawn.specs.MapOf.{keys, same_key};
 ghost use Rattle.tl_map.specs.Keeping.Index.{entry_of, StopsIndex};
 
-use crate::fault::{MapFault, MapStop};
 use indexmap::IndexMap;
 use std::alloc::Global;
 use std::hash::RandomState;
 use tl_county::Polygon;
+use tl_drawn::{MapFault, MapStop};
 use tl_geom::Point;
 use tl_record::PolyKey;
 

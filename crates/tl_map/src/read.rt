@@ -5,18 +5,18 @@ ghost use Rattle.tl_record.specs.declared.reader.Standing.TheVariants.{Reading};
 ghost use Rattle.tl_record.specs.Layout.{tiger_2006, layout_with};
 ghost use Rattle.tl_record.specs.Records.{records_of};
 ghost use Rattle.tl_record.specs.Reader.{source_of, skipped_of, standing_of, outcome};
-ghost use Rattle.tl_map.specs.Reading.{AreReadFrom, IsReadFrom, StopsReading, IfFault, TellsDevice};
-ghost use Rattle.tl_map.specs.Faults.{IsFaultOfChains};
+ghost use Rattle.tl_drawn.specs.Reading.{AreReadFrom, IsReadFrom, StopsReading, IfFault, TellsDevice};
+ghost use Rattle.tl_drawn.specs.Faults.{IsFaultOfChains};
 ghost use Rattle.tl_map.specs.Keeping.Gathering.{Gathers, GathersAll, StopsGathering};
 
 use crate::areas::AreaRecords;
 use crate::build::build_chains;
 use crate::build_map::build_map;
 use crate::collect::Collected;
-use crate::fault::MapStop;
 use std::alloc::Global;
 use std::hash::RandomState;
 use tl_county::{Chains, Map};
+use tl_drawn::MapStop;
 use tl_record::{NO_RECORD, Options, RecordReader, Source};
 
 /// The default of [`Options`]: nothing is chosen.

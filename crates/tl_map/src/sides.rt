@@ -4,20 +4,20 @@ ghost use Rattle.std.specs.Prelude.{◌≡◌, ◌<◌, ◌≤◌, ◌^◌, ◌=
 ghost use Rattle.std.specs.Prelude.{MatchResult, map};
 ghost use Rattle.std.specs.Prelude.{count_by, All};
 ghost use Rattle.std.specs.List.Sorted.{IsNonDecreasingBy, IsStrictlyIncreasing};
-ghost use Rattle.tl_map.specs.declared.entry.SidesEntry.{SidesEntry};
+ghost use Rattle.tl_drawn.specs.declared.entry.SidesEntry.{SidesEntry};
 ghost use Rattle.tl_county.specs.Chains.{tlids};
 ghost use Rattle.tl_key.specs.declared.key.PolyKey.{PolyKey};
 ghost use Rattle.tl_map.specs.Keeping.Index.{Indexes};
 ghost use Rattle.tl_map.specs.Keeping.Sided.{sided_by, IsSide, NamesKnown, StopsSide, StopsSides, sides_tlids};
 ghost use Rattle.tl_map.specs.Keeping.Sided.{IsUnpaired, ArePaired, StopsPairing};
 
-use crate::fault::{MapFault, MapStop};
 use crate::guess::Guesses;
 use crate::kept::KeptSides;
 use indexmap::IndexMap;
 use std::alloc::Global;
 use std::hash::RandomState;
 use tl_county::{ChainSides, Chains, KeptChainSides, Side};
+use tl_drawn::{MapFault, MapStop};
 use tl_geom::Point;
 use tl_record::PolyKey;
 

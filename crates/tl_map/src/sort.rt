@@ -6,9 +6,9 @@ ghost use Rattle.tl_geom.specs.declared.point.Point.{Point};
 ghost use Rattle.tl_record.specs.declared.record.Record.{Record};
 ghost use Rattle.tl_map.specs.Keeping.Entries.{AreChainEntries, AreShapeEntries, AreInOrder};
 
-use crate::entry::{ChainEntry, ShapeEntry};
 use std::alloc::{AllocError, Global};
 use tl_county::presort_by_rank;
+use tl_drawn::{ChainEntry, ShapeEntry};
 
 /// Sorts chains by TLID.
 pub fn sort_chains(alloc: Global, chains: &mut Vec<ChainEntry>) -> Result<(), AllocError>

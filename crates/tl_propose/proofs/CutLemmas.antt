@@ -1,5 +1,5 @@
 -- Rounds that are cut off darts in their order.
-use Rattle.std.proofs.Common.{◌≡◌, inl, inr, ℕ, zero, suc, ◌+◌, ◌-◌, ◌<◌, ◌≤◌, ◌≢◌, arith, List, [], ◌∷◌, ◌++◌, length, slice_index_or, refl, ap, sym, subst, ◌∙◌, length-append, Vec, Global}
+use Rattle.std.proofs.Common.{◌≡◌, inl, inr, ℕ, zero, suc, ◌+◌, ◌-◌, ◌<◌, ◌≤◌, ◌≢◌, arith, List, [], ◌∷◌, ◌++◌, length, take, get_or, slice_index_or, add-one, refl, ap, sym, subst, ◌∙◌, length-append, Vec, Global}
 use Rattle.std.specs.List.{All, Contains}
 use Rattle.std.proofs.lemmas.Bool.{cases_lt}
 use Rattle.std.proofs.lemmas.List.{get_or_append_left, get_or-append-add, map-append}
@@ -152,3 +152,13 @@ pub more_rounds : (lists more : List (Vec ℕ Global)) (v : Vec ℕ Global) (fro
     → lists_in lists ++ darts_in front ∷ [] ≡ lists_in more
 more_rounds lists more v front pushed at =
     ap (λ r. lists_in lists ++ r ∷ []) (sym at) ∙ (sym (map-append (λ (r : Vec ℕ Global). r.items) lists (v ∷ [])) ∙ ap lists_in (sym pushed))
+
+-- ---- the darts of one start more
+
+darts_suc : (starts : List DartStart) (k : ℕ) (d : DartStart) → k < length starts → darts_in (take (suc k) starts) ≡ darts_in (take k starts) ++ (get_or starts k d).dart ∷ []
+darts_suc [] k d lt = absurd (omega (arith, lt))
+darts_suc (s ∷ starts) zero d lt = refl
+darts_suc (s ∷ starts) (suc k) d lt = ap (λ darts. s.dart ∷ darts) (darts_suc starts k d (omega (arith, lt)))
+
+pub darts_more : (starts : List DartStart) (k : ℕ) (s : DartStart) → k < length starts → s ≡ get_or starts k s → darts_in (take (k + 1) starts) ≡ darts_in (take k starts) ++ s.dart ∷ []
+darts_more starts k s lt e = rw add-one (darts_suc starts k s lt ∙ ap (λ (x : DartStart). darts_in (take k starts) ++ x.dart ∷ []) (sym e))

@@ -1,5 +1,5 @@
 -- Sides agree where each walk has one side on its left.
-use Rattle.std.proofs.Common.{◌≡◌, inl, inr, ℕ, suc, ◌+◌, ◌-◌, ◌*◌, ◌<◌, ◌≤◌, Some, All, List, [], ◌∷◌, ◌++◌, length, take, Vec, Global, sym, ap, subst, ◌∙◌, arith}
+use Rattle.std.proofs.Common.{◌≡◌, inl, inr, ℕ, zero, suc, ◌+◌, ◌-◌, ◌*◌, ◌<◌, ◌≤◌, Some, All, List, [], ◌∷◌, ◌++◌, length, take, Vec, Global, sym, ap, subst, ◌∙◌, arith}
 use Rattle.std.specs.Prelude.{slice_index, slice_index_or, unwrap_or}
 use Rattle.std.proofs.lemmas.Bool.{cases_lt}
 use Rattle.std.proofs.lemmas.List.{get_or_default, get_or-map, length-map, take_more, take_all}
@@ -40,6 +40,11 @@ at_odds m ring is place last node dart other before h e f at differ =
           (subst (λ x. IsNext m.chains (slice_index ring (suc last)) (reverse_dart x)) (sym f) follows.next);
       differ = λ same. differ (same ∙ ap (dart_left m.chains) (back_again other));
     }
+
+-- what is so of the first one is so of all below 1
+pub below_one : (P : ℕ → Type 0) → P 0 → (k : ℕ) → k < 1 → P k
+below_one P first zero lt = first
+below_one P first (suc k) lt = absurd (omega (arith, lt))
 
 -- what is found of a dart is one side
 pub one_given : (x y : Side) → Some x ≡ Some y → x ≡ y

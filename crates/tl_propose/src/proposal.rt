@@ -1,6 +1,6 @@
 //! The certificate that is proposed for a map.
 
-ghost use Rattle.std.specs.Prelude.{◌*◌, ◌≤◌, length, All, IfOk};
+ghost use Rattle.std.specs.Prelude.{◌*◌, ◌<◌, ◌≤◌, zero, length, All, IfOk};
 ghost use Rattle.tl_index.specs.Preorder.{IsPreorder};
 ghost use Rattle.tl_index.specs.Trees.{depth, tree_of};
 ghost use Rattle.tl_pack.specs.Packed.{IsEvenlySplit};
@@ -76,10 +76,34 @@ pub fn propose_rings(alloc: Global, map: &Map) -> Result<(Vec<Vec<u32>>, Vec<Vec
     ensures rounds_counted { IfOk result (λ made. AreDartLists (lists_in made.0.items)) }
     ensures walks_counted { IfOk result (λ made. AreDartLists (lists_in made.1.items)) }
 {
+    let rounds = propose_rounds(alloc, map)?;
+    let walks = propose_walks(alloc, map, &rounds)?;
+    Ok((rounds, walks))
+}
+
+/// The rounds of a map.
+fn propose_rounds(alloc: Global, map: &Map) -> Result<Vec<Vec<u32>>, AllocError>
+    ensures hold { IfOk result (λ rounds. HoldOnce (2 * length map.now.chains) (lists_in rounds.items)) }
+    ensures some { IfOk result (λ rounds. All (λ r. zero < length r.items) rounds.items) }
+    ensures are_rounds { IfOk result (λ rounds. AreProper map.now.chains → IsPlanar map.now.chains →
+        AreRounds map.now.chains (lists_in rounds.items)) }
+    ensures counted { IfOk result (λ rounds. AreDartLists (lists_in rounds.items)) }
+{
     let starts = sort_starts(alloc, map)?;
     let rounds = cut_rounds(alloc, map.nodes(), &starts)?;
-    drop(starts);
-    let following = link_darts(alloc, map.darts(), &rounds)?;
+    Ok(rounds)
+}
+
+/// The walks of a map, by its rounds.
+fn propose_walks(alloc: Global, map: &Map, rounds: &[Vec<u32>]) -> Result<Vec<Vec<u32>>, AllocError>
+    requires hold { HoldOnce (2 * length map.now.chains) (lists_in rounds.now) }
+    requires some { All (λ r. zero < length r.items) rounds.now }
+    ensures hold { IfOk result (λ walks. HoldOnce (2 * length map.now.chains) (lists_in walks.items)) }
+    ensures are_walks { IfOk result (λ walks. AreProper map.now.chains → AreRounds map.now.chains (lists_in rounds.now) →
+        AreWalks map.now.chains (lists_in walks.items)) }
+    ensures counted { IfOk result (λ walks. AreDartLists (lists_in walks.items)) }
+{
+    let following = link_darts(alloc, map.darts(), rounds)?;
     let walks = trace_walks(alloc, &following)?;
-    Ok((rounds, walks))
+    Ok(walks)
 }

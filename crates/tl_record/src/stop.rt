@@ -3,7 +3,7 @@
 use std::fmt;
 
 /// The fields that are read, by the names of the TIGER/Line technical documentation.
-#[derive(Clone, Copy, Debug, PartialEq, Eq)]
+#[derive(Clone, Copy, PartialEq, Eq)]
 pub enum Field {
     Tlid,
     FrLong,
@@ -80,8 +80,15 @@ impl fmt::Display for Field {
     }
 }
 
+/// As it is printed.
+impl fmt::Debug for Field {
+    fn fmt<W: fmt::Write>(&self, f: &mut fmt::Formatter<W>) -> fmt::Result {
+        fmt::Display::fmt(self, f)
+    }
+}
+
 /// Why a line is refused.
-#[derive(Clone, Copy, Debug, PartialEq, Eq)]
+#[derive(Clone, Copy, PartialEq, Eq)]
 pub enum Cause {
     /// L1: more than 1,024 bytes stand before the line's end.
     LineTooLong,
@@ -112,8 +119,15 @@ impl fmt::Display for Cause {
     }
 }
 
+/// As it is printed.
+impl fmt::Debug for Cause {
+    fn fmt<W: fmt::Write>(&self, f: &mut fmt::Formatter<W>) -> fmt::Result {
+        fmt::Display::fmt(self, f)
+    }
+}
+
 /// Why a reader gives no more records.
-#[derive(Clone, Copy, Debug, PartialEq, Eq)]
+#[derive(Clone, Copy, PartialEq, Eq)]
 pub enum ReadStop {
     /// This line, counted from 1, is the first that is refused.
     Refused { line: u64, cause: Cause },
@@ -132,5 +146,12 @@ impl fmt::Display for ReadStop {
             ReadStop::Refused { line, cause } => write!(f, "refused line {line} {cause}"),
             ReadStop::Device => f.write_str("stopped Device"),
         }
+    }
+}
+
+/// As it is printed.
+impl fmt::Debug for ReadStop {
+    fn fmt<W: fmt::Write>(&self, f: &mut fmt::Formatter<W>) -> fmt::Result {
+        fmt::Display::fmt(self, f)
     }
 }

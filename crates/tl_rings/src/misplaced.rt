@@ -127,10 +127,10 @@ fn find_by_rings<X: BoxIndex, Y: BoxIndex>(
     ensures left { OnOk result (All (IsSiteOf map.now) left.new.items) }
 {
     let polygons = map.polygons() as usize;
-    let mut hits = Vec::new(alloc);
-    let mut flanks = Vec::new(alloc);
     let mut near = no_counts(alloc, polygons)?;
     let mut far = no_counts(alloc, polygons)?;
+    let mut hits = Vec::new(alloc);
+    let mut flanks = Vec::new(alloc);
     look_at_each(
         map,
         index,

@@ -9,3 +9,4 @@ pub mod Slab
 pub mod Stacked
 pub mod Gaps
 pub mod Spotting
+pub mod Answered

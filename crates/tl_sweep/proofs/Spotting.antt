@@ -1,6 +1,6 @@
 -- The point of a polygon, between two events and two neighbours of the list there.
 use Rattle.std.proofs.Common.{◌≡◌, inl, inr, ⊎_elim, ℕ, ◌+◌, ◌-◌, ◌<◌, ◌≤◌, ◌<ℤ◌, ◌+ℤ◌, ℤ, pos, Bool, true, IsTrue, Ordering, Some, List, [], ◌∷◌, ◌++◌, length, get_or, take, count_by, refl, sym, ap, ap₂, subst, ◌∙◌, arith}
-use Rattle.std.specs.Prelude.{slice_get}
+use Rattle.std.specs.Prelude.{slice_get, int_lt}
 use Rattle.std.proofs.lemmas.Bool.{cases_lt}
 use Rattle.std.proofs.lemmas.Cmp.{int_ranked}
 use Rattle.std.proofs.lemmas.Int.{ints}
@@ -105,6 +105,10 @@ lt_cases : (z : ℤ) (o : Ordering) → MatchOrdering o (z <ℤ pos 0) (z ≡ po
 lt_cases z Less m h = m
 lt_cases z Equal m h = absurd (cc)
 lt_cases z Greater m h = absurd (cc)
+
+-- what is moved by the same stays in its order
+pub lower_moved : (a b h k m : ℤ) → h ≡ a +ℤ m → k ≡ b +ℤ m → int_lt h k ≡ int_lt a b
+lower_moved a b h k m e f = grind (arith, ints)
 
 pub lt_test : (z : ℤ) (o : Ordering) (t : Bool) → o ≡ int_cmp z (pos 0) → t ≡ is_lt o → IsTrue t → z <ℤ pos 0
 lt_test z o t e f h = lt_cases z o (int_ranked z (pos 0) o e) (sym f ∙ h)

@@ -1,10 +1,12 @@
 -- Stacks of blocks, and the parts of a list that stands in blocks.
-use Rattle.std.proofs.Common.{◌≡◌, ℕ, suc, ◌+◌, ◌-◌, ◌<◌, ◌≤◌, Some, List, [], ◌∷◌, ◌++◌, length, take, drop, append_assoc, append-nil, refl, sym, ap, subst, ◌∙◌, arith, length-take}
+use Rattle.std.proofs.Common.{◌≡◌, ℕ, zero, suc, ◌+◌, ◌-◌, ◌<◌, ◌≤◌, ◌==◌, Bool, false, Option, Some, List, [], ◌∷◌, ◌++◌, length, take, drop, append_assoc, append-nil, add-one, refl, sym, ap, subst, ◌∙◌, arith, length-take, length-append}
 use Rattle.std.specs.Prelude.{Vec, slice_get, unwrap_or}
 use Rattle.std.specs.Global.{Global}
 use Rattle.std.proofs.Math.Seq.{take-add}
 use Rattle.std.proofs.lemmas.List.{take-append-drop, take_rest, drop-append-le}
-use Rattle.std.specs.List.{remove}
+use Rattle.std.proofs.lemmas.List.Elements.{All-push, All-pop}
+use Rattle.std.specs.List.{insert, remove}
+use Rattle.std.specs.Option.{option_to_list}
 use Rattle.tl_sweep.specs.Keeping.Lined.{from_west, from_east, last_of, AreSome}
 
 pub west_more : (blocks : List (Vec ℕ Global)) (block : Vec ℕ Global) → from_west (blocks ++ block ∷ []) ≡ from_west blocks ++ block.items
@@ -15,20 +17,48 @@ pub east_more : (blocks : List (Vec ℕ Global)) (block : Vec ℕ Global) → fr
 east_more [] block = sym (append-nil block.items)
 east_more (first ∷ rest) block = ap (λ xs. xs ++ first.items) (east_more rest block) ∙ append_assoc block.items (from_east rest) first.items
 
+-- ---- none is empty
+
+-- where one is put on that isn't
+pub some_put : (blocks new : List (Vec ℕ Global)) (block : Vec ℕ Global) → AreSome blocks → 0 < length block.items → new ≡ blocks ++ block ∷ [] → AreSome new
+some_put blocks new block some one e = subst AreSome (sym e) (All-push (λ (b : Vec ℕ Global). 0 < length b.items) blocks block some one)
+
+-- or one is taken off
+pub some_left : (old new : List (Vec ℕ Global)) (taken : Option (Vec ℕ Global)) → AreSome old → old ≡ new ++ option_to_list taken → AreSome new
+some_left old new taken some e = (All-pop (λ (b : Vec ℕ Global). 0 < length b.items) old new taken e some).0
+
+-- a block that more is put to isn't empty
+pub some_joined : (more first last : List ℕ) → more ≡ first ++ last → 0 < length last → 0 < length more
+some_joined more first last e some = let long = ap length e in let both = length-append first last in omega (arith, some, long, both)
+
+pub some_before : (more first last : List ℕ) → more ≡ first ++ last → 0 < length first → 0 < length more
+some_before more first last e some = let long = ap length e in let both = length-append first last in omega (arith, some, long, both)
+
+-- a block of which it was tested
+pub some_by_test : (n : ℕ) (empty : Bool) → empty ≡ (n == 0) → empty ≡ false → 0 < n
+some_by_test zero empty e f = absurd (cc)
+some_by_test (suc n) empty e f = omega arith
+
+-- what is left of two numbers
+pub some_rest : (xs rest : List ℕ) → 1 < length xs → rest ≡ remove xs 0 → 0 < length rest
+some_rest [] rest two e = absurd (omega (arith, two))
+some_rest (x ∷ []) rest two e = absurd (omega (arith, two))
+some_rest (x ∷ (y ∷ xs)) rest two e = subst (λ (ys : List ℕ). 0 < length ys) (sym e) (omega arith)
+
 -- where no block is taken, none was there
 pub none_off : (old new : List (Vec ℕ Global)) → old ≡ new ++ [] → new ≡ old
 none_off old new e = sym (append-nil new) ∙ sym e
 
 -- ---- a block is joined to the last one
 
-pub west_joined : (old new rest : List (Vec ℕ Global)) (last more : Vec ℕ Global) (block : List ℕ) → old ≡ rest ++ last ∷ [] → new ≡ rest ++ more ∷ [] → more.items ≡ last.items ++ block → from_west new ≡ from_west old ++ block
-west_joined old new rest last more block e f is =
-    ap from_west f ∙ west_more rest more ∙ ap (λ xs. from_west rest ++ xs) is ∙ sym (append_assoc (from_west rest) last.items block) ∙
+pub west_joined : (old rest : List (Vec ℕ Global)) (last : Vec ℕ Global) (more block : List ℕ) → old ≡ rest ++ last ∷ [] → more ≡ last.items ++ block → from_west rest ++ more ≡ from_west old ++ block
+west_joined old rest last more block e is =
+    ap (λ xs. from_west rest ++ xs) is ∙ sym (append_assoc (from_west rest) last.items block) ∙
     ap (λ xs. xs ++ block) (sym (west_more rest last) ∙ ap from_west (sym e))
 
-pub east_joined : (old new rest : List (Vec ℕ Global)) (last more : Vec ℕ Global) (block : List ℕ) → old ≡ rest ++ last ∷ [] → new ≡ rest ++ more ∷ [] → more.items ≡ block ++ last.items → from_east new ≡ block ++ from_east old
-east_joined old new rest last more block e f is =
-    ap from_east f ∙ east_more rest more ∙ ap (λ xs. xs ++ from_east rest) is ∙ append_assoc block last.items (from_east rest) ∙
+pub east_joined : (old rest : List (Vec ℕ Global)) (last : Vec ℕ Global) (more block : List ℕ) → old ≡ rest ++ last ∷ [] → more ≡ block ++ last.items → more ++ from_east rest ≡ block ++ from_east old
+east_joined old rest last more block e is =
+    ap (λ xs. xs ++ from_east rest) is ∙ append_assoc block last.items (from_east rest) ∙
     ap (λ xs. block ++ xs) (sym (east_more rest last) ∙ ap from_east (sym e))
 
 -- ---- the number at the place
@@ -94,6 +124,43 @@ east_one_less old rest last one e = sym (ap (drop 1) (ap from_east e ∙ east_mo
     off [] none = absurd (omega (arith, none))
     off (x ∷ []) none = refl
     off (x ∷ (y ∷ xs)) none = absurd (omega (arith, none))
+
+-- what is taken off behind the place
+pub front_kept : (xs : List ℕ) (n : ℕ) → take n (remove xs n) ≡ take n xs
+front_kept [] zero = refl
+front_kept [] (suc n) = refl
+front_kept (x ∷ xs) zero = refl
+front_kept (x ∷ xs) (suc n) = ap (λ ys. x ∷ ys) (front_kept xs n)
+
+pub back_taken : (xs ys : List ℕ) (n : ℕ) → n < length xs → drop n (remove xs n) ++ ys ≡ drop 1 (drop n xs ++ ys)
+back_taken [] ys n lt = absurd (omega (arith, lt))
+back_taken (x ∷ xs) ys zero lt = refl
+back_taken (x ∷ xs) ys (suc n) lt = back_taken xs ys n (omega (arith, lt))
+
+pub end_taken : (xs ys zs : List ℕ) (n : ℕ) → length xs ≤ n → zs ≡ drop 1 ys → drop n xs ++ zs ≡ drop 1 (drop n xs ++ ys)
+end_taken [] ys zs zero past e = e
+end_taken [] ys zs (suc n) past e = e
+end_taken (x ∷ xs) ys zs zero past e = absurd (omega (arith, past))
+end_taken (x ∷ xs) ys zs (suc n) past e = end_taken xs ys zs n (omega (arith, past)) e
+
+-- what is put in at the place
+front_suc : (xs : List ℕ) (n x : ℕ) → n ≤ length xs → take (suc n) (insert xs n x) ≡ take n xs ++ x ∷ []
+front_suc [] zero x le = refl
+front_suc [] (suc n) x le = absurd (omega (arith, le))
+front_suc (y ∷ xs) zero x le = refl
+front_suc (y ∷ xs) (suc n) x le = ap (λ ys. y ∷ ys) (front_suc xs n x (omega (arith, le)))
+
+back_suc : (xs : List ℕ) (n x : ℕ) → n ≤ length xs → drop (suc n) (insert xs n x) ≡ drop n xs
+back_suc [] zero x le = refl
+back_suc [] (suc n) x le = absurd (omega (arith, le))
+back_suc (y ∷ xs) zero x le = refl
+back_suc (y ∷ xs) (suc n) x le = back_suc xs n x (omega (arith, le))
+
+pub put_front : (xs : List ℕ) (n x : ℕ) → n ≤ length xs → take (n + 1) (insert xs n x) ≡ take n xs ++ x ∷ []
+put_front xs n x le = rw add-one (front_suc xs n x le)
+
+pub put_back : (xs : List ℕ) (n x : ℕ) → n ≤ length xs → drop (n + 1) (insert xs n x) ≡ drop n xs
+put_back xs n x le = rw add-one (back_suc xs n x le)
 
 -- ---- the open block
 

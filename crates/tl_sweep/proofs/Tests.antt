@@ -16,6 +16,10 @@ use Rattle.tl_slabs.specs.Keeping.Clear.{IsClearlyWestOf}
 use Rattle.tl_slabs.proofs.Rising.{near_back}
 use Rattle.tl_slabs.proofs.Numbered.{one_segment, on_same}
 
+-- what is no is not yes
+pub never : {A : Type 0} → false ≡ true → A
+never e = absurd (cc)
+
 -- ---- turns
 
 ge_cases : (z : ℤ) (o : Ordering) → MatchOrdering o (z <ℤ pos 0) (z ≡ pos 0) (pos 0 <ℤ z) → IsTrue (is_ge o) → pos 0 ≤ℤ z

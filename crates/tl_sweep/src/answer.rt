@@ -1,15 +1,17 @@
 //! What a sweep says of a map.
-ghost use Rattle.std.specs.Prelude.{◌≡◌, IfOk, IfSome};
+ghost use Rattle.std.specs.Prelude.{◌≡◌, IfOk, IfSome, length};
 ghost use Rattle.tl_planar.specs.Planar.{IsPlanar};
 ghost use Rattle.tl_planar.specs.declared.meet.Meet.{Meet};
 ghost use Rattle.tl_planar.specs.Searching.{IsTrueMeet};
 ghost use Rattle.tl_inside.specs.Placed.{ArePlaced};
+ghost use Rattle.tl_county.specs.Segments.{segments_before};
+ghost use Rattle.tl_crossings.specs.Headings.{AreProper};
 ghost use Rattle.tl_slabs.specs.Heights.{widest};
 ghost use Rattle.tl_slabs.specs.Neighbours.{IsWide};
 ghost use Rattle.tl_slabs.specs.Slabs.{AreVerticesTested};
 ghost use Rattle.tl_sweep.specs.Keeping.Listed.{AreEvents, AreRising, AreSegments};
-ghost use Rattle.tl_sweep.specs.Keeping.Spotted.{AreInRange};
-ghost use Rattle.tl_sweep.specs.Keeping.Told.{IsMeetOrUnknown};
+ghost use Rattle.tl_sweep.specs.Keeping.Spotted.{AreInRange, AreMarks};
+ghost use Rattle.tl_sweep.specs.Keeping.Told.{IsTrueAnswer};
 
 use crate::events::{Events, list_segments};
 use crate::meets::are_vertices_tested;
@@ -43,27 +45,22 @@ pub fn sweep(alloc: Global, map: &Map) -> Result<Swept, AllocError>
 {
     look_at_chains(map);
     let segments = list_segments(alloc, map)?;
-    let mut events = Events::new(alloc, map, &segments)?;
-    events.sort(alloc)?;
-    if !are_vertices_tested(map, &events) {
-        return Ok(told(map, find_meet_at_vertex(map, &events)));
-    }
-    sweep_events(alloc, map, &segments, &events)
+    sweep_segments(alloc, map, &segments)
 }
 
-/// What is answered where a test failed, and two segments may have been found that meet where they may not.
-fn told(map: &Map, found: Option<Meet>) -> Swept
-    requires { IfSome found (IsTrueMeet map.now.chains) }
-    ensures meet { (meet : Meet) → result ≡ Swept.Meet meet → IsTrueMeet map.now.chains meet }
-    ensures none { IsMeetOrUnknown result }
+/// The same by all segments of the map.
+fn sweep_segments(alloc: Global, map: &Map, segments: &[Segment]) -> Result<Swept, AllocError>
+    requires segments { AreSegments map.now.chains segments.now }
+    requires all { length segments.now ≡ segments_before map.now.chains (length map.now.chains) }
+    requires proper { AreProper map.now.chains }
+    ensures { IfOk result (IsTrueAnswer map.now) }
 {
-    match found {
-        Some(meet) => Swept::Meet(meet),
-        None => Swept::Unknown,
-    }
+    let mut events = Events::new(alloc, map, segments)?;
+    events.sort(alloc)?;
+    sweep_events(alloc, map, segments, &events)
 }
 
-/// The same by the ends of all segments, which are sorted and tested.
+/// The same by the ends of all segments, which are sorted.
 fn sweep_events(
     alloc: Global,
     map: &Map,
@@ -72,22 +69,61 @@ fn sweep_events(
 ) -> Result<Swept, AllocError>
     requires segments { AreSegments map.now.chains segments.now }
     requires events { AreEvents map.now.chains events.now }
+    requires wide { IsWide widest map.now.chains }
+    requires ranges { AreInRange map.now.chains }
+    requires proper { AreProper map.now.chains }
+    ensures { IfOk result (IsTrueAnswer map.now) }
+{
+    if !are_vertices_tested(map, events) {
+        return Ok(told(map, find_meet_at_vertex(map, events)));
+    }
+    let mut suspects = Vec::new(alloc);
+    sweep_tested(alloc, map, segments, events, &mut suspects)
+}
+
+/// The same where vertices are tested, with a list for the segments at which the sweep ends.
+fn sweep_tested(
+    alloc: Global,
+    map: &Map,
+    segments: &[Segment],
+    events: &Events,
+    suspects: &mut Vec<u32>,
+) -> Result<Swept, AllocError>
+    requires segments { AreSegments map.now.chains segments.now }
+    requires events { AreEvents map.now.chains events.now }
     requires rising { AreRising events.now }
     requires wide { IsWide widest map.now.chains }
     requires ranges { AreInRange map.now.chains }
     requires vertices { AreVerticesTested map.now.chains }
-    ensures placed { IfOk result (λ answer. answer ≡ Swept.Placed → IsPlanar map.now.chains × ArePlaced map.now) }
-    ensures planar { IfOk result (λ answer. answer ≡ Swept.Planar → IsPlanar map.now.chains) }
-    ensures meet { IfOk result (λ answer. (meet : Meet) → answer ≡ Swept.Meet meet → IsTrueMeet map.now.chains meet) }
+    ensures { IfOk result (IsTrueAnswer map.now) }
 {
     let mut spots = Spots::new(alloc, map)?;
-    let mut suspects = Vec::new(alloc);
-    if !sweep_list(alloc, map, segments, events, &mut spots, &mut suspects)? {
-        return Ok(told(map, find_meet(map, &suspects)));
+    if !sweep_list(alloc, map, segments, events, &mut spots, suspects)? {
+        return Ok(told(map, find_meet(map, suspects)));
     }
+    Ok(planar(map, &spots))
+}
+
+/// What is answered where the chains are planar.
+fn planar(map: &Map, spots: &Spots) -> Swept
+    requires planar { IsPlanar map.now.chains }
+    requires marks { AreMarks map.now spots.now.marks.items }
+    ensures { IsTrueAnswer map.now result }
+{
     if spots.are_placed(map) {
-        Ok(Swept::Placed)
+        Swept::Placed
     } else {
-        Ok(Swept::Planar)
+        Swept::Planar
+    }
+}
+
+/// What is answered where a test failed, and two segments may have been found that meet where they may not.
+fn told(map: &Map, found: Option<Meet>) -> Swept
+    requires { IfSome found (IsTrueMeet map.now.chains) }
+    ensures { IsTrueAnswer map.now result }
+{
+    match found {
+        Some(meet) => Swept::Meet(meet),
+        None => Swept::Unknown,
     }
 }

@@ -1,5 +1,5 @@
 //! Stacks of blocks of numbers. None of their blocks is empty, and small ones are joined.
-ghost use Rattle.std.specs.Prelude.{◌≡◌, ◌++◌, slice_get, IfOk, drop};
+ghost use Rattle.std.specs.Prelude.{◌≡◌, ◌++◌, ◌<◌, length, slice_get, IfOk, drop};
 ghost use Rattle.tl_sweep.specs.Keeping.Lined.{from_west, from_east, last_of, AreSome};
 
 use std::alloc::AllocError;
@@ -15,6 +15,26 @@ fn are_small(blocks: &[Vec<u32>], block: &[u32]) -> bool {
     }
 }
 
+/// Joins a block to the last one of a stack that begins in the west, which is taken off, or leaves both where they are too long
+/// to be joined. Gives what is to be put on the stack.
+fn join_west(blocks: &mut Vec<Vec<u32>>, block: Vec<u32>) -> Result<Vec<u32>, AllocError>
+    requires { AreSome blocks.old.items }
+    ensures some { AreSome blocks.new.items }
+    ensures numbers { IfOk result (λ top. from_west blocks.new.items ++ top.items ≡ from_west blocks.old.items ++ block.items) }
+    ensures filled { IfOk result (λ top. 0 < length block.items → 0 < length top.items) }
+{
+    if !are_small(blocks, &block) {
+        return Ok(block);
+    }
+    match blocks.pop() {
+        Some(mut last) => {
+            last.extend_from_slice(&block)?;
+            Ok(last)
+        }
+        None => Ok(block),
+    }
+}
+
 /// Puts a block on a stack that begins in the west.
 pub fn stack_west(blocks: &mut Vec<Vec<u32>>, block: Vec<u32>) -> Result<(), AllocError>
     requires { AreSome blocks.old.items }
@@ -24,18 +44,29 @@ pub fn stack_west(blocks: &mut Vec<Vec<u32>>, block: Vec<u32>) -> Result<(), All
     if block.is_empty() {
         return Ok(());
     }
+    let top = join_west(blocks, block)?;
+    blocks.push(top)?;
+    Ok(())
+}
+
+/// Joins a block to the last one of a stack that begins in the east, as in the west.
+fn join_east(blocks: &mut Vec<Vec<u32>>, block: Vec<u32>) -> Result<Vec<u32>, AllocError>
+    requires { AreSome blocks.old.items }
+    ensures some { AreSome blocks.new.items }
+    ensures numbers { IfOk result (λ top. top.items ++ from_east blocks.new.items ≡ block.items ++ from_east blocks.old.items) }
+    ensures filled { IfOk result (λ top. 0 < length block.items → 0 < length top.items) }
+{
     if !are_small(blocks, &block) {
-        blocks.push(block)?;
-        return Ok(());
+        return Ok(block);
     }
     match blocks.pop() {
-        Some(mut last) => {
-            last.extend_from_slice(&block)?;
-            blocks.push(last)?;
+        Some(last) => {
+            let mut joined = block;
+            joined.extend_from_slice(&last)?;
+            Ok(joined)
         }
-        None => blocks.push(block)?,
+        None => Ok(block),
     }
-    Ok(())
 }
 
 /// Puts a block on a stack that begins in the east.
@@ -47,18 +78,8 @@ pub fn stack_east(blocks: &mut Vec<Vec<u32>>, block: Vec<u32>) -> Result<(), All
     if block.is_empty() {
         return Ok(());
     }
-    if !are_small(blocks, &block) {
-        blocks.push(block)?;
-        return Ok(());
-    }
-    match blocks.pop() {
-        Some(last) => {
-            let mut joined = block;
-            joined.extend_from_slice(&last)?;
-            blocks.push(joined)?;
-        }
-        None => blocks.push(block)?,
-    }
+    let top = join_east(blocks, block)?;
+    blocks.push(top)?;
     Ok(())
 }
 

@@ -1,5 +1,5 @@
 //! The events of a sweep: the ends of all segments, by height.
-ghost use Rattle.std.specs.Prelude.{◌≡◌, ◌+◌, ◌*◌, ◌^◌, ◌<◌, IfOk, length, slice_index_or};
+ghost use Rattle.std.specs.Prelude.{◌≡◌, ◌+◌, ◌*◌, ◌^◌, ◌<◌, ◌++◌, ◌∷◌, [], IfOk, length, slice_index_or};
 ghost use Rattle.tl_geom.specs.declared.segment.Segment.{Segment};
 ghost use Rattle.tl_geom.specs.Plane.{end_a, end_b};
 ghost use Rattle.tl_county.specs.Segments.{segments_before};
@@ -188,8 +188,16 @@ fn list_ends(alloc: Global, map: &Map, segments: &[Segment]) -> Result<Vec<End>,
     let mut ends = Vec::with_capacity(alloc, count as usize * 2)?;
     for s in 0..count {
         let (one, other) = ends_of(segments, s);
-        ends.push(one)?;
-        ends.push(other)?;
+        push_both(&mut ends, one, other)?;
     }
     Ok(ends)
+}
+
+/// Puts the two ends of a segment on a list.
+fn push_both(ends: &mut Vec<End>, one: End, other: End) -> Result<(), AllocError>
+    ensures { IfOk result (λ done. ends.new.items ≡ (ends.old.items ++ one ∷ []) ++ other ∷ []) }
+{
+    ends.push(one)?;
+    ends.push(other)?;
+    Ok(())
 }

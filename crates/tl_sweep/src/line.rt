@@ -1,4 +1,5 @@
 //! The list of active segments, in blocks and parted at the place where the sweep is.
+ghost use Rattle.std.specs.Prelude.{◌≡◌, ◌≤◌, IfOk, IfErr, length, take, drop};
 
 use crate::blocks::{first_east, last_west, stack_east, stack_west, take_east};
 use std::alloc::{AllocError, Global};
@@ -35,6 +36,19 @@ impl Model for Line {
     } };
 
     ghost invariant = { λ l. (l.place ≤ length l.items.items) × AreSome l.west.items × AreSome l.east.items };
+}
+
+/// Takes the numbers from a place on off a block.
+fn take_behind(alloc: Global, items: &mut Vec<u32>, half: usize) -> Result<Vec<u32>, AllocError>
+    requires { half ≤ length items.old.items }
+    ensures kept { IfOk result (λ behind. items.new.items ≡ take half items.old.items) }
+    ensures behind { IfOk result (λ behind. behind.items ≡ drop half items.old.items) }
+    ensures stays { IfErr result (λ error. items.new.items ≡ items.old.items) }
+{
+    let mut behind = Vec::with_capacity(alloc, MOST)?;
+    behind.extend_from_slice(&items[half..])?;
+    items.truncate(half);
+    Ok(behind)
 }
 
 impl Line {
@@ -86,13 +100,12 @@ impl Line {
 
     /// The place of a number among these of the open block, if it is there.
     pub fn find(&self, s: u32, from: usize, to: usize) -> Option<usize> {
-        let to = to.min(self.items.len());
-        let place = self
-            .items
-            .get(from..to)?
-            .iter()
-            .position(|item| *item == s)?;
-        Some(from.saturating_add(place))
+        for place in from..to.min(self.items.len()) {
+            if self.items[place] == s {
+                return Some(place);
+            }
+        }
+        None
     }
 
     /// Goes to a place in the open block, or to its end.
@@ -171,9 +184,7 @@ impl Line {
         ensures back { IfOk result (λ done. self.new.back ≡ self.old.back) }
     {
         let half = self.items.len() / 2;
-        let mut behind = Vec::with_capacity(self.alloc, MOST)?;
-        behind.extend_from_slice(&self.items[half..])?;
-        self.items.truncate(half);
+        let behind = take_behind(self.alloc, &mut self.items, half)?;
         if self.place <= half {
             stack_east(&mut self.east, behind)?;
         } else {
@@ -204,6 +215,7 @@ impl Line {
         }
         self.put_open(s)
     }
+
     /// Puts a number in the stead of the first one behind the place, and goes behind it. Of a list without one nothing is taken.
     pub fn change(&mut self, s: u32) -> Result<(), AllocError>
         ensures front { IfOk result (λ done. self.new.front ≡ self.old.front ++ s ∷ []) }

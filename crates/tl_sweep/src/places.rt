@@ -23,8 +23,8 @@ impl Places {
 
     /// The place of the first of these segments in the open block, if it is found near the place where it entered.
     pub fn find(&self, line: &Line, outs: &[u32]) -> Option<usize> {
-        let s = *outs.first()?;
-        let near = usize::from(*self.places.get(s as usize)?);
+        let s = outs.first().copied()?;
+        let near = usize::from(self.places.get(s as usize).copied()?);
         line.find(s, near.saturating_sub(REACH), near.saturating_add(REACH))
     }
 

@@ -1,5 +1,5 @@
 //! The sweep: from event to event, with the list of active segments.
-ghost use Rattle.std.specs.Prelude.{◌≡◌, ◌+◌, ◌-◌, ◌<◌, ◌≤◌, ℕ, IfOk, IsTrue, length, count_by, slice_index_or, take, drop};
+ghost use Rattle.std.specs.Prelude.{◌≡◌, [], ◌+◌, ◌-◌, ◌<◌, ◌≤◌, ℕ, IfOk, IsTrue, length, count_by, slice_index_or, take, drop};
 ghost use Rattle.tl_index.specs.Hits.{times};
 ghost use Rattle.tl_slabs.specs.Heights.{widest};
 ghost use Rattle.tl_slabs.specs.Neighbours.{AreTested, EachTwo, IsWide};
@@ -66,14 +66,19 @@ fn gather(
     Ok(())
 }
 
+/// The ends of the segment of a number, if there is one: the lower one, and the higher one.
+fn ends_of(segments: &[Segment], s: u32) -> Option<(Point, Point)> {
+    if (s as usize) < segments.len() {
+        Some(ends(segments[s as usize]))
+    } else {
+        None
+    }
+}
+
 /// Which of two segments that share their low end, or their high end, comes first from west to east.
 fn west_first(segments: &[Segment], s: u32, t: u32) -> Ordering {
-    match (segments.get(s as usize), segments.get(t as usize)) {
-        (Some(one), Some(other)) => {
-            let (a, b) = ends(*one);
-            let (c, e) = ends(*other);
-            if a == c { turn(a, b, e) } else { turn(a, b, c) }
-        }
+    match (ends_of(segments, s), ends_of(segments, t)) {
+        (Some((a, b)), Some((c, e))) => turn(a, b, if a == c { e } else { c }),
         (None, _) => Ordering::Equal,
         (Some(_), None) => Ordering::Equal,
     }
@@ -94,9 +99,12 @@ fn order(segments: &[Segment], numbers: &mut Vec<u32>)
 
 /// The point where these segments end, or where those begin.
 fn vertex(segments: &[Segment], outs: &[u32], ins: &[u32]) -> Option<Point> {
-    match outs.first() {
-        Some(s) => Some(ends(*segments.get(*s as usize)?).1),
-        None => Some(ends(*segments.get(*ins.first()? as usize)?).0),
+    if !outs.is_empty() {
+        Some(ends_of(segments, outs[0])?.1)
+    } else if !ins.is_empty() {
+        Some(ends_of(segments, ins[0])?.0)
+    } else {
+        None
     }
 }
 
@@ -120,6 +128,27 @@ fn step(
 {
     order(segments, outs);
     order(segments, ins);
+    pass_vertex(map, segments, line, outs, ins, places, gaps)
+}
+
+/// Does so with the segments in their order from west to east.
+fn pass_vertex(
+    map: &Map,
+    segments: &[Segment],
+    line: &mut Line,
+    outs: &[u32],
+    ins: &[u32],
+    places: &mut Places,
+    gaps: &mut Option<u64>,
+) -> Result<bool, AllocError>
+    requires { AreSegments map.now.chains segments.now }
+    ensures moved { IfOk result (λ done. IsTrue done → (s : ℕ) →
+        times s (list_of line.new) + times s outs.now ≡ times s (list_of line.old) + times s ins.now) }
+    ensures tested { IfOk result (λ done. IsTrue done → EachTwo (AreTested widest map.now.chains) (list_of line.old) →
+        EachTwo (AreTested widest map.now.chains) (list_of line.new)) }
+    ensures counted { IfOk result (λ done. IsTrue done → IsCounted map.now.chains gaps.old (list_of line.old) →
+        IsCounted map.now.chains gaps.new (list_of line.new)) }
+{
     let Some(p) = vertex(segments, outs, ins) else {
         return Ok(false);
     };
@@ -166,26 +195,53 @@ pub fn sweep_list(
     ensures slabs { IfOk result (λ done. IsTrue done → AreSlabsTested widest map.now.chains) }
     ensures marks { IfOk result (λ done. IsTrue done → AreMarks map.now spots.new.marks.items) }
 {
+    let mut places = Places::new(alloc, segments.len())?;
     let mut line = Line::new(alloc);
     let mut outs = Vec::new(alloc);
     let mut ins = Vec::new(alloc);
-    let mut places = Places::new(alloc, segments.len())?;
+    sweep_along(
+        map,
+        segments,
+        events,
+        &mut line,
+        &mut outs,
+        &mut ins,
+        &mut places,
+        spots,
+        suspects,
+    )
+}
+
+/// Does so with an empty list of active segments, and with lists for those that end and that begin at a vertex.
+fn sweep_along(
+    map: &Map,
+    segments: &[Segment],
+    events: &Events,
+    line: &mut Line,
+    outs: &mut Vec<u32>,
+    ins: &mut Vec<u32>,
+    places: &mut Places,
+    spots: &mut Spots,
+    suspects: &mut Vec<u32>,
+) -> Result<bool, AllocError>
+    requires empty { list_of line.old ≡ [] }
+    requires segments { AreSegments map.now.chains segments.now }
+    requires events { AreEvents map.now.chains events.now }
+    requires rising { AreRising events.now }
+    requires wide { IsWide widest map.now.chains }
+    requires ranges { AreInRange map.now.chains }
+    requires marks { AreMarks map.now spots.old.marks.items }
+    ensures slabs { IfOk result (λ done. IsTrue done → AreSlabsTested widest map.now.chains) }
+    ensures marks { IfOk result (λ done. IsTrue done → AreMarks map.now spots.new.marks.items) }
+{
     let mut gaps = Some(0u64);
     let mut from = 0;
     while from < events.len() {
-        spots.look(map, segments, &mut line, events, from, gaps)?;
+        spots.look(map, segments, line, events, from, gaps)?;
         let to = run_end(events, from);
-        gather(events, from, to, &mut outs, &mut ins)?;
-        if !step(
-            map,
-            segments,
-            &mut line,
-            &mut outs,
-            &mut ins,
-            &mut places,
-            &mut gaps,
-        )? {
-            list_suspects(&line, &outs, &ins, suspects)?;
+        gather(events, from, to, outs, ins)?;
+        if !step(map, segments, line, outs, ins, places, &mut gaps)? {
+            list_suspects(line, outs, ins, suspects)?;
             return Ok(false);
         }
         from = to;

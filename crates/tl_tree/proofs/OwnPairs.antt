@@ -42,14 +42,14 @@ owns-more P xs n h one p lt = by_place (by_test p n)
     by_place (inl l) = h p l
     by_place (inr l) = let e : n ≡ p = omega (arith, lt, l) in subst (AllOwn P xs) e one
 
-own-in : (f : ℕ → ℕ → ℕ) (xs : List ℕ) (p : ℕ) → AreThere xs p → own_sum f xs p ≡ f (get_or xs (partner p) 0) (get_or xs (p % 8) 0)
+pub own-in : (f : ℕ → ℕ → ℕ) (xs : List ℕ) (p : ℕ) → AreThere xs p → own_sum f xs p ≡ f (get_or xs (partner p) 0) (get_or xs (p % 8) 0)
 own-in f xs p h =
     let ws : List ℕ = take 1 (drop (p % 8) xs) in
     let x = get_or xs (partner p) 0 in
     let e : own_sum f xs p ≡ row_sum f x ws + 0 = at_drop_more (λ (zs : List ℕ). cross_sum f (take 1 zs) ws) xs (partner p) 0 h.second in
     omega (arith, e, cell-in f x xs (p % 8) h.first)
 
-all-own-in : (P : ℕ → ℕ → Type 0) (xs : List ℕ) (p : ℕ) → AreThere xs p → P (get_or xs (partner p) 0) (get_or xs (p % 8) 0) → AllOwn P xs p
+pub all-own-in : (P : ℕ → ℕ → Type 0) (xs : List ℕ) (p : ℕ) → AreThere xs p → P (get_or xs (partner p) 0) (get_or xs (p % 8) 0) → AllOwn P xs p
 all-own-in P xs p h r =
     let ws : List ℕ = take 1 (drop (p % 8) xs) in
     let e = at_drop_more (λ (zs : List ℕ). zs) xs (partner p) 0 h.second in

@@ -2,8 +2,8 @@
 use Rattle.std.proofs.Common.{◌≡◌, sym, ap₂, subst, ◌∙◌}
 use Rattle.tl_record.specs.Records.{Records}
 use Rattle.tl_county.specs.TheMap.{TheMap}
-use Rattle.tl_map.specs.Reading.{IsReadFrom, records_in}
-use Rattle.tl_map.proofs.OneMapLemmas.{one_map}
+use Rattle.tl_drawn.specs.Reading.{IsReadFrom, records_in}
+use Rattle.tl_drawn.proofs.OneMapLemmas.{one_map}
 use Rattle.tl_verdict.specs.Records.{HaveMap}
 
 pub same_map : (all : Records) (m n : TheMap) → IsReadFrom all m → IsReadFrom all n → m ≡ n

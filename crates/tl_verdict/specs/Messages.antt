@@ -1,10 +1,10 @@
 -- What is printed of a fault of a map and of a certificate, and of a sound map.
-use Rattle.std.specs.Prelude.{ℕ, List, ◌++◌, codes, decimal}
+use Rattle.std.specs.Prelude.{ℕ, List, ◌++◌, Option, None, Some, codes, decimal}
 use Rattle.std.specs.Fmt.{signed_decimal}
 use Rattle.tl_geom.specs.declared.point.Point.{Point}
 use Rattle.tl_geom.specs.declared.rational.Rational.{Rational}
 use Rattle.tl_key.specs.KeyText.{key_text}
-use Rattle.tl_map.specs.Messages.{fault_text}
+use Rattle.tl_drawn.specs.Messages.{fault_text}
 use Rattle.tl_inside.specs.declared.misplaced.Misplaced.{Misplaced}
 use Rattle.tl_inside.specs.declared.misplaced.Misplaced.TheVariants.{OnChain, Outside, InOther}
 use Rattle.tl_index.specs.declared.fault.TreeFault.{TreeFault}
@@ -71,6 +71,11 @@ walk_text (walk.DartTwice d) = codes "DartTwice " ++ decimal d
 walk_text (walk.DartMissing d) = codes "DartMissing " ++ decimal d
 walk_text (walk.WrongStep w) = codes "WrongStep " ++ decimal w
 walk_text (walk.NotClosed w) = codes "NotClosed " ++ decimal w
+
+-- a text, with a number behind it where there is one
+abbrev pub numbered_text : List ℕ → Option ℕ → List ℕ
+numbered_text name None = name
+numbered_text name (Some number) = name ++ codes " " ++ decimal number
 
 -- the code and the name of a certificate's fault, with what it is about
 abbrev pub cert_fault_text : CertFault → List ℕ

@@ -2,8 +2,8 @@
 use Rattle.std.specs.Prelude.{◌≡◌, ◌⊎◌, ℕ, Some, None, Ok, Err, ⊤}
 use Rattle.tl_record.specs.Failures.{one_more}
 use Rattle.tl_record.specs.Records.{Records as AllRecords}
-use Rattle.tl_map.specs.Faults.{IsTrueOf}
-use Rattle.tl_map.specs.Reading.{records_in, IsReadFrom}
+use Rattle.tl_drawn.specs.Faults.{IsTrueOf}
+use Rattle.tl_drawn.specs.Reading.{records_in, IsReadFrom}
 use Rattle.tl_county.specs.TheMap.{TheMap}
 use Rattle.tl_planar.specs.Searching.{AreBeyond}
 use Rattle.tl_verdict.specs.declared.fault.MapFault.{MapFault}

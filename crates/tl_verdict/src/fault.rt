@@ -5,7 +5,7 @@ ghost use Rattle.tl_verdict.specs.Messages.{tree_text, round_text, walk_text};
 
 use std::fmt;
 use tl_cells::CellsAtOdds;
-use tl_geom::{Point, Rational};
+use tl_geom::Point;
 use tl_index::TreeFault;
 use tl_inside::Misplaced;
 use tl_planar::Meet;
@@ -13,10 +13,10 @@ use tl_sides::{RoundFault, WalkFault};
 
 /// Why a map isn't sound, or why records have no map. It is printed as `map fault`, its code and name, and what it is
 /// about: points in millionths of a degree, that of a meet as two numerators and their denominator.
-#[derive(Clone, Copy, Debug, PartialEq, Eq)]
+#[derive(Clone, Copy, PartialEq, Eq)]
 pub enum MapFault {
     /// The records have no map: M1 to M13.
-    Records(tl_map::MapFault),
+    Records(tl_drawn::MapFault),
     /// G1: two segments share a point that they may not share.
     Meet(Meet),
     /// G2: about the node, the second dart is next after the first, and what lies on the left of the first isn't what
@@ -37,94 +37,125 @@ impl fmt::Display for MapFault {
     fn fmt<W: fmt::Write>(&self, f: &mut fmt::Formatter<W>) -> fmt::Result {
         match self {
             MapFault::Records(fault) => fault.fmt(f),
-            MapFault::Meet(meet) => {
-                let first = SegmentName {
-                    tlid: meet.tlid,
-                    segment: meet.s,
-                };
-                let second = SegmentName {
-                    tlid: meet.other,
-                    segment: meet.t,
-                };
-                let at = RationalText(meet.at);
-                write!(f, "map fault G1 Meet {first} {second} at {at}")
-            }
+            MapFault::Meet(meet) => MeetText(*meet).fmt(f),
             MapFault::Side { node, first, next } => {
-                let (x, y) = (node.x, node.y);
-                write!(f, "map fault G2 Side at {x} {y} darts {first} {next}")
+                let text = SideText {
+                    node: *node,
+                    first: *first,
+                    next: *next,
+                };
+                text.fmt(f)
             }
-            MapFault::PolygonPoint(fault) => {
-                let cause = PointCause(*fault);
-                write!(f, "map fault {cause}")
-            }
-            MapFault::Cell(odds) => {
-                let (a, b) = (odds.first, odds.second);
-                let (i, j) = (odds.first_id, odds.second_id);
-                write!(f, "map fault G6 Cell darts {a} {b} ids {i} {j}")
-            }
+            MapFault::PolygonPoint(fault) => PointText(*fault).fmt(f),
+            MapFault::Cell(odds) => CellText(*odds).fmt(f),
         }
     }
 }
 
-// How a segment is printed: the TLID of its chain, and its number.
-#[derive(Clone, Copy)]
-struct SegmentName {
-    tlid: u64,
-    segment: u32,
-}
-
-impl fmt::Display for SegmentName {
-    ghost use Rattle.std.specs.Prelude.{Some};
-    ghost use Rattle.tl_verdict.specs.Messages.{segment_text};
-
-    ghost output = { λ name. Some (segment_text name.tlid name.segment) };
-
+impl fmt::Debug for MapFault {
     fn fmt<W: fmt::Write>(&self, f: &mut fmt::Formatter<W>) -> fmt::Result {
-        write!(f, "tlid {} segment {}", self.tlid, self.segment)
+        fmt::Display::fmt(self, f)
     }
 }
 
-// How it is printed what is wrong with where a polygon's point lies: the fault's code and name, and the keys.
+// How G1 is printed: the TLID of each chain and the number of its segment, and where they meet.
 #[derive(Clone, Copy)]
-struct PointCause(Misplaced);
+struct MeetText(Meet);
 
-impl fmt::Display for PointCause {
+impl fmt::Display for MeetText {
     ghost use Rattle.std.specs.Prelude.{Some};
-    ghost use Rattle.tl_verdict.specs.Messages.{misplaced_text};
+    ghost use Rattle.tl_verdict.specs.declared.fault.MapFault.TheVariants.{Meet};
+    ghost use Rattle.tl_verdict.specs.Messages.{map_fault_text};
 
-    ghost output = { λ cause. Some (misplaced_text cause.0) };
+    ghost output = { λ text. Some (map_fault_text (Meet text.0)) };
+
+    fn fmt<W: fmt::Write>(&self, f: &mut fmt::Formatter<W>) -> fmt::Result {
+        let (meet, at) = (self.0, self.0.at);
+        write!(
+            f,
+            "map fault G1 Meet tlid {} segment {} tlid {} segment {} at {} {} {}",
+            meet.tlid, meet.s, meet.other, meet.t, at.x, at.y, at.d
+        )
+    }
+}
+
+// How G2 is printed: the node, and the two darts.
+#[derive(Clone, Copy)]
+struct SideText {
+    node: Point,
+    first: u32,
+    next: u32,
+}
+
+impl fmt::Display for SideText {
+    ghost use Rattle.std.specs.Prelude.{Some};
+    ghost use Rattle.tl_verdict.specs.declared.fault.MapFault.TheVariants.{Side};
+    ghost use Rattle.tl_verdict.specs.Messages.{map_fault_text};
+
+    ghost output = { λ text. Some (map_fault_text (Side text.node text.first text.next)) };
+
+    fn fmt<W: fmt::Write>(&self, f: &mut fmt::Formatter<W>) -> fmt::Result {
+        let node = self.node;
+        write!(
+            f,
+            "map fault G2 Side at {} {} darts {} {}",
+            node.x, node.y, self.first, self.next
+        )
+    }
+}
+
+// How G3, G4 and G5 are printed: the code and the name of what is wrong with where a polygon's point lies, and the keys.
+#[derive(Clone, Copy)]
+struct PointText(Misplaced);
+
+impl fmt::Display for PointText {
+    ghost use Rattle.std.specs.Prelude.{Some};
+    ghost use Rattle.tl_verdict.specs.declared.fault.MapFault.TheVariants.{PolygonPoint};
+    ghost use Rattle.tl_verdict.specs.Messages.{map_fault_text};
+
+    ghost output = { λ text. Some (map_fault_text (PolygonPoint text.0)) };
 
     fn fmt<W: fmt::Write>(&self, f: &mut fmt::Formatter<W>) -> fmt::Result {
         match self.0 {
             Misplaced::OnChain { polygon, tlid } => {
-                write!(f, "G3 PointOnChain polygon {polygon} tlid {tlid}")
+                write!(f, "map fault G3 PointOnChain polygon {polygon} tlid {tlid}")
             }
-            Misplaced::Outside { polygon } => write!(f, "G4 PointOutside polygon {polygon}"),
+            Misplaced::Outside { polygon } => {
+                write!(f, "map fault G4 PointOutside polygon {polygon}")
+            }
             Misplaced::InOther { polygon, other } => {
-                write!(f, "G5 PointInOther polygon {polygon} other {other}")
+                write!(
+                    f,
+                    "map fault G5 PointInOther polygon {polygon} other {other}"
+                )
             }
         }
     }
 }
 
-// How a rational point is printed: its two numerators and its denominator.
+// How G6 is printed: the two darts, and their ids.
 #[derive(Clone, Copy)]
-struct RationalText(Rational);
+struct CellText(CellsAtOdds);
 
-impl fmt::Display for RationalText {
+impl fmt::Display for CellText {
     ghost use Rattle.std.specs.Prelude.{Some};
-    ghost use Rattle.tl_verdict.specs.Messages.{rational_text};
+    ghost use Rattle.tl_verdict.specs.declared.fault.MapFault.TheVariants.{Cell};
+    ghost use Rattle.tl_verdict.specs.Messages.{map_fault_text};
 
-    ghost output = { λ point. Some (rational_text point.0) };
+    ghost output = { λ text. Some (map_fault_text (Cell text.0)) };
 
     fn fmt<W: fmt::Write>(&self, f: &mut fmt::Formatter<W>) -> fmt::Result {
-        let at = self.0;
-        write!(f, "{} {} {}", at.x, at.y, at.d)
+        let odds = self.0;
+        write!(
+            f,
+            "map fault G6 Cell darts {} {} ids {} {}",
+            odds.first, odds.second, odds.first_id, odds.second_id
+        )
     }
 }
 
 /// Why a certificate isn't valid for a map. It is printed as `certificate fault`, its code and name, and what it is about.
-#[derive(Clone, Copy, Debug, PartialEq, Eq)]
+#[derive(Clone, Copy, PartialEq, Eq)]
 pub enum CertFault {
     /// K1: no certificate has the text. The line is that of [`tl_cert::CertStop::Text`].
     Text { line: u128 },
@@ -147,61 +178,81 @@ impl fmt::Display for CertFault {
     ghost output = { λ fault. Some (cert_fault_text fault) };
 
     fn fmt<W: fmt::Write>(&self, f: &mut fmt::Formatter<W>) -> fmt::Result {
-        match self {
-            CertFault::Text { line } => write!(f, "certificate fault K1 Text line {line}"),
-            CertFault::Counts => f.write_str("certificate fault K2 Counts"),
+        match self.cause() {
+            (name, Some(number)) => write!(f, "{name} {number}"),
+            (name, None) => f.write_str(name),
+        }
+    }
+}
+
+impl fmt::Debug for CertFault {
+    fn fmt<W: fmt::Write>(&self, f: &mut fmt::Formatter<W>) -> fmt::Result {
+        fmt::Display::fmt(self, f)
+    }
+}
+
+impl CertFault {
+    ghost use Rattle.tl_verdict.specs.Messages.{cert_fault_text, numbered_text};
+
+    // What is printed of it: a text, and the number behind it, if one is.
+    fn cause(&self) -> (&'static str, Option<u128>)
+        ensures { numbered_text result.0.now result.1 ≡ cert_fault_text self.now }
+    {
+        match *self {
+            CertFault::Text { line } => ("certificate fault K1 Text line", Some(line)),
+            CertFault::Counts => ("certificate fault K2 Counts", None),
             CertFault::Tree(fault) => {
-                let (name, number) = tree_cause(*fault);
-                write!(f, "certificate fault K3 Tree {name} {number}")
+                let (name, number) = tree_cause(fault);
+                (name, Some(u128::from(number)))
             }
-            CertFault::TooDeep => f.write_str("certificate fault K3 Tree TooDeep"),
+            CertFault::TooDeep => ("certificate fault K3 Tree TooDeep", None),
             CertFault::Round(fault) => {
-                let (name, number) = round_cause(*fault);
-                write!(f, "certificate fault K4 Round {name} {number}")
+                let (name, number) = round_cause(fault);
+                (name, Some(u128::from(number)))
             }
             CertFault::Walk(fault) => {
-                let (name, number) = walk_cause(*fault);
-                write!(f, "certificate fault K5 Walk {name} {number}")
+                let (name, number) = walk_cause(fault);
+                (name, Some(u128::from(number)))
             }
         }
     }
 }
 
-// The name of a tree's fault, and the index or the node that it is about.
+// What is printed of a tree's fault, before the index or the node that it is about.
 fn tree_cause(fault: TreeFault) -> (&'static str, u32)
-    ensures { result.0.now ++ codes " " ++ decimal result.1 ≡ tree_text fault }
+    ensures { result.0.now ++ codes " " ++ decimal result.1 ≡ codes "certificate fault K3 Tree " ++ tree_text fault }
 {
     match fault {
-        TreeFault::UnknownIndex(index) => ("UnknownIndex", index),
-        TreeFault::IndexTwice(index) => ("IndexTwice", index),
-        TreeFault::IndexMissing(index) => ("IndexMissing", index),
-        TreeFault::RectTooSmall(node) => ("RectTooSmall", node),
+        TreeFault::UnknownIndex(index) => ("certificate fault K3 Tree UnknownIndex", index),
+        TreeFault::IndexTwice(index) => ("certificate fault K3 Tree IndexTwice", index),
+        TreeFault::IndexMissing(index) => ("certificate fault K3 Tree IndexMissing", index),
+        TreeFault::RectTooSmall(node) => ("certificate fault K3 Tree RectTooSmall", node),
     }
 }
 
-// The name of a fault of rounds, and the dart or the round that it is about.
+// What is printed of a fault of rounds, before the dart or the round that it is about.
 fn round_cause(fault: RoundFault) -> (&'static str, u32)
-    ensures { result.0.now ++ codes " " ++ decimal result.1 ≡ round_text fault }
+    ensures { result.0.now ++ codes " " ++ decimal result.1 ≡ codes "certificate fault K4 Round " ++ round_text fault }
 {
     match fault {
-        RoundFault::UnknownDart(dart) => ("UnknownDart", dart),
-        RoundFault::DartTwice(dart) => ("DartTwice", dart),
-        RoundFault::DartMissing(dart) => ("DartMissing", dart),
-        RoundFault::StartsElsewhere(round) => ("StartsElsewhere", round),
-        RoundFault::NodeRepeated(round) => ("NodeRepeated", round),
-        RoundFault::OrderNotRising(round) => ("OrderNotRising", round),
+        RoundFault::UnknownDart(dart) => ("certificate fault K4 Round UnknownDart", dart),
+        RoundFault::DartTwice(dart) => ("certificate fault K4 Round DartTwice", dart),
+        RoundFault::DartMissing(dart) => ("certificate fault K4 Round DartMissing", dart),
+        RoundFault::StartsElsewhere(round) => ("certificate fault K4 Round StartsElsewhere", round),
+        RoundFault::NodeRepeated(round) => ("certificate fault K4 Round NodeRepeated", round),
+        RoundFault::OrderNotRising(round) => ("certificate fault K4 Round OrderNotRising", round),
     }
 }
 
-// The name of a fault of walks, and the dart or the walk that it is about.
+// What is printed of a fault of walks, before the dart or the walk that it is about.
 fn walk_cause(fault: WalkFault) -> (&'static str, u32)
-    ensures { result.0.now ++ codes " " ++ decimal result.1 ≡ walk_text fault }
+    ensures { result.0.now ++ codes " " ++ decimal result.1 ≡ codes "certificate fault K5 Walk " ++ walk_text fault }
 {
     match fault {
-        WalkFault::UnknownDart(dart) => ("UnknownDart", dart),
-        WalkFault::DartTwice(dart) => ("DartTwice", dart),
-        WalkFault::DartMissing(dart) => ("DartMissing", dart),
-        WalkFault::WrongStep(walk) => ("WrongStep", walk),
-        WalkFault::NotClosed(walk) => ("NotClosed", walk),
+        WalkFault::UnknownDart(dart) => ("certificate fault K5 Walk UnknownDart", dart),
+        WalkFault::DartTwice(dart) => ("certificate fault K5 Walk DartTwice", dart),
+        WalkFault::DartMissing(dart) => ("certificate fault K5 Walk DartMissing", dart),
+        WalkFault::WrongStep(walk) => ("certificate fault K5 Walk WrongStep", walk),
+        WalkFault::NotClosed(walk) => ("certificate fault K5 Walk NotClosed", walk),
     }
 }

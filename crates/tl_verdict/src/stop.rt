@@ -6,7 +6,7 @@ use tl_record::Cause;
 
 /// Why there is no verdict. Its message is the line that the program prints; it isn't the derive's, which no contract
 /// could state.
-#[derive(Clone, Copy, Debug, PartialEq, Eq, Error)]
+#[derive(Clone, Copy, PartialEq, Eq, Error)]
 pub enum Stop {
     /// This line of the records, counted from 1, is the first that is refused.
     Record { line: u64, cause: Cause },
@@ -31,5 +31,11 @@ impl fmt::Display for Stop {
             Stop::Device => f.write_str("stopped Device"),
             Stop::Budget => f.write_str("stopped Budget"),
         }
+    }
+}
+
+impl fmt::Debug for Stop {
+    fn fmt<W: fmt::Write>(&self, f: &mut fmt::Formatter<W>) -> fmt::Result {
+        fmt::Display::fmt(self, f)
     }
 }

@@ -16,7 +16,7 @@ pub enum Verdict {
 
 /// How many chains, segments, nodes, polygons and landmarks a sound map has, and how many rings its sides' boundaries have
 /// together, that of the outside too. It is printed as `chains=C segments=S nodes=N polygons=P landmarks=L rings=R`.
-#[derive(Clone, Copy, Debug, PartialEq, Eq)]
+#[derive(Clone, Copy, PartialEq, Eq)]
 pub struct Report {
     pub chains: u32,
     pub segments: u32,
@@ -38,5 +38,11 @@ impl fmt::Display for Report {
             "chains={} segments={} nodes={} polygons={} landmarks={} rings={}",
             self.chains, self.segments, self.nodes, self.polygons, self.landmarks, self.rings
         )
+    }
+}
+
+impl fmt::Debug for Report {
+    fn fmt<W: fmt::Write>(&self, f: &mut fmt::Formatter<W>) -> fmt::Result {
+        fmt::Display::fmt(self, f)
     }
 }

@@ -1,7 +1,7 @@
 -- Decisions of maps in memory, and answers where records have no map.
 use Rattle.std.specs.Prelude.{Result, Ok, Err, ⊤}
-use Rattle.tl_map.specs.declared.fault.MapStop.{MapStop}
-use Rattle.tl_map.specs.declared.fault.MapStop.TheVariants as map
+use Rattle.tl_drawn.specs.declared.fault.MapStop.{MapStop}
+use Rattle.tl_drawn.specs.declared.fault.MapStop.TheVariants as map
 use Rattle.tl_cert.specs.Certificates.{TheCertificate}
 use Rattle.tl_verdict.specs.declared.fault.MapFault.{MapFault}
 use Rattle.tl_verdict.specs.declared.fault.MapFault.TheVariants as of_map

@@ -5,11 +5,11 @@ use Rattle.indexmap.specs.IndexMap.{IndexMap, index_of}
 use Rattle.tl_geom.specs.declared.point.Point.{Point}
 use Rattle.tl_county.specs.declared.polygons.Polygon.{Polygon}
 use Rattle.tl_key.specs.declared.key.PolyKey.{PolyKey}
-use Rattle.tl_map.specs.declared.fault.MapStop.{MapStop}
-use Rattle.tl_map.specs.declared.fault.MapStop.TheVariants.{Memory, Fault}
-use Rattle.tl_map.specs.declared.fault.MapFault.TheVariants.{DuplicatePolygon}
-use Rattle.tl_map.specs.Faults.{StandsTwice}
-use Rattle.tl_map.specs.MapOf.{same_key}
+use Rattle.tl_drawn.specs.declared.fault.MapStop.{MapStop}
+use Rattle.tl_drawn.specs.declared.fault.MapStop.TheVariants.{Memory, Fault}
+use Rattle.tl_drawn.specs.declared.fault.MapFault.TheVariants.{DuplicatePolygon}
+use Rattle.tl_drawn.specs.Faults.{StandsTwice}
+use Rattle.tl_drawn.specs.MapOf.{same_key}
 
 -- a polygon as an entry of a map by keys
 abbrev pub entry_of : Polygon → PolyKey × Point

@@ -1,7 +1,7 @@
 -- Kept on the way: type I records in rows, and those with a number of more than 32 bits whole.
 use Rattle.std.specs.Prelude.{◌≡◌, ◌<◌, true, if◌then◌else◌, List, length, slice_index_or}
 use Rattle.tl_county.specs.Kept.{given}
-use Rattle.tl_map.specs.declared.entry.SidesEntry.{SidesEntry}
+use Rattle.tl_drawn.specs.declared.entry.SidesEntry.{SidesEntry}
 use Rattle.tl_map.specs.declared.kept.SidesRow.{SidesRow}
 
 -- the record of a row's own numbers

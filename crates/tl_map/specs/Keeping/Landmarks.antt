@@ -5,16 +5,16 @@ use Rattle.indexmap.specs.IndexMap.{IndexMap, index_of, keys, IsUnique}
 use Rattle.tl_geom.specs.declared.point.Point.{Point}
 use Rattle.std.specs.List.Sorted.{IsNonDecreasingBy, IsPermutation}
 use Rattle.tl_key.specs.declared.key.PolyKey.{PolyKey}
-use Rattle.tl_map.specs.declared.entry.LandmarkEntry.{LandmarkEntry}
-use Rattle.tl_map.specs.declared.entry.LinkEntry.{LinkEntry}
+use Rattle.tl_drawn.specs.declared.entry.LandmarkEntry.{LandmarkEntry}
+use Rattle.tl_drawn.specs.declared.entry.LinkEntry.{LinkEntry}
 use Rattle.tl_map.specs.declared.landmarks.Link.{Link}
-use Rattle.tl_map.specs.declared.fault.Limited.TheVariants.{Landmarks}
-use Rattle.tl_map.specs.declared.fault.MapFault.TheVariants.{TooMany, LinkWithoutLandmark, LinkWithoutPolygon}
-use Rattle.tl_map.specs.declared.fault.MapStop.{MapStop}
-use Rattle.tl_map.specs.declared.fault.MapStop.TheVariants.{Memory, Fault}
+use Rattle.tl_drawn.specs.declared.fault.Limited.TheVariants.{Landmarks}
+use Rattle.tl_drawn.specs.declared.fault.MapFault.TheVariants.{TooMany, LinkWithoutLandmark, LinkWithoutPolygon}
+use Rattle.tl_drawn.specs.declared.fault.MapStop.{MapStop}
+use Rattle.tl_drawn.specs.declared.fault.MapStop.TheVariants.{Memory, Fault}
 use Rattle.tl_county.specs.declared.landmarks.LinkedLandmarks.{LinkedLandmarks}
 use Rattle.tl_county.specs.declared.landmarks.LandmarkRow.{LandmarkRow}
-use Rattle.tl_map.specs.MapOf.{firsts, place_of, linked_to}
+use Rattle.tl_drawn.specs.MapOf.{firsts, place_of, linked_to}
 use Rattle.tl_county.specs.TheMap.{MapLandmark}
 use Rattle.tl_county.specs.Limits.{most_landmarks}
 use Rattle.tl_map.specs.Keeping.Index.{Numbers}
@@ -88,6 +88,14 @@ pub record AreRows (links : List Link) (n : ℕ) (linked : List ℕ) (rows : Lis
   pub count : length rows ≡ n
   pub within : All (IsRow linked) rows
   pub are : (k : ℕ) (d : LandmarkRow) → k < length rows → polygons_at linked (slice_index_or rows k d) ≡ polygons_to k links
+
+-- each of n landmarks has a row with the polygons of its links, which name landmarks and polygons by these LANDs and keys
+pub record AreLinkRows (ks : List PolyKey) (ns : List ℕ) (links : List LinkEntry) (n : ℕ) (linked : List ℕ) (rows : List LandmarkRow) : Type 0 where
+  pub made : List Link
+  pub sorted : List Link
+  pub all : AreAllLinks ks ns links made
+  pub by_landmark : AreByLandmark made sorted
+  pub listed : AreRows sorted n linked rows
 
 -- the landmark of a first record, by the polygons' keys and the links
 abbrev pub landmark_from : List PolyKey → List LinkEntry → LandmarkEntry → MapLandmark

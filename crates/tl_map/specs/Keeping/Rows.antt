@@ -2,15 +2,15 @@
 use Rattle.std.specs.Prelude.{◌≡◌, ℕ, ◌⊎◌, ◌<◌, if◌then◌else◌, List, [], ◌∷◌, ◌++◌, length, Any}
 use Rattle.std.specs.List.{dedup, flat_map}
 use Rattle.tl_geom.specs.declared.point.Point.{Point}
-use Rattle.tl_map.specs.declared.entry.ChainEntry.{ChainEntry}
-use Rattle.tl_map.specs.declared.entry.ShapeEntry.{ShapeEntry}
+use Rattle.tl_drawn.specs.declared.entry.ChainEntry.{ChainEntry}
+use Rattle.tl_drawn.specs.declared.entry.ShapeEntry.{ShapeEntry}
 use Rattle.tl_county.specs.declared.limits.TheConstants.{SEGMENT_LIMIT}
-use Rattle.tl_map.specs.declared.fault.Limited.TheVariants.{Segments}
-use Rattle.tl_map.specs.declared.fault.MapFault.TheVariants.{DegenerateChain, TooMany}
-use Rattle.tl_map.specs.declared.fault.MapStop.{MapStop}
-use Rattle.tl_map.specs.declared.fault.MapStop.TheVariants.{Memory, Fault}
+use Rattle.tl_drawn.specs.declared.fault.Limited.TheVariants.{Segments}
+use Rattle.tl_drawn.specs.declared.fault.MapFault.TheVariants.{DegenerateChain, TooMany}
+use Rattle.tl_drawn.specs.declared.fault.MapStop.{MapStop}
+use Rattle.tl_drawn.specs.declared.fault.MapStop.TheVariants.{Memory, Fault}
 use Rattle.tl_county.specs.Chains.{CompleteChain, segment_count}
-use Rattle.tl_map.specs.ChainsOf.{same_point}
+use Rattle.tl_drawn.specs.ChainsOf.{same_point}
 use Rattle.tl_map.specs.Keeping.Entries.{entry_points}
 
 -- what dedup leaves of the points that follow p

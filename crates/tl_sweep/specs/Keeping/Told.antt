@@ -1,11 +1,15 @@
--- What is answered where a test of a sweep failed.
+-- What an answer of a sweep says of a map.
 use Rattle.std.specs.Prelude.{⊤}
+use Rattle.tl_county.specs.TheMap.{TheMap}
+use Rattle.tl_planar.specs.Planar.{IsPlanar}
+use Rattle.tl_planar.specs.Searching.{IsTrueMeet}
+use Rattle.tl_inside.specs.Placed.{ArePlaced}
 use Rattle.tl_sweep.specs.declared.answer.Swept.{Swept}
 use Rattle.tl_sweep.specs.declared.answer.Swept.TheVariants.{Placed, Planar, Meet, Unknown}
 
--- the answer is a meet, or says nothing
-abbrev pub IsMeetOrUnknown : Swept → Type 0
-IsMeetOrUnknown Placed = ⊥
-IsMeetOrUnknown Planar = ⊥
-IsMeetOrUnknown (Meet meet) = ⊤
-IsMeetOrUnknown Unknown = ⊤
+-- what the answer says is so
+abbrev pub IsTrueAnswer : TheMap → Swept → Type 0
+IsTrueAnswer map Placed = IsPlanar map.chains × ArePlaced map
+IsTrueAnswer map Planar = IsPlanar map.chains
+IsTrueAnswer map (Meet meet) = IsTrueMeet map.chains meet
+IsTrueAnswer map Unknown = ⊤

@@ -16,3 +16,33 @@ loop-index-preserved c =
       spelt = line_behind 83 c.args.bytes.now items c.push.new.self.items c.loop-index.at (c.in-Some.digits + 2) c.in-Some.item so_far.within so_far.spelt first.1 is;
       few = c.in-Some.ensures.few;
     }
+
+pub returns-in_default-clause-few : goal.returns-in_default-clause-few
+returns-in_default-clause-few c = omega (arith, c.loop-index.invariant.size, c.loop-index-test.true)
+
+pub returns-in_default-clause-numbers : goal.returns-in_default-clause-numbers
+returns-in_default-clause-numbers c = c.loop-index.invariant.numbers
+
+pub returns-in_default-clause-within : goal.returns-in_default-clause-within
+returns-in_default-clause-within c = c.loop-index.invariant.within
+
+pub returns-in_default-clause-spelt : goal.returns-in_default-clause-spelt
+returns-in_default-clause-spelt c = c.loop-index.invariant.spelt
+
+pub returns-in_default-clause-digits : goal.returns-in_default-clause-digits
+returns-in_default-clause-digits c = c.loop-index.invariant.few
+
+pub returns-clause-few : goal.returns-clause-few
+returns-clause-few c = omega (arith, c.loop-index.invariant.size, c.loop-index.auto.index-end)
+
+pub returns-clause-numbers : goal.returns-clause-numbers
+returns-clause-numbers c = c.loop-index.invariant.numbers
+
+pub returns-clause-within : goal.returns-clause-within
+returns-clause-within c = c.loop-index.invariant.within
+
+pub returns-clause-spelt : goal.returns-clause-spelt
+returns-clause-spelt c = c.loop-index.invariant.spelt
+
+pub returns-clause-digits : goal.returns-clause-digits
+returns-clause-digits c = c.loop-index.invariant.few

@@ -1,4 +1,5 @@
-use Rattle.std.proofs.Common.{◌∷◌, [], rules, length}
+use Rattle.std.proofs.Common.{◌∷◌, [], length}
+use Rattle.std.proofs.lemmas.Result.{err_from_is_err_and}
 use Rattle.tl_cert.specs.Text.{numbered_line, dart_lines}
 use Rattle.tl_output.proofs.WritingLemmas.{passes_last, passes_some_first}
 use Rattle.tl_cert.proofs.WriteLemmas.{line_first}
@@ -8,9 +9,15 @@ pub returns-in_err-write_number-clause-bytes : goal.returns-in_err-write_number-
 returns-in_err-write_number-clause-bytes g c =
     let lost = passes_some_first _ _ _ _ _ _ c.in_err-write_number.ensures.bytes
     (line_first (numbered_line (c.args.letter ∷ []) (length c.args.darts.now)) (dart_lines c.args.darts.now)) in
-    search (rules, lost)
+    let p = err_from_is_err_and c.from_residual.result c.from_residual.ensures.1 in
+    rw p.1 lost
 
 pub returns-clause-bytes : goal.returns-clause-bytes
 returns-clause-bytes g c =
     passes_last c.write_numbers.result _ _ _ _ _ _ _ _ _ c.in_ok-write_number.ensures.bytes c.write_numbers.ensures.bytes
     (line_first (numbered_line (c.args.letter ∷ []) (length c.args.darts.now)) (dart_lines c.args.darts.now))
+
+pub returns-in_err-write_number-clause-failures : goal.returns-in_err-write_number-clause-failures
+returns-in_err-write_number-clause-failures g c =
+    let p = err_from_is_err_and c.from_residual.result c.from_residual.ensures.1 in
+    rw p.1 c.in_err-write_number.ensures.failures

@@ -1,10 +1,11 @@
-use Rattle.std.proofs.Common.{Ok, sym, subst, ◌∙◌}
+use Rattle.std.proofs.Common.{Ok, Err, refl, sym, subst, ◌∙◌}
 use Rattle.tl_cert.specs.declared.place.Place.TheVariants.{Start, Counted, Treed, Rounds, Walks}
 use Rattle.tl_cert.specs.declared.place.CertPart.TheVariants as part
 use Rattle.tl_cert.specs.Reading.{Gives, source_of, standing_of}
 use Rattle.tl_check.specs.Keeping.Parts.{Holds, TakesRounds, IsSearched, IsBehindSearch, with_round, with_walk}
-use Rattle.tl_check.proofs.Searched.{stopped_searched, stopped_behind, answered_behind, halted_searched, ended_searched, searched_so, reads_allowed}
+use Rattle.tl_check.proofs.Searched.{stopped_searched, stopped_behind, stopped_within, answered_behind, answered_within, halted_searched, ended_searched, searched_so, reads_allowed}
 use Rattle.tl_check.proofs.Streaming.{stop_decides, nothing, begun, counts_read, tree_read, round_read, walk_read, end_decides, no_device, wrong_counts, gives_as}
+use Rattle.tl_check.proofs.Stopping.{stopped_tells, answered_tells, halted_decides, ended_decides}
 use Rattle.tl_check.proofs.Meeting.{meets_so, halted_meets, planar_by, start_meets, counted_meets, taken_planar}
 use Rattle.std.proofs.lemmas.Bool.{false≢true}
 use Rattle.tl_cert.proofs.CollectLemmas.{tells_here}
@@ -278,3 +279,97 @@ returns-in-Err-next_part-2-clause-meets g c = meets_so c.stopped-in-Err-next_par
 
 pub returns-in-Ok-None-clause-meets : goal.returns-in-Ok-None-clause-meets
 returns-in-Ok-None-clause-meets g c = meets_so c.conclude.result _ c.parts.invariant.planar
+
+pub returns-in-Err-clause-within : goal.returns-in-Err-clause-within
+returns-in-Err-clause-within g c = rw c.stopped.ensures (stopped_within c.in-Err.stop _)
+
+pub returns-in-Err-clause-failures : goal.returns-in-Err-clause-failures
+returns-in-Err-clause-failures g c =
+    rw c.stopped.ensures
+    (stopped_tells c.in-Err.stop Start (g.R.Source.failure_count (source_of c.args.reader.now)) (g.R.Source.failure_count (source_of c.args.reader.now)) (g.R.Source.failure_count (source_of c.next_part.new.self))
+    (tells_here (standing_of c.args.reader.now) Start (g.R.Source.failure_count (source_of c.args.reader.now)) (g.R.Source.failure_count (source_of c.next_part.new.self)) (Err c.in-Err.stop) c.requires.standing c.in-Err.ensures.failures) refl)
+
+pub returns-in-Err-next_part-clause-within : goal.returns-in-Err-next_part-clause-within
+returns-in-Err-next_part-clause-within g c = rw c.stopped-in-Err-next_part.ensures (stopped_within c.in-Err-next_part.stop _)
+
+pub returns-in-Err-next_part-clause-failures : goal.returns-in-Err-next_part-clause-failures
+returns-in-Err-next_part-clause-failures g c =
+    let first = gives_as g.R.Source.remaining c.args.reader.now c.next_part.new.self c.in-Ok-Some-Counts.field-0 c.in-Ok-Some-Counts.field-0-0 (part.Counts c.in-Ok-Some-Counts.counts c.in-Ok-Some-Counts.field-0-0-1) c.in-Ok-Some-Counts.field-0-is c.in-Ok-Some-Counts.field-0-0-is c.in-Ok-Some-Counts.ensures.gives in
+    let r = counts_read g.R.Source.remaining c.args.map.now c.args.budget c.args.reader.now c.next_part.new.self c.in-Ok-Some-Counts.counts c.in-Ok-Some-Counts.field-0-0-1 c.requires.standing c.requires.lines first in
+    rw c.stopped-in-Err-next_part.ensures
+    (stopped_tells c.in-Err-next_part.stop (Counted r.version) (g.R.Source.failure_count (source_of c.args.reader.now)) (g.R.Source.failure_count (source_of c.next_part.new.self)) (g.R.Source.failure_count (source_of c.next_part-2.new.self))
+    (tells_here (standing_of c.next_part.new.self) (Counted r.version) (g.R.Source.failure_count (source_of c.next_part.new.self)) (g.R.Source.failure_count (source_of c.next_part-2.new.self)) (Err c.in-Err-next_part.stop) r.collects.standing c.in-Err-next_part.ensures.failures)
+    (tells_here (standing_of c.args.reader.now) Start (g.R.Source.failure_count (source_of c.args.reader.now)) (g.R.Source.failure_count (source_of c.next_part.new.self)) (Ok c.in-Ok-Some-Counts.field-0) c.requires.standing c.in-Ok-Some-Counts.ensures.failures))
+
+pub returns-in-Err-take_tree-clause-decides : goal.returns-in-Err-take_tree-clause-decides
+returns-in-Err-take_tree-clause-decides g c = rw c.answer.ensures (halted_decides c.args.map.now c.args.budget _ c.in-Err-take_tree.halt c.in-Err-take_tree.ensures.halts)
+
+pub returns-in-Err-take_tree-clause-within : goal.returns-in-Err-take_tree-clause-within
+returns-in-Err-take_tree-clause-within g c = rw c.answer.ensures (answered_within c.in-Err-take_tree.halt _)
+
+pub returns-in-Err-take_tree-clause-failures : goal.returns-in-Err-take_tree-clause-failures
+returns-in-Err-take_tree-clause-failures g c =
+    let first = gives_as g.R.Source.remaining c.args.reader.now c.next_part.new.self c.in-Ok-Some-Counts.field-0 c.in-Ok-Some-Counts.field-0-0 (part.Counts c.in-Ok-Some-Counts.counts c.in-Ok-Some-Counts.field-0-0-1) c.in-Ok-Some-Counts.field-0-is c.in-Ok-Some-Counts.field-0-0-is c.in-Ok-Some-Counts.ensures.gives in
+    let r = counts_read g.R.Source.remaining c.args.map.now c.args.budget c.args.reader.now c.next_part.new.self c.in-Ok-Some-Counts.counts c.in-Ok-Some-Counts.field-0-0-1 c.requires.standing c.requires.lines first in
+    rw c.answer.ensures
+    (answered_tells c.in-Err-take_tree.halt (g.R.Source.failure_count (source_of c.args.reader.now)) (g.R.Source.failure_count (source_of c.next_part-2.new.self))
+    (tells_here (standing_of c.next_part.new.self) (Counted r.version) (g.R.Source.failure_count (source_of c.next_part.new.self)) (g.R.Source.failure_count (source_of c.next_part-2.new.self)) (Ok c.in-Ok-Some-Tree.field-0) r.collects.standing c.in-Ok-Some-Tree.ensures.failures
+    ∙ (tells_here (standing_of c.args.reader.now) Start (g.R.Source.failure_count (source_of c.args.reader.now)) (g.R.Source.failure_count (source_of c.next_part.new.self)) (Ok c.in-Ok-Some-Counts.field-0) c.requires.standing c.in-Ok-Some-Counts.ensures.failures)))
+
+pub returns-in-Err-end_rounds-clause-decides : goal.returns-in-Err-end_rounds-clause-decides
+returns-in-Err-end_rounds-clause-decides g c = rw c.answer-in-Err-end_rounds.ensures (ended_decides c.args.map.now c.args.budget _ c.in-Err-end_rounds.halt c.in-Err-end_rounds.ensures.halts)
+
+pub returns-in-Err-end_rounds-clause-within : goal.returns-in-Err-end_rounds-clause-within
+returns-in-Err-end_rounds-clause-within g c = rw c.answer-in-Err-end_rounds.ensures (answered_within c.in-Err-end_rounds.halt _)
+
+pub returns-in-Err-end_rounds-clause-failures : goal.returns-in-Err-end_rounds-clause-failures
+returns-in-Err-end_rounds-clause-failures g c =
+    let st = c.parts.invariant.stands in
+    rw c.answer-in-Err-end_rounds.ensures
+    (answered_tells c.in-Err-end_rounds.halt (g.R.Source.failure_count (source_of c.args.reader.now)) (g.R.Source.failure_count (source_of c.next_part-in-parts.new.self))
+    (tells_here (standing_of c.parts.reader) st.place (g.R.Source.failure_count (source_of c.parts.reader)) (g.R.Source.failure_count (source_of c.next_part-in-parts.new.self)) (Ok c.in-Ok-Some-Walk.field-0) st.collects.standing c.in-Ok-Some-Walk.ensures.failures ∙ c.parts.invariant.failures))
+
+pub returns-in-Err-take_walk-clause-decides : goal.returns-in-Err-take_walk-clause-decides
+returns-in-Err-take_walk-clause-decides g c = rw c.answer-in-Err-take_walk.ensures (ended_decides c.args.map.now c.args.budget _ c.in-Err-take_walk.halt c.in-Err-take_walk.ensures.halts)
+
+pub returns-in-Err-take_walk-clause-within : goal.returns-in-Err-take_walk-clause-within
+returns-in-Err-take_walk-clause-within g c = rw c.answer-in-Err-take_walk.ensures (answered_within c.in-Err-take_walk.halt _)
+
+pub returns-in-Err-take_walk-clause-failures : goal.returns-in-Err-take_walk-clause-failures
+returns-in-Err-take_walk-clause-failures g c =
+    let st = c.parts.invariant.stands in
+    rw c.answer-in-Err-take_walk.ensures
+    (answered_tells c.in-Err-take_walk.halt (g.R.Source.failure_count (source_of c.args.reader.now)) (g.R.Source.failure_count (source_of c.next_part-in-parts.new.self))
+    (tells_here (standing_of c.parts.reader) st.place (g.R.Source.failure_count (source_of c.parts.reader)) (g.R.Source.failure_count (source_of c.next_part-in-parts.new.self)) (Ok c.in-Ok-Some-Walk.field-0) st.collects.standing c.in-Ok-Some-Walk.ensures.failures ∙ c.parts.invariant.failures))
+
+pub returns-in-Err-next_part-2-clause-within : goal.returns-in-Err-next_part-2-clause-within
+returns-in-Err-next_part-2-clause-within g c = rw c.stopped-in-Err-next_part-2.ensures (stopped_within c.in-Err-next_part-2.stop _)
+
+pub returns-in-Err-next_part-2-clause-decides : goal.returns-in-Err-next_part-2-clause-decides
+returns-in-Err-next_part-2-clause-decides g c =
+    let st = c.parts.invariant.stands in
+    rw c.stopped-in-Err-next_part-2.ensures
+    (stop_decides g.R.Source.remaining c.args.map.now c.args.budget c.args.reader.now st.place c.parts.reader c.next_part-in-parts.new.self st.cert c.in-Err-next_part-2.stop st.collects c.in-Err-next_part-2.ensures.gives)
+
+pub returns-in-Err-next_part-2-clause-failures : goal.returns-in-Err-next_part-2-clause-failures
+returns-in-Err-next_part-2-clause-failures g c =
+    let st = c.parts.invariant.stands in
+    rw c.stopped-in-Err-next_part-2.ensures
+    (stopped_tells c.in-Err-next_part-2.stop st.place (g.R.Source.failure_count (source_of c.args.reader.now)) (g.R.Source.failure_count (source_of c.parts.reader)) (g.R.Source.failure_count (source_of c.next_part-in-parts.new.self))
+    (tells_here (standing_of c.parts.reader) st.place (g.R.Source.failure_count (source_of c.parts.reader)) (g.R.Source.failure_count (source_of c.next_part-in-parts.new.self)) (Err c.in-Err-next_part-2.stop) st.collects.standing c.in-Err-next_part-2.ensures.failures)
+    c.parts.invariant.failures)
+
+pub take_round-state-requires-clause-held : goal.take_round-state-requires-clause-held
+take_round-state-requires-clause-held g c = (c.parts.invariant.stands.cert, c.parts.invariant.stands.holds)
+
+pub take_round-state-requires-clause-takes : goal.take_round-state-requires-clause-takes
+take_round-state-requires-clause-takes g c =
+    let gives = gives_as g.R.Source.remaining c.parts.reader c.next_part-in-parts.new.self c.in-Ok-Some-Round.field-0 c.in-Ok-Some-Round.field-0-0 (part.Round c.in-Ok-Some-Round.darts) c.in-Ok-Some-Round.field-0-is c.in-Ok-Some-Round.field-0-0-is c.in-Ok-Some-Round.ensures.gives in
+    let r = round_read g.R.Source.remaining c.args.map.now c.args.budget c.args.reader.now c.parts.reader c.next_part-in-parts.new.self c.parts.state c.in-Ok-Some-Round.darts c.parts.invariant.stands gives in
+    r.1
+
+pub take_walk-requires-clause-takes : goal.take_walk-requires-clause-takes
+take_walk-requires-clause-takes g c = c.in-Ok-end_rounds.ensures.walks
+
+pub end_rounds-requires : goal.end_rounds-requires
+end_rounds-requires g c = record { held = (c.parts.invariant.stands.cert, c.parts.invariant.stands.holds) }

@@ -1,4 +1,5 @@
-use Rattle.tl_check.proofs.Searched.{answered_behind, ended_searched}
+use Rattle.tl_check.proofs.Searched.{answered_behind, answered_within, ended_searched}
+use Rattle.tl_check.proofs.Stopping.{ended_concludes}
 use Rattle.tl_check.proofs.Walking.{told_ok, told_err}
 use Rattle.tl_check.proofs.as_read.conclude.Goals as goal
 
@@ -34,3 +35,39 @@ returns-in-Err-finish_walks-clause-behind c = λ behind. rw c.answer-in-Err-fini
 
 pub returns-in-Err-finish_walks-clause-allowed : goal.returns-in-Err-finish_walks-clause-allowed
 returns-in-Err-finish_walks-clause-allowed c = rw c.answer-in-Err-finish_walks.ensures (ended_searched c.in-Err-finish_walks.halt _ (λ cert held. c.in-Err-finish_walks.ensures.allowed cert (c.in-Ok.ensures.holds cert held)))
+
+pub end_rounds-requires : goal.end_rounds-requires
+end_rounds-requires c = record { held = (c.requires.held.0, c.requires.held.1) }
+
+pub finish_walks-requires-clause-whole : goal.finish_walks-requires-clause-whole
+finish_walks-requires-clause-whole c = c.requires.whole
+
+pub finish_walks-requires-clause-numbered : goal.finish_walks-requires-clause-numbered
+finish_walks-requires-clause-numbered c = c.requires.numbered
+
+pub finish_walks-requires-clause-takes : goal.finish_walks-requires-clause-takes
+finish_walks-requires-clause-takes c = c.in-Ok.ensures.walks
+
+pub returns-in-Err-clause-concludes : goal.returns-in-Err-clause-concludes
+returns-in-Err-clause-concludes c = λ cert held. rw c.answer.ensures (ended_concludes c.args.map.now cert c.in-Err.halt c.in-Err.ensures.halts)
+
+pub returns-in-Err-clause-within : goal.returns-in-Err-clause-within
+returns-in-Err-clause-within c = λ n searched. rw c.answer.ensures (answered_within c.in-Err.halt _)
+
+pub returns-in-Err-finish_walks-clause-concludes : goal.returns-in-Err-finish_walks-clause-concludes
+returns-in-Err-finish_walks-clause-concludes c = λ cert held. rw c.answer-in-Err-finish_walks.ensures (ended_concludes c.args.map.now cert c.in-Err-finish_walks.halt c.in-Err-finish_walks.ensures.halts)
+
+pub returns-in-Err-finish_walks-clause-within : goal.returns-in-Err-finish_walks-clause-within
+returns-in-Err-finish_walks-clause-within c = λ n searched. rw c.answer-in-Err-finish_walks.ensures (answered_within c.in-Err-finish_walks.halt _)
+
+pub returns-in-Ok-Err-clause-allowed : goal.returns-in-Ok-Err-clause-allowed
+returns-in-Ok-Err-clause-allowed c = tt
+
+pub returns-in-Ok-Err-clause-within : goal.returns-in-Ok-Err-clause-within
+returns-in-Ok-Err-clause-within c = λ n searched. tt
+
+pub returns-in-Ok-Ok-clause-allowed : goal.returns-in-Ok-Ok-clause-allowed
+returns-in-Ok-Ok-clause-allowed c = tt
+
+pub returns-in-Ok-Ok-clause-behind : goal.returns-in-Ok-Ok-clause-behind
+returns-in-Ok-Ok-clause-behind c = λ behind. tt

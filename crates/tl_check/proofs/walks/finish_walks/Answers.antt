@@ -31,3 +31,63 @@ pub returns-in-Ok-clause-allowed : goal.returns-in-Ok-clause-allowed
 returns-in-Ok-clause-allowed c = λ cert held.
     let w = c.in-Ok.ensures.walked cert held in
     record { counts = w.valid.counts; tree = w.valid.tree }
+
+pub end_walks-requires-clause-held : goal.end_walks-requires-clause-held
+end_walks-requires-clause-held c = (c.requires.held.0, c.requires.held.1)
+
+pub end_walks-requires-clause-takes : goal.end_walks-requires-clause-takes
+end_walks-requires-clause-takes c = c.requires.takes
+
+pub look_at_points-requires-clause-whole : goal.look_at_points-requires-clause-whole
+look_at_points-requires-clause-whole c = c.requires.whole
+
+pub look_at_points-requires-clause-numbered : goal.look_at_points-requires-clause-numbered
+look_at_points-requires-clause-numbered c = c.requires.numbered
+
+pub returns-in-Ok-look_at_points-clause-behind : goal.returns-in-Ok-look_at_points-clause-behind
+returns-in-Ok-look_at_points-clause-behind c = tt
+
+pub returns-in-Ok-look_at_points-clause-fault : goal.returns-in-Ok-look_at_points-clause-fault
+returns-in-Ok-look_at_points-clause-fault c = tt
+
+pub returns-in-Ok-look_at_points-clause-halts : goal.returns-in-Ok-look_at_points-clause-halts
+returns-in-Ok-look_at_points-clause-halts c = tt
+
+pub returns-in-Ok-look_at_points-clause-allowed : goal.returns-in-Ok-look_at_points-clause-allowed
+returns-in-Ok-look_at_points-clause-allowed c = tt
+
+pub returns-in-Ok-look_at_points-clause-searched : goal.returns-in-Ok-look_at_points-clause-searched
+returns-in-Ok-look_at_points-clause-searched c = c.in-Ok.ensures.searched
+
+pub returns-in-Ok-clause-behind : goal.returns-in-Ok-clause-behind
+returns-in-Ok-clause-behind c = tt
+
+pub returns-in-Ok-clause-fault : goal.returns-in-Ok-clause-fault
+returns-in-Ok-clause-fault c = tt
+
+pub returns-in-Ok-clause-searched : goal.returns-in-Ok-clause-searched
+returns-in-Ok-clause-searched c = tt
+
+pub returns-in-Ok-clause-shown : goal.returns-in-Ok-clause-shown
+returns-in-Ok-clause-shown c = tt
+
+pub returns-in-Ok-clause-halts : goal.returns-in-Ok-clause-halts
+returns-in-Ok-clause-halts c = c.in-Err-look_at_points.ensures.halts
+
+pub returns-clause-shown : goal.returns-clause-shown
+returns-clause-shown c = tt
+
+pub returns-clause-searched : goal.returns-clause-searched
+returns-clause-searched c = tt
+
+pub returns-clause-halts : goal.returns-clause-halts
+returns-clause-halts c = tt
+
+pub returns-clause-allowed : goal.returns-clause-allowed
+returns-clause-allowed c = tt
+
+pub returns-clause-behind : goal.returns-clause-behind
+returns-clause-behind c = c.in-Err.ensures.behind
+
+pub returns-clause-fault : goal.returns-clause-fault
+returns-clause-fault c = c.in-Err.ensures.fault

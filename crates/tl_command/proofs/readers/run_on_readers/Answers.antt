@@ -1,4 +1,6 @@
-use Rattle.std.proofs.Common.{inl, refl}
+use Rattle.std.proofs.Common.{inl, inr, refl, false, ap, ◌∙◌}
+use Rattle.tl_text.specs.Joining.{joined_bytes}
+use Rattle.tl_command.proofs.RunLemmas.{stop_no_answer, stop_no_refusal}
 use Rattle.tl_command.proofs.readers.run_on_readers.Goals as goal
 
 pub returns-clause-status : goal.returns-clause-status
@@ -48,3 +50,45 @@ returns-in_default-clause-unmade g c = λ e. refl
 
 pub returns-in_default-clause-begun : goal.returns-in_default-clause-begun
 returns-in_default-clause-begun g c = λ e. inl refl
+
+pub returns-in_default-clause-status : goal.returns-in_default-clause-status
+returns-in_default-clause-status g c = inr (inr (inr c.stopped.ensures.0))
+
+pub returns-in_default-clause-answered : goal.returns-in_default-clause-answered
+returns-in_default-clause-answered g c = λ e. absurd (stop_no_answer c.stopped.result c.stopped.ensures.0 (inl e))
+
+pub returns-in_default-clause-fault : goal.returns-in_default-clause-fault
+returns-in_default-clause-fault g c = λ e. absurd (stop_no_answer c.stopped.result c.stopped.ensures.0 (inr (inl e)))
+
+pub returns-in_default-clause-exactly : goal.returns-in_default-clause-exactly
+returns-in_default-clause-exactly g c = λ told. elim told [ inl e ↦ absurd (stop_no_answer c.stopped.result c.stopped.ensures.0 (inl e)) | inr e ↦ absurd (stop_no_answer c.stopped.result c.stopped.ensures.0 (inr (inl e))) ]
+
+pub returns-in_default-clause-cert_fault : goal.returns-in_default-clause-cert_fault
+returns-in_default-clause-cert_fault g c = λ e. absurd (stop_no_answer c.stopped.result c.stopped.ensures.0 (inr (inr e)))
+
+pub returns-in_default-clause-refused : goal.returns-in_default-clause-refused
+returns-in_default-clause-refused g c = λ e. absurd (stop_no_refusal c.stopped.result c.stopped.ensures.0 e)
+
+pub returns-in_default-clause-stopped : goal.returns-in_default-clause-stopped
+returns-in_default-clause-stopped g c = λ e. inl (inl (c.stopped.ensures.1, ((refl, refl), refl), refl))
+
+pub returns-in_default-clause-err_stays : goal.returns-in_default-clause-err_stays
+returns-in_default-clause-err_stays g c = λ told. absurd (stop_no_answer c.stopped.result c.stopped.ensures.0 told)
+
+pub returns-clause-answered : goal.returns-clause-answered
+returns-clause-answered g c = rw (c.new-records.ensures.bytes ∙ c.new-2.ensures.bytes ∙ ap (λ taken. joined_bytes g.F.Source.remaining false taken.items) c.replace-taken.ensures.value) at c.run-status.ensures.answered
+
+pub returns-clause-fault : goal.returns-clause-fault
+returns-clause-fault g c = rw (c.new-records.ensures.bytes ∙ c.new-2.ensures.bytes ∙ ap (λ taken. joined_bytes g.F.Source.remaining false taken.items) c.replace-taken.ensures.value) at c.run-status.ensures.fault
+
+pub returns-clause-exactly : goal.returns-clause-exactly
+returns-clause-exactly g c = rw (c.new-records.ensures.bytes ∙ c.new-2.ensures.bytes ∙ ap (λ taken. joined_bytes g.F.Source.remaining false taken.items) c.replace-taken.ensures.value) at c.run-status.ensures.exactly
+
+pub returns-clause-cert_fault : goal.returns-clause-cert_fault
+returns-clause-cert_fault g c = rw (c.new-records.ensures.bytes ∙ c.new-2.ensures.bytes ∙ ap (λ taken. joined_bytes g.F.Source.remaining false taken.items) c.replace-taken.ensures.value) at c.run-status.ensures.cert_fault
+
+pub returns-clause-refused : goal.returns-clause-refused
+returns-clause-refused g c = rw (c.new-records.ensures.bytes ∙ c.new-2.ensures.bytes ∙ ap (λ taken. joined_bytes g.F.Source.remaining false taken.items) c.replace-taken.ensures.value) at c.run-status.ensures.refused
+
+pub returns-clause-begun : goal.returns-clause-begun
+returns-clause-begun g c = rw (c.new-records.ensures.bytes ∙ c.new-2.ensures.bytes ∙ ap (λ taken. joined_bytes g.F.Source.remaining false taken.items) c.replace-taken.ensures.value) at c.run-status.ensures.begun

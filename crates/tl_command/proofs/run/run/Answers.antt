@@ -1,6 +1,7 @@
 use Rattle.std.proofs.Common.{inl, inr, refl}
 use Rattle.tl_record.specs.Layout.{layout_with}
 use Rattle.tl_command.proofs.DecidingLemmas.{audit_decides, build_decides, check_decides}
+use Rattle.tl_command.proofs.RunLemmas.{records_run, no_cert_fault, records_stay, records_unmade, rewrite_runs, no_map_fault, no_refusal, rewrite_stays, rewrite_unmade}
 use Rattle.tl_command.proofs.run.run.Goals as goal
 
 pub returns-in-Check-clause-exactly : goal.returns-in-Check-clause-exactly
@@ -200,3 +201,81 @@ returns-in_default-clause-unmade g c = λ e. refl
 
 pub returns-in_default-clause-begun : goal.returns-in_default-clause-begun
 returns-in_default-clause-begun g c = λ e. inl refl
+
+pub returns-in-Convert-clause-status : goal.returns-in-Convert-clause-status
+returns-in-Convert-clause-status g c = rewrite_runs c.convert.result c.convert.ensures.status
+
+pub returns-in-Convert-clause-fault : goal.returns-in-Convert-clause-fault
+returns-in-Convert-clause-fault g c = λ e. absurd (no_map_fault c.convert.result c.convert.ensures.status e)
+
+pub returns-in-Convert-clause-exactly : goal.returns-in-Convert-clause-exactly
+returns-in-Convert-clause-exactly g c = rw c.in-Convert.is (λ e. tt)
+
+pub returns-in-Convert-clause-refused : goal.returns-in-Convert-clause-refused
+returns-in-Convert-clause-refused g c = λ e. absurd (no_refusal c.convert.result c.convert.ensures.status e)
+
+pub returns-in-Convert-clause-out_stays : goal.returns-in-Convert-clause-out_stays
+returns-in-Convert-clause-out_stays g c = λ e. absurd (no_refusal c.convert.result c.convert.ensures.status e)
+
+pub returns-in-Convert-clause-unread : goal.returns-in-Convert-clause-unread
+returns-in-Convert-clause-unread g c = λ e. absurd (no_refusal c.convert.result c.convert.ensures.status e)
+
+pub returns-in-Convert-clause-err_stays : goal.returns-in-Convert-clause-err_stays
+returns-in-Convert-clause-err_stays g c = rewrite_stays c.convert.result _ c.convert.ensures.status c.convert.ensures.err_stays
+
+pub returns-in-Convert-clause-unmade : goal.returns-in-Convert-clause-unmade
+returns-in-Convert-clause-unmade g c = rewrite_unmade c.convert.result _ c.convert.ensures.status c.convert.ensures.made_stays
+
+pub returns-in-Convert-clause-cert : goal.returns-in-Convert-clause-cert
+returns-in-Convert-clause-cert g c = rw c.in-Convert.is (λ e. absurd e)
+
+pub returns-in-Convert-clause-made : goal.returns-in-Convert-clause-made
+returns-in-Convert-clause-made g c = rw c.in-Convert.is (λ e. absurd e)
+
+pub returns-in-Check-clause-cert : goal.returns-in-Check-clause-cert
+returns-in-Check-clause-cert g c = rw c.in-Check.is (λ e. absurd e)
+
+pub returns-in-Check-clause-records : goal.returns-in-Check-clause-records
+returns-in-Check-clause-records g c = rw c.in-Check.is (λ e. absurd e)
+
+pub returns-in-Audit-clause-status : goal.returns-in-Audit-clause-status
+returns-in-Audit-clause-status g c = records_run c.audit.result c.audit.ensures.status
+
+pub returns-in-Audit-clause-cert_fault : goal.returns-in-Audit-clause-cert_fault
+returns-in-Audit-clause-cert_fault g c = λ e. absurd (no_cert_fault c.audit.result c.audit.ensures.status e)
+
+pub returns-in-Audit-clause-err_stays : goal.returns-in-Audit-clause-err_stays
+returns-in-Audit-clause-err_stays g c = records_stay c.audit.result _ c.audit.ensures.status c.audit.ensures.err_stays
+
+pub returns-in-Audit-clause-records : goal.returns-in-Audit-clause-records
+returns-in-Audit-clause-records g c = rw c.in-Audit.is (λ e. absurd e)
+
+pub returns-in-Build-clause-status : goal.returns-in-Build-clause-status
+returns-in-Build-clause-status g c = records_run c.build.result c.build.ensures.status
+
+pub returns-in-Build-clause-cert_fault : goal.returns-in-Build-clause-cert_fault
+returns-in-Build-clause-cert_fault g c = λ e. absurd (no_cert_fault c.build.result c.build.ensures.status e)
+
+pub returns-in-Build-clause-err_stays : goal.returns-in-Build-clause-err_stays
+returns-in-Build-clause-err_stays g c = records_stay c.build.result _ c.build.ensures.status c.build.ensures.err_stays
+
+pub returns-in-Build-clause-records : goal.returns-in-Build-clause-records
+returns-in-Build-clause-records g c = rw c.in-Build.is (λ e. absurd e)
+
+pub returns-in_default-clause-status : goal.returns-in_default-clause-status
+returns-in_default-clause-status g c = records_run c.run_on_records.result c.run_on_records.ensures.status
+
+pub returns-in_default-clause-cert_fault : goal.returns-in_default-clause-cert_fault
+returns-in_default-clause-cert_fault g c = λ e. absurd (no_cert_fault c.run_on_records.result c.run_on_records.ensures.status e)
+
+pub returns-in_default-clause-err_stays : goal.returns-in_default-clause-err_stays
+returns-in_default-clause-err_stays g c = records_stay c.run_on_records.result _ c.run_on_records.ensures.status c.run_on_records.ensures.err_stays
+
+pub returns-in-Build-clause-made : goal.returns-in-Build-clause-made
+returns-in-Build-clause-made g c = rw c.in-Build.is (λ e. absurd e)
+
+pub returns-in-Build-clause-unmade : goal.returns-in-Build-clause-unmade
+returns-in-Build-clause-unmade g c = records_unmade c.build.result _ c.build.ensures.status c.build.ensures.unmade
+
+pub returns-in_default-clause-refused : goal.returns-in_default-clause-refused
+returns-in_default-clause-refused g c = c.run_on_records.ensures.refused

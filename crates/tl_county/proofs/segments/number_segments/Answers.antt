@@ -1,7 +1,8 @@
+use Rattle.std.proofs.lemmas.Result.{err_from_is_err_and}
 use Rattle.std.proofs.Common.{◌≡◌, ◌-◌, ◌<◌, List, [], ◌+◌, length, ap, sym, refl, subst, arith}
 use Rattle.tl_county.specs.Chains.{CompleteChain}
 use Rattle.tl_county.specs.Keeping.Numbered.{NumberUpTo}
-use Rattle.tl_county.proofs.NumberLemmas.{number_more, points_told, several_told}
+use Rattle.tl_county.proofs.NumberLemmas.{number_none, number_more, points_told, several_told}
 use Rattle.tl_county.proofs.segments.number_segments.Goals as goal
 
 pub overflow_sub-count : goal.overflow_sub-count
@@ -27,3 +28,26 @@ pub returns : goal.returns
 returns c =
     let whole : c.loop-c.c ≡ length c.args.chains.now.chains = omega (arith, c.loop-c-test.false, c.len-c-end.ensures, c.loop-c.auto.c-end) in
     subst (λ n. NumberUpTo c.args.chains.now.chains n c.loop-c.of.items c.loop-c.firsts.items) whole c.loop-c.invariant
+
+pub returns-in_err-of : goal.returns-in_err-of
+returns-in_err-of c =
+    let p = err_from_is_err_and c.from_residual.result c.from_residual.ensures.1 in
+    rw p.1 tt
+
+pub returns-in_err-firsts : goal.returns-in_err-firsts
+returns-in_err-firsts c =
+    let p = err_from_is_err_and c.from_residual-in_err-firsts.result c.from_residual-in_err-firsts.ensures.1 in
+    rw p.1 tt
+
+pub returns-in_err-push : goal.returns-in_err-push
+returns-in_err-push c =
+    let p = err_from_is_err_and c.from_residual-in_err-push.result c.from_residual-in_err-push.ensures.1 in
+    rw p.1 tt
+
+pub returns-in_err-resize : goal.returns-in_err-resize
+returns-in_err-resize c =
+    let p = err_from_is_err_and c.from_residual-in_err-resize.result c.from_residual-in_err-resize.ensures.1 in
+    rw p.1 tt
+
+pub loop-c-init : goal.loop-c-init
+loop-c-init c = number_none c.args.chains.now.chains _ _ c.in_ok-of.ensures.items c.in_ok-firsts.ensures.items

@@ -14,3 +14,6 @@ pub returns : goal.returns
 returns g c =
     placed_answer (IsTrueMisplaced c.args.map.now) c.find_in_order.result
     (λ all. placed_moved c.args.map.now c.args.sites.now.items c.sort_northward.new.sites.items c.sort_northward.ensures.moved (subst (All (IsPlacedSite c.args.map.now)) c.deref.ensures.value all)) c.find_in_order.ensures
+
+pub find_in_order-requires-clause-fits : goal.find_in_order-requires-clause-fits
+find_in_order-requires-clause-fits g c = c.requires.fits

@@ -1,4 +1,4 @@
-use Rattle.std.proofs.Common.{sym, subst, ◌∙◌, arith}
+use Rattle.std.proofs.Common.{sym, subst, ◌∙◌, arith, refl}
 use Rattle.tl_inside.specs.Keeping.Strips.{AreEnough, IsPlacedSite}
 use Rattle.tl_inside.proofs.Misplacing.{told_some, told_none}
 use Rattle.tl_inside.proofs.Stripping.{one_more}
@@ -40,3 +40,39 @@ returns-in-Some g c = record {
   no_near = c.in_ok-found.ensures.no_near;
   no_far = c.in_ok-found.ensures.no_far;
 }
+
+pub list_in_strip-requires-clause-fits : goal.list_in_strip-requires-clause-fits
+list_in_strip-requires-clause-fits g c = c.requires.fits
+
+pub list_in_strip-requires-clause-reach : goal.list_in_strip-requires-clause-reach
+list_in_strip-requires-clause-reach g c = c.requires.reach
+
+pub returns-in_err-list_in_strip-clause-nears : goal.returns-in_err-list_in_strip-clause-nears
+returns-in_err-list_in_strip-clause-nears g c = refl
+
+pub returns-in_err-list_in_strip-clause-fars : goal.returns-in_err-list_in_strip-clause-fars
+returns-in_err-list_in_strip-clause-fars g c = refl
+
+pub misplaced_at-requires-clause-nears : goal.misplaced_at-requires-clause-nears
+misplaced_at-requires-clause-nears g c = c.loop-k.invariant.nears
+
+pub misplaced_at-requires-clause-fars : goal.misplaced_at-requires-clause-fars
+misplaced_at-requires-clause-fars g c = c.loop-k.invariant.fars
+
+pub misplaced_at-requires-clause-no_near : goal.misplaced_at-requires-clause-no_near
+misplaced_at-requires-clause-no_near g c = c.loop-k.invariant.no_near
+
+pub misplaced_at-requires-clause-no_far : goal.misplaced_at-requires-clause-no_far
+misplaced_at-requires-clause-no_far g c = c.loop-k.invariant.no_far
+
+pub returns-clause-nears : goal.returns-clause-nears
+returns-clause-nears g c = c.loop-k.invariant.nears ∙ sym c.requires.nears
+
+pub returns-clause-fars : goal.returns-clause-fars
+returns-clause-fars g c = c.loop-k.invariant.fars ∙ sym c.requires.fars
+
+pub returns-clause-no_near : goal.returns-clause-no_near
+returns-clause-no_near g c = c.loop-k.invariant.no_near
+
+pub returns-clause-no_far : goal.returns-clause-no_far
+returns-clause-no_far g c = c.loop-k.invariant.no_far

@@ -36,3 +36,21 @@ pub returns : goal.returns
 returns g c =
     all_seen (IsPlacedSite c.args.map.now) c.args.sites.now (c.loop-batch.batch * 16)
     (omega (arith, c.loop-batch-test.false, c.loop-batch.auto.batch-end, c.div_ceil-batch-end.ensures)) c.loop-batch.invariant.placed
+
+pub find_beside-requires-clause-fits : goal.find_beside-requires-clause-fits
+find_beside-requires-clause-fits g c = c.requires.fits
+
+pub find_beside-requires-clause-reach : goal.find_beside-requires-clause-reach
+find_beside-requires-clause-reach g c = c.requires.reach
+
+pub find_beside-requires-clause-nears : goal.find_beside-requires-clause-nears
+find_beside-requires-clause-nears g c = c.loop-batch.invariant.nears
+
+pub find_beside-requires-clause-fars : goal.find_beside-requires-clause-fars
+find_beside-requires-clause-fars g c = c.loop-batch.invariant.fars
+
+pub find_beside-requires-clause-no_near : goal.find_beside-requires-clause-no_near
+find_beside-requires-clause-no_near g c = c.loop-batch.invariant.no_near
+
+pub find_beside-requires-clause-no_far : goal.find_beside-requires-clause-no_far
+find_beside-requires-clause-no_far g c = c.loop-batch.invariant.no_far

@@ -43,3 +43,21 @@ returns-in-None c = record {
   no_near = c.misplaced_by.ensures.no_near;
   no_far = c.misplaced_by.ensures.no_far;
 }
+
+pub misplaced_by-requires-clause-nears : goal.misplaced_by-requires-clause-nears
+misplaced_by-requires-clause-nears c = c.requires.nears
+
+pub misplaced_by-requires-clause-fars : goal.misplaced_by-requires-clause-fars
+misplaced_by-requires-clause-fars c = c.requires.fars
+
+pub misplaced_by-requires-clause-no_near : goal.misplaced_by-requires-clause-no_near
+misplaced_by-requires-clause-no_near c = c.requires.no_near
+
+pub misplaced_by-requires-clause-no_far : goal.misplaced_by-requires-clause-no_far
+misplaced_by-requires-clause-no_far c = c.requires.no_far
+
+pub returns-in_err-c-clause-nears : goal.returns-in_err-c-clause-nears
+returns-in_err-c-clause-nears c = refl
+
+pub returns-in_err-c-clause-fars : goal.returns-in_err-c-clause-fars
+returns-in_err-c-clause-fars c = refl

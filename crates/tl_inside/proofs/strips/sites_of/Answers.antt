@@ -8,3 +8,6 @@ loop-polygon-preserved c = record {
       (record { polygon = c.polygon.result; is = c.polygon.ensures; point = refl });
   whole = whole_more c.loop-polygon.sites.items c.push_site.new.sites.items (record { polygon = c.loop-polygon.polygon; point = c.polygon.result.point }) c.in_ok-push_site.ensures c.loop-polygon.invariant.whole;
 }
+
+pub returns-clause-sites : goal.returns-clause-sites
+returns-clause-sites c = c.loop-polygon.invariant.sites

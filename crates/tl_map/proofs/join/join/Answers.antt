@@ -1,6 +1,6 @@
-use Rattle.std.proofs.Common.{◌≡◌, ◌∙◌, ◌-◌, ℕ, ap, map, length, get_or, pos, arith, refl}
+use Rattle.std.proofs.Common.{◌≡◌, ◌∙◌, ◌-◌, ℕ, ap, map, length, get_or, inl, pos, arith, refl}
 use Rattle.std.proofs.lemmas.Result.{err_from_is_err_and}
-use Rattle.tl_map.specs.declared.entry.ChainEntry.{ChainEntry}
+use Rattle.tl_drawn.specs.declared.entry.ChainEntry.{ChainEntry}
 use Rattle.std.proofs.lemmas.List.{take_all}
 use Rattle.tl_map.specs.Keeping.Entries.{IsInside, joined}
 use Rattle.tl_map.proofs.JoinLemmas.{run_is, above_run, behind_more, ahead_more, ahead_first, drawn_is, joined_more, stops_join, several_more}
@@ -76,3 +76,67 @@ returns-clause-ok c =
 
 pub returns-clause-several : goal.returns-clause-several
 returns-clause-several c = λ k d lt. c.loop-chain.invariant.several k d (omega (arith, lt, c.loop-chain-test.false))
+
+pub returns-in_err-points-clause-ok : goal.returns-in_err-points-clause-ok
+returns-in_err-points-clause-ok c =
+    let p = err_from_is_err_and c.from_residual.result c.from_residual.ensures.1 in
+    rw p.1 tt
+
+pub returns-in_err-points-clause-several : goal.returns-in_err-points-clause-several
+returns-in_err-points-clause-several c =
+    let p = err_from_is_err_and c.from_residual.result c.from_residual.ensures.1 in
+    rw p.1 tt
+
+pub returns-in_err-points-clause-few : goal.returns-in_err-points-clause-few
+returns-in_err-points-clause-few c =
+    let p = err_from_is_err_and c.from_residual.result c.from_residual.ensures.1 in
+    rw p.1 tt
+
+pub returns-in_err-points-clause-err : goal.returns-in_err-points-clause-err
+returns-in_err-points-clause-err c =
+    let p = err_from_is_err_and c.from_residual.result c.from_residual.ensures.1 in
+    rw (p.1, p.2) (inl refl)
+
+pub returns-in_err-rows-clause-ok : goal.returns-in_err-rows-clause-ok
+returns-in_err-rows-clause-ok c =
+    let p = err_from_is_err_and c.from_residual-in_err-rows.result c.from_residual-in_err-rows.ensures.1 in
+    rw p.1 tt
+
+pub returns-in_err-rows-clause-several : goal.returns-in_err-rows-clause-several
+returns-in_err-rows-clause-several c =
+    let p = err_from_is_err_and c.from_residual-in_err-rows.result c.from_residual-in_err-rows.ensures.1 in
+    rw p.1 tt
+
+pub returns-in_err-rows-clause-few : goal.returns-in_err-rows-clause-few
+returns-in_err-rows-clause-few c =
+    let p = err_from_is_err_and c.from_residual-in_err-rows.result c.from_residual-in_err-rows.ensures.1 in
+    rw p.1 tt
+
+pub returns-in_err-rows-clause-err : goal.returns-in_err-rows-clause-err
+returns-in_err-rows-clause-err c =
+    let p = err_from_is_err_and c.from_residual-in_err-rows.result c.from_residual-in_err-rows.ensures.1 in
+    rw (p.1, p.2) (inl refl)
+
+pub returns-in_err-add_chain-clause-ok : goal.returns-in_err-add_chain-clause-ok
+returns-in_err-add_chain-clause-ok c =
+    let p = err_from_is_err_and c.from_residual-in_err-add_chain.result c.from_residual-in_err-add_chain.ensures.1 in
+    rw p.1 tt
+
+pub returns-in_err-add_chain-clause-several : goal.returns-in_err-add_chain-clause-several
+returns-in_err-add_chain-clause-several c =
+    let p = err_from_is_err_and c.from_residual-in_err-add_chain.result c.from_residual-in_err-add_chain.ensures.1 in
+    rw p.1 tt
+
+pub returns-in_err-add_chain-clause-few : goal.returns-in_err-add_chain-clause-few
+returns-in_err-add_chain-clause-few c =
+    let p = err_from_is_err_and c.from_residual-in_err-add_chain.result c.from_residual-in_err-add_chain.ensures.1 in
+    rw p.1 tt
+
+pub returns-clause-err : goal.returns-clause-err
+returns-clause-err c = tt
+
+pub run_end-end-requires : goal.run_end-end-requires
+run_end-end-requires c = c.loop-chain.invariant.within
+
+pub new-requires-clause-table : goal.new-requires-clause-table
+new-requires-clause-table c = c.loop-chain.invariant.table

@@ -1,5 +1,5 @@
 use Rattle.std.proofs.Common.{◌≡◌, ℕ, ◌-◌, ◌<◌, ◌≤◌, length, get_or}
-use Rattle.tl_map.specs.declared.entry.ShapeEntry.{ShapeEntry}
+use Rattle.tl_drawn.specs.declared.entry.ShapeEntry.{ShapeEntry}
 use Rattle.tl_map.proofs.join.run_end.Given as goal
 
 abbrev pub invariant-loop-end : goal.invariant-loop-end

@@ -1,3 +1,4 @@
+use Rattle.std.proofs.lemmas.Result.{err_from_is_err_and}
 use Rattle.std.proofs.Common.{◌<◌, ◌∙◌, length, get_or, refl, arith}
 use Rattle.std.proofs.lemmas.List.{length-set}
 use Rattle.tl_map.specs.declared.landmarks.Link.{Link}
@@ -26,3 +27,11 @@ returns-clause-linked c = marking_all c.args.run.now c.loop-link.link-index c.ar
 
 pub returns-clause-marks : goal.returns-clause-marks
 returns-clause-marks c = c.loop-link.invariant.marking.low
+
+pub returns-in_err-push-clause-linked : goal.returns-in_err-push-clause-linked
+returns-in_err-push-clause-linked c =
+    let p = err_from_is_err_and c.from_residual.result c.from_residual.ensures.1 in
+    rw p.1 tt
+
+pub returns-clause-length : goal.returns-clause-length
+returns-clause-length c = c.loop-link.invariant.same

@@ -1,4 +1,5 @@
-use Rattle.std.proofs.Common.{◌∙◌, sym, refl, inr, arith}
+use Rattle.std.proofs.lemmas.Result.{err_from_is_err_and}
+use Rattle.std.proofs.Common.{◌∙◌, sym, refl, inl, inr, arith}
 use Rattle.std.specs.Prelude.{nat_eq}
 use Rattle.indexmap.specs.IndexMap.{get}
 use Rattle.indexmap.proofs.CallerLemmas.{insert_entry-new}
@@ -30,3 +31,19 @@ loop-entry-preserved c = elim c.if-not-contains_key.branch [
 
 pub returns-clause-ok : goal.returns-clause-ok
 returns-clause-ok c = listed c.args.entries.now c.loop-entry.entry-index c.loop-entry.firsts c.loop-entry-test.false c.loop-entry.invariant.unique c.loop-entry.invariant.listing
+
+pub returns-then-len-clause-ok : goal.returns-then-len-clause-ok
+returns-then-len-clause-ok c = tt
+
+pub returns-in_err-insert-clause-ok : goal.returns-in_err-insert-clause-ok
+returns-in_err-insert-clause-ok c =
+    let p = err_from_is_err_and c.from_residual.result c.from_residual.ensures.1 in
+    rw p.1 tt
+
+pub returns-in_err-insert-clause-stops : goal.returns-in_err-insert-clause-stops
+returns-in_err-insert-clause-stops c =
+    let p = err_from_is_err_and c.from_residual.result c.from_residual.ensures.1 in
+    rw (p.1, p.2) (inl refl)
+
+pub returns-clause-stops : goal.returns-clause-stops
+returns-clause-stops c = tt

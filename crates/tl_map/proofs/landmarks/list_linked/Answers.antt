@@ -1,8 +1,9 @@
+use Rattle.std.proofs.lemmas.Result.{err_from_is_err_and}
 use Rattle.std.proofs.Common.{◌≡◌, ◌∙◌, ℕ, ◌-◌, ◌<◌, List, length, map, take, drop, sym, ap, inl, inr, arith}
 use Rattle.std.proofs.lemmas.Bool.{cases_lt}
 use Rattle.std.proofs.lemmas.List.{length-append}
 use Rattle.tl_map.specs.declared.landmarks.Link.{Link}
-use Rattle.tl_map.specs.MapOf.{firsts}
+use Rattle.tl_drawn.specs.MapOf.{firsts}
 use Rattle.tl_map.specs.Keeping.Landmarks.{links_to}
 use Rattle.tl_map.proofs.ListedLemmas.{run_of, above_links, row_more, part_inside, whole_back}
 use Rattle.tl_map.proofs.landmarks.list_linked.Goals as goal
@@ -44,3 +45,26 @@ append_once-requires c =
 
 pub returns : goal.returns
 returns c = let same : c.loop-landmark.landmark ≡ c.args.landmarks = omega (arith, c.loop-landmark-test.false, c.loop-landmark.auto.landmark-end) in rw same at c.loop-landmark.invariant.rows
+
+pub returns-in_err-marks : goal.returns-in_err-marks
+returns-in_err-marks c =
+    let p = err_from_is_err_and c.from_residual.result c.from_residual.ensures.1 in
+    rw p.1 tt
+
+pub returns-in_err-rows : goal.returns-in_err-rows
+returns-in_err-rows c =
+    let p = err_from_is_err_and c.from_residual-in_err-rows.result c.from_residual-in_err-rows.ensures.1 in
+    rw p.1 tt
+
+pub returns-in_err-append_once : goal.returns-in_err-append_once
+returns-in_err-append_once c =
+    let p = err_from_is_err_and c.from_residual-in_err-append_once.result c.from_residual-in_err-append_once.ensures.1 in
+    rw p.1 tt
+
+pub returns-in_err-push : goal.returns-in_err-push
+returns-in_err-push c =
+    let p = err_from_is_err_and c.from_residual-in_err-push.result c.from_residual-in_err-push.ensures.1 in
+    rw p.1 tt
+
+pub links_end-end-requires : goal.links_end-end-requires
+links_end-end-requires c = c.loop-landmark.invariant.within

@@ -1,4 +1,4 @@
-use Rattle.std.proofs.Common.{ap, length, arith}
+use Rattle.std.proofs.Common.{ap, inl, refl, length, arith}
 use Rattle.std.proofs.lemmas.List.{length_push}
 use Rattle.std.proofs.lemmas.Result.{err_from_is_err_and}
 use Rattle.tl_map.proofs.LandmarkLemmas.{links_more, stops_links}
@@ -14,3 +14,37 @@ pub returns-in_err-resolve_link-clause-stops : goal.returns-in_err-resolve_link-
 returns-in_err-resolve_link-clause-stops c = λ ks ns h g.
     let p = err_from_is_err_and c.from_residual-in_err-resolve_link.result c.from_residual-in_err-resolve_link.ensures.1 in
     rw (p.1, p.2) (stops_links ks ns c.args.links.now c.loop-link.link-index _ c.in_err-resolve_link.field-0.0 c.loop-link-test.true (c.in_err-resolve_link.ensures ks ns h g))
+
+pub returns-in_err-made-clause-ok : goal.returns-in_err-made-clause-ok
+returns-in_err-made-clause-ok c = λ ks ns h g.
+    let p = err_from_is_err_and c.from_residual.result c.from_residual.ensures.1 in
+    rw p.1 tt
+
+pub returns-in_err-made-clause-stops : goal.returns-in_err-made-clause-stops
+returns-in_err-made-clause-stops c = λ ks ns h g.
+    let p = err_from_is_err_and c.from_residual.result c.from_residual.ensures.1 in
+    rw (p.1, p.2) (inl refl)
+
+pub returns-in_err-resolve_link-clause-ok : goal.returns-in_err-resolve_link-clause-ok
+returns-in_err-resolve_link-clause-ok c = λ ks ns h g.
+    let p = err_from_is_err_and c.from_residual-in_err-resolve_link.result c.from_residual-in_err-resolve_link.ensures.1 in
+    rw p.1 tt
+
+pub returns-in_err-push-clause-ok : goal.returns-in_err-push-clause-ok
+returns-in_err-push-clause-ok c = λ ks ns h g.
+    let p = err_from_is_err_and c.from_residual-in_err-push.result c.from_residual-in_err-push.ensures.1 in
+    rw p.1 tt
+
+pub returns-in_err-push-clause-stops : goal.returns-in_err-push-clause-stops
+returns-in_err-push-clause-stops c = λ ks ns h g.
+    let p = err_from_is_err_and c.from_residual-in_err-push.result c.from_residual-in_err-push.ensures.1 in
+    rw (p.1, p.2) (inl refl)
+
+pub returns-clause-stops : goal.returns-clause-stops
+returns-clause-stops c = λ ks ns h g. tt
+
+pub resolve_link-requires-clause-polygons : goal.resolve_link-requires-clause-polygons
+resolve_link-requires-clause-polygons c = c.requires.polygons
+
+pub resolve_link-requires-clause-landmarks : goal.resolve_link-requires-clause-landmarks
+resolve_link-requires-clause-landmarks c = c.requires.landmarks

@@ -1,5 +1,5 @@
 use Rattle.std.proofs.Common.{ℕ, ◌-◌, ◌<◌, ◌≤◌, length, get_or}
-use Rattle.tl_map.specs.declared.entry.ChainEntry.{ChainEntry}
+use Rattle.tl_drawn.specs.declared.entry.ChainEntry.{ChainEntry}
 use Rattle.tl_map.proofs.passes.first_not_below.Given as goal
 
 abbrev pub invariant-loop-place : goal.invariant-loop-place

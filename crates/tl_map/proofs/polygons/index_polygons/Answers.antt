@@ -1,10 +1,11 @@
-use Rattle.std.proofs.Common.{◌≡◌, ◌∙◌, None, ◌++◌, ◌∷◌, [], pos, get_or, map, sym, ap, inr, refl}
+use Rattle.std.proofs.lemmas.Result.{err_from_is_err_and}
+use Rattle.std.proofs.Common.{◌≡◌, ◌∙◌, None, ◌++◌, ◌∷◌, [], pos, get_or, map, sym, ap, inl, inr, refl}
 use Rattle.std.specs.Map.{lookup}
 use Rattle.std.proofs.lemmas.List.{map_more, take_all}
 use Rattle.indexmap.specs.IndexMap.{get}
 use Rattle.indexmap.proofs.CallerLemmas.{insert_entry-new}
 use Rattle.tl_county.specs.declared.polygons.Polygon.{Polygon}
-use Rattle.tl_map.specs.MapOf.{same_key}
+use Rattle.tl_drawn.specs.MapOf.{same_key}
 use Rattle.tl_map.specs.Keeping.Index.{entry_of}
 use Rattle.tl_map.proofs.IndexLemmas.{twice_told, none_told}
 use Rattle.tl_county.proofs.PlaceLemmas.{slice_get-image}
@@ -28,3 +29,45 @@ loop-polygon-preserved c =
 
 pub returns-clause-entries : goal.returns-clause-entries
 returns-clause-entries c = c.loop-polygon.invariant.entries ∙ ap (map entry_of) (take_all c.loop-polygon.polygon-index c.args.polygons.now c.loop-polygon-test.false)
+
+pub returns-in_err-index-clause-entries : goal.returns-in_err-index-clause-entries
+returns-in_err-index-clause-entries c =
+    let p = err_from_is_err_and c.from_residual.result c.from_residual.ensures.1 in
+    rw p.1 tt
+
+pub returns-in_err-index-clause-unique : goal.returns-in_err-index-clause-unique
+returns-in_err-index-clause-unique c =
+    let p = err_from_is_err_and c.from_residual.result c.from_residual.ensures.1 in
+    rw p.1 tt
+
+pub returns-in_err-index-clause-stops : goal.returns-in_err-index-clause-stops
+returns-in_err-index-clause-stops c =
+    let p = err_from_is_err_and c.from_residual.result c.from_residual.ensures.1 in
+    rw (p.1, p.2) (inl refl)
+
+pub returns-in_err-insert-clause-entries : goal.returns-in_err-insert-clause-entries
+returns-in_err-insert-clause-entries c =
+    let p = err_from_is_err_and c.from_residual-in_err-insert.result c.from_residual-in_err-insert.ensures.1 in
+    rw p.1 tt
+
+pub returns-in_err-insert-clause-unique : goal.returns-in_err-insert-clause-unique
+returns-in_err-insert-clause-unique c =
+    let p = err_from_is_err_and c.from_residual-in_err-insert.result c.from_residual-in_err-insert.ensures.1 in
+    rw p.1 tt
+
+pub returns-in_err-insert-clause-stops : goal.returns-in_err-insert-clause-stops
+returns-in_err-insert-clause-stops c =
+    let p = err_from_is_err_and c.from_residual-in_err-insert.result c.from_residual-in_err-insert.ensures.1 in
+    rw (p.1, p.2) (inl refl)
+
+pub returns-then-is_some-clause-entries : goal.returns-then-is_some-clause-entries
+returns-then-is_some-clause-entries c = tt
+
+pub returns-then-is_some-clause-unique : goal.returns-then-is_some-clause-unique
+returns-then-is_some-clause-unique c = tt
+
+pub returns-clause-unique : goal.returns-clause-unique
+returns-clause-unique c = c.loop-polygon.invariant.unique
+
+pub returns-clause-stops : goal.returns-clause-stops
+returns-clause-stops c = tt

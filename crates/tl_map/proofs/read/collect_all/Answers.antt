@@ -1,8 +1,9 @@
+use Rattle.std.proofs.lemmas.Result.{err_from_is_err_and}
 use Rattle.std.proofs.Common.{◌∙◌, [], inl, refl}
 use Rattle.tl_record.specs.Reader.{standing_of, outcome}
 use Rattle.tl_map.specs.declared.areas.AreaRecords.{AreaRecords}
 use Rattle.tl_map.specs.declared.collect.Collected.{Collected}
-use Rattle.tl_map.proofs.GatherLemmas.{gathers_more, none_failed, so_far_first, stop_told, failure_told}
+use Rattle.tl_map.proofs.GatherLemmas.{gathers_more, none_failed, so_far_first, known_whole, stop_told, failure_told}
 use Rattle.tl_map.proofs.read.collect_all.Goals as goal
 
 pub records-preserved : goal.records-preserved
@@ -34,3 +35,40 @@ returns-in-Err g c = rw c.from.ensures (record {
   failures = failure_told (Collected × AreaRecords) (standing_of c.records.reader) c.records.reader c.read_next.new.self _ _ _ c.in-Err.stop c.records.invariant.standing c.in-Err.ensures.repeats c.in-Err.ensures.failures c.records.invariant.failures;
   same_reference = c.read_next.ensures.same_reference ∙ c.records.invariant.same;
 })
+
+pub returns-in_err-add-in-Ok-Some : goal.returns-in_err-add-in-Ok-Some
+returns-in_err-add-in-Ok-Some g c =
+    let p = err_from_is_err_and c.from_residual.result c.from_residual.ensures.1 in
+    rw (p.1, p.2) (record {
+      all = tt;
+      stops = tt;
+      failures =
+          let failures = c.in-Ok-Some.ensures.failures in
+          none_failed (standing_of c.records.reader) _ _ _ (rw c.in-Ok-Some.field-0-is at failures) ∙ c.records.invariant.failures;
+      same_reference = c.read_next.ensures.same_reference ∙ c.records.invariant.same;
+    })
+
+pub returns-in_err-add-in-Ok-Some-2 : goal.returns-in_err-add-in-Ok-Some-2
+returns-in_err-add-in-Ok-Some-2 g c =
+    let p = err_from_is_err_and c.from_residual-in_err-add-in-Ok-Some-2.result c.from_residual-in_err-add-in-Ok-Some-2.ensures.1 in
+    rw (p.1, p.2) (record {
+      all = tt;
+      stops = tt;
+      failures =
+          let failures = c.in-Ok-Some.ensures.failures in
+          none_failed (standing_of c.records.reader) _ _ _ (rw c.in-Ok-Some.field-0-is at failures) ∙ c.records.invariant.failures;
+      same_reference = c.read_next.ensures.same_reference ∙ c.records.invariant.same;
+    })
+
+pub returns-in-Ok-None : goal.returns-in-Ok-None
+returns-in-Ok-None g c = record {
+  all =
+      let gives = c.in-Ok-None.ensures.gives in
+      let so_far = c.records.invariant.so_far in
+      record { records = so_far.records; kept = so_far.kept; areas = so_far.areas; known = known_whole (outcome g.R.Source.remaining c.args.reader.now) _ _ _ _ (rw c.in-Ok-None.field-0-is at gives) so_far.known };
+  stops = tt;
+  failures =
+      let failures = c.in-Ok-None.ensures.failures in
+      none_failed (standing_of c.records.reader) _ _ _ (rw c.in-Ok-None.field-0-is at failures) ∙ c.records.invariant.failures;
+  same_reference = c.read_next.ensures.same_reference ∙ c.records.invariant.same;
+}

@@ -1,3 +1,4 @@
+use Rattle.std.proofs.lemmas.Result.{err_from_is_err_and}
 use Rattle.std.proofs.Common.{◌∙◌, [], inl, refl}
 use Rattle.tl_record.specs.Reader.{standing_of, outcome}
 use Rattle.tl_map.specs.declared.collect.Collected.{Collected}
@@ -45,3 +46,15 @@ returns-in-Err g c = rw c.from.ensures (record {
   failures = failure_told Collected (standing_of c.records.reader) c.records.reader c.read_next.new.self _ _ _ c.in-Err.stop c.records.invariant.standing c.in-Err.ensures.repeats c.in-Err.ensures.failures c.records.invariant.failures;
   same_reference = c.read_next.ensures.same_reference ∙ c.records.invariant.same;
 })
+
+pub returns-in_err-add-in-Ok-Some : goal.returns-in_err-add-in-Ok-Some
+returns-in_err-add-in-Ok-Some g c =
+    let p = err_from_is_err_and c.from_residual.result c.from_residual.ensures.1 in
+    rw (p.1, p.2) (record {
+      all = tt;
+      stops = tt;
+      failures =
+          let failures = c.in-Ok-Some.ensures.failures in
+          none_failed (standing_of c.records.reader) _ _ _ (rw c.in-Ok-Some.field-0-is at failures) ∙ c.records.invariant.failures;
+      same_reference = c.read_next.ensures.same_reference ∙ c.records.invariant.same;
+    })

@@ -1,5 +1,5 @@
 use Rattle.std.proofs.lemmas.Result.{err_from_is_err_and}
-use Rattle.std.proofs.Common.{◌≡◌, get_or, arith}
+use Rattle.std.proofs.Common.{◌≡◌, inl, refl, get_or, arith}
 use Rattle.tl_map.proofs.SideLemmas.{stops_left, stops_right, sides_more, known_more}
 use Rattle.tl_map.proofs.PairLemmas.{no_sides}
 use Rattle.tl_map.proofs.sides.resolve_sides.Goals as goal
@@ -29,3 +29,80 @@ loop-place-preserved c =
 
 pub returns-clause-known : goal.returns-clause-known
 returns-clause-known c = λ ks h k d lt. c.loop-place.invariant.known ks h k d (omega (arith, lt, c.loop-place-test.false, c.len-count.ensures))
+
+pub new-requires : goal.new-requires
+new-requires c = c.requires
+
+pub resolve_side-requires : goal.resolve_side-requires
+resolve_side-requires c = c.requires
+
+pub resolve_side-requires-in-loop-place : goal.resolve_side-requires-in-loop-place
+resolve_side-requires-in-loop-place c = c.requires
+
+pub returns-in_err-guesses-clause-sides : goal.returns-in_err-guesses-clause-sides
+returns-in_err-guesses-clause-sides c = λ ks h.
+    let p = err_from_is_err_and c.from_residual.result c.from_residual.ensures.1 in
+    rw p.1 tt
+
+pub returns-in_err-guesses-clause-known : goal.returns-in_err-guesses-clause-known
+returns-in_err-guesses-clause-known c = λ ks h.
+    let p = err_from_is_err_and c.from_residual.result c.from_residual.ensures.1 in
+    rw p.1 tt
+
+pub returns-in_err-guesses-clause-stops : goal.returns-in_err-guesses-clause-stops
+returns-in_err-guesses-clause-stops c = λ ks h.
+    let p = err_from_is_err_and c.from_residual.result c.from_residual.ensures.1 in
+    rw (p.1, p.2) (inl refl)
+
+pub returns-in_err-sides-clause-sides : goal.returns-in_err-sides-clause-sides
+returns-in_err-sides-clause-sides c = λ ks h.
+    let p = err_from_is_err_and c.from_residual-in_err-sides.result c.from_residual-in_err-sides.ensures.1 in
+    rw p.1 tt
+
+pub returns-in_err-sides-clause-known : goal.returns-in_err-sides-clause-known
+returns-in_err-sides-clause-known c = λ ks h.
+    let p = err_from_is_err_and c.from_residual-in_err-sides.result c.from_residual-in_err-sides.ensures.1 in
+    rw p.1 tt
+
+pub returns-in_err-sides-clause-stops : goal.returns-in_err-sides-clause-stops
+returns-in_err-sides-clause-stops c = λ ks h.
+    let p = err_from_is_err_and c.from_residual-in_err-sides.result c.from_residual-in_err-sides.ensures.1 in
+    rw (p.1, p.2) (inl refl)
+
+pub returns-in_err-push-clause-sides : goal.returns-in_err-push-clause-sides
+returns-in_err-push-clause-sides c = λ ks h.
+    let p = err_from_is_err_and c.from_residual-in_err-push.result c.from_residual-in_err-push.ensures.1 in
+    rw p.1 tt
+
+pub returns-in_err-push-clause-known : goal.returns-in_err-push-clause-known
+returns-in_err-push-clause-known c = λ ks h.
+    let p = err_from_is_err_and c.from_residual-in_err-push.result c.from_residual-in_err-push.ensures.1 in
+    rw p.1 tt
+
+pub returns-in_err-push-clause-stops : goal.returns-in_err-push-clause-stops
+returns-in_err-push-clause-stops c = λ ks h.
+    let p = err_from_is_err_and c.from_residual-in_err-push.result c.from_residual-in_err-push.ensures.1 in
+    rw (p.1, p.2) (inl refl)
+
+pub returns-in_err-left-clause-sides : goal.returns-in_err-left-clause-sides
+returns-in_err-left-clause-sides c = λ ks h.
+    let p = err_from_is_err_and c.from_residual-in_err-left.result c.from_residual-in_err-left.ensures.1 in
+    rw p.1 tt
+
+pub returns-in_err-left-clause-known : goal.returns-in_err-left-clause-known
+returns-in_err-left-clause-known c = λ ks h.
+    let p = err_from_is_err_and c.from_residual-in_err-left.result c.from_residual-in_err-left.ensures.1 in
+    rw p.1 tt
+
+pub returns-in_err-right-clause-sides : goal.returns-in_err-right-clause-sides
+returns-in_err-right-clause-sides c = λ ks h.
+    let p = err_from_is_err_and c.from_residual-in_err-right.result c.from_residual-in_err-right.ensures.1 in
+    rw p.1 tt
+
+pub returns-in_err-right-clause-known : goal.returns-in_err-right-clause-known
+returns-in_err-right-clause-known c = λ ks h.
+    let p = err_from_is_err_and c.from_residual-in_err-right.result c.from_residual-in_err-right.ensures.1 in
+    rw p.1 tt
+
+pub returns-clause-stops : goal.returns-clause-stops
+returns-clause-stops c = λ ks h. tt

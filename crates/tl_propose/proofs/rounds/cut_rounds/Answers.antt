@@ -42,3 +42,9 @@ loop-rest-preserved c =
           (All-push (λ (r : Vec ℕ Global). zero < length r.items) _ _ c.loop-rest.invariant.some one);
       grouped = λ sorted. next_cut c (c.loop-rest.invariant.grouped sorted);
     }
+
+pub split_at-requires : goal.split_at-requires
+split_at-requires c = c.first_round.ensures.within
+
+pub returns-clause-some : goal.returns-clause-some
+returns-clause-some c = c.loop-rest.invariant.some

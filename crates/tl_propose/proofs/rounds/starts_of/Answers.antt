@@ -1,8 +1,9 @@
-use Rattle.std.proofs.Common.{◌<◌, ◌*◌, length, [], refl, sym, ◌∙◌, ap, map, length-append, arith}
+use Rattle.std.proofs.Common.{◌<◌, ◌*◌, length, [], refl, sym, ◌∙◌, ap, map, length-append, arith, ◌≡◌}
 use Rattle.std.proofs.lemmas.List.Elements.{All-nil, All-push, All-same}
 use Rattle.tl_propose.specs.Keeping.Sorting.{IsStartOf}
 use Rattle.tl_propose.specs.declared.rounds.DartStart.{DartStart}
 use Rattle.tl_pack.proofs.ListLemmas.{up_none, up_pushed}
+use Rattle.tl_pack.specs.Lists.{up}
 use Rattle.tl_propose.proofs.rounds.starts_of.Goals as goal
 
 pub loop-dart-init : goal.loop-dart-init
@@ -27,3 +28,25 @@ loop-dart-preserved c =
           (All-push (IsStartOf c.args.map.now.chains) _ _ c.loop-dart.invariant.each
           (record { starts = c.dart_node-node.ensures.start; within = c.dart_node-node.ensures.within; heads = c.dart_heading-heading.ensures }));
     }
+
+pub dart_node-node-requires : goal.dart_node-node-requires
+dart_node-node-requires c = let more = c.loop-dart-test.true in let count = c.darts-dart-end.ensures in omega (arith, more, count)
+
+pub dart_heading-heading-requires : goal.dart_heading-heading-requires
+dart_heading-heading-requires c = let more = c.loop-dart-test.true in let count = c.darts-dart-end.ensures in omega (arith, more, count)
+
+pub returns-clause-all : goal.returns-clause-all
+returns-clause-all c =
+    let end : c.loop-dart.dart ≡ 2 * length c.args.map.now.chains = let done = c.loop-dart-test.false in let le = c.loop-dart.auto.dart-end in let count = c.darts-dart-end.ensures in omega (arith, done, le, count) in
+    c.loop-dart.invariant.all ∙ ap up end
+
+pub returns-clause-known : goal.returns-clause-known
+returns-clause-known c = c.loop-dart.invariant.known
+
+pub returns-clause-long : goal.returns-clause-long
+returns-clause-long c =
+    let end : c.loop-dart.dart ≡ 2 * length c.args.map.now.chains = let done = c.loop-dart-test.false in let le = c.loop-dart.auto.dart-end in let count = c.darts-dart-end.ensures in omega (arith, done, le, count) in
+    c.loop-dart.invariant.long ∙ end
+
+pub returns-clause-each : goal.returns-clause-each
+returns-clause-each c = c.loop-dart.invariant.each

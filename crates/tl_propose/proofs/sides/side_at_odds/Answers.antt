@@ -1,8 +1,8 @@
-use Rattle.std.proofs.Common.{◌≡◌, ◌-◌, Some, refl, sym, subst, ◌∙◌, arith}
+use Rattle.std.proofs.Common.{◌≡◌, ◌-◌, Some, below_more, refl, ap, sym, subst, ◌∙◌, arith}
 use Rattle.std.specs.Prelude.{slice_index}
 use Rattle.tl_county.specs.Darts.{dart_left}
 use Rattle.tl_verdict.specs.Truth.{AreAtOdds}
-use Rattle.tl_propose.proofs.SideLemmas.{at_odds, one_given}
+use Rattle.tl_propose.proofs.SideLemmas.{at_odds, below_one, dart_in, one_given}
 use Rattle.tl_propose.proofs.sides.side_at_odds.Goals as goal
 
 pub returns-then-not-is_one_side : goal.returns-then-not-is_one_side
@@ -16,3 +16,26 @@ returns-then-not-is_one_side c =
     subst (AreAtOdds c.args.map.now c.dart_start.result (slice_index ring place)) (sym c.reverse.ensures)
     (at_odds c.args.map.now ring c.requires place (place - 1) c.dart_start.result (slice_index ring place) (slice_index ring (place - 1)) (omega (arith, some)) within refl refl c.dart_start.ensures
     (λ same. c.is_one_side.ensures.other c.if-not-is_one_side.true (one_given c.dart_left.result c.dart_left-left.result (sym c.dart_left.ensures ∙ same ∙ before))))
+
+pub bounds-ring-0 : goal.bounds-ring-0
+bounds-ring-0 c = c.requires.some
+
+pub dart_left-left-requires : goal.dart_left-left-requires
+dart_left-left-requires c = dart_in c.args.map.now.chains c.args.ring.now c.requires 0 c.requires.some
+
+pub loop-place-init : goal.loop-place-init
+loop-place-init c = below_one (λ k. dart_left c.args.map.now.chains (slice_index c.args.ring.now k) ≡ Some c.dart_left-left.result) c.dart_left-left.ensures
+
+pub dart_left-requires : goal.dart_left-requires
+dart_left-requires c = dart_in c.args.map.now.chains c.args.ring.now c.requires c.loop-place.place c.loop-place-test.true
+
+pub dart_start-requires : goal.dart_start-requires
+dart_start-requires c = dart_in c.args.map.now.chains c.args.ring.now c.requires c.loop-place.place c.loop-place-test.true
+
+pub loop-place-preserved : goal.loop-place-preserved
+loop-place-preserved c =
+    below_more (λ k. dart_left c.args.map.now.chains (slice_index c.args.ring.now k) ≡ Some c.dart_left-left.result) c.loop-place.place c.loop-place.invariant
+    (c.dart_left.ensures ∙ ap Some (c.is_one_side.ensures.same c.if-not-is_one_side.false))
+
+pub returns : goal.returns
+returns c = λ k lt. let done = c.loop-place-test.false in c.loop-place.invariant k (omega (arith, lt, done)) ∙ sym c.dart_left-left.ensures

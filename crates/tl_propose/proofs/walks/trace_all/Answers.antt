@@ -1,8 +1,8 @@
-use Rattle.std.proofs.Common.{◌≡◌, ℕ, zero, ◌<◌, [], length, map, ap, subst, sym, ◌∙◌, Vec, Global, arith, rules, inl, inr}
+use Rattle.std.proofs.Common.{◌≡◌, ℕ, zero, ◌<◌, [], length, map, below_more, ap, subst, sym, ◌∙◌, Vec, Global, arith, rules, inl, inr}
 use Rattle.std.proofs.lemmas.Bool.{cases_lt}
 use Rattle.std.proofs.lemmas.List.Elements.{All-nil, All-push, All-same}
 use Rattle.tl_index.specs.Keeping.Marked.{mark_at}
-use Rattle.tl_index.proofs.Marks.{unmarked}
+use Rattle.tl_index.proofs.Marks.{unmarked, is-marked}
 use Rattle.tl_sides.specs.Keeping.Marked.{MarkLists}
 use Rattle.tl_sides.proofs.MarkLemmas.{count-within}
 use Rattle.tl_sides.proofs.Ends.{hold_once}
@@ -59,3 +59,27 @@ returns-clause-hold c =
 pub returns-clause-counted : goal.returns-clause-counted
 returns-clause-counted c =
     omega (arith, c.loop-first.invariant.count, count-within c.loop-first.taken, c.loop-first.invariant.marks.long)
+
+pub loop-first-preserved-then-taken-first : goal.loop-first-preserved-then-taken-first
+loop-first-preserved-then-taken-first c =
+    let now = c.loop-first.invariant in
+    record {
+      marks = now.marks;
+      before = below_more (λ d. mark_at c.loop-first.taken d ≡ 1) c.loop-first.first now.before (is-marked c.loop-first.taken c.loop-first.first c.if-taken-first.true);
+      some = now.some;
+      followed = now.followed;
+      goes = now.goes;
+      count = now.count;
+    }
+
+pub trace_walk-requires-clause-known : goal.trace_walk-requires-clause-known
+trace_walk-requires-clause-known c = c.requires.known
+
+pub trace_walk-requires-clause-long : goal.trace_walk-requires-clause-long
+trace_walk-requires-clause-long c = c.loop-first.invariant.marks.long
+
+pub returns-clause-some : goal.returns-clause-some
+returns-clause-some c = c.loop-first.invariant.some
+
+pub returns-clause-goes : goal.returns-clause-goes
+returns-clause-goes c = c.loop-first.invariant.goes

@@ -1,7 +1,7 @@
 use Rattle.tl_record.specs.Failures.{one_more}
-use Rattle.std.proofs.Common.{◌≡◌, ◌≤◌, subst, sym, ap, ◌∙◌, length, arith}
+use Rattle.std.proofs.Common.{◌≡◌, ◌≤◌, refl, subst, sym, ap, ◌∙◌, length, arith}
 use Rattle.tl_record.specs.Lines.{line_feeds}
-use Rattle.std.proofs.KnownBytes.{Keeps-trans}
+use Rattle.std.proofs.KnownBytes.{Keeps-refl, Keeps-trans}
 use Rattle.tl_record.proofs.KnownLemmas.{fetched_kept, failed_kept}
 use Rattle.tl_record.proofs.LineLemmas.{feed_found, no_feed_found, front_searched, no_bytes}
 use Rattle.tl_record.proofs.line_buffer.fetch_line.Goals as goal
@@ -90,3 +90,6 @@ returns-in-Err-clause-bytes g c =
     let failed = c.in-Err.ensures.bytes in
     Keeps-trans _ _ _ c.fetches.invariant.bytes
     (failed_kept c.fetches.buffer c.fetch.new.self (g.R.Source.remaining c.fetches.source) (g.R.Source.remaining c.fetch.new.source) failed.0 failed.1)
+
+pub fetches-init : goal.fetches-init
+fetches-init g c = record { searched = omega arith; none = refl; bytes = Keeps-refl _; failures = refl; same = refl }

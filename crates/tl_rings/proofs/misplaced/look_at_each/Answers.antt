@@ -32,3 +32,42 @@ loop-k-preserved g c = record {
 
 pub returns-clause-found : goal.returns-clause-found
 returns-clause-found g c = all_seen c.args.map.now c.loop-k.left.items c.args.order.now c.loop-k.k c.loop-k-test.false c.loop-k.invariant.placed
+
+pub look_at-requires-clause-fits : goal.look_at-requires-clause-fits
+look_at-requires-clause-fits g c = c.requires.fits
+
+pub look_at-requires-clause-tree : goal.look_at-requires-clause-tree
+look_at-requires-clause-tree g c = c.requires.tree
+
+pub look_at-requires-clause-proper : goal.look_at-requires-clause-proper
+look_at-requires-clause-proper g c = c.requires.proper
+
+pub look_at-requires-clause-sides : goal.look_at-requires-clause-sides
+look_at-requires-clause-sides g c = c.requires.sides
+
+pub look_at-requires-clause-walks : goal.look_at-requires-clause-walks
+look_at-requires-clause-walks g c = c.requires.walks
+
+pub look_at-requires-clause-boxed : goal.look_at-requires-clause-boxed
+look_at-requires-clause-boxed g c = c.requires.boxed
+
+pub look_at-requires-clause-few : goal.look_at-requires-clause-few
+look_at-requires-clause-few g c = c.requires.few
+
+pub look_at-requires-clause-is : goal.look_at-requires-clause-is
+look_at-requires-clause-is g c = c.site_of-site.ensures.site
+
+pub look_at-requires-clause-nears : goal.look_at-requires-clause-nears
+look_at-requires-clause-nears g c = c.loop-k.invariant.nears
+
+pub look_at-requires-clause-fars : goal.look_at-requires-clause-fars
+look_at-requires-clause-fars g c = c.loop-k.invariant.fars
+
+pub look_at-requires-clause-no_near : goal.look_at-requires-clause-no_near
+look_at-requires-clause-no_near g c = c.loop-k.invariant.no_near
+
+pub look_at-requires-clause-no_far : goal.look_at-requires-clause-no_far
+look_at-requires-clause-no_far g c = c.loop-k.invariant.no_far
+
+pub returns-clause-left : goal.returns-clause-left
+returns-clause-left g c = c.loop-k.invariant.left

@@ -1,14 +1,11 @@
-use Rattle.std.proofs.Common.{length}
-use Rattle.tl_county.specs.Segments.{segments_before}
-use Rattle.tl_sweep.proofs.Listing.{events_moved}
+use Rattle.tl_sweep.proofs.Answered.{says_placed, says_planar, says_meet}
 use Rattle.tl_sweep.proofs.answer.sweep.Goals as goal
 
-pub sweep_events-requires-clause-events : goal.sweep_events-requires-clause-events
-sweep_events-requires-clause-events c =
-    events_moved c.args.map.now.chains (segments_before c.args.map.now.chains (length c.args.map.now.chains)) _ _ c.in_ok-sort.ensures c.in_ok-events.ensures.events
+pub returns-clause-placed : goal.returns-clause-placed
+returns-clause-placed c = says_placed c.args.map.now c.sweep_segments.result c.sweep_segments.ensures
 
-pub sweep_events-requires-clause-vertices : goal.sweep_events-requires-clause-vertices
-sweep_events-requires-clause-vertices c =
-    c.are_vertices_tested.ensures.vertices c.if-not-are_vertices_tested.false
-    (events_moved c.args.map.now.chains (segments_before c.args.map.now.chains (length c.args.map.now.chains)) _ _ c.in_ok-sort.ensures c.in_ok-events.ensures.events)
-    c.in_ok-events.ensures.wide c.look_at_chains.ensures
+pub returns-clause-planar : goal.returns-clause-planar
+returns-clause-planar c = says_planar c.args.map.now c.sweep_segments.result c.sweep_segments.ensures
+
+pub returns-clause-meet : goal.returns-clause-meet
+returns-clause-meet c = says_meet c.args.map.now c.sweep_segments.result c.sweep_segments.ensures

@@ -10,7 +10,7 @@ pub loop-s-preserved : goal.loop-s-preserved
 loop-s-preserved c =
     let within : c.loop-s.s < length c.args.segments.now = let more = c.loop-s-test.true in let count = c.segments-count.ensures.count in let all = c.requires.all in omega (arith, more, count, all) in
     record {
-      are = rw (c.in_ok-push-2.ensures.items, c.in_ok-push.ensures.items)
+      are = rw c.in_ok-push_both.ensures
           (ends_more c.args.map.now.chains c.args.segments.now c.loop-s.s c.loop-s.ends.items c.ends_of.result.0 c.ends_of.result.1 c.requires.segments within c.ends_of.ensures.one c.ends_of.ensures.other c.loop-s.invariant.are);
       ranges = λ s u lt is. same_or s c.loop-s.s
           (λ e. same_range c.args.map.now.chains c.args.segments.now c.loop-s.s s u c.requires.segments within e is (c.ends_of.ensures.ranges u))

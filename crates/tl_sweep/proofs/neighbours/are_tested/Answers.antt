@@ -1,7 +1,7 @@
 use Rattle.std.proofs.Common.{sym, subst, arith}
 use Rattle.tl_slabs.specs.Heights.{widest}
 use Rattle.tl_slabs.specs.Neighbours.{IsNumbered}
-use Rattle.tl_sweep.proofs.Tests.{tested}
+use Rattle.tl_sweep.proofs.Tests.{tested, never}
 use Rattle.tl_sweep.proofs.neighbours.are_tested.Goals as goal
 
 pub returns-then-is_west_of : goal.returns-then-is_west_of
@@ -21,3 +21,6 @@ returns-then-is_clearly_west_of c = λ h.
     (subst (IsNumbered c.args.map.now.chains c.args.s) (sym c.index-segments-s.is) (c.requires c.args.s c.index-segments-s.result (omega (arith, one))))
     (subst (IsNumbered c.args.map.now.chains c.args.t) (sym c.index-segments-t.is) (c.requires c.args.t c.index-segments-t.result (omega (arith, other))))
     (c.is_clearly_west_of.ensures.west c.if-is_clearly_west_of.true) (c.is_clearly_west_of.ensures.apart c.if-is_clearly_west_of.true)
+
+pub returns-then-s-segments : goal.returns-then-s-segments
+returns-then-s-segments c = λ h. never h

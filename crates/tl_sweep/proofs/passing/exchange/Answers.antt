@@ -7,6 +7,7 @@ use Rattle.tl_sweep.specs.Keeping.Facing.{gaps_between, last_far}
 use Rattle.tl_sweep.specs.Keeping.Lined.{list_of}
 use Rattle.tl_sweep.proofs.Gaps.{in_stead}
 use Rattle.tl_sweep.proofs.Lining.{moved, before_tested}
+use Rattle.tl_sweep.proofs.Tests.{never}
 use Rattle.tl_sweep.proofs.passing.exchange.Goals as goal
 
 pub returns-clause-moved : goal.returns-clause-moved
@@ -36,3 +37,12 @@ returns-clause-counted c = λ h counted n is.
     in_stead chains front c.args.outs.now c.args.ins.now back (list_of c.args.line.now) (list_of c.shift.new.line) n told.0
     (ap (λ b. front ++ b) (c.in_ok-shift.ensures.back c.if-not-branch.false)) (ap (λ f. f ++ back) (c.in_ok-shift.ensures.front c.if-not-branch.false))
     (counted told.0 told.3) (sym (ap (λ g. n + g) (between c.args.outs.now)) ∙ told.6 ∙ ap (λ g. told.0 + g) (between c.args.ins.now))
+
+pub returns-then-not-branch-clause-moved : goal.returns-then-not-branch-clause-moved
+returns-then-not-branch-clause-moved c = λ h. never h
+
+pub returns-then-not-branch-clause-tested : goal.returns-then-not-branch-clause-tested
+returns-then-not-branch-clause-tested c = λ h. never h
+
+pub returns-then-not-branch-clause-counted : goal.returns-then-not-branch-clause-counted
+returns-then-not-branch-clause-counted c = λ h. never h

@@ -7,6 +7,7 @@ use Rattle.tl_sweep.specs.Keeping.Facing.{last_far}
 use Rattle.tl_sweep.specs.Keeping.Lined.{list_of}
 use Rattle.tl_sweep.proofs.Gaps.{in_stead}
 use Rattle.tl_sweep.proofs.Lining.{moved, before_tested}
+use Rattle.tl_sweep.proofs.Tests.{never}
 use Rattle.tl_sweep.proofs.passing.pass.Goals as goal
 
 pub returns-then-are_alike-clause-moved : goal.returns-then-are_alike-clause-moved
@@ -31,3 +32,12 @@ returns-then-are_alike-clause-counted c = λ h counted n is.
     in_stead chains front c.args.outs.now c.args.ins.now back (list_of c.args.line.now) (list_of c.shift.new.line) n n
     (sym c.seek.ensures ∙ ap (λ b. front ++ b) (c.in_ok-shift.ensures.back c.if-not-branch.false)) (ap (λ f. f ++ back) (c.in_ok-shift.ensures.front c.if-not-branch.false))
     (counted n is) (ap (λ g. n + g) (c.are_alike.ensures c.if-are_alike.true (last_far chains Outside front) (seen_side chains back)))
+
+pub returns-then-not-branch-clause-moved : goal.returns-then-not-branch-clause-moved
+returns-then-not-branch-clause-moved c = λ h. never h
+
+pub returns-then-not-branch-clause-tested : goal.returns-then-not-branch-clause-tested
+returns-then-not-branch-clause-tested c = λ h. never h
+
+pub returns-then-not-branch-clause-counted : goal.returns-then-not-branch-clause-counted
+returns-then-not-branch-clause-counted c = λ h. never h

@@ -6,6 +6,7 @@ use Rattle.tl_inside.specs.Placed.{IsPlacedIn}
 use Rattle.tl_sweep.specs.Keeping.Lined.{list_of}
 use Rattle.tl_sweep.specs.Keeping.Spotted.{IsInRange}
 use Rattle.tl_sweep.proofs.Spotting.{spotted}
+use Rattle.tl_sweep.proofs.Tests.{never}
 use Rattle.tl_sweep.proofs.placing.is_placed.Goals as goal
 
 pub returns-clause-placed : goal.returns-clause-placed
@@ -18,3 +19,9 @@ returns-clause-placed c = λ h polygon e.
     (spotted c.args.map.now c.args.events.now c.args.from (list_of c.args.line.now) c.seek.new.self.front c.seek.new.self.back c.polygon.result.point (to_z w64 (of_z w64 c.height.result)) c.args.polygon
     c.requires.events c.requires.rising c.requires.ranges range c.requires.swept (bits ∙ c.height.ensures) (c.is_between.ensures.below c.if-not-is_between.false) (c.is_between.ensures.above c.if-not-is_between.false)
     parted (c.requires.counted 0 (c.are_facing.ensures c.if-not-are_facing.false)) (c.sees.ensures.east h) (c.sees.ensures.west h) (c.sees.ensures.sees h))
+
+pub returns-then-not-are_facing-clause-placed : goal.returns-then-not-are_facing-clause-placed
+returns-then-not-are_facing-clause-placed c = λ h. never h
+
+pub returns-then-not-is_between-clause-placed : goal.returns-then-not-is_between-clause-placed
+returns-then-not-is_between-clause-placed c = λ h. never h

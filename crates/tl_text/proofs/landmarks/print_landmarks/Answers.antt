@@ -1,4 +1,5 @@
-use Rattle.std.proofs.Common.{◌≡◌, ◌∷◌, [], ◌++◌, ◌+◌, ap, take, drop, length, refl, arith, rules, ◌∙◌}
+use Rattle.std.proofs.lemmas.Result.{err_from_is_err_and}
+use Rattle.std.proofs.Common.{◌≡◌, ◌∷◌, [], ◌++◌, ◌+◌, ap, take, drop, length, refl, arith, ◌∙◌}
 use Rattle.std.proofs.lemmas.List.{take_all}
 use Rattle.tl_output.proofs.WritingLemmas.{passes_both, passes_some_then, passes_last}
 use Rattle.tl_text.specs.Printing.{landmark_lines, landmark_count_text, listing_text}
@@ -20,7 +21,8 @@ returns-in_err-print_landmark-clause-bytes g c =
     let lost = passes_lost _ _ _ _ (landmark_lines m.polygons (drop (c.loop-number.number + 1) m.landmarks) ∷ count ∷ []) (listing_text m)
     (passes_some_then _ _ _ _ _ _ _ c.loop-number.invariant.0 c.in_err-print_landmark.ensures.bytes)
     (ap (λ l. l ++ count) (landmark_lines-split m.polygons m.landmarks c.loop-number.number _ c.landmark.ensures.landmark)) in
-    search (rules, lost)
+    let p = err_from_is_err_and c.from_residual.result c.from_residual.ensures.1 in
+    rw p.1 lost
 
 pub returns-clause-bytes : goal.returns-clause-bytes
 returns-clause-bytes g c =

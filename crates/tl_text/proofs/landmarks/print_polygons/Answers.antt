@@ -1,4 +1,5 @@
-use Rattle.std.proofs.Common.{◌≡◌, ◌∷◌, [], ◌+◌, ◌∙◌, take, drop, arith, ap, subst, rules}
+use Rattle.std.proofs.lemmas.Result.{err_from_is_err_and}
+use Rattle.std.proofs.Common.{◌≡◌, ◌∷◌, [], ◌+◌, ◌∙◌, take, drop, arith, ap, subst}
 use Rattle.std.proofs.lemmas.List.{take_all}
 use Rattle.tl_output.specs.Writing.{PassesOn}
 use Rattle.tl_output.proofs.WritingLemmas.{passes_both, passes_some_then}
@@ -19,7 +20,8 @@ returns-in_err-print_polygon-clause-bytes g c =
     let lost = passes_lost _ _ _ _ (polygons_text c.args.map.now.polygons (drop (c.loop-number.number-index + 1) c.args.numbers.now) ∷ []) (polygons_text c.args.map.now.polygons c.args.numbers.now)
     (passes_some_then _ _ _ _ _ _ _ c.loop-number.invariant.0 c.in_err-print_polygon.ensures.bytes)
     (polygons_text-split c.args.map.now.polygons c.args.numbers.now c.loop-number.number-index c.loop-number-test.true) in
-    search (rules, lost)
+    let p = err_from_is_err_and c.from_residual.result c.from_residual.ensures.1 in
+    rw p.1 lost
 
 pub returns-clause-bytes : goal.returns-clause-bytes
 returns-clause-bytes g c =

@@ -1,4 +1,5 @@
-use Rattle.std.proofs.Common.{◌∷◌, [], refl, rules}
+use Rattle.std.proofs.lemmas.Result.{err_from_is_err_and}
+use Rattle.std.proofs.Common.{◌∷◌, [], refl}
 use Rattle.std.specs.Prelude.{codes}
 use Rattle.tl_output.proofs.WritingLemmas.{passes_both, passes_some_then, passes_last}
 use Rattle.tl_text.specs.Printing.{listed_text}
@@ -10,20 +11,23 @@ pub returns-in_err-add-clause-bytes : goal.returns-in_err-add-clause-bytes
 unfolding inside_text
 returns-in_err-add-clause-bytes g c =
     let lost = passes_lost _ _ _ _ (listed_text c.args.map.now.polygons c.args.polygons.now ∷ codes " landmarks" ∷ listed_lands c.args.map.now.landmarks c.args.landmarks.now ∷ codes "\n" ∷ []) (inside_text c.args.map.now c.args.polygons.now c.args.landmarks.now) c.in_err-add.ensures.passes refl in
-    search (rules, lost)
+    let p = err_from_is_err_and c.from_residual.result c.from_residual.ensures.1 in
+    rw p.1 lost
 
 pub returns-in_err-print_listed-clause-bytes : goal.returns-in_err-print_listed-clause-bytes
 unfolding inside_text
 returns-in_err-print_listed-clause-bytes g c =
     let lost = passes_lost _ _ _ _ (codes " landmarks" ∷ listed_lands c.args.map.now.landmarks c.args.landmarks.now ∷ codes "\n" ∷ []) (inside_text c.args.map.now c.args.polygons.now c.args.landmarks.now) (passes_some_then _ _ _ _ _ _ _ c.in_ok-add.ensures.passes c.in_err-print_listed.ensures.bytes) refl in
-    search (rules, lost)
+    let p = err_from_is_err_and c.from_residual-in_err-print_listed.result c.from_residual-in_err-print_listed.ensures.1 in
+    rw p.1 lost
 
 pub returns-in_err-add-2-clause-bytes : goal.returns-in_err-add-2-clause-bytes
 unfolding inside_text
 returns-in_err-add-2-clause-bytes g c =
     let s2 = passes_both _ _ _ _ _ _ _ _ c.in_ok-add.ensures.passes c.in_ok-print_listed.ensures.bytes in
     let lost = passes_lost _ _ _ _ (listed_lands c.args.map.now.landmarks c.args.landmarks.now ∷ codes "\n" ∷ []) (inside_text c.args.map.now c.args.polygons.now c.args.landmarks.now) (passes_some_then _ _ _ _ _ _ _ s2 c.in_err-add-2.ensures.passes) refl in
-    search (rules, lost)
+    let p = err_from_is_err_and c.from_residual-in_err-add-2.result c.from_residual-in_err-add-2.ensures.1 in
+    rw p.1 lost
 
 pub returns-in_err-print_listed_lands-clause-bytes : goal.returns-in_err-print_listed_lands-clause-bytes
 unfolding inside_text
@@ -31,7 +35,8 @@ returns-in_err-print_listed_lands-clause-bytes g c =
     let s2 = passes_both _ _ _ _ _ _ _ _ c.in_ok-add.ensures.passes c.in_ok-print_listed.ensures.bytes in
     let s3 = passes_both _ _ _ _ _ _ _ _ s2 c.in_ok-add-2.ensures.passes in
     let lost = passes_lost _ _ _ _ (codes "\n" ∷ []) (inside_text c.args.map.now c.args.polygons.now c.args.landmarks.now) (passes_some_then _ _ _ _ _ _ _ s3 c.in_err-print_listed_lands.ensures.bytes) refl in
-    search (rules, lost)
+    let p = err_from_is_err_and c.from_residual-in_err-print_listed_lands.result c.from_residual-in_err-print_listed_lands.ensures.1 in
+    rw p.1 lost
 
 pub returns-clause-bytes : goal.returns-clause-bytes
 unfolding inside_text

@@ -1,3 +1,4 @@
+use Rattle.std.proofs.lemmas.Result.{err_from_is_err_and}
 use Rattle.std.proofs.Common.{◌≡◌, ◌∷◌, [], ◌∙◌, ◌+◌, ◌-◌, ◌++◌, drop, refl, rules, arith}
 use Rattle.std.specs.Prelude.{codes, decimal}
 use Rattle.tl_output.proofs.WritingLemmas.{passes_both, passes_some_then, passes_last}
@@ -20,7 +21,8 @@ unfolding chain_text
 returns-in_err-add-clause-bytes g c =
     let head : c.as_bytes.result.now ≡ codes "tlid " ++ decimal c.args.tlid = search rules in
     let lost = passes_lost _ _ _ _ (points_text c.args.points.now ∷ codes "\n" ∷ []) (chain_text (record { tlid = c.args.tlid; points = c.args.points.now })) c.in_err-add.ensures.passes (rw head refl) in
-    search (rules, lost)
+    let p = err_from_is_err_and c.from_residual.result c.from_residual.ensures.1 in
+    rw p.1 lost
 
 pub returns-in_err-print_points-clause-bytes : goal.returns-in_err-print_points-clause-bytes
 unfolding chain_text
@@ -31,7 +33,8 @@ returns-in_err-print_points-clause-bytes g c =
     let some = passes_some_then _ _ _ _ _ _ _ points (rw eight at c.in_err-print_points.ensures.bytes) in
     let lost = passes_lost _ _ _ _ (points_text (drop (c.loop-printed.printed + 8) c.args.points.now) ∷ codes "\n" ∷ []) (chain_text (record { tlid = c.args.tlid; points = c.args.points.now })) some
     (rw head (chain_pieces (codes "tlid " ++ decimal c.args.tlid) c.args.points.now c.loop-printed.printed 8 (codes "\n"))) in
-    search (rules, lost)
+    let p = err_from_is_err_and c.from_residual-in_err-print_points.result c.from_residual-in_err-print_points.ensures.1 in
+    rw p.1 lost
 
 pub returns-in_err-print_points-2-clause-bytes : goal.returns-in_err-print_points-2-clause-bytes
 unfolding chain_text
@@ -41,7 +44,8 @@ returns-in_err-print_points-2-clause-bytes g c =
     let some = passes_some_then _ _ _ _ _ _ _ points c.in_err-print_points-2.ensures.bytes in
     let lost = passes_lost _ _ _ _ (codes "\n" ∷ []) (chain_text (record { tlid = c.args.tlid; points = c.args.points.now })) some
     (rw head (chain_parts (codes "tlid " ++ decimal c.args.tlid) c.args.points.now c.loop-printed.printed (codes "\n") c.loop-printed.invariant.within)) in
-    search (rules, lost)
+    let p = err_from_is_err_and c.from_residual-in_err-print_points-2.result c.from_residual-in_err-print_points-2.ensures.1 in
+    rw p.1 lost
 
 pub returns-clause-bytes : goal.returns-clause-bytes
 unfolding chain_text

@@ -1,4 +1,5 @@
-use Rattle.std.proofs.Common.{◌≡◌, ◌∷◌, [], ◌++◌, ◌+◌, ap, drop, take, length, refl, arith, rules, ◌∙◌}
+use Rattle.std.proofs.lemmas.Result.{err_from_is_err_and}
+use Rattle.std.proofs.Common.{◌≡◌, ◌∷◌, [], ◌++◌, ◌+◌, ap, drop, take, length, refl, arith, ◌∙◌}
 use Rattle.std.proofs.lemmas.List.{take_all}
 use Rattle.tl_output.proofs.WritingLemmas.{passes_both, passes_some_then, passes_last}
 use Rattle.tl_county.specs.Chains.{segment_count}
@@ -20,7 +21,8 @@ returns-in_err-print_chain-clause-bytes g c =
     let lost = passes_lost _ _ _ _ (chains_text (drop (c.loop-chain.chain + 1) list.chains) ∷ counts ∷ []) (shown_text list)
     (passes_some_then _ _ _ _ _ _ _ c.loop-chain.invariant.0 c.in_err-print_chain.ensures.bytes)
     (ap (λ l. l ++ counts) (chains_text-split list.chains c.loop-chain.chain c.tlid.result c.points.result.now c.tlid.ensures c.points.ensures)) in
-    search (rules, lost)
+    let p = err_from_is_err_and c.from_residual.result c.from_residual.ensures.1 in
+    rw p.1 lost
 
 pub returns-clause-bytes : goal.returns-clause-bytes
 returns-clause-bytes g c =

@@ -1,4 +1,4 @@
-use Rattle.std.proofs.Common.{ap, sym, ◌∙◌, subst, IfErr, arith}
+use Rattle.std.proofs.Common.{◌≡◌, ℕ, ◌+◌, Result, Ok, Err, OnOk, refl, ap, sym, ◌∙◌, subst, IfErr, arith}
 use Rattle.std.proofs.lemmas.Bool.{false≢true}
 use Rattle.std.proofs.lemmas.Result.{err_from_is_err_and}
 use Rattle.tl_tree.specs.declared.walk.Below.{Below}
@@ -7,6 +7,11 @@ use Rattle.tl_tree.specs.Keeping.Walking.{size_of}
 use Rattle.tl_tree.proofs.Checks.{ok-map, checked-items, checked-children, fault-first, fault-others, too-small, checked-both}
 use Rattle.tl_tree.proofs.Walks.{nodes-split, size-above_0}
 use Rattle.tl_tree.proofs.check.+check.Goals as goal
+
+-- where a number comes behind so many, its successor comes behind one more
+ok-suc : {A E : Type 0} (n o k : ℕ) (r : Result A E) → OnOk r (n ≡ o + k) → OnOk r (n + 1 ≡ o + (1 + k))
+ok-suc n o k (Ok a) e = omega (arith, e)
+ok-suc n o k (Err e) h = tt
 
 pub check_below-check_trees-requires : goal.check_below-check_trees-requires
 check_below-check_trees-requires g t c κs within =
@@ -67,3 +72,47 @@ pub check_trees-returns-clause-right : goal.check_trees-returns-clause-right
 check_trees-returns-clause-right g t c =
     let see = g.W.Trees.forest in
     checked-both (g.I.Items.bounds_of c.args.items.now) see c.args.marks.now (see c.args.trees.now) c.in-Some.tree.rect c.in-Some.tree.below (see c.in-Some.rest) c.check_below.new.marks c.check_trees.new.marks c.in_ok-hull.hull c.in_ok-others.others c.hull_of.result c.in-Some.ensures c.in_ok-hull.ensures.right (c.covers.ensures.0 c.if-not-covers.false) c.in_ok-others.ensures.right c.hull_of.ensures
+
+pub check_below-returns-in_err-mark_items-in-Items-clause-right : goal.check_below-returns-in_err-mark_items-in-Items-clause-right
+check_below-returns-in_err-mark_items-in-Items-clause-right g t c = let p = err_from_is_err_and c.from_residual.result c.from_residual.ensures.1 in rw p.1 tt
+
+pub check_below-returns-in_err-mark_items-in-Items-clause-next : goal.check_below-returns-in_err-mark_items-in-Items-clause-next
+check_below-returns-in_err-mark_items-in-Items-clause-next g t c = let p = err_from_is_err_and c.from_residual.result c.from_residual.ensures.1 in rw p.1 tt
+
+pub check_trees-returns-in_err-hull-clause-right : goal.check_trees-returns-in_err-hull-clause-right
+check_trees-returns-in_err-hull-clause-right g t c = let p = err_from_is_err_and c.from_residual.result c.from_residual.ensures.1 in rw p.1 tt
+
+pub check_trees-returns-in_err-hull-clause-next : goal.check_trees-returns-in_err-hull-clause-next
+check_trees-returns-in_err-hull-clause-next g t c = let p = err_from_is_err_and c.from_residual.result c.from_residual.ensures.1 in rw p.1 tt
+
+pub check_trees-returns-in_err-others-clause-right : goal.check_trees-returns-in_err-others-clause-right
+check_trees-returns-in_err-others-clause-right g t c = let p = err_from_is_err_and c.from_residual-in_err-others.result c.from_residual-in_err-others.ensures.1 in rw p.1 tt
+
+pub check_trees-returns-in_err-others-clause-next : goal.check_trees-returns-in_err-others-clause-next
+check_trees-returns-in_err-others-clause-next g t c = let p = err_from_is_err_and c.from_residual-in_err-others.result c.from_residual-in_err-others.ensures.1 in rw p.1 tt
+
+pub check_trees-returns-then-not-covers-clause-right : goal.check_trees-returns-then-not-covers-clause-right
+check_trees-returns-then-not-covers-clause-right g t c = tt
+
+pub check_trees-returns-then-not-covers-clause-next : goal.check_trees-returns-then-not-covers-clause-next
+check_trees-returns-then-not-covers-clause-next g t c = tt
+
+pub check_trees-returns-in_default-clause-fault : goal.check_trees-returns-in_default-clause-fault
+check_trees-returns-in_default-clause-fault g t c = tt
+
+pub check_trees-returns-clause-fault : goal.check_trees-returns-clause-fault
+check_trees-returns-clause-fault g t c = tt
+
+pub check_below-returns-in_ok-mark_items-in-Items-clause-fault : goal.check_below-returns-in_ok-mark_items-in-Items-clause-fault
+check_below-returns-in_ok-mark_items-in-Items-clause-fault g t c = tt
+
+pub check_below-returns-in_err-mark_items-in-Items-clause-fault : goal.check_below-returns-in_err-mark_items-in-Items-clause-fault
+check_below-returns-in_err-mark_items-in-Items-clause-fault g t c =
+    let p = err_from_is_err_and c.from_residual.result c.from_residual.ensures.1 in
+    rw (p.1, p.2, c.in-Items.is) c.in_err-mark_items-in-Items.ensures.fault
+
+pub check_below-returns-in_ok-mark_items-in-Items-clause-next : goal.check_below-returns-in_ok-mark_items-in-Items-clause-next
+check_below-returns-in_ok-mark_items-in-Items-clause-next g t c = rw c.in-Items.is refl
+
+pub check_below-returns-in-Children-clause-next : goal.check_below-returns-in-Children-clause-next
+check_below-returns-in-Children-clause-next g t c = rw c.in-Children.is (ok-suc _ _ _ c.check_trees.result c.check_trees.ensures.next)

@@ -1,5 +1,6 @@
 use Rattle.std.proofs.Common.{◌≡◌, ℕ, List, ◌+◌, ◌≤◌, refl, sym, ap, ◌∙◌, subst, rules, arith}
 use Rattle.std.proofs.lemmas.Bool.{false≢true}
+use Rattle.std.proofs.lemmas.Result.{err_from_is_err_and}
 use Rattle.tl_geom.specs.Rectangle.{AreMeeting}
 use Rattle.std.specs.Result.{OnOk}
 use Rattle.tl_tree.specs.declared.walk.Below.{Below}
@@ -121,3 +122,18 @@ collect_trees-loop-tree-preserved g t c =
       hits = λ last d. is.hits last (collects-split see hit left tree.rect tree.below rest now new last c.in-Some.ensures found d);
       grows = grows-both before now new is.grows (record { added = found.found; appended = found.appended });
     }
+
+pub collect_trees-returns-in_err-collect_one-clause-hits : goal.collect_trees-returns-in_err-collect_one-clause-hits
+collect_trees-returns-in_err-collect_one-clause-hits g t c = let p = err_from_is_err_and c.from_residual.result c.from_residual.ensures.1 in rw p.1 tt
+
+pub collect_one-push_hits-requires-clause-region : goal.collect_one-push_hits-requires-clause-region
+collect_one-push_hits-requires-clause-region g t c = c.requires.region
+
+pub collect_one-returns-in-Items-clause-grows : goal.collect_one-returns-in-Items-clause-grows
+collect_one-returns-in-Items-clause-grows g t c = c.push_hits.ensures.grows
+
+pub collect_one-returns-in-Children-clause-grows : goal.collect_one-returns-in-Children-clause-grows
+collect_one-returns-in-Children-clause-grows g t c = c.collect_trees.ensures.grows
+
+pub collect_trees-returns-clause-grows : goal.collect_trees-returns-clause-grows
+collect_trees-returns-clause-grows g t c = c.loop-tree.invariant.grows

@@ -24,3 +24,27 @@ returns g t c =
     (λ f s. omega (arith, cross-append_right f xs ys zs, ap (cross_sum f xs) e))
     (λ h. subst P (sym e) (all_cross-join (AreFree tells) xs ys zs h.0 h.1))
     (leaves_both n b tells _ _ _ _ _ _ _ c.test_blocks.result (goes _ _ _ _ _ _ _ _ c.test_rows-2.ensures c.if-not-test_rows.false) c.test_blocks.ensures)
+
+pub test_rows-requires-clause-some : goal.test_rows-requires-clause-some
+test_rows-requires-clause-some g t c = c.requires.some
+
+pub test_rows-requires-clause-few : goal.test_rows-requires-clause-few
+test_rows-requires-clause-few g t c = c.requires.few
+
+pub test_rows-requires-clause-bounds : goal.test_rows-requires-clause-bounds
+test_rows-requires-clause-bounds g t c = c.requires.bounds
+
+pub test_rows-requires-clause-others : goal.test_rows-requires-clause-others
+test_rows-requires-clause-others g t c = c.requires.others
+
+pub test_rows-requires-2-clause-some : goal.test_rows-requires-2-clause-some
+test_rows-requires-2-clause-some g t c = c.requires.some
+
+pub test_rows-requires-2-clause-few : goal.test_rows-requires-2-clause-few
+test_rows-requires-2-clause-few g t c = c.requires.few
+
+pub test_rows-requires-2-clause-bounds : goal.test_rows-requires-2-clause-bounds
+test_rows-requires-2-clause-bounds g t c = c.requires.bounds
+
+pub returns-then-others-le8 : goal.returns-then-others-le8
+returns-then-others-le8 g t c = c.test_rows.ensures

@@ -1,4 +1,4 @@
-use Rattle.std.proofs.Common.{ℕ, ◌≤◌, List, IfSome, length, take, ap, subst, ◌∙◌, arith}
+use Rattle.std.proofs.Common.{ℕ, ◌≤◌, List, IfSome, refl, length, take, ap, subst, ◌∙◌, arith}
 use Rattle.tl_tree.specs.Keeping.Listing.{first_items, listed_items, AllSound}
 use Rattle.tl_tree.specs.Keeping.Walking.{items_below}
 use Rattle.tl_tree.proofs.Listing.{map-some, none-listed, both-listed, listed-none}
@@ -36,3 +36,21 @@ returns-in-Some-list_below-clause-listed g t c =
     map-some c.list_all.result
     (λ m h. both-listed see (g.I.Items.count c.args.items.now) (g.I.Items.bounds_of c.args.items.now) (g.I.Items.tells c.args.items.now) xs (take c.args.len c.args.near.now) (take c.in-Some-list_below.more c.list_below.new.near) (take m c.list_all.new.near) more rest (listed_items see c.args.others.now) (ap (listed_items see) c.in-Some.ensures.cases.0) c.in-Some-list_below.ensures.listed h)
     c.list_all.ensures.listed
+
+pub returns-in_default-clause-complete : goal.returns-in_default-clause-complete
+returns-in_default-clause-complete g t c = refl
+
+pub returns-in_default-clause-fits : goal.returns-in_default-clause-fits
+returns-in_default-clause-fits g t c = c.requires.fits
+
+pub list_below-requires-clause-tree : goal.list_below-requires-clause-tree
+list_below-requires-clause-tree g t c = c.requires.tree
+
+pub returns-in-None-clause-complete : goal.returns-in-None-clause-complete
+returns-in-None-clause-complete g t c = c.list_below.ensures.complete
+
+pub returns-in-None-clause-fits : goal.returns-in-None-clause-fits
+returns-in-None-clause-fits g t c = tt
+
+pub returns-in-None-clause-listed : goal.returns-in-None-clause-listed
+returns-in-None-clause-listed g t c = tt

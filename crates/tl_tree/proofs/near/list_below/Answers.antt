@@ -47,3 +47,45 @@ returns-else-do_meet-clause-listed g c =
     let k = sound-first see n b (see c.args.at.now) c.in-Some.first _ c.in-Some.ensures c.requires.at in
     let P : List ℕ → Type 0 = λ more. StandsFor n b tells see xs old more old in
     subst P (sym (first-items-of see (see c.args.at.now) c.in-Some.first _ c.in-Some.ensures)) (one-apart see n b tells xs (g.met.I.Items.apart c.args.items.now) old c.args.tree.now c.in-Some.first refl c.requires.tree k no)
+
+pub returns-in_default-clause-complete : goal.returns-in_default-clause-complete
+returns-in_default-clause-complete g c = refl
+
+pub returns-in_default-clause-fits : goal.returns-in_default-clause-fits
+returns-in_default-clause-fits g c = c.requires.fits
+
+pub returns-then-near-len-clause-complete : goal.returns-then-near-len-clause-complete
+returns-then-near-len-clause-complete g c = refl
+
+pub returns-then-near-len-clause-fits : goal.returns-then-near-len-clause-fits
+returns-then-near-len-clause-fits g c = tt
+
+pub returns-then-near-len-clause-listed : goal.returns-then-near-len-clause-listed
+returns-then-near-len-clause-listed g c = tt
+
+pub list_one-requires-clause-tree : goal.list_one-requires-clause-tree
+list_one-requires-clause-tree g c = c.requires.tree
+
+pub list_one-requires-clause-at : goal.list_one-requires-clause-at
+list_one-requires-clause-at g c = c.requires.at
+
+pub list_trees-requires-clause-tree : goal.list_trees-requires-clause-tree
+list_trees-requires-clause-tree g c = c.requires.tree
+
+pub list_trees-requires-clause-fits : goal.list_trees-requires-clause-fits
+list_trees-requires-clause-fits g c = c.requires.fits
+
+pub returns-else-near-len-clause-complete : goal.returns-else-near-len-clause-complete
+returns-else-near-len-clause-complete g c = c.list_one.ensures.complete
+
+pub returns-then-do_meet-clause-complete : goal.returns-then-do_meet-clause-complete
+returns-then-do_meet-clause-complete g c = c.list_trees.ensures.complete
+
+pub returns-then-do_meet-clause-fits : goal.returns-then-do_meet-clause-fits
+returns-then-do_meet-clause-fits g c = c.list_trees.ensures.fits
+
+pub returns-else-do_meet-clause-complete : goal.returns-else-do_meet-clause-complete
+returns-else-do_meet-clause-complete g c = refl
+
+pub returns-else-do_meet-clause-fits : goal.returns-else-do_meet-clause-fits
+returns-else-do_meet-clause-fits g c = c.requires.fits

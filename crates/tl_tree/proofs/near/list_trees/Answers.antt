@@ -49,3 +49,21 @@ returns-clause-listed g c =
       free = λ f. c.loop-first.invariant.free f (all_cross-none free xs (see c.loop-first.left) c.in_default.ensures);
       sound = c.loop-first.invariant.sound;
     }
+
+pub returns-then-near-more-clause-complete : goal.returns-then-near-more-clause-complete
+returns-then-near-more-clause-complete g c = c.loop-first.invariant.complete
+
+pub returns-then-near-more-clause-fits : goal.returns-then-near-more-clause-fits
+returns-then-near-more-clause-fits g c = tt
+
+pub returns-then-near-more-clause-listed : goal.returns-then-near-more-clause-listed
+returns-then-near-more-clause-listed g c = tt
+
+pub list_one-more-requires-clause-tree : goal.list_one-more-requires-clause-tree
+list_one-more-requires-clause-tree g c = c.requires.tree
+
+pub list_one-more-requires-clause-at : goal.list_one-more-requires-clause-at
+list_one-more-requires-clause-at g c = c.loop-first.invariant.left
+
+pub returns-clause-complete : goal.returns-clause-complete
+returns-clause-complete g c = c.loop-first.invariant.complete

@@ -1,4 +1,4 @@
-use Rattle.std.proofs.Common.{◌≡◌, ℕ, ◌≤◌, ◌++◌, IfSome, ap, take, sym, ◌∙◌, subst, arith}
+use Rattle.std.proofs.Common.{◌≡◌, refl, ℕ, ◌≤◌, ◌++◌, IfSome, ap, take, sym, ◌∙◌, subst, arith}
 use Rattle.std.proofs.lemmas.Bool.{false≢true}
 use Rattle.tl_geom.specs.Rectangle.{AreMeeting}
 use Rattle.tl_tree.specs.declared.walk.Below.{Below}
@@ -77,3 +77,42 @@ list_children-returns-in-Some-list_tree-clause-listed g t c =
     map-some c.list_children.result
     (λ m h. both-items (g.I.Items.count c.args.items.now) (g.I.Items.bounds_of c.args.items.now) (g.I.Items.tells c.args.items.now) c.args.some.now (take c.args.len c.args.near.now) (take c.in-Some-list_tree.more c.list_tree.new.near) (take m c.list_children.new.near) ys zs (leaf_items (see c.args.trees.now)) e c.in-Some-list_tree.ensures.listed h)
     c.list_children.ensures.listed
+
+pub list_tree-returns-in-Items-clause-complete : goal.list_tree-returns-in-Items-clause-complete
+list_tree-returns-in-Items-clause-complete g t c = c.list_leaf.ensures.complete
+
+pub list_tree-returns-in-Items-clause-fits : goal.list_tree-returns-in-Items-clause-fits
+list_tree-returns-in-Items-clause-fits g t c = c.list_leaf.ensures.fits
+
+pub list_tree-returns-in-Children-clause-complete : goal.list_tree-returns-in-Children-clause-complete
+list_tree-returns-in-Children-clause-complete g t c = c.list_children.ensures.complete
+
+pub list_tree-returns-in-Children-clause-fits : goal.list_tree-returns-in-Children-clause-fits
+list_tree-returns-in-Children-clause-fits g t c = c.list_children.ensures.fits
+
+pub list_tree-list_leaf-requires-clause-some : goal.list_tree-list_leaf-requires-clause-some
+list_tree-list_leaf-requires-clause-some g t c = c.requires.some
+
+pub list_tree-list_leaf-requires-clause-around : goal.list_tree-list_leaf-requires-clause-around
+list_tree-list_leaf-requires-clause-around g t c = c.requires.around
+
+pub list_children-returns-in-None-clause-complete : goal.list_children-returns-in-None-clause-complete
+list_children-returns-in-None-clause-complete g t c = c.list_tree.ensures.complete
+
+pub list_children-returns-in-None-clause-fits : goal.list_children-returns-in-None-clause-fits
+list_children-returns-in-None-clause-fits g t c = tt
+
+pub list_children-returns-in-None-clause-listed : goal.list_children-returns-in-None-clause-listed
+list_children-returns-in-None-clause-listed g t c = tt
+
+pub list_children-returns-in_default-clause-complete : goal.list_children-returns-in_default-clause-complete
+list_children-returns-in_default-clause-complete g t c = refl
+
+pub list_tree-returns-then-not-do_meet-clause-complete : goal.list_tree-returns-then-not-do_meet-clause-complete
+list_tree-returns-then-not-do_meet-clause-complete g t c = refl
+
+pub list_children-returns-in_default-clause-fits : goal.list_children-returns-in_default-clause-fits
+list_children-returns-in_default-clause-fits g t c = c.requires.fits
+
+pub list_tree-returns-then-not-do_meet-clause-fits : goal.list_tree-returns-then-not-do_meet-clause-fits
+list_tree-returns-then-not-do_meet-clause-fits g t c = c.requires.fits

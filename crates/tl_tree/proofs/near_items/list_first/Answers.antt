@@ -1,4 +1,4 @@
-use Rattle.std.proofs.Common.{ℕ, List, IfSome, ap, sym, subst, take, ◌∙◌}
+use Rattle.std.proofs.Common.{ℕ, List, IfSome, refl, ap, sym, subst, take, ◌∙◌}
 use Rattle.tl_index.specs.Fits.{AreBelow}
 use Rattle.tl_tree.specs.declared.walk.Below.{Below}
 use Rattle.tl_tree.specs.Keeping.Listing.{first_items, StandsForItems}
@@ -38,3 +38,33 @@ returns-in-Children-clause-listed g c =
     let see = g.W.Trees.forest in
     let P : List ℕ → Type 0 = λ more. IfSome c.list_children.result (λ m. StandsForItems (g.I.Items.count c.args.items.now) (g.I.Items.bounds_of c.args.items.now) (g.I.Items.tells c.args.items.now) c.args.some.now (take c.args.len c.args.near.now) more (take m c.list_children.new.near)) in
     subst P (sym (first-items-of see (see c.args.at.now) c.in-Some.first _ c.in-Some.ensures ∙ ap (λ (u : Below g.row.W.Denot). items_below see u) c.in-Children.is)) c.list_children.ensures.listed
+
+pub returns-in_default-clause-complete : goal.returns-in_default-clause-complete
+returns-in_default-clause-complete g c = refl
+
+pub returns-in_default-clause-fits : goal.returns-in_default-clause-fits
+returns-in_default-clause-fits g c = c.requires.fits
+
+pub list_leaf-requires-clause-some : goal.list_leaf-requires-clause-some
+list_leaf-requires-clause-some g c = c.requires.some
+
+pub list_leaf-requires-clause-around : goal.list_leaf-requires-clause-around
+list_leaf-requires-clause-around g c = c.requires.around
+
+pub list_children-requires-clause-some : goal.list_children-requires-clause-some
+list_children-requires-clause-some g c = c.requires.some
+
+pub list_children-requires-clause-around : goal.list_children-requires-clause-around
+list_children-requires-clause-around g c = c.requires.around
+
+pub returns-in-Items-clause-complete : goal.returns-in-Items-clause-complete
+returns-in-Items-clause-complete g c = c.list_leaf.ensures.complete
+
+pub returns-in-Items-clause-fits : goal.returns-in-Items-clause-fits
+returns-in-Items-clause-fits g c = c.list_leaf.ensures.fits
+
+pub returns-in-Children-clause-complete : goal.returns-in-Children-clause-complete
+returns-in-Children-clause-complete g c = c.list_children.ensures.complete
+
+pub returns-in-Children-clause-fits : goal.returns-in-Children-clause-fits
+returns-in-Children-clause-fits g c = c.list_children.ensures.fits

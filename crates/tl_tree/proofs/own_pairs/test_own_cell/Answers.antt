@@ -1,8 +1,8 @@
-use Rattle.std.proofs.Common.{◌≤◌, ◌%◌, ◌⊎◌, length, inl, inr, arith}
+use Rattle.std.proofs.Common.{◌≤◌, ◌%◌, ◌⊎◌, length, get_or, sym, inl, inr, arith}
 use Rattle.tl_index.specs.Pairs.{meeting, AreFree}
-use Rattle.tl_tree.specs.Keeping.OwnPairs.{partner}
-use Rattle.tl_tree.proofs.Leaving.{enough_all}
-use Rattle.tl_tree.proofs.OwnPairs.{own-out, all-own-out}
+use Rattle.tl_tree.specs.Keeping.OwnPairs.{partner, AreThere}
+use Rattle.tl_tree.proofs.Leaving.{enough_all, leaves_same}
+use Rattle.tl_tree.proofs.OwnPairs.{own-in, own-out, all-own-in, all-own-out}
 use Rattle.tl_tree.proofs.Steps.{below-at}
 use Rattle.tl_tree.proofs.own_pairs.test_own_cell.Goals.{then-some-first-via-then-some-first, then-some-first-via-else-some-first+then-some-second}
 use Rattle.tl_tree.proofs.own_pairs.test_own_cell.Goals as goal
@@ -27,3 +27,19 @@ returns-then-some-first g c =
       free = all-own-out (AreFree (g.I.Items.tells c.args.items.now)) xs p out;
       nothing_found = c.requires.nothing_found;
     }
+
+pub test_meeting-requires-clause-meeting : goal.test_meeting-requires-clause-meeting
+test_meeting-requires-clause-meeting g c = c.requires.meeting (record { first = omega (arith, c.if-some-first.false); second = omega (arith, c.if-some-second.false) })
+
+pub returns : goal.returns
+returns g c =
+    let xs = c.args.some.now in
+    let p = c.args.place in
+    let second = get_or xs (partner p) 0 in
+    let first = get_or xs (p % 8) 0 in
+    let tells = g.I.Items.tells c.args.items.now in
+    let there : AreThere xs p = record { first = omega (arith, c.if-some-first.false); second = omega (arith, c.if-some-second.false) } in
+    leaves_same (g.I.Items.count c.args.items.now) (g.I.Items.bounds_of c.args.items.now) tells (λ f. f second first) (AreFree tells second first) _ _ _ _ c.test_meeting.result
+    (λ f s. sym (own-in f xs p there))
+    (all-own-in (AreFree tells) xs p there)
+    c.test_meeting.ensures

@@ -1,10 +1,12 @@
 use Rattle.std.proofs.Common.{◌≡◌, ap, subst, lit<, arith, sym, ◌∙◌, IsFalse}
 use Rattle.std.proofs.lemmas.Bool.{false≢true}
 use Rattle.tl_geom.specs.Rectangle.{AreMeeting}
+use Rattle.tl_index.specs.Fits.{AreBelow}
 use Rattle.tl_index.specs.Pairs.{meeting, cross_sum, AreFree, AllCross}
 use Rattle.tl_tree.specs.declared.walk.Below.{Below}
+use Rattle.tl_tree.specs.declared.walk.Below.TheVariants.{Items}
 use Rattle.tl_index.specs.Trees.{leaf_items}
-use Rattle.tl_tree.specs.Keeping.Walking.{items_below, size_of}
+use Rattle.tl_tree.specs.Keeping.Walking.{items_below, size_of, MayLeave}
 use Rattle.tl_tree.proofs.PairLemmas.{cross-swap, all_cross-swap}
 use Rattle.tl_tree.proofs.PairTests.{free-turned}
 use Rattle.tl_tree.proofs.Apart.{cross-apart, cross-free}
@@ -111,3 +113,36 @@ search_if_marked-returns-else-marked g t c =
     let no : AreMeeting tree.rect other.rect → ⊥ = λ m. c.requires.unmarked c.if-marked.false (record { point = m.point; in_first = m.in_second; in_second = m.in_first }) in
     let m : cross_sum (meeting b) xs ys ≡ 0 = cross-apart b tree.rect other.rect xs ys no c.requires.tree.covers c.requires.other.covers in
     record { left = omega (arith, m); spent = enough_all (λ f. omega arith); free = cross-free b (g.I.Items.count c.args.items.now) (g.I.Items.tells c.args.items.now) (g.met.I.Items.apart c.args.items.now) tree.rect other.rect xs ys no c.requires.tree.known c.requires.other.known c.requires.tree.covers c.requires.other.covers; nothing_found = c.requires.nothing_found }
+
+pub search_between-returns : goal.search_between-returns
+search_between-returns g t c = c.search_marked.ensures
+
+pub search_if_marked-returns-then-marked : goal.search_if_marked-returns-then-marked
+search_if_marked-returns-then-marked g t c = c.search_two.ensures
+
+pub search_two-test_cross-requires-clause-some : goal.search_two-test_cross-requires-clause-some
+search_two-test_cross-requires-clause-some g t c =
+    let P : Below g.row.W.Denot → Type 0 = λ u. AreBelow (g.I.Items.count c.args.items.now) (items_below g.W.Trees.forest u) in
+    subst P c.in-Items-Items.is-0 c.requires.tree.known
+
+pub search_two-test_cross-requires-clause-others : goal.search_two-test_cross-requires-clause-others
+search_two-test_cross-requires-clause-others g t c =
+    let P : Below g.row.W.Denot → Type 0 = λ u. AreBelow (g.I.Items.count c.args.items.now) (items_below g.W.Trees.forest u) in
+    subst P c.in-Items-Items.is-1 c.requires.other.known
+
+pub search_two-returns-in-Items-Items : goal.search_two-returns-in-Items-Items
+search_two-returns-in-Items-Items g t c =
+    let see = g.W.Trees.forest in
+    let tells = g.I.Items.tells c.args.items.now in
+    let P : Below g.row.W.Denot → Below g.row.W.Denot → Type 0 = λ u v. MayLeave (g.I.Items.count c.args.items.now) (g.I.Items.bounds_of c.args.items.now) tells (λ f. cross_sum f (items_below see u) (items_below see v)) (AllCross (AreFree tells) (items_below see u) (items_below see v)) c.args.progress.now c.test_cross.new.progress c.test_cross.result in
+    let Q : Below g.row.W.Denot → Type 0 = λ v. P c.args.tree.now.below v in
+    let R : Below g.row.W.Denot → Type 0 = λ u. P u (Items c.in-Items-Items.others) in
+    subst Q (sym c.in-Items-Items.is-1) (subst R (sym c.in-Items-Items.is-0) c.test_cross.ensures)
+
+pub search_two-returns-in_default-Children : goal.search_two-returns-in_default-Children
+search_two-returns-in_default-Children g t c =
+    let see = g.W.Trees.forest in
+    let tells = g.I.Items.tells c.args.items.now in
+    let xs = items_below see c.args.tree.now.below in
+    let P : Below g.row.W.Denot → Type 0 = λ u. MayLeave (g.I.Items.count c.args.items.now) (g.I.Items.bounds_of c.args.items.now) tells (λ f. cross_sum f xs (items_below see u)) (AllCross (AreFree tells) xs (items_below see u)) c.args.progress.now c.search_between.new.progress c.search_between.result in
+    subst P (sym c.in_default-Children.is-1) c.search_between.ensures

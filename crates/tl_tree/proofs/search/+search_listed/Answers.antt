@@ -1,6 +1,6 @@
-use Rattle.std.proofs.Common.{◌≡◌, ap, sym, subst, List, ℕ, ◌++◌, arith}
+use Rattle.std.proofs.Common.{◌≡◌, ap, length, sym, subst, List, ℕ, ◌++◌, arith}
 use Rattle.tl_index.specs.Pairs.{meeting, cross_sum, AllCross, AreFree}
-use Rattle.tl_tree.specs.Keeping.Listing.{first_items, listed_items}
+use Rattle.tl_tree.specs.Keeping.Listing.{first_items, listed_items, AllSound}
 use Rattle.tl_tree.specs.Keeping.Walking.{items_below}
 use Rattle.tl_tree.proofs.Leaving.{enough_all, stops, goes, leaves_same, leaves_both}
 use Rattle.tl_tree.proofs.Listing.{listed-none}
@@ -43,3 +43,16 @@ returns g t c =
     (λ f s. omega (arith, cross-append_right f xs ys zs, ap (cross_sum f xs) e))
     (λ h. subst P (sym e) (all_cross-join (AreFree tells) xs ys zs h.0 h.1))
     (leaves_both n b tells _ _ _ _ _ _ _ c.search_listed.result (goes _ _ _ _ _ _ _ _ c.search_first.ensures c.if-not-search_first.false) c.search_listed.ensures)
+
+pub search_first-requires-clause-tree : goal.search_first-requires-clause-tree
+search_first-requires-clause-tree g t c = c.requires.tree
+
+pub search_first-requires-clause-at : goal.search_first-requires-clause-at
+search_first-requires-clause-at g t c =
+    let P : List g.row.W.Denot → Type 0 = AllSound (g.I.Items.count c.args.items.now) (g.I.Items.bounds_of c.args.items.now) g.W.Trees.forest in
+    (subst P c.in-Some.ensures.cases.0 c.requires.near).0
+
+pub search_listed-requires : goal.search_listed-requires
+search_listed-requires g t c κs within =
+    let P : List g.row.W.Denot → Type 0 = AllSound (g.I.Items.count c.args.items.now) (g.I.Items.bounds_of c.args.items.now) g.W.Trees.forest in
+    (omega (arith, ap length c.in-Some.ensures.cases.0), (within.0, (within.1.0, (within.1.1, (c.requires.tree, ((subst P c.in-Some.ensures.cases.0 c.requires.near).1, (goes _ _ _ _ _ _ _ _ c.search_first.ensures c.if-not-search_first.false).nothing_found))))))

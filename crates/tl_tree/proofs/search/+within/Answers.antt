@@ -172,3 +172,33 @@ search_within-returns g t c =
     let p = all_cross-parts free xs ys zs f.0.1 in
     (all_pairs-split see free (see c.args.trees.now) c.in-Some.tree.rect c.in-Some.tree.below (see c.in-Some.rest) c.in-Some.ensures f.0.0 p.0 f.1.0, subst P (sym e) (all_cross-append free xs ys zs p.1 f.1.1)))
     (leaves_both n b tells (λ f. sum_beside f xs (ys ++ zs)) (AllBeside free xs (ys ++ zs)) _ _ _ _ (AllBeside free ys zs) c.search_within.result h c.search_within.ensures)
+
+pub search_among-returns-then-room-lt-LIST : goal.search_among-returns-then-room-lt-LIST
+search_among-returns-then-room-lt-LIST g t c = c.search_unlisted.ensures
+
+pub search_among-returns-in-None : goal.search_among-returns-in-None
+search_among-returns-in-None g t c = c.search_unlisted-in-None.ensures
+
+pub search_among-list_near-requires-clause-tree : goal.search_among-list_near-requires-clause-tree
+search_among-list_near-requires-clause-tree g t c = c.requires.tree
+
+pub search_among-list_near-requires-clause-rest : goal.search_among-list_near-requires-clause-rest
+search_among-list_near-requires-clause-rest g t c = c.requires.rest
+
+pub search_among-list_near-requires-clause-others : goal.search_among-list_near-requires-clause-others
+search_among-list_near-requires-clause-others g t c = c.requires.others
+
+pub search_one-test_leaf-requires-clause-near : goal.search_one-test_leaf-requires-clause-near
+search_one-test_leaf-requires-clause-near g t c = c.requires.near
+
+pub search_unlisted-search_between-requires-clause-tree : goal.search_unlisted-search_between-requires-clause-tree
+search_unlisted-search_between-requires-clause-tree g t c = c.requires.tree
+
+pub search_unlisted-search_between-requires-clause-others : goal.search_unlisted-search_between-requires-clause-others
+search_unlisted-search_between-requires-clause-others g t c = c.requires.rest
+
+pub search_unlisted-search_listed-requires-clause-tree : goal.search_unlisted-search_listed-requires-clause-tree
+search_unlisted-search_listed-requires-clause-tree g t c = c.requires.tree
+
+pub search_unlisted-search_listed-requires-clause-near : goal.search_unlisted-search_listed-requires-clause-near
+search_unlisted-search_listed-requires-clause-near g t c = c.requires.others

@@ -1,9 +1,10 @@
 use Rattle.std.proofs.Common.{ap, sym, subst, List, ℕ, arith}
 use Rattle.tl_index.specs.Pairs.{meeting, cross_sum, AllCross, AreFree}
 use Rattle.tl_tree.specs.Keeping.Listing.{first_items}
-use Rattle.tl_tree.specs.Keeping.Walking.{items_below}
+use Rattle.tl_tree.specs.Keeping.Walking.{items_below, MayLeave}
 use Rattle.tl_tree.proofs.PairLemmas.{cross-nil, all_cross-nil}
 use Rattle.tl_tree.proofs.Leaving.{enough_all}
+use Rattle.tl_tree.proofs.Listing.{first-items-of}
 use Rattle.tl_tree.proofs.Walks.{sound-first}
 use Rattle.tl_tree.proofs.search.search_first.Goals as goal
 
@@ -25,3 +26,14 @@ pub search_two-requires-clause-other : goal.search_two-requires-clause-other
 search_two-requires-clause-other g c =
     let see = g.W.Trees.forest in
     sound-first see (g.I.Items.count c.args.items.now) (g.I.Items.bounds_of c.args.items.now) (see c.args.at.now) c.in-Some.first _ c.in-Some.ensures c.requires.at
+
+pub search_two-requires-clause-tree : goal.search_two-requires-clause-tree
+search_two-requires-clause-tree g c = c.requires.tree
+
+pub returns : goal.returns
+returns g c =
+    let see = g.W.Trees.forest in
+    let xs = items_below see c.args.tree.now.below in
+    let tells = g.I.Items.tells c.args.items.now in
+    let P : List ℕ → Type 0 = λ ys. MayLeave (g.I.Items.count c.args.items.now) (g.I.Items.bounds_of c.args.items.now) tells (λ f. cross_sum f xs ys) (AllCross (AreFree tells) xs ys) c.args.progress.now c.search_two.new.progress c.search_two.result in
+    subst P (sym (first-items-of see (see c.args.at.now) c.in-Some.first _ c.in-Some.ensures)) c.search_two.ensures

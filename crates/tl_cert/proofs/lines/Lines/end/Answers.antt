@@ -1,5 +1,6 @@
-use Rattle.std.proofs.Common.{◌+◌, ap, length, arith}
+use Rattle.std.proofs.Common.{◌+◌, ap, refl, length, arith}
 use Rattle.tl_cert.specs.Keeping.Lines.{at}
+use Rattle.tl_cert.proofs.FailureLemmas.{refusal_tells}
 use Rattle.tl_cert.proofs.LineLemmas.{some_left, ends_with}
 use Rattle.tl_cert.proofs.lines.Lines.end.Goals as goal
 
@@ -10,3 +11,30 @@ returns-then-not-is_empty-clause-ends g c =
       some_left c.args.self.now.buffer (g.R.Source.remaining c.args.source.now)
           (λ none. let size = ap length c.bytes.ensures.value in grind (arith, size, none, c.if-not-is_empty.ensures)),
     )
+
+pub returns-then-not-is_empty-clause-failures : goal.returns-then-not-is_empty-clause-failures
+returns-then-not-is_empty-clause-failures g c = refusal_tells (Unit {0}) _ _ c.refusal.result (c.args.self.now.lines + 1) c.refusal.ensures refl
+
+pub returns-then-not-is_empty-clause-same_reference : goal.returns-then-not-is_empty-clause-same_reference
+returns-then-not-is_empty-clause-same_reference g c = refl
+
+pub returns-in-Ok-eq0-clause-failures : goal.returns-in-Ok-eq0-clause-failures
+returns-in-Ok-eq0-clause-failures g c = c.in-Ok-eq0.ensures.failures
+
+pub returns-in-Ok-eq0-clause-same_reference : goal.returns-in-Ok-eq0-clause-same_reference
+returns-in-Ok-eq0-clause-same_reference g c = c.in-Ok-eq0.ensures.same_reference
+
+pub returns-in-Ok-clause-failures : goal.returns-in-Ok-clause-failures
+returns-in-Ok-clause-failures g c = refusal_tells (Unit {0}) _ _ c.refusal-in-Ok.result (c.args.self.now.lines + 1) c.refusal-in-Ok.ensures c.in-Ok.ensures.failures
+
+pub returns-in-Ok-clause-same_reference : goal.returns-in-Ok-clause-same_reference
+returns-in-Ok-clause-same_reference g c = c.in-Ok.ensures.same_reference
+
+pub returns-in-Err-clause-ends : goal.returns-in-Err-clause-ends
+returns-in-Err-clause-ends g c = tt
+
+pub returns-in-Err-clause-failures : goal.returns-in-Err-clause-failures
+returns-in-Err-clause-failures g c = c.in-Err.ensures.failures
+
+pub returns-in-Err-clause-same_reference : goal.returns-in-Err-clause-same_reference
+returns-in-Err-clause-same_reference g c = c.in-Err.ensures.same_reference

@@ -34,3 +34,27 @@ returns-in-Full-clause-steps g c =
       failures = c.in-Full.ensures.failures;
       progress = record { layout = refl; lines = refl; skipped = refl; standing = refl };
     }
+
+pub returns-in-Rest-clause-kept : goal.returns-in-Rest-clause-kept
+returns-in-Rest-clause-kept g c = c.judge_last.ensures.kept
+
+pub returns-in-Full-clause-kept : goal.returns-in-Full-clause-kept
+returns-in-Full-clause-kept g c = refl
+
+pub returns-in-Failed-clause-kept : goal.returns-in-Failed-clause-kept
+returns-in-Failed-clause-kept g c = refl
+
+pub returns-in-Whole-clause-kept : goal.returns-in-Whole-clause-kept
+returns-in-Whole-clause-kept g c = c.judge_pending-meaning.ensures.kept
+
+pub returns-in-Whole-clause-same_reference : goal.returns-in-Whole-clause-same_reference
+returns-in-Whole-clause-same_reference g c = c.in-Whole.ensures.same_reference
+
+pub returns-in-Rest-clause-same_reference : goal.returns-in-Rest-clause-same_reference
+returns-in-Rest-clause-same_reference g c = c.in-Rest.ensures.same_reference
+
+pub returns-in-Full-clause-same_reference : goal.returns-in-Full-clause-same_reference
+returns-in-Full-clause-same_reference g c = c.in-Full.ensures.same_reference
+
+pub returns-in-Failed-clause-same_reference : goal.returns-in-Failed-clause-same_reference
+returns-in-Failed-clause-same_reference g c = c.in-Failed.ensures.same_reference

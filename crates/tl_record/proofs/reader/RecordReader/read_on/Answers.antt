@@ -43,3 +43,21 @@ returns-in-End-clause-moves g c =
 pub returns-in-Failed-clause-moves : goal.returns-in-Failed-clause-moves
 returns-in-Failed-clause-moves g c =
     answers_failed g.R.Source.remaining g.R.Source.failure_count c.args.self.now c.lines.self c.next_line.new.self _ c.lines.invariant.passes c.in-Failed.ensures.steps refl record { layout = refl; lines = refl; skipped = refl; source = refl; pending = refl }
+
+pub returns-in-Some-clause-same_reference : goal.returns-in-Some-clause-same_reference
+returns-in-Some-clause-same_reference g c = ap g.R.Source.reference (c.in-Some.ensures c.next_line.new.place).source ∙ c.in-Line.ensures.same_reference ∙ c.lines.invariant.same
+
+pub returns-in-Last-clause-same_reference : goal.returns-in-Last-clause-same_reference
+returns-in-Last-clause-same_reference g c = ap g.R.Source.reference (c.count_line-in-Last.ensures c.next_line.new.place).source ∙ c.in-Last.ensures.same_reference ∙ c.lines.invariant.same
+
+pub returns-in-End-clause-kept : goal.returns-in-End-clause-kept
+returns-in-End-clause-kept g c = c.in-End.ensures.kept ∙ c.lines.invariant.kept
+
+pub returns-in-End-clause-same_reference : goal.returns-in-End-clause-same_reference
+returns-in-End-clause-same_reference g c = c.in-End.ensures.same_reference ∙ c.lines.invariant.same
+
+pub returns-in-Failed-clause-kept : goal.returns-in-Failed-clause-kept
+returns-in-Failed-clause-kept g c = c.in-Failed.ensures.kept ∙ c.lines.invariant.kept
+
+pub returns-in-Failed-clause-same_reference : goal.returns-in-Failed-clause-same_reference
+returns-in-Failed-clause-same_reference g c = c.in-Failed.ensures.same_reference ∙ c.lines.invariant.same

@@ -1,6 +1,6 @@
-use Rattle.std.proofs.Common.{sym, ap, ◌∙◌, ◌++◌}
+use Rattle.std.proofs.Common.{sym, ap, ◌∙◌, ◌++◌, arith}
 use Rattle.tl_sweep.specs.Keeping.Lined.{from_west, from_east, list_of}
-use Rattle.tl_sweep.proofs.Stacked.{east_more, east_step}
+use Rattle.tl_sweep.proofs.Stacked.{east_more, east_step, some_left}
 use Rattle.tl_sweep.proofs.line.Line.step_east.Goals as goal
 
 pub returns-in_ok-stack_west : goal.returns-in_ok-stack_west
@@ -9,3 +9,12 @@ returns-in_ok-stack_west c =
     (from_east c.pop.new.self.items) c.replace-block_before.new.dest.items c.self.inside.place
     (ap from_east c.in-Some.ensures.items ∙ east_more c.pop.new.self.items c.in-Some.block ∙ ap (λ b. b.items ++ from_east c.pop.new.self.items) (sym c.replace-block_before.ensures.after))
     (c.in_ok-stack_west.ensures.numbers ∙ ap (λ b. from_west c.self.inside.west.items ++ b.items) c.replace-block_before.ensures.value) ∙ ap list_of c.self.view_is
+
+pub invariant_of-self : goal.invariant_of-self
+invariant_of-self c = (omega arith, c.stack_west.ensures.some, some_left _ _ c.pop.result c.self.invariant.2 c.pop.ensures.items)
+
+pub invariant_of-self-in_err-stack_west : goal.invariant_of-self-in_err-stack_west
+invariant_of-self-in_err-stack_west c = (omega arith, c.stack_west.ensures.some, some_left _ _ c.pop.result c.self.invariant.2 c.pop.ensures.items)
+
+pub invariant_of-self-in_default : goal.invariant_of-self-in_default
+invariant_of-self-in_default c = (c.self.invariant.0, c.self.invariant.1, some_left _ _ c.pop.result c.self.invariant.2 c.pop.ensures.items)

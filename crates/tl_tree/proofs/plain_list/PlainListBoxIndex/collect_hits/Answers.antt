@@ -16,3 +16,9 @@ loop-i-preserved g c =
       | else-hits-via-else-hits w ↦
           adds-miss hit c.loop-i.i c.args.out.now.items now c.else-hits.out.items (λ h. false≢true (sym w.if-hits.false ∙ c.hits.ensures.1 h)) (ap (λ v. v.items) w.out-is) c.loop-i.invariant
     ]
+
+pub returns-then-is_err-clause-hits : goal.returns-then-is_err-clause-hits
+returns-then-is_err-clause-hits g c = tt
+
+pub returns-clause-refused : goal.returns-clause-refused
+returns-clause-refused g c = tt

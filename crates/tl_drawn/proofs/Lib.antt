@@ -1,0 +1,3 @@
+pub mod CountLemmas
+pub mod KnownLemmas
+pub mod OneMapLemmas

@@ -1,0 +1,5 @@
+pub mod ChainsOf
+pub mod MapOf
+pub mod Faults
+pub mod Messages
+pub mod Reading

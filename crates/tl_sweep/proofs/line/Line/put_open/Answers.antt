@@ -1,0 +1,18 @@
+use Rattle.std.proofs.Common.{◌+◌, ◌++◌, ◌∷◌, [], take, drop, append_assoc, ap, sym, ◌∙◌}
+use Rattle.tl_sweep.specs.Keeping.Lined.{from_west, from_east}
+use Rattle.tl_sweep.proofs.Stacked.{put_front, put_back}
+use Rattle.tl_sweep.proofs.line.Line.put_open.Goals as goal
+
+pub returns-clause-front : goal.returns-clause-front
+returns-clause-front c =
+    let west = from_west c.self.inside.west.items in
+    let items = c.self.inside.items.items in
+    let place = c.self.inside.place in
+    ap (λ xs. west ++ take (place + 1) xs) c.in_ok-insert.ensures.items ∙ ap (λ xs. west ++ xs) (put_front items place c.args.s c.self.invariant.0) ∙
+    sym (append_assoc west (take place items) (c.args.s ∷ [])) ∙ ap (λ l. l.front ++ c.args.s ∷ []) c.self.view_is
+
+pub returns-clause-back : goal.returns-clause-back
+returns-clause-back c =
+    let east = from_east c.self.inside.east.items in
+    let place = c.self.inside.place in
+    ap (λ xs. drop (place + 1) xs ++ east) c.in_ok-insert.ensures.items ∙ ap (λ xs. xs ++ east) (put_back c.self.inside.items.items place c.args.s c.self.invariant.0) ∙ ap (λ l. l.back) c.self.view_is

@@ -1,0 +1,20 @@
+use Rattle.tl_sweep.proofs.Tests.{never}
+use Rattle.tl_sweep.proofs.passing.shift.Goals as goal
+
+pub returns-then-not-branch-clause-front : goal.returns-then-not-branch-clause-front
+returns-then-not-branch-clause-front c = λ h. never h
+
+pub returns-then-not-branch-clause-back : goal.returns-then-not-branch-clause-back
+returns-then-not-branch-clause-back c = λ h. never h
+
+pub returns-then-not-branch-clause-tested : goal.returns-then-not-branch-clause-tested
+returns-then-not-branch-clause-tested c = λ h. never h
+
+pub returns-then-not-branch-2-clause-front : goal.returns-then-not-branch-2-clause-front
+returns-then-not-branch-2-clause-front c = λ h. never h
+
+pub returns-then-not-branch-2-clause-back : goal.returns-then-not-branch-2-clause-back
+returns-then-not-branch-2-clause-back c = λ h. never h
+
+pub returns-then-not-branch-2-clause-tested : goal.returns-then-not-branch-2-clause-tested
+returns-then-not-branch-2-clause-tested c = λ h. never h

@@ -1,0 +1,64 @@
+use Rattle.std.proofs.Common.{refl, ap, sym, subst, ◌∙◌, arith}
+use Rattle.tl_planar.specs.Keeping.Apart.{one_found}
+use Rattle.tl_sweep.specs.Keeping.Facing.{IsCounted, gaps_of}
+use Rattle.tl_sweep.specs.Keeping.Lined.{list_of}
+use Rattle.tl_sweep.specs.Keeping.Swept.{IsSwept}
+use Rattle.tl_sweep.proofs.Slab.{begins, goes_on}
+use Rattle.tl_sweep.proofs.Tests.{never}
+use Rattle.tl_sweep.proofs.sweeping.sweep_along.Goals as goal
+
+pub loop-from-init : goal.loop-from-init
+loop-from-init c = record {
+  swept = begins c.args.map.now.chains c.args.events.now (list_of c.args.line.now) c.requires.events c.requires.empty;
+  counted = λ n e. sym (one_found 0 n _ refl e) ∙ sym (ap (gaps_of c.args.map.now.chains) c.requires.empty);
+  marks = c.requires.marks;
+}
+
+pub loop-from-preserved : goal.loop-from-preserved
+loop-from-preserved c =
+    let stays = sym c.in_ok-look.ensures.list in
+    let swept : IsSwept c.args.map.now.chains c.args.events.now c.loop-from.from (list_of c.look.new.line) =
+    subst (IsSwept c.args.map.now.chains c.args.events.now c.loop-from.from) stays c.loop-from.invariant.swept in
+    record {
+      swept =
+          goes_on c.args.map.now.chains c.args.events.now c.loop-from.from c.run_end-to.result (list_of c.look.new.line) (list_of c.step.new.line) c.requires.events c.requires.rising swept
+          c.run_end-to.ensures.past c.run_end-to.ensures.within c.run_end-to.ensures.level (λ s. let off = c.in_ok-gather.ensures.outs s in let on = c.in_ok-gather.ensures.ins s in let moved = c.in_ok-step.ensures.moved c.if-not-branch.false s in omega (arith, off, on, moved)) (c.in_ok-step.ensures.tested c.if-not-branch.false swept.tested);
+      counted = c.in_ok-step.ensures.counted c.if-not-branch.false (subst (IsCounted c.args.map.now.chains c.loop-from.gaps) stays c.loop-from.invariant.counted);
+      marks = c.in_ok-look.ensures.marks;
+    }
+
+pub look-requires-clause-segments : goal.look-requires-clause-segments
+look-requires-clause-segments c = c.requires.segments
+
+pub look-requires-clause-events : goal.look-requires-clause-events
+look-requires-clause-events c = c.requires.events
+
+pub look-requires-clause-rising : goal.look-requires-clause-rising
+look-requires-clause-rising c = c.requires.rising
+
+pub look-requires-clause-ranges : goal.look-requires-clause-ranges
+look-requires-clause-ranges c = c.requires.ranges
+
+pub look-requires-clause-swept : goal.look-requires-clause-swept
+look-requires-clause-swept c = c.loop-from.invariant.swept
+
+pub look-requires-clause-counted : goal.look-requires-clause-counted
+look-requires-clause-counted c = c.loop-from.invariant.counted
+
+pub look-requires-clause-marks : goal.look-requires-clause-marks
+look-requires-clause-marks c = c.loop-from.invariant.marks
+
+pub gather-requires-clause-some : goal.gather-requires-clause-some
+gather-requires-clause-some c = let past = c.run_end-to.ensures.past in omega (arith, past)
+
+pub gather-requires-clause-within : goal.gather-requires-clause-within
+gather-requires-clause-within c = c.run_end-to.ensures.within
+
+pub returns-then-not-branch-clause-slabs : goal.returns-then-not-branch-clause-slabs
+returns-then-not-branch-clause-slabs c = λ h. never h
+
+pub returns-then-not-branch-clause-marks : goal.returns-then-not-branch-clause-marks
+returns-then-not-branch-clause-marks c = λ h. never h
+
+pub returns-clause-marks : goal.returns-clause-marks
+returns-clause-marks c = λ h. c.loop-from.invariant.marks
