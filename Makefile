@@ -1,11 +1,11 @@
 # make                     proves and builds the program
 # make check               the merge gate: every proof, must-fail edit, test and stored run, from nothing
-# make rows                plays the rows of tests/ over the program
+# make rows                plays the rows of tests/ over the program, and over `bench`
 # make certificates        builds and converts certificates, and compares with a plain reader
 # make judge               plays drawn counties over the program, and judges each answer by a second opinion
 # make full-size           asks for each answer once with a million chains
 # make limits              does so, and says how long each answer took and in how much memory
-# make memory              refuses each allocation of the program, and of bench_tree, in its turn
+# make memory              refuses each allocation of the program, and of `bench tree`, in its turn
 # make devices             fails each read and each write of the program in its turn
 # make examples            runs the commands of README.md, examples/README.md and docs/faults.md, and compares what they print
 # make counties            runs the commands of docs/many-counties.md on a few counties
@@ -31,6 +31,7 @@ examples: build
 	python3 examples/run.py
 
 rows: build
+	python3 proving/prove.py bench
 	python3 tests/rows.py
 
 certificates: build
@@ -47,7 +48,7 @@ limits: build
 
 memory: build
 	python3 tests/memory.py
-	python3 proving/prove.py bench_tree
+	python3 proving/prove.py bench
 	python3 tests/tree_memory.py
 
 devices: build
@@ -57,12 +58,12 @@ counties: build
 	python3 tests/counties.py
 
 bench: build
-	python3 proving/prove.py bench_records bench_tree bench_cert bench_check
+	python3 proving/prove.py bench
 	python3 bench/run.py
 	python3 bench/instructions.py $(if $(BESIDE),--beside $(BESIDE))
 
 speed: build
-	python3 proving/prove.py bench_records bench_tree bench_cert bench_check
+	python3 proving/prove.py bench
 	python3 bench/run.py --kinds county,comb,lines,star,squares,spiral --counties 100000 --decided 100000 --long 100000 --segments 2750000 --certificates 1000000
 	python3 bench/instructions.py $(if $(BESIDE),--beside $(BESIDE))
 

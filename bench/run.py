@@ -1,9 +1,9 @@
 #!/usr/bin/env python3
 """Measures `tigertopo show`, `landmarks` and `locate`, and a program that only counts records, beside `wc -l` of the same files;
-`check` by a plain maker's certificate beside `show`, with the parts of a check as `bench_check` tells them, in a second table;
-`audit`, `build`, `check` of what was built and `locate` beside `show` in a third, with the parts of that work as `bench_check`
+`check` by a plain maker's certificate beside `show`, with the parts of a check as `bench check` tells them, in a second table;
+`audit`, `build`, `check` of what was built and `locate` beside `show` in a third, with the parts of that work as `bench check`
 tells them in a fourth; `audit` of maps of long segments in a fifth; what a sweep says of all these maps in a sixth;
-`bench_tree`, which makes the segments of a county and searches them, in a seventh; and `bench_cert`, which writes and reads
+`bench tree`, which makes the segments of a county and searches them, in a seventh; and `bench cert`, which writes and reads
 certificates, beside `wc -l` of the same file, in an eighth.
 
 usage: run.py [--sizes N,N,..] [--counties N,N,..] [--keys N] [--decided N,N,..] [--long N,N,..] [--segments N,N,..]
@@ -20,6 +20,7 @@ output thrown away. The tables have medians. Files are made in bench/out, once. 
 """
 
 import argparse
+import re
 import statistics
 import subprocess
 import sys
@@ -29,10 +30,8 @@ from pathlib import Path
 BENCH = Path(__file__).resolve().parent
 CRATES = BENCH.parent / "crates"
 PROGRAM = CRATES / "tigertopo" / "out" / "tigertopo"
-COUNT = CRATES / "bench_records" / "out" / "bench_records"
-TREE = CRATES / "bench_tree" / "out" / "bench_tree"
-CERT = CRATES / "bench_cert" / "out" / "bench_cert"
-CHECK = CRATES / "bench_check" / "out" / "bench_check"
+# The program that measures parts of the work.
+PARTS = CRATES / "bench" / "out" / "bench"
 NAMES = {
     "streets": "streets alone",
     "county": "a county",
@@ -115,7 +114,8 @@ def rows(chains, kind, runs):
     counted = subprocess.run(["wc", "-l", *files], stdout=subprocess.PIPE, text=True, check=True).stdout
     lines = int(counted.split("\n")[-2].split()[0])
     size = sum(file.stat().st_size for file in files)
-    programs = {"wc -l": ["wc", "-l", *files], "bench_records": [COUNT, *files], "show": [PROGRAM, "show", *files]}
+    programs = {"wc -l": ["wc", "-l", *files], "bench records": [PARTS, "records", *files],
+                "show": [PROGRAM, "show", *files]}
     if kind != "streets":
         programs["landmarks"] = [PROGRAM, "landmarks", *files]
         programs["locate"] = [PROGRAM, "locate", "@-78762000,39652000", *files]
@@ -142,7 +142,7 @@ def check_rows(chains, runs):
     files, (certificate, records) = files_of(chains, "county"), certificate_of(chains)
     show, check = [PROGRAM, "show", *files], [PROGRAM, "check", "--cert", certificate, *files]
     peak = peak_of(check)
-    found = [(seconds_of(show) * 1e3, seconds_of(check) * 1e3, *steps_of([CHECK, records, certificate])) for _ in range(runs)]
+    found = [(seconds_of(show) * 1e3, seconds_of(check) * 1e3, *steps_of([PARTS, "check", records, certificate])) for _ in range(runs)]
     shown, checked, *parts = (statistics.median(column) for column in zip(*found))
     yield (f"{chains:,}", f"{shown:.1f}", f"{checked:.1f}", f"{checked / shown:.1f}", *(f"{part:.1f}" for part in parts),
            f"{parts[3] / shown:.2f}", f"{peak:.1f}", f"{peak * 2 ** 20 / chains:.0f}")
@@ -174,15 +174,15 @@ def decided_rows(chains, kind, runs):
 
 def part_rows(chains, kind, runs):
     """The parts of that work, in memory, where the program that tells of them is built."""
-    if not CHECK.exists():
+    if not PARTS.exists():
         return
     files, records = files_of(chains, kind), records_of(chains, kind)
     show, built = [PROGRAM, "show", *files], files[0].parent / "built"
     found = []
     for _ in range(runs):
         shown = seconds_of(show) * 1e3
-        read, made, tree, search, sides, checked = steps_of([CHECK, records])
-        reread = steps_of([CHECK, records, built])[1]
+        read, made, tree, search, sides, checked = steps_of([PARTS, "check", records])
+        reread = steps_of([PARTS, "check", records, built])[1]
         points = max(0, checked - tree - search - sides)
         found.append((shown, read, made - checked, tree, search, sides, points, checked, reread))
     shown, *parts = (statistics.median(column) for column in zip(*found))
@@ -211,7 +211,7 @@ def swept_rows(maps, runs):
     """What a sweep says of maps and how long it takes, and how often it says nothing."""
     said = []
     for chains, kind, name in maps:
-        words = [CHECK, "--sweep", records_of(chains, kind)]
+        words = [PARTS, "sweep", records_of(chains, kind)]
         said.append(subprocess.run(words, capture_output=True, text=True, check=True).stdout.strip())
         read, swept = (statistics.median(column) for column in zip(*(steps_of(words) for _ in range(runs))))
         yield f"{chains:,} {name}", said[-1], f"{read:.1f}", f"{swept:.1f}"
@@ -220,13 +220,13 @@ def swept_rows(maps, runs):
 
 
 def searched(segments):
-    """What one run of `bench_tree` prints: the microseconds of each step, in order, and the pairs that were tested."""
-    done = subprocess.run([TREE, str(segments)], capture_output=True, text=True, check=True)
+    """What one run of `bench tree` prints: the microseconds of each step, in order, and the pairs that were tested."""
+    done = subprocess.run([PARTS, "tree", str(segments)], capture_output=True, text=True, check=True)
     taken = [(line.split(": ")[0], int(line.split()[-2])) for line in done.stderr.splitlines()]
-    tests = [int(line.split("=")[-1]) for line in done.stdout.splitlines() if line.startswith("clear=true")]
-    if len(tests) != 2 or len(taken) != 6:
-        sys.exit(f"{TREE} found a conflict")
-    return taken, tests[0]
+    tests = re.fullmatch(r"segments=\d+ flat_tests=(\d+) boxes_tests=\1\n", done.stdout)
+    if not tests or len(taken) != 6:
+        sys.exit(f"{PARTS} tree tells something else: {done.stdout}{done.stderr}")
+    return taken, int(tests[1])
 
 
 def tree_rows(segments, runs):
@@ -239,7 +239,7 @@ def tree_rows(segments, runs):
 
 
 def told(words):
-    """The microseconds that `bench_cert` tells of its work."""
+    """The microseconds that `bench cert` tells of its work."""
     done = subprocess.run(words, capture_output=True, text=True, check=True)
     return int(done.stderr.split()[-2])
 
@@ -247,7 +247,8 @@ def told(words):
 def certificate_rows(chains, runs):
     file = BENCH / "out" / f"{chains}-certificate"
     file.parent.mkdir(exist_ok=True)
-    make, read, parts, count = [CERT, "make", f"{chains}", file], [CERT, "read", file], [CERT, "parts", file], ["wc", "-l", file]
+    make, read, parts = ([PARTS, "cert", *words, file] for words in (["make", f"{chains}"], ["read"], ["parts"]))
+    count = ["wc", "-l", file]
     peaks = {"written": peak_of(make), "read": peak_of(read), "read by parts": peak_of(parts), "wc -l": peak_of(count)}
     lines, size = int(subprocess.check_output(count).split()[0]), file.stat().st_size
     # The file stays as it is while it is read and counted.

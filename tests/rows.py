@@ -1,5 +1,6 @@
 #!/usr/bin/env python3
-"""Plays the rows of tests/*.rows over the built program: files, words, and the answer that is wanted.
+"""Plays the rows of tests/*.rows over the built program, and those of tests/bench.rows over `bench`: files, words, and the
+answer that is wanted.
 
 usage: rows.py [PROGRAM]
 
@@ -46,6 +47,9 @@ from layout import bytes_of, line_of
 
 TOP = Path(__file__).resolve().parent.parent
 PROGRAM = TOP / "crates" / "tigertopo" / "out" / "tigertopo"
+# The program that measures parts of the work, and the line by which it tells what a step took.
+BENCH = TOP / "crates" / "bench" / "out" / "bench"
+STEP = re.compile(rb"^[a-z ]+: \d+ us\n", re.MULTILINE)
 
 
 # The status of an answer by its first word, and whether it is written to the standard output.
@@ -289,7 +293,8 @@ def play_in(folder, program, row, words):
     """What is wrong with the answer in this folder, or with the files that are left in it."""
     before = files_of(folder, row.makes)
     done = subprocess.run([program, *map(bytes_of, words)], cwd=folder, stdin=subprocess.DEVNULL, capture_output=True)
-    found = (done.returncode, done.stdout, done.stderr)
+    told = STEP.sub(b"", done.stderr) if program == BENCH else done.stderr
+    found = (done.returncode, done.stdout, told)
     if not row.is_met(found):
         return f"{row.title}: {shlex.join(words)}\n  wanted {row.wanted}\n  found  {found}"
     if files_of(folder, row.makes) != before or not all(Path(folder, name).is_file() for name in row.makes):
@@ -306,9 +311,10 @@ def play_all(program=PROGRAM):
     """How many rows pass, and how many fail."""
     passed = failed = 0
     for path in sorted(Path(__file__).resolve().parent.glob("*.rows")):
+        played = BENCH if path.stem == "bench" else program
         for row in rows_of(path):
             for words in row.runs:
-                wrong = play(program, row, words)
+                wrong = play(played, row, words)
                 passed, failed = passed + (not wrong), failed + bool(wrong)
                 if wrong:
                     print(f"{path.name}: {wrong}")

@@ -1,5 +1,5 @@
 #!/usr/bin/env python3
-"""Refuses each allocation of `bench_tree` in its turn: of the trees, flat and in boxes, and of their checks.
+"""Refuses each allocation of `bench tree` in its turn: of the trees, flat and in boxes, and of their checks.
 
 usage: tree_memory.py [PROGRAM]
 
@@ -14,18 +14,18 @@ from pathlib import Path
 
 from memory import REFUSE, answer_of, library_of
 
-PROGRAM = Path(__file__).resolve().parent.parent / "crates" / "bench_tree" / "out" / "bench_tree"
-SEGMENTS = "300"
+PROGRAM = Path(__file__).resolve().parent.parent / "crates" / "bench" / "out" / "bench"
+WORDS = ["tree", "300"]
 
 
 def play_all(program=PROGRAM):
     """How many refused allocations were answered well, and how many weren't."""
     with tempfile.TemporaryDirectory() as folder:
         library = library_of(folder, REFUSE)
-        (_, usual, _), _ = answer_of([program, SEGMENTS], library, 0)
+        (_, usual, _), _ = answer_of([program, *WORDS], library, 0)
         count = failed = 0
         for which in range(1, 100_000):
-            (status, printed, told), was_reached = answer_of([program, SEGMENTS], library, which)
+            (status, printed, told), was_reached = answer_of([program, *WORDS], library, which)
             if not was_reached:
                 break
             count += 1

@@ -1,5 +1,5 @@
-//! Worked examples of certificates, read and written, however few bytes come or go at a time and behind a read or a write
-//! that fails. They stand beside `tl_cert`, so that it is proved once and not once more with its tests.
+//! Certificates that are read and written again, however few bytes come or go at a time, and behind a read or a write that
+//! fails. They stand beside `tl_cert`, so that it is proved once and not once more with its tests.
 #![tactic(auto)]
 
 #[cfg(test)]

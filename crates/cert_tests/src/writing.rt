@@ -1,10 +1,11 @@
 //! What is written of certificates.
 
-use crate::examples::{SQUARE, SQUARE_2, THREE_CHILDREN, square, three_children};
+use crate::examples::{SQUARE, SQUARE_2, THREE_CHILDREN};
+use crate::reading::source_of;
 use std::alloc::Global;
 use std::io;
 use std::io::{ErrorKind, Write};
-use tl_cert::{Certificate, WriteStop, write_cert};
+use tl_cert::{Certificate, WriteStop, read_cert, write_cert};
 use tl_record::{FailAtOut, MeterOut};
 
 /// A writer that takes at most so many bytes a write.
@@ -50,39 +51,36 @@ fn written(
     }
 }
 
-/// Whether a certificate has this text.
-fn has_text(alloc: Global, certificate: &Certificate, text: &str) -> bool {
-    let whole = Some((text.len(), Ok(())));
-    written(alloc, certificate, text.as_bytes(), 1, u64::MAX) == whole
-        && written(alloc, certificate, text.as_bytes(), 999, u64::MAX) == whole
-}
-
-#[test]
-fn certificates_are_written_byte_for_byte(rt: HostRuntime) {
-    let alloc = rt.alloc();
-    assert!(rt; matches!(square(alloc), Ok(Some(it)) if has_text(alloc, &it, SQUARE)));
-    assert!(rt;
-        matches!(three_children(alloc), Ok(Some(it)) if has_text(alloc, &it, THREE_CHILDREN))
-    );
-}
-
-/// Whether the square's certificate has this text in version 2.
-fn has_text_in_version_2(alloc: Global) -> bool {
-    match square(alloc) {
-        Ok(Some(certificate)) => has_text(alloc, &certificate.to_v2(), SQUARE_2),
-        _ => false,
+/// Whether the certificate of a text is read and written again, by so many bytes at a time.
+fn is_written_again(alloc: Global, text: &str, most: usize) -> bool {
+    let text = text.as_bytes();
+    match read_cert(alloc, &mut source_of(text, most)) {
+        Ok(read) => written(alloc, &read, text, most, u64::MAX) == Some((text.len(), Ok(()))),
+        Err(_) => false,
     }
 }
 
 #[test]
-fn version_2_is_another_head(rt: HostRuntime) {
-    assert!(rt; has_text_in_version_2(rt.alloc()));
+fn what_is_read_is_written_again(rt: HostRuntime) {
+    for text in [SQUARE, SQUARE_2, THREE_CHILDREN] {
+        for most in [1, 7, 999] {
+            assert!(rt;
+                is_written_again(rt.alloc(), text, most),
+                "{most} bytes a read"
+            );
+        }
+    }
 }
 
-/// Whether what is written before each failure is as much of the text as the writes took.
-fn does_each_write_fail(alloc: Global, certificate: &Certificate) -> bool {
-    for others in 0..SQUARE.len() {
-        let told = written(alloc, certificate, SQUARE.as_bytes(), 1, others as u64);
+/// Whether what is written of the square's certificate in version 2 before each failure is as much of its text as the writes
+/// took.
+fn does_each_write_fail(alloc: Global) -> bool {
+    let certificate = match read_cert(alloc, &mut source_of(SQUARE.as_bytes(), 999)) {
+        Ok(read) => read.to_v2(),
+        Err(_) => return false,
+    };
+    for others in 0..SQUARE_2.len() {
+        let told = written(alloc, &certificate, SQUARE_2.as_bytes(), 1, others as u64);
         if told != Some((others, Err(WriteStop::Device))) {
             return false;
         }
@@ -92,6 +90,5 @@ fn does_each_write_fail(alloc: Global, certificate: &Certificate) -> bool {
 
 #[test]
 fn each_write_fails(rt: HostRuntime) {
-    let alloc = rt.alloc();
-    assert!(rt; matches!(square(alloc), Ok(Some(it)) if does_each_write_fail(alloc, &it)));
+    assert!(rt; does_each_write_fail(rt.alloc()));
 }

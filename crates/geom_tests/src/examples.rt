@@ -1,4 +1,6 @@
 //! Worked examples with answers from outside.
+ghost use Rattle.std.specs.Prelude.{◌<ℤ◌, pos};
+
 use std::cmp::Ordering;
 use tl_geom::{
     Contact, Direction, Point, Rational, Rect, Rect8, Segment, contact, crosses_ray, on, overlap,
@@ -58,35 +60,29 @@ fn turns(rt: HostRuntime) {
 }
 
 #[test]
-fn points_on_segments(rt: HostRuntime) {
+fn points_on_segments_and_rays(rt: HostRuntime) {
     let (low, high) = ((LEAST, LEAST), (MOST, MOST));
-    for (a, b, p, is_on) in [
-        ((0, 0), (4, 2), (0, 0), true),
-        ((0, 0), (4, 2), (4, 2), true),
-        ((0, 0), (4, 2), (2, 1), true),
-        ((0, 0), (4, 2), (3, 1), false),
-        ((0, 0), (4, 2), (6, 3), false),
-        ((0, 0), (4, 2), (-2, -1), false),
-        (low, high, (17, 17), true),
-        (low, high, (17, 18), false),
+    for (a, b, p, is_on, is_crossed) in [
+        ((0, 0), (4, 2), (0, 0), true, false),
+        ((0, 0), (4, 2), (4, 2), true, false),
+        ((0, 0), (4, 2), (2, 1), true, false),
+        ((0, 0), (4, 2), (3, 1), false, false),
+        ((0, 0), (4, 2), (6, 3), false, false),
+        ((0, 0), (4, 2), (-2, -1), false, false),
+        (low, high, (17, 17), true, false),
+        (low, high, (17, 18), false, true),
+        ((20, 10), (30, 20), (20, 20), false, false),
+        ((30, 20), (20, 30), (20, 20), false, true),
+        ((30, 20), (40, 20), (20, 20), false, false),
+        ((10, 10), (10, 30), (20, 20), false, false),
+        ((20, 10), (20, 30), (20, 20), true, false),
+        ((30, 30), (30, 10), (20, 20), false, true),
+        ((MOST, LEAST), high, (LEAST, MOST - 1), false, true),
+        ((MOST, LEAST), (LEAST, MOST), (MOST, MOST - 1), false, false),
     ] {
-        let found = segment(a, b).map(|s| on(s, point(p.0, p.1)));
-        assert!(rt; found == Some(is_on));
-    }
-}
-
-#[test]
-fn contacts_that_are_no_crossing(rt: HostRuntime) {
-    let at = |x, y| Contact::AtEnds(point(x, y));
-    for (a, b, p, q, wanted) in [
-        ((0, 0), (2, 2), (3, 3), (5, 5), Contact::Apart),
-        ((0, 0), (4, 0), (0, 1), (4, 1), Contact::Apart),
-        ((0, 0), (4, 0), (5, 1), (5, -1), Contact::Apart),
-        ((0, 0), (4, 0), (4, 0), (9, 0), at(4, 0)),
-        ((0, 0), (4, 0), (4, 0), (4, 7), at(4, 0)),
-        ((LEAST, MOST), (0, 0), (0, 0), (MOST, LEAST), at(0, 0)),
-    ] {
-        assert!(rt; contact_of(a, b, p, q) == Some(wanted));
+        let at = point(p.0, p.1);
+        let found = segment(a, b).map(|s| (on(s, at), crosses_ray(s, at)));
+        assert!(rt; found == Some((is_on, is_crossed)));
     }
 }
 
@@ -127,50 +123,42 @@ fn overlaps(rt: HostRuntime) {
     }
 }
 
+fn crossing(x: i128, y: i128, d: i128) -> Contact
+    requires { pos 0 <ℤ d }
+{
+    Contact::Crossing(Rational { x, y, d })
+}
+
 #[test]
-fn crossings(rt: HostRuntime) {
-    let middle = Contact::Crossing(Rational {
-        x: -18446744065119617025,
-        y: -18446744065119617025,
-        d: 36893488130239234050,
-    });
+fn contacts(rt: HostRuntime) {
+    let at = |x, y| Contact::AtEnds(point(x, y));
+    let middle = crossing(
+        -18446744065119617025,
+        -18446744065119617025,
+        36893488130239234050,
+    );
     let (low, high) = ((LEAST, LEAST), (MOST, MOST));
     for (a, b, p, q, wanted) in [
+        ((0, 0), (2, 2), (3, 3), (5, 5), Contact::Apart),
+        ((0, 0), (4, 0), (0, 1), (4, 1), Contact::Apart),
+        ((0, 0), (4, 0), (5, 1), (5, -1), Contact::Apart),
+        (low, (LEAST, MOST), (MOST, LEAST), high, Contact::Apart),
+        ((0, 0), (4, 0), (4, 0), (9, 0), at(4, 0)),
+        ((0, 0), (4, 0), (4, 0), (4, 7), at(4, 0)),
+        ((LEAST, MOST), (0, 0), (0, 0), (MOST, LEAST), at(0, 0)),
         // a proper one
         (
             (10, 10),
             (14, 12),
             (10, 12),
             (12, 9),
-            Contact::Crossing(Rational {
-                x: 176,
-                y: 168,
-                d: 16,
-            }),
+            crossing(176, 168, 16),
         ),
         // overlaps
-        (
-            (0, 0),
-            (4, 0),
-            (1, 0),
-            (9, 0),
-            Contact::Crossing(Rational { x: 5, y: 0, d: 2 }),
-        ),
-        (
-            (0, 0),
-            (4, 0),
-            (0, 0),
-            (9, 0),
-            Contact::Crossing(Rational { x: 4, y: 0, d: 2 }),
-        ),
+        ((0, 0), (4, 0), (1, 0), (9, 0), crossing(5, 0, 2)),
+        ((0, 0), (4, 0), (0, 0), (9, 0), crossing(4, 0, 2)),
         // an end inside
-        (
-            (0, 0),
-            (4, 0),
-            (2, 0),
-            (2, 5),
-            Contact::Crossing(Rational { x: 2, y: 0, d: 1 }),
-        ),
+        ((0, 0), (4, 0), (2, 0), (2, 5), crossing(2, 0, 1)),
         // diagonals
         (low, high, (LEAST, MOST), (MOST, LEAST), middle),
         // sides of the plane
@@ -179,72 +167,37 @@ fn crossings(rt: HostRuntime) {
             (MOST, LEAST),
             (MOST, LEAST),
             low,
-            Contact::Crossing(Rational {
-                x: -1,
-                y: -4294967296,
-                d: 2,
-            }),
+            crossing(-1, -4294967296, 2),
         ),
         (
             (MOST, LEAST),
             high,
             (MOST, 0),
             high,
-            Contact::Crossing(Rational {
-                x: 4294967294,
-                y: 2147483647,
-                d: 2,
-            }),
+            crossing(4294967294, 2147483647, 2),
         ),
-        (low, (LEAST, MOST), (MOST, LEAST), high, Contact::Apart),
+        // tools in floating point place this one on the wrong side
+        (
+            (-151166796, -80923608),
+            (157002569, 87457533),
+            (688715, 2048962),
+            (-995096, 5130655),
+            crossing(
+                849327051787711420829,
+                2526790987106507540445,
+                1233205392343296,
+            ),
+        ),
+        // tools that are handed decimal degrees miss this one
+        (
+            (-76568325, 39482222),
+            (-76568141, 39482708),
+            (-76568233, 39482465),
+            (-76568476, 39482557),
+            crossing(-76568233, 39482465, 1),
+        ),
     ] {
         assert!(rt; contact_of(a, b, p, q) == Some(wanted));
-    }
-}
-
-/// Tools in floating point place the first on the wrong side, and tools that are handed decimal degrees miss the second.
-#[test]
-fn near_crossings(rt: HostRuntime) {
-    let near = Contact::Crossing(Rational {
-        x: 849327051787711420829,
-        y: 2526790987106507540445,
-        d: 1233205392343296,
-    });
-    let found = contact_of(
-        (-151166796, -80923608),
-        (157002569, 87457533),
-        (688715, 2048962),
-        (-995096, 5130655),
-    );
-    assert!(rt; found == Some(near));
-    let oblique = Contact::Crossing(Rational {
-        x: -76568233,
-        y: 39482465,
-        d: 1,
-    });
-    let found = contact_of(
-        (-76568325, 39482222),
-        (-76568141, 39482708),
-        (-76568233, 39482465),
-        (-76568476, 39482557),
-    );
-    assert!(rt; found == Some(oblique));
-}
-
-#[test]
-fn rays(rt: HostRuntime) {
-    for (a, b, q, is_crossed) in [
-        ((20, 10), (30, 20), (20, 20), false),
-        ((30, 20), (20, 30), (20, 20), true),
-        ((30, 20), (40, 20), (20, 20), false),
-        ((10, 10), (10, 30), (20, 20), false),
-        ((20, 10), (20, 30), (20, 20), false),
-        ((30, 30), (30, 10), (20, 20), true),
-        ((MOST, LEAST), (MOST, MOST), (LEAST, MOST - 1), true),
-        ((MOST, LEAST), (LEAST, MOST), (MOST, MOST - 1), false),
-    ] {
-        let found = segment(a, b).map(|s| crosses_ray(s, point(q.0, q.1)));
-        assert!(rt; found == Some(is_crossed));
     }
 }
 
@@ -294,15 +247,19 @@ fn rises(u: Direction, v: Direction) -> bool {
 
 #[test]
 fn directions_in_rising_order(rt: HostRuntime) {
+    let (least, most) = (i64::MIN, i64::MAX);
+    let southwest = Direction { x: least, y: least };
     let rising = [
         Direction { x: 1, y: 0 },
         Direction { x: 5, y: 1 },
         Direction { x: 5, y: 5 },
         Direction { x: 0, y: 20 },
         Direction { x: -1, y: 1 },
+        Direction { x: least, y: most },
         Direction { x: -3, y: 0 },
-        Direction { x: -1, y: -1 },
+        southwest,
         Direction { x: 0, y: -7 },
+        Direction { x: most, y: least },
         Direction { x: 5, y: -1 },
     ];
     for i in 0..rising.len() {
@@ -310,16 +267,8 @@ fn directions_in_rising_order(rt: HostRuntime) {
             assert!(rt; rises(rising[j], rising[i]), "{j} {i}");
         }
     }
-}
-
-#[test]
-fn directions_of_great_length(rt: HostRuntime) {
-    let (least, most) = (i64::MIN, i64::MAX);
-    let southwest = Direction { x: least, y: least };
     let one = round_cmp(southwest, Direction { x: -1, y: -1 });
     assert!(rt; one == Ordering::Equal);
-    assert!(rt; rises(Direction { x: least, y: most }, southwest));
-    assert!(rt; rises(southwest, Direction { x: most, y: least }));
 }
 
 #[test]

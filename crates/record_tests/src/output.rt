@@ -3,7 +3,7 @@
 use crate::pieces::Few;
 use std::alloc::Global;
 use std::io::ErrorKind;
-use tl_output::{LineStop, OutputBuffer, print_line, write_all};
+use tl_output::{OutputBuffer, print_line, write_all};
 use tl_record::{FailAtOut, MeterOut, Sink};
 
 const LINE: &str = "a line of several writes";
@@ -45,15 +45,4 @@ fn each_write_fails(rt: HostRuntime) {
         }
     }
     assert!(rt; written(rt.alloc(), 9, ErrorKind::Other) == Some((50, true)));
-}
-
-/// Whether a writer that takes nothing is told to fail.
-fn fails_without_room(alloc: Global) -> bool {
-    let mut few = Few::new(alloc, 0);
-    print_line(&LINE, &mut MeterOut::new(&mut few)) == Err(LineStop::Failed)
-}
-
-#[test]
-fn a_writer_that_takes_nothing_fails(rt: HostRuntime) {
-    assert!(rt; fails_without_room(rt.alloc()));
 }

@@ -1,9 +1,11 @@
 //! What a reader gives of the records of a square, however the bytes come, and behind a read that fails.
 
 use crate::pieces::Pieces;
-use std::alloc::{AllocError, Global};
 use std::io::ErrorKind;
-use tl_record::{Cause, FailAt, Field, Meter, Options, ReadStop, Record, RecordReader, Source};
+use tl_geom::Point;
+use tl_record::{
+    Cause, FailAt, Field, Meter, Options, PolyKey, ReadStop, Record, RecordReader, Source,
+};
 
 /// The records of a square by the columns of the released files: a chain, its shape, its sides with the zero-cell id 5 at
 /// its start, and a polygon.
@@ -14,51 +16,93 @@ I000024001         1         5          A0001         1
 
 P0000     A0001         1+000000020-00000020";
 
-const READ: &str =
-    "Ok(Some((1, Chain { tlid: 1, from: Point { x: 10, y: 10 }, to: Point { x: 10, y: 10 } })))
-Ok(Some((2, Shape { tlid: 1, rtsq: 1, pairs: [Some(Point { x: 30, y: 10 }), Some(Point { x: 30, y: 30 }), Some(Point { x: 10, y: 30 }), None, None, None, None, None, None, None] })))
-Ok(Some((3, Sides { tlid: 1, start_cell: Some(5), end_cell: None, left: Some(PolyKey { cenid: [65, 48, 48, 48, 49], polyid: 1 }), right: None })))
-Ok(Some((5, PolyPoint { key: PolyKey { cenid: [65, 48, 48, 48, 49], polyid: 1 }, point: Point { x: 20, y: -20 } })))
-Ok(None)
-1 passed over
-";
+const A1: PolyKey = PolyKey {
+    cenid: *b"A0001",
+    polyid: 1,
+};
 
-/// What a reader answers at five calls, a line each, and how many lines it passed over.
-fn answers_of(alloc: Global, most: usize) -> Result<String, AllocError> {
+fn at(x: i32, y: i32) -> Point {
+    Point { x, y }
+}
+
+type Answer = Result<Option<(u64, Record)>, ReadStop>;
+
+/// What a reader answers, one call after the other.
+fn answers() -> [Answer; 5] {
+    [
+        Ok(Some((
+            1,
+            Record::Chain {
+                tlid: 1,
+                from: at(10, 10),
+                to: at(10, 10),
+            },
+        ))),
+        Ok(Some((
+            2,
+            Record::Shape {
+                tlid: 1,
+                rtsq: 1,
+                pairs: [
+                    Some(at(30, 10)),
+                    Some(at(30, 30)),
+                    Some(at(10, 30)),
+                    None,
+                    None,
+                    None,
+                    None,
+                    None,
+                    None,
+                    None,
+                ],
+            },
+        ))),
+        Ok(Some((
+            3,
+            Record::Sides {
+                tlid: 1,
+                start_cell: Some(5),
+                end_cell: None,
+                left: Some(A1),
+                right: None,
+            },
+        ))),
+        Ok(Some((
+            5,
+            Record::PolyPoint {
+                key: A1,
+                point: at(20, -20),
+            },
+        ))),
+        Ok(None),
+    ]
+}
+
+/// Whether all is read where so many bytes come in a read, and one line is passed over.
+fn is_read(most: usize) -> bool {
     let options = Options {
         zero_cells: true,
         released: true,
     };
     let rest = SQUARE.as_bytes();
     let mut reader = RecordReader::with(Meter::new(Pieces { rest, most }), options);
-    let mut given = String::new(alloc);
-    for _ in 0..5 {
-        writeln!(given, "{:?}", reader.next_record())?;
+    for answer in &answers() {
+        if reader.next_record() != *answer {
+            return false;
+        }
     }
-    writeln!(given, "{} passed over", reader.skipped())?;
-    Ok(given)
-}
-
-/// Whether all is read where so many bytes come in a read.
-fn is_read(alloc: Global, most: usize) -> bool {
-    match answers_of(alloc, most) {
-        Ok(given) => given.as_str() == READ,
-        Err(_) => false,
-    }
+    reader.skipped() == 1
 }
 
 #[test]
 fn a_square_is_read_however_the_bytes_come(rt: HostRuntime) {
     for most in [1, 7, 1_024, 9_999] {
-        assert!(rt; is_read(rt.alloc(), most), "{most} bytes a read");
+        assert!(rt; is_read(most), "{most} bytes a read");
     }
 }
 
-/// How many records come before a reader stops where the read behind so many others fails, if it stops for want of it.
-fn records_before(others: u64, kind: ErrorKind) -> Option<u64> {
-    let rest = SQUARE.as_bytes();
-    let mut source = FailAt::new(Meter::new(Pieces { rest, most: 103 }), others, kind);
-    let mut reader = RecordReader::new(&mut source);
+/// How many records a reader gives before it stops for want of a read, if it does.
+fn records_before<R: Source>(reader: &mut RecordReader<R>) -> Option<u64> {
     for before in 0..9 {
         match reader.next_record() {
             Ok(Some(_)) => {}
@@ -67,6 +111,18 @@ fn records_before(others: u64, kind: ErrorKind) -> Option<u64> {
         }
     }
     None
+}
+
+/// The same where the read behind so many others fails, which is counted.
+fn records_before_failure(others: u64, kind: ErrorKind) -> Option<u64> {
+    let rest = SQUARE.as_bytes();
+    let mut source = FailAt::new(Meter::new(Pieces { rest, most: 103 }), others, kind);
+    let before = records_before(&mut RecordReader::new(&mut source));
+    if source.failures() == 1 && source.reads_before().is_none() {
+        before
+    } else {
+        None
+    }
 }
 
 #[test]
@@ -79,34 +135,15 @@ fn a_failed_read_is_no_end(rt: HostRuntime) {
         (3, ErrorKind::Other, 2),
         (4, ErrorKind::Interrupted, 3),
     ] {
-        assert!(rt; records_before(others, kind) == Some(records), "{others}");
+        assert!(rt;
+            records_before_failure(others, kind) == Some(records),
+            "{others}"
+        );
     }
 }
 
-/// Whether a read that fails is counted, and the others go through.
-fn is_counted() -> bool {
-    let rest = SQUARE.as_bytes();
-    let mut source = FailAt::new(Meter::new(Pieces { rest, most: 1 }), 1, ErrorKind::Other);
-    let mut buf = [0; 9];
-    source.fetch(&mut buf).ok() == Some(1)
-        && source.reads_before() == Some(0)
-        && source.fetch(&mut buf).is_err()
-        && source.reads_before().is_none()
-        && source.failures() == 1
-        && source.fetch(&mut buf).ok() == Some(1)
-}
-
-#[test]
-fn a_failed_read_is_counted(rt: HostRuntime) {
-    assert!(rt; is_counted());
-}
-
 /// Whether a reader of these bytes, of which the read behind so many others of four bytes fails, gives this answer twice.
-fn answers_twice(
-    rest: &[u8],
-    others: u64,
-    answer: Result<Option<(u64, Record)>, ReadStop>,
-) -> bool {
+fn answers_twice(rest: &[u8], others: u64, answer: Answer) -> bool {
     let source = Meter::new(Pieces { rest, most: 4 });
     let mut reader = RecordReader::new(FailAt::new(source, others, ErrorKind::Other));
     reader.next_record() == answer && reader.next_record() == answer

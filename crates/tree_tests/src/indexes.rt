@@ -8,8 +8,7 @@ use std::alloc::{AllocError, Global};
 use tl_geom::{Point, Rect};
 use tl_pack::pack;
 use tl_tree::{
-    BoxIndex, BoxTree, FlatTree, Items, PlainList, Search, TreeFault, TreeNode, TreeStop,
-    is_preorder,
+    BoxIndex, BoxTree, FlatTree, Items, PlainList, Search, TreeFault, TreeNode, is_preorder,
 };
 
 fn leaf(bounds: Rect, items: &[u32]) -> TreeNode {
@@ -54,17 +53,30 @@ fn hits<X: BoxIndex>(alloc: Global, index: &X, items: &Counting, at: Point) -> O
     Some(out)
 }
 
+/// Whether an index finds the hits of a plain list.
+fn has_hits_of_a_list<X: BoxIndex>(alloc: Global, index: &X, items: &Counting, at: Point) -> bool
+    requires { X.fits index.now (⟦<Counting as Items>⟧.count items.now) (⟦<Counting as Items>⟧.bounds_of items.now) }
+{
+    match hits(alloc, index, items, at) {
+        Some(found) => has_hits(alloc, items, at, &found),
+        None => false,
+    }
+}
+
+/// Whether these are the hits of a plain list.
+fn has_hits(alloc: Global, items: &Counting, at: Point, wanted: &[u32]) -> bool {
+    match hits(alloc, &PlainList::new(items.len()), items, at) {
+        Some(found) => found.as_slice() == wanted,
+        None => false,
+    }
+}
+
 /// Whether an index asks so many pairs and finds the hits of a plain list.
 fn agrees<X: BoxIndex>(alloc: Global, index: &X, items: &Counting, pairs: u64) -> bool
     requires { X.fits index.now (⟦<Counting as Items>⟧.count items.now) (⟦<Counting as Items>⟧.bounds_of items.now) }
 {
-    let plain = PlainList::new(items.len());
     for (x, y) in [(10, 30), (20, 20), (30, 43), (79, 79)] {
-        let at = Point { x, y };
-        let Some(found) = hits(alloc, index, items, at) else {
-            return false;
-        };
-        if hits(alloc, &plain, items, at) != Some(found) {
+        if !has_hits_of_a_list(alloc, index, items, Point { x, y }) {
             return false;
         }
     }
@@ -126,23 +138,14 @@ const ALL: Rect = Rect {
 };
 
 fn agree_on_a_square(alloc: Global) -> bool {
-    let Ok(items) = Counting::of(alloc, &square(), 99) else {
-        return false;
-    };
     let nodes = two_leaves((ALL, &[3, 0]), (ALL, &[1, 2]));
-    let found = hits(
-        alloc,
-        &PlainList::new(items.len()),
-        &items,
-        Point { x: 10, y: 30 },
-    );
-    agree(alloc, &items, &nodes, 4)
-        && found.is_some_and(|found| found.as_slice() == [2, 3, 99].as_slice())
-}
-
-#[test]
-fn indexes_agree_on_a_square(rt: HostRuntime) {
-    assert!(rt; agree_on_a_square(rt.alloc()));
+    match Counting::of(alloc, &square()) {
+        Ok(items) => {
+            agree(alloc, &items, &nodes, 4)
+                && has_hits(alloc, &items, Point { x: 10, y: 30 }, &[2, 3, 99])
+        }
+        Err(_) => false,
+    }
 }
 
 fn agree_on_items_apart(alloc: Global) -> bool {
@@ -153,15 +156,10 @@ fn agree_on_items_apart(alloc: Global) -> bool {
         rect(100, 9, 100, 9),
     ];
     let nodes = two_leaves((rect(0, 0, 0, 9), &[0, 1]), (rect(100, 0, 100, 9), &[2, 3]));
-    match Counting::of(alloc, &rects, 99) {
+    match Counting::of(alloc, &rects) {
         Ok(items) => agree(alloc, &items, &nodes, 0),
         Err(_) => false,
     }
-}
-
-#[test]
-fn indexes_agree_on_items_apart(rt: HostRuntime) {
-    assert!(rt; agree_on_items_apart(rt.alloc()));
 }
 
 /// Sixty-four rectangles of up to 16 by 16 in a square of 64 by 64.
@@ -177,36 +175,61 @@ fn scattered() -> [Rect; 64] {
     rects
 }
 
-fn agree_on_scattered_items(alloc: Global) -> bool {
-    let Ok(items) = Counting::of(alloc, &scattered(), 99) else {
-        return false;
-    };
-    let Ok(nodes) = pack(alloc, &items) else {
-        return false;
-    };
+/// Whether indexes agree on items by the tree that is packed of them.
+fn agree_on_packed(alloc: Global, items: &Counting) -> bool {
     let pairs = items.meeting_pairs();
-    64 < pairs && pairs < 1000 && agree(alloc, &items, &nodes, pairs)
+    match pack(alloc, items) {
+        Ok(nodes) => 64 < pairs && pairs < 1000 && agree(alloc, items, &nodes, pairs),
+        Err(_) => false,
+    }
+}
+
+fn agree_on_scattered_items(alloc: Global) -> bool {
+    match Counting::of(alloc, &scattered()) {
+        Ok(items) => agree_on_packed(alloc, &items),
+        Err(_) => false,
+    }
 }
 
 #[test]
-fn indexes_agree_on_scattered_items(rt: HostRuntime) {
+fn indexes_agree(rt: HostRuntime) {
+    assert!(rt; agree_on_a_square(rt.alloc()));
+    assert!(rt; agree_on_items_apart(rt.alloc()));
     assert!(rt; agree_on_scattered_items(rt.alloc()));
 }
 
-/// What the check of a flat tree finds, where that of boxes finds the same.
+/// What the check of a flat tree finds.
+fn fault_of_flat(alloc: Global, items: &Counting, nodes: &[TreeNode]) -> Option<TreeFault>
+    requires whole { IsPreorder nodes.now }
+    requires few { length nodes.now < 2 ^ 32 }
+{
+    match FlatTree::from_nodes(alloc, nodes) {
+        Ok(tree) => tree.check(alloc, items).unwrap_or(None),
+        Err(_) => None,
+    }
+}
+
+/// What that of boxes finds.
+fn fault_of_boxes(alloc: Global, items: &Counting, nodes: &[TreeNode]) -> Option<TreeFault>
+    requires whole { IsPreorder nodes.now }
+    requires few { length nodes.now < 2 ^ 32 }
+{
+    match BoxTree::from_nodes(alloc, nodes) {
+        Ok(tree) => tree.check(alloc, items).unwrap_or(None),
+        Err(_) => None,
+    }
+}
+
+/// What both find, where it is the same.
 fn fault_of(alloc: Global, items: &Counting, nodes: &[TreeNode]) -> Option<TreeFault> {
     if nodes.len() > 99 || !is_preorder(nodes) {
         return None;
     }
-    let (Ok(flat), Ok(boxes)) = (
-        FlatTree::from_nodes(alloc, nodes),
-        BoxTree::from_nodes(alloc, nodes),
-    ) else {
-        return None;
-    };
-    match (flat.check(alloc, items), boxes.check(alloc, items)) {
-        (Ok(found), Ok(same)) if found == same => found,
-        _ => None,
+    let found = fault_of_flat(alloc, items, nodes);
+    if fault_of_boxes(alloc, items, nodes) == found {
+        found
+    } else {
+        None
     }
 }
 
@@ -220,69 +243,11 @@ fn faults(rt: HostRuntime) {
         (short, [2, 3].as_slice(), TreeFault::RectTooSmall(2)),
     ] {
         let nodes = two_leaves((ALL, &[0, 1]), (second, others));
-        let fault = match Counting::of(rt.alloc(), &square(), 99) {
+        let fault = match Counting::of(rt.alloc(), &square()) {
             Ok(items) => fault_of(rt.alloc(), &items, &nodes),
             Err(_) => None,
         };
         assert!(rt; fault == Some(wanted));
-    }
-}
-
-/// Whether a flat tree of these nodes finds the conflict of the items 1 and 2, as a plain list does.
-fn finds_a_conflict(alloc: Global, items: &Counting, nodes: &[TreeNode]) -> bool {
-    if nodes.len() > 99 || !is_preorder(nodes) {
-        return false;
-    }
-    let Ok(flat) = FlatTree::from_nodes(alloc, nodes) else {
-        return false;
-    };
-    let Ok(None) = flat.check(alloc, items) else {
-        return false;
-    };
-    let found = Search::Found { i: 1, j: 2, c: 7 };
-    flat.first_conflict(items, 9) == found
-        && PlainList::new(items.len()).first_conflict(items, 9) == found
-}
-
-#[test]
-fn a_conflict_is_found(rt: HostRuntime) {
-    let nodes = two_leaves((ALL, &[2, 0]), (ALL, &[1, 3]));
-    let found = match Counting::of(rt.alloc(), &square(), 1) {
-        Ok(items) => finds_a_conflict(rt.alloc(), &items, &nodes),
-        Err(_) => false,
-    };
-    assert!(rt; found);
-}
-
-/// A tree of so many leaves, where each inner node has a leaf first and the others second.
-fn deep(alloc: Global, leaves: u32) -> Result<Vec<TreeNode>, AllocError> {
-    let mut nodes = Vec::new(alloc);
-    for i in 1..leaves {
-        nodes.push(TreeNode::Inner(ALL, 2))?;
-        nodes.push(leaf(ALL, &[i]))?;
-    }
-    nodes.push(leaf(ALL, &[0]))?;
-    Ok(nodes)
-}
-
-/// Whether nodes are too deep for both trees, or for none.
-fn are_too_deep(alloc: Global, nodes: &[TreeNode]) -> Option<bool> {
-    if nodes.len() > 200 || !is_preorder(nodes) {
-        return None;
-    }
-    let flat = matches!(FlatTree::from_nodes(alloc, nodes), Err(TreeStop::TooDeep));
-    let boxes = matches!(BoxTree::from_nodes(alloc, nodes), Err(TreeStop::TooDeep));
-    if flat == boxes { Some(flat) } else { None }
-}
-
-#[test]
-fn a_node_is_too_deep_from_65_on(rt: HostRuntime) {
-    for (leaves, is_too_deep) in [(64, false), (65, true)] {
-        let told = match deep(rt.alloc(), leaves) {
-            Ok(nodes) => are_too_deep(rt.alloc(), &nodes),
-            Err(_) => None,
-        };
-        assert!(rt; told == Some(is_too_deep));
     }
 }
 

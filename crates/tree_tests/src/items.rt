@@ -6,12 +6,11 @@ use std::cell::Cell;
 use tl_geom::{Point, Rect};
 use tl_tree::{Items, Probe};
 
-/// Rectangles as items, of which one pair may conflict. They claim nothing of what they tell, count how often they are
-/// asked, and keep whether they were asked of a pair that doesn't meet or, of the first four, of one pair twice.
+/// Rectangles as items, of which no pair conflicts. They claim nothing of what they tell, count how often they are asked, and
+/// keep whether they were asked of a pair that doesn't meet or, of the first four, of one pair twice.
 #[derive(Drop)]
 pub struct Counting {
     rects: Vec<Rect>,
-    clash: u32,
     asked: Cell<u64>,
     pairs: Cell<u32>,
     wrong: Cell<bool>,
@@ -19,14 +18,13 @@ pub struct Counting {
 }
 
 impl Counting {
-    /// These rectangles, of which the pairs of the item `clash` and a later one conflict.
-    pub fn of(alloc: Global, rects: &[Rect], clash: u32) -> Result<Counting, AllocError>
+    /// These rectangles.
+    pub fn of(alloc: Global, rects: &[Rect]) -> Result<Counting, AllocError>
         requires { length rects.now < 2 ^ 32 }
     {
         let rects = Vec::from_slice(alloc, rects)?;
         Ok(Counting {
             rects,
-            clash,
             asked: Cell::new(0),
             pairs: Cell::new(0),
             wrong: Cell::new(false),
@@ -83,7 +81,7 @@ impl Items for Counting {
             self.wrong.set(true);
         }
         self.pairs.set(self.pairs.get() | pair);
-        if i == self.clash { Some(7) } else { None }
+        None
     }
 }
 

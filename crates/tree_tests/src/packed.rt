@@ -49,7 +49,7 @@ fn trees_are_no_deeper_than_they_need_be(rt: HostRuntime) {
         (64, " 8 of 8 8 8 8 8 8 8 8"),
         (65, " 8 of 8 8 8 8 8 8 8 2 of 4 5"),
     ] {
-        let well = match Counting::of(rt.alloc(), &rects[..squares], 99) {
+        let well = match Counting::of(rt.alloc(), &rects[..squares]) {
             Ok(items) => has_shape(rt.alloc(), &items, wanted),
             Err(_) => false,
         };
