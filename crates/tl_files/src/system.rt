@@ -305,18 +305,29 @@ fn is_certificate<R: Files<File = File>>(rt: &R, name: &str, length: u64) -> io:
 // Makes a file beside its target, or takes over one that an earlier run left unfinished; with the permissions of the file
 // in whose place it comes.
 fn make_beside<R: Files<File = File>>(rt: &R, target: &str, place: &str) -> io::Result<File> {
-    let file = match File::create_new(rt, place) {
+    let file = made_or_taken_over(rt, place)?;
+    give_permissions(rt, target, &file)?;
+    Ok(file)
+}
+
+// Makes a file, which is locked, or takes over one that an earlier run left unfinished.
+fn made_or_taken_over<R: Files<File = File>>(rt: &R, place: &str) -> io::Result<File> {
+    match File::create_new(rt, place) {
         Ok(file) => {
             lock(&file)?;
-            file
+            Ok(file)
         }
-        Err(error) if error.kind() == ErrorKind::AlreadyExists => take_over(rt, place)?,
-        Err(error) => return Err(error),
-    };
-    if let Ok(stands) = fs::metadata(rt, target) {
-        file.set_permissions(stands.permissions())?;
+        Err(error) if error.kind() == ErrorKind::AlreadyExists => take_over(rt, place),
+        Err(error) => Err(error),
     }
-    Ok(file)
+}
+
+// Gives the file the permissions of its target, where one stands.
+fn give_permissions<R: Files>(rt: &R, target: &str, file: &File) -> io::Result<()> {
+    match fs::metadata(rt, target) {
+        Ok(stands) => file.set_permissions(stands.permissions()),
+        Err(_) => Ok(()),
+    }
 }
 
 // Empties a file that an earlier run left unfinished. One that another run is making, or that is none of ours, is left
@@ -326,15 +337,21 @@ fn take_over<R: Files<File = File>>(rt: &R, place: &str) -> io::Result<File> {
         return Err(Error::from(ErrorKind::AlreadyExists));
     }
     let mut file = OpenOptions::new().read(true).write(true).open(rt, place)?;
-    lock(&file)?;
+    empty_unfinished(rt, place, &mut file)?;
+    Ok(file)
+}
+
+// Locks the file that stands at the place, and empties it, where it is one that an earlier run left unfinished.
+fn empty_unfinished<R: Files<File = File>>(rt: &R, place: &str, file: &mut File) -> io::Result<()> {
+    lock(file)?;
     let opened = file.metadata()?;
     let stands = fs::symlink_metadata(rt, place)?;
-    if !is_same(&opened, &stands) || !is_unfinished(&mut file, opened.len())? {
+    if !is_same(&opened, &stands) || !is_unfinished(file, opened.len())? {
         return Err(Error::from(ErrorKind::AlreadyExists));
     }
     file.set_len(0)?;
     file.seek(SeekFrom::Start(0))?;
-    Ok(file)
+    Ok(())
 }
 
 // Whether the file of this length begins as certificates do, or ends before it could.
