@@ -70,10 +70,22 @@ impl<R: Files<File = File>> SystemDraft<'_, R> {
         ensures { self.new.failures ≡ self.old.failures }
     {
         if self.file.is_none() {
-            let file = self.opened()?;
-            self.file = Some(file);
+            return self.make_anew();
         }
         Ok(())
+    }
+
+    // Makes the file.
+    fn make_anew(&mut self) -> io::Result<()>
+        ensures { self.new.failures ≡ self.old.failures }
+    {
+        match self.opened() {
+            Ok(file) => {
+                self.file = Some(file);
+                Ok(())
+            }
+            Err(error) => Err(error),
+        }
     }
 
     // The file, made anew.
@@ -254,13 +266,17 @@ fn target_of<R: Files>(rt: &R, alloc: Global, name: &str) -> io::Result<String> 
     if let Ok(found) = fs::symlink_metadata(rt, name) {
         if found.is_symlink() {
             if let Ok(path) = rt.canonicalize(alloc, name) {
-                let target = String::from_str(alloc, path.path_text())?;
-                return Ok(target);
+                return copied(alloc, path.path_text());
             }
         }
     }
-    let target = String::from_str(alloc, name)?;
-    Ok(target)
+    copied(alloc, name)
+}
+
+// The text once more.
+fn copied(alloc: Global, text: &str) -> io::Result<String> {
+    let copy = String::from_str(alloc, text)?;
+    Ok(copy)
 }
 
 // Whether a regular file stands under the name, or nothing. A link is left here only where it leads nowhere.
@@ -336,22 +352,34 @@ fn take_over<R: Files<File = File>>(rt: &R, place: &str) -> io::Result<File> {
     if !fs::symlink_metadata(rt, place)?.is_file() {
         return Err(Error::from(ErrorKind::AlreadyExists));
     }
-    let mut file = OpenOptions::new().read(true).write(true).open(rt, place)?;
-    empty_unfinished(rt, place, &mut file)?;
-    Ok(file)
+    match OpenOptions::new().read(true).write(true).open(rt, place) {
+        Ok(mut file) => match empty_unfinished(rt, place, &mut file) {
+            Ok(()) => Ok(file),
+            Err(error) => Err(error),
+        },
+        Err(error) => Err(error),
+    }
 }
 
 // Locks the file that stands at the place, and empties it, where it is one that an earlier run left unfinished.
 fn empty_unfinished<R: Files<File = File>>(rt: &R, place: &str, file: &mut File) -> io::Result<()> {
     lock(file)?;
-    let opened = file.metadata()?;
-    let stands = fs::symlink_metadata(rt, place)?;
-    if !is_same(&opened, &stands) || !is_unfinished(file, opened.len())? {
+    if !is_left_over(rt, place, file)? {
         return Err(Error::from(ErrorKind::AlreadyExists));
     }
     file.set_len(0)?;
     file.seek(SeekFrom::Start(0))?;
     Ok(())
+}
+
+// Whether the file still stands at the place, and is one that an earlier run left unfinished.
+fn is_left_over<R: Files>(rt: &R, place: &str, file: &mut File) -> io::Result<bool> {
+    let opened = file.metadata()?;
+    let stands = fs::symlink_metadata(rt, place)?;
+    if !is_same(&opened, &stands) {
+        return Ok(false);
+    }
+    is_unfinished(file, opened.len())
 }
 
 // Whether the file of this length begins as certificates do, or ends before it could.
