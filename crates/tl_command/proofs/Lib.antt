@@ -8,3 +8,5 @@ pub mod ToldLemmas
 pub mod StartLemmas
 pub mod RunLemmas
 pub mod OpeningLemmas
+pub mod LineLemmas
+pub mod DecisionLemmas

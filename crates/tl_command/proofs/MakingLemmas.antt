@@ -25,6 +25,11 @@ use Rattle.tl_verdict.specs.declared.stop.Stop.{Stop}
 use Rattle.tl_verdict.specs.declared.stop.Stop.TheVariants.{Record, Memory, Device, Budget}
 use Rattle.tl_command.specs.declared.stop.TheConstants.{DONE, MAP_FAULT, REFUSED, STOPPED}
 use Rattle.tl_command.specs.Running.{IsBuilt, NamesFault, NamesRefusal, NamesStop, IsTold, StaysUnless}
+use Rattle.tl_record.specs.Failures.{one_more}
+use Rattle.tl_drawn.specs.declared.fault.MapStop.{MapStop}
+use Rattle.tl_drawn.specs.declared.fault.MapStop.TheVariants as map_stop
+use Rattle.tl_drawn.specs.Reading.{StopsReading, TellsDevice}
+use Rattle.tl_command.specs.Keeping.{unmade_by}
 use Rattle.tl_command.specs.Making.{IsMadeOf, IsBegunOf, MakesOf, OfMap, Makes, TellsMaking, Begins, was_made}
 use Rattle.tl_command.proofs.AuditLemmas.{names_fault_alone}
 use Rattle.tl_command.proofs.ToldLemmas.{line_stops}
@@ -200,3 +205,27 @@ making_whole (Err Budget) status old new wrote told part out_same err_same keeps
 -- a text that was written whole was begun
 pub begins_whole : {S : Type 0} (contents : S → Option (List ℕ)) (failures : S → ℕ) (old new : S) (text : List ℕ) → Writes contents failures old new text → Begins contents old new text
 begins_whole contents failures old new text writes = record { len = length text; grown = rw (take_all (length text) text (omega arith)) writes.grown }
+
+-- the same, where what may have failed is told otherwise
+pub makes_for : (layout : Layout) (known : Option (List ℕ)) (made begun : List ℕ → Type 0) (same failed other : Type 0) (making : Result Making Stop) → (failed → other)
+    → Makes layout known made begun same failed making → Makes layout known made begun same other making
+makes_for layout known made begun same failed other (Ok (Made report)) fails is = is
+makes_for layout known made begun same failed other (Ok (Fault fault)) fails is = is
+makes_for layout known made begun same failed other (Err (Record line cause)) fails is = is
+makes_for layout known made begun same failed other (Err Memory) fails is = is
+makes_for layout known made begun same failed other (Err Device) fails is = (fails is.0, is.1)
+makes_for layout known made begun same failed other (Err Budget) fails is = is
+
+-- what is made where the records have no map
+pub makes_unmade : (layout : Layout) (known : Option (List ℕ)) (made begun : List ℕ → Type 0) (same failed : Type 0) (stop : MapStop) (old new : ℕ) → IfSome known (λ text. StopsReading (records_of layout text) stop)
+    → TellsDevice {T = ℕ} old new (Err stop) → (new ≡ one_more old → failed) → same → Makes layout known made begun same failed (unmade_by stop)
+makes_unmade layout known made begun same failed (map_stop.Fault fault) old new stops reads fails stays = (stops, stays)
+makes_unmade layout known made begun same failed (map_stop.Refused line cause) old new stops reads fails stays = (stops, stays)
+makes_unmade layout known made begun same failed map_stop.Memory old new stops reads fails stays = stays
+makes_unmade layout known made begun same failed map_stop.Device old new stops reads fails stays = (fails reads, inl stays)
+
+pub stays_unmade : (stop : MapStop) (old new : ℕ) → TellsDevice {T = ℕ} old new (Err stop) → StaysUnless Device old new (unmade_by stop)
+stays_unmade (map_stop.Fault fault) old new reads = reads
+stays_unmade (map_stop.Refused line cause) old new reads = λ differs. reads
+stays_unmade map_stop.Memory old new reads = λ differs. reads
+stays_unmade map_stop.Device old new reads = λ differs. absurd (differs refl)

@@ -8,3 +8,4 @@ pub mod Stops
 pub mod Certificates
 pub mod Verdicts
 pub mod Places
+pub mod Keeping

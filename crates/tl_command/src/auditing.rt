@@ -4,6 +4,7 @@ ghost use Rattle.std.specs.Prelude.{◌≡◌, ◌≢◌, ◌⊎◌, ⊤};
 ghost use Rattle.tl_record.specs.Layout.{layout_with};
 ghost use Rattle.tl_output.specs.Writing.{Writes, WritesSome};
 ghost use Rattle.tl_command.specs.declared.stop.TheConstants.{DONE, MAP_FAULT, REFUSED, STOPPED};
+ghost use Rattle.tl_command.specs.Keeping.{TellsAudit};
 ghost use Rattle.tl_command.specs.Running.{IsAudited, NamesFault, NamesRefusal, NamesStop, FailsToRead, CountStays, TriesToWrite};
 
 use crate::reports::SoundMap;
@@ -41,7 +42,18 @@ pub fn audit<R: Source, W: Sink, E: Sink>(
     ensures out_stays { result ≡ REFUSED → out.new ≡ out.old }
     ensures read_whole { result ≢ STOPPED → R.failure_count records.new ≡ R.failure_count records.old }
 {
-    match audit_with(alloc, hasher, records, options) {
+    let audited = audit_with(alloc, hasher, records, options);
+    tell_audit(audited, out, err)
+}
+
+// Tells the answer of an audit: the numbers of a sound map, which fault the records or their map have, or why there is
+// none.
+fn tell_audit<W: Sink, E: Sink>(audited: Result<Audit, AuditStop>, out: &mut W, err: &mut E) -> u8
+    ensures { TellsAudit audited result (Writes W.contents W.failure_count out.old out.new)
+        (TriesToWrite E.contents E.failure_count err.old err.new) (WritesSome W.contents W.failure_count out.old out.new)
+        (out.new ≡ out.old) (err.new ≡ err.old) }
+{
+    match audited {
         Ok(Audit::Sound(report)) => tell_line(&SoundMap(report), DONE, out, err),
         Ok(Audit::Fault(fault)) => tell_line(&fault, MAP_FAULT, out, err),
         Err(AuditStop::Record { line, cause }) => stopped(&Stop::Record { line, cause }, err),

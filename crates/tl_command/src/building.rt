@@ -7,6 +7,7 @@ ghost use Rattle.tl_verdict.specs.Sound.{IsSound};
 ghost use Rattle.tl_verdict.specs.Valid.{IsValid};
 ghost use Rattle.tl_command.specs.declared.stop.TheConstants.{DONE, MAP_FAULT, REFUSED, STOPPED};
 ghost use Rattle.tl_command.specs.Running.{IsBuilt, NamesFault, NamesRefusal, NamesStop, FailsToRead, CountStays, StaysUnless, TriesToWrite};
+ghost use Rattle.tl_command.specs.Keeping.{unmade_by};
 ghost use Rattle.tl_command.specs.Making.{Begins, Makes, MakesOf, OfMap, IsBegunOf, TellsMaking, was_made};
 
 use crate::reports::BuiltCertificate;
@@ -83,10 +84,19 @@ pub fn make<R: Source, C: Sink>(
 {
     match read_map_with(alloc, hasher, records, options) {
         Ok(map) => make_of_map(alloc, &map, made),
-        Err(MapStop::Fault(fault)) => Ok(Making::Fault(MapFault::Records(fault))),
-        Err(MapStop::Refused { line, cause }) => Err(Stop::Record { line, cause }),
-        Err(MapStop::Memory) => Err(Stop::Memory),
-        Err(MapStop::Device) => Err(Stop::Device),
+        Err(stop) => unmade(stop),
+    }
+}
+
+// What comes of it where the records have no map.
+fn unmade(stop: MapStop) -> Result<Making, Stop>
+    ensures { result ≡ unmade_by stop }
+{
+    match stop {
+        MapStop::Fault(fault) => Ok(Making::Fault(MapFault::Records(fault))),
+        MapStop::Refused { line, cause } => Err(Stop::Record { line, cause }),
+        MapStop::Memory => Err(Stop::Memory),
+        MapStop::Device => Err(Stop::Device),
     }
 }
 

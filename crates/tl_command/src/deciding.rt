@@ -1,11 +1,11 @@
 //! Whether a map is sound, by a certificate.
 
-ghost use Rattle.std.specs.Prelude.{◌≡◌, ◌≢◌, ◌⊎◌, ⊤};
+ghost use Rattle.std.specs.Prelude.{◌≡◌, ◌≢◌, ◌⊎◌};
 ghost use Rattle.tl_record.specs.Layout.{layout_with};
-ghost use Rattle.tl_output.specs.Writing.{Writes, WritesSome, line_of};
+ghost use Rattle.tl_output.specs.Writing.{Writes, WritesSome};
 ghost use Rattle.tl_command.specs.declared.stop.TheConstants.{DONE, MAP_FAULT, CERT_FAULT, REFUSED, STOPPED};
-ghost use Rattle.tl_command.specs.Verdicts.{verdict_text, verdict_status};
 ghost use Rattle.tl_command.specs.Running.{IsChecked, NamesFault, NamesCertFault, NamesRefusal, NamesStop, NamesBudget, TriesToWrite};
+ghost use Rattle.tl_command.specs.Keeping.{TellsDecision};
 ghost use Rattle.tl_command.specs.Running.{MayBeSearched};
 ghost use Rattle.tl_command.specs.Running.{IsRunStatus, FailsToRead, CountStays};
 
@@ -16,7 +16,7 @@ use std::alloc::Global;
 use std::hash::RandomState;
 use tl_check::check_with;
 use tl_record::{Options, Sink, Source};
-use tl_verdict::Verdict;
+use tl_verdict::{Stop, Verdict};
 
 /// Decides by a certificate whether the map of the records is sound, and gives the program's exit status. Where a line is
 /// refused or the records have no map, nothing of the certificate is read.
@@ -60,25 +60,20 @@ pub fn decide<R: Source, S: Source, W: Sink, E: Sink>(
     ensures records_whole { result ≢ STOPPED → R.failure_count records.new ≡ R.failure_count records.old }
     ensures cert_whole { result ≢ STOPPED → S.failure_count cert.new ≡ S.failure_count cert.old }
 {
-    match check_with(alloc, hasher, records, cert, budget, options) {
-        Ok(verdict) => tell_verdict(&verdict, out, err),
-        Err(stop) => stopped(&stop, err),
-    }
+    let decision = check_with(alloc, hasher, records, cert, budget, options);
+    tell_decision(decision, out, err)
 }
 
-// Tells a verdict: the numbers of a sound map, or which fault the map or the certificate has.
-fn tell_verdict<W: Sink, E: Sink>(verdict: &Verdict, out: &mut W, err: &mut E) -> u8
-    ensures status { (result ≡ verdict_status verdict.now) ⊎ (result ≡ STOPPED) }
-    ensures told { result ≡ verdict_status verdict.now
-        → Writes W.contents W.failure_count out.old out.new (line_of (verdict_text verdict.now)) }
-    ensures err_stays { result ≡ verdict_status verdict.now → err.new ≡ err.old }
-    ensures stopped { result ≡ STOPPED
-        → NamesStop (TriesToWrite E.contents E.failure_count err.old err.new)
-        ⊥ ⊤ (out.new ≡ out.old) (WritesSome W.contents W.failure_count out.old out.new (line_of (verdict_text verdict.now))) }
+// Tells a decision: the numbers of a sound map, which fault the map or the certificate has, or why there is none.
+fn tell_decision<W: Sink, E: Sink>(decision: Result<Verdict, Stop>, out: &mut W, err: &mut E) -> u8
+    ensures { TellsDecision decision result (Writes W.contents W.failure_count out.old out.new)
+        (TriesToWrite E.contents E.failure_count err.old err.new) (WritesSome W.contents W.failure_count out.old out.new)
+        (out.new ≡ out.old) (err.new ≡ err.old) }
 {
-    match verdict {
-        Verdict::Sound(report) => tell_line(&SoundMap(*report), DONE, out, err),
-        Verdict::MapFault(fault) => tell_line(fault, MAP_FAULT, out, err),
-        Verdict::CertFault(fault) => tell_line(fault, CERT_FAULT, out, err),
+    match decision {
+        Ok(Verdict::Sound(report)) => tell_line(&SoundMap(report), DONE, out, err),
+        Ok(Verdict::MapFault(fault)) => tell_line(&fault, MAP_FAULT, out, err),
+        Ok(Verdict::CertFault(fault)) => tell_line(&fault, CERT_FAULT, out, err),
+        Err(stop) => stopped(&stop, err),
     }
 }

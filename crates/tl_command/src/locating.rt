@@ -37,8 +37,10 @@ pub fn tell_place<R: Source, W: Sink>(
         (WritesSome W.contents W.failure_count out.old out.new))) }
     ensures reads { StaysUnless MapStop.Device (R.failure_count records.old) (R.failure_count records.new) result }
 {
-    let map = read_map_with(alloc, hasher, records, options)?;
-    tell_on(alloc, &map, point, out)
+    match read_map_with(alloc, hasher, records, options) {
+        Ok(map) => tell_on(alloc, &map, point, out),
+        Err(stop) => Err(stop),
+    }
 }
 
 // Writes where a point lies in a map.

@@ -1,17 +1,19 @@
 //! Certificates that are made over files: each takes its name when it is whole.
 
-ghost use Rattle.std.specs.Prelude.{◌≡◌, ◌≢◌, ◌⊎◌, ℕ, List, true, false, None, IfOk, IfErr, IfSome, IsSome, map, string_bytes};
-ghost use Rattle.tl_text.specs.Joining.{joined_bytes};
-ghost use Rattle.tl_output.specs.Writing.{Writes, WritesSome};
+ghost use Rattle.std.specs.Prelude.{◌≡◌, ◌≢◌, ◌<◌, ◌⊎◌, ℕ, vec_len, List, true, false, None, IfOk, IfErr, IfSome, IsSome, map, string_bytes};
+ghost use Rattle.tl_record.specs.Layout.{layout_with};
+ghost use Rattle.tl_text.specs.Joining.{joined_bytes, failures_of};
+ghost use Rattle.tl_output.specs.Writing.{Writes, WritesSome, FailsToWrite};
 ghost use Rattle.tl_files.specs.Files.{bytes_under, standing, beside, IsRoom};
 ghost use Rattle.tl_command.specs.declared.stop.TheConstants.{USAGE};
 ghost use Rattle.tl_command.specs.Opening.{RunsOver, IsBuildOf, Converts, records_under, certificate_under, FilesFail};
 ghost use Rattle.tl_command.specs.Starting.{StopsOpening};
-ghost use Rattle.tl_command.specs.Running.{TriesToWrite};
+ghost use Rattle.tl_command.specs.Making.{Begins, Makes};
+ghost use Rattle.tl_command.specs.Running.{FailsToRead, TriesToWrite};
 
-use crate::building::{is_made, make, tell_making};
+use crate::building::{Making, is_made, make, tell_making};
 use crate::convert::{rewrite, tell_converted};
-use crate::opening::{room_for_bytes, stop_of};
+use crate::opening::{as_one_text, give_back, room_for_bytes, stop_of};
 use crate::stop::{USAGE, stopped};
 use std::alloc::Global;
 use std::hash::RandomState;
@@ -19,7 +21,7 @@ use tl_files::{FileSystem, Room};
 use tl_output::write_all;
 use tl_plan::Plan;
 use tl_record::{Options, Sink, Source};
-use tl_text::{Buffered, JoinedSources};
+use tl_text::Buffered;
 use tl_verdict::Stop;
 
 /// What is said where another file stands under the name of the certificate that is made.
@@ -54,14 +56,14 @@ pub fn build_into<F: FileSystem, W: Sink, E: Sink>(
     alloc: Global,
     hasher: RandomState,
     plan: &Plan,
-    readers: Vec<F::Reader>,
+    readers: &mut Vec<F::Reader>,
     name: &String,
     options: Options,
     out: &mut W,
     err: &mut E,
 ) -> u8
     requires plan { IsBuildOf plan.now (string_bytes name.now) options }
-    requires known { joined_bytes F.Reader.remaining false readers.items ≡ records_under (F.under files.old) plan.now }
+    requires known { joined_bytes F.Reader.remaining false readers.old.items ≡ records_under (F.under files.old) plan.now }
     ensures { RunsOver plan.now result (F.under files.old) (F.under files.new)
         (Writes W.contents W.failure_count out.old out.new)
         (TriesToWrite E.contents E.failure_count err.old err.new) (WritesSome W.contents W.failure_count out.old out.new)
@@ -71,16 +73,36 @@ pub fn build_into<F: FileSystem, W: Sink, E: Sink>(
     let Ok(room) = room_for_bytes(alloc) else {
         return stopped(&Stop::Memory, err);
     };
-    let mut records = Buffered::new(JoinedSources::new(readers), room);
     let mut draft = match files.draft(alloc, name.as_str()) {
         Ok(draft) => draft,
         Err(stop) => return stopped(&stop_of(stop), err),
     };
-    let making = make(alloc, hasher, &mut records, &mut draft, options);
+    let making = make_on_readers(alloc, hasher, readers, room, &mut draft, options);
     match settle(files, alloc, draft, name, is_made(&making)) {
         Some(stop) => stopped(&stop, err),
         None => tell_making(&making, out, err),
     }
+}
+
+// Makes a certificate of the records that these readers give, read one after the other as one text.
+fn make_on_readers<F: Source + Drop, C: Sink>(
+    alloc: Global,
+    hasher: RandomState,
+    readers: &mut Vec<F>,
+    room: Vec<u8>,
+    made: &mut C,
+    options: Options,
+) -> Result<Making, Stop>
+    requires { 0 < vec_len room }
+    ensures { Makes (layout_with options) (joined_bytes F.remaining false readers.old.items)
+        (Writes C.contents C.failure_count made.old made.new) (Begins C.contents made.old made.new) (made.new ≡ made.old)
+        (FailsToRead (failures_of F.failure_count) readers.old.items readers.new.items
+        ⊎ FailsToWrite C.failure_count made.old made.new) result }
+{
+    let mut records = as_one_text(alloc, readers, room);
+    let making = make(alloc, hasher, &mut records, made, options);
+    give_back(records, readers);
+    making
 }
 
 /// Writes a certificate that is read in version 2; it takes its name when it is whole.

@@ -1,13 +1,15 @@
 //! The files that are read, opened by their names.
 
-ghost use Rattle.std.specs.Prelude.{◌≡◌, ◌<◌, None, vec_len, IfOk, IfErr, map, string_bytes};
+ghost use Rattle.std.specs.Prelude.{◌≡◌, ◌<◌, None, false, vec_len, IfOk, IfErr, map, string_bytes};
+ghost use Rattle.tl_text.specs.Joining.{joined_bytes, failures_of};
 ghost use Rattle.tl_files.specs.Files.{bytes_under};
 ghost use Rattle.tl_command.specs.Starting.{StopsOpening, StopsOpeningAll, told_of};
 
 use std::alloc::{AllocError, Global};
+use std::mem;
 use tl_files::{FileStop, FileSystem};
 use tl_record::Source;
-use tl_text::Buffered;
+use tl_text::{Buffered, JoinedSources};
 use tl_verdict::Stop;
 
 // How many bytes are read at a time, of the record files and of a certificate.
@@ -72,4 +74,28 @@ pub fn stop_of(stop: FileStop) -> Stop
         FileStop::Memory => Stop::Memory,
         FileStop::Device => Stop::Device,
     }
+}
+
+/// Takes the readers, to read them as one text, of which as many bytes are read at a time as `room` holds.
+pub fn as_one_text<F: Source + Drop>(
+    alloc: Global,
+    readers: &mut Vec<F>,
+    room: Vec<u8>,
+) -> Buffered<JoinedSources<F>>
+    requires { 0 < vec_len room }
+    ensures bytes { ⟦<Buffered<JoinedSources<F>> as Source>⟧.remaining result
+        ≡ joined_bytes F.remaining false readers.old.items }
+    ensures failures { ⟦<Buffered<JoinedSources<F>> as Source>⟧.failure_count result
+        ≡ failures_of F.failure_count readers.old.items }
+{
+    let taken = mem::replace(readers, Vec::new(alloc));
+    Buffered::new(JoinedSources::new(taken), room)
+}
+
+/// Gives the readers back, each as far as it was read.
+pub fn give_back<F: Source + Drop>(text: Buffered<JoinedSources<F>>, readers: &mut Vec<F>)
+    ensures { failures_of F.failure_count readers.new.items
+        ≡ ⟦<Buffered<JoinedSources<F>> as Source>⟧.failure_count text }
+{
+    *readers = text.into_source().into_readers();
 }

@@ -10,15 +10,13 @@ ghost use Rattle.tl_command.specs.Running.{FaultsCertificate, ReadsNoCertificate
 ghost use Rattle.tl_command.specs.Deciding.{IsExact};
 ghost use Rattle.tl_command.specs.Making.{Begins, IsBegunBy};
 
-use crate::opening::room_for_bytes;
+use crate::opening::{as_one_text, give_back, room_for_bytes};
 use crate::run::run;
 use crate::stop::stopped;
 use std::alloc::Global;
 use std::hash::RandomState;
-use std::mem;
 use tl_plan::Plan;
 use tl_record::{Sink, Source};
-use tl_text::{Buffered, JoinedSources};
 use tl_verdict::Stop;
 
 /// Does what the plan asks over these readers, which are read one after the other as one text, and gives the program's
@@ -80,9 +78,8 @@ pub fn run_on_readers<F: Source + Drop, S: Source, C: Sink, W: Sink, E: Sink>(
     let Ok(room) = room_for_bytes(alloc) else {
         return stopped(&Stop::Memory, err);
     };
-    let taken = mem::replace(readers, Vec::new(alloc));
-    let mut records = Buffered::new(JoinedSources::new(taken), room);
+    let mut records = as_one_text(alloc, readers, room);
     let status = run(alloc, hasher, plan, &mut records, cert, made, out, err);
-    *readers = records.into_source().into_readers();
+    give_back(records, readers);
     status
 }

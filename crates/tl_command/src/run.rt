@@ -13,6 +13,7 @@ ghost use Rattle.tl_drawn.specs.Faults.{IsFaultOfChains};
 ghost use Rattle.tl_drawn.specs.Reading.{IfFault};
 ghost use Rattle.tl_command.specs.Deciding.{IsExact};
 ghost use Rattle.tl_command.specs.Places.{StopsTelling};
+ghost use Rattle.tl_command.specs.Keeping.{TellsAnswer};
 ghost use Rattle.tl_command.specs.Making.{Begins, IsBegunBy};
 
 use crate::auditing::audit;
@@ -140,7 +141,17 @@ fn run_on_records<R: Source, W: Sink, E: Sink>(
     ensures out_stays { result ≡ REFUSED → out.new ≡ out.old }
     ensures read_whole { result ≢ STOPPED → R.failure_count records.new ≡ R.failure_count records.old }
 {
-    match answer(alloc, hasher, plan, records, out) {
+    let answered = answer(alloc, hasher, plan, records, out);
+    tell_answer(answered, out, err)
+}
+
+// Tells why records have no answer. Of an answer, which is written already, it tells nothing.
+fn tell_answer<W: Sink, E: Sink>(answered: Result<(), MapStop>, out: &mut W, err: &mut E) -> u8
+    ensures { TellsAnswer answered result (Writes W.contents W.failure_count out.old out.new)
+        (TriesToWrite E.contents E.failure_count err.old err.new) (WritesSome W.contents W.failure_count out.old out.new)
+        (out.new ≡ out.old) (err.new ≡ err.old) }
+{
+    match answered {
         Ok(()) => DONE,
         Err(MapStop::Fault(fault)) => tell_line(&MapFault::Records(fault), MAP_FAULT, out, err),
         Err(MapStop::Refused { line, cause }) => stopped(&Stop::Record { line, cause }, err),
@@ -195,8 +206,10 @@ fn show<R: Source, W: Sink>(
     ensures of_chains { IfErr result (IfFault IsFaultOfChains) }
     ensures reads { StaysUnless MapStop.Device (R.failure_count records.old) (R.failure_count records.new) result }
 {
-    let chains = read_chains_with(alloc, records, options)?;
-    tell_chains(&chains, out)
+    match read_chains_with(alloc, records, options) {
+        Ok(chains) => tell_chains(&chains, out),
+        Err(stop) => Err(stop),
+    }
 }
 
 fn landmarks<R: Source, W: Sink>(
@@ -214,8 +227,10 @@ fn landmarks<R: Source, W: Sink>(
         (WritesSome W.contents W.failure_count out.old out.new))) }
     ensures reads { StaysUnless MapStop.Device (R.failure_count records.old) (R.failure_count records.new) result }
 {
-    let map = read_map_with(alloc, hasher, records, options)?;
-    tell_landmarks(&map, out)
+    match read_map_with(alloc, hasher, records, options) {
+        Ok(map) => tell_landmarks(&map, out),
+        Err(stop) => Err(stop),
+    }
 }
 
 fn tell_chains<W: Sink>(chains: &Chains, out: &mut W) -> Result<(), MapStop>

@@ -1,10 +1,9 @@
 //! The program from its words to its status.
 
 ghost use Rattle.std.specs.Prelude.{◌≡◌, ◌⊎◌, map, string_bytes};
-ghost use Rattle.tl_output.specs.Writing.{Writes, WritesSome, line_of};
+ghost use Rattle.tl_output.specs.Writing.{Writes, WritesSome};
 ghost use Rattle.tl_command.specs.declared.stop.TheConstants.{DONE, MAP_FAULT, CERT_FAULT, REFUSED, STOPPED, USAGE};
-ghost use Rattle.tl_verdict.specs.declared.stop.Stop.TheVariants.{Device};
-ghost use Rattle.tl_verdict.specs.Stops.{stop_text};
+ghost use Rattle.tl_command.specs.Keeping.{Starts, TellsPlanStop, SaysHelp};
 ghost use Rattle.tl_command.specs.Opening.{FilesFail};
 ghost use Rattle.tl_command.specs.Starting.{IsStartStatus, ShowsUsage, ShowsHelp, AnswersSome, FaultsSome, RefusesSome};
 ghost use Rattle.tl_command.specs.Starting.{FaultsText, StopsSome, DecidesSome, BeginsSome, RefusesSomeOut, KeepsSome};
@@ -71,10 +70,39 @@ pub fn start<F: FileSystem, W: Sink, E: Sink>(
     // No name stands for other bytes than before but that of the certificate that is made.
     ensures files { KeepsSome (map string_bytes words.now) result (F.under files.old) (F.under files.new) }
 {
+    start_by(files, alloc, hasher, words, out, err)
+}
+
+// The same, with what `start` promises as one clause: it has several ways out.
+fn start_by<F: FileSystem, W: Sink, E: Sink>(
+    files: &mut F,
+    alloc: Global,
+    hasher: RandomState,
+    words: &[String],
+    out: &mut W,
+    err: &mut E,
+) -> u8
+    ensures { Starts (map string_bytes words.now) result (F.under files.old) (F.under files.new)
+        (Writes W.contents W.failure_count out.old out.new)
+        (TriesToWrite E.contents E.failure_count err.old err.new) (WritesSome W.contents W.failure_count out.old out.new)
+        (FilesFail F.Reader.failure_count F.Draft.failure_count F.knows (F.under files.old))
+        (out.new ≡ out.old) (err.new ≡ err.old) }
+{
     match words::plan(alloc, words) {
         Ok(plan) => open_and_run(files, alloc, hasher, &plan, out, err),
-        Err(PlanStop::Memory) => stopped(&Stop::Memory, err),
-        Err(PlanStop::Usage(text)) => {
+        Err(stop) => tell_stop(&stop, out, err),
+    }
+}
+
+// Tells why there is no plan.
+fn tell_stop<W: Sink, E: Sink>(stop: &PlanStop, out: &mut W, err: &mut E) -> u8
+    ensures { TellsPlanStop stop.now result (Writes W.contents W.failure_count out.old out.new)
+        (TriesToWrite E.contents E.failure_count err.old err.new) (WritesSome W.contents W.failure_count out.old out.new)
+        (out.new ≡ out.old) (err.new ≡ err.old) }
+{
+    match stop {
+        PlanStop::Memory => stopped(&Stop::Memory, err),
+        PlanStop::Usage(text) => {
             let shown = text.as_str();
             if shown.is_empty() {
                 say_usage(NO_USE, err)
@@ -82,7 +110,7 @@ pub fn start<F: FileSystem, W: Sink, E: Sink>(
                 say_usage(shown, err)
             }
         }
-        Err(PlanStop::Help(text)) => {
+        PlanStop::Help(text) => {
             let shown = text.as_str();
             if shown.is_empty() {
                 // It never is: `clap` has a text for each wish.
@@ -105,12 +133,9 @@ fn say_usage<E: Sink>(text: &str, err: &mut E) -> u8
 
 // Gives the help that the words wish for. Where that can't be written, the program is stopped.
 fn say_help<W: Sink, E: Sink>(text: &str, out: &mut W, err: &mut E) -> u8
-    ensures status { (result ≡ DONE) ⊎ (result ≡ STOPPED) }
-    ensures said { result ≡ DONE → Writes W.contents W.failure_count out.old out.new text.now }
-    ensures err_stays { result ≡ DONE → err.new ≡ err.old }
-    ensures stopped { result ≡ STOPPED
-        → (TriesToWrite E.contents E.failure_count err.old err.new (line_of (stop_text Device)))
-        × WritesSome W.contents W.failure_count out.old out.new text.now }
+    ensures { SaysHelp text.now result (Writes W.contents W.failure_count out.old out.new)
+        (TriesToWrite E.contents E.failure_count err.old err.new) (WritesSome W.contents W.failure_count out.old out.new)
+        (err.new ≡ err.old) }
 {
     match write_all(text.as_bytes(), out) {
         Ok(()) => DONE,

@@ -1,9 +1,9 @@
 //! Answers that are one line.
 
-ghost use Rattle.std.specs.Prelude.{◌≡◌, ◌≢◌, ◌⊎◌, IfSome, ⊤};
-ghost use Rattle.tl_output.specs.Writing.{Writes, WritesSome, FailsToWrite, line_of};
-ghost use Rattle.tl_command.specs.declared.stop.TheConstants.{STOPPED};
-ghost use Rattle.tl_command.specs.Running.{NamesStop, TriesToWrite};
+ghost use Rattle.std.specs.Prelude.{◌≡◌, IfSome};
+ghost use Rattle.tl_output.specs.Writing.{Writes, WritesSome, line_of};
+ghost use Rattle.tl_command.specs.Making.{IsLine};
+ghost use Rattle.tl_command.specs.Running.{TriesToWrite};
 
 use crate::stop::stopped;
 use std::fmt::Display;
@@ -19,19 +19,14 @@ pub fn tell_line<D: Display, W: Sink, E: Sink>(
     out: &mut W,
     err: &mut E,
 ) -> u8
-    requires { status ≢ STOPPED }
-    ensures status { (result ≡ status) ⊎ (result ≡ STOPPED) }
-    ensures told { result ≡ status → IfSome (D.output value.now)
-        (λ text. Writes W.contents W.failure_count out.old out.new (line_of text)) }
-    ensures err_stays { result ≡ status → err.new ≡ err.old }
-    ensures stopped { result ≡ STOPPED
-        → NamesStop (TriesToWrite E.contents E.failure_count err.old err.new)
-        ⊥ ⊤ (out.new ≡ out.old) (FailsToWrite W.failure_count out.old out.new × IfSome (D.output value.now)
-        (λ text. WritesSome W.contents W.failure_count out.old out.new (line_of text))) }
+    ensures { IfSome (D.output value.now) (λ text. IsLine result status (line_of text)
+        (Writes W.contents W.failure_count out.old out.new) (TriesToWrite E.contents E.failure_count err.old err.new)
+        (WritesSome W.contents W.failure_count out.old out.new) (out.new ≡ out.old) (err.new ≡ err.old)) }
 {
     match print_line(value, out) {
         Ok(()) => status,
         Err(LineStop::Failed) => stopped(&Stop::Device, err),
-        Err(LineStop::NoRoom | LineStop::NoText) => stopped(&Stop::Memory, err),
+        Err(LineStop::NoRoom) => stopped(&Stop::Memory, err),
+        Err(LineStop::NoText) => stopped(&Stop::Memory, err),
     }
 }

@@ -1,13 +1,15 @@
 -- Kept on the way: commands and their arguments by the names that the code gives them. No public contract cites this file.
-use Rattle.std.specs.Prelude.{List, [], ◌∷◌, codes}
-use Rattle.clap.specs.Simple.{App, with_rule, with_subcommand}
-use Rattle.clap.specs.Walk.{Rule}
+use Rattle.std.specs.Prelude.{List, [], ◌∷◌, Some, Result, Ok, Err, codes}
+use Rattle.clap.specs.Simple.{App, new_rule, with_rule, with_subcommand}
+use Rattle.clap.specs.Walk.{Rule, Text}
+use Rattle.clap.specs.declared.builder.command.Command.{Command}
 use Rattle.tl_plan.specs.declared.command_line.Named.{Named}
 use Rattle.tl_plan.specs.declared.command_line.Named.TheVariants.{Show, Landmarks, Locate, Audit, Build, Check, Convert}
 use Rattle.tl_plan.specs.declared.command_line.Argument.{Argument}
 use Rattle.tl_plan.specs.declared.command_line.Argument.TheVariants.{ZeroCells, Released, Files, Point, CertOption, OutOption, Tests, Cert, Out}
 use Rattle.tl_plan.specs.Commands.{zero_cells_argument, released_argument, files_argument, name_argument, certificate_argument, tests_argument}
-use Rattle.tl_plan.specs.Commands.{command_on_files, show_name, landmarks_name, locate_app, audit_app, build_app, check_app, conversion_app}
+use Rattle.tl_plan.specs.Commands.{command_on_files, show_name, landmarks_name, locate_name, audit_name, build_name, check_name, convert_name}
+use Rattle.tl_plan.specs.Commands.{locate_app, audit_app, build_app, check_app, conversion_app}
 
 -- what clap is told of an argument
 abbrev pub rule_for : Argument → Rule
@@ -40,3 +42,39 @@ app_named Convert = conversion_app
 abbrev pub with_named : App → List Named → App
 with_named app [] = app
 with_named app (named ∷ rest) = with_named (with_subcommand app (app_named named).top) rest
+
+-- the name of a command
+abbrev pub name_of : Named → Text
+name_of Show = show_name
+name_of Landmarks = landmarks_name
+name_of Locate = locate_name
+name_of Audit = audit_name
+name_of Build = build_name
+name_of Check = check_name
+name_of Convert = convert_name
+
+-- the arguments of a command
+abbrev pub arguments_for : Named → List Argument
+arguments_for Show = Released ∷ Files ∷ []
+arguments_for Landmarks = Released ∷ Files ∷ []
+arguments_for Locate = Released ∷ Point ∷ Files ∷ []
+arguments_for Audit = ZeroCells ∷ Released ∷ Files ∷ []
+arguments_for Build = OutOption ∷ ZeroCells ∷ Released ∷ Files ∷ []
+arguments_for Check = CertOption ∷ Tests ∷ ZeroCells ∷ Released ∷ Files ∷ []
+arguments_for Convert = Cert ∷ Out ∷ []
+
+-- what clap is told of an option with a value
+abbrev pub option_rule : Text → Rule
+option_rule id = record (new_rule id) { long = Some id; value_names = 1 }
+
+-- a command was made, and it is so
+abbrev pub OnMade : {E : Type 0} → Result Command E → (Command → Type 0) → Type 0
+OnMade (Ok command) P = P command
+OnMade (Err error) P = ⊥
+
+-- the names that a first word may have, in two parts
+abbrev pub front_names : List Text
+front_names = show_name ∷ landmarks_name ∷ locate_name ∷ audit_name ∷ []
+
+abbrev pub back_names : List Text
+back_names = build_name ∷ check_name ∷ convert_name ∷ codes "help" ∷ []

@@ -1,17 +1,18 @@
 //! The command line that `clap` is told of.
 
 ghost use Rattle.std.specs.Prelude.{◌≡◌, false, IfOk};
-ghost use Rattle.clap.specs.Simple.{app_of, new_app};
+ghost use Rattle.clap.specs.Simple.{app_of, new_app, with_subcommand};
 ghost use Rattle.clap.specs.Walk.{rule_of};
+ghost use Rattle.clap.specs.Words.{AddsSubcommand};
 ghost use Rattle.tl_plan.specs.Commands.{IsLocal, program, command_line, name_argument as name_rule};
 ghost use Rattle.tl_plan.specs.Commands.{switch as switch_rule, files_argument as files_rule};
-ghost use Rattle.tl_plan.specs.Commands.{certificate_argument as certificate_rule, tests_argument as tests_rule};
-ghost use Rattle.tl_plan.specs.Keeping.{rule_for, with_each, app_named, with_named};
+ghost use Rattle.tl_plan.specs.Commands.{certificate_argument as certificate_rule};
+ghost use Rattle.tl_plan.specs.Keeping.{rule_for, with_each, app_named, with_named, name_of, arguments_for, option_rule, OnMade};
 
 use crate::help::{
     ABOUT, AUDIT_ABOUT, AUDIT_EXAMPLE, BUILD_ABOUT, BUILD_EXAMPLE, CHECK_ABOUT, CHECK_EXAMPLE,
     CONVERT_ABOUT, CONVERT_EXAMPLE, EXAMPLES, LANDMARKS_ABOUT, LANDMARKS_EXAMPLE, LOCATE_ABOUT,
-    LOCATE_EXAMPLE, RELEASED, SHOW_ABOUT, SHOW_EXAMPLE, ZERO_CELLS,
+    LOCATE_EXAMPLE, RELEASED, SHOW_ABOUT, SHOW_EXAMPLE, TESTS, ZERO_CELLS,
 };
 use clap::{Arg, ArgAction, Command};
 use std::alloc::{AllocError, Global};
@@ -57,7 +58,7 @@ pub fn command<'a>(alloc: Global) -> Result<Command<'a>, AllocError>
 {
     with_commands(
         alloc,
-        program(alloc)?,
+        program(alloc),
         &[
             Named::Show,
             Named::Landmarks,
@@ -70,18 +71,45 @@ pub fn command<'a>(alloc: Global) -> Result<Command<'a>, AllocError>
     )
 }
 
-// The program with these commands more.
+// The program with these commands more, where memory was had for it and for them.
 fn with_commands<'a>(
     alloc: Global,
-    mut program: Command<'a>,
+    mut program: Result<Command<'a>, AllocError>,
     commands: &[Named],
 ) -> Result<Command<'a>, AllocError>
-    ensures { IfOk result (λ whole. app_of whole ≡ with_named (app_of program.entry) commands.now) }
+    ensures { IfOk result (λ whole. OnMade program.entry (λ p. app_of whole ≡ with_named (app_of p) commands.now)) }
 {
     for named in commands {
-        program = program.subcommand(subcommand(alloc, named)?)?;
+        program = with_command(alloc, program, named);
     }
-    Ok(program)
+    program
+}
+
+// The program with this command more, where memory was had for both.
+fn with_command<'a>(
+    alloc: Global,
+    program: Result<Command<'a>, AllocError>,
+    named: &Named,
+) -> Result<Command<'a>, AllocError>
+    ensures { IfOk result (λ whole. OnMade program.entry (λ p. app_of whole ≡ with_subcommand (app_of p) (app_named named.now).top)) }
+{
+    match program {
+        Ok(program) => with_made(program, subcommand(alloc, named)),
+        Err(error) => Err(error),
+    }
+}
+
+// The program with a command more, where memory was had for the command.
+fn with_made<'a>(
+    program: Command<'a>,
+    command: Result<Command<'a>, AllocError>,
+) -> Result<Command<'a>, AllocError>
+    ensures { IfOk result (λ whole. OnMade command.entry (λ c. AddsSubcommand program.entry c whole)) }
+{
+    match command {
+        Ok(command) => program.subcommand(command),
+        Err(error) => Err(error),
+    }
 }
 
 fn program<'a>(alloc: Global) -> Result<Command<'a>, AllocError>
@@ -100,67 +128,48 @@ fn program<'a>(alloc: Global) -> Result<Command<'a>, AllocError>
 pub fn subcommand<'a>(alloc: Global, named: &Named) -> Result<Command<'a>, AllocError>
     ensures { IfOk result (IsLocal (app_named named.now)) }
 {
+    let (name, about, example) = words_of(named);
+    command_with(alloc, name, about, example, arguments_of(named))
+}
+
+// The command's name, what is said of it, and an example of it.
+fn words_of<'a>(named: &Named) -> (&'a str, &'a str, &'a str)
+    ensures { result.0.now ≡ name_of named.now }
+{
     match named {
-        Named::Show => command_with(
-            alloc,
-            "show",
-            SHOW_ABOUT,
-            SHOW_EXAMPLE,
-            &[Argument::Released, Argument::Files],
-        ),
-        Named::Landmarks => command_with(
-            alloc,
-            "landmarks",
-            LANDMARKS_ABOUT,
-            LANDMARKS_EXAMPLE,
-            &[Argument::Released, Argument::Files],
-        ),
-        Named::Locate => command_with(
-            alloc,
-            "locate",
-            LOCATE_ABOUT,
-            LOCATE_EXAMPLE,
-            &[Argument::Released, Argument::Point, Argument::Files],
-        ),
-        Named::Audit => command_with(
-            alloc,
-            "audit",
-            AUDIT_ABOUT,
-            AUDIT_EXAMPLE,
-            &[Argument::ZeroCells, Argument::Released, Argument::Files],
-        ),
-        Named::Build => command_with(
-            alloc,
-            "build",
-            BUILD_ABOUT,
-            BUILD_EXAMPLE,
-            &[
-                Argument::OutOption,
-                Argument::ZeroCells,
-                Argument::Released,
-                Argument::Files,
-            ],
-        ),
-        Named::Check => command_with(
-            alloc,
-            "check",
-            CHECK_ABOUT,
-            CHECK_EXAMPLE,
-            &[
-                Argument::CertOption,
-                Argument::Tests,
-                Argument::ZeroCells,
-                Argument::Released,
-                Argument::Files,
-            ],
-        ),
-        Named::Convert => command_with(
-            alloc,
-            "convert",
-            CONVERT_ABOUT,
-            CONVERT_EXAMPLE,
-            &[Argument::Cert, Argument::Out],
-        ),
+        Named::Show => ("show", SHOW_ABOUT, SHOW_EXAMPLE),
+        Named::Landmarks => ("landmarks", LANDMARKS_ABOUT, LANDMARKS_EXAMPLE),
+        Named::Locate => ("locate", LOCATE_ABOUT, LOCATE_EXAMPLE),
+        Named::Audit => ("audit", AUDIT_ABOUT, AUDIT_EXAMPLE),
+        Named::Build => ("build", BUILD_ABOUT, BUILD_EXAMPLE),
+        Named::Check => ("check", CHECK_ABOUT, CHECK_EXAMPLE),
+        Named::Convert => ("convert", CONVERT_ABOUT, CONVERT_EXAMPLE),
+    }
+}
+
+// What the command's words are.
+fn arguments_of<'a>(named: &Named) -> &'a [Argument]
+    ensures { result.now ≡ arguments_for named.now }
+{
+    match named {
+        Named::Show => &[Argument::Released, Argument::Files],
+        Named::Landmarks => &[Argument::Released, Argument::Files],
+        Named::Locate => &[Argument::Released, Argument::Point, Argument::Files],
+        Named::Audit => &[Argument::ZeroCells, Argument::Released, Argument::Files],
+        Named::Build => &[
+            Argument::OutOption,
+            Argument::ZeroCells,
+            Argument::Released,
+            Argument::Files,
+        ],
+        Named::Check => &[
+            Argument::CertOption,
+            Argument::Tests,
+            Argument::ZeroCells,
+            Argument::Released,
+            Argument::Files,
+        ],
+        Named::Convert => &[Argument::Cert, Argument::Out],
     }
 }
 
@@ -210,7 +219,7 @@ fn told<'a>(alloc: Global, argument: &Argument) -> Arg<'a>
         ),
         Argument::CertOption => certificate_argument(alloc, "cert", "The certificate"),
         Argument::OutOption => certificate_argument(alloc, "out", "The certificate that is made"),
-        Argument::Tests => tests_argument(alloc),
+        Argument::Tests => valued_option(alloc, "tests", "N", TESTS),
         Argument::Cert => name_argument(alloc, "cert", "CERT", "The certificate that is read"),
         Argument::Out => name_argument(alloc, "out", "OUT", "The certificate that is made"),
     }
@@ -224,13 +233,12 @@ fn certificate_argument<'a>(alloc: Global, id: &'a str, help: &'a str) -> Arg<'a
     name_argument(alloc, id, "CERT", help).long(id)
 }
 
-fn tests_argument<'a>(alloc: Global) -> Arg<'a>
-    ensures rule { rule_of result ≡ tests_rule }
+// An option with a value.
+fn valued_option<'a>(alloc: Global, id: &'a str, shown: &'a str, help: &'a str) -> Arg<'a>
+    ensures rule { rule_of result ≡ option_rule id.entry.now }
     ensures local { result.global ≡ false }
 {
-    Arg::new(alloc, "tests").long("tests").value_name("N").help(
-        "Stops where more than N pairs of segments would have to be tested",
-    )
+    Arg::new(alloc, id).long(id).value_name(shown).help(help)
 }
 
 // A switch, which is on where it is given.

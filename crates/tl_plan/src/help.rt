@@ -99,3 +99,5 @@ pub const RELEASED: &str =
 
 pub const ZERO_CELLS: &str =
     "Reads zero-cell ids of type I lines, TZIDS in 21-30 and TZIDE in 31-40, and tests that they agree";
+
+pub const TESTS: &str = "Stops where more than N pairs of segments would have to be tested";

@@ -130,7 +130,33 @@ fn misspelt(
 ) -> Result<String, AllocError>
     ensures { IfOk result HasNoEscape }
 {
-    let mut command = command?.bin_name(name)?;
-    let error = command.error(ErrorKind::ValueValidation, wrong)?;
-    text_of(alloc, &error)
+    match shown_as(command, name) {
+        Ok(mut command) => text_of_mistake(alloc, &mut command, wrong),
+        Err(error) => Err(error),
+    }
+}
+
+// The command, shown by this name.
+fn shown_as<'a>(
+    command: Result<Command<'a>, AllocError>,
+    name: &str,
+) -> Result<Command<'a>, AllocError> {
+    match command {
+        Ok(command) => command.bin_name(name),
+        Err(error) => Err(error),
+    }
+}
+
+// What the command says of a word that isn't spelt as it wants.
+fn text_of_mistake(
+    alloc: Global,
+    command: &mut Command<'_>,
+    wrong: &str,
+) -> Result<String, AllocError>
+    ensures { IfOk result HasNoEscape }
+{
+    match command.error(ErrorKind::ValueValidation, wrong) {
+        Ok(error) => text_of(alloc, &error),
+        Err(error) => Err(error),
+    }
 }

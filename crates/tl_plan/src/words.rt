@@ -4,7 +4,7 @@ ghost use Rattle.std.specs.Prelude.{◌≡◌, ◌↔◌, IfOk, IfErr, IsTrue, [
 ghost use Rattle.clap.specs.Simple.{app_of, subcommand_rows_of};
 ghost use Rattle.clap.specs.Walk.{rows_of, all_of, first_of};
 ghost use Rattle.clap.specs.Matches.{found_of};
-ghost use Rattle.tl_plan.specs.Commands.{command_line, audit_name, build_name, check_name, locate_name};
+ghost use Rattle.tl_plan.specs.Commands.{command_line, show_name, landmarks_name, audit_name, build_name, check_name, locate_name};
 ghost use Rattle.tl_plan.specs.CommandLine.{request_in, named_in};
 ghost use Rattle.tl_plan.specs.CommandLine.{AreChosen, AskFor, StopsPlanning, IsPlanOf, IsConversionOf};
 ghost use Rattle.tl_plan.specs.Plans.{ShowsNoEscape};
@@ -68,20 +68,10 @@ fn plan_of(alloc: Global, matches: &ArgMatches<'_>) -> Result<Option<Plan>, Allo
     ensures { IfOk result (IsPlanOf (named_in (subcommand_rows_of matches.now))) }
 {
     if let Some(show) = matches.subcommand_matches("show") {
-        let files = files_of(alloc, show)?;
-        if files.is_empty() {
-            return Ok(None);
-        }
-        let options = options_of(show, None);
-        return Ok(Some(Plan::Show { options, files }));
+        return show_of(alloc, show);
     }
     if let Some(landmarks) = matches.subcommand_matches("landmarks") {
-        let files = files_of(alloc, landmarks)?;
-        if files.is_empty() {
-            return Ok(None);
-        }
-        let options = options_of(landmarks, None);
-        return Ok(Some(Plan::Landmarks { options, files }));
+        return landmarks_of(alloc, landmarks);
     }
     if let Some(locate) = matches.subcommand_matches("locate") {
         return locate_of(alloc, locate);
@@ -99,6 +89,34 @@ fn plan_of(alloc: Global, matches: &ArgMatches<'_>) -> Result<Option<Plan>, Allo
         return conversion_of(alloc, convert);
     }
     Ok(None)
+}
+
+// The listing of chains that the command's words name, where they name a file.
+fn show_of(alloc: Global, command: &ArgMatches<'_>) -> Result<Option<Plan>, AllocError>
+    ensures { IfOk result (IsPlanOf (Some (request_in (show_name, rows_of (found_of command.now))))) }
+{
+    let files = files_of(alloc, command)?;
+    if files.is_empty() {
+        return Ok(None);
+    }
+    Ok(Some(Plan::Show {
+        options: options_of(command, None),
+        files,
+    }))
+}
+
+// The listing of landmarks that the command's words name, where they name a file.
+fn landmarks_of(alloc: Global, command: &ArgMatches<'_>) -> Result<Option<Plan>, AllocError>
+    ensures { IfOk result (IsPlanOf (Some (request_in (landmarks_name, rows_of (found_of command.now))))) }
+{
+    let files = files_of(alloc, command)?;
+    if files.is_empty() {
+        return Ok(None);
+    }
+    Ok(Some(Plan::Landmarks {
+        options: options_of(command, None),
+        files,
+    }))
 }
 
 // The conversion that the command's words name, where they name both certificates.

@@ -3,7 +3,7 @@ use Rattle.std.proofs.Common.{◌≡◌, ℕ, zero, suc, ◌+◌, ◌-◌, ◌^�
 use Rattle.std.proofs.Common.{Some, None, refl, ap, ◌∙◌, append_assoc, arith, map, option_map, if◌then◌else◌, slice_index_or, slice_set, slice_range, add-one, sym, drop-drop, take_at, take-append-drop}
 use Rattle.std.proofs.Math.Seq.{drop-cons}
 use Rattle.std.proofs.lemmas.List.{drop-set, drop-set-lt, drop-take, get_or-take, length-take-le}
-use Rattle.std.specs.Io.KnownBytes.{Consumes, IsAtEnd, prepend_known}
+use Rattle.std.specs.Io.KnownBytes.{Consumes, IsAtEnd, Keeps, prepend_known}
 use Rattle.std.specs.Prelude.{Option}
 use Rattle.std.specs.Fmt.{option_append}
 use Rattle.tl_record.specs.Failures.{one_more}
@@ -155,3 +155,9 @@ nothing_held items start end left same =
     let none : end - start ≡ 0 = omega (arith, same) in
     let empty : slice_range items start end ≡ [] = ap (λ n. take n (drop start items)) none in
     sym (ap (λ held. prepend_known held left) empty ∙ with_nothing left)
+
+-- what nothing was taken of stays
+pub keeps_none : (old new : Option (List ℕ)) (n : ℕ) (buf : List ℕ) → n ≡ 0 → Consumes old new (take n buf) → Keeps old new
+keeps_none None new n buf none takes = tt
+keeps_none (Some xs) None n buf none takes = takes
+keeps_none (Some xs) (Some ys) n buf none takes = sym (rw none at takes)

@@ -3,7 +3,20 @@ use Rattle.std.proofs.Common.{◌≡◌, ℕ, zero, suc, ◌+◌, ◌<◌, List,
 use Rattle.std.proofs.Math.Seq.{take-suc}
 use Rattle.tl_county.specs.declared.polygons.Polygon.{Polygon}
 use Rattle.tl_county.specs.TheMap.{MapLandmark}
+use Rattle.std.specs.Prelude.{codes, decimal}
+use Rattle.tl_key.specs.declared.key.PolyKey.{PolyKey}
+use Rattle.tl_key.specs.KeyText.{cenid_text, key_text}
 use Rattle.tl_text.specs.Printing.{polygon_text, polygons_text, listed_text, landmark_text, landmark_lines}
+
+-- six pieces and a rest
+pieces : (s a b c d e rest : List ℕ) → (s ++ a ++ b ++ c ++ d ++ e) ++ rest ≡ s ++ (a ++ (b ++ (c ++ (d ++ (e ++ rest)))))
+pieces s a b c d e rest = simp append_assoc
+
+-- a blank and the key of a polygon, put together of two parts
+pub key_pieces : (key : PolyKey) (cenid polyid : List ℕ) → cenid ≡ codes " " ++ cenid_text key 0 ++ cenid_text key 1 ++ cenid_text key 2 ++ cenid_text key 3 ++ cenid_text key 4
+    → polyid ≡ codes "/" ++ decimal key.polyid ++ [] → cenid ++ polyid ≡ codes " " ++ key_text key
+key_pieces key cenid polyid first second =
+    rw (first, second, append-nil) (pieces (codes " ") (cenid_text key 0) (cenid_text key 1) (cenid_text key 2) (cenid_text key 3) (cenid_text key 4) (codes "/" ++ decimal key.polyid))
 
 module _ (polygons : List Polygon) where
   polygons_text-append : (xs ys : List ℕ) → polygons_text polygons (xs ++ ys) ≡ polygons_text polygons xs ++ polygons_text polygons ys

@@ -1,18 +1,23 @@
 //! The lines of landmarks.
 
-ghost use Rattle.std.specs.Prelude.{◌<◌, All, encode_utf8, length};
-ghost use Rattle.tl_key.specs.KeyText.{key_text};
+ghost use Rattle.std.specs.Prelude.{◌≡◌, ◌+◌, ◌<◌, ◌≤◌, ◌++◌, All, codes, decimal, encode_utf8, length};
+ghost use Rattle.arrayvec.specs.ArrayString.{array_string_len};
+ghost use Rattle.tl_key.specs.KeyText.{cenid_text};
 ghost use Rattle.tl_text.specs.Printing.{polygon_text, listed_text, polygons_text, place_text, landmark_text};
 ghost use Rattle.tl_text.specs.Printing.{landmark_count_text, listing_text};
 ghost use Rattle.tl_output.specs.Writing.{CountsFailure, TriesToPassOn};
 
+use crate::numbered::numbered;
 use crate::print::print_point;
-use itoa::Buffer;
+use arrayvec::ArrayString;
 use std::io;
 use tl_county::{Landmark, Map};
 use tl_geom::Point;
 use tl_output::OutputBuffer;
 use tl_record::{PolyKey, Sink};
+
+// A blank, and five characters of up to four bytes each.
+const LONGEST_CENID: usize = 21;
 
 /// Writes a line for each landmark, with the keys of its polygons, and a line of their number. An error says that a write
 /// failed: the sink took some of what was held and of the lines, from the front.
@@ -32,10 +37,8 @@ fn print_count<S: Sink>(count: u32, buffer: &mut OutputBuffer, out: &mut S) -> i
         (landmark_count_text count) result }
     ensures failures { CountsFailure (S.failure_count out.old) (S.failure_count out.new) result }
 {
-    let mut digits = Buffer::new();
-    buffer.add(b"landmarks=", out)?;
-    buffer.add(digits.format(count).as_bytes(), out)?;
-    buffer.add(b"\n", out)
+    let text = numbered("landmarks=", u64::from(count), "\n");
+    buffer.add(text.as_str().as_bytes(), out)
 }
 
 fn print_landmark<S: Sink>(
@@ -50,28 +53,31 @@ fn print_landmark<S: Sink>(
         (record { land = landmark.now.land; point = landmark.now.point; polygons = landmark.now.polygons.now })) result }
     ensures failures { CountsFailure (S.failure_count out.old) (S.failure_count out.new) result }
 {
-    let mut digits = Buffer::new();
-    buffer.add(b"land ", out)?;
-    buffer.add(digits.format(landmark.land).as_bytes(), out)?;
-    print_place(landmark.point, buffer, out)?;
+    print_place(landmark.land, landmark.point, buffer, out)?;
     buffer.add(b" polygons", out)?;
     print_listed(map, landmark.polygons, buffer, out)?;
     buffer.add(b"\n", out)
 }
 
+// The beginning of a landmark's line: its LAND, and whether it is an area or where its point lies.
 fn print_place<S: Sink>(
+    land: u64,
     point: Option<Point>,
     buffer: &mut OutputBuffer,
     out: &mut S,
 ) -> io::Result<()>
     ensures bytes { TriesToPassOn (S.contents out.old) (S.contents out.new) buffer.old buffer.new
-        (place_text point) result }
+        (codes "land " ++ decimal land ++ place_text point) result }
     ensures failures { CountsFailure (S.failure_count out.old) (S.failure_count out.new) result }
 {
     match point {
-        None => buffer.add(b" area", out),
+        None => {
+            let text = numbered("land ", land, " area");
+            buffer.add(text.as_str().as_bytes(), out)
+        }
         Some(point) => {
-            buffer.add(b" point", out)?;
+            let text = numbered("land ", land, " point");
+            buffer.add(text.as_str().as_bytes(), out)?;
             print_point(point, buffer, out)
         }
     }
@@ -125,31 +131,34 @@ fn print_polygon<S: Sink>(
     ensures failures { CountsFailure (S.failure_count out.old) (S.failure_count out.new) result }
 {
     let key = map.polygon(number).key;
-    buffer.add(b" ", out)?;
-    print_key(key, buffer, out)
+    let cenid = text_of_cenid(key);
+    let polyid = numbered("/", key.polyid, "");
+    buffer.add(cenid.as_str().as_bytes(), out)?;
+    buffer.add(polyid.as_str().as_bytes(), out)
 }
 
-fn print_key<S: Sink>(key: PolyKey, buffer: &mut OutputBuffer, out: &mut S) -> io::Result<()>
-    ensures bytes { TriesToPassOn (S.contents out.old) (S.contents out.new) buffer.old buffer.new
-        (key_text key) result }
-    ensures failures { CountsFailure (S.failure_count out.old) (S.failure_count out.new) result }
+// A blank and the five bytes of a CENID, put together before they are added.
+fn text_of_cenid(key: PolyKey) -> ArrayString<LONGEST_CENID>
+    ensures { result.bytes ≡ codes " " ++ cenid_text key 0 ++ cenid_text key 1 ++ cenid_text key 2 ++ cenid_text key 3
+        ++ cenid_text key 4 }
 {
     let [first, second, third, fourth, fifth] = key.shown_cenid();
-    let mut digits = Buffer::new();
-    print_char(first, buffer, out)?;
-    print_char(second, buffer, out)?;
-    print_char(third, buffer, out)?;
-    print_char(fourth, buffer, out)?;
-    print_char(fifth, buffer, out)?;
-    buffer.add(b"/", out)?;
-    buffer.add(digits.format(key.polyid).as_bytes(), out)
+    let mut text = ArrayString::new();
+    text.push_str(" ");
+    push_char(&mut text, first);
+    push_char(&mut text, second);
+    push_char(&mut text, third);
+    push_char(&mut text, fourth);
+    push_char(&mut text, fifth);
+    text
 }
 
-fn print_char<S: Sink>(c: char, buffer: &mut OutputBuffer, out: &mut S) -> io::Result<()>
-    ensures bytes { TriesToPassOn (S.contents out.old) (S.contents out.new) buffer.old buffer.new
-        (encode_utf8 c) result }
-    ensures failures { CountsFailure (S.failure_count out.old) (S.failure_count out.new) result }
+// Puts a character behind the text.
+fn push_char(text: &mut ArrayString<LONGEST_CENID>, c: char)
+    requires { array_string_len text.old ≤ 17 }
+    ensures bytes { text.new.bytes ≡ text.old.bytes ++ encode_utf8 c }
+    ensures room { array_string_len text.new ≤ array_string_len text.old + 4 }
 {
     let mut bytes = [0; 4];
-    buffer.add(c.encode_utf8(&mut bytes).as_bytes(), out)
+    text.push_str(c.encode_utf8(&mut bytes));
 }

@@ -7,6 +7,7 @@
 mod buffered;
 mod joined;
 mod landmarks;
+mod numbered;
 mod places;
 mod print;
 

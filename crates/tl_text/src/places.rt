@@ -5,7 +5,7 @@ ghost use Rattle.tl_text.specs.Places.{on_text, land_text, lands_text, listed_la
 ghost use Rattle.tl_output.specs.Writing.{CountsFailure, TriesToPassOn};
 
 use crate::landmarks::print_listed;
-use itoa::Buffer;
+use crate::numbered::numbered;
 use std::io;
 use tl_county::Map;
 use tl_output::OutputBuffer;
@@ -24,11 +24,8 @@ pub fn print_on_chain<S: Sink>(
         (on_text map.now.chains chain) result }
     ensures failures { CountsFailure (S.failure_count out.old) (S.failure_count out.new) result }
 {
-    let tlid = map.chain(chain).tlid;
-    let mut digits = Buffer::new();
-    buffer.add(b"on tlid ", out)?;
-    buffer.add(digits.format(tlid).as_bytes(), out)?;
-    buffer.add(b"\n", out)
+    let text = numbered("on tlid ", map.chain(chain).tlid, "\n");
+    buffer.add(text.as_str().as_bytes(), out)
 }
 
 /// Writes the line of a point on no chain: the keys of the polygons that it lies in and the LAND numbers of the
@@ -100,7 +97,6 @@ fn print_land<S: Sink>(
     ensures failures { CountsFailure (S.failure_count out.old) (S.failure_count out.new) result }
 {
     let land = map.landmark(number).land;
-    let mut digits = Buffer::new();
-    buffer.add(b" ", out)?;
-    buffer.add(digits.format(land).as_bytes(), out)
+    let text = numbered(" ", land, "");
+    buffer.add(text.as_str().as_bytes(), out)
 }

@@ -5,6 +5,7 @@ ghost use Rattle.std.specs.Fmt.{signed_decimal};
 ghost use Rattle.tl_text.specs.Printing.{point_text, points_text, chain_text, counts_text, shown_text};
 ghost use Rattle.tl_output.specs.Writing.{CountsFailure, TriesToPassOn};
 
+use crate::numbered::numbered;
 use arrayvec::ArrayString;
 use itoa::{Buffer, write_digits};
 use std::io;
@@ -13,8 +14,8 @@ use tl_geom::Point;
 use tl_output::OutputBuffer;
 use tl_record::Sink;
 
-// A word, a blank, and a number of up to twenty digits.
-const LONGEST_TLID: usize = 25;
+// Three words of 27 bytes together, an end of line, and three numbers of up to twenty digits each.
+const LONGEST_COUNTS: usize = 88;
 
 // A blank, a comma, and two numbers with a sign and ten digits each.
 const LONGEST_POINT: usize = 24;
@@ -58,14 +59,24 @@ fn print_counts<S: Sink>(
         (counts_text chains segments skipped) result }
     ensures failures { CountsFailure (S.failure_count out.old) (S.failure_count out.new) result }
 {
+    let text = text_of_counts(chains, segments, skipped);
+    buffer.add(text.as_str().as_bytes(), out)
+}
+
+// The line of counts, put together before it is added.
+fn text_of_counts(chains: u32, segments: u32, skipped: u64) -> ArrayString<LONGEST_COUNTS>
+    ensures { result.bytes ≡ counts_text chains segments skipped }
+{
+    let mut text = ArrayString::new();
     let mut digits = Buffer::new();
-    buffer.add(b"chains=", out)?;
-    buffer.add(digits.format(chains).as_bytes(), out)?;
-    buffer.add(b" segments=", out)?;
-    buffer.add(digits.format(segments).as_bytes(), out)?;
-    buffer.add(b" skipped=", out)?;
-    buffer.add(digits.format(skipped).as_bytes(), out)?;
-    buffer.add(b"\n", out)
+    text.push_str("chains=");
+    text.push_str(digits.format(chains));
+    text.push_str(" segments=");
+    text.push_str(digits.format(segments));
+    text.push_str(" skipped=");
+    text.push_str(digits.format(skipped));
+    text.push_str("\n");
+    text
 }
 
 fn print_chain<S: Sink>(
@@ -78,7 +89,8 @@ fn print_chain<S: Sink>(
         (chain_text (record { tlid = tlid; points = points.now })) result }
     ensures failures { CountsFailure (S.failure_count out.old) (S.failure_count out.new) result }
 {
-    buffer.add(text_of_tlid(tlid).as_str().as_bytes(), out)?;
+    let head = numbered("tlid ", tlid, "");
+    buffer.add(head.as_str().as_bytes(), out)?;
     let mut printed = 0;
     while points.len() - printed > TOGETHER {
         print_points(&points[printed..printed + TOGETHER], buffer, out)?;
@@ -86,17 +98,6 @@ fn print_chain<S: Sink>(
     }
     print_points(&points[printed..], buffer, out)?;
     buffer.add(b"\n", out)
-}
-
-// The beginning of a chain's line, put together before it is added.
-fn text_of_tlid(tlid: u64) -> ArrayString<LONGEST_TLID>
-    ensures { result.bytes ≡ codes "tlid " ++ decimal tlid }
-{
-    let mut text = ArrayString::new();
-    let mut digits = Buffer::new();
-    text.push_str("tlid ");
-    text.push_str(digits.format(tlid));
-    text
 }
 
 // Points one after the other, put together before they are added.

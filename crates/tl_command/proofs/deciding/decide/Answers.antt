@@ -1,62 +1,66 @@
-use Rattle.tl_command.specs.Running.{TriesToWrite}
-use Rattle.std.proofs.Common.{inl, refl, sym, ◌∙◌}
+use Rattle.std.proofs.Common.{inl, inr}
 use Rattle.tl_record.specs.Layout.{layout_with}
 use Rattle.tl_command.specs.declared.stop.TheConstants.{DONE, MAP_FAULT, CERT_FAULT}
-use Rattle.tl_command.proofs.CheckLemmas.{is_checked, names_fault, names_cert_fault, verdict_breaks, told_status}
-use Rattle.tl_command.proofs.ToldLemmas.{line_stops, stop_runs, no_answer, check_refused, check_unread, check_stopped, check_whole}
+use Rattle.tl_command.specs.Running.{TriesToWrite}
+use Rattle.tl_command.proofs.CheckLemmas.{is_checked, names_fault, names_cert_fault, verdict_breaks}
+use Rattle.tl_command.proofs.DecisionLemmas.{decision_runs, decision_told, decision_err_stays, decision_refused, decision_stopped, decision_whole}
+use Rattle.tl_command.proofs.ToldLemmas.{line_stops, check_refused, check_unread, check_stopped}
 use Rattle.tl_command.proofs.deciding.decide.Goals as goal
 
-pub returns-in-Ok-clause-checked : goal.returns-in-Ok-clause-checked
-returns-in-Ok-clause-checked g c = λ done.
-    let status = told_status c.tell_verdict.result DONE c.in-Ok.verdict c.tell_verdict.ensures.status done (λ e. cc e) in
-    is_checked (layout_with c.args.options) c.args.budget _ _ _ c.check_with.result c.in-Ok.verdict c.in-Ok.is c.check_with.ensures.planar c.check_with.ensures.sides
-    c.check_with.ensures.closed c.check_with.ensures.points c.check_with.ensures.cells c.check_with.ensures.within c.check_with.ensures.valid c.check_with.ensures.report
-    (sym done ∙ status) (c.tell_verdict.ensures.told status)
+pub returns-clause-status : goal.returns-clause-status
+returns-clause-status g c = decision_runs _ _ _ _ _ c.check_with-decision.result c.tell_decision.result c.tell_decision.ensures
 
-pub returns-in-Ok-clause-map_fault : goal.returns-in-Ok-clause-map_fault
-returns-in-Ok-clause-map_fault g c = λ fault.
-    let status = told_status c.tell_verdict.result MAP_FAULT c.in-Ok.verdict c.tell_verdict.ensures.status fault (λ e. cc e) in
-    names_fault (layout_with c.args.options) _ _ _ _ c.check_with.result c.in-Ok.verdict c.in-Ok.is c.check_with.ensures.map_fault c.check_with.ensures.unread c.check_with.ensures.searched
-    (sym fault ∙ status) (c.tell_verdict.ensures.told status)
+pub returns-clause-checked : goal.returns-clause-checked
+returns-clause-checked g c = λ done.
+    let check = c.check_with-decision in
+    let t = decision_told _ _ _ _ _ check.result c.tell_decision.result DONE c.tell_decision.ensures done (λ e. cc e) (λ e. cc e) in
+    is_checked (layout_with c.args.options) c.args.budget _ _ _ check.result t.0 t.1 check.ensures.planar check.ensures.sides check.ensures.closed check.ensures.points check.ensures.cells
+    check.ensures.within check.ensures.valid check.ensures.report t.2 t.3
 
-pub returns-in-Ok-clause-cert_fault : goal.returns-in-Ok-clause-cert_fault
-returns-in-Ok-clause-cert_fault g c = λ fault.
-    let status = told_status c.tell_verdict.result CERT_FAULT c.in-Ok.verdict c.tell_verdict.ensures.status fault (λ e. cc e) in
-    names_cert_fault (layout_with c.args.options) _ _ _ c.check_with.result c.in-Ok.verdict c.in-Ok.is c.check_with.ensures.cert_fault c.check_with.ensures.behind c.check_with.ensures.meets
-    (sym fault ∙ status) (c.tell_verdict.ensures.told status)
+pub returns-clause-map_fault : goal.returns-clause-map_fault
+returns-clause-map_fault g c = λ fault.
+    let check = c.check_with-decision in
+    let t = decision_told _ _ _ _ _ check.result c.tell_decision.result MAP_FAULT c.tell_decision.ensures fault (λ e. cc e) (λ e. cc e) in
+    names_fault (layout_with c.args.options) _ _ _ _ check.result t.0 t.1 check.ensures.map_fault check.ensures.unread check.ensures.searched t.2 t.3
 
-pub returns-in-Ok-clause-stopped : goal.returns-in-Ok-clause-stopped
-returns-in-Ok-clause-stopped g c = λ e.
-    inl (line_stops (TriesToWrite g.E.Sink.contents g.E.Sink.failure_count c.args.err.now c.tell_verdict.new.err) _ _ _ _ _ c.in-Ok.ensures.failures
-    (verdict_breaks (layout_with c.args.options) c.args.budget _ _ _ _ _ c.check_with.result c.in-Ok.verdict c.in-Ok.is c.check_with.ensures.planar c.check_with.ensures.sides
-    c.check_with.ensures.closed c.check_with.ensures.points c.check_with.ensures.cells c.check_with.ensures.within c.check_with.ensures.valid c.check_with.ensures.report
-    c.check_with.ensures.map_fault c.check_with.ensures.unread c.check_with.ensures.searched c.check_with.ensures.cert_fault c.check_with.ensures.behind c.check_with.ensures.meets)
-    (c.tell_verdict.ensures.stopped e))
+pub returns-clause-cert_fault : goal.returns-clause-cert_fault
+returns-clause-cert_fault g c = λ fault.
+    let check = c.check_with-decision in
+    let t = decision_told _ _ _ _ _ check.result c.tell_decision.result CERT_FAULT c.tell_decision.ensures fault (λ e. cc e) (λ e. cc e) in
+    names_cert_fault (layout_with c.args.options) _ _ _ check.result t.0 t.1 check.ensures.cert_fault check.ensures.behind check.ensures.meets t.2 t.3
 
-pub returns-in-Err-clause-status : goal.returns-in-Err-clause-status
-returns-in-Err-clause-status g c = stop_runs c.in-Err.stop _ c.stopped.ensures.0
+pub returns-clause-refused : goal.returns-clause-refused
+returns-clause-refused g c = λ refused.
+    let check = c.check_with-decision in
+    let t = decision_refused _ _ _ _ _ check.result c.tell_decision.result c.tell_decision.ensures refused in
+    check_refused (layout_with c.args.options) c.args.budget _ t.0 _ (TriesToWrite g.E.Sink.contents g.E.Sink.failure_count c.args.err.now c.tell_decision.new.err) (rw t.1 at check.ensures.stops) t.2 refused
 
-pub returns-in-Err-clause-checked : goal.returns-in-Err-clause-checked
-returns-in-Err-clause-checked g c = λ done. absurd (no_answer c.in-Err.stop _ DONE c.stopped.ensures.0 (λ e. cc e) (λ e. cc e) done)
+pub returns-clause-out_stays : goal.returns-clause-out_stays
+returns-clause-out_stays g c = λ refused. (decision_refused _ _ _ _ _ c.check_with-decision.result c.tell_decision.result c.tell_decision.ensures refused).3
 
-pub returns-in-Err-clause-map_fault : goal.returns-in-Err-clause-map_fault
-returns-in-Err-clause-map_fault g c = λ fault. absurd (no_answer c.in-Err.stop _ MAP_FAULT c.stopped.ensures.0 (λ e. cc e) (λ e. cc e) fault)
+pub returns-clause-unread : goal.returns-clause-unread
+returns-clause-unread g c = λ refused.
+    let t = decision_refused _ _ _ _ _ c.check_with-decision.result c.tell_decision.result c.tell_decision.ensures refused in
+    check_unread t.0 _ _ (rw t.1 at c.check_with-decision.ensures.unread) t.2.0 refused
 
-pub returns-in-Err-clause-cert_fault : goal.returns-in-Err-clause-cert_fault
-returns-in-Err-clause-cert_fault g c = λ fault. absurd (no_answer c.in-Err.stop _ CERT_FAULT c.stopped.ensures.0 (λ e. cc e) (λ e. cc e) fault)
+pub returns-clause-stopped : goal.returns-clause-stopped
+returns-clause-stopped g c = λ stopped.
+    let check = c.check_with-decision in
+    let told = TriesToWrite g.E.Sink.contents g.E.Sink.failure_count c.args.err.now c.tell_decision.new.err in
+    elim (decision_stopped _ _ _ _ _ check.result c.tell_decision.result c.tell_decision.ensures stopped) [
+      | inl line ↦ inl (line_stops told _ _ _ _ _ (rw line.1 at check.ensures.failures)
+          (verdict_breaks (layout_with c.args.options) c.args.budget _ _ _ _ _ check.result line.0 line.1 check.ensures.planar check.ensures.sides check.ensures.closed check.ensures.points check.ensures.cells
+          check.ensures.within check.ensures.valid check.ensures.report check.ensures.map_fault check.ensures.unread check.ensures.searched check.ensures.cert_fault check.ensures.behind check.ensures.meets)
+          line.2)
+      | inr stop ↦ check_stopped (layout_with c.args.options) c.args.budget _ _ stop.0 _ _ _ _ _ told _ _ (rw stop.1 at check.ensures.stops) (rw stop.1 at check.ensures.searched)
+          (rw stop.1 at check.ensures.failures) stop.3 stop.2 stopped
+    ]
 
-pub returns-in-Err-clause-refused : goal.returns-in-Err-clause-refused
-returns-in-Err-clause-refused g c = check_refused (layout_with c.args.options) c.args.budget _ c.in-Err.stop _ (TriesToWrite g.E.Sink.contents g.E.Sink.failure_count c.args.err.now c.stopped.new.err) c.in-Err.ensures.stops c.stopped.ensures
+pub returns-clause-err_stays : goal.returns-clause-err_stays
+returns-clause-err_stays g c = decision_err_stays _ _ _ _ _ c.check_with-decision.result c.tell_decision.result c.tell_decision.ensures
 
-pub returns-in-Err-clause-unread : goal.returns-in-Err-clause-unread
-returns-in-Err-clause-unread g c = check_unread c.in-Err.stop _ _ c.in-Err.ensures.unread c.stopped.ensures.0
+pub returns-clause-records_whole : goal.returns-clause-records_whole
+returns-clause-records_whole g c = λ going. (decision_whole _ _ _ _ _ c.check_with-decision.result c.tell_decision.result _ _ _ _ c.check_with-decision.ensures.failures c.tell_decision.ensures going).0
 
-pub returns-in-Err-clause-stopped : goal.returns-in-Err-clause-stopped
-returns-in-Err-clause-stopped g c =
-    check_stopped (layout_with c.args.options) c.args.budget _ _ c.in-Err.stop _ _ _ _ _ (TriesToWrite g.E.Sink.contents g.E.Sink.failure_count c.args.err.now c.stopped.new.err) _ _ c.in-Err.ensures.stops c.in-Err.ensures.searched c.in-Err.ensures.failures refl c.stopped.ensures
-
-pub returns-in-Err-clause-records_whole : goal.returns-in-Err-clause-records_whole
-returns-in-Err-clause-records_whole g c = λ going. (check_whole c.in-Err.stop _ _ _ _ _ c.in-Err.ensures.failures c.stopped.ensures.0 going).0
-
-pub returns-in-Err-clause-cert_whole : goal.returns-in-Err-clause-cert_whole
-returns-in-Err-clause-cert_whole g c = λ going. (check_whole c.in-Err.stop _ _ _ _ _ c.in-Err.ensures.failures c.stopped.ensures.0 going).1
+pub returns-clause-cert_whole : goal.returns-clause-cert_whole
+returns-clause-cert_whole g c = λ going. (decision_whole _ _ _ _ _ c.check_with-decision.result c.tell_decision.result _ _ _ _ c.check_with-decision.ensures.failures c.tell_decision.ensures going).1

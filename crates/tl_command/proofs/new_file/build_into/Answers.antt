@@ -4,20 +4,21 @@ use Rattle.tl_command.specs.Making.{Begins}
 use Rattle.tl_command.proofs.OpenLemmas.{over_build, over_unmade, made_by_build, keeps_others, keeps_all, stands, stops_opening}
 use Rattle.tl_command.proofs.new_file.build_into.Goals as goal
 
-pub returns : goal.returns
-returns g c =
+pub returns-in-None : goal.returns-in-None
+returns-in-None g c =
     let plan = c.args.plan.now in
     let name = string_bytes c.args.name.now in
     let before = g.F.FileSystem.under c.args.files.now in
     let after = g.F.FileSystem.under c.settle.new.files in
     let draft = c.in-Ok-draft.draft in
-    let written = c.make-making.new.made in
+    let making = c.make_on_readers-making in
+    let written = making.new.made in
     let made_by = made_by_build plan name c.args.options c.requires.plan in
     over_build plan name c.args.options before after _ (Writes g.F.Draft.Sink.contents g.F.Draft.Sink.failure_count draft written) (Begins g.F.Draft.Sink.contents draft written) _ _ _ _ _ _ _ _
-    c.make-making.result c.tell_making.result (λ failed. elim failed [
-      | inl read ↦ inr (inl (inr (c.new-records.result.source.readers.items, c.make-making.new.records.source.readers.items, read)))
+    making.result c.tell_making.result (λ failed. elim failed [
+      | inl read ↦ inr (inl (inr (c.args.readers.now.items, making.new.readers.items, read)))
       | inr write ↦ inr (inr (inr (draft, written, write)))
-    ]) c.requires.plan (c.new-records.ensures.bytes ∙ c.new.ensures.bytes ∙ c.requires.known) c.make-making.ensures.made c.tell_making.ensures
+    ]) c.requires.plan c.requires.known making.ensures c.tell_making.ensures
     (keeps_others plan name before after made_by c.settle.ensures.others)
     (λ whole text writes. stands _ g.F.FileSystem.knows after name _ _ text made_by (g.met.F.FileSystem.alike draft) (g.met.F.FileSystem.alike written) c.in-Ok-draft.ensures.empty writes.grown
     (c.settle.ensures.kept (c.is_made.ensures ∙ whole) c.in-None.is))

@@ -9,8 +9,8 @@ returns-in-Err g c =
     over_unopened _ _ _ c.args.plan.now (string_bytes c.args.name.now) c.in-Err.stop _ _ _ _ _ _ _ (inr (inl (read_by_check c.args.plan.now (string_bytes c.args.name.now) c.requires.plan)))
     c.in-Err.ensures.stops refl c.stopped.ensures
 
-pub returns : goal.returns
-returns g c =
+pub returns-in-Ok : goal.returns-in-Ok
+returns-in-Ok g c =
     let run = c.run_on_readers.ensures in
     let new = c.run_on_readers.new in
     let unmade = run.made (check_makes_none c.args.plan.now (string_bytes c.args.name.now) c.requires.plan) in
@@ -18,7 +18,7 @@ returns g c =
     run.fault run.exactly run.cert_fault run.refused
     (λ e. weaker_stop c.args.plan.now _ _ (TriesToWrite g.E.Sink.contents g.E.Sink.failure_count c.args.err.now new.err) _ _ _ _ _ _ (λ failed. elim failed [
       | inl read ↦ inr (inl (elim read [
-        | inl records ↦ inr (c.args.readers.items, new.readers.items, records)
+        | inl records ↦ inr (c.args.readers.now.items, new.readers.items, records)
         | inr cert ↦ inl (c.in-Ok.cert.source, new.cert.source, cert)
       ]))
       | inr made ↦ absurd (none_failed _ c.new-made.ensures.failures (rw unmade at made))

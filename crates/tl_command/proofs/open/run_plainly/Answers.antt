@@ -12,7 +12,7 @@ returns g c =
     run.fault run.exactly run.cert_fault run.refused
     (λ e. weaker_stop c.args.plan.now _ _ (TriesToWrite g.E.Sink.contents g.E.Sink.failure_count c.args.err.now new.err) _ _ _ _ _ _ (λ failed. elim failed [
       | inl read ↦ elim read [
-        | inl records ↦ inr (inl (inr (c.args.readers.items, new.readers.items, records)))
+        | inl records ↦ inr (inl (inr (c.args.readers.now.items, new.readers.items, records)))
         | inr cert ↦ absurd (none_failed _ c.new-cert.ensures.failures (rw (run.cert c.requires.reads) at cert))
       ]
       | inr made ↦ absurd (none_failed _ c.new-made.ensures.failures (rw (run.made c.requires.makes) at made))

@@ -1,9 +1,12 @@
 use Rattle.tl_command.specs.Running.{TriesToWrite}
-use Rattle.std.proofs.Common.{inr, map, string_bytes}
+use Rattle.std.proofs.Common.{inl, inr, map, refl, string_bytes}
 use Rattle.tl_output.specs.Writing.{WritesSome}
 use Rattle.tl_command.specs.Starting.{unknown}
 use Rattle.tl_command.proofs.StartLemmas.{stops_any}
 use Rattle.tl_command.proofs.program.start_over_system.Goals as goal
+
+pub returns-in_default : goal.returns-in_default
+returns-in_default g c = inl (inl (c.stopped.ensures.0, inr c.stopped.ensures.1), refl)
 
 pub returns : goal.returns
 returns g c =

@@ -1,6 +1,8 @@
-use Rattle.std.proofs.Common.{inl, inr, refl, false, ap, ◌∙◌}
-use Rattle.tl_text.specs.Joining.{joined_bytes}
+use Rattle.std.proofs.Common.{inl, inr, refl, sym, ap, ◌∙◌}
+use Rattle.tl_record.specs.Failures.{one_more}
+use Rattle.tl_command.specs.Running.{TriesToWrite}
 use Rattle.tl_command.proofs.RunLemmas.{stop_no_answer, stop_no_refusal}
+use Rattle.tl_command.proofs.ToldLemmas.{weaker_stop}
 use Rattle.tl_command.proofs.readers.run_on_readers.Goals as goal
 
 pub returns-clause-status : goal.returns-clause-status
@@ -76,19 +78,33 @@ pub returns-in_default-clause-err_stays : goal.returns-in_default-clause-err_sta
 returns-in_default-clause-err_stays g c = λ told. absurd (stop_no_answer c.stopped.result c.stopped.ensures.0 told)
 
 pub returns-clause-answered : goal.returns-clause-answered
-returns-clause-answered g c = rw (c.new-records.ensures.bytes ∙ c.new-2.ensures.bytes ∙ ap (λ taken. joined_bytes g.F.Source.remaining false taken.items) c.replace-taken.ensures.value) at c.run-status.ensures.answered
+returns-clause-answered g c = rw c.as_one_text-records.ensures.bytes at c.run-status.ensures.answered
 
 pub returns-clause-fault : goal.returns-clause-fault
-returns-clause-fault g c = rw (c.new-records.ensures.bytes ∙ c.new-2.ensures.bytes ∙ ap (λ taken. joined_bytes g.F.Source.remaining false taken.items) c.replace-taken.ensures.value) at c.run-status.ensures.fault
+returns-clause-fault g c = rw c.as_one_text-records.ensures.bytes at c.run-status.ensures.fault
 
 pub returns-clause-exactly : goal.returns-clause-exactly
-returns-clause-exactly g c = rw (c.new-records.ensures.bytes ∙ c.new-2.ensures.bytes ∙ ap (λ taken. joined_bytes g.F.Source.remaining false taken.items) c.replace-taken.ensures.value) at c.run-status.ensures.exactly
+returns-clause-exactly g c = rw c.as_one_text-records.ensures.bytes at c.run-status.ensures.exactly
 
 pub returns-clause-cert_fault : goal.returns-clause-cert_fault
-returns-clause-cert_fault g c = rw (c.new-records.ensures.bytes ∙ c.new-2.ensures.bytes ∙ ap (λ taken. joined_bytes g.F.Source.remaining false taken.items) c.replace-taken.ensures.value) at c.run-status.ensures.cert_fault
+returns-clause-cert_fault g c = rw c.as_one_text-records.ensures.bytes at c.run-status.ensures.cert_fault
 
 pub returns-clause-refused : goal.returns-clause-refused
-returns-clause-refused g c = rw (c.new-records.ensures.bytes ∙ c.new-2.ensures.bytes ∙ ap (λ taken. joined_bytes g.F.Source.remaining false taken.items) c.replace-taken.ensures.value) at c.run-status.ensures.refused
+returns-clause-refused g c = rw c.as_one_text-records.ensures.bytes at c.run-status.ensures.refused
 
 pub returns-clause-begun : goal.returns-clause-begun
-returns-clause-begun g c = rw (c.new-records.ensures.bytes ∙ c.new-2.ensures.bytes ∙ ap (λ taken. joined_bytes g.F.Source.remaining false taken.items) c.replace-taken.ensures.value) at c.run-status.ensures.begun
+returns-clause-begun g c = rw c.as_one_text-records.ensures.bytes at c.run-status.ensures.begun
+
+pub returns-clause-read_whole : goal.returns-clause-read_whole
+returns-clause-read_whole g c = λ going. c.give_back.ensures ∙ c.run-status.ensures.read_whole going ∙ c.as_one_text-records.ensures.failures
+
+pub returns-clause-stopped : goal.returns-clause-stopped
+returns-clause-stopped g c =
+    let before = c.as_one_text-records.ensures.failures in
+    let after = c.give_back.ensures in
+    let run = rw c.as_one_text-records.ensures.bytes at c.run-status.ensures.stopped in
+    λ e. weaker_stop c.args.plan.now _ _ (TriesToWrite g.E.Sink.contents g.E.Sink.failure_count c.args.err.now c.run-status.new.err) _ _ _ _ _ _
+    (λ failed. elim failed [
+      | inl read ↦ inl (elim read [ inl records ↦ inl (after ∙ records ∙ ap one_more before) | inr cert ↦ inr cert ])
+      | inr made ↦ inr made
+    ]) (λ calm. ((after ∙ calm.0.0 ∙ before, calm.0.1), calm.1)) (run e)

@@ -1,6 +1,7 @@
 use Rattle.std.proofs.Common.{inl, inr, refl}
 use Rattle.tl_record.specs.Layout.{layout_with}
 use Rattle.tl_command.proofs.DecidingLemmas.{audit_decides, build_decides, check_decides}
+use Rattle.tl_command.proofs.RunLemmas.{of_records, answers_records, faults_records, exact_records, reads_records}
 use Rattle.tl_command.proofs.RunLemmas.{records_run, no_cert_fault, records_stay, records_unmade, rewrite_runs, no_map_fault, no_refusal, rewrite_stays, rewrite_unmade}
 use Rattle.tl_command.proofs.run.run.Goals as goal
 
@@ -279,3 +280,34 @@ returns-in-Build-clause-unmade g c = records_unmade c.build.result _ c.build.ens
 
 pub returns-in_default-clause-refused : goal.returns-in_default-clause-refused
 returns-in_default-clause-refused g c = c.run_on_records.ensures.refused
+
+pub returns-in_default-clause-answered : goal.returns-in_default-clause-answered
+returns-in_default-clause-answered g c = λ done.
+    answers_records c.args.plan.now _ _ _ _ (of_records c.args.plan.now c.in_default.not-Convert c.in_default.not-Check c.in_default.not-Audit c.in_default.not-Build) (c.run_on_records.ensures.answered done)
+
+pub returns-in_default-clause-fault : goal.returns-in_default-clause-fault
+returns-in_default-clause-fault g c = λ fault.
+    faults_records c.args.plan.now _ _ _ _ (of_records c.args.plan.now c.in_default.not-Convert c.in_default.not-Check c.in_default.not-Audit c.in_default.not-Build) (c.run_on_records.ensures.fault fault)
+
+pub returns-in_default-clause-exactly : goal.returns-in_default-clause-exactly
+returns-in_default-clause-exactly g c = λ told.
+    exact_records c.args.plan.now _ _ (of_records c.args.plan.now c.in_default.not-Convert c.in_default.not-Check c.in_default.not-Audit c.in_default.not-Build)
+
+pub returns-in_default-clause-records : goal.returns-in_default-clause-records
+returns-in_default-clause-records g c = λ none.
+    absurd (reads_records c.args.plan.now (of_records c.args.plan.now c.in_default.not-Convert c.in_default.not-Check c.in_default.not-Audit c.in_default.not-Build) none)
+
+pub returns-in_default-clause-stopped : goal.returns-in_default-clause-stopped
+returns-in_default-clause-stopped g c = λ stopped.
+    let plan = c.args.plan.now in
+    let of = of_records plan c.in_default.not-Convert c.in_default.not-Check c.in_default.not-Audit c.in_default.not-Build in
+    inl (elim (c.run_on_records.ensures.stopped stopped) [
+      | inl memory ↦ inl (memory.0, ((memory.1, refl), refl), memory.2)
+      | inr device ↦ inr (
+        device.0,
+        elim device.1 [
+          | inl one ↦ inl (inl (inl one.0), one.1)
+          | inr broken ↦ inr (elim broken [ inl is ↦ inl (answers_records plan _ _ _ _ of is) | inr is ↦ inr (inl (faults_records plan _ _ _ _ of is)) ])
+        ],
+      )
+    ])

@@ -1,117 +1,64 @@
-use Rattle.std.proofs.Common.{inl, inr, refl}
-use Rattle.tl_command.specs.declared.stop.TheConstants.{DONE, MAP_FAULT, REFUSED, STOPPED}
-use Rattle.tl_command.proofs.ToldLemmas.{no_other, is_not, done_not_fault, done_not_refused, done_not_stopped, fault_not_done, fault_not_refused, fault_not_stopped, refused_not_done, refused_not_fault, refused_not_stopped, stopped_not_done, stopped_not_fault, stopped_not_refused}
+use Rattle.std.proofs.Common.{◌≡◌, inl, inr, subst, ◌∙◌}
+use Rattle.std.specs.Bool.{⊤}
+use Rattle.tl_drawn.specs.Messages.{fault_text}
+use Rattle.tl_output.specs.Writing.{Writes, WritesSome, line_of}
+use Rattle.tl_command.specs.Running.{NamesStop, TriesToWrite}
+use Rattle.tl_command.proofs.DecisionLemmas.{answer_runs, answer_done, answer_fault, answer_refused, answer_stopped, answer_whole}
+use Rattle.tl_command.proofs.ToldLemmas.{line_stops}
 use Rattle.tl_command.proofs.run.run_on_records.Goals as goal
 
-pub tell_line-requires : goal.tell_line-requires
-tell_line-requires g c = fault_not_stopped
+pub returns-clause-status : goal.returns-clause-status
+returns-clause-status g c = answer_runs _ _ _ _ _ c.answer-answered.result c.tell_answer.result c.tell_answer.ensures
 
-pub returns-in-Ok-clause-status : goal.returns-in-Ok-clause-status
-returns-in-Ok-clause-status g c = inl (inl refl)
+pub returns-clause-answered : goal.returns-clause-answered
+returns-clause-answered g c = λ done.
+    let t = answer_done _ _ _ _ _ c.answer-answered.result c.tell_answer.result c.tell_answer.ensures done in
+    rw t.2 (rw t.1 at c.answer-answered.ensures.answered)
 
-pub returns-in-Ok-clause-answered : goal.returns-in-Ok-clause-answered
-returns-in-Ok-clause-answered g c = λ e. c.in-Ok.ensures.answered
+pub returns-clause-fault : goal.returns-clause-fault
+returns-clause-fault g c = λ fault.
+    let t = answer_fault _ _ _ _ _ c.answer-answered.result c.tell_answer.result c.tell_answer.ensures fault in
+    let stops = rw t.1 at c.answer-answered.ensures.stops in
+    record {
+      fault = t.0;
+      written = subst (λ out. Writes g.W.Sink.contents g.W.Sink.failure_count out c.tell_answer.new.out (line_of (fault_text t.0))) stops.0 t.2;
+      is = rw t.1 at c.answer-answered.ensures.sought;
+      holds = stops.1;
+    }
 
-pub returns-in-Ok-clause-fault : goal.returns-in-Ok-clause-fault
-returns-in-Ok-clause-fault g c = λ e. absurd (done_not_fault e)
+pub returns-clause-refused : goal.returns-clause-refused
+returns-clause-refused g c = λ refused.
+    let t = answer_refused _ _ _ _ _ c.answer-answered.result c.tell_answer.result c.tell_answer.ensures refused in
+    record { line = t.0; cause = t.1; written = t.3; first = (rw t.2 at c.answer-answered.ensures.stops).1 }
 
-pub returns-in-Ok-clause-refused : goal.returns-in-Ok-clause-refused
-returns-in-Ok-clause-refused g c = λ e. absurd (done_not_refused e)
+pub returns-clause-out_stays : goal.returns-clause-out_stays
+returns-clause-out_stays g c = λ refused.
+    let t = answer_refused _ _ _ _ _ c.answer-answered.result c.tell_answer.result c.tell_answer.ensures refused in
+    t.4 ∙ (rw t.2 at c.answer-answered.ensures.stops).0
 
-pub returns-in-Ok-clause-stopped : goal.returns-in-Ok-clause-stopped
-returns-in-Ok-clause-stopped g c = λ e. absurd (done_not_stopped e)
+pub returns-clause-stopped : goal.returns-clause-stopped
+returns-clause-stopped g c = λ stopped.
+    let answer = c.answer-answered in
+    let out = c.tell_answer.new.out in
+    let told = TriesToWrite g.E.Sink.contents g.E.Sink.failure_count c.args.err.now c.tell_answer.new.err in
+    let some = WritesSome g.W.Sink.contents g.W.Sink.failure_count in
+    elim (answer_stopped _ _ _ _ _ answer.result c.tell_answer.result c.tell_answer.ensures stopped) [
+      | inl line ↦
+          let stops = rw line.1 at answer.ensures.stops in
+          let here = subst (λ old. NamesStop told ⊥ ⊤ (out ≡ old) (some old out (line_of (fault_text line.0)))) stops.0 line.2 in
+          line_stops told _ _ _ _ _ ((rw line.1 at answer.ensures.reads) (λ same. cc same))
+          (λ begun. inr (record { fault = line.0; written = begun; is = rw line.1 at answer.ensures.sought; holds = stops.1 })) here
+      | inr other ↦ elim other [
+        | inl memory ↦ inl (memory.1, (rw memory.0 at answer.ensures.reads) (λ same. cc same), memory.2 ∙ (rw memory.0 at answer.ensures.stops))
+        | inr device ↦ inr (device.1, elim (rw device.0 at answer.ensures.stops) [ inl failed ↦ inl (failed.0, device.2 ∙ failed.1) | inr begun ↦ inr (inl (rw device.2 begun)) ])
+      ]
+    ]
 
-pub returns-in-Ok-clause-out_stays : goal.returns-in-Ok-clause-out_stays
-returns-in-Ok-clause-out_stays g c = λ e. absurd (done_not_refused e)
+pub returns-clause-err_stays : goal.returns-clause-err_stays
+returns-clause-err_stays g c = λ told. elim told [
+  | inl done ↦ (answer_done _ _ _ _ _ c.answer-answered.result c.tell_answer.result c.tell_answer.ensures done).3
+  | inr fault ↦ (answer_fault _ _ _ _ _ c.answer-answered.result c.tell_answer.result c.tell_answer.ensures fault).3
+]
 
-pub returns-in-Ok-clause-err_stays : goal.returns-in-Ok-clause-err_stays
-returns-in-Ok-clause-err_stays g c = λ e. refl
-
-pub returns-in-Ok-clause-read_whole : goal.returns-in-Ok-clause-read_whole
-returns-in-Ok-clause-read_whole g c = λ going. c.in-Ok.ensures.reads
-
-pub returns-in-Err-Fault-clause-status : goal.returns-in-Err-Fault-clause-status
-returns-in-Err-Fault-clause-status g c = elim c.tell_line.ensures.status [ inl is ↦ inl (inr is) | inr is ↦ inr (inr is) ]
-
-pub returns-in-Err-Fault-clause-answered : goal.returns-in-Err-Fault-clause-answered
-returns-in-Err-Fault-clause-answered g c = λ e. absurd (no_other c.tell_line.result MAP_FAULT DONE c.tell_line.ensures.status fault_not_done stopped_not_done e)
-
-pub returns-in-Err-Fault-clause-refused : goal.returns-in-Err-Fault-clause-refused
-returns-in-Err-Fault-clause-refused g c = λ e. absurd (no_other c.tell_line.result MAP_FAULT REFUSED c.tell_line.ensures.status fault_not_refused stopped_not_refused e)
-
-pub returns-in-Err-Fault-clause-out_stays : goal.returns-in-Err-Fault-clause-out_stays
-returns-in-Err-Fault-clause-out_stays g c = λ e. absurd (no_other c.tell_line.result MAP_FAULT REFUSED c.tell_line.ensures.status fault_not_refused stopped_not_refused e)
-
-pub returns-in-Err-Fault-clause-err_stays : goal.returns-in-Err-Fault-clause-err_stays
-returns-in-Err-Fault-clause-err_stays g c = λ told. elim told [ inl e ↦ absurd (no_other c.tell_line.result MAP_FAULT DONE c.tell_line.ensures.status fault_not_done stopped_not_done e) | inr e ↦ c.tell_line.ensures.err_stays e ]
-
-pub returns-in-Err-Refused-clause-status : goal.returns-in-Err-Refused-clause-status
-returns-in-Err-Refused-clause-status g c = inr (inl c.stopped.ensures.0)
-
-pub returns-in-Err-Refused-clause-answered : goal.returns-in-Err-Refused-clause-answered
-returns-in-Err-Refused-clause-answered g c = λ e. absurd (is_not _ REFUSED DONE c.stopped.ensures.0 refused_not_done e)
-
-pub returns-in-Err-Refused-clause-fault : goal.returns-in-Err-Refused-clause-fault
-returns-in-Err-Refused-clause-fault g c = λ e. absurd (is_not _ REFUSED MAP_FAULT c.stopped.ensures.0 refused_not_fault e)
-
-pub returns-in-Err-Refused-clause-err_stays : goal.returns-in-Err-Refused-clause-err_stays
-returns-in-Err-Refused-clause-err_stays g c = λ told. elim told [ inl e ↦ absurd (is_not _ REFUSED DONE c.stopped.ensures.0 refused_not_done e) | inr e ↦ absurd (is_not _ REFUSED MAP_FAULT c.stopped.ensures.0 refused_not_fault e) ]
-
-pub returns-in-Err-Refused-clause-stopped : goal.returns-in-Err-Refused-clause-stopped
-returns-in-Err-Refused-clause-stopped g c = λ e. absurd (is_not _ REFUSED STOPPED c.stopped.ensures.0 refused_not_stopped e)
-
-pub returns-in-Err-Refused-clause-out_stays : goal.returns-in-Err-Refused-clause-out_stays
-returns-in-Err-Refused-clause-out_stays g c = λ e. (rw c.in-Err-Refused.field-0-is at c.in-Err-Refused.ensures.stops).0
-
-pub returns-in-Err-Refused-clause-refused : goal.returns-in-Err-Refused-clause-refused
-returns-in-Err-Refused-clause-refused g c = λ e. record {
-  line = c.in-Err-Refused.line;
-  cause = c.in-Err-Refused.cause;
-  written = c.stopped.ensures.1;
-  first = (rw c.in-Err-Refused.field-0-is at c.in-Err-Refused.ensures.stops).1;
-}
-
-pub returns-in-Err-Memory-clause-status : goal.returns-in-Err-Memory-clause-status
-returns-in-Err-Memory-clause-status g c = inr (inr c.stopped-in-Err-Memory.ensures.0)
-
-pub returns-in-Err-Memory-clause-answered : goal.returns-in-Err-Memory-clause-answered
-returns-in-Err-Memory-clause-answered g c = λ e. absurd (is_not _ STOPPED DONE c.stopped-in-Err-Memory.ensures.0 stopped_not_done e)
-
-pub returns-in-Err-Memory-clause-fault : goal.returns-in-Err-Memory-clause-fault
-returns-in-Err-Memory-clause-fault g c = λ e. absurd (is_not _ STOPPED MAP_FAULT c.stopped-in-Err-Memory.ensures.0 stopped_not_fault e)
-
-pub returns-in-Err-Memory-clause-err_stays : goal.returns-in-Err-Memory-clause-err_stays
-returns-in-Err-Memory-clause-err_stays g c = λ told. elim told [ inl e ↦ absurd (is_not _ STOPPED DONE c.stopped-in-Err-Memory.ensures.0 stopped_not_done e) | inr e ↦ absurd (is_not _ STOPPED MAP_FAULT c.stopped-in-Err-Memory.ensures.0 stopped_not_fault e) ]
-
-pub returns-in-Err-Memory-clause-refused : goal.returns-in-Err-Memory-clause-refused
-returns-in-Err-Memory-clause-refused g c = λ e. absurd (is_not _ STOPPED REFUSED c.stopped-in-Err-Memory.ensures.0 stopped_not_refused e)
-
-pub returns-in-Err-Memory-clause-out_stays : goal.returns-in-Err-Memory-clause-out_stays
-returns-in-Err-Memory-clause-out_stays g c = λ e. absurd (is_not _ STOPPED REFUSED c.stopped-in-Err-Memory.ensures.0 stopped_not_refused e)
-
-pub returns-in-Err-Memory-clause-read_whole : goal.returns-in-Err-Memory-clause-read_whole
-returns-in-Err-Memory-clause-read_whole g c = λ going. absurd (going c.stopped-in-Err-Memory.ensures.0)
-
-pub returns-in-Err-Device-clause-status : goal.returns-in-Err-Device-clause-status
-returns-in-Err-Device-clause-status g c = inr (inr c.stopped-in-Err-Device.ensures.0)
-
-pub returns-in-Err-Device-clause-answered : goal.returns-in-Err-Device-clause-answered
-returns-in-Err-Device-clause-answered g c = λ e. absurd (is_not _ STOPPED DONE c.stopped-in-Err-Device.ensures.0 stopped_not_done e)
-
-pub returns-in-Err-Device-clause-fault : goal.returns-in-Err-Device-clause-fault
-returns-in-Err-Device-clause-fault g c = λ e. absurd (is_not _ STOPPED MAP_FAULT c.stopped-in-Err-Device.ensures.0 stopped_not_fault e)
-
-pub returns-in-Err-Device-clause-err_stays : goal.returns-in-Err-Device-clause-err_stays
-returns-in-Err-Device-clause-err_stays g c = λ told. elim told [ inl e ↦ absurd (is_not _ STOPPED DONE c.stopped-in-Err-Device.ensures.0 stopped_not_done e) | inr e ↦ absurd (is_not _ STOPPED MAP_FAULT c.stopped-in-Err-Device.ensures.0 stopped_not_fault e) ]
-
-pub returns-in-Err-Device-clause-refused : goal.returns-in-Err-Device-clause-refused
-returns-in-Err-Device-clause-refused g c = λ e. absurd (is_not _ STOPPED REFUSED c.stopped-in-Err-Device.ensures.0 stopped_not_refused e)
-
-pub returns-in-Err-Device-clause-out_stays : goal.returns-in-Err-Device-clause-out_stays
-returns-in-Err-Device-clause-out_stays g c = λ e. absurd (is_not _ STOPPED REFUSED c.stopped-in-Err-Device.ensures.0 stopped_not_refused e)
-
-pub returns-in-Err-Device-clause-read_whole : goal.returns-in-Err-Device-clause-read_whole
-returns-in-Err-Device-clause-read_whole g c = λ going. absurd (going c.stopped-in-Err-Device.ensures.0)
-
-pub returns-in-Err-Device-clause-stopped : goal.returns-in-Err-Device-clause-stopped
-returns-in-Err-Device-clause-stopped g c = λ e. inr (c.stopped-in-Err-Device.ensures.1, elim (rw c.in-Err-Device.field-0-is at c.in-Err-Device.ensures.stops) [ inl failed ↦ inl failed | inr cut ↦ inr (inl cut) ])
+pub returns-clause-read_whole : goal.returns-clause-read_whole
+returns-clause-read_whole g c = answer_whole _ _ _ _ _ c.answer-answered.result c.tell_answer.result _ _ c.answer-answered.ensures.reads c.tell_answer.ensures

@@ -3,7 +3,7 @@ use Rattle.std.proofs.lemmas.Result.{IfOk-weaker}
 use Rattle.clap.specs.Simple.{subcommand_rows_of}
 use Rattle.clap.specs.Walk.{rows_of}
 use Rattle.clap.specs.Matches.{found_of}
-use Rattle.tl_plan.specs.Commands.{audit_name, build_name, check_name, locate_name}
+use Rattle.tl_plan.specs.Commands.{show_name, landmarks_name, audit_name, build_name, check_name, locate_name}
 use Rattle.tl_plan.proofs.WordsLemmas.{conversion_plan, found_plan, name_found}
 use Rattle.tl_plan.proofs.words.plan_of.Goals as goal
 
@@ -51,3 +51,21 @@ returns-in-Some-subcommand_matches-6 c =
     (λ plan is. conversion_plan found rows plan
     (name_found c.args.matches.now ∙ c.in-Some-subcommand_matches-6.ensures.found.0 refl) c.in-Some-subcommand_matches-6.ensures.rows is)
     c.conversion_of.ensures
+
+pub returns-in-Some : goal.returns-in-Some
+returns-in-Some c =
+    let found = subcommand_rows_of c.args.matches.now in
+    let rows = rows_of (found_of c.in-Some.show.now) in
+    IfOk-weaker c.show_of.result _ _
+    (λ plan is. found_plan found show_name rows plan
+    (name_found c.args.matches.now ∙ c.in-Some.ensures.found.0 refl) c.in-Some.ensures.rows is)
+    c.show_of.ensures
+
+pub returns-in-Some-subcommand_matches : goal.returns-in-Some-subcommand_matches
+returns-in-Some-subcommand_matches c =
+    let found = subcommand_rows_of c.args.matches.now in
+    let rows = rows_of (found_of c.in-Some-subcommand_matches.landmarks.now) in
+    IfOk-weaker c.landmarks_of.result _ _
+    (λ plan is. found_plan found landmarks_name rows plan
+    (name_found c.args.matches.now ∙ c.in-Some-subcommand_matches.ensures.found.0 refl) c.in-Some-subcommand_matches.ensures.rows is)
+    c.landmarks_of.ensures

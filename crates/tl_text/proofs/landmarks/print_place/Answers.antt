@@ -1,16 +1,27 @@
 use Rattle.std.proofs.lemmas.Result.{err_from_is_err_and}
-use Rattle.std.proofs.Common.{◌∷◌, [], refl}
+use Rattle.std.proofs.Common.{◌≡◌, ◌∷◌, [], ◌++◌, append_assoc, sym, subst, ap, ◌∙◌}
+use Rattle.std.specs.Prelude.{codes, decimal}
+use Rattle.tl_output.specs.Writing.{TriesToPassOn}
 use Rattle.tl_output.proofs.WritingLemmas.{passes_last}
 use Rattle.tl_text.specs.Printing.{point_text, place_text}
 use Rattle.tl_text.proofs.PrintingLemmas.{passes_lost}
 use Rattle.tl_text.proofs.landmarks.print_place.Goals as goal
 
+pub returns-in-None-clause-bytes : goal.returns-in-None-clause-bytes
+returns-in-None-clause-bytes g c =
+    subst (λ l. TriesToPassOn (g.S.Sink.contents c.args.out.now) (g.S.Sink.contents c.add.new.out) c.args.buffer.now c.add.new.self l c.add.result)
+    (c.as_bytes.ensures.value ∙ c.as_str.ensures.value ∙ c.numbered-text.ensures ∙ ap (λ p. codes "land " ++ decimal c.args.land ++ place_text p) (sym c.in-None.is)) c.add.ensures.passes
+
 pub returns-in_err-add-in-Some-clause-bytes : goal.returns-in_err-add-in-Some-clause-bytes
 returns-in_err-add-in-Some-clause-bytes g c =
-    let lost = passes_lost _ _ _ _ (point_text c.in-Some.point ∷ []) (place_text c.args.point) c.in_err-add-in-Some.ensures.passes (rw c.in-Some.is refl) in
+    let head = c.as_bytes-in-Some.ensures.value ∙ c.as_str-in-Some.ensures.value ∙ c.numbered-text-in-Some.ensures in
+    let whole = ap (λ l. l ++ point_text c.in-Some.point) head ∙ append_assoc (codes "land " ++ decimal c.args.land) (codes " point") (point_text c.in-Some.point) in
+    let lost = passes_lost _ _ _ _ (point_text c.in-Some.point ∷ []) _ c.in_err-add-in-Some.ensures.passes whole in
     let p = err_from_is_err_and c.from_residual.result c.from_residual.ensures.1 in
-    rw p.1 lost
+    rw (p.1, c.in-Some.is) lost
 
 pub returns-in_ok-add-in-Some-clause-bytes : goal.returns-in_ok-add-in-Some-clause-bytes
 returns-in_ok-add-in-Some-clause-bytes g c =
-    passes_last c.print_point.result _ _ _ _ _ _ _ _ _ c.in_ok-add-in-Some.ensures.passes c.print_point.ensures.bytes (rw c.in-Some.is refl)
+    let head = c.as_bytes-in-Some.ensures.value ∙ c.as_str-in-Some.ensures.value ∙ c.numbered-text-in-Some.ensures in
+    let whole = ap (λ l. l ++ point_text c.in-Some.point) head ∙ append_assoc (codes "land " ++ decimal c.args.land) (codes " point") (point_text c.in-Some.point) in
+    rw c.in-Some.is (passes_last c.print_point.result _ _ _ _ _ _ _ _ _ c.in_ok-add-in-Some.ensures.passes c.print_point.ensures.bytes whole)

@@ -1,27 +1,9 @@
-use Rattle.std.proofs.lemmas.Result.{err_from_is_err_and}
-use Rattle.std.proofs.Common.{◌≡◌, ◌∷◌, [], rules}
-use Rattle.std.specs.Prelude.{codes, decimal}
-use Rattle.tl_output.proofs.WritingLemmas.{passes_both, passes_some_then, passes_last}
-use Rattle.tl_text.specs.Places.{on_text}
+use Rattle.std.proofs.Common.{subst, ◌∙◌}
+use Rattle.tl_output.specs.Writing.{TriesToPassOn}
 use Rattle.tl_text.proofs.PlaceLemmas.{on_text-of}
-use Rattle.tl_text.proofs.PrintingLemmas.{passes_lost}
 use Rattle.tl_text.proofs.places.print_on_chain.Goals as goal
-
-pub returns-in_err-add-clause-bytes : goal.returns-in_err-add-clause-bytes
-returns-in_err-add-clause-bytes g c =
-    let lost = passes_lost _ _ _ _ (decimal c.chain-tlid.result.tlid ∷ codes "\n" ∷ []) (on_text c.args.map.now.chains c.args.chain) c.in_err-add.ensures.passes (on_text-of c.args.map.now.chains c.args.chain _ _ _ _ c.chain-tlid.ensures.chain) in
-    let p = err_from_is_err_and c.from_residual.result c.from_residual.ensures.1 in
-    rw p.1 lost
-
-pub returns-in_err-add-2-clause-bytes : goal.returns-in_err-add-2-clause-bytes
-returns-in_err-add-2-clause-bytes g c =
-    let tlid : c.as_bytes.result.now ≡ decimal c.chain-tlid.result.tlid = search rules in
-    let lost = passes_lost _ _ _ _ (codes "\n" ∷ []) (on_text c.args.map.now.chains c.args.chain) (passes_some_then _ _ _ _ _ _ _ c.in_ok-add.ensures.passes c.in_err-add-2.ensures.passes) (rw tlid (on_text-of c.args.map.now.chains c.args.chain _ _ _ _ c.chain-tlid.ensures.chain)) in
-    let p = err_from_is_err_and c.from_residual-in_err-add-2.result c.from_residual-in_err-add-2.ensures.1 in
-    rw p.1 lost
 
 pub returns-clause-bytes : goal.returns-clause-bytes
 returns-clause-bytes g c =
-    let tlid : c.as_bytes.result.now ≡ decimal c.chain-tlid.result.tlid = search rules in
-    let s2 = passes_both _ _ _ _ _ _ _ _ c.in_ok-add.ensures.passes c.in_ok-add-2.ensures.passes in
-    passes_last c.add-3.result _ _ _ _ _ _ _ _ _ s2 c.add-3.ensures.passes (rw tlid (on_text-of c.args.map.now.chains c.args.chain _ _ _ _ c.chain-tlid.ensures.chain))
+    subst (λ l. TriesToPassOn (g.S.Sink.contents c.args.out.now) (g.S.Sink.contents c.add.new.out) c.args.buffer.now c.add.new.self l c.add.result)
+    (c.as_bytes.ensures.value ∙ c.as_str.ensures.value ∙ c.numbered-text.ensures ∙ on_text-of c.args.map.now.chains c.args.chain _ _ _ _ c.chain.ensures.chain) c.add.ensures.passes

@@ -1,5 +1,5 @@
 use Rattle.std.proofs.lemmas.Result.{err_from_is_err_and}
-use Rattle.std.proofs.Common.{◌≡◌, ◌∷◌, [], ◌∙◌, ◌+◌, ◌-◌, ◌++◌, drop, refl, rules, arith}
+use Rattle.std.proofs.Common.{◌≡◌, ◌∷◌, [], ◌∙◌, ◌+◌, ◌-◌, ◌++◌, drop, refl, append-nil, arith}
 use Rattle.std.specs.Prelude.{codes, decimal}
 use Rattle.tl_output.proofs.WritingLemmas.{passes_both, passes_some_then, passes_last}
 use Rattle.tl_text.proofs.PrintingLemmas.{points_text-several, chain_parts, chain_pieces, passes_lost}
@@ -19,7 +19,7 @@ loop-printed-preserved g c =
 pub returns-in_err-add-clause-bytes : goal.returns-in_err-add-clause-bytes
 unfolding chain_text
 returns-in_err-add-clause-bytes g c =
-    let head : c.as_bytes.result.now ≡ codes "tlid " ++ decimal c.args.tlid = search rules in
+    let head : c.as_bytes.result.now ≡ codes "tlid " ++ decimal c.args.tlid = c.as_bytes.ensures.value ∙ c.as_str.ensures.value ∙ c.numbered-head.ensures ∙ append-nil _ in
     let lost = passes_lost _ _ _ _ (points_text c.args.points.now ∷ codes "\n" ∷ []) (chain_text (record { tlid = c.args.tlid; points = c.args.points.now })) c.in_err-add.ensures.passes (rw head refl) in
     let p = err_from_is_err_and c.from_residual.result c.from_residual.ensures.1 in
     rw p.1 lost
@@ -27,7 +27,7 @@ returns-in_err-add-clause-bytes g c =
 pub returns-in_err-print_points-clause-bytes : goal.returns-in_err-print_points-clause-bytes
 unfolding chain_text
 returns-in_err-print_points-clause-bytes g c =
-    let head : c.as_bytes.result.now ≡ codes "tlid " ++ decimal c.args.tlid = search rules in
+    let head : c.as_bytes.result.now ≡ codes "tlid " ++ decimal c.args.tlid = c.as_bytes.ensures.value ∙ c.as_str.ensures.value ∙ c.numbered-head.ensures ∙ append-nil _ in
     let eight : c.loop-printed.printed + 8 - c.loop-printed.printed ≡ 8 = omega arith in
     let points = passes_both _ _ _ _ _ _ _ _ c.in_ok-add.ensures.passes c.loop-printed.invariant.bytes in
     let some = passes_some_then _ _ _ _ _ _ _ points (rw eight at c.in_err-print_points.ensures.bytes) in
@@ -39,7 +39,7 @@ returns-in_err-print_points-clause-bytes g c =
 pub returns-in_err-print_points-2-clause-bytes : goal.returns-in_err-print_points-2-clause-bytes
 unfolding chain_text
 returns-in_err-print_points-2-clause-bytes g c =
-    let head : c.as_bytes.result.now ≡ codes "tlid " ++ decimal c.args.tlid = search rules in
+    let head : c.as_bytes.result.now ≡ codes "tlid " ++ decimal c.args.tlid = c.as_bytes.ensures.value ∙ c.as_str.ensures.value ∙ c.numbered-head.ensures ∙ append-nil _ in
     let points = passes_both _ _ _ _ _ _ _ _ c.in_ok-add.ensures.passes c.loop-printed.invariant.bytes in
     let some = passes_some_then _ _ _ _ _ _ _ points c.in_err-print_points-2.ensures.bytes in
     let lost = passes_lost _ _ _ _ (codes "\n" ∷ []) (chain_text (record { tlid = c.args.tlid; points = c.args.points.now })) some
@@ -50,7 +50,7 @@ returns-in_err-print_points-2-clause-bytes g c =
 pub returns-clause-bytes : goal.returns-clause-bytes
 unfolding chain_text
 returns-clause-bytes g c =
-    let head : c.as_bytes.result.now ≡ codes "tlid " ++ decimal c.args.tlid = search rules in
+    let head : c.as_bytes.result.now ≡ codes "tlid " ++ decimal c.args.tlid = c.as_bytes.ensures.value ∙ c.as_str.ensures.value ∙ c.numbered-head.ensures ∙ append-nil _ in
     let points = passes_both _ _ _ _ _ _ _ _ c.in_ok-add.ensures.passes c.loop-printed.invariant.bytes in
     let all = passes_both _ _ _ _ _ _ _ _ points c.in_ok-print_points-2.ensures.bytes in
     passes_last c.add-2.result _ _ _ _ _ _ _ _ _ all c.add-2.ensures.passes

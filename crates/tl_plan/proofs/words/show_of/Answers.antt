@@ -1,0 +1,20 @@
+use Rattle.std.proofs.Common.{◌<◌, length, codes, refl, rules, arith}
+use Rattle.std.proofs.lemmas.Bool.Decides.{nat_tests}
+use Rattle.clap.specs.Walk.{rows_of, all_of}
+use Rattle.clap.specs.Matches.{found_of}
+use Rattle.tl_plan.specs.Commands.{show_name}
+use Rattle.tl_plan.specs.CommandLine.{request_in}
+use Rattle.tl_plan.proofs.WordsLemmas.{are_given}
+use Rattle.tl_plan.proofs.words.show_of.Goals as goal
+
+pub returns : goal.returns
+returns c =
+    let items : 0 < length c.in_ok-files.files.items = search (rules, arith, nat_tests) in
+    let files = are_given (all_of (codes "files") (rows_of (found_of c.args.command.now))) c.in_ok-files.files.items c.in_ok-files.ensures items in record {
+      given = request_in (show_name, rows_of (found_of c.args.command.now));
+      same = refl;
+      named = refl;
+      chosen = c.options_of.ensures;
+      are = files.0;
+      some_file = files.1;
+    }
