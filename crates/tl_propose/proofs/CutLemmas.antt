@@ -1,7 +1,7 @@
 -- Rounds that are cut off darts in their order.
-use Rattle.std.proofs.Common.{◌≡◌, inl, inr, ℕ, zero, suc, ◌+◌, ◌-◌, ◌<◌, ◌≤◌, ◌≢◌, arith, List, [], ◌∷◌, ◌++◌, length, take, get_or, slice_index_or, add-one, refl, ap, sym, subst, ◌∙◌, length-append, Vec, Global}
+use Rattle.std.proofs.Common.{◌≡◌, ◌==◌, true, append-nil, inl, inr, ℕ, zero, suc, ◌+◌, ◌-◌, ◌<◌, ◌≤◌, ◌≢◌, arith, List, [], ◌∷◌, ◌++◌, length, take, get_or, slice_index_or, add-one, refl, ap, sym, subst, ◌∙◌, length-append, Vec, Global}
 use Rattle.std.specs.List.{All, Contains}
-use Rattle.std.proofs.lemmas.Bool.{cases_lt}
+use Rattle.std.proofs.lemmas.Bool.{cases_lt, eqb-true}
 use Rattle.std.proofs.lemmas.List.{get_or_append_left, get_or-append-add, map-append}
 use Rattle.std.proofs.lemmas.List.Elements.{All-nil, All-push, All-get_or, All-from_get_or, All-weaker, All-contains_itself}
 use Rattle.std.proofs.lemmas.List.Quantifiers.{all_pairs_push}
@@ -162,3 +162,11 @@ darts_suc (s ∷ starts) (suc k) d lt = ap (λ darts. s.dart ∷ darts) (darts_s
 
 pub darts_more : (starts : List DartStart) (k : ℕ) (s : DartStart) → k < length starts → s ≡ get_or starts k s → darts_in (take (k + 1) starts) ≡ darts_in (take k starts) ++ s.dart ∷ []
 darts_more starts k s lt e = rw add-one (darts_suc starts k s lt ∙ ap (λ (x : DartStart). darts_in (take k starts) ++ x.dart ∷ []) (sym e))
+
+-- where no dart is left
+pub no_rest : (rest : List DartStart) → true ≡ (length rest == 0) → rest ≡ []
+no_rest [] none = refl
+no_rest (start ∷ rest) none = let long = eqb-true (length (start ∷ rest)) 0 (sym none) in absurd (omega (arith, long))
+
+pub all_cut : (rest : List DartStart) (cut whole : List ℕ) → true ≡ (length rest == 0) → cut ++ darts_in rest ≡ whole → cut ≡ whole
+all_cut rest cut whole none e = sym (append-nil cut) ∙ ap (λ more. cut ++ darts_in more) (sym (no_rest rest none)) ∙ e

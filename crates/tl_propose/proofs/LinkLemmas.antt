@@ -1,6 +1,7 @@
 -- Darts that are linked along a round, and along the rounds one after the other.
-use Rattle.std.proofs.Common.{◌≡◌, ◌≢◌, inl, inr, ℕ, suc, ◌+◌, ◌<◌, ◌≤◌, arith, List, length, set, refl, ap, sym, ◌∙◌, length-set, get_or-set_same, get_or-set_other}
+use Rattle.std.proofs.Common.{◌≡◌, ◌≢◌, inl, inr, ℕ, suc, ◌+◌, ◌<◌, ◌≤◌, arith, List, ◌++◌, length, take, drop, append-nil, set, refl, ap, sym, ◌∙◌, length-set, get_or-set_same, get_or-set_other}
 use Rattle.std.specs.Prelude.{slice_index}
+use Rattle.std.proofs.lemmas.List.{drop_all, take_all}
 use Rattle.std.proofs.lemmas.Bool.{cases_lt}
 use Rattle.tl_county.specs.Darts.{reverse_dart}
 use Rattle.tl_index.specs.Hits.{times}
@@ -50,3 +51,8 @@ pub stays_linked : (old new round other : List ℕ) → IsLinkedIn old round →
     → ((k : ℕ) → k < length round → times (slice_index round k) other ≡ 0) → IsLinkedIn new round
 stays_linked old new round other linked others apart k h =
     others (reverse_dart (slice_index round k)) (ap (λ d. times d other) (back_again (slice_index round k)) ∙ apart k h) ∙ linked k h
+
+-- what stands in a list that was written over whole
+pub written : (n : ℕ) (new old : List ℕ) → length new ≡ n → length old ≡ n → take n (new ++ drop (length new) old) ≡ new
+written n new old e f =
+    ap (λ more. take n (new ++ more)) (drop_all (length new) old (omega (arith, e, f))) ∙ ap (take n) (append-nil new) ∙ take_all n new (omega (arith, e))

@@ -1,7 +1,7 @@
 //! What may be chosen of the columns.
 
 /// Which columns of type I are read: the same choice for every call that reads records. By default neither is chosen.
-#[derive(Clone, Copy, Debug, Default)]
+#[derive(Clone, Copy, Default)]
 pub struct Options {
     /// Whether the zero-cell ids are read: TZIDS in columns 21 to 30 and TZIDE in 31 to 40. By default those columns
     /// may hold any bytes.

@@ -3,7 +3,7 @@ use Rattle.std.proofs.Common.{◌≡◌, ℕ, zero, suc, ◌+◌, ◌-◌, ◌<�
 use Rattle.std.specs.Prelude.{Vec, slice_get, unwrap_or}
 use Rattle.std.specs.Global.{Global}
 use Rattle.std.proofs.Math.Seq.{take-add}
-use Rattle.std.proofs.lemmas.List.{take-append-drop, take_rest, drop-append-le}
+use Rattle.std.proofs.lemmas.List.{take-append-drop, take_rest, drop-append-le, drop-drop}
 use Rattle.std.proofs.lemmas.List.Elements.{All-push, All-pop}
 use Rattle.std.specs.List.{insert, remove}
 use Rattle.std.specs.Option.{option_to_list}
@@ -196,3 +196,6 @@ parted_behind items place half le within =
 pub parted_before : (items : List ℕ) (place half : ℕ) → half ≤ place → take half items ++ take (place - half) (drop half items) ≡ take place items
 parted_before items place half le =
     sym (take-add half (place - half) items) ∙ ap (λ n. take n items) (let one : half + (place - half) ≡ place = omega (arith, le) in one)
+
+pub parted_later : (items : List ℕ) (place half : ℕ) → half ≤ place → drop (place - half) (drop half items) ≡ drop place items
+parted_later items place half le = drop-drop (place - half) half items ∙ ap (λ n. drop n items) (let one : half + (place - half) ≡ place = omega (arith, le) in one)

@@ -25,7 +25,7 @@ use tl_geom::Segment;
 use tl_planar::Meet;
 
 /// What a sweep answers.
-#[derive(Clone, Copy, Debug, PartialEq, Eq)]
+#[derive(Clone, Copy, PartialEq, Eq)]
 pub enum Swept {
     /// The map's chains are planar, and the point of each polygon lies where it has to.
     Placed,

@@ -92,8 +92,7 @@ impl<'a> Events<'a> {
     pub fn sort(&mut self, alloc: Global) -> Result<(), AllocError>
         ensures { IfOk result (λ done. IsPermutation self.old self.new) }
     {
-        sort_ends(alloc, self.segments, &mut self.ends)?;
-        Ok(())
+        sort_ends(alloc, self.segments, &mut self.ends)
     }
 }
 

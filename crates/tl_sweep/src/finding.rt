@@ -23,13 +23,19 @@ fn is_east(segments: &[Segment], s: Option<u32>, p: Point) -> bool {
 #[inline]
 fn is_east_of(s: Segment, p: Point) -> bool {
     let (a, b) = (s.a(), s.b());
-    let along = (i64::from(b.x) - i64::from(a.x)).wrapping_mul(i64::from(p.y) - i64::from(a.y));
-    let aside = (i64::from(b.y) - i64::from(a.y)).wrapping_mul(i64::from(p.x) - i64::from(a.x));
+    let along = offset(a.x, b.x).wrapping_mul(offset(a.y, p.y));
+    let aside = offset(a.y, b.y).wrapping_mul(offset(a.x, p.x));
     if is_lower(a, b) {
         along < aside
     } else {
         along > aside
     }
+}
+
+/// How far one number is above another.
+#[inline]
+fn offset(from: i32, to: i32) -> i64 {
+    i64::from(to) - i64::from(from)
 }
 
 /// How many of the blocks west of the open one begin west of a point.

@@ -186,13 +186,11 @@ impl Line {
         let half = self.items.len() / 2;
         let behind = take_behind(self.alloc, &mut self.items, half)?;
         if self.place <= half {
-            stack_east(&mut self.east, behind)?;
-        } else {
-            self.place -= half;
-            let before = mem::replace(&mut self.items, behind);
-            stack_west(&mut self.west, before)?;
+            return stack_east(&mut self.east, behind);
         }
-        Ok(())
+        self.place -= half;
+        let before = mem::replace(&mut self.items, behind);
+        stack_west(&mut self.west, before)
     }
 
     /// Puts a number in at the place in the open block, and goes behind it.

@@ -17,3 +17,15 @@ returns c =
       );
       few = omega arith;
     }
+
+pub returns-in_default-clause-digits : goal.returns-in_default-clause-digits
+returns-in_default-clause-digits c = tt
+
+pub returns-in_default-clause-few : goal.returns-in_default-clause-few
+returns-in_default-clause-few c = tt
+
+pub returns-in_default-eight_digits-clause-digits : goal.returns-in_default-eight_digits-clause-digits
+returns-in_default-eight_digits-clause-digits c = tt
+
+pub returns-in_default-eight_digits-clause-few : goal.returns-in_default-eight_digits-clause-few
+returns-in_default-eight_digits-clause-few c = tt

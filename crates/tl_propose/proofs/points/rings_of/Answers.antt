@@ -1,4 +1,5 @@
 use Rattle.std.proofs.Common.{take, sym, ap, subst, ◌∙◌, ◌++◌, ◌∷◌, [], arith}
+use Rattle.std.proofs.lemmas.Result.{err_from_is_err_and}
 use Rattle.tl_sides.specs.Sides.{IsRing}
 use Rattle.tl_propose.specs.Keeping.Lists.{lists_in}
 use Rattle.tl_propose.proofs.SideLemmas.{darts_in, walk_at, walk_more, many_walks}
@@ -18,3 +19,15 @@ loop-walk-preserved c = record {
       ∙ sym (walk_more c.args.walks.now c.loop-walk.walk-index c.walk-item.result c.loop-walk-test.true c.walk-item.is);
   boxed = c.in_ok-push.ensures.boxed c.loop-walk.invariant.boxed;
 }
+
+pub returns-in_err-rings-clause-rings : goal.returns-in_err-rings-clause-rings
+returns-in_err-rings-clause-rings c = let p = err_from_is_err_and c.from_residual.result c.from_residual.ensures.1 in rw p.1 tt
+
+pub returns-in_err-rings-clause-boxed : goal.returns-in_err-rings-clause-boxed
+returns-in_err-rings-clause-boxed c = let p = err_from_is_err_and c.from_residual.result c.from_residual.ensures.1 in rw p.1 tt
+
+pub returns-in_err-push-clause-rings : goal.returns-in_err-push-clause-rings
+returns-in_err-push-clause-rings c = let p = err_from_is_err_and c.from_residual-in_err-push.result c.from_residual-in_err-push.ensures.1 in rw p.1 tt
+
+pub returns-in_err-push-clause-boxed : goal.returns-in_err-push-clause-boxed
+returns-in_err-push-clause-boxed c = let p = err_from_is_err_and c.from_residual-in_err-push.result c.from_residual-in_err-push.ensures.1 in rw p.1 tt

@@ -1,4 +1,5 @@
 use Rattle.std.proofs.Common.{refl, sym, subst, inr}
+use Rattle.std.proofs.lemmas.Result.{err_from_is_err_and}
 use Rattle.tl_cert.specs.Certificates.{TheCertificate, MakesCertificate, made}
 use Rattle.tl_propose.specs.Keeping.Proposed.{IsProposal}
 use Rattle.tl_propose.proofs.proposal.propose.Goals as goal
@@ -34,3 +35,9 @@ returns c =
       are_walks = c.in_ok-rounds.ensures.are_walks;
     } in
     subst P (sym c.in-Some.ensures.0) proposed
+
+pub returns-in_err-tree : goal.returns-in_err-tree
+returns-in_err-tree c = let p = err_from_is_err_and c.from_residual.result c.from_residual.ensures.1 in rw p.1 tt
+
+pub returns-in_err-rounds : goal.returns-in_err-rounds
+returns-in_err-rounds c = let p = err_from_is_err_and c.from_residual-in_err-rounds.result c.from_residual-in_err-rounds.ensures.1 in rw p.1 tt

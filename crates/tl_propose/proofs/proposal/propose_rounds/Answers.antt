@@ -1,6 +1,7 @@
 use Rattle.std.proofs.Common.{◌≡◌, length, ap, sym, subst, ◌∙◌, ◌*◌, arith}
 use Rattle.std.specs.List.{All}
 use Rattle.std.proofs.lemmas.List.{length-map}
+use Rattle.std.proofs.lemmas.Result.{err_from_is_err_and}
 use Rattle.tl_crossings.proofs.Apart.{apart}
 use Rattle.tl_propose.specs.declared.rounds.DartStart.{DartStart}
 use Rattle.tl_propose.specs.Keeping.Lists.{darts_in, lists_in}
@@ -29,3 +30,27 @@ returns-clause-counted c =
     let long : length (all_in c.in_ok-rounds.rounds.items) ≡ length c.in_ok-starts.starts.items =
     ap length c.in_ok-rounds.ensures.whole ∙ (ap (λ l. length (darts_in l)) c.deref.ensures.value ∙ length-map c.in_ok-starts.starts.items (λ (s : DartStart). s.dart)) in
     dart_lists c.in_ok-rounds.rounds.items c.in_ok-rounds.ensures.some (omega (arith, long, c.in_ok-starts.ensures.counted))
+
+pub returns-in_err-starts-clause-hold : goal.returns-in_err-starts-clause-hold
+returns-in_err-starts-clause-hold c = let p = err_from_is_err_and c.from_residual.result c.from_residual.ensures.1 in rw p.1 tt
+
+pub returns-in_err-starts-clause-some : goal.returns-in_err-starts-clause-some
+returns-in_err-starts-clause-some c = let p = err_from_is_err_and c.from_residual.result c.from_residual.ensures.1 in rw p.1 tt
+
+pub returns-in_err-starts-clause-are_rounds : goal.returns-in_err-starts-clause-are_rounds
+returns-in_err-starts-clause-are_rounds c = let p = err_from_is_err_and c.from_residual.result c.from_residual.ensures.1 in rw p.1 tt
+
+pub returns-in_err-starts-clause-counted : goal.returns-in_err-starts-clause-counted
+returns-in_err-starts-clause-counted c = let p = err_from_is_err_and c.from_residual.result c.from_residual.ensures.1 in rw p.1 tt
+
+pub returns-in_err-rounds-clause-hold : goal.returns-in_err-rounds-clause-hold
+returns-in_err-rounds-clause-hold c = let p = err_from_is_err_and c.from_residual-in_err-rounds.result c.from_residual-in_err-rounds.ensures.1 in rw p.1 tt
+
+pub returns-in_err-rounds-clause-some : goal.returns-in_err-rounds-clause-some
+returns-in_err-rounds-clause-some c = let p = err_from_is_err_and c.from_residual-in_err-rounds.result c.from_residual-in_err-rounds.ensures.1 in rw p.1 tt
+
+pub returns-in_err-rounds-clause-are_rounds : goal.returns-in_err-rounds-clause-are_rounds
+returns-in_err-rounds-clause-are_rounds c = let p = err_from_is_err_and c.from_residual-in_err-rounds.result c.from_residual-in_err-rounds.ensures.1 in rw p.1 tt
+
+pub returns-in_err-rounds-clause-counted : goal.returns-in_err-rounds-clause-counted
+returns-in_err-rounds-clause-counted c = let p = err_from_is_err_and c.from_residual-in_err-rounds.result c.from_residual-in_err-rounds.ensures.1 in rw p.1 tt

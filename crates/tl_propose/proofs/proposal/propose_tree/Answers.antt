@@ -1,4 +1,5 @@
 use Rattle.std.proofs.Common.{length, subst, arith}
+use Rattle.std.proofs.lemmas.Result.{err_from_is_err_and}
 use Rattle.tl_county.specs.Segments.{segments_before}
 use Rattle.tl_planar.specs.Rectangles.{segment_rect}
 use Rattle.tl_index.specs.Fits.{Fits}
@@ -22,3 +23,21 @@ returns-clause-shallow c =
     let nodes = c.in_ok-nodes.nodes.items in
     let shallow = subst (λ chains. IsShallow (segments_before chains (length chains)) (tree_of nodes)) c.new.ensures c.in_ok-nodes.ensures.shallow in
     eight_levels _ nodes shallow (omega (arith, c.segments-segments.ensures.count, c.segments-segments.ensures.few))
+
+pub returns-in_err-nodes-clause-tree : goal.returns-in_err-nodes-clause-tree
+returns-in_err-nodes-clause-tree c = let p = err_from_is_err_and c.from_residual.result c.from_residual.ensures.1 in rw p.1 tt
+
+pub returns-in_err-nodes-clause-shallow : goal.returns-in_err-nodes-clause-shallow
+returns-in_err-nodes-clause-shallow c = let p = err_from_is_err_and c.from_residual.result c.from_residual.ensures.1 in rw p.1 tt
+
+pub returns-in_err-nodes-clause-split : goal.returns-in_err-nodes-clause-split
+returns-in_err-nodes-clause-split c = let p = err_from_is_err_and c.from_residual.result c.from_residual.ensures.1 in rw p.1 tt
+
+pub returns-in_err-nodes-clause-whole : goal.returns-in_err-nodes-clause-whole
+returns-in_err-nodes-clause-whole c = let p = err_from_is_err_and c.from_residual.result c.from_residual.ensures.1 in rw p.1 tt
+
+pub returns-in_err-nodes-clause-counted : goal.returns-in_err-nodes-clause-counted
+returns-in_err-nodes-clause-counted c = let p = err_from_is_err_and c.from_residual.result c.from_residual.ensures.1 in rw p.1 tt
+
+pub returns-in_err-nodes-clause-each : goal.returns-in_err-nodes-clause-each
+returns-in_err-nodes-clause-each c = let p = err_from_is_err_and c.from_residual.result c.from_residual.ensures.1 in rw p.1 tt

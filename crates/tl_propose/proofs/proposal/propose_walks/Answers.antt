@@ -1,4 +1,5 @@
 use Rattle.std.proofs.Common.{◌≡◌, ◌*◌, ◌<◌, zero, length, ap, sym, subst, ◌∙◌, arith}
+use Rattle.std.proofs.lemmas.Result.{err_from_is_err_and}
 use Rattle.tl_sides.specs.Lists.{HoldOnce, EachList}
 use Rattle.tl_propose.specs.Keeping.Lists.{lists_in}
 use Rattle.tl_propose.specs.Keeping.Following.{IsLinkedIn, GoesBy}
@@ -34,3 +35,21 @@ returns-clause-counted c =
     let long : length c.deref.result.now ≡ c.darts.result = ap length c.deref.ensures.value ∙ c.in_ok-following.ensures.long in
     let fits = c.darts.type_inv in
     dart_lists c.in_ok-walks.walks.items c.in_ok-walks.ensures.some (omega (arith, long, c.in_ok-walks.ensures.counted, fits))
+
+pub returns-in_err-following-clause-hold : goal.returns-in_err-following-clause-hold
+returns-in_err-following-clause-hold c = let p = err_from_is_err_and c.from_residual.result c.from_residual.ensures.1 in rw p.1 tt
+
+pub returns-in_err-following-clause-are_walks : goal.returns-in_err-following-clause-are_walks
+returns-in_err-following-clause-are_walks c = let p = err_from_is_err_and c.from_residual.result c.from_residual.ensures.1 in rw p.1 tt
+
+pub returns-in_err-following-clause-counted : goal.returns-in_err-following-clause-counted
+returns-in_err-following-clause-counted c = let p = err_from_is_err_and c.from_residual.result c.from_residual.ensures.1 in rw p.1 tt
+
+pub returns-in_err-walks-clause-hold : goal.returns-in_err-walks-clause-hold
+returns-in_err-walks-clause-hold c = let p = err_from_is_err_and c.from_residual-in_err-walks.result c.from_residual-in_err-walks.ensures.1 in rw p.1 tt
+
+pub returns-in_err-walks-clause-are_walks : goal.returns-in_err-walks-clause-are_walks
+returns-in_err-walks-clause-are_walks c = let p = err_from_is_err_and c.from_residual-in_err-walks.result c.from_residual-in_err-walks.ensures.1 in rw p.1 tt
+
+pub returns-in_err-walks-clause-counted : goal.returns-in_err-walks-clause-counted
+returns-in_err-walks-clause-counted c = let p = err_from_is_err_and c.from_residual-in_err-walks.result c.from_residual-in_err-walks.ensures.1 in rw p.1 tt

@@ -1,11 +1,12 @@
 use Rattle.std.proofs.Common.{[], refl, subst, zero, ◌<◌, length, ap, arith, ℕ, Vec, Global}
 use Rattle.std.proofs.lemmas.List.{length-map}
 use Rattle.std.proofs.lemmas.List.Elements.{All-nil, All-push, All-same}
+use Rattle.std.proofs.lemmas.Result.{err_from_is_err_and}
 use Rattle.tl_propose.specs.declared.rounds.DartStart.{DartStart}
 use Rattle.tl_propose.specs.Keeping.Lists.{lists_in}
 use Rattle.tl_propose.specs.Keeping.Sorting.{AreCut}
 use Rattle.tl_propose.proofs.ListLemmas.{cut_more}
-use Rattle.tl_propose.proofs.CutLemmas.{none_cut, one_cut, some_of, more_rounds}
+use Rattle.tl_propose.proofs.CutLemmas.{none_cut, one_cut, some_of, more_rounds, no_rest, all_cut}
 use Rattle.tl_propose.proofs.rounds.cut_rounds.Goals as goal
 use Rattle.tl_propose.proofs.rounds.cut_rounds.Goals.{In_ok-push}
 
@@ -48,3 +49,43 @@ split_at-requires c = c.first_round.ensures.within
 
 pub returns-clause-some : goal.returns-clause-some
 returns-clause-some c = c.loop-rest.invariant.some
+
+pub returns-in_err-rounds-clause-whole : goal.returns-in_err-rounds-clause-whole
+returns-in_err-rounds-clause-whole c = let p = err_from_is_err_and c.from_residual.result c.from_residual.ensures.1 in rw p.1 tt
+
+pub returns-in_err-rounds-clause-some : goal.returns-in_err-rounds-clause-some
+returns-in_err-rounds-clause-some c = let p = err_from_is_err_and c.from_residual.result c.from_residual.ensures.1 in rw p.1 tt
+
+pub returns-in_err-rounds-clause-cut : goal.returns-in_err-rounds-clause-cut
+returns-in_err-rounds-clause-cut c = let p = err_from_is_err_and c.from_residual.result c.from_residual.ensures.1 in rw p.1 tt
+
+pub returns-in_err-darts_of-clause-whole : goal.returns-in_err-darts_of-clause-whole
+returns-in_err-darts_of-clause-whole c = let p = err_from_is_err_and c.from_residual-in_err-darts_of.result c.from_residual-in_err-darts_of.ensures.1 in rw p.1 tt
+
+pub returns-in_err-darts_of-clause-some : goal.returns-in_err-darts_of-clause-some
+returns-in_err-darts_of-clause-some c = let p = err_from_is_err_and c.from_residual-in_err-darts_of.result c.from_residual-in_err-darts_of.ensures.1 in rw p.1 tt
+
+pub returns-in_err-darts_of-clause-cut : goal.returns-in_err-darts_of-clause-cut
+returns-in_err-darts_of-clause-cut c = let p = err_from_is_err_and c.from_residual-in_err-darts_of.result c.from_residual-in_err-darts_of.ensures.1 in rw p.1 tt
+
+pub returns-in_err-push-clause-whole : goal.returns-in_err-push-clause-whole
+returns-in_err-push-clause-whole c = let p = err_from_is_err_and c.from_residual-in_err-push.result c.from_residual-in_err-push.ensures.1 in rw p.1 tt
+
+pub returns-in_err-push-clause-some : goal.returns-in_err-push-clause-some
+returns-in_err-push-clause-some c = let p = err_from_is_err_and c.from_residual-in_err-push.result c.from_residual-in_err-push.ensures.1 in rw p.1 tt
+
+pub returns-in_err-push-clause-cut : goal.returns-in_err-push-clause-cut
+returns-in_err-push-clause-cut c = let p = err_from_is_err_and c.from_residual-in_err-push.result c.from_residual-in_err-push.ensures.1 in rw p.1 tt
+
+pub returns-clause-whole : goal.returns-clause-whole
+returns-clause-whole c = all_cut c.loop-rest.rest.now _ _ c.loop-rest-test.ensures c.loop-rest.invariant.cut
+
+pub returns-clause-cut : goal.returns-clause-cut
+returns-clause-cut c = λ sorted. subst (λ rest. AreCut c.args.starts.now rest (lists_in c.loop-rest.rounds.items)) (no_rest c.loop-rest.rest.now c.loop-rest-test.ensures) (c.loop-rest.invariant.grouped sorted)
+
+pub loop-rest-smaller : goal.loop-rest-smaller
+loop-rest-smaller c =
+    let back = c.split_at.ensures.back_len in
+    let some = c.first_round.ensures.some in
+    let within = c.first_round.ensures.within in
+    omega (arith, back, some, within)

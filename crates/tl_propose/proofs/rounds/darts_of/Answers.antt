@@ -1,5 +1,6 @@
 use Rattle.std.proofs.Common.{◌++◌, ◌∷◌, [], ap, sym, ◌∙◌}
 use Rattle.std.proofs.lemmas.List.{take_all}
+use Rattle.std.proofs.lemmas.Result.{err_from_is_err_and}
 use Rattle.tl_propose.specs.Keeping.Lists.{darts_in}
 use Rattle.tl_propose.proofs.CutLemmas.{darts_more}
 use Rattle.tl_propose.proofs.rounds.darts_of.Goals as goal
@@ -14,3 +15,9 @@ loop-start-preserved c =
 
 pub returns : goal.returns
 returns c = c.loop-start.invariant ∙ ap darts_in (take_all c.loop-start.start-index c.args.starts.now c.loop-start-test.false)
+
+pub returns-in_err-darts : goal.returns-in_err-darts
+returns-in_err-darts c = let p = err_from_is_err_and c.from_residual.result c.from_residual.ensures.1 in rw p.1 tt
+
+pub returns-in_err-push : goal.returns-in_err-push
+returns-in_err-push c = let p = err_from_is_err_and c.from_residual-in_err-push.result c.from_residual-in_err-push.ensures.1 in rw p.1 tt

@@ -1,5 +1,6 @@
 use Rattle.std.proofs.Common.{◌<◌, ◌*◌, length, [], refl, sym, ◌∙◌, ap, map, length-append, arith, ◌≡◌}
 use Rattle.std.proofs.lemmas.List.Elements.{All-nil, All-push, All-same}
+use Rattle.std.proofs.lemmas.Result.{err_from_is_err_and}
 use Rattle.tl_propose.specs.Keeping.Sorting.{IsStartOf}
 use Rattle.tl_propose.specs.declared.rounds.DartStart.{DartStart}
 use Rattle.tl_pack.proofs.ListLemmas.{up_none, up_pushed}
@@ -50,3 +51,33 @@ returns-clause-long c =
 
 pub returns-clause-each : goal.returns-clause-each
 returns-clause-each c = c.loop-dart.invariant.each
+
+pub returns-in_err-starts-clause-all : goal.returns-in_err-starts-clause-all
+returns-in_err-starts-clause-all c = let p = err_from_is_err_and c.from_residual.result c.from_residual.ensures.1 in rw p.1 tt
+
+pub returns-in_err-starts-clause-known : goal.returns-in_err-starts-clause-known
+returns-in_err-starts-clause-known c = let p = err_from_is_err_and c.from_residual.result c.from_residual.ensures.1 in rw p.1 tt
+
+pub returns-in_err-starts-clause-long : goal.returns-in_err-starts-clause-long
+returns-in_err-starts-clause-long c = let p = err_from_is_err_and c.from_residual.result c.from_residual.ensures.1 in rw p.1 tt
+
+pub returns-in_err-starts-clause-counted : goal.returns-in_err-starts-clause-counted
+returns-in_err-starts-clause-counted c = let p = err_from_is_err_and c.from_residual.result c.from_residual.ensures.1 in rw p.1 tt
+
+pub returns-in_err-starts-clause-each : goal.returns-in_err-starts-clause-each
+returns-in_err-starts-clause-each c = let p = err_from_is_err_and c.from_residual.result c.from_residual.ensures.1 in rw p.1 tt
+
+pub returns-in_err-push-clause-all : goal.returns-in_err-push-clause-all
+returns-in_err-push-clause-all c = let p = err_from_is_err_and c.from_residual-in_err-push.result c.from_residual-in_err-push.ensures.1 in rw p.1 tt
+
+pub returns-in_err-push-clause-known : goal.returns-in_err-push-clause-known
+returns-in_err-push-clause-known c = let p = err_from_is_err_and c.from_residual-in_err-push.result c.from_residual-in_err-push.ensures.1 in rw p.1 tt
+
+pub returns-in_err-push-clause-long : goal.returns-in_err-push-clause-long
+returns-in_err-push-clause-long c = let p = err_from_is_err_and c.from_residual-in_err-push.result c.from_residual-in_err-push.ensures.1 in rw p.1 tt
+
+pub returns-in_err-push-clause-counted : goal.returns-in_err-push-clause-counted
+returns-in_err-push-clause-counted c = let p = err_from_is_err_and c.from_residual-in_err-push.result c.from_residual-in_err-push.ensures.1 in rw p.1 tt
+
+pub returns-in_err-push-clause-each : goal.returns-in_err-push-clause-each
+returns-in_err-push-clause-each c = let p = err_from_is_err_and c.from_residual-in_err-push.result c.from_residual-in_err-push.ensures.1 in rw p.1 tt

@@ -1,6 +1,7 @@
 use Rattle.std.proofs.Common.{◌≡◌, ℕ, zero, ◌<◌, [], length, map, below_more, ap, subst, sym, ◌∙◌, Vec, Global, arith, rules, inl, inr}
 use Rattle.std.proofs.lemmas.Bool.{cases_lt}
 use Rattle.std.proofs.lemmas.List.Elements.{All-nil, All-push, All-same}
+use Rattle.std.proofs.lemmas.Result.{err_from_is_err_and}
 use Rattle.tl_index.specs.Keeping.Marked.{mark_at}
 use Rattle.tl_index.proofs.Marks.{unmarked, is-marked}
 use Rattle.tl_sides.specs.Keeping.Marked.{MarkLists}
@@ -83,3 +84,39 @@ returns-clause-some c = c.loop-first.invariant.some
 
 pub returns-clause-goes : goal.returns-clause-goes
 returns-clause-goes c = c.loop-first.invariant.goes
+
+pub returns-in_err-trace_walk-clause-hold : goal.returns-in_err-trace_walk-clause-hold
+returns-in_err-trace_walk-clause-hold c = let p = err_from_is_err_and c.from_residual.result c.from_residual.ensures.1 in rw p.1 tt
+
+pub returns-in_err-trace_walk-clause-some : goal.returns-in_err-trace_walk-clause-some
+returns-in_err-trace_walk-clause-some c = let p = err_from_is_err_and c.from_residual.result c.from_residual.ensures.1 in rw p.1 tt
+
+pub returns-in_err-trace_walk-clause-counted : goal.returns-in_err-trace_walk-clause-counted
+returns-in_err-trace_walk-clause-counted c = let p = err_from_is_err_and c.from_residual.result c.from_residual.ensures.1 in rw p.1 tt
+
+pub returns-in_err-trace_walk-clause-goes : goal.returns-in_err-trace_walk-clause-goes
+returns-in_err-trace_walk-clause-goes c = let p = err_from_is_err_and c.from_residual.result c.from_residual.ensures.1 in rw p.1 tt
+
+pub returns-in_err-to_vec-clause-hold : goal.returns-in_err-to_vec-clause-hold
+returns-in_err-to_vec-clause-hold c = let p = err_from_is_err_and c.from_residual-in_err-to_vec.result c.from_residual-in_err-to_vec.ensures.1 in rw p.1 tt
+
+pub returns-in_err-to_vec-clause-some : goal.returns-in_err-to_vec-clause-some
+returns-in_err-to_vec-clause-some c = let p = err_from_is_err_and c.from_residual-in_err-to_vec.result c.from_residual-in_err-to_vec.ensures.1 in rw p.1 tt
+
+pub returns-in_err-to_vec-clause-counted : goal.returns-in_err-to_vec-clause-counted
+returns-in_err-to_vec-clause-counted c = let p = err_from_is_err_and c.from_residual-in_err-to_vec.result c.from_residual-in_err-to_vec.ensures.1 in rw p.1 tt
+
+pub returns-in_err-to_vec-clause-goes : goal.returns-in_err-to_vec-clause-goes
+returns-in_err-to_vec-clause-goes c = let p = err_from_is_err_and c.from_residual-in_err-to_vec.result c.from_residual-in_err-to_vec.ensures.1 in rw p.1 tt
+
+pub returns-in_err-push-clause-hold : goal.returns-in_err-push-clause-hold
+returns-in_err-push-clause-hold c = let p = err_from_is_err_and c.from_residual-in_err-push.result c.from_residual-in_err-push.ensures.1 in rw p.1 tt
+
+pub returns-in_err-push-clause-some : goal.returns-in_err-push-clause-some
+returns-in_err-push-clause-some c = let p = err_from_is_err_and c.from_residual-in_err-push.result c.from_residual-in_err-push.ensures.1 in rw p.1 tt
+
+pub returns-in_err-push-clause-counted : goal.returns-in_err-push-clause-counted
+returns-in_err-push-clause-counted c = let p = err_from_is_err_and c.from_residual-in_err-push.result c.from_residual-in_err-push.ensures.1 in rw p.1 tt
+
+pub returns-in_err-push-clause-goes : goal.returns-in_err-push-clause-goes
+returns-in_err-push-clause-goes c = let p = err_from_is_err_and c.from_residual-in_err-push.result c.from_residual-in_err-push.ensures.1 in rw p.1 tt

@@ -1,5 +1,6 @@
 use Rattle.std.proofs.Common.{◌≡◌, ◌<◌, true, false, [], ◌∷◌, ◌++◌, length, get_or, set, refl, ap, sym, subst, ◌∙◌, arith}
 use Rattle.std.proofs.lemmas.Option.{get_or_from_slice_get}
+use Rattle.std.proofs.lemmas.Result.{err_from_is_err_and}
 use Rattle.tl_sides.specs.Keeping.Marked.{AddMarks}
 use Rattle.tl_sides.proofs.MarkLemmas.{none-added}
 use Rattle.tl_index.specs.Keeping.Marked.{mark_at}
@@ -58,3 +59,15 @@ returns-clause-followed c = λ one_to_one followed.
     let some = some_taken c.args.taken.now c.loop-taken.taken c.loop-taken.walk.items c.args.first c.loop-taken.invariant.taken free (returns-clause-begun c) in
     are_followed c.args.following.now c.args.taken.now c.loop-taken.taken c.loop-taken.walk.items c.args.first c.loop-taken.dart c.loop-taken.invariant.goes
     some (is-marked c.loop-taken.taken c.loop-taken.dart c.loop-taken-test.false) one_to_one followed
+
+pub returns-in_err-push-clause-taken : goal.returns-in_err-push-clause-taken
+returns-in_err-push-clause-taken c = let p = err_from_is_err_and c.from_residual.result c.from_residual.ensures.1 in rw p.1 tt
+
+pub returns-in_err-push-clause-begun : goal.returns-in_err-push-clause-begun
+returns-in_err-push-clause-begun c = let p = err_from_is_err_and c.from_residual.result c.from_residual.ensures.1 in rw p.1 tt
+
+pub returns-in_err-push-clause-goes : goal.returns-in_err-push-clause-goes
+returns-in_err-push-clause-goes c = let p = err_from_is_err_and c.from_residual.result c.from_residual.ensures.1 in rw p.1 tt
+
+pub returns-in_err-push-clause-followed : goal.returns-in_err-push-clause-followed
+returns-in_err-push-clause-followed c = let p = err_from_is_err_and c.from_residual.result c.from_residual.ensures.1 in rw p.1 tt

@@ -1,3 +1,4 @@
+use Rattle.std.proofs.lemmas.Result.{err_from_is_err_and}
 use Rattle.tl_rings.proofs.Adding.{first_points, points_more, all_points}
 use Rattle.tl_rings.proofs.darts.list_chain.Goals as goal
 
@@ -11,3 +12,6 @@ loop-place-preserved c =
 
 pub returns : goal.returns
 returns c = all_points c.args.along c.args.side c.args.point c.args.points.now c.loop-place.place c.args.flanks.now.items c.loop-place.flanks.items c.loop-place-test.false c.loop-place.invariant
+
+pub returns-in_err-list_segment : goal.returns-in_err-list_segment
+returns-in_err-list_segment c = let p = err_from_is_err_and c.from_residual.result c.from_residual.ensures.1 in rw p.1 tt

@@ -1,4 +1,5 @@
 use Rattle.std.proofs.Common.{subst, arith}
+use Rattle.std.proofs.lemmas.Result.{err_from_is_err_and}
 use Rattle.tl_sides.specs.Lists.{list_at}
 use Rattle.tl_crossings.specs.Rings.{ring_count}
 use Rattle.tl_rings.specs.Keeping.Looking.{AddCounts}
@@ -24,3 +25,6 @@ loop-place-preserved c =
 pub returns : goal.returns
 returns c =
     sum_all (λ S k. ring_count c.args.map.now.chains c.args.point S (list_at c.args.rings.now.rings k)) c.args.numbers.now c.loop-place.place c.args.flanks.now.items c.loop-place.flanks.items c.loop-place-test.false c.loop-place.invariant
+
+pub returns-in_err-list_ring : goal.returns-in_err-list_ring
+returns-in_err-list_ring c = let p = err_from_is_err_and c.from_residual.result c.from_residual.ensures.1 in rw p.1 tt

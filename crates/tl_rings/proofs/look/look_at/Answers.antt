@@ -1,4 +1,5 @@
 use Rattle.std.proofs.Common.{◌<◌, length, All, sym, subst, refl}
+use Rattle.std.proofs.lemmas.Result.{err_from_is_err_and}
 use Rattle.tl_inside.specs.Places.{IsLowestOn}
 use Rattle.tl_inside.specs.Keeping.Tallies.{TellCounts}
 use Rattle.tl_inside.proofs.Misplacing.{told_some, told_none}
@@ -123,3 +124,30 @@ returns-in-None-misplaced_by-clause-no_near g c = c.misplaced_by.ensures.no_near
 
 pub returns-in-None-misplaced_by-clause-no_far : goal.returns-in-None-misplaced_by-clause-no_far
 returns-in-None-misplaced_by-clause-no_far g c = c.misplaced_by.ensures.no_far
+
+pub returns-in_err-c-clause-look : goal.returns-in_err-c-clause-look
+returns-in_err-c-clause-look g c = let p = err_from_is_err_and c.from_residual.result c.from_residual.ensures.1 in rw p.1 tt
+
+pub returns-in_err-c-clause-no_near : goal.returns-in_err-c-clause-no_near
+returns-in_err-c-clause-no_near g c = let p = err_from_is_err_and c.from_residual.result c.from_residual.ensures.1 in rw p.1 tt
+
+pub returns-in_err-c-clause-no_far : goal.returns-in_err-c-clause-no_far
+returns-in_err-c-clause-no_far g c = let p = err_from_is_err_and c.from_residual.result c.from_residual.ensures.1 in rw p.1 tt
+
+pub returns-in_err-list_about-clause-look : goal.returns-in_err-list_about-clause-look
+returns-in_err-list_about-clause-look g c = let p = err_from_is_err_and c.from_residual-in_err-list_about.result c.from_residual-in_err-list_about.ensures.1 in rw p.1 tt
+
+pub returns-in_err-list_about-clause-no_near : goal.returns-in_err-list_about-clause-no_near
+returns-in_err-list_about-clause-no_near g c = let p = err_from_is_err_and c.from_residual-in_err-list_about.result c.from_residual-in_err-list_about.ensures.1 in rw p.1 tt
+
+pub returns-in_err-list_about-clause-no_far : goal.returns-in_err-list_about-clause-no_far
+returns-in_err-list_about-clause-no_far g c = let p = err_from_is_err_and c.from_residual-in_err-list_about.result c.from_residual-in_err-list_about.ensures.1 in rw p.1 tt
+
+pub returns-in_err-list_rings-clause-look : goal.returns-in_err-list_rings-clause-look
+returns-in_err-list_rings-clause-look g c = let p = err_from_is_err_and c.from_residual-in_err-list_rings.result c.from_residual-in_err-list_rings.ensures.1 in rw p.1 tt
+
+pub returns-in_err-list_rings-clause-no_near : goal.returns-in_err-list_rings-clause-no_near
+returns-in_err-list_rings-clause-no_near g c = let p = err_from_is_err_and c.from_residual-in_err-list_rings.result c.from_residual-in_err-list_rings.ensures.1 in rw p.1 tt
+
+pub returns-in_err-list_rings-clause-no_far : goal.returns-in_err-list_rings-clause-no_far
+returns-in_err-list_rings-clause-no_far g c = let p = err_from_is_err_and c.from_residual-in_err-list_rings.result c.from_residual-in_err-list_rings.ensures.1 in rw p.1 tt

@@ -1,3 +1,4 @@
+use Rattle.std.proofs.lemmas.Result.{err_from_is_err_and}
 use Rattle.tl_rings.proofs.misplaced.find_by_rings.Goals as goal
 
 pub look_at_each-requires-clause-fits : goal.look_at_each-requires-clause-fits
@@ -32,3 +33,15 @@ returns-clause-found g c = c.look_at_each.ensures.found
 
 pub returns-clause-left : goal.returns-clause-left
 returns-clause-left g c = c.look_at_each.ensures.left
+
+pub returns-in_err-near-clause-found : goal.returns-in_err-near-clause-found
+returns-in_err-near-clause-found g c = let p = err_from_is_err_and c.from_residual.result c.from_residual.ensures.1 in rw p.1 tt
+
+pub returns-in_err-near-clause-left : goal.returns-in_err-near-clause-left
+returns-in_err-near-clause-left g c = let p = err_from_is_err_and c.from_residual.result c.from_residual.ensures.1 in rw p.1 tt
+
+pub returns-in_err-far-clause-found : goal.returns-in_err-far-clause-found
+returns-in_err-far-clause-found g c = let p = err_from_is_err_and c.from_residual-in_err-far.result c.from_residual-in_err-far.ensures.1 in rw p.1 tt
+
+pub returns-in_err-far-clause-left : goal.returns-in_err-far-clause-left
+returns-in_err-far-clause-left g c = let p = err_from_is_err_and c.from_residual-in_err-far.result c.from_residual-in_err-far.ensures.1 in rw p.1 tt

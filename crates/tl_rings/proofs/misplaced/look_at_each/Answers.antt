@@ -1,4 +1,5 @@
 use Rattle.std.proofs.Common.{All, Vec, Global, ap, sym, subst, ◌+◌, ◌∙◌}
+use Rattle.std.proofs.lemmas.Result.{err_from_is_err_and}
 use Rattle.tl_inside.specs.declared.strips.Site.{Site}
 use Rattle.tl_inside.specs.Keeping.Strips.{IsSiteOf}
 use Rattle.tl_inside.proofs.Sites.{site_more}
@@ -71,3 +72,15 @@ look_at-requires-clause-no_far g c = c.loop-k.invariant.no_far
 
 pub returns-clause-left : goal.returns-clause-left
 returns-clause-left g c = c.loop-k.invariant.left
+
+pub returns-in_err-look_at-clause-found : goal.returns-in_err-look_at-clause-found
+returns-in_err-look_at-clause-found g c = let p = err_from_is_err_and c.from_residual.result c.from_residual.ensures.1 in rw p.1 tt
+
+pub returns-in_err-look_at-clause-left : goal.returns-in_err-look_at-clause-left
+returns-in_err-look_at-clause-left g c = let p = err_from_is_err_and c.from_residual.result c.from_residual.ensures.1 in rw p.1 tt
+
+pub returns-in_err-push_site-in-Costly-clause-found : goal.returns-in_err-push_site-in-Costly-clause-found
+returns-in_err-push_site-in-Costly-clause-found g c = let p = err_from_is_err_and c.from_residual-in_err-push_site-in-Costly.result c.from_residual-in_err-push_site-in-Costly.ensures.1 in rw p.1 tt
+
+pub returns-in_err-push_site-in-Costly-clause-left : goal.returns-in_err-push_site-in-Costly-clause-left
+returns-in_err-push_site-in-Costly-clause-left g c = let p = err_from_is_err_and c.from_residual-in_err-push_site-in-Costly.result c.from_residual-in_err-push_site-in-Costly.ensures.1 in rw p.1 tt

@@ -1,4 +1,5 @@
 use Rattle.std.proofs.Common.{length}
+use Rattle.std.proofs.lemmas.Result.{err_from_is_err_and}
 use Rattle.tl_county.specs.Segments.{segments_before}
 use Rattle.tl_sweep.proofs.Listing.{events_moved}
 use Rattle.tl_sweep.proofs.answer.sweep_segments.Goals as goal
@@ -6,3 +7,9 @@ use Rattle.tl_sweep.proofs.answer.sweep_segments.Goals as goal
 pub sweep_events-requires-clause-events : goal.sweep_events-requires-clause-events
 sweep_events-requires-clause-events c =
     events_moved c.args.map.now.chains (segments_before c.args.map.now.chains (length c.args.map.now.chains)) _ _ c.in_ok-sort.ensures c.in_ok-events.ensures.events
+
+pub returns-in_err-events : goal.returns-in_err-events
+returns-in_err-events c = let p = err_from_is_err_and c.from_residual.result c.from_residual.ensures.1 in rw p.1 tt
+
+pub returns-in_err-sort : goal.returns-in_err-sort
+returns-in_err-sort c = let p = err_from_is_err_and c.from_residual-in_err-sort.result c.from_residual-in_err-sort.ensures.1 in rw p.1 tt

@@ -1,3 +1,4 @@
+use Rattle.std.proofs.lemmas.Result.{err_from_is_err_and}
 use Rattle.tl_slabs.specs.Heights.{widest}
 use Rattle.tl_slabs.proofs.Planarity.{planar}
 use Rattle.tl_sweep.proofs.answer.sweep_tested.Goals as goal
@@ -19,3 +20,9 @@ sweep_list-requires-clause-wide c = c.requires.wide
 
 pub sweep_list-requires-clause-ranges : goal.sweep_list-requires-clause-ranges
 sweep_list-requires-clause-ranges c = c.requires.ranges
+
+pub returns-in_err-spots : goal.returns-in_err-spots
+returns-in_err-spots c = let p = err_from_is_err_and c.from_residual.result c.from_residual.ensures.1 in rw p.1 tt
+
+pub returns-in_err-sweep_list : goal.returns-in_err-sweep_list
+returns-in_err-sweep_list c = let p = err_from_is_err_and c.from_residual-in_err-sweep_list.result c.from_residual-in_err-sweep_list.ensures.1 in rw p.1 tt

@@ -1,4 +1,5 @@
 use Rattle.std.proofs.Common.{◌<◌, arith, length}
+use Rattle.std.proofs.lemmas.Result.{err_from_is_err_and}
 use Rattle.tl_county.specs.Segments.{segments_before}
 use Rattle.tl_planar.proofs.Numbering.{below_total}
 use Rattle.tl_index.proofs.Times.{same_or}
@@ -30,3 +31,21 @@ returns-clause-wide c = wide_by_range c.args.map.now.chains (λ s u is.
     let done = c.loop-s-test.false in
     let count = c.segments-count.ensures.count in
     c.loop-s.invariant.ranges s u (omega (arith, below, done, count)) is)
+
+pub returns-in_err-ends-clause-events : goal.returns-in_err-ends-clause-events
+returns-in_err-ends-clause-events c = let p = err_from_is_err_and c.from_residual.result c.from_residual.ensures.1 in rw p.1 tt
+
+pub returns-in_err-ends-clause-wide : goal.returns-in_err-ends-clause-wide
+returns-in_err-ends-clause-wide c = let p = err_from_is_err_and c.from_residual.result c.from_residual.ensures.1 in rw p.1 tt
+
+pub returns-in_err-ends-clause-ranges : goal.returns-in_err-ends-clause-ranges
+returns-in_err-ends-clause-ranges c = let p = err_from_is_err_and c.from_residual.result c.from_residual.ensures.1 in rw p.1 tt
+
+pub returns-in_err-push_both-clause-events : goal.returns-in_err-push_both-clause-events
+returns-in_err-push_both-clause-events c = let p = err_from_is_err_and c.from_residual-in_err-push_both.result c.from_residual-in_err-push_both.ensures.1 in rw p.1 tt
+
+pub returns-in_err-push_both-clause-wide : goal.returns-in_err-push_both-clause-wide
+returns-in_err-push_both-clause-wide c = let p = err_from_is_err_and c.from_residual-in_err-push_both.result c.from_residual-in_err-push_both.ensures.1 in rw p.1 tt
+
+pub returns-in_err-push_both-clause-ranges : goal.returns-in_err-push_both-clause-ranges
+returns-in_err-push_both-clause-ranges c = let p = err_from_is_err_and c.from_residual-in_err-push_both.result c.from_residual-in_err-push_both.ensures.1 in rw p.1 tt

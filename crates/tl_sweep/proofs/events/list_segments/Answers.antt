@@ -1,4 +1,5 @@
 use Rattle.std.proofs.Common.{ap, ◌+◌, ◌∙◌, ◌∷◌, [], length, arith, length-append}
+use Rattle.std.proofs.lemmas.Result.{err_from_is_err_and}
 use Rattle.tl_slabs.specs.Neighbours.{IsNumbered}
 use Rattle.tl_sweep.proofs.Listing.{segments_more}
 use Rattle.tl_sweep.proofs.events.list_segments.Goals as goal
@@ -18,3 +19,15 @@ loop-s-preserved c =
       many = ap length items ∙ length-append c.loop-s.segments.items (c.segment.result ∷ []) ∙ ap (λ n. n + 1) many;
       are = rw items (segments_more c.args.map.now.chains c.loop-s.segments.items c.loop-s.s c.segment.result many c.loop-s.invariant.are own);
     }
+
+pub returns-in_err-segments-clause-segments : goal.returns-in_err-segments-clause-segments
+returns-in_err-segments-clause-segments c = let p = err_from_is_err_and c.from_residual.result c.from_residual.ensures.1 in rw p.1 tt
+
+pub returns-in_err-segments-clause-all : goal.returns-in_err-segments-clause-all
+returns-in_err-segments-clause-all c = let p = err_from_is_err_and c.from_residual.result c.from_residual.ensures.1 in rw p.1 tt
+
+pub returns-in_err-push-clause-segments : goal.returns-in_err-push-clause-segments
+returns-in_err-push-clause-segments c = let p = err_from_is_err_and c.from_residual-in_err-push.result c.from_residual-in_err-push.ensures.1 in rw p.1 tt
+
+pub returns-in_err-push-clause-all : goal.returns-in_err-push-clause-all
+returns-in_err-push-clause-all c = let p = err_from_is_err_and c.from_residual-in_err-push.result c.from_residual-in_err-push.ensures.1 in rw p.1 tt

@@ -1,4 +1,5 @@
 use Rattle.std.proofs.Common.{◌≡◌, ◌+◌, ◌++◌, refl, ap, sym, ◌∙◌}
+use Rattle.std.proofs.lemmas.Result.{err_from_is_err_and}
 use Rattle.tl_county.specs.declared.sides.Side.TheVariants.{Outside}
 use Rattle.tl_slabs.specs.Heights.{widest}
 use Rattle.tl_slabs.specs.Neighbours.{AreTested}
@@ -46,3 +47,12 @@ returns-then-not-branch-clause-tested c = λ h. never h
 
 pub returns-then-not-branch-clause-counted : goal.returns-then-not-branch-clause-counted
 returns-then-not-branch-clause-counted c = λ h. never h
+
+pub returns-in_err-shift-clause-moved : goal.returns-in_err-shift-clause-moved
+returns-in_err-shift-clause-moved c = let p = err_from_is_err_and c.from_residual.result c.from_residual.ensures.1 in rw p.1 tt
+
+pub returns-in_err-shift-clause-tested : goal.returns-in_err-shift-clause-tested
+returns-in_err-shift-clause-tested c = let p = err_from_is_err_and c.from_residual.result c.from_residual.ensures.1 in rw p.1 tt
+
+pub returns-in_err-shift-clause-counted : goal.returns-in_err-shift-clause-counted
+returns-in_err-shift-clause-counted c = let p = err_from_is_err_and c.from_residual.result c.from_residual.ensures.1 in rw p.1 tt

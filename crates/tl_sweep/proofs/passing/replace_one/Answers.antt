@@ -1,4 +1,5 @@
 use Rattle.std.proofs.Common.{refl, subst, sym, ◌∙◌}
+use Rattle.std.proofs.lemmas.Result.{err_from_is_err_and}
 use Rattle.tl_slabs.specs.Heights.{widest}
 use Rattle.tl_slabs.specs.Neighbours.{AreTested, EachTwo}
 use Rattle.tl_sweep.proofs.Lining.{pushed}
@@ -18,3 +19,12 @@ returns-then-ne-clause-back c = λ h. never h
 
 pub returns-then-ne-clause-tested : goal.returns-then-ne-clause-tested
 returns-then-ne-clause-tested c = λ h. never h
+
+pub returns-in_err-change-clause-front : goal.returns-in_err-change-clause-front
+returns-in_err-change-clause-front c = let p = err_from_is_err_and c.from_residual.result c.from_residual.ensures.1 in rw p.1 tt
+
+pub returns-in_err-change-clause-back : goal.returns-in_err-change-clause-back
+returns-in_err-change-clause-back c = let p = err_from_is_err_and c.from_residual.result c.from_residual.ensures.1 in rw p.1 tt
+
+pub returns-in_err-change-clause-tested : goal.returns-in_err-change-clause-tested
+returns-in_err-change-clause-tested c = let p = err_from_is_err_and c.from_residual.result c.from_residual.ensures.1 in rw p.1 tt

@@ -1,5 +1,6 @@
 use Rattle.std.proofs.Common.{◌≡◌, ◌++◌, to_z, of_z, w64, sym, subst, ◌∙◌, arith}
 use Rattle.std.proofs.lemmas.Int.{ints}
+use Rattle.std.proofs.lemmas.Result.{err_from_is_err_and}
 use Rattle.tl_county.specs.declared.polygons.Polygon.{Polygon}
 use Rattle.tl_planar.specs.Keeping.Apart.{one_found}
 use Rattle.tl_inside.specs.Placed.{IsPlacedIn}
@@ -25,3 +26,9 @@ returns-then-not-are_facing-clause-placed c = λ h. never h
 
 pub returns-then-not-is_between-clause-placed : goal.returns-then-not-is_between-clause-placed
 returns-then-not-is_between-clause-placed c = λ h. never h
+
+pub returns-in_err-open-clause-list : goal.returns-in_err-open-clause-list
+returns-in_err-open-clause-list c = let p = err_from_is_err_and c.from_residual.result c.from_residual.ensures.1 in rw p.1 tt
+
+pub returns-in_err-open-clause-placed : goal.returns-in_err-open-clause-placed
+returns-in_err-open-clause-placed c = let p = err_from_is_err_and c.from_residual.result c.from_residual.ensures.1 in rw p.1 tt

@@ -1,4 +1,5 @@
 use Rattle.std.proofs.Common.{◌≡◌, ◌+◌, ◌-◌, ◌++◌, ◌∷◌, [], List, Vec, Global, ℕ, take, drop, count_by, sym, ap, ◌∙◌, arith}
+use Rattle.std.proofs.lemmas.Result.{err_from_is_err_and}
 use Rattle.tl_index.specs.Hits.{times}
 use Rattle.tl_sweep.specs.declared.events.Event.{Event}
 use Rattle.tl_sweep.specs.Keeping.Listed.{begins_at, ends_at}
@@ -36,3 +37,15 @@ pub returns-clause-ins : goal.returns-clause-ins
 returns-clause-ins c = λ s.
     let end : c.loop-place.place ≡ c.args.to = let done = c.loop-place-test.false in let le = c.loop-place.auto.place-end c.requires.some in omega (arith, done, le) in
     c.loop-place.invariant.on s ∙ ap (λ n. count_by (begins_at s) (take (n - c.args.from) (drop c.args.from c.args.events.now))) end
+
+pub returns-in_err-push-clause-outs : goal.returns-in_err-push-clause-outs
+returns-in_err-push-clause-outs c = let p = err_from_is_err_and c.from_residual.result c.from_residual.ensures.1 in rw p.1 tt
+
+pub returns-in_err-push-clause-ins : goal.returns-in_err-push-clause-ins
+returns-in_err-push-clause-ins c = let p = err_from_is_err_and c.from_residual.result c.from_residual.ensures.1 in rw p.1 tt
+
+pub returns-in_err-push-2-clause-outs : goal.returns-in_err-push-2-clause-outs
+returns-in_err-push-2-clause-outs c = let p = err_from_is_err_and c.from_residual-in_err-push-2.result c.from_residual-in_err-push-2.ensures.1 in rw p.1 tt
+
+pub returns-in_err-push-2-clause-ins : goal.returns-in_err-push-2-clause-ins
+returns-in_err-push-2-clause-ins c = let p = err_from_is_err_and c.from_residual-in_err-push-2.result c.from_residual-in_err-push-2.ensures.1 in rw p.1 tt

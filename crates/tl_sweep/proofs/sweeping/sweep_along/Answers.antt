@@ -1,4 +1,5 @@
 use Rattle.std.proofs.Common.{refl, ap, sym, subst, ◌∙◌, arith}
+use Rattle.std.proofs.lemmas.Result.{err_from_is_err_and}
 use Rattle.tl_planar.specs.Keeping.Apart.{one_found}
 use Rattle.tl_sweep.specs.Keeping.Facing.{IsCounted, gaps_of}
 use Rattle.tl_sweep.specs.Keeping.Lined.{list_of}
@@ -62,3 +63,27 @@ returns-then-not-branch-clause-marks c = λ h. never h
 
 pub returns-clause-marks : goal.returns-clause-marks
 returns-clause-marks c = λ h. c.loop-from.invariant.marks
+
+pub returns-in_err-look-clause-slabs : goal.returns-in_err-look-clause-slabs
+returns-in_err-look-clause-slabs c = let p = err_from_is_err_and c.from_residual.result c.from_residual.ensures.1 in rw p.1 tt
+
+pub returns-in_err-look-clause-marks : goal.returns-in_err-look-clause-marks
+returns-in_err-look-clause-marks c = let p = err_from_is_err_and c.from_residual.result c.from_residual.ensures.1 in rw p.1 tt
+
+pub returns-in_err-gather-clause-slabs : goal.returns-in_err-gather-clause-slabs
+returns-in_err-gather-clause-slabs c = let p = err_from_is_err_and c.from_residual-in_err-gather.result c.from_residual-in_err-gather.ensures.1 in rw p.1 tt
+
+pub returns-in_err-gather-clause-marks : goal.returns-in_err-gather-clause-marks
+returns-in_err-gather-clause-marks c = let p = err_from_is_err_and c.from_residual-in_err-gather.result c.from_residual-in_err-gather.ensures.1 in rw p.1 tt
+
+pub returns-in_err-step-clause-slabs : goal.returns-in_err-step-clause-slabs
+returns-in_err-step-clause-slabs c = let p = err_from_is_err_and c.from_residual-in_err-step.result c.from_residual-in_err-step.ensures.1 in rw p.1 tt
+
+pub returns-in_err-step-clause-marks : goal.returns-in_err-step-clause-marks
+returns-in_err-step-clause-marks c = let p = err_from_is_err_and c.from_residual-in_err-step.result c.from_residual-in_err-step.ensures.1 in rw p.1 tt
+
+pub returns-in_err-list_suspects-clause-slabs : goal.returns-in_err-list_suspects-clause-slabs
+returns-in_err-list_suspects-clause-slabs c = let p = err_from_is_err_and c.from_residual-in_err-list_suspects.result c.from_residual-in_err-list_suspects.ensures.1 in rw p.1 tt
+
+pub returns-in_err-list_suspects-clause-marks : goal.returns-in_err-list_suspects-clause-marks
+returns-in_err-list_suspects-clause-marks c = let p = err_from_is_err_and c.from_residual-in_err-list_suspects.result c.from_residual-in_err-list_suspects.ensures.1 in rw p.1 tt

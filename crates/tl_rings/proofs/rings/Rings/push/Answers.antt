@@ -1,4 +1,5 @@
 use Rattle.std.proofs.Common.{ap, ◌∷◌, [], ◌++◌, ◌∙◌}
+use Rattle.std.proofs.lemmas.Result.{err_from_is_err_and}
 use Rattle.tl_sides.specs.Lists.{and_list}
 use Rattle.tl_rings.specs.Rings.{TheRings}
 use Rattle.tl_inside.proofs.Reaching.{on_ok}
@@ -13,3 +14,9 @@ returns-clause-boxed c =
     (c.in_ok-take_or_lay.ensures.lists ∙ ap (λ (r : TheRings). and_list r.rings c.args.ring.now) c.self.view_is)
     (pushed ∙ ap (λ (r : TheRings). r.boxes ++ c.box_of_ring-around.result ∷ []) c.self.view_is) c.box_of_ring-around.ensures)
     c.push_box.ensures
+
+pub returns-in_err-take_or_lay-clause-rings : goal.returns-in_err-take_or_lay-clause-rings
+returns-in_err-take_or_lay-clause-rings c = let p = err_from_is_err_and c.from_residual.result c.from_residual.ensures.1 in rw p.1 tt
+
+pub returns-in_err-take_or_lay-clause-boxed : goal.returns-in_err-take_or_lay-clause-boxed
+returns-in_err-take_or_lay-clause-boxed c = let p = err_from_is_err_and c.from_residual.result c.from_residual.ensures.1 in rw p.1 tt

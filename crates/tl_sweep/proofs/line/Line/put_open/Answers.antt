@@ -1,4 +1,5 @@
 use Rattle.std.proofs.Common.{◌+◌, ◌++◌, ◌∷◌, [], take, drop, append_assoc, ap, sym, ◌∙◌}
+use Rattle.std.proofs.lemmas.Result.{err_from_is_err_and}
 use Rattle.tl_sweep.specs.Keeping.Lined.{from_west, from_east}
 use Rattle.tl_sweep.proofs.Stacked.{put_front, put_back}
 use Rattle.tl_sweep.proofs.line.Line.put_open.Goals as goal
@@ -16,3 +17,9 @@ returns-clause-back c =
     let east = from_east c.self.inside.east.items in
     let place = c.self.inside.place in
     ap (λ xs. drop (place + 1) xs ++ east) c.in_ok-insert.ensures.items ∙ ap (λ xs. xs ++ east) (put_back c.self.inside.items.items place c.args.s c.self.invariant.0) ∙ ap (λ l. l.back) c.self.view_is
+
+pub returns-in_err-insert-clause-front : goal.returns-in_err-insert-clause-front
+returns-in_err-insert-clause-front c = let p = err_from_is_err_and c.from_residual.result c.from_residual.ensures.1 in rw p.1 tt
+
+pub returns-in_err-insert-clause-back : goal.returns-in_err-insert-clause-back
+returns-in_err-insert-clause-back c = let p = err_from_is_err_and c.from_residual.result c.from_residual.ensures.1 in rw p.1 tt

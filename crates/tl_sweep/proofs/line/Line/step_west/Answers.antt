@@ -1,4 +1,5 @@
 use Rattle.std.proofs.Common.{sym, ap, ◌∙◌, ◌++◌, arith}
+use Rattle.std.proofs.lemmas.Result.{err_from_is_err_and}
 use Rattle.tl_sweep.specs.Keeping.Lined.{from_west, from_east, list_of}
 use Rattle.tl_sweep.proofs.Stacked.{west_more, west_step, some_left}
 use Rattle.tl_sweep.proofs.line.Line.step_west.Goals as goal
@@ -18,3 +19,6 @@ invariant_of-self-in_err-stack_east c = (omega arith, some_left _ _ c.pop.result
 
 pub invariant_of-self-in_default : goal.invariant_of-self-in_default
 invariant_of-self-in_default c = (c.self.invariant.0, some_left _ _ c.pop.result c.self.invariant.1 c.pop.ensures.items, c.self.invariant.2)
+
+pub returns-in_err-stack_east : goal.returns-in_err-stack_east
+returns-in_err-stack_east c = let p = err_from_is_err_and c.from_residual.result c.from_residual.ensures.1 in rw p.1 tt

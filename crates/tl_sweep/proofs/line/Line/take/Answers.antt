@@ -1,4 +1,5 @@
 use Rattle.std.proofs.Common.{◌++◌, take, drop, ap, ◌∙◌, arith}
+use Rattle.std.proofs.lemmas.Result.{err_from_is_err_and}
 use Rattle.tl_sweep.specs.Keeping.Lined.{from_west, from_east}
 use Rattle.tl_sweep.proofs.Stacked.{front_kept, back_taken, end_taken}
 use Rattle.tl_sweep.proofs.line.Line.take.Goals as goal
@@ -28,3 +29,9 @@ returns-in_ok-take_east-clause-back c =
     let past = c.if-self-len.false in
     let len = c.len.ensures in
     end_taken c.self.inside.items.items (from_east c.self.inside.east.items) _ c.self.inside.place (omega (arith, past, len)) c.in_ok-take_east.ensures.numbers ∙ ap (λ l. drop 1 l.back) c.self.view_is
+
+pub returns-in_err-take_east-clause-front : goal.returns-in_err-take_east-clause-front
+returns-in_err-take_east-clause-front c = let p = err_from_is_err_and c.from_residual.result c.from_residual.ensures.1 in rw p.1 tt
+
+pub returns-in_err-take_east-clause-back : goal.returns-in_err-take_east-clause-back
+returns-in_err-take_east-clause-back c = let p = err_from_is_err_and c.from_residual.result c.from_residual.ensures.1 in rw p.1 tt

@@ -1,4 +1,5 @@
 use Rattle.std.proofs.Common.{⊎_elim, sym, subst, ◌∙◌, refl, arith}
+use Rattle.std.proofs.lemmas.Result.{err_from_is_err_and}
 use Rattle.tl_sweep.specs.Keeping.Spotted.{IsPlacedPolygon}
 use Rattle.tl_sweep.specs.Keeping.Facing.{IsCounted}
 use Rattle.tl_sweep.specs.Keeping.Swept.{IsSwept}
@@ -45,3 +46,9 @@ returns-after-loop-self-clause-list c = c.loop-self.invariant.stays
 
 pub returns-after-loop-self-clause-marks : goal.returns-after-loop-self-clause-marks
 returns-after-loop-self-clause-marks c = c.loop-self.invariant.marks
+
+pub returns-in_err-is_placed-clause-list : goal.returns-in_err-is_placed-clause-list
+returns-in_err-is_placed-clause-list c = let p = err_from_is_err_and c.from_residual.result c.from_residual.ensures.1 in rw p.1 tt
+
+pub returns-in_err-is_placed-clause-marks : goal.returns-in_err-is_placed-clause-marks
+returns-in_err-is_placed-clause-marks c = let p = err_from_is_err_and c.from_residual.result c.from_residual.ensures.1 in rw p.1 tt

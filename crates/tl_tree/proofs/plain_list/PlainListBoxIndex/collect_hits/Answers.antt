@@ -1,5 +1,6 @@
-use Rattle.std.proofs.Common.{◌≡◌, ◌++◌, ◌∷◌, [], cond, not, is_ok, true, ap, sym, ◌∙◌}
+use Rattle.std.proofs.Common.{◌≡◌, ◌++◌, ◌∷◌, [], cond, not, is_ok, true, append-nil, refl, ap, sym, subst, ◌∙◌, arith}
 use Rattle.std.proofs.lemmas.Bool.{false≢true}
+use Rattle.tl_index.specs.Hits.{Adds}
 use Rattle.tl_tree.proofs.Hitting.{adds-hit, adds-miss}
 use Rattle.tl_tree.proofs.plain_list.PlainListBoxIndex.collect_hits.Goals as goal
 use Rattle.tl_tree.proofs.plain_list.PlainListBoxIndex.collect_hits.Goals.{else-hits-via-then-hits+else-is_err, else-hits-via-else-hits}
@@ -22,3 +23,24 @@ returns-then-is_err-clause-hits g c = tt
 
 pub returns-clause-refused : goal.returns-clause-refused
 returns-clause-refused g c = tt
+
+pub returns-clause-hits : goal.returns-clause-hits
+returns-clause-hits g c =
+    let past = c.loop-i-test.false in
+    let end = c.loop-i.auto.i-end in
+    let len : c.self.inside.len ≡ g.I.Items.count c.args.items.now = c.self.view_is ∙ c.requires in
+    let all : c.loop-i.i ≡ g.I.Items.count c.args.items.now = omega (arith, past, end, len) in
+    subst (λ n. Adds n (g.P.Probe.hit c.args.probe.now c.args.items.now) c.args.out.now.items c.loop-i.out.items) all c.loop-i.invariant
+
+pub loop-i-init : goal.loop-i-init
+loop-i-init g c = record {
+  found = [];
+  appended = sym (append-nil c.args.out.now.items);
+  hits = record { once = λ i below. absurd (omega (arith, below)); others = λ i no. refl; known = λ i from. refl };
+}
+
+pub hits-requires : goal.hits-requires
+hits-requires g c =
+    let lt = c.loop-i-test.true in
+    let len : c.self.inside.len ≡ g.I.Items.count c.args.items.now = c.self.view_is ∙ c.requires in
+    omega (arith, lt, len)
