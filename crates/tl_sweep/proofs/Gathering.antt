@@ -1,5 +1,5 @@
 -- What is counted of lists of events and of numbers.
-use Rattle.std.proofs.Common.{◌≡◌, ℕ, ◌+◌, ◌-◌, ◌<◌, ◌≤◌, ◌==◌, Bool, true, false, not, ◌&&◌, if◌then◌else◌, List, [], ◌∷◌, ◌++◌, length, take, drop, get_or, sum_by, count_by, refl, sym, ap, ◌∙◌, arith}
+use Rattle.std.proofs.Common.{◌≡◌, ◌⊎◌, inl, inr, ℕ, ◌+◌, ◌-◌, ◌<◌, ◌≤◌, ◌==◌, Bool, true, false, not, ◌&&◌, if◌then◌else◌, List, [], ◌∷◌, ◌++◌, length, take, drop, get_or, sum_by, count_by, refl, sym, ap, ◌∙◌, arith}
 use Rattle.std.specs.List.Sorted.{IsPermutation}
 use Rattle.std.proofs.lemmas.Bool.Decides.{nat_tests}
 use Rattle.std.proofs.lemmas.List.{get_or-drop, length-drop, take_more}
@@ -67,3 +67,21 @@ one_further events from k d le lt =
     ap (λ n. take n (drop from events)) (let next : k + 1 - from ≡ (k - from) + 1 = omega (arith, le) in next) ∙
     take_more (drop from events) (k - from) d (omega (arith, rest, lt, le)) ∙
     ap (λ e. take (k - from) (drop from events) ++ e ∷ []) (get_or-drop from events (k - from) d ∙ ap (λ n. get_or events n d) (let there : from + (k - from) ≡ k = omega (arith, le) in there))
+
+-- what isn't before a place and isn't there is past it
+pub past_where_differ : (a b : ℕ) → a ≤ b → (a ≡ b → ⊥) → a < b
+past_where_differ a b le differ = grind (arith, le, differ)
+
+-- one event more is at the height of the first
+pub level_further : (events : List Event) (from to : ℕ)
+    → ((k : ℕ) (d : Event) → from ≤ k → k < to → (get_or events k d).height ≡ (get_or events from d).height)
+    → ((d : Event) → (get_or events to d).height ≡ (get_or events from d).height)
+    → (k : ℕ) (d : Event) → from ≤ k → k < to + 1 → (get_or events k d).height ≡ (get_or events from d).height
+level_further events from to level next k d le lt = split (last k to lt)
+  where
+    last : (k to : ℕ) → k < to + 1 → (k < to) ⊎ (k ≡ to)
+    last k to lt = grind (arith, lt)
+
+    split : (k < to) ⊎ (k ≡ to) → (get_or events k d).height ≡ (get_or events from d).height
+    split (inl lt) = level k d le lt
+    split (inr e) = ap (λ n. (get_or events n d).height) e ∙ next d

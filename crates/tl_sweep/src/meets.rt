@@ -52,6 +52,7 @@ fn may_meet(map: &Map, e: Event, f: Event) -> bool
 }
 
 /// Whether an event isn't higher than another, and may meet it if it is as high.
+#[inline]
 pub fn are_in_order(map: &Map, e: Event, f: Event) -> bool
     ensures { IsTrue result → AreInOrder map.now.chains e f }
 {
@@ -64,10 +65,16 @@ pub fn are_vertices_tested(map: &Map, events: &Events) -> bool
     ensures vertices { IsTrue result → AreEvents map.now.chains events.now → IsWide widest map.now.chains →
         AreProper map.now.chains → AreVerticesTested map.now.chains }
 {
+    if events.len() == 0 {
+        return true;
+    }
+    let mut before = events.at(0);
     for k in 1..events.len() {
-        if !are_in_order(map, events.at(k - 1), events.at(k)) {
+        let event = events.at(k);
+        if !are_in_order(map, before, event) {
             return false;
         }
+        before = event;
     }
     true
 }

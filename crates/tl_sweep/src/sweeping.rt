@@ -23,47 +23,39 @@ use std::cmp::Ordering;
 use tl_county::Map;
 use tl_geom::{Point, Segment, turn};
 
-/// How far the events at one height go that begin at a place.
-fn run_end(events: &Events, from: usize) -> usize
-    requires { from < length events.now }
-    ensures past { from < result }
-    ensures within { result ≤ length events.now }
-    ensures level { (k : ℕ) (d : Event) → from ≤ k → k < result →
-        (slice_index_or events.now k d).height ≡ (slice_index_or events.now from d).height }
-{
-    let count = events.len();
-    let height = events.at(from).height;
-    let mut to = from + 1;
-    while to < count && events.at(to).height == height {
-        to += 1;
-    }
-    to
-}
-
-/// The segments that end at the events from one place up to another, and those that begin.
+/// The segments that end at the events of one height that begin at a place, and those that begin; and how far these events go.
 fn gather(
     events: &Events,
     from: usize,
-    to: usize,
     outs: &mut Vec<u32>,
     ins: &mut Vec<u32>,
-) -> Result<(), AllocError>
-    requires some { from ≤ to }
-    requires within { to ≤ length events.now }
-    ensures outs { IfOk result (λ done. (s : ℕ) → times s outs.new.items ≡ count_by (ends_at s) (take (to - from) (drop from events.now))) }
-    ensures ins { IfOk result (λ done. (s : ℕ) → times s ins.new.items ≡ count_by (begins_at s) (take (to - from) (drop from events.now))) }
+) -> Result<usize, AllocError>
+    requires { from < length events.now }
+    ensures past { IfOk result (λ to. from < to) }
+    ensures within { IfOk result (λ to. to ≤ length events.now) }
+    ensures level { IfOk result (λ to. (k : ℕ) (d : Event) → from ≤ k → k < to →
+        (slice_index_or events.now k d).height ≡ (slice_index_or events.now from d).height) }
+    ensures outs { IfOk result (λ to. (s : ℕ) → times s outs.new.items ≡ count_by (ends_at s) (take (to - from) (drop from events.now))) }
+    ensures ins { IfOk result (λ to. (s : ℕ) → times s ins.new.items ≡ count_by (begins_at s) (take (to - from) (drop from events.now))) }
 {
     outs.clear();
     ins.clear();
-    for place in from..to {
-        let event = events.at(place);
+    let count = events.len();
+    let height = events.at(from).height;
+    let mut to = from;
+    while to < count {
+        let event = events.at(to);
+        if event.height != height {
+            return Ok(to);
+        }
         if event.begins {
             ins.push(event.segment)?;
         } else {
             outs.push(event.segment)?;
         }
+        to += 1;
     }
-    Ok(())
+    Ok(to)
 }
 
 /// The ends of the segment of a number, if there is one: the lower one, and the higher one.
@@ -238,8 +230,7 @@ fn sweep_along(
     let mut from = 0;
     while from < events.len() {
         spots.look(map, segments, line, events, from, gaps)?;
-        let to = run_end(events, from);
-        gather(events, from, to, outs, ins)?;
+        let to = gather(events, from, outs, ins)?;
         if !step(map, segments, line, outs, ins, places, &mut gaps)? {
             list_suspects(line, outs, ins, suspects)?;
             return Ok(false);

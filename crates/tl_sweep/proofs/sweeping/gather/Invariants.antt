@@ -1,13 +1,21 @@
-use Rattle.std.proofs.Common.{◌≡◌, ◌-◌, ℕ, List, take, drop, count_by}
+use Rattle.std.proofs.Common.{◌≡◌, ◌<◌, ◌≤◌, ◌-◌, ℕ, ℤ, List, length, take, drop, count_by}
+use Rattle.std.specs.Prelude.{slice_index_or}
 use Rattle.tl_index.specs.Hits.{times}
 use Rattle.tl_sweep.specs.declared.events.Event.{Event}
 use Rattle.tl_sweep.specs.Keeping.Listed.{begins_at, ends_at}
 use Rattle.tl_sweep.proofs.sweeping.gather.Given as goal
 
--- the segments of the events so far
-pub record AreGathered (events : List Event) (from k : ℕ) (outs ins : List ℕ) : Type 0 where
-  pub off : (s : ℕ) → times s outs ≡ count_by (ends_at s) (take (k - from) (drop from events))
-  pub on : (s : ℕ) → times s ins ≡ count_by (begins_at s) (take (k - from) (drop from events))
+-- the events so far are at one height, and these are their segments
+pub record AreGathered (events : List Event) (from to : ℕ) (height : ℤ) (outs ins : List ℕ) : Type 0 where
+  pub past : from ≤ to
+  pub within : to ≤ length events
+  pub head : (d : Event) → height ≡ (slice_index_or events from d).height
+  pub level : (k : ℕ) (d : Event) → from ≤ k → k < to → (slice_index_or events k d).height ≡ (slice_index_or events from d).height
+  pub off : (s : ℕ) → times s outs ≡ count_by (ends_at s) (take (to - from) (drop from events))
+  pub on : (s : ℕ) → times s ins ≡ count_by (begins_at s) (take (to - from) (drop from events))
 
-abbrev pub invariant-loop-place : goal.invariant-loop-place
-invariant-loop-place l = AreGathered l.events l.from l.place l.outs.items l.ins.items
+abbrev pub invariant-loop-to : goal.invariant-loop-to
+invariant-loop-to l = AreGathered l.events l.from l.to l.height l.outs.items l.ins.items
+
+abbrev pub decreases-loop-to : goal.decreases-loop-to
+decreases-loop-to l = length l.events - l.to

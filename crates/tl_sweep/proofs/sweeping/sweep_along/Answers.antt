@@ -22,8 +22,8 @@ loop-from-preserved c =
     subst (IsSwept c.args.map.now.chains c.args.events.now c.loop-from.from) stays c.loop-from.invariant.swept in
     record {
       swept =
-          goes_on c.args.map.now.chains c.args.events.now c.loop-from.from c.run_end-to.result (list_of c.look.new.line) (list_of c.step.new.line) c.requires.events c.requires.rising swept
-          c.run_end-to.ensures.past c.run_end-to.ensures.within c.run_end-to.ensures.level (λ s. let off = c.in_ok-gather.ensures.outs s in let on = c.in_ok-gather.ensures.ins s in let moved = c.in_ok-step.ensures.moved c.if-not-branch.false s in omega (arith, off, on, moved)) (c.in_ok-step.ensures.tested c.if-not-branch.false swept.tested);
+          goes_on c.args.map.now.chains c.args.events.now c.loop-from.from c.in_ok-to.to (list_of c.look.new.line) (list_of c.step.new.line) c.requires.events c.requires.rising swept
+          c.in_ok-to.ensures.past c.in_ok-to.ensures.within c.in_ok-to.ensures.level (λ s. let off = c.in_ok-to.ensures.outs s in let on = c.in_ok-to.ensures.ins s in let moved = c.in_ok-step.ensures.moved c.if-not-branch.false s in omega (arith, off, on, moved)) (c.in_ok-step.ensures.tested c.if-not-branch.false swept.tested);
       counted = c.in_ok-step.ensures.counted c.if-not-branch.false (subst (IsCounted c.args.map.now.chains c.loop-from.gaps) stays c.loop-from.invariant.counted);
       marks = c.in_ok-look.ensures.marks;
     }
@@ -49,12 +49,6 @@ look-requires-clause-counted c = c.loop-from.invariant.counted
 pub look-requires-clause-marks : goal.look-requires-clause-marks
 look-requires-clause-marks c = c.loop-from.invariant.marks
 
-pub gather-requires-clause-some : goal.gather-requires-clause-some
-gather-requires-clause-some c = let past = c.run_end-to.ensures.past in omega (arith, past)
-
-pub gather-requires-clause-within : goal.gather-requires-clause-within
-gather-requires-clause-within c = c.run_end-to.ensures.within
-
 pub returns-then-not-branch-clause-slabs : goal.returns-then-not-branch-clause-slabs
 returns-then-not-branch-clause-slabs c = λ h. never h
 
@@ -70,11 +64,11 @@ returns-in_err-look-clause-slabs c = let p = err_from_is_err_and c.from_residual
 pub returns-in_err-look-clause-marks : goal.returns-in_err-look-clause-marks
 returns-in_err-look-clause-marks c = let p = err_from_is_err_and c.from_residual.result c.from_residual.ensures.1 in rw p.1 tt
 
-pub returns-in_err-gather-clause-slabs : goal.returns-in_err-gather-clause-slabs
-returns-in_err-gather-clause-slabs c = let p = err_from_is_err_and c.from_residual-in_err-gather.result c.from_residual-in_err-gather.ensures.1 in rw p.1 tt
+pub returns-in_err-to-clause-slabs : goal.returns-in_err-to-clause-slabs
+returns-in_err-to-clause-slabs c = let p = err_from_is_err_and c.from_residual-in_err-to.result c.from_residual-in_err-to.ensures.1 in rw p.1 tt
 
-pub returns-in_err-gather-clause-marks : goal.returns-in_err-gather-clause-marks
-returns-in_err-gather-clause-marks c = let p = err_from_is_err_and c.from_residual-in_err-gather.result c.from_residual-in_err-gather.ensures.1 in rw p.1 tt
+pub returns-in_err-to-clause-marks : goal.returns-in_err-to-clause-marks
+returns-in_err-to-clause-marks c = let p = err_from_is_err_and c.from_residual-in_err-to.result c.from_residual-in_err-to.ensures.1 in rw p.1 tt
 
 pub returns-in_err-step-clause-slabs : goal.returns-in_err-step-clause-slabs
 returns-in_err-step-clause-slabs c = let p = err_from_is_err_and c.from_residual-in_err-step.result c.from_residual-in_err-step.ensures.1 in rw p.1 tt
