@@ -7,6 +7,7 @@ use std::io;
 use std::io::{ErrorKind, Read};
 use tl_build::{Audit, AuditStop, audit};
 use tl_check::{Stop, Verdict, check, check_cert};
+use tl_county::Map;
 use tl_record::{FailAt, Meter};
 
 /// A reader of a text that gives one byte a read.
@@ -50,12 +51,19 @@ fn is_audited(alloc: Global, others: u64) -> Option<bool> {
     }
 }
 
-/// Whether a check of the dead end's map does.
-fn is_checked_in_memory(alloc: Global, others: u64) -> Option<bool> {
-    let map = map_of(alloc, DEAD_END)?;
-    match check_cert(alloc, &map, &mut failing(DEAD_END_CERT, others), u64::MAX) {
+/// Whether a check of a map by the dead end's certificate does.
+fn is_checked_by(alloc: Global, map: &Map, others: u64) -> Option<bool> {
+    match check_cert(alloc, map, &mut failing(DEAD_END_CERT, others), u64::MAX) {
         Err(Stop::Device) => None,
         verdict => Some(matches!(verdict, Ok(Verdict::Sound(_)))),
+    }
+}
+
+/// Whether that of the dead end's map does.
+fn is_checked_in_memory(alloc: Global, others: u64) -> Option<bool> {
+    match map_of(alloc, DEAD_END) {
+        Some(map) => is_checked_by(alloc, &map, others),
+        None => Some(false),
     }
 }
 
