@@ -1,11 +1,10 @@
-//! Where points lie, by each index.
+//! Where points of the island lie, by each index.
 
 ghost use Rattle.std.specs.Prelude.{◌<◌, ◌^◌, length};
 ghost use Rattle.tl_county.specs.Segments.{segments_before};
 ghost use Rattle.tl_planar.specs.Rectangles.{segment_rect};
 ghost use Rattle.tl_index.specs.Preorder.{IsPreorder};
 
-use crate::maps::{ISLAND, map_of};
 use std::alloc::Global;
 use tl_county::Map;
 use tl_geom::Point;
@@ -27,19 +26,24 @@ const PLACES: [(i32, i32, Option<u32>, &[u32], &[u32]); 9] = [
     (16, 18, Some(1), &[], &[]),
 ];
 
+/// Whether a point lies there.
+fn is_right(place: &Place, chain: Option<u32>, within: &[u32], on: &[u32]) -> bool {
+    match place {
+        Place::OnChain(found) => chain == Some(*found),
+        Place::In {
+            polygons,
+            landmarks,
+        } => chain.is_none() && polygons.as_slice() == within && landmarks.as_slice() == on,
+    }
+}
+
 /// Whether by an index each of the points lies where it has to.
 fn are_right<X: BoxIndex>(alloc: Global, map: &Map, index: &X) -> bool
     requires fits { X.fits index.now (segments_before map.now.chains (length map.now.chains)) (segment_rect map.now.chains) }
 {
     for (x, y, chain, within, on) in PLACES {
         let is_right = match locate(alloc, map, index, Point { x, y }) {
-            Ok(Place::OnChain(found)) => chain == Some(found),
-            Ok(
-                Place::In {
-                    polygons,
-                    landmarks,
-                },
-            ) => chain.is_none() && polygons.as_slice() == within && landmarks.as_slice() == on,
+            Ok(place) => is_right(&place, chain, within, on),
             Err(_) => false,
         };
         if !is_right {
@@ -77,20 +81,17 @@ fn are_right_by_boxes(alloc: Global, map: &Map, nodes: &[TreeNode]) -> bool
     }
 }
 
-/// Whether they do by each index, on the island.
-fn are_right_by_all(alloc: Global) -> bool {
-    let Some(map) = map_of(alloc, ISLAND) else {
-        return false;
-    };
-    let Ok(nodes) = pack(alloc, &Segments::new(&map)) else {
-        return false;
-    };
-    are_right(alloc, &map, &PlainList::new(map.segments()))
-        && are_right_by_nodes(alloc, &map, &nodes)
-        && are_right_by_boxes(alloc, &map, &nodes)
+/// Whether they do by both trees.
+fn are_right_by_trees(alloc: Global, map: &Map) -> bool {
+    match pack(alloc, &Segments::new(map)) {
+        Ok(nodes) => {
+            are_right_by_nodes(alloc, map, &nodes) && are_right_by_boxes(alloc, map, &nodes)
+        }
+        Err(_) => false,
+    }
 }
 
-#[test]
-fn points_of_an_island_by_each_index(rt: HostRuntime) {
-    assert!(rt; are_right_by_all(rt.alloc()));
+/// Whether they do by each index.
+pub fn are_right_by_all(alloc: Global, map: &Map) -> bool {
+    are_right(alloc, map, &PlainList::new(map.segments())) && are_right_by_trees(alloc, map)
 }

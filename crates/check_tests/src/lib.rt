@@ -1,9 +1,10 @@
-//! Worked examples of verdicts, of certificates that are built, and of the searches below them, with answers from outside;
-//! indexes beside one another; what a sweep answers; reads that give one byte or fail; runs of the program over files in
-//! memory; and the line of each stop. They stand beside the libraries, so that these are proved once and not once more with
-//! their tests.
+//! Worked examples of verdicts and of the searches below them, with answers from outside; indexes beside one another; reads
+//! that give one byte or fail; and runs of the program over files in memory. They stand beside the libraries, so that these
+//! are proved once and not once more with their tests.
 #![tactic(auto)]
 
+#[cfg(test)]
+mod asked;
 #[cfg(test)]
 mod indexes;
 #[cfg(test)]
@@ -16,11 +17,5 @@ mod parts;
 mod reads;
 #[cfg(test)]
 mod runs;
-#[cfg(test)]
-mod stops;
-#[cfg(test)]
-mod sweep_maps;
-#[cfg(test)]
-mod sweeps;
 #[cfg(test)]
 mod verdicts;

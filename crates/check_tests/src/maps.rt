@@ -32,15 +32,6 @@ P0000     A0001         1+000000020+00000020
 10000         2                                                                                                                                                                               +000000010+00000010+000000015+00000015
 I0000         2                         A0001         1A0001         1";
 
-/// That with nothing on the right of the chain to the dead end.
-pub const HALF: &str =
-    "10000         1                                                                                                                                                                               +000000010+00000010+000000010+00000010
-20000         1  1+000000030+00000010+000000030+00000030+000000010+00000030
-I0000         1                         A0001         1
-P0000     A0001         1+000000020+00000020
-10000         2                                                                                                                                                                               +000000010+00000010+000000015+00000015
-I0000         2                         A0001         1";
-
 /// A square of polygon 2 within one of polygon 1, and a landmark on both.
 pub const ISLAND: &str =
     "10000         1                                                                                                                                                                               +000000010+00000010+000000010+00000010
@@ -111,10 +102,6 @@ pub const CROSSING: &str =
 I0000         1
 I0000         2";
 
-/// The certificate of the square.
-pub const SQUARE_CERT: &str =
-    "TIGERCERT 1\nC 1 4 1 1\nT 1\nL 10 10 30 30 4\nS 0\nS 1\nS 2\nS 3\nN 1\nR 2\nD 0\nD 1\nW 2\nK 1\nD 0\nK 1\nD 1\nEND\n";
-
 /// That of the square with a dead end.
 pub const DEAD_END_CERT: &str =
     "TIGERCERT 1\nC 2 5 2 1\nT 1\nL 10 10 30 30 5\nS 0\nS 1\nS 2\nS 3\nS 4\nN 2\nR 3\nD 0\nD 2\nD 1\nR 1\nD 3\nW 2\nK 3\nD 0\nD 2\nD 3\nK 1\nD 1\nEND\n";
@@ -126,6 +113,3 @@ pub const ISLAND_CERT: &str =
 /// That of the square with its round turned, and with no walk.
 pub const TURNED_CERT: &str =
     "TIGERCERT 1\nC 1 4 1 1\nT 1\nL 10 10 30 30 4\nS 0\nS 1\nS 2\nS 3\nN 1\nR 2\nD 1\nD 0\nW 0\nEND\n";
-
-/// That of no records.
-pub const EMPTY_CERT: &str = "TIGERCERT 1\nC 0 0 0 0\nT 0\nN 0\nW 0\nEND\n";

@@ -7,6 +7,7 @@ use std::io;
 use std::io::{ErrorKind, Read};
 use tl_build::{Audit, AuditStop, audit};
 use tl_check::{Stop, Verdict, check, check_cert};
+use tl_county::Map;
 use tl_record::{FailAt, Meter};
 
 /// A reader of a text that gives one byte a read.
@@ -30,55 +31,60 @@ fn failing(text: &str, others: u64) -> Failing<'_> {
     FailAt::new(Meter::new(OneByte { rest }), others, ErrorKind::Interrupted)
 }
 
-/// Whether the dead end is told to be sound where none of so many reads of each text fails.
-fn is_sound(alloc: Global, of_records: u64, of_cert: u64) -> Result<bool, Stop> {
+/// Whether a check tells the dead end to be sound where the reads behind so many others of each text fail; a stop for a failed
+/// read is none.
+fn is_checked(alloc: Global, of_records: u64, of_cert: u64) -> Option<bool> {
+    let hasher = fixed_keys().ok()?;
     let mut records = failing(DEAD_END, of_records);
     let mut cert = failing(DEAD_END_CERT, of_cert);
-    let hasher = fixed_keys().or(Err(Stop::Device))?;
-    let verdict = check(alloc, hasher, &mut records, &mut cert, u64::MAX)?;
-    Ok(matches!(verdict, Verdict::Sound(_)))
+    match check(alloc, hasher, &mut records, &mut cert, u64::MAX) {
+        Err(Stop::Device) => None,
+        verdict => Some(matches!(verdict, Ok(Verdict::Sound(_)))),
+    }
 }
 
-/// Whether an audit says so.
-fn is_audited(alloc: Global, others: u64) -> Result<bool, AuditStop> {
-    let hasher = fixed_keys().or(Err(AuditStop::Device))?;
-    let audited = audit(alloc, hasher, &mut failing(DEAD_END, others))?;
-    Ok(matches!(audited, Audit::Sound(_)))
+/// Whether an audit does.
+fn is_audited(alloc: Global, others: u64) -> Option<bool> {
+    match audit(alloc, fixed_keys().ok()?, &mut failing(DEAD_END, others)) {
+        Err(AuditStop::Device) => None,
+        audited => Some(matches!(audited, Ok(Audit::Sound(_)))),
+    }
+}
+
+/// Whether a check of a map by the dead end's certificate does.
+fn is_checked_by(alloc: Global, map: &Map, others: u64) -> Option<bool> {
+    match check_cert(alloc, map, &mut failing(DEAD_END_CERT, others), u64::MAX) {
+        Err(Stop::Device) => None,
+        verdict => Some(matches!(verdict, Ok(Verdict::Sound(_)))),
+    }
+}
+
+/// Whether that of the dead end's map does.
+fn is_checked_in_memory(alloc: Global, others: u64) -> Option<bool> {
+    match map_of(alloc, DEAD_END) {
+        Some(map) => is_checked_by(alloc, &map, others),
+        None => Some(false),
+    }
 }
 
 #[test]
-fn one_byte_a_read(rt: HostRuntime) {
-    assert!(rt; is_sound(rt.alloc(), u64::MAX, u64::MAX) == Ok(true));
-    assert!(rt; is_audited(rt.alloc(), u64::MAX) == Ok(true));
-}
-
-#[test]
-fn each_read_of_records_fails(rt: HostRuntime) {
+fn each_read_of_records(rt: HostRuntime) {
     // the last read finds the end
     for others in 0..=DEAD_END.len() as u64 {
-        let checked = is_sound(rt.alloc(), others, u64::MAX);
-        let audited = is_audited(rt.alloc(), others);
-        assert!(rt;
-            checked == Err(Stop::Device) && audited == Err(AuditStop::Device),
-            "{others}"
-        );
+        let is_stopped = is_checked(rt.alloc(), others, u64::MAX).is_none()
+            && is_audited(rt.alloc(), others).is_none();
+        assert!(rt; is_stopped, "{others}");
     }
-}
-
-/// What is decided of the dead end's map where the read of the certificate behind so many others fails.
-fn of_map(alloc: Global, others: u64) -> Option<Result<Verdict, Stop>> {
-    let map = map_of(alloc, DEAD_END)?;
-    Some(check_cert(alloc, &map, &mut failing(DEAD_END_CERT, others), u64::MAX))
+    assert!(rt; is_audited(rt.alloc(), u64::MAX) == Some(true));
 }
 
 #[test]
-fn each_read_of_a_certificate_fails(rt: HostRuntime) {
+fn each_read_of_a_certificate(rt: HostRuntime) {
     for others in 0..=DEAD_END_CERT.len() as u64 {
-        let checked = is_sound(rt.alloc(), u64::MAX, others);
-        let by_map = of_map(rt.alloc(), others);
-        assert!(rt;
-            checked == Err(Stop::Device) && by_map == Some(Err(Stop::Device)),
-            "{others}"
-        );
+        let is_stopped = is_checked(rt.alloc(), u64::MAX, others).is_none()
+            && is_checked_in_memory(rt.alloc(), others).is_none();
+        assert!(rt; is_stopped, "{others}");
     }
+    assert!(rt; is_checked(rt.alloc(), u64::MAX, u64::MAX) == Some(true));
+    assert!(rt; is_checked_in_memory(rt.alloc(), u64::MAX) == Some(true));
 }

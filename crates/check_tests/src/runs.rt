@@ -3,54 +3,40 @@
 use crate::keys::fixed_keys;
 use crate::maps::SQUARE;
 use std::alloc::{AllocError, Global};
-use std::io;
 use tl_command::start::start;
 use tl_memory_files::FilesInMemory;
 use tl_record::MeterOut;
 
-/// What a run printed, and its status.
-#[derive(Drop)]
-struct Ran {
-    status: u8,
-    out: Vec<u8>,
-    err: Vec<u8>,
-}
+/// Words, and the status and the output that they come to, and the error output.
+const RUNS: [(&[&str], u8, &str, &str); 5] = [
+    (
+        &["audit", "SQUARE"],
+        0,
+        "sound chains=1 segments=4 nodes=1 polygons=1 landmarks=0 rings=2\n",
+        "",
+    ),
+    (
+        &["build", "--out", "CERT", "SQUARE"],
+        0,
+        "built chains=1 segments=4 nodes=1 polygons=1 landmarks=0 rings=2\n",
+        "",
+    ),
+    (
+        &["check", "--cert", "CERT", "SQUARE"],
+        0,
+        "sound chains=1 segments=4 nodes=1 polygons=1 landmarks=0 rings=2\n",
+        "",
+    ),
+    (
+        &["build", "--out", "NOTES", "SQUARE"],
+        64,
+        "",
+        "OUT stands and is no certificate\n",
+    ),
+    (&["audit", "SQUARE", "ROUND"], 4, "", "stopped Device\n"),
+];
 
-impl Ran {
-    /// Whether this is what was printed, and the status.
-    fn is(&self, status: u8, out: &str, err: &str) -> bool {
-        self.status == status
-            && self.out.as_slice() == out.as_bytes()
-            && self.err.as_slice() == err.as_bytes()
-    }
-}
-
-/// Does what these words ask.
-fn run(files: &mut FilesInMemory, alloc: Global, words: &[&str]) -> io::Result<Ran> {
-    let mut texts = Vec::new(alloc);
-    for word in words {
-        texts.push(String::from_str(alloc, word)?)?;
-    }
-    let mut out = Vec::new(alloc);
-    let mut err = Vec::new(alloc);
-    let status = start(
-        files,
-        alloc,
-        fixed_keys()?,
-        texts.as_slice(),
-        &mut MeterOut::new(&mut out),
-        &mut MeterOut::new(&mut err),
-    );
-    Ok(Ran { status, out, err })
-}
-
-/// Files, of which one has the records of a square.
-fn files_with_square(alloc: Global) -> Result<FilesInMemory, AllocError> {
-    let mut files = FilesInMemory::new(alloc);
-    store(&mut files, alloc, "SQUARE", SQUARE)?;
-    Ok(files)
-}
-
+/// Stores a text under a name.
 fn store(
     files: &mut FilesInMemory,
     alloc: Global,
@@ -62,43 +48,72 @@ fn store(
     files.store(name, bytes)
 }
 
-#[test]
-fn an_audit(rt: HostRuntime) {
-    let alloc = rt.alloc();
-    let mut files = files_with_square(alloc).expect(&rt, "memory");
-    let ran = run(&mut files, alloc, &["audit", "SQUARE"]).expect(&rt, "memory");
-    let line = "sound chains=1 segments=4 nodes=1 polygons=1 landmarks=0 rings=2\n";
-    assert!(rt; ran.is(0, line, ""));
+/// Words, each a text of its own.
+fn texts_of(alloc: Global, words: &[&str]) -> Result<Vec<String>, AllocError> {
+    let mut texts = Vec::new(alloc);
+    for word in words {
+        texts.push(String::from_str(alloc, word)?)?;
+    }
+    Ok(texts)
+}
+
+/// Whether a run over the files comes to this.
+fn comes_to(
+    files: &mut FilesInMemory,
+    alloc: Global,
+    words: &[String],
+    (status, out, err): (u8, &str, &str),
+) -> bool {
+    let Ok(hasher) = fixed_keys() else {
+        return false;
+    };
+    let mut printed = Vec::new(alloc);
+    let mut told = Vec::new(alloc);
+    let ended = start(
+        files,
+        alloc,
+        hasher,
+        words,
+        &mut MeterOut::new(&mut printed),
+        &mut MeterOut::new(&mut told),
+    );
+    ended == status && printed.as_slice() == out.as_bytes() && told.as_slice() == err.as_bytes()
+}
+
+/// How many of the runs come to what they have to, one after the other.
+fn right_runs(files: &mut FilesInMemory, alloc: Global) -> usize {
+    for (count, (words, status, out, err)) in RUNS.iter().enumerate() {
+        let is_right = match texts_of(alloc, words) {
+            Ok(words) => comes_to(files, alloc, &words, (*status, out, err)),
+            Err(_) => false,
+        };
+        if !is_right {
+            return count;
+        }
+    }
+    RUNS.len()
+}
+
+/// Whether a certificate was made, and the notes stand.
+fn are_left(files: &FilesInMemory) -> bool {
+    match (files.bytes("CERT"), files.bytes("NOTES")) {
+        (Some(made), Some(notes)) => {
+            made.starts_with(b"TIGERCERT 2\nC 1 4 1 1\n") && notes == b"mine".as_slice()
+        }
+        _ => false,
+    }
+}
+
+/// How many of the runs do so over a square and notes, where they leave the files as they have to.
+fn right_over(files: &mut FilesInMemory, alloc: Global) -> Option<usize> {
+    store(files, alloc, "SQUARE", SQUARE).ok()?;
+    store(files, alloc, "NOTES", "mine").ok()?;
+    let count = right_runs(files, alloc);
+    if are_left(files) { Some(count) } else { None }
 }
 
 #[test]
-fn a_certificate_is_made_and_passes(rt: HostRuntime) {
-    let alloc = rt.alloc();
-    let mut files = files_with_square(alloc).expect(&rt, "memory");
-    let ran = run(&mut files, alloc, &["build", "--out", "CERT", "SQUARE"]).expect(&rt, "memory");
-    let line = "built chains=1 segments=4 nodes=1 polygons=1 landmarks=0 rings=2\n";
-    assert!(rt; ran.is(0, line, ""));
-    let made = files.bytes("CERT").expect(&rt, "no file");
-    assert!(rt; made.starts_with(b"TIGERCERT 2\nC 1 4 1 1\n"));
-    let ran = run(&mut files, alloc, &["check", "--cert", "CERT", "SQUARE"]).expect(&rt, "memory");
-    let line = "sound chains=1 segments=4 nodes=1 polygons=1 landmarks=0 rings=2\n";
-    assert!(rt; ran.is(0, line, ""));
-}
-
-#[test]
-fn a_file_that_is_no_certificate_stays(rt: HostRuntime) {
-    let alloc = rt.alloc();
-    let mut files = files_with_square(alloc).expect(&rt, "memory");
-    store(&mut files, alloc, "NOTES", "mine").expect(&rt, "memory");
-    let ran = run(&mut files, alloc, &["build", "--out", "NOTES", "SQUARE"]).expect(&rt, "memory");
-    assert!(rt; ran.is(64, "", "OUT stands and is no certificate\n"));
-    assert!(rt; files.bytes("NOTES").expect(&rt, "no file") == b"mine".as_slice());
-}
-
-#[test]
-fn a_file_that_is_missing(rt: HostRuntime) {
-    let alloc = rt.alloc();
-    let mut files = files_with_square(alloc).expect(&rt, "memory");
-    let ran = run(&mut files, alloc, &["audit", "SQUARE", "ROUND"]).expect(&rt, "memory");
-    assert!(rt; ran.is(4, "", "stopped Device\n"));
+fn runs(rt: HostRuntime) {
+    let mut files = FilesInMemory::new(rt.alloc());
+    assert!(rt; right_over(&mut files, rt.alloc()) == Some(RUNS.len()));
 }

@@ -5,8 +5,8 @@ use std::alloc::Global;
 use std::io;
 use std::io::{ErrorKind, Read};
 use tl_geom::Point;
-use tl_map::{Chains, MapStop, read_chains, read_chains_with, read_map};
-use tl_record::{FailAt, Meter, Options, Source};
+use tl_map::{Chains, MapStop, read_chains, read_map};
+use tl_record::{FailAt, Meter, Source};
 
 /// A reader of a text that gives one byte a read.
 #[derive(Drop)]
@@ -51,40 +51,37 @@ fn are_two(chains: &Chains) -> bool {
         && chains.points(1).len() == 2
 }
 
-/// Why no chains are read, with or without options, and no map, where all say the same; or that all are read.
-fn answers(alloc: Global, others: u64) -> Option<Result<(), MapStop>> {
-    let chains = match read_chains(alloc, &mut failing(others)) {
-        Ok(chains) if are_two(&chains) => Ok(()),
-        Ok(_) => return None,
-        Err(stop) => Err(stop),
+/// Whether the chains are those two where the read behind so many others fails; none where it stops them, and is counted.
+fn read_two(alloc: Global, others: u64) -> Option<bool> {
+    let mut source = failing(others);
+    let is_stopped = match read_chains(alloc, &mut source) {
+        Ok(chains) => return Some(are_two(&chains)),
+        Err(stop) => stop == MapStop::Device,
     };
-    let map = match read_map(alloc, keys_of(9).ok()?, &mut failing(others)) {
-        Ok(map) if map.segments() == 5 && map.nodes() == 3 => Ok(()),
-        Ok(_) => return None,
-        Err(stop) => Err(stop),
-    };
-    if chains == map { Some(chains) } else { None }
+    if is_stopped && source.failures() == 1 {
+        None
+    } else {
+        Some(false)
+    }
 }
 
-#[test]
-fn one_byte_a_read(rt: HostRuntime) {
-    assert!(rt; answers(rt.alloc(), u64::MAX) == Some(Ok(())));
+/// Whether the map has these two.
+fn read_map_of_two(alloc: Global, others: u64) -> Option<bool> {
+    match read_map(alloc, keys_of(9).ok()?, &mut failing(others)) {
+        Ok(map) => Some(map.segments() == 5 && map.nodes() == 3),
+        Err(MapStop::Device) => None,
+        Err(_) => Some(false),
+    }
 }
 
 #[test]
 fn each_read_fails(rt: HostRuntime) {
     // the last read finds the end
     for others in 0..=TWO_CHAINS.len() as u64 {
-        assert!(rt;
-            answers(rt.alloc(), others) == Some(Err(MapStop::Device)),
-            "{others}"
-        );
+        let is_stopped = read_two(rt.alloc(), others).is_none()
+            && read_map_of_two(rt.alloc(), others).is_none();
+        assert!(rt; is_stopped, "{others}");
     }
-}
-
-#[test]
-fn a_failed_read_is_counted(rt: HostRuntime) {
-    let mut source = failing(7);
-    let stop = read_chains_with(rt.alloc(), &mut source, Options::default()).err();
-    assert!(rt; stop == Some(MapStop::Device) && source.failures() == 1);
+    assert!(rt; read_two(rt.alloc(), u64::MAX) == Some(true));
+    assert!(rt; read_map_of_two(rt.alloc(), u64::MAX) == Some(true));
 }
