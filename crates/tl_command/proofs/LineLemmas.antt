@@ -1,12 +1,10 @@
 -- A line that is told, and one that isn't.
-use Rattle.std.proofs.Common.{◌≡◌, ◌≢◌, ◌⊎◌, inl, inr, ℕ, List, Option, Some, None, Result, Ok, Err, sym, ◌∙◌}
-use Rattle.std.specs.Bool.{⊤}
+use Rattle.std.proofs.Common.{◌≡◌, inl, inr, ℕ, List, Option, Some, None}
 use Rattle.std.specs.Option.{IfSome}
 use Rattle.tl_output.specs.Writing.{line_of}
 use Rattle.tl_verdict.specs.declared.stop.Stop.TheVariants.{Memory, Device}
-use Rattle.tl_command.specs.declared.stop.TheConstants.{STOPPED}
 use Rattle.tl_command.specs.Making.{IsLine}
-use Rattle.tl_command.specs.Running.{IsTold, NamesStop}
+use Rattle.tl_command.specs.Running.{IsTold}
 
 -- it was written
 pub line_told : (text : Option (List ℕ)) (status wanted : ℕ) (wrote told part : List ℕ → Type 0) (out_same err_same : Type 0) → status ≡ wanted → IfSome text (λ t. wrote (line_of t)) → err_same

@@ -1,11 +1,11 @@
 -- What is written piece by piece.
-use Rattle.std.proofs.Common.{◌≡◌, ℕ, zero, suc, ◌+◌, ◌-◌, ◌<◌, ◌≤◌, List, [], ◌∷◌, ◌++◌, length, take, drop, map, slice_get, slice_index_or, Some, refl, sym, ap, subst, ◌∙◌, append_assoc, append-nil, add-one, zero-add, arith, drop-cons, take-append-drop}
+use Rattle.std.proofs.Common.{◌≡◌, ℕ, zero, suc, ◌+◌, ◌-◌, ◌<◌, ◌≤◌, List, [], ◌∷◌, ◌++◌, length, take, drop, map, slice_get, slice_index_or, Some, None, refl, sym, ap, subst, ◌∙◌, append_assoc, append-nil, add-one, zero-add, arith, drop-cons, take-append-drop}
 use Rattle.std.proofs.Math.Seq.{take-nil}
 use Rattle.std.proofs.lemmas.List.{take_all}
 use Rattle.std.specs.Prelude.{Option}
 use Rattle.tl_geom.specs.declared.point.Point.{Point}
 use Rattle.tl_county.specs.Chains.{CompleteChain, tlids}
-use Rattle.tl_output.specs.Writing.{PassesSome}
+use Rattle.tl_output.specs.Writing.{PassesOn, PassesSome}
 use Rattle.tl_output.proofs.WritingLemmas.{passes_some_more}
 use Rattle.tl_text.specs.Printing.{point_text, points_text, chain_text, chains_text}
 
@@ -90,3 +90,8 @@ chain_pieces head points i n end =
     ∙ append_assoc head _ _
     ∙ ap (λ l. head ++ l) (sym (points_text-append (take (i + n) points) (drop (i + n) points)) ∙ ap points_text (take-append-drop (i + n) points))
     )
+
+-- before anything is passed on
+pub passes_nothing : (old : Option (List ℕ)) (held : List ℕ) → PassesOn old old held held []
+passes_nothing None held = record { taken = []; grown = tt; whole = sym (append-nil held) }
+passes_nothing (Some bytes) held = record { taken = []; grown = sym (append-nil bytes); whole = sym (append-nil held) }

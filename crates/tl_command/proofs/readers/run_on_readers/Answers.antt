@@ -1,4 +1,4 @@
-use Rattle.std.proofs.Common.{inl, inr, refl, sym, ap, ◌∙◌}
+use Rattle.std.proofs.Common.{inl, inr, refl, ap, ◌∙◌}
 use Rattle.tl_record.specs.Failures.{one_more}
 use Rattle.tl_command.specs.Running.{TriesToWrite}
 use Rattle.tl_command.proofs.RunLemmas.{stop_no_answer, stop_no_refusal}

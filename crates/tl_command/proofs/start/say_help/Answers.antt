@@ -1,4 +1,4 @@
-use Rattle.std.proofs.Common.{inl, inr, refl, subst}
+use Rattle.std.proofs.Common.{inr, subst}
 use Rattle.tl_output.specs.Writing.{WritesSome}
 use Rattle.tl_output.proofs.WritingLemmas.{writes_some}
 use Rattle.tl_command.proofs.start.say_help.Goals as goal

@@ -1,8 +1,10 @@
 use Rattle.std.proofs.lemmas.Result.{err_from_is_err_and}
-use Rattle.std.proofs.Common.{◌≡◌, ◌∷◌, [], ◌∙◌, ◌+◌, ◌-◌, ◌++◌, drop, refl, append-nil, arith}
+use Rattle.std.proofs.Common.{◌≡◌, ◌∷◌, [], ◌∙◌, ◌+◌, ◌-◌, ◌++◌, drop, refl, ap, subst, append-nil, arith}
 use Rattle.std.specs.Prelude.{codes, decimal}
-use Rattle.tl_output.proofs.WritingLemmas.{passes_both, passes_some_then, passes_last}
-use Rattle.tl_text.proofs.PrintingLemmas.{points_text-several, chain_parts, chain_pieces, passes_lost}
+use Rattle.tl_output.proofs.WritingLemmas.{passes_both, passes_some_then, passes_last, counts_err}
+use Rattle.tl_text.proofs.PrintingLemmas.{points_text-several, chain_parts, chain_pieces, passes_lost, passes_nothing}
+use Rattle.tl_record.specs.Failures.{one_more}
+use Rattle.tl_output.specs.Writing.{CountsFailure}
 use Rattle.tl_text.specs.Printing.{points_text, chain_text}
 use Rattle.tl_text.proofs.print.print_chain.Goals as goal
 
@@ -55,3 +57,27 @@ returns-clause-bytes g c =
     let all = passes_both _ _ _ _ _ _ _ _ points c.in_ok-print_points-2.ensures.bytes in
     passes_last c.add-2.result _ _ _ _ _ _ _ _ _ all c.add-2.ensures.passes
     (rw head (chain_parts (codes "tlid " ++ decimal c.args.tlid) c.args.points.now c.loop-printed.printed (codes "\n") c.loop-printed.invariant.within))
+
+pub loop-printed-init : goal.loop-printed-init
+loop-printed-init g c = record { within = omega arith; bytes = passes_nothing _ _; failures = refl }
+
+pub loop-printed-smaller : goal.loop-printed-smaller
+loop-printed-smaller g c = omega (arith, c.loop-printed-test.true)
+
+pub returns-in_err-add-clause-failures : goal.returns-in_err-add-clause-failures
+returns-in_err-add-clause-failures g c = counts_err _ _ c.from_residual.result c.from_residual.ensures.0 c.in_err-add.ensures.failures
+
+pub returns-in_err-print_points-clause-failures : goal.returns-in_err-print_points-clause-failures
+returns-in_err-print_points-clause-failures g c =
+    counts_err _ _ c.from_residual-in_err-print_points.result c.from_residual-in_err-print_points.ensures.0
+    (c.in_err-print_points.ensures.failures ∙ ap one_more (c.loop-printed.invariant.failures ∙ c.in_ok-add.ensures.failures))
+
+pub returns-in_err-print_points-2-clause-failures : goal.returns-in_err-print_points-2-clause-failures
+returns-in_err-print_points-2-clause-failures g c =
+    counts_err _ _ c.from_residual-in_err-print_points-2.result c.from_residual-in_err-print_points-2.ensures.0
+    (c.in_err-print_points-2.ensures.failures ∙ ap one_more (c.loop-printed.invariant.failures ∙ c.in_ok-add.ensures.failures))
+
+pub returns-clause-failures : goal.returns-clause-failures
+returns-clause-failures g c =
+    subst (λ old. CountsFailure old (g.S.Sink.failure_count c.add-2.new.out) c.add-2.result)
+    (c.in_ok-print_points-2.ensures.failures ∙ c.loop-printed.invariant.failures ∙ c.in_ok-add.ensures.failures) c.add-2.ensures.failures

@@ -2,6 +2,7 @@ use Rattle.std.proofs.Common.{◌≡◌, ◌-◌, ◌<◌, min, [], length, take
 use Rattle.std.proofs.KnownBytes.{prepend_known-read}
 use Rattle.std.specs.Io.KnownBytes.{ReadConsumes, prepend_known}
 use Rattle.tl_text.proofs.JoiningLemmas.{advance, given, none_held, nothing_held}
+use Rattle.tl_output.proofs.WritingLemmas.{counts_err}
 use Rattle.tl_text.proofs.buffered.BufferedSource.fetch.Goals as goal
 
 pub returns-then-buf-ge-MANY-clause-bytes : goal.returns-then-buf-ge-MANY-clause-bytes
@@ -31,3 +32,15 @@ returns-clause-bytes g c =
     let empty : length held ≡ 0 = ap length none in
     (ap (drop n) none ∙ ap (λ k. drop k []) p.0, c.in_ok-fill.ensures.end (omega (arith, long, empty)))) in
     rw (advance w.bytes.items w.start w.end n (omega (arith, count, long))) (read.0, λ zero some. read.1 (zero, some))
+
+pub returns-in_err-fill-clause-failures : goal.returns-in_err-fill-clause-failures
+returns-in_err-fill-clause-failures g c = counts_err _ _ c.from_residual.result c.from_residual.ensures.0 c.in_err-fill.ensures.failures
+
+pub returns-clause-failures : goal.returns-clause-failures
+returns-clause-failures g c = c.in_ok-fill.ensures.failures
+
+pub returns-then-buf-ge-MANY-clause-failures : goal.returns-then-buf-ge-MANY-clause-failures
+returns-then-buf-ge-MANY-clause-failures g c = c.fetch.ensures.failures
+
+pub returns-then-buf-ge-MANY-clause-bound : goal.returns-then-buf-ge-MANY-clause-bound
+returns-then-buf-ge-MANY-clause-bound g c = c.fetch.ensures.bound

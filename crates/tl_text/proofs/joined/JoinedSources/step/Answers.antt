@@ -1,4 +1,5 @@
-use Rattle.std.proofs.Common.{◌≡◌, ◌<◌, arith, length, take}
+use Rattle.std.proofs.lemmas.Result.{err_from_is_err_and}
+use Rattle.std.proofs.Common.{◌≡◌, ◌<◌, arith, length, refl, take}
 use Rattle.tl_text.proofs.JoiningLemmas.{joined_bytes-read, joined_bytes-end, leaves_open-read, take-line_feed, good_read, failed_read}
 use Rattle.tl_output.proofs.WritingLemmas.{counts_err}
 use Rattle.tl_text.proofs.joined.JoinedSources.step.Goals as goal
@@ -43,3 +44,43 @@ returns-in_err-count-clause-failures g c =
     let within : c.args.self.now.place < length c.args.self.now.readers.items = omega (arith, c.args.self.now.readers.ok.0) in
     counts_err _ _ c.from_residual.result c.from_residual.ensures.0
     (failed_read g.R.Source.failure_count 0 c.args.self.now.readers.items c.args.self.now.place _ c.fetch.new.self within c.index_mut.ensures.value c.in_err-count.ensures.failures)
+
+pub returns-then-count-gt0-clause-bound : goal.returns-then-count-gt0-clause-bound
+returns-then-count-gt0-clause-bound g c = c.in_ok-count.ensures.bound
+
+pub returns-then-count-gt0-clause-next : goal.returns-then-count-gt0-clause-next
+returns-then-count-gt0-clause-next g c = λ none. absurd (omega (arith, c.if-count-gt0.true, none))
+
+pub returns-then-self-clause-next : goal.returns-then-self-clause-next
+returns-then-self-clause-next g c = λ none. absurd (cc none)
+
+pub returns-clause-next : goal.returns-clause-next
+returns-clause-next g c = λ none. refl
+
+pub returns-in_err-count-clause-next : goal.returns-in_err-count-clause-next
+returns-in_err-count-clause-next g c =
+    let p = err_from_is_err_and c.from_residual.result c.from_residual.ensures.1 in
+    rw p.1 refl
+
+pub returns-clause-readers : goal.returns-clause-readers
+returns-clause-readers g c = refl
+
+pub returns-in_err-count-clause-readers : goal.returns-in_err-count-clause-readers
+returns-in_err-count-clause-readers g c = refl
+
+pub returns-then-count-gt0-clause-readers : goal.returns-then-count-gt0-clause-readers
+returns-then-count-gt0-clause-readers g c = refl
+
+pub returns-then-self-clause-readers : goal.returns-then-self-clause-readers
+returns-then-self-clause-readers g c = refl
+
+pub returns-clause-bytes : goal.returns-clause-bytes
+returns-clause-bytes g c =
+    let none : c.in_ok-count.count ≡ 0 = omega arith in
+    let room : 0 < length c.fetch.new.buf = omega arith in
+    let within : c.args.self.now.place < length c.args.self.now.readers.items = omega (arith, c.args.self.now.readers.ok.0) in
+    let gone = rw none at c.in_ok-count.ensures.bytes.0 in
+    let done = joined_bytes-end g.R.Source.remaining c.args.self.now.is_open c.args.self.now.readers.items
+    c.args.self.now.place _ c.fetch.new.self within c.index_mut.ensures.value gone
+    (c.in_ok-count.ensures.bytes.1 none room) in
+    rw c.if-self.false (rw c.if-self.false at done)
