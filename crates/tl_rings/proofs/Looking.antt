@@ -1,11 +1,12 @@
 -- What the rings about a point tell.
-use Rattle.std.proofs.Common.{◌≡◌, ℕ, ◌+◌, ◌-◌, ◌*◌, ◌<◌, ◌≤◌, ◌^◌, pos, List, [], ◌∷◌, ◌++◌, length, get_or, All, Contains, sym, subst, ap, ◌∙◌, refl, arith, Some, if◌then◌else◌, false}
+use Rattle.std.proofs.Common.{◌≡◌, ℕ, ◌+◌, ◌-◌, ◌*◌, ◌<◌, ◌≤◌, ◌^◌, pos, List, [], ◌∷◌, ◌++◌, length, get_or, All, Contains, sym, subst, ap, ◌∙◌, refl, arith, Option, Some, if◌then◌else◌, false}
 use Rattle.std.specs.Option.{option_map_or}
-use Rattle.std.specs.Prelude.{slice_index}
+use Rattle.std.specs.Prelude.{slice_get, slice_index}
 use Rattle.std.proofs.lemmas.Int.{ints}
 use Rattle.std.proofs.lemmas.List.{length-append, get_or_default, get_or_append_left, get_or-append_right}
 use Rattle.std.proofs.lemmas.Option.{slice_get_within}
 use Rattle.tl_geom.specs.declared.point.Point.{Point}
+use Rattle.tl_county.specs.declared.polygons.Polygon.{Polygon}
 use Rattle.tl_county.specs.TheMap.{TheMap, MapChain}
 use Rattle.tl_index.specs.Hits.{AreHits, Adds}
 use Rattle.tl_sides.specs.Lists.{list_at}
@@ -15,7 +16,7 @@ use Rattle.tl_sides.proofs.Headings.{dart_within}
 use Rattle.tl_inside.specs.declared.flanks.Flanks.{Flanks}
 use Rattle.tl_inside.specs.declared.strips.Site.{Site}
 use Rattle.tl_inside.specs.Inside.{balance}
-use Rattle.tl_inside.specs.Placed.{ArePlaced}
+use Rattle.tl_inside.specs.Placed.{IsPlacedIn, ArePlaced}
 use Rattle.tl_inside.specs.Keeping.Strips.{IsPlacedSite}
 use Rattle.tl_inside.specs.Keeping.Tallies.{TellCounts}
 use Rattle.tl_inside.proofs.Reaching.{all_below}
@@ -97,3 +98,10 @@ pub all_placed : (m : TheMap) (order : List ℕ) → All (IsPlacedPolygon m) ord
 all_placed m order all whole p polygon is =
     let c = whole p (slice_get_within m.polygons p polygon is) in
     subst (IsPlacedPolygon m) c.2 (all c.0 p c.1) polygon is
+
+-- a polygon is known by its number
+same_polygon : (found : Option Polygon) (one other : Polygon) → found ≡ Some one → found ≡ Some other → one ≡ other
+same_polygon found one other e f = cc
+
+pub placed_there : (m : TheMap) (p : ℕ) (one : Polygon) → slice_get m.polygons p ≡ Some one → IsPlacedIn m one.point p → IsPlacedPolygon m p
+placed_there m p one is placed = λ polygon e. subst (λ (q : Polygon). IsPlacedIn m q.point p) (same_polygon (slice_get m.polygons p) one polygon is e) placed

@@ -1,5 +1,6 @@
-use Rattle.std.proofs.Common.{◌≡◌, ℕ, zero, ◌<◌, [], length, map, below_more, ap, subst, sym, ◌∙◌, Vec, Global, arith, rules, inl, inr}
+use Rattle.std.proofs.Common.{◌≡◌, ℕ, zero, false, Some, ◌<◌, [], length, map, below_more, ap, subst, sym, ◌∙◌, Vec, Global, arith, rules, inl, inr}
 use Rattle.std.proofs.lemmas.Bool.{cases_lt}
+use Rattle.std.proofs.lemmas.Option.{slice_get-get_or}
 use Rattle.std.proofs.lemmas.List.Elements.{All-nil, All-push, All-same}
 use Rattle.std.proofs.lemmas.Result.{err_from_is_err_and}
 use Rattle.tl_index.specs.Keeping.Marked.{mark_at}
@@ -120,3 +121,24 @@ returns-in_err-push-clause-counted c = let p = err_from_is_err_and c.from_residu
 
 pub returns-in_err-push-clause-goes : goal.returns-in_err-push-clause-goes
 returns-in_err-push-clause-goes c = let p = err_from_is_err_and c.from_residual-in_err-push.result c.from_residual-in_err-push.ensures.1 in rw p.1 tt
+
+pub bounds-taken-first : goal.bounds-taken-first
+bounds-taken-first c =
+    let lt = c.loop-first-test.true in
+    let long = c.loop-first.invariant.marks.long in
+    omega (arith, lt, long)
+
+pub overflow_cast-first : goal.overflow_cast-first
+overflow_cast-first c =
+    let lt = c.loop-first-test.true in
+    let few = c.requires.counted in
+    omega (arith, lt, few)
+
+pub trace_walk-requires-clause-first : goal.trace_walk-requires-clause-first
+trace_walk-requires-clause-first c = c.loop-first-test.true
+
+pub trace_walk-requires-clause-free : goal.trace_walk-requires-clause-free
+trace_walk-requires-clause-free c =
+    let lt = c.loop-first-test.true in
+    let long = c.loop-first.invariant.marks.long in
+    slice_get-get_or c.loop-first.taken c.loop-first.first false (omega (arith, lt, long)) ∙ ap Some c.if-taken-first.false

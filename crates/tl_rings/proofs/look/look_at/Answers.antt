@@ -5,7 +5,7 @@ use Rattle.tl_inside.specs.Keeping.Tallies.{TellCounts}
 use Rattle.tl_inside.proofs.Misplacing.{told_some, told_none}
 use Rattle.tl_rings.specs.Keeping.Looking.{AddCounts}
 use Rattle.tl_crossings.specs.Rings.{rings_count}
-use Rattle.tl_rings.proofs.Looking.{hits_known, rings_tell}
+use Rattle.tl_rings.proofs.Looking.{hits_known, rings_tell, placed_there}
 use Rattle.tl_rings.proofs.look.look_at.Goals as goal
 
 pub darts_of-requires-clause-known : goal.darts_of-requires-clause-known
@@ -151,3 +151,12 @@ returns-in_err-list_rings-clause-no_near g c = let p = err_from_is_err_and c.fro
 
 pub returns-in_err-list_rings-clause-no_far : goal.returns-in_err-list_rings-clause-no_far
 returns-in_err-list_rings-clause-no_far g c = let p = err_from_is_err_and c.from_residual-in_err-list_rings.result c.from_residual-in_err-list_rings.ensures.1 in rw p.1 tt
+
+pub returns-in-Some-misplaced_by-clause-look : goal.returns-in-Some-misplaced_by-clause-look
+returns-in-Some-misplaced_by-clause-look g c = c.in-Some-misplaced_by.ensures.found
+
+pub returns-in-None-misplaced_by-clause-look : goal.returns-in-None-misplaced_by-clause-look
+returns-in-None-misplaced_by-clause-look g c = placed_there c.args.map.now c.args.site.polygon c.polygon-polygon.result c.polygon-polygon.ensures c.in-None-misplaced_by.ensures.found
+
+pub list_about-requires : goal.list_about-requires
+list_about-requires g c = record { tree = c.requires.tree }

@@ -1,4 +1,3 @@
-use Rattle.std.proofs.lemmas.Result.{err_from_is_err_and}
 use Rattle.tl_sweep.proofs.Tests.{never}
 use Rattle.tl_sweep.proofs.passing.enter.Goals as goal
 
@@ -10,12 +9,3 @@ returns-then-not-branch-clause-back c = λ h. never h
 
 pub returns-then-not-branch-clause-tested : goal.returns-then-not-branch-clause-tested
 returns-then-not-branch-clause-tested c = λ h. never h
-
-pub returns-in_err-enter_one-clause-front : goal.returns-in_err-enter_one-clause-front
-returns-in_err-enter_one-clause-front c = let p = err_from_is_err_and c.from_residual.result c.from_residual.ensures.1 in rw p.1 tt
-
-pub returns-in_err-enter_one-clause-back : goal.returns-in_err-enter_one-clause-back
-returns-in_err-enter_one-clause-back c = let p = err_from_is_err_and c.from_residual.result c.from_residual.ensures.1 in rw p.1 tt
-
-pub returns-in_err-enter_one-clause-tested : goal.returns-in_err-enter_one-clause-tested
-returns-in_err-enter_one-clause-tested c = let p = err_from_is_err_and c.from_residual.result c.from_residual.ensures.1 in rw p.1 tt

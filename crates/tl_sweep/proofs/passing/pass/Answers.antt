@@ -1,10 +1,11 @@
-use Rattle.std.proofs.Common.{◌+◌, ◌++◌, sym, ap, ◌∙◌}
+use Rattle.std.proofs.Common.{◌≡◌, ℕ, List, IfOk, IsTrue, ◌+◌, ◌++◌, sym, ap, subst, ◌∙◌}
 use Rattle.std.proofs.lemmas.Result.{err_from_is_err_and}
+use Rattle.tl_index.specs.Hits.{times}
 use Rattle.tl_slabs.specs.Heights.{widest}
-use Rattle.tl_slabs.specs.Neighbours.{AreTested}
+use Rattle.tl_slabs.specs.Neighbours.{AreTested, EachTwo}
 use Rattle.tl_slabs.specs.Beside.{seen_side}
 use Rattle.tl_county.specs.declared.sides.Side.TheVariants.{Outside}
-use Rattle.tl_sweep.specs.Keeping.Facing.{last_far}
+use Rattle.tl_sweep.specs.Keeping.Facing.{IsCounted, last_far}
 use Rattle.tl_sweep.specs.Keeping.Lined.{list_of}
 use Rattle.tl_sweep.proofs.Gaps.{in_stead}
 use Rattle.tl_sweep.proofs.Lining.{moved, before_tested}
@@ -51,3 +52,18 @@ returns-in_err-shift-clause-tested c = let p = err_from_is_err_and c.from_residu
 
 pub returns-in_err-shift-clause-counted : goal.returns-in_err-shift-clause-counted
 returns-in_err-shift-clause-counted c = let p = err_from_is_err_and c.from_residual.result c.from_residual.ensures.1 in rw p.1 tt
+
+pub returns-clause-moved : goal.returns-clause-moved
+returns-clause-moved c =
+    subst (λ (l : List ℕ). IfOk c.exchange.result (λ done. IsTrue done → (s : ℕ) → times s (list_of c.exchange.new.line) + times s c.args.outs.now ≡ times s l + times s c.args.ins.now))
+    c.seek.ensures c.exchange.ensures.moved
+
+pub returns-clause-tested : goal.returns-clause-tested
+returns-clause-tested c =
+    subst (λ (l : List ℕ). IfOk c.exchange.result (λ done. IsTrue done → EachTwo (AreTested widest c.args.map.now.chains) l → EachTwo (AreTested widest c.args.map.now.chains) (list_of c.exchange.new.line)))
+    c.seek.ensures c.exchange.ensures.tested
+
+pub returns-clause-counted : goal.returns-clause-counted
+returns-clause-counted c =
+    subst (λ (l : List ℕ). IfOk c.exchange.result (λ done. IsTrue done → IsCounted c.args.map.now.chains c.args.gaps.now l → IsCounted c.args.map.now.chains c.exchange.new.gaps (list_of c.exchange.new.line)))
+    c.seek.ensures c.exchange.ensures.counted

@@ -1,4 +1,5 @@
 use Rattle.std.proofs.Common.{◌≡◌, ℕ, ◌+◌, ◌-◌, ◌<◌, length, sym, subst, ◌∙◌, arith}
+use Rattle.std.proofs.lemmas.Result.{err_from_is_err_and}
 use Rattle.tl_tree.specs.Keeping.Sizes.{size_at, AreSizesFrom}
 use Rattle.tl_tree.proofs.Flat.{size-leaf, size-inner, sizes-before}
 use Rattle.tl_tree.proofs.flat_tree.subtree_sizes.Goals as goal
@@ -17,3 +18,6 @@ loop-k-preserved c =
     let next : c.loop-k.k ≡ k + 1 = omega (arith, c.loop-k-test.true) in
     let P : ℕ → Type 0 = λ j. AreSizesFrom j nodes c.loop-k.sizes.items in
     sizes-before k nodes c.loop-k.sizes.items c.match-nodes-k.size within size (subst P next c.loop-k.invariant)
+
+pub returns-in_err-sizes : goal.returns-in_err-sizes
+returns-in_err-sizes c = let p = err_from_is_err_and c.from_residual.result c.from_residual.ensures.1 in rw p.1 tt

@@ -48,3 +48,15 @@ test_rows-requires-2-clause-bounds g t c = c.requires.bounds
 
 pub returns-then-others-le8 : goal.returns-then-others-le8
 returns-then-others-le8 g t c = c.test_rows.ensures
+
+pub test_rows-requires-clause-nothing_found : goal.test_rows-requires-clause-nothing_found
+test_rows-requires-clause-nothing_found g t c = c.requires.nothing_found
+
+pub test_rows-requires-2-clause-nothing_found : goal.test_rows-requires-2-clause-nothing_found
+test_rows-requires-2-clause-nothing_found g t c = c.requires.nothing_found
+
+pub test_rows-requires-clause-few_others : goal.test_rows-requires-clause-few_others
+test_rows-requires-clause-few_others g t c = c.if-others-le8.true
+
+pub test_rows-requires-2-clause-few_others : goal.test_rows-requires-2-clause-few_others
+test_rows-requires-2-clause-few_others g t c = let size = c.split_at.ensures.front_len in omega (arith, size)
