@@ -70,22 +70,10 @@ impl<R: Files<File = File>> SystemDraft<'_, R> {
         ensures { self.new.failures ≡ self.old.failures }
     {
         if self.file.is_none() {
-            return self.make_anew();
+            let file = self.opened()?;
+            self.file = Some(file);
         }
         Ok(())
-    }
-
-    // Makes the file.
-    fn make_anew(&mut self) -> io::Result<()>
-        ensures { self.new.failures ≡ self.old.failures }
-    {
-        match self.opened() {
-            Ok(file) => {
-                self.file = Some(file);
-                Ok(())
-            }
-            Err(error) => Err(error),
-        }
     }
 
     // The file, made anew.
@@ -266,17 +254,13 @@ fn target_of<R: Files>(rt: &R, alloc: Global, name: &str) -> io::Result<String> 
     if let Ok(found) = fs::symlink_metadata(rt, name) {
         if found.is_symlink() {
             if let Ok(path) = rt.canonicalize(alloc, name) {
-                return copied(alloc, path.path_text());
+                let target = String::from_str(alloc, path.path_text())?;
+                return Ok(target);
             }
         }
     }
-    copied(alloc, name)
-}
-
-// The text once more.
-fn copied(alloc: Global, text: &str) -> io::Result<String> {
-    let copy = String::from_str(alloc, text)?;
-    Ok(copy)
+    let target = String::from_str(alloc, name)?;
+    Ok(target)
 }
 
 // Whether a regular file stands under the name, or nothing. A link is left here only where it leads nowhere.
@@ -321,29 +305,18 @@ fn is_certificate<R: Files<File = File>>(rt: &R, name: &str, length: u64) -> io:
 // Makes a file beside its target, or takes over one that an earlier run left unfinished; with the permissions of the file
 // in whose place it comes.
 fn make_beside<R: Files<File = File>>(rt: &R, target: &str, place: &str) -> io::Result<File> {
-    let file = made_or_taken_over(rt, place)?;
-    give_permissions(rt, target, &file)?;
-    Ok(file)
-}
-
-// Makes a file, which is locked, or takes over one that an earlier run left unfinished.
-fn made_or_taken_over<R: Files<File = File>>(rt: &R, place: &str) -> io::Result<File> {
-    match File::create_new(rt, place) {
+    let file = match File::create_new(rt, place) {
         Ok(file) => {
             lock(&file)?;
-            Ok(file)
+            file
         }
-        Err(error) if error.kind() == ErrorKind::AlreadyExists => take_over(rt, place),
-        Err(error) => Err(error),
+        Err(error) if error.kind() == ErrorKind::AlreadyExists => take_over(rt, place)?,
+        Err(error) => return Err(error),
+    };
+    if let Ok(stands) = fs::metadata(rt, target) {
+        file.set_permissions(stands.permissions())?;
     }
-}
-
-// Gives the file the permissions of its target, where one stands.
-fn give_permissions<R: Files>(rt: &R, target: &str, file: &File) -> io::Result<()> {
-    match fs::metadata(rt, target) {
-        Ok(stands) => file.set_permissions(stands.permissions()),
-        Err(_) => Ok(()),
-    }
+    Ok(file)
 }
 
 // Empties a file that an earlier run left unfinished. One that another run is making, or that is none of ours, is left
@@ -352,34 +325,16 @@ fn take_over<R: Files<File = File>>(rt: &R, place: &str) -> io::Result<File> {
     if !fs::symlink_metadata(rt, place)?.is_file() {
         return Err(Error::from(ErrorKind::AlreadyExists));
     }
-    match OpenOptions::new().read(true).write(true).open(rt, place) {
-        Ok(mut file) => match empty_unfinished(rt, place, &mut file) {
-            Ok(()) => Ok(file),
-            Err(error) => Err(error),
-        },
-        Err(error) => Err(error),
-    }
-}
-
-// Locks the file that stands at the place, and empties it, where it is one that an earlier run left unfinished.
-fn empty_unfinished<R: Files<File = File>>(rt: &R, place: &str, file: &mut File) -> io::Result<()> {
-    lock(file)?;
-    if !is_left_over(rt, place, file)? {
+    let mut file = OpenOptions::new().read(true).write(true).open(rt, place)?;
+    lock(&file)?;
+    let opened = file.metadata()?;
+    let stands = fs::symlink_metadata(rt, place)?;
+    if !is_same(&opened, &stands) || !is_unfinished(&mut file, opened.len())? {
         return Err(Error::from(ErrorKind::AlreadyExists));
     }
     file.set_len(0)?;
     file.seek(SeekFrom::Start(0))?;
-    Ok(())
-}
-
-// Whether the file still stands at the place, and is one that an earlier run left unfinished.
-fn is_left_over<R: Files>(rt: &R, place: &str, file: &mut File) -> io::Result<bool> {
-    let opened = file.metadata()?;
-    let stands = fs::symlink_metadata(rt, place)?;
-    if !is_same(&opened, &stands) {
-        return Ok(false);
-    }
-    is_unfinished(file, opened.len())
+    Ok(file)
 }
 
 // Whether the file of this length begins as certificates do, or ends before it could.
