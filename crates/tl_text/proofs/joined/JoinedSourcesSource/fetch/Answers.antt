@@ -8,8 +8,7 @@ loop-self-init g c = (Keeps-refl _, refl)
 
 pub loop-self-preserved : goal.loop-self-preserved
 loop-self-preserved g c =
-    let none : c.in_ok-count.count ≡ 0 = omega arith in
-    (
+    let none : c.in_ok-count.count ≡ 0 = omega arith in (
       Keeps-trans _ _ _ c.loop-self.invariant.0 (keeps_none _ _ c.in_ok-count.count c.step.new.buf none c.in_ok-count.ensures.bytes),
       c.in_ok-count.ensures.failures ∙ c.loop-self.invariant.1,
     )
