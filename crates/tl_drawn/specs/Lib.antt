@@ -3,3 +3,4 @@ pub mod MapOf
 pub mod Faults
 pub mod Messages
 pub mod Reading
+pub mod Subjects

@@ -65,7 +65,9 @@ pub enum MapFault {
 }
 
 impl MapFault {
-    ghost use Rattle.tl_drawn.specs.Messages.{fault_name};
+    ghost use Rattle.std.specs.Prelude.{◌≡◌};
+    ghost use Rattle.tl_drawn.specs.Messages.{fault_name, subject_text};
+    ghost use Rattle.tl_drawn.specs.Subjects.{text_of};
 
     // Its code and its name, as they are printed.
     fn name(&self) -> &'static str
@@ -87,6 +89,31 @@ impl MapFault {
             MapFault::TooMany(_) => "M13 TooMany",
         }
     }
+
+    /// What it is about.
+    fn subject(&self) -> Subject
+        ensures { text_of result ≡ subject_text self.now }
+    {
+        match self {
+            MapFault::DuplicateChain { tlid }
+            | MapFault::ShapeWithoutChain { tlid }
+            | MapFault::ShapeSequence { tlid }
+            | MapFault::ShapeGap { tlid }
+            | MapFault::ChainWithoutSides { tlid }
+            | MapFault::SidesWithoutChain { tlid }
+            | MapFault::DuplicateSides { tlid }
+            | MapFault::DegenerateChain { tlid } => Subject::Tlid(*tlid),
+            MapFault::DuplicatePolygon { polygon } => Subject::Polygon(*polygon),
+            MapFault::SideWithoutPolygon { tlid, polygon } => {
+                Subject::TlidAndPolygon(*tlid, *polygon)
+            }
+            MapFault::LinkWithoutLandmark { land } => Subject::Land(*land),
+            MapFault::LinkWithoutPolygon { polygon, land } => {
+                Subject::PolygonAndLand(*polygon, *land)
+            }
+            MapFault::TooMany(what) => Subject::What(*what),
+        }
+    }
 }
 
 impl fmt::Display for MapFault {
@@ -97,26 +124,41 @@ impl fmt::Display for MapFault {
 
     fn fmt<W: fmt::Write>(&self, f: &mut fmt::Formatter<W>) -> fmt::Result {
         let name = self.name();
+        let subject = self.subject();
+        write!(f, "map fault {name}{subject}")
+    }
+}
+
+/// What a fault is about.
+#[derive(Clone, Copy)]
+enum Subject {
+    Tlid(u64),
+    Polygon(PolyKey),
+    TlidAndPolygon(u64, PolyKey),
+    Land(u64),
+    PolygonAndLand(PolyKey, u64),
+    What(Limited),
+}
+
+/// As it is printed behind the fault's name.
+impl fmt::Display for Subject {
+    ghost use Rattle.std.specs.Prelude.{Some};
+    ghost use Rattle.tl_drawn.specs.Subjects.{text_of};
+
+    ghost output = { λ subject. Some (text_of subject) };
+
+    fn fmt<W: fmt::Write>(&self, f: &mut fmt::Formatter<W>) -> fmt::Result {
         match self {
-            MapFault::DuplicateChain { tlid }
-            | MapFault::ShapeWithoutChain { tlid }
-            | MapFault::ShapeSequence { tlid }
-            | MapFault::ShapeGap { tlid }
-            | MapFault::ChainWithoutSides { tlid }
-            | MapFault::SidesWithoutChain { tlid }
-            | MapFault::DuplicateSides { tlid }
-            | MapFault::DegenerateChain { tlid } => write!(f, "map fault {name} tlid {tlid}"),
-            MapFault::DuplicatePolygon { polygon } => {
-                write!(f, "map fault {name} polygon {polygon}")
+            Subject::Tlid(tlid) => write!(f, " tlid {tlid}"),
+            Subject::Polygon(polygon) => write!(f, " polygon {polygon}"),
+            Subject::TlidAndPolygon(tlid, polygon) => {
+                write!(f, " tlid {tlid} polygon {polygon}")
             }
-            MapFault::SideWithoutPolygon { tlid, polygon } => {
-                write!(f, "map fault {name} tlid {tlid} polygon {polygon}")
+            Subject::Land(land) => write!(f, " land {land}"),
+            Subject::PolygonAndLand(polygon, land) => {
+                write!(f, " polygon {polygon} land {land}")
             }
-            MapFault::LinkWithoutLandmark { land } => write!(f, "map fault {name} land {land}"),
-            MapFault::LinkWithoutPolygon { polygon, land } => {
-                write!(f, "map fault {name} polygon {polygon} land {land}")
-            }
-            MapFault::TooMany(what) => write!(f, "map fault {name} {what}"),
+            Subject::What(what) => write!(f, " {what}"),
         }
     }
 }

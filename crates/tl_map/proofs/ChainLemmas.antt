@@ -1,5 +1,5 @@
 use Rattle.std.proofs.Common.{◌≡◌, ◌≢◌, ℕ, zero, suc, ◌+◌, ◌-◌, ◌<◌, ◌≤◌, Bool, true, false, cond, eqb, ◌⊎◌, inl, inr, List, [], ◌∷◌, ◌++◌, length, take, map, get_or, filter, sum_by, count_by, All, Contains, refl, sym, ap, ◌∙◌, arith, add-one}
-use Rattle.std.specs.Prelude.{Any, Result, Ok, Err, IfOk, IfErr, OnOk, MatchResult}
+use Rattle.std.specs.Prelude.{Any, Result, Ok, Err, IfErr, MatchResult}
 use Rattle.std.specs.List.{dedup, flat_map}
 use Rattle.std.proofs.lemmas.Bool.{cases_Bool, eq-eqb, ne_eqb, eqb-true, false≢true}
 use Rattle.std.proofs.lemmas.List.{append-nil, take_all, length-map, get_or-map}
@@ -15,9 +15,10 @@ use Rattle.tl_county.specs.declared.limits.TheConstants.{CHAIN_LIMIT, SEGMENT_LI
 use Rattle.tl_drawn.specs.declared.fault.MapStop.{MapStop}
 use Rattle.tl_drawn.specs.ChainsOf.{is_chain, shape_count, pairs_up_to, pairs_of, used, same_point, points_between, segments_by, segments_of, IsDrawn, AreChainsOf}
 use Rattle.tl_county.specs.Chains.{CompleteChain, ChainList, tlids, segment_count, IsProper}
-use Rattle.tl_drawn.specs.Faults.{IsStray, IsDegenerate, AreJoined, HaveNoChainFault}
+use Rattle.tl_drawn.specs.Faults.{IsStray, IsDegenerate, AreJoined, HaveNoChainFault, IsFaultOfChains}
+use Rattle.tl_drawn.specs.Reading.{IfFault}
 use Rattle.tl_map.specs.Keeping.Entries.{by_chain, AreChainEntries, entry_points, AreShapeEntries, chains_with, AreRising, has_tlid, shapes_with, ArePlaced, joined}
-use Rattle.tl_map.specs.Keeping.Rows.{StopsJoin}
+use Rattle.tl_map.specs.Keeping.Rows.{AreJoinedBy, StopsJoin}
 use Rattle.tl_map.specs.Keeping.Built.{AreSound, AreBuilt, StopsBuilding}
 use Rattle.tl_drawn.proofs.CountLemmas.{none_counted, one_counted, sum_by-same, rising_keys_from_pairs}
 use Rattle.tl_map.proofs.SequenceLemmas.{numbered_from_placed}
@@ -237,11 +238,19 @@ StopsBuilding-joined rs pool chains shapes stop are have sound why = elim why [
         })
 
 -- what the join gives is what the records have
-pub built : (rs : List Record) (pool : List Point) (chains : List ChainEntry) (shapes : List ShapeEntry) (skipped : ℕ) (r : Result ChainList MapStop) → AreChainEntries rs chains → AreShapeEntries rs pool shapes → AreSound rs chains shapes → length chains ≤ CHAIN_LIMIT → IfOk r (λ c. c ≡ record { chains = map (joined pool shapes) chains; skipped = skipped }) → OnOk r (All (λ c. length (joined pool shapes c).points ≢ 1) chains) → OnOk r (segment_count (map (joined pool shapes) chains) ≤ SEGMENT_LIMIT) → IfErr r (StopsJoin (map (joined pool shapes) chains)) → MatchResult r (AreBuilt rs skipped) (StopsBuilding rs)
-built rs pool chains shapes skipped (Ok c) are have sound room ok several few err = rw ok (record {
+pub built : (rs : List Record) (pool : List Point) (chains : List ChainEntry) (shapes : List ShapeEntry) (skipped : ℕ) (r : Result ChainList MapStop) → AreChainEntries rs chains → AreShapeEntries rs pool shapes → AreSound rs chains shapes → length chains ≤ CHAIN_LIMIT → MatchResult r (AreJoinedBy pool shapes chains skipped) (StopsJoin (map (joined pool shapes) chains)) → MatchResult r (AreBuilt rs skipped) (StopsBuilding rs)
+built rs pool chains shapes skipped (Ok c) are have sound room made = rw made.are (record {
   chains = AreChainsOf-joined rs pool chains shapes are have sound;
   skipped_lines = refl;
-  no_fault = HaveNoChainFault-joined rs pool chains shapes are have sound room several few;
-  proper = All-map (λ (x : CompleteChain). IsProper x.points) (joined pool shapes) chains (λ k d lt. proper_dedup (get_or chains k d).from _ (several k d lt));
+  no_fault = HaveNoChainFault-joined rs pool chains shapes are have sound room made.several made.few;
+  proper = All-map (λ (x : CompleteChain). IsProper x.points) (joined pool shapes) chains (λ k d lt. proper_dedup (get_or chains k d).from _ (made.several k d lt));
 })
-built rs pool chains shapes skipped (Err stop) are have sound room ok several few err = StopsBuilding-joined rs pool chains shapes stop are have sound err
+built rs pool chains shapes skipped (Err stop) are have sound room why = StopsBuilding-joined rs pool chains shapes stop are have sound why
+
+-- why chains aren't joined is a fault of chains
+pub stops_joining : (chains : List CompleteChain) (P : ChainList → Type 0) (r : Result ChainList MapStop) → MatchResult r P (StopsJoin chains) → IfErr r (IfFault IsFaultOfChains)
+stops_joining chains P (Ok c) made = tt
+stops_joining chains P (Err stop) why = elim why [
+  | inl memory ↦ rw memory tt
+  | inr fault ↦ elim fault [ inl one ↦ rw one.1 tt | inr many ↦ rw many.0 tt ]
+]

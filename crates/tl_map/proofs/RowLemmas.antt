@@ -8,6 +8,7 @@ use Rattle.tl_drawn.specs.declared.entry.ShapeEntry.{ShapeEntry}
 use Rattle.tl_map.specs.Keeping.Entries.{entry_points}
 use Rattle.tl_geom.specs.declared.point.Point.{Point}
 use Rattle.tl_county.specs.declared.chains.ChainRow.{ChainRow}
+use Rattle.tl_county.specs.declared.limits.TheConstants.{SEGMENT_LIMIT}
 use Rattle.tl_county.specs.Chains.{segment_count}
 use Rattle.tl_drawn.specs.ChainsOf.{same_point}
 use Rattle.tl_county.specs.Rows.{IsWithin, chain_in, chains_in, IsTable}
@@ -58,10 +59,10 @@ run_more pool run i d rest h =
     ∙ append_assoc (entry_points pool (get_or run i d)) (flat_map (entry_points pool) (drop (i + 1) run)) rest
 
 -- one more run is appended
-pub appended_run : (pool : List Point) (run : List ShapeEntry) (i : ℕ) (d : ShapeEntry) (rest points added whole slice : List Point) (last end : Point) → i < length run → slice ≡ entry_points pool (get_or run i d) → ((more : List Point) → added ++ dedup_after end more ≡ points ++ dedup_after last (slice ++ more)) → points ++ dedup_after last (flat_map (entry_points pool) (drop i run) ++ rest) ≡ whole → added ++ dedup_after end (flat_map (entry_points pool) (drop (i + 1) run) ++ rest) ≡ whole
-appended_run pool run i d rest points added whole slice last end h cut appended before =
+pub appended_run : (pool : List Point) (run : List ShapeEntry) (i : ℕ) (d : ShapeEntry) (rest points added whole : List Point) (last end : Point) → i < length run → ((more : List Point) → added ++ dedup_after end more ≡ points ++ dedup_after last (entry_points pool (get_or run i d) ++ more)) → points ++ dedup_after last (flat_map (entry_points pool) (drop i run) ++ rest) ≡ whole → added ++ dedup_after end (flat_map (entry_points pool) (drop (i + 1) run) ++ rest) ≡ whole
+appended_run pool run i d rest points added whole last end h appended before =
     appended (flat_map (entry_points pool) (drop (i + 1) run) ++ rest)
-    ∙ ap (λ ps. points ++ dedup_after last ps) (ap (λ s. s ++ (flat_map (entry_points pool) (drop (i + 1) run) ++ rest)) cut ∙ sym (run_more pool run i d rest h))
+    ∙ ap (λ ps. points ++ dedup_after last ps) (sym (run_more pool run i d rest h))
     ∙ before
 
 -- the end is appended
@@ -106,6 +107,12 @@ IsTable-push points more rows t first count table at len some = record {
       let segments = ap segment_count chains ∙ sum_by_push (λ c. length c.points - 1) (chains_in points rows) (record { tlid = t; points = more }) in
       omega (arith, segments, table.total, length-append points more, length_push rows (record { tlid = t; first = first; count = count }));
 }
+
+-- with one chain more there are too many segments, where there are too many points
+pub too_many_with : (points more new : List Point) (rows : List ChainRow) (t : ℕ) → IsTable points rows → new ≡ points ++ more → 1 ≤ length more → SEGMENT_LIMIT + length rows + 1 < length new → SEGMENT_LIMIT < segment_count (chains_in points rows ++ record { tlid = t; points = more } ∷ [])
+too_many_with points more new rows t table is some many =
+    let pushed : segment_count (chains_in points rows ++ record { tlid = t; points = more } ∷ []) ≡ segment_count (chains_in points rows) + (length more - 1) = sum_by_push (λ c. length c.points - 1) (chains_in points rows) (record { tlid = t; points = more }) in
+    omega (arith, pushed, table.total, ap length is, length-append points more, some, many)
 
 -- a range of the shared points, as a slice reads it
 pub cut_points : (first n count : ℕ) (pool : List Point) → n ≡ count → take (first + n - first) (drop first pool) ≡ take count (drop first pool)

@@ -1,6 +1,6 @@
 //! Joins chains with their shapes.
 
-ghost use Rattle.std.specs.Prelude.{◌≡◌, ◌≢◌, ℕ, ◌+◌, ◌<◌, ◌≤◌, ◌∷◌, [], ◌++◌, List, OnOk, IfOk, IfErr, length};
+ghost use Rattle.std.specs.Prelude.{◌≡◌, ◌≢◌, ℕ, ◌+◌, ◌<◌, ◌≤◌, ◌++◌, List, OnOk, IfOk, MatchResult, length};
 ghost use Rattle.std.specs.Prelude.{map, slice_index_or, All};
 ghost use Rattle.tl_geom.specs.declared.point.Point.{Point};
 ghost use Rattle.tl_drawn.specs.declared.entry.ShapeEntry.{ShapeEntry};
@@ -8,9 +8,8 @@ ghost use Rattle.tl_county.specs.declared.limits.TheConstants.{CHAIN_LIMIT, SEGM
 ghost use Rattle.std.specs.List.{flat_map};
 ghost use Rattle.tl_map.specs.Keeping.Entries.{entry_points, IsInside, AreRising, AreInOrder, chains_with, joined};
 ghost use Rattle.tl_county.specs.Rows.{IsTable, chains_in};
-ghost use Rattle.tl_map.specs.Keeping.Rows.{dedup_after, drawn_through, drawn_by, StopsAdding};
-ghost use Rattle.tl_map.specs.Keeping.Rows.{StopsJoin};
-ghost use Rattle.tl_county.specs.Chains.{segment_count};
+ghost use Rattle.tl_map.specs.Keeping.Rows.{dedup_after, drawn_through, drawn_by, IsAdded, StopsAdding};
+ghost use Rattle.tl_map.specs.Keeping.Rows.{AreJoinedBy, StopsJoin};
 
 use std::alloc::{AllocError, Global};
 use tl_county::{CHAIN_LIMIT, ChainRow, Chains, SEGMENT_LIMIT};
@@ -36,6 +35,22 @@ fn append_distinct(
     Ok(last)
 }
 
+/// Appends the points of a shape that differ from the one before, where `last` is the one before the first. Gives the last.
+fn append_shape(
+    points: &mut Vec<Point>,
+    last: Point,
+    shape: &ShapeEntry,
+    pool: &[Point],
+) -> Result<Point, AllocError>
+    requires { IsInside pool.now shape.now }
+    ensures { IfOk result (λ end. (rest : List Point) →
+        points.new.items ++ dedup_after end rest ≡
+        points.old.items ++ dedup_after last (entry_points pool.now shape.now ++ rest)) }
+{
+    let used = &pool[shape.first..shape.first + usize::from(shape.used)];
+    append_distinct(points, last, used)
+}
+
 /// Appends the points of a chain with these shapes.
 fn append_chain(
     points: &mut Vec<Point>,
@@ -50,8 +65,7 @@ fn append_chain(
     let mut last = chain.from;
     points.push(last)?;
     for shape in run {
-        let used = &pool[shape.first..shape.first + usize::from(shape.used)];
-        last = append_distinct(points, last, used)?;
+        last = append_shape(points, last, shape, pool)?;
     }
     append_distinct(points, last, &[chain.to])?;
     Ok(())
@@ -69,14 +83,9 @@ fn add_chain(
     requires table { IsTable points.old.items rows.old.items }
     requires room { length rows.old.items < CHAIN_LIMIT }
     requires few { length points.old.items ≤ SEGMENT_LIMIT + length rows.old.items }
-    ensures table { OnOk result (IsTable points.new.items rows.new.items) }
-    ensures few { OnOk result (length points.new.items ≤ SEGMENT_LIMIT + length rows.new.items) }
-    ensures added { OnOk result (chains_in points.new.items rows.new.items ≡
-        chains_in points.old.items rows.old.items ++ drawn_by pool.now chain.now run.now ∷ []) }
-    ensures rows { OnOk result (length rows.new.items ≡ length rows.old.items + 1) }
-    ensures several { OnOk result (length (drawn_by pool.now chain.now run.now).points ≢ 1) }
-    ensures err { IfErr result (StopsAdding (chains_in points.old.items rows.old.items)
-        (drawn_by pool.now chain.now run.now)) }
+    ensures { MatchResult result
+        (λ done. IsAdded (drawn_by pool.now chain.now run.now) points.old.items rows.old.items points.new.items rows.new.items)
+        (StopsAdding (chains_in points.old.items rows.old.items) (drawn_by pool.now chain.now run.now)) }
 {
     let first = points.len();
     append_chain(points, chain, run, pool)?;
@@ -124,11 +133,8 @@ pub fn join(
     requires ordered { AreInOrder shapes.now }
     requires inside { All (IsInside pool.now) shapes.now }
     requires known { All (λ s. 1 ≤ chains_with s.tlid chains.now) shapes.now }
-    ensures ok { IfOk result (λ c.
-        c ≡ record { chains = map (joined pool.now shapes.now) chains.now; skipped = skipped }) }
-    ensures several { OnOk result (All (λ c. length (joined pool.now shapes.now c).points ≢ 1) chains.now) }
-    ensures few { OnOk result (segment_count (map (joined pool.now shapes.now) chains.now) ≤ SEGMENT_LIMIT) }
-    ensures err { IfErr result (StopsJoin (map (joined pool.now shapes.now) chains.now)) }
+    ensures { MatchResult result (AreJoinedBy pool.now shapes.now chains.now skipped)
+        (StopsJoin (map (joined pool.now shapes.now) chains.now)) }
 {
     // Each point but for a few has its place at once, so that the list doesn't grow beside its older self.
     let most = (chains.len() * 2).saturating_add(pool.len());

@@ -14,6 +14,9 @@ use tl_county::{Ranked, presort_by_rank, presort_together};
 use tl_drawn::{ChainEntry, SidesEntry};
 use tl_record::PolyKey;
 
+/// The first number that takes more than 32 bits.
+const SHORT_END: u64 = 1 << 32;
+
 /// A type I record whose numbers take 32 bits, or, where it `is_long`, one that is kept whole, with its TLID.
 #[derive(Clone, Copy)]
 pub struct SidesRow {
@@ -190,18 +193,23 @@ fn short_row(entry: SidesEntry) -> Option<SidesRow>
 {
     let left = key_or_blank(entry.left);
     let right = key_or_blank(entry.right);
-    let start_cell = short_number(entry.start_cell.unwrap_or(0))?;
-    let end_cell = short_number(entry.end_cell.unwrap_or(0))?;
-    let left_polyid = short_number(left.polyid)?;
-    let right_polyid = short_number(right.polyid)?;
+    let start_cell = entry.start_cell.unwrap_or(0);
+    let end_cell = entry.end_cell.unwrap_or(0);
+    if start_cell >= SHORT_END
+        || end_cell >= SHORT_END
+        || left.polyid >= SHORT_END
+        || right.polyid >= SHORT_END
+    {
+        return None;
+    }
     let left_cenid = left.cenid;
     let right_cenid = right.cenid;
     Some(SidesRow {
         tlid: entry.tlid,
-        start_cell,
-        end_cell,
-        left_polyid,
-        right_polyid,
+        start_cell: start_cell as u32,
+        end_cell: end_cell as u32,
+        left_polyid: left.polyid as u32,
+        right_polyid: right.polyid as u32,
         left_cenid,
         right_cenid,
         has_start: entry.start_cell.is_some(),
@@ -210,13 +218,6 @@ fn short_row(entry: SidesEntry) -> Option<SidesRow>
         has_right: entry.right.is_some(),
         is_long: false,
     })
-}
-
-/// The number, where it takes 32 bits.
-fn short_number(number: u64) -> Option<u32>
-    ensures { IfSome result (λ short. short ≡ number) }
-{
-    u32::try_from(number).ok()
 }
 
 /// The record of a row's own numbers.

@@ -1,6 +1,6 @@
 //! Landmarks and the polygons that are linked to them.
 
-ghost use Rattle.std.specs.Prelude.{◌≡◌, ◌≢◌, ◌<◌, ◌≤◌, ◌^◌, ◌++◌, ℕ, List, IfOk, IfErr, OnOk, MatchResult, All, length};
+ghost use Rattle.std.specs.Prelude.{◌≡◌, ◌≢◌, ◌<◌, ◌≤◌, ◌^◌, ◌++◌, [], ℕ, List, IfOk, IfErr, OnOk, MatchResult, All, length};
 ghost use Rattle.std.specs.Prelude.{map, nat_eq, slice_index_or};
 ghost use Rattle.tl_key.specs.declared.key.PolyKey.{PolyKey};
 ghost use Rattle.tl_map.specs.Keeping.Index.{Indexes};
@@ -31,6 +31,22 @@ pub fn first_landmarks(
     ensures stops { IfErr result (StopsLandmarks entries.now) }
 {
     let mut firsts = IndexMap::with_hasher(alloc, hasher);
+    match insert_firsts(&mut firsts, entries) {
+        Ok(()) => Ok(firsts),
+        Err(stop) => Err(stop),
+    }
+}
+
+/// Inserts the first record of each LAND into a map that has none.
+fn insert_firsts(
+    firsts: &mut IndexMap<u64, Option<Point>, RandomState>,
+    entries: &[LandmarkEntry],
+) -> Result<(), MapStop>
+    requires none { firsts.old.entries ≡ [] }
+    requires unique { IsUnique nat_eq firsts.old }
+    ensures ok { OnOk result (ListsLandmarks entries.now firsts.new) }
+    ensures stops { IfErr result (StopsLandmarks entries.now) }
+{
     for entry in entries {
         if !firsts.contains_key(&entry.land) {
             if firsts.len() == LANDMARK_LIMIT as usize {
@@ -39,7 +55,7 @@ pub fn first_landmarks(
             firsts.insert(entry.land, entry.point)?;
         }
     }
-    Ok(firsts)
+    Ok(())
 }
 
 /// A polygon that is linked to a landmark, both by number.
@@ -118,8 +134,8 @@ fn append_once(
     requires fresh { All (λ n. n < mark) marks.old }
     ensures linked { OnOk result (linked.new.items ≡
         linked.old.items ++ firsts (λ p. p) (map (λ m. m.polygon) run.now)) }
-    ensures marks { All (λ n. n ≤ mark) marks.new }
-    ensures length { length marks.new ≡ length marks.old }
+    ensures marks { OnOk result (All (λ n. n ≤ mark) marks.new) }
+    ensures length { OnOk result (length marks.new ≡ length marks.old) }
 {
     for link in run {
         let place = link.polygon as usize;
@@ -161,18 +177,38 @@ fn list_linked(
     let mut marks = vec![in alloc; 0u32; polygons]?;
     let mut rows = Vec::with_capacity(alloc, landmarks as usize)?;
     let mut linked = Vec::new(alloc);
+    append_rows(&mut rows, &mut linked, &mut marks, landmarks, links)?;
+    Ok((rows, linked))
+}
+
+/// Appends a row for each of so many landmarks, and the polygons of its links, which are sorted by landmark. A polygon's
+/// mark tells the last landmark that it was appended for, counted from 1.
+fn append_rows(
+    rows: &mut Vec<LandmarkRow>,
+    linked: &mut Vec<u32>,
+    marks: &mut [u32],
+    landmarks: u32,
+    links: &[Link],
+) -> Result<(), AllocError>
+    requires few { landmarks ≤ LANDMARK_LIMIT }
+    requires rising { IsNonDecreasingBy (λ (m : Link). m.landmark) links.now }
+    requires inside { All (λ m. m.polygon < length marks.old) links.now }
+    requires fresh { All (λ n. n ≤ 0) marks.old }
+    requires none { rows.old.items ≡ [] }
+    ensures { OnOk result (AreRows links.now landmarks linked.new.items rows.new.items) }
+{
     let mut start = 0;
     for landmark in 0..landmarks {
         let end = links_end(links, start, landmark);
         let first = linked.len();
-        append_once(&mut linked, &mut marks, landmark + 1, &links[start..end])?;
+        append_once(linked, marks, landmark + 1, &links[start..end])?;
         rows.push(LandmarkRow {
             first,
             count: linked.len() - first,
         })?;
         start = end;
     }
-    Ok((rows, linked))
+    Ok(())
 }
 
 /// For each landmark the polygons of its links, in one list.
@@ -209,10 +245,12 @@ pub fn build_landmarks(
         (StopsLinking (keys index.now) entries.now links.now) }
 {
     let points = first_landmarks(alloc, hasher, entries)?;
-    let (rows, linked) = link_landmarks(alloc, index, &points, links)?;
-    Ok(LinkedLandmarks {
-        points,
-        rows,
-        linked,
-    })
+    match link_landmarks(alloc, index, &points, links) {
+        Ok((rows, linked)) => Ok(LinkedLandmarks {
+            points,
+            rows,
+            linked,
+        }),
+        Err(stop) => Err(stop),
+    }
 }

@@ -4,29 +4,29 @@ use Rattle.std.proofs.lemmas.Result.{err_from_is_err_and}
 use Rattle.tl_county.specs.declared.limits.TheConstants.{CHAIN_LIMIT}
 use Rattle.tl_map.specs.Keeping.Entries.{IsInside, IsShapeEntry}
 use Rattle.tl_map.specs.Keeping.Built.{AreSound}
-use Rattle.tl_map.proofs.ChainLemmas.{built}
+use Rattle.tl_map.proofs.ChainLemmas.{built, stops_joining}
 use Rattle.tl_map.proofs.build.build_chains.Goals as goal
 
 pub returns-in-Some-clause-built : goal.returns-in-Some-clause-built
 returns-in-Some-clause-built c = λ rs h.
     let chains = c.in_ok-sort_chains.ensures.same rs (h.chains c.if-collected.false) in
-    let shapes = c.in_ok-sort_shapes.ensures.same rs c.args.collected.pool.items h.shapes in
-    c.in-Some.ensures.found rs c.args.collected.pool.items (rw c.deref.ensures.value chains) (rw c.deref-2.ensures.value shapes)
+    let shapes = c.in_ok-sort_shapes.ensures.same rs c.args.collected.now.pool.items h.shapes in
+    c.in-Some.ensures.found rs c.args.collected.now.pool.items (rw c.deref.ensures.value chains) (rw c.deref-2.ensures.value shapes)
 
 pub join-requires-clause-rising : goal.join-requires-clause-rising
 join-requires-clause-rising c =
     let rs = c.requires.0 in
     let h = c.requires.1 in
     let chains = c.in_ok-sort_chains.ensures.same rs (h.chains c.if-collected.false) in
-    let shapes = c.in_ok-sort_shapes.ensures.same rs c.args.collected.pool.items h.shapes in
-    let sound : AreSound rs c.sort_chains.new.chains.items c.sort_shapes.new.shapes.items = rw (c.deref.ensures.value, c.deref-2.ensures.value) at (c.in_default.ensures.found rs c.args.collected.pool.items (rw c.deref.ensures.value chains) (rw c.deref-2.ensures.value shapes)) in
+    let shapes = c.in_ok-sort_shapes.ensures.same rs c.args.collected.now.pool.items h.shapes in
+    let sound : AreSound rs c.sort_chains.new.chains.items c.sort_shapes.new.shapes.items = rw (c.deref.ensures.value, c.deref-2.ensures.value) at (c.in_default.ensures.found rs c.args.collected.now.pool.items (rw c.deref.ensures.value chains) (rw c.deref-2.ensures.value shapes)) in
     rw c.deref-3.ensures.value sound.rising
 
 pub join-requires-clause-inside : goal.join-requires-clause-inside
 join-requires-clause-inside c =
     let rs = c.requires.0 in
     let h = c.requires.1 in
-    let pool = c.args.collected.pool.items in
+    let pool = c.args.collected.now.pool.items in
     let shapes = c.in_ok-sort_shapes.ensures.same rs pool h.shapes in
     rw (c.deref-4.ensures.value, c.deref-5.ensures.value) (All-weaker (IsShapeEntry rs pool) (IsInside pool) (λ s entry. entry.inside) c.sort_shapes.new.shapes.items shapes.each)
 
@@ -35,13 +35,13 @@ join-requires-clause-known c =
     let rs = c.requires.0 in
     let h = c.requires.1 in
     let chains = c.in_ok-sort_chains.ensures.same rs (h.chains c.if-collected.false) in
-    let shapes = c.in_ok-sort_shapes.ensures.same rs c.args.collected.pool.items h.shapes in
-    let sound : AreSound rs c.sort_chains.new.chains.items c.sort_shapes.new.shapes.items = rw (c.deref.ensures.value, c.deref-2.ensures.value) at (c.in_default.ensures.found rs c.args.collected.pool.items (rw c.deref.ensures.value chains) (rw c.deref-2.ensures.value shapes)) in
+    let shapes = c.in_ok-sort_shapes.ensures.same rs c.args.collected.now.pool.items h.shapes in
+    let sound : AreSound rs c.sort_chains.new.chains.items c.sort_shapes.new.shapes.items = rw (c.deref.ensures.value, c.deref-2.ensures.value) at (c.in_default.ensures.found rs c.args.collected.now.pool.items (rw c.deref.ensures.value chains) (rw c.deref-2.ensures.value shapes)) in
     rw (c.deref-3.ensures.value, c.deref-4.ensures.value) sound.known
 
 pub returns-clause-built : goal.returns-clause-built
 returns-clause-built c = λ rs h.
-    let pool = c.args.collected.pool.items in
+    let pool = c.args.collected.now.pool.items in
     let chains = c.in_ok-sort_chains.ensures.same rs (h.chains c.if-collected.false) in
     let shapes = c.in_ok-sort_shapes.ensures.same rs pool h.shapes in
     let sound : AreSound rs c.sort_chains.new.chains.items c.sort_shapes.new.shapes.items = rw (c.deref.ensures.value, c.deref-2.ensures.value) at (c.in_default.ensures.found rs pool (rw c.deref.ensures.value chains) (rw c.deref-2.ensures.value shapes)) in
@@ -49,7 +49,7 @@ returns-clause-built c = λ rs h.
     built rs c.deref-5.result.now c.deref-3.result.now c.deref-4.result.now c.args.skipped c.join.result
     (rw c.deref-3.ensures.value chains) (rw (c.deref-4.ensures.value, c.deref-5.ensures.value) shapes)
     (rw (c.deref-3.ensures.value, c.deref-4.ensures.value) sound) (rw c.deref-3.ensures.value room)
-    c.join.ensures.ok c.join.ensures.several c.join.ensures.few c.join.ensures.err
+    c.join.ensures
 
 pub returns-then-collected-clause-built : goal.returns-then-collected-clause-built
 returns-then-collected-clause-built c = λ rs h. h.many c.if-collected.true
@@ -77,3 +77,6 @@ join-requires-clause-room c =
 
 pub join-requires-clause-ordered : goal.join-requires-clause-ordered
 join-requires-clause-ordered c = rw c.deref-4.ensures.value c.in_ok-sort_shapes.ensures.ordered
+
+pub returns-clause-of_chains : goal.returns-clause-of_chains
+returns-clause-of_chains c = stops_joining _ _ c.join.result c.join.ensures

@@ -3,6 +3,7 @@ use Rattle.std.proofs.lemmas.Result.{err_from_is_err_and}
 use Rattle.tl_drawn.specs.declared.entry.ChainEntry.{ChainEntry}
 use Rattle.std.proofs.lemmas.List.{take_all}
 use Rattle.tl_map.specs.Keeping.Entries.{IsInside, joined}
+use Rattle.tl_county.specs.Chains.{segment_count}
 use Rattle.tl_map.proofs.JoinLemmas.{run_is, above_run, behind_more, ahead_more, ahead_first, drawn_is, joined_more, stops_join, several_more}
 use Rattle.tl_map.proofs.ListedLemmas.{part_inside}
 use Rattle.tl_map.proofs.RowLemmas.{IsTable-nil}
@@ -20,8 +21,8 @@ loop-chain-init c = record {
   several = λ k d lt. absurd (omega arith);
 }
 
-pub returns-in_err-add_chain-clause-err : goal.returns-in_err-add_chain-clause-err
-returns-in_err-add_chain-clause-err c =
+pub returns-in_err-add_chain : goal.returns-in_err-add_chain
+returns-in_err-add_chain c =
     let chains = c.args.chains.now in
     let shapes = c.args.shapes.now in
     let i = c.loop-chain.chain-index in
@@ -34,7 +35,7 @@ returns-in_err-add_chain-clause-err c =
     let run = run_is shapes s e t c.run_end-end.ensures.from c.run_end-end.ensures.within c.requires.ordered (λ k d lt. c.loop-chain.invariant.behind k i d x lt (omega arith) c.loop-chain-test.true) c.run_end-end.ensures.same above in
     let drawn = drawn_is c.args.pool.now shapes chain _ run in
     let p = err_from_is_err_and c.from_residual-in_err-add_chain.result c.from_residual-in_err-add_chain.ensures.1 in
-    rw (p.1, p.2) (stops_join (joined c.args.pool.now shapes) chains i x _ _ c.in_err-add_chain.field-0.0 c.loop-chain-test.true c.loop-chain.invariant.are drawn c.in_err-add_chain.ensures.err)
+    rw (p.1, p.2) (stops_join (joined c.args.pool.now shapes) chains i x _ _ c.in_err-add_chain.field-0.0 c.loop-chain-test.true c.loop-chain.invariant.are drawn c.in_err-add_chain.ensures)
 
 pub loop-chain-preserved : goal.loop-chain-preserved
 loop-chain-preserved c =
@@ -68,75 +69,32 @@ add_chain-requires c = record {
   few = c.loop-chain.invariant.few;
 }
 
-pub returns-clause-ok : goal.returns-clause-ok
-returns-clause-ok c =
-    let chains = c.args.chains.now in
-    let all = c.loop-chain.invariant.are ∙ ap (map (joined c.args.pool.now c.args.shapes.now)) (take_all c.loop-chain.chain-index chains c.loop-chain-test.false) in
-    rw (c.new.ensures, all) refl
-
-pub returns-clause-several : goal.returns-clause-several
-returns-clause-several c = λ k d lt. c.loop-chain.invariant.several k d (omega (arith, lt, c.loop-chain-test.false))
-
-pub returns-in_err-points-clause-ok : goal.returns-in_err-points-clause-ok
-returns-in_err-points-clause-ok c =
-    let p = err_from_is_err_and c.from_residual.result c.from_residual.ensures.1 in
-    rw p.1 tt
-
-pub returns-in_err-points-clause-several : goal.returns-in_err-points-clause-several
-returns-in_err-points-clause-several c =
-    let p = err_from_is_err_and c.from_residual.result c.from_residual.ensures.1 in
-    rw p.1 tt
-
-pub returns-in_err-points-clause-few : goal.returns-in_err-points-clause-few
-returns-in_err-points-clause-few c =
-    let p = err_from_is_err_and c.from_residual.result c.from_residual.ensures.1 in
-    rw p.1 tt
-
-pub returns-in_err-points-clause-err : goal.returns-in_err-points-clause-err
-returns-in_err-points-clause-err c =
+pub returns-in_err-points : goal.returns-in_err-points
+returns-in_err-points c =
     let p = err_from_is_err_and c.from_residual.result c.from_residual.ensures.1 in
     rw (p.1, p.2) (inl refl)
 
-pub returns-in_err-rows-clause-ok : goal.returns-in_err-rows-clause-ok
-returns-in_err-rows-clause-ok c =
-    let p = err_from_is_err_and c.from_residual-in_err-rows.result c.from_residual-in_err-rows.ensures.1 in
-    rw p.1 tt
-
-pub returns-in_err-rows-clause-several : goal.returns-in_err-rows-clause-several
-returns-in_err-rows-clause-several c =
-    let p = err_from_is_err_and c.from_residual-in_err-rows.result c.from_residual-in_err-rows.ensures.1 in
-    rw p.1 tt
-
-pub returns-in_err-rows-clause-few : goal.returns-in_err-rows-clause-few
-returns-in_err-rows-clause-few c =
-    let p = err_from_is_err_and c.from_residual-in_err-rows.result c.from_residual-in_err-rows.ensures.1 in
-    rw p.1 tt
-
-pub returns-in_err-rows-clause-err : goal.returns-in_err-rows-clause-err
-returns-in_err-rows-clause-err c =
+pub returns-in_err-rows : goal.returns-in_err-rows
+returns-in_err-rows c =
     let p = err_from_is_err_and c.from_residual-in_err-rows.result c.from_residual-in_err-rows.ensures.1 in
     rw (p.1, p.2) (inl refl)
-
-pub returns-in_err-add_chain-clause-ok : goal.returns-in_err-add_chain-clause-ok
-returns-in_err-add_chain-clause-ok c =
-    let p = err_from_is_err_and c.from_residual-in_err-add_chain.result c.from_residual-in_err-add_chain.ensures.1 in
-    rw p.1 tt
-
-pub returns-in_err-add_chain-clause-several : goal.returns-in_err-add_chain-clause-several
-returns-in_err-add_chain-clause-several c =
-    let p = err_from_is_err_and c.from_residual-in_err-add_chain.result c.from_residual-in_err-add_chain.ensures.1 in
-    rw p.1 tt
-
-pub returns-in_err-add_chain-clause-few : goal.returns-in_err-add_chain-clause-few
-returns-in_err-add_chain-clause-few c =
-    let p = err_from_is_err_and c.from_residual-in_err-add_chain.result c.from_residual-in_err-add_chain.ensures.1 in
-    rw p.1 tt
-
-pub returns-clause-err : goal.returns-clause-err
-returns-clause-err c = tt
 
 pub run_end-end-requires : goal.run_end-end-requires
 run_end-end-requires c = c.loop-chain.invariant.within
 
 pub new-requires-clause-table : goal.new-requires-clause-table
 new-requires-clause-table c = c.loop-chain.invariant.table
+
+pub new-requires-clause-few : goal.new-requires-clause-few
+new-requires-clause-few c = c.loop-chain.invariant.few
+
+pub returns : goal.returns
+returns c =
+    let chains = c.args.chains.now in
+    let all = c.loop-chain.invariant.are ∙ ap (map (joined c.args.pool.now c.args.shapes.now)) (take_all c.loop-chain.chain-index chains c.loop-chain-test.false) in
+    let count = ap segment_count all in
+    record {
+      are = rw (c.new.ensures, all) refl;
+      several = λ k d lt. c.loop-chain.invariant.several k d (omega (arith, lt, c.loop-chain-test.false));
+      few = omega (arith, count, c.loop-chain.invariant.table.total, c.loop-chain.invariant.few);
+    }

@@ -35,3 +35,13 @@ returns-in_err-push-clause-linked c =
 
 pub returns-clause-length : goal.returns-clause-length
 returns-clause-length c = c.loop-link.invariant.same
+
+pub returns-in_err-push-clause-marks : goal.returns-in_err-push-clause-marks
+returns-in_err-push-clause-marks c =
+    let p = err_from_is_err_and c.from_residual.result c.from_residual.ensures.1 in
+    rw p.1 tt
+
+pub returns-in_err-push-clause-length : goal.returns-in_err-push-clause-length
+returns-in_err-push-clause-length c =
+    let p = err_from_is_err_and c.from_residual.result c.from_residual.ensures.1 in
+    rw p.1 tt

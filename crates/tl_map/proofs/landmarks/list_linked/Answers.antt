@@ -1,50 +1,17 @@
 use Rattle.std.proofs.lemmas.Result.{err_from_is_err_and}
-use Rattle.std.proofs.Common.{◌≡◌, ◌∙◌, ℕ, ◌-◌, ◌<◌, List, length, map, take, drop, sym, ap, inl, inr, arith}
-use Rattle.std.proofs.lemmas.Bool.{cases_lt}
-use Rattle.std.proofs.lemmas.List.{length-append}
-use Rattle.tl_map.specs.declared.landmarks.Link.{Link}
-use Rattle.tl_drawn.specs.MapOf.{firsts}
-use Rattle.tl_map.specs.Keeping.Landmarks.{links_to}
-use Rattle.tl_map.proofs.ListedLemmas.{run_of, above_links, row_more, part_inside, whole_back}
 use Rattle.tl_map.proofs.landmarks.list_linked.Goals as goal
 
-pub loop-landmark-preserved : goal.loop-landmark-preserved
-loop-landmark-preserved c =
-    let links = c.args.links.now in
-    let s = c.loop-landmark.start in
-    let e = c.links_end-end.result in
-    let l = c.loop-landmark.landmark in
-    let before = c.loop-landmark.invariant in
-    let above = above_links links s e l c.links_end-end.ensures.from c.requires.rising before.ahead c.links_end-end.ensures.stops in
-    let run : links_to l links ≡ take (e - s) (drop s links) = run_of links s e l c.links_end-end.ensures.from c.links_end-end.ensures.within before.behind c.links_end-end.ensures.same above in
-    let more : List ℕ = firsts (λ p. p) (map (λ (m : Link). m.polygon) (take (e - s) (drop s links))) in
-    let long = ap length c.in_ok-append_once.ensures.linked in
-    let rows = row_more links l c.loop-landmark.linked.items more c.loop-landmark.rows.items c.len-first.result (c.len.result - c.len-first.result) before.rows.count
-    (omega (arith, c.len-first.ensures, c.loop-landmark.linked.ok.0)) (omega (arith, c.len-first.ensures, c.len.ensures, c.loop-landmark.linked.ok.0, c.append_once.new.linked.ok.0, long, length-append c.loop-landmark.linked.items more)) (ap (λ (ms : List Link). firsts (λ p. p) (map (λ (m : Link). m.polygon) ms)) (sym run)) before.rows in
-    let back = whole_back c.append_once.new.marks c.loop-landmark.marks.items c.loop-landmark.marks.len (c.append_once.ensures.length ∙ ap length c.deref_mut.ensures.value) c.loop-landmark.marks.ok.0 in
-    record {
-      within = c.links_end-end.ensures.within;
-      behind = λ k d lt. elim (cases_lt k s) [
-        | inl earlier ↦ let h = before.behind k d earlier in omega (arith, h)
-        | inr later ↦ let h = c.links_end-end.ensures.same k d later lt in omega (arith, h)
-      ];
-      ahead = λ k d low high. let h = above k d low high in omega (arith, h);
-      marks = ap length back ∙ c.append_once.ensures.length ∙ ap length c.deref_mut.ensures.value ∙ before.marks;
-      fresh = rw back c.append_once.ensures.marks;
-      rows = rw (c.in_ok-push.ensures.items, c.in_ok-append_once.ensures.linked) rows;
-    }
+pub append_rows-requires-clause-few : goal.append_rows-requires-clause-few
+append_rows-requires-clause-few c = c.requires.few
 
-pub append_once-requires : goal.append_once-requires
-append_once-requires c =
-    let marks = c.deref_mut.result.now in
-    let long : length marks ≡ c.args.polygons = ap length c.deref_mut.ensures.value ∙ c.loop-landmark.invariant.marks in
-    record {
-      inside = part_inside (λ (m : Link). m.polygon < length marks) c.args.links.now c.loop-landmark.start (c.links_end-end.result - c.loop-landmark.start) (λ k d lt. let h = c.requires.inside k d lt in omega (arith, h, long)) (omega (arith, c.links_end-end.ensures.from, c.links_end-end.ensures.within));
-      fresh = rw c.deref_mut.ensures.value (λ k d lt. let h = c.loop-landmark.invariant.fresh k d lt in omega (arith, h));
-    }
+pub append_rows-requires-clause-rising : goal.append_rows-requires-clause-rising
+append_rows-requires-clause-rising c = c.requires.rising
+
+pub append_rows-requires-clause-none : goal.append_rows-requires-clause-none
+append_rows-requires-clause-none c = c.in_ok-rows.ensures.items
 
 pub returns : goal.returns
-returns c = let same : c.loop-landmark.landmark ≡ c.args.landmarks = omega (arith, c.loop-landmark-test.false, c.loop-landmark.auto.landmark-end) in rw same at c.loop-landmark.invariant.rows
+returns c = c.in_ok-append_rows.ensures
 
 pub returns-in_err-marks : goal.returns-in_err-marks
 returns-in_err-marks c =
@@ -56,15 +23,7 @@ returns-in_err-rows c =
     let p = err_from_is_err_and c.from_residual-in_err-rows.result c.from_residual-in_err-rows.ensures.1 in
     rw p.1 tt
 
-pub returns-in_err-append_once : goal.returns-in_err-append_once
-returns-in_err-append_once c =
-    let p = err_from_is_err_and c.from_residual-in_err-append_once.result c.from_residual-in_err-append_once.ensures.1 in
+pub returns-in_err-append_rows : goal.returns-in_err-append_rows
+returns-in_err-append_rows c =
+    let p = err_from_is_err_and c.from_residual-in_err-append_rows.result c.from_residual-in_err-append_rows.ensures.1 in
     rw p.1 tt
-
-pub returns-in_err-push : goal.returns-in_err-push
-returns-in_err-push c =
-    let p = err_from_is_err_and c.from_residual-in_err-push.result c.from_residual-in_err-push.ensures.1 in
-    rw p.1 tt
-
-pub links_end-end-requires : goal.links_end-end-requires
-links_end-end-requires c = c.loop-landmark.invariant.within

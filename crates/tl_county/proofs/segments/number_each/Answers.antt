@@ -1,0 +1,50 @@
+use Rattle.std.proofs.lemmas.Result.{err_from_is_err_and}
+use Rattle.std.proofs.Common.{◌≡◌, ◌-◌, ◌<◌, ◌≤◌, List, take, [], ◌+◌, length, ap, sym, refl, subst, arith}
+use Rattle.std.proofs.lemmas.List.Sums.{sum_by-take-le}
+use Rattle.tl_county.specs.Chains.{CompleteChain, segment_count}
+use Rattle.tl_county.specs.Keeping.Numbered.{NumberUpTo}
+use Rattle.tl_county.proofs.NumberLemmas.{number_more, points_told, several_told}
+use Rattle.tl_county.proofs.segments.number_each.Goals as goal
+
+pub overflow_sub-count : goal.overflow_sub-count
+overflow_sub-count c =
+    let h = several_told c.args.chains.now.chains c.loop-c.c c.points.result.now (omega (arith, c.loop-c-test.true, c.len-c-end.ensures)) c.points.ensures c.requires.proper in
+    omega (arith, h)
+
+pub loop-c-preserved : goal.loop-c-preserved
+loop-c-preserved c =
+    let d : CompleteChain = record { tlid = 0; points = [] } in
+    let cs = c.args.chains.now.chains in
+    let lt : c.loop-c.c < length cs = omega (arith, c.loop-c-test.true, c.len-c-end.ensures) in
+    let points = points_told cs c.loop-c.c c.points.result.now lt c.points.ensures d in
+    let old = c.loop-c.of.ok.0 in
+    let long : length c.resize.new.self.items ≡ length c.loop-c.of.items + (length c.points.result.now - 1) = omega (arith, c.in_ok-resize.ensures.len, c.resize.new.self.ok.0, c.len-in-loop-c.ensures, c.loop-c.of.ok.0) in
+    rw c.in_ok-push.ensures.items
+    (number_more cs c.loop-c.c d c.loop-c.of.items c.resize.new.self.items c.loop-c.firsts.items (length c.points.result.now - 1) c.len.result lt (omega (arith, c.len.ensures, old)) (ap (λ (ps : List _). length ps - 1) (sym points)) long
+    (λ k e low. c.in_ok-resize.ensures.by_index.0 k e (omega (arith, low, c.len-in-loop-c.ensures, old)) (omega (arith, low, old)))
+    (λ k e low high. c.in_ok-resize.ensures.by_index.1 k e refl (omega (arith, low, old)) (omega (arith, high, long, c.len-in-loop-c.ensures, old)))
+    c.loop-c.invariant)
+
+pub returns : goal.returns
+returns c =
+    let whole : c.loop-c.c ≡ length c.args.chains.now.chains = omega (arith, c.loop-c-test.false, c.len-c-end.ensures, c.loop-c.auto.c-end) in
+    subst (λ n. NumberUpTo c.args.chains.now.chains n c.loop-c.of.items c.loop-c.firsts.items) whole c.loop-c.invariant
+
+pub returns-in_err-push : goal.returns-in_err-push
+returns-in_err-push c =
+    let p = err_from_is_err_and c.from_residual.result c.from_residual.ensures.1 in
+    rw p.1 tt
+
+pub returns-in_err-resize : goal.returns-in_err-resize
+returns-in_err-resize c =
+    let p = err_from_is_err_and c.from_residual-in_err-resize.result c.from_residual-in_err-resize.ensures.1 in
+    rw p.1 tt
+
+pub loop-c-init : goal.loop-c-init
+loop-c-init c = c.requires.none
+
+pub overflow_cast-len : goal.overflow_cast-len
+overflow_cast-len c =
+    let cs = c.args.chains.now.chains in
+    let before : segment_count (take c.loop-c.c cs) ≤ segment_count cs = sum_by-take-le (λ (x : CompleteChain). length x.points - 1) cs c.loop-c.c in
+    omega (arith, before, c.requires.few, c.loop-c.invariant.count, c.len.ensures, c.loop-c.of.ok.0)
