@@ -6,7 +6,7 @@ use Rattle.tl_cert.proofs.CollectLemmas.{tells_here}
 use Rattle.tl_check.specs.Keeping.Answers.{answer_of, stop_of}
 use Rattle.tl_check.specs.Keeping.Parts.{with_round, with_walk}
 use Rattle.tl_check.proofs.Searched.{stopped_searched, stopped_behind, stopped_within, answered_behind, answered_within, ended_searched, searched_so}
-use Rattle.tl_check.proofs.Streaming.{stop_decides, round_read, walk_read, end_decides, no_device, gives_as}
+use Rattle.tl_check.proofs.Streaming.{stop_decides, round_read, walk_read, end_decides, no_device, gives_as, fewer_left}
 use Rattle.tl_check.proofs.Stopping.{stopped_tells, answered_tells, ended_decides}
 use Rattle.tl_check.proofs.Meeting.{meets_so}
 use Rattle.tl_check.proofs.as_read.check_parts.Goals as goal
@@ -166,3 +166,13 @@ pub conclude-requires-clause-held : goal.conclude-requires-clause-held
 conclude-requires-clause-held g c =
     let st = c.parts.invariant.stands in
     (st.cert, st.holds, c.parts.invariant.tree ∙ sym c.deref-in-Ok-None.ensures.value)
+
+pub parts-smaller-in-Ok-Some-Round : goal.parts-smaller-in-Ok-Some-Round
+parts-smaller-in-Ok-Some-Round g c =
+    let gives = gives_as g.R.Source.remaining c.parts.reader c.next_part.new.self c.in-Ok-Some-Round.field-0 c.in-Ok-Some-Round.field-0-0 (part.Round c.in-Ok-Some-Round.darts) c.in-Ok-Some-Round.field-0-is c.in-Ok-Some-Round.field-0-0-is c.in-Ok-Some-Round.ensures.gives in
+    fewer_left g.R.Source.remaining c.parts.invariant.stands.place c.parts.reader c.next_part.new.self (part.Round c.in-Ok-Some-Round.darts) c.parts.invariant.stands.collects.standing gives
+
+pub parts-smaller : goal.parts-smaller
+parts-smaller g c =
+    let gives = gives_as g.R.Source.remaining c.parts.reader c.next_part.new.self c.in-Ok-Some-Walk.field-0 c.in-Ok-Some-Walk.field-0-0 (part.Walk c.in-Ok-Some-Walk.darts) c.in-Ok-Some-Walk.field-0-is c.in-Ok-Some-Walk.field-0-0-is c.in-Ok-Some-Walk.ensures.gives in
+    fewer_left g.R.Source.remaining c.parts.invariant.stands.place c.parts.reader c.next_part.new.self (part.Walk c.in-Ok-Some-Walk.darts) c.parts.invariant.stands.collects.standing gives
