@@ -106,3 +106,9 @@ module _ (m : TheMap) where
   built_exactly (Ok (built.Cert cert)) says = ((λ said. says.0), (λ sound. tt))
   built_exactly (Ok (built.Fault fault)) says = ((λ said. absurd said), (λ sound. absurd (not_sound m fault says sound)))
   built_exactly (Err stop) says = tt
+
+-- ---- what is at odds
+
+pub both_agree : (m : TheMap) (found : Option MapFault) → CellsAgree m.chains → MatchOption found (SidesAgree m.chains) (IsTrueOfMap m) → MatchOption found (SidesAgree m.chains × CellsAgree m.chains) (IsTrueOfMap m)
+both_agree m None cells sides = (sides, cells)
+both_agree m (Some fault) cells told = told

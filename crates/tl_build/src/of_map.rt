@@ -14,11 +14,12 @@ ghost use Rattle.tl_build.specs.Building.{IfCert, OnCert, IfFault, HasCert};
 ghost use Rattle.tl_build.specs.Keeping.Deciding.{Builds};
 
 use crate::answer::Built;
-use crate::judge::{Judged, judge};
+use crate::judge::judge;
 use crate::planar::build_planar;
 use crate::stop::BuildStop;
 use std::alloc::Global;
 use tl_county::Map;
+use tl_propose::propose;
 use tl_sweep::{Swept, sweep};
 use tl_verdict::MapFault;
 
@@ -70,9 +71,13 @@ fn decide(alloc: Global, map: &Map) -> Result<Built, BuildStop>
 fn build_by_search(alloc: Global, map: &Map) -> Result<Built, BuildStop>
     ensures { Builds map.now result }
 {
-    match judge(alloc, map) {
-        Ok(Judged::Sound(cert, _)) => Ok(Built::Cert(cert)),
-        Ok(Judged::Fault(fault)) => Ok(Built::Fault(fault)),
+    let cert = match propose(alloc, map) {
+        Ok(cert) => cert,
+        Err(_) => return Err(BuildStop::Memory),
+    };
+    match judge(alloc, map, &cert) {
+        Ok(Ok(_)) => Ok(Built::Cert(cert)),
+        Ok(Err(fault)) => Ok(Built::Fault(fault)),
         Err(stop) => Err(stop),
     }
 }

@@ -15,15 +15,18 @@ ghost use Rattle.tl_verdict.specs.Records.{HaveMap, IsTrueOfRecords};
 ghost use Rattle.tl_build.specs.Auditing.{IfSound, OnSound, IfFaulty, SaysSound, MayStopAudit, TellsDevice};
 ghost use Rattle.tl_build.specs.Keeping.Judging.{refusal_of, IsMapStop};
 ghost use Rattle.tl_build.specs.Keeping.Deciding.{Audits};
+ghost use Rattle.tl_propose.specs.Keeping.Proposed.{IsProposal};
 
 use crate::answer::Audit;
-use crate::judge::{Judged, judge};
+use crate::judge::judge;
 use crate::planar::audit_planar;
 use crate::stop::{AuditStop, BuildStop};
 use std::alloc::Global;
 use std::hash::RandomState;
+use tl_cert::Certificate;
 use tl_county::Map;
 use tl_map::{MapStop, read_map_with};
+use tl_propose::propose;
 use tl_record::{Options, Source};
 use tl_sweep::{Swept, sweep};
 use tl_verdict::MapFault;
@@ -106,7 +109,11 @@ pub fn audit_with<R: Source>(
     ensures failures { TellsDevice (R.failure_count records.old) (R.failure_count records.new) result }
 {
     match read_map_with(alloc, hasher, records, options) {
-        Ok(map) => audit_map(alloc, &map),
+        Ok(map) => {
+            let answer = audit_map(alloc, &map);
+            drop(map);
+            answer
+        }
         Err(stop) => refused(stop),
     }
 }
@@ -143,9 +150,20 @@ fn decide(alloc: Global, map: &Map) -> Result<Audit, AuditStop>
 fn audit_by_search(alloc: Global, map: &Map) -> Result<Audit, AuditStop>
     ensures { Audits map.now result }
 {
-    match judge(alloc, map) {
-        Ok(Judged::Sound(_, report)) => Ok(Audit::Sound(report)),
-        Ok(Judged::Fault(fault)) => Ok(Audit::Fault(fault)),
+    match propose(alloc, map) {
+        Ok(cert) => audit_by(alloc, map, &cert),
+        Err(_) => Err(AuditStop::Memory),
+    }
+}
+
+/// Decides whether a map is sound by the certificate that is proposed for it.
+fn audit_by(alloc: Global, map: &Map, cert: &Certificate) -> Result<Audit, AuditStop>
+    requires proposed { IsProposal map.now cert.now }
+    ensures { Audits map.now result }
+{
+    match judge(alloc, map, cert) {
+        Ok(Ok(report)) => Ok(Audit::Sound(report)),
+        Ok(Err(fault)) => Ok(Audit::Fault(fault)),
         Err(BuildStop::Memory) => Err(AuditStop::Memory),
     }
 }

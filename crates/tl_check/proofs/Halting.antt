@@ -1,5 +1,5 @@
 -- What the clauses of an answer read off what it says.
-use Rattle.std.proofs.Common.{ℕ, ◌≤◌, Ok, Err}
+use Rattle.std.proofs.Common.{◌≡◌, ℕ, ◌≤◌, List, Result, Ok, Err, sym, subst}
 use Rattle.std.specs.Prelude.{IfErr}
 use Rattle.tl_county.specs.TheMap.{TheMap}
 use Rattle.tl_planar.specs.Planar.{IsPlanar}
@@ -7,7 +7,10 @@ use Rattle.tl_planar.specs.Searching.{meeting_segments}
 use Rattle.tl_sides.specs.Sides.{SidesAgree}
 use Rattle.tl_inside.specs.Placed.{ArePlaced}
 use Rattle.tl_cells.specs.Cells.{CellsAgree}
+use Rattle.tl_index.specs.declared.node.TreeNode.{TreeNode}
 use Rattle.tl_cert.specs.Certificates.{TheCertificate}
+use Rattle.tl_cert.specs.declared.certificate.Counts.{Counts}
+use Rattle.tl_check.specs.declared.state.State.{State}
 use Rattle.tl_check.specs.declared.state.Halt.{Halt}
 use Rattle.tl_check.specs.declared.state.Halt.TheVariants as halt
 use Rattle.tl_verdict.specs.declared.verdict.Report.{Report}
@@ -18,7 +21,7 @@ use Rattle.tl_verdict.specs.Valid.{AreCounts, IsTree, AllowsSearch, IsValid}
 use Rattle.tl_verdict.specs.Truth.{IsTrueOfMap, IsTrueOfCert, IsOfDarts}
 use Rattle.tl_verdict.specs.Verdicts.{Answer, OnSound, IfSound, IfMapFault, IfCertFault, OnSearched, IsReport, MayStop}
 use Rattle.tl_check.specs.Keeping.Answers.{answer_of}
-use Rattle.tl_check.specs.Keeping.Parts.{MayHalt, MayEnd, UnlessMemory}
+use Rattle.tl_check.specs.Keeping.Parts.{LeadsBehindTree, MayHalt, MayEnd, UnlessMemory}
 use Rattle.tl_check.specs.Keeping.Streams.{IsSoundByCert, Shows}
 use Rattle.tl_check.proofs.Prefixes.{first_rounds, first_walks}
 use Rattle.tl_check.proofs.Searched.{fault_searched}
@@ -45,6 +48,26 @@ pub so_unless_memory : (why : Halt) (P : Type 0) → P → UnlessMemory why P
 so_unless_memory (halt.Fault fault) P p = p
 so_unless_memory halt.Memory P p = tt
 so_unless_memory halt.Budget P p = p
+
+with_counts : (why : Halt) (P Q : Type 0) → P → UnlessMemory why Q → UnlessMemory why (P × Q)
+with_counts (halt.Fault fault) P Q p q = (p, q)
+with_counts halt.Memory P Q p q = tt
+with_counts halt.Budget P Q p q = (p, q)
+
+-- behind a tree whose counts are the map's
+pub counted_so : (m : TheMap) (budget : ℕ) (counts : Counts) (nodes : List TreeNode) (r : Result State Halt) → AreCounts m counts
+    → LeadsBehindTree m budget (IsTree m nodes) (λ c. AreCounts m c.counts) nodes r → LeadsBehindTree m budget (AreCounts m counts × IsTree m nodes) (λ c. c.counts ≡ counts) nodes r
+counted_so m budget counts nodes (Ok state) are begun = record {
+  holds = λ c is. begun.holds c (subst (AreCounts m) (sym is) are);
+  rounds = begun.rounds;
+  searched = begun.searched;
+  behind = begun.behind;
+}
+counted_so m budget counts nodes (Err why) are ends = record {
+  halts = ends.halts;
+  tree = with_counts why (AreCounts m counts) (IsTree m nodes) are ends.tree;
+  meets = ends.meets;
+}
 
 -- a certificate of the first rounds, or of the first walks, allows what the whole one does
 pub allowed_rounds : (m : TheMap) (c : TheCertificate) (n : ℕ) → AllowsSearch m (first_rounds c n) → AllowsSearch m c

@@ -10,3 +10,4 @@ pub mod Halting
 pub mod Treed
 pub mod Stopping
 pub mod Rounding
+pub mod Deciding

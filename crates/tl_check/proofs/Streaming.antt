@@ -1,5 +1,5 @@
 -- Certificates that are checked as their parts come.
-use Rattle.std.proofs.Common.{◌≡◌, ℕ, ◌^◌, ◌<◌, List, [], Vec, Global, length, Option, None, Some, Ok, Err, refl, ap, subst, ◌∙◌, arith}
+use Rattle.std.proofs.Common.{◌≡◌, ℕ, ◌^◌, ◌<◌, List, [], Vec, Global, length, Option, None, Some, Ok, Err, refl, sym, ap, subst, ◌∙◌, arith}
 use Rattle.std.specs.Option.{IfSome}
 use Rattle.std.proofs.lemmas.Option.{IfSome_then}
 use Rattle.tl_county.specs.TheMap.{TheMap}
@@ -16,9 +16,9 @@ use Rattle.tl_cert.specs.declared.stop.CertStop.{CertStop}
 use Rattle.tl_cert.specs.declared.stop.CertStop.TheVariants as stop
 use Rattle.tl_cert.specs.Certificates.{TheCertificate}
 use Rattle.tl_cert.specs.Beginnings.{IsTextOf}
-use Rattle.tl_cert.specs.Given.{with_part}
+use Rattle.tl_cert.specs.Given.{with_part, parts_left}
 use Rattle.tl_cert.specs.Reading.{Gives, GivesAt, unread, lines_of, standing_of}
-use Rattle.tl_cert.specs.Keeping.Collecting.{Collects}
+use Rattle.tl_cert.specs.Keeping.Collecting.{Collects, left_of}
 use Rattle.tl_cert.proofs.CollectLemmas.{gives_here, collects_more, collects_all, collects_none, stops_all}
 use Rattle.tl_sides.proofs.ListLemmas.{length-and, list-last}
 use Rattle.tl_verdict.specs.declared.fault.CertFault.{CertFault}
@@ -202,3 +202,9 @@ wrong_counts m c counts e not = λ d on are. not (subst (AreCounts m) (on.counts
 -- an answer told part by part
 pub gives_as : {R : Type 0} (remaining : R → Option (List ℕ)) (old new : CertReader R) (found : Option CertPart) (some given : CertPart) → found ≡ Some some → some ≡ given → Gives remaining old new (Ok found) (standing_of old) → Gives remaining old new (Ok (Some given)) (standing_of old)
 gives_as remaining old new found some given e f gives = subst (λ a. Gives remaining old new (Ok a) (standing_of old)) (e ∙ ap Some f) gives
+
+-- behind a part fewer are left
+pub fewer_left : {R : Type 0} (remaining : R → Option (List ℕ)) (place : Place) (old new : CertReader R) (given : CertPart) → standing_of old ≡ Reading place → Gives remaining old new (Ok (Some given)) (standing_of old) → left_of (standing_of new) < left_of (standing_of old)
+fewer_left remaining place old new given is gives =
+    let at = gives_here remaining old new (Ok (Some given)) place is gives in
+    subst (λ s. left_of (standing_of new) < left_of s) (sym is) (subst (λ s. left_of s < parts_left place) (sym at.1) at.2)

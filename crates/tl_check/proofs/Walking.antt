@@ -12,7 +12,9 @@ use Rattle.tl_sides.proofs.ListLemmas.{length-and, list-last}
 use Rattle.tl_inside.specs.Placed.{ArePlaced}
 use Rattle.tl_rings.specs.Rings.{TheRings, AreBoxed}
 use Rattle.tl_cert.specs.Certificates.{TheCertificate}
-use Rattle.tl_check.specs.Keeping.Parts.{Continues, AreWalksSoFar, IsWalked, IsShown, with_walk}
+use Rattle.tl_check.specs.declared.state.State.{State}
+use Rattle.tl_check.specs.declared.state.Halt.{Halt}
+use Rattle.tl_check.specs.Keeping.Parts.{Continues, TakesWalks, AreWalksSoFar, IsLed, Leads, IsWalked, IsShown, with_walk}
 
 -- a walk that was taken is of darts
 pub darts_known : (chains : List MapChain) (walks : List (List ℕ)) (walk : List ℕ) (w : Walks) → HaveWalked chains (and_list walks walk) w → All (λ d. d < 2 * length chains) walk
@@ -55,6 +57,19 @@ told_ok P r x is told = subst (λ z. IfOk z P) is told
 
 pub told_err : {X E : Type 0} (P : E → Type 0) (r : Result X E) (e : E) → r ≡ Err e → IfErr r P → P e
 told_err P r e is told = subst (λ z. IfErr z P) is told
+
+-- a walk that is taken where the rounds have ended
+pub leads_on : (m : TheMap) (walk : List ℕ) (old ended : State) (r : Result State Halt) → IsLed m (λ c. c) TakesWalks old ended → Leads m (λ c. with_walk c walk) ended r → Leads m (λ c. with_walk c walk) old r
+leads_on m walk old ended (Ok next) led leads = record {
+  holds = λ c held. leads.holds c (led.holds c held);
+  takes = leads.takes;
+  searched = λ n searched. leads.searched n (led.searched n searched);
+  behind = λ behind. leads.behind (led.behind behind);
+}
+leads_on m walk old ended (Err halt) led leads = record {
+  halts = leads.halts;
+  allowed = λ c held. leads.allowed c (led.holds c held);
+}
 
 -- what goes on behind one walk more goes on before it
 pub goes_on_before : (c d : TheCertificate) (walk : List ℕ) → Continues (with_walk c walk) d → Continues c d

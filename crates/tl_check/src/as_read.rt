@@ -1,6 +1,6 @@
 //! The check of a map by a certificate that is checked as its parts come.
 
-ghost use Rattle.std.specs.Prelude.{◌≡◌, ℕ, ◌<◌, ◌≤◌, ◌^◌, length, IfErr};
+ghost use Rattle.std.specs.Prelude.{◌≡◌, ◌<◌, ◌≤◌, ◌^◌, zero, length, IfOk, IfErr};
 ghost use Rattle.std.specs.Option.{IfSome};
 ghost use Rattle.tl_index.specs.Preorder.{IsPreorder};
 ghost use Rattle.tl_planar.specs.Planar.{IsPlanar};
@@ -11,23 +11,23 @@ ghost use Rattle.tl_cells.specs.Cells.{CellsAgree};
 ghost use Rattle.tl_cert.specs.declared.reader.Standing.TheVariants.{Reading};
 ghost use Rattle.tl_cert.specs.declared.place.Place.TheVariants.{Start};
 ghost use Rattle.tl_cert.specs.Certificates.{TheCertificate};
-ghost use Rattle.tl_cert.specs.Reading.{source_of, lines_of, standing_of, unread};
+ghost use Rattle.tl_cert.specs.Reading.{source_of, lines_of, standing_of};
 ghost use Rattle.tl_verdict.specs.Sound.{AreClosed};
-ghost use Rattle.tl_verdict.specs.Valid.{AllowsSearch};
+ghost use Rattle.tl_verdict.specs.Valid.{AreCounts, IsTree};
 ghost use Rattle.tl_verdict.specs.Truth.{IsTrueOfMap, IsOfDarts};
 ghost use Rattle.tl_verdict.specs.Verdicts.{OnSound, IfSound, IfMapFault, IfCertFault, UnlessMeet, OnSearched, IsReport};
 ghost use Rattle.tl_verdict.specs.Texts.{IsTrueOfText, IsValidText, TextAllowsSearch, MayStopReading, TellsDevice};
-ghost use Rattle.tl_check.specs.Keeping.Parts.{Holds, IsSearched, IsBehindSearch};
-ghost use Rattle.tl_check.specs.Keeping.Streams.{Stands, Decides, Concludes};
+ghost use Rattle.tl_check.specs.Keeping.Parts.{with_walk, Holds, Leads, LeadsBehindTree};
+ghost use Rattle.tl_check.specs.Keeping.Streams.{IsBehindTree, IsAnswer, IsConcluded};
 
 use crate::answer::{answer, stopped};
 use crate::counts::are_counts;
 use crate::rounds::{end_rounds, take_round};
-use crate::state::State;
+use crate::state::{Halt, State};
 use crate::tree::take_tree;
 use crate::walks::{finish_walks, take_walk};
 use std::alloc::Global;
-use tl_cert::{CertPart, CertReader};
+use tl_cert::{CertPart, CertReader, Counts};
 use tl_county::Map;
 use tl_index::TreeNode;
 use tl_record::Source;
@@ -87,42 +87,18 @@ fn check_parts<R: Source>(
 ) -> Result<Verdict, Stop>
     requires standing { standing_of reader.old ≡ Reading Start }
     requires lines { lines_of reader.old ≡ 0 }
-    ensures decides { Decides map.now budget (unread R.remaining reader.old) result }
-    ensures within { OnSound result (meeting_segments map.now.chains ≤ budget) }
-    ensures behind { IfCertFault result (λ fault. IsOfDarts fault → IsPlanar map.now.chains) }
-    ensures meets { UnlessMeet result (IfSome (unread R.remaining reader.old) (λ text.
-        TextAllowsSearch map.now text → IsPlanar map.now.chains)) }
-    ensures searched { OnSearched result (IfSome (unread R.remaining reader.old) (TextAllowsSearch map.now)) }
-    ensures failures { TellsDevice (R.failure_count (source_of reader.old))
-        (R.failure_count (source_of reader.new)) result }
+    ensures answers { IsAnswer R.remaining R.failure_count map.now budget reader.old reader.new result }
     ensures same_reference { R.reference (source_of reader.new) ≡ R.reference (source_of reader.old) }
 {
-    let counts = match reader.next_part() {
-        Ok(Some(CertPart::Counts(counts, _))) => counts,
-        Ok(_) => unreachable!(),
-        Err(stop) => return stopped(stop),
-    };
-    let nodes = match reader.next_part() {
-        Ok(Some(CertPart::Tree(nodes))) => nodes,
-        Ok(_) => unreachable!(),
-        Err(stop) => return stopped(stop),
-    };
-    let mut state = if are_counts(map, counts) {
-        match take_tree(alloc, map, &nodes, budget) {
-            Ok(state) => state,
-            Err(halt) => return answer(halt),
-        }
-    } else {
-        State::Wrong(CertFault::Counts)
+    let (nodes, mut state) = match take_head(alloc, map, reader, budget) {
+        Ok(begun) => begun,
+        Err(early) => return early,
     };
     'parts: loop {
         match reader.next_part() {
             Ok(Some(CertPart::Round(darts))) => state = take_round(map, state, &darts),
-            Ok(Some(CertPart::Walk(darts))) => match end_rounds(alloc, map, state, &[]) {
-                Ok(next) => match take_walk(map, next, &darts) {
-                    Ok(next) => state = next,
-                    Err(halt) => return answer(halt),
-                },
+            Ok(Some(CertPart::Walk(darts))) => match end_and_walk(alloc, map, state, &darts) {
+                Ok(next) => state = next,
                 Err(halt) => return answer(halt),
             },
             Ok(Some(_)) => unreachable!(),
@@ -132,16 +108,81 @@ fn check_parts<R: Source>(
     }
 }
 
+/// Takes the counts and the tree of a certificate of which no part was read yet: the tree, and what was found so far, or
+/// the answer, where there is one already.
+fn take_head<'a, R: Source>(
+    alloc: Global,
+    map: &Map,
+    reader: &mut CertReader<R>,
+    budget: u64,
+) -> Result<(Vec<TreeNode>, State<'a>), Result<Verdict, Stop>>
+    requires standing { standing_of reader.old ≡ Reading Start }
+    requires lines { lines_of reader.old ≡ 0 }
+    ensures begins { IfOk result (λ begun.
+        IsBehindTree R.remaining R.failure_count map.now budget reader.old reader.new begun.0.items begun.1) }
+    ensures answers { IfErr result (λ early.
+        IsAnswer R.remaining R.failure_count map.now budget reader.old reader.new early) }
+    ensures same_reference { R.reference (source_of reader.new) ≡ R.reference (source_of reader.old) }
+{
+    let counts = match reader.next_part() {
+        Ok(Some(CertPart::Counts(counts, _))) => counts,
+        Ok(_) => unreachable!(),
+        Err(stop) => return Err(stopped(stop)),
+    };
+    let nodes = match reader.next_part() {
+        Ok(Some(CertPart::Tree(nodes))) => nodes,
+        Ok(_) => unreachable!(),
+        Err(stop) => return Err(stopped(stop)),
+    };
+    match take_counted(alloc, map, counts, &nodes, budget) {
+        Ok(state) => Ok((nodes, state)),
+        Err(halt) => Err(answer(halt)),
+    }
+}
+
+/// Takes the counts and the tree: each certificate that begins so is wrong where the counts aren't the map's.
+fn take_counted<'a>(
+    alloc: Global,
+    map: &Map,
+    counts: Counts,
+    nodes: &[TreeNode],
+    budget: u64,
+) -> Result<State<'a>, Halt>
+    requires whole { IsPreorder nodes.now }
+    requires numbered { length nodes.now < 2 ^ 32 }
+    ensures { LeadsBehindTree map.now budget (AreCounts map.now counts × IsTree map.now nodes.now) (λ c. c.counts ≡ counts)
+        nodes.now result }
+{
+    if are_counts(map, counts) {
+        take_tree(alloc, map, nodes, budget)
+    } else {
+        Ok(State::Wrong(CertFault::Counts))
+    }
+}
+
+/// Takes one walk more: rounds that haven't ended yet end before it.
+fn end_and_walk<'a>(
+    alloc: Global,
+    map: &Map,
+    state: State<'a>,
+    walk: &[u32],
+) -> Result<State<'a>, Halt>
+    requires some { zero < length walk.now }
+    requires held { (c : TheCertificate) × Holds map.now c state }
+    ensures { Leads map.now (λ c. with_walk c walk.now) state.entry result }
+{
+    match end_rounds(alloc, map, state, &[]) {
+        Ok(next) => take_walk(map, next, walk),
+        Err(halt) => Err(halt),
+    }
+}
+
 /// The answer behind the last part.
 fn conclude(alloc: Global, map: &Map, nodes: &[TreeNode], state: State) -> Result<Verdict, Stop>
     requires whole { IsPreorder nodes.now }
     requires numbered { length nodes.now < 2 ^ 32 }
     requires held { (c : TheCertificate) × Holds map.now c state × (c.tree ≡ nodes.now) }
-    ensures concludes { (c : TheCertificate) → Holds map.now c state.entry → Concludes map.now c result }
-    ensures within { (n : ℕ) → IsSearched map.now n state.entry → OnSound result (meeting_segments map.now.chains ≤ n) }
-    ensures behind { IsBehindSearch map.now state.entry →
-        IfCertFault result (λ fault. IsOfDarts fault → IsPlanar map.now.chains) }
-    ensures allowed { OnSearched result ((c : TheCertificate) → Holds map.now c state.entry → AllowsSearch map.now c) }
+    ensures { IsConcluded map.now state.entry result }
 {
     let ended = match end_rounds(alloc, map, state, &[]) {
         Ok(ended) => ended,

@@ -1,11 +1,8 @@
 //! The rounds of a certificate, and the sides about each node.
 
-ghost use Rattle.std.specs.Prelude.{ℕ, ◌<◌, ◌≤◌, zero, length, IfOk, IfErr, OnErr};
-ghost use Rattle.tl_planar.specs.Planar.{IsPlanar};
-ghost use Rattle.tl_planar.specs.Searching.{meeting_segments};
+ghost use Rattle.std.specs.Prelude.{◌<◌, zero, length};
 ghost use Rattle.tl_cert.specs.Certificates.{TheCertificate};
-ghost use Rattle.tl_verdict.specs.Valid.{AllowsSearch};
-ghost use Rattle.tl_check.specs.Keeping.Parts.{with_round, Holds, TakesRounds, TakesWalks, IsSearched, IsBehindSearch, MayEnd};
+ghost use Rattle.tl_check.specs.Keeping.Parts.{with_round, Holds, IsLed, Leads, AreRoundsSoFar, TakesRounds};
 
 use crate::state::{Halt, State};
 use std::alloc::Global;
@@ -19,10 +16,7 @@ pub fn take_round<'a>(map: &Map, state: State<'a>, round: &[u32]) -> State<'a>
     requires some { zero < length round.now }
     requires held { (c : TheCertificate) × Holds map.now c state }
     requires takes { TakesRounds state }
-    ensures holds { (c : TheCertificate) → Holds map.now c state.entry → Holds map.now (with_round c round.now) result }
-    ensures takes { TakesRounds result }
-    ensures searched { (n : ℕ) → IsSearched map.now n state.entry → IsSearched map.now n result }
-    ensures behind { IsBehindSearch map.now state.entry → IsBehindSearch map.now result }
+    ensures { IsLed map.now (λ c. with_round c round.now) TakesRounds state.entry result }
 {
     match state {
         State::Rounding(mut rounds) => match rounds.take(map, round) {
@@ -43,12 +37,7 @@ pub fn end_rounds<'a>(
     lent: &'a [Vec<u32>],
 ) -> Result<State<'a>, Halt>
     requires held { (c : TheCertificate) × Holds map.now c state }
-    ensures holds { IfOk result (λ next. (c : TheCertificate) → Holds map.now c state.entry → Holds map.now c next) }
-    ensures walks { IfOk result TakesWalks }
-    ensures searched { IfOk result (λ next. (n : ℕ) → IsSearched map.now n state.entry → IsSearched map.now n next) }
-    ensures behind { IfOk result (λ next. IsBehindSearch map.now state.entry → IsBehindSearch map.now next) }
-    ensures halts { IfErr result (MayEnd map.now) }
-    ensures allowed { OnErr result ((c : TheCertificate) → Holds map.now c state.entry → AllowsSearch map.now c) }
+    ensures { Leads map.now (λ c. c) state.entry result }
 {
     match state {
         State::Rounding(rounds) => begin_walks(alloc, map, rounds, lent),
@@ -58,8 +47,6 @@ pub fn end_rounds<'a>(
     }
 }
 
-ghost use Rattle.tl_check.specs.Keeping.Parts.{AreRoundsSoFar};
-
 /// Begins the walks behind rounds that had no fault so far.
 fn begin_walks<'a>(
     alloc: Global,
@@ -68,12 +55,7 @@ fn begin_walks<'a>(
     lent: &'a [Vec<u32>],
 ) -> Result<State<'a>, Halt>
     requires held { (c : TheCertificate) × AreRoundsSoFar map.now c rounds }
-    ensures holds { IfOk result (λ next. (c : TheCertificate) → AreRoundsSoFar map.now c rounds → Holds map.now c next) }
-    ensures walks { IfOk result TakesWalks }
-    ensures searched { IfOk result (λ next. (n : ℕ) → meeting_segments map.now.chains ≤ n → IsSearched map.now n next) }
-    ensures behind { IfOk result (λ next. IsPlanar map.now.chains → IsBehindSearch map.now next) }
-    ensures halts { IfErr result (MayEnd map.now) }
-    ensures allowed { OnErr result ((c : TheCertificate) → AreRoundsSoFar map.now c rounds → AllowsSearch map.now c) }
+    ensures { Leads map.now (λ c. c) (State.Rounding rounds) result }
 {
     let next = match rounds.end(map) {
         Ok(next) => next,

@@ -1,13 +1,12 @@
 //! The tree of a certificate, and the search for a place where chains meet that they may not.
 
-ghost use Rattle.std.specs.Prelude.{◌≡◌, ◌<◌, ◌^◌, [], length, OnOk, IfOk, IfErr};
+ghost use Rattle.std.specs.Prelude.{◌<◌, ◌≤◌, ◌^◌, [], length, OnOk, IfOk, IfErr};
 ghost use Rattle.tl_index.specs.Preorder.{IsPreorder};
+ghost use Rattle.tl_index.specs.Trees.{depth, tree_of};
 ghost use Rattle.tl_sides.specs.Keeping.Rounded.{AreSized, HaveTaken};
-ghost use Rattle.tl_planar.specs.Planar.{IsPlanar};
 ghost use Rattle.tl_cells.specs.Cells.{CellsAgree};
-ghost use Rattle.tl_cert.specs.Certificates.{TheCertificate};
 ghost use Rattle.tl_verdict.specs.Valid.{AreCounts, IsTree};
-ghost use Rattle.tl_check.specs.Keeping.Parts.{Holds, TakesRounds, IsSearched, IsBehindSearch, MayHalt, MayEnd, UnlessMemory, UnlessMet};
+ghost use Rattle.tl_check.specs.Keeping.Parts.{LeadsBehindTree, MayEnd};
 
 use crate::state::{Halt, State};
 use std::alloc::Global;
@@ -29,26 +28,26 @@ pub fn take_tree<'a>(
 ) -> Result<State<'a>, Halt>
     requires whole { IsPreorder nodes.now }
     requires numbered { length nodes.now < 2 ^ 32 }
-    ensures holds { IfOk result (λ state. (c : TheCertificate) → AreCounts map.now c.counts →
-        c.tree ≡ nodes.now → c.rounds ≡ [] → c.walks ≡ [] → Holds map.now c state) }
-    ensures rounds { IfOk result TakesRounds }
-    ensures searched { IfOk result (IsSearched map.now budget) }
-    ensures behind { IfOk result (IsBehindSearch map.now) }
-    ensures halts { IfErr result (MayHalt map.now budget) }
-    ensures tree { IfErr result (λ halt. UnlessMemory halt (IsTree map.now nodes.now)) }
-    ensures meets { IfErr result (λ halt. UnlessMet halt (IsPlanar map.now.chains)) }
+    ensures { LeadsBehindTree map.now budget (IsTree map.now nodes.now) (λ c. AreCounts map.now c.counts) nodes.now result }
 {
-    let tree = match FlatTree::from_nodes(alloc, nodes) {
-        Ok(tree) => tree,
-        Err(TreeStop::TooDeep) => return Ok(State::Wrong(CertFault::TooDeep)),
-        Err(TreeStop::Memory) => return Err(Halt::Memory),
-    };
+    match FlatTree::from_nodes(alloc, nodes) {
+        Ok(tree) => search_by(alloc, map, &tree, budget),
+        Err(TreeStop::TooDeep) => Ok(State::Wrong(CertFault::TooDeep)),
+        Err(TreeStop::Memory) => Err(Halt::Memory),
+    }
+}
+
+/// Searches by a tree, if it fits the map's segments, for a place where chains meet that they may not.
+fn search_by<'a>(alloc: Global, map: &Map, tree: &FlatTree, budget: u64) -> Result<State<'a>, Halt>
+    requires shallow { depth (tree_of tree.now) ≤ 64 }
+    ensures { LeadsBehindTree map.now budget (IsTree map.now tree.now) (λ c. AreCounts map.now c.counts) tree.now result }
+{
     match tree.check(alloc, &Segments::new(map)) {
         Ok(None) => {}
         Ok(Some(fault)) => return Ok(State::Wrong(CertFault::Tree(fault))),
         Err(_) => return Err(Halt::Memory),
     }
-    match first_meet(map, &tree, budget) {
+    match first_meet(map, tree, budget) {
         Meeting::Found(meet) => Err(Halt::Fault(MapFault::Meet(meet))),
         Meeting::Budget => Err(Halt::Budget),
         Meeting::Clear => match begin_rounds(alloc, map) {

@@ -1,13 +1,9 @@
 //! The walks of a certificate.
 
-ghost use Rattle.std.specs.Prelude.{◌≡◌, ℕ, ◌<◌, ◌≤◌, ◌^◌, zero, length, OnOk, OnErr, IfOk, IfErr};
+ghost use Rattle.std.specs.Prelude.{◌≡◌, ◌<◌, ◌^◌, zero, length, IfOk, IfErr};
 ghost use Rattle.tl_index.specs.Preorder.{IsPreorder};
-ghost use Rattle.tl_planar.specs.Planar.{IsPlanar};
-ghost use Rattle.tl_planar.specs.Searching.{meeting_segments};
 ghost use Rattle.tl_cert.specs.Certificates.{TheCertificate};
-ghost use Rattle.tl_verdict.specs.Valid.{AllowsSearch};
-ghost use Rattle.tl_verdict.specs.Truth.{IsTrueOfCert, IsOfDarts};
-ghost use Rattle.tl_check.specs.Keeping.Parts.{with_walk, Holds, TakesWalks, IsSearched, IsBehindSearch, IsShown, IsWalked, MayEnd};
+ghost use Rattle.tl_check.specs.Keeping.Parts.{with_walk, Holds, Leads, TakesWalks, IsEnded, IsFinished, IsFaulty, IsHalted};
 
 use crate::points::look_at_points;
 use crate::state::{Halt, State};
@@ -22,12 +18,7 @@ pub fn take_walk<'a>(map: &Map, state: State<'a>, walk: &[u32]) -> Result<State<
     requires some { zero < length walk.now }
     requires held { (c : TheCertificate) × Holds map.now c state }
     requires takes { TakesWalks state }
-    ensures holds { IfOk result (λ next. (c : TheCertificate) → Holds map.now c state.entry → Holds map.now (with_walk c walk.now) next) }
-    ensures takes { IfOk result TakesWalks }
-    ensures searched { IfOk result (λ next. (n : ℕ) → IsSearched map.now n state.entry → IsSearched map.now n next) }
-    ensures behind { IfOk result (λ next. IsBehindSearch map.now state.entry → IsBehindSearch map.now next) }
-    ensures halts { IfErr result (MayEnd map.now) }
-    ensures allowed { OnErr result ((c : TheCertificate) → Holds map.now c state.entry → AllowsSearch map.now c) }
+    ensures { Leads map.now (λ c. with_walk c walk.now) state.entry result }
 {
     match state {
         State::Walking(mut walks, mut rings) => match walks.take(map, walk) {
@@ -55,12 +46,9 @@ pub fn finish_walks(
     requires numbered { length nodes.now < 2 ^ 32 }
     requires held { (c : TheCertificate) × Holds map.now c state × (c.tree ≡ nodes.now) }
     requires takes { TakesWalks state }
-    ensures shown { IfOk result (λ ended. IfOk ended (λ rings. (c : TheCertificate) → Holds map.now c state.entry → IsShown map.now c rings)) }
-    ensures searched { IfOk result (λ ended. OnOk ended ((n : ℕ) → IsSearched map.now n state.entry → meeting_segments map.now.chains ≤ n)) }
-    ensures fault { IfOk result (λ ended. IfErr ended (λ fault. (c : TheCertificate) → Holds map.now c state.entry → IsTrueOfCert map.now c fault)) }
-    ensures behind { IfOk result (λ ended. IfErr ended (λ fault. IsBehindSearch map.now state.entry → IsOfDarts fault → IsPlanar map.now.chains)) }
-    ensures halts { IfErr result (MayEnd map.now) }
-    ensures allowed { OnErr result ((c : TheCertificate) → Holds map.now c state.entry → AllowsSearch map.now c) }
+    ensures finished { IfOk result (λ ended. IfOk ended (IsFinished map.now state.entry)) }
+    ensures faulty { IfOk result (λ ended. IfErr ended (IsFaulty map.now state.entry)) }
+    ensures halted { IfErr result (IsHalted map.now state.entry) }
 {
     match end_walks(map, state) {
         Ok((count, rings)) => match look_at_points(alloc, map, nodes, &rings) {
@@ -75,11 +63,9 @@ pub fn finish_walks(
 fn end_walks<'a>(map: &Map, state: State<'a>) -> Result<(u32, Rings<'a>), CertFault>
     requires held { (c : TheCertificate) × Holds map.now c state }
     requires takes { TakesWalks state }
-    ensures walked { IfOk result (λ ended. (c : TheCertificate) → Holds map.now c state.entry → IsWalked map.now c ended.0 ended.1) }
+    ensures ended { IfOk result (λ ended. IsEnded map.now state.entry ended.0 ended.1) }
     ensures few { IfOk result (λ ended. ended.0 < 2 ^ 32) }
-    ensures searched { OnOk result ((n : ℕ) → IsSearched map.now n state.entry → meeting_segments map.now.chains ≤ n) }
-    ensures fault { IfErr result (λ fault. (c : TheCertificate) → Holds map.now c state.entry → IsTrueOfCert map.now c fault) }
-    ensures behind { IfErr result (λ fault. IsBehindSearch map.now state.entry → IsOfDarts fault → IsPlanar map.now.chains) }
+    ensures faulty { IfErr result (IsFaulty map.now state.entry) }
 {
     match state {
         State::Walking(walks, rings) => match walks.end(map) {

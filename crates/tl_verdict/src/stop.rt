@@ -26,7 +26,13 @@ impl fmt::Display for Stop {
 
     fn fmt<W: fmt::Write>(&self, f: &mut fmt::Formatter<W>) -> fmt::Result {
         match self {
-            Stop::Record { line, cause } => write!(f, "refused line {line} {cause}"),
+            Stop::Record { line, cause } => {
+                let text = RefusalText {
+                    line: *line,
+                    cause: *cause,
+                };
+                text.fmt(f)
+            }
             Stop::Memory => f.write_str("stopped Memory"),
             Stop::Device => f.write_str("stopped Device"),
             Stop::Budget => f.write_str("stopped Budget"),
@@ -37,5 +43,23 @@ impl fmt::Display for Stop {
 impl fmt::Debug for Stop {
     fn fmt<W: fmt::Write>(&self, f: &mut fmt::Formatter<W>) -> fmt::Result {
         fmt::Display::fmt(self, f)
+    }
+}
+
+// How the first line that is refused is printed.
+#[derive(Clone, Copy)]
+struct RefusalText {
+    line: u64,
+    cause: Cause,
+}
+
+impl fmt::Display for RefusalText {
+    ghost use Rattle.std.specs.Prelude.{Some};
+    ghost use Rattle.tl_record.specs.Messages.{refusal_text};
+
+    ghost output = { λ text. Some (refusal_text text.line text.cause) };
+
+    fn fmt<W: fmt::Write>(&self, f: &mut fmt::Formatter<W>) -> fmt::Result {
+        write!(f, "refused line {} {}", self.line, self.cause)
     }
 }

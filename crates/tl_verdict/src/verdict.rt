@@ -4,7 +4,7 @@ use crate::fault::{CertFault, MapFault};
 use std::fmt;
 
 /// What is decided of a map by a certificate.
-#[derive(Clone, Copy, Debug, PartialEq, Eq)]
+#[derive(Clone, Copy, PartialEq, Eq)]
 pub enum Verdict {
     /// The map is sound.
     Sound(Report),
@@ -12,6 +12,16 @@ pub enum Verdict {
     MapFault(MapFault),
     /// The certificate has this fault, and nothing is said of the map.
     CertFault(CertFault),
+}
+
+impl fmt::Debug for Verdict {
+    fn fmt<W: fmt::Write>(&self, f: &mut fmt::Formatter<W>) -> fmt::Result {
+        match self {
+            Verdict::Sound(report) => fmt::Display::fmt(report, f),
+            Verdict::MapFault(fault) => fmt::Display::fmt(fault, f),
+            Verdict::CertFault(fault) => fmt::Display::fmt(fault, f),
+        }
+    }
 }
 
 /// How many chains, segments, nodes, polygons and landmarks a sound map has, and how many rings its sides' boundaries have

@@ -2,30 +2,26 @@
 use Rattle.std.specs.Prelude.{Result, Ok, Err, ⊤}
 use Rattle.tl_drawn.specs.declared.fault.MapStop.{MapStop}
 use Rattle.tl_drawn.specs.declared.fault.MapStop.TheVariants as map
+use Rattle.tl_county.specs.TheMap.{TheMap}
 use Rattle.tl_cert.specs.Certificates.{TheCertificate}
 use Rattle.tl_verdict.specs.declared.fault.MapFault.{MapFault}
 use Rattle.tl_verdict.specs.declared.fault.MapFault.TheVariants as of_map
 use Rattle.tl_verdict.specs.declared.verdict.Report.{Report}
-use Rattle.tl_build.specs.declared.judge.Judged.{Judged}
-use Rattle.tl_build.specs.declared.judge.Judged.TheVariants as judged
+use Rattle.tl_verdict.specs.Sound.{IsSound}
+use Rattle.tl_verdict.specs.Valid.{IsValid}
+use Rattle.tl_verdict.specs.Truth.{IsTrueOfMap}
+use Rattle.tl_verdict.specs.Verdicts.{IsReport}
 use Rattle.tl_build.specs.declared.stop.BuildStop.{BuildStop}
 use Rattle.tl_build.specs.declared.stop.AuditStop.{AuditStop}
 use Rattle.tl_build.specs.declared.stop.AuditStop.TheVariants as stop
 use Rattle.tl_build.specs.declared.answer.Audit.TheVariants as audit
 use Rattle.tl_build.specs.Auditing.{Auditing}
 
--- if the map is told to be sound, its certificate and report are so
-abbrev pub IfJudgedSound : Result Judged BuildStop → (TheCertificate → Report → Type 0) → Type 0
-IfJudgedSound (Ok (judged.Sound cert report)) P = P cert report
-IfJudgedSound other P = ⊤
-
-abbrev pub OnJudgedSound : Result Judged BuildStop → Type 0 → Type 0
-OnJudgedSound answer P = IfJudgedSound answer (λ cert report. P)
-
--- if the answer is a fault, the fault is so
-abbrev pub IfJudgedFault : Result Judged BuildStop → (MapFault → Type 0) → Type 0
-IfJudgedFault (Ok (judged.Fault fault)) P = P fault
-IfJudgedFault other P = ⊤
+-- what is decided of a map by the certificate that is proposed for it
+abbrev pub Judges : TheMap → TheCertificate → Result (Result Report MapFault) BuildStop → Type 0
+Judges m cert (Ok (Ok report)) = IsSound m × IsValid m cert × IsReport m report
+Judges m cert (Ok (Err fault)) = IsTrueOfMap m fault
+Judges m cert (Err stop) = ⊤
 
 -- a stop of a map in memory
 abbrev pub IsMapStop : AuditStop → Type 0

@@ -1,6 +1,7 @@
 -- What was found of a certificate's rounds and walks so far, behind counts that are the map's and a tree that was taken.
-use Rattle.std.specs.Prelude.{◌≡◌, ℕ, ◌≤◌, List, [], ◌++◌, length, ⊤}
+use Rattle.std.specs.Prelude.{◌≡◌, ℕ, ◌≤◌, List, [], ◌++◌, length, Result, Ok, Err, ⊤}
 use Rattle.tl_county.specs.TheMap.{TheMap}
+use Rattle.tl_index.specs.declared.node.TreeNode.{TreeNode}
 use Rattle.tl_planar.specs.Planar.{IsPlanar}
 use Rattle.tl_planar.specs.Searching.{meeting_segments, AreBeyond}
 use Rattle.tl_sides.specs.Sides.{SidesAgree}
@@ -18,8 +19,9 @@ use Rattle.tl_check.specs.declared.state.State.{State}
 use Rattle.tl_check.specs.declared.state.State.TheVariants as state
 use Rattle.tl_check.specs.declared.state.Halt.{Halt}
 use Rattle.tl_check.specs.declared.state.Halt.TheVariants as halt
+use Rattle.tl_verdict.specs.declared.fault.CertFault.{CertFault}
 use Rattle.tl_verdict.specs.declared.fault.MapFault.TheVariants.{Meet}
-use Rattle.tl_verdict.specs.Valid.{AreCounts, IsTree, IsValid}
+use Rattle.tl_verdict.specs.Valid.{AreCounts, IsTree, AllowsSearch, IsValid}
 use Rattle.tl_verdict.specs.Truth.{IsTrueOfMap, IsTrueOfCert, IsOfDarts}
 
 -- the certificate with a round more, or a walk
@@ -122,6 +124,23 @@ MayEnd m (halt.Fault fault) = IsTrueOfMap m fault
 MayEnd m halt.Memory = ⊤
 MayEnd m halt.Budget = ⊥
 
+-- behind a step that takes parts, the state holds of those too and takes what may come, and what was so of the search still is
+pub record IsLed (m : TheMap) (step : TheCertificate → TheCertificate) (Takes : State → Type 0) (old next : State) : Type 0 where
+  pub holds : (c : TheCertificate) → Holds m c old → Holds m (step c) next
+  pub takes : Takes next
+  pub searched : (n : ℕ) → IsSearched m n old → IsSearched m n next
+  pub behind : IsBehindSearch m old → IsBehindSearch m next
+
+-- no further part is looked at behind a search that may be made
+pub record IsHalted (m : TheMap) (old : State) (halt : Halt) : Type 0 where
+  pub halts : MayEnd m halt
+  pub allowed : (c : TheCertificate) → Holds m c old → AllowsSearch m c
+
+-- where a step leads that walks are taken behind
+abbrev pub Leads : TheMap → (TheCertificate → TheCertificate) → State → Result State Halt → Type 0
+Leads m step old (Ok next) = IsLed m step TakesWalks old next
+Leads m step old (Err halt) = IsHalted m old halt
+
 -- what the parts of valid certificates show, with that many walks, which are kept as rings
 pub record IsWalked (m : TheMap) (c : TheCertificate) (count : ℕ) (rings : TheRings) : Type 0 where
   pub valid : IsValid m c
@@ -140,3 +159,33 @@ pub record IsShown (m : TheMap) (c : TheCertificate) (rings : ℕ) : Type 0 wher
   pub points : ArePlaced m
   pub cells : CellsAgree m.chains
   pub counted : rings ≡ length c.walks
+
+-- the walks have ended: what the state held is shown of so many walks, or its certificates have a fault
+pub record IsEnded (m : TheMap) (old : State) (count : ℕ) (rings : TheRings) : Type 0 where
+  pub walked : (c : TheCertificate) → Holds m c old → IsWalked m c count rings
+  pub searched : (n : ℕ) → IsSearched m n old → meeting_segments m.chains ≤ n
+
+pub record IsFinished (m : TheMap) (old : State) (rings : ℕ) : Type 0 where
+  pub shown : (c : TheCertificate) → Holds m c old → IsShown m c rings
+  pub searched : (n : ℕ) → IsSearched m n old → meeting_segments m.chains ≤ n
+
+pub record IsFaulty (m : TheMap) (old : State) (wrong : CertFault) : Type 0 where
+  pub fault : (c : TheCertificate) → Holds m c old → IsTrueOfCert m c wrong
+  pub behind : IsBehindSearch m old → IsOfDarts wrong → IsPlanar m.chains
+
+-- behind counts of which so much is known, and a tree, further rounds may be taken, and the search was made
+pub record IsBegun (m : TheMap) (budget : ℕ) (Counted : TheCertificate → Type 0) (nodes : List TreeNode) (state : State) : Type 0 where
+  pub holds : (c : TheCertificate) → Counted c → c.tree ≡ nodes → c.rounds ≡ [] → c.walks ≡ [] → Holds m c state
+  pub rounds : TakesRounds state
+  pub searched : IsSearched m budget state
+  pub behind : IsBehindSearch m state
+
+-- or no further part is looked at
+pub record EndsEarly (m : TheMap) (budget : ℕ) (Known : Type 0) (halt : Halt) : Type 0 where
+  pub halts : MayHalt m budget halt
+  pub tree : UnlessMemory halt Known
+  pub meets : UnlessMet halt (IsPlanar m.chains)
+
+abbrev pub LeadsBehindTree : TheMap → ℕ → Type 0 → (TheCertificate → Type 0) → List TreeNode → Result State Halt → Type 0
+LeadsBehindTree m budget Known Counted nodes (Ok state) = IsBegun m budget Counted nodes state
+LeadsBehindTree m budget Known Counted nodes (Err halt) = EndsEarly m budget Known halt

@@ -1,7 +1,9 @@
 -- What is kept of a certificate that is checked as its parts come, and what its answer says.
-use Rattle.std.specs.Prelude.{ℕ, ◌≤◌, List, Option, Ok, Err, ⊤}
+use Rattle.std.specs.Prelude.{◌≡◌, ℕ, ◌<◌, ◌≤◌, ◌^◌, List, length, Option, Ok, Err, ⊤}
 use Rattle.std.specs.Option.{IfSome}
 use Rattle.tl_county.specs.TheMap.{TheMap}
+use Rattle.tl_index.specs.declared.node.TreeNode.{TreeNode}
+use Rattle.tl_index.specs.Preorder.{IsPreorder}
 use Rattle.tl_planar.specs.Planar.{IsPlanar}
 use Rattle.tl_planar.specs.Searching.{meeting_segments, AreBeyond}
 use Rattle.tl_sides.specs.Sides.{SidesAgree}
@@ -11,6 +13,7 @@ use Rattle.tl_cert.specs.declared.place.Place.{Place}
 use Rattle.tl_cert.specs.declared.place.Place.TheVariants as place
 use Rattle.tl_cert.specs.declared.reader.CertReader.{CertReader}
 use Rattle.tl_cert.specs.Certificates.{TheCertificate}
+use Rattle.tl_cert.specs.Reading.{source_of, unread}
 use Rattle.tl_cert.specs.Keeping.Collecting.{Collects}
 use Rattle.tl_verdict.specs.declared.verdict.Report.{Report}
 use Rattle.tl_verdict.specs.declared.verdict.Verdict.TheVariants as verdict
@@ -19,9 +22,9 @@ use Rattle.tl_check.specs.declared.state.State.{State}
 use Rattle.tl_verdict.specs.Sound.{AreClosed}
 use Rattle.tl_verdict.specs.Valid.{AllowsSearch}
 use Rattle.tl_verdict.specs.Truth.{IsTrueOfMap, IsTrueOfCert, IsOfDarts}
-use Rattle.tl_verdict.specs.Texts.{IsTrueOfText, IsValidText}
-use Rattle.tl_verdict.specs.Verdicts.{Answer, IsReport, AreNumbers}
-use Rattle.tl_check.specs.Keeping.Parts.{Holds, TakesRounds, TakesWalks, IsShown}
+use Rattle.tl_verdict.specs.Texts.{IsTrueOfText, IsValidText, TextAllowsSearch, TellsDevice}
+use Rattle.tl_verdict.specs.Verdicts.{Answer, OnSound, IfCertFault, UnlessMeet, OnSearched, IsReport, AreNumbers}
+use Rattle.tl_check.specs.Keeping.Parts.{Holds, TakesRounds, TakesWalks, IsSearched, IsBehindSearch, IsShown}
 
 -- at this place the state takes what may come
 abbrev pub Suits : Place → State → Type 0
@@ -85,3 +88,32 @@ Shows m c budget (Err (Record line cause)) = ⊥
 Shows m c budget (Err Memory) = ⊤
 Shows m c budget (Err Device) = ⊥
 Shows m c budget (Err Budget) = AreBeyond m.chains budget × AllowsSearch m c
+
+-- The reader stands behind a tree, and the state holds of the parts so far: the search was made if it may be, chains are
+-- planar where one may be made by the text, and no read has failed.
+pub record IsBehindTree {R : Type 0} (remaining : R → Option (List ℕ)) (failures : R → ℕ) (m : TheMap) (budget : ℕ) (first now : CertReader R) (nodes : List TreeNode) (state : State) : Type 0 where
+  pub stands : Stands remaining m first now state
+  pub tree : stands.cert.tree ≡ nodes
+  pub preorder : IsPreorder nodes
+  pub few : length nodes < 2 ^ 32
+  pub searched : IsSearched m budget state
+  pub behind : IsBehindSearch m state
+  pub allowed : AllowsSearch m stands.cert → IfSome (unread remaining first) (TextAllowsSearch m)
+  pub planar : IfSome (unread remaining first) (λ t. TextAllowsSearch m t → IsPlanar m.chains)
+  pub no_failure : failures (source_of now) ≡ failures (source_of first)
+
+-- what an answer by the text of a certificate says, whose first part came next before
+pub record IsAnswer {R : Type 0} (remaining : R → Option (List ℕ)) (failures : R → ℕ) (m : TheMap) (budget : ℕ) (first now : CertReader R) (answer : Answer) : Type 0 where
+  pub decides : Decides m budget (unread remaining first) answer
+  pub within : OnSound answer (meeting_segments m.chains ≤ budget)
+  pub behind : IfCertFault answer (λ fault. IsOfDarts fault → IsPlanar m.chains)
+  pub meets : UnlessMeet answer (IfSome (unread remaining first) (λ t. TextAllowsSearch m t → IsPlanar m.chains))
+  pub searched : OnSearched answer (IfSome (unread remaining first) (TextAllowsSearch m))
+  pub tells : TellsDevice (failures (source_of first)) (failures (source_of now)) answer
+
+-- what an answer behind the last part says, where a state was held
+pub record IsConcluded (m : TheMap) (old : State) (answer : Answer) : Type 0 where
+  pub concludes : (c : TheCertificate) → Holds m c old → Concludes m c answer
+  pub within : (n : ℕ) → IsSearched m n old → OnSound answer (meeting_segments m.chains ≤ n)
+  pub behind : IsBehindSearch m old → IfCertFault answer (λ fault. IsOfDarts fault → IsPlanar m.chains)
+  pub allowed : OnSearched answer ((c : TheCertificate) → Holds m c old → AllowsSearch m c)

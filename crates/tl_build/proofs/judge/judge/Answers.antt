@@ -4,8 +4,13 @@ use Rattle.tl_planar.specs.Planar.{IsPlanar}
 use Rattle.tl_planar.specs.Rectangles.{segment_rect}
 use Rattle.tl_verdict.specs.declared.stop.Stop.{Stop}
 use Rattle.tl_verdict.specs.declared.stop.Stop.TheVariants.{Budget}
-use Rattle.tl_verdict.specs.Verdicts.{MayStop, IfCertFault}
-use Rattle.tl_verdict.specs.Truth.{IsTrueOfCert, IsOfDarts}
+use Rattle.tl_verdict.specs.Verdicts.{MayStop, OnSound, IfSound, IfMapFault, IfCertFault, IsReport}
+use Rattle.tl_sides.specs.Sides.{SidesAgree}
+use Rattle.tl_inside.specs.Placed.{ArePlaced}
+use Rattle.tl_cells.specs.Cells.{CellsAgree}
+use Rattle.tl_verdict.specs.Sound.{AreClosed}
+use Rattle.tl_verdict.specs.Valid.{IsValid}
+use Rattle.tl_verdict.specs.Truth.{IsTrueOfMap, IsTrueOfCert, IsOfDarts}
 use Rattle.tl_verdict.specs.declared.verdict.Verdict.{Verdict}
 use Rattle.tl_build.proofs.Budgets.{never_beyond}
 use Rattle.tl_build.proofs.Proposals.{no_fault}
@@ -14,13 +19,13 @@ use Rattle.tl_build.proofs.judge.judge.Goals as goal
 pub unreachable-requires : goal.unreachable-requires
 unreachable-requires c =
     let m = c.args.map.now in
-    let cert = c.in-Ok.cert in
+    let cert = c.args.cert.now in
     let fault = c.in-Ok-CertFault.field-0-0 in
     let is_true : IsTrueOfCert m cert fault =
     subst (λ (v : Verdict). IfCertFault (Ok v) (IsTrueOfCert m cert)) c.in-Ok-CertFault.field-0-is c.in-Ok-CertFault.ensures.cert_fault in
     let behind : IsOfDarts fault → IsPlanar m.chains =
     subst (λ (v : Verdict). IfCertFault (Ok v) (λ f. IsOfDarts f → IsPlanar m.chains)) c.in-Ok-CertFault.field-0-is c.in-Ok-CertFault.ensures.behind in
-    no_fault m cert fault c.in-Ok.ensures c.look_at_chains.ensures is_true behind
+    no_fault m cert fault c.requires.proposed c.look_at_chains.ensures is_true behind
 
 pub unreachable-requires-in-Err-Budget : goal.unreachable-requires-in-Err-Budget
 unreachable-requires-in-Err-Budget c =
@@ -29,3 +34,22 @@ unreachable-requires-in-Err-Budget c =
     let beyond : MayStop c.args.map.now 18446744073709551615 Budget =
     subst (λ (s : Stop). MayStop c.args.map.now 18446744073709551615 s) c.in-Err-Budget.field-0-is c.in-Err-Budget.ensures.stops in
     never_beyond (segment_rect chains) n 18446744073709551615 (omega (arith, c.segments-segments.ensures.count, c.segments-segments.type_inv)) refl beyond.more
+
+pub returns-in-Ok-Sound : goal.returns-in-Ok-Sound
+returns-in-Ok-Sound c =
+    let m = c.args.map.now in
+    let is = c.in-Ok-Sound.field-0-is in
+    let told : (P : Type 0) → OnSound (Ok c.in-Ok-Sound.field-0) P → P = λ P. subst (λ (v : Verdict). OnSound (Ok v) P) is in (
+      record {
+        planar = told (IsPlanar m.chains) c.in-Ok-Sound.ensures.planar;
+        sides = told (SidesAgree m.chains) c.in-Ok-Sound.ensures.sides;
+        closed = told (AreClosed m) c.in-Ok-Sound.ensures.closed;
+        points = told (ArePlaced m) c.in-Ok-Sound.ensures.points;
+        cells = told (CellsAgree m.chains) c.in-Ok-Sound.ensures.cells;
+      },
+      told (IsValid m c.args.cert.now) c.in-Ok-Sound.ensures.valid,
+      subst (λ (v : Verdict). IfSound (Ok v) (IsReport m)) is c.in-Ok-Sound.ensures.report,
+    )
+
+pub returns-in-Ok-MapFault : goal.returns-in-Ok-MapFault
+returns-in-Ok-MapFault c = subst (λ (v : Verdict). IfMapFault (Ok v) (IsTrueOfMap c.args.map.now)) c.in-Ok-MapFault.field-0-is c.in-Ok-MapFault.ensures.map_fault

@@ -1,5 +1,20 @@
+use Rattle.std.proofs.Common.{refl, subst}
+use Rattle.std.specs.Option.{IfSome, IsNone}
+use Rattle.tl_cells.specs.Cells.{CellsAgree, AreCellsAtOdds}
 use Rattle.tl_crossings.proofs.Apart.{apart}
+use Rattle.tl_build.proofs.Decided.{both_agree}
 use Rattle.tl_build.proofs.planar.find_at_odds.Goals as goal
+
+pub find_sides_at_odds-requires-clause-walks : goal.find_sides_at_odds-requires-clause-walks
+find_sides_at_odds-requires-clause-walks c = c.requires.walks
 
 pub find_sides_at_odds-requires-clause-apart : goal.find_sides_at_odds-requires-clause-apart
 find_sides_at_odds-requires-clause-apart c = apart c.args.map.now.chains c.requires.planar c.requires.proper
+
+pub returns-in-Ok-Some : goal.returns-in-Ok-Some
+returns-in-Ok-Some c = subst (λ found. IfSome found (λ odds. AreCellsAtOdds c.args.map.now.chains odds.first odds.second odds.first_id odds.second_id)) c.in-Ok-Some.field-0-is c.in-Ok-Some.ensures.at_odds
+
+pub returns-in-Ok-None : goal.returns-in-Ok-None
+returns-in-Ok-None c = both_agree c.args.map.now c.find_sides_at_odds.result
+    (subst (λ found. IsNone found → CellsAgree c.args.map.now.chains) c.in-Ok-None.field-0-is c.in-Ok-None.ensures.agree refl)
+    c.find_sides_at_odds.ensures

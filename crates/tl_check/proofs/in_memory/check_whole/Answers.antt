@@ -53,7 +53,7 @@ loop-walk-init c =
     record {
       holds = subst (λ d. Holds c.args.map.now d c.in-Ok-end_rounds.state) (all_rounds c.args.cert.now i (omega (arith, many, test)))
           (c.in-Ok-end_rounds.ensures.holds (first_rounds c.args.cert.now i) c.loop-round.invariant.holds);
-      takes = c.in-Ok-end_rounds.ensures.walks;
+      takes = c.in-Ok-end_rounds.ensures.takes;
       searched = c.in-Ok-end_rounds.ensures.searched c.args.budget c.loop-round.invariant.searched;
       behind = c.in-Ok-end_rounds.ensures.behind c.loop-round.invariant.behind;
     }
@@ -95,14 +95,14 @@ shown c =
     let test = c.loop-walk-test.false in
     let many : length vs ≡ length c.args.cert.now.walks = as_many vs c.args.cert.now.walks c.walks-walk-items.ensures.walks in
     subst (λ d. IsShown c.args.map.now d c.in-Ok-Ok.rings) (all_walks c.args.cert.now i (omega (arith, many, test)))
-    (told_ok _ c.in-Ok-Ok.field-0 c.in-Ok-Ok.rings c.in-Ok-Ok.field-0-is c.in-Ok-Ok.ensures.shown (first_walks c.args.cert.now i) c.loop-walk.invariant.holds)
+    ((told_ok _ c.in-Ok-Ok.field-0 c.in-Ok-Ok.rings c.in-Ok-Ok.field-0-is c.in-Ok-Ok.ensures.finished).shown (first_walks c.args.cert.now i) c.loop-walk.invariant.holds)
 
 pub returns-in-Ok-Ok-clause-shows : goal.returns-in-Ok-Ok-clause-shows
 returns-in-Ok-Ok-clause-shows c = record {
   rings = c.in-Ok-Ok.rings;
   shown = shown c;
   numbers = c.report.ensures;
-  within = told_ok _ c.in-Ok-Ok.field-0 c.in-Ok-Ok.rings c.in-Ok-Ok.field-0-is c.in-Ok-Ok.ensures.searched c.args.budget c.loop-walk.invariant.searched;
+  within = (told_ok _ c.in-Ok-Ok.field-0 c.in-Ok-Ok.rings c.in-Ok-Ok.field-0-is c.in-Ok-Ok.ensures.finished).searched c.args.budget c.loop-walk.invariant.searched;
 }
 
 pub returns-in-Ok-Err-clause-shows : goal.returns-in-Ok-Err-clause-shows
@@ -112,8 +112,8 @@ returns-in-Ok-Err-clause-shows c =
     let test = c.loop-walk-test.false in
     let many : length vs ≡ length c.args.cert.now.walks = as_many vs c.args.cert.now.walks c.walks-walk-items.ensures.walks in (
       subst (λ d. IsTrueOfCert c.args.map.now d c.in-Ok-Err.fault) (all_walks c.args.cert.now i (omega (arith, many, test)))
-          (told_err _ c.in-Ok-Err.field-0 c.in-Ok-Err.fault c.in-Ok-Err.field-0-is c.in-Ok-Err.ensures.fault (first_walks c.args.cert.now i) c.loop-walk.invariant.holds),
-      told_err _ c.in-Ok-Err.field-0 c.in-Ok-Err.fault c.in-Ok-Err.field-0-is c.in-Ok-Err.ensures.behind c.loop-walk.invariant.behind,
+          ((told_err _ c.in-Ok-Err.field-0 c.in-Ok-Err.fault c.in-Ok-Err.field-0-is c.in-Ok-Err.ensures.faulty).fault (first_walks c.args.cert.now i) c.loop-walk.invariant.holds),
+      (told_err _ c.in-Ok-Err.field-0 c.in-Ok-Err.fault c.in-Ok-Err.field-0-is c.in-Ok-Err.ensures.faulty).behind c.loop-walk.invariant.behind,
     )
 
 pub returns-then-not-are_counts-clause-shows : goal.returns-then-not-are_counts-clause-shows
@@ -133,8 +133,8 @@ returns-in-Err-take_walk-clause-shows c = rw c.answer-in-Err-take_walk.ensures (
     (allowed_walks c.args.map.now c.args.cert.now c.loop-walk.walk-index (c.in-Err-take_walk.ensures.allowed (first_walks c.args.cert.now c.loop-walk.walk-index) c.loop-walk.invariant.holds)))
 
 pub returns-in-Err-finish_walks-clause-shows : goal.returns-in-Err-finish_walks-clause-shows
-returns-in-Err-finish_walks-clause-shows c = rw c.answer-in-Err-finish_walks.ensures (ended c.args.map.now c.args.cert.now c.args.budget c.in-Err-finish_walks.halt c.in-Err-finish_walks.ensures.halts
-    (allowed_walks c.args.map.now c.args.cert.now c.loop-walk.walk-index (c.in-Err-finish_walks.ensures.allowed (first_walks c.args.cert.now c.loop-walk.walk-index) c.loop-walk.invariant.holds)))
+returns-in-Err-finish_walks-clause-shows c = rw c.answer-in-Err-finish_walks.ensures (ended c.args.map.now c.args.cert.now c.args.budget c.in-Err-finish_walks.halt c.in-Err-finish_walks.ensures.halted.halts
+    (allowed_walks c.args.map.now c.args.cert.now c.loop-walk.walk-index (c.in-Err-finish_walks.ensures.halted.allowed (first_walks c.args.cert.now c.loop-walk.walk-index) c.loop-walk.invariant.holds)))
 
 pub returns-then-not-are_counts-clause-meets : goal.returns-then-not-are_counts-clause-meets
 returns-then-not-are_counts-clause-meets c = λ allows. absurd ((returns-then-not-are_counts-clause-shows c).0 allows.counts)
@@ -159,3 +159,27 @@ returns-in-Ok-Ok-clause-meets c = λ allows. (shown c).planar
 
 pub returns-in-Ok-Err-clause-meets : goal.returns-in-Ok-Err-clause-meets
 returns-in-Ok-Err-clause-meets c = walks_planar c.args.map.now c.args.cert.now c.loop-walk.walk-index _ c.loop-walk.invariant.holds c.loop-walk.invariant.behind
+
+pub take_tree-requires-clause-whole : goal.take_tree-requires-clause-whole
+take_tree-requires-clause-whole c = rw c.tree.ensures.tree c.tree.ensures.preorder
+
+pub take_round-state-requires-clause-held : goal.take_round-state-requires-clause-held
+take_round-state-requires-clause-held c = (first_rounds c.args.cert.now c.loop-round.round-index, c.loop-round.invariant.holds)
+
+pub take_round-state-requires-clause-takes : goal.take_round-state-requires-clause-takes
+take_round-state-requires-clause-takes c = c.loop-round.invariant.takes
+
+pub end_rounds-requires : goal.end_rounds-requires
+end_rounds-requires c = record { held = (first_rounds c.args.cert.now c.loop-round.round-index, c.loop-round.invariant.holds) }
+
+pub take_walk-requires-clause-held : goal.take_walk-requires-clause-held
+take_walk-requires-clause-held c = (first_walks c.args.cert.now c.loop-walk.walk-index, c.loop-walk.invariant.holds)
+
+pub take_walk-requires-clause-takes : goal.take_walk-requires-clause-takes
+take_walk-requires-clause-takes c = c.loop-walk.invariant.takes
+
+pub finish_walks-requires-clause-whole : goal.finish_walks-requires-clause-whole
+finish_walks-requires-clause-whole c = rw c.tree-2.ensures.tree c.tree-2.ensures.preorder
+
+pub finish_walks-requires-clause-takes : goal.finish_walks-requires-clause-takes
+finish_walks-requires-clause-takes c = c.loop-walk.invariant.takes

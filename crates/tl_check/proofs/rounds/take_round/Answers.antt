@@ -12,42 +12,30 @@ take-requires-clause-sized c =
 pub take-requires-clause-some : goal.take-requires-clause-some
 take-requires-clause-some c = c.requires.some
 
-pub returns-in-Ok-clause-holds : goal.returns-in-Ok-clause-holds
-returns-in-Ok-clause-holds c = λ cert held.
-    let so : AreRoundsSoFar c.args.map.now cert c.in-Rounding.rounds = subst (Holds c.args.map.now cert) c.in-Rounding.is held in
-    round_laid c.args.map.now cert c.args.round.now c.in-Rounding.rounds c.take.new.self c.take.ensures.sized (c.in-Ok.ensures.taken cert.rounds so.taken) so
+pub returns-in-Ok : goal.returns-in-Ok
+returns-in-Ok c = record {
+  holds = λ cert held.
+      let so : AreRoundsSoFar c.args.map.now cert c.in-Rounding.rounds = subst (Holds c.args.map.now cert) c.in-Rounding.is held in
+      round_laid c.args.map.now cert c.args.round.now c.in-Rounding.rounds c.take.new.self c.take.ensures.sized (c.in-Ok.ensures.taken cert.rounds so.taken) so;
+  takes = tt;
+  searched = λ n searched. subst (IsSearched c.args.map.now n) c.in-Rounding.is searched;
+  behind = λ behind. subst (IsBehindSearch c.args.map.now) c.in-Rounding.is behind;
+}
 
-pub returns-in-Ok-clause-takes : goal.returns-in-Ok-clause-takes
-returns-in-Ok-clause-takes c = tt
+pub returns-in-Rounding : goal.returns-in-Rounding
+returns-in-Rounding c = record {
+  holds = λ cert held d on.
+      let so : AreRoundsSoFar c.args.map.now cert c.in-Rounding.rounds = subst (Holds c.args.map.now cert) c.in-Rounding.is held in
+      subst (λ rounds. IsRoundFault c.args.map.now.chains rounds c.in-Err.fault) (sym on.rounds) (c.in-Err.ensures.fault cert.rounds on.more_rounds so.taken);
+  takes = tt;
+  searched = λ n searched. tt;
+  behind = λ behind of_darts. subst (IsBehindSearch c.args.map.now) c.in-Rounding.is behind;
+}
 
-pub returns-in-Ok-clause-searched : goal.returns-in-Ok-clause-searched
-returns-in-Ok-clause-searched c = λ n searched. subst (IsSearched c.args.map.now n) c.in-Rounding.is searched
-
-pub returns-in-Ok-clause-behind : goal.returns-in-Ok-clause-behind
-returns-in-Ok-clause-behind c = λ behind. subst (IsBehindSearch c.args.map.now) c.in-Rounding.is behind
-
-pub returns-in-Rounding-clause-holds : goal.returns-in-Rounding-clause-holds
-returns-in-Rounding-clause-holds c = λ cert held d on.
-    let so : AreRoundsSoFar c.args.map.now cert c.in-Rounding.rounds = subst (Holds c.args.map.now cert) c.in-Rounding.is held in
-    subst (λ rounds. IsRoundFault c.args.map.now.chains rounds c.in-Err.fault) (sym on.rounds) (c.in-Err.ensures.fault cert.rounds on.more_rounds so.taken)
-
-pub returns-in-Rounding-clause-takes : goal.returns-in-Rounding-clause-takes
-returns-in-Rounding-clause-takes c = tt
-
-pub returns-in-Rounding-clause-searched : goal.returns-in-Rounding-clause-searched
-returns-in-Rounding-clause-searched c = λ n searched. tt
-
-pub returns-in-Rounding-clause-behind : goal.returns-in-Rounding-clause-behind
-returns-in-Rounding-clause-behind c = λ behind of_darts. subst (IsBehindSearch c.args.map.now) c.in-Rounding.is behind
-
-pub returns-in-Wrong-clause-holds : goal.returns-in-Wrong-clause-holds
-returns-in-Wrong-clause-holds c = λ cert held d on. (subst (Holds c.args.map.now cert) c.in-Wrong.is held) d (goes_on_before cert d c.args.round.now on)
-
-pub returns-in-Wrong-clause-takes : goal.returns-in-Wrong-clause-takes
-returns-in-Wrong-clause-takes c = tt
-
-pub returns-in-Wrong-clause-searched : goal.returns-in-Wrong-clause-searched
-returns-in-Wrong-clause-searched c = λ n searched. tt
-
-pub returns-in-Wrong-clause-behind : goal.returns-in-Wrong-clause-behind
-returns-in-Wrong-clause-behind c = λ behind. subst (IsBehindSearch c.args.map.now) c.in-Wrong.is behind
+pub returns-in-Wrong : goal.returns-in-Wrong
+returns-in-Wrong c = record {
+  holds = λ cert held d on. (subst (Holds c.args.map.now cert) c.in-Wrong.is held) d (goes_on_before cert d c.args.round.now on);
+  takes = tt;
+  searched = λ n searched. subst (IsSearched c.args.map.now n) c.in-Wrong.is searched;
+  behind = λ behind. subst (IsBehindSearch c.args.map.now) c.in-Wrong.is behind;
+}

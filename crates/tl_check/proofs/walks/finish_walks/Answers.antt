@@ -7,7 +7,7 @@ use Rattle.tl_check.proofs.walks.finish_walks.Goals as goal
 
 -- what the state that is held shows
 walked : (c : goal.After-rings-in-Ok-1) → IsWalked c.args.map.now c.requires.held.0 c.in-Ok.count c.in-Ok.rings
-walked c = c.in-Ok.ensures.walked c.requires.held.0 c.requires.held.1
+walked c = c.in-Ok.ensures.ended.walked c.requires.held.0 c.requires.held.1
 
 pub look_at_points-requires-clause-tree : goal.look_at_points-requires-clause-tree
 look_at_points-requires-clause-tree c = subst (IsTree c.args.map.now) c.requires.held.2 (walked c).valid.tree
@@ -24,14 +24,6 @@ look_at_points-requires-clause-boxed c = (walked c).boxed
 pub look_at_points-requires-clause-few : goal.look_at_points-requires-clause-few
 look_at_points-requires-clause-few c = subst (λ n. n < 2 ^ 32) ((walked c).counted ∙ sym (ap length (walked c).laid)) c.in-Ok.ensures.few
 
-pub returns-in-Ok-look_at_points-clause-shown : goal.returns-in-Ok-look_at_points-clause-shown
-returns-in-Ok-look_at_points-clause-shown c = λ cert held. shown_by c.args.map.now cert c.in-Ok.count c.in-Ok.rings (c.in-Ok.ensures.walked cert held) c.in-Ok-look_at_points.ensures.placed
-
-pub returns-in-Ok-clause-allowed : goal.returns-in-Ok-clause-allowed
-returns-in-Ok-clause-allowed c = λ cert held.
-    let w = c.in-Ok.ensures.walked cert held in
-    record { counts = w.valid.counts; tree = w.valid.tree }
-
 pub end_walks-requires-clause-held : goal.end_walks-requires-clause-held
 end_walks-requires-clause-held c = (c.requires.held.0, c.requires.held.1)
 
@@ -44,50 +36,37 @@ look_at_points-requires-clause-whole c = c.requires.whole
 pub look_at_points-requires-clause-numbered : goal.look_at_points-requires-clause-numbered
 look_at_points-requires-clause-numbered c = c.requires.numbered
 
-pub returns-in-Ok-look_at_points-clause-behind : goal.returns-in-Ok-look_at_points-clause-behind
-returns-in-Ok-look_at_points-clause-behind c = tt
+pub returns-in-Ok-look_at_points-clause-finished : goal.returns-in-Ok-look_at_points-clause-finished
+returns-in-Ok-look_at_points-clause-finished c = record {
+  shown = λ cert held. shown_by c.args.map.now cert c.in-Ok.count c.in-Ok.rings (c.in-Ok.ensures.ended.walked cert held) c.in-Ok-look_at_points.ensures.placed;
+  searched = c.in-Ok.ensures.ended.searched;
+}
 
-pub returns-in-Ok-look_at_points-clause-fault : goal.returns-in-Ok-look_at_points-clause-fault
-returns-in-Ok-look_at_points-clause-fault c = tt
+pub returns-in-Ok-look_at_points-clause-faulty : goal.returns-in-Ok-look_at_points-clause-faulty
+returns-in-Ok-look_at_points-clause-faulty c = tt
 
-pub returns-in-Ok-look_at_points-clause-halts : goal.returns-in-Ok-look_at_points-clause-halts
-returns-in-Ok-look_at_points-clause-halts c = tt
+pub returns-in-Ok-look_at_points-clause-halted : goal.returns-in-Ok-look_at_points-clause-halted
+returns-in-Ok-look_at_points-clause-halted c = tt
 
-pub returns-in-Ok-look_at_points-clause-allowed : goal.returns-in-Ok-look_at_points-clause-allowed
-returns-in-Ok-look_at_points-clause-allowed c = tt
+pub returns-in-Ok-clause-finished : goal.returns-in-Ok-clause-finished
+returns-in-Ok-clause-finished c = tt
 
-pub returns-in-Ok-look_at_points-clause-searched : goal.returns-in-Ok-look_at_points-clause-searched
-returns-in-Ok-look_at_points-clause-searched c = c.in-Ok.ensures.searched
+pub returns-in-Ok-clause-faulty : goal.returns-in-Ok-clause-faulty
+returns-in-Ok-clause-faulty c = tt
 
-pub returns-in-Ok-clause-behind : goal.returns-in-Ok-clause-behind
-returns-in-Ok-clause-behind c = tt
+pub returns-in-Ok-clause-halted : goal.returns-in-Ok-clause-halted
+returns-in-Ok-clause-halted c = record {
+  halts = c.in-Err-look_at_points.ensures.halts;
+  allowed = λ cert held.
+      let w = c.in-Ok.ensures.ended.walked cert held in
+      record { counts = w.valid.counts; tree = w.valid.tree };
+}
 
-pub returns-in-Ok-clause-fault : goal.returns-in-Ok-clause-fault
-returns-in-Ok-clause-fault c = tt
+pub returns-clause-finished : goal.returns-clause-finished
+returns-clause-finished c = tt
 
-pub returns-in-Ok-clause-searched : goal.returns-in-Ok-clause-searched
-returns-in-Ok-clause-searched c = tt
+pub returns-clause-faulty : goal.returns-clause-faulty
+returns-clause-faulty c = c.in-Err.ensures.faulty
 
-pub returns-in-Ok-clause-shown : goal.returns-in-Ok-clause-shown
-returns-in-Ok-clause-shown c = tt
-
-pub returns-in-Ok-clause-halts : goal.returns-in-Ok-clause-halts
-returns-in-Ok-clause-halts c = c.in-Err-look_at_points.ensures.halts
-
-pub returns-clause-shown : goal.returns-clause-shown
-returns-clause-shown c = tt
-
-pub returns-clause-searched : goal.returns-clause-searched
-returns-clause-searched c = tt
-
-pub returns-clause-halts : goal.returns-clause-halts
-returns-clause-halts c = tt
-
-pub returns-clause-allowed : goal.returns-clause-allowed
-returns-clause-allowed c = tt
-
-pub returns-clause-behind : goal.returns-clause-behind
-returns-clause-behind c = c.in-Err.ensures.behind
-
-pub returns-clause-fault : goal.returns-clause-fault
-returns-clause-fault c = c.in-Err.ensures.fault
+pub returns-clause-halted : goal.returns-clause-halted
+returns-clause-halted c = tt
