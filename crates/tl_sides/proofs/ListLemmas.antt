@@ -125,3 +125,10 @@ pub stands_in : (d : ℕ) (lists : List (List ℕ)) (r : ℕ) → r < length lis
 stands_in d [] r h = absurd (omega (arith, h))
 stands_in d (xs ∷ lists) zero h = omega (arith, times-append d xs (concat lists))
 stands_in d (xs ∷ lists) (suc r) h = omega (arith, times-append d xs (concat lists), stands_in d lists r (omega (arith, h)))
+
+-- no number is below 0
+pub none_below : {A : Type 0} (k : ℕ) → k < 0 → A
+none_below k h = absurd (omega (arith, h))
+
+pub under : (k n m : ℕ) → k < n → n ≤ m → k < m
+under k n m h l = omega (arith, h, l)
