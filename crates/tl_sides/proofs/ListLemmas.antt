@@ -132,3 +132,9 @@ none_below k h = absurd (omega (arith, h))
 
 pub under : (k n m : ℕ) → k < n → n ≤ m → k < m
 under k n m h l = omega (arith, h, l)
+
+pub last_below : (n : ℕ) → 0 < n → n - 1 < n
+last_below n some = omega (arith, some)
+
+pub before_below : (k n : ℕ) → k < n → k - 1 < n
+before_below k n h = omega (arith, h)

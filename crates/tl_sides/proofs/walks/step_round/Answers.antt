@@ -1,6 +1,7 @@
-use Rattle.std.proofs.Common.{sym, ◌∙◌}
+use Rattle.std.proofs.Common.{sym, ◌∙◌, rules}
 use Rattle.std.proofs.lemmas.Bool.{false≢true}
-use Rattle.tl_sides.proofs.WalkFacts.{step_more, wrong_at, is_ring, open_at}
+use Rattle.tl_sides.proofs.ListLemmas.{last_below, before_below}
+use Rattle.tl_sides.proofs.WalkFacts.{step_first, step_more, wrong_at, is_ring, open_at}
 use Rattle.tl_sides.proofs.walks.step_round.Goals as goal
 
 pub returns-then-not-follows-2-clause-none : goal.returns-then-not-follows-2-clause-none
@@ -38,3 +39,24 @@ follows-requires-in-loop-place-clause-next c = c.requires.next
 
 pub follows-requires-in-loop-place-clause-e : goal.follows-requires-in-loop-place-clause-e
 follows-requires-in-loop-place-clause-e c = c.requires.darts c.loop-place.place c.loop-place-test.true
+
+pub loop-place-init : goal.loop-place-init
+loop-place-init c = step_first c.args.map.now.chains c.args.walk.now (search rules)
+
+pub bounds-walk-walk : goal.bounds-walk-walk
+bounds-walk-walk c = last_below _ c.requires.some
+
+pub bounds-walk-0 : goal.bounds-walk-0
+bounds-walk-0 c = c.requires.some
+
+pub bounds-walk-place : goal.bounds-walk-place
+bounds-walk-place c = before_below c.loop-place.place _ c.loop-place-test.true
+
+pub bounds-walk-place-in-loop-place : goal.bounds-walk-place-in-loop-place
+bounds-walk-place-in-loop-place c = c.loop-place-test.true
+
+pub follows-requires-clause-d : goal.follows-requires-clause-d
+follows-requires-clause-d c = c.requires.darts _ (last_below _ c.requires.some)
+
+pub follows-requires-in-loop-place-clause-d : goal.follows-requires-in-loop-place-clause-d
+follows-requires-in-loop-place-clause-d c = c.requires.darts _ (before_below c.loop-place.place _ c.loop-place-test.true)
