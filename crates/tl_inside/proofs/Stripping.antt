@@ -87,3 +87,10 @@ pub placed_answer : {X E : Type 0} {A C : Type 0} (B : X → Type 0) (r : Result
 placed_answer B (Ok (Some x)) f h = h
 placed_answer B (Ok None) f h = f h
 placed_answer B (Err e) f h = tt
+
+-- no number is below 0
+pub none_below : {A : Type 0} (i : ℕ) → i < 0 → A
+none_below i lt = absurd (omega (arith, lt))
+
+pub under : (i n m : ℕ) → i < n → n ≤ m → i < m
+under i n m lt le = omega (arith, lt, le)

@@ -93,6 +93,13 @@ known_or : {A : Type 0} (b : Bool) (m n : ℕ) → m ≡ n + cond b 1 0 → 1 �
 known_or true m n e h f g = g refl
 known_or false m n e h f g = f (omega (arith, e, h))
 
+-- the polygons of no flanks are even
+pub none_even : (near far : List ℕ) (p : ℕ) → AreEven [] near far p
+none_even near far p = record {
+  nears = λ q some. absurd (let none : near_count [] (is_polygon q) ≡ 0 = refl in omega (arith, some, none));
+  fars = λ q some. absurd (let none : far_count [] (is_polygon q) ≡ 0 = refl in omega (arith, some, none));
+}
+
 -- the polygons of one crossed segment more are even
 module _ (crossed : List Flanks) (near far : List ℕ) (p k : ℕ) (within : k < length crossed) (before : AreEven (take k crossed) near far p) where
   pub even_one : (d : Flanks) → ((q : ℕ) → is_polygon q (get_or crossed k d).near ≡ true → IsEven near far p q) → ((q : ℕ) → is_polygon q (get_or crossed k d).far ≡ true → IsEven near far p q) → AreEven (take (k + 1) crossed) near far p

@@ -8,7 +8,7 @@ ghost use Rattle.tl_inside.specs.Inside.{is_polygon};
 ghost use Rattle.tl_inside.specs.Places.{IsHeldBy, IsOffChains};
 ghost use Rattle.tl_inside.specs.Keeping.Probing.{ChainsAreInReach};
 ghost use Rattle.tl_inside.specs.Keeping.Strips.{IsSiteOf, IsPlacedSite, AreEnough};
-ghost use Rattle.tl_inside.specs.Keeping.Tallies.{AreTallies, TellCounts, AreNone, IsEven, IsOdd};
+ghost use Rattle.tl_inside.specs.Keeping.Tallies.{AreTallies, TellCounts, AreNone, AreClear, IsEven, IsOdd};
 
 use crate::flanks::Flanks;
 use crate::reach::look_at_points;
@@ -91,10 +91,7 @@ fn find_in_order<X: BoxIndex>(
     requires fits { X.fits index.now (segments_before map.now.chains (length map.now.chains)) (segment_rect map.now.chains) }
     requires reach { ChainsAreInReach map.now.chains }
     requires sites { All (IsSiteOf map.now) sites.now }
-    requires nears { length near.old ≡ length map.now.polygons }
-    requires fars { length far.old ≡ length map.now.polygons }
-    requires no_near { AreNone near.old }
-    requires no_far { AreNone far.old }
+    requires clear { AreClear (length map.now.polygons) near.old far.old }
     ensures { IfOk result (λ found. MatchOption found (All (IsPlacedSite map.now) sites.now) (IsTrueMisplaced map.now)) }
 {
     for batch in 0..sites.len().div_ceil(TOGETHER) {
@@ -121,16 +118,10 @@ fn find_beside<X: BoxIndex>(
     requires fits { X.fits index.now (segments_before map.now.chains (length map.now.chains)) (segment_rect map.now.chains) }
     requires reach { ChainsAreInReach map.now.chains }
     requires sites { All (IsSiteOf map.now) sites.now }
-    requires nears { length near.old ≡ length map.now.polygons }
-    requires fars { length far.old ≡ length map.now.polygons }
-    requires no_near { AreNone near.old }
-    requires no_far { AreNone far.old }
+    requires clear { AreClear (length map.now.polygons) near.old far.old }
     ensures found { IfOk result (λ found.
         MatchOption found (All (IsPlacedSite map.now) sites.now) (IsTrueMisplaced map.now)) }
-    ensures nears { length near.new ≡ length near.old }
-    ensures fars { length far.new ≡ length far.old }
-    ensures no_near { OnOk result (AreNone near.new) }
-    ensures no_far { OnOk result (AreNone far.new) }
+    ensures clear { OnOk result (AreClear (length map.now.polygons) near.new far.new) }
 {
     list_in_strip(map, index, sites, hits)?;
     for k in 0..sites.len() {
@@ -153,16 +144,10 @@ fn misplaced_at(
 ) -> Result<Option<Misplaced>, Memory>
     requires is { IsSiteOf map.now site }
     requires enough { AreEnough map.now.chains site.point hits.now }
-    requires nears { length near.old ≡ length map.now.polygons }
-    requires fars { length far.old ≡ length map.now.polygons }
-    requires no_near { AreNone near.old }
-    requires no_far { AreNone far.old }
+    requires clear { AreClear (length map.now.polygons) near.old far.old }
     ensures found { IfOk result (λ found.
         MatchOption found (IsPlacedSite map.now site) (IsTrueMisplaced map.now)) }
-    ensures nears { length near.new ≡ length near.old }
-    ensures fars { length far.new ≡ length far.old }
-    ensures no_near { OnOk result (AreNone near.new) }
-    ensures no_far { OnOk result (AreNone far.new) }
+    ensures clear { OnOk result (AreClear (length map.now.polygons) near.new far.new) }
 {
     let polygon = map.polygon(site.polygon);
     match sift(map, hits, polygon.point, crossed)? {

@@ -4,3 +4,4 @@ pub mod Forests
 pub mod NodeLemmas
 pub mod Sizes
 pub mod Fitting
+pub mod Splitting

@@ -70,6 +70,13 @@ module _ (n q p c : ℕ) (e : q ≡ p + 1) where
       let over : c * p ≤ m * p = mul-le c p m p (first_least l) (omega arith) in
       omega (arith, over, whole)
 
+-- no part has more than all
+pub part_within : (n q p : ℕ) → q ≡ p + 1 → n / q ≤ n
+part_within n q p e =
+    let d : Divided n p (n / q) = divided n q p e in
+    let whole = d.whole in
+    omega (arith, whole)
+
 -- the greatest of k parts whose sizes differ by at most one
 abbrev pub greatest_of : (n k : ℕ) → ℕ
 greatest_of n k = (n + (k - 1)) / k

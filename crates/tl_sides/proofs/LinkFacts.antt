@@ -1,10 +1,10 @@
 -- Darts that are linked so far, each behind the one before it.
-use Rattle.std.proofs.Common.{◌≡◌, ℕ, ◌+◌, ◌<◌, ◌≤◌, List, length, set, length-set, get_or-set_same, get_or-set_other, sym, ap, ◌∙◌, arith, inl, inr}
+use Rattle.std.proofs.Common.{◌≡◌, ℕ, ◌+◌, ◌-◌, ◌<◌, ◌≤◌, List, length, set, length-set, get_or-set_same, get_or-set_other, refl, sym, ap, ◌∙◌, arith, inl, inr}
 use Rattle.std.specs.Prelude.{slice_index}
 use Rattle.std.proofs.lemmas.Bool.{cases_lt}
 use Rattle.tl_index.specs.Hits.{times}
 use Rattle.tl_sides.specs.Lists.{before}
-use Rattle.tl_sides.proofs.ListLemmas.{before_more, before_at, before_stands, place_before, place_before_within, two_before}
+use Rattle.tl_sides.proofs.ListLemmas.{none_below, before_more, before_at, before_stands, place_before, place_before_within, two_before}
 
 pub record LinkSoFar (old round : List ℕ) (place : ℕ) (last : ℕ) (next : List ℕ) : Type 0 where
   pub last_is : last ≡ before round place
@@ -36,3 +36,7 @@ link_more old round next place last so darts once h =
           let ne : d ≡ last → ⊥ = λ e. (let s : 1 ≤ times (before round place) round = before_stands round place h in let f : times d round ≡ times (before round place) round = ap (λ m. times m round) (e ∙ so.last_is) in omega (arith, s, f, t)) in
           get_or-set_other next last d x 0 ne ∙ so.others d t;
     }
+
+-- none is linked yet
+pub link_first : (old round : List ℕ) → LinkSoFar old round 0 (slice_index round (length round - 1)) old
+link_first old round = record { last_is = refl; long = refl; linked = λ k l. none_below k l; others = λ d t. refl }

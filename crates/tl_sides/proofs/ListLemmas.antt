@@ -125,3 +125,16 @@ pub stands_in : (d : ℕ) (lists : List (List ℕ)) (r : ℕ) → r < length lis
 stands_in d [] r h = absurd (omega (arith, h))
 stands_in d (xs ∷ lists) zero h = omega (arith, times-append d xs (concat lists))
 stands_in d (xs ∷ lists) (suc r) h = omega (arith, times-append d xs (concat lists), stands_in d lists r (omega (arith, h)))
+
+-- no number is below 0
+pub none_below : {A : Type 0} (k : ℕ) → k < 0 → A
+none_below k h = absurd (omega (arith, h))
+
+pub under : (k n m : ℕ) → k < n → n ≤ m → k < m
+under k n m h l = omega (arith, h, l)
+
+pub last_below : (n : ℕ) → 0 < n → n - 1 < n
+last_below n some = omega (arith, some)
+
+pub before_below : (k n : ℕ) → k < n → k - 1 < n
+before_below k n h = omega (arith, h)

@@ -60,3 +60,6 @@ module _ (old : List Bool) (xs : List ℕ) (k : ℕ) (marks : List Bool) where
 
 pub all-added : (old : List Bool) (xs : List ℕ) (k : ℕ) (marks : List Bool) → AddMarks old (take k xs) marks → length xs ≤ k → AddMarks old xs marks
 all-added old xs k marks m l = rw (take_all k xs l) at m
+
+pub not-fewer : (old : List Bool) (xs : List ℕ) (new : List Bool) → AddMarks old xs new → marked_count old ≤ marked_count new
+not-fewer old xs new m = omega (arith, m.count)

@@ -1,5 +1,7 @@
 -- Headings that rise so far.
-use Rattle.std.proofs.Common.{◌≡◌, ℕ, suc, ◌+◌, ◌-◌, ◌<◌, List, length, subst, arith, inl, inr}
+use Rattle.std.proofs.Common.{◌≡◌, ◌⊎◌, ℕ, suc, ◌+◌, ◌-◌, ◌<◌, List, length, sym, subst, ◌∙◌, arith, inl, inr}
+use Rattle.std.specs.declared.cmp.Ordering.{Ordering}
+use Rattle.std.specs.declared.cmp.Ordering.TheVariants.{Less, Equal, Greater}
 use Rattle.std.specs.Prelude.{slice_index}
 use Rattle.std.proofs.lemmas.Bool.{cases_lt}
 use Rattle.tl_geom.specs.declared.direction.Direction.{Direction}
@@ -60,3 +62,8 @@ falls_at chains round place u v so l h not =
       behind_heads = subst (λ j. Heads chains (slice_index round j) v) e h;
       falls = not;
     }
+
+-- what is equal or greater isn't less
+pub not_less : (o : Ordering) → o ≡ Less → (o ≡ Equal) ⊎ (o ≡ Greater) → ⊥
+not_less o less (inl e) = let x : Less ≡ Equal = sym less ∙ e in cc
+not_less o less (inr e) = let x : Less ≡ Greater = sym less ∙ e in cc

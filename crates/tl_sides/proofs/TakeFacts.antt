@@ -1,7 +1,7 @@
 -- One round more.
 use Rattle.std.proofs.Common.{◌≡◌, ◌≢◌, ℕ, ◌+◌, ◌<◌, ◌≤◌, Bool, true, false, Some, List, length, get_or, set, length-set, get_or-set_same, get_or-set_other, sym, ap, refl, ◌∙◌, arith, inl, inr}
 use Rattle.std.specs.Prelude.{slice_index, slice_get}
-use Rattle.std.specs.Vec.{with_items}
+use Rattle.std.specs.Vec.{with_items, with_item}
 use Rattle.std.proofs.lemmas.List.{with_items_is}
 use Rattle.std.proofs.lemmas.Bool.{cases_lt, false≢true}
 use Rattle.tl_geom.specs.declared.point.Point.{Point}
@@ -142,7 +142,7 @@ module _ (chains : List MapChain) (rounds : List (List ℕ)) (round : List ℕ) 
   }
 
 -- rounds stay sized where their marks become no fewer
-pub sized_marked : (chains : List MapChain) (s : Rounds) (marks : List Bool) → AreSized chains s → length marks ≡ length s.marks.items → marked_count s.marks.items ≤ marked_count marks → AreSized chains (record { next = s.next; marks = with_items s.marks marks; nodes = s.nodes; taken = s.taken })
+sized_marked : (chains : List MapChain) (s : Rounds) (marks : List Bool) → AreSized chains s → length marks ≡ length s.marks.items → marked_count s.marks.items ≤ marked_count marks → AreSized chains (record { next = s.next; marks = with_items s.marks marks; nodes = s.nodes; taken = s.taken })
 sized_marked chains s marks sized long more =
     let is : (with_items s.marks marks).items ≡ marks = with_items_is s.marks marks (long ∙ sym s.marks.ok.0) in
     record {
@@ -153,4 +153,22 @@ sized_marked chains s marks sized long more =
       nodes = sized.nodes;
       few = sized.few;
       taken = omega (arith, sized.taken, more, ap marked_count is);
+    }
+
+-- and where marks are added that a round came with
+pub sized_still : (chains : List MapChain) (s : Rounds) (before marks : List Bool) → AreSized chains s → before ≡ s.marks.items → length marks ≡ length before → marked_count before ≤ marked_count marks → AreSized chains (record { next = s.next; marks = with_items s.marks marks; nodes = s.nodes; taken = s.taken })
+sized_still chains s before marks sized is long more = sized_marked chains s marks sized (long ∙ ap length is) (omega (arith, more, ap marked_count is))
+
+-- and where a round more is taken
+pub sized_more : (chains : List MapChain) (s : Rounds) (next round : List ℕ) (marks : List Bool) (k : ℕ) → AreSized chains s → 0 < length round → length next ≡ length s.next.items → AddMarks s.marks.items round marks → AreSized chains (record { next = with_items s.next next; marks = with_items s.marks marks; nodes = with_item s.nodes k true; taken = s.taken + 1 })
+sized_more chains s next round marks k sized some long added =
+    let is : (with_items s.marks marks).items ≡ marks = with_items_is s.marks marks (added.long ∙ sym s.marks.ok.0) in
+    record {
+      next = ap length (with_items_is s.next next (long ∙ sym s.next.ok.0)) ∙ long ∙ sized.next;
+      marks = ap length is ∙ added.long ∙ sized.marks;
+      points = sized.points;
+      are = sized.are;
+      nodes = length-set s.nodes.items k true ∙ sized.nodes;
+      few = sized.few;
+      taken = omega (arith, sized.taken, some, added.count, ap marked_count is);
     }

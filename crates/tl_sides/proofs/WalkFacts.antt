@@ -8,7 +8,7 @@ use Rattle.tl_county.specs.TheMap.{MapChain}
 use Rattle.tl_sides.specs.declared.walks.Walks.{Walks}
 use Rattle.tl_sides.specs.Lists.{before, and_list}
 use Rattle.tl_sides.specs.Sides.{dart_count, Follows, IsRing}
-use Rattle.tl_sides.specs.Walks.{HasWrongStep}
+use Rattle.tl_sides.specs.Walks.{HasWrongStep, IsOpen}
 use Rattle.tl_sides.specs.Keeping.Marked.{marked_count, AddMarks}
 use Rattle.tl_sides.specs.Keeping.Walked.{AreReady, HaveWalked}
 use Rattle.tl_sides.proofs.ListLemmas.{length-and, each-and}
@@ -75,3 +75,17 @@ ready_marked chains s marks taken ready long low =
       few = ready.few;
       taken = omega (arith, low, ap marked_count is);
     }
+
+-- and so they do where marks are added that their darts came with
+pub ready_still : (chains : List MapChain) (s : Walks) (before marks : List Bool) → AreReady chains s → before ≡ s.marks.items → length marks ≡ length before → marked_count before ≤ marked_count marks → AreReady chains (record { next = s.next; marks = with_items s.marks marks; taken = s.taken })
+ready_still chains s before marks ready is long more =
+    ready_marked chains s marks s.taken ready (long ∙ ap length is) (omega (arith, ready.taken, more, ap marked_count is))
+
+-- one walk more is counted
+pub ready_more : (chains : List MapChain) (s : Walks) (walk : List ℕ) (marks : List Bool) → AreReady chains s → 0 < length walk → AddMarks s.marks.items walk marks → AreReady chains (record { next = s.next; marks = with_items s.marks marks; taken = s.taken + 1 })
+ready_more chains s walk marks ready some added =
+    ready_marked chains s marks (s.taken + 1) ready added.long (omega (arith, ready.taken, some, added.count))
+
+-- its first dart doesn't follow its last
+pub open_at : (chains : List MapChain) (walk : List ℕ) → 0 < length walk → ((k : ℕ) → k < length walk → slice_index walk k < dart_count chains) → ¬ Follows chains (slice_index walk (length walk - 1)) (slice_index walk 0) → IsOpen chains walk
+open_at chains walk some darts not = record { some = some; wrong = record { is_dart = darts (length walk - 1) (omega (arith, some)); other_is_dart = darts 0 some; not = not } }

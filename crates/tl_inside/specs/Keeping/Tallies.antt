@@ -32,6 +32,13 @@ pub record AreTallies (crossed : List Flanks) (near far : List ℕ) : Type 0 whe
 abbrev pub AreNone : List ℕ → Type 0
 AreNone counts = (p : ℕ) → p < length counts → slice_index counts p ≡ 0
 
+-- there is a count of each of so many polygons, and nothing is counted yet
+pub record AreClear (polygons : ℕ) (near far : List ℕ) : Type 0 where
+  pub nears : length near ≡ polygons
+  pub fars : length far ≡ polygons
+  pub no_near : AreNone near
+  pub no_far : AreNone far
+
 -- polygon q, if it is another than p, is near as often as far
 abbrev pub IsEven : (near far : List ℕ) (p q : ℕ) → Type 0
 IsEven near far p q = q < length near → q ≢ p → slice_index near q ≡ slice_index far q

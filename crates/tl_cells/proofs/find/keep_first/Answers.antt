@@ -1,4 +1,6 @@
-use Rattle.std.proofs.Common.{◌≡◌, Some, ap, ◌∙◌}
+use Rattle.std.proofs.Common.{◌≡◌, Some, sym, ap, subst, ◌∙◌, arith}
+use Rattle.std.proofs.lemmas.Bool.{false≢true}
+use Rattle.tl_cells.specs.Keeping.Kept.{KeepFirst}
 use Rattle.tl_cells.proofs.Cells.{IsHere, first_at, keep_on, keep_more, odd_here}
 use Rattle.tl_cells.proofs.find.keep_first.Goals as goal
 
@@ -32,3 +34,16 @@ loop-dart-preserved c =
     } in
     let e : c.unwrap_or-first.result ≡ first_at c.loop-dart.kept node.result c.in-Some.id c.loop-dart.dart = c.unwrap_or-first.ensures in
     rw e (keep_more chains c.loop-dart.dart c.in-Some.id node.result c.loop-dart.kept before here (rw e at c.if-first-id.false))
+
+pub returns-then-first-id-clause-kept : goal.returns-then-first-id-clause-kept
+returns-then-first-id-clause-kept c = λ none. absurd (false≢true (sym none))
+
+pub returns-clause-at_odds : goal.returns-clause-at_odds
+returns-clause-at_odds c = tt
+
+pub returns-clause-kept : goal.returns-clause-kept
+returns-clause-kept c = λ none.
+    subst (λ d. KeepFirst c.args.map.now.chains d c.loop-dart.kept) (omega (arith, c.loop-dart-test.false, c.loop-dart.auto.dart-end, c.darts-dart-end.ensures)) c.loop-dart.invariant
+
+pub loop-dart-init : goal.loop-dart-init
+loop-dart-init c = c.requires

@@ -18,3 +18,6 @@ returns-else-precedes-clause-none c =
     out_of_order c.args.s c.args.t _ _ _ _ c.later-first.result c.earlier-last.result
     (record { line = c.requires; first_ends = c.in_order.ensures; second_ends = c.in_order-2.ensures; later = c.later-first.ensures; earlier = c.earlier-last.ensures })
     (c.precedes.ensures.after c.if-precedes.false)
+
+pub returns-else-precedes-clause-overlap : goal.returns-else-precedes-clause-overlap
+returns-else-precedes-clause-overlap c = tt

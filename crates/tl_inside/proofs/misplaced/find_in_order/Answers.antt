@@ -1,17 +1,15 @@
-use Rattle.std.proofs.Common.{◌+◌, ◌*◌, ◌∙◌, arith}
+use Rattle.std.proofs.Common.{◌+◌, ◌*◌, arith}
 use Rattle.std.proofs.lemmas.List.Elements.{All-take, All-drop}
+use Rattle.std.proofs.lemmas.Result.{err_from_is_err_and}
 use Rattle.tl_inside.specs.Keeping.Strips.{IsSiteOf, IsPlacedSite}
-use Rattle.tl_inside.proofs.Misplacing.{told_none}
-use Rattle.tl_inside.proofs.Stripping.{some_more, all_seen}
+use Rattle.tl_inside.proofs.Misplacing.{told_some, told_none}
+use Rattle.tl_inside.proofs.Stripping.{some_more, all_seen, none_below}
 use Rattle.tl_inside.proofs.misplaced.find_in_order.Goals as goal
 
 pub loop-batch-init : goal.loop-batch-init
 loop-batch-init g c = record {
-  nears = c.requires.nears;
-  fars = c.requires.fars;
-  no_near = c.requires.no_near;
-  no_far = c.requires.no_far;
-  placed = λ j d lt inside. absurd (omega (arith, lt));
+  clear = c.requires.clear;
+  placed = λ j d lt inside. none_below j lt;
 }
 
 pub find_beside-requires-clause-sites : goal.find_beside-requires-clause-sites
@@ -19,10 +17,7 @@ find_beside-requires-clause-sites g c = All-take (IsSiteOf c.args.map.now) _ _ (
 
 pub loop-batch-preserved : goal.loop-batch-preserved
 loop-batch-preserved g c = record {
-  nears = c.in_ok-found.ensures.nears ∙ c.loop-batch.invariant.nears;
-  fars = c.in_ok-found.ensures.fars ∙ c.loop-batch.invariant.fars;
-  no_near = c.in_ok-found.ensures.no_near;
-  no_far = c.in_ok-found.ensures.no_far;
+  clear = c.in_ok-found.ensures.clear;
   placed =
       some_more (IsPlacedSite c.args.map.now) c.args.sites.now (c.loop-batch.batch * 16) c.min-end.result ((c.loop-batch.batch + 1) * 16)
       (omega (arith, c.min-end.ensures, c.loop-batch-test.true, c.loop-batch.auto.batch-end, c.div_ceil-batch-end.ensures))
@@ -43,14 +38,11 @@ find_beside-requires-clause-fits g c = c.requires.fits
 pub find_beside-requires-clause-reach : goal.find_beside-requires-clause-reach
 find_beside-requires-clause-reach g c = c.requires.reach
 
-pub find_beside-requires-clause-nears : goal.find_beside-requires-clause-nears
-find_beside-requires-clause-nears g c = c.loop-batch.invariant.nears
+pub find_beside-requires-clause-clear : goal.find_beside-requires-clause-clear
+find_beside-requires-clause-clear g c = c.loop-batch.invariant.clear
 
-pub find_beside-requires-clause-fars : goal.find_beside-requires-clause-fars
-find_beside-requires-clause-fars g c = c.loop-batch.invariant.fars
+pub returns-in-Some : goal.returns-in-Some
+returns-in-Some g c = told_some _ _ c.in_ok-found.field-0 c.in-Some.found c.in-Some.is c.in_ok-found.ensures.found
 
-pub find_beside-requires-clause-no_near : goal.find_beside-requires-clause-no_near
-find_beside-requires-clause-no_near g c = c.loop-batch.invariant.no_near
-
-pub find_beside-requires-clause-no_far : goal.find_beside-requires-clause-no_far
-find_beside-requires-clause-no_far g c = c.loop-batch.invariant.no_far
+pub returns-in_err-found : goal.returns-in_err-found
+returns-in_err-found g c = let p = err_from_is_err_and c.from_residual.result c.from_residual.ensures.1 in rw p.1 tt

@@ -1,15 +1,12 @@
-use Rattle.std.proofs.Common.{◌≡◌, ℕ, ◌*◌, ◌<◌, length, get_or}
+use Rattle.std.proofs.Common.{ℕ, ◌*◌, ◌<◌, length, get_or}
 use Rattle.tl_inside.specs.declared.strips.Site.{Site}
 use Rattle.tl_inside.specs.Keeping.Strips.{IsPlacedSite}
-use Rattle.tl_inside.specs.Keeping.Tallies.{AreNone}
+use Rattle.tl_inside.specs.Keeping.Tallies.{AreClear}
 use Rattle.tl_inside.proofs.misplaced.find_in_order.Given as goal
 
 -- nothing is wrong with the points so far, and nothing is counted
 abbrev pub invariant-loop-batch : goal.invariant-loop-batch
 invariant-loop-batch g l = record {
-  nears : length l.near ≡ length l.map.polygons;
-  fars : length l.far ≡ length l.map.polygons;
-  no_near : AreNone l.near;
-  no_far : AreNone l.far;
+  clear : AreClear (length l.map.polygons) l.near l.far;
   placed : (j : ℕ) (d : Site) → j < l.batch * 16 → j < length l.sites → IsPlacedSite l.map (get_or l.sites j d);
 }

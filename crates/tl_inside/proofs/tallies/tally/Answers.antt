@@ -9,12 +9,12 @@ loop-place-init c = record { nears = refl; fars = refl; tallies = record { nears
 
 pub returns-clause-tallies : goal.returns-clause-tallies
 returns-clause-tallies c =
-    subst (λ xs. AreTallies xs c.loop-place.near c.loop-place.far) (take_all c.loop-place.place c.args.crossed.now (omega (arith, c.loop-place-test.false, c.loop-place.auto.place-end))) c.loop-place.invariant.tallies
+    subst (λ xs. AreTallies xs c.loop-place.near c.loop-place.far) (take_all c.loop-place.place c.args.crossed.now c.loop-place-test.false) c.loop-place.invariant.tallies
 
 pub count-requires : goal.count-requires
 count-requires c = record {
   room = λ p lt.
-      let inside : c.loop-place.place < length c.args.crossed.now = omega (arith, c.loop-place-test.true, c.loop-place.auto.place-end) in
+      let inside : c.loop-place.place < length c.args.crossed.now = c.loop-place-test.true in
       let few = room c.args.crossed.now c.loop-place.near c.loop-place.far [] [] c.loop-place.place inside c.loop-place.invariant.tallies p lt in
       omega (arith, few);
 }
@@ -22,7 +22,7 @@ count-requires c = record {
 pub count-requires-in-loop-place : goal.count-requires-in-loop-place
 count-requires-in-loop-place c = record {
   room = λ p lt.
-      let inside : c.loop-place.place < length c.args.crossed.now = omega (arith, c.loop-place-test.true, c.loop-place.auto.place-end) in
+      let inside : c.loop-place.place < length c.args.crossed.now = c.loop-place-test.true in
       let few = room_far c.args.crossed.now c.loop-place.near c.loop-place.far [] [] c.loop-place.place inside c.loop-place.invariant.tallies p lt in
       omega (arith, few);
 }
@@ -33,5 +33,11 @@ loop-place-preserved c = record {
   fars = c.count-in-loop-place.ensures.long ∙ c.loop-place.invariant.fars;
   tallies =
       counted_one c.args.crossed.now c.loop-place.near c.loop-place.far c.count.new.counts c.count-in-loop-place.new.counts c.loop-place.place
-      (omega (arith, c.loop-place-test.true, c.loop-place.auto.place-end)) c.loop-place.invariant.tallies _ c.count.ensures.long c.count-in-loop-place.ensures.long c.count.ensures.counted c.count-in-loop-place.ensures.counted;
+      c.loop-place-test.true c.loop-place.invariant.tallies _ c.count.ensures.long c.count-in-loop-place.ensures.long c.count.ensures.counted c.count-in-loop-place.ensures.counted;
 }
+
+pub returns-clause-nears : goal.returns-clause-nears
+returns-clause-nears c = c.loop-place.invariant.nears
+
+pub returns-clause-fars : goal.returns-clause-fars
+returns-clause-fars c = c.loop-place.invariant.fars

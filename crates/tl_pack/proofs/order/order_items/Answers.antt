@@ -1,6 +1,7 @@
 use Rattle.std.proofs.Common.{◌<◌, subst, map, arith}
 use Rattle.std.specs.List.Sorted.{IsPermutation}
 use Rattle.std.proofs.lemmas.List.Sorted.{IsPermutation-map, All-permutation, length_permutation}
+use Rattle.std.proofs.lemmas.Result.{err_from_is_err_and}
 use Rattle.tl_pack.specs.declared.order.Placed.{Placed}
 use Rattle.tl_pack.proofs.order.order_items.Goals as goal
 
@@ -17,3 +18,12 @@ returns-clause-known g c =
 
 pub returns-clause-counted : goal.returns-clause-counted
 returns-clause-counted g c = omega (arith, length_permutation _ _ c.sort_placed.ensures, c.in_ok-placed.ensures.counted)
+
+pub returns-in_err-placed-clause-all : goal.returns-in_err-placed-clause-all
+returns-in_err-placed-clause-all g c = let p = err_from_is_err_and c.from_residual.result c.from_residual.ensures.1 in rw p.1 tt
+
+pub returns-in_err-placed-clause-known : goal.returns-in_err-placed-clause-known
+returns-in_err-placed-clause-known g c = let p = err_from_is_err_and c.from_residual.result c.from_residual.ensures.1 in rw p.1 tt
+
+pub returns-in_err-placed-clause-counted : goal.returns-in_err-placed-clause-counted
+returns-in_err-placed-clause-counted g c = let p = err_from_is_err_and c.from_residual.result c.from_residual.ensures.1 in rw p.1 tt

@@ -1,5 +1,6 @@
-use Rattle.std.proofs.Common.{◌≡◌, ◌<◌, ◌+◌, ◌++◌, [], ◌∷◌, length, take, get_or, ◌∙◌, ap, sym, map, subst, arith}
+use Rattle.std.proofs.Common.{◌≡◌, ◌<◌, ◌≤◌, ◌+◌, ◌++◌, [], ◌∷◌, length, take, get_or, ◌∙◌, ap, sym, map, subst}
 use Rattle.std.proofs.lemmas.List.{take_all, take_more, length-map, map-append}
+use Rattle.std.proofs.lemmas.Result.{err_from_is_err_and}
 use Rattle.tl_geom.specs.Rectangle.{Covers}
 use Rattle.tl_index.specs.Fits.{CoversAll}
 use Rattle.tl_index.proofs.Covering.{all-append}
@@ -35,10 +36,13 @@ returns g c =
     let part = c.args.part.now in
     let bounds = g.I.Items.bounds_of c.args.items.now in
     let number = map (λ (p : Placed). p.item) in
-    let all : take c.loop-placed.placed-index part ≡ part = take_all c.loop-placed.placed-index part (omega arith) in
+    let all : take c.loop-placed.placed-index part ≡ part = take_all c.loop-placed.placed-index part c.loop-placed-test.false in
     let long : length (number part) ≡ length part = length-map part (λ (p : Placed). p.item) in
-    let some : 0 < length (number part) = omega (arith, long, c.requires.some) in
+    let some : 0 < length (number part) = subst (λ m. 0 < m) (sym long) c.requires.some in
     let covered : CoversAll bounds c.loop-placed.rect (number part) = subst (λ xs. CoversAll bounds c.loop-placed.rect (number xs)) all c.loop-placed.invariant.covered in
     let leaf = push_leaf_node bounds c.args.nodes.now.items c.push-2.new.self.items c.loop-placed.rect _ (number part) c.in_ok-push.ensures.items
-    (c.loop-placed.invariant.held ∙ ap number all) some (omega (arith, long, c.requires.few)) covered in
+    (c.loop-placed.invariant.held ∙ ap number all) some (subst (λ m. m ≤ 8) (sym long) c.requires.few) covered in
     subst (λ m. Push bounds 1 m m c.args.nodes.now.items c.push-2.new.self.items (number part) c.loop-placed.rect) long leaf
+
+pub returns-in_err-push : goal.returns-in_err-push
+returns-in_err-push g c = let p = err_from_is_err_and c.from_residual.result c.from_residual.ensures.1 in rw p.1 tt

@@ -1,9 +1,10 @@
 use Rattle.std.proofs.Common.{◌≡◌, Some, sym, ap, ◌∙◌, arith, inl, inr}
 use Rattle.std.specs.Prelude.{slice_index}
-use Rattle.std.proofs.lemmas.Bool.{cases_lt}
+use Rattle.std.proofs.lemmas.Bool.{cases_lt, false≢true}
 use Rattle.std.proofs.lemmas.List.{get_or_default}
 use Rattle.tl_county.specs.Darts.{dart_left, reverse_dart}
 use Rattle.tl_sides.proofs.FollowFacts.{all_agree}
+use Rattle.tl_sides.proofs.ListLemmas.{none_below}
 use Rattle.tl_sides.proofs.next.Next.disagreement.Goals as goal
 
 pub loop-dart-preserved : goal.loop-dart-preserved
@@ -23,3 +24,12 @@ loop-dart-preserved c = λ d h. elim (cases_lt d c.loop-dart.dart) [
 
 pub returns-clause-none : goal.returns-clause-none
 returns-clause-none c = λ e. all_agree c.args.map.now.chains c.args.self.now c.requires (λ d h. c.loop-dart.invariant d (let end = c.darts-dart-end.ensures in let done = c.loop-dart-test.false in omega (arith, h, end, done)))
+
+pub returns-then-not-is_one_side-clause-none : goal.returns-then-not-is_one_side-clause-none
+returns-then-not-is_one_side-clause-none c = λ is. absurd (false≢true (sym is))
+
+pub returns-clause-some : goal.returns-clause-some
+returns-clause-some c = tt
+
+pub loop-dart-init : goal.loop-dart-init
+loop-dart-init c = λ d h. none_below d h

@@ -29,3 +29,12 @@ returns-in-None-clause-next c = λ rounds taken.
     let same : c.new.result.next.items ≡ c.args.self.next.items = c.new.ensures in
     let moved : AreWhole c.args.map.now.chains rounds c.new.result.next.items = rw same whole in
     keep_next c.args.map.now.chains rounds c.new.result (ap length same ∙ c.requires.sized.next) moved
+
+pub returns-in-Some-clause-whole : goal.returns-in-Some-clause-whole
+returns-in-Some-clause-whole c = tt
+
+pub returns-in-Some-clause-next : goal.returns-in-Some-clause-next
+returns-in-Some-clause-next c = tt
+
+pub returns-in-None-clause-fault : goal.returns-in-None-clause-fault
+returns-in-None-clause-fault c = tt

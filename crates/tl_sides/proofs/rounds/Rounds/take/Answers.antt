@@ -9,7 +9,7 @@ use Rattle.tl_sides.specs.Lists.{and_list}
 use Rattle.tl_sides.specs.Rounds.{HasTwoNodes, HasFall}
 use Rattle.tl_sides.proofs.Lasting.{unknown_lasts, twice_lasts, last_lasts, repeated_lasts}
 use Rattle.tl_sides.proofs.MarkLemmas.{count-within}
-use Rattle.tl_sides.proofs.TakeFacts.{unknown_in, twice_in, added_below, repeated, sized_marked, taken_more}
+use Rattle.tl_sides.proofs.TakeFacts.{unknown_in, twice_in, added_below, added_once, repeated, sized_still, sized_more, taken_more}
 use Rattle.tl_sides.proofs.rounds.Rounds.take.Goals as goal
 
 pub returns-in-Err-Unknown-clause-fault : goal.returns-in-Err-Unknown-clause-fault
@@ -24,23 +24,23 @@ returns-in-Err-Twice-clause-fault c = λ rounds more taken.
 
 pub returns-in-Err-Unknown-clause-sized : goal.returns-in-Err-Unknown-clause-sized
 returns-in-Err-Unknown-clause-sized c =
-    sized_marked c.args.map.now.chains c.args.self.now c.mark_darts.new.marks c.requires.sized (c.mark_darts.ensures.long ∙ ap length c.deref_mut.ensures.value) (rw (← c.deref_mut.ensures.value) c.mark_darts.ensures.count)
+    sized_still c.args.map.now.chains c.args.self.now c.deref_mut.result.now c.mark_darts.new.marks c.requires.sized c.deref_mut.ensures.value c.mark_darts.ensures.long c.mark_darts.ensures.count
 
 pub returns-in-Err-Twice-clause-sized : goal.returns-in-Err-Twice-clause-sized
 returns-in-Err-Twice-clause-sized c =
-    sized_marked c.args.map.now.chains c.args.self.now c.mark_darts.new.marks c.requires.sized (c.mark_darts.ensures.long ∙ ap length c.deref_mut.ensures.value) (rw (← c.deref_mut.ensures.value) c.mark_darts.ensures.count)
+    sized_still c.args.map.now.chains c.args.self.now c.deref_mut.result.now c.mark_darts.new.marks c.requires.sized c.deref_mut.ensures.value c.mark_darts.ensures.long c.mark_darts.ensures.count
 
 pub returns-then-not-has_one_node-clause-sized : goal.returns-then-not-has_one_node-clause-sized
 returns-then-not-has_one_node-clause-sized c =
-    sized_marked c.args.map.now.chains c.args.self.now c.mark_darts.new.marks c.requires.sized (c.mark_darts.ensures.long ∙ ap length c.deref_mut.ensures.value) (rw (← c.deref_mut.ensures.value) c.mark_darts.ensures.count)
+    sized_still c.args.map.now.chains c.args.self.now c.deref_mut.result.now c.mark_darts.new.marks c.requires.sized c.deref_mut.ensures.value c.mark_darts.ensures.long c.mark_darts.ensures.count
 
 pub returns-then-index-clause-sized : goal.returns-then-index-clause-sized
 returns-then-index-clause-sized c =
-    sized_marked c.args.map.now.chains c.args.self.now c.mark_darts.new.marks c.requires.sized (c.mark_darts.ensures.long ∙ ap length c.deref_mut.ensures.value) (rw (← c.deref_mut.ensures.value) c.mark_darts.ensures.count)
+    sized_still c.args.map.now.chains c.args.self.now c.deref_mut.result.now c.mark_darts.new.marks c.requires.sized c.deref_mut.ensures.value c.mark_darts.ensures.long c.mark_darts.ensures.count
 
 pub returns-then-not-is_rising-clause-sized : goal.returns-then-not-is_rising-clause-sized
 returns-then-not-is_rising-clause-sized c =
-    sized_marked c.args.map.now.chains c.args.self.now c.mark_darts.new.marks c.requires.sized (c.mark_darts.ensures.long ∙ ap length c.deref_mut.ensures.value) (rw (← c.deref_mut.ensures.value) c.mark_darts.ensures.count)
+    sized_still c.args.map.now.chains c.args.self.now c.deref_mut.result.now c.mark_darts.new.marks c.requires.sized c.deref_mut.ensures.value c.mark_darts.ensures.long c.mark_darts.ensures.count
 
 pub has_one_node-requires-clause-darts : goal.has_one_node-requires-clause-darts
 has_one_node-requires-clause-darts c =
@@ -102,3 +102,43 @@ returns-clause-taken c = λ rounds taken.
     taken_more c.args.map.now.chains rounds c.args.round.now c.args.self.now new c.dart_node-node.result taken c.requires.some (rw marks_are added) refl refl c.dart_node-node.ensures.start c.dart_node-node.ensures.within unmarked
     (c.has_one_node.ensures.one c.if-not-has_one_node.false) (c.is_rising.ensures.rising c.if-not-is_rising.false) (c.is_rising.ensures.headed c.if-not-is_rising.false)
     (rw next_are c.link.ensures.linked) (rw (next_are, ← c.deref_mut-2.ensures.value) c.link.ensures.others)
+
+pub returns-in-Err-Unknown-clause-taken : goal.returns-in-Err-Unknown-clause-taken
+returns-in-Err-Unknown-clause-taken c = tt
+
+pub returns-in-Err-Twice-clause-taken : goal.returns-in-Err-Twice-clause-taken
+returns-in-Err-Twice-clause-taken c = tt
+
+pub returns-then-not-has_one_node-clause-taken : goal.returns-then-not-has_one_node-clause-taken
+returns-then-not-has_one_node-clause-taken c = tt
+
+pub returns-then-index-clause-taken : goal.returns-then-index-clause-taken
+returns-then-index-clause-taken c = tt
+
+pub returns-then-not-is_rising-clause-taken : goal.returns-then-not-is_rising-clause-taken
+returns-then-not-is_rising-clause-taken c = tt
+
+pub returns-clause-fault : goal.returns-clause-fault
+returns-clause-fault c = tt
+
+pub returns-clause-sized : goal.returns-clause-sized
+returns-clause-sized c =
+    let added : AddMarks c.args.self.now.marks.items c.args.round.now c.mark_darts.new.marks = rw (← c.deref_mut.ensures.value) c.in-Ok.ensures.marked in
+    sized_more c.args.map.now.chains c.args.self.now c.link.new.next c.args.round.now c.mark_darts.new.marks c.dart_node-node.result c.requires.sized c.requires.some (c.link.ensures.long ∙ ap length c.deref_mut-2.ensures.value) added
+
+pub has_one_node-requires-clause-some : goal.has_one_node-requires-clause-some
+has_one_node-requires-clause-some c = c.requires.some
+
+pub has_one_node-requires-clause-nodes : goal.has_one_node-requires-clause-nodes
+has_one_node-requires-clause-nodes c = (c.requires.sized.points, c.requires.sized.are)
+
+pub is_rising-requires-clause-some : goal.is_rising-requires-clause-some
+is_rising-requires-clause-some c = c.requires.some
+
+pub link-requires-clause-some : goal.link-requires-clause-some
+link-requires-clause-some c = c.requires.some
+
+pub link-requires-clause-once : goal.link-requires-clause-once
+link-requires-clause-once c =
+    let added : AddMarks c.args.self.now.marks.items c.args.round.now c.mark_darts.new.marks = rw (← c.deref_mut.ensures.value) c.in-Ok.ensures.marked in
+    added_once c.args.self.now.marks.items c.args.round.now c.mark_darts.new.marks added

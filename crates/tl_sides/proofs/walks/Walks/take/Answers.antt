@@ -1,16 +1,16 @@
-use Rattle.std.proofs.Common.{◌≡◌, ◌+◌, length, ap, subst, sym, refl, ◌∙◌, arith}
+use Rattle.std.proofs.Common.{◌≡◌, ◌+◌, subst, sym, refl, ◌∙◌, arith}
 use Rattle.std.specs.Vec.{with_items}
 use Rattle.std.proofs.lemmas.List.{with_items_is}
 use Rattle.tl_sides.specs.declared.walks.Walks.{Walks}
 use Rattle.tl_sides.specs.Sides.{dart_count}
-use Rattle.tl_sides.specs.Keeping.Marked.{marked_count, AddMarks, IsMarkFault}
+use Rattle.tl_sides.specs.Keeping.Marked.{AddMarks, IsMarkFault}
 use Rattle.tl_sides.specs.Lists.{and_list}
 use Rattle.tl_sides.specs.Walks.{HasWrongStep, IsOpen}
 use Rattle.tl_sides.specs.Keeping.Walked.{IsNoRing}
 use Rattle.tl_sides.proofs.Lasting.{unknown_lasts, twice_lasts, last_lasts}
 use Rattle.tl_sides.proofs.MarkLemmas.{count-within}
 use Rattle.tl_sides.proofs.TakeFacts.{unknown_in, twice_in, added_below}
-use Rattle.tl_sides.proofs.WalkFacts.{ready_marked, walked_more}
+use Rattle.tl_sides.proofs.WalkFacts.{ready_still, ready_more, walked_more}
 use Rattle.tl_sides.proofs.walks.Walks.take.Goals as goal
 
 pub returns-in-Err-Unknown-clause-fault : goal.returns-in-Err-Unknown-clause-fault
@@ -35,28 +35,24 @@ returns-in-Err-NotClosed-clause-fault c = λ walks more taken.
 
 pub returns-in-Err-Unknown-clause-ready : goal.returns-in-Err-Unknown-clause-ready
 returns-in-Err-Unknown-clause-ready c =
-    ready_marked c.args.map.now.chains c.args.self.now c.mark_darts.new.marks c.args.self.now.taken c.requires.ready (c.mark_darts.ensures.long ∙ ap length c.deref_mut.ensures.value)
-    (omega (arith, c.requires.ready.taken, c.mark_darts.ensures.count, ap marked_count c.deref_mut.ensures.value))
+    ready_still c.args.map.now.chains c.args.self.now c.deref_mut.result.now c.mark_darts.new.marks c.requires.ready c.deref_mut.ensures.value c.mark_darts.ensures.long c.mark_darts.ensures.count
 
 pub returns-in-Err-Twice-clause-ready : goal.returns-in-Err-Twice-clause-ready
 returns-in-Err-Twice-clause-ready c =
-    ready_marked c.args.map.now.chains c.args.self.now c.mark_darts.new.marks c.args.self.now.taken c.requires.ready (c.mark_darts.ensures.long ∙ ap length c.deref_mut.ensures.value)
-    (omega (arith, c.requires.ready.taken, c.mark_darts.ensures.count, ap marked_count c.deref_mut.ensures.value))
+    ready_still c.args.map.now.chains c.args.self.now c.deref_mut.result.now c.mark_darts.new.marks c.requires.ready c.deref_mut.ensures.value c.mark_darts.ensures.long c.mark_darts.ensures.count
 
 pub returns-in-Err-WrongStep-clause-ready : goal.returns-in-Err-WrongStep-clause-ready
 returns-in-Err-WrongStep-clause-ready c =
-    ready_marked c.args.map.now.chains c.args.self.now c.mark_darts.new.marks c.args.self.now.taken c.requires.ready (c.mark_darts.ensures.long ∙ ap length c.deref_mut.ensures.value)
-    (omega (arith, c.requires.ready.taken, c.mark_darts.ensures.count, ap marked_count c.deref_mut.ensures.value))
+    ready_still c.args.map.now.chains c.args.self.now c.deref_mut.result.now c.mark_darts.new.marks c.requires.ready c.deref_mut.ensures.value c.mark_darts.ensures.long c.mark_darts.ensures.count
 
 pub returns-in-Err-NotClosed-clause-ready : goal.returns-in-Err-NotClosed-clause-ready
 returns-in-Err-NotClosed-clause-ready c =
-    ready_marked c.args.map.now.chains c.args.self.now c.mark_darts.new.marks c.args.self.now.taken c.requires.ready (c.mark_darts.ensures.long ∙ ap length c.deref_mut.ensures.value)
-    (omega (arith, c.requires.ready.taken, c.mark_darts.ensures.count, ap marked_count c.deref_mut.ensures.value))
+    ready_still c.args.map.now.chains c.args.self.now c.deref_mut.result.now c.mark_darts.new.marks c.requires.ready c.deref_mut.ensures.value c.mark_darts.ensures.long c.mark_darts.ensures.count
 
 pub returns-clause-ready : goal.returns-clause-ready
 returns-clause-ready c =
     let added : AddMarks c.args.self.now.marks.items c.args.walk.now c.mark_darts.new.marks = rw (← c.deref_mut.ensures.value) c.in-Ok.ensures.marked in
-    ready_marked c.args.map.now.chains c.args.self.now c.mark_darts.new.marks (c.args.self.now.taken + 1) c.requires.ready added.long (omega (arith, c.requires.ready.taken, c.requires.some, added.count))
+    ready_more c.args.map.now.chains c.args.self.now c.args.walk.now c.mark_darts.new.marks c.requires.ready c.requires.some added
 
 pub step_round-requires-clause-darts : goal.step_round-requires-clause-darts
 step_round-requires-clause-darts c =
@@ -80,3 +76,24 @@ returns-clause-taken c = λ walks taken.
     } in
     let marks_are : new.marks.items ≡ c.mark_darts.new.marks = with_items_is c.args.self.now.marks c.mark_darts.new.marks (added.long ∙ sym c.args.self.now.marks.ok.0) in
     walked_more c.args.map.now.chains walks c.args.walk.now c.args.self.now new taken (rw marks_are added) refl c.in-Ok-step_round.ensures.ring
+
+pub returns-in-Err-Unknown-clause-taken : goal.returns-in-Err-Unknown-clause-taken
+returns-in-Err-Unknown-clause-taken c = tt
+
+pub returns-in-Err-Twice-clause-taken : goal.returns-in-Err-Twice-clause-taken
+returns-in-Err-Twice-clause-taken c = tt
+
+pub returns-in-Err-WrongStep-clause-taken : goal.returns-in-Err-WrongStep-clause-taken
+returns-in-Err-WrongStep-clause-taken c = tt
+
+pub returns-in-Err-NotClosed-clause-taken : goal.returns-in-Err-NotClosed-clause-taken
+returns-in-Err-NotClosed-clause-taken c = tt
+
+pub returns-clause-fault : goal.returns-clause-fault
+returns-clause-fault c = tt
+
+pub step_round-requires-clause-next : goal.step_round-requires-clause-next
+step_round-requires-clause-next c = c.requires.ready.next
+
+pub step_round-requires-clause-some : goal.step_round-requires-clause-some
+step_round-requires-clause-some c = c.requires.some
