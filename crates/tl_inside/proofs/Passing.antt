@@ -1,7 +1,8 @@
 -- Numbers that are listed because they pass are those that are counted.
-use Rattle.std.proofs.Common.{◌≡◌, ℕ, zero, suc, ◌+◌, ◌-◌, ◌<◌, ◌⊎◌, ℤ, pos, Bool, true, false, if◌then◌else◌, inl, inr, List, [], ◌∷◌, ◌++◌, length, get_or, All, Contains, sym, ap, subst, ◌∙◌, refl, arith}
+use Rattle.std.proofs.Common.{◌≡◌, ℕ, zero, suc, ◌+◌, ◌-◌, ◌<◌, ◌≤◌, ◌⊎◌, Result, Ok, Err, add-one, ℤ, pos, Bool, true, false, if◌then◌else◌, inl, inr, List, [], ◌∷◌, ◌++◌, length, get_or, All, Contains, sym, ap, subst, ◌∙◌, refl, arith}
 use Rattle.std.specs.List.Sorted.{IsStrictlyIncreasing}
-use Rattle.std.proofs.lemmas.Bool.{cases_lt, cases_order}
+use Rattle.std.specs.Result.{is_ok, is_err}
+use Rattle.std.proofs.lemmas.Bool.{cases_lt, cases_order, false≢true}
 use Rattle.std.proofs.lemmas.List.{length-append, get_or_append_left, get_or-append_right}
 use Rattle.std.proofs.lemmas.List.Elements.{All-nil, All-push, Contains-append_left, Contains-append_right}
 use Rattle.tl_inside.specs.Keeping.Listed.{passing}
@@ -74,3 +75,22 @@ counted_by P counts n some none = record {
     go : (p : ℕ) → p < n → (b : Bool) → P p ≡ b → Contains (passing P n) p ⊎ counts p (pos 0)
     go p lt true e = inl (contained P n p lt e)
     go p lt false e = inr (none p lt e)
+
+-- one number more, that passes
+pub passed_on : (P : ℕ → Bool) (n : ℕ) (old new : List ℕ) → old ≡ passing P n → P n ≡ true → new ≡ old ++ n ∷ [] → new ≡ passing P (n + 1)
+passed_on P n old new is passes more =
+    more ∙ ap (λ xs. xs ++ n ∷ []) is ∙ sym (ap (passing P) (add-one n) ∙ ap (λ (b : Bool). if b then passing P n ++ n ∷ [] else passing P n) passes)
+
+-- or that doesn't
+pub passed_by : (P : ℕ → Bool) (n : ℕ) (old new : List ℕ) → old ≡ passing P n → P n ≡ false → new ≡ old → new ≡ passing P (n + 1)
+passed_by P n old new is fails same =
+    same ∙ is ∙ sym (ap (passing P) (add-one n) ∙ ap (λ (b : Bool). if b then passing P n ++ n ∷ [] else passing P n) fails)
+
+-- what is pushed without an error is appended
+pub pushed : {X T E : Type 0} (r : Result T E) (old more new : List X) → new ≡ (if is_ok r then more else old) → is_err r ≡ false → new ≡ more
+pushed (Ok x) old more new is ok = is
+pushed (Err e) old more new is bad = absurd (false≢true (sym bad))
+
+-- a count that has come to an end is at it
+pub at_end : (i end : ℕ) → end ≤ i → i ≤ end → i ≡ end
+at_end i end past within = omega (arith, past, within)

@@ -1,5 +1,5 @@
 -- The polygons and the landmarks of a point on no chain.
-use Rattle.std.proofs.Common.{◌≡◌, ◌≢◌, ℕ, ◌<◌, ℤ, pos, ◌-ℤ◌, Bool, true, false, not, eqb, Some, None, Result, Ok, Err, IfOk, List, [], length, get_or, sym, subst, refl, arith}
+use Rattle.std.proofs.Common.{◌≡◌, ◌≢◌, ℕ, ◌<◌, ℤ, pos, ◌-ℤ◌, Bool, true, false, not, eqb, Option, Some, None, Result, Ok, Err, IfOk, List, [], length, get_or, sym, subst, ap, ◌∙◌, refl, arith}
 use Rattle.std.specs.Prelude.{slice_get, slice_index}
 use Rattle.std.proofs.lemmas.Bool.{eqb-true, eq-eqb, false≢true}
 use Rattle.std.proofs.lemmas.Int.{ints}
@@ -74,3 +74,21 @@ module _ (m : TheMap) (q : Point) (crossed : List Flanks) (near far : List ℕ) 
 pub if_ok : {X E : Type 0} {P Q : X → Type 0} (r : Result X E) → ((x : X) → P x → Q x) → IfOk r P → IfOk r Q
 if_ok (Ok x) f h = f x h
 if_ok (Err e) f h = tt
+
+not_alike : (m n : ℕ) → m ≢ n → not (eqb m n) ≡ true
+not_alike m n ne = go (eqb m n) refl
+  where
+    go : (b : Bool) → eqb m n ≡ b → not b ≡ true
+    go true t = absurd (ne (eqb-true m n t))
+    go false t = refl
+
+-- what the sums of a landmark say of its number
+module _ (landmarks : List MapLandmark) (near far : List ℕ) (l one other : ℕ) (landmark : MapLandmark) (is : slice_get landmarks l ≡ Some landmark) (one_is : one ≡ sum_at near landmark.polygons) (other_is : other ≡ sum_at far landmark.polygons) where
+  found : sums_differ landmarks near far l ≡ not (eqb (sum_at near landmark.polygons) (sum_at far landmark.polygons))
+  found = ap (λ (o : Option MapLandmark). not (eqb (sum_at near (polygons_of o)) (sum_at far (polygons_of o)))) is
+
+  pub sums_apart : one ≢ other → sums_differ landmarks near far l ≡ true
+  sums_apart ne = found ∙ not_alike (sum_at near landmark.polygons) (sum_at far landmark.polygons) (λ e. ne (one_is ∙ e ∙ sym other_is))
+
+  pub sums_together : one ≡ other → sums_differ landmarks near far l ≡ false
+  sums_together e = found ∙ ap not (eq-eqb (sum_at near landmark.polygons) (sum_at far landmark.polygons) (sym one_is ∙ e ∙ other_is))

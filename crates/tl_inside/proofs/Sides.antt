@@ -1,8 +1,8 @@
 -- The sides of a segment by its number.
-use Rattle.std.proofs.Common.{◌≡◌, ℕ, zero, suc, ◌+◌, ◌-◌, ◌<◌, ◌<ℤ◌, ◌≤ℤ◌, ℤ, Bool, true, false, T, if◌then◌else◌, Some, List, [], ◌∷◌, ◌++◌, length, get_or, take, ap, sym, subst, ◌∙◌, refl, arith}
+use Rattle.std.proofs.Common.{◌≡◌, ℕ, zero, suc, ◌+◌, ◌-◌, ◌<◌, ◌<ℤ◌, ◌≤ℤ◌, ℤ, Bool, true, false, T, if◌then◌else◌, Some, List, [], ◌∷◌, ◌++◌, length, get_or, take, map, ap, sym, subst, ◌∙◌, refl, arith}
 use Rattle.std.specs.Prelude.{slice_get, int_lt}
 use Rattle.std.proofs.lemmas.Int.{ints}
-use Rattle.std.proofs.lemmas.List.{get_or_append_left, get_or-append-add}
+use Rattle.std.proofs.lemmas.List.{get_or_append_left, get_or-append-add, map-append, take_more}
 use Rattle.std.proofs.lemmas.List.Sums.{sum_by-cons}
 use Rattle.tl_geom.specs.declared.point.Point.{Point}
 use Rattle.tl_county.specs.declared.sides.Side.{Side}
@@ -91,3 +91,9 @@ module _ (cs : List MapChain) (s c k d j tlid : ℕ) (segment : Segment) (points
 
   pub downward : last.y ≤ℤ first.y → record { near = right; far = left } ≡ flanks_at cs s
   downward down = sym (by_chain ∙ ap (λ t. if t then record { near = left; far = right } else record { near = right; far = left }) (no_lt first.y last.y down))
+
+-- the sides of one segment more
+pub flanks_more : (chains : List MapChain) (segments : List ℕ) (place : ℕ) (flanks new : List Flanks) (one : Flanks) → place < length segments → flanks ≡ map (flanks_at chains) (take place segments) → one ≡ flanks_at chains (get_or segments place 0) → new ≡ flanks ++ one ∷ [] → new ≡ map (flanks_at chains) (take (place + 1) segments)
+flanks_more chains segments place flanks new one lt is one_is more =
+    more ∙ ap (λ f. flanks ++ f ∷ []) one_is ∙ ap (λ fs. fs ++ flanks_at chains (get_or segments place 0) ∷ []) is
+    ∙ sym (ap (map (flanks_at chains)) (take_more segments place 0 lt) ∙ map-append (flanks_at chains) (take place segments) (get_or segments place 0 ∷ []))
