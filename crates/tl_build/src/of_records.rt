@@ -109,11 +109,7 @@ pub fn audit_with<R: Source>(
     ensures failures { TellsDevice (R.failure_count records.old) (R.failure_count records.new) result }
 {
     match read_map_with(alloc, hasher, records, options) {
-        Ok(map) => {
-            let answer = audit_map(alloc, &map);
-            drop(map);
-            answer
-        }
+        Ok(map) => audit_map(alloc, &map),
         Err(stop) => refused(stop),
     }
 }

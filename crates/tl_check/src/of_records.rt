@@ -140,11 +140,7 @@ pub fn check_with<R: Source, S: Source>(
         (S.failure_count cert.old) (S.failure_count cert.new) result }
 {
     match read_map_with(alloc, hasher, records, options) {
-        Ok(map) => {
-            let answer = check_cert(alloc, &map, cert, budget);
-            drop(map);
-            answer
-        }
+        Ok(map) => check_cert(alloc, &map, cert, budget),
         Err(stop) => refused(stop),
     }
 }

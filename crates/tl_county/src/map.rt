@@ -135,45 +135,13 @@ impl Map {
           skipped = chains.skipped;
         }) }
     {
-        match number_parts(alloc, &chains) {
-            Ok((nodes, segments)) => Ok(Map::of_parts(
-                chains, sides, polygons, landmarks, nodes, segments,
-            )),
-            Err(refused) => Err(refused),
-        }
-    }
-
-    /// The map of these chains, their sides, the polygons and the landmarks, whose segments and nodes are numbered.
-    fn of_parts(
-        chains: Chains,
-        sides: Vec<KeptChainSides>,
-        polygons: IndexMap<PolyKey, Point, RandomState>,
-        landmarks: LinkedLandmarks,
-        nodes: Nodes,
-        segments: Segments,
-    ) -> Map
-        requires paired { length sides.items ≡ length chains.chains }
-        requires polygons { length polygons.entries ≤ most_polygons }
-        requires landmarks { length landmarks.points.entries ≤ most_landmarks }
-        requires beside { length landmarks.rows.items ≡ length landmarks.points.entries }
-        requires within { All (IsRow landmarks.linked.items) landmarks.rows.items }
-        requires proper { All (λ (c : CompleteChain). IsProper c.points) chains.chains }
-        requires linked { All (HasPolygonsOf (length polygons.entries) landmarks.linked.items) landmarks.rows.items }
-        requires nodes { AreNumberedNodes chains.chains nodes }
-        requires segments { AreNumberedSegments chains.chains segments }
-        ensures { result ≡ record {
-          chains = sided chains.chains sides.items;
-          polygons = map polygon_in polygons.entries;
-          landmarks = landmarks_in landmarks.linked.items landmarks.points.entries landmarks.rows.items;
-          skipped = chains.skipped;
-        } }
-    {
+        let (nodes, segments) = number_parts(alloc, &chains)?;
         let LinkedLandmarks {
             points,
             rows,
             linked,
         } = landmarks;
-        Map {
+        Ok(Map {
             chains,
             sides,
             polygons,
@@ -182,7 +150,7 @@ impl Map {
             linked,
             segments,
             nodes,
-        }
+        })
     }
 
     /// How many chains there are.

@@ -1,7 +1,7 @@
 use Rattle.std.proofs.Common.{◌≡◌, ◌≢◌, ℕ, ◌+◌, ◌-◌, ◌<◌, ◌≤◌, eqb, inl, inr, List, [], ◌∷◌, ◌++◌, length, take, drop, get_or, All, sym, ap, ◌∙◌, arith}
 use Rattle.std.specs.List.Sorted.{IsNonDecreasingBy}
 use Rattle.std.proofs.lemmas.Bool.{cases_lt, eq-eqb, ne_eqb}
-use Rattle.std.proofs.lemmas.List.{append-nil, at_drop_all, drop-append-le, take-append-le, drop_at, take_all, length-append, length-drop, length_push, get_or-take, get_or-drop, get_or_append_left, length-take-le}
+use Rattle.std.proofs.lemmas.List.{drop-append-le, take-append-le, drop_at, take_all, length-append, length-drop, length_push, get_or-take, get_or-drop, get_or_append_left, length-take-le}
 use Rattle.std.proofs.Math.Seq.{get_or-append_seam}
 use Rattle.std.proofs.lemmas.List.Elements.{All-push, All-weaker}
 use Rattle.tl_map.specs.declared.landmarks.Link.{Link}
@@ -52,8 +52,3 @@ pub part_inside : {X : Type 0} (P : X → Type 0) (xs : List X) (s n : ℕ) → 
 part_inside P xs s n inside within k d lt =
     let low : k < n = omega (arith, length-take-le n (drop s xs) (omega (arith, length-drop s xs))) in
     rw (get_or-take n (drop s xs) k d low, get_or-drop s xs k d) (inside (s + k) d (omega arith))
-
--- a list that is written back whole
-pub whole_back : (new old : List ℕ) (n : ℕ) → length new ≡ length old → n ≡ length old → take n (new ++ drop (length new) old) ≡ new
-whole_back new old n same count =
-    at_drop_all (λ (xs : List ℕ). take n (new ++ xs)) old (length new) (omega arith) ∙ ap (take n) (append-nil new) ∙ take_all n new (omega arith)

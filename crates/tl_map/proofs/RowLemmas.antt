@@ -59,10 +59,10 @@ run_more pool run i d rest h =
     ∙ append_assoc (entry_points pool (get_or run i d)) (flat_map (entry_points pool) (drop (i + 1) run)) rest
 
 -- one more run is appended
-pub appended_run : (pool : List Point) (run : List ShapeEntry) (i : ℕ) (d : ShapeEntry) (rest points added whole : List Point) (last end : Point) → i < length run → ((more : List Point) → added ++ dedup_after end more ≡ points ++ dedup_after last (entry_points pool (get_or run i d) ++ more)) → points ++ dedup_after last (flat_map (entry_points pool) (drop i run) ++ rest) ≡ whole → added ++ dedup_after end (flat_map (entry_points pool) (drop (i + 1) run) ++ rest) ≡ whole
-appended_run pool run i d rest points added whole last end h appended before =
+pub appended_run : (pool : List Point) (run : List ShapeEntry) (i : ℕ) (d : ShapeEntry) (rest points added whole slice : List Point) (last end : Point) → i < length run → slice ≡ entry_points pool (get_or run i d) → ((more : List Point) → added ++ dedup_after end more ≡ points ++ dedup_after last (slice ++ more)) → points ++ dedup_after last (flat_map (entry_points pool) (drop i run) ++ rest) ≡ whole → added ++ dedup_after end (flat_map (entry_points pool) (drop (i + 1) run) ++ rest) ≡ whole
+appended_run pool run i d rest points added whole slice last end h cut appended before =
     appended (flat_map (entry_points pool) (drop (i + 1) run) ++ rest)
-    ∙ ap (λ ps. points ++ dedup_after last ps) (sym (run_more pool run i d rest h))
+    ∙ ap (λ ps. points ++ dedup_after last ps) (ap (λ s. s ++ (flat_map (entry_points pool) (drop (i + 1) run) ++ rest)) cut ∙ sym (run_more pool run i d rest h))
     ∙ before
 
 -- the end is appended

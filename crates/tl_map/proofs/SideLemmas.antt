@@ -6,29 +6,26 @@ use Rattle.std.proofs.lemmas.List.{get_or_default, map_more}
 use Rattle.tl_key.specs.declared.key.PolyKey.{PolyKey}
 use Rattle.tl_drawn.specs.declared.entry.SidesEntry.{SidesEntry}
 use Rattle.tl_drawn.specs.declared.fault.MapStop.{MapStop}
-use Rattle.tl_map.specs.Keeping.Sided.{sided_by, IsSide, NamesKnown, StopsSides, AreBothSides, StopsBothSides}
+use Rattle.tl_map.specs.Keeping.Sided.{sided_by, IsSide, NamesKnown, StopsSide, StopsSides}
 
--- what lies on both sides, by what lies on each
-pub both_sides : (ks : List PolyKey) (s : SidesEntry) (left right : Side) → IsSide ks s.left left → IsSide ks s.right right → AreBothSides ks s (record { left = left; right = right; start_cell = s.start_cell; end_cell = s.end_cell })
-both_sides ks s left right l r = record {
-  are = λ j. record { left = l.is j; right = r.is j; start_cell = s.start_cell; end_cell = s.end_cell };
-  known = λ k names. elim names [ inl a ↦ l.known k a | inr b ↦ r.known k b ];
-}
+-- what stops one side stops the sides
+pub stops_left : (ks : List PolyKey) (entries : List SidesEntry) (i : ℕ) (d : SidesEntry) (stop : MapStop) → i < length entries → StopsSide ks (get_or entries i d).left (get_or entries i d).tlid stop → StopsSides ks entries stop
+stops_left ks entries i d stop lt why =
+    inr ((get_or entries i d).tlid, why.0, why.1, (i, get_or entries i d, lt, get_or_default entries i (get_or entries i d) d lt, (refl, inl why.2)), why.3)
 
--- what stops the sides of one record stops the sides
-pub stops_at : (ks : List PolyKey) (entries : List SidesEntry) (i : ℕ) (d : SidesEntry) (stop : MapStop) → i < length entries → StopsBothSides ks (get_or entries i d) stop → StopsSides ks entries stop
-stops_at ks entries i d stop lt why =
-    inr ((get_or entries i d).tlid, why.0, why.1, (i, get_or entries i d, lt, get_or_default entries i (get_or entries i d) d lt, (refl, why.2)), why.3)
+pub stops_right : (ks : List PolyKey) (entries : List SidesEntry) (i : ℕ) (d : SidesEntry) (stop : MapStop) → i < length entries → StopsSide ks (get_or entries i d).right (get_or entries i d).tlid stop → StopsSides ks entries stop
+stops_right ks entries i d stop lt why =
+    inr ((get_or entries i d).tlid, why.0, why.1, (i, get_or entries i d, lt, get_or_default entries i (get_or entries i d) d lt, (refl, inr why.2)), why.3)
 
 -- the sides of one record more
-pub sides_more : (ks : List PolyKey) (entries : List SidesEntry) (i : ℕ) (d : SidesEntry) (sides : List ChainSides) (made : ChainSides) → i < length entries → sides ≡ map (sided_by ks) (take i entries) → AreBothSides ks (get_or entries i d) made → sides ++ made ∷ [] ≡ map (sided_by ks) (take (i + 1) entries)
-sides_more ks entries i d sides made lt before both =
-    ap (λ xs. xs ++ made ∷ []) before
-    ∙ ap (λ x. map (sided_by ks) (take i entries) ++ x ∷ []) both.are ∙ sym (map_more (sided_by ks) entries i d lt)
+pub sides_more : (ks : List PolyKey) (entries : List SidesEntry) (i : ℕ) (d : SidesEntry) (sides new : List ChainSides) (left right : Side) → i < length entries → sides ≡ map (sided_by ks) (take i entries) → IsSide ks (get_or entries i d).left left → IsSide ks (get_or entries i d).right right → new ≡ sides ++ record { left = left; right = right; start_cell = (get_or entries i d).start_cell; end_cell = (get_or entries i d).end_cell } ∷ [] → new ≡ map (sided_by ks) (take (i + 1) entries)
+sides_more ks entries i d sides new left right lt before l r added =
+    added ∙ ap (λ xs. xs ++ record { left = left; right = right; start_cell = (get_or entries i d).start_cell; end_cell = (get_or entries i d).end_cell } ∷ []) before
+    ∙ ap (λ x. map (sided_by ks) (take i entries) ++ x ∷ []) (λ j. record { left = l.is j; right = r.is j; start_cell = (get_or entries i d).start_cell; end_cell = (get_or entries i d).end_cell }) ∙ sym (map_more (sided_by ks) entries i d lt)
 
 -- the keys of one record more are known
-pub known_more : (ks : List PolyKey) (entries : List SidesEntry) (i : ℕ) (d : SidesEntry) (made : ChainSides) → i < length entries → AreBothSides ks (get_or entries i d) made → ((j : ℕ) (e : SidesEntry) → j < i → NamesKnown ks (get_or entries j e)) → (j : ℕ) (e : SidesEntry) → j < i + 1 → NamesKnown ks (get_or entries j e)
-known_more ks entries i d made lt both before j e low = elim (cases_lt j i) [
+pub known_more : (ks : List PolyKey) (entries : List SidesEntry) (i : ℕ) (d : SidesEntry) (left right : Side) → i < length entries → IsSide ks (get_or entries i d).left left → IsSide ks (get_or entries i d).right right → ((j : ℕ) (e : SidesEntry) → j < i → NamesKnown ks (get_or entries j e)) → (j : ℕ) (e : SidesEntry) → j < i + 1 → NamesKnown ks (get_or entries j e)
+known_more ks entries i d left right lt l r before j e low = elim (cases_lt j i) [
   | inl earlier ↦ before j e earlier
-  | inr last ↦ let at : j ≡ i = omega arith in rw (at, get_or_default entries i e d lt) both.known
+  | inr last ↦ let at : j ≡ i = omega arith in rw (at, get_or_default entries i e d lt) (λ k names. elim names [ inl a ↦ l.known k a | inr b ↦ r.known k b ])
 ]

@@ -42,30 +42,26 @@ fn first_fault(chains: &[ChainEntry], shapes: &[ShapeEntry]) -> Option<MapFault>
     None
 }
 
-/// The chains of the records, which are sorted where they are kept.
-pub fn build_chains(
-    alloc: Global,
-    collected: &mut Collected,
-    skipped: u64,
-) -> Result<Chains, MapStop>
+/// The chains of the records.
+pub fn build_chains(alloc: Global, collected: Collected, skipped: u64) -> Result<Chains, MapStop>
     // It has collected some records.
-    requires { (rs : List Record) × Collects rs collected.old }
-    ensures built { (rs : List Record) → Collects rs collected.old → MatchResult result (AreBuilt rs skipped) (StopsBuilding rs) }
+    requires { (rs : List Record) × Collects rs collected }
+    ensures built { (rs : List Record) → Collects rs collected → MatchResult result (AreBuilt rs skipped) (StopsBuilding rs) }
     ensures of_chains { IfErr result (IfFault IsFaultOfChains) }
 {
     if collected.too_many {
         return Err(MapStop::Fault(MapFault::TooMany(Limited::Chains)));
     }
-    sort_chains(alloc, &mut collected.chains)?;
-    sort_shapes(alloc, &mut collected.shapes)?;
-    if let Some(fault) = first_fault(&collected.chains, &collected.shapes) {
+    let Collected {
+        mut chains,
+        mut shapes,
+        pool,
+        too_many: _,
+    } = collected;
+    sort_chains(alloc, &mut chains)?;
+    sort_shapes(alloc, &mut shapes)?;
+    if let Some(fault) = first_fault(&chains, &shapes) {
         return Err(MapStop::Fault(fault));
     }
-    join(
-        alloc,
-        &collected.chains,
-        &collected.shapes,
-        &collected.pool,
-        skipped,
-    )
+    join(alloc, &chains, &shapes, &pool, skipped)
 }

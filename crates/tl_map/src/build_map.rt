@@ -1,7 +1,6 @@
 //! The map from the collected records.
 
 ghost use Rattle.std.specs.Prelude.{◌≡◌, ◌≤◌, List, MatchResult, All, length};
-ghost use Rattle.std.specs.List.Sorted.{IsPermutation};
 ghost use Rattle.indexmap.specs.IndexMap.{IsUnique, keys};
 ghost use Rattle.tl_record.specs.declared.record.Record.{Record};
 ghost use Rattle.tl_drawn.specs.MapOf.{same_key, sides_in};
@@ -10,7 +9,7 @@ ghost use Rattle.tl_county.specs.Limits.{most_polygons};
 ghost use Rattle.tl_map.specs.Keeping.Collected.{Collects};
 ghost use Rattle.tl_map.specs.Keeping.Areas.{KeepsAreas};
 ghost use Rattle.tl_map.specs.Keeping.Mapped.{AreMapped, ArePairedChains, AreIndexedSides, StopsIndexedSides, IsLinkedMap};
-ghost use Rattle.tl_map.specs.Keeping.Built.{AreBuilt, StopsBuilding};
+ghost use Rattle.tl_map.specs.Keeping.Built.{StopsBuilding};
 ghost use Rattle.tl_map.specs.Keeping.Landmarks.{StopsLinking};
 
 use crate::areas::AreaRecords;
@@ -28,39 +27,22 @@ use tl_drawn::{LandmarkEntry, Limited, LinkEntry, MapFault, MapStop};
 use tl_geom::Point;
 use tl_record::PolyKey;
 
-/// The chains of the records. The type I records are presorted on the way.
-fn presort_and_build(
-    alloc: Global,
-    mut collected: Collected,
-    sides: &mut KeptSides,
-    skipped: u64,
-) -> Result<Chains, MapStop>
-    // It has collected some records.
-    requires { (rs : List Record) × Collects rs collected }
-    ensures built { (rs : List Record) → Collects rs collected → MatchResult result (AreBuilt rs skipped) (StopsBuilding rs) }
-    ensures moved { IsPermutation sides.old sides.new }
-{
-    collected.presort_with(alloc, sides)?;
-    build_chains(alloc, &mut collected, skipped)
-}
-
-/// The chains of the records, and the type I records in their order.
+/// The chains of the records, and the type I record of each in their order.
 fn pair_chains(
     alloc: Global,
-    collected: Collected,
-    sides: &mut KeptSides,
+    mut collected: Collected,
+    mut sides: KeptSides,
     skipped: u64,
-) -> Result<Chains, MapStop>
+) -> Result<(Chains, KeptSides), MapStop>
     // It has collected some records.
     requires { (rs : List Record) × Collects rs collected }
-    ensures { (rs : List Record) → Collects rs collected → sides.old ≡ sides_in rs →
-        MatchResult result (λ chains. ArePairedChains rs skipped chains sides.new) (StopsBuilding rs) }
+    ensures { (rs : List Record) → Collects rs collected → sides ≡ sides_in rs →
+        MatchResult result (λ made. ArePairedChains rs skipped made.0 made.1) (StopsBuilding rs) }
 {
-    let chains = presort_and_build(alloc, collected, sides, skipped)?;
-    match pair_sides(alloc, &chains, sides) {
-        Ok(()) => Ok(chains),
-        Err(stop) => Err(stop),
-    }
+    collected.presort_with(alloc, &mut sides)?;
+    let chains = build_chains(alloc, collected, skipped)?;
+    let paired = pair_sides(alloc, &chains, sides)?;
+    Ok((chains, paired))
 }
 
 /// The polygons by their keys, and the sides of these records by the polygons' numbers.
@@ -74,11 +56,10 @@ fn index_sides(
     ensures { MatchResult result (λ made. AreIndexedSides polygons.items paired made.0 made.1.items)
         (StopsIndexedSides polygons.items paired) }
 {
-    let index = index_polygons(alloc, hasher, polygons)?;
-    match resolve_sides(alloc, &index, &paired) {
-        Ok(sides) => Ok((index, sides)),
-        Err(stop) => Err(stop),
-    }
+    let index = index_polygons(alloc, hasher, &polygons)?;
+    drop(polygons);
+    let sides = resolve_sides(alloc, &index, &paired)?;
+    Ok((index, sides))
 }
 
 /// The map of these chains with their sides, polygons, and landmarks with their links.
@@ -120,12 +101,12 @@ pub fn build_map(
         return Err(MapStop::Fault(MapFault::TooMany(Limited::Polygons)));
     }
     let AreaRecords {
-        mut sides,
+        sides,
         polygons,
         landmarks,
         links,
     } = areas;
-    let chains = pair_chains(alloc, collected, &mut sides, skipped)?;
-    let (index, resolved) = index_sides(alloc, hasher, polygons, sides)?;
-    link_map(alloc, hasher, chains, resolved, index, &landmarks, &links)
+    let (chains, paired) = pair_chains(alloc, collected, sides, skipped)?;
+    let (index, sides) = index_sides(alloc, hasher, polygons, paired)?;
+    link_map(alloc, hasher, chains, sides, index, &landmarks, &links)
 }

@@ -35,22 +35,6 @@ fn append_distinct(
     Ok(last)
 }
 
-/// Appends the points of a shape that differ from the one before, where `last` is the one before the first. Gives the last.
-fn append_shape(
-    points: &mut Vec<Point>,
-    last: Point,
-    shape: &ShapeEntry,
-    pool: &[Point],
-) -> Result<Point, AllocError>
-    requires { IsInside pool.now shape.now }
-    ensures { IfOk result (λ end. (rest : List Point) →
-        points.new.items ++ dedup_after end rest ≡
-        points.old.items ++ dedup_after last (entry_points pool.now shape.now ++ rest)) }
-{
-    let used = &pool[shape.first..shape.first + usize::from(shape.used)];
-    append_distinct(points, last, used)
-}
-
 /// Appends the points of a chain with these shapes.
 fn append_chain(
     points: &mut Vec<Point>,
@@ -65,7 +49,8 @@ fn append_chain(
     let mut last = chain.from;
     points.push(last)?;
     for shape in run {
-        last = append_shape(points, last, shape, pool)?;
+        let used = &pool[shape.first..shape.first + usize::from(shape.used)];
+        last = append_distinct(points, last, used)?;
     }
     append_distinct(points, last, &[chain.to])?;
     Ok(())

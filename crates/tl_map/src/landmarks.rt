@@ -31,22 +31,6 @@ pub fn first_landmarks(
     ensures stops { IfErr result (StopsLandmarks entries.now) }
 {
     let mut firsts = IndexMap::with_hasher(alloc, hasher);
-    match insert_firsts(&mut firsts, entries) {
-        Ok(()) => Ok(firsts),
-        Err(stop) => Err(stop),
-    }
-}
-
-/// Inserts the first record of each LAND into a map that has none.
-fn insert_firsts(
-    firsts: &mut IndexMap<u64, Option<Point>, RandomState>,
-    entries: &[LandmarkEntry],
-) -> Result<(), MapStop>
-    requires none { firsts.old.entries ≡ [] }
-    requires unique { IsUnique nat_eq firsts.old }
-    ensures ok { OnOk result (ListsLandmarks entries.now firsts.new) }
-    ensures stops { IfErr result (StopsLandmarks entries.now) }
-{
     for entry in entries {
         if !firsts.contains_key(&entry.land) {
             if firsts.len() == LANDMARK_LIMIT as usize {
@@ -55,7 +39,7 @@ fn insert_firsts(
             firsts.insert(entry.land, entry.point)?;
         }
     }
-    Ok(())
+    Ok(firsts)
 }
 
 /// A polygon that is linked to a landmark, both by number.
@@ -245,12 +229,10 @@ pub fn build_landmarks(
         (StopsLinking (keys index.now) entries.now links.now) }
 {
     let points = first_landmarks(alloc, hasher, entries)?;
-    match link_landmarks(alloc, index, &points, links) {
-        Ok((rows, linked)) => Ok(LinkedLandmarks {
-            points,
-            rows,
-            linked,
-        }),
-        Err(stop) => Err(stop),
-    }
+    let (rows, linked) = link_landmarks(alloc, index, &points, links)?;
+    Ok(LinkedLandmarks {
+        points,
+        rows,
+        linked,
+    })
 }

@@ -1,14 +1,12 @@
 //! Chains and maps from the bytes of record files.
 
-ghost use Rattle.std.specs.Prelude.{◌≡◌, [], IfOk, IfErr, IfSome, OnOk};
+ghost use Rattle.std.specs.Prelude.{◌≡◌, IfOk, IfErr, IfSome};
 ghost use Rattle.tl_record.specs.declared.reader.Standing.TheVariants.{Reading};
 ghost use Rattle.tl_record.specs.Layout.{tiger_2006, layout_with};
 ghost use Rattle.tl_record.specs.Records.{records_of};
 ghost use Rattle.tl_record.specs.Reader.{source_of, skipped_of, standing_of, outcome};
 ghost use Rattle.tl_drawn.specs.Reading.{AreReadFrom, IsReadFrom, StopsReading, IfFault, TellsDevice};
 ghost use Rattle.tl_drawn.specs.Faults.{IsFaultOfChains};
-ghost use Rattle.tl_map.specs.Keeping.Areas.{KeepsAreas};
-ghost use Rattle.tl_map.specs.Keeping.Collected.{Collects};
 ghost use Rattle.tl_map.specs.Keeping.Gathering.{Gathers, GathersAll, StopsGathering};
 
 use crate::areas::AreaRecords;
@@ -65,27 +63,6 @@ fn collect_all<R: Source>(
 {
     let mut collected = Collected::new(alloc);
     let mut areas = AreaRecords::new(alloc);
-    match add_all(reader, &mut collected, &mut areas) {
-        Ok(()) => Ok((collected, areas)),
-        Err(stop) => Err(stop),
-    }
-}
-
-/// Adds all records that a reader has to give, where none is kept yet.
-fn add_all<R: Source>(
-    reader: &mut RecordReader<R>,
-    collected: &mut Collected,
-    areas: &mut AreaRecords,
-) -> Result<(), MapStop>
-    requires reading { standing_of reader.old ≡ Reading }
-    requires none { Collects [] collected.old }
-    requires no_areas { KeepsAreas [] areas.old }
-    ensures all { OnOk result (GathersAll (outcome R.remaining reader.old) (skipped_of reader.new) collected.new areas.new) }
-    ensures stops { IfErr result (StopsGathering (outcome R.remaining reader.old)) }
-    ensures failures { TellsDevice (R.failure_count (source_of reader.old))
-        (R.failure_count (source_of reader.new)) result }
-    ensures same_reference { R.reference (source_of reader.new) ≡ R.reference (source_of reader.old) }
-{
     let mut next = NO_RECORD;
     'records: loop {
         match reader.read_next(&mut next) {
@@ -93,7 +70,7 @@ fn add_all<R: Source>(
                 collected.add(&next)?;
                 areas.add(&next)?;
             }
-            Ok(None) => return Ok(()),
+            Ok(None) => return Ok((collected, areas)),
             Err(stop) => return Err(MapStop::from(stop)),
         }
     }
@@ -132,8 +109,8 @@ pub fn read_chains_with<R: Source>(
     ensures failures { TellsDevice (R.failure_count records.old) (R.failure_count records.new) result }
 {
     let mut reader = RecordReader::with(records, options);
-    let mut collected = collect_records(alloc, &mut reader)?;
-    build_chains(alloc, &mut collected, reader.skipped())
+    let collected = collect_records(alloc, &mut reader)?;
+    build_chains(alloc, collected, reader.skipped())
 }
 
 /// Reads the map of a county from the text of its record files, by the columns of [`Options`]'s default.

@@ -1,6 +1,6 @@
 //! The sides of chains by the keys of type I records.
 
-ghost use Rattle.std.specs.Prelude.{◌≡◌, ◌<◌, ◌≤◌, ◌^◌, ◌==◌, [], List, length, IfOk, OnOk, IfErr, MatchOption};
+ghost use Rattle.std.specs.Prelude.{◌≡◌, ◌<◌, ◌≤◌, ◌^◌, ◌==◌, List, length, IfOk, OnOk, IfErr, MatchOption};
 ghost use Rattle.std.specs.Prelude.{MatchResult, map};
 ghost use Rattle.std.specs.Prelude.{count_by, All};
 ghost use Rattle.std.specs.List.Sorted.{IsNonDecreasingBy, IsStrictlyIncreasing};
@@ -9,7 +9,6 @@ ghost use Rattle.tl_county.specs.Chains.{tlids};
 ghost use Rattle.tl_key.specs.declared.key.PolyKey.{PolyKey};
 ghost use Rattle.tl_map.specs.Keeping.Index.{Indexes};
 ghost use Rattle.tl_map.specs.Keeping.Sided.{sided_by, IsSide, NamesKnown, StopsSide, StopsSides, sides_tlids};
-ghost use Rattle.tl_map.specs.Keeping.Sided.{AreBothSides, StopsBothSides, AreAllSides};
 ghost use Rattle.tl_map.specs.Keeping.Sided.{IsUnpaired, ArePaired, StopsPairing};
 
 use crate::guess::Guesses;
@@ -18,7 +17,7 @@ use indexmap::IndexMap;
 use std::alloc::Global;
 use std::hash::RandomState;
 use tl_county::{ChainSides, Chains, KeptChainSides, Side};
-use tl_drawn::{MapFault, MapStop, SidesEntry};
+use tl_drawn::{MapFault, MapStop};
 use tl_geom::Point;
 use tl_record::PolyKey;
 
@@ -42,48 +41,6 @@ fn resolve_side(
     }
 }
 
-/// What lies on both sides of a record's chain.
-#[inline(always)]
-fn resolve_both(
-    index: &IndexMap<PolyKey, Point, RandomState>,
-    guesses: &mut Guesses,
-    entry: SidesEntry,
-) -> Result<ChainSides, MapStop>
-    requires { length index.now.entries < 2 ^ 32 }
-    ensures { (ks : List PolyKey) → Indexes ks index.now →
-        MatchResult result (AreBothSides ks entry) (StopsBothSides ks entry) }
-{
-    let left = resolve_side(index, guesses, entry.left, entry.tlid)?;
-    let right = resolve_side(index, guesses, entry.right, entry.tlid)?;
-    Ok(ChainSides {
-        left,
-        right,
-        start_cell: entry.start_cell,
-        end_cell: entry.end_cell,
-    })
-}
-
-/// Appends the sides of these records to a list that has none.
-fn append_sides(
-    sides: &mut Vec<KeptChainSides>,
-    index: &IndexMap<PolyKey, Point, RandomState>,
-    guesses: &mut Guesses,
-    entries: &KeptSides,
-) -> Result<(), MapStop>
-    requires few { length index.now.entries < 2 ^ 32 }
-    requires none { sides.old.items ≡ [] }
-    ensures { (ks : List PolyKey) → Indexes ks index.now →
-        MatchResult result (λ done. AreAllSides ks entries.now sides.new.items) (StopsSides ks entries.now) }
-{
-    let count = entries.len();
-    for place in 0..count {
-        let entry = entries.get(place);
-        let both = resolve_both(index, guesses, entry)?;
-        sides.push(KeptChainSides::new(both))?;
-    }
-    Ok(())
-}
-
 /// The sides of these records.
 pub fn resolve_sides(
     alloc: Global,
@@ -98,7 +55,18 @@ pub fn resolve_sides(
 {
     let mut guesses = Guesses::new(alloc, index)?;
     let mut sides = Vec::with_capacity(alloc, entries.len())?;
-    append_sides(&mut sides, index, &mut guesses, entries)?;
+    let count = entries.len();
+    for place in 0..count {
+        let entry = entries.get(place);
+        let left = resolve_side(index, &mut guesses, entry.left, entry.tlid)?;
+        let right = resolve_side(index, &mut guesses, entry.right, entry.tlid)?;
+        sides.push(KeptChainSides::new(ChainSides {
+            left,
+            right,
+            start_cell: entry.start_cell,
+            end_cell: entry.end_cell,
+        }))?;
+    }
     Ok(sides)
 }
 
@@ -149,18 +117,22 @@ fn unpaired(chains: &Chains, sides: &KeptSides) -> Option<MapFault>
     None
 }
 
-/// Sorts the type I records into the order of the chains, which rise by TLID and have one record each.
-pub fn pair_sides(alloc: Global, chains: &Chains, sides: &mut KeptSides) -> Result<(), MapStop>
+/// The type I record of each chain, in the order of the chains, which rise by TLID.
+pub fn pair_sides(
+    alloc: Global,
+    chains: &Chains,
+    mut sides: KeptSides,
+) -> Result<KeptSides, MapStop>
     requires { IsStrictlyIncreasing (tlids chains.now.chains) }
-    ensures { MatchResult result (λ done. ArePaired (tlids chains.now.chains) sides.old sides.new)
-        (StopsPairing (tlids chains.now.chains) sides.old) }
+    ensures { MatchResult result (λ made. ArePaired (tlids chains.now.chains) sides made)
+        (StopsPairing (tlids chains.now.chains) sides) }
 {
     sides.sort_by_tlid(alloc)?;
-    if let Some(tlid) = repeated_sides(sides) {
+    if let Some(tlid) = repeated_sides(&sides) {
         return Err(MapStop::Fault(MapFault::DuplicateSides { tlid }));
     }
-    if let Some(fault) = unpaired(chains, sides) {
+    if let Some(fault) = unpaired(chains, &sides) {
         return Err(MapStop::Fault(fault));
     }
-    Ok(())
+    Ok(sides)
 }

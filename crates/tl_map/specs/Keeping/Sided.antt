@@ -1,5 +1,5 @@
 -- Kept on the way: type I records by TLID, and the sides that their keys name.
-use Rattle.std.specs.Prelude.{◌≡◌, ℕ, ◌≤◌, ◌==◌, Option, Some, List, ◌⊎◌, map, count_by, All, Any, Contains}
+use Rattle.std.specs.Prelude.{◌≡◌, ℕ, ◌≤◌, ◌==◌, Option, Some, List, ◌⊎◌, map, count_by, Any, Contains}
 use Rattle.tl_key.specs.declared.key.PolyKey.{PolyKey}
 use Rattle.tl_drawn.specs.declared.entry.SidesEntry.{SidesEntry}
 use Rattle.tl_county.specs.declared.sides.ChainSides.{ChainSides}
@@ -33,20 +33,6 @@ StopsSide ks key t stop = (k : PolyKey) × (stop ≡ Fault (SideWithoutPolygon t
 abbrev pub StopsSides : List PolyKey → List SidesEntry → MapStop → Type 0
 StopsSides ks entries stop =
     (stop ≡ Memory) ⊎ ((t : ℕ) × (k : PolyKey) × (stop ≡ Fault (SideWithoutPolygon t k)) × Any (λ s. (s.tlid ≡ t) × Names s k) entries × ¬ Contains ks k)
-
--- what lies on both sides of a record's chain, whose keys are among the keys
-pub record AreBothSides (ks : List PolyKey) (s : SidesEntry) (made : ChainSides) : Type 0 where
-  pub are : made ≡ sided_by ks s
-  pub known : NamesKnown ks s
-
--- a key of the record isn't one of the keys
-abbrev pub StopsBothSides : List PolyKey → SidesEntry → MapStop → Type 0
-StopsBothSides ks s stop = (k : PolyKey) × (stop ≡ Fault (SideWithoutPolygon s.tlid k)) × Names s k × ¬ Contains ks k
-
--- the sides of all records, whose keys are among the keys
-pub record AreAllSides (ks : List PolyKey) (entries : List SidesEntry) (made : List ChainSides) : Type 0 where
-  pub are : made ≡ map (sided_by ks) entries
-  pub known : All (NamesKnown ks) entries
 
 -- the TLIDs of type I records
 abbrev pub sides_tlids : List SidesEntry → List ℕ

@@ -12,34 +12,34 @@ use Rattle.tl_build.proofs.Recorded.{faulty, on_sound, if_sound, stops, tells_no
 use Rattle.tl_build.proofs.of_records.audit_with.Goals as goal
 
 pub returns-in-Ok-clause-planar : goal.returns-in-Ok-clause-planar
-returns-in-Ok-clause-planar g c = on_sound (λ t. records_of (layout_with c.args.options) t) (g.R.Source.remaining c.args.records.now) c.in-Ok.map c.in-Ok.ensures.map (λ m. IsPlanar m.chains) c.audit_map-answer.result c.audit_map-answer.ensures.planar
+returns-in-Ok-clause-planar g c = on_sound (λ t. records_of (layout_with c.args.options) t) (g.R.Source.remaining c.args.records.now) c.in-Ok.map c.in-Ok.ensures.map (λ m. IsPlanar m.chains) c.audit_map.result c.audit_map.ensures.planar
 
 pub returns-in-Ok-clause-sides : goal.returns-in-Ok-clause-sides
-returns-in-Ok-clause-sides g c = on_sound (λ t. records_of (layout_with c.args.options) t) (g.R.Source.remaining c.args.records.now) c.in-Ok.map c.in-Ok.ensures.map (λ m. SidesAgree m.chains) c.audit_map-answer.result c.audit_map-answer.ensures.sides
+returns-in-Ok-clause-sides g c = on_sound (λ t. records_of (layout_with c.args.options) t) (g.R.Source.remaining c.args.records.now) c.in-Ok.map c.in-Ok.ensures.map (λ m. SidesAgree m.chains) c.audit_map.result c.audit_map.ensures.sides
 
 pub returns-in-Ok-clause-closed : goal.returns-in-Ok-clause-closed
-returns-in-Ok-clause-closed g c = on_sound (λ t. records_of (layout_with c.args.options) t) (g.R.Source.remaining c.args.records.now) c.in-Ok.map c.in-Ok.ensures.map AreClosed c.audit_map-answer.result c.audit_map-answer.ensures.closed
+returns-in-Ok-clause-closed g c = on_sound (λ t. records_of (layout_with c.args.options) t) (g.R.Source.remaining c.args.records.now) c.in-Ok.map c.in-Ok.ensures.map AreClosed c.audit_map.result c.audit_map.ensures.closed
 
 pub returns-in-Ok-clause-points : goal.returns-in-Ok-clause-points
-returns-in-Ok-clause-points g c = on_sound (λ t. records_of (layout_with c.args.options) t) (g.R.Source.remaining c.args.records.now) c.in-Ok.map c.in-Ok.ensures.map ArePlaced c.audit_map-answer.result c.audit_map-answer.ensures.points
+returns-in-Ok-clause-points g c = on_sound (λ t. records_of (layout_with c.args.options) t) (g.R.Source.remaining c.args.records.now) c.in-Ok.map c.in-Ok.ensures.map ArePlaced c.audit_map.result c.audit_map.ensures.points
 
 pub returns-in-Ok-clause-cells : goal.returns-in-Ok-clause-cells
-returns-in-Ok-clause-cells g c = on_sound (λ t. records_of (layout_with c.args.options) t) (g.R.Source.remaining c.args.records.now) c.in-Ok.map c.in-Ok.ensures.map (λ m. CellsAgree m.chains) c.audit_map-answer.result c.audit_map-answer.ensures.cells
+returns-in-Ok-clause-cells g c = on_sound (λ t. records_of (layout_with c.args.options) t) (g.R.Source.remaining c.args.records.now) c.in-Ok.map c.in-Ok.ensures.map (λ m. CellsAgree m.chains) c.audit_map.result c.audit_map.ensures.cells
 
 pub returns-in-Ok-clause-report : goal.returns-in-Ok-clause-report
-returns-in-Ok-clause-report g c = if_sound (λ t. records_of (layout_with c.args.options) t) (g.R.Source.remaining c.args.records.now) c.in-Ok.map c.in-Ok.ensures.map IsReport c.audit_map-answer.result c.audit_map-answer.ensures.report
+returns-in-Ok-clause-report g c = if_sound (λ t. records_of (layout_with c.args.options) t) (g.R.Source.remaining c.args.records.now) c.in-Ok.map c.in-Ok.ensures.map IsReport c.audit_map.result c.audit_map.ensures.report
 
 pub returns-in-Ok-clause-stops : goal.returns-in-Ok-clause-stops
-returns-in-Ok-clause-stops g c = stops (λ t. records_of (layout_with c.args.options) t) (g.R.Source.remaining c.args.records.now) c.in-Ok.map c.in-Ok.ensures.map c.audit_map-answer.result c.audit_map-answer.ensures.stops
+returns-in-Ok-clause-stops g c = stops (λ t. records_of (layout_with c.args.options) t) (g.R.Source.remaining c.args.records.now) c.in-Ok.map c.in-Ok.ensures.map c.audit_map.result c.audit_map.ensures.stops
 
 pub returns-in-Ok-clause-fault : goal.returns-in-Ok-clause-fault
-returns-in-Ok-clause-fault g c = faulty (records_of (layout_with c.args.options)) (g.R.Source.remaining c.args.records.now) c.in-Ok.map c.audit_map-answer.result c.in-Ok.ensures.map c.audit_map-answer.ensures.fault
+returns-in-Ok-clause-fault g c = faulty (records_of (layout_with c.args.options)) (g.R.Source.remaining c.args.records.now) c.in-Ok.map c.audit_map.result c.in-Ok.ensures.map c.audit_map.ensures.fault
 
 pub returns-in-Ok-clause-exactly : goal.returns-in-Ok-clause-exactly
-returns-in-Ok-clause-exactly g c = of_map (records_of (layout_with c.args.options)) (g.R.Source.remaining c.args.records.now) c.in-Ok.map c.audit_map-answer.result c.in-Ok.ensures.map c.audit_map-answer.ensures.exactly
+returns-in-Ok-clause-exactly g c = of_map (records_of (layout_with c.args.options)) (g.R.Source.remaining c.args.records.now) c.in-Ok.map c.audit_map.result c.in-Ok.ensures.map c.audit_map.ensures.exactly
 
 pub returns-in-Ok-clause-failures : goal.returns-in-Ok-clause-failures
-returns-in-Ok-clause-failures g c = tells_none _ _ c.audit_map-answer.result c.audit_map-answer.ensures.stops c.in-Ok.ensures.failures
+returns-in-Ok-clause-failures g c = tells_none _ _ c.audit_map.result c.audit_map.ensures.stops c.in-Ok.ensures.failures
 
 pub returns-in-Err-clause-planar : goal.returns-in-Err-clause-planar
 returns-in-Err-clause-planar g c = rw c.refused.ensures (refused_sound c.in-Err.stop _)

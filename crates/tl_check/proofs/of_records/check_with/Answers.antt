@@ -16,49 +16,49 @@ use Rattle.tl_check.proofs.Meeting.{refused_meets}
 use Rattle.tl_check.proofs.of_records.check_with.Goals as goal
 
 pub returns-in-Ok-clause-planar : goal.returns-in-Ok-clause-planar
-returns-in-Ok-clause-planar g c = on_sound (λ t. records_of (layout_with c.args.options) t) (g.R.Source.remaining c.args.records.now) c.in-Ok.map c.in-Ok.ensures.map (λ m. IsPlanar m.chains) c.check_cert-answer.result c.check_cert-answer.ensures.planar
+returns-in-Ok-clause-planar g c = on_sound (λ t. records_of (layout_with c.args.options) t) (g.R.Source.remaining c.args.records.now) c.in-Ok.map c.in-Ok.ensures.map (λ m. IsPlanar m.chains) c.check_cert.result c.check_cert.ensures.planar
 
 pub returns-in-Ok-clause-sides : goal.returns-in-Ok-clause-sides
-returns-in-Ok-clause-sides g c = on_sound (λ t. records_of (layout_with c.args.options) t) (g.R.Source.remaining c.args.records.now) c.in-Ok.map c.in-Ok.ensures.map (λ m. SidesAgree m.chains) c.check_cert-answer.result c.check_cert-answer.ensures.sides
+returns-in-Ok-clause-sides g c = on_sound (λ t. records_of (layout_with c.args.options) t) (g.R.Source.remaining c.args.records.now) c.in-Ok.map c.in-Ok.ensures.map (λ m. SidesAgree m.chains) c.check_cert.result c.check_cert.ensures.sides
 
 pub returns-in-Ok-clause-closed : goal.returns-in-Ok-clause-closed
-returns-in-Ok-clause-closed g c = on_sound (λ t. records_of (layout_with c.args.options) t) (g.R.Source.remaining c.args.records.now) c.in-Ok.map c.in-Ok.ensures.map AreClosed c.check_cert-answer.result c.check_cert-answer.ensures.closed
+returns-in-Ok-clause-closed g c = on_sound (λ t. records_of (layout_with c.args.options) t) (g.R.Source.remaining c.args.records.now) c.in-Ok.map c.in-Ok.ensures.map AreClosed c.check_cert.result c.check_cert.ensures.closed
 
 pub returns-in-Ok-clause-points : goal.returns-in-Ok-clause-points
-returns-in-Ok-clause-points g c = on_sound (λ t. records_of (layout_with c.args.options) t) (g.R.Source.remaining c.args.records.now) c.in-Ok.map c.in-Ok.ensures.map ArePlaced c.check_cert-answer.result c.check_cert-answer.ensures.points
+returns-in-Ok-clause-points g c = on_sound (λ t. records_of (layout_with c.args.options) t) (g.R.Source.remaining c.args.records.now) c.in-Ok.map c.in-Ok.ensures.map ArePlaced c.check_cert.result c.check_cert.ensures.points
 
 pub returns-in-Ok-clause-cells : goal.returns-in-Ok-clause-cells
-returns-in-Ok-clause-cells g c = on_sound (λ t. records_of (layout_with c.args.options) t) (g.R.Source.remaining c.args.records.now) c.in-Ok.map c.in-Ok.ensures.map (λ m. CellsAgree m.chains) c.check_cert-answer.result c.check_cert-answer.ensures.cells
+returns-in-Ok-clause-cells g c = on_sound (λ t. records_of (layout_with c.args.options) t) (g.R.Source.remaining c.args.records.now) c.in-Ok.map c.in-Ok.ensures.map (λ m. CellsAgree m.chains) c.check_cert.result c.check_cert.ensures.cells
 
 pub returns-in-Ok-clause-valid : goal.returns-in-Ok-clause-valid
-returns-in-Ok-clause-valid g c = on_sound_text (λ t. records_of (layout_with c.args.options) t) (g.R.Source.remaining c.args.records.now) c.in-Ok.map c.in-Ok.ensures.map (g.S.Source.remaining c.args.cert.now) IsValidText c.check_cert-answer.result c.check_cert-answer.ensures.valid
+returns-in-Ok-clause-valid g c = on_sound_text (λ t. records_of (layout_with c.args.options) t) (g.R.Source.remaining c.args.records.now) c.in-Ok.map c.in-Ok.ensures.map (g.S.Source.remaining c.args.cert.now) IsValidText c.check_cert.result c.check_cert.ensures.valid
 
 pub returns-in-Ok-clause-within : goal.returns-in-Ok-clause-within
-returns-in-Ok-clause-within g c = on_sound (λ t. records_of (layout_with c.args.options) t) (g.R.Source.remaining c.args.records.now) c.in-Ok.map c.in-Ok.ensures.map (λ m. meeting_segments m.chains ≤ c.args.budget) c.check_cert-answer.result c.check_cert-answer.ensures.within
+returns-in-Ok-clause-within g c = on_sound (λ t. records_of (layout_with c.args.options) t) (g.R.Source.remaining c.args.records.now) c.in-Ok.map c.in-Ok.ensures.map (λ m. meeting_segments m.chains ≤ c.args.budget) c.check_cert.result c.check_cert.ensures.within
 
 pub returns-in-Ok-clause-report : goal.returns-in-Ok-clause-report
-returns-in-Ok-clause-report g c = if_sound (λ t. records_of (layout_with c.args.options) t) (g.R.Source.remaining c.args.records.now) c.in-Ok.map c.in-Ok.ensures.map IsReport c.check_cert-answer.result c.check_cert-answer.ensures.report
+returns-in-Ok-clause-report g c = if_sound (λ t. records_of (layout_with c.args.options) t) (g.R.Source.remaining c.args.records.now) c.in-Ok.map c.in-Ok.ensures.map IsReport c.check_cert.result c.check_cert.ensures.report
 
 pub returns-in-Ok-clause-map_fault : goal.returns-in-Ok-clause-map_fault
-returns-in-Ok-clause-map_fault g c = map_fault (λ t. records_of (layout_with c.args.options) t) (g.R.Source.remaining c.args.records.now) c.in-Ok.map c.in-Ok.ensures.map c.check_cert-answer.result c.check_cert-answer.ensures.map_fault
+returns-in-Ok-clause-map_fault g c = map_fault (λ t. records_of (layout_with c.args.options) t) (g.R.Source.remaining c.args.records.now) c.in-Ok.map c.in-Ok.ensures.map c.check_cert.result c.check_cert.ensures.map_fault
 
 pub returns-in-Ok-clause-cert_fault : goal.returns-in-Ok-clause-cert_fault
-returns-in-Ok-clause-cert_fault g c = cert_fault (λ t. records_of (layout_with c.args.options) t) (g.R.Source.remaining c.args.records.now) c.in-Ok.map c.in-Ok.ensures.map (λ m fault. IfSome (g.S.Source.remaining c.args.cert.now) (λ spelt. IsTrueOfText m spelt fault)) c.check_cert-answer.result c.check_cert-answer.ensures.cert_fault
+returns-in-Ok-clause-cert_fault g c = cert_fault (λ t. records_of (layout_with c.args.options) t) (g.R.Source.remaining c.args.records.now) c.in-Ok.map c.in-Ok.ensures.map (λ m fault. IfSome (g.S.Source.remaining c.args.cert.now) (λ spelt. IsTrueOfText m spelt fault)) c.check_cert.result c.check_cert.ensures.cert_fault
 
 pub returns-in-Ok-clause-behind : goal.returns-in-Ok-clause-behind
-returns-in-Ok-clause-behind g c = behind (λ t. records_of (layout_with c.args.options) t) (g.R.Source.remaining c.args.records.now) c.in-Ok.map c.in-Ok.ensures.map c.check_cert-answer.result c.check_cert-answer.ensures.behind
+returns-in-Ok-clause-behind g c = behind (λ t. records_of (layout_with c.args.options) t) (g.R.Source.remaining c.args.records.now) c.in-Ok.map c.in-Ok.ensures.map c.check_cert.result c.check_cert.ensures.behind
 
 pub returns-in-Ok-clause-searched : goal.returns-in-Ok-clause-searched
-returns-in-Ok-clause-searched g c = searched (λ t. records_of (layout_with c.args.options) t) (g.R.Source.remaining c.args.records.now) c.in-Ok.map c.in-Ok.ensures.map (λ m. IfSome (g.S.Source.remaining c.args.cert.now) (TextAllowsSearch m)) c.check_cert-answer.result c.check_cert-answer.ensures.searched
+returns-in-Ok-clause-searched g c = searched (λ t. records_of (layout_with c.args.options) t) (g.R.Source.remaining c.args.records.now) c.in-Ok.map c.in-Ok.ensures.map (λ m. IfSome (g.S.Source.remaining c.args.cert.now) (TextAllowsSearch m)) c.check_cert.result c.check_cert.ensures.searched
 
 pub returns-in-Ok-clause-stops : goal.returns-in-Ok-clause-stops
-returns-in-Ok-clause-stops g c = stops (λ t. records_of (layout_with c.args.options) t) (g.R.Source.remaining c.args.records.now) c.in-Ok.map c.in-Ok.ensures.map c.args.budget c.check_cert-answer.result c.check_cert-answer.ensures.stops
+returns-in-Ok-clause-stops g c = stops (λ t. records_of (layout_with c.args.options) t) (g.R.Source.remaining c.args.records.now) c.in-Ok.map c.in-Ok.ensures.map c.args.budget c.check_cert.result c.check_cert.ensures.stops
 
 pub returns-in-Ok-clause-unread : goal.returns-in-Ok-clause-unread
-returns-in-Ok-clause-unread g c = unread c.in-Ok.map c.args.budget _ c.check_cert-answer.result c.check_cert-answer.ensures.map_fault c.check_cert-answer.ensures.stops
+returns-in-Ok-clause-unread g c = unread c.in-Ok.map c.args.budget _ c.check_cert.result c.check_cert.ensures.map_fault c.check_cert.ensures.stops
 
 pub returns-in-Ok-clause-failures : goal.returns-in-Ok-clause-failures
-returns-in-Ok-clause-failures g c = tells_either _ _ _ _ c.check_cert-answer.result c.in-Ok.ensures.failures c.check_cert-answer.ensures.failures
+returns-in-Ok-clause-failures g c = tells_either _ _ _ _ c.check_cert.result c.in-Ok.ensures.failures c.check_cert.ensures.failures
 
 pub returns-in-Err-clause-planar : goal.returns-in-Err-clause-planar
 returns-in-Err-clause-planar g c = rw c.refused.ensures (refused_sound c.in-Err.stop _)
@@ -106,7 +106,7 @@ pub returns-in-Err-clause-failures : goal.returns-in-Err-clause-failures
 returns-in-Err-clause-failures g c = rw c.refused.ensures (refused_tells Map _ _ _ c.in-Err.stop c.in-Err.ensures.failures)
 
 pub returns-in-Ok-clause-meets : goal.returns-in-Ok-clause-meets
-returns-in-Ok-clause-meets g c = meets (λ t. records_of (layout_with c.args.options) t) (g.R.Source.remaining c.args.records.now) c.in-Ok.map c.in-Ok.ensures.map (λ m. IfSome (g.S.Source.remaining c.args.cert.now) (λ spelt. TextAllowsSearch m spelt → IsPlanar m.chains)) c.check_cert-answer.result c.check_cert-answer.ensures.meets
+returns-in-Ok-clause-meets g c = meets (λ t. records_of (layout_with c.args.options) t) (g.R.Source.remaining c.args.records.now) c.in-Ok.map c.in-Ok.ensures.map (λ m. IfSome (g.S.Source.remaining c.args.cert.now) (λ spelt. TextAllowsSearch m spelt → IsPlanar m.chains)) c.check_cert.result c.check_cert.ensures.meets
 
 pub returns-in-Err-clause-meets : goal.returns-in-Err-clause-meets
 returns-in-Err-clause-meets g c = rw c.refused.ensures (refused_meets c.in-Err.stop _)

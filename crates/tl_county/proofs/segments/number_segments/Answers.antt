@@ -1,15 +1,34 @@
 use Rattle.std.proofs.lemmas.Result.{err_from_is_err_and}
-use Rattle.tl_county.proofs.NumberLemmas.{number_none}
+use Rattle.std.proofs.Common.{◌≡◌, ◌-◌, ◌<◌, ◌≤◌, take, List, [], ◌+◌, length, ap, sym, refl, subst, arith}
+use Rattle.std.proofs.lemmas.List.Sums.{sum_by-take-le}
+use Rattle.tl_county.specs.Chains.{CompleteChain, segment_count}
+use Rattle.tl_county.specs.Keeping.Numbered.{NumberUpTo}
+use Rattle.tl_county.proofs.NumberLemmas.{number_none, number_more, points_told, several_told}
 use Rattle.tl_county.proofs.segments.number_segments.Goals as goal
 
-pub number_each-requires-clause-proper : goal.number_each-requires-clause-proper
-number_each-requires-clause-proper c = c.requires
+pub overflow_sub-count : goal.overflow_sub-count
+overflow_sub-count c =
+    let h = several_told c.args.chains.now.chains c.loop-c.c c.points.result.now (omega (arith, c.loop-c-test.true, c.len-c-end.ensures)) c.points.ensures c.requires in
+    omega (arith, h)
 
-pub number_each-requires-clause-none : goal.number_each-requires-clause-none
-number_each-requires-clause-none c = number_none c.args.chains.now.chains _ _ c.in_ok-of.ensures.items c.in_ok-firsts.ensures.items
+pub loop-c-preserved : goal.loop-c-preserved
+loop-c-preserved c =
+    let d : CompleteChain = record { tlid = 0; points = [] } in
+    let cs = c.args.chains.now.chains in
+    let lt : c.loop-c.c < length cs = omega (arith, c.loop-c-test.true, c.len-c-end.ensures) in
+    let points = points_told cs c.loop-c.c c.points.result.now lt c.points.ensures d in
+    let old = c.loop-c.of.ok.0 in
+    let long : length c.resize.new.self.items ≡ length c.loop-c.of.items + (length c.points.result.now - 1) = omega (arith, c.in_ok-resize.ensures.len, c.resize.new.self.ok.0, c.len-in-loop-c-2.ensures, c.loop-c.of.ok.0) in
+    rw c.in_ok-push.ensures.items
+    (number_more cs c.loop-c.c d c.loop-c.of.items c.resize.new.self.items c.loop-c.firsts.items (length c.points.result.now - 1) c.len-in-loop-c.result lt (omega (arith, c.len-in-loop-c.ensures, old)) (ap (λ (ps : List _). length ps - 1) (sym points)) long
+    (λ k e low. c.in_ok-resize.ensures.by_index.0 k e (omega (arith, low, c.len-in-loop-c-2.ensures, old)) (omega (arith, low, old)))
+    (λ k e low high. c.in_ok-resize.ensures.by_index.1 k e refl (omega (arith, low, old)) (omega (arith, high, long, c.len-in-loop-c-2.ensures, old)))
+    c.loop-c.invariant)
 
 pub returns : goal.returns
-returns c = c.in_ok-number_each.ensures
+returns c =
+    let whole : c.loop-c.c ≡ length c.args.chains.now.chains = omega (arith, c.loop-c-test.false, c.len-c-end.ensures, c.loop-c.auto.c-end) in
+    subst (λ n. NumberUpTo c.args.chains.now.chains n c.loop-c.of.items c.loop-c.firsts.items) whole c.loop-c.invariant
 
 pub returns-in_err-of : goal.returns-in_err-of
 returns-in_err-of c =
@@ -21,7 +40,21 @@ returns-in_err-firsts c =
     let p = err_from_is_err_and c.from_residual-in_err-firsts.result c.from_residual-in_err-firsts.ensures.1 in
     rw p.1 tt
 
-pub returns-in_err-number_each : goal.returns-in_err-number_each
-returns-in_err-number_each c =
-    let p = err_from_is_err_and c.from_residual-in_err-number_each.result c.from_residual-in_err-number_each.ensures.1 in
+pub returns-in_err-push : goal.returns-in_err-push
+returns-in_err-push c =
+    let p = err_from_is_err_and c.from_residual-in_err-push.result c.from_residual-in_err-push.ensures.1 in
     rw p.1 tt
+
+pub returns-in_err-resize : goal.returns-in_err-resize
+returns-in_err-resize c =
+    let p = err_from_is_err_and c.from_residual-in_err-resize.result c.from_residual-in_err-resize.ensures.1 in
+    rw p.1 tt
+
+pub loop-c-init : goal.loop-c-init
+loop-c-init c = number_none c.args.chains.now.chains _ _ c.in_ok-of.ensures.items c.in_ok-firsts.ensures.items
+
+pub overflow_cast-len-in-loop-c : goal.overflow_cast-len-in-loop-c
+overflow_cast-len-in-loop-c c =
+    let cs = c.args.chains.now.chains in
+    let before : segment_count (take c.loop-c.c cs) ≤ segment_count cs = sum_by-take-le (λ (x : CompleteChain). length x.points - 1) cs c.loop-c.c in
+    omega (arith, before, c.segments-total.ensures.count, c.segments-total.ensures.few, c.loop-c.invariant.count, c.len-in-loop-c.ensures, c.loop-c.of.ok.0)

@@ -10,23 +10,23 @@ use Rattle.tl_map.proofs.build.build_chains.Goals as goal
 pub returns-in-Some-clause-built : goal.returns-in-Some-clause-built
 returns-in-Some-clause-built c = λ rs h.
     let chains = c.in_ok-sort_chains.ensures.same rs (h.chains c.if-collected.false) in
-    let shapes = c.in_ok-sort_shapes.ensures.same rs c.args.collected.now.pool.items h.shapes in
-    c.in-Some.ensures.found rs c.args.collected.now.pool.items (rw c.deref.ensures.value chains) (rw c.deref-2.ensures.value shapes)
+    let shapes = c.in_ok-sort_shapes.ensures.same rs c.args.collected.pool.items h.shapes in
+    c.in-Some.ensures.found rs c.args.collected.pool.items (rw c.deref.ensures.value chains) (rw c.deref-2.ensures.value shapes)
 
 pub join-requires-clause-rising : goal.join-requires-clause-rising
 join-requires-clause-rising c =
     let rs = c.requires.0 in
     let h = c.requires.1 in
     let chains = c.in_ok-sort_chains.ensures.same rs (h.chains c.if-collected.false) in
-    let shapes = c.in_ok-sort_shapes.ensures.same rs c.args.collected.now.pool.items h.shapes in
-    let sound : AreSound rs c.sort_chains.new.chains.items c.sort_shapes.new.shapes.items = rw (c.deref.ensures.value, c.deref-2.ensures.value) at (c.in_default.ensures.found rs c.args.collected.now.pool.items (rw c.deref.ensures.value chains) (rw c.deref-2.ensures.value shapes)) in
+    let shapes = c.in_ok-sort_shapes.ensures.same rs c.args.collected.pool.items h.shapes in
+    let sound : AreSound rs c.sort_chains.new.chains.items c.sort_shapes.new.shapes.items = rw (c.deref.ensures.value, c.deref-2.ensures.value) at (c.in_default.ensures.found rs c.args.collected.pool.items (rw c.deref.ensures.value chains) (rw c.deref-2.ensures.value shapes)) in
     rw c.deref-3.ensures.value sound.rising
 
 pub join-requires-clause-inside : goal.join-requires-clause-inside
 join-requires-clause-inside c =
     let rs = c.requires.0 in
     let h = c.requires.1 in
-    let pool = c.args.collected.now.pool.items in
+    let pool = c.args.collected.pool.items in
     let shapes = c.in_ok-sort_shapes.ensures.same rs pool h.shapes in
     rw (c.deref-4.ensures.value, c.deref-5.ensures.value) (All-weaker (IsShapeEntry rs pool) (IsInside pool) (λ s entry. entry.inside) c.sort_shapes.new.shapes.items shapes.each)
 
@@ -35,13 +35,13 @@ join-requires-clause-known c =
     let rs = c.requires.0 in
     let h = c.requires.1 in
     let chains = c.in_ok-sort_chains.ensures.same rs (h.chains c.if-collected.false) in
-    let shapes = c.in_ok-sort_shapes.ensures.same rs c.args.collected.now.pool.items h.shapes in
-    let sound : AreSound rs c.sort_chains.new.chains.items c.sort_shapes.new.shapes.items = rw (c.deref.ensures.value, c.deref-2.ensures.value) at (c.in_default.ensures.found rs c.args.collected.now.pool.items (rw c.deref.ensures.value chains) (rw c.deref-2.ensures.value shapes)) in
+    let shapes = c.in_ok-sort_shapes.ensures.same rs c.args.collected.pool.items h.shapes in
+    let sound : AreSound rs c.sort_chains.new.chains.items c.sort_shapes.new.shapes.items = rw (c.deref.ensures.value, c.deref-2.ensures.value) at (c.in_default.ensures.found rs c.args.collected.pool.items (rw c.deref.ensures.value chains) (rw c.deref-2.ensures.value shapes)) in
     rw (c.deref-3.ensures.value, c.deref-4.ensures.value) sound.known
 
 pub returns-clause-built : goal.returns-clause-built
 returns-clause-built c = λ rs h.
-    let pool = c.args.collected.now.pool.items in
+    let pool = c.args.collected.pool.items in
     let chains = c.in_ok-sort_chains.ensures.same rs (h.chains c.if-collected.false) in
     let shapes = c.in_ok-sort_shapes.ensures.same rs pool h.shapes in
     let sound : AreSound rs c.sort_chains.new.chains.items c.sort_shapes.new.shapes.items = rw (c.deref.ensures.value, c.deref-2.ensures.value) at (c.in_default.ensures.found rs pool (rw c.deref.ensures.value chains) (rw c.deref-2.ensures.value shapes)) in

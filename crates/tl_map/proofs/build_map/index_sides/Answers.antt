@@ -5,24 +5,26 @@ use Rattle.tl_map.proofs.IndexLemmas.{index_keys, few_entries}
 use Rattle.tl_map.proofs.build_map.index_sides.Goals as goal
 
 pub resolve_sides-requires : goal.resolve_sides-requires
-resolve_sides-requires c = omega (arith, few_entries c.args.polygons.items c.in_ok-index.index c.in_ok-index.ensures.entries, c.requires)
+resolve_sides-requires c = omega (arith, few_entries c.args.polygons.items c.in_ok-index.index (rw c.deref.ensures.value at c.in_ok-index.ensures.entries), c.requires)
 
-pub returns-in-Ok : goal.returns-in-Ok
-returns-in-Ok c =
-    let entries = c.in_ok-index.ensures.entries in
+pub returns : goal.returns
+returns c =
+    let entries = rw c.deref.ensures.value at c.in_ok-index.ensures.entries in
     let index = index_keys c.args.polygons.items c.in_ok-index.index entries c.in_ok-index.ensures.unique in
     record {
       entries = entries;
       unique = c.in_ok-index.ensures.unique;
-      resolved = c.in-Ok.ensures.sides (keys c.args.polygons.items) index;
-      known = c.in-Ok.ensures.known (keys c.args.polygons.items) index;
+      resolved = c.in_ok-sides.ensures.sides (keys c.args.polygons.items) index;
+      known = c.in_ok-sides.ensures.known (keys c.args.polygons.items) index;
     }
 
 pub returns-in_err-index : goal.returns-in_err-index
 returns-in_err-index c =
     let p = err_from_is_err_and c.from_residual.result c.from_residual.ensures.1 in
-    rw (p.1, p.2) (inl c.in_err-index.ensures.stops)
+    rw (p.1, p.2) (inl (rw c.deref.ensures.value at c.in_err-index.ensures.stops))
 
-pub returns : goal.returns
-returns c =
-    inr (c.in-Err.ensures.stops (keys c.args.polygons.items) (index_keys c.args.polygons.items c.in_ok-index.index c.in_ok-index.ensures.entries c.in_ok-index.ensures.unique))
+pub returns-in_err-sides : goal.returns-in_err-sides
+returns-in_err-sides c =
+    let entries = rw c.deref.ensures.value at c.in_ok-index.ensures.entries in
+    let p = err_from_is_err_and c.from_residual-in_err-sides.result c.from_residual-in_err-sides.ensures.1 in
+    rw (p.1, p.2) (inr (c.in_err-sides.ensures.stops (keys c.args.polygons.items) (index_keys c.args.polygons.items c.in_ok-index.index entries c.in_ok-index.ensures.unique)))

@@ -1,13 +1,16 @@
 use Rattle.std.proofs.lemmas.Result.{err_from_is_err_and}
+use Rattle.std.proofs.Common.{get_or}
 use Rattle.tl_drawn.specs.declared.entry.ShapeEntry.{ShapeEntry}
 use Rattle.tl_drawn.specs.declared.entry.Fill.TheVariants.{Full}
-use Rattle.tl_map.proofs.RowLemmas.{appended_run, appended_end}
+use Rattle.tl_map.proofs.RowLemmas.{appended_run, appended_end, cut_points}
 use Rattle.tl_map.proofs.join.append_chain.Goals as goal
 
 pub loop-shape-preserved : goal.loop-shape-preserved
 loop-shape-preserved c = λ rest.
     let d : ShapeEntry = record { tlid = 0; first = 0; rtsq = 0; used = 0; fill = Full } in
-    appended_run c.args.pool.now c.args.run.now c.loop-shape.shape-index d rest c.loop-shape.points.items c.append_shape.new.points.items _ c.loop-shape.last c.in_ok-last.last c.loop-shape-test.true c.in_ok-last.ensures (c.loop-shape.invariant rest)
+    let x : ShapeEntry = get_or c.args.run.now c.loop-shape.shape-index d in
+    appended_run c.args.pool.now c.args.run.now c.loop-shape.shape-index d rest c.loop-shape.points.items c.append_distinct.new.points.items _ _ c.loop-shape.last c.in_ok-last.last c.loop-shape-test.true
+    (cut_points x.first c.from.result x.used c.args.pool.now c.from.ensures) c.in_ok-last.ensures (c.loop-shape.invariant rest)
 
 pub returns : goal.returns
 returns c =

@@ -15,12 +15,14 @@ returns-in_err-points c =
 pub link_landmarks-requires : goal.link_landmarks-requires
 link_landmarks-requires c = record { polygons = c.requires.few; few = c.in_ok-points.ensures.ok.few; keys = c.requires.unique; lands = c.in_ok-points.ensures.ok.unique }
 
-pub returns-in-Err : goal.returns-in-Err
-returns-in-Err c = stops_linking (keys c.args.index.now) c.args.entries.now c.in_ok-points.points c.args.links.now c.in-Err.stop c.in_ok-points.ensures.ok c.in-Err.ensures
+pub returns-in_err-rows : goal.returns-in_err-rows
+returns-in_err-rows c =
+    let p = err_from_is_err_and c.from_residual-in_err-rows.result c.from_residual-in_err-rows.ensures.1 in
+    rw (p.1, p.2) (stops_linking (keys c.args.index.now) c.args.entries.now c.in_ok-points.points c.args.links.now c.in_err-rows.field-0.0 c.in_ok-points.ensures.ok c.in_err-rows.ensures)
 
-pub returns-in-Ok : goal.returns-in-Ok
-returns-in-Ok c =
+pub returns : goal.returns
+returns c =
     let f = c.in_ok-points.points in
     let lands = numbers_keys nat_eq nat_eq_equiv eqb-true f c.in_ok-points.ensures.ok.unique in
-    let linked = c.in-Ok.ensures in
+    let linked = c.in_ok-rows.ensures in
     linked_all (keys c.args.index.now) c.args.entries.now c.args.links.now linked.made linked.sorted _ c.in_ok-points.ensures.ok lands linked.all linked.by_landmark linked.listed

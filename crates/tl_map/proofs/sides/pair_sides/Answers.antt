@@ -6,10 +6,10 @@ use Rattle.tl_map.proofs.sides.pair_sides.Goals as goal
 
 pub returns-in-Some-unpaired : goal.returns-in-Some-unpaired
 returns-in-Some-unpaired c =
-    inr (inr (_, refl, unpaired_moved (tlids c.args.chains.now.chains) c.args.sides.now c.sort_by_tlid.new.self c.in-Some-unpaired.fault c.sort_by_tlid.ensures.moved c.in-Some-unpaired.ensures))
+    inr (inr (_, refl, unpaired_moved (tlids c.args.chains.now.chains) c.args.sides c.sort_by_tlid.new.self c.in-Some-unpaired.fault c.sort_by_tlid.ensures.moved c.in-Some-unpaired.ensures))
 
 pub returns-in-Some : goal.returns-in-Some
-returns-in-Some c = inr (inl (_, refl, twice_moved c.args.sides.now c.sort_by_tlid.new.self c.in-Some.tlid c.sort_by_tlid.ensures.moved c.in-Some.ensures))
+returns-in-Some c = inr (inl (_, refl, twice_moved c.args.sides c.sort_by_tlid.new.self c.in-Some.tlid c.sort_by_tlid.ensures.moved c.in-Some.ensures))
 
 pub returns : goal.returns
 returns c = record { same = c.in_default-unpaired.ensures; moved = c.sort_by_tlid.ensures.moved }

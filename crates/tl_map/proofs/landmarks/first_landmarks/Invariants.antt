@@ -1,7 +1,7 @@
 use Rattle.std.specs.Prelude.{nat_eq}
 use Rattle.indexmap.specs.IndexMap.{IsUnique}
 use Rattle.tl_map.proofs.LandmarkLemmas.{Listing}
-use Rattle.tl_map.proofs.landmarks.insert_firsts.Given as goal
+use Rattle.tl_map.proofs.landmarks.first_landmarks.Given as goal
 
 abbrev pub invariant-loop-entry : goal.invariant-loop-entry
 invariant-loop-entry l = record {

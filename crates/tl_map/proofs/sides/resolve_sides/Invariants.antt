@@ -3,7 +3,7 @@ use Rattle.tl_key.specs.declared.key.PolyKey.{PolyKey}
 use Rattle.tl_drawn.specs.declared.entry.SidesEntry.{SidesEntry}
 use Rattle.tl_map.specs.Keeping.Index.{Indexes}
 use Rattle.tl_map.specs.Keeping.Sided.{sided_by, NamesKnown}
-use Rattle.tl_map.proofs.sides.append_sides.Given as goal
+use Rattle.tl_map.proofs.sides.resolve_sides.Given as goal
 
 abbrev pub invariant-loop-place : goal.invariant-loop-place
 invariant-loop-place l = record {

@@ -1,8 +1,10 @@
 use Rattle.std.proofs.lemmas.Result.{err_from_is_err_and}
 use Rattle.std.proofs.Common.{◌∙◌, [], inl, refl}
 use Rattle.tl_record.specs.Reader.{standing_of, outcome}
+use Rattle.tl_map.specs.declared.areas.AreaRecords.{AreaRecords}
+use Rattle.tl_map.specs.declared.collect.Collected.{Collected}
 use Rattle.tl_map.proofs.GatherLemmas.{gathers_more, none_failed, so_far_first, known_whole, stop_told, failure_told}
-use Rattle.tl_map.proofs.read.add_all.Goals as goal
+use Rattle.tl_map.proofs.read.collect_all.Goals as goal
 
 pub records-preserved : goal.records-preserved
 records-preserved g c = record {
@@ -20,17 +22,17 @@ records-preserved g c = record {
 
 pub records-init : goal.records-init
 records-init g c = record {
-  so_far = record { records = []; kept = c.requires.none; areas = c.requires.no_areas; known = so_far_first (outcome g.R.Source.remaining c.args.reader.now) };
+  so_far = record { records = []; kept = c.new-collected.ensures; areas = c.new-areas.ensures; known = so_far_first (outcome g.R.Source.remaining c.args.reader.now) };
   failures = refl;
   same = refl;
-  standing = inl c.requires.reading;
+  standing = inl c.requires;
 }
 
 pub returns-in-Err : goal.returns-in-Err
 returns-in-Err g c = rw c.from.ensures (record {
   all = tt;
   stops = stop_told (outcome g.R.Source.remaining c.args.reader.now) (outcome g.R.Source.remaining c.records.reader) (outcome g.R.Source.remaining c.read_next.new.self) _ c.records.invariant.so_far.records c.in-Err.stop c.in-Err.ensures.gives c.records.invariant.so_far.known;
-  failures = failure_told (Unit {0}) (standing_of c.records.reader) c.records.reader c.read_next.new.self _ _ _ c.in-Err.stop c.records.invariant.standing c.in-Err.ensures.repeats c.in-Err.ensures.failures c.records.invariant.failures;
+  failures = failure_told (Collected × AreaRecords) (standing_of c.records.reader) c.records.reader c.read_next.new.self _ _ _ c.in-Err.stop c.records.invariant.standing c.in-Err.ensures.repeats c.in-Err.ensures.failures c.records.invariant.failures;
   same_reference = c.read_next.ensures.same_reference ∙ c.records.invariant.same;
 })
 

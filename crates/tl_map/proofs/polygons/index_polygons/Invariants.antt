@@ -2,7 +2,7 @@ use Rattle.std.proofs.Common.{◌≡◌, map, take}
 use Rattle.indexmap.specs.IndexMap.{IsUnique}
 use Rattle.tl_drawn.specs.MapOf.{same_key}
 use Rattle.tl_map.specs.Keeping.Index.{entry_of}
-use Rattle.tl_map.proofs.polygons.insert_polygons.Given as goal
+use Rattle.tl_map.proofs.polygons.index_polygons.Given as goal
 
 abbrev pub invariant-loop-polygon : goal.invariant-loop-polygon
 invariant-loop-polygon l = record {

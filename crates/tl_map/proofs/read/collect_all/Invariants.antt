@@ -3,7 +3,7 @@ use Rattle.tl_record.specs.declared.judge.TheConstants.{MAX_LINES}
 use Rattle.tl_record.specs.declared.reader.Standing.TheVariants.{Reading, Ended}
 use Rattle.tl_record.specs.Reader.{source_of, lines_of, skipped_of, standing_of, outcome}
 use Rattle.tl_map.specs.Keeping.Gathering.{GathersAllSoFar}
-use Rattle.tl_map.proofs.read.add_all.Given as goal
+use Rattle.tl_map.proofs.read.collect_all.Given as goal
 
 abbrev pub invariant-records : goal.invariant-records
 invariant-records g l = record {

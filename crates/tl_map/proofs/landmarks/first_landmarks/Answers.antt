@@ -5,11 +5,11 @@ use Rattle.indexmap.specs.IndexMap.{get}
 use Rattle.indexmap.proofs.CallerLemmas.{insert_entry-new}
 use Rattle.tl_map.proofs.IndexLemmas.{none_told}
 use Rattle.tl_map.proofs.LandmarkLemmas.{listing_none, listing_new, listing_old, too_many, listed}
-use Rattle.tl_map.proofs.landmarks.insert_firsts.Goals as goal
-use Rattle.tl_map.proofs.landmarks.insert_firsts.Goals.{then-not-contains_key+else-len+in_ok-insert, else-not-contains_key}
+use Rattle.tl_map.proofs.landmarks.first_landmarks.Goals as goal
+use Rattle.tl_map.proofs.landmarks.first_landmarks.Goals.{then-not-contains_key+else-len+in_ok-insert, else-not-contains_key}
 
 pub loop-entry-init : goal.loop-entry-init
-loop-entry-init c = record { listing = listing_none c.args.entries.now _ c.requires.none; unique = c.requires.unique }
+loop-entry-init c = record { listing = listing_none c.args.entries.now _ c.with_hasher-firsts.ensures.empty; unique = c.with_hasher-firsts.ensures.unique }
 
 pub returns-then-len-clause-stops : goal.returns-then-len-clause-stops
 returns-then-len-clause-stops c =
