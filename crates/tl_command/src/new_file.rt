@@ -1,6 +1,7 @@
 //! Certificates that are made over files: each takes its name when it is whole.
 
-ghost use Rattle.std.specs.Prelude.{◌≡◌, ◌≢◌, ◌<◌, ◌⊎◌, ℕ, vec_len, List, true, false, None, IfOk, IfErr, IfSome, IsSome, map, string_bytes};
+ghost use Rattle.std.specs.Prelude.{◌≡◌, ◌≢◌, ◌<◌, ◌⊎◌, ℕ, vec_len, List, true, false, None};
+ghost use Rattle.std.specs.Prelude.{IfOk, IfErr, IfSome, IsSome, map, string_bytes};
 ghost use Rattle.tl_record.specs.Layout.{layout_with};
 ghost use Rattle.tl_text.specs.Joining.{joined_bytes, failures_of};
 ghost use Rattle.tl_output.specs.Writing.{Writes, WritesSome, FailsToWrite};
