@@ -22,7 +22,7 @@ use tl_county::Map;
 use tl_crossings::look_at_chains;
 use tl_index::Memory;
 use tl_propose::{
-    find_misplaced_beside, find_misplaced_by, find_sides_at_odds, propose, propose_rings,
+    find_misplaced_beside, find_misplaced_by, find_sides_at_odds, propose, propose_walks,
 };
 use tl_verdict::{MapFault, report};
 
@@ -33,8 +33,8 @@ pub fn audit_planar(alloc: Global, map: &Map, placed: bool) -> Result<Audit, Aud
     ensures { Audits map.now result }
 {
     look_at_chains(map);
-    match propose_rings(alloc, map) {
-        Ok((_, walks)) => audit_walks(alloc, map, &walks, placed),
+    match propose_walks(alloc, map) {
+        Ok(walks) => audit_walks(alloc, map, &walks, placed),
         Err(_) => Err(AuditStop::Memory),
     }
 }

@@ -5,4 +5,3 @@ pub mod NumberLemmas
 pub mod SegmentLemmas
 pub mod NodeLemmas
 pub mod NumberingLemmas
-pub mod SettleLemmas

@@ -23,5 +23,5 @@ pub use landmarks::{LandmarkRow, LinkedLandmarks};
 pub use limits::{CHAIN_LIMIT, LANDMARK_LIMIT, POLYGON_LIMIT, SEGMENT_LIMIT};
 pub use map::{Chain, Landmark, Map};
 pub use polygons::Polygon;
-pub use presort::{Ranked, presort_by_rank, presort_together};
+pub use presort::{Ranked, presort_by_rank};
 pub use sides::{ChainSides, Side};

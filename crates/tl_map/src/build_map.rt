@@ -30,8 +30,8 @@ use tl_record::PolyKey;
 /// The chains of the records, and the type I record of each in their order.
 fn pair_chains(
     alloc: Global,
-    mut collected: Collected,
-    mut sides: KeptSides,
+    collected: Collected,
+    sides: KeptSides,
     skipped: u64,
 ) -> Result<(Chains, KeptSides), MapStop>
     // It has collected some records.
@@ -39,7 +39,6 @@ fn pair_chains(
     ensures { (rs : List Record) → Collects rs collected → sides ≡ sides_in rs →
         MatchResult result (λ made. ArePairedChains rs skipped made.0 made.1) (StopsBuilding rs) }
 {
-    collected.presort_with(alloc, &mut sides)?;
     let chains = build_chains(alloc, collected, skipped)?;
     let paired = pair_sides(alloc, &chains, sides)?;
     Ok((chains, paired))

@@ -8,7 +8,6 @@ ghost use Rattle.tl_drawn.specs.declared.entry.Fill.TheVariants.{Full, Ended, Ga
 ghost use Rattle.tl_drawn.specs.ChainsOf.{used};
 ghost use Rattle.tl_map.specs.Keeping.Entries.{fill_of, AreShapeEntries};
 
-use crate::kept::KeptSides;
 use std::alloc::{AllocError, Global};
 use tl_county::CHAIN_LIMIT;
 use tl_drawn::{ChainEntry, Fill, ShapeEntry};
@@ -29,7 +28,6 @@ pub struct Collected {
 impl Collected {
     ghost use Rattle.std.specs.Prelude.{◌∷◌, [], ◌++◌, List, OnOk};
     ghost use Rattle.tl_record.specs.declared.record.Record.{Record};
-    ghost use Rattle.std.specs.List.Sorted.{IsPermutation};
     ghost use Rattle.tl_map.specs.Keeping.Collected.{Collects};
 
     /// No record.
@@ -70,14 +68,6 @@ impl Collected {
             | Record::Landmark { .. }
             | Record::AreaLink { .. } => Ok(()),
         }
-    }
-
-    /// Presorts the chains by TLID, and type I records with them, where they stand in the chains' order.
-    pub fn presort_with(&mut self, alloc: Global, sides: &mut KeptSides) -> Result<(), AllocError>
-        ensures kept { (rs : List Record) → Collects rs self.old → Collects rs self.new }
-        ensures moved { IsPermutation sides.old sides.new }
-    {
-        sides.presort_with(alloc, &mut self.chains)
     }
 }
 

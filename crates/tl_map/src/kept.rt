@@ -10,8 +10,8 @@ ghost use Rattle.tl_map.specs.Keeping.Kept.{short_of, kept_in, IsRow};
 
 use std::alloc::{AllocError, Global};
 use std::marker::Model;
-use tl_county::{Ranked, presort_by_rank, presort_together};
-use tl_drawn::{ChainEntry, SidesEntry};
+use tl_county::{Ranked, presort_by_rank};
+use tl_drawn::SidesEntry;
 use tl_record::PolyKey;
 
 /// The first number that takes more than 32 bits.
@@ -114,18 +114,6 @@ impl KeptSides {
         } else {
             short_entry(row)
         }
-    }
-
-    /// Presorts chains by TLID, and the records with them, where they stand in the chains' order.
-    pub fn presort_with(
-        &mut self,
-        alloc: Global,
-        chains: &mut Vec<ChainEntry>,
-    ) -> Result<(), AllocError>
-        ensures moved { IsPermutation self.old self.new }
-        ensures chains { IsPermutation chains.old.items chains.new.items }
-    {
-        presort_together(alloc, chains, &mut self.rows)
     }
 
     /// Sorts the records by TLID, in place.

@@ -1,6 +1,6 @@
 -- Lists of darts that hold each number below n once.
 use Rattle.std.proofs.Common.{◌≡◌, ℕ, ◌^◌, ◌<◌, ◌≤◌, List, [], ◌∷◌, length, ap, ◌∙◌, length-append, Vec, Global, arith}
-use Rattle.std.specs.List.{All}
+use Rattle.std.specs.List.{All, concat}
 use Rattle.std.proofs.lemmas.List.{length-map}
 use Rattle.std.proofs.lemmas.List.Elements.{All-nil, All-cons, All-head, All-tail, All-map}
 use Rattle.tl_index.specs.Hits.{times}
@@ -11,9 +11,9 @@ use Rattle.tl_pack.proofs.Holding.{once_in, no_other_in}
 use Rattle.tl_propose.specs.Keeping.Lists.{lists_in}
 use Rattle.tl_propose.proofs.ListLemmas.{all_in}
 
--- lists that are a list of all numbers below n, cut
-pub cut_once : (n : ℕ) (lists : List (Vec ℕ Global)) (xs : List ℕ) → all_in lists ≡ xs → HoldsAll n xs → HoldOnce n (lists_in lists)
-cut_once n lists xs e h =
+-- lists that together are a list of all numbers below n
+pub held_once : (n : ℕ) (lists : List (List ℕ)) (xs : List ℕ) → concat lists ≡ xs → HoldsAll n xs → HoldOnce n lists
+held_once n lists xs e h =
     record {
       once = λ i l. ap (times i) e ∙ once_in n xs h i l;
       no_other = λ i l. ap (times i) e ∙ no_other_in n xs h i l;

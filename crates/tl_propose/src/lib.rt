@@ -10,5 +10,5 @@ mod sides;
 mod walks;
 
 pub use points::{find_misplaced_beside, find_misplaced_by};
-pub use proposal::{propose, propose_rings, propose_tree};
+pub use proposal::{propose, propose_tree, propose_walks};
 pub use sides::find_sides_at_odds;

@@ -1,6 +1,6 @@
 //! The certificate that is proposed for a map.
 
-ghost use Rattle.std.specs.Prelude.{◌*◌, ◌<◌, ◌≤◌, zero, length, All, IfOk};
+ghost use Rattle.std.specs.Prelude.{◌*◌, ◌≤◌, length, All, IfOk};
 ghost use Rattle.tl_index.specs.Preorder.{IsPreorder};
 ghost use Rattle.tl_index.specs.Trees.{depth, tree_of};
 ghost use Rattle.tl_pack.specs.Packed.{IsEvenlySplit};
@@ -13,8 +13,9 @@ ghost use Rattle.tl_cert.specs.Certificates.{AreDartLists, IsCounted, IsNode};
 ghost use Rattle.tl_verdict.specs.Valid.{AreCounts, IsTree};
 ghost use Rattle.tl_propose.specs.Keeping.Lists.{lists_in};
 ghost use Rattle.tl_propose.specs.Keeping.Proposed.{IsProposal};
+ghost use Rattle.tl_propose.specs.Keeping.Sorting.{AreStarts};
 
-use crate::rounds::{cut_rounds, sort_starts};
+use crate::rounds::{DartStart, cut_rounds, sort_starts};
 use crate::walks::{link_darts, trace_walks};
 use std::alloc::{AllocError, Global};
 use tl_cert::{Certificate, Counts};
@@ -64,7 +65,7 @@ pub fn propose_tree(alloc: Global, map: &Map) -> Result<Vec<TreeNode>, AllocErro
 }
 
 /// The rounds and the walks of a map.
-pub fn propose_rings(alloc: Global, map: &Map) -> Result<(Vec<Vec<u32>>, Vec<Vec<u32>>), AllocError>
+fn propose_rings(alloc: Global, map: &Map) -> Result<(Vec<Vec<u32>>, Vec<Vec<u32>>), AllocError>
     ensures rounds { IfOk result (λ made.
         HoldOnce (2 * length map.now.chains) (lists_in made.0.items)) }
     ensures walks { IfOk result (λ made.
@@ -76,34 +77,46 @@ pub fn propose_rings(alloc: Global, map: &Map) -> Result<(Vec<Vec<u32>>, Vec<Vec
     ensures rounds_counted { IfOk result (λ made. AreDartLists (lists_in made.0.items)) }
     ensures walks_counted { IfOk result (λ made. AreDartLists (lists_in made.1.items)) }
 {
-    let rounds = propose_rounds(alloc, map)?;
-    let walks = propose_walks(alloc, map, &rounds)?;
+    let starts = sort_starts(alloc, map)?;
+    let rounds = rounds_of(alloc, map, &starts)?;
+    let walks = walks_of(alloc, map, &starts)?;
     Ok((rounds, walks))
 }
 
-/// The rounds of a map.
-fn propose_rounds(alloc: Global, map: &Map) -> Result<Vec<Vec<u32>>, AllocError>
+/// The walks of a map.
+pub fn propose_walks(alloc: Global, map: &Map) -> Result<Vec<Vec<u32>>, AllocError>
+    ensures hold { IfOk result (λ walks. HoldOnce (2 * length map.now.chains) (lists_in walks.items)) }
+    ensures are_walks { IfOk result (λ walks. AreProper map.now.chains → IsPlanar map.now.chains →
+        AreWalks map.now.chains (lists_in walks.items)) }
+    ensures counted { IfOk result (λ walks. AreDartLists (lists_in walks.items)) }
+{
+    let starts = sort_starts(alloc, map)?;
+    walks_of(alloc, map, &starts)
+}
+
+/// The rounds of a map, by its sorted darts.
+fn rounds_of(alloc: Global, map: &Map, starts: &[DartStart]) -> Result<Vec<Vec<u32>>, AllocError>
+    requires { AreStarts map.now.chains starts.now }
     ensures hold { IfOk result (λ rounds. HoldOnce (2 * length map.now.chains) (lists_in rounds.items)) }
-    ensures some { IfOk result (λ rounds. All (λ r. zero < length r.items) rounds.items) }
     ensures are_rounds { IfOk result (λ rounds. AreProper map.now.chains → IsPlanar map.now.chains →
         AreRounds map.now.chains (lists_in rounds.items)) }
     ensures counted { IfOk result (λ rounds. AreDartLists (lists_in rounds.items)) }
 {
-    let starts = sort_starts(alloc, map)?;
-    let rounds = cut_rounds(alloc, map.nodes(), &starts)?;
+    let rounds = cut_rounds(alloc, map.nodes(), starts)?;
     Ok(rounds)
 }
 
-/// The walks of a map, by its rounds.
-fn propose_walks(alloc: Global, map: &Map, rounds: &[Vec<u32>]) -> Result<Vec<Vec<u32>>, AllocError>
-    requires hold { HoldOnce (2 * length map.now.chains) (lists_in rounds.now) }
-    requires some { All (λ r. zero < length r.items) rounds.now }
+/// The walks of a map, by its sorted darts.
+fn walks_of(alloc: Global, map: &Map, starts: &[DartStart]) -> Result<Vec<Vec<u32>>, AllocError>
+    requires { AreStarts map.now.chains starts.now }
     ensures hold { IfOk result (λ walks. HoldOnce (2 * length map.now.chains) (lists_in walks.items)) }
-    ensures are_walks { IfOk result (λ walks. AreProper map.now.chains → AreRounds map.now.chains (lists_in rounds.now) →
+    ensures are_walks { IfOk result (λ walks. AreProper map.now.chains → IsPlanar map.now.chains →
         AreWalks map.now.chains (lists_in walks.items)) }
     ensures counted { IfOk result (λ walks. AreDartLists (lists_in walks.items)) }
 {
-    let following = link_darts(alloc, map.darts(), rounds)?;
+    // that the nodes of a map are one list
+    let _nodes = map.nodes();
+    let following = link_darts(alloc, starts)?;
     let walks = trace_walks(alloc, &following)?;
     Ok(walks)
 }

@@ -1,51 +1,82 @@
 //! The rounds of a map: the darts of each node in the order of their headings.
 
 ghost use Rattle.std.specs.Prelude.{◌≡◌, ◌≢◌, ◌↔◌, [], ℕ, ◌*◌, ◌-◌, ◌^◌, ◌<◌, ◌≤◌, zero};
-ghost use Rattle.std.specs.Prelude.{length, map, All, IfOk, slice_index_or};
+ghost use Rattle.std.specs.Prelude.{length, map, All, IfOk, OnOk, slice_index_or};
 ghost use Rattle.std.specs.List.{concat};
 ghost use Rattle.std.specs.List.Sorted.{IsPermutation};
 ghost use Rattle.tl_propose.specs.declared.rounds.DartStart.{DartStart};
-ghost use Rattle.tl_pack.specs.Lists.{up, HoldsAll};
+ghost use Rattle.tl_pack.specs.Lists.{up};
 ghost use Rattle.tl_propose.specs.Keeping.Lists.{darts_in, lists_in, AreDartsBelow};
-ghost use Rattle.tl_propose.specs.Keeping.Sorting.{ComesBefore, AreSorted, AreCut, IsStartOf};
+ghost use Rattle.tl_propose.specs.Keeping.Sorting.{ComesBefore, AreSorted, AreStarts, AreCut, IsStartOf};
 
 use std::alloc::{AllocError, Global};
 use std::cmp::Ordering;
-use tl_county::Map;
+use tl_county::{Map, Ranked, presort_by_rank};
 use tl_geom::{Direction, round_cmp};
 
-/// A dart, with the number of the node where it starts and the direction in which it heads.
+/// The shares of a whole, by which headings within a quarter of a turn are told apart.
+const SHARES: u64 = 1 << 30;
+
+/// A dart, with the number of the node where it starts, the direction in which it heads, and about how far that is turned from
+/// east.
 #[derive(Clone, Copy)]
 pub struct DartStart {
     pub node: u32,
     pub dart: u32,
     pub heading: Direction,
+    pub turned: u32,
+}
+
+impl Ranked for DartStart {
+    /// By its node, and about one node by how far its heading is turned from east.
+    fn rank(&self) -> u64 {
+        u64::from(self.node) << 32 | u64::from(self.turned)
+    }
+}
+
+/// About how far a direction is turned from east, counter-clockwise: by quarters of a turn, and within each by the share that
+/// the step away from its beginning has in both steps.
+fn turned(heading: Direction) -> u32 {
+    let (x, y) = (heading.x.unsigned_abs(), heading.y.unsigned_abs());
+    let (quarter, away) = if heading.y > 0 {
+        if heading.x > 0 { (0, y) } else { (1, x) }
+    } else if heading.y < 0 {
+        if heading.x < 0 { (2, y) } else { (3, x) }
+    } else if heading.x > 0 {
+        (0, 0)
+    } else {
+        (2, 0)
+    };
+    quarter << 30 | share(away, x.saturating_add(y))
+}
+
+/// How many of the shares of a whole a part has, but never all.
+fn share(part: u64, whole: u64) -> u32 {
+    let shares = part.wrapping_mul(SHARES) / whole.max(1);
+    shares.min(SHARES - 1) as u32
 }
 
 /// The darts of a map, those of each node together and counter-clockwise from east.
 pub fn sort_starts(alloc: Global, map: &Map) -> Result<Vec<DartStart>, AllocError>
-    ensures all { IfOk result (λ starts. HoldsAll (2 * length map.now.chains) (darts_in starts.items)) }
-    ensures known { IfOk result (λ starts. AreDartsBelow (2 * length map.now.chains) starts.items) }
-    ensures long { IfOk result (λ starts. length starts.items ≡ 2 * length map.now.chains) }
-    ensures counted { IfOk result (λ starts. length starts.items < 2 ^ 32) }
-    ensures each { IfOk result (λ starts. All (IsStartOf map.now.chains) starts.items) }
-    ensures sorted { IfOk result (λ starts. AreSorted starts.items) }
+    ensures { IfOk result (λ starts. AreStarts map.now.chains starts.items) }
 {
     let mut starts = starts_of(alloc, map)?;
-    sort_about(&mut starts);
+    sort_about(alloc, &mut starts)?;
     Ok(starts)
 }
 
 /// Sorts darts by their nodes, and about one node by their headings.
-fn sort_about(starts: &mut Vec<DartStart>)
+fn sort_about(alloc: Global, starts: &mut Vec<DartStart>) -> Result<(), AllocError>
     ensures same { IsPermutation starts.old.items starts.new.items }
-    ensures sorted { AreSorted starts.new.items }
+    ensures sorted { OnOk result (AreSorted starts.new.items) }
 {
+    presort_by_rank(alloc, starts)?;
     starts.sort_unstable_by(
         |one: &DartStart, other: &DartStart| -> Ordering
             ensures { (result ≡ Ordering.Less) ↔ ComesBefore one.now other.now }
         { start_cmp(one, other) },
     );
+    Ok(())
 }
 
 /// The darts of a map by their numbers.
@@ -64,6 +95,7 @@ fn starts_of(alloc: Global, map: &Map) -> Result<Vec<DartStart>, AllocError>
             node,
             dart,
             heading,
+            turned: turned(heading),
         })?;
     }
     Ok(starts)
@@ -100,7 +132,7 @@ pub fn cut_rounds(
 }
 
 /// How many of some darts, the first and those behind it, start at its node.
-fn first_round(starts: &[DartStart]) -> usize
+pub fn first_round(starts: &[DartStart]) -> usize
     requires { zero < length starts.now }
     ensures some { zero < result }
     ensures within { result ≤ length starts.now }

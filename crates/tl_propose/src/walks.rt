@@ -6,58 +6,62 @@ ghost use Rattle.std.specs.List.{concat};
 ghost use Rattle.tl_county.specs.Darts.{reverse_dart};
 ghost use Rattle.tl_index.specs.Keeping.Marked.{mark_at};
 ghost use Rattle.tl_index.specs.Hits.{times};
-ghost use Rattle.tl_sides.specs.Lists.{HoldOnce, EachList};
+ghost use Rattle.tl_sides.specs.Lists.{HoldOnce};
 ghost use Rattle.tl_sides.specs.Keeping.Marked.{AddMarks};
-ghost use Rattle.tl_propose.specs.Keeping.Following.{IsOneToOne, IsLinkedIn, AreFollowed, GoesBy};
-ghost use Rattle.tl_propose.specs.Keeping.Lists.{AreUnmarked, lists_in};
+ghost use Rattle.tl_pack.specs.Lists.{HoldsAll};
+ghost use Rattle.tl_propose.specs.Keeping.Following.{IsOneToOne, IsLinkedBy, IsLinkedIn, AreFollowed, GoesBy};
+ghost use Rattle.tl_propose.specs.Keeping.Lists.{AreUnmarked, darts_in};
 
+use crate::rounds::{DartStart, first_round};
 use std::alloc::{AllocError, Global};
 
-/// Of each dart the one that follows it: about the node where the dart ends, the one before its reverse in the round.
-pub fn link_darts(alloc: Global, darts: u32, rounds: &[Vec<u32>]) -> Result<Vec<u32>, AllocError>
-    requires hold { HoldOnce darts (lists_in rounds.now) }
-    requires some { All (λ r. zero < length r.items) rounds.now }
-    requires paired { darts % 2 ≡ 0 }
-    ensures long { IfOk result (λ following. length following.items ≡ darts) }
-    ensures known { IfOk result (λ following. All (λ d. d < darts) following.items) }
-    ensures linked { IfOk result (λ following. EachList (IsLinkedIn following.items) (lists_in rounds.now)) }
+/// Of each dart the one that follows it: about the node where the dart ends, the one before its reverse in the round. The darts
+/// stand together by their nodes, and those of each are a round.
+pub fn link_darts(alloc: Global, starts: &[DartStart]) -> Result<Vec<u32>, AllocError>
+    requires all { HoldsAll (length starts.now) (darts_in starts.now) }
+    requires paired { length starts.now % 2 ≡ 0 }
+    ensures long { IfOk result (λ following. length following.items ≡ length starts.now) }
+    ensures known { IfOk result (λ following. All (λ d. d < length starts.now) following.items) }
+    ensures linked { IfOk result (λ following. IsLinkedBy starts.now following.items) }
 {
-    let mut following = vec![in alloc; 0u32; darts as usize]?;
-    link_rounds(&mut following, rounds);
+    let mut following = vec![in alloc; 0u32; starts.len()]?;
+    link_rounds(&mut following, starts);
     Ok(following)
 }
 
-/// Keeps of the reverse of each dart of the rounds the dart before it in its round.
-fn link_rounds(following: &mut [u32], rounds: &[Vec<u32>])
-    requires hold { HoldOnce (length following.old) (lists_in rounds.now) }
-    requires some { All (λ r. zero < length r.items) rounds.now }
+/// Keeps of the reverse of each dart the dart before it in its round.
+fn link_rounds(following: &mut [u32], starts: &[DartStart])
+    requires all { HoldsAll (length following.old) (darts_in starts.now) }
     requires paired { length following.old % 2 ≡ 0 }
     requires kept { All (λ d. d < length following.old) following.old }
     ensures long { length following.new ≡ length following.old }
     ensures kept { All (λ d. d < length following.old) following.new }
-    ensures linked { EachList (IsLinkedIn following.new) (lists_in rounds.now) }
+    ensures linked { IsLinkedBy starts.now following.new }
 {
-    for round in rounds {
+    let mut rest = starts;
+    while !rest.is_empty() {
+        let (round, behind) = rest.split_at(first_round(rest));
         link_round(following, round);
+        rest = behind;
     }
 }
 
 /// Keeps of the reverse of each dart of a round the dart before it, which is the last one before the first.
-fn link_round(following: &mut [u32], round: &[u32])
+fn link_round(following: &mut [u32], round: &[DartStart])
     requires some { zero < length round.now }
-    requires known { All (λ d. d < length following.old) round.now }
-    requires once { (d : ℕ) → times d round.now ≤ 1 }
+    requires known { All (λ d. d < length following.old) (darts_in round.now) }
+    requires once { (d : ℕ) → times d (darts_in round.now) ≤ 1 }
     requires paired { length following.old % 2 ≡ 0 }
     requires kept { All (λ d. d < length following.old) following.old }
     ensures long { length following.new ≡ length following.old }
     ensures kept { All (λ d. d < length following.old) following.new }
-    ensures linked { IsLinkedIn following.new round.now }
-    ensures others { (d : ℕ) → times (reverse_dart d) round.now ≡ 0 → slice_index following.new d ≡ slice_index following.old d }
+    ensures linked { IsLinkedIn following.new (darts_in round.now) }
+    ensures others { (d : ℕ) → times (reverse_dart d) (darts_in round.now) ≡ 0 → slice_index following.new d ≡ slice_index following.old d }
 {
-    let mut before = round[round.len() - 1];
-    for dart in round {
-        following[reverse(*dart) as usize] = before;
-        before = *dart;
+    let mut before = round[round.len() - 1].dart;
+    for start in round {
+        following[reverse(start.dart) as usize] = before;
+        before = start.dart;
     }
 }
 

@@ -19,6 +19,11 @@ pub still_ok : {A E : Type 0} (answered : Result A E) (P Q : Type 0) → (P → 
 still_ok (Ok answer) P Q f p = f p
 still_ok (Err error) P Q f p = tt
 
+-- the same of what holds of an answer
+pub ok_more : {A E : Type 0} (answered : Result A E) (P Q : A → Type 0) → ((answer : A) → P answer → Q answer) → IfOk answered P → IfOk answered Q
+ok_more (Ok answer) P Q f p = f answer p
+ok_more (Err error) P Q f p = tt
+
 pub says_placed : {E : Type 0} (map : TheMap) (answered : Result Swept E) → IfOk answered (IsTrueAnswer map) → IfOk answered (λ answer. answer ≡ Placed → IsPlanar map.chains × ArePlaced map)
 says_placed map (Ok answer) is = λ e. subst (IsTrueAnswer map) e is
 says_placed map (Err error) is = tt

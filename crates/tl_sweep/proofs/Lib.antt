@@ -1,4 +1,5 @@
 pub mod Tests
+pub mod Beside
 pub mod Lining
 pub mod Listing
 pub mod Ending

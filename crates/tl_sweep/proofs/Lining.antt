@@ -1,5 +1,5 @@
 -- Lists to which numbers are added, or which are joined, where each two neighbours are tested; and what a step moves.
-use Rattle.std.proofs.Common.{◌≡◌, ℕ, suc, ◌+◌, ◌-◌, Some, List, [], ◌∷◌, ◌++◌, length, take, drop, append_assoc, refl, sym, ap, subst, ◌∙◌, arith}
+use Rattle.std.proofs.Common.{◌≡◌, ℕ, suc, ◌+◌, ◌-◌, Some, List, [], ◌∷◌, ◌++◌, length, get_or, take, drop, append_assoc, refl, sym, ap, subst, ◌∙◌, arith}
 use Rattle.std.specs.Prelude.{slice_get}
 use Rattle.tl_index.specs.Hits.{times}
 use Rattle.tl_index.proofs.Times.{times-append}
@@ -33,6 +33,12 @@ first_off (x ∷ back) s e = ap (λ y. y ∷ back) (one_found x s (Some x) refl 
 pub one_off : (outs before back : List ℕ) (k s : ℕ) → before ≡ take k outs ++ back → slice_get back 0 ≡ Some s → take (k + 1) outs ≡ take k outs ++ s ∷ [] → before ≡ take (k + 1) outs ++ drop 1 back
 one_off outs before back k s is e more =
     is ∙ ap (λ b. take k outs ++ b) (first_off back s e) ∙ sym (append_assoc (take k outs) (s ∷ []) (drop 1 back)) ∙ ap (λ a. a ++ drop 1 back) (sym more)
+
+-- a list of one number
+pub single : (l : List ℕ) → length l ≡ 1 → l ≡ get_or l 0 0 ∷ []
+single [] one = absurd (omega (arith, one))
+single (x ∷ []) one = refl
+single (x ∷ (y ∷ l)) one = absurd (omega (arith, one))
 
 pub moved : (s : ℕ) (front outs ins back old new : List ℕ) → old ≡ front ++ (outs ++ back) → new ≡ (front ++ ins) ++ back → times s new + times s outs ≡ times s old + times s ins
 moved s front outs ins back old new e f =

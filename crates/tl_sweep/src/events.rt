@@ -1,5 +1,5 @@
 //! The events of a sweep: the ends of all segments, by height.
-ghost use Rattle.std.specs.Prelude.{◌≡◌, ◌+◌, ◌*◌, ◌^◌, ◌<◌, ◌++◌, ◌∷◌, [], IfOk, length, slice_index_or};
+ghost use Rattle.std.specs.Prelude.{◌≡◌, ◌/◌, ◌%◌, ◌==◌, ◌^◌, ◌<◌, ◌++◌, ◌∷◌, [], true, false, IfOk, length, slice_index_or};
 ghost use Rattle.tl_geom.specs.declared.segment.Segment.{Segment};
 ghost use Rattle.tl_geom.specs.Plane.{end_a, end_b};
 ghost use Rattle.tl_county.specs.Segments.{segments_before};
@@ -10,11 +10,10 @@ ghost use Rattle.tl_sweep.specs.Keeping.Listed.{AreEvents, AreSegments};
 ghost use Rattle.tl_sweep.specs.Keeping.Spotted.{IsInRange, AreInRange};
 
 use crate::heights::{height, is_lower};
-use crate::sorting::sort_ends;
 use std::alloc::{AllocError, Global};
 use std::marker::Model;
-use tl_county::Map;
-use tl_geom::Segment;
+use tl_county::{Map, Ranked, presort_by_rank};
+use tl_geom::{Point, Segment};
 
 /// An end of a segment, by its height.
 #[derive(Clone, Copy)]
@@ -27,31 +26,38 @@ pub struct Event {
     pub first: bool,
 }
 
-/// An end of a segment, as it is kept: end 2s is the first of segment s on the way along its chain, and end 2s + 1 its last.
+/// An end of a segment, as it is kept.
 #[derive(Clone, Copy)]
 pub struct End {
-    pub latitude: i32,
+    pub point: Point,
+    /// Four times the segment's number, and 2 more where it begins there, and 1 more at its first end.
     pub number: u32,
+}
+
+impl Ranked for End {
+    /// Its height above the least that there is.
+    fn rank(&self) -> u64 {
+        height(self.point).abs_diff(i64::MIN)
+    }
 }
 
 /// The events of a map's segments.
 #[derive(Drop)]
-pub struct Events<'a> {
-    segments: &'a [Segment],
+pub struct Events {
     ends: Vec<End>,
 }
 
-impl<'a> Model for Events<'a> {
+impl Model for Events {
     ghost use Rattle.std.specs.Prelude.{List};
     ghost use Rattle.tl_sweep.specs.declared.events.Event.{Event};
     ghost use Rattle.tl_sweep.specs.Keeping.Ended.{events_in};
 
     ghost Value = { List Event };
 
-    ghost view = { λ events. events_in events.segments.now events.ends.items };
+    ghost view = { λ events. events_in events.ends.items };
 }
 
-impl<'a> Events<'a> {
+impl Events {
     ghost use Rattle.std.specs.Prelude.{◌≡◌, ◌<◌, IfOk, length, slice_index_or};
     ghost use Rattle.std.specs.List.Sorted.{IsPermutation};
     ghost use Rattle.tl_county.specs.Segments.{segments_before};
@@ -62,7 +68,7 @@ impl<'a> Events<'a> {
     ghost use Rattle.tl_sweep.specs.Keeping.Spotted.{AreInRange};
 
     /// The events of all segments of a map, by the segments' numbers.
-    pub fn new(alloc: Global, map: &Map, segments: &'a [Segment]) -> Result<Events<'a>, AllocError>
+    pub fn new(alloc: Global, map: &Map, segments: &[Segment]) -> Result<Events, AllocError>
         requires segments { AreSegments map.now.chains segments.now }
         requires all { length segments.now ≡ segments_before map.now.chains (length map.now.chains) }
         ensures events { IfOk result (λ events. AreEvents map.now.chains events) }
@@ -70,7 +76,7 @@ impl<'a> Events<'a> {
         ensures ranges { IfOk result (λ events. AreInRange map.now.chains) }
     {
         let ends = list_ends(alloc, map, segments)?;
-        Ok(Events { segments, ends })
+        Ok(Events { ends })
     }
 
     /// How many there are.
@@ -85,60 +91,51 @@ impl<'a> Events<'a> {
         requires { place < length self.now }
         ensures { (d : Event) → result ≡ slice_index_or self.now place d }
     {
-        event_of(self.segments, self.ends[place])
+        event_of(self.ends[place])
     }
 
-    /// Sorts them by height. The error is that memory was refused.
-    pub fn sort(&mut self, alloc: Global) -> Result<(), AllocError>
-        ensures { IfOk result (λ done. IsPermutation self.old self.new) }
+    /// The latitude of the event at a place, of which nothing is said.
+    pub fn latitude(&self, place: usize) -> i32
+        requires { place < length self.now }
     {
-        sort_ends(alloc, self.segments, &mut self.ends)
+        self.ends[place].point.y
+    }
+
+    /// Sorts them by height. Nothing rests on their order, which is tested. The error is that memory was refused.
+    pub fn sort(&mut self, alloc: Global) -> Result<(), AllocError>
+        ensures { IsPermutation self.old self.new }
+    {
+        presort_by_rank(alloc, &mut self.ends)
     }
 }
 
 /// The event at an end.
-fn event_of(segments: &[Segment], end: End) -> Event
-    ensures { result ≡ event_at segments.now end }
-{
-    let s = end.number / 2;
-    let first = end.number % 2 == 0;
-    match segments.get(s as usize) {
-        Some(segment) => event_in(*segment, s, first),
-        None => Event {
-            height: 0,
-            segment: s,
-            begins: false,
-            first,
-        },
-    }
-}
-
-/// The event at the first end of a segment, or at its last.
 #[inline]
-fn event_in(segment: Segment, s: u32, first: bool) -> Event
-    ensures { result ≡ event_by s first segment }
+fn event_of(end: End) -> Event
+    ensures { result ≡ event_at end }
 {
-    let rising = is_lower(segment.a(), segment.b());
-    if first {
-        Event {
-            height: height(segment.a()),
-            segment: s,
-            begins: rising,
-            first: true,
-        }
-    } else {
-        Event {
-            height: height(segment.b()),
-            segment: s,
-            begins: !rising,
-            first: false,
-        }
+    Event {
+        height: height(end.point),
+        segment: end.number / 4,
+        begins: end.number / 2 % 2 == 1,
+        first: end.number % 2 == 1,
     }
 }
 
-/// The height of an end, by which ends are sorted.
-pub fn end_height(segments: &[Segment], end: End) -> i64 {
-    event_of(segments, end).height
+/// The number of an end.
+#[inline]
+fn number_of(s: u32, begins: bool, first: bool) -> u32
+    requires { s < 2 ^ 30 }
+    ensures segment { result / 4 ≡ s }
+    ensures begins { (result / 2 % 2 == 1) ≡ begins }
+    ensures first { (result % 2 == 1) ≡ first }
+{
+    match (begins, first) {
+        (true, true) => 4 * s + 3,
+        (true, false) => 4 * s + 2,
+        (false, true) => 4 * s + 1,
+        (false, false) => 4 * s,
+    }
 }
 
 /// The segments of a map by their numbers, side by side.
@@ -157,20 +154,21 @@ pub fn list_segments(alloc: Global, map: &Map) -> Result<Vec<Segment>, AllocErro
 /// The two ends of a segment, in the order of its chain.
 fn ends_of(segments: &[Segment], s: u32) -> (End, End)
     requires known { s < length segments.now }
-    requires few { s < 2 ^ 31 }
+    requires few { s < 2 ^ 30 }
     ensures ranges { (d : Segment) → IsInRange (end_a (slice_index_or segments.now s d)) × IsInRange (end_b (slice_index_or segments.now s d)) }
-    ensures one { result.0.number ≡ 2 * s }
-    ensures other { result.1.number ≡ 2 * s + 1 }
+    ensures one { (d : Segment) → event_at result.0 ≡ event_by s true (slice_index_or segments.now s d) }
+    ensures other { (d : Segment) → event_at result.1 ≡ event_by s false (slice_index_or segments.now s d) }
 {
     let segment = segments[s as usize];
+    let rises = is_lower(segment.a(), segment.b());
     (
         End {
-            latitude: segment.a().y,
-            number: 2 * s,
+            point: segment.a(),
+            number: number_of(s, rises, true),
         },
         End {
-            latitude: segment.b().y,
-            number: 2 * s + 1,
+            point: segment.b(),
+            number: number_of(s, !rises, false),
         },
     )
 }
@@ -179,7 +177,7 @@ fn ends_of(segments: &[Segment], s: u32) -> (End, End)
 fn list_ends(alloc: Global, map: &Map, segments: &[Segment]) -> Result<Vec<End>, AllocError>
     requires segments { AreSegments map.now.chains segments.now }
     requires all { length segments.now ≡ segments_before map.now.chains (length map.now.chains) }
-    ensures events { IfOk result (λ ends. AreEvents map.now.chains (events_in segments.now ends.items)) }
+    ensures events { IfOk result (λ ends. AreEvents map.now.chains (events_in ends.items)) }
     ensures wide { IfOk result (λ ends. IsWide widest map.now.chains) }
     ensures ranges { IfOk result (λ ends. AreInRange map.now.chains) }
 {

@@ -1,5 +1,5 @@
 //! How often facing sides differ along the list of active segments.
-ghost use Rattle.std.specs.Prelude.{◌≡◌, ◌+◌, ◌<◌, ℕ, Option, Some, List, IsTrue, length};
+ghost use Rattle.std.specs.Prelude.{◌≡◌, ◌+◌, ◌<◌, ◌∷◌, [], ℕ, Option, Some, List, IsTrue, length};
 ghost use Rattle.tl_county.specs.declared.sides.Side.{Side};
 ghost use Rattle.tl_county.specs.declared.sides.Side.TheVariants.{Outside};
 ghost use Rattle.tl_county.specs.Segments.{segments_before};
@@ -91,18 +91,15 @@ fn count_gaps(map: &Map, segments: &[Segment], west: Side, list: &[u32], east: S
     count.checked_add(gap(before, east))
 }
 
-/// Whether these segments are one each, with the same sides.
-pub fn are_alike(map: &Map, segments: &[Segment], outs: &[u32], ins: &[u32]) -> bool
+/// Whether two segments have the same sides.
+pub fn are_alike(map: &Map, segments: &[Segment], out: u32, s: u32) -> bool
     requires { AreSegments map.now.chains segments.now }
     ensures { IsTrue result → (west east : Side) →
-        gaps_between map.now.chains west outs.now east ≡ gaps_between map.now.chains west ins.now east }
+        gaps_between map.now.chains west (out ∷ []) east ≡ gaps_between map.now.chains west (s ∷ []) east }
 {
-    if outs.len() != 1 || ins.len() != 1 {
-        return false;
-    }
     match (
-        find_flanks(map, segments, outs[0]),
-        find_flanks(map, segments, ins[0]),
+        find_flanks(map, segments, out),
+        find_flanks(map, segments, s),
     ) {
         (Some(one), Some(other)) => one == other,
         (None, _) => false,

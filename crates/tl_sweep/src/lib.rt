@@ -8,7 +8,6 @@
 
 mod answer;
 mod blocks;
-mod dealing;
 mod events;
 mod facing;
 mod finding;
@@ -19,10 +18,8 @@ mod neighbours;
 mod passing;
 mod places;
 mod placing;
-mod sorting;
 mod spots;
 mod suspects;
 mod sweeping;
 
 pub use answer::{Swept, sweep};
-pub use dealing::{Dealt, deal};

@@ -98,11 +98,13 @@ impl Line {
         self.place
     }
 
-    /// The place of a number among these of the open block, if it is there.
-    pub fn find(&self, s: u32, from: usize, to: usize) -> Option<usize> {
-        for place in from..to.min(self.items.len()) {
-            if self.items[place] == s {
-                return Some(place);
+    /// The place of a number in the open block, if it is within so many places of the one where it is looked for first.
+    pub fn find(&self, s: u32, near: usize, reach: usize) -> Option<usize> {
+        for away in 0..reach {
+            for place in [near.saturating_sub(away), near.saturating_add(away)] {
+                if self.at(place) == Some(s) {
+                    return Some(place);
+                }
             }
         }
         None

@@ -7,7 +7,7 @@ ghost use Rattle.tl_sweep.specs.Keeping.Listed.{AreSegments};
 
 use crate::heights::{ends, is_lower};
 use tl_county::Map;
-use tl_geom::{Contact, Point, Segment, contact, turn};
+use tl_geom::{Contact, Point, Rect, Segment, contact, turn};
 
 /// Whether `p` of the line from `a` to `b` isn't east of the line from `c` to `e`, if `first`; else whether `q` of that line
 /// isn't west of the former.
@@ -56,6 +56,22 @@ fn is_clearly_west_of(u: Segment, w: Segment) -> bool
     is_parted(is_lower(c, a), a, b, a, c, e, c) && is_parted(is_lower(b, e), a, b, b, c, e, e)
 }
 
+/// Whether the rectangle about `u` is west of that about `w`, and both have a latitude in common, as those of most neighbours.
+#[inline]
+fn is_beside(u: Segment, w: Segment) -> bool
+    ensures west { IsTrue result → IsWestOf widest u w }
+    ensures apart { IsTrue result → AreApartOrAtEnds u w }
+{
+    // that the ends are within the range of an i32
+    let (_a, _b) = (u.a().x, u.b().x);
+    let (_c, _e) = (w.a().x, w.b().x);
+    let (west, east) = (Rect::of(u), Rect::of(w));
+    if west.xmax >= east.xmin || west.ymin > east.ymax {
+        return false;
+    }
+    east.ymin <= west.ymax
+}
+
 /// Whether two segments are apart or share an end of both alone.
 #[inline]
 fn are_free(u: Segment, w: Segment) -> bool
@@ -79,6 +95,9 @@ pub fn are_tested(map: &Map, segments: &[Segment], s: u32, t: u32) -> bool
     }
     let one = segments[s as usize];
     let other = segments[t as usize];
+    if is_beside(one, other) {
+        return true;
+    }
     if is_clearly_west_of(one, other) {
         return true;
     }

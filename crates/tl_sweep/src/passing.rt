@@ -3,6 +3,7 @@ ghost use Rattle.std.specs.Prelude.{◌≡◌, ◌+◌, ◌++◌, ◌∷◌, ℕ
 ghost use Rattle.tl_index.specs.Hits.{times};
 ghost use Rattle.tl_slabs.specs.Heights.{widest};
 ghost use Rattle.tl_slabs.specs.Neighbours.{AreTested, EachTwo};
+ghost use Rattle.tl_sweep.specs.Keeping.Bent.{IsBent};
 ghost use Rattle.tl_sweep.specs.Keeping.Facing.{IsCounted};
 ghost use Rattle.tl_sweep.specs.Keeping.Lined.{list_of};
 ghost use Rattle.tl_sweep.specs.Keeping.Listed.{AreSegments};
@@ -178,6 +179,24 @@ fn exchange(
     Ok(closes(map, segments, line))
 }
 
+/// Puts a segment in the stead of another at the place, if that stands there and both neighbours of the new one may be. So it is at
+/// a bend of a chain.
+fn bend(
+    map: &Map,
+    segments: &[Segment],
+    line: &mut Line,
+    out: u32,
+    s: u32,
+) -> Result<bool, AllocError>
+    requires { AreSegments map.now.chains segments.now }
+    ensures { IfOk result (λ done. IsTrue done → IsBent map.now.chains out s line.old line.new) }
+{
+    if !replace_one(map, segments, line, out, s)? {
+        return Ok(false);
+    }
+    Ok(closes(map, segments, line))
+}
+
 /// Goes to a place in the open block, and does so there. At a bend of a chain, the commonest vertex, one segment stands in the
 /// stead of another of the same sides.
 pub fn pass(
@@ -198,11 +217,8 @@ pub fn pass(
         IsCounted map.now.chains gaps.new (list_of line.new)) }
 {
     line.seek(place);
-    if are_alike(map, segments, outs, ins) {
-        if !shift(map, segments, line, outs, ins)? {
-            return Ok(false);
-        }
-        return Ok(closes(map, segments, line));
+    if outs.len() == 1 && ins.len() == 1 && are_alike(map, segments, outs[0], ins[0]) {
+        return bend(map, segments, line, outs[0], ins[0]);
     }
     exchange(map, segments, line, outs, ins, gaps)
 }

@@ -25,7 +25,7 @@ impl Places {
     pub fn find(&self, line: &Line, outs: &[u32]) -> Option<usize> {
         let s = outs.first().copied()?;
         let near = usize::from(self.places.get(s as usize).copied()?);
-        line.find(s, near.saturating_sub(REACH), near.saturating_add(REACH))
+        line.find(s, near, REACH)
     }
 
     /// Keeps the places of the segments that entered last.

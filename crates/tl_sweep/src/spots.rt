@@ -12,14 +12,22 @@ use crate::heights::height;
 use crate::line::Line;
 use crate::placing::is_placed;
 use std::alloc::{AllocError, Global};
-use tl_county::Map;
+use tl_county::{Map, Ranked, presort_by_rank};
 use tl_geom::Segment;
 
 /// The point of a polygon, by its height.
 #[derive(Clone, Copy)]
 struct Spot {
     height: i64,
+    latitude: i32,
     polygon: u32,
+}
+
+impl Ranked for Spot {
+    /// Its height above the least that there is.
+    fn rank(&self) -> u64 {
+        self.height.abs_diff(i64::MIN)
+    }
 }
 
 /// The points of polygons from the lowest to the highest, and the polygons whose points were found to be placed.
@@ -37,7 +45,7 @@ impl Spots {
     {
         let marks = vec![in alloc; false; map.polygons() as usize]?;
         let mut spots = list_spots(alloc, map)?;
-        spots.sort_unstable_by_key(|spot| spot.height);
+        presort_by_rank(alloc, &mut spots)?;
         Ok(Spots {
             spots,
             next: 0,
@@ -88,8 +96,10 @@ impl Spots {
 fn list_spots(alloc: Global, map: &Map) -> Result<Vec<Spot>, AllocError> {
     let mut spots = Vec::with_capacity(alloc, map.polygons() as usize)?;
     for polygon in 0..map.polygons() {
+        let point = map.polygon(polygon).point;
         spots.push(Spot {
-            height: height(map.polygon(polygon).point),
+            height: height(point),
+            latitude: point.y,
             polygon,
         })?;
     }
@@ -98,7 +108,9 @@ fn list_spots(alloc: Global, map: &Map) -> Result<Vec<Spot>, AllocError> {
 
 /// Whether a point is below the events from a place on.
 fn is_below(spot: Spot, events: &Events, from: usize) -> bool {
-    from < events.len() && spot.height < events.at(from).height
+    from < events.len()
+        && spot.latitude <= events.latitude(from)
+        && spot.height < events.at(from).height
 }
 
 /// Marks a polygon.

@@ -42,8 +42,13 @@ fn gather(
     ins.clear();
     let count = events.len();
     let height = events.at(from).height;
+    let latitude = events.latitude(from);
     let mut to = from;
     while to < count {
+        // Most events that aren't at this height are at another latitude.
+        if to > from && events.latitude(to) != latitude {
+            return Ok(to);
+        }
         let event = events.at(to);
         if event.height != height {
             return Ok(to);
@@ -76,16 +81,24 @@ fn west_first(segments: &[Segment], s: u32, t: u32) -> Ordering {
     }
 }
 
-/// Sorts segments that share their low end, or their high end, from west to east.
+/// Sorts segments that share their low end, or their high end, from west to east, if there are more than one.
+#[inline(always)]
 fn order(segments: &[Segment], numbers: &mut Vec<u32>)
     ensures { (s : ℕ) → times s numbers.new.items ≡ times s numbers.old.items }
 {
-    if numbers.len() == 2 {
-        if west_first(segments, numbers[1], numbers[0]).is_lt() {
-            numbers.swap(0, 1);
-        }
-    } else if numbers.len() > 2 {
+    if numbers.len() > 1 {
+        order_some(segments, numbers);
+    }
+}
+
+/// Sorts two such segments or more.
+fn order_some(segments: &[Segment], numbers: &mut Vec<u32>)
+    ensures { (s : ℕ) → times s numbers.new.items ≡ times s numbers.old.items }
+{
+    if numbers.len() > 2 {
         numbers.sort_unstable_by(|s, t| west_first(segments, *s, *t));
+    } else if numbers.len() == 2 && west_first(segments, numbers[1], numbers[0]).is_lt() {
+        numbers.swap(0, 1);
     }
 }
 

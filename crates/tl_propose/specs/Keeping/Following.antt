@@ -1,8 +1,12 @@
 -- Walks that go by a list, which has of each dart the one that follows it.
-use Rattle.std.specs.Prelude.{◌≡◌, ℕ, Bool, ◌<◌, List, length, slice_index}
+use Rattle.std.specs.Prelude.{◌≡◌, ℕ, Bool, ◌<◌, List, [], length, slice_index}
+use Rattle.std.specs.List.{concat}
 use Rattle.tl_county.specs.Darts.{reverse_dart}
 use Rattle.tl_index.specs.Keeping.Marked.{mark_at}
-use Rattle.tl_sides.specs.Lists.{before}
+use Rattle.tl_sides.specs.Lists.{before, EachList}
+use Rattle.tl_propose.specs.declared.rounds.DartStart.{DartStart}
+use Rattle.tl_propose.specs.Keeping.Lists.{darts_in}
+use Rattle.tl_propose.specs.Keeping.Sorting.{AreSorted, AreCut}
 
 -- no two places of the list have one dart
 abbrev pub IsOneToOne : List ℕ → Type 0
@@ -11,6 +15,13 @@ IsOneToOne following = (a b : ℕ) → a < length following → b < length follo
 -- of each dart of the round, its reverse has behind it the dart before it in the round, and that of the first the last
 abbrev pub IsLinkedIn : List ℕ → List ℕ → Type 0
 IsLinkedIn following round = (k : ℕ) → k < length round → slice_index following (reverse_dart (slice_index round k)) ≡ before round k
+
+-- the list is linked along rounds that are the darts together, and are cut of them where they are sorted
+pub record IsLinkedBy (starts : List DartStart) (following : List ℕ) : Type 0 where
+  pub rounds : List (List ℕ)
+  pub whole : concat rounds ≡ darts_in starts
+  pub linked : EachList (IsLinkedIn following) rounds
+  pub cut : AreSorted starts → AreCut starts [] rounds
 
 -- the dart follows one that is taken
 pub record FollowsTaken (following : List ℕ) (taken : List Bool) (x : ℕ) : Type 0 where

@@ -1,11 +1,12 @@
 -- The order in which darts are sorted, lists in that order, and rounds that are cut of them.
-use Rattle.std.specs.Prelude.{◌≡◌, ◌⊎◌, ℕ, ◌+◌, ◌<◌, List, [], ◌∷◌, length, map, slice_get, slice_index_or, All, Contains}
+use Rattle.std.specs.Prelude.{◌≡◌, ◌⊎◌, ℕ, ◌+◌, ◌*◌, ◌^◌, ◌<◌, List, [], ◌∷◌, length, map, slice_get, slice_index_or, All, Contains}
 use Rattle.std.specs.List.{AllPairs}
 use Rattle.tl_geom.specs.declared.point.Point.{Point}
 use Rattle.tl_county.specs.TheMap.{MapChain}
 use Rattle.tl_county.specs.Darts.{dart_start, Heads}
 use Rattle.tl_county.specs.Nodes.{AreNodes}
 use Rattle.tl_geom.specs.Turning.{IsBelow}
+use Rattle.tl_pack.specs.Lists.{HoldsAll}
 use Rattle.tl_propose.specs.declared.rounds.DartStart.{DartStart}
 use Rattle.tl_propose.specs.Keeping.Lists.{darts_in}
 
@@ -22,6 +23,14 @@ pub record IsStartOf (chains : List MapChain) (s : DartStart) : Type 0 where
   pub starts : (nodes : List Point) → AreNodes chains nodes → slice_get nodes s.node ≡ dart_start chains s.dart
   pub within : (nodes : List Point) → AreNodes chains nodes → s.node < length nodes
   pub heads : Heads chains s.dart s.heading
+
+-- they are the chains' darts, sorted
+pub record AreStarts (chains : List MapChain) (starts : List DartStart) : Type 0 where
+  pub all : HoldsAll (2 * length chains) (darts_in starts)
+  pub long : length starts ≡ 2 * length chains
+  pub few : length starts < 2 ^ 32
+  pub each : All (IsStartOf chains) starts
+  pub sorted : AreSorted starts
 
 -- the number of the node where the first of some darts starts
 abbrev pub node_of : List DartStart → ℕ

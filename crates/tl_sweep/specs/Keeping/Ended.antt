@@ -1,5 +1,5 @@
 -- The ends of segments as they are kept, and the events that they are.
-use Rattle.std.specs.Prelude.{ℕ, ◌/◌, ◌%◌, ◌==◌, Bool, true, false, not, pos, ◌+ℤ◌, int_lt, Option, Some, None, List, map, slice_get}
+use Rattle.std.specs.Prelude.{ℕ, ◌/◌, ◌%◌, ◌==◌, Bool, true, false, not, pos, ◌+ℤ◌, int_lt, List, map}
 use Rattle.tl_geom.specs.declared.segment.Segment.{Segment}
 use Rattle.tl_sweep.specs.declared.events.End.{End}
 use Rattle.tl_sweep.specs.declared.events.Event.{Event}
@@ -10,15 +10,10 @@ abbrev pub event_by : ℕ → Bool → Segment → Event
 event_by s true u = record { height = height widest u.a +ℤ pos 2147483647; segment = s; begins = int_lt (height widest u.a) (height widest u.b); first = true }
 event_by s false u = record { height = height widest u.b +ℤ pos 2147483647; segment = s; begins = not (int_lt (height widest u.a) (height widest u.b)); first = false }
 
--- so where there is such a segment
-abbrev pub event_if : ℕ → Bool → Option Segment → Event
-event_if s first None = record { height = pos 0; segment = s; begins = false; first = first }
-event_if s first (Some u) = event_by s first u
-
 -- the event at an end
-abbrev pub event_at : List Segment → End → Event
-event_at segments e = event_if (e.number / 2) (e.number % 2 == 0) (slice_get segments (e.number / 2))
+abbrev pub event_at : End → Event
+event_at e = record { height = height widest e.point +ℤ pos 2147483647; segment = e.number / 4; begins = e.number / 2 % 2 == 1; first = e.number % 2 == 1 }
 
 -- the events at ends
-abbrev pub events_in : List Segment → List End → List Event
-events_in segments ends = map (event_at segments) ends
+abbrev pub events_in : List End → List Event
+events_in ends = map event_at ends

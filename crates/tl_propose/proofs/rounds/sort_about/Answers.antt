@@ -1,7 +1,7 @@
 use Rattle.std.proofs.Common.{rules, ◌≡◌, ◌↔◌}
 use Rattle.std.specs.declared.cmp.Ordering.TheVariants.{Less}
 use Rattle.tl_propose.specs.Keeping.Sorting.{ComesBefore}
-use Rattle.std.proofs.lemmas.List.Sorted.{answers_always}
+use Rattle.std.proofs.lemmas.List.Sorted.{answers_always, IsPermutation-trans}
 use Rattle.tl_propose.proofs.SortLemmas.{comes, weak_order, as_test, are_sorted}
 use Rattle.tl_propose.proofs.rounds.sort_about.Goals as goal
 
@@ -11,3 +11,6 @@ returns-clause-sorted c =
     (c.sort_unstable_by.ensures.sorted comes weak_order (answers_always _ _ _ (λ f a r next called.
     let is : (r ≡ Less) ↔ ComesBefore a.0.now a.1.0.now = search rules in
     as_test a.0.now a.1.0.now r is.0 is.1)))
+
+pub returns-clause-same : goal.returns-clause-same
+returns-clause-same c = IsPermutation-trans _ _ _ c.in_ok-presort_by_rank.ensures c.sort_unstable_by.ensures.permutation

@@ -1,22 +1,19 @@
 use Rattle.std.proofs.Common.{◌≡◌, ◌%◌, ◌<◌, All, length, ap, sym, ◌∙◌, subst, arith}
 use Rattle.std.proofs.lemmas.Result.{err_from_is_err_and}
-use Rattle.tl_sides.specs.Lists.{HoldOnce, EachList}
-use Rattle.tl_propose.specs.Keeping.Following.{IsLinkedIn}
+use Rattle.tl_pack.specs.Lists.{HoldsAll}
+use Rattle.tl_propose.specs.Keeping.Following.{IsLinkedBy}
+use Rattle.tl_propose.specs.Keeping.Lists.{darts_in}
 use Rattle.tl_propose.proofs.LinkLemmas.{written}
-use Rattle.tl_propose.specs.Keeping.Lists.{lists_in}
 use Rattle.tl_propose.proofs.walks.link_darts.Goals as goal
 
-pub link_rounds-requires-clause-hold : goal.link_rounds-requires-clause-hold
-link_rounds-requires-clause-hold c =
-    let long : c.args.darts ≡ length c.deref_mut.result.now = let one = c.deref_mut.ensures.len in let other = c.in_ok-following.ensures.len in omega (arith, one, other) in
-    subst (λ n. HoldOnce n (lists_in c.args.rounds.now)) long c.requires.hold
-
-pub link_rounds-requires-clause-some : goal.link_rounds-requires-clause-some
-link_rounds-requires-clause-some c = c.requires.some
+pub link_rounds-requires-clause-all : goal.link_rounds-requires-clause-all
+link_rounds-requires-clause-all c =
+    let long : length c.args.starts.now ≡ length c.deref_mut.result.now = let one = c.deref_mut.ensures.len in let other = c.in_ok-following.ensures.len in omega (arith, one, other) in
+    subst (λ n. HoldsAll n (darts_in c.args.starts.now)) long c.requires.all
 
 pub link_rounds-requires-clause-paired : goal.link_rounds-requires-clause-paired
 link_rounds-requires-clause-paired c =
-    let long : c.args.darts ≡ length c.deref_mut.result.now = let one = c.deref_mut.ensures.len in let other = c.in_ok-following.ensures.len in omega (arith, one, other) in
+    let long : length c.args.starts.now ≡ length c.deref_mut.result.now = let one = c.deref_mut.ensures.len in let other = c.in_ok-following.ensures.len in omega (arith, one, other) in
     subst (λ n. n % 2 ≡ 0) long c.requires.paired
 
 pub returns-in_err-following-clause-long : goal.returns-in_err-following-clause-long
@@ -41,13 +38,13 @@ pub returns-clause-known : goal.returns-clause-known
 returns-clause-known c =
     let new = c.link_rounds.new.following in
     let one = c.deref_mut.ensures.len in
-    let long : length c.deref_mut.result.now ≡ c.args.darts = let other = c.in_ok-following.ensures.len in omega (arith, one, other) in
+    let long : length c.deref_mut.result.now ≡ length c.args.starts.now = let other = c.in_ok-following.ensures.len in omega (arith, one, other) in
     let e = written c.in_ok-following.following.len new c.in_ok-following.following.items (c.link_rounds.ensures.long ∙ one) (ap length (sym c.deref_mut.ensures.value) ∙ one) in
-    subst (All (λ d. d < c.args.darts)) (sym e) (subst (λ n. All (λ d. d < n) new) long c.link_rounds.ensures.kept)
+    subst (All (λ d. d < length c.args.starts.now)) (sym e) (subst (λ n. All (λ d. d < n) new) long c.link_rounds.ensures.kept)
 
 pub returns-clause-linked : goal.returns-clause-linked
 returns-clause-linked c =
     let new = c.link_rounds.new.following in
     let one = c.deref_mut.ensures.len in
     let e = written c.in_ok-following.following.len new c.in_ok-following.following.items (c.link_rounds.ensures.long ∙ one) (ap length (sym c.deref_mut.ensures.value) ∙ one) in
-    subst (λ following. EachList (IsLinkedIn following) (lists_in c.args.rounds.now)) (sym e) c.link_rounds.ensures.linked
+    subst (IsLinkedBy c.args.starts.now) (sym e) c.link_rounds.ensures.linked

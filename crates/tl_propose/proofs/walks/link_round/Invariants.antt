@@ -1,13 +1,14 @@
 use Rattle.std.proofs.Common.{◌≡◌, ◌<◌, length}
 use Rattle.std.specs.List.{All}
 use Rattle.tl_sides.specs.Lists.{before}
+use Rattle.tl_propose.specs.Keeping.Lists.{darts_in}
 use Rattle.tl_propose.proofs.LinkLemmas.{LinkedUpTo}
 use Rattle.tl_propose.proofs.walks.link_round.Given as goal
 
-abbrev pub invariant-loop-dart : goal.invariant-loop-dart
-invariant-loop-dart l =
+abbrev pub invariant-loop-start : goal.invariant-loop-start
+invariant-loop-start l =
     record {
-      before : l.before ≡ before l.round l.dart-index;
+      before : l.before ≡ before (darts_in l.round) l.start-index;
       kept : All (λ d. d < length l.fn.following) l.following;
-      linked : LinkedUpTo l.fn.following l.following l.round l.dart-index;
+      linked : LinkedUpTo l.fn.following l.following (darts_in l.round) l.start-index;
     }

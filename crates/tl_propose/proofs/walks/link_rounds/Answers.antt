@@ -1,64 +1,67 @@
-use Rattle.std.proofs.Common.{◌≡◌, ℕ, ◌<◌, ◌≤◌, arith, length, inl, inr, refl, sym, subst, ◌∙◌, get_or, Vec, Global}
-use Rattle.std.proofs.lemmas.Bool.{cases_lt}
+use Rattle.std.proofs.Common.{◌≡◌, ◌<◌, zero, arith, length, ◌++◌, append-nil, refl, ap, sym, subst, ◌∙◌}
 use Rattle.std.proofs.lemmas.List.{length-map}
-use Rattle.std.proofs.lemmas.List.Elements.{All-from_get_or, All-get_or}
-use Rattle.tl_index.specs.Hits.{times}
-use Rattle.tl_sides.specs.Lists.{list_at}
-use Rattle.tl_sides.proofs.ListLemmas.{stands}
-use Rattle.tl_sides.proofs.Lent.{list_is}
-use Rattle.tl_propose.specs.Keeping.Lists.{lists_in}
-use Rattle.tl_propose.specs.Keeping.Following.{IsLinkedIn}
-use Rattle.tl_crossings.proofs.Rounds.{few, once_at, below, two_lists}
-use Rattle.tl_propose.proofs.LinkLemmas.{stays_linked}
+use Rattle.std.specs.List.{All, concat}
+use Rattle.tl_propose.specs.declared.rounds.DartStart.{DartStart}
+use Rattle.tl_propose.specs.Keeping.Lists.{darts_in}
+use Rattle.tl_propose.specs.Keeping.Sorting.{AreCut}
+use Rattle.tl_propose.proofs.CutLemmas.{one_cut, some_of, no_rest, all_cut}
+use Rattle.tl_propose.proofs.LinkLemmas.{none_linked_yet, one_linked_more, known, once}
 use Rattle.tl_propose.proofs.walks.link_rounds.Goals as goal
+
+pub loop-rest-init : goal.loop-rest-init
+loop-rest-init c = none_linked_yet _ c.args.starts.now c.args.following.now refl c.requires.kept
+
+pub link_round-requires-clause-some : goal.link_round-requires-clause-some
+link_round-requires-clause-some c = omega (arith, c.split_at.ensures.front_len, c.first_round.ensures.some)
 
 pub link_round-requires-clause-known : goal.link_round-requires-clause-known
 link_round-requires-clause-known c =
-    let lists = lists_in c.args.rounds.now in
-    let i = c.loop-round.round-index in
-    let test = c.loop-round-test.true in
-    let n = length c.args.following.now in
-    let now = c.deref.result.now in
-    let is = list_is c.args.rounds.now lists i c.round-item.result now refl test c.round-item.is c.deref.ensures.value in
-    let inside : i < length lists = omega (arith, length-map c.args.rounds.now (λ (r : Vec ℕ Global). r.items), test) in
-    All-from_get_or (λ d. d < length c.loop-round.following) now 0 (λ k h.
-    let there : 1 ≤ times (get_or now k 0) (list_at lists i) = subst (λ xs. 1 ≤ times (get_or now k 0) xs) (sym is) (stands now k (get_or now k 0) h refl) in
-    omega (arith, below n lists c.requires.hold (get_or now k 0) i inside there, c.loop-round.invariant.long))
+    let so = c.loop-rest.invariant in
+    subst (λ m. All (λ d. d < m) (darts_in c.split_at.result.0.now)) (sym so.long)
+    (known (length c.args.following.now) c.args.starts.now c.loop-rest.rest.now c.split_at.result.0.now c.split_at.result.1.now c.loop-rest.following c.requires.all c.split_at.ensures.by_index.0 so)
 
 pub link_round-requires-clause-once : goal.link_round-requires-clause-once
-link_round-requires-clause-once c = λ d.
-    let lists = lists_in c.args.rounds.now in
-    let i = c.loop-round.round-index in
-    let test = c.loop-round-test.true in
-    let is = list_is c.args.rounds.now lists i c.round-item.result c.deref.result.now refl test c.round-item.is c.deref.ensures.value in
-    let inside : i < length lists = omega (arith, length-map c.args.rounds.now (λ (r : Vec ℕ Global). r.items), test) in
-    subst (λ xs. times d xs ≤ 1) is (once_at (length c.args.following.now) lists c.requires.hold d i inside)
+link_round-requires-clause-once c =
+    once (length c.args.following.now) c.args.starts.now c.loop-rest.rest.now c.split_at.result.0.now c.split_at.result.1.now c.loop-rest.following c.requires.all c.split_at.ensures.by_index.0 c.loop-rest.invariant
 
-pub loop-round-preserved : goal.loop-round-preserved
-loop-round-preserved c =
-    let lists = lists_in c.args.rounds.now in
-    let i = c.loop-round.round-index in
-    let test = c.loop-round-test.true in
-    let n = length c.args.following.now in
-    let old = c.loop-round.following in
-    let new = c.link_round.new.following in
-    let now = c.deref.result.now in
-    let is = list_is c.args.rounds.now lists i c.round-item.result now refl test c.round-item.is c.deref.ensures.value in
-    let inside : i < length lists = omega (arith, length-map c.args.rounds.now (λ (r : Vec ℕ Global). r.items), test) in
+pub link_round-requires-clause-paired : goal.link_round-requires-clause-paired
+link_round-requires-clause-paired c = let long = c.loop-rest.invariant.long in let paired = c.requires.paired in omega (arith, long, paired)
+
+pub link_round-requires-clause-kept : goal.link_round-requires-clause-kept
+link_round-requires-clause-kept c = subst (λ m. All (λ d. d < m) c.loop-rest.following) (sym c.loop-rest.invariant.long) c.loop-rest.invariant.kept
+
+pub loop-rest-preserved : goal.loop-rest-preserved
+loop-rest-preserved c =
+    let front = c.split_at.result.0.now in
+    let back = c.split_at.result.1.now in
+    let long = c.split_at.ensures.front_len in
+    let same = c.split_at.ensures.by_index.0 in
+    let some : zero < length front = omega (arith, long, c.first_round.ensures.some) in
+    let d = some_of front some in
+    let so = c.loop-rest.invariant in
+    let made = c.link_round.ensures in
+    one_linked_more (length c.args.following.now) c.args.starts.now c.loop-rest.rest.now front back c.loop-rest.following c.requires.all same so
+    c.link_round.new.following made.long made.kept made.linked made.others
+    (λ sorted. one_cut c.args.starts.now c.loop-rest.rest.now front back so.rounds d c.first_round.result same long some
+    (λ k. c.first_round.ensures.together k d) (c.first_round.ensures.apart d) (so.cut sorted))
+
+pub split_at-requires : goal.split_at-requires
+split_at-requires c = c.first_round.ensures.within
+
+pub returns-clause-linked : goal.returns-clause-linked
+returns-clause-linked c =
+    let so = c.loop-rest.invariant in
+    let rest = c.loop-rest.rest.now in
     record {
-      long = c.link_round.ensures.long ∙ c.loop-round.invariant.long;
-      kept = All-from_get_or (λ d. d < n) new 0 (λ k h.
-          omega (arith, All-get_or (λ d. d < length old) new k 0 h c.link_round.ensures.kept, c.loop-round.invariant.long));
-      linked = λ r h. elim (cases_lt r i) [
-        | inl earlier ↦
-            stays_linked old new (list_at lists r) now (c.loop-round.invariant.linked r earlier) c.link_round.ensures.others (λ k hk.
-            let d = get_or (list_at lists r) k 0 in
-            let at_r = stands (list_at lists r) k d hk refl in
-            let both = two_lists d lists r i earlier inside in
-            let none : times d (list_at lists i) ≡ 0 = omega (arith, both, few n lists c.requires.hold d, at_r) in
-            subst (λ xs. times d xs ≡ 0) is none)
-        | inr not ↦
-            let here : i ≡ r = omega (arith, not, h) in
-            subst (λ q. IsLinkedIn new (list_at lists q)) here (subst (IsLinkedIn new) (sym is) c.link_round.ensures.linked)
-      ];
+      rounds = so.rounds;
+      whole = all_cut rest (concat so.rounds) (darts_in c.args.starts.now) c.loop-rest-test.ensures so.whole;
+      linked = so.linked;
+      cut = λ sorted. subst (λ r. AreCut c.args.starts.now r so.rounds) (no_rest rest c.loop-rest-test.ensures) (so.cut sorted);
     }
+
+pub loop-rest-smaller : goal.loop-rest-smaller
+loop-rest-smaller c =
+    let back = c.split_at.ensures.back_len in
+    let some = c.first_round.ensures.some in
+    let within = c.first_round.ensures.within in
+    omega (arith, back, some, within)

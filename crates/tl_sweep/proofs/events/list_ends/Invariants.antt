@@ -9,9 +9,9 @@ use Rattle.tl_sweep.specs.Keeping.Spotted.{IsInRange}
 use Rattle.tl_sweep.proofs.events.list_ends.Given as goal
 
 -- the ends so far
-pub record AreSoFar (chains : List MapChain) (segments : List Segment) (n : ℕ) (ends : List End) : Type 0 where
-  pub are : AreEventsOf chains n (map (event_at segments) ends)
+pub record AreSoFar (chains : List MapChain) (n : ℕ) (ends : List End) : Type 0 where
+  pub are : AreEventsOf chains n (map event_at ends)
   pub ranges : (s : ℕ) (u : Segment) → s < n → IsNumbered chains s u → IsInRange u.a × IsInRange u.b
 
 abbrev pub invariant-loop-s : goal.invariant-loop-s
-invariant-loop-s l = AreSoFar l.map.chains l.segments l.s l.ends.items
+invariant-loop-s l = AreSoFar l.map.chains l.s l.ends.items

@@ -1,9 +1,6 @@
 use Rattle.tl_sweep.proofs.Tests.{never}
 use Rattle.tl_sweep.proofs.facing.are_alike.Goals as goal
 
-pub returns-then-outs-ne1 : goal.returns-then-outs-ne1
-returns-then-outs-ne1 c = λ h. never h
-
 pub find_flanks-requires : goal.find_flanks-requires
 find_flanks-requires c = c.requires
 

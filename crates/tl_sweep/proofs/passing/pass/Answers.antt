@@ -1,57 +1,73 @@
-use Rattle.std.proofs.Common.{◌≡◌, ℕ, List, IfOk, IsTrue, ◌+◌, ◌++◌, sym, ap, subst, ◌∙◌}
-use Rattle.std.proofs.lemmas.Result.{err_from_is_err_and}
+use Rattle.std.proofs.Common.{◌≡◌, ℕ, Bool, List, [], ◌∷◌, IfOk, IsTrue, length, ◌+◌, ◌++◌, get_or, sym, ap, subst, ◌∙◌, arith}
 use Rattle.tl_index.specs.Hits.{times}
 use Rattle.tl_slabs.specs.Heights.{widest}
 use Rattle.tl_slabs.specs.Neighbours.{AreTested, EachTwo}
 use Rattle.tl_slabs.specs.Beside.{seen_side}
+use Rattle.tl_county.specs.declared.sides.Side.{Side}
 use Rattle.tl_county.specs.declared.sides.Side.TheVariants.{Outside}
-use Rattle.tl_sweep.specs.Keeping.Facing.{IsCounted, last_far}
-use Rattle.tl_sweep.specs.Keeping.Lined.{list_of}
+use Rattle.tl_sweep.specs.Keeping.Bent.{IsBent}
+use Rattle.tl_sweep.specs.Keeping.Facing.{IsCounted, gaps_between, last_far}
+use Rattle.tl_sweep.specs.Keeping.Lined.{TheLine, list_of}
+use Rattle.tl_sweep.proofs.Answered.{ok_more}
 use Rattle.tl_sweep.proofs.Gaps.{in_stead}
-use Rattle.tl_sweep.proofs.Lining.{moved, before_tested}
-use Rattle.tl_sweep.proofs.Tests.{never}
+use Rattle.tl_sweep.proofs.Lining.{single, moved, before_tested}
 use Rattle.tl_sweep.proofs.passing.pass.Goals as goal
 
+-- the list before and behind a bend, by what ends and what begins there
+module _ (outs ins : List ℕ) (one : length outs ≡ 1) (one' : length ins ≡ 1) (old : List ℕ) (here new : TheLine) (same : list_of here ≡ old)
+    (back : here.back ≡ get_or outs 0 0 ∷ new.back) (front : new.front ≡ here.front ++ get_or ins 0 0 ∷ []) where
+  before : old ≡ here.front ++ (outs ++ new.back)
+  before = sym same ∙ ap (λ b. here.front ++ b) (back ∙ ap (λ l. l ++ new.back) (sym (single outs one)))
+
+  behind : list_of new ≡ (here.front ++ ins) ++ new.back
+  behind = ap (λ f. f ++ new.back) (front ∙ ap (λ l. here.front ++ l) (sym (single ins one')))
+
 pub returns-then-are_alike-clause-moved : goal.returns-then-are_alike-clause-moved
-returns-then-are_alike-clause-moved c = λ h s.
-    let front = c.seek.new.self.front in
-    let back = c.shift.new.line.back in
-    moved s front c.args.outs.now c.args.ins.now back (list_of c.args.line.now) (list_of c.shift.new.line)
-    (sym c.seek.ensures ∙ ap (λ b. front ++ b) (c.in_ok-shift.ensures.back c.if-not-branch.false)) (ap (λ f. f ++ back) (c.in_ok-shift.ensures.front c.if-not-branch.false))
+returns-then-are_alike-clause-moved c =
+    let outs = c.args.outs.now in
+    let ins = c.args.ins.now in
+    let here = c.seek.new.self in
+    let new = c.bend.new.line in
+    let one : length outs ≡ 1 = omega (arith, c.if-outs-eq1.true) in
+    let one' : length ins ≡ 1 = omega (arith, c.if-ins-eq1.true) in
+    ok_more c.bend.result _ (λ done. IsTrue done → (s : ℕ) → times s (list_of new) + times s outs ≡ times s (list_of c.args.line.now) + times s ins)
+    (λ done is h s. moved s here.front outs ins new.back (list_of c.args.line.now) (list_of new)
+    (before outs ins one one' (list_of c.args.line.now) here new c.seek.ensures (is h).back (is h).front)
+    (behind outs ins one one' (list_of c.args.line.now) here new c.seek.ensures (is h).back (is h).front)) c.bend.ensures
 
 pub returns-then-are_alike-clause-tested : goal.returns-then-are_alike-clause-tested
-returns-then-are_alike-clause-tested c = λ h two.
-    let front = c.seek.new.self.front in
-    let both = before_tested (AreTested widest c.args.map.now.chains) front c.args.outs.now c.shift.new.line.back (list_of c.args.line.now)
-    (sym c.seek.ensures ∙ ap (λ b. front ++ b) (c.in_ok-shift.ensures.back c.if-not-branch.false)) two in
-    c.closes.ensures h (c.in_ok-shift.ensures.tested c.if-not-branch.false both.0) both.1
+returns-then-are_alike-clause-tested c =
+    let outs = c.args.outs.now in
+    let ins = c.args.ins.now in
+    let here = c.seek.new.self in
+    let new = c.bend.new.line in
+    let P = EachTwo (AreTested widest c.args.map.now.chains) in
+    let one : length outs ≡ 1 = omega (arith, c.if-outs-eq1.true) in
+    let one' : length ins ≡ 1 = omega (arith, c.if-ins-eq1.true) in
+    ok_more c.bend.result _ (λ done. IsTrue done → P (list_of c.args.line.now) → P (list_of new))
+    (λ done is h two.
+    let both = before_tested (AreTested widest c.args.map.now.chains) here.front outs new.back (list_of c.args.line.now)
+    (before outs ins one one' (list_of c.args.line.now) here new c.seek.ensures (is h).back (is h).front) two in
+    (is h).tested both.0 both.1) c.bend.ensures
 
 pub returns-then-are_alike-clause-counted : goal.returns-then-are_alike-clause-counted
-returns-then-are_alike-clause-counted c = λ h counted n is.
+returns-then-are_alike-clause-counted c =
     let chains = c.args.map.now.chains in
-    let front = c.seek.new.self.front in
-    let back = c.shift.new.line.back in
-    in_stead chains front c.args.outs.now c.args.ins.now back (list_of c.args.line.now) (list_of c.shift.new.line) n n
-    (sym c.seek.ensures ∙ ap (λ b. front ++ b) (c.in_ok-shift.ensures.back c.if-not-branch.false)) (ap (λ f. f ++ back) (c.in_ok-shift.ensures.front c.if-not-branch.false))
-    (counted n is) (ap (λ g. n + g) (c.are_alike.ensures c.if-are_alike.true (last_far chains Outside front) (seen_side chains back)))
-
-pub returns-then-not-branch-clause-moved : goal.returns-then-not-branch-clause-moved
-returns-then-not-branch-clause-moved c = λ h. never h
-
-pub returns-then-not-branch-clause-tested : goal.returns-then-not-branch-clause-tested
-returns-then-not-branch-clause-tested c = λ h. never h
-
-pub returns-then-not-branch-clause-counted : goal.returns-then-not-branch-clause-counted
-returns-then-not-branch-clause-counted c = λ h. never h
-
-pub returns-in_err-shift-clause-moved : goal.returns-in_err-shift-clause-moved
-returns-in_err-shift-clause-moved c = let p = err_from_is_err_and c.from_residual.result c.from_residual.ensures.1 in rw p.1 tt
-
-pub returns-in_err-shift-clause-tested : goal.returns-in_err-shift-clause-tested
-returns-in_err-shift-clause-tested c = let p = err_from_is_err_and c.from_residual.result c.from_residual.ensures.1 in rw p.1 tt
-
-pub returns-in_err-shift-clause-counted : goal.returns-in_err-shift-clause-counted
-returns-in_err-shift-clause-counted c = let p = err_from_is_err_and c.from_residual.result c.from_residual.ensures.1 in rw p.1 tt
+    let outs = c.args.outs.now in
+    let ins = c.args.ins.now in
+    let here = c.seek.new.self in
+    let new = c.bend.new.line in
+    let gaps = c.args.gaps.now in
+    let one : length outs ≡ 1 = omega (arith, c.if-outs-eq1.true) in
+    let one' : length ins ≡ 1 = omega (arith, c.if-ins-eq1.true) in
+    let alike : (west east : Side) → gaps_between chains west outs east ≡ gaps_between chains west ins east =
+    λ west east. ap (λ l. gaps_between chains west l east) (single outs one) ∙ c.are_alike.ensures c.if-are_alike.true west east ∙ ap (λ l. gaps_between chains west l east) (sym (single ins one')) in
+    ok_more c.bend.result _ (λ done. IsTrue done → IsCounted chains gaps (list_of c.args.line.now) → IsCounted chains gaps (list_of new))
+    (λ done is h counted n count.
+    in_stead chains here.front outs ins new.back (list_of c.args.line.now) (list_of new) n n
+    (before outs ins one one' (list_of c.args.line.now) here new c.seek.ensures (is h).back (is h).front)
+    (behind outs ins one one' (list_of c.args.line.now) here new c.seek.ensures (is h).back (is h).front)
+    (counted n count) (ap (λ g. n + g) (alike (last_far chains Outside here.front) (seen_side chains new.back)))) c.bend.ensures
 
 pub returns-clause-moved : goal.returns-clause-moved
 returns-clause-moved c =

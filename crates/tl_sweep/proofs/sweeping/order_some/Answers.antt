@@ -1,7 +1,7 @@
 use Rattle.std.proofs.Common.{arith}
 use Rattle.std.proofs.lemmas.List.Sorted.{IsPermutation-swap}
 use Rattle.tl_sweep.proofs.Gathering.{times_moved}
-use Rattle.tl_sweep.proofs.sweeping.order.Goals as goal
+use Rattle.tl_sweep.proofs.sweeping.order_some.Goals as goal
 
 pub returns-then-len-gt2 : goal.returns-then-len-gt2
 returns-then-len-gt2 c = λ s. times_moved s _ _ c.sort_unstable_by.ensures.permutation
