@@ -18,11 +18,17 @@ fn is_east(segments: &[Segment], s: Option<u32>, p: Point) -> bool {
     }
 }
 
-/// Whether a point lies strictly east of a segment. It is told by products of 64 bits, which hold those of a map's points:
-/// nothing rests on it, since whatever stands side by side is tested.
+/// Whether a point lies strictly east of a segment at its height: as a rule longitudes tell it, and else products of 64 bits, which
+/// hold those of a map's points. Nothing rests on it, since whatever stands side by side is tested.
 #[inline]
 fn is_east_of(s: Segment, p: Point) -> bool {
     let (a, b) = (s.a(), s.b());
+    if p.x <= a.x && p.x <= b.x {
+        return false;
+    }
+    if p.x > a.x && p.x > b.x {
+        return true;
+    }
     let along = offset(a.x, b.x).wrapping_mul(offset(a.y, p.y));
     let aside = offset(a.y, b.y).wrapping_mul(offset(a.x, p.x));
     if is_lower(a, b) {
