@@ -36,12 +36,21 @@ fn flanks_of(map: &Map, segments: &[Segment], s: u32) -> Flanks
     }
 }
 
+/// Whether there is a segment with this number.
+#[inline]
+fn is_known(map: &Map, segments: &[Segment], s: u32) -> bool
+    ensures known { IsTrue result → s < segments_before map.now.chains (length map.now.chains) }
+    ensures listed { IsTrue result → s < length segments.now }
+{
+    s < map.segments() && (s as usize) < segments.len()
+}
+
 /// The sides of the segment with this number, if there is one.
 fn find_flanks(map: &Map, segments: &[Segment], s: u32) -> Option<Flanks>
     requires { AreSegments map.now.chains segments.now }
     ensures { (flanks : Flanks) → result ≡ Some flanks → flanks ≡ flanks_at map.now.chains s }
 {
-    if s >= map.segments() || s as usize >= segments.len() {
+    if !is_known(map, segments, s) {
         return None;
     }
     Some(flanks_of(map, segments, s))
@@ -91,12 +100,39 @@ fn count_gaps(map: &Map, segments: &[Segment], west: Side, list: &[u32], east: S
     count.checked_add(gap(before, east))
 }
 
+/// Whether two segments are of one chain and go up both, or neither does.
+#[inline]
+fn go_one_way(map: &Map, segments: &[Segment], s: u32, t: u32) -> bool
+    requires segments { AreSegments map.now.chains segments.now }
+    requires known { s < segments_before map.now.chains (length map.now.chains) }
+    requires listed { s < length segments.now }
+    requires known_other { t < segments_before map.now.chains (length map.now.chains) }
+    requires listed_other { t < length segments.now }
+    ensures { IsTrue result → flanks_at map.now.chains s ≡ flanks_at map.now.chains t }
+{
+    let c = map.segment_chain(s);
+    if map.segment_chain(t) != c {
+        return false;
+    }
+    // that the chain has sides
+    let _chain = map.chain(c);
+    let (one, other) = (segments[s as usize], segments[t as usize]);
+    if one.a().y < one.b().y {
+        other.a().y < other.b().y
+    } else {
+        other.a().y >= other.b().y
+    }
+}
+
 /// Whether two segments have the same sides.
 pub fn are_alike(map: &Map, segments: &[Segment], out: u32, s: u32) -> bool
     requires { AreSegments map.now.chains segments.now }
     ensures { IsTrue result → (west east : Side) →
         gaps_between map.now.chains west (out ∷ []) east ≡ gaps_between map.now.chains west (s ∷ []) east }
 {
+    if is_known(map, segments, out) && is_known(map, segments, s) && go_one_way(map, segments, out, s) {
+        return true;
+    }
     match (
         find_flanks(map, segments, out),
         find_flanks(map, segments, s),
