@@ -130,7 +130,10 @@ pub fn are_alike(map: &Map, segments: &[Segment], out: u32, s: u32) -> bool
     ensures { IsTrue result → (west east : Side) →
         gaps_between map.now.chains west (out ∷ []) east ≡ gaps_between map.now.chains west (s ∷ []) east }
 {
-    if is_known(map, segments, out) && is_known(map, segments, s) && go_one_way(map, segments, out, s) {
+    if is_known(map, segments, out)
+        && is_known(map, segments, s)
+        && go_one_way(map, segments, out, s)
+    {
         return true;
     }
     match (
