@@ -39,6 +39,15 @@ above_zero : (value : ℕ) (bytes : List ℕ) → bytes ≡ std.decimal value �
 above_zero zero bytes is none = absurd (none (ap (λ (l : List ℕ). get_or l 0 0) (is ∙ decimal_digit 0 (omega arith))))
 above_zero (suc value) bytes is none = omega arith
 
+-- eight digits
+pub eight_digits : (bytes eight : List ℕ) (value : ℕ) → 9 ≤ length bytes → eight ≡ take 8 bytes → list_all is_ascii_digit eight ≡ true → value ≡ decimal eight
+    → AreDigits bytes 8 value
+eight_digits bytes eight value long is all worth = record {
+  within = omega (arith, long);
+  digits = ap (list_all is_ascii_digit) (sym is) ∙ all;
+  worth = ap decimal (sym is) ∙ sym worth;
+}
+
 -- a digit behind eight others
 pub nine_digits : (bytes eight : List ℕ) (value digit : ℕ) → 9 ≤ length bytes → eight ≡ take 8 bytes → list_all is_ascii_digit eight ≡ true → value ≡ decimal eight
     → is_ascii_digit (get_or bytes 8 0) ≡ true → digit ≡ get_or bytes 8 0 - 48 → AreDigits bytes 9 (value * 10 + digit)
@@ -86,6 +95,11 @@ digit_front (a ∷ b ∷ c ∷ d ∷ rest) letter long first space feed low high
       feed = feed;
       spelt = rw (first, space, digit) refl;
     }
+
+-- bytes are their first and those behind it
+pub first_of : (first : ℕ) (bytes : List ℕ) → 0 < length bytes → get_or bytes 0 0 ≡ first → bytes ≡ first ∷ take (length bytes - 1) (drop 1 bytes)
+first_of first [] some is = absurd (omega (arith, some))
+first_of first (x ∷ others) some is = ap (λ b. b ∷ others) is ∙ ap (λ l. first ∷ l) (sym (take_all (length (x ∷ others) - 1) others (omega arith)))
 
 -- what stands before a line feed is a line that stands first
 pub stands_first : (bytes line rest : List ℕ) (len : ℕ) → bytes ≡ line ++ 10 ∷ rest → len ≡ length bytes - length rest - 1 → StandsFirst bytes line len

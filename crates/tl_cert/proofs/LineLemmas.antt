@@ -1,14 +1,15 @@
 -- A line that was found in a buffer, and lines that can't be there.
-use Rattle.std.proofs.Common.{◌≡◌, ℕ, ◌+◌, ◌-◌, ◌<◌, suc, List, [], ◌∷◌, ◌++◌, length, take, drop, Option, None, Some, Err, sym, ap, subst, ◌∙◌, arith, append_assoc, append-nil, length-append, slice_index, take_all}
+use Rattle.std.proofs.Common.{refl, ◌≡◌, ℕ, ◌+◌, ◌-◌, ◌<◌, suc, List, [], ◌∷◌, ◌++◌, length, take, drop, Option, None, Some, Err, sym, ap, subst, ◌∙◌, arith, append_assoc, append-nil, length-append, slice_index, take_all}
 use Rattle.std.specs.Option.{IfSome}
 use Rattle.std.specs.Io.KnownBytes.{Keeps, Consumes, IsAtEnd, prepend_known}
-use Rattle.std.proofs.lemmas.List.{take-append-le}
+use Rattle.std.proofs.lemmas.List.{take-append-le, take-append-drop}
 use Rattle.std.proofs.Math.Seq.{take-append-add}
 use Rattle.tl_record.specs.Lines.{line_feed, line_feeds, first_line, joined_lines}
 use Rattle.tl_record.proofs.LineLemmas.{first_line_before, split_at_feed, feeds-split}
 use Rattle.tl_cert.specs.declared.stop.CertStop.{CertStop}
 use Rattle.tl_cert.specs.declared.stop.CertStop.TheVariants.{Text}
-use Rattle.tl_cert.specs.Keeping.Lines.{NoLineBegins, LineState, ReadsLine, EndsText}
+use Rattle.tl_cert.specs.declared.lines.Lines.{Lines}
+use Rattle.tl_cert.specs.Keeping.Lines.{TakesFetched, NoLineBegins, LineState, ReadsLine, EndsText}
 
 -- the first line of a text is one
 pub first_only : (front other x y : List ℕ) → line_feeds front ≡ 0 → line_feeds other ≡ 0 → front ++ line_feed ∷ x ≡ other ++ line_feed ∷ y → front ≡ other
@@ -70,6 +71,37 @@ line_taken (Some text) (Some xs) bytes after line len kept within feed rest is =
 pub some_left : (bytes : List ℕ) (left : Option (List ℕ)) → (length bytes ≡ 0 → ⊥) → IfSome (prepend_known bytes left) (λ text. text ≡ [] → ⊥)
 some_left bytes None some = tt
 some_left bytes (Some xs) some = λ none. some (let sizes = ap length none in omega (arith, sizes, length-append bytes xs))
+
+-- no byte was fetched, and none comes
+pub nothing_left : (buffer bytes : List ℕ) (old new : Option (List ℕ)) → length buffer ≡ 0 → length bytes ≡ 0 → Consumes old new bytes → IsAtEnd new
+    → IfSome (prepend_known buffer old) (λ text. text ≡ [])
+nothing_left buffer bytes None new none nothing took end = tt
+nothing_left buffer bytes (Some xs) None none nothing took end = absurd took
+nothing_left buffer bytes (Some xs) (Some rest) none nothing took end =
+    empty (buffer ++ xs) (omega (arith, length-append buffer xs, none, ap length took, length-append bytes rest, nothing, ap length end))
+  where
+    empty : (text : List ℕ) → length text ≡ 0 → text ≡ []
+    empty [] none = refl
+    empty (byte ∷ text) none = absurd (omega (arith, none))
+
+-- some byte was fetched
+pub more_left : (buffer bytes : List ℕ) (old new : Option (List ℕ)) → (length bytes ≡ 0 → ⊥) → Consumes old new bytes
+    → IfSome (prepend_known buffer old) (λ text. text ≡ [] → ⊥)
+more_left buffer bytes None new some took = tt
+more_left buffer bytes (Some xs) None some took = absurd took
+more_left buffer bytes (Some xs) (Some rest) some took =
+    λ none. some (let sizes = ap length none in let all = ap length took in omega (arith, sizes, length-append buffer xs, all, length-append bytes rest))
+
+-- the lines that stand first among the bytes that were fetched are taken
+pub front_lines_taken : (old new : Lines) (lines : List (List ℕ)) (len : ℕ) (seen : List ℕ) → seen ≡ old.buffer → take len seen ≡ joined_lines lines
+    → new.buffer ≡ drop len old.buffer → new.lines ≡ old.lines + length lines → TakesFetched old new lines
+front_lines_taken old new lines len seen same spelt rest counted = record {
+  bytes =
+      sym (take-append-drop len old.buffer)
+      ∙ ap (λ l. l ++ drop len old.buffer) (ap (take len) (sym same) ∙ spelt)
+      ∙ ap (λ l. joined_lines lines ++ l) (sym rest);
+  counted = counted;
+}
 
 -- a stop with this line
 pub stops_with : {R V : Type 0} (remaining : R → Option (List ℕ)) (spelt : V → List ℕ) (fits : V → Type 0) (old new : LineState R) (stop : CertStop) (line : ℕ) → stop ≡ Text line

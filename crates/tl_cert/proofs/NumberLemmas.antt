@@ -52,6 +52,10 @@ digit_gone bytes index below all = (subst (AllDigits 10) (drop_more bytes index 
 pub digit_below : (byte : ℕ) → is_ascii_digit byte ≡ true → byte - 48 < 10
 digit_below byte is = let digit : IsInRange 48 57 byte = grind arith in omega (arith, digit)
 
+-- a digit is not below that of 0
+pub digit_above : (byte : ℕ) → is_ascii_digit byte ≡ true → 48 ≤ byte
+digit_above byte is = let digit : IsInRange 48 57 byte = grind arith in omega (arith, digit)
+
 -- another byte is no digit
 pub no_digit : (bytes : List ℕ) (index : ℕ) → index < length bytes → is_ascii_digit (get_or bytes index 0) ≡ false → AllDigits 10 (drop index bytes) → ⊥
 no_digit bytes index below is all =

@@ -1,6 +1,6 @@
 -- A word that stands first among bytes, and what follows it.
-use Rattle.std.proofs.Common.{◌≡◌, ◌≢◌, ℕ, ℤ, ◌+◌, ◌<◌, All, List, [], ◌∷◌, ◌++◌, length, get_or, below_more, refl, sym, ◌∙◌, arith, decimal, FitsSigned, w32}
-use Rattle.std.proofs.lemmas.List.{get_or_default}
+use Rattle.std.proofs.Common.{◌≡◌, ◌≢◌, ℕ, ℤ, zero, suc, ◌+◌, ◌-◌, ◌<◌, ◌≤◌, take, drop, take_all, length-drop, ap, subst, All, List, [], ◌∷◌, ◌++◌, length, get_or, below_more, refl, sym, ◌∙◌, arith, decimal, FitsSigned, w32}
+use Rattle.std.proofs.lemmas.List.{get_or_default, length-take-le, get_or-take, take-append-drop}
 use Rattle.std.specs.Fmt.{signed_decimal}
 use Rattle.std.proofs.lemmas.List.Elements.{All-head, All-tail}
 use Rattle.tl_cert.specs.Text.{number, coordinate}
@@ -13,6 +13,26 @@ pub none_more : (bytes : List ℕ) (end : ℕ) → end < length bytes → get_or
     → (k d : ℕ) → k < end + 1 → get_or bytes k d ≢ 32
 none_more bytes end below here none = λ k d small.
     below_more (λ k. (d : ℕ) → get_or bytes k d ≢ 32) end (λ k small d. none k d small) (λ d is. here (get_or_default bytes end 0 d below ∙ is)) k small d
+
+-- what stands at the first space, or at the end
+starts_at : (bytes : List ℕ) (end : ℕ) → (end < length bytes → get_or bytes end 0 ≡ 32) → StartsWord (drop end bytes)
+starts_at [] zero ends = tt
+starts_at [] (suc end) ends = tt
+starts_at (byte ∷ bytes) zero ends = ends (omega arith)
+starts_at (byte ∷ bytes) (suc end) ends = starts_at bytes end (λ below. ends (omega (arith, below)))
+
+-- a word and what follows it, behind a space
+pub word_split : (bytes others : List ℕ) (end : ℕ) → bytes ≡ 32 ∷ others → end ≤ length others → ((k d : ℕ) → k < end → get_or others k d ≢ 32)
+    → (end < length others → get_or others end 0 ≡ 32) → IsSplit bytes (take end others) (take (length others - end) (drop end others))
+word_split bytes others end is within none ends =
+    let all : take (length others - end) (drop end others) ≡ drop end others = take_all (length others - end) (drop end others) (omega (arith, length-drop end others)) in
+    record {
+      joined = is ∙ ap (λ l. 32 ∷ l) (sym (ap (λ l. take end others ++ l) all ∙ take-append-drop end others));
+      inside = λ k d small.
+          let here : k < end = omega (arith, small, length-take-le end others within) in
+          λ space. none k d here (sym (get_or-take end others k d here) ∙ space);
+      behind = subst StartsWord (sym all) (starts_at others end ends);
+    }
 
 -- words up to their end
 words_only : (front other x y : List ℕ) → All (λ byte. byte ≢ 32) front → All (λ byte. byte ≢ 32) other → StartsWord x → StartsWord y

@@ -98,6 +98,9 @@ lists_joins word xs ys =
 pub line_first : (line : List ℕ) (lines : List (List ℕ)) → line_of line ++ joined_lines lines ≡ joined_lines (line ∷ lines)
 line_first line lines = append_assoc line (line_feed ∷ []) (joined_lines lines)
 
+pub line_last : (line last : List ℕ) → line_of line ++ line_of last ≡ joined_lines (line ∷ last ∷ [])
+line_last line last = line_first line (last ∷ [])
+
 -- a letter and a space put before the digits of a number
 pub line_put : (letter start n : ℕ) (line : List ℕ) → 2 ≤ start → start ≤ length line → drop start line ≡ decimal n ++ line_feed ∷ []
     → drop (start - 2) (set (set line (start - 1) 32) (start - 2) letter) ≡ line_of (numbered_line (letter ∷ []) n)

@@ -130,46 +130,7 @@ pub fn front_alike(bytes: &[u8], letter: u8, digits: usize) -> Option<(u32, usiz
     short_number(others)
 }
 
-/// The same, but for the line's length in place of how many digits it has.
-#[inline(always)]
-fn front_short(bytes: &[u8], letter: u8) -> Option<(u32, usize)>
-    ensures { IfSome result (λ front. IsNumber front.0
-        × StandsFirst bytes.now (numbered_line (letter ∷ []) front.0) front.1) }
-{
-    let Some(word) = behind(bytes, letter) else {
-        return None;
-    };
-    let Some(digits) = behind(word, b' ') else {
-        return None;
-    };
-    let Some((n, len)) = short_number(digits) else {
-        return None;
-    };
-    Some((n, len + 2))
-}
-
-/// The same with eight or nine digits.
-#[inline(never)]
-fn front_long(bytes: &[u8], letter: u8) -> Option<(u32, usize)>
-    ensures { IfSome result (λ front. IsNumber front.0
-        × StandsFirst bytes.now (numbered_line (letter ∷ []) front.0) front.1) }
-{
-    let Some(word) = behind(bytes, letter) else {
-        return None;
-    };
-    let Some(digits) = behind(word, b' ') else {
-        return None;
-    };
-    if digits.len() < 9 {
-        return None;
-    }
-    let Some((n, len)) = long_line_number(digits) else {
-        return None;
-    };
-    Some((n, len + 2))
-}
-
-/// The same with one digit.
+/// The number of one digit of such a line. None says nothing.
 #[inline(always)]
 fn front_digit(bytes: &[u8], letter: u8) -> Option<u8>
     ensures { IfSome result (λ n. (n ≤ 9) × StandsFirst bytes.now (numbered_line (letter ∷ []) n) 3) }
@@ -184,7 +145,7 @@ fn front_digit(bytes: &[u8], letter: u8) -> Option<u8>
     Some(digit - b'0')
 }
 
-/// The same with fewer than ten digits.
+/// The number of fewer than ten digits of such a line, and the line's length. None says nothing.
 #[inline(always)]
 pub fn front_number(bytes: &[u8], letter: u8) -> Option<(u32, usize)>
     ensures { IfSome result (λ front. IsNumber front.0
@@ -197,16 +158,37 @@ pub fn front_number(bytes: &[u8], letter: u8) -> Option<(u32, usize)>
     front_digits(bytes, letter)
 }
 
-/// The same with fewer than ten digits, and mostly more than one.
+/// The same, where it mostly has more than one digit.
 #[inline(never)]
 fn front_digits(bytes: &[u8], letter: u8) -> Option<(u32, usize)>
     ensures { IfSome result (λ front. IsNumber front.0
         × StandsFirst bytes.now (numbered_line (letter ∷ []) front.0) front.1) }
 {
-    if let Some(front) = front_short(bytes, letter) {
-        return Some(front);
+    let Some(word) = behind(bytes, letter) else {
+        return None;
+    };
+    let Some(digits) = behind(word, b' ') else {
+        return None;
+    };
+    let Some((n, len)) = digits_number(digits) else {
+        return None;
+    };
+    Some((n, len + 2))
+}
+
+/// The number of fewer than ten digits, and not 0, that stands first, with a line feed behind it, and how many digits it
+/// has. None says nothing.
+#[inline(always)]
+fn digits_number(bytes: &[u8]) -> Option<(u32, usize)>
+    ensures { IfSome result (λ first. IsNumber first.0 × StandsFirst bytes.now (decimal first.0) first.1) }
+{
+    if let Some(first) = short_number(bytes) {
+        return Some(first);
     }
-    front_long(bytes, letter)
+    if bytes.len() < 9 {
+        return None;
+    }
+    long_line_number(bytes)
 }
 
 /// The number of eight or nine digits that stands first, and the bytes behind it. None says nothing.

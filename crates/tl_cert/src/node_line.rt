@@ -108,25 +108,6 @@ fn node_start(version: u8, line: &[u8]) -> Option<NodeStart>
     leaf_start(others)
 }
 
-/// The leaf whose line stands whole at the front of the bytes, and the line's length. None says nothing.
-#[inline(always)]
-fn front_leaf(bytes: &[u8]) -> Option<(NodeStart, usize)>
-    requires { 52 ≤ length bytes.now }
-    ensures { IfSome result (λ front. (version : ℕ) → NodeFits version front.0
-        × StandsFirst bytes.now (node_line version front.0) front.1) }
-{
-    let Some(words) = next_behind(bytes, b'L') else {
-        return None;
-    };
-    let Some((rect, others)) = front_rectangle(words) else {
-        return None;
-    };
-    let Some((items, rest)) = front_small(others, 1) else {
-        return None;
-    };
-    Some((NodeStart::Leaf(rect, items), bytes.len() - rest.len() - 1))
-}
-
 /// How many children the bytes tell of, up to the line's end, and the bytes behind it. None says nothing.
 #[inline(always)]
 fn front_children(version: u8, bytes: &[u8]) -> Option<(u8, &[u8])>
@@ -143,24 +124,6 @@ fn front_children(version: u8, bytes: &[u8]) -> Option<(u8, &[u8])>
     Some((LEAST_CHILDREN, rest))
 }
 
-/// The inner node whose line stands whole at the front of the bytes, and the line's length. None says nothing.
-#[inline(always)]
-fn front_inner(version: u8, bytes: &[u8]) -> Option<(NodeStart, usize)>
-    requires { 52 ≤ length bytes.now }
-    ensures { IfSome result (λ front. NodeFits version front.0 × StandsFirst bytes.now (node_line version front.0) front.1) }
-{
-    let Some(words) = next_behind(bytes, b'B') else {
-        return None;
-    };
-    let Some((rect, others)) = front_rectangle(words) else {
-        return None;
-    };
-    let Some((k, rest)) = front_children(version, others) else {
-        return None;
-    };
-    Some((NodeStart::Inner(rect, k), bytes.len() - rest.len() - 1))
-}
-
 /// The node whose line stands whole at the front of the bytes, and the line's length. None says nothing.
 #[inline(always)]
 fn front_node(version: u8, bytes: &[u8]) -> Option<(NodeStart, usize)>
@@ -170,10 +133,22 @@ fn front_node(version: u8, bytes: &[u8]) -> Option<(NodeStart, usize)>
     if bytes.len() < MOST_BYTES {
         return None;
     }
+    let Some((rect, others)) = front_rectangle(&bytes[1..]) else {
+        return None;
+    };
     if bytes[0] == b'L' {
-        return front_leaf(bytes);
+        let Some((items, rest)) = front_small(others, 1) else {
+            return None;
+        };
+        return Some((NodeStart::Leaf(rect, items), bytes.len() - rest.len() - 1));
     }
-    front_inner(version, bytes)
+    if bytes[0] != b'B' {
+        return None;
+    }
+    let Some((k, rest)) = front_children(version, others) else {
+        return None;
+    };
+    Some((NodeStart::Inner(rect, k), bytes.len() - rest.len() - 1))
 }
 
 /// How many children a node has.

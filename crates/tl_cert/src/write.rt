@@ -1,6 +1,6 @@
 //! The text of a certificate, on its way to a sink.
 
-ghost use Rattle.std.specs.Prelude.{◌≡◌, ◌≤◌, ◌∷◌, [], length, map};
+ghost use Rattle.std.specs.Prelude.{◌≡◌, ◌⊎◌, ◌≤◌, ◌∷◌, [], length, map};
 ghost use Rattle.tl_record.specs.Lines.{joined_lines};
 ghost use Rattle.tl_output.specs.Writing.{CountsFailure, TriesToPassOn, line_of};
 ghost use Rattle.tl_cert.specs.Text;
@@ -10,18 +10,17 @@ ghost use Rattle.tl_cert.specs.Beginnings.{IsTextOf};
 ghost use Rattle.tl_cert.specs.Writing.{WritesCertificate};
 
 use crate::certificate::{Certificate, Counts};
-use crate::put::{put_node, put_number, put_numbers};
+use crate::put::{put_counts, put_node, put_number, put_numbers};
 use crate::range::look_at_certificate;
 use crate::stop::WriteStop;
-use arrayvec::ArrayString;
-use itoa::{Buffer, write_digits};
+use itoa::write_digits;
 use std::io;
 use tl_index::TreeNode;
 use tl_output::OutputBuffer;
 use tl_record::Sink;
 
-// Room for the head or the line of the counts, with its line feed.
-const ROOM: usize = 64;
+// Room for the line of the counts: a letter, four spaces, four numbers of up to ten digits and a line feed.
+const COUNTS_ROOM: usize = 46;
 
 // Room for a letter, a space, a number of up to twenty digits and a line feed.
 const NUMBER_ROOM: usize = 23;
@@ -88,12 +87,24 @@ fn write_head<W: Sink>(
     buffer: &mut OutputBuffer,
     out: &mut W,
 ) -> io::Result<()>
+    requires { (version ≡ 1) ⊎ (version ≡ 2) }
     ensures bytes { TriesToPassOn (W.contents out.old) (W.contents out.new) buffer.old buffer.new
         (joined_lines (Text.head_line version ∷ Text.counts_line counts ∷ [])) result }
     ensures failures { CountsFailure (W.failure_count out.old) (W.failure_count out.new) result }
 {
-    buffer.add(head_line(version).as_str().as_bytes(), out)?;
-    buffer.add(counts_line(counts).as_str().as_bytes(), out)
+    buffer.add(head_line(version), out)?;
+    write_counts(counts, buffer, out)
+}
+
+// Writes the counts.
+fn write_counts<W: Sink>(counts: Counts, buffer: &mut OutputBuffer, out: &mut W) -> io::Result<()>
+    ensures bytes { TriesToPassOn (W.contents out.old) (W.contents out.new) buffer.old buffer.new
+        (line_of (Text.counts_line counts)) result }
+    ensures failures { CountsFailure (W.failure_count out.old) (W.failure_count out.new) result }
+{
+    let mut text = [0; COUNTS_ROOM];
+    let start = put_counts(counts, &mut text, COUNTS_ROOM);
+    buffer.add(&text[start..], out)
 }
 
 // Writes the number of nodes, and the nodes.
@@ -270,30 +281,13 @@ fn write_number<W: Sink>(
     buffer.add(&line[digits - 2..], out)
 }
 
-fn head_line(version: u8) -> ArrayString<ROOM>
-    ensures { result.bytes ≡ line_of (Text.head_line version) }
+// The line of the version, with its line feed.
+fn head_line(version: u8) -> &'static [u8]
+    requires { (version ≡ 1) ⊎ (version ≡ 2) }
+    ensures { result.now ≡ line_of (Text.head_line version) }
 {
-    let mut line = ArrayString::new();
-    let mut digits = Buffer::new();
-    line.push_str("TIGERCERT ");
-    line.push_str(digits.format(version));
-    line.push_str("\n");
-    line
-}
-
-fn counts_line(counts: Counts) -> ArrayString<ROOM>
-    ensures { result.bytes ≡ line_of (Text.counts_line counts) }
-{
-    let mut line = ArrayString::new();
-    let mut digits = Buffer::new();
-    line.push_str("C ");
-    line.push_str(digits.format(counts.chains));
-    line.push_str(" ");
-    line.push_str(digits.format(counts.segments));
-    line.push_str(" ");
-    line.push_str(digits.format(counts.nodes));
-    line.push_str(" ");
-    line.push_str(digits.format(counts.polygons));
-    line.push_str("\n");
-    line
+    if version == 1 {
+        return b"TIGERCERT 1\n".as_slice();
+    }
+    b"TIGERCERT 2\n".as_slice()
 }

@@ -13,6 +13,8 @@ use Rattle.tl_cert.specs.declared.certificate.Counts.{Counts}
 use Rattle.tl_check.specs.declared.state.State.{State}
 use Rattle.tl_check.specs.declared.state.Halt.{Halt}
 use Rattle.tl_check.specs.declared.state.Halt.TheVariants as halt
+use Rattle.tl_verdict.specs.declared.fault.MapFault.{MapFault}
+use Rattle.tl_verdict.specs.declared.fault.MapFault.TheVariants.{Records, Meet, Side, PolygonPoint, Cell}
 use Rattle.tl_verdict.specs.declared.verdict.Report.{Report}
 use Rattle.tl_verdict.specs.declared.verdict.Verdict.TheVariants as verdict
 use Rattle.tl_verdict.specs.declared.stop.Stop.TheVariants.{Record, Memory, Device, Budget}
@@ -21,21 +23,42 @@ use Rattle.tl_verdict.specs.Valid.{AreCounts, IsTree, AllowsSearch, IsValid}
 use Rattle.tl_verdict.specs.Truth.{IsTrueOfMap, IsTrueOfCert, IsOfDarts}
 use Rattle.tl_verdict.specs.Verdicts.{Answer, OnSound, IfSound, IfMapFault, IfCertFault, OnSearched, IsReport, MayStop}
 use Rattle.tl_check.specs.Keeping.Answers.{answer_of}
-use Rattle.tl_check.specs.Keeping.Parts.{LeadsBehindTree, MayHalt, MayEnd, UnlessMemory}
-use Rattle.tl_check.specs.Keeping.Streams.{IsSoundByCert, Shows}
+use Rattle.tl_check.specs.Keeping.Parts.{Holds, IsSearched, IsBehindSearch, LeadsBehindTree, MayHalt, MayEnd, UnlessMemory}
+use Rattle.tl_check.specs.Keeping.Streams.{IsSoundByCert, Shows, IsConcluded}
 use Rattle.tl_check.proofs.Prefixes.{first_rounds, first_walks}
 use Rattle.tl_check.proofs.Searched.{fault_searched}
 use Rattle.tl_check.proofs.Shown.{are_closed, is_report}
 
-pub halted : (m : TheMap) (c : TheCertificate) (budget : ℕ) (why : Halt) → MayHalt m budget why → AreCounts m c.counts → UnlessMemory why (IsTree m c.tree) → Shows m c budget (answer_of why)
-halted m c budget (halt.Fault fault) may counts tree = (may, record { counts = counts; tree = tree })
-halted m c budget halt.Memory may counts tree = tt
-halted m c budget halt.Budget may counts tree = (may, record { counts = counts; tree = tree })
+pub halted : (m : TheMap) (c : TheCertificate) (budget : ℕ) (why : Halt) → MayHalt m budget why → UnlessMemory why (AreCounts m c.counts × IsTree m c.tree) → Shows m c budget (answer_of why)
+halted m c budget (halt.Fault fault) may known = (may, record { counts = known.0; tree = known.1 })
+halted m c budget halt.Memory may known = tt
+halted m c budget halt.Budget may known = (may, record { counts = known.0; tree = known.1 })
 
 pub ended : (m : TheMap) (c : TheCertificate) (budget : ℕ) (why : Halt) → MayEnd m why → AllowsSearch m c → Shows m c budget (answer_of why)
 ended m c budget (halt.Fault fault) may allows = (may, allows)
 ended m c budget halt.Memory may allows = tt
 ended m c budget halt.Budget may allows = absurd may
+
+-- what is concluded of a certificate in memory
+searched_true : (m : TheMap) (fault : MapFault) (P : Type 0) → IsTrueOfMap m fault → OnSearched (Ok (verdict.MapFault fault)) P → P
+searched_true m (Records fault) P true so = absurd true
+searched_true m (Meet meet) P true so = so
+searched_true m (Side node first next) P true so = so
+searched_true m (PolygonPoint fault) P true so = so
+searched_true m (Cell odds) P true so = so
+
+pub concluded_shows : (m : TheMap) (c : TheCertificate) (budget : ℕ) (s : State) (answer : Answer) → Holds m c s → IsSearched m budget s → IsBehindSearch m s → IsConcluded m s answer → Shows m c budget answer
+concluded_shows m c budget s (Ok (verdict.Sound report)) held searched behind so =
+    let shown = so.concludes c held in
+    record { rings = shown.0; shown = shown.1; numbers = shown.2; within = so.within budget searched }
+concluded_shows m c budget s (Ok (verdict.MapFault fault)) held searched behind so =
+    let true = so.concludes c held in
+    (true, searched_true m fault _ true so.allowed c held)
+concluded_shows m c budget s (Ok (verdict.CertFault fault)) held searched behind so = (so.concludes c held, so.behind behind)
+concluded_shows m c budget s (Err (Record line cause)) held searched behind so = so.concludes c held
+concluded_shows m c budget s (Err Memory) held searched behind so = tt
+concluded_shows m c budget s (Err Device) held searched behind so = so.concludes c held
+concluded_shows m c budget s (Err Budget) held searched behind so = absurd (so.concludes c held)
 
 -- what ends behind the search may halt there
 pub may_halt : (m : TheMap) (budget : ℕ) (why : Halt) → MayEnd m why → MayHalt m budget why

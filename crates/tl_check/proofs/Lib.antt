@@ -11,3 +11,4 @@ pub mod Treed
 pub mod Stopping
 pub mod Rounding
 pub mod Deciding
+pub mod Reading

@@ -33,7 +33,7 @@ use Rattle.tl_verdict.specs.Texts.{IsTrueOfText, TellsDevice}
 use Rattle.tl_verdict.specs.Verdicts.{Answer}
 use Rattle.tl_check.specs.Keeping.Answers.{stop_of}
 use Rattle.tl_check.specs.Keeping.Parts.{Holds, TakesRounds, with_round, with_walk}
-use Rattle.tl_check.specs.Keeping.Streams.{Stands, Suits, Decides, Concludes}
+use Rattle.tl_check.specs.Keeping.Streams.{Stands, Suits, MayCome, TakesBehind, Decides, Concludes}
 use Rattle.tl_check.proofs.Prefixes.{has_some}
 use Rattle.tl_check.proofs.Shown.{are_closed, is_report}
 
@@ -156,6 +156,38 @@ module _ {R : Type 0} (remaining : R → Option (List ℕ)) (m : TheMap) (budget
       go (Treed version) so suits at = made at.0 at.4.0 at.4.1 (collects_more remaining (Treed version) first old now st.cert c (part.Walk darts) so at refl)
       go (Rounds left) so suits at = made at.0 at.4.0 at.4.1 (collects_more remaining (Rounds left) first old now st.cert c (part.Walk darts) so at refl)
       go (Walks left) so suits at = made at.0 at.4.0 at.4.1 (collects_more remaining (Walks left) first old now st.cert c (part.Walk darts) so at refl)
+
+  -- one of them
+  pub record IsPartRead (now : CertReader R) (c : TheCertificate) (given : CertPart) : Type 0 where
+    pub place : Place
+    pub collects : Collects remaining place first now (with_part c given)
+    pub suits : (s : State) → TakesBehind given s → Suits place s
+    pub counts : (with_part c given).counts ≡ c.counts
+    pub tree : (with_part c given).tree ≡ c.tree
+
+  pub part_read : (old now : CertReader R) (s : State) (given : CertPart) (st : Stands remaining m first old s) → Gives remaining old now (Ok (Some given)) (standing_of old) → IsPartRead now st.cert given × MayCome given s
+  part_read old now s (part.Counts counts v) st gives = go st.place st.suits (gives_here remaining old now (Ok (Some (part.Counts counts v))) st.place st.collects.standing gives)
+    where
+      go : {P : Type 0} (place : Place) → Suits place s → GivesAt remaining place old now (Ok (Some (part.Counts counts v))) → P
+      go Start suits at = absurd suits
+      go (Counted version) suits at = absurd suits
+      go (Treed version) suits at = absurd at.4
+      go (Rounds left) suits at = absurd at.4
+      go (Walks left) suits at = absurd at.4
+  part_read old now s (part.Tree nodes) st gives = go st.place st.suits (gives_here remaining old now (Ok (Some (part.Tree nodes))) st.place st.collects.standing gives)
+    where
+      go : {P : Type 0} (place : Place) → Suits place s → GivesAt remaining place old now (Ok (Some (part.Tree nodes))) → P
+      go Start suits at = absurd suits
+      go (Counted version) suits at = absurd suits
+      go (Treed version) suits at = absurd at.4
+      go (Rounds left) suits at = absurd at.4
+      go (Walks left) suits at = absurd at.4
+  part_read old now s (part.Round darts) st gives =
+      let r = round_read old now s darts st gives in
+      (record { place = Rounds r.0.left; collects = r.0.collects; suits = λ next takes. takes; counts = refl; tree = refl }, (r.0.some, r.1))
+  part_read old now s (part.Walk darts) st gives =
+      let r = walk_read old now s darts st gives in
+      (record { place = Walks r.left; collects = r.collects; suits = λ next takes. takes; counts = refl; tree = refl }, r.some)
 
   -- the end
   true_of_text : (c : TheCertificate) (text : List ℕ) (f : CertFault) → IsTextOf c text → IsTrueOfCert m c f → IsTrueOfText m text f

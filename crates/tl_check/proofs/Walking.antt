@@ -1,5 +1,5 @@
 -- Walks that are kept as rings.
-use Rattle.std.proofs.Common.{◌≡◌, ℕ, Result, Ok, Err, IfOk, IfErr, ◌*◌, ◌<◌, List, [], ◌∷◌, length, All, refl, sym, subst, ap, ◌∙◌, append_assoc, arith}
+use Rattle.std.proofs.Common.{◌≡◌, ℕ, Vec, Global, Result, Ok, Err, ◌*◌, ◌<◌, List, [], ◌∷◌, length, All, refl, sym, subst, ap, ◌∙◌, append_assoc, arith}
 use Rattle.std.specs.Prelude.{slice_index}
 use Rattle.std.proofs.lemmas.List.{get_or_default}
 use Rattle.tl_county.specs.TheMap.{TheMap, MapChain}
@@ -12,9 +12,12 @@ use Rattle.tl_sides.proofs.ListLemmas.{length-and, list-last}
 use Rattle.tl_inside.specs.Placed.{ArePlaced}
 use Rattle.tl_rings.specs.Rings.{TheRings, AreBoxed}
 use Rattle.tl_cert.specs.Certificates.{TheCertificate}
+use Rattle.tl_cert.specs.declared.place.CertPart.TheVariants as part
 use Rattle.tl_check.specs.declared.state.State.{State}
+use Rattle.tl_check.specs.declared.state.State.TheVariants as state
 use Rattle.tl_check.specs.declared.state.Halt.{Halt}
 use Rattle.tl_check.specs.Keeping.Parts.{Continues, TakesWalks, AreWalksSoFar, IsLed, Leads, IsWalked, IsShown, with_walk}
+use Rattle.tl_check.specs.Keeping.Streams.{LeadsBy}
 
 -- a walk that was taken is of darts
 pub darts_known : (chains : List MapChain) (walks : List (List ℕ)) (walk : List ℕ) (w : Walks) → HaveWalked chains (and_list walks walk) w → All (λ d. d < 2 * length chains) walk
@@ -51,13 +54,6 @@ shown_by m c count rings w placed = record {
   counted = w.counted;
 }
 
--- what is told of an answer within an answer
-pub told_ok : {X E : Type 0} (P : X → Type 0) (r : Result X E) (x : X) → r ≡ Ok x → IfOk r P → P x
-told_ok P r x is told = subst (λ z. IfOk z P) is told
-
-pub told_err : {X E : Type 0} (P : E → Type 0) (r : Result X E) (e : E) → r ≡ Err e → IfErr r P → P e
-told_err P r e is told = subst (λ z. IfErr z P) is told
-
 -- a walk that is taken where the rounds have ended
 pub leads_on : (m : TheMap) (walk : List ℕ) (old ended : State) (r : Result State Halt) → IsLed m (λ c. c) TakesWalks old ended → Leads m (λ c. with_walk c walk) ended r → Leads m (λ c. with_walk c walk) old r
 leads_on m walk old ended (Ok next) led leads = record {
@@ -71,8 +67,13 @@ leads_on m walk old ended (Err halt) led leads = record {
   allowed = λ c held. leads.allowed c (led.holds c held);
 }
 
+-- a walk leads as a part does
+pub leads_walk : (m : TheMap) (walk : Vec ℕ Global) (old : State) (r : Result State Halt) → Leads m (λ c. with_walk c walk.items) old r → LeadsBy m (part.Walk walk) old r
+leads_walk m walk old (Ok next) leads = leads
+leads_walk m walk old (Err halt) leads = leads
+
 -- what goes on behind one walk more goes on before it
-pub goes_on_before : (c d : TheCertificate) (walk : List ℕ) → Continues (with_walk c walk) d → Continues c d
+goes_on_before : (c d : TheCertificate) (walk : List ℕ) → Continues (with_walk c walk) d → Continues c d
 goes_on_before c d walk on = record {
   counts = on.counts;
   tree = on.tree;
@@ -80,4 +81,21 @@ goes_on_before c d walk on = record {
   rounds = on.rounds;
   more_walks = walk ∷ on.more_walks;
   walks = on.walks ∙ append_assoc c.walks (walk ∷ []) on.more_walks;
+}
+
+-- a walk that is passed over, since the parts before it are wrong
+pub walk_passed : (m : TheMap) (walk : List ℕ) (s : State) → TakesWalks s → ((walks : Walks) (rings : TheRings) → s ≡ state.Walking walks rings → ⊥) → IsLed m (λ c. with_walk c walk) TakesWalks s s
+walk_passed m walk (state.Rounding rounds) takes ne = absurd takes
+walk_passed m walk (state.Walking walks rings) takes ne = absurd (ne walks rings refl)
+walk_passed m walk (state.Unrounded fault) takes ne = record {
+  holds = λ c held. held;
+  takes = takes;
+  searched = λ n searched. searched;
+  behind = λ behind. behind;
+}
+walk_passed m walk (state.Wrong fault) takes ne = record {
+  holds = λ c held d on. held d (goes_on_before c d walk on);
+  takes = takes;
+  searched = λ n searched. searched;
+  behind = λ behind. behind;
 }

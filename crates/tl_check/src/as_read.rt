@@ -1,6 +1,6 @@
 //! The check of a map by a certificate that is checked as its parts come.
 
-ghost use Rattle.std.specs.Prelude.{◌≡◌, ◌<◌, ◌≤◌, ◌^◌, zero, length, IfOk, IfErr};
+ghost use Rattle.std.specs.Prelude.{◌≡◌, ◌<◌, ◌≤◌, ◌^◌, length, IfOk, IfErr};
 ghost use Rattle.std.specs.Option.{IfSome};
 ghost use Rattle.tl_index.specs.Preorder.{IsPreorder};
 ghost use Rattle.tl_planar.specs.Planar.{IsPlanar};
@@ -17,21 +17,21 @@ ghost use Rattle.tl_verdict.specs.Valid.{AreCounts, IsTree};
 ghost use Rattle.tl_verdict.specs.Truth.{IsTrueOfMap, IsOfDarts};
 ghost use Rattle.tl_verdict.specs.Verdicts.{OnSound, IfSound, IfMapFault, IfCertFault, UnlessMeet, OnSearched, IsReport};
 ghost use Rattle.tl_verdict.specs.Texts.{IsTrueOfText, IsValidText, TextAllowsSearch, MayStopReading, TellsDevice};
-ghost use Rattle.tl_check.specs.Keeping.Parts.{with_walk, Holds, Leads, LeadsBehindTree};
-ghost use Rattle.tl_check.specs.Keeping.Streams.{IsBehindTree, IsAnswer, IsConcluded};
+ghost use Rattle.tl_check.specs.Keeping.Parts.{Holds, LeadsBehindTree};
+ghost use Rattle.tl_check.specs.Keeping.Streams.{IsBehindTree, IsAnswer, MayCome, LeadsBy};
 
 use crate::answer::{answer, stopped};
 use crate::counts::are_counts;
 use crate::rounds::{end_rounds, take_round};
 use crate::state::{Halt, State};
 use crate::tree::take_tree;
-use crate::walks::{finish_walks, take_walk};
+use crate::walks::{conclude, take_walk};
 use std::alloc::Global;
 use tl_cert::{CertPart, CertReader, Counts};
 use tl_county::Map;
 use tl_index::TreeNode;
 use tl_record::Source;
-use tl_verdict::{CertFault, Stop, Verdict, report};
+use tl_verdict::{CertFault, Stop, Verdict};
 
 /// Decides whether a map is sound, by the text of a certificate of it, read to its end unless segments meet that may not
 /// or a stop comes first. Of the certificate its tree is kept, and its walks as they come.
@@ -96,12 +96,10 @@ fn check_parts<R: Source>(
     };
     'parts: loop {
         match reader.next_part() {
-            Ok(Some(CertPart::Round(darts))) => state = take_round(map, state, &darts),
-            Ok(Some(CertPart::Walk(darts))) => match end_and_walk(alloc, map, state, &darts) {
+            Ok(Some(part)) => match take_part(alloc, map, state, part) {
                 Ok(next) => state = next,
                 Err(halt) => return answer(halt),
             },
-            Ok(Some(_)) => unreachable!(),
             Ok(None) => return conclude(alloc, map, &nodes, state),
             Err(stop) => return stopped(stop),
         }
@@ -141,7 +139,7 @@ fn take_head<'a, R: Source>(
 }
 
 /// Takes the counts and the tree: each certificate that begins so is wrong where the counts aren't the map's.
-fn take_counted<'a>(
+pub fn take_counted<'a>(
     alloc: Global,
     map: &Map,
     counts: Counts,
@@ -160,37 +158,23 @@ fn take_counted<'a>(
     }
 }
 
-/// Takes one walk more: rounds that haven't ended yet end before it.
-fn end_and_walk<'a>(
+/// Takes one part more, a round or a walk: rounds that haven't ended yet end before a walk.
+fn take_part<'a>(
     alloc: Global,
     map: &Map,
     state: State<'a>,
-    walk: &[u32],
+    part: CertPart,
 ) -> Result<State<'a>, Halt>
-    requires some { zero < length walk.now }
+    requires comes { MayCome part state }
     requires held { (c : TheCertificate) × Holds map.now c state }
-    ensures { Leads map.now (λ c. with_walk c walk.now) state.entry result }
+    ensures { LeadsBy map.now part state.entry result }
 {
-    match end_rounds(alloc, map, state, &[]) {
-        Ok(next) => take_walk(map, next, walk),
-        Err(halt) => Err(halt),
-    }
-}
-
-/// The answer behind the last part.
-fn conclude(alloc: Global, map: &Map, nodes: &[TreeNode], state: State) -> Result<Verdict, Stop>
-    requires whole { IsPreorder nodes.now }
-    requires numbered { length nodes.now < 2 ^ 32 }
-    requires held { (c : TheCertificate) × Holds map.now c state × (c.tree ≡ nodes.now) }
-    ensures { IsConcluded map.now state.entry result }
-{
-    let ended = match end_rounds(alloc, map, state, &[]) {
-        Ok(ended) => ended,
-        Err(halt) => return answer(halt),
-    };
-    match finish_walks(alloc, map, nodes, ended) {
-        Ok(Ok(rings)) => Ok(Verdict::Sound(report(map, rings))),
-        Ok(Err(fault)) => Ok(Verdict::CertFault(fault)),
-        Err(halt) => answer(halt),
+    match part {
+        CertPart::Round(darts) => Ok(take_round(map, state, &darts)),
+        CertPart::Walk(darts) => match end_rounds(alloc, map, state, &[]) {
+            Ok(ended) => take_walk(map, ended, &darts),
+            Err(halt) => Err(halt),
+        },
+        CertPart::Counts(_, _) | CertPart::Tree(_) => unreachable!(),
     }
 }

@@ -13,14 +13,13 @@ ghost use Rattle.tl_check.specs.Keeping.Streams.{Shows};
 ghost use Rattle.tl_verdict.specs.Verdicts.{OnSound, IfSound, IfMapFault, IfCertFault, UnlessMeet, OnSearched, IsReport, MayStop};
 
 use crate::answer::answer;
-use crate::counts::are_counts;
+use crate::as_read::take_counted;
 use crate::rounds::{end_rounds, take_round};
-use crate::tree::take_tree;
-use crate::walks::{finish_walks, take_walk};
+use crate::walks::{conclude, take_walk};
 use std::alloc::Global;
 use tl_cert::Certificate;
 use tl_county::Map;
-use tl_verdict::{CertFault, Stop, Verdict, report};
+use tl_verdict::{Stop, Verdict};
 
 /// Decides whether a map is sound, by a certificate of it. `budget` is how many pairs of segments may be tested whose
 /// rectangles meet.
@@ -64,10 +63,7 @@ fn check_whole(alloc: Global, map: &Map, cert: &Certificate, budget: u64) -> Res
     ensures shows { Shows map.now cert.now budget result }
     ensures meets { UnlessMeet result (AllowsSearch map.now cert.now → IsPlanar map.now.chains) }
 {
-    if !are_counts(map, cert.counts()) {
-        return Ok(Verdict::CertFault(CertFault::Counts));
-    }
-    let mut state = match take_tree(alloc, map, cert.tree(), budget) {
+    let mut state = match take_counted(alloc, map, cert.counts(), cert.tree(), budget) {
         Ok(state) => state,
         Err(halt) => return answer(halt),
     };
@@ -84,9 +80,5 @@ fn check_whole(alloc: Global, map: &Map, cert: &Certificate, budget: u64) -> Res
             Err(halt) => return answer(halt),
         };
     }
-    match finish_walks(alloc, map, cert.tree(), state) {
-        Ok(Ok(rings)) => Ok(Verdict::Sound(report(map, rings))),
-        Ok(Err(fault)) => Ok(Verdict::CertFault(fault)),
-        Err(halt) => answer(halt),
-    }
+    conclude(alloc, map, cert.tree(), state)
 }

@@ -15,10 +15,12 @@ ghost use Rattle.tl_verdict.specs.Verdicts.{OnSound, IfSound, IfMapFault, IfCert
 ghost use Rattle.tl_verdict.specs.Texts.{IsTrueOfText, IsValidText, TextAllowsSearch};
 ghost use Rattle.tl_verdict.specs.Records.{HaveMap, IsTrueOfRecords, MayStopOn, TellsEither, LeavesUnread};
 ghost use Rattle.tl_check.specs.Keeping.Answers.{refusal_of};
+ghost use Rattle.tl_check.specs.Keeping.Read.{IsOfRead};
 
 use crate::as_read::check_cert;
 use std::alloc::Global;
 use std::hash::RandomState;
+use tl_county::Map;
 use tl_map::{MapStop, read_map_with};
 use tl_record::{Options, Source};
 use tl_verdict::{MapFault, Stop, Verdict};
@@ -139,7 +141,20 @@ pub fn check_with<R: Source, S: Source>(
     ensures failures { TellsEither (R.failure_count records.old) (R.failure_count records.new)
         (S.failure_count cert.old) (S.failure_count cert.new) result }
 {
-    match read_map_with(alloc, hasher, records, options) {
+    let read = read_map_with(alloc, hasher, records, options);
+    check_read(alloc, read, cert, budget)
+}
+
+/// Decides whether the map that was read of records is sound, or tells why there is none.
+fn check_read<S: Source>(
+    alloc: Global,
+    read: Result<Map, MapStop>,
+    cert: &mut S,
+    budget: u64,
+) -> Result<Verdict, Stop>
+    ensures { IsOfRead S.remaining S.failure_count read budget cert.old cert.new result }
+{
+    match read {
         Ok(map) => check_cert(alloc, &map, cert, budget),
         Err(stop) => refused(stop),
     }

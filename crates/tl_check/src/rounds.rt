@@ -23,8 +23,7 @@ pub fn take_round<'a>(map: &Map, state: State<'a>, round: &[u32]) -> State<'a>
             Ok(()) => State::Rounding(rounds),
             Err(fault) => State::Wrong(CertFault::Round(fault)),
         },
-        State::Wrong(fault) => State::Wrong(fault),
-        State::Walking(_, _) | State::Unrounded(_) => unreachable!(),
+        wrong => wrong,
     }
 }
 
@@ -41,9 +40,7 @@ pub fn end_rounds<'a>(
 {
     match state {
         State::Rounding(rounds) => begin_walks(alloc, map, rounds, lent),
-        State::Walking(walks, rings) => Ok(State::Walking(walks, rings)),
-        State::Unrounded(fault) => Ok(State::Unrounded(fault)),
-        State::Wrong(fault) => Ok(State::Wrong(fault)),
+        ended => Ok(ended),
     }
 }
 

@@ -3,15 +3,18 @@
 ghost use Rattle.std.specs.Prelude.{◌≡◌, ◌<◌, ◌^◌, zero, length, IfOk, IfErr};
 ghost use Rattle.tl_index.specs.Preorder.{IsPreorder};
 ghost use Rattle.tl_cert.specs.Certificates.{TheCertificate};
-ghost use Rattle.tl_check.specs.Keeping.Parts.{with_walk, Holds, Leads, TakesWalks, IsEnded, IsFinished, IsFaulty, IsHalted};
+ghost use Rattle.tl_check.specs.Keeping.Parts.{with_walk, Holds, Leads, TakesWalks, IsEnded, IsFaulty};
+ghost use Rattle.tl_check.specs.Keeping.Streams.{IsConcluded};
 
+use crate::answer::answer;
 use crate::points::look_at_points;
+use crate::rounds::end_rounds;
 use crate::state::{Halt, State};
 use std::alloc::Global;
 use tl_county::Map;
 use tl_index::TreeNode;
 use tl_rings::Rings;
-use tl_verdict::CertFault;
+use tl_verdict::{CertFault, Stop, Verdict, report};
 
 /// Takes one walk more, and keeps it.
 pub fn take_walk<'a>(map: &Map, state: State<'a>, walk: &[u32]) -> Result<State<'a>, Halt>
@@ -28,34 +31,28 @@ pub fn take_walk<'a>(map: &Map, state: State<'a>, walk: &[u32]) -> Result<State<
             },
             Err(fault) => Ok(State::Wrong(CertFault::Walk(fault))),
         },
-        State::Unrounded(fault) => Ok(State::Unrounded(fault)),
-        State::Wrong(fault) => Ok(State::Wrong(fault)),
-        State::Rounding(_) => unreachable!(),
+        faulty => Ok(faulty),
     }
 }
 
-/// Ends the walks, and looks at the points of polygons by the rings that were kept: the map is sound and the certificate
-/// has so many walks, or it has a fault.
-pub fn finish_walks(
-    alloc: Global,
-    map: &Map,
-    nodes: &[TreeNode],
-    state: State,
-) -> Result<Result<u32, CertFault>, Halt>
+/// The answer behind the last part. Rounds that haven't ended yet end first, and then the walks. Where both are the map's,
+/// the points of polygons are looked at by the rings that were kept, and the map is sound if they lie where they have to.
+pub fn conclude(alloc: Global, map: &Map, nodes: &[TreeNode], state: State) -> Result<Verdict, Stop>
     requires whole { IsPreorder nodes.now }
     requires numbered { length nodes.now < 2 ^ 32 }
     requires held { (c : TheCertificate) × Holds map.now c state × (c.tree ≡ nodes.now) }
-    requires takes { TakesWalks state }
-    ensures finished { IfOk result (λ ended. IfOk ended (IsFinished map.now state.entry)) }
-    ensures faulty { IfOk result (λ ended. IfErr ended (IsFaulty map.now state.entry)) }
-    ensures halted { IfErr result (IsHalted map.now state.entry) }
+    ensures { IsConcluded map.now state.entry result }
 {
-    match end_walks(map, state) {
+    let ended = match end_rounds(alloc, map, state, &[]) {
+        Ok(ended) => ended,
+        Err(halt) => return answer(halt),
+    };
+    match end_walks(map, ended) {
         Ok((count, rings)) => match look_at_points(alloc, map, nodes, &rings) {
-            Ok(()) => Ok(Ok(count)),
-            Err(halt) => Err(halt),
+            Ok(()) => Ok(Verdict::Sound(report(map, count))),
+            Err(halt) => answer(halt),
         },
-        Err(fault) => Ok(Err(fault)),
+        Err(fault) => Ok(Verdict::CertFault(fault)),
     }
 }
 

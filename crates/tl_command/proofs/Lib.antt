@@ -10,3 +10,4 @@ pub mod RunLemmas
 pub mod OpeningLemmas
 pub mod LineLemmas
 pub mod DecisionLemmas
+pub mod AnswerLemmas

@@ -1,12 +1,19 @@
--- What a run's status may be where a command answers with fewer of them.
+-- What a run answers, by what its command does; and what its status may be where that answers with fewer of them.
 use Rattle.std.proofs.Common.{◌≡◌, ◌≢◌, ◌⊎◌, inl, inr, ℕ, List, Option, String, Vec, Global, refl, sym, ◌∙◌}
 use Rattle.std.specs.Bool.{⊤}
 use Rattle.tl_record.specs.declared.options.Options.{Options}
 use Rattle.tl_plan.specs.declared.plan.Plan.{Plan}
 use Rattle.tl_plan.specs.declared.plan.Plan.TheVariants.{Show, Landmarks, Locate, Convert, Check, Audit, Build}
+use Rattle.tl_record.specs.Layout.{layout_with}
 use Rattle.tl_command.specs.Deciding.{IsExact}
+use Rattle.tl_command.specs.Keeping.{Runs}
+use Rattle.tl_command.specs.Making.{OfMap, IsBegunOf, BeginsRewritten}
 use Rattle.tl_command.specs.declared.stop.TheConstants.{DONE, MAP_FAULT, CERT_FAULT, REFUSED, STOPPED}
 use Rattle.tl_command.specs.Running.{IsRunStatus, AnswersRecords, IsAnswered, NamesRecordFault, FaultsMap, LooksFor, ReadsNoRecords, layout_of}
+use Rattle.tl_command.specs.Running.{IsAudited, IsBuilt, IsChecked, IsConverted, NamesFault, NamesCertFault, NamesBadLine, NamesRefusal, NamesStop, NamesBudget, MayBeSearched, IsTold}
+use Rattle.tl_verdict.specs.declared.stop.Stop.TheVariants.{Memory}
+use Rattle.tl_command.proofs.DecidingLemmas.{audit_decides, build_decides, check_decides}
+use Rattle.tl_command.proofs.ToldLemmas.{weaker_stop}
 
 -- the statuses of a command that reads records and no certificate
 abbrev pub IsRecordStatus : ℕ → Type 0
@@ -136,3 +143,202 @@ reads_records (Convert cert made) of none = of
 reads_records (Check cert budget options files) of none = of
 reads_records (Audit options files) of none = of
 reads_records (Build made options files) of none = of
+
+-- ---- a run
+
+-- the same stop, of less that failed, of less that didn't, and of a write that failed of which less is said
+stop_as : (told : List ℕ → Type 0) (failed other well calm same cut broken : Type 0) → (failed → other) → (well → calm) → (cut → broken) → NamesStop told failed well same cut → NamesStop told other calm same broken
+stop_as told failed other well calm same cut broken fails stays breaks (inl memory) = inl (memory.0, stays memory.1, memory.2)
+stop_as told failed other well calm same cut broken fails stays breaks (inr device) =
+    inr (device.0, elim device.1 [ inl one ↦ inl (fails one.0, one.1) | inr begun ↦ inr (breaks begun) ])
+
+module _ {known spelt : Option (List ℕ)} {made begun wrote told part : List ℕ → Type 0} {reads cert_reads writes read_well cert_well made_well out_same err_same cert_same made_same records_same : Type 0} where
+  pub runs_audit : (options : Options) (files : Vec (String Global) Global) (status : ℕ) → cert_well → made_well → cert_same → made_same → IsRecordStatus status
+      → (status ≡ DONE → IsAudited (layout_with options) known wrote) → (status ≡ MAP_FAULT → NamesFault (layout_with options) known ⊤ ⊤ wrote)
+      → (status ≡ REFUSED → NamesRefusal (layout_with options) known told)
+      → (status ≡ STOPPED → NamesStop told reads read_well out_same (IsAudited (layout_with options) known part ⊎ NamesFault (layout_with options) known ⊤ ⊤ part))
+      → ((status ≡ DONE) ⊎ (status ≡ MAP_FAULT) → err_same) → (status ≡ REFUSED → out_same) → (status ≢ STOPPED → read_well)
+      → Runs (Audit options files) status known spelt made begun wrote told part reads cert_reads writes read_well cert_well made_well out_same err_same cert_same made_same records_same
+  runs_audit options files status cert_calm made_calm cert_stays made_stays is answered fault refused stopped err_stays out_stays read_whole = record {
+    is_status = records_run status is;
+    answered = answered;
+    fault = fault;
+    exactly = audit_decides (layout_with options) known ⊤ ⊤ wrote status answered fault;
+    cert_fault = λ e. absurd (no_cert_fault status is e);
+    refused = refused;
+    stopped = λ e. inl (stop_as told _ _ _ _ out_same _ _ (λ failed. inl (inl failed)) (λ calm. ((calm, cert_calm), made_calm)) (λ broken. elim broken [ inl so ↦ inl so | inr so ↦ inr (inl so) ]) (stopped e));
+    err_stays = records_stay status err_same is err_stays;
+    out_stays = out_stays;
+    read_whole = read_whole;
+    cert_whole = λ going. cert_calm;
+    cert = λ none. cert_stays;
+    made_stays = λ none. made_stays;
+    records = λ none. absurd none;
+    unread = λ e. cert_stays;
+    unmade = λ any. made_stays;
+    begins = λ e. inl made_stays;
+  }
+
+  pub runs_build : (to : String Global) (options : Options) (files : Vec (String Global) Global) (status : ℕ) → cert_well → cert_same → IsRecordStatus status
+      → (status ≡ DONE → IsBuilt (layout_with options) known made wrote) → (status ≡ MAP_FAULT → NamesFault (layout_with options) known ⊤ ⊤ wrote)
+      → (status ≡ REFUSED → NamesRefusal (layout_with options) known told)
+      → (status ≡ STOPPED → NamesStop told (reads ⊎ writes) (read_well × made_well) out_same (IsBuilt (layout_with options) known made part ⊎ NamesFault (layout_with options) known ⊤ ⊤ part))
+      → ((status ≡ DONE) ⊎ (status ≡ MAP_FAULT) → err_same) → (status ≡ REFUSED → out_same) → ((status ≡ MAP_FAULT) ⊎ (status ≡ REFUSED) → made_same)
+      → (status ≡ STOPPED → made_same ⊎ OfMap (layout_with options) known (λ m. IsBegunOf m begun)) → (status ≢ STOPPED → read_well)
+      → Runs (Build to options files) status known spelt made begun wrote told part reads cert_reads writes read_well cert_well made_well out_same err_same cert_same made_same records_same
+  runs_build to options files status cert_calm cert_stays is answered fault refused stopped err_stays out_stays unmade begins read_whole = record {
+    is_status = records_run status is;
+    answered = answered;
+    fault = fault;
+    exactly = build_decides (layout_with options) known ⊤ ⊤ made wrote status answered fault;
+    cert_fault = λ e. absurd (no_cert_fault status is e);
+    refused = refused;
+    stopped = λ e. inl (stop_as told _ _ _ _ out_same _ _ (λ failed. elim failed [ inl r ↦ inl (inl r) | inr w ↦ inr w ]) (λ calm. ((calm.0, cert_calm), calm.1))
+        (λ broken. elim broken [ inl so ↦ inl so | inr so ↦ inr (inl so) ]) (stopped e));
+    err_stays = records_stay status err_same is err_stays;
+    out_stays = out_stays;
+    read_whole = read_whole;
+    cert_whole = λ going. cert_calm;
+    cert = λ none. cert_stays;
+    made_stays = λ none. absurd none;
+    records = λ none. absurd none;
+    unread = λ e. cert_stays;
+    unmade = records_unmade status made_same is unmade;
+    begins = begins;
+  }
+
+  pub runs_check : (by : String Global) (budget : ℕ) (options : Options) (files : Vec (String Global) Global) (status : ℕ) → made_well → made_same → IsRunStatus status
+      → (status ≡ DONE → IsChecked (layout_with options) budget known spelt wrote)
+      → (status ≡ MAP_FAULT → NamesFault (layout_with options) known cert_same (MayBeSearched (layout_with options) known spelt) wrote)
+      → (status ≡ CERT_FAULT → NamesCertFault (layout_with options) known spelt wrote) → (status ≡ REFUSED → NamesRefusal (layout_with options) known told)
+      → (status ≡ STOPPED → NamesStop told (reads ⊎ cert_reads) (read_well × cert_well) out_same
+      (IsChecked (layout_with options) budget known spelt part
+      ⊎ (NamesFault (layout_with options) known cert_same (MayBeSearched (layout_with options) known spelt) part ⊎ NamesCertFault (layout_with options) known spelt part))
+      ⊎ (NamesBudget (layout_with options) budget known spelt told × (read_well × cert_well) × out_same))
+      → ((status ≡ DONE) ⊎ ((status ≡ MAP_FAULT) ⊎ (status ≡ CERT_FAULT)) → err_same) → (status ≡ REFUSED → out_same) → (status ≡ REFUSED → cert_same)
+      → (status ≢ STOPPED → read_well) → (status ≢ STOPPED → cert_well)
+      → Runs (Check by budget options files) status known spelt made begun wrote told part reads cert_reads writes read_well cert_well made_well out_same err_same cert_same made_same records_same
+  runs_check by budget options files status made_calm made_stays is answered fault cert_fault refused stopped err_stays out_stays unread read_whole cert_whole = record {
+    is_status = is;
+    answered = answered;
+    fault = fault;
+    exactly = check_decides (layout_with options) budget known spelt cert_same (MayBeSearched (layout_with options) known spelt) wrote status answered fault;
+    cert_fault = cert_fault;
+    refused = refused;
+    stopped = λ e. elim (stopped e) [
+      | inl named ↦ inl (stop_as told _ _ _ _ out_same _ _ (λ failed. inl failed) (λ calm. (calm, made_calm)) (λ broken. broken) named)
+      | inr spent ↦ inr (spent.0, (spent.1, made_calm), spent.2)
+    ];
+    err_stays = err_stays;
+    out_stays = out_stays;
+    read_whole = read_whole;
+    cert_whole = cert_whole;
+    cert = λ none. absurd none;
+    made_stays = λ none. made_stays;
+    records = λ none. absurd none;
+    unread = unread;
+    unmade = λ any. made_stays;
+    begins = λ e. inl made_stays;
+  }
+
+  pub runs_conversion : (from to : String Global) (status : ℕ) → read_well → records_same → IsRewriteStatus status
+      → (status ≡ DONE → IsConverted spelt made wrote) → (status ≡ CERT_FAULT → NamesBadLine spelt wrote)
+      → (status ≡ STOPPED → NamesStop told (cert_reads ⊎ writes) (cert_well × made_well) out_same (IsConverted spelt made part ⊎ NamesBadLine spelt part))
+      → ((status ≡ DONE) ⊎ (status ≡ CERT_FAULT) → err_same) → (status ≡ CERT_FAULT → made_same) → (status ≡ STOPPED → made_same ⊎ BeginsRewritten spelt begun)
+      → (status ≢ STOPPED → cert_well)
+      → Runs (Convert from to) status known spelt made begun wrote told part reads cert_reads writes read_well cert_well made_well out_same err_same cert_same made_same records_same
+  runs_conversion from to status read_calm records_stay is answered fault stopped err_stays unmade begins cert_whole = record {
+    is_status = rewrite_runs status is;
+    answered = answered;
+    fault = λ e. absurd (no_map_fault status is e);
+    exactly = λ told. tt;
+    cert_fault = fault;
+    refused = λ e. absurd (no_refusal status is e);
+    stopped = λ e. inl (stop_as told _ _ _ _ out_same _ _ (λ failed. elim failed [ inl r ↦ inl (inr r) | inr w ↦ inr w ]) (λ calm. ((read_calm, calm.0), calm.1))
+        (λ broken. elim broken [ inl so ↦ inl so | inr so ↦ inr (inr so) ]) (stopped e));
+    err_stays = rewrite_stays status err_same is err_stays;
+    out_stays = λ e. absurd (no_refusal status is e);
+    read_whole = λ going. read_calm;
+    cert_whole = cert_whole;
+    cert = λ none. absurd none;
+    made_stays = λ none. absurd none;
+    records = λ none. records_stay;
+    unread = λ e. absurd (no_refusal status is e);
+    unmade = rewrite_unmade status made_same is unmade;
+    begins = begins;
+  }
+
+  pub runs_records : (plan : Plan) (status : ℕ) → IsOfRecords plan → cert_well → made_well → cert_same → made_same → IsRecordStatus status
+      → (status ≡ DONE → AnswersRecords plan known wrote) → (status ≡ MAP_FAULT → NamesRecordFault (layout_of plan) known (LooksFor plan) wrote)
+      → (status ≡ REFUSED → NamesRefusal (layout_of plan) known told)
+      → (status ≡ STOPPED → NamesStop told reads read_well out_same (AnswersRecords plan known part ⊎ NamesRecordFault (layout_of plan) known (LooksFor plan) part))
+      → ((status ≡ DONE) ⊎ (status ≡ MAP_FAULT) → err_same) → (status ≡ REFUSED → out_same) → (status ≢ STOPPED → read_well)
+      → Runs plan status known spelt made begun wrote told part reads cert_reads writes read_well cert_well made_well out_same err_same cert_same made_same records_same
+  runs_records plan status of cert_calm made_calm cert_stays made_stays is answered fault refused stopped err_stays out_stays read_whole = record {
+    is_status = records_run status is;
+    answered = λ e. answers_records plan known spelt made wrote of (answered e);
+    fault = λ e. faults_records plan known spelt cert_same wrote of (fault e);
+    exactly = λ told. exact_records plan known status of;
+    cert_fault = λ e. absurd (no_cert_fault status is e);
+    refused = refused;
+    stopped = λ e. inl (stop_as told _ _ _ _ out_same _ _ (λ failed. inl (inl failed)) (λ calm. ((calm, cert_calm), made_calm))
+        (λ broken. elim broken [ inl so ↦ inl (answers_records plan known spelt made part of so) | inr so ↦ inr (inl (faults_records plan known spelt cert_same part of so)) ]) (stopped e));
+    err_stays = records_stay status err_same is err_stays;
+    out_stays = out_stays;
+    read_whole = read_whole;
+    cert_whole = λ going. cert_calm;
+    cert = λ none. cert_stays;
+    made_stays = λ none. made_stays;
+    records = λ none. absurd (reads_records plan of none);
+    unread = λ e. cert_stays;
+    unmade = λ any. made_stays;
+    begins = λ e. inl made_stays;
+  }
+
+  -- a run that stops for want of memory before it begins
+  pub runs_out : (plan : Plan) (status : ℕ) → read_well → cert_well → made_well → out_same → cert_same → made_same → records_same → IsTold Memory status told
+      → Runs plan status known spelt made begun wrote told part reads cert_reads writes read_well cert_well made_well out_same err_same cert_same made_same records_same
+  runs_out plan status read_calm cert_calm made_calm out_stays cert_stays made_stays records_stay is = record {
+    is_status = inr (inr (inr is.0));
+    answered = λ e. absurd (stop_no_answer status is.0 (inl e));
+    fault = λ e. absurd (stop_no_answer status is.0 (inr (inl e)));
+    exactly = λ any. absurd (elim any [ inl e ↦ stop_no_answer status is.0 (inl e) | inr e ↦ stop_no_answer status is.0 (inr (inl e)) ]);
+    cert_fault = λ e. absurd (stop_no_answer status is.0 (inr (inr e)));
+    refused = λ e. absurd (stop_no_refusal status is.0 e);
+    stopped = λ e. inl (inl (is.1, ((read_calm, cert_calm), made_calm), out_stays));
+    err_stays = λ any. absurd (stop_no_answer status is.0 any);
+    out_stays = λ e. out_stays;
+    read_whole = λ going. read_calm;
+    cert_whole = λ going. cert_calm;
+    cert = λ none. cert_stays;
+    made_stays = λ none. made_stays;
+    records = λ none. records_stay;
+    unread = λ e. cert_stays;
+    unmade = λ any. made_stays;
+    begins = λ e. inl made_stays;
+  }
+
+  -- the same run, where the failures of the records are told otherwise
+  pub runs_for : (plan : Plan) (status : ℕ) {failed whole stays : Type 0} → (failed → reads) → (whole → read_well) → (stays → records_same)
+      → Runs plan status known spelt made begun wrote told part failed cert_reads writes whole cert_well made_well out_same err_same cert_same made_same stays
+      → Runs plan status known spelt made begun wrote told part reads cert_reads writes read_well cert_well made_well out_same err_same cert_same made_same records_same
+  runs_for plan status fails calm keeps run = record {
+    is_status = run.is_status;
+    answered = run.answered;
+    fault = run.fault;
+    exactly = run.exactly;
+    cert_fault = run.cert_fault;
+    refused = run.refused;
+    stopped = λ e. weaker_stop plan known spelt told _ _ _ _ out_same _ (λ any. elim any [ inl read ↦ inl (elim read [ inl records ↦ inl (fails records) | inr cert ↦ inr cert ]) | inr write ↦ inr write ])
+        (λ well. ((calm well.0.0, well.0.1), well.1)) (run.stopped e);
+    err_stays = run.err_stays;
+    out_stays = run.out_stays;
+    read_whole = λ going. calm (run.read_whole going);
+    cert_whole = run.cert_whole;
+    cert = run.cert;
+    made_stays = run.made_stays;
+    records = λ none. keeps (run.records none);
+    unread = run.unread;
+    unmade = run.unmade;
+    begins = run.begins;
+  }

@@ -1,8 +1,8 @@
--- Kept on the way: how an answer is told, and with which status; what is made where records have no map; and what is answered to words. No public contract cites this file.
+-- Kept on the way: how an answer is told, and with which status; what is made where records have no map; what a run answers; and what is answered to words. No public contract cites this file.
 --
 -- `wrote` says of a text that it was written to the output, `told` to the error output; `part` that a beginning of it was
 -- written to the output, and that a write failed.
-use Rattle.std.specs.Prelude.{◌≡◌, ◌≢◌, ◌⊎◌, ℕ, List, [], Result, Ok, Err, string_bytes}
+use Rattle.std.specs.Prelude.{◌≡◌, ◌≢◌, ◌⊎◌, ℕ, List, [], Option, Result, Ok, Err, OnOk, IfErr, string_bytes}
 use Rattle.clap.specs.Walk.{Text}
 use Rattle.tl_plan.specs.declared.plan.Plan.{Plan}
 use Rattle.tl_plan.specs.declared.plan.PlanStop.{PlanStop}
@@ -16,21 +16,31 @@ use Rattle.tl_build.specs.declared.answer.Audit.{Audit}
 use Rattle.tl_build.specs.declared.answer.Audit.TheVariants.{Sound, Fault}
 use Rattle.tl_build.specs.declared.stop.AuditStop.{AuditStop}
 use Rattle.tl_build.specs.declared.stop.AuditStop.TheVariants as audit_stop
+use Rattle.tl_record.specs.Failures.{one_more}
+use Rattle.tl_record.specs.declared.layout.Layout.{Layout}
+use Rattle.tl_county.specs.TheMap.{TheMap}
+use Rattle.tl_text.specs.Printing.{listing_text}
+use Rattle.tl_drawn.specs.declared.fault.MapFault.{MapFault as RecordFault}
 use Rattle.tl_drawn.specs.declared.fault.MapStop.{MapStop}
+use Rattle.tl_drawn.specs.Reading.{IfFault}
 use Rattle.tl_drawn.specs.declared.fault.MapStop.TheVariants as map_stop
-use Rattle.tl_drawn.specs.Messages.{fault_text}
 use Rattle.tl_output.specs.Writing.{line_of}
 use Rattle.tl_verdict.specs.declared.verdict.Verdict.{Verdict}
+use Rattle.tl_verdict.specs.declared.verdict.Verdict.TheVariants as verdict
 use Rattle.tl_verdict.specs.declared.stop.Stop.{Stop}
 use Rattle.tl_verdict.specs.declared.stop.Stop.TheVariants.{Record, Memory, Device}
-use Rattle.tl_verdict.specs.Messages.{map_fault_text}
 use Rattle.tl_command.specs.declared.stop.TheConstants.{DONE, MAP_FAULT, CERT_FAULT, REFUSED, STOPPED, USAGE}
+use Rattle.tl_command.specs.declared.asking.Asked.{Asked}
+use Rattle.tl_command.specs.declared.asking.Asked.TheVariants.{Landmarks, Place}
 use Rattle.tl_command.specs.declared.building.Making.{Making}
 use Rattle.tl_command.specs.declared.building.Making.TheVariants as making
 use Rattle.tl_verdict.specs.declared.fault.MapFault.TheVariants.{Records}
-use Rattle.tl_command.specs.Making.{IsLine}
-use Rattle.tl_command.specs.Running.{IsTold}
-use Rattle.tl_command.specs.Verdicts.{sound_text, verdict_text, verdict_status}
+use Rattle.tl_command.specs.Deciding.{IsExact}
+use Rattle.tl_command.specs.Making.{IsLine, IsBegunBy}
+use Rattle.tl_command.specs.Places.{TellsPlace}
+use Rattle.tl_command.specs.Running.{IsListed, IsLocated, StopsAnswer, StaysUnless}
+use Rattle.tl_command.specs.Running.{IsTold, IsRunStatus, IsAnswered, FaultsMap, FaultsCertificate, NamesRefusal, StopsRun, BreaksOff, ReadsNoCertificate, MakesNoCertificate, ReadsNoRecords, layout_of}
+use Rattle.tl_command.specs.Verdicts.{verdict_text, verdict_status}
 
 -- how the answer of a check is told
 abbrev pub TellsDecision : Result Verdict Stop → ℕ → (wrote told part : List ℕ → Type 0) → (out_same err_same : Type 0) → Type 0
@@ -38,24 +48,45 @@ TellsDecision (Ok verdict) status wrote told part out_same err_same =
     IsLine status (verdict_status verdict) (line_of (verdict_text verdict)) wrote told part out_same err_same
 TellsDecision (Err stop) status wrote told part out_same err_same = IsTold stop status told × out_same
 
--- how that of an audit is
+-- the decision that an audit comes to, and that of records that have no answer
+abbrev pub audit_decision : Result Audit AuditStop → Result Verdict Stop
+audit_decision (Ok (Sound report)) = Ok (verdict.Sound report)
+audit_decision (Ok (Fault fault)) = Ok (verdict.MapFault fault)
+audit_decision (Err (audit_stop.Record line cause)) = Err (Record line cause)
+audit_decision (Err audit_stop.Memory) = Err Memory
+audit_decision (Err audit_stop.Device) = Err Device
+
+abbrev pub stop_decision : MapStop → Result Verdict Stop
+stop_decision (map_stop.Fault fault) = Ok (verdict.MapFault (Records fault))
+stop_decision (map_stop.Refused line cause) = Err (Record line cause)
+stop_decision map_stop.Memory = Err Memory
+stop_decision map_stop.Device = Err Device
+
+-- how that of an audit is told
 abbrev pub TellsAudit : Result Audit AuditStop → ℕ → (wrote told part : List ℕ → Type 0) → (out_same err_same : Type 0) → Type 0
-TellsAudit (Ok (Sound report)) status wrote told part out_same err_same =
-    IsLine status DONE (line_of (sound_text report)) wrote told part out_same err_same
-TellsAudit (Ok (Fault fault)) status wrote told part out_same err_same =
-    IsLine status MAP_FAULT (line_of (map_fault_text fault)) wrote told part out_same err_same
-TellsAudit (Err (audit_stop.Record line cause)) status wrote told part out_same err_same = IsTold (Record line cause) status told × out_same
-TellsAudit (Err audit_stop.Memory) status wrote told part out_same err_same = IsTold Memory status told × out_same
-TellsAudit (Err audit_stop.Device) status wrote told part out_same err_same = IsTold Device status told × out_same
+TellsAudit audited status wrote told part out_same err_same = TellsDecision (audit_decision audited) status wrote told part out_same err_same
 
 -- how it is told why records have no answer; of an answer, which is written already, nothing is
 abbrev pub TellsAnswer : {A : Type 0} → Result A MapStop → ℕ → (wrote told part : List ℕ → Type 0) → (out_same err_same : Type 0) → Type 0
 TellsAnswer (Ok written) status wrote told part out_same err_same = (status ≡ DONE) × out_same × err_same
-TellsAnswer (Err (map_stop.Fault fault)) status wrote told part out_same err_same =
-    IsLine status MAP_FAULT (line_of (fault_text fault)) wrote told part out_same err_same
-TellsAnswer (Err (map_stop.Refused line cause)) status wrote told part out_same err_same = IsTold (Record line cause) status told × out_same
-TellsAnswer (Err map_stop.Memory) status wrote told part out_same err_same = IsTold Memory status told × out_same
-TellsAnswer (Err map_stop.Device) status wrote told part out_same err_same = IsTold Device status told × out_same
+TellsAnswer (Err stop) status wrote told part out_same err_same = TellsDecision (stop_decision stop) status wrote told part out_same err_same
+
+-- what is asked of a map was written of it, and of the records' map
+abbrev pub IsToldOf : Asked → TheMap → (List ℕ → Type 0) → Type 0
+IsToldOf Landmarks m wrote = wrote (listing_text m)
+IsToldOf (Place point) m wrote = TellsPlace m point wrote
+
+abbrev pub IsAnswerTo : Asked → Layout → Option (List ℕ) → (List ℕ → Type 0) → Type 0
+IsAnswerTo Landmarks layout known wrote = IsListed layout known wrote
+IsAnswerTo (Place point) layout known wrote = IsLocated layout point known wrote
+
+-- what comes of answering of records, of which the count of failed reads goes from old to new: the answer was written whole,
+-- or a part of it was, or nothing, and such faults are looked for
+pub record Answered {T : Type 0} (layout : Layout) (known : Option (List ℕ)) (old new : ℕ) (same whole part : Type 0) (looks_for : RecordFault → Type 0) (r : Result T MapStop) : Type 0 where
+  pub answered : OnOk r whole
+  pub stops : IfErr r (StopsAnswer layout known (new ≡ one_more old) same part)
+  pub sought : IfErr r (IfFault looks_for)
+  pub reads : StaysUnless map_stop.Device old new r
 
 -- what comes of making a certificate of records that have no map
 abbrev pub unmade_by : MapStop → Result Making Stop
@@ -76,6 +107,28 @@ TellsPlanStop (Usage text) status wrote told part out_same err_same =
 TellsPlanStop (Help text) status wrote told part out_same err_same =
     (IsTold Memory status told × out_same) ⊎ ((string_bytes text ≢ []) × SaysHelp (string_bytes text) status wrote told part err_same)
 TellsPlanStop plan_stop.Memory status wrote told part out_same err_same = IsTold Memory status told × out_same
+
+-- what a run answers: the clauses of `run`; `reads`, `cert_reads` and `writes` say that a read of the records, one of the
+-- certificate that is read, and a write of the one that is made failed, and `read_well` and the two behind it that none did
+pub record Runs (plan : Plan) (status : ℕ) (known spelt : Option (List ℕ)) (made begun wrote told part : List ℕ → Type 0) (reads cert_reads writes read_well cert_well made_well out_same err_same cert_same made_same records_same : Type 0) : Type 0 where
+  pub is_status : IsRunStatus status
+  pub answered : status ≡ DONE → IsAnswered plan known spelt made wrote
+  pub fault : status ≡ MAP_FAULT → FaultsMap plan known spelt cert_same wrote
+  pub exactly : (status ≡ DONE) ⊎ (status ≡ MAP_FAULT) → IsExact plan known status
+  pub cert_fault : status ≡ CERT_FAULT → FaultsCertificate plan known spelt wrote
+  pub refused : status ≡ REFUSED → NamesRefusal (layout_of plan) known told
+  pub stopped : status ≡ STOPPED → StopsRun plan known spelt told ((reads ⊎ cert_reads) ⊎ writes) ((read_well × cert_well) × made_well) out_same
+      (BreaksOff plan known spelt cert_same made part)
+  pub err_stays : (status ≡ DONE) ⊎ ((status ≡ MAP_FAULT) ⊎ (status ≡ CERT_FAULT)) → err_same
+  pub out_stays : status ≡ REFUSED → out_same
+  pub read_whole : status ≢ STOPPED → read_well
+  pub cert_whole : status ≢ STOPPED → cert_well
+  pub cert : ReadsNoCertificate plan → cert_same
+  pub made_stays : MakesNoCertificate plan → made_same
+  pub records : ReadsNoRecords plan → records_same
+  pub unread : status ≡ REFUSED → cert_same
+  pub unmade : (status ≡ MAP_FAULT) ⊎ ((status ≡ CERT_FAULT) ⊎ (status ≡ REFUSED)) → made_same
+  pub begins : status ≡ STOPPED → made_same ⊎ IsBegunBy plan known spelt begun
 
 -- what is answered to words: the clauses of `start`
 pub record Starts (words : List Text) (status : ℕ) (before after : Under) (wrote told part : List ℕ → Type 0) (of_files : Plan → Type 0) (out_same err_same : Type 0) : Type 0 where

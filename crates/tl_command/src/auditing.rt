@@ -4,17 +4,15 @@ ghost use Rattle.std.specs.Prelude.{◌≡◌, ◌≢◌, ◌⊎◌, ⊤};
 ghost use Rattle.tl_record.specs.Layout.{layout_with};
 ghost use Rattle.tl_output.specs.Writing.{Writes, WritesSome};
 ghost use Rattle.tl_command.specs.declared.stop.TheConstants.{DONE, MAP_FAULT, REFUSED, STOPPED};
-ghost use Rattle.tl_command.specs.Keeping.{TellsAudit};
+ghost use Rattle.tl_command.specs.Keeping.{TellsAudit, audit_decision};
 ghost use Rattle.tl_command.specs.Running.{IsAudited, NamesFault, NamesRefusal, NamesStop, FailsToRead, CountStays, TriesToWrite};
 
-use crate::reports::SoundMap;
-use crate::stop::{DONE, MAP_FAULT, stopped};
-use crate::tell::tell_line;
+use crate::deciding::tell_decision;
 use std::alloc::Global;
 use std::hash::RandomState;
 use tl_build::{Audit, AuditStop, audit_with};
 use tl_record::{Options, Sink, Source};
-use tl_verdict::Stop;
+use tl_verdict::{Stop, Verdict};
 
 /// Decides with no certificate given whether the map of the records is sound, and gives the program's exit status.
 pub fn audit<R: Source, W: Sink, E: Sink>(
@@ -53,11 +51,18 @@ fn tell_audit<W: Sink, E: Sink>(audited: Result<Audit, AuditStop>, out: &mut W, 
         (TriesToWrite E.contents E.failure_count err.old err.new) (WritesSome W.contents W.failure_count out.old out.new)
         (out.new ≡ out.old) (err.new ≡ err.old) }
 {
+    tell_decision(decision_of(audited), out, err)
+}
+
+// The decision that an audit comes to.
+fn decision_of(audited: Result<Audit, AuditStop>) -> Result<Verdict, Stop>
+    ensures { result ≡ audit_decision audited }
+{
     match audited {
-        Ok(Audit::Sound(report)) => tell_line(&SoundMap(report), DONE, out, err),
-        Ok(Audit::Fault(fault)) => tell_line(&fault, MAP_FAULT, out, err),
-        Err(AuditStop::Record { line, cause }) => stopped(&Stop::Record { line, cause }, err),
-        Err(AuditStop::Memory) => stopped(&Stop::Memory, err),
-        Err(AuditStop::Device) => stopped(&Stop::Device, err),
+        Ok(Audit::Sound(report)) => Ok(Verdict::Sound(report)),
+        Ok(Audit::Fault(fault)) => Ok(Verdict::MapFault(fault)),
+        Err(AuditStop::Record { line, cause }) => Err(Stop::Record { line, cause }),
+        Err(AuditStop::Memory) => Err(Stop::Memory),
+        Err(AuditStop::Device) => Err(Stop::Device),
     }
 }

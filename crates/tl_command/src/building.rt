@@ -132,10 +132,10 @@ pub fn tell_making<W: Sink, E: Sink>(making: &Result<Making, Stop>, out: &mut W,
         (TriesToWrite E.contents E.failure_count err.old err.new) (WritesSome W.contents W.failure_count out.old out.new)
         (out.new ≡ out.old) (err.new ≡ err.old) }
 {
-    match making {
-        Ok(Making::Made(report)) => tell_line(&BuiltCertificate(*report), DONE, out, err),
-        Ok(Making::Fault(fault)) => tell_line(fault, MAP_FAULT, out, err),
-        Err(stop) => stopped(stop, err),
+    match *making {
+        Ok(Making::Made(report)) => tell_line(&BuiltCertificate(report), DONE, out, err),
+        Ok(Making::Fault(fault)) => tell_line(&fault, MAP_FAULT, out, err),
+        Err(stop) => stopped(&stop, err),
     }
 }
 

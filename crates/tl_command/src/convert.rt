@@ -112,14 +112,9 @@ pub fn tell_converted<W: Sink, E: Sink>(
         (TriesToWrite E.contents E.failure_count err.old err.new) (WritesSome W.contents W.failure_count out.old out.new)
         (out.new ≡ out.old) (err.new ≡ err.old) }
 {
-    match converted {
-        Ok(counts) => tell_line(counts, DONE, out, err),
-        Err(CertStop::Text { line }) => tell_line(
-            &CertFault::Text { line: *line },
-            CERT_FAULT,
-            out,
-            err,
-        ),
+    match *converted {
+        Ok(counts) => tell_line(&counts, DONE, out, err),
+        Err(CertStop::Text { line }) => tell_line(&CertFault::Text { line }, CERT_FAULT, out, err),
         Err(CertStop::Memory) => stopped(&Stop::Memory, err),
         Err(CertStop::Device) => stopped(&Stop::Device, err),
     }

@@ -64,8 +64,12 @@ pub fn decide<R: Source, S: Source, W: Sink, E: Sink>(
     tell_decision(decision, out, err)
 }
 
-// Tells a decision: the numbers of a sound map, which fault the map or the certificate has, or why there is none.
-fn tell_decision<W: Sink, E: Sink>(decision: Result<Verdict, Stop>, out: &mut W, err: &mut E) -> u8
+/// Tells a decision: the numbers of a sound map, which fault the map or the certificate has, or why there is none.
+pub(crate) fn tell_decision<W: Sink, E: Sink>(
+    decision: Result<Verdict, Stop>,
+    out: &mut W,
+    err: &mut E,
+) -> u8
     ensures { TellsDecision decision result (Writes W.contents W.failure_count out.old out.new)
         (TriesToWrite E.contents E.failure_count err.old err.new) (WritesSome W.contents W.failure_count out.old out.new)
         (out.new ≡ out.old) (err.new ≡ err.old) }

@@ -4,6 +4,7 @@
 //! over any source of records, and [`stop`] says why where it can't. The program's `main` only collects the words.
 #![tactic(auto)]
 
+mod asking;
 pub mod auditing;
 pub mod building;
 pub mod convert;

@@ -8,13 +8,14 @@ ghost use Rattle.tl_inside.specs.Places.{IsPlaceOf};
 ghost use Rattle.tl_command.specs.Places.{place_text, TellsPlace, StopsTelling};
 ghost use Rattle.tl_command.specs.Running.{IsLocated, FailsToRead, StopsAnswer, StaysUnless};
 
+use crate::asking::{Asked, answer_of_map};
 use std::alloc::Global;
 use std::hash::RandomState;
 use std::io;
 use tl_county::Map;
 use tl_geom::Point;
 use tl_inside::{Place, locate};
-use tl_map::{MapStop, read_map_with};
+use tl_map::MapStop;
 use tl_output::OutputBuffer;
 use tl_record::{Options, Sink, Source};
 use tl_text::{print_inside, print_on_chain};
@@ -37,14 +38,16 @@ pub fn tell_place<R: Source, W: Sink>(
         (WritesSome W.contents W.failure_count out.old out.new))) }
     ensures reads { StaysUnless MapStop.Device (R.failure_count records.old) (R.failure_count records.new) result }
 {
-    match read_map_with(alloc, hasher, records, options) {
-        Ok(map) => tell_on(alloc, &map, point, out),
-        Err(stop) => Err(stop),
-    }
+    answer_of_map(alloc, hasher, Asked::Place(point), options, records, out)
 }
 
-// Writes where a point lies in a map.
-fn tell_on<W: Sink>(alloc: Global, map: &Map, point: Point, out: &mut W) -> Result<(), MapStop>
+/// Writes where a point lies in a map.
+pub(crate) fn tell_on<W: Sink>(
+    alloc: Global,
+    map: &Map,
+    point: Point,
+    out: &mut W,
+) -> Result<(), MapStop>
     ensures told { OnOk result (TellsPlace map.now point (Writes W.contents W.failure_count out.old out.new)) }
     ensures stops { IfErr result (StopsTelling (out.new ≡ out.old)
         (TellsPlace map.now point (WritesSome W.contents W.failure_count out.old out.new))) }
@@ -65,8 +68,10 @@ fn print_place<W: Sink>(map: &Map, place: &Place, out: &mut W) -> io::Result<()>
     ensures failures { CountsFailure (W.failure_count out.old) (W.failure_count out.new) result }
 {
     let mut buffer = OutputBuffer::new();
-    add_place(map, place, &mut buffer, out)?;
-    buffer.flush(out)
+    match add_place(map, place, &mut buffer, out) {
+        Ok(()) => buffer.flush(out),
+        Err(error) => Err(error),
+    }
 }
 
 // Adds the line of a place to the output.

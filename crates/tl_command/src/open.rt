@@ -9,7 +9,7 @@ ghost use Rattle.tl_command.specs.Opening.{RunsOver, IsCheckBy, IsBuildOf, IsCon
 
 use crate::new_file::{IS_READ, TAKEN, build_into, convert_into, room_for, say_refusal};
 use crate::opening::{open_all, open_certificate};
-use crate::readers::run_on_readers;
+use crate::readers::run_by_readers;
 use crate::stop::stopped;
 use std::alloc::Global;
 use std::hash::RandomState;
@@ -103,7 +103,7 @@ fn run_plainly<F: FileSystem, W: Sink, E: Sink>(
 {
     let mut cert = Meter::new(io::empty());
     let mut made = MeterOut::new(io::sink());
-    run_on_readers(alloc, hasher, plan, readers, &mut cert, &mut made, out, err)
+    run_by_readers(alloc, hasher, plan, readers, &mut cert, &mut made, out, err)
 }
 
 // Opens the certificate that is read, and decides by it.
@@ -128,7 +128,7 @@ fn open_and_check<F: FileSystem, W: Sink, E: Sink>(
     match open_certificate(files, alloc, name) {
         Ok(mut cert) => {
             let mut made = MeterOut::new(io::sink());
-            run_on_readers(alloc, hasher, plan, readers, &mut cert, &mut made, out, err)
+            run_by_readers(alloc, hasher, plan, readers, &mut cert, &mut made, out, err)
         }
         Err(stop) => stopped(&stop, err),
     }

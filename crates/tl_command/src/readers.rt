@@ -1,6 +1,6 @@
 //! Doing what a plan asks over readers of its files.
 
-ghost use Rattle.std.specs.Prelude.{◌≡◌, ◌≢◌, ◌⊎◌, false};
+ghost use Rattle.std.specs.Prelude.{◌≡◌, ◌≢◌, ◌⊎◌, false, ⊤};
 ghost use Rattle.tl_text.specs.Joining.{joined_bytes, failures_of};
 ghost use Rattle.tl_output.specs.Writing.{Writes, WritesSome, FailsToWrite};
 ghost use Rattle.tl_command.specs.declared.stop.TheConstants.{DONE, MAP_FAULT, CERT_FAULT, REFUSED, STOPPED};
@@ -8,10 +8,11 @@ ghost use Rattle.tl_command.specs.Running.{IsAnswered, FaultsMap, NamesRefusal, 
 ghost use Rattle.tl_command.specs.Running.{FailsToRead, layout_of, TriesToWrite};
 ghost use Rattle.tl_command.specs.Running.{FaultsCertificate, ReadsNoCertificate, MakesNoCertificate};
 ghost use Rattle.tl_command.specs.Deciding.{IsExact};
+ghost use Rattle.tl_command.specs.Keeping.{Runs};
 ghost use Rattle.tl_command.specs.Making.{Begins, IsBegunBy};
 
 use crate::opening::{as_one_text, give_back, room_for_bytes};
-use crate::run::run;
+use crate::run::run_by;
 use crate::stop::stopped;
 use std::alloc::Global;
 use std::hash::RandomState;
@@ -20,8 +21,8 @@ use tl_record::{Sink, Source};
 use tl_verdict::Stop;
 
 /// Does what the plan asks over these readers, which are read one after the other as one text, and gives the program's
-/// exit status. Where the bytes of each reader are known, so is that text, and all that [`run`] promises holds of it. The
-/// readers are left as far as they were read.
+/// exit status. Where the bytes of each reader are known, so is that text, and all that [`run`](crate::run::run)
+/// promises holds of it. The readers are left as far as they were read.
 pub fn run_on_readers<F: Source + Drop, S: Source, C: Sink, W: Sink, E: Sink>(
     alloc: Global,
     hasher: RandomState,
@@ -75,11 +76,35 @@ pub fn run_on_readers<F: Source + Drop, S: Source, C: Sink, W: Sink, E: Sink>(
         ⊎ IsBegunBy plan.now (joined_bytes F.remaining false readers.old.items) (S.remaining cert.old)
         (Begins C.contents made.old made.new) }
 {
+    run_by_readers(alloc, hasher, plan, readers, cert, made, out, err)
+}
+
+// The same, with what `run_on_readers` promises as one clause: it has two ways out.
+pub(crate) fn run_by_readers<F: Source + Drop, S: Source, C: Sink, W: Sink, E: Sink>(
+    alloc: Global,
+    hasher: RandomState,
+    plan: &Plan,
+    readers: &mut Vec<F>,
+    cert: &mut S,
+    made: &mut C,
+    out: &mut W,
+    err: &mut E,
+) -> u8
+    ensures { Runs plan.now result (joined_bytes F.remaining false readers.old.items) (S.remaining cert.old)
+        (Writes C.contents C.failure_count made.old made.new) (Begins C.contents made.old made.new)
+        (Writes W.contents W.failure_count out.old out.new) (TriesToWrite E.contents E.failure_count err.old err.new)
+        (WritesSome W.contents W.failure_count out.old out.new)
+        (FailsToRead (failures_of F.failure_count) readers.old.items readers.new.items)
+        (FailsToRead S.failure_count cert.old cert.new) (FailsToWrite C.failure_count made.old made.new)
+        (CountStays (failures_of F.failure_count) readers.old.items readers.new.items)
+        (CountStays S.failure_count cert.old cert.new) (CountStays C.failure_count made.old made.new)
+        (out.new ≡ out.old) (err.new ≡ err.old) (cert.new ≡ cert.old) (made.new ≡ made.old) ⊤ }
+{
     let Ok(room) = room_for_bytes(alloc) else {
         return stopped(&Stop::Memory, err);
     };
     let mut records = as_one_text(alloc, readers, room);
-    let status = run(alloc, hasher, plan, &mut records, cert, made, out, err);
+    let status = run_by(alloc, hasher, plan, &mut records, cert, made, out, err);
     give_back(records, readers);
     status
 }

@@ -5,34 +5,32 @@ ghost use Rattle.tl_record.specs.Layout.{layout_with};
 ghost use Rattle.tl_text.specs.Printing.{shown_text, listing_text};
 ghost use Rattle.tl_output.specs.Writing.{Writes, WritesSome, FailsToWrite, CountsFailure, TriesToPassOn, line_of};
 ghost use Rattle.tl_command.specs.declared.stop.TheConstants.{DONE, MAP_FAULT, CERT_FAULT, REFUSED, STOPPED};
-ghost use Rattle.tl_command.specs.Running.{IsAnswered, AnswersRecords, IsShown, IsListed, NamesRecordFault, NamesRefusal, TriesToWrite};
+ghost use Rattle.tl_command.specs.Running.{IsAnswered, AnswersRecords, IsShown, NamesRecordFault, NamesRefusal, TriesToWrite};
 ghost use Rattle.tl_command.specs.Running.{BreaksOff, NamesStop, StopsRun, FaultsMap, FaultsCertificate};
 ghost use Rattle.tl_command.specs.Running.{ReadsNoCertificate, MakesNoCertificate, ReadsNoRecords};
-ghost use Rattle.tl_command.specs.Running.{IsRunStatus, FailsToRead, CountStays, StopsAnswer, LooksFor, layout_of, StaysUnless};
+ghost use Rattle.tl_command.specs.Running.{IsRunStatus, FailsToRead, CountStays, LooksFor, layout_of};
 ghost use Rattle.tl_drawn.specs.Faults.{IsFaultOfChains};
-ghost use Rattle.tl_drawn.specs.Reading.{IfFault};
 ghost use Rattle.tl_command.specs.Deciding.{IsExact};
 ghost use Rattle.tl_command.specs.Places.{StopsTelling};
-ghost use Rattle.tl_command.specs.Keeping.{TellsAnswer};
+ghost use Rattle.tl_command.specs.Keeping.{Answered, Runs, TellsAnswer, stop_decision};
 ghost use Rattle.tl_command.specs.Making.{Begins, IsBegunBy};
 
+use crate::asking::{Asked, answer_of_map};
 use crate::auditing::audit;
 use crate::building::build;
 use crate::convert::convert;
-use crate::deciding::decide;
-use crate::locating::tell_place;
-use crate::stop::{DONE, MAP_FAULT, stopped};
-use crate::tell::tell_line;
+use crate::deciding::{decide, tell_decision};
+use crate::stop::DONE;
 use std::alloc::Global;
 use std::hash::RandomState;
 use std::io;
 use tl_county::{Chains, Map};
-use tl_map::{MapStop, read_chains_with, read_map_with};
+use tl_map::{MapStop, read_chains_with};
 use tl_output::OutputBuffer;
 use tl_plan::Plan;
 use tl_record::{Options, Sink, Source};
 use tl_text::{print_chains, print_landmarks};
-use tl_verdict::{MapFault, Stop};
+use tl_verdict::{MapFault, Stop, Verdict};
 
 /// Does what the plan asks and gives the program's exit status. Answers and faults go to `out`, refusals and stops to
 /// `err`. `cert` is the certificate that is read, and `made` takes the one that is written; a command that has none
@@ -102,6 +100,30 @@ pub fn run<R: Source, S: Source, C: Sink, W: Sink, E: Sink>(
     ensures begun { result ≡ STOPPED → (made.new ≡ made.old)
         ⊎ IsBegunBy plan.now (R.remaining records.old) (S.remaining cert.old) (Begins C.contents made.old made.new) }
 {
+    run_by(alloc, hasher, plan, records, cert, made, out, err)
+}
+
+// The same, with what `run` promises as one clause: it has several ways out.
+pub(crate) fn run_by<R: Source, S: Source, C: Sink, W: Sink, E: Sink>(
+    alloc: Global,
+    hasher: RandomState,
+    plan: &Plan,
+    records: &mut R,
+    cert: &mut S,
+    made: &mut C,
+    out: &mut W,
+    err: &mut E,
+) -> u8
+    ensures { Runs plan.now result (R.remaining records.old) (S.remaining cert.old)
+        (Writes C.contents C.failure_count made.old made.new) (Begins C.contents made.old made.new)
+        (Writes W.contents W.failure_count out.old out.new) (TriesToWrite E.contents E.failure_count err.old err.new)
+        (WritesSome W.contents W.failure_count out.old out.new)
+        (FailsToRead R.failure_count records.old records.new) (FailsToRead S.failure_count cert.old cert.new)
+        (FailsToWrite C.failure_count made.old made.new)
+        (CountStays R.failure_count records.old records.new) (CountStays S.failure_count cert.old cert.new)
+        (CountStays C.failure_count made.old made.new)
+        (out.new ≡ out.old) (err.new ≡ err.old) (cert.new ≡ cert.old) (made.new ≡ made.old) (records.new ≡ records.old) }
+{
     match plan {
         Plan::Convert { .. } => convert(alloc, cert, made, out, err),
         Plan::Check {
@@ -153,10 +175,19 @@ fn tell_answer<W: Sink, E: Sink>(answered: Result<(), MapStop>, out: &mut W, err
 {
     match answered {
         Ok(()) => DONE,
-        Err(MapStop::Fault(fault)) => tell_line(&MapFault::Records(fault), MAP_FAULT, out, err),
-        Err(MapStop::Refused { line, cause }) => stopped(&Stop::Record { line, cause }, err),
-        Err(MapStop::Memory) => stopped(&Stop::Memory, err),
-        Err(MapStop::Device) => stopped(&Stop::Device, err),
+        Err(stop) => tell_decision(decision_by(stop), out, err),
+    }
+}
+
+// The decision of records that have no answer.
+fn decision_by(stop: MapStop) -> Result<Verdict, Stop>
+    ensures { result ≡ stop_decision stop }
+{
+    match stop {
+        MapStop::Fault(fault) => Ok(Verdict::MapFault(MapFault::Records(fault))),
+        MapStop::Refused { line, cause } => Err(Stop::Record { line, cause }),
+        MapStop::Memory => Err(Stop::Memory),
+        MapStop::Device => Err(Stop::Device),
     }
 }
 
@@ -168,67 +199,50 @@ fn answer<R: Source, W: Sink>(
     records: &mut R,
     out: &mut W,
 ) -> Result<(), MapStop>
-    ensures answered { OnOk result (AnswersRecords plan.now (R.remaining records.old)
-        (Writes W.contents W.failure_count out.old out.new)) }
-    ensures stops { IfErr result (StopsAnswer (layout_of plan.now) (R.remaining records.old)
-        (FailsToRead R.failure_count records.old records.new) (out.new ≡ out.old)
-        (AnswersRecords plan.now (R.remaining records.old)
-        (WritesSome W.contents W.failure_count out.old out.new))) }
-    ensures sought { IfErr result (IfFault (LooksFor plan.now)) }
-    ensures reads { StaysUnless MapStop.Device (R.failure_count records.old) (R.failure_count records.new) result }
+    ensures { Answered (layout_of plan.now) (R.remaining records.old)
+        (R.failure_count records.old) (R.failure_count records.new) (out.new ≡ out.old)
+        (AnswersRecords plan.now (R.remaining records.old) (Writes W.contents W.failure_count out.old out.new))
+        (AnswersRecords plan.now (R.remaining records.old) (WritesSome W.contents W.failure_count out.old out.new))
+        (LooksFor plan.now) result }
 {
     match plan {
         Plan::Show { options, .. } => show(alloc, *options, records, out),
-        Plan::Landmarks { options, .. } => landmarks(alloc, hasher, *options, records, out),
-        Plan::Locate { point, options, .. } => tell_place(
-            alloc, hasher, *point, *options, records, out,
+        Plan::Landmarks { options, .. } => answer_of_map(
+            alloc,
+            hasher,
+            Asked::Landmarks,
+            *options,
+            records,
+            out,
+        ),
+        Plan::Locate { point, options, .. } => answer_of_map(
+            alloc,
+            hasher,
+            Asked::Place(*point),
+            *options,
+            records,
+            out,
         ),
         // They ask nothing of records alone.
-        Plan::Convert { .. } | Plan::Check { .. } | Plan::Audit { .. } | Plan::Build { .. } => Ok(
-            (),
-        ),
+        _ => Ok(()),
     }
 }
 
+// Writes the chains that the records draw; a fault is one of theirs.
 fn show<R: Source, W: Sink>(
     alloc: Global,
     options: Options,
     records: &mut R,
     out: &mut W,
 ) -> Result<(), MapStop>
-    ensures answered { OnOk result (IsShown (layout_with options) (R.remaining records.old)
-        (Writes W.contents W.failure_count out.old out.new)) }
-    ensures stops { IfErr result (StopsAnswer (layout_with options) (R.remaining records.old)
-        (FailsToRead R.failure_count records.old records.new) (out.new ≡ out.old)
-        (IsShown (layout_with options) (R.remaining records.old)
-        (WritesSome W.contents W.failure_count out.old out.new))) }
-    // A fault is one of the chains.
-    ensures of_chains { IfErr result (IfFault IsFaultOfChains) }
-    ensures reads { StaysUnless MapStop.Device (R.failure_count records.old) (R.failure_count records.new) result }
+    ensures { Answered (layout_with options) (R.remaining records.old)
+        (R.failure_count records.old) (R.failure_count records.new) (out.new ≡ out.old)
+        (IsShown (layout_with options) (R.remaining records.old) (Writes W.contents W.failure_count out.old out.new))
+        (IsShown (layout_with options) (R.remaining records.old) (WritesSome W.contents W.failure_count out.old out.new))
+        IsFaultOfChains result }
 {
     match read_chains_with(alloc, records, options) {
         Ok(chains) => tell_chains(&chains, out),
-        Err(stop) => Err(stop),
-    }
-}
-
-fn landmarks<R: Source, W: Sink>(
-    alloc: Global,
-    hasher: RandomState,
-    options: Options,
-    records: &mut R,
-    out: &mut W,
-) -> Result<(), MapStop>
-    ensures answered { OnOk result (IsListed (layout_with options) (R.remaining records.old)
-        (Writes W.contents W.failure_count out.old out.new)) }
-    ensures stops { IfErr result (StopsAnswer (layout_with options) (R.remaining records.old)
-        (FailsToRead R.failure_count records.old records.new) (out.new ≡ out.old)
-        (IsListed (layout_with options) (R.remaining records.old)
-        (WritesSome W.contents W.failure_count out.old out.new))) }
-    ensures reads { StaysUnless MapStop.Device (R.failure_count records.old) (R.failure_count records.new) result }
-{
-    match read_map_with(alloc, hasher, records, options) {
-        Ok(map) => tell_landmarks(&map, out),
         Err(stop) => Err(stop),
     }
 }
@@ -244,7 +258,8 @@ fn tell_chains<W: Sink>(chains: &Chains, out: &mut W) -> Result<(), MapStop>
     }
 }
 
-fn tell_landmarks<W: Sink>(map: &Map, out: &mut W) -> Result<(), MapStop>
+/// Writes a map's landmarks with their polygons.
+pub(crate) fn tell_landmarks<W: Sink>(map: &Map, out: &mut W) -> Result<(), MapStop>
     ensures told { OnOk result (Writes W.contents W.failure_count out.old out.new (listing_text map.now)) }
     ensures stops { IfErr result (StopsTelling (out.new ≡ out.old)
         (WritesSome W.contents W.failure_count out.old out.new (listing_text map.now))) }
@@ -260,8 +275,10 @@ fn print_all_chains<W: Sink>(chains: &Chains, out: &mut W) -> io::Result<()>
     ensures failures { CountsFailure (W.failure_count out.old) (W.failure_count out.new) result }
 {
     let mut buffer = OutputBuffer::new();
-    print_chains(chains, &mut buffer, out)?;
-    buffer.flush(out)
+    match print_chains(chains, &mut buffer, out) {
+        Ok(()) => buffer.flush(out),
+        Err(error) => Err(error),
+    }
 }
 
 fn print_all_landmarks<W: Sink>(map: &Map, out: &mut W) -> io::Result<()>
@@ -269,6 +286,8 @@ fn print_all_landmarks<W: Sink>(map: &Map, out: &mut W) -> io::Result<()>
     ensures failures { CountsFailure (W.failure_count out.old) (W.failure_count out.new) result }
 {
     let mut buffer = OutputBuffer::new();
-    print_landmarks(map, &mut buffer, out)?;
-    buffer.flush(out)
+    match print_landmarks(map, &mut buffer, out) {
+        Ok(()) => buffer.flush(out),
+        Err(error) => Err(error),
+    }
 }

@@ -1,16 +1,16 @@
 -- Command lines that are put together.
-use Rattle.std.proofs.Common.{◌≡◌, ℕ, ◌+◌, ◌<◌, ◌≤◌, List, Result, Ok, Err, length, get_or, drop, false, ◌||◌, refl, sym, ap, ap₂, ◌∙◌}
-use Rattle.std.proofs.lemmas.List.{at_drop_more, at_drop_all}
+use Rattle.std.proofs.lemmas.List.{map_push, map_more, take_all}
+use Rattle.std.proofs.Common.{◌≡◌, ℕ, ◌+◌, ◌<◌, ◌≤◌, Bool, List, [], ◌∷◌, ◌++◌, length, get_or, take, map, Result, Ok, Err, false, ◌||◌, refl, sym, ap, ap₂, ◌∙◌}
 use Rattle.std.specs.Prelude.{IfOk}
 use Rattle.clap.specs.Simple.{App, app_of, app_of_fields, new_app, with_rule, with_subcommand}
-use Rattle.clap.specs.Walk.{rule_of}
-use Rattle.clap.specs.Words.{AddsArg, AddsSubcommand}
+use Rattle.clap.specs.Walk.{Rule, rule_of}
+use Rattle.clap.specs.Words.{AddsArg, AddsInTurn, AddsSubcommand}
 use Rattle.clap.specs.declared.builder.arg.Arg.{Arg}
 use Rattle.clap.specs.declared.builder.command.Command.{Command}
 use Rattle.clap.specs.declared.builder.command.Command.TheViews.{out-Command}
 use Rattle.clap.specs.declared.builder.command.Command.TheOpen.{Command-F}
 use Rattle.tl_plan.specs.Commands.{IsLocal}
-use Rattle.tl_plan.specs.Keeping.{rule_for, with_each, app_named, with_named, name_of, arguments_for, OnMade}
+use Rattle.tl_plan.specs.Keeping.{rule_for, with_each, app_named, with_named, name_of, arguments_for, OnMade, told_of, named_told, rule_told, argument_told}
 use Rattle.tl_plan.specs.declared.command_line.Argument.{Argument}
 use Rattle.tl_plan.specs.declared.command_line.Named.{Named}
 use Rattle.tl_plan.specs.declared.command_line.Named.TheVariants.{Show, Landmarks, Locate, Audit, Build, Check, Convert}
@@ -23,53 +23,52 @@ same_app new fields is shape globals known = record {
   local = ap (λ (f : Command-F Command). f.has_globals) is ∙ globals ∙ known.local;
 }
 
--- an argument more, of some that are told one after the other
-pub argument_more : (arguments : List Argument) (i : ℕ) (d : Argument) {old new : Command} {argument : Arg} → i < length arguments
-    → AddsArg old argument new → argument.global ≡ false → rule_of argument ≡ rule_for (get_or arguments i d)
-    → with_each (app_of old) (drop i arguments) ≡ with_each (app_of new) (drop (i + 1) arguments)
-argument_more arguments i d {old} {new} low added local is =
-    at_drop_more (with_each (app_of old)) arguments i d low
-    ∙ ap (λ (app : App). with_each app (drop (i + 1) arguments)) (sym (added.shape local ∙ ap (with_rule (app_of old)) is))
-
-pub stays_local : {old new : Command} {argument : Arg} → AddsArg old argument new → argument.global ≡ false
+stays_local : {old new : Command} {argument : Arg} → AddsArg old argument new → argument.global ≡ false
     → (out-Command old).has_globals ≡ false → (out-Command new).has_globals ≡ false
 stays_local added local known = added.globals ∙ ap₂ ◌||◌ known local
 
--- a command more
-pub is_subcommand : {whole app : App} {program command new : Command} → AddsSubcommand program command new → app_of program ≡ whole → IsLocal app command
-    → app_of new ≡ with_subcommand whole app.top
-is_subcommand added is known = added.shape known.local ∙ ap₂ (λ (a b : App). with_subcommand a b.top) is known.shape
+first_same : {A : Type 0} (x y : A) (xs ys : List A) → x ∷ xs ≡ y ∷ ys → x ≡ y
+first_same x y xs ys e = cc e
 
--- a command more, where it was made
-pub one_made : {E : Type 0} (program : Command) (command new : Result Command E) (app : App) → IfOk command (IsLocal app)
-    → IfOk new (λ whole. OnMade command (λ c. AddsSubcommand program c whole)) → IfOk new (λ whole. app_of whole ≡ with_subcommand (app_of program) app.top)
-one_made program command (Err error) app known added = tt
-one_made program (Err error) (Ok new) app known added = absurd added
-one_made program (Ok command) (Ok new) app known added = is_subcommand added refl known
+rest_same : {A : Type 0} (x y : A) (xs ys : List A) → x ∷ xs ≡ y ∷ ys → xs ≡ ys
+rest_same x y xs ys e = cc e
 
--- a program that was made, with no command yet
-pub first_made : {E : Type 0} (program : Result Command E) (commands : List Named) → IfOk program (λ whole. OnMade program (λ p. with_named (app_of whole) commands ≡ with_named (app_of p) commands))
-first_made (Ok program) commands = refl
-first_made (Err error) commands = tt
-
--- a command more, of some that are told one after the other
-pub one_more_made : {E : Type 0} (first old new : Result Command E) (commands : List Named) (i : ℕ) (d : Named) → i < length commands
-    → IfOk new (λ whole. OnMade old (λ p. app_of whole ≡ with_subcommand (app_of p) (app_named (get_or commands i d)).top))
-    → IfOk old (λ whole. OnMade first (λ p. with_named (app_of whole) (drop i commands) ≡ with_named (app_of p) commands))
-    → IfOk new (λ whole. OnMade first (λ p. with_named (app_of whole) (drop (i + 1) commands) ≡ with_named (app_of p) commands))
-one_more_made first old (Err error) commands i d low added before = tt
-one_more_made first (Err error) (Ok new) commands i d low added before = absurd added
-one_more_made (Err error) (Ok old) (Ok new) commands i d low added before = absurd before
-one_more_made (Ok first) (Ok old) (Ok new) commands i d low added before =
-    sym (at_drop_more (with_named (app_of old)) commands i d low ∙ ap (λ (app : App). with_named app (drop (i + 1) commands)) (sym added)) ∙ before
+-- one more of some that are made one after the other
+pub each_more : {X Y Z : Type 0} (f : X → Z) (g : Y → Z) (made more : List X) (wanted : List Y) (i : ℕ) (d : Y) (x : X) → i < length wanted → more ≡ made ++ x ∷ [] → f x ≡ g (get_or wanted i d)
+    → map f made ≡ map g (take i wanted) → map f more ≡ map g (take (i + 1) wanted)
+each_more f g made more wanted i d x low is here before =
+    ap (map f) is ∙ map_push f made x ∙ ap₂ (λ front last. front ++ last ∷ []) before here ∙ sym (map_more g wanted i d low)
 
 -- all of them
-pub all_made : {E : Type 0} (first last : Result Command E) (commands : List Named) (i : ℕ) → length commands ≤ i
-    → IfOk last (λ whole. OnMade first (λ p. with_named (app_of whole) (drop i commands) ≡ with_named (app_of p) commands))
-    → IfOk last (λ whole. OnMade first (λ p. app_of whole ≡ with_named (app_of p) commands))
-all_made first (Err error) commands i past before = tt
-all_made (Err error) (Ok last) commands i past before = absurd before
-all_made (Ok first) (Ok last) commands i past before = sym (at_drop_all (with_named (app_of last)) commands i past) ∙ before
+pub each_all : {X Y Z : Type 0} (f : X → Z) (g : Y → Z) (made : List X) (wanted : List Y) (i : ℕ) → length wanted ≤ i → map f made ≡ map g (take i wanted) → map f made ≡ map g wanted
+each_all f g made wanted i past before = before ∙ ap (map g) (take_all i wanted past)
+
+-- what clap is told of an argument
+pub arg_told : (arg : Arg) (argument : Argument) → rule_of arg ≡ rule_for argument → arg.global ≡ false → rule_told arg ≡ argument_told argument
+arg_told arg argument rule local = ap₂ (λ (r : Rule) (global : Bool). (r, global)) rule local
+
+-- arguments that are added in turn
+pub args_in_turn : (old new : Command) (args : List Arg) (arguments : List Argument) → AddsInTurn AddsArg old args new → map rule_told args ≡ map argument_told arguments → (out-Command old).has_globals ≡ false
+    → told_of new ≡ (with_each (app_of old) arguments, false)
+args_in_turn old new [] [] same told local = ap told_of (sym same) ∙ ap (λ (globals : Bool). (app_of old, globals)) local
+args_in_turn old new [] (x ∷ rest) same told local = absurd (cc told)
+args_in_turn old new (arg ∷ args) [] added told local = absurd (cc told)
+args_in_turn old new (arg ∷ args) (x ∷ rest) added told local =
+    let here = first_same (rule_told arg) (argument_told x) _ _ told in
+    let plain : arg.global ≡ false = ap (λ (p : Rule × Bool). p.1) here in
+    args_in_turn added.0 new args rest added.2 (rest_same (rule_told arg) (argument_told x) _ _ told) (stays_local added.1 plain local)
+    ∙ ap (λ (app : App). (with_each app rest, false)) (added.1.shape plain ∙ ap (with_rule (app_of old)) (ap (λ (p : Rule × Bool). p.0) here))
+
+-- commands that are
+pub commands_in_turn : (old new : Command) (commands : List Command) (names : List Named) → AddsInTurn AddsSubcommand old commands new → map told_of commands ≡ map named_told names → app_of new ≡ with_named (app_of old) names
+commands_in_turn old new [] [] same told = ap app_of (sym same)
+commands_in_turn old new [] (n ∷ rest) same told = absurd (cc told)
+commands_in_turn old new (command ∷ commands) [] added told = absurd (cc told)
+commands_in_turn old new (command ∷ commands) (n ∷ rest) added told =
+    let here = first_same (told_of command) (named_told n) _ _ told in
+    commands_in_turn added.0 new commands rest added.2 (rest_same (told_of command) (named_told n) _ _ told)
+    ∙ ap (λ (app : App). with_named app rest)
+    (added.1.shape (ap (λ (p : App × Bool). p.1) here) ∙ ap (λ (app : App). with_subcommand (app_of old) app.top) (ap (λ (p : App × Bool). p.0) here))
 
 -- a program with all commands
 pub whole_made : {E : Type 0} (first last : Result Command E) (commands : List Named) (app : App) → IfOk first (λ program. app_of program ≡ app)

@@ -162,18 +162,3 @@ wish_may words wish = go (may_be_use words) refl
 pub stops_may : (stopped : Result Plan PlanStop) (words : List Text) → IsErrAnd stopped (λ stop. stop ≡ Memory) → may_be_use words ≡ true → IfErr stopped (StopsPlanning words)
 stops_may (Ok plan) words is may = tt
 stops_may (Err stop) words is may = subst (StopsPlanning words) (sym is) may
-
--- one of four tests, or of those behind them
-pub in_front : (a b c d rest : Bool) → true ≡ (a || (b || (c || (d || false)))) → true ≡ (a || (b || (c || (d || rest))))
-in_front true b c d rest e = refl
-in_front false true c d rest e = refl
-in_front false false true d rest e = refl
-in_front false false false true rest e = refl
-in_front false false false false rest e = absurd (cc e)
-
-pub in_back : (a b c d rest test : Bool) → false ≡ (a || (b || (c || (d || false)))) → test ≡ rest → test ≡ (a || (b || (c || (d || rest))))
-in_back true b c d rest test e is = absurd (cc e)
-in_back false true c d rest test e is = absurd (cc e)
-in_back false false true d rest test e is = absurd (cc e)
-in_back false false false true rest test e is = absurd (cc e)
-in_back false false false false rest test e is = is

@@ -192,6 +192,23 @@ no_locate given named lacks (inr (inr (inr (inr place)))) =
     lacks place.word place.point place.files (ap (λ r. r.point) e ∙ place.at) place.spelt
     (ap (λ r. r.files) e ∙ place.are) place.some_file
 
+-- a command that wants files lacks them
+pub no_file : (given : Request) (files : List (String Global)) → map string_bytes files ≡ unwrap_or given.files [] → length files ≡ 0 → pointwise nat_eq given.command convert_name ≡ false → IsWhole (Some given) → ⊥
+no_file given files same none other = go
+  where
+    lacks : (request : Request) (texts : List Text) → Some given ≡ Some request → request.files ≡ Some texts → 0 < length texts → ⊥
+    lacks request texts is are some =
+        let named : map string_bytes files ≡ texts = same ∙ ap (λ (g : Option (List Text)). unwrap_or g []) (ap (λ r. r.files) (is_request given request is) ∙ are) in
+        let long : length (map string_bytes files) ≡ length texts = ap length named in
+        omega (arith, none, some, long, length-map files string_bytes)
+
+    go : IsWhole (Some given) → ⊥
+    go (inl listing) = lacks listing.given listing.files listing.same listing.are listing.some_file
+    go (inr (inl both)) = one_command given both.2.given given.command convert_name other refl both.2.same both.2.named
+    go (inr (inr (inl check))) = lacks check.given check.files check.same check.are check.some_file
+    go (inr (inr (inr (inl build)))) = lacks build.given build.files build.same build.are build.some_file
+    go (inr (inr (inr (inr place)))) = lacks place.given place.files place.same place.are place.some_file
+
 -- words that clap takes, and that name a plan
 pub one_plan : (words : List Text) (found : Option (Text × List Row)) (plan : Plan) → found ≡ subcommand_of command_line words → IsPlanOf (named_in found) (Some plan) → fault_of command_line words ≡ []
     → AskFor words plan

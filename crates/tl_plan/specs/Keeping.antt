@@ -1,8 +1,10 @@
 -- Kept on the way: commands and their arguments by the names that the code gives them. No public contract cites this file.
-use Rattle.std.specs.Prelude.{List, [], ◌∷◌, Some, Result, Ok, Err, codes}
-use Rattle.clap.specs.Simple.{App, new_rule, with_rule, with_subcommand}
-use Rattle.clap.specs.Walk.{Rule, Text}
+use Rattle.std.specs.Prelude.{Bool, false, List, [], ◌∷◌, Some, Result, Ok, Err, codes}
+use Rattle.clap.specs.Simple.{App, app_of, new_rule, with_rule, with_subcommand}
+use Rattle.clap.specs.Walk.{Rule, Text, rule_of}
+use Rattle.clap.specs.declared.builder.arg.Arg.{Arg}
 use Rattle.clap.specs.declared.builder.command.Command.{Command}
+use Rattle.clap.specs.declared.builder.command.Command.TheViews.{out-Command}
 use Rattle.tl_plan.specs.declared.command_line.Named.{Named}
 use Rattle.tl_plan.specs.declared.command_line.Named.TheVariants.{Show, Landmarks, Locate, Audit, Build, Check, Convert}
 use Rattle.tl_plan.specs.declared.command_line.Argument.{Argument}
@@ -38,6 +40,20 @@ app_named Build = build_app
 app_named Check = check_app
 app_named Convert = conversion_app
 
+-- what clap is told of a command and of an argument, and whether something of it holds for others too: of what it was told,
+-- and of these, of which nothing does
+abbrev pub told_of : Command → App × Bool
+told_of command = (app_of command, (out-Command command).has_globals)
+
+abbrev pub named_told : Named → App × Bool
+named_told named = (app_named named, false)
+
+abbrev pub rule_told : Arg → Rule × Bool
+rule_told arg = (rule_of arg, arg.global)
+
+abbrev pub argument_told : Argument → Rule × Bool
+argument_told argument = (rule_for argument, false)
+
 -- a program with these commands more
 abbrev pub with_named : App → List Named → App
 with_named app [] = app
@@ -71,10 +87,3 @@ option_rule id = record (new_rule id) { long = Some id; value_names = 1 }
 abbrev pub OnMade : {E : Type 0} → Result Command E → (Command → Type 0) → Type 0
 OnMade (Ok command) P = P command
 OnMade (Err error) P = ⊥
-
--- the names that a first word may have, in two parts
-abbrev pub front_names : List Text
-front_names = show_name ∷ landmarks_name ∷ locate_name ∷ audit_name ∷ []
-
-abbrev pub back_names : List Text
-back_names = build_name ∷ check_name ∷ convert_name ∷ codes "help" ∷ []

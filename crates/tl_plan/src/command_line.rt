@@ -1,13 +1,15 @@
 //! The command line that `clap` is told of.
 
-ghost use Rattle.std.specs.Prelude.{◌≡◌, false, IfOk};
-ghost use Rattle.clap.specs.Simple.{app_of, new_app, with_subcommand};
+ghost use Rattle.std.specs.Prelude.{◌≡◌, false, List, map, IfOk};
+ghost use Rattle.clap.specs.Simple.{app_of, new_app};
 ghost use Rattle.clap.specs.Walk.{rule_of};
-ghost use Rattle.clap.specs.Words.{AddsSubcommand};
-ghost use Rattle.tl_plan.specs.Commands.{IsLocal, program, command_line, name_argument as name_rule};
+ghost use Rattle.tl_plan.specs.Commands.{program, command_line, name_argument as name_rule};
 ghost use Rattle.tl_plan.specs.Commands.{switch as switch_rule, files_argument as files_rule};
 ghost use Rattle.tl_plan.specs.Commands.{certificate_argument as certificate_rule};
-ghost use Rattle.tl_plan.specs.Keeping.{rule_for, with_each, app_named, with_named, name_of, arguments_for, option_rule, OnMade};
+ghost use Rattle.tl_plan.specs.Keeping.{with_each, with_named, name_of, arguments_for, option_rule, OnMade};
+ghost use Rattle.tl_plan.specs.Keeping.{told_of, named_told, rule_told, argument_told};
+ghost use Rattle.tl_plan.specs.declared.command_line.Argument.{Argument};
+ghost use Rattle.tl_plan.specs.declared.command_line.Named.{Named};
 
 use crate::help::{
     ABOUT, AUDIT_ABOUT, AUDIT_EXAMPLE, BUILD_ABOUT, BUILD_EXAMPLE, CHECK_ABOUT, CHECK_EXAMPLE,
@@ -56,9 +58,8 @@ enum Argument {
 pub fn command<'a>(alloc: Global) -> Result<Command<'a>, AllocError>
     ensures { IfOk result (λ command. app_of command ≡ command_line) }
 {
-    with_commands(
+    match commands_of(
         alloc,
-        program(alloc),
         &[
             Named::Show,
             Named::Landmarks,
@@ -68,46 +69,33 @@ pub fn command<'a>(alloc: Global) -> Result<Command<'a>, AllocError>
             Named::Check,
             Named::Convert,
         ],
-    )
-}
-
-// The program with these commands more, where memory was had for it and for them.
-fn with_commands<'a>(
-    alloc: Global,
-    mut program: Result<Command<'a>, AllocError>,
-    commands: &[Named],
-) -> Result<Command<'a>, AllocError>
-    ensures { IfOk result (λ whole. OnMade program.entry (λ p. app_of whole ≡ with_named (app_of p) commands.now)) }
-{
-    for named in commands {
-        program = with_command(alloc, program, named);
-    }
-    program
-}
-
-// The program with this command more, where memory was had for both.
-fn with_command<'a>(
-    alloc: Global,
-    program: Result<Command<'a>, AllocError>,
-    named: &Named,
-) -> Result<Command<'a>, AllocError>
-    ensures { IfOk result (λ whole. OnMade program.entry (λ p. app_of whole ≡ with_subcommand (app_of p) (app_named named.now).top)) }
-{
-    match program {
-        Ok(program) => with_made(program, subcommand(alloc, named)),
+    ) {
+        Ok(commands) => with_commands(program(alloc), commands),
         Err(error) => Err(error),
     }
 }
 
-// The program with a command more, where memory was had for the command.
-fn with_made<'a>(
-    program: Command<'a>,
-    command: Result<Command<'a>, AllocError>,
-) -> Result<Command<'a>, AllocError>
-    ensures { IfOk result (λ whole. OnMade command.entry (λ c. AddsSubcommand program.entry c whole)) }
+// These commands.
+fn commands_of<'a>(alloc: Global, names: &[Named]) -> Result<Vec<Command<'a>>, AllocError>
+    ensures { IfOk result (λ commands. map told_of commands.items ≡ map named_told names.now) }
 {
-    match command {
-        Ok(command) => program.subcommand(command),
+    let mut commands = Vec::new(alloc);
+    for named in names {
+        commands.push(subcommand(alloc, named)?)?;
+    }
+    Ok(commands)
+}
+
+// The program with these commands more, where memory was had for it.
+fn with_commands<'a>(
+    program: Result<Command<'a>, AllocError>,
+    commands: Vec<Command<'a>>,
+) -> Result<Command<'a>, AllocError>
+    ensures { (names : List Named) → map told_of commands.entry.items ≡ map named_told names
+        → IfOk result (λ whole. OnMade program.entry (λ p. app_of whole ≡ with_named (app_of p) names)) }
+{
+    match program {
+        Ok(program) => program.subcommands(commands),
         Err(error) => Err(error),
     }
 }
@@ -126,10 +114,13 @@ fn program<'a>(alloc: Global) -> Result<Command<'a>, AllocError>
 
 /// The command of the program.
 pub fn subcommand<'a>(alloc: Global, named: &Named) -> Result<Command<'a>, AllocError>
-    ensures { IfOk result (IsLocal (app_named named.now)) }
+    ensures { IfOk result (λ command. told_of command ≡ named_told named.now) }
 {
     let (name, about, example) = words_of(named);
-    command_with(alloc, name, about, example, arguments_of(named))
+    match args_of(alloc, arguments_of(named)) {
+        Ok(args) => command_with(alloc, name, about, example, args),
+        Err(error) => Err(error),
+    }
 }
 
 // The command's name, what is said of it, and an example of it.
@@ -179,33 +170,29 @@ fn command_with<'a>(
     name: &'a str,
     about: &'a str,
     example: &'a str,
-    arguments: &[Argument],
+    args: Vec<Arg<'a>>,
 ) -> Result<Command<'a>, AllocError>
-    ensures { IfOk result (IsLocal (with_each (new_app name.entry.now) arguments.now)) }
+    ensures { (arguments : List Argument) → map rule_told args.entry.items ≡ map argument_told arguments
+        → IfOk result (λ command. told_of command ≡ (with_each (new_app name.entry.now) arguments, false)) }
 {
     let command = Command::new(alloc, name).about(about).after_help(example);
-    with_arguments(alloc, command, arguments)
+    command.args(args)
 }
 
-// The command with these arguments more.
-fn with_arguments<'a>(
-    alloc: Global,
-    mut command: Command<'a>,
-    arguments: &[Argument],
-) -> Result<Command<'a>, AllocError>
-    requires { IsLocal (app_of command) command }
-    ensures { IfOk result (IsLocal (with_each (app_of command.entry) arguments.now)) }
+// The arguments, as clap is told of them.
+fn args_of<'a>(alloc: Global, arguments: &[Argument]) -> Result<Vec<Arg<'a>>, AllocError>
+    ensures { IfOk result (λ args. map rule_told args.items ≡ map argument_told arguments.now) }
 {
+    let mut args = Vec::new(alloc);
     for argument in arguments {
-        command = command.arg(told(alloc, argument))?;
+        args.push(told(alloc, argument))?;
     }
-    Ok(command)
+    Ok(args)
 }
 
 // The argument, as clap is told of it.
 fn told<'a>(alloc: Global, argument: &Argument) -> Arg<'a>
-    ensures rule { rule_of result ≡ rule_for argument.now }
-    ensures local { result.global ≡ false }
+    ensures { rule_told result ≡ argument_told argument.now }
 {
     match argument {
         Argument::ZeroCells => switch(alloc, "zero-cells", ZERO_CELLS),

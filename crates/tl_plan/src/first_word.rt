@@ -4,7 +4,6 @@ ghost use Rattle.std.specs.Prelude.{◌≡◌, map};
 ghost use Rattle.std.specs.List.{list_any};
 ghost use Rattle.std.specs.Str.{bytes_eq};
 ghost use Rattle.tl_plan.specs.CommandLine.{StopsPlanning, may_be_use as may_be_use_of, is_option as is_option_of, first_names};
-ghost use Rattle.tl_plan.specs.Keeping.{front_names, back_names};
 ghost use Rattle.tl_plan.specs.Plans.{ShowsNoEscape};
 
 use crate::plan::PlanStop;
@@ -47,20 +46,29 @@ fn is_option(word: &[u8]) -> bool
 fn is_name(word: &str) -> bool
     ensures { result ≡ list_any (bytes_eq word.now) first_names }
 {
-    if is_first_name(word) {
-        return true;
+    is_among(
+        word,
+        &[
+            "show",
+            "landmarks",
+            "locate",
+            "audit",
+            "build",
+            "check",
+            "convert",
+            "help",
+        ],
+    )
+}
+
+// Whether the word is one of the names.
+fn is_among(word: &str, names: &[&str]) -> bool
+    ensures { result ≡ list_any (bytes_eq word.now) (map (λ name. name.now) names.now) }
+{
+    for name in names {
+        if word == *name {
+            return true;
+        }
     }
-    is_last_name(word)
-}
-
-fn is_first_name(word: &str) -> bool
-    ensures { result ≡ list_any (bytes_eq word.now) front_names }
-{
-    word == "show" || word == "landmarks" || word == "locate" || word == "audit"
-}
-
-fn is_last_name(word: &str) -> bool
-    ensures { result ≡ list_any (bytes_eq word.now) back_names }
-{
-    word == "build" || word == "check" || word == "convert" || word == "help"
+    false
 }

@@ -81,67 +81,73 @@ fn usage_of(
 ) -> Result<String, AllocError>
     ensures { IfOk result HasNoEscape }
 {
-    if let Some(check) = matches.subcommand_matches("check") {
-        if let Some(tests) = check.get_str("tests") {
-            return misspelt_tests(alloc, tests);
-        }
+    if let Some(tests) = word_of(matches, "check", "tests") {
+        return misspelt(
+            alloc,
+            &Named::Check,
+            "tigertopo check",
+            "--tests <N>",
+            tests,
+            SPELLING,
+        );
     }
-    if let Some(locate) = matches.subcommand_matches("locate") {
-        if let Some(point) = locate.get_str("point") {
-            return misspelt_point(alloc, point);
-        }
+    if let Some(point) = word_of(matches, "locate", "point") {
+        return misspelt(
+            alloc,
+            &Named::Locate,
+            "tigertopo locate",
+            "<@X,Y>",
+            point,
+            POINT_SPELLING,
+        );
     }
+    plain_usage(alloc, command)
+}
+
+// The word that was given for an argument of this command, where the words name that.
+fn word_of<'a>(matches: &ArgMatches<'a>, command: &str, argument: &str) -> Option<&'a str> {
+    match matches.subcommand_matches(command) {
+        Some(found) => found.get_str(argument),
+        None => None,
+    }
+}
+
+// How the program is used.
+fn plain_usage(alloc: Global, command: &mut Command<'_>) -> Result<String, AllocError>
+    ensures { IfOk result HasNoEscape }
+{
     let usage = command.render_usage()?;
     without_escapes(alloc, usage.as_str())
 }
 
-// What is wrong with a number of tests that isn't spelt as one.
-fn misspelt_tests(alloc: Global, tests: &str) -> Result<String, AllocError>
-    ensures { IfOk result HasNoEscape }
-{
-    let wrong = format!(in alloc; "invalid value '{tests}' for '--tests <N>': {SPELLING}")?;
-    misspelt(
-        alloc,
-        subcommand(alloc, &Named::Check),
-        "tigertopo check",
-        wrong.as_str(),
-    )
-}
-
-// What is wrong with a point that isn't spelt as one.
-fn misspelt_point(alloc: Global, point: &str) -> Result<String, AllocError>
-    ensures { IfOk result HasNoEscape }
-{
-    let wrong = format!(in alloc; "invalid value '{point}' for '<@X,Y>': {POINT_SPELLING}")?;
-    misspelt(
-        alloc,
-        subcommand(alloc, &Named::Locate),
-        "tigertopo locate",
-        wrong.as_str(),
-    )
-}
-
-// What the command of this name says of a word that isn't spelt as it wants.
+// What the command, shown by this name, says of a value of an argument that isn't spelt as it wants.
 fn misspelt(
     alloc: Global,
-    command: Result<Command<'_>, AllocError>,
+    named: &Named,
     name: &str,
-    wrong: &str,
+    argument: &str,
+    value: &str,
+    spelling: &str,
 ) -> Result<String, AllocError>
     ensures { IfOk result HasNoEscape }
 {
-    match shown_as(command, name) {
+    let wrong = format!(in alloc; "invalid value '{value}' for '{argument}': {spelling}")?;
+    told_by(alloc, named, name, wrong.as_str())
+}
+
+// The same, of what is wrong.
+fn told_by(alloc: Global, named: &Named, name: &str, wrong: &str) -> Result<String, AllocError>
+    ensures { IfOk result HasNoEscape }
+{
+    match shown_as(alloc, named, name) {
         Ok(mut command) => text_of_mistake(alloc, &mut command, wrong),
         Err(error) => Err(error),
     }
 }
 
 // The command, shown by this name.
-fn shown_as<'a>(
-    command: Result<Command<'a>, AllocError>,
-    name: &str,
-) -> Result<Command<'a>, AllocError> {
-    match command {
+fn shown_as<'a>(alloc: Global, named: &Named, name: &str) -> Result<Command<'a>, AllocError> {
+    match subcommand(alloc, named) {
         Ok(command) => command.bin_name(name),
         Err(error) => Err(error),
     }

@@ -1,7 +1,12 @@
 //! What the words of the command line ask for.
 
-ghost use Rattle.std.specs.Prelude.{◌≡◌, ◌↔◌, IfOk, IfErr, IsTrue, [], codes, map, option_map, unwrap_or, string_bytes};
-ghost use Rattle.clap.specs.Simple.{app_of, subcommand_rows_of};
+ghost use Rattle.std.specs.Prelude.{◌≡◌, ◌↔◌, IfOk, IfErr, IsTrue, true, [], codes, map, option_map, unwrap_or, string_bytes};
+ghost use Rattle.clap.specs.Simple.{app_of, subcommand_of, subcommand_rows_of};
+ghost use Rattle.clap.specs.Takes.{takes};
+ghost use Rattle.clap.specs.Faults.{fault_of};
+ghost use Rattle.clap.specs.Kinds.{HasKind};
+ghost use Rattle.clap.specs.Values.{kind_of};
+ghost use Rattle.clap.specs.declared.error.kind.ErrorKind.TheVariants.{OutOfMemory};
 ghost use Rattle.clap.specs.Walk.{rows_of, all_of, first_of};
 ghost use Rattle.clap.specs.Matches.{found_of};
 ghost use Rattle.tl_plan.specs.Commands.{command_line, show_name, landmarks_name, audit_name, build_name, check_name, locate_name};
@@ -15,7 +20,7 @@ use crate::first_word::unread;
 use crate::plan::{Plan, PlanStop};
 use crate::point::point_of;
 use crate::refusal::{misuse, stop_of};
-use clap::{ArgMatches, Command};
+use clap::{ArgMatches, Command, Error};
 use std::alloc::{AllocError, Global};
 use std::convert::AsStr;
 use tl_record::Options;
@@ -49,17 +54,42 @@ fn plan_by<'a, S: AsStr>(
     ensures stops { IfErr result (StopsPlanning (map S.text words.now)) }
     ensures texts { IfErr result ShowsNoEscape }
 {
-    let matches = match command.try_get_matches_from_mut(words) {
-        Ok(matches) => matches,
-        Err(error) => match stop_of(alloc, &error) {
-            PlanStop::Memory => return Err(unread(alloc, words)),
-            stop => return Err(stop),
-        },
-    };
-    match plan_of(alloc, &matches)? {
+    match command.try_get_matches_from_mut(words) {
+        Ok(matches) => plan_in(alloc, command, words, &matches),
+        Err(error) => Err(stop_by(alloc, &error, words)),
+    }
+}
+
+// The plan of words that `clap` takes, by what it found in them.
+fn plan_in<S: AsStr>(
+    alloc: Global,
+    command: &mut Command<'_>,
+    words: &[S],
+    matches: &ArgMatches<'_>,
+) -> Result<Plan, PlanStop>
+    requires found { subcommand_rows_of matches.now ≡ subcommand_of command_line (map S.text words.now) }
+    requires taken { fault_of command_line (map S.text words.now) ≡ [] }
+    ensures plan { IfOk result (AskFor (map S.text words.now)) }
+    ensures stops { IfErr result (StopsPlanning (map S.text words.now)) }
+    ensures texts { IfErr result ShowsNoEscape }
+{
+    match plan_of(alloc, matches)? {
         Some(plan) => Ok(plan),
         // The words name a number or a point that isn't spelt so: clap has refused others before.
-        None => Err(misuse(alloc, command, &matches)),
+        None => Err(misuse(alloc, command, matches)),
+    }
+}
+
+// Why there is no plan of words of which `clap` gives this error.
+fn stop_by<S: AsStr>(alloc: Global, error: &Error, words: &[S]) -> PlanStop
+    requires passes { takes command_line (map S.text words.now) ≡ true → kind_of error.now ≡ OutOfMemory }
+    requires kinds { HasKind (fault_of command_line (map S.text words.now)) error.now }
+    ensures stops { StopsPlanning (map S.text words.now) result }
+    ensures texts { ShowsNoEscape result }
+{
+    match stop_of(alloc, error) {
+        PlanStop::Memory => unread(alloc, words),
+        stop => stop,
     }
 }
 

@@ -80,7 +80,10 @@ fn lay(numbers: &mut Vec<u32>, ends: &mut Vec<usize>, list: &[u32]) -> Result<()
     ensures ends { AreEnds 0 (length numbers.new.items) ends.new.items }
 {
     let start = numbers.len();
-    append(numbers, list)?;
+    match append(numbers, list) {
+        Ok(()) => {}
+        Err(refused) => return Err(refused),
+    }
     match push_end(ends, end_of(numbers)) {
         Ok(()) => Ok(()),
         Err(refused) => {

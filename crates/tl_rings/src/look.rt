@@ -6,11 +6,11 @@ ghost use Rattle.tl_planar.specs.Rectangles.{segment_rect};
 ghost use Rattle.tl_sides.specs.Sides.{SidesAgree};
 ghost use Rattle.tl_sides.specs.Walks.{AreWalks};
 ghost use Rattle.tl_inside.specs.Keeping.Strips.{IsSiteOf};
-ghost use Rattle.tl_inside.specs.Keeping.Tallies.{AreNone};
+ghost use Rattle.tl_inside.specs.Keeping.Tallies.{AreClear};
 ghost use Rattle.tl_crossings.specs.Headings.{AreProper};
 ghost use Rattle.tl_rings.specs.Rings.{AreBoxed, box_at};
 ghost use Rattle.tl_rings.specs.Keeping.Spots.{ring_count};
-ghost use Rattle.tl_rings.specs.Keeping.Looking.{IsLook};
+ghost use Rattle.tl_rings.specs.Keeping.Looking.{AreSound, IsLook};
 
 use crate::darts::{has_outside, list_rings};
 use crate::heights::Heights;
@@ -35,54 +35,56 @@ pub enum Look {
 /// How many darts are looked at in any case: a search along a ray takes no less.
 const FEW: usize = 64;
 
+/// What points are looked at by: a map, an index that fits its segments, its rings and an index that fits them, and how
+/// many chains lie at each height.
+#[derive(Drop)]
+pub struct Grounds<'a, X, Y> {
+    pub map: &'a Map,
+    pub index: &'a X,
+    pub rings: &'a Rings<'a>,
+    pub tree: &'a Y,
+    pub heights: &'a Heights,
+}
+
 /// Looks at a polygon's point by the rings whose rectangles hold it, unless they are costly.
 pub fn look_at<X: BoxIndex, Y: BoxIndex>(
-    map: &Map,
-    index: &X,
-    rings: &Rings,
-    tree: &Y,
-    heights: &Heights,
+    by: &Grounds<'_, X, Y>,
     site: Site,
     hits: &mut Vec<u32>,
     flanks: &mut Vec<Flanks>,
     near: &mut [u64],
     far: &mut [u64],
 ) -> Result<Look, Memory>
-    requires fits { X.fits index.now (segments_before map.now.chains (length map.now.chains)) (segment_rect map.now.chains) }
-    requires tree { Y.fits tree.now (ring_count rings.now) (box_at rings.now.boxes) }
-    requires proper { AreProper map.now.chains }
-    requires sides { SidesAgree map.now.chains }
-    requires walks { AreWalks map.now.chains rings.now.rings }
-    requires boxed { AreBoxed map.now.chains rings.now }
-    requires few { length rings.now.rings < 2 ^ 32 }
-    requires is { IsSiteOf map.now site }
-    requires nears { length near.old ≡ length map.now.polygons }
-    requires fars { length far.old ≡ length map.now.polygons }
-    requires no_near { AreNone near.old }
-    requires no_far { AreNone far.old }
-    ensures look { IfOk result (IsLook map.now site) }
-    ensures nears { length near.new ≡ length near.old }
-    ensures fars { length far.new ≡ length far.old }
-    ensures no_near { OnOk result (AreNone near.new) }
-    ensures no_far { OnOk result (AreNone far.new) }
+    requires sound { AreSound X.fits Y.fits by.now }
+    requires is { IsSiteOf by.now.map.now site }
+    requires clear { AreClear (length by.now.map.now.polygons) near.old far.old }
+    ensures look { IfOk result (IsLook by.now.map.now site) }
+    ensures clear { OnOk result (AreClear (length by.now.map.now.polygons) near.new far.new) }
 {
-    let polygon = map.polygon(site.polygon);
-    match chain_at(map, index, polygon.point, hits)? {
-        Some(c) => return Ok(Look::Wrong(on_chain(map, polygon, c))),
-        None => {}
+    let polygon = by.map.polygon(site.polygon);
+    match chain_at(by.map, by.index, polygon.point, hits) {
+        Ok(None) => {}
+        Ok(Some(c)) => return Ok(Look::Wrong(on_chain(by.map, polygon, c))),
+        Err(refused) => return Err(refused),
     }
-    list_about(rings, tree, polygon.point, hits)?;
-    if darts_of(map, rings, hits) > FEW.saturating_add(heights.at(polygon.point.y) as usize) {
+    match list_about(by.rings, by.tree, polygon.point, hits) {
+        Ok(()) => {}
+        Err(refused) => return Err(refused),
+    }
+    if darts_of(by.map, by.rings, hits)
+        > FEW.saturating_add(by.heights.at(polygon.point.y) as usize)
+    {
         return Ok(Look::Costly);
     }
     flanks.clear();
-    list_rings(map, rings, hits, polygon.point, flanks)?;
-    Ok(
-        match misplaced_by(map, site.polygon, polygon, flanks, near, far) {
-            Some(fault) => Look::Wrong(fault),
-            None => Look::Right,
-        },
-    )
+    match list_rings(by.map, by.rings, hits, polygon.point, flanks) {
+        Ok(()) => {}
+        Err(refused) => return Err(refused),
+    }
+    match misplaced_by(by.map, site.polygon, polygon, flanks, near, far) {
+        Some(fault) => Ok(Look::Wrong(fault)),
+        None => Ok(Look::Right),
+    }
 }
 
 ghost use Rattle.tl_index.specs.Hits.{AreHits};

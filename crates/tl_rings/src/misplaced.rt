@@ -7,14 +7,13 @@ ghost use Rattle.tl_sides.specs.Sides.{SidesAgree};
 ghost use Rattle.tl_sides.specs.Walks.{AreWalks};
 ghost use Rattle.tl_inside.specs.Placed.{ArePlaced, IsTrueMisplaced};
 ghost use Rattle.tl_inside.specs.Keeping.Strips.{IsSiteOf, IsPlacedSite};
-ghost use Rattle.tl_inside.specs.Keeping.Tallies.{AreNone};
-ghost use Rattle.tl_crossings.specs.Headings.{AreProper};
+ghost use Rattle.tl_inside.specs.Keeping.Tallies.{AreClear};
 ghost use Rattle.tl_rings.specs.Rings.{AreBoxed, box_at};
 ghost use Rattle.tl_rings.specs.Keeping.Spots.{ring_count};
-ghost use Rattle.tl_rings.specs.Keeping.Looking.{IsPlacedPolygon};
+ghost use Rattle.tl_rings.specs.Keeping.Looking.{AreSound, IsPlacedPolygon};
 
 use crate::heights::Heights;
-use crate::look::{Look, look_at};
+use crate::look::{Grounds, Look, look_at};
 use crate::rings::Rings;
 use crate::sites::{polygons_along, site_of};
 use std::alloc::Global;
@@ -69,90 +68,70 @@ fn find_by<X: BoxIndex, Y: BoxIndex>(
     ensures { IfOk result (λ found. MatchOption found (ArePlaced map.now) (IsTrueMisplaced map.now)) }
 {
     look_at_chains(map);
-    let heights = Heights::of(alloc, map)?;
-    let order = polygons_along(alloc, map)?;
-    find_along(alloc, map, index, rings, tree, &heights, &order)
+    let Ok(heights) = Heights::of(alloc, map) else {
+        return Err(Memory);
+    };
+    let Ok(order) = polygons_along(alloc, map) else {
+        return Err(Memory);
+    };
+    let by = Grounds {
+        map,
+        index,
+        rings,
+        tree,
+        heights: &heights,
+    };
+    find_along(alloc, &by, &order)
 }
 
 /// The same by all polygons in an order, and the chains at each height.
 fn find_along<X: BoxIndex, Y: BoxIndex>(
     alloc: Global,
-    map: &Map,
-    index: &X,
-    rings: &Rings,
-    tree: &Y,
-    heights: &Heights,
+    by: &Grounds<'_, X, Y>,
     order: &[u32],
 ) -> Result<Option<Misplaced>, Memory>
-    requires fits { X.fits index.now (segments_before map.now.chains (length map.now.chains)) (segment_rect map.now.chains) }
-    requires tree { Y.fits tree.now (ring_count rings.now) (box_at rings.now.boxes) }
-    requires proper { AreProper map.now.chains }
-    requires sides { SidesAgree map.now.chains }
-    requires walks { AreWalks map.now.chains rings.now.rings }
-    requires boxed { AreBoxed map.now.chains rings.now }
-    requires few { length rings.now.rings < 2 ^ 32 }
-    requires known { All (λ p. p < length map.now.polygons) order.now }
-    requires whole { (p : ℕ) → p < length map.now.polygons → Contains order.now p }
-    ensures { IfOk result (λ found. MatchOption found (ArePlaced map.now) (IsTrueMisplaced map.now)) }
+    requires sound { AreSound X.fits Y.fits by.now }
+    requires known { All (λ p. p < length by.now.map.now.polygons) order.now }
+    requires whole { (p : ℕ) → p < length by.now.map.now.polygons → Contains order.now p }
+    ensures { IfOk result (λ found. MatchOption found (ArePlaced by.now.map.now) (IsTrueMisplaced by.now.map.now)) }
 {
     let mut left = Vec::new(alloc);
-    match find_by_rings(alloc, map, index, rings, tree, heights, order, &mut left)? {
-        Some(found) => Ok(Some(found)),
-        None => find_among(alloc, map, index, &mut left),
+    match find_by_rings(alloc, by, order, &mut left) {
+        Ok(None) => find_among(alloc, by.map, by.index, &mut left),
+        Ok(Some(found)) => Ok(Some(found)),
+        Err(refused) => Err(refused),
     }
 }
 
 /// Looks at the points of these polygons, but for those that are costly: they are left.
 fn find_by_rings<X: BoxIndex, Y: BoxIndex>(
     alloc: Global,
-    map: &Map,
-    index: &X,
-    rings: &Rings,
-    tree: &Y,
-    heights: &Heights,
+    by: &Grounds<'_, X, Y>,
     order: &[u32],
     left: &mut Vec<Site>,
 ) -> Result<Option<Misplaced>, Memory>
-    requires fits { X.fits index.now (segments_before map.now.chains (length map.now.chains)) (segment_rect map.now.chains) }
-    requires tree { Y.fits tree.now (ring_count rings.now) (box_at rings.now.boxes) }
-    requires proper { AreProper map.now.chains }
-    requires sides { SidesAgree map.now.chains }
-    requires walks { AreWalks map.now.chains rings.now.rings }
-    requires boxed { AreBoxed map.now.chains rings.now }
-    requires few { length rings.now.rings < 2 ^ 32 }
-    requires known { All (λ p. p < length map.now.polygons) order.now }
+    requires sound { AreSound X.fits Y.fits by.now }
+    requires known { All (λ p. p < length by.now.map.now.polygons) order.now }
     requires none { left.old.items ≡ [] }
     ensures found { IfOk result (λ found. MatchOption found
-        (All (IsPlacedSite map.now) left.new.items → All (IsPlacedPolygon map.now) order.now) (IsTrueMisplaced map.now)) }
-    ensures left { OnOk result (All (IsSiteOf map.now) left.new.items) }
+        (All (IsPlacedSite by.now.map.now) left.new.items → All (IsPlacedPolygon by.now.map.now) order.now) (IsTrueMisplaced by.now.map.now)) }
+    ensures left { OnOk result (All (IsSiteOf by.now.map.now) left.new.items) }
 {
-    let polygons = map.polygons() as usize;
-    let mut near = no_counts(alloc, polygons)?;
-    let mut far = no_counts(alloc, polygons)?;
+    let polygons = by.map.polygons() as usize;
+    let Ok(mut near) = no_counts(alloc, polygons) else {
+        return Err(Memory);
+    };
+    let Ok(mut far) = no_counts(alloc, polygons) else {
+        return Err(Memory);
+    };
     let mut hits = Vec::new(alloc);
     let mut flanks = Vec::new(alloc);
-    look_at_each(
-        map,
-        index,
-        rings,
-        tree,
-        heights,
-        order,
-        left,
-        &mut hits,
-        &mut flanks,
-        &mut near,
-        &mut far,
-    )
+    look_at_each(by, order, left, &mut hits, &mut flanks, &mut near, &mut far)
 }
 
 /// The same where nothing is counted yet.
 fn look_at_each<X: BoxIndex, Y: BoxIndex>(
-    map: &Map,
-    index: &X,
-    rings: &Rings,
-    tree: &Y,
-    heights: &Heights,
+    by: &Grounds<'_, X, Y>,
     order: &[u32],
     left: &mut Vec<Site>,
     hits: &mut Vec<u32>,
@@ -160,28 +139,17 @@ fn look_at_each<X: BoxIndex, Y: BoxIndex>(
     near: &mut [u64],
     far: &mut [u64],
 ) -> Result<Option<Misplaced>, Memory>
-    requires fits { X.fits index.now (segments_before map.now.chains (length map.now.chains)) (segment_rect map.now.chains) }
-    requires tree { Y.fits tree.now (ring_count rings.now) (box_at rings.now.boxes) }
-    requires proper { AreProper map.now.chains }
-    requires sides { SidesAgree map.now.chains }
-    requires walks { AreWalks map.now.chains rings.now.rings }
-    requires boxed { AreBoxed map.now.chains rings.now }
-    requires few { length rings.now.rings < 2 ^ 32 }
-    requires known { All (λ p. p < length map.now.polygons) order.now }
+    requires sound { AreSound X.fits Y.fits by.now }
+    requires known { All (λ p. p < length by.now.map.now.polygons) order.now }
     requires none { left.old.items ≡ [] }
-    requires nears { length near.old ≡ length map.now.polygons }
-    requires fars { length far.old ≡ length map.now.polygons }
-    requires no_near { AreNone near.old }
-    requires no_far { AreNone far.old }
+    requires clear { AreClear (length by.now.map.now.polygons) near.old far.old }
     ensures found { IfOk result (λ found. MatchOption found
-        (All (IsPlacedSite map.now) left.new.items → All (IsPlacedPolygon map.now) order.now) (IsTrueMisplaced map.now)) }
-    ensures left { OnOk result (All (IsSiteOf map.now) left.new.items) }
+        (All (IsPlacedSite by.now.map.now) left.new.items → All (IsPlacedPolygon by.now.map.now) order.now) (IsTrueMisplaced by.now.map.now)) }
+    ensures left { OnOk result (All (IsSiteOf by.now.map.now) left.new.items) }
 {
     for k in 0..order.len() {
-        let site = site_of(map, order[k]);
-        match look_at(
-            map, index, rings, tree, heights, site, hits, flanks, near, far,
-        )? {
+        let site = site_of(by.map, order[k]);
+        match look_at(by, site, hits, flanks, near, far)? {
             Look::Right => {}
             Look::Wrong(fault) => return Ok(Some(fault)),
             Look::Costly => push_site(left, site)?,

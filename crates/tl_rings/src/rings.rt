@@ -43,7 +43,9 @@ impl<'a> Rings<'a> {
         ensures { IfOk result (λ rings. rings ≡ record { rings = []; boxes = [] }) }
     {
         let room = if lent.is_empty() { darts as usize } else { 0 };
-        let laid = Laid::new(alloc, room)?;
+        let Ok(laid) = Laid::new(alloc, room) else {
+            return Err(Memory);
+        };
         let Ok(boxes) = Vec::with_capacity(alloc, lent.len()) else {
             return Err(Memory);
         };
@@ -62,8 +64,10 @@ impl<'a> Rings<'a> {
         ensures boxed { OnOk result (AreBoxed map.now.chains self.old → AreBoxed map.now.chains self.new) }
     {
         let around = box_of_ring(map, ring);
-        take_or_lay(self.lent, &mut self.taken, &mut self.laid, ring)?;
-        push_box(&mut self.boxes, around)
+        match take_or_lay(self.lent, &mut self.taken, &mut self.laid, ring) {
+            Ok(()) => push_box(&mut self.boxes, around),
+            Err(refused) => Err(refused),
+        }
     }
 
     /// The darts of a ring by its number.

@@ -1,5 +1,5 @@
 -- What is found of trees, from what is found of the first one and of the others.
-use Rattle.std.proofs.Common.{◌≡◌, ℕ, zero, suc, ◌+◌, ◌-◌, ◌<◌, ◌≤◌, inl, inr, ◌↔◌, Bool, true, false, List, length, get_or, replicate, Option, Some, None, Result, Ok, Err, IfOk, refl, sym, subst, arith}
+use Rattle.std.proofs.Common.{◌≡◌, ℕ, zero, suc, ◌+◌, ◌-◌, ◌<◌, ◌≤◌, inl, inr, ◌↔◌, Bool, true, false, List, length, get_or, replicate, Option, Some, None, pos, refl, sym, subst, arith}
 use Rattle.tl_geom.specs.declared.rect.Rect.{Rect}
 use Rattle.tl_geom.specs.Rectangle.{Covers}
 use Rattle.tl_index.specs.declared.fault.TreeFault.{TreeFault}
@@ -13,12 +13,13 @@ use Rattle.tl_tree.specs.Keeping.Walking.{followed, items_below, size_of}
 use Rattle.tl_index.specs.Keeping.Marked.{mark_at, AreMarked}
 use Rattle.tl_tree.specs.Keeping.Checking.{IsHull, AreChecked, IsChecked, IsFaultAt, IsFaultBelow}
 use Rattle.tl_index.proofs.Times.{times-append, times-above}
-use Rattle.tl_tree.proofs.Hulls.{hull-both}
+use Rattle.tl_tree.proofs.Hulls.{hull-both, hull-none, nothing-empty}
 use Rattle.tl_index.proofs.Marks.{marked-both, unmarked, is-marked}
 
-pub ok-map : {T E : Type 0} {P Q : T → Type 0} (r : Result T E) → ((x : T) → P x → Q x) → IfOk r P → IfOk r Q
-ok-map (Ok x) f h = f x h
-ok-map (Err e) f h = h
+pub none-checked : (b : ℕ → Rect) (marks : List Bool) (f : Forest) → f ≡ none → AreChecked b f marks marks (record { xmin = pos 1; ymin = pos 1; xmax = pos 0; ymax = pos 0 })
+none-checked b marks f e =
+    let P : Forest → Type 0 = λ g. AreChecked b g marks marks (record { xmin = pos 1; ymin = pos 1; xmax = pos 0; ymax = pos 0 }) in
+    subst P (sym e) (record { marked = record { complete = refl; known = tt; marked = λ i. omega arith }; covers = tt; around = hull-none b _ nothing-empty })
 
 module _ {W : Type 0} (b : ℕ → Rect) (see : W → Forest) (old : List Bool) where
   pub checked-items : (t : Below W) (xs : _) (new : List Bool) (hull : Rect) → t ≡ Items xs → AreMarked old xs.now new → IsHull b xs.now hull → IsChecked b see t old new hull

@@ -1,5 +1,7 @@
 -- Lists of hits.
-use Rattle.std.proofs.Common.{◌≡◌, ℕ, ◌+◌, ◌<◌, List, [], ◌∷◌, ◌++◌, take, length, get_or, refl, sym, ap, ◌∙◌, subst, append_assoc, append-nil, Result, Ok, Err, OnOk, arith}
+use Rattle.std.proofs.Common.{◌≡◌, ℕ, ◌+◌, ◌<◌, List, [], ◌∷◌, ◌++◌, take, length, get_or, refl, sym, ap, ◌∙◌, subst, append_assoc, append-nil, Result, Ok, Err, OnOk, OnErr, is_ok, true, false, arith}
+use Rattle.std.proofs.lemmas.Bool.{false≢true}
+use Rattle.std.proofs.lemmas.Grind.{common_steps}
 use Rattle.std.proofs.lemmas.List.{take_more}
 use Rattle.tl_geom.specs.declared.rect.Rect.{Rect}
 use Rattle.tl_geom.specs.Rectangle.{AreMeeting}
@@ -121,3 +123,24 @@ module _ (n : ℕ) (b : ℕ → Rect) (hit : ℕ → Type 0) (region : Rect) whe
 pub on-ok : {T E : Type 0} {P Q : Type 0} (r : Result T E) → (P → Q) → OnOk r P → OnOk r Q
 on-ok (Ok x) f h = f h
 on-ok (Err e) f h = h
+
+-- what is said of an answer of the other kind
+pub no-ok : {A E : Type 0} (P : Type 0) (r : Result A E) → is_ok r ≡ false → OnOk r P
+no-ok P (Ok a) e = absurd (false≢true (sym e))
+no-ok P (Err e) h = tt
+
+pub no-err : {A E : Type 0} (P : Type 0) (r : Result A E) → is_ok r ≡ true → OnErr r P
+no-err P (Ok a) h = tt
+no-err P (Err e) h = absurd (false≢true h)
+
+pub when-ok : {A E P : Type 0} (r : Result A E) → is_ok r ≡ true → OnOk r P → P
+when-ok (Ok a) e h = h
+when-ok (Err e) f h = absurd (false≢true f)
+
+pub on-err : {A E P : Type 0} (r : Result A E) → P → OnErr r P
+on-err (Ok a) p = tt
+on-err (Err e) p = p
+
+-- what was appended is cut off
+pub cut-back : (old now new added : List ℕ) (n : ℕ) → new ≡ take n now → now ≡ old ++ added → n ≡ length old → new ≡ old
+cut-back old now new added n e f h = grind (arith, common_steps)

@@ -1,5 +1,5 @@
 -- Lists of trees that a tree is searched against.
-use Rattle.std.proofs.Common.{◌≡◌, ℕ, ◌+◌, ◌<◌, ◌≤◌, Bool, true, false, List, [], ◌∷◌, ◌++◌, length, drop, get_or, Option, Some, None, IfSome, refl, sym, ap, subst, ◌∙◌, arith}
+use Rattle.std.proofs.Common.{◌≡◌, ℕ, ◌+◌, ◌<◌, ◌≤◌, Bool, true, false, List, [], ◌∷◌, ◌++◌, length, drop, get_or, take, Option, Some, None, refl, sym, ap, subst, ◌∙◌, arith}
 use Rattle.tl_geom.specs.declared.rect.Rect.{Rect}
 use Rattle.std.proofs.lemmas.List.{at_drop_more}
 use Rattle.tl_geom.specs.Rectangle.{AreMeeting, Covers}
@@ -9,7 +9,7 @@ use Rattle.tl_tree.specs.declared.walk.Below.TheVariants.{Items, Children}
 use Rattle.tl_index.specs.Pairs.{meeting, cross_sum, AllRow, AllCross, AreFree}
 use Rattle.tl_index.specs.Fits.{AreBelow, CoversAll}
 use Rattle.tl_index.specs.Trees.{Forest}
-use Rattle.tl_tree.specs.Keeping.Listing.{first_items, listed_items, AllSound, IsFirst, StandsFor, StandsForItems}
+use Rattle.tl_tree.specs.Keeping.Listing.{first_items, listed_items, AllSound, IsFirst, StandsFor, StandsForItems, AreListed, MayList, AreListedItems, MayListItems}
 use Rattle.tl_tree.specs.Keeping.Walking.{followed, items_below, AreSound, IsSound}
 use Rattle.tl_tree.proofs.Apart.{cross-apart, cross-free}
 use Rattle.tl_tree.proofs.PairLemmas.{cross-nil, cross-append_right, all_cross-nil, all_cross-join}
@@ -19,11 +19,6 @@ use Rattle.tl_tree.proofs.PairTests.{KeepsLaw}
 pub by_Bool : {P : Type 0} (t : Bool) → (t ≡ true → P) → (t ≡ false → P) → P
 by_Bool true f g = f refl
 by_Bool false f g = g refl
-
--- what is said of an answer, from what else is said of it
-pub map-some : {P Q : ℕ → Type 0} (o : Option ℕ) → ((m : ℕ) → P m → Q m) → IfSome o P → IfSome o Q
-map-some None k h = tt
-map-some (Some m) k h = k m h
 
 module _ (P : ℕ → ℕ → Type 0) where
   all_row-parts : (x : ℕ) (ys zs : List ℕ) → AllRow P x (ys ++ zs) → AllRow P x ys × AllRow P x zs
@@ -111,6 +106,13 @@ module _ {W : Type 0} (see : W → Forest) where
           free = λ f. let m = k.free f in let l = h.free m.0 in (l.0, subst P (sym e) (all_cross-join (AreFree tells) xs ys zs l.1 m.1));
           sound = λ s. k.sound (h.sound s);
         }
+
+  module _ {C : Type 0} (n : ℕ) (b : ℕ → Rect) (tells : ℕ → ℕ → Option C → Type 0) (xs : List ℕ) where
+    -- some were listed, and then others
+    pub then-listed : (first old mid new : List W) (m : ℕ) (ys zs more : List ℕ) (r : Option ℕ) → more ≡ ys ++ zs → AreListed n b tells see xs first old ys mid m → MayList n b tells see xs (take m mid) mid zs new r → MayList n b tells see xs first old more new r
+    then-listed first old mid new m ys zs more None e h k = k ∙ h.complete
+    then-listed first old mid new m ys zs more (Some o) e h k =
+        record { complete = k.complete ∙ h.complete; fits = omega (arith, k.fits, h.complete); listed = both-listed n b tells xs first (take m mid) (take o new) ys zs more e h.listed k.listed }
 
 -- the items of no listed tree
 pub listed-none : {W : Type 0} (see : W → Forest) (ws : List W) → length ws ≡ 0 → listed_items see ws ≡ []
@@ -208,3 +210,8 @@ module _ {C : Type 0} (n : ℕ) (b : ℕ → Rect) (tells : ℕ → ℕ → Opti
         free = λ f. let m = k.free f in let l = h.free m.0 in (l.0, subst P (sym e) (all_cross-join (AreFree tells) xs ys zs l.1 m.1));
         known = λ m. k.known (h.known m);
       }
+
+  pub then-items : (first old mid new : List ℕ) (m : ℕ) (ys zs more : List ℕ) (r : Option ℕ) → more ≡ ys ++ zs → AreListedItems n b tells xs first old ys mid m → MayListItems n b tells xs (take m mid) mid zs new r → MayListItems n b tells xs first old more new r
+  then-items first old mid new m ys zs more None e h k = k ∙ h.complete
+  then-items first old mid new m ys zs more (Some o) e h k =
+      record { complete = k.complete ∙ h.complete; fits = omega (arith, k.fits, h.complete); listed = both-items first (take m mid) (take o new) ys zs more e h.listed k.listed }

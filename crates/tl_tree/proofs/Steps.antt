@@ -1,5 +1,5 @@
 -- One step of a loop over a list, seen from what is left of it.
-use Rattle.std.proofs.Common.{◌≡◌, ℕ, zero, suc, ◌+◌, ◌<◌, ◌≤◌, List, [], ◌∷◌, length, get_or, take, drop, ◌-◌, sym, subst, arith}
+use Rattle.std.proofs.Common.{◌≡◌, ℕ, zero, suc, ◌+◌, ◌<◌, ◌≤◌, List, [], ◌∷◌, ◌++◌, length, get_or, take, drop, ◌-◌, sym, subst, arith}
 use Rattle.std.proofs.lemmas.Grind.{common_steps}
 use Rattle.std.proofs.lemmas.List.{at_drop_more, at_drop_all}
 use Rattle.tl_index.specs.Pairs.{row_sum, cross_sum, pair_sum, AllRow, AllCross, AllPairs}
@@ -35,6 +35,10 @@ pub below-drop : (n : ℕ) (xs : List ℕ) (k : ℕ) → AreBelow n xs → AreBe
 below-drop n xs zero b = b
 below-drop n [] (suc k) b = b
 below-drop n (x ∷ xs) (suc k) b = below-drop n xs k b.1
+
+pub below-parts : (n : ℕ) (xs ys : List ℕ) → AreBelow n (xs ++ ys) → AreBelow n xs × AreBelow n ys
+below-parts n [] ys h = (tt, h)
+below-parts n (x ∷ xs) ys h = let k = below-parts n xs ys h.1 in ((h.0, k.0), k.1)
 
 -- what a slice from k on has
 pub rest-of : (xs : List ℕ) (k : ℕ) → take (length xs - k) (drop k xs) ≡ drop k xs

@@ -37,21 +37,36 @@ impl Trees for &Branch {
 }
 
 /// The same trees, each node with its children in boxes.
+#[cycle(copy)]
 pub fn copy_trees<W: Trees>(alloc: Global, trees: &W) -> Result<Branch, AllocError>
     ensures { IfOk result (λ branch. forest_of branch ≡ W.forest trees.now) }
 {
     let Some((tree, rest)) = trees.split_first() else {
         return Ok(Branch::End);
     };
-    let others = Box::new(alloc, copy_trees(alloc, &rest)?)?;
+    let others = match copy_boxed(alloc, &rest) {
+        Ok(others) => others,
+        Err(refused) => return Err(refused),
+    };
     match &tree.below {
-        Below::Items(some) => {
-            let items = Vec::from_slice(alloc, some)?;
-            Ok(Branch::Leaf(tree.rect, items, others))
-        }
-        Below::Children(children) => {
-            let children = Box::new(alloc, copy_trees(alloc, children)?)?;
-            Ok(Branch::Inner(tree.rect, children, others))
-        }
+        Below::Items(some) => match Vec::from_slice(alloc, some) {
+            Ok(items) => Ok(Branch::Leaf(tree.rect, items, others)),
+            Err(refused) => Err(refused),
+        },
+        Below::Children(children) => match copy_boxed(alloc, children) {
+            Ok(children) => Ok(Branch::Inner(tree.rect, children, others)),
+            Err(refused) => Err(refused),
+        },
+    }
+}
+
+/// The same trees in a box.
+#[cycle(copy)]
+fn copy_boxed<W: Trees>(alloc: Global, trees: &W) -> Result<Box<Branch>, AllocError>
+    ensures { IfOk result (λ branch. forest_of branch.value ≡ W.forest trees.now) }
+{
+    match copy_trees(alloc, trees) {
+        Ok(branch) => Ok(Box::new(alloc, branch)?),
+        Err(refused) => Err(refused),
     }
 }

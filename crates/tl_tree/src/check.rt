@@ -1,7 +1,7 @@
 //! The check of a tree against items.
 ghost use Rattle.std.specs.Prelude.{◌≡◌, ℕ, ◌<◌, ◌+◌, ◌^◌, ◌↔◌, length, None, OnOk, IfOk, IfErr};
 ghost use Rattle.tl_index.specs.Keeping.Marked.{mark_at, AreMarked};
-ghost use Rattle.tl_tree.specs.Keeping.Checking.{IsMarkFault, AreChecked, IsChecked, IsFaultAt};
+ghost use Rattle.tl_tree.specs.Keeping.Checking.{IsMarkFault, AreChecked, IsChecked, IsFaultAt, IsTold};
 ghost use Rattle.tl_tree.specs.Keeping.Checking.{IsFaultBelow};
 ghost use Rattle.tl_index.specs.Fits.{Fits, MayFind};
 ghost use Rattle.tl_index.specs.Trees.{node_count};
@@ -41,17 +41,15 @@ fn check_below<I: Items, W: Trees>(
 ) -> Result<Rect, TreeFault>
     requires marks { length marks.old ≡ I.count items.now }
     requires numbers { number.old + size_of W.forest tree.now.below < 2 ^ 32 + 1 }
-    ensures right { IfOk result
-        (IsChecked (I.bounds_of items.now) W.forest tree.now.below marks.old marks.new) }
-    ensures next { OnOk result (number.new + 1 ≡ number.old + size_of W.forest tree.now.below) }
-    ensures fault { IfErr result
-        (IsFaultBelow (I.bounds_of items.now) marks.old number.old W.forest tree.now.below) }
+    ensures { IsTold (IsChecked (I.bounds_of items.now) W.forest tree.now.below marks.old marks.new)
+        (number.new + 1 ≡ number.old + size_of W.forest tree.now.below)
+        (IsFaultBelow (I.bounds_of items.now) marks.old number.old W.forest tree.now.below) result }
 {
     match &tree.below {
-        Below::Items(some) => {
-            mark_items(marks, some)?;
-            Ok(hull_of_items(items, some))
-        }
+        Below::Items(some) => match mark_items(marks, some) {
+            Ok(()) => Ok(hull_of_items(items, some)),
+            Err(fault) => Err(fault),
+        },
         Below::Children(children) => check_trees(items, children, marks, number),
     }
 }
@@ -66,23 +64,26 @@ fn check_trees<I: Items, W: Trees>(
 ) -> Result<Rect, TreeFault>
     requires marks { length marks.old ≡ I.count items.now }
     requires numbers { number.old + node_count (W.forest trees.now) < 2 ^ 32 }
-    ensures right { IfOk result
-        (AreChecked (I.bounds_of items.now) (W.forest trees.now) marks.old marks.new) }
-    ensures next { OnOk result (number.new ≡ number.old + node_count (W.forest trees.now)) }
-    ensures fault { IfErr result
-        (IsFaultAt (I.bounds_of items.now) marks.old number.old (W.forest trees.now)) }
+    ensures { IsTold (AreChecked (I.bounds_of items.now) (W.forest trees.now) marks.old marks.new)
+        (number.new ≡ number.old + node_count (W.forest trees.now))
+        (IsFaultAt (I.bounds_of items.now) marks.old number.old (W.forest trees.now)) result }
 {
     let Some((tree, rest)) = trees.split_first() else {
         return Ok(NOTHING);
     };
     let root = *number;
     *number += 1;
-    let hull = check_below(items, &tree, marks, number)?;
+    let hull = match check_below(items, &tree, marks, number) {
+        Ok(hull) => hull,
+        Err(fault) => return Err(fault),
+    };
     if !covers(tree.rect, hull) {
         return Err(TreeFault::RectTooSmall(root));
     }
-    let others = check_trees(items, &rest, marks, number)?;
-    Ok(hull_of(hull, others))
+    match check_trees(items, &rest, marks, number) {
+        Ok(others) => Ok(hull_of(hull, others)),
+        Err(fault) => Err(fault),
+    }
 }
 
 /// Checks trees, with marks of which none is set: nothing exactly where they fit the items, or a fault that is true.
@@ -93,8 +94,9 @@ fn check_marked<I: Items, W: Trees>(items: &I, trees: &W, marks: &mut [bool]) ->
     ensures { MayFind (W.forest trees.now) (I.count items.now) (I.bounds_of items.now) result }
 {
     let mut number = 0;
-    if let Err(fault) = check_trees(items, trees, marks, &mut number) {
-        return Some(fault);
+    match check_trees(items, trees, marks, &mut number) {
+        Ok(_) => {}
+        Err(fault) => return Some(fault),
     }
     for i in 0..items.len() {
         if !marks[i as usize] {

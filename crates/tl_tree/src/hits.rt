@@ -78,8 +78,8 @@ fn collect_trees<I: Items, P: Probe<I>, W: Trees>(
 {
     let (mut left, mut marks) = (*trees, meeting_roots(trees, region));
     while let Some((tree, rest)) = left.split_first() {
-        if is_first_marked(marks) {
-            collect_one(items, probe, region, &tree, out)?;
+        if is_first_marked(marks) && collect_one(items, probe, region, &tree, out).is_err() {
+            return Err(Memory);
         }
         left = rest;
         marks = later_marks(marks);

@@ -1,10 +1,10 @@
 //! Lists of the trees that a tree is searched against: of those that come behind it, those whose rectangles meet its own.
 ghost use Rattle.std.specs.Prelude.{◌≡◌, ◌≤◌, ◌<◌, ◌+◌, ◌↔◌, ◌≤ℤ◌, ◌++◌, [], ◌^◌, length, take};
-ghost use Rattle.std.specs.Prelude.{IsTrue, IsFalse, IfSome};
+ghost use Rattle.std.specs.Prelude.{IsTrue, IsFalse};
 ghost use Rattle.std.specs.Int.{int_max, int_min};
 ghost use Rattle.tl_geom.specs.Rectangle.{AreMeeting};
 ghost use Rattle.tl_index.specs.Trees.{leaf_items};
-ghost use Rattle.tl_tree.specs.Keeping.Listing.{first_items, listed_items, AllSound, IsFirst, StandsFor};
+ghost use Rattle.tl_tree.specs.Keeping.Listing.{first_items, listed_items, AllSound, IsFirst, StandsFor, MayList};
 ghost use Rattle.tl_tree.specs.Keeping.Walking.{items_below, IsSound, AreSound};
 
 use crate::Items;
@@ -98,12 +98,9 @@ fn list_trees<I: Items, W: Trees>(
     requires tree { IsSound (I.count items.now) (I.bounds_of items.now) W.forest tree.now }
     requires others { AreSound (I.count items.now) (I.bounds_of items.now) (W.forest others.now) }
     requires fits { len ≤ length near.old }
-    ensures complete { length near.new ≡ length near.old }
-    ensures fits { IfSome result (λ m. m ≤ length near.old) }
-    ensures listed { IfSome result (λ m.
-        StandsFor (I.count items.now) (I.bounds_of items.now) (I.tells items.now) W.forest
-        (items_below W.forest tree.now.below) (take len near.old)
-        (leaf_items (W.forest others.now)) (take m near.new)) }
+    ensures { MayList (I.count items.now) (I.bounds_of items.now) (I.tells items.now) W.forest
+        (items_below W.forest tree.now.below) (take len near.old) near.old
+        (leaf_items (W.forest others.now)) near.new result }
 {
     let (mut left, mut more) = (*others, len);
     while let Some((first, rest)) = left.split_first() {
@@ -129,12 +126,9 @@ fn list_below<I: Items, W: Trees>(
     requires tree { IsSound (I.count items.now) (I.bounds_of items.now) W.forest tree.now }
     requires at { AreSound (I.count items.now) (I.bounds_of items.now) (W.forest at.now) }
     requires fits { len ≤ length near.old }
-    ensures complete { length near.new ≡ length near.old }
-    ensures fits { IfSome result (λ m. m ≤ length near.old) }
-    ensures listed { IfSome result (λ m.
-        StandsFor (I.count items.now) (I.bounds_of items.now) (I.tells items.now) W.forest
-        (items_below W.forest tree.now.below) (take len near.old)
-        (first_items (W.forest at.now)) (take m near.new)) }
+    ensures { MayList (I.count items.now) (I.bounds_of items.now) (I.tells items.now) W.forest
+        (items_below W.forest tree.now.below) (take len near.old) near.old
+        (first_items (W.forest at.now)) near.new result }
 {
     let Some((first, _)) = at.split_first() else {
         return Some(len);
@@ -167,12 +161,9 @@ fn list_all<I: Items, W: Trees>(
     requires tree { IsSound (I.count items.now) (I.bounds_of items.now) W.forest tree.now }
     requires others { AllSound (I.count items.now) (I.bounds_of items.now) W.forest others.now }
     requires fits { len ≤ length near.old }
-    ensures complete { length near.new ≡ length near.old }
-    ensures fits { IfSome result (λ m. m ≤ length near.old) }
-    ensures listed { IfSome result (λ m.
-        StandsFor (I.count items.now) (I.bounds_of items.now) (I.tells items.now) W.forest
-        (items_below W.forest tree.now.below) (take len near.old)
-        (listed_items W.forest others.now) (take m near.new)) }
+    ensures { MayList (I.count items.now) (I.bounds_of items.now) (I.tells items.now) W.forest
+        (items_below W.forest tree.now.below) (take len near.old) near.old
+        (listed_items W.forest others.now) near.new result }
 {
     let Some((first, rest)) = others.split_first() else {
         return Some(len);
@@ -194,12 +185,9 @@ pub fn list_near<I: Items, W: Trees>(
     requires tree { IsSound (I.count items.now) (I.bounds_of items.now) W.forest tree.now }
     requires rest { AreSound (I.count items.now) (I.bounds_of items.now) (W.forest rest.now) }
     requires others { AllSound (I.count items.now) (I.bounds_of items.now) W.forest others.now }
-    ensures complete { length near.new ≡ length near.old }
-    ensures fits { IfSome result (λ m. m ≤ length near.old) }
-    ensures listed { IfSome result (λ m.
-        StandsFor (I.count items.now) (I.bounds_of items.now) (I.tells items.now) W.forest
-        (items_below W.forest tree.now.below) []
-        (leaf_items (W.forest rest.now) ++ listed_items W.forest others.now) (take m near.new)) }
+    ensures { MayList (I.count items.now) (I.bounds_of items.now) (I.tells items.now) W.forest
+        (items_below W.forest tree.now.below) [] near.old
+        (leaf_items (W.forest rest.now) ++ listed_items W.forest others.now) near.new result }
 {
     match list_trees(items, tree, rest, near, 0) {
         Some(len) => list_all(items, tree, others, near, len),

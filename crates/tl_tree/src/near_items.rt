@@ -1,8 +1,8 @@
 //! Lists of the items that those of a leaf are tested against: of the items below other trees, those whose bounds meet the
 //! rectangle around the leaf.
-ghost use Rattle.std.specs.Prelude.{◌≡◌, ◌≤◌, ◌+◌, length, take, IfSome};
+ghost use Rattle.std.specs.Prelude.{◌≡◌, ◌≤◌, ◌+◌, length, take};
 ghost use Rattle.tl_index.specs.Fits.{AreBelow, CoversAll};
-ghost use Rattle.tl_tree.specs.Keeping.Listing.{first_items, listed_items, AllSound, StandsForItems};
+ghost use Rattle.tl_tree.specs.Keeping.Listing.{first_items, listed_items, AllSound, StandsForItems, MayListItems};
 ghost use Rattle.tl_tree.specs.Keeping.Walking.{items_below, IsSound, AreSound};
 ghost use Rattle.tl_index.specs.Trees.{leaf_items};
 
@@ -57,10 +57,8 @@ fn list_leaf<I: Items>(
     requires around { CoversAll (I.bounds_of items.now) around some.now }
     requires others { AreBelow (I.count items.now) others.now }
     requires fits { len ≤ length near.old }
-    ensures complete { length near.new ≡ length near.old }
-    ensures fits { IfSome result (λ m. m ≤ length near.old) }
-    ensures listed { IfSome result (λ m. StandsForItems (I.count items.now) (I.bounds_of items.now) (I.tells items.now)
-        some.now (take len near.old) others.now (take m near.new)) }
+    ensures { MayListItems (I.count items.now) (I.bounds_of items.now) (I.tells items.now)
+        some.now (take len near.old) near.old others.now near.new result }
 {
     if near.len() - len < others.len() {
         return None;
@@ -82,10 +80,8 @@ fn list_tree<I: Items, W: Trees>(
     requires around { CoversAll (I.bounds_of items.now) around some.now }
     requires tree { IsSound (I.count items.now) (I.bounds_of items.now) W.forest tree.now }
     requires fits { len ≤ length near.old }
-    ensures complete { length near.new ≡ length near.old }
-    ensures fits { IfSome result (λ m. m ≤ length near.old) }
-    ensures listed { IfSome result (λ m. StandsForItems (I.count items.now) (I.bounds_of items.now) (I.tells items.now)
-        some.now (take len near.old) (items_below W.forest tree.now.below) (take m near.new)) }
+    ensures { MayListItems (I.count items.now) (I.bounds_of items.now) (I.tells items.now)
+        some.now (take len near.old) near.old (items_below W.forest tree.now.below) near.new result }
 {
     if !do_meet(around, tree.rect) {
         return Some(len);
@@ -110,10 +106,8 @@ fn list_children<I: Items, W: Trees>(
     requires around { CoversAll (I.bounds_of items.now) around some.now }
     requires trees { AreSound (I.count items.now) (I.bounds_of items.now) (W.forest trees.now) }
     requires fits { len ≤ length near.old }
-    ensures complete { length near.new ≡ length near.old }
-    ensures fits { IfSome result (λ m. m ≤ length near.old) }
-    ensures listed { IfSome result (λ m. StandsForItems (I.count items.now) (I.bounds_of items.now) (I.tells items.now)
-        some.now (take len near.old) (leaf_items (W.forest trees.now)) (take m near.new)) }
+    ensures { MayListItems (I.count items.now) (I.bounds_of items.now) (I.tells items.now)
+        some.now (take len near.old) near.old (leaf_items (W.forest trees.now)) near.new result }
 {
     let Some((tree, rest)) = trees.split_first() else {
         return Some(len);
@@ -138,10 +132,8 @@ fn list_first<I: Items, W: Trees>(
     requires around { CoversAll (I.bounds_of items.now) around some.now }
     requires at { AreSound (I.count items.now) (I.bounds_of items.now) (W.forest at.now) }
     requires fits { len ≤ length near.old }
-    ensures complete { length near.new ≡ length near.old }
-    ensures fits { IfSome result (λ m. m ≤ length near.old) }
-    ensures listed { IfSome result (λ m. StandsForItems (I.count items.now) (I.bounds_of items.now) (I.tells items.now)
-        some.now (take len near.old) (first_items (W.forest at.now)) (take m near.new)) }
+    ensures { MayListItems (I.count items.now) (I.bounds_of items.now) (I.tells items.now)
+        some.now (take len near.old) near.old (first_items (W.forest at.now)) near.new result }
 {
     let Some((first, _)) = at.split_first() else {
         return Some(len);
@@ -165,10 +157,8 @@ pub fn list_near_items<I: Items, W: Trees>(
     requires around { CoversAll (I.bounds_of items.now) around some.now }
     requires trees { AllSound (I.count items.now) (I.bounds_of items.now) W.forest trees.now }
     requires fits { len ≤ length near.old }
-    ensures complete { length near.new ≡ length near.old }
-    ensures fits { IfSome result (λ m. m ≤ length near.old) }
-    ensures listed { IfSome result (λ m. StandsForItems (I.count items.now) (I.bounds_of items.now) (I.tells items.now)
-        some.now (take len near.old) (listed_items W.forest trees.now) (take m near.new)) }
+    ensures { MayListItems (I.count items.now) (I.bounds_of items.now) (I.tells items.now)
+        some.now (take len near.old) near.old (listed_items W.forest trees.now) near.new result }
 {
     let Some((at, rest)) = trees.split_first() else {
         return Some(len);

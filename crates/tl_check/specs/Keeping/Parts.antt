@@ -165,10 +165,6 @@ pub record IsEnded (m : TheMap) (old : State) (count : ℕ) (rings : TheRings) :
   pub walked : (c : TheCertificate) → Holds m c old → IsWalked m c count rings
   pub searched : (n : ℕ) → IsSearched m n old → meeting_segments m.chains ≤ n
 
-pub record IsFinished (m : TheMap) (old : State) (rings : ℕ) : Type 0 where
-  pub shown : (c : TheCertificate) → Holds m c old → IsShown m c rings
-  pub searched : (n : ℕ) → IsSearched m n old → meeting_segments m.chains ≤ n
-
 pub record IsFaulty (m : TheMap) (old : State) (wrong : CertFault) : Type 0 where
   pub fault : (c : TheCertificate) → Holds m c old → IsTrueOfCert m c wrong
   pub behind : IsBehindSearch m old → IsOfDarts wrong → IsPlanar m.chains

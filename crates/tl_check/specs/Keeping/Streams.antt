@@ -1,5 +1,5 @@
 -- What is kept of a certificate that is checked as its parts come, and what its answer says.
-use Rattle.std.specs.Prelude.{◌≡◌, ℕ, ◌<◌, ◌≤◌, ◌^◌, List, length, Option, Ok, Err, ⊤}
+use Rattle.std.specs.Prelude.{◌≡◌, ℕ, ◌<◌, ◌≤◌, ◌^◌, List, length, Option, Result, Ok, Err, ⊤}
 use Rattle.std.specs.Option.{IfSome}
 use Rattle.tl_county.specs.TheMap.{TheMap}
 use Rattle.tl_index.specs.declared.node.TreeNode.{TreeNode}
@@ -11,20 +11,24 @@ use Rattle.tl_inside.specs.Placed.{ArePlaced}
 use Rattle.tl_cells.specs.Cells.{CellsAgree}
 use Rattle.tl_cert.specs.declared.place.Place.{Place}
 use Rattle.tl_cert.specs.declared.place.Place.TheVariants as place
+use Rattle.tl_cert.specs.declared.place.CertPart.{CertPart}
+use Rattle.tl_cert.specs.declared.place.CertPart.TheVariants as part
 use Rattle.tl_cert.specs.declared.reader.CertReader.{CertReader}
 use Rattle.tl_cert.specs.Certificates.{TheCertificate}
+use Rattle.tl_cert.specs.Given.{with_part}
 use Rattle.tl_cert.specs.Reading.{source_of, unread}
 use Rattle.tl_cert.specs.Keeping.Collecting.{Collects}
 use Rattle.tl_verdict.specs.declared.verdict.Report.{Report}
 use Rattle.tl_verdict.specs.declared.verdict.Verdict.TheVariants as verdict
 use Rattle.tl_verdict.specs.declared.stop.Stop.TheVariants.{Record, Memory, Device, Budget}
 use Rattle.tl_check.specs.declared.state.State.{State}
+use Rattle.tl_check.specs.declared.state.Halt.{Halt}
 use Rattle.tl_verdict.specs.Sound.{AreClosed}
 use Rattle.tl_verdict.specs.Valid.{AllowsSearch}
 use Rattle.tl_verdict.specs.Truth.{IsTrueOfMap, IsTrueOfCert, IsOfDarts}
 use Rattle.tl_verdict.specs.Texts.{IsTrueOfText, IsValidText, TextAllowsSearch, TellsDevice}
 use Rattle.tl_verdict.specs.Verdicts.{Answer, OnSound, IfCertFault, UnlessMeet, OnSearched, IsReport, AreNumbers}
-use Rattle.tl_check.specs.Keeping.Parts.{Holds, TakesRounds, TakesWalks, IsSearched, IsBehindSearch, IsShown}
+use Rattle.tl_check.specs.Keeping.Parts.{Holds, TakesRounds, TakesWalks, IsSearched, IsBehindSearch, IsShown, IsLed, IsHalted}
 
 -- at this place the state takes what may come
 abbrev pub Suits : Place → State → Type 0
@@ -33,6 +37,25 @@ Suits (place.Counted version) state = ⊥
 Suits (place.Treed version) state = TakesRounds state
 Suits (place.Rounds left) state = TakesRounds state
 Suits (place.Walks left) state = TakesWalks state
+
+-- the part may come where the state is held, and has darts
+abbrev pub MayCome : CertPart → State → Type 0
+MayCome (part.Counts counts version) state = ⊥
+MayCome (part.Tree nodes) state = ⊥
+MayCome (part.Round darts) state = (0 < length darts.items) × TakesRounds state
+MayCome (part.Walk darts) state = 0 < length darts.items
+
+-- what may come behind a part
+abbrev pub TakesBehind : CertPart → State → Type 0
+TakesBehind (part.Counts counts version) state = ⊤
+TakesBehind (part.Tree nodes) state = ⊤
+TakesBehind (part.Round darts) state = TakesRounds state
+TakesBehind (part.Walk darts) state = TakesWalks state
+
+-- where a part leads
+abbrev pub LeadsBy : TheMap → CertPart → State → Result State Halt → Type 0
+LeadsBy m given old (Ok next) = IsLed m (λ c. with_part c given) (TakesBehind given) old next
+LeadsBy m given old (Err halt) = IsHalted m old halt
 
 -- the reader stands behind parts of which the state holds
 pub record Stands {R : Type 0} (remaining : R → Option (List ℕ)) (m : TheMap) (first now : CertReader R) (state : State) : Type 0 where

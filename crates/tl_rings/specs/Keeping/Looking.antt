@@ -1,6 +1,15 @@
 -- What is found of a polygon's point on the way.
-use Rattle.std.specs.Prelude.{◌≡◌, ℕ, ◌<◌, ℤ, pos, neg_ℤ, ◌+ℤ◌, Bool, false, if◌then◌else◌, Some, List, slice_get, slice_index_or, All, ⊤}
+use Rattle.std.specs.Prelude.{◌≡◌, ℕ, ◌<◌, ◌^◌, length, ℤ, pos, neg_ℤ, ◌+ℤ◌, Bool, false, if◌then◌else◌, Some, List, slice_get, slice_index_or, All, ⊤}
 use Rattle.tl_geom.specs.declared.point.Point.{Point}
+use Rattle.tl_geom.specs.declared.rect.Rect.{Rect}
+use Rattle.tl_county.specs.Segments.{segments_before}
+use Rattle.tl_planar.specs.Rectangles.{segment_rect}
+use Rattle.tl_sides.specs.Sides.{SidesAgree}
+use Rattle.tl_sides.specs.Walks.{AreWalks}
+use Rattle.tl_crossings.specs.Headings.{AreProper}
+use Rattle.tl_rings.specs.Rings.{AreBoxed, box_at}
+use Rattle.tl_rings.specs.Keeping.Spots.{ring_count}
+use Rattle.tl_rings.specs.declared.look.Grounds.{Grounds}
 use Rattle.tl_county.specs.declared.polygons.Polygon.{Polygon}
 use Rattle.tl_county.specs.declared.sides.Side.{Side}
 use Rattle.tl_county.specs.declared.sides.Side.TheVariants.{Outside}
@@ -39,3 +48,13 @@ IsPlacedPolygon m p = (polygon : Polygon) → slice_get m.polygons p ≡ Some po
 -- where those that are left are placed, so are the first k of these polygons
 abbrev pub ArePlacedBut : TheMap → List Site → List ℕ → ℕ → Type 0
 ArePlacedBut m left order k = All (IsPlacedSite m) left → (j d : ℕ) → j < k → IsPlacedPolygon m (slice_index_or order j d)
+
+-- the indexes fit the map's segments and its rings, sides agree, and the rings are the map's
+pub record AreSound {X Y : Type 0} (Fits : X → ℕ → (ℕ → Rect) → Type 0) (FitsRings : Y → ℕ → (ℕ → Rect) → Type 0) (by : Grounds X Y) : Type 0 where
+  pub fits : Fits by.index.now (segments_before by.map.now.chains (length by.map.now.chains)) (segment_rect by.map.now.chains)
+  pub tree : FitsRings by.tree.now (ring_count by.rings.now) (box_at by.rings.now.boxes)
+  pub proper : AreProper by.map.now.chains
+  pub sides : SidesAgree by.map.now.chains
+  pub walks : AreWalks by.map.now.chains by.rings.now.rings
+  pub boxed : AreBoxed by.map.now.chains by.rings.now
+  pub few : length by.rings.now.rings < 2 ^ 32

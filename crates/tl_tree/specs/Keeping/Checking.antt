@@ -1,5 +1,5 @@
 -- What the check of a tree keeps on its way: marks of the items met so far, and a rectangle that stands for their bounds.
-use Rattle.std.specs.Prelude.{ℕ, Bool, ◌≤◌, ◌+◌, ◌-◌, ◌↔◌, List, length}
+use Rattle.std.specs.Prelude.{ℕ, Bool, ◌≤◌, ◌+◌, ◌-◌, ◌↔◌, List, length, Result, Ok, Err}
 use Rattle.tl_geom.specs.declared.rect.Rect.{Rect}
 use Rattle.tl_geom.specs.Rectangle.{Covers}
 use Rattle.tl_index.specs.declared.fault.TreeFault.{TreeFault}
@@ -46,3 +46,8 @@ IsFaultAt bounds old number f (RectTooSmall k) = (number ≤ k) × IsTooSmall bo
 abbrev pub IsFaultBelow : {W : Type 0} → (ℕ → Rect) → List Bool → ℕ → (W → Forest) → Below W → TreeFault → Type 0
 IsFaultBelow bounds old number see (Items xs) fault = IsMarkFault old xs.now fault
 IsFaultBelow bounds old number see (Children w) fault = IsFaultAt bounds old number (see w) fault
+
+-- what is told by a check that numbers nodes, and gives a hull or a fault
+abbrev pub IsTold : (Rect → Type 0) → Type 0 → (TreeFault → Type 0) → Result Rect TreeFault → Type 0
+IsTold Right Next Fault (Ok hull) = Right hull × Next
+IsTold Right Next Fault (Err fault) = Fault fault

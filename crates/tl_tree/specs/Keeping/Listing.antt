@@ -1,5 +1,5 @@
 -- Lists of trees that a tree is searched against, each the first of some trees.
-use Rattle.std.specs.Prelude.{◌≡◌, ℕ, ◌+◌, ◌≤◌, List, [], ◌∷◌, ◌++◌, Option}
+use Rattle.std.specs.Prelude.{◌≡◌, ℕ, ◌+◌, ◌≤◌, List, [], ◌∷◌, ◌++◌, length, take, Option, None, Some}
 use Rattle.tl_geom.specs.declared.rect.Rect.{Rect}
 use Rattle.tl_tree.specs.declared.walk.Tree.{Tree}
 use Rattle.tl_index.specs.Pairs.{meeting, cross_sum, pair_sum, AllCross, AllPairs, AreFree}
@@ -35,6 +35,17 @@ pub record StandsFor {C W : Type 0} (n : ℕ) (bounds : ℕ → Rect) (tells : �
   pub free : AllCross (AreFree tells) xs (listed_items see new) → AllCross (AreFree tells) xs (listed_items see old) × AllCross (AreFree tells) xs more
   pub sound : AllSound n bounds see old → AllSound n bounds see new
 
+-- behind the first of a list, those were listed that stand for more items, and m are listed then
+pub record AreListed {C W : Type 0} (n : ℕ) (bounds : ℕ → Rect) (tells : ℕ → ℕ → Option C → Type 0) (see : W → Forest) (xs : List ℕ) (first old : List W) (more : List ℕ) (new : List W) (m : ℕ) : Type 0 where
+  pub complete : length new ≡ length old
+  pub fits : m ≤ length old
+  pub listed : StandsFor n bounds tells see xs first more (take m new)
+
+-- the same, unless the list has no room for them
+abbrev pub MayList : {C W : Type 0} → ℕ → (ℕ → Rect) → (ℕ → ℕ → Option C → Type 0) → (W → Forest) → List ℕ → List W → List W → List ℕ → List W → Option ℕ → Type 0
+MayList n bounds tells see xs first old more new None = length new ≡ length old
+MayList n bounds tells see xs first old more new (Some m) = AreListed n bounds tells see xs first old more new m
+
 -- the sum of f over the pairs of xs, and over those of an x and one of ys
 abbrev pub sum_beside : (ℕ → ℕ → ℕ) → List ℕ → List ℕ → ℕ
 sum_beside f xs ys = pair_sum f xs + cross_sum f xs ys
@@ -49,3 +60,14 @@ pub record StandsForItems {C : Type 0} (n : ℕ) (bounds : ℕ → Rect) (tells 
   pub most : (f : ℕ → ℕ → ℕ) → cross_sum f xs new ≤ cross_sum f xs old + cross_sum f xs more
   pub free : AllCross (AreFree tells) xs new → AllCross (AreFree tells) xs old × AllCross (AreFree tells) xs more
   pub known : AreBelow n old → AreBelow n new
+
+-- behind the first of a list, those were listed that stand for more items, and m are listed then
+pub record AreListedItems {C : Type 0} (n : ℕ) (bounds : ℕ → Rect) (tells : ℕ → ℕ → Option C → Type 0) (xs first old more new : List ℕ) (m : ℕ) : Type 0 where
+  pub complete : length new ≡ length old
+  pub fits : m ≤ length old
+  pub listed : StandsForItems n bounds tells xs first more (take m new)
+
+-- the same, unless the list has no room for them
+abbrev pub MayListItems : {C : Type 0} → ℕ → (ℕ → Rect) → (ℕ → ℕ → Option C → Type 0) → (xs first old more new : List ℕ) → Option ℕ → Type 0
+MayListItems n bounds tells xs first old more new None = length new ≡ length old
+MayListItems n bounds tells xs first old more new (Some m) = AreListedItems n bounds tells xs first old more new m

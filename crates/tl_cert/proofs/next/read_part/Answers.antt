@@ -1,4 +1,5 @@
-use Rattle.std.proofs.Common.{◌∷◌, [], ℕ, Vec, Option, Some, Ok, Err, refl, arith, sym, subst, ◌∙◌}
+use Rattle.std.proofs.Common.{◌≡◌, ◌≤◌, zero, suc, inl, inr, ◌∷◌, [], ℕ, Vec, Option, Some, Ok, Err, refl, arith, sym, subst, ◌∙◌}
+use Rattle.std.specs.Prelude.{◌⊎◌}
 use Rattle.std.specs.Global.{Global}
 use Rattle.tl_index.specs.declared.node.TreeNode.{TreeNode}
 use Rattle.tl_cert.specs.declared.certificate.Counts.{Counts}
@@ -15,6 +16,13 @@ use Rattle.tl_cert.proofs.AllowedLemmas.{allowed_rounds}
 use Rattle.tl_cert.proofs.PlaceLemmas.{passed, pass_rounds, number_missing, stops_part, counts_read, tree_read}
 use Rattle.tl_cert.proofs.FailureLemmas.{fails_later, tells_later}
 use Rattle.tl_cert.proofs.next.read_part.Goals as goal
+
+-- a version from 1 to 2 is one of the two
+known : (version : ℕ) → 1 ≤ version → version ≤ 2 → (version ≡ 1) ⊎ (version ≡ 2)
+known zero least most = absurd (omega (arith, least))
+known (suc zero) least most = inl refl
+known (suc (suc zero)) least most = inr refl
+known (suc (suc (suc version))) least most = absurd (omega (arith, most))
 
 pub returns-in-Ok-read_tree-clause-reads : goal.returns-in-Ok-read_tree-clause-reads
 returns-in-Ok-read_tree-clause-reads g c =
@@ -109,3 +117,26 @@ returns-in-Walks-clause-failures g c = c.read_walk.ensures.failures
 
 pub returns-in-Walks-clause-same_reference : goal.returns-in-Walks-clause-same_reference
 returns-in-Walks-clause-same_reference g c = c.read_walk.ensures.same_reference
+
+pub read_counts-requires : goal.read_counts-requires
+read_counts-requires g c = let fits = subst (λ p. FitsPlace p c.args.lines.now.lines) c.in-Start.is c.requires in omega (arith, fits)
+
+pub read_tree-requires-clause-lines : goal.read_tree-requires-clause-lines
+read_tree-requires-clause-lines g c = let fits = subst (λ p. FitsPlace p c.args.lines.now.lines) c.in-Counted.is c.requires in omega (arith, fits.1.1)
+
+pub read_tree-requires-clause-version : goal.read_tree-requires-clause-version
+read_tree-requires-clause-version g c = let fits = subst (λ p. FitsPlace p c.args.lines.now.lines) c.in-Counted.is c.requires in known c.in-Counted.version fits.0 fits.1.0
+
+pub read-requires : goal.read-requires
+read-requires g c = let fits = subst (λ p. FitsPlace p c.args.lines.now.lines) c.in-Treed.is c.requires in omega (arith, fits.1.1)
+
+pub read_round-requires : goal.read_round-requires
+read_round-requires g c = let fits = subst (λ p. FitsPlace p c.args.lines.now.lines) c.in-Treed.is c.requires in
+    let counted = c.in-Ok-read.ensures.reads.1.counted in
+    omega (arith, fits.1.1, counted, c.in-Ok-read.ensures.reads.0.0)
+
+pub read_round-requires-in-Rounds : goal.read_round-requires-in-Rounds
+read_round-requires-in-Rounds g c = subst (λ p. FitsPlace p c.args.lines.now.lines) c.in-Rounds.is c.requires
+
+pub read_walk-requires : goal.read_walk-requires
+read_walk-requires g c = subst (λ p. FitsPlace p c.args.lines.now.lines) c.in-Walks.is c.requires

@@ -65,3 +65,15 @@ returns-in-Err-read-clause-failures g c = fails_later (Unit {0}) (Option (CertPa
 
 pub returns-in-Err-read-clause-same_reference : goal.returns-in-Err-read-clause-same_reference
 returns-in-Err-read-clause-same_reference g c = c.in-Err-read.ensures.same_reference
+
+pub read_darts-requires : goal.read_darts-requires
+read_darts-requires g c = let few = c.requires in omega (arith, few)
+
+pub overflow_sub-result : goal.overflow_sub-result
+overflow_sub-result g c = omega (arith, c.if-left-gt0.true)
+
+pub read-requires : goal.read-requires
+read-requires g c = let few = c.requires in omega (arith, few)
+
+pub end-requires : goal.end-requires
+end-requires g c = let few = c.requires in let counted = c.in-Ok-read.ensures.reads.1.counted in omega (arith, few, counted)

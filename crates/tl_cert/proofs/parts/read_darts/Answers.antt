@@ -9,6 +9,7 @@ use Rattle.tl_cert.specs.Keeping.Lines.{at}
 use Rattle.tl_cert.proofs.PartLemmas.{takes_none, takes_more, takes_fetched, line_missing, lines_more, numbers_more, list_run, stage_lists}
 use Rattle.tl_cert.proofs.AllowedLemmas.{allowed_list, allowed_dart, never_ended, Tells}
 use Rattle.tl_cert.proofs.FailureLemmas.{fails_later}
+use Rattle.std.proofs.lemmas.List.{length-map}
 use Rattle.tl_cert.proofs.parts.read_darts.Goals as goal
 
 pub returns-in-Err-clause-reads : goal.returns-in-Err-clause-reads
@@ -106,3 +107,18 @@ returns-clause-failures g c = c.loop-index.invariant.failures
 
 pub returns-clause-same_reference : goal.returns-clause-same_reference
 returns-clause-same_reference g c = c.loop-index.invariant.same
+
+pub read-requires : goal.read-requires
+read-requires g c = omega (arith, c.requires)
+
+pub darts_at_once-requires : goal.darts_at_once-requires
+darts_at_once-requires g c = let counted = c.in-Ok.ensures.reads.1.counted in omega (arith, c.requires, counted)
+
+pub overflow_cast-taken : goal.overflow_cast-taken
+overflow_cast-taken g c = omega (arith, c.len-taken.ensures, c.in-Ok-darts_at_once.ensures.few, c.in-Ok.ensures.reads.0.0)
+
+pub read-requires-in-loop-index : goal.read-requires-in-loop-index
+read-requires-in-loop-index g c =
+    let so_far = c.loop-index.invariant in
+    let lines = so_far.takes.counted in
+    omega (arith, c.requires, lines, length-map c.loop-index.darts.items (numbered_line (68 ∷ [])), so_far.size, c.in-Ok.ensures.reads.0.0, c.loop-index-test.true)

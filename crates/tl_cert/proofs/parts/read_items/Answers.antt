@@ -8,6 +8,7 @@ use Rattle.tl_cert.specs.Keeping.Lines.{at}
 use Rattle.tl_cert.proofs.PartLemmas.{takes_fetched, takes_more, line_missing, lines_more, numbers_more, items_run_on, stage_items}
 use Rattle.tl_cert.proofs.AllowedLemmas.{allowed_item}
 use Rattle.tl_cert.proofs.FailureLemmas.{fails_later}
+use Rattle.std.proofs.lemmas.List.{length-map}
 use Rattle.tl_cert.proofs.parts.read_items.Goals as goal
 
 pub returns-in-Err-clause-reads : goal.returns-in-Err-clause-reads
@@ -57,3 +58,18 @@ returns-clause-failures g c = c.loop-index.invariant.failures
 
 pub returns-clause-same_reference : goal.returns-clause-same_reference
 returns-clause-same_reference g c = c.loop-index.invariant.same
+
+pub items_at_once-items-requires-clause-few : goal.items_at_once-items-requires-clause-few
+items_at_once-items-requires-clause-few g c = c.requires.count
+
+pub items_at_once-items-requires-clause-lines : goal.items_at_once-items-requires-clause-lines
+items_at_once-items-requires-clause-lines g c = omega (arith, c.requires.lines)
+
+pub overflow_cast-taken : goal.overflow_cast-taken
+overflow_cast-taken g c = omega (arith, c.len-taken.ensures, c.items_at_once-items.ensures.few, c.requires.count)
+
+pub read-requires : goal.read-requires
+read-requires g c =
+    let so_far = c.loop-index.invariant in
+    let lines = so_far.takes.counted in
+    omega (arith, c.requires.lines, lines, length-map c.loop-index.items.items (numbered_line (83 ∷ [])), so_far.size, c.requires.count, c.loop-index-test.true)

@@ -1,4 +1,4 @@
-use Rattle.std.proofs.Common.{◌∷◌, [], ℕ, suc, refl, ◌∙◌}
+use Rattle.std.proofs.Common.{◌∷◌, [], ℕ, suc, refl, ◌∙◌, arith}
 use Rattle.arrayvec.specs.ArrayVec.{ArrayVec}
 use Rattle.tl_index.specs.declared.node.TreeNode.{TreeNode}
 use Rattle.tl_cert.specs.declared.node_line.NodeStart.{NodeStart}
@@ -68,3 +68,9 @@ returns-in-Err-clause-failures g c = fails_later NodeStart (TreeNode × ℕ) _ _
 
 pub returns-in-Err-clause-same_reference : goal.returns-in-Err-clause-same_reference
 returns-in-Err-clause-same_reference g c = c.in-Err.ensures.same_reference
+
+pub read-requires : goal.read-requires
+read-requires g c = omega (arith, c.requires.lines)
+
+pub read_items-requires-clause-lines : goal.read_items-requires-clause-lines
+read_items-requires-clause-lines g c = let counted = c.in-Ok-Leaf.ensures.reads.1.counted in omega (arith, c.requires.lines, counted)

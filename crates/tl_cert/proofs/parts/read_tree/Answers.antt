@@ -100,3 +100,23 @@ returns-clause-failures g c = c.loop-left.invariant.failures
 
 pub returns-clause-same_reference : goal.returns-clause-same_reference
 returns-clause-same_reference g c = c.loop-left.invariant.same
+
+pub read-requires : goal.read-requires
+read-requires g c = omega (arith, c.requires.lines)
+
+pub overflow_sub-left : goal.overflow_sub-left
+overflow_sub-left g c = omega (arith, c.loop-left-test.true)
+
+pub overflow_sub-subtrees : goal.overflow_sub-subtrees
+overflow_sub-subtrees g c =
+    let some = can_some c.args.version c.loop-left.subtrees c.loop-left.left c.loop-left.invariant.far.can c.loop-left-test.true in
+    omega (arith, some)
+
+pub read_node-requires-clause-version : goal.read_node-requires-clause-version
+read_node-requires-clause-version g c = c.requires.version
+
+pub read_node-requires-clause-lines : goal.read_node-requires-clause-lines
+read_node-requires-clause-lines g c =
+    let far = c.loop-left.invariant.far in
+    let lines = far.takes.counted in
+    omega (arith, c.requires.lines, lines, far.few, far.size, c.in-Ok.ensures.reads.0.0)

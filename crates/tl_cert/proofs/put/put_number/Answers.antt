@@ -1,37 +1,22 @@
-use Rattle.std.proofs.Common.{◌≡◌, ◌-◌, length, length-set, arith, rules}
-use Rattle.tl_cert.proofs.PutLemmas.{few_digits, line_put}
+use Rattle.std.proofs.Common.{◌∷◌, [], refl, arith}
+use Rattle.tl_cert.specs.Text.{number}
+use Rattle.tl_cert.proofs.PutLemmas.{room_first, room_left, puts_both}
 use Rattle.tl_cert.proofs.put.put_number.Goals as goal
 
-pub write_digits-digits-requires : goal.write_digits-digits-requires
-write_digits-digits-requires c =
-    let few = few_digits c.args.number c.ranges.number.fits in
-    (omega (arith, few, c.requires.room), omega (arith, c.requires.within, length-set c.args.text.now (c.args.end - 1) 10))
+pub put_byte-feed-requires : goal.put_byte-feed-requires
+put_byte-feed-requires c = room_first 13 1 c.args.end c.args.text.now (omega arith) c.requires
 
-pub overflow_sub-text-2 : goal.overflow_sub-text-2
-overflow_sub-text-2 c =
-    let few = few_digits c.args.number c.ranges.number.fits in
-    omega (arith, few, c.write_digits-digits.ensures.start, c.requires.room)
+pub put_word-word-requires : goal.put_word-word-requires
+put_word-word-requires c =
+    room_left 13 1 11 c.args.end c.put_byte-feed.result c.args.text.now c.put_byte-feed.new.text _ (omega arith) c.requires c.put_byte-feed.ensures
 
-pub overflow_sub-text-3 : goal.overflow_sub-text-3
-overflow_sub-text-3 c =
-    let few = few_digits c.args.number c.ranges.number.fits in
-    omega (arith, few, c.write_digits-digits.ensures.start, c.requires.room)
+pub put_byte-requires : goal.put_byte-requires
+put_byte-requires c =
+    room_left 13 12 1 c.args.end c.put_word-word.result c.args.text.now c.put_word-word.new.text _ (omega arith) c.requires
+    (puts_both 12 1 11 _ _ _ _ _ _ (number c.args.number) (10 ∷ []) _ (omega arith) c.put_byte-feed.ensures c.put_word-word.ensures refl)
 
-pub overflow_sub-result : goal.overflow_sub-result
-overflow_sub-result c =
-    let few = few_digits c.args.number c.ranges.number.fits in
-    omega (arith, few, c.write_digits-digits.ensures.start, c.requires.room)
-
-pub returns-clause-start : goal.returns-clause-start
-returns-clause-start c =
-    let few = few_digits c.args.number c.ranges.number.fits in
-    (omega (arith, c.write_digits-digits.ensures.start), omega (arith, few, c.write_digits-digits.ensures.start))
-
-pub returns-clause-written : goal.returns-clause-written
-returns-clause-written c =
-    let few = few_digits c.args.number c.ranges.number.fits in
-    let size : length c.write_digits-digits.new.buf ≡ length c.args.text.now = search rules in
-    line_put c.args.letter c.args.number c.write_digits-digits.result c.args.end c.args.text.now c.write_digits-digits.new.buf
-    (omega (arith, c.requires.room)) c.requires.within (omega (arith, few, c.write_digits-digits.ensures.start, c.requires.room))
-    (omega (arith, size, c.requires.within, c.write_digits-digits.ensures.start))
-    c.write_digits-digits.ensures.written
+pub returns : goal.returns
+returns c =
+    puts_both 13 12 1 _ _ _ _ _ _ (c.args.letter ∷ []) _ _ (omega arith)
+    (puts_both 12 1 11 _ _ _ _ _ _ (number c.args.number) (10 ∷ []) _ (omega arith) c.put_byte-feed.ensures c.put_word-word.ensures refl)
+    c.put_byte.ensures refl

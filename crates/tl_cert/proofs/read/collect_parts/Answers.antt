@@ -111,3 +111,24 @@ returns-in-Err-clause-failures g c =
 
 pub returns-in-Err-clause-same_reference : goal.returns-in-Err-clause-same_reference
 returns-in-Err-clause-same_reference g c = c.in-Err.ensures.same_reference ∙ c.parts.invariant.same
+
+pub returns-in-Err-take-clause-certificate : goal.returns-in-Err-take-clause-certificate
+returns-in-Err-take-clause-certificate g c = tt
+
+pub returns-in-Err-take-clause-text : goal.returns-in-Err-take-clause-text
+returns-in-Err-take-clause-text g c = tt
+
+pub returns-in-Err-take-clause-ended : goal.returns-in-Err-take-clause-ended
+returns-in-Err-take-clause-ended g c = tt
+
+pub returns-in-Ok-None-clause-stops : goal.returns-in-Ok-None-clause-stops
+returns-in-Ok-None-clause-stops g c = tt
+
+pub returns-in-Err-clause-certificate : goal.returns-in-Err-clause-certificate
+returns-in-Err-clause-certificate g c = tt
+
+pub returns-in-Err-clause-text : goal.returns-in-Err-clause-text
+returns-in-Err-clause-text g c = tt
+
+pub returns-in-Err-clause-ended : goal.returns-in-Err-clause-ended
+returns-in-Err-clause-ended g c = tt

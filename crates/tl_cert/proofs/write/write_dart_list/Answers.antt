@@ -1,8 +1,9 @@
-use Rattle.std.proofs.Common.{◌∷◌, [], length}
+use Rattle.std.proofs.Common.{◌∷◌, [], length, subst}
 use Rattle.std.proofs.lemmas.Result.{err_from_is_err_and}
 use Rattle.tl_cert.specs.Text.{numbered_line, dart_lines}
 use Rattle.tl_output.proofs.WritingLemmas.{passes_last, passes_some_first}
 use Rattle.tl_cert.proofs.WriteLemmas.{line_first}
+use Rattle.tl_output.specs.Writing.{CountsFailure}
 use Rattle.tl_cert.proofs.write.write_dart_list.Goals as goal
 
 pub returns-in_err-write_number-clause-bytes : goal.returns-in_err-write_number-clause-bytes
@@ -21,3 +22,6 @@ pub returns-in_err-write_number-clause-failures : goal.returns-in_err-write_numb
 returns-in_err-write_number-clause-failures g c =
     let p = err_from_is_err_and c.from_residual.result c.from_residual.ensures.1 in
     rw p.1 c.in_err-write_number.ensures.failures
+
+pub returns-clause-failures : goal.returns-clause-failures
+returns-clause-failures g c = subst (λ n. CountsFailure n (g.W.Sink.failure_count c.write_numbers.new.out) c.write_numbers.result) (c.in_ok-write_number.ensures.failures) c.write_numbers.ensures.failures

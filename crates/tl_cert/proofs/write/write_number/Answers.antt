@@ -34,3 +34,6 @@ returns-clause-bytes g c =
     subst
     (λ l. TriesToPassOn (g.W.Sink.contents c.args.out.now) (g.W.Sink.contents c.add.new.out) c.args.buffer.now c.add.new.self l c.add.result)
     line c.add.ensures.passes
+
+pub returns-clause-failures : goal.returns-clause-failures
+returns-clause-failures g c = c.add.ensures.failures

@@ -2,7 +2,7 @@ use Rattle.std.proofs.Common.{◌∙◌, ap, refl, subst, length, codes}
 use Rattle.std.proofs.lemmas.Result.{err_from_is_err_and}
 use Rattle.tl_record.specs.Failures.{one_more}
 use Rattle.tl_record.specs.Lines.{joined_lines}
-use Rattle.tl_output.specs.Writing.{PassesSome}
+use Rattle.tl_output.specs.Writing.{PassesSome, CountsFailure}
 use Rattle.tl_output.proofs.WritingLemmas.{passes_both, passes_some_more, passes_last, passes_some_then}
 use Rattle.tl_cert.specs.Text.{tree_lines, rounds_lines, walks_lines}
 use Rattle.tl_cert.proofs.WriteLemmas.{parts_of}
@@ -81,3 +81,9 @@ pub returns-in_err-write_dart_lists-2-clause-failures : goal.returns-in_err-writ
 returns-in_err-write_dart_lists-2-clause-failures g c =
     let p = err_from_is_err_and c.from_residual-in_err-write_dart_lists-2.result c.from_residual-in_err-write_dart_lists-2.ensures.1 in
     rw p.1 (c.in_err-write_dart_lists-2.ensures.failures ∙ ap one_more (c.in_ok-write_dart_lists.ensures.failures ∙ c.in_ok-write_tree.ensures.failures ∙ c.in_ok-write_head.ensures.failures))
+
+pub returns-clause-failures : goal.returns-clause-failures
+returns-clause-failures g c = subst (λ n. CountsFailure n (g.W.Sink.failure_count c.add.new.out) c.add.result) (c.in_ok-write_dart_lists-2.ensures.failures ∙ c.in_ok-write_dart_lists.ensures.failures ∙ c.in_ok-write_tree.ensures.failures ∙ c.in_ok-write_head.ensures.failures) c.add.ensures.failures
+
+pub write_head-requires : goal.write_head-requires
+write_head-requires g c = c.version-version.ensures.known

@@ -1,6 +1,7 @@
-use Rattle.std.proofs.Common.{append-nil}
+use Rattle.std.proofs.Common.{append-nil, subst}
 use Rattle.tl_cert.specs.Text.{certificate_text}
 use Rattle.tl_output.proofs.WritingLemmas.{passes_last, passes_emptied}
+use Rattle.tl_output.specs.Writing.{CountsFailure}
 use Rattle.tl_cert.proofs.write.write_text.Goals as goal
 
 pub returns-clause-bytes : goal.returns-clause-bytes
@@ -8,3 +9,6 @@ returns-clause-bytes g c =
     passes_last c.flush.result _ _ _ _ _ _ _ _ _ (rw c.new-buffer.ensures at c.in_ok-write_parts.ensures.bytes)
     (passes_emptied c.flush.result _ _ _ _ _ c.flush.ensures.empty c.flush.ensures.passes)
     (append-nil (certificate_text c.args.certificate.now))
+
+pub returns-clause-failures : goal.returns-clause-failures
+returns-clause-failures g c = subst (λ n. CountsFailure n (g.W.Sink.failure_count c.flush.new.out) c.flush.result) (c.in_ok-write_parts.ensures.failures) c.flush.ensures.failures

@@ -1,18 +1,16 @@
-use Rattle.std.proofs.Common.{◌≡◌, length, refl, sym, subst, rules, arith}
-use Rattle.tl_verdict.specs.Valid.{IsTree}
-use Rattle.tl_verdict.specs.Truth.{IsTrueOfCert}
-use Rattle.tl_check.specs.Keeping.Parts.{Holds, IsShown, UnlessMemory}
+use Rattle.std.proofs.Common.{◌≡◌, length, refl, sym, subst, arith}
+use Rattle.tl_verdict.specs.Valid.{AreCounts, IsTree}
+use Rattle.tl_check.specs.Keeping.Parts.{Holds, UnlessMemory}
 use Rattle.tl_sides.proofs.Lent.{list_is}
 use Rattle.tl_check.proofs.Prefixes.{first_rounds, first_walks, all_rounds, all_walks, as_many, round_taken, walk_taken, has_some}
-use Rattle.tl_check.proofs.Walking.{told_ok, told_err}
-use Rattle.tl_check.proofs.Halting.{halted, ended, allowed_rounds, allowed_walks}
+use Rattle.tl_check.proofs.Halting.{halted, ended, allowed_rounds, allowed_walks, concluded_shows}
 use Rattle.tl_check.proofs.Meeting.{halted_meets, meets_so, rounds_planar, walks_planar}
 use Rattle.tl_check.specs.Keeping.Answers.{answer_of}
 use Rattle.tl_check.proofs.in_memory.check_whole.Goals as goal
 
 pub loop-round-init : goal.loop-round-init
 loop-round-init c = record {
-  holds = c.in-Ok.ensures.holds (first_rounds c.args.cert.now 0) (rw (← c.counts.ensures) (c.are_counts.ensures.0 c.if-not-are_counts.false)) (sym c.tree.ensures.tree) refl refl;
+  holds = c.in-Ok.ensures.holds (first_rounds c.args.cert.now 0) (sym c.counts.ensures) (sym c.tree.ensures.tree) refl refl;
   takes = c.in-Ok.ensures.rounds;
   searched = c.in-Ok.ensures.searched;
   behind = c.in-Ok.ensures.behind;
@@ -84,45 +82,10 @@ loop-walk-preserved c =
       behind = c.in-Ok-take_walk.ensures.behind c.loop-walk.invariant.behind;
     }
 
-pub finish_walks-requires-clause-held : goal.finish_walks-requires-clause-held
-finish_walks-requires-clause-held c = (first_walks c.args.cert.now c.loop-walk.walk-index, c.loop-walk.invariant.holds, sym c.tree-2.ensures.tree)
-
--- what is shown once all walks were taken
-shown : (c : goal.After-report) → IsShown c.args.map.now c.args.cert.now c.in-Ok-Ok.rings
-shown c =
-    let vs = c.walks-walk-items.result.now in
-    let i = c.loop-walk.walk-index in
-    let test = c.loop-walk-test.false in
-    let many : length vs ≡ length c.args.cert.now.walks = as_many vs c.args.cert.now.walks c.walks-walk-items.ensures.walks in
-    subst (λ d. IsShown c.args.map.now d c.in-Ok-Ok.rings) (all_walks c.args.cert.now i (omega (arith, many, test)))
-    ((told_ok _ c.in-Ok-Ok.field-0 c.in-Ok-Ok.rings c.in-Ok-Ok.field-0-is c.in-Ok-Ok.ensures.finished).shown (first_walks c.args.cert.now i) c.loop-walk.invariant.holds)
-
-pub returns-in-Ok-Ok-clause-shows : goal.returns-in-Ok-Ok-clause-shows
-returns-in-Ok-Ok-clause-shows c = record {
-  rings = c.in-Ok-Ok.rings;
-  shown = shown c;
-  numbers = c.report.ensures;
-  within = (told_ok _ c.in-Ok-Ok.field-0 c.in-Ok-Ok.rings c.in-Ok-Ok.field-0-is c.in-Ok-Ok.ensures.finished).searched c.args.budget c.loop-walk.invariant.searched;
-}
-
-pub returns-in-Ok-Err-clause-shows : goal.returns-in-Ok-Err-clause-shows
-returns-in-Ok-Err-clause-shows c =
-    let vs = c.walks-walk-items.result.now in
-    let i = c.loop-walk.walk-index in
-    let test = c.loop-walk-test.false in
-    let many : length vs ≡ length c.args.cert.now.walks = as_many vs c.args.cert.now.walks c.walks-walk-items.ensures.walks in (
-      subst (λ d. IsTrueOfCert c.args.map.now d c.in-Ok-Err.fault) (all_walks c.args.cert.now i (omega (arith, many, test)))
-          ((told_err _ c.in-Ok-Err.field-0 c.in-Ok-Err.fault c.in-Ok-Err.field-0-is c.in-Ok-Err.ensures.faulty).fault (first_walks c.args.cert.now i) c.loop-walk.invariant.holds),
-      (told_err _ c.in-Ok-Err.field-0 c.in-Ok-Err.fault c.in-Ok-Err.field-0-is c.in-Ok-Err.ensures.faulty).behind c.loop-walk.invariant.behind,
-    )
-
-pub returns-then-not-are_counts-clause-shows : goal.returns-then-not-are_counts-clause-shows
-returns-then-not-are_counts-clause-shows c = (search rules, λ of_darts. absurd of_darts)
-
 pub returns-in-Err-clause-shows : goal.returns-in-Err-clause-shows
 returns-in-Err-clause-shows c = rw c.answer.ensures (halted c.args.map.now c.args.cert.now c.args.budget c.in-Err.halt c.in-Err.ensures.halts
-    (rw (← c.counts.ensures) (c.are_counts.ensures.0 c.if-not-are_counts.false))
-    (subst (λ t. UnlessMemory c.in-Err.halt (IsTree c.args.map.now t)) c.tree.ensures.tree c.in-Err.ensures.tree))
+    (subst (λ tree. UnlessMemory c.in-Err.halt (AreCounts c.args.map.now c.args.cert.now.counts × IsTree c.args.map.now tree)) c.tree.ensures.tree
+    (subst (λ counts. UnlessMemory c.in-Err.halt (AreCounts c.args.map.now counts × IsTree c.args.map.now c.tree.result.now)) c.counts.ensures c.in-Err.ensures.tree)))
 
 pub returns-in-Err-end_rounds-clause-shows : goal.returns-in-Err-end_rounds-clause-shows
 returns-in-Err-end_rounds-clause-shows c = rw c.answer-in-Err-end_rounds.ensures (ended c.args.map.now c.args.cert.now c.args.budget c.in-Err-end_rounds.halt c.in-Err-end_rounds.ensures.halts
@@ -131,13 +94,6 @@ returns-in-Err-end_rounds-clause-shows c = rw c.answer-in-Err-end_rounds.ensures
 pub returns-in-Err-take_walk-clause-shows : goal.returns-in-Err-take_walk-clause-shows
 returns-in-Err-take_walk-clause-shows c = rw c.answer-in-Err-take_walk.ensures (ended c.args.map.now c.args.cert.now c.args.budget c.in-Err-take_walk.halt c.in-Err-take_walk.ensures.halts
     (allowed_walks c.args.map.now c.args.cert.now c.loop-walk.walk-index (c.in-Err-take_walk.ensures.allowed (first_walks c.args.cert.now c.loop-walk.walk-index) c.loop-walk.invariant.holds)))
-
-pub returns-in-Err-finish_walks-clause-shows : goal.returns-in-Err-finish_walks-clause-shows
-returns-in-Err-finish_walks-clause-shows c = rw c.answer-in-Err-finish_walks.ensures (ended c.args.map.now c.args.cert.now c.args.budget c.in-Err-finish_walks.halt c.in-Err-finish_walks.ensures.halted.halts
-    (allowed_walks c.args.map.now c.args.cert.now c.loop-walk.walk-index (c.in-Err-finish_walks.ensures.halted.allowed (first_walks c.args.cert.now c.loop-walk.walk-index) c.loop-walk.invariant.holds)))
-
-pub returns-then-not-are_counts-clause-meets : goal.returns-then-not-are_counts-clause-meets
-returns-then-not-are_counts-clause-meets c = λ allows. absurd ((returns-then-not-are_counts-clause-shows c).0 allows.counts)
 
 pub returns-in-Err-clause-meets : goal.returns-in-Err-clause-meets
 returns-in-Err-clause-meets c = rw c.answer.ensures (halted_meets c.in-Err.halt _ _ c.in-Err.ensures.meets (λ planar allows. planar))
@@ -150,18 +106,8 @@ pub returns-in-Err-take_walk-clause-meets : goal.returns-in-Err-take_walk-clause
 returns-in-Err-take_walk-clause-meets c = rw c.answer-in-Err-take_walk.ensures (meets_so (answer_of c.in-Err-take_walk.halt) _
     (walks_planar c.args.map.now c.args.cert.now c.loop-walk.walk-index _ c.loop-walk.invariant.holds c.loop-walk.invariant.behind))
 
-pub returns-in-Err-finish_walks-clause-meets : goal.returns-in-Err-finish_walks-clause-meets
-returns-in-Err-finish_walks-clause-meets c = rw c.answer-in-Err-finish_walks.ensures (meets_so (answer_of c.in-Err-finish_walks.halt) _
-    (walks_planar c.args.map.now c.args.cert.now c.loop-walk.walk-index _ c.loop-walk.invariant.holds c.loop-walk.invariant.behind))
-
-pub returns-in-Ok-Ok-clause-meets : goal.returns-in-Ok-Ok-clause-meets
-returns-in-Ok-Ok-clause-meets c = λ allows. (shown c).planar
-
-pub returns-in-Ok-Err-clause-meets : goal.returns-in-Ok-Err-clause-meets
-returns-in-Ok-Err-clause-meets c = walks_planar c.args.map.now c.args.cert.now c.loop-walk.walk-index _ c.loop-walk.invariant.holds c.loop-walk.invariant.behind
-
-pub take_tree-requires-clause-whole : goal.take_tree-requires-clause-whole
-take_tree-requires-clause-whole c = rw c.tree.ensures.tree c.tree.ensures.preorder
+pub take_counted-requires-clause-whole : goal.take_counted-requires-clause-whole
+take_counted-requires-clause-whole c = rw c.tree.ensures.tree c.tree.ensures.preorder
 
 pub take_round-state-requires-clause-held : goal.take_round-state-requires-clause-held
 take_round-state-requires-clause-held c = (first_rounds c.args.cert.now c.loop-round.round-index, c.loop-round.invariant.holds)
@@ -178,8 +124,20 @@ take_walk-requires-clause-held c = (first_walks c.args.cert.now c.loop-walk.walk
 pub take_walk-requires-clause-takes : goal.take_walk-requires-clause-takes
 take_walk-requires-clause-takes c = c.loop-walk.invariant.takes
 
-pub finish_walks-requires-clause-whole : goal.finish_walks-requires-clause-whole
-finish_walks-requires-clause-whole c = rw c.tree-2.ensures.tree c.tree-2.ensures.preorder
+pub conclude-requires-clause-whole : goal.conclude-requires-clause-whole
+conclude-requires-clause-whole c = rw c.tree-2.ensures.tree c.tree-2.ensures.preorder
 
-pub finish_walks-requires-clause-takes : goal.finish_walks-requires-clause-takes
-finish_walks-requires-clause-takes c = c.loop-walk.invariant.takes
+pub conclude-requires-clause-held : goal.conclude-requires-clause-held
+conclude-requires-clause-held c = (first_walks c.args.cert.now c.loop-walk.walk-index, c.loop-walk.invariant.holds, sym c.tree-2.ensures.tree)
+
+pub returns-clause-shows : goal.returns-clause-shows
+returns-clause-shows c =
+    let vs = c.walks-walk-items.result.now in
+    let i = c.loop-walk.walk-index in
+    let test = c.loop-walk-test.false in
+    let many : length vs ≡ length c.args.cert.now.walks = as_many vs c.args.cert.now.walks c.walks-walk-items.ensures.walks in
+    let holds = subst (λ d. Holds c.args.map.now d c.loop-walk.state) (all_walks c.args.cert.now i (omega (arith, many, test))) c.loop-walk.invariant.holds in
+    concluded_shows c.args.map.now c.args.cert.now c.args.budget c.loop-walk.state c.conclude.result holds c.loop-walk.invariant.searched c.loop-walk.invariant.behind c.conclude.ensures
+
+pub returns-clause-meets : goal.returns-clause-meets
+returns-clause-meets c = meets_so c.conclude.result _ (walks_planar c.args.map.now c.args.cert.now c.loop-walk.walk-index _ c.loop-walk.invariant.holds c.loop-walk.invariant.behind)

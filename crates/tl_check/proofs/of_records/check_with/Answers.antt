@@ -1,8 +1,7 @@
-use Rattle.std.proofs.Common.{◌≤◌, refl}
+use Rattle.std.proofs.Common.{◌≤◌}
 use Rattle.std.specs.Option.{IfSome}
 use Rattle.tl_record.specs.Layout.{layout_with}
 use Rattle.tl_record.specs.Records.{records_of}
-use Rattle.tl_county.specs.declared.map.Map.{Map}
 use Rattle.tl_planar.specs.Planar.{IsPlanar}
 use Rattle.tl_planar.specs.Searching.{meeting_segments}
 use Rattle.tl_sides.specs.Sides.{SidesAgree}
@@ -11,102 +10,53 @@ use Rattle.tl_cells.specs.Cells.{CellsAgree}
 use Rattle.tl_verdict.specs.Sound.{AreClosed}
 use Rattle.tl_verdict.specs.Verdicts.{IsReport}
 use Rattle.tl_verdict.specs.Texts.{IsTrueOfText, IsValidText, TextAllowsSearch}
-use Rattle.tl_check.proofs.Recorded.{on_sound, on_sound_text, if_sound, map_fault, cert_fault, behind, searched, meets, stops, unread, tells_either, refused_sound, refused_cert, refused_searched, refused_fault, refused_stops, refused_unread, refused_tells}
-use Rattle.tl_check.proofs.Meeting.{refused_meets}
+use Rattle.tl_check.proofs.Reading as reading
 use Rattle.tl_check.proofs.of_records.check_with.Goals as goal
 
-pub returns-in-Ok-clause-planar : goal.returns-in-Ok-clause-planar
-returns-in-Ok-clause-planar g c = on_sound (λ t. records_of (layout_with c.args.options) t) (g.R.Source.remaining c.args.records.now) c.in-Ok.map c.in-Ok.ensures.map (λ m. IsPlanar m.chains) c.check_cert.result c.check_cert.ensures.planar
+pub returns-clause-planar : goal.returns-clause-planar
+returns-clause-planar g c = reading.read_on_sound g.S.Source.remaining g.S.Source.failure_count (λ t. records_of (layout_with c.args.options) t) (g.R.Source.remaining c.args.records.now) c.args.budget c.args.cert.now c.check_read.new.cert c.check_read.result c.read_map_with-read.result c.check_read.ensures c.read_map_with-read.ensures.map c.read_map_with-read.ensures.stops (λ m. IsPlanar m.chains) (λ m so. so.planar)
 
-pub returns-in-Ok-clause-sides : goal.returns-in-Ok-clause-sides
-returns-in-Ok-clause-sides g c = on_sound (λ t. records_of (layout_with c.args.options) t) (g.R.Source.remaining c.args.records.now) c.in-Ok.map c.in-Ok.ensures.map (λ m. SidesAgree m.chains) c.check_cert.result c.check_cert.ensures.sides
+pub returns-clause-sides : goal.returns-clause-sides
+returns-clause-sides g c = reading.read_on_sound g.S.Source.remaining g.S.Source.failure_count (λ t. records_of (layout_with c.args.options) t) (g.R.Source.remaining c.args.records.now) c.args.budget c.args.cert.now c.check_read.new.cert c.check_read.result c.read_map_with-read.result c.check_read.ensures c.read_map_with-read.ensures.map c.read_map_with-read.ensures.stops (λ m. SidesAgree m.chains) (λ m so. so.sides)
 
-pub returns-in-Ok-clause-closed : goal.returns-in-Ok-clause-closed
-returns-in-Ok-clause-closed g c = on_sound (λ t. records_of (layout_with c.args.options) t) (g.R.Source.remaining c.args.records.now) c.in-Ok.map c.in-Ok.ensures.map AreClosed c.check_cert.result c.check_cert.ensures.closed
+pub returns-clause-closed : goal.returns-clause-closed
+returns-clause-closed g c = reading.read_on_sound g.S.Source.remaining g.S.Source.failure_count (λ t. records_of (layout_with c.args.options) t) (g.R.Source.remaining c.args.records.now) c.args.budget c.args.cert.now c.check_read.new.cert c.check_read.result c.read_map_with-read.result c.check_read.ensures c.read_map_with-read.ensures.map c.read_map_with-read.ensures.stops AreClosed (λ m so. so.closed)
 
-pub returns-in-Ok-clause-points : goal.returns-in-Ok-clause-points
-returns-in-Ok-clause-points g c = on_sound (λ t. records_of (layout_with c.args.options) t) (g.R.Source.remaining c.args.records.now) c.in-Ok.map c.in-Ok.ensures.map ArePlaced c.check_cert.result c.check_cert.ensures.points
+pub returns-clause-points : goal.returns-clause-points
+returns-clause-points g c = reading.read_on_sound g.S.Source.remaining g.S.Source.failure_count (λ t. records_of (layout_with c.args.options) t) (g.R.Source.remaining c.args.records.now) c.args.budget c.args.cert.now c.check_read.new.cert c.check_read.result c.read_map_with-read.result c.check_read.ensures c.read_map_with-read.ensures.map c.read_map_with-read.ensures.stops ArePlaced (λ m so. so.points)
 
-pub returns-in-Ok-clause-cells : goal.returns-in-Ok-clause-cells
-returns-in-Ok-clause-cells g c = on_sound (λ t. records_of (layout_with c.args.options) t) (g.R.Source.remaining c.args.records.now) c.in-Ok.map c.in-Ok.ensures.map (λ m. CellsAgree m.chains) c.check_cert.result c.check_cert.ensures.cells
+pub returns-clause-cells : goal.returns-clause-cells
+returns-clause-cells g c = reading.read_on_sound g.S.Source.remaining g.S.Source.failure_count (λ t. records_of (layout_with c.args.options) t) (g.R.Source.remaining c.args.records.now) c.args.budget c.args.cert.now c.check_read.new.cert c.check_read.result c.read_map_with-read.result c.check_read.ensures c.read_map_with-read.ensures.map c.read_map_with-read.ensures.stops (λ m. CellsAgree m.chains) (λ m so. so.cells)
 
-pub returns-in-Ok-clause-valid : goal.returns-in-Ok-clause-valid
-returns-in-Ok-clause-valid g c = on_sound_text (λ t. records_of (layout_with c.args.options) t) (g.R.Source.remaining c.args.records.now) c.in-Ok.map c.in-Ok.ensures.map (g.S.Source.remaining c.args.cert.now) IsValidText c.check_cert.result c.check_cert.ensures.valid
+pub returns-clause-valid : goal.returns-clause-valid
+returns-clause-valid g c = reading.read_on_text g.S.Source.remaining g.S.Source.failure_count (λ t. records_of (layout_with c.args.options) t) (g.R.Source.remaining c.args.records.now) c.args.budget c.args.cert.now c.check_read.new.cert c.check_read.result c.read_map_with-read.result c.check_read.ensures c.read_map_with-read.ensures.map c.read_map_with-read.ensures.stops IsValidText (λ m so. so.valid)
 
-pub returns-in-Ok-clause-within : goal.returns-in-Ok-clause-within
-returns-in-Ok-clause-within g c = on_sound (λ t. records_of (layout_with c.args.options) t) (g.R.Source.remaining c.args.records.now) c.in-Ok.map c.in-Ok.ensures.map (λ m. meeting_segments m.chains ≤ c.args.budget) c.check_cert.result c.check_cert.ensures.within
+pub returns-clause-within : goal.returns-clause-within
+returns-clause-within g c = reading.read_on_sound g.S.Source.remaining g.S.Source.failure_count (λ t. records_of (layout_with c.args.options) t) (g.R.Source.remaining c.args.records.now) c.args.budget c.args.cert.now c.check_read.new.cert c.check_read.result c.read_map_with-read.result c.check_read.ensures c.read_map_with-read.ensures.map c.read_map_with-read.ensures.stops (λ m. meeting_segments m.chains ≤ c.args.budget) (λ m so. so.within)
 
-pub returns-in-Ok-clause-report : goal.returns-in-Ok-clause-report
-returns-in-Ok-clause-report g c = if_sound (λ t. records_of (layout_with c.args.options) t) (g.R.Source.remaining c.args.records.now) c.in-Ok.map c.in-Ok.ensures.map IsReport c.check_cert.result c.check_cert.ensures.report
+pub returns-clause-report : goal.returns-clause-report
+returns-clause-report g c = reading.read_if_sound g.S.Source.remaining g.S.Source.failure_count (λ t. records_of (layout_with c.args.options) t) (g.R.Source.remaining c.args.records.now) c.args.budget c.args.cert.now c.check_read.new.cert c.check_read.result c.read_map_with-read.result c.check_read.ensures c.read_map_with-read.ensures.map c.read_map_with-read.ensures.stops IsReport (λ m so. so.report)
 
-pub returns-in-Ok-clause-map_fault : goal.returns-in-Ok-clause-map_fault
-returns-in-Ok-clause-map_fault g c = map_fault (λ t. records_of (layout_with c.args.options) t) (g.R.Source.remaining c.args.records.now) c.in-Ok.map c.in-Ok.ensures.map c.check_cert.result c.check_cert.ensures.map_fault
+pub returns-clause-map_fault : goal.returns-clause-map_fault
+returns-clause-map_fault g c = reading.read_map_fault g.S.Source.remaining g.S.Source.failure_count (λ t. records_of (layout_with c.args.options) t) (g.R.Source.remaining c.args.records.now) c.args.budget c.args.cert.now c.check_read.new.cert c.check_read.result c.read_map_with-read.result c.check_read.ensures c.read_map_with-read.ensures.map c.read_map_with-read.ensures.stops
 
-pub returns-in-Ok-clause-cert_fault : goal.returns-in-Ok-clause-cert_fault
-returns-in-Ok-clause-cert_fault g c = cert_fault (λ t. records_of (layout_with c.args.options) t) (g.R.Source.remaining c.args.records.now) c.in-Ok.map c.in-Ok.ensures.map (λ m fault. IfSome (g.S.Source.remaining c.args.cert.now) (λ spelt. IsTrueOfText m spelt fault)) c.check_cert.result c.check_cert.ensures.cert_fault
+pub returns-clause-cert_fault : goal.returns-clause-cert_fault
+returns-clause-cert_fault g c = reading.read_cert_fault g.S.Source.remaining g.S.Source.failure_count (λ t. records_of (layout_with c.args.options) t) (g.R.Source.remaining c.args.records.now) c.args.budget c.args.cert.now c.check_read.new.cert c.check_read.result c.read_map_with-read.result c.check_read.ensures c.read_map_with-read.ensures.map c.read_map_with-read.ensures.stops (λ m fault. IfSome (g.S.Source.remaining c.args.cert.now) (λ spelt. IsTrueOfText m spelt fault)) (λ m so. so.cert_fault)
 
-pub returns-in-Ok-clause-behind : goal.returns-in-Ok-clause-behind
-returns-in-Ok-clause-behind g c = behind (λ t. records_of (layout_with c.args.options) t) (g.R.Source.remaining c.args.records.now) c.in-Ok.map c.in-Ok.ensures.map c.check_cert.result c.check_cert.ensures.behind
+pub returns-clause-behind : goal.returns-clause-behind
+returns-clause-behind g c = reading.read_behind g.S.Source.remaining g.S.Source.failure_count (λ t. records_of (layout_with c.args.options) t) (g.R.Source.remaining c.args.records.now) c.args.budget c.args.cert.now c.check_read.new.cert c.check_read.result c.read_map_with-read.result c.check_read.ensures c.read_map_with-read.ensures.map c.read_map_with-read.ensures.stops
 
-pub returns-in-Ok-clause-searched : goal.returns-in-Ok-clause-searched
-returns-in-Ok-clause-searched g c = searched (λ t. records_of (layout_with c.args.options) t) (g.R.Source.remaining c.args.records.now) c.in-Ok.map c.in-Ok.ensures.map (λ m. IfSome (g.S.Source.remaining c.args.cert.now) (TextAllowsSearch m)) c.check_cert.result c.check_cert.ensures.searched
+pub returns-clause-meets : goal.returns-clause-meets
+returns-clause-meets g c = reading.read_meets g.S.Source.remaining g.S.Source.failure_count (λ t. records_of (layout_with c.args.options) t) (g.R.Source.remaining c.args.records.now) c.args.budget c.args.cert.now c.check_read.new.cert c.check_read.result c.read_map_with-read.result c.check_read.ensures c.read_map_with-read.ensures.map c.read_map_with-read.ensures.stops (λ m. IfSome (g.S.Source.remaining c.args.cert.now) (λ spelt. TextAllowsSearch m spelt → IsPlanar m.chains)) (λ m so. so.meets)
 
-pub returns-in-Ok-clause-stops : goal.returns-in-Ok-clause-stops
-returns-in-Ok-clause-stops g c = stops (λ t. records_of (layout_with c.args.options) t) (g.R.Source.remaining c.args.records.now) c.in-Ok.map c.in-Ok.ensures.map c.args.budget c.check_cert.result c.check_cert.ensures.stops
+pub returns-clause-searched : goal.returns-clause-searched
+returns-clause-searched g c = reading.read_searched g.S.Source.remaining g.S.Source.failure_count (λ t. records_of (layout_with c.args.options) t) (g.R.Source.remaining c.args.records.now) c.args.budget c.args.cert.now c.check_read.new.cert c.check_read.result c.read_map_with-read.result c.check_read.ensures c.read_map_with-read.ensures.map c.read_map_with-read.ensures.stops (λ m. IfSome (g.S.Source.remaining c.args.cert.now) (TextAllowsSearch m)) (λ m so. so.searched)
 
-pub returns-in-Ok-clause-unread : goal.returns-in-Ok-clause-unread
-returns-in-Ok-clause-unread g c = unread c.in-Ok.map c.args.budget _ c.check_cert.result c.check_cert.ensures.map_fault c.check_cert.ensures.stops
+pub returns-clause-stops : goal.returns-clause-stops
+returns-clause-stops g c = reading.read_stops g.S.Source.remaining g.S.Source.failure_count (λ t. records_of (layout_with c.args.options) t) (g.R.Source.remaining c.args.records.now) c.args.budget c.args.cert.now c.check_read.new.cert c.check_read.result c.read_map_with-read.result c.check_read.ensures c.read_map_with-read.ensures.map c.read_map_with-read.ensures.stops
 
-pub returns-in-Ok-clause-failures : goal.returns-in-Ok-clause-failures
-returns-in-Ok-clause-failures g c = tells_either _ _ _ _ c.check_cert.result c.in-Ok.ensures.failures c.check_cert.ensures.failures
+pub returns-clause-unread : goal.returns-clause-unread
+returns-clause-unread g c = reading.read_unread g.S.Source.remaining g.S.Source.failure_count (λ t. records_of (layout_with c.args.options) t) (g.R.Source.remaining c.args.records.now) c.args.budget c.args.cert.now c.check_read.new.cert c.check_read.result c.read_map_with-read.result c.check_read.ensures c.read_map_with-read.ensures.map c.read_map_with-read.ensures.stops
 
-pub returns-in-Err-clause-planar : goal.returns-in-Err-clause-planar
-returns-in-Err-clause-planar g c = rw c.refused.ensures (refused_sound c.in-Err.stop _)
-
-pub returns-in-Err-clause-sides : goal.returns-in-Err-clause-sides
-returns-in-Err-clause-sides g c = rw c.refused.ensures (refused_sound c.in-Err.stop _)
-
-pub returns-in-Err-clause-closed : goal.returns-in-Err-clause-closed
-returns-in-Err-clause-closed g c = rw c.refused.ensures (refused_sound c.in-Err.stop _)
-
-pub returns-in-Err-clause-points : goal.returns-in-Err-clause-points
-returns-in-Err-clause-points g c = rw c.refused.ensures (refused_sound c.in-Err.stop _)
-
-pub returns-in-Err-clause-cells : goal.returns-in-Err-clause-cells
-returns-in-Err-clause-cells g c = rw c.refused.ensures (refused_sound c.in-Err.stop _)
-
-pub returns-in-Err-clause-valid : goal.returns-in-Err-clause-valid
-returns-in-Err-clause-valid g c = rw c.refused.ensures (refused_sound c.in-Err.stop _)
-
-pub returns-in-Err-clause-within : goal.returns-in-Err-clause-within
-returns-in-Err-clause-within g c = rw c.refused.ensures (refused_sound c.in-Err.stop _)
-
-pub returns-in-Err-clause-report : goal.returns-in-Err-clause-report
-returns-in-Err-clause-report g c = rw c.refused.ensures (refused_sound c.in-Err.stop _)
-
-pub returns-in-Err-clause-map_fault : goal.returns-in-Err-clause-map_fault
-returns-in-Err-clause-map_fault g c = rw c.refused.ensures (refused_fault (λ t. records_of (layout_with c.args.options) t) (g.R.Source.remaining c.args.records.now) c.in-Err.stop c.in-Err.ensures.stops)
-
-pub returns-in-Err-clause-cert_fault : goal.returns-in-Err-clause-cert_fault
-returns-in-Err-clause-cert_fault g c = rw c.refused.ensures (refused_cert c.in-Err.stop _)
-
-pub returns-in-Err-clause-behind : goal.returns-in-Err-clause-behind
-returns-in-Err-clause-behind g c = rw c.refused.ensures (refused_cert c.in-Err.stop _)
-
-pub returns-in-Err-clause-searched : goal.returns-in-Err-clause-searched
-returns-in-Err-clause-searched g c = rw c.refused.ensures (refused_searched c.in-Err.stop _)
-
-pub returns-in-Err-clause-stops : goal.returns-in-Err-clause-stops
-returns-in-Err-clause-stops g c = rw c.refused.ensures (refused_stops (λ t. records_of (layout_with c.args.options) t) (g.R.Source.remaining c.args.records.now) c.args.budget c.in-Err.stop c.in-Err.ensures.stops)
-
-pub returns-in-Err-clause-unread : goal.returns-in-Err-clause-unread
-returns-in-Err-clause-unread g c = rw c.refused.ensures (refused_unread c.in-Err.stop _ refl)
-
-pub returns-in-Err-clause-failures : goal.returns-in-Err-clause-failures
-returns-in-Err-clause-failures g c = rw c.refused.ensures (refused_tells Map _ _ _ c.in-Err.stop c.in-Err.ensures.failures)
-
-pub returns-in-Ok-clause-meets : goal.returns-in-Ok-clause-meets
-returns-in-Ok-clause-meets g c = meets (λ t. records_of (layout_with c.args.options) t) (g.R.Source.remaining c.args.records.now) c.in-Ok.map c.in-Ok.ensures.map (λ m. IfSome (g.S.Source.remaining c.args.cert.now) (λ spelt. TextAllowsSearch m spelt → IsPlanar m.chains)) c.check_cert.result c.check_cert.ensures.meets
-
-pub returns-in-Err-clause-meets : goal.returns-in-Err-clause-meets
-returns-in-Err-clause-meets g c = rw c.refused.ensures (refused_meets c.in-Err.stop _)
+pub returns-clause-failures : goal.returns-clause-failures
+returns-clause-failures g c = reading.read_tells g.S.Source.remaining g.S.Source.failure_count c.args.budget c.args.cert.now c.check_read.new.cert c.check_read.result _ _ c.read_map_with-read.result c.check_read.ensures c.read_map_with-read.ensures.failures

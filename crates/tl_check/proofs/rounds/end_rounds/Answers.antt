@@ -1,5 +1,6 @@
 use Rattle.std.proofs.Common.{sym, subst}
-use Rattle.tl_check.specs.Keeping.Parts.{Holds, Leads, IsSearched, IsBehindSearch}
+use Rattle.tl_check.specs.Keeping.Parts.{Holds, Leads}
+use Rattle.tl_check.proofs.Rounding.{ended_before}
 use Rattle.tl_check.proofs.rounds.end_rounds.Goals as goal
 
 pub begin_walks-requires : goal.begin_walks-requires
@@ -8,26 +9,5 @@ begin_walks-requires c = record { held = (c.requires.held.0, subst (Holds c.args
 pub returns-in-Rounding : goal.returns-in-Rounding
 returns-in-Rounding c = subst (λ old. Leads c.args.map.now (λ cert. cert) old c.begin_walks.result) (sym c.in-Rounding.is) c.begin_walks.ensures
 
-pub returns-in-Walking : goal.returns-in-Walking
-returns-in-Walking c = record {
-  holds = λ cert held. subst (Holds c.args.map.now cert) c.in-Walking.is held;
-  takes = tt;
-  searched = λ n searched. subst (IsSearched c.args.map.now n) c.in-Walking.is searched;
-  behind = λ behind. subst (IsBehindSearch c.args.map.now) c.in-Walking.is behind;
-}
-
-pub returns-in-Unrounded : goal.returns-in-Unrounded
-returns-in-Unrounded c = record {
-  holds = λ cert held. subst (Holds c.args.map.now cert) c.in-Unrounded.is held;
-  takes = tt;
-  searched = λ n searched. subst (IsSearched c.args.map.now n) c.in-Unrounded.is searched;
-  behind = λ behind. subst (IsBehindSearch c.args.map.now) c.in-Unrounded.is behind;
-}
-
-pub returns-in-Wrong : goal.returns-in-Wrong
-returns-in-Wrong c = record {
-  holds = λ cert held. subst (Holds c.args.map.now cert) c.in-Wrong.is held;
-  takes = tt;
-  searched = λ n searched. subst (IsSearched c.args.map.now n) c.in-Wrong.is searched;
-  behind = λ behind. subst (IsBehindSearch c.args.map.now) c.in-Wrong.is behind;
-}
+pub returns-in_default : goal.returns-in_default
+returns-in_default c = ended_before c.args.map.now c.args.state c.in_default.not-Rounding

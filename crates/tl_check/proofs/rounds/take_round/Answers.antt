@@ -1,7 +1,7 @@
 use Rattle.std.proofs.Common.{sym, subst}
 use Rattle.tl_sides.specs.Rounds.{IsRoundFault}
 use Rattle.tl_check.specs.Keeping.Parts.{Holds, AreRoundsSoFar, IsSearched, IsBehindSearch}
-use Rattle.tl_check.proofs.Rounding.{round_laid, goes_on_before}
+use Rattle.tl_check.proofs.Rounding.{round_laid, round_passed}
 use Rattle.tl_check.proofs.rounds.take_round.Goals as goal
 
 pub take-requires-clause-sized : goal.take-requires-clause-sized
@@ -32,10 +32,5 @@ returns-in-Rounding c = record {
   behind = λ behind of_darts. subst (IsBehindSearch c.args.map.now) c.in-Rounding.is behind;
 }
 
-pub returns-in-Wrong : goal.returns-in-Wrong
-returns-in-Wrong c = record {
-  holds = λ cert held d on. (subst (Holds c.args.map.now cert) c.in-Wrong.is held) d (goes_on_before cert d c.args.round.now on);
-  takes = tt;
-  searched = λ n searched. subst (IsSearched c.args.map.now n) c.in-Wrong.is searched;
-  behind = λ behind. subst (IsBehindSearch c.args.map.now) c.in-Wrong.is behind;
-}
+pub returns : goal.returns
+returns c = round_passed c.args.map.now c.args.round.now c.args.state c.requires.takes c.in_default.not-Rounding

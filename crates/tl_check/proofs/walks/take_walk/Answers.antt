@@ -1,7 +1,7 @@
 use Rattle.std.proofs.Common.{sym, subst}
 use Rattle.tl_sides.specs.Walks.{IsWalkFault}
-use Rattle.tl_check.specs.Keeping.Parts.{Holds, AreWalksSoFar, TakesWalks, IsSearched, IsBehindSearch}
-use Rattle.tl_check.proofs.Walking.{darts_known, walk_laid, goes_on_before}
+use Rattle.tl_check.specs.Keeping.Parts.{Holds, AreWalksSoFar, IsSearched, IsBehindSearch}
+use Rattle.tl_check.proofs.Walking.{darts_known, walk_laid, walk_passed}
 use Rattle.tl_check.proofs.walks.take_walk.Goals as goal
 
 -- what the state says of the parts so far
@@ -49,21 +49,5 @@ returns-in-Walking c = record {
   behind = λ behind of_darts. subst (IsBehindSearch c.args.map.now) c.in-Walking.is behind;
 }
 
-pub returns-in-Unrounded : goal.returns-in-Unrounded
-returns-in-Unrounded c = record {
-  holds = λ cert held. subst (Holds c.args.map.now cert) c.in-Unrounded.is held;
-  takes = tt;
-  searched = λ n searched. subst (IsSearched c.args.map.now n) c.in-Unrounded.is searched;
-  behind = λ behind. subst (IsBehindSearch c.args.map.now) c.in-Unrounded.is behind;
-}
-
-pub returns-in-Wrong : goal.returns-in-Wrong
-returns-in-Wrong c = record {
-  holds = λ cert held d on. (subst (Holds c.args.map.now cert) c.in-Wrong.is held) d (goes_on_before cert d c.args.walk.now on);
-  takes = tt;
-  searched = λ n searched. subst (IsSearched c.args.map.now n) c.in-Wrong.is searched;
-  behind = λ behind. subst (IsBehindSearch c.args.map.now) c.in-Wrong.is behind;
-}
-
-pub unreachable-requires : goal.unreachable-requires
-unreachable-requires c = subst TakesWalks c.in-Rounding.is c.requires.takes
+pub returns : goal.returns
+returns c = walk_passed c.args.map.now c.args.walk.now c.args.state c.requires.takes c.in_default.not-Walking

@@ -11,10 +11,10 @@ returns-in-Err g c =
 
 pub returns-in-Ok : goal.returns-in-Ok
 returns-in-Ok g c =
-    let run = c.run_on_readers.ensures in
-    let new = c.run_on_readers.new in
-    let unmade = run.made (check_makes_none c.args.plan.now (string_bytes c.args.name.now) c.requires.plan) in
-    over_check c.args.plan.now (string_bytes c.args.name.now) (g.F.FileSystem.under c.args.files.now) _ _ c.run_on_readers.result _ _ _ _ _ _ _ _ c.requires.plan c.requires.known c.in-Ok.ensures.bytes run.status run.answered
+    let run = c.run_by_readers.ensures in
+    let new = c.run_by_readers.new in
+    let unmade = run.made_stays (check_makes_none c.args.plan.now (string_bytes c.args.name.now) c.requires.plan) in
+    over_check c.args.plan.now (string_bytes c.args.name.now) (g.F.FileSystem.under c.args.files.now) _ _ c.run_by_readers.result _ _ _ _ _ _ _ _ c.requires.plan c.requires.known c.in-Ok.ensures.bytes run.is_status run.answered
     run.fault run.exactly run.cert_fault run.refused
     (λ e. weaker_stop c.args.plan.now _ _ (TriesToWrite g.E.Sink.contents g.E.Sink.failure_count c.args.err.now new.err) _ _ _ _ _ _ (λ failed. elim failed [
       | inl read ↦ inr (inl (elim read [

@@ -4,6 +4,7 @@ use Rattle.tl_plan.specs.declared.command_line.Named.TheVariants.{Show, Landmark
 use Rattle.tl_plan.proofs.CommandsLemmas.{whole_made}
 use Rattle.tl_plan.proofs.command_line.command.Goals as goal
 
-pub returns : goal.returns
-returns c =
-    whole_made c.program.result c.with_commands.result (Show ∷ Landmarks ∷ Locate ∷ Audit ∷ Build ∷ Check ∷ Convert ∷ []) program c.program.ensures c.with_commands.ensures
+pub returns-in-Ok : goal.returns-in-Ok
+returns-in-Ok c =
+    let names = Show ∷ Landmarks ∷ Locate ∷ Audit ∷ Build ∷ Check ∷ Convert ∷ [] in
+    whole_made c.program.result c.with_commands.result names program c.program.ensures (c.with_commands.ensures names c.in-Ok.ensures)

@@ -1,14 +1,13 @@
-use Rattle.std.proofs.Common.{ap, subst, ◌∙◌}
+use Rattle.std.proofs.Common.{◌≡◌, false, ap, subst, ◌∙◌}
 use Rattle.std.specs.Prelude.{IfOk}
 use Rattle.clap.specs.Simple.{App, new_app}
-use Rattle.tl_plan.specs.Commands.{IsLocal}
-use Rattle.tl_plan.specs.Keeping.{name_of, with_each}
+use Rattle.tl_plan.specs.Keeping.{name_of, with_each, told_of}
 use Rattle.tl_plan.proofs.CommandsLemmas.{named_app}
 use Rattle.tl_plan.proofs.command_line.subcommand.Goals as goal
 
-pub returns : goal.returns
-returns c =
+pub returns-in-Ok : goal.returns-in-Ok
+returns-in-Ok c =
     let arguments = c.arguments_of.result.now in
-    subst (λ (app : App). IfOk c.command_with.result (IsLocal app))
+    subst (λ (app : App). IfOk c.command_with.result (λ command. told_of command ≡ (app, false)))
     (ap (λ name. with_each (new_app name) arguments) c.words_of.ensures ∙ ap (with_each (new_app (name_of c.args.named.now))) c.arguments_of.ensures ∙ named_app c.args.named.now)
-    c.command_with.ensures
+    (c.command_with.ensures arguments c.in-Ok.ensures)

@@ -1,28 +1,30 @@
+use Rattle.tl_plan.specs.declared.command_line.Argument.TheVariants.{ZeroCells, Released, Files, Point, CertOption, OutOption, Tests, Cert, Out}
+use Rattle.tl_plan.proofs.CommandsLemmas.{arg_told}
 use Rattle.tl_plan.proofs.command_line.told.Goals as goal
 
-pub returns-in-ZeroCells-clause-rule : goal.returns-in-ZeroCells-clause-rule
-returns-in-ZeroCells-clause-rule c = rw c.in-ZeroCells.is c.switch.ensures.rule
+pub returns-in-ZeroCells : goal.returns-in-ZeroCells
+returns-in-ZeroCells c = rw c.in-ZeroCells.is (arg_told c.switch.result ZeroCells c.switch.ensures.rule c.switch.ensures.local)
 
-pub returns-in-Released-clause-rule : goal.returns-in-Released-clause-rule
-returns-in-Released-clause-rule c = rw c.in-Released.is c.switch-in-Released.ensures.rule
+pub returns-in-Released : goal.returns-in-Released
+returns-in-Released c = rw c.in-Released.is (arg_told c.switch-in-Released.result Released c.switch-in-Released.ensures.rule c.switch-in-Released.ensures.local)
 
-pub returns-in-Files-clause-rule : goal.returns-in-Files-clause-rule
-returns-in-Files-clause-rule c = rw c.in-Files.is c.files_argument.ensures.rule
+pub returns-in-Files : goal.returns-in-Files
+returns-in-Files c = rw c.in-Files.is (arg_told c.files_argument.result Files c.files_argument.ensures.rule c.files_argument.ensures.local)
 
-pub returns-in-Point-clause-rule : goal.returns-in-Point-clause-rule
-returns-in-Point-clause-rule c = rw c.in-Point.is c.name_argument.ensures.rule
+pub returns-in-Point : goal.returns-in-Point
+returns-in-Point c = rw c.in-Point.is (arg_told c.name_argument.result Point c.name_argument.ensures.rule c.name_argument.ensures.local)
 
-pub returns-in-CertOption-clause-rule : goal.returns-in-CertOption-clause-rule
-returns-in-CertOption-clause-rule c = rw c.in-CertOption.is c.certificate_argument.ensures.rule
+pub returns-in-CertOption : goal.returns-in-CertOption
+returns-in-CertOption c = rw c.in-CertOption.is (arg_told c.certificate_argument.result CertOption c.certificate_argument.ensures.rule c.certificate_argument.ensures.local)
 
-pub returns-in-OutOption-clause-rule : goal.returns-in-OutOption-clause-rule
-returns-in-OutOption-clause-rule c = rw c.in-OutOption.is c.certificate_argument-in-OutOption.ensures.rule
+pub returns-in-OutOption : goal.returns-in-OutOption
+returns-in-OutOption c = rw c.in-OutOption.is (arg_told c.certificate_argument-in-OutOption.result OutOption c.certificate_argument-in-OutOption.ensures.rule c.certificate_argument-in-OutOption.ensures.local)
 
-pub returns-in-Tests-clause-rule : goal.returns-in-Tests-clause-rule
-returns-in-Tests-clause-rule c = rw c.in-Tests.is c.valued_option.ensures.rule
+pub returns-in-Tests : goal.returns-in-Tests
+returns-in-Tests c = rw c.in-Tests.is (arg_told c.valued_option.result Tests c.valued_option.ensures.rule c.valued_option.ensures.local)
 
-pub returns-in-Cert-clause-rule : goal.returns-in-Cert-clause-rule
-returns-in-Cert-clause-rule c = rw c.in-Cert.is c.name_argument-in-Cert.ensures.rule
+pub returns-in-Cert : goal.returns-in-Cert
+returns-in-Cert c = rw c.in-Cert.is (arg_told c.name_argument-in-Cert.result Cert c.name_argument-in-Cert.ensures.rule c.name_argument-in-Cert.ensures.local)
 
-pub returns-in-Out-clause-rule : goal.returns-in-Out-clause-rule
-returns-in-Out-clause-rule c = rw c.in-Out.is c.name_argument-in-Out.ensures.rule
+pub returns-in-Out : goal.returns-in-Out
+returns-in-Out c = rw c.in-Out.is (arg_told c.name_argument-in-Out.result Out c.name_argument-in-Out.ensures.rule c.name_argument-in-Out.ensures.local)

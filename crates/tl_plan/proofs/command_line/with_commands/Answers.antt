@@ -1,12 +1,7 @@
-use Rattle.tl_plan.proofs.CommandsLemmas.{first_made, one_more_made, all_made}
+use Rattle.std.proofs.lemmas.Result.{IfOk-weaker}
+use Rattle.tl_plan.proofs.CommandsLemmas.{commands_in_turn}
 use Rattle.tl_plan.proofs.command_line.with_commands.Goals as goal
 
-pub loop-named-init : goal.loop-named-init
-loop-named-init c = first_made c.args.program c.args.commands.now
-
-pub loop-named-preserved : goal.loop-named-preserved
-loop-named-preserved c =
-    one_more_made c.args.program c.loop-named.program c.with_command-program.result c.args.commands.now c.loop-named.named-index _ c.loop-named-test.true c.with_command-program.ensures c.loop-named.invariant
-
-pub returns : goal.returns
-returns c = all_made c.args.program c.loop-named.program c.args.commands.now c.loop-named.named-index c.loop-named-test.false c.loop-named.invariant
+pub returns-in-Ok : goal.returns-in-Ok
+returns-in-Ok c = λ names told.
+    rw c.in-Ok.is (IfOk-weaker c.subcommands.result _ _ (λ whole added. commands_in_turn c.in-Ok.program whole _ names added told) c.subcommands.ensures)

@@ -1,11 +1,11 @@
-use Rattle.std.proofs.Common.{◌<◌, length, Some, codes, refl, sym, ap, ◌∙◌, rules, arith}
+use Rattle.std.proofs.Common.{◌≡◌, ◌<◌, length, Some, codes, refl, sym, ap, ◌∙◌, rules, arith}
 use Rattle.std.proofs.lemmas.Bool.Decides.{nat_tests}
 use Rattle.clap.specs.Walk.{rows_of, all_of}
 use Rattle.clap.specs.Matches.{found_of}
 use Rattle.clap.proofs.WalkLemmas.{first_value-rows}
 use Rattle.tl_plan.specs.Commands.{build_name}
 use Rattle.tl_plan.specs.CommandLine.{request_in}
-use Rattle.tl_plan.proofs.WordsLemmas.{not_given, is_given, are_given, no_build}
+use Rattle.tl_plan.proofs.WordsLemmas.{not_given, is_given, are_given, no_build, no_file}
 use Rattle.tl_plan.proofs.words.build_of.Goals as goal
 
 pub returns-in_default : goal.returns-in_default
@@ -27,3 +27,8 @@ returns c =
       are = files.0;
       some_file = files.1;
     }
+
+pub returns-then-is_empty : goal.returns-then-is_empty
+returns-then-is_empty c =
+    let none : length c.in_ok-files.files.items ≡ 0 = search (rules, arith, nat_tests) in
+    no_file (request_in (build_name, rows_of (found_of c.args.command.now))) c.in_ok-files.files.items c.in_ok-files.ensures none refl

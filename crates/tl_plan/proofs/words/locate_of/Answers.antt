@@ -1,4 +1,4 @@
-use Rattle.std.proofs.Common.{ℕ, ◌<◌, length, List, codes, refl, subst, ◌∙◌, rules, arith}
+use Rattle.std.proofs.Common.{◌≡◌, ℕ, ◌<◌, length, List, codes, refl, subst, ◌∙◌, rules, arith}
 use Rattle.std.proofs.lemmas.Bool.Decides.{nat_tests}
 use Rattle.clap.specs.Walk.{rows_of, all_of}
 use Rattle.clap.specs.Matches.{found_of}
@@ -6,7 +6,7 @@ use Rattle.clap.proofs.WalkLemmas.{first_value-rows}
 use Rattle.tl_plan.specs.Commands.{locate_name}
 use Rattle.tl_plan.specs.CommandLine.{request_in}
 use Rattle.tl_plan.specs.Points.{Spells}
-use Rattle.tl_plan.proofs.WordsLemmas.{not_given, is_given, are_given, no_locate, same_given}
+use Rattle.tl_plan.proofs.WordsLemmas.{not_given, is_given, are_given, no_locate, same_given, no_file}
 use Rattle.tl_plan.proofs.words.locate_of.Goals as goal
 
 pub returns-in_default : goal.returns-in_default
@@ -37,3 +37,8 @@ returns c =
       are = files.0;
       some_file = files.1;
     }
+
+pub returns-then-is_empty : goal.returns-then-is_empty
+returns-then-is_empty c =
+    let none : length c.in_ok-files.files.items ≡ 0 = search (rules, arith, nat_tests) in
+    no_file (request_in (locate_name, rows_of (found_of c.args.command.now))) c.in_ok-files.files.items c.in_ok-files.ensures none refl

@@ -10,77 +10,47 @@ use Rattle.tl_rings.proofs.misplaced.look_at_each.Goals.{in-Right, in-Costly+in_
 
 pub loop-k-preserved : goal.loop-k-preserved
 loop-k-preserved g c = record {
-  nears = c.in_ok-look_at.ensures.nears ∙ c.loop-k.invariant.nears;
-  fars = c.in_ok-look_at.ensures.fars ∙ c.loop-k.invariant.fars;
-  no_near = c.in_ok-look_at.ensures.no_near;
-  no_far = c.in_ok-look_at.ensures.no_far;
+  clear = c.in_ok-look_at.ensures.clear;
   left = elim c.match-branch-2.branch [
-    | in-Right w ↦ subst (λ (v : Vec Site Global). All (IsSiteOf c.args.map.now) v.items) (sym w.left-is) c.loop-k.invariant.left
+    | in-Right w ↦ subst (λ (v : Vec Site Global). All (IsSiteOf c.args.by.now.map.now) v.items) (sym w.left-is) c.loop-k.invariant.left
     | in-Costly+in_ok-push_site-in-Costly w ↦
-        site_more c.args.map.now c.loop-k.left.items c.match-branch-2.left.items c.site_of-site.result
+        site_more c.args.by.now.map.now c.loop-k.left.items c.match-branch-2.left.items c.site_of-site.result
         (ap (λ (v : Vec Site Global). v.items) w.left-is ∙ w.in_ok-push_site-in-Costly.ensures) c.loop-k.invariant.left c.site_of-site.ensures.site
   ];
   placed = elim c.match-branch-2.branch [
     | in-Right w ↦
-        subst (λ (v : Vec Site Global). ArePlacedBut c.args.map.now v.items c.args.order.now (c.loop-k.k + 1)) (sym w.left-is)
-        (right_more c.args.map.now c.loop-k.left.items c.args.order.now c.loop-k.k _ c.site_of-site.result c.loop-k-test.true c.site_of-site.ensures.polygon c.loop-k.invariant.placed
-        (subst (IsLook c.args.map.now c.site_of-site.result) w.in-Right.is c.in_ok-look_at.ensures.look))
+        subst (λ (v : Vec Site Global). ArePlacedBut c.args.by.now.map.now v.items c.args.order.now (c.loop-k.k + 1)) (sym w.left-is)
+        (right_more c.args.by.now.map.now c.loop-k.left.items c.args.order.now c.loop-k.k _ c.site_of-site.result c.loop-k-test.true c.site_of-site.ensures.polygon c.loop-k.invariant.placed
+        (subst (IsLook c.args.by.now.map.now c.site_of-site.result) w.in-Right.is c.in_ok-look_at.ensures.look))
     | in-Costly+in_ok-push_site-in-Costly w ↦
-        left_more c.args.map.now c.loop-k.left.items c.match-branch-2.left.items c.args.order.now c.loop-k.k _ c.site_of-site.result c.loop-k-test.true c.site_of-site.ensures.polygon
+        left_more c.args.by.now.map.now c.loop-k.left.items c.match-branch-2.left.items c.args.order.now c.loop-k.k _ c.site_of-site.result c.loop-k-test.true c.site_of-site.ensures.polygon
         (ap (λ (v : Vec Site Global). v.items) w.left-is ∙ w.in_ok-push_site-in-Costly.ensures) c.loop-k.invariant.placed
   ];
 }
 
 pub returns-clause-found : goal.returns-clause-found
-returns-clause-found g c = all_seen c.args.map.now c.loop-k.left.items c.args.order.now c.loop-k.k c.loop-k-test.false c.loop-k.invariant.placed
-
-pub look_at-requires-clause-fits : goal.look_at-requires-clause-fits
-look_at-requires-clause-fits g c = c.requires.fits
-
-pub look_at-requires-clause-tree : goal.look_at-requires-clause-tree
-look_at-requires-clause-tree g c = c.requires.tree
-
-pub look_at-requires-clause-proper : goal.look_at-requires-clause-proper
-look_at-requires-clause-proper g c = c.requires.proper
-
-pub look_at-requires-clause-sides : goal.look_at-requires-clause-sides
-look_at-requires-clause-sides g c = c.requires.sides
-
-pub look_at-requires-clause-walks : goal.look_at-requires-clause-walks
-look_at-requires-clause-walks g c = c.requires.walks
-
-pub look_at-requires-clause-boxed : goal.look_at-requires-clause-boxed
-look_at-requires-clause-boxed g c = c.requires.boxed
-
-pub look_at-requires-clause-few : goal.look_at-requires-clause-few
-look_at-requires-clause-few g c = c.requires.few
+returns-clause-found g c = all_seen c.args.by.now.map.now c.loop-k.left.items c.args.order.now c.loop-k.k c.loop-k-test.false c.loop-k.invariant.placed
 
 pub look_at-requires-clause-is : goal.look_at-requires-clause-is
 look_at-requires-clause-is g c = c.site_of-site.ensures.site
 
-pub look_at-requires-clause-nears : goal.look_at-requires-clause-nears
-look_at-requires-clause-nears g c = c.loop-k.invariant.nears
-
-pub look_at-requires-clause-fars : goal.look_at-requires-clause-fars
-look_at-requires-clause-fars g c = c.loop-k.invariant.fars
-
-pub look_at-requires-clause-no_near : goal.look_at-requires-clause-no_near
-look_at-requires-clause-no_near g c = c.loop-k.invariant.no_near
-
-pub look_at-requires-clause-no_far : goal.look_at-requires-clause-no_far
-look_at-requires-clause-no_far g c = c.loop-k.invariant.no_far
-
 pub returns-clause-left : goal.returns-clause-left
 returns-clause-left g c = c.loop-k.invariant.left
-
-pub returns-in_err-look_at-clause-found : goal.returns-in_err-look_at-clause-found
-returns-in_err-look_at-clause-found g c = let p = err_from_is_err_and c.from_residual.result c.from_residual.ensures.1 in rw p.1 tt
-
-pub returns-in_err-look_at-clause-left : goal.returns-in_err-look_at-clause-left
-returns-in_err-look_at-clause-left g c = let p = err_from_is_err_and c.from_residual.result c.from_residual.ensures.1 in rw p.1 tt
 
 pub returns-in_err-push_site-in-Costly-clause-found : goal.returns-in_err-push_site-in-Costly-clause-found
 returns-in_err-push_site-in-Costly-clause-found g c = let p = err_from_is_err_and c.from_residual-in_err-push_site-in-Costly.result c.from_residual-in_err-push_site-in-Costly.ensures.1 in rw p.1 tt
 
 pub returns-in_err-push_site-in-Costly-clause-left : goal.returns-in_err-push_site-in-Costly-clause-left
 returns-in_err-push_site-in-Costly-clause-left g c = let p = err_from_is_err_and c.from_residual-in_err-push_site-in-Costly.result c.from_residual-in_err-push_site-in-Costly.ensures.1 in rw p.1 tt
+
+pub look_at-requires-clause-sound : goal.look_at-requires-clause-sound
+look_at-requires-clause-sound g c = c.requires.sound
+
+pub look_at-requires-clause-clear : goal.look_at-requires-clause-clear
+look_at-requires-clause-clear g c = c.loop-k.invariant.clear
+
+pub returns-in_err-look_at-clause-found : goal.returns-in_err-look_at-clause-found
+returns-in_err-look_at-clause-found g c = let p = err_from_is_err_and c.from_residual.result c.from_residual.ensures.1 in rw p.1 tt
+
+pub returns-in_err-look_at-clause-left : goal.returns-in_err-look_at-clause-left
+returns-in_err-look_at-clause-left g c = let p = err_from_is_err_and c.from_residual.result c.from_residual.ensures.1 in rw p.1 tt

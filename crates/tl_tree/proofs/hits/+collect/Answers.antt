@@ -1,6 +1,5 @@
-use Rattle.std.proofs.Common.{◌≡◌, ℕ, List, ◌+◌, ◌≤◌, refl, sym, ap, ◌∙◌, subst, rules, arith}
+use Rattle.std.proofs.Common.{◌≡◌, ℕ, List, ◌+◌, ◌≤◌, refl, sym, ap, ◌∙◌, subst, arith}
 use Rattle.std.proofs.lemmas.Bool.{false≢true}
-use Rattle.std.proofs.lemmas.Result.{err_from_is_err_and}
 use Rattle.tl_geom.specs.Rectangle.{AreMeeting}
 use Rattle.std.specs.Result.{OnOk}
 use Rattle.tl_tree.specs.declared.walk.Below.{Below}
@@ -8,11 +7,11 @@ use Rattle.tl_index.specs.Fits.{AreBelow}
 use Rattle.tl_index.specs.Hits.{times}
 use Rattle.tl_index.specs.Trees.{leaf_items, node_count}
 use Rattle.tl_tree.specs.Keeping.Walking.{items_below, size_of, AreSound, IsSound, Collects}
-use Rattle.tl_tree.proofs.Hitting.{collects-nothing, grows-nothing, grows-both, none-hit}
+use Rattle.tl_tree.proofs.Hitting.{collects-nothing, grows-nothing, grows-both, none-hit, when-ok}
 use Rattle.tl_tree.proofs.Roots.{first-root, includes-roots}
 use Rattle.tl_tree.proofs.Walks.{collects-split, nodes-split, size-above_0, sound-children, sound-first, sound-others}
 use Rattle.tl_tree.proofs.hits.+collect.Goals as goal
-use Rattle.tl_tree.proofs.hits.+collect.Goals.{collect_trees-then-is_first_marked+in_ok-collect_one, collect_trees-else-is_first_marked}
+use Rattle.tl_tree.proofs.hits.+collect.Goals.{collect_trees-else-is_first_marked-via-then-is_first_marked+else-is_err, collect_trees-else-is_first_marked-via-else-is_first_marked}
 
 pub collect_one-returns-then-not-meets-clause-hits : goal.collect_one-returns-then-not-meets-clause-hits
 collect_one-returns-then-not-meets-clause-hits g t c =
@@ -67,9 +66,9 @@ collect_trees-loop-tree-smaller g t c =
     let see = g.W.Trees.forest in
     omega (arith, nodes-split see (see c.loop-tree.left) c.in-Some.tree.rect c.in-Some.tree.below (see c.in-Some.rest) c.in-Some.ensures, size-above_0 see c.in-Some.tree.below)
 
-pub collect_trees-returns-in_err-collect_one-clause-grows : goal.collect_trees-returns-in_err-collect_one-clause-grows
-collect_trees-returns-in_err-collect_one-clause-grows g t c =
-    grows-both c.args.out.now.items c.loop-tree.out.items c.collect_one.new.out.items c.loop-tree.invariant.grows c.in_err-collect_one.ensures.grows
+pub collect_trees-returns-then-is_err-clause-grows : goal.collect_trees-returns-then-is_err-clause-grows
+collect_trees-returns-then-is_err-clause-grows g t c =
+    grows-both c.args.out.now.items c.loop-tree.out.items c.collect_one.new.out.items c.loop-tree.invariant.grows c.collect_one.ensures.grows
 
 pub collect_trees-returns-clause-hits : goal.collect_trees-returns-clause-hits
 collect_trees-returns-clause-hits g t c =
@@ -87,7 +86,7 @@ collect_trees-collect_one-requires g t c κs within =
     let h : IsSound n b see tree = sound-first see n b (see c.loop-tree.left) tree (see c.in-Some.rest) c.in-Some.ensures c.loop-tree.invariant.left in
     let e : node_count (see c.loop-tree.left) ≡ size_of see tree.below + node_count (see c.in-Some.rest) = nodes-split see (see c.loop-tree.left) tree.rect tree.below (see c.in-Some.rest) c.in-Some.ensures in
     let k : node_count (see c.loop-tree.left) ≤ node_count (see c.args.trees.now) = c.loop-tree.invariant.nodes in
-    search rules
+    (omega (arith, e, k), (within.0, (within.1.0, (within.1.1.0, (within.1.1.1, (h, c.requires.region))))))
 
 pub collect_trees-loop-tree-preserved : goal.collect_trees-loop-tree-preserved
 collect_trees-loop-tree-preserved g t c =
@@ -101,15 +100,15 @@ collect_trees-loop-tree-preserved g t c =
     let some = items_below see tree.below in
     let before = c.args.out.now.items in
     let now = c.loop-tree.out.items in
-    let new = c.if-is_first_marked.out.items in
+    let new = c.else-is_first_marked.out.items in
     let is = c.loop-tree.invariant in
     let sound : IsSound n b see tree = sound-first see n b left tree rest c.in-Some.ensures is.left in
     let found : Collects hit some now new =
-    elim c.if-is_first_marked.branch [
-      | collect_trees-then-is_first_marked+in_ok-collect_one w ↦
+    elim c.else-is_first_marked.branch [
+      | collect_trees-else-is_first_marked-via-then-is_first_marked+else-is_err w ↦
           let P : List ℕ → Type 0 = Collects hit some now in
-          subst P (sym (ap (λ v. v.items) w.out-is)) w.in_ok-collect_one.ensures.hits
-      | collect_trees-else-is_first_marked w ↦
+          subst P (sym (ap (λ v. v.items) w.out-is)) (when-ok w.collect_one.result w.if-is_err.ensures.negation w.collect_one.ensures.hits)
+      | collect_trees-else-is_first_marked-via-else-is_first_marked w ↦
           let no : AreMeeting tree.rect c.args.region → ⊥ =
           λ m. false≢true (sym w.if-is_first_marked.false ∙ c.is_first_marked.ensures.1 (is.marks 0 (omega arith) (first-root see left tree.rect tree.below rest c.args.region c.in-Some.ensures m))) in
           collects-nothing hit some now new (ap (λ v. v.items) w.out-is)
@@ -123,8 +122,8 @@ collect_trees-loop-tree-preserved g t c =
       grows = grows-both before now new is.grows (record { added = found.found; appended = found.appended });
     }
 
-pub collect_trees-returns-in_err-collect_one-clause-hits : goal.collect_trees-returns-in_err-collect_one-clause-hits
-collect_trees-returns-in_err-collect_one-clause-hits g t c = let p = err_from_is_err_and c.from_residual.result c.from_residual.ensures.1 in rw p.1 tt
+pub collect_trees-returns-then-is_err-clause-hits : goal.collect_trees-returns-then-is_err-clause-hits
+collect_trees-returns-then-is_err-clause-hits g t c = tt
 
 pub collect_one-push_hits-requires-clause-region : goal.collect_one-push_hits-requires-clause-region
 collect_one-push_hits-requires-clause-region g t c = c.requires.region

@@ -63,3 +63,18 @@ returns g c =
       hits = subst P (take_all c.loop-i.i-index c.args.some.now c.loop-i-test.false) c.loop-i.invariant.found;
       grows = record { added = c.loop-i.invariant.found.found; appended = c.loop-i.invariant.found.appended };
     }
+
+pub bounds_of_eight-requires : goal.bounds_of_eight-requires
+bounds_of_eight-requires g c = c.requires.known
+
+pub returns-then-is_err-clause-hits : goal.returns-then-is_err-clause-hits
+returns-then-is_err-clause-hits g c = tt
+
+pub returns-then-is_err-clause-grows : goal.returns-then-is_err-clause-grows
+returns-then-is_err-clause-grows g c =
+    let xs = c.args.some.now in
+    let now = c.loop-i.out.items in
+    record {
+      added = c.loop-i.invariant.found.found;
+      appended = c.push.ensures.items ∙ ap (λ t. cond t (now ++ get_or xs c.loop-i.i-index 0 ∷ []) now) c.if-is_err.ensures.negation ∙ c.loop-i.invariant.found.appended;
+    }

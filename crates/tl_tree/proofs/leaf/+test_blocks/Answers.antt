@@ -1,7 +1,9 @@
 use Rattle.std.proofs.Common.{◌≡◌, ap, sym, subst, List, ℕ, ◌++◌, arith}
+use Rattle.tl_index.specs.Fits.{AreBelow}
 use Rattle.tl_index.specs.Pairs.{cross_sum, AllCross, AreFree}
 use Rattle.tl_tree.proofs.Leaving.{stops, goes, leaves_same, leaves_both}
 use Rattle.tl_tree.proofs.PairLemmas.{cross-append_right, all_cross-join}
+use Rattle.tl_tree.proofs.Steps.{below-parts}
 use Rattle.tl_tree.proofs.leaf.+test_blocks.Goals as goal
 
 pub returns-then-not-test_rows : goal.returns-then-not-test_rows
@@ -60,3 +62,14 @@ test_rows-requires-clause-few_others g t c = c.if-others-le8.true
 
 pub test_rows-requires-2-clause-few_others : goal.test_rows-requires-2-clause-few_others
 test_rows-requires-2-clause-few_others g t c = let size = c.split_at.ensures.front_len in omega (arith, size)
+
+pub test_rows-requires-2-clause-others : goal.test_rows-requires-2-clause-others
+test_rows-requires-2-clause-others g t c =
+    let P : List ℕ → Type 0 = AreBelow (g.I.Items.count c.args.items.now) in
+    (below-parts _ (c.split_at.result.0).now (c.split_at.result.1).now (subst P c.split_at.ensures.by_index.0 c.requires.others)).0
+
+pub test_blocks-requires : goal.test_blocks-requires
+test_blocks-requires g t c κs within =
+    let P : List ℕ → Type 0 = AreBelow (g.I.Items.count c.args.items.now) in
+    let parts = below-parts _ (c.split_at.result.0).now (c.split_at.result.1).now (subst P c.split_at.ensures.by_index.0 c.requires.others) in
+    (omega (arith, c.split_at.ensures.front_len, c.split_at.ensures.back_len, c.if-others-le8.false), (within.0, (within.1, (c.requires.some, (c.requires.few, (c.requires.bounds, (parts.1, (goes _ _ _ _ _ _ _ _ c.test_rows-2.ensures c.if-not-test_rows.false).nothing_found)))))))

@@ -53,3 +53,18 @@ returns-then-some-gt8 g c = c.test_unlisted.ensures
 
 pub returns-in-None : goal.returns-in-None
 returns-in-None g c = c.test_unlisted-in-None.ensures
+
+pub test_unlisted-requires-clause-nothing_found : goal.test_unlisted-requires-clause-nothing_found
+test_unlisted-requires-clause-nothing_found g c = c.requires.nothing_found
+
+pub test_unlisted-requires-in-None-clause-nothing_found : goal.test_unlisted-requires-in-None-clause-nothing_found
+test_unlisted-requires-in-None-clause-nothing_found g c = c.requires.nothing_found
+
+pub test_blocks-requires-clause-nothing_found : goal.test_blocks-requires-clause-nothing_found
+test_blocks-requires-clause-nothing_found g c = c.requires.nothing_found
+
+pub test_blocks-requires-clause-few : goal.test_blocks-requires-clause-few
+test_blocks-requires-clause-few g c = c.if-some-gt8.false
+
+pub test_blocks-requires-clause-others : goal.test_blocks-requires-clause-others
+test_blocks-requires-clause-others g c = c.in-Some.ensures.listed.known tt

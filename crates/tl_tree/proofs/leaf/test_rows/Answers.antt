@@ -16,3 +16,24 @@ returns g c =
     (λ f s. cross-swap f s c.args.others.now c.args.some.now)
     (λ h. all_cross-swap (AreFree tells) (free-turned tells) c.args.others.now c.args.some.now h)
     c.test_cells.ensures
+
+pub cells_of-requires-clause-some : goal.cells_of-requires-clause-some
+cells_of-requires-clause-some g c = c.requires.others
+
+pub cells_of-requires-clause-few : goal.cells_of-requires-clause-few
+cells_of-requires-clause-few g c = c.requires.few_others
+
+pub test_cells-requires-clause-some : goal.test_cells-requires-clause-some
+test_cells-requires-clause-some g c = c.requires.others
+
+pub test_cells-requires-clause-others : goal.test_cells-requires-clause-others
+test_cells-requires-clause-others g c = c.requires.some
+
+pub test_cells-requires-clause-few : goal.test_cells-requires-clause-few
+test_cells-requires-clause-few g c = c.requires.few_others
+
+pub test_cells-requires-clause-few_others : goal.test_cells-requires-clause-few_others
+test_cells-requires-clause-few_others g c = c.requires.few
+
+pub test_cells-requires-clause-nothing_found : goal.test_cells-requires-clause-nothing_found
+test_cells-requires-clause-nothing_found g c = c.requires.nothing_found

@@ -36,34 +36,29 @@ loop-first-preserved g c =
       complete = omega (arith, c.list_one-more.ensures.complete, c.loop-first.invariant.complete);
     }
 
-pub returns-clause-listed : goal.returns-clause-listed
-returns-clause-listed g c =
+pub returns : goal.returns
+returns g c =
     let see = g.W.Trees.forest in
     let meet = meeting (g.I.Items.bounds_of c.args.items.now) in
     let free = AreFree (g.I.Items.tells c.args.items.now) in
     let xs = items_below see c.args.tree.now.below in
     let m = cross-none meet xs (see c.loop-first.left) c.in_default.ensures in
     record {
-      sum = omega (arith, m, c.loop-first.invariant.sum);
-      most = λ f. omega (arith, c.loop-first.invariant.most f);
-      free = λ f. c.loop-first.invariant.free f (all_cross-none free xs (see c.loop-first.left) c.in_default.ensures);
-      sound = c.loop-first.invariant.sound;
+      complete = c.loop-first.invariant.complete;
+      fits = c.loop-first.invariant.fits;
+      listed = record {
+        sum = omega (arith, m, c.loop-first.invariant.sum);
+        most = λ f. omega (arith, c.loop-first.invariant.most f);
+        free = λ f. c.loop-first.invariant.free f (all_cross-none free xs (see c.loop-first.left) c.in_default.ensures);
+        sound = c.loop-first.invariant.sound;
+      };
     }
 
-pub returns-then-near-more-clause-complete : goal.returns-then-near-more-clause-complete
-returns-then-near-more-clause-complete g c = c.loop-first.invariant.complete
-
-pub returns-then-near-more-clause-fits : goal.returns-then-near-more-clause-fits
-returns-then-near-more-clause-fits g c = tt
-
-pub returns-then-near-more-clause-listed : goal.returns-then-near-more-clause-listed
-returns-then-near-more-clause-listed g c = tt
+pub returns-then-near-more : goal.returns-then-near-more
+returns-then-near-more g c = c.loop-first.invariant.complete
 
 pub list_one-more-requires-clause-tree : goal.list_one-more-requires-clause-tree
 list_one-more-requires-clause-tree g c = c.requires.tree
 
 pub list_one-more-requires-clause-at : goal.list_one-more-requires-clause-at
 list_one-more-requires-clause-at g c = c.loop-first.invariant.left
-
-pub returns-clause-complete : goal.returns-clause-complete
-returns-clause-complete g c = c.loop-first.invariant.complete

@@ -27,3 +27,9 @@ loop-i-preserved g c =
       free = all_row-more (AreFree (g.I.Items.tells c.args.items.now)) c.args.j c.loop-i.i k.free c.loop-i.invariant.free;
       nothing_found = k.nothing_found;
     }
+
+pub test_pair-requires-clause-nothing_found : goal.test_pair-requires-clause-nothing_found
+test_pair-requires-clause-nothing_found g c = c.loop-i.invariant.nothing_found
+
+pub test_pair-requires-clause-first : goal.test_pair-requires-clause-first
+test_pair-requires-clause-first g c = c.requires.known

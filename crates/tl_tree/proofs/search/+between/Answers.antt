@@ -146,3 +146,6 @@ search_two-returns-in_default-Children g t c =
     let xs = items_below see c.args.tree.now.below in
     let P : Below g.row.W.Denot → Type 0 = λ u. MayLeave (g.I.Items.count c.args.items.now) (g.I.Items.bounds_of c.args.items.now) tells (λ f. cross_sum f xs (items_below see u)) (AllCross (AreFree tells) xs (items_below see u)) c.args.progress.now c.search_between.new.progress c.search_between.result in
     subst P (sym c.in_default-Children.is-1) c.search_between.ensures
+
+pub search_two-test_cross-requires-clause-nothing_found : goal.search_two-test_cross-requires-clause-nothing_found
+search_two-test_cross-requires-clause-nothing_found g t c = c.requires.nothing_found

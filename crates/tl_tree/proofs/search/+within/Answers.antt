@@ -202,3 +202,9 @@ search_unlisted-search_listed-requires-clause-tree g t c = c.requires.tree
 
 pub search_unlisted-search_listed-requires-clause-near : goal.search_unlisted-search_listed-requires-clause-near
 search_unlisted-search_listed-requires-clause-near g t c = c.requires.others
+
+pub search_one-test_leaf-requires-clause-nothing_found : goal.search_one-test_leaf-requires-clause-nothing_found
+search_one-test_leaf-requires-clause-nothing_found g t c = c.requires.nothing_found
+
+pub search_unlisted-search_between-requires-clause-nothing_found : goal.search_unlisted-search_between-requires-clause-nothing_found
+search_unlisted-search_between-requires-clause-nothing_found g t c = c.requires.nothing_found

@@ -15,3 +15,15 @@ returns-else-meets g c =
     let no : AreMeeting (b c.args.j) (b c.args.i) → ⊥ = λ h. false≢true (sym c.if-meets.false ∙ c.meets.ensures.1 (rw (c.bounds.ensures, c.bounds-2.ensures) h)) in
     let e = one-none b c.args.i c.args.j no in
     record { left = omega (arith, e); spent = enough_all (λ f. omega arith); free = one-none_free n (g.I.Items.tells c.args.items.now) b (g.met.I.Items.apart c.args.items.now) c.args.i c.args.j c.requires.first c.requires.second no; nothing_found = c.requires.nothing_found }
+
+pub test_meeting-requires-clause-first : goal.test_meeting-requires-clause-first
+test_meeting-requires-clause-first g c = c.requires.first
+
+pub test_meeting-requires-clause-second : goal.test_meeting-requires-clause-second
+test_meeting-requires-clause-second g c = c.requires.second
+
+pub test_meeting-requires-clause-nothing_found : goal.test_meeting-requires-clause-nothing_found
+test_meeting-requires-clause-nothing_found g c = c.requires.nothing_found
+
+pub returns-then-meets : goal.returns-then-meets
+returns-then-meets g c = c.test_meeting.ensures

@@ -38,7 +38,7 @@ returns-in-Some-clause-reads g c =
       record {
         bytes = line_taken _ (g.R.Source.remaining c.fetch_line.new.source) c.fetch_line.new.buffer c.consume.new.self (g.K.LineKind.spelt c.args.kind.now c.in-Some.value) c.in-Whole.len c.in-Whole.ensures.bytes shows.0 shows.1 c.consume.ensures
             (taken_as c.in-Whole.len c.bytes.result.now c.fetch_line.new.buffer (g.K.LineKind.spelt c.args.kind.now c.in-Some.value) c.bytes.ensures.value value.1);
-        counted = refl;
+        counted = refl {a = c.args.self.now.lines + 1};
       },
     )
 
@@ -74,3 +74,27 @@ returns-in-Failed-clause-failures g c = c.in-Failed.ensures.failures
 
 pub returns-in-Failed-clause-same_reference : goal.returns-in-Failed-clause-same_reference
 returns-in-Failed-clause-same_reference g c = c.in-Failed.ensures.same_reference
+
+pub invariant_of-self : goal.invariant_of-self
+invariant_of-self g c = record { few_digits = c.args.self.now.few_digits }
+
+pub invariant_of-self-in-None : goal.invariant_of-self-in-None
+invariant_of-self-in-None g c = record { few_digits = c.args.self.now.few_digits }
+
+pub invariant_of-self-in-Rest : goal.invariant_of-self-in-Rest
+invariant_of-self-in-Rest g c = record { few_digits = c.args.self.now.few_digits }
+
+pub invariant_of-self-in-Full : goal.invariant_of-self-in-Full
+invariant_of-self-in-Full g c = record { few_digits = c.args.self.now.few_digits }
+
+pub invariant_of-self-in-Failed : goal.invariant_of-self-in-Failed
+invariant_of-self-in-Failed g c = record { few_digits = c.args.self.now.few_digits }
+
+pub refusal-requires : goal.refusal-requires
+refusal-requires g c = c.requires
+
+pub refusal-requires-in-Rest : goal.refusal-requires-in-Rest
+refusal-requires-in-Rest g c = c.requires
+
+pub refusal-requires-in-Full : goal.refusal-requires-in-Full
+refusal-requires-in-Full g c = c.requires

@@ -100,3 +100,14 @@ returns-in-Err-clause-failures g c = stop_tells (Option (CertPart × Place)) (st
 
 pub returns-in-Err-clause-same_reference : goal.returns-in-Err-clause-same_reference
 returns-in-Err-clause-same_reference g c = c.in-Err.ensures.same_reference
+
+pub invariant_of-self : goal.invariant_of-self
+invariant_of-self g c =
+    let reads = subst (λ a. ReadsPart g.R.Source.remaining c.in-Reading.place (at c.args.self.now.lines c.args.self.now.source) (at c.read_part.new.lines c.read_part.new.source) (Ok a)) c.in-Ok-Some.field-0-is c.in-Ok-Some.ensures.reads in
+    record { few_lines = reads.3 }
+
+pub invariant_of-self-in-Ok-None : goal.invariant_of-self-in-Ok-None
+invariant_of-self-in-Ok-None g c = record { few_lines = tt }
+
+pub invariant_of-self-in-Err : goal.invariant_of-self-in-Err
+invariant_of-self-in-Err g c = record { few_lines = tt }

@@ -1,7 +1,7 @@
 use Rattle.std.proofs.Common.{◌≡◌, ◌++◌, ◌∷◌, [], cond, not, is_ok, true, append-nil, refl, ap, sym, subst, ◌∙◌, arith}
 use Rattle.std.proofs.lemmas.Bool.{false≢true}
 use Rattle.tl_index.specs.Hits.{Adds}
-use Rattle.tl_tree.proofs.Hitting.{adds-hit, adds-miss}
+use Rattle.tl_tree.proofs.Hitting.{adds-hit, adds-miss, cut-back}
 use Rattle.tl_tree.proofs.plain_list.PlainListBoxIndex.collect_hits.Goals as goal
 use Rattle.tl_tree.proofs.plain_list.PlainListBoxIndex.collect_hits.Goals.{else-hits-via-then-hits+else-is_err, else-hits-via-else-hits}
 
@@ -44,3 +44,9 @@ hits-requires g c =
     let lt = c.loop-i-test.true in
     let len : c.self.inside.len ≡ g.I.Items.count c.args.items.now = c.self.view_is ∙ c.requires in
     omega (arith, lt, len)
+
+pub returns-then-is_err-clause-refused : goal.returns-then-is_err-clause-refused
+returns-then-is_err-clause-refused g c =
+    let now = c.loop-i.out.items in
+    cut-back c.args.out.now.items c.push.new.self.items c.truncate.new.self.items c.loop-i.invariant.found c.len-before.result c.truncate.ensures.items
+    (c.push.ensures.items ∙ ap (λ t. cond t (now ++ c.loop-i.i ∷ []) now) c.if-is_err.ensures.negation ∙ c.loop-i.invariant.appended) (omega (arith, c.len-before.ensures, c.args.out.now.ok.0))

@@ -1,0 +1,36 @@
+use Rattle.std.proofs.Common.{sym, subst}
+use Rattle.tl_cert.specs.Given.{with_part}
+use Rattle.tl_check.specs.Keeping.Parts.{IsLed, Leads, TakesRounds, with_round, with_walk}
+use Rattle.tl_check.specs.Keeping.Streams.{MayCome, TakesBehind, LeadsBy}
+use Rattle.tl_check.proofs.Walking.{leads_on, leads_walk}
+use Rattle.tl_check.proofs.as_read.take_part.Goals as goal
+
+pub take_round-requires-clause-some : goal.take_round-requires-clause-some
+take_round-requires-clause-some c = rw c.deref.ensures.value (subst (λ p. MayCome p c.args.state) c.in-Round.is c.requires.comes).0
+
+pub take_round-requires-clause-held : goal.take_round-requires-clause-held
+take_round-requires-clause-held c = c.requires.held
+
+pub take_round-requires-clause-takes : goal.take_round-requires-clause-takes
+take_round-requires-clause-takes c = (subst (λ p. MayCome p c.args.state) c.in-Round.is c.requires.comes).1
+
+pub take_walk-requires-clause-some : goal.take_walk-requires-clause-some
+take_walk-requires-clause-some c = rw c.deref-in-Ok.ensures.value (subst (λ p. MayCome p c.args.state) c.in-Walk.is c.requires.comes)
+
+pub take_walk-requires-clause-held : goal.take_walk-requires-clause-held
+take_walk-requires-clause-held c = (c.requires.held.0, c.in-Ok.ensures.holds c.requires.held.0 c.requires.held.1)
+
+pub take_walk-requires-clause-takes : goal.take_walk-requires-clause-takes
+take_walk-requires-clause-takes c = c.in-Ok.ensures.takes
+
+pub returns-in-Round : goal.returns-in-Round
+returns-in-Round c =
+    subst (λ p. IsLed c.args.map.now (λ cert. with_part cert p) (TakesBehind p) c.args.state c.take_round.result) (sym c.in-Round.is)
+    (subst (λ darts. IsLed c.args.map.now (λ cert. with_round cert darts) TakesRounds c.args.state c.take_round.result) c.deref.ensures.value c.take_round.ensures)
+
+pub returns-in-Ok : goal.returns-in-Ok
+returns-in-Ok c =
+    subst (λ p. LeadsBy c.args.map.now p c.args.state c.take_walk.result) (sym c.in-Walk.is)
+    (leads_walk c.args.map.now c.in-Walk.darts c.args.state c.take_walk.result
+    (leads_on c.args.map.now c.in-Walk.darts.items c.args.state c.in-Ok.ended c.take_walk.result c.in-Ok.ensures
+    (subst (λ darts. Leads c.args.map.now (λ cert. with_walk cert darts) c.in-Ok.ended c.take_walk.result) c.deref-in-Ok.ensures.value c.take_walk.ensures)))
