@@ -79,9 +79,10 @@ check_trees-returns-then-not-covers g t c =
 pub check_trees-returns-in-Ok-check_trees : goal.check_trees-returns-in-Ok-check_trees
 check_trees-returns-in-Ok-check_trees g t c =
     let see = g.W.Trees.forest in
-    let e = nodes-split see (see c.args.trees.now) c.in-Some.tree.rect c.in-Some.tree.below (see c.in-Some.rest) c.in-Some.ensures in
-    (checked-both (g.I.Items.bounds_of c.args.items.now) see c.args.marks.now (see c.args.trees.now) c.in-Some.tree.rect c.in-Some.tree.below (see c.in-Some.rest) c.check_below.new.marks c.check_trees.new.marks c.in-Ok.hull c.in-Ok-check_trees.others c.hull_of.result c.in-Some.ensures c.in-Ok.ensures.0 (c.covers.ensures.0 c.if-not-covers.false) c.in-Ok-check_trees.ensures.0 c.hull_of.ensures,
-    omega (arith, e, c.in-Ok.ensures.1, c.in-Ok-check_trees.ensures.1))
+    let e = nodes-split see (see c.args.trees.now) c.in-Some.tree.rect c.in-Some.tree.below (see c.in-Some.rest) c.in-Some.ensures in (
+      checked-both (g.I.Items.bounds_of c.args.items.now) see c.args.marks.now (see c.args.trees.now) c.in-Some.tree.rect c.in-Some.tree.below (see c.in-Some.rest) c.check_below.new.marks c.check_trees.new.marks c.in-Ok.hull c.in-Ok-check_trees.others c.hull_of.result c.in-Some.ensures c.in-Ok.ensures.0 (c.covers.ensures.0 c.if-not-covers.false) c.in-Ok-check_trees.ensures.0 c.hull_of.ensures,
+      omega (arith, e, c.in-Ok.ensures.1, c.in-Ok-check_trees.ensures.1),
+    )
 
 pub check_trees-returns-in-Err-check_trees : goal.check_trees-returns-in-Err-check_trees
 check_trees-returns-in-Err-check_trees g t c =
