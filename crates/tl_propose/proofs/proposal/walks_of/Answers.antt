@@ -1,10 +1,10 @@
-use Rattle.std.proofs.Common.{◌≡◌, ◌*◌, ◌%◌, ◌<◌, zero, length, ap, sym, subst, ◌∙◌, arith}
+use Rattle.std.proofs.Common.{◌≡◌, ◌*◌, ◌<◌, zero, length, ap, sym, subst, ◌∙◌, arith}
 use Rattle.std.proofs.lemmas.Result.{err_from_is_err_and}
 use Rattle.tl_crossings.proofs.Apart.{apart}
 use Rattle.tl_pack.specs.Lists.{HoldsAll}
-use Rattle.tl_sides.specs.Lists.{HoldOnce, EachList}
+use Rattle.tl_sides.specs.Lists.{HoldOnce}
 use Rattle.tl_propose.specs.Keeping.Lists.{darts_in, lists_in}
-use Rattle.tl_propose.specs.Keeping.Following.{IsLinkedBy, IsLinkedIn, GoesBy}
+use Rattle.tl_propose.specs.Keeping.Following.{IsLinkedBy, GoesBy}
 use Rattle.tl_propose.proofs.Holding.{dart_lists, held_once}
 use Rattle.tl_propose.proofs.RingLemmas.{one_to_one, each_of, are_walks}
 use Rattle.tl_propose.proofs.RoundLemmas.{are_rounds}

@@ -1,7 +1,5 @@
-use Rattle.std.proofs.Common.{◌≡◌, ◌<◌, zero, arith, length, ◌++◌, append-nil, refl, ap, sym, subst, ◌∙◌}
-use Rattle.std.proofs.lemmas.List.{length-map}
+use Rattle.std.proofs.Common.{◌<◌, zero, arith, length, refl, sym, subst}
 use Rattle.std.specs.List.{All, concat}
-use Rattle.tl_propose.specs.declared.rounds.DartStart.{DartStart}
 use Rattle.tl_propose.specs.Keeping.Lists.{darts_in}
 use Rattle.tl_propose.specs.Keeping.Sorting.{AreCut}
 use Rattle.tl_propose.proofs.CutLemmas.{one_cut, some_of, no_rest, all_cut}

@@ -1,4 +1,4 @@
-use Rattle.std.proofs.Common.{◌<ℤ◌, ◌≤ℤ◌, inl, ap, sym, subst, arith}
+use Rattle.std.proofs.Common.{◌<ℤ◌, ◌≤ℤ◌, inl, subst, arith}
 use Rattle.std.proofs.lemmas.Int.{ints}
 use Rattle.tl_geom.specs.declared.rect.Rect.{Rect}
 use Rattle.tl_geom.specs.Rectangle.{rect_of}

@@ -1,11 +1,10 @@
-use Rattle.std.proofs.Common.{◌≡◌, ℕ, Bool, List, [], ◌∷◌, IfOk, IsTrue, length, ◌+◌, ◌++◌, get_or, sym, ap, subst, ◌∙◌, arith}
+use Rattle.std.proofs.Common.{◌≡◌, ℕ, List, [], ◌∷◌, IfOk, IsTrue, length, ◌+◌, ◌++◌, get_or, sym, ap, subst, ◌∙◌, arith}
 use Rattle.tl_index.specs.Hits.{times}
 use Rattle.tl_slabs.specs.Heights.{widest}
 use Rattle.tl_slabs.specs.Neighbours.{AreTested, EachTwo}
 use Rattle.tl_slabs.specs.Beside.{seen_side}
 use Rattle.tl_county.specs.declared.sides.Side.{Side}
 use Rattle.tl_county.specs.declared.sides.Side.TheVariants.{Outside}
-use Rattle.tl_sweep.specs.Keeping.Bent.{IsBent}
 use Rattle.tl_sweep.specs.Keeping.Facing.{IsCounted, gaps_between, last_far}
 use Rattle.tl_sweep.specs.Keeping.Lined.{TheLine, list_of}
 use Rattle.tl_sweep.proofs.Answered.{ok_more}
