@@ -1,20 +1,17 @@
-use Rattle.std.proofs.Common.{◌≡◌, ℕ, zero, suc, ◌+◌, ◌-◌, ◌<◌, Some, None, List, [], ◌∷◌, length, take, map, get_or, refl, sym, ap, ◌∙◌, arith}
-use Rattle.std.specs.Prelude.{slice_get}
+use Rattle.std.proofs.Common.{◌≡◌, ℕ, zero, suc, ◌+◌, ◌-◌, ◌<◌, Some, None, List, [], ◌∷◌, length, take, get_or, pos, refl, sym, ap, ◌∙◌, arith}
 use Rattle.std.proofs.lemmas.Option.{slice_get-get_or}
 use Rattle.std.proofs.lemmas.List.{get_or_default, take_all}
 use Rattle.std.proofs.lemmas.List.Sums.{sum_by-cons}
 use Rattle.tl_geom.specs.declared.point.Point.{Point}
 use Rattle.tl_geom.specs.declared.segment.Segment.{Segment}
-use Rattle.tl_geom.specs.Plane.{end_a, end_b}
 use Rattle.tl_county.specs.declared.sides.ChainSides.{ChainSides}
 use Rattle.tl_county.specs.declared.sides.Side.TheVariants.{Outside}
 use Rattle.tl_county.specs.Chains.{CompleteChain, segment_count}
 use Rattle.tl_county.specs.TheMap.{MapChain}
 use Rattle.tl_county.specs.Segments.{segments_before, IsSegmentOf, Joins}
 use Rattle.tl_county.specs.Rows.{with_sides, sided}
-use Rattle.tl_county.specs.Keeping.Numbered.{IsNumber, NumberUpTo}
+use Rattle.tl_county.specs.Keeping.Numbered.{IsNumber, NumberUpTo, JoinsPoints}
 use Rattle.tl_county.proofs.MapLemmas.{length-sided, slice_get-sided}
-use Rattle.tl_county.proofs.NumberLemmas.{points_told}
 
 -- as many segments with sides as without
 pub before_sided : (cs : List CompleteChain) (ss : List ChainSides) (n : ℕ) → length ss ≡ length cs → segments_before (sided cs ss) n ≡ segment_count (take n cs)
@@ -40,27 +37,26 @@ segment_of cs ss s c k same number =
       number = number.number ∙ ap (λ n. n + k) (sym (before_sided cs ss c same));
     }
 
--- the chain and the place that the lists give
-pub numbered : (cs : List CompleteChain) (of firsts : List ℕ) (s c : ℕ) → NumberUpTo cs (length cs) of firsts → s < length of → c ≡ get_or of s c → (k : ℕ) × IsNumber cs (length cs) s c k
-numbered cs of firsts s c up lt at =
+-- the chain that the list gives
+pub numbered : (cs : List CompleteChain) (of : List ℕ) (s c : ℕ) → NumberUpTo cs (length cs) of → s < length of → c ≡ get_or of s c → (k : ℕ) × IsNumber cs (length cs) s c k
+numbered cs of s c up lt at =
     let same : get_or of s 0 ≡ c = get_or_default of s 0 c lt ∙ sym at in
     let found = up.each s lt in
     (found.0, rw same at found.1)
 
-pub place_of_number : (cs : List CompleteChain) (of firsts : List ℕ) (s c f k : ℕ) → NumberUpTo cs (length cs) of firsts → IsNumber cs (length cs) s c k → f ≡ get_or firsts c f → s ≡ f + k
-place_of_number cs of firsts s c f k up number at =
-    let same : get_or firsts c 0 ≡ f = get_or_default firsts c 0 f (omega (arith, up.chains, number.chain)) ∙ sym at in
-    omega (arith, number.number, up.first c number.chain, same)
+-- there are as many numbers as segments
+pub all_numbered : (cs : List CompleteChain) (ss : List ChainSides) (of : List ℕ) → length ss ≡ length cs → NumberUpTo cs (length cs) of → length of ≡ segments_before (sided cs ss) (length (sided cs ss))
+all_numbered cs ss of same up = up.count ∙ ap segment_count (take_all (length cs) cs (omega arith)) ∙ sym (whole_sided cs ss same)
 
 -- a segment of a chain's points
-pub joins : (cs : List CompleteChain) (ss : List ChainSides) (c k : ℕ) (ps : List Point) (d : Point) (segment : Segment) → length ss ≡ length cs → c < length cs → slice_get (map (λ (x : CompleteChain). x.points) cs) c ≡ Some ps → k + 1 < length ps → end_a segment ≡ get_or ps k d → end_b segment ≡ get_or ps (k + 1) d → Joins (sided cs ss) c k segment
-joins cs ss c k ps d segment same lt points within from to =
+pub joins : (cs : List CompleteChain) (ss : List ChainSides) (s c k : ℕ) (segment : Segment) → length ss ≡ length cs → IsNumber cs (length cs) s c k → JoinsPoints cs c k segment → Joins (sided cs ss) c k segment
+joins cs ss s c k segment same number between =
     let x : CompleteChain = record { tlid = 0; points = [] } in
     let e : ChainSides = record { left = Outside; right = Outside; start_cell = None; end_cell = None } in
-    let told = points_told cs c ps lt points x in
+    let p : Point = record { x = pos 0; y = pos 0 } in
     record {
       chain = with_sides (get_or cs c x) (get_or ss c e);
-      is = slice_get-sided cs ss c _ _ (slice_get-get_or cs c x lt) (slice_get-get_or ss c e (omega arith));
-      from = rw told (slice_get-get_or ps k d (omega arith) ∙ ap Some (sym from));
-      to = rw told (slice_get-get_or ps (k + 1) d within ∙ ap Some (sym to));
+      is = slice_get-sided cs ss c _ _ (slice_get-get_or cs c x number.chain) (slice_get-get_or ss c e (omega (arith, number.chain)));
+      from = slice_get-get_or (get_or cs c x).points k p (omega (arith, number.place x)) ∙ ap Some (between.from x p);
+      to = slice_get-get_or (get_or cs c x).points (k + 1) p (number.place x) ∙ ap Some (between.to x p);
     }

@@ -1,5 +1,5 @@
 -- The chains and landmarks of rows, as the parts of a map keep them.
-use Rattle.std.specs.Prelude.{◌≡◌, ℕ, ◌+◌, ◌≤◌, Option, List, [], ◌∷◌, length, map, take, drop, All}
+use Rattle.std.specs.Prelude.{◌≡◌, ℕ, ◌+◌, ◌<◌, ◌≤◌, Option, List, [], ◌∷◌, length, map, slice_index_or, take, drop, All}
 use Rattle.tl_geom.specs.declared.point.Point.{Point}
 use Rattle.tl_key.specs.declared.key.PolyKey.{PolyKey}
 use Rattle.tl_county.specs.declared.polygons.Polygon.{Polygon}
@@ -22,9 +22,10 @@ chain_in points row = record { tlid = row.tlid; points = take row.count (drop ro
 abbrev pub chains_in : List Point → List ChainRow → List CompleteChain
 chains_in points rows = map (chain_in points) rows
 
--- the rows lie within the points, and there is no point beside theirs
+-- the rows lie within the points, each behind those before it, and there is no point beside theirs
 pub record IsTable (points : List Point) (rows : List ChainRow) : Type 0 where
   pub within : All (IsWithin points) rows
+  pub behind : (c : ℕ) (d : ChainRow) → c < length rows → (slice_index_or rows c d).first ≡ segment_count (take c (chains_in points rows)) + c
   pub total : length points ≡ segment_count (chains_in points rows) + length rows
 
 -- the row's polygons lie within the list

@@ -1,11 +1,13 @@
 //! Chains with their points.
 
-ghost use Rattle.std.specs.Prelude.{◌≡◌, ℕ, ◌*◌, ◌<◌, List, length, map, slice_get, Some};
-ghost use Rattle.tl_county.specs.Chains.{tlids, segment_count};
+ghost use Rattle.std.specs.Prelude.{◌≡◌, ◌≢◌, ℕ, ◌*◌, ◌<◌, All, List, length, map, slice_get, Some};
+ghost use Rattle.tl_geom.specs.Plane.{end_a, end_b};
+ghost use Rattle.tl_county.specs.Chains.{CompleteChain, IsProper, tlids, segment_count};
 ghost use Rattle.tl_county.specs.Darts.{directed};
+ghost use Rattle.tl_county.specs.Keeping.Numbered.{IsNumber, JoinsPoints};
 
 use std::marker::Model;
-use tl_geom::Point;
+use tl_geom::{Point, Segment};
 
 /// Where the points of a chain stand among those of all chains.
 #[derive(Clone, Copy)]
@@ -21,26 +23,24 @@ pub struct ChainRow {
 pub struct Chains {
     rows: Vec<ChainRow>,
     points: Vec<Point>,
-    segments: u32,
     skipped: u64,
 }
 
 impl Model for Chains {
-    ghost use Rattle.std.specs.Prelude.{◌≡◌, ◌≤◌, All, length};
-    ghost use Rattle.tl_county.specs.Chains.{ChainList, segment_count};
+    ghost use Rattle.std.specs.Prelude.{◌+◌, ◌≤◌, length};
+    ghost use Rattle.tl_county.specs.Chains.{ChainList};
 
     ghost Value = { ChainList };
 
-    ghost use Rattle.tl_county.specs.Rows.{IsWithin, chains_in};
+    ghost use Rattle.tl_county.specs.Rows.{IsTable, chains_in};
 
     ghost view = { λ c. record { chains = chains_in c.points.items c.rows.items; skipped = c.skipped } };
 
     ghost use Rattle.tl_county.specs.declared.limits.TheConstants.{CHAIN_LIMIT, SEGMENT_LIMIT};
 
     ghost invariant = { λ c. (length c.rows.items ≤ CHAIN_LIMIT)
-        × All (IsWithin c.points.items) c.rows.items
-        × (c.segments ≡ segment_count (chains_in c.points.items c.rows.items))
-        × (c.segments ≤ SEGMENT_LIMIT) };
+        × IsTable c.points.items c.rows.items
+        × (length c.points.items ≤ SEGMENT_LIMIT + length c.rows.items) };
 }
 
 impl Chains {
@@ -56,11 +56,9 @@ impl Chains {
         requires few { length points.items ≤ SEGMENT_LIMIT + length rows.items }
         ensures { result ≡ record { chains = chains_in points.items rows.items; skipped = skipped } }
     {
-        let segments = (points.len() - rows.len()) as u32;
         Chains {
             rows,
             points,
-            segments,
             skipped,
         }
     }
@@ -95,7 +93,18 @@ impl Chains {
         ensures count { result ≡ segment_count self.now.chains }
         ensures few { result ≤ most_segments }
     {
-        self.segments
+        (self.points.len() - self.rows.len()) as u32
+    }
+
+    /// A segment by its number and its chain's.
+    #[inline]
+    pub(crate) fn segment(&self, s: u32, c: u32) -> Segment
+        requires number { (k : ℕ) × IsNumber self.now.chains (length self.now.chains) s c k }
+        requires proper { All (λ (chain : CompleteChain). IsProper chain.points) self.now.chains }
+        ensures { (k : ℕ) → IsNumber self.now.chains (length self.now.chains) s c k → JoinsPoints self.now.chains c k result }
+    {
+        let place = s as usize + c as usize;
+        segment_between(self.points[place], self.points[place + 1])
     }
 
     /// How many darts there are: two of each chain.
@@ -110,6 +119,18 @@ impl Chains {
         ensures { result ≡ self.now.skipped }
     {
         self.skipped
+    }
+}
+
+/// The segment from one point to another.
+fn segment_between(a: Point, b: Point) -> Segment
+    requires { a ≢ b }
+    ensures from { end_a result ≡ a }
+    ensures to { end_b result ≡ b }
+{
+    match Segment::new(a, b) {
+        Some(segment) => segment,
+        None => unreachable!(),
     }
 }
 

@@ -1,7 +1,6 @@
 //! The map: chains with their sides, polygons, and landmarks with their polygons.
 
 ghost use Rattle.std.specs.Prelude.{◌≡◌, ◌≢◌, ◌<◌, ◌-ℤ◌, All, IfOk, length, slice_get, Some};
-ghost use Rattle.tl_geom.specs.Plane.{end_a, end_b};
 ghost use Rattle.tl_county.specs.TheMap.{IsChain};
 ghost use Rattle.tl_county.specs.Chains.{CompleteChain, IsProper};
 ghost use Rattle.tl_county.specs.Keeping.Numbered.{AreNumberedSegments};
@@ -12,7 +11,7 @@ use crate::kept::KeptChainSides;
 use crate::landmarks::{LandmarkRow, LinkedLandmarks};
 use crate::nodes::{Nodes, number_nodes};
 use crate::polygons::Polygon;
-use crate::segments::{Segments, number_segments};
+use crate::segments::number_segments;
 use crate::sides::Side;
 use indexmap::IndexMap;
 use std::alloc::{AllocError, Global};
@@ -31,7 +30,8 @@ pub struct Map {
     landmarks: IndexMap<u64, Option<Point>, RandomState>,
     rows: Vec<LandmarkRow>,
     linked: Vec<u32>,
-    segments: Segments,
+    /// The chain of each segment.
+    segment_chains: Vec<u32>,
     nodes: Nodes,
 }
 
@@ -78,21 +78,21 @@ impl Model for Map {
         × (length m.landmarks.entries ≤ most_landmarks)
         × All (IsRow m.linked.items) m.rows.items
         × All (λ (c : CompleteChain). IsProper c.points) m.chains.chains
-        × AreNumberedSegments m.chains.chains m.segments
+        × AreNumberedSegments m.chains.chains m.segment_chains.items
         × AreNumberedNodes m.chains.chains m.nodes
         × All (HasPolygonsOf (length m.polygons.entries) m.linked.items) m.rows.items
         × (length m.rows.items ≡ length m.landmarks.entries) };
 }
 
 /// Numbers the nodes and the segments of the chains.
-fn number_parts(alloc: Global, chains: &Chains) -> Result<(Nodes, Segments), AllocError>
+fn number_parts(alloc: Global, chains: &Chains) -> Result<(Nodes, Vec<u32>), AllocError>
     requires { All (λ (c : CompleteChain). IsProper c.points) chains.now.chains }
     ensures nodes { IfOk result (λ made. AreNumberedNodes chains.now.chains made.0) }
-    ensures segments { IfOk result (λ made. AreNumberedSegments chains.now.chains made.1) }
+    ensures segments { IfOk result (λ made. AreNumberedSegments chains.now.chains made.1.items) }
 {
     let nodes = number_nodes(alloc, chains)?;
-    let segments = number_segments(alloc, chains)?;
-    Ok((nodes, segments))
+    let segment_chains = number_segments(alloc, chains)?;
+    Ok((nodes, segment_chains))
 }
 
 impl Map {
@@ -135,7 +135,7 @@ impl Map {
           skipped = chains.skipped;
         }) }
     {
-        let (nodes, segments) = number_parts(alloc, &chains)?;
+        let (nodes, segment_chains) = number_parts(alloc, &chains)?;
         let LinkedLandmarks {
             points,
             rows,
@@ -148,7 +148,7 @@ impl Map {
             landmarks: points,
             rows,
             linked,
-            segments,
+            segment_chains,
             nodes,
         })
     }
@@ -250,7 +250,7 @@ impl Map {
         requires { s < segments_before self.now.chains (length self.now.chains) }
         ensures { (k : ℕ) × IsSegmentOf self.now.chains s result k }
     {
-        self.segments.chains[s as usize]
+        self.segment_chains[s as usize]
     }
 
     /// A segment by its number, from chain to chain and from start to end in each.
@@ -258,10 +258,7 @@ impl Map {
         requires { s < segments_before self.now.chains (length self.now.chains) }
         ensures { (c : ℕ) × (k : ℕ) × IsSegmentOf self.now.chains s c k × Joins self.now.chains c k result }
     {
-        let c = self.segments.chains[s as usize];
-        let place = (s - self.segments.firsts[c as usize]) as usize;
-        let points = self.chains.points(c);
-        segment_between(points[place], points[place + 1])
+        self.chains.segment(s, self.segment_chains[s as usize])
     }
 
     /// The point where a dart starts: dart 2c runs along chain c, dart 2c + 1 against it.
@@ -339,18 +336,6 @@ fn heading(first: Point, second: Point) -> Direction
 {
     match Direction::between(first, second) {
         Some(direction) => direction,
-        None => unreachable!(),
-    }
-}
-
-/// The segment from one point to another.
-fn segment_between(a: Point, b: Point) -> Segment
-    requires { a ≢ b }
-    ensures from { end_a result ≡ a }
-    ensures to { end_b result ≡ b }
-{
-    match Segment::new(a, b) {
-        Some(segment) => segment,
         None => unreachable!(),
     }
 }

@@ -1,4 +1,4 @@
-//! The numbers of segments.
+//! The chain of each segment, by the segment's number.
 
 ghost use Rattle.std.specs.Prelude.{All, IfOk};
 ghost use Rattle.tl_county.specs.Chains.{CompleteChain, IsProper};
@@ -7,25 +7,16 @@ ghost use Rattle.tl_county.specs.Keeping.Numbered.{AreNumberedSegments};
 use crate::chains::Chains;
 use std::alloc::{AllocError, Global};
 
-/// The chain of each segment, and the first segment of each chain.
-#[derive(Drop)]
-pub struct Segments {
-    pub chains: Vec<u32>,
-    pub firsts: Vec<u32>,
-}
-
-/// Numbers the segments of the chains.
-pub fn number_segments(alloc: Global, chains: &Chains) -> Result<Segments, AllocError>
+/// Lists the chain of each segment.
+pub fn number_segments(alloc: Global, chains: &Chains) -> Result<Vec<u32>, AllocError>
     requires { All (λ (c : CompleteChain). IsProper c.points) chains.now.chains }
-    ensures { IfOk result (AreNumberedSegments chains.now.chains) }
+    ensures { IfOk result (λ of. AreNumberedSegments chains.now.chains of.items) }
 {
     let total = chains.segments() as usize;
     let mut of = Vec::with_capacity(alloc, total)?;
-    let mut firsts = Vec::with_capacity(alloc, chains.len() as usize)?;
     for c in 0..chains.len() {
-        firsts.push(of.len() as u32)?;
         let count = chains.points(c).len() - 1;
         of.resize(of.len() + count, c)?;
     }
-    Ok(Segments { chains: of, firsts })
+    Ok(of)
 }

@@ -1,6 +1,7 @@
-use Rattle.std.proofs.Common.{◌≡◌, ℕ, ◌+◌, ◌-◌, ◌<◌, ◌≤◌, Bool, true, false, not, cond, List, [], ◌∷◌, ◌++◌, length, take, drop, get_or, All, refl, sym, ap, ◌∙◌, arith}
+use Rattle.std.proofs.Common.{◌≡◌, ℕ, ◌+◌, ◌-◌, ◌<◌, ◌≤◌, Bool, true, false, not, cond, inl, inr, List, [], ◌∷◌, ◌++◌, length, take, drop, get_or, All, refl, sym, ap, ◌∙◌, arith}
 use Rattle.std.specs.List.{dedup_from, flat_map}
-use Rattle.std.proofs.lemmas.List.{append-nil, append_assoc, at_drop_more, at_drop_all, drop-append-le, take-append-le, drop_at, take_all, map_push, length-append, length-drop, length_push}
+use Rattle.std.proofs.lemmas.Bool.{cases_lt}
+use Rattle.std.proofs.lemmas.List.{append-nil, append_assoc, at_drop_more, at_drop_all, drop-append-le, get_or_append_left, get_or_push, take-append-le, drop_at, take_all, map_push, length-append, length-drop, length-map, length_push}
 use Rattle.std.proofs.lemmas.List.Elements.{All-nil, All-head, All-tail, All-push, All-weaker}
 use Rattle.std.proofs.lemmas.List.Sums.{sum_by_push}
 use Rattle.tl_drawn.specs.declared.entry.ChainEntry.{ChainEntry}
@@ -102,6 +103,18 @@ IsTable-push points more rows t first count table at len some = record {
   within = All-push (IsWithin (points ++ more)) rows (record { tlid = t; first = first; count = count })
       (All-weaker (IsWithin points) (IsWithin (points ++ more)) (λ row h. omega (arith, length-append points more, h)) rows table.within)
       (omega (arith, length-append points more));
+  behind = λ c d low.
+      let chains = chains_in-push points more rows t first count table.within at len in
+      let before : take c (chains_in (points ++ more) (rows ++ record { tlid = t; first = first; count = count } ∷ [])) ≡ take c (chains_in points rows) =
+      ap (take c) chains ∙ take-append-le c (chains_in points rows) _ (omega (arith, low, length_push rows (record { tlid = t; first = first; count = count }), length-map rows (chain_in points))) in
+      elim (cases_lt c (length rows)) [
+        | inl earlier ↦ ap (λ (row : ChainRow). row.first) (get_or_append_left rows _ d c earlier) ∙ table.behind c d earlier ∙ ap (λ cs. segment_count cs + c) (sym before)
+        | inr last ↦
+            let here : length rows ≡ c = omega (arith, low, length_push rows (record { tlid = t; first = first; count = count })) in
+            let all : take c (chains_in points rows) ≡ chains_in points rows = take_all c (chains_in points rows) (omega (arith, length-map rows (chain_in points))) in
+            ap (λ (row : ChainRow). row.first) (get_or_push rows (record { tlid = t; first = first; count = count }) d c here)
+            ∙ omega (arith, at, table.total, here, ap segment_count (before ∙ all))
+      ];
   total =
       let chains = chains_in-push points more rows t first count table.within at len in
       let segments = ap segment_count chains ∙ sum_by_push (λ c. length c.points - 1) (chains_in points rows) (record { tlid = t; points = more }) in
@@ -130,4 +143,4 @@ length_appended old more new first count m n is p q a b = (omega arith, omega (a
 
 -- no rows and no points are a table
 pub IsTable-nil : (points : List Point) (rows : List ChainRow) → points ≡ [] → rows ≡ [] → IsTable points rows
-IsTable-nil points rows no_points no_rows = rw (no_points, no_rows) (record { within = All-nil (IsWithin []); total = refl })
+IsTable-nil points rows no_points no_rows = rw (no_points, no_rows) (record { within = All-nil (IsWithin []); behind = λ c d low. absurd (omega (arith, low)); total = refl })

@@ -1,34 +1,26 @@
 -- The events of segments.
-use Rattle.std.proofs.Common.{◌≡◌, ℕ, ◌+◌, ◌<◌, ◌==◌, Bool, true, false, not, ◌&&◌, if◌then◌else◌, ℤ, pos, ◌+ℤ◌, List, [], ◌∷◌, ◌++◌, count_by, length, get_or, length-append, refl, sym, ap, subst, ◌∙◌, arith}
+use Rattle.std.proofs.Common.{◌≡◌, ℕ, ◌+◌, ◌==◌, Bool, true, false, not, ◌&&◌, if◌then◌else◌, ℤ, pos, ◌+ℤ◌, List, [], ◌∷◌, ◌++◌, count_by, refl, sym, ap, ◌∙◌, arith}
 use Rattle.std.specs.Prelude.{int_lt}
 use Rattle.std.specs.List.Sorted.{IsPermutation}
 use Rattle.std.proofs.lemmas.Bool.Decides.{nat_tests}
-use Rattle.std.proofs.Math.Seq.{get_or-append_seam}
-use Rattle.std.proofs.lemmas.List.{get_or_append_left}
 use Rattle.std.proofs.lemmas.List.Elements.{All-push}
 use Rattle.std.proofs.lemmas.List.Sorted.{All-permutation, sum_by-IsPermutation}
 use Rattle.std.proofs.lemmas.List.Sums.{sum_by-cons, sum_by-append}
 use Rattle.tl_geom.specs.declared.segment.Segment.{Segment}
 use Rattle.tl_county.specs.TheMap.{MapChain}
+use Rattle.tl_county.specs.Segments.{IsSegmentOf, Joins}
 use Rattle.tl_index.proofs.Times.{same_or}
 use Rattle.tl_sweep.specs.declared.events.Event.{Event}
 use Rattle.tl_slabs.specs.Heights.{height, widest}
 use Rattle.tl_slabs.specs.Neighbours.{IsNumbered}
 use Rattle.tl_slabs.proofs.Flanked.{bit}
-use Rattle.tl_sweep.specs.Keeping.Listed.{IsEvent, begins_at, ends_at, AreEventsOf, AreSegments}
+use Rattle.tl_sweep.specs.Keeping.Listed.{IsEvent, begins_at, ends_at, AreEventsOf}
 
--- ---- one more segment
+-- ---- a segment of a map
 
-pub segments_more : (chains : List MapChain) (segments : List Segment) (s : ℕ) (segment : Segment) → length segments ≡ s → AreSegments chains segments → IsNumbered chains s segment → AreSegments chains (segments ++ segment ∷ [])
-segments_more chains segments s segment many are is = λ k d lt. same_or k s
-    (λ e.
-    let last : get_or (segments ++ segment ∷ []) k d ≡ segment =
-    ap (λ n. get_or (segments ++ segment ∷ []) n d) (e ∙ sym many) ∙ get_or-append_seam segments segment [] d in
-    subst (IsNumbered chains k) (sym last) (subst (λ n. IsNumbered chains n segment) (sym e) is))
-    (λ ne.
-    let len = length-append segments (segment ∷ []) in
-    let below : k < length segments = omega (arith, lt, ne, many, len) in
-    subst (IsNumbered chains k) (sym (get_or_append_left segments (segment ∷ []) d k below)) (are k d below))
+-- what is told of a segment by its number
+pub own : (chains : List MapChain) (s : ℕ) (segment : Segment) → (c : ℕ) × (k : ℕ) × IsSegmentOf chains s c k × Joins chains c k segment → IsNumbered chains s segment
+own chains s segment told = record { c = told.0; k = told.1; number = told.2; joins = told.3 }
 
 -- ---- an event
 

@@ -4,16 +4,15 @@ ghost use Rattle.tl_planar.specs.Planar.{IsPlanar};
 ghost use Rattle.tl_planar.specs.declared.meet.Meet.{Meet};
 ghost use Rattle.tl_planar.specs.Searching.{IsTrueMeet};
 ghost use Rattle.tl_inside.specs.Placed.{ArePlaced};
-ghost use Rattle.tl_county.specs.Segments.{segments_before};
 ghost use Rattle.tl_crossings.specs.Headings.{AreProper};
 ghost use Rattle.tl_slabs.specs.Heights.{widest};
 ghost use Rattle.tl_slabs.specs.Neighbours.{IsWide};
 ghost use Rattle.tl_slabs.specs.Slabs.{AreVerticesTested};
-ghost use Rattle.tl_sweep.specs.Keeping.Listed.{AreEvents, AreRising, AreSegments};
+ghost use Rattle.tl_sweep.specs.Keeping.Listed.{AreEvents, AreRising};
 ghost use Rattle.tl_sweep.specs.Keeping.Spotted.{AreInRange, AreMarks};
 ghost use Rattle.tl_sweep.specs.Keeping.Told.{IsTrueAnswer};
 
-use crate::events::{Events, list_segments};
+use crate::events::Events;
 use crate::meets::are_vertices_tested;
 use crate::spots::Spots;
 use crate::suspects::{find_meet, find_meet_at_vertex};
@@ -21,7 +20,6 @@ use crate::sweeping::sweep_list;
 use std::alloc::{AllocError, Global};
 use tl_county::Map;
 use tl_crossings::look_at_chains;
-use tl_geom::Segment;
 use tl_planar::Meet;
 
 /// What a sweep answers.
@@ -44,30 +42,21 @@ pub fn sweep(alloc: Global, map: &Map) -> Result<Swept, AllocError>
     ensures meet { IfOk result (λ answer. (meet : Meet) → answer ≡ Swept.Meet meet → IsTrueMeet map.now.chains meet) }
 {
     look_at_chains(map);
-    let segments = list_segments(alloc, map)?;
-    sweep_segments(alloc, map, &segments)
+    sweep_ends(alloc, map)
 }
 
-/// The same by all segments of the map.
-fn sweep_segments(alloc: Global, map: &Map, segments: &[Segment]) -> Result<Swept, AllocError>
-    requires segments { AreSegments map.now.chains segments.now }
-    requires all { length segments.now ≡ segments_before map.now.chains (length map.now.chains) }
+/// The same by the ends of all segments.
+fn sweep_ends(alloc: Global, map: &Map) -> Result<Swept, AllocError>
     requires proper { AreProper map.now.chains }
     ensures { IfOk result (IsTrueAnswer map.now) }
 {
-    let mut events = Events::new(alloc, map, segments)?;
+    let mut events = Events::new(alloc, map)?;
     events.sort(alloc)?;
-    sweep_events(alloc, map, segments, &events)
+    sweep_events(alloc, map, &events)
 }
 
-/// The same by the ends of all segments, which are sorted.
-fn sweep_events(
-    alloc: Global,
-    map: &Map,
-    segments: &[Segment],
-    events: &Events,
-) -> Result<Swept, AllocError>
-    requires segments { AreSegments map.now.chains segments.now }
+/// The same by all ends, which are sorted.
+fn sweep_events(alloc: Global, map: &Map, events: &Events) -> Result<Swept, AllocError>
     requires events { AreEvents map.now.chains events.now }
     requires wide { IsWide widest map.now.chains }
     requires ranges { AreInRange map.now.chains }
@@ -78,18 +67,16 @@ fn sweep_events(
         return Ok(told(map, find_meet_at_vertex(map, events)));
     }
     let mut suspects = Vec::new(alloc);
-    sweep_tested(alloc, map, segments, events, &mut suspects)
+    sweep_tested(alloc, map, events, &mut suspects)
 }
 
 /// The same where vertices are tested, with a list for the segments at which the sweep ends.
 fn sweep_tested(
     alloc: Global,
     map: &Map,
-    segments: &[Segment],
     events: &Events,
     suspects: &mut Vec<u32>,
 ) -> Result<Swept, AllocError>
-    requires segments { AreSegments map.now.chains segments.now }
     requires events { AreEvents map.now.chains events.now }
     requires rising { AreRising events.now }
     requires wide { IsWide widest map.now.chains }
@@ -98,7 +85,7 @@ fn sweep_tested(
     ensures { IfOk result (IsTrueAnswer map.now) }
 {
     let mut spots = Spots::new(alloc, map)?;
-    if !sweep_list(alloc, map, segments, events, &mut spots, suspects)? {
+    if !sweep_list(alloc, map, events, &mut spots, suspects)? {
         return Ok(told(map, find_meet(map, suspects)));
     }
     Ok(planar(map, &spots))

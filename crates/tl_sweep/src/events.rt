@@ -7,7 +7,7 @@ ghost use Rattle.tl_county.specs.Segments.{segments_before};
 ghost use Rattle.tl_slabs.specs.Heights.{widest};
 ghost use Rattle.tl_slabs.specs.Neighbours.{IsWide};
 ghost use Rattle.tl_sweep.specs.Keeping.Ended.{event_at, event_by, events_in};
-ghost use Rattle.tl_sweep.specs.Keeping.Listed.{AreEvents, AreSegments};
+ghost use Rattle.tl_sweep.specs.Keeping.Listed.{AreEvents};
 ghost use Rattle.tl_sweep.specs.Keeping.Spotted.{IsInRange, AreInRange};
 
 use crate::heights::{height, is_lower};
@@ -65,18 +65,16 @@ impl Events {
     ghost use Rattle.tl_slabs.specs.Heights.{widest};
     ghost use Rattle.tl_sweep.specs.declared.events.Event.{Event};
     ghost use Rattle.tl_slabs.specs.Neighbours.{IsWide};
-    ghost use Rattle.tl_sweep.specs.Keeping.Listed.{AreEvents, AreSegments};
+    ghost use Rattle.tl_sweep.specs.Keeping.Listed.{AreEvents};
     ghost use Rattle.tl_sweep.specs.Keeping.Spotted.{AreInRange};
 
     /// The events of all segments of a map, by the segments' numbers.
-    pub fn new(alloc: Global, map: &Map, segments: &[Segment]) -> Result<Events, AllocError>
-        requires segments { AreSegments map.now.chains segments.now }
-        requires all { length segments.now ≡ segments_before map.now.chains (length map.now.chains) }
+    pub fn new(alloc: Global, map: &Map) -> Result<Events, AllocError>
         ensures events { IfOk result (λ events. AreEvents map.now.chains events) }
         ensures wide { IfOk result (λ events. IsWide widest map.now.chains) }
         ensures ranges { IfOk result (λ events. AreInRange map.now.chains) }
     {
-        let ends = list_ends(alloc, map, segments)?;
+        let ends = list_ends(alloc, map)?;
         Ok(Events { ends })
     }
 
@@ -95,11 +93,11 @@ impl Events {
         event_of(self.ends[place])
     }
 
-    /// The latitude of the event at a place, of which nothing is said.
-    pub fn latitude(&self, place: usize) -> i32
+    /// The point of the event at a place, of which nothing is said.
+    pub fn point(&self, place: usize) -> Point
         requires { place < length self.now }
     {
-        self.ends[place].point.y
+        self.ends[place].point
     }
 
     /// Sorts them by height. Nothing rests on their order, which is tested. The error is that memory was refused.
@@ -139,28 +137,13 @@ fn number_of(s: u32, begins: bool, first: bool) -> u32
     }
 }
 
-/// The segments of a map by their numbers, side by side.
-pub fn list_segments(alloc: Global, map: &Map) -> Result<Vec<Segment>, AllocError>
-    ensures segments { IfOk result (λ segments. AreSegments map.now.chains segments.items) }
-    ensures all { IfOk result (λ segments. length segments.items ≡ segments_before map.now.chains (length map.now.chains)) }
+/// The two ends of the segment of a number, in the order of its chain.
+fn ends_of(segment: Segment, s: u32) -> (End, End)
+    requires { s < 2 ^ 30 }
+    ensures ranges { IsInRange (end_a segment) × IsInRange (end_b segment) }
+    ensures one { event_at result.0 ≡ event_by s true segment }
+    ensures other { event_at result.1 ≡ event_by s false segment }
 {
-    let count = map.segments();
-    let mut segments = Vec::with_capacity(alloc, count as usize)?;
-    for s in 0..count {
-        segments.push(map.segment(s))?;
-    }
-    Ok(segments)
-}
-
-/// The two ends of a segment, in the order of its chain.
-fn ends_of(segments: &[Segment], s: u32) -> (End, End)
-    requires known { s < length segments.now }
-    requires few { s < 2 ^ 30 }
-    ensures ranges { (d : Segment) → IsInRange (end_a (slice_index_or segments.now s d)) × IsInRange (end_b (slice_index_or segments.now s d)) }
-    ensures one { (d : Segment) → event_at result.0 ≡ event_by s true (slice_index_or segments.now s d) }
-    ensures other { (d : Segment) → event_at result.1 ≡ event_by s false (slice_index_or segments.now s d) }
-{
-    let segment = segments[s as usize];
     let rises = is_lower(segment.a(), segment.b());
     (
         End {
@@ -175,9 +158,7 @@ fn ends_of(segments: &[Segment], s: u32) -> (End, End)
 }
 
 /// The ends of all segments of a map, by the segments' numbers.
-fn list_ends(alloc: Global, map: &Map, segments: &[Segment]) -> Result<Vec<End>, AllocError>
-    requires segments { AreSegments map.now.chains segments.now }
-    requires all { length segments.now ≡ segments_before map.now.chains (length map.now.chains) }
+fn list_ends(alloc: Global, map: &Map) -> Result<Vec<End>, AllocError>
     ensures events { IfOk result (λ ends. AreEvents map.now.chains (events_in ends.items)) }
     ensures wide { IfOk result (λ ends. IsWide widest map.now.chains) }
     ensures ranges { IfOk result (λ ends. AreInRange map.now.chains) }
@@ -185,7 +166,7 @@ fn list_ends(alloc: Global, map: &Map, segments: &[Segment]) -> Result<Vec<End>,
     let count = map.segments();
     let mut ends = Vec::with_capacity(alloc, count as usize * 2)?;
     for s in 0..count {
-        let (one, other) = ends_of(segments, s);
+        let (one, other) = ends_of(map.segment(s), s);
         push_both(&mut ends, one, other)?;
     }
     Ok(ends)

@@ -7,21 +7,17 @@ ghost use Rattle.tl_inside.specs.declared.flanks.Flanks.{Flanks};
 ghost use Rattle.tl_inside.specs.Inside.{flanks_at};
 ghost use Rattle.tl_slabs.specs.Beside.{seen_side};
 ghost use Rattle.tl_sweep.specs.Keeping.Facing.{gap as gap_of, gaps_between, last_far};
-ghost use Rattle.tl_sweep.specs.Keeping.Listed.{AreSegments};
 
 use crate::line::Line;
 use tl_county::{Map, Side};
-use tl_geom::Segment;
 use tl_inside::Flanks;
 
 /// The sides of a segment: the near side, which a point west of it sees, and the far side.
-fn flanks_of(map: &Map, segments: &[Segment], s: u32) -> Flanks
-    requires segments { AreSegments map.now.chains segments.now }
+fn flanks_of(map: &Map, s: u32) -> Flanks
     requires known { s < segments_before map.now.chains (length map.now.chains) }
-    requires listed { s < length segments.now }
     ensures { result ≡ flanks_at map.now.chains s }
 {
-    let segment = segments[s as usize];
+    let segment = map.segment(s);
     let chain = map.chain(map.segment_chain(s));
     if segment.a().y < segment.b().y {
         Flanks {
@@ -36,24 +32,14 @@ fn flanks_of(map: &Map, segments: &[Segment], s: u32) -> Flanks
     }
 }
 
-/// Whether there is a segment with this number.
-#[inline]
-fn is_known(map: &Map, segments: &[Segment], s: u32) -> bool
-    ensures known { IsTrue result → s < segments_before map.now.chains (length map.now.chains) }
-    ensures listed { IsTrue result → s < length segments.now }
-{
-    s < map.segments() && (s as usize) < segments.len()
-}
-
 /// The sides of the segment with this number, if there is one.
-fn find_flanks(map: &Map, segments: &[Segment], s: u32) -> Option<Flanks>
-    requires { AreSegments map.now.chains segments.now }
+fn find_flanks(map: &Map, s: u32) -> Option<Flanks>
     ensures { (flanks : Flanks) → result ≡ Some flanks → flanks ≡ flanks_at map.now.chains s }
 {
-    if !is_known(map, segments, s) {
+    if s >= map.segments() {
         return None;
     }
-    Some(flanks_of(map, segments, s))
+    Some(flanks_of(map, s))
 }
 
 /// 1 where sides that face each other differ, else 0.
@@ -64,36 +50,33 @@ fn gap(west: Side, east: Side) -> u64
 }
 
 /// What lies east of the segment before the place, or of none.
-pub fn far_side(map: &Map, segments: &[Segment], line: &Line) -> Option<Side>
-    requires { AreSegments map.now.chains segments.now }
+pub fn far_side(map: &Map, line: &Line) -> Option<Side>
     ensures { (side : Side) → result ≡ Some side → side ≡ last_far map.now.chains Outside line.now.front }
 {
     match line.previous() {
-        Some(s) => Some(find_flanks(map, segments, s)?.far),
+        Some(s) => Some(find_flanks(map, s)?.far),
         None => Some(Side::Outside),
     }
 }
 
 /// What lies west of the segment behind the place, or of none.
-pub fn near_side(map: &Map, segments: &[Segment], line: &Line) -> Option<Side>
-    requires { AreSegments map.now.chains segments.now }
+pub fn near_side(map: &Map, line: &Line) -> Option<Side>
     ensures { (side : Side) → result ≡ Some side → side ≡ seen_side map.now.chains line.now.back }
 {
     match line.next() {
-        Some(s) => Some(find_flanks(map, segments, s)?.near),
+        Some(s) => Some(find_flanks(map, s)?.near),
         None => Some(Side::Outside),
     }
 }
 
 /// How often facing sides differ along these segments between one side and another.
-fn count_gaps(map: &Map, segments: &[Segment], west: Side, list: &[u32], east: Side) -> Option<u64>
-    requires { AreSegments map.now.chains segments.now }
+fn count_gaps(map: &Map, west: Side, list: &[u32], east: Side) -> Option<u64>
     ensures { (n : ℕ) → result ≡ Some n → n ≡ gaps_between map.now.chains west list.now east }
 {
     let mut before = west;
     let mut count = 0u64;
     for s in list {
-        let flanks = find_flanks(map, segments, *s)?;
+        let flanks = find_flanks(map, *s)?;
         count = count.checked_add(gap(before, flanks.near))?;
         before = flanks.far;
     }
@@ -102,12 +85,9 @@ fn count_gaps(map: &Map, segments: &[Segment], west: Side, list: &[u32], east: S
 
 /// Whether two segments are of one chain and go up both, or neither does.
 #[inline]
-fn go_one_way(map: &Map, segments: &[Segment], s: u32, t: u32) -> bool
-    requires segments { AreSegments map.now.chains segments.now }
+fn go_one_way(map: &Map, s: u32, t: u32) -> bool
     requires known { s < segments_before map.now.chains (length map.now.chains) }
-    requires listed { s < length segments.now }
     requires known_other { t < segments_before map.now.chains (length map.now.chains) }
-    requires listed_other { t < length segments.now }
     ensures { IsTrue result → flanks_at map.now.chains s ≡ flanks_at map.now.chains t }
 {
     let c = map.segment_chain(s);
@@ -116,7 +96,7 @@ fn go_one_way(map: &Map, segments: &[Segment], s: u32, t: u32) -> bool
     }
     // that the chain has sides
     let _chain = map.chain(c);
-    let (one, other) = (segments[s as usize], segments[t as usize]);
+    let (one, other) = (map.segment(s), map.segment(t));
     if one.a().y < one.b().y {
         other.a().y < other.b().y
     } else {
@@ -125,21 +105,15 @@ fn go_one_way(map: &Map, segments: &[Segment], s: u32, t: u32) -> bool
 }
 
 /// Whether two segments have the same sides.
-pub fn are_alike(map: &Map, segments: &[Segment], out: u32, s: u32) -> bool
-    requires { AreSegments map.now.chains segments.now }
+pub fn are_alike(map: &Map, out: u32, s: u32) -> bool
     ensures { IsTrue result → (west east : Side) →
         gaps_between map.now.chains west (out ∷ []) east ≡ gaps_between map.now.chains west (s ∷ []) east }
 {
-    if is_known(map, segments, out)
-        && is_known(map, segments, s)
-        && go_one_way(map, segments, out, s)
-    {
+    let count = map.segments();
+    if out < count && s < count && go_one_way(map, out, s) {
         return true;
     }
-    match (
-        find_flanks(map, segments, out),
-        find_flanks(map, segments, s),
-    ) {
+    match (find_flanks(map, out), find_flanks(map, s)) {
         (Some(one), Some(other)) => one == other,
         (None, _) => false,
         (Some(_), None) => false,
@@ -150,19 +124,17 @@ pub fn are_alike(map: &Map, segments: &[Segment], out: u32, s: u32) -> bool
 /// in the stead of these.
 pub fn recount(
     map: &Map,
-    segments: &[Segment],
     west: Option<Side>,
     outs: &[u32],
     ins: &[u32],
     east: Option<Side>,
     count: Option<u64>,
 ) -> Option<u64>
-    requires { AreSegments map.now.chains segments.now }
     ensures { (n : ℕ) → result ≡ Some n → (old : ℕ) × (w : Side) × (e : Side) × (count ≡ Some old) × (west ≡ Some w) × (east ≡ Some e) ×
         (n + gaps_between map.now.chains w outs.now e ≡ old + gaps_between map.now.chains w ins.now e) }
 {
     let (west, east) = (west?, east?);
-    let gone = count_gaps(map, segments, west, outs, east)?;
-    let come = count_gaps(map, segments, west, ins, east)?;
+    let gone = count_gaps(map, west, outs, east)?;
+    let come = count_gaps(map, west, ins, east)?;
     count?.checked_sub(gone)?.checked_add(come)
 }

@@ -5,17 +5,15 @@ ghost use Rattle.tl_sweep.specs.Keeping.Lined.{list_of};
 use crate::heights::is_lower;
 use crate::line::Line;
 use std::alloc::AllocError;
+use tl_county::Map;
 use tl_geom::{Point, Segment};
 
 /// Whether a point lies strictly east of a segment.
-fn is_east(segments: &[Segment], s: Option<u32>, p: Point) -> bool {
+fn is_east(map: &Map, s: Option<u32>, p: Point) -> bool {
     let Some(s) = s else {
         return false;
     };
-    match segments.get(s as usize) {
-        Some(segment) => is_east_of(*segment, p),
-        None => false,
-    }
+    s < map.segments() && is_east_of(map.segment(s), p)
 }
 
 /// Whether a point lies strictly east of a segment at its height: as a rule longitudes tell it, and else products of 64 bits, which
@@ -45,12 +43,12 @@ fn offset(from: i32, to: i32) -> i64 {
 }
 
 /// How many of the blocks west of the open one begin west of a point.
-fn begin_west(segments: &[Segment], line: &Line, blocks: usize, p: Point) -> usize {
+fn begin_west(map: &Map, line: &Line, blocks: usize, p: Point) -> usize {
     let mut low = 0;
     let mut high = blocks;
     while low < high {
         let middle = low + (high - low) / 2;
-        if is_east(segments, line.first_west(middle), p) {
+        if is_east(map, line.first_west(middle), p) {
             low = middle + 1;
         } else {
             high = middle;
@@ -60,12 +58,12 @@ fn begin_west(segments: &[Segment], line: &Line, blocks: usize, p: Point) -> usi
 }
 
 /// How many of the blocks east of the open one don't begin west of a point.
-fn begin_east(segments: &[Segment], line: &Line, blocks: usize, p: Point) -> usize {
+fn begin_east(map: &Map, line: &Line, blocks: usize, p: Point) -> usize {
     let mut low = 0;
     let mut high = blocks;
     while low < high {
         let middle = low + (high - low) / 2;
-        if is_east(segments, line.first_east(middle), p) {
+        if is_east(map, line.first_east(middle), p) {
             high = middle;
         } else {
             low = middle + 1;
@@ -95,7 +93,7 @@ fn go_east(line: &mut Line, blocks: usize) -> Result<(), AllocError>
 }
 
 /// Opens the last block that begins west of a point, or the first one.
-pub fn open(segments: &[Segment], line: &mut Line, p: Point) -> Result<(), AllocError>
+pub fn open(map: &Map, line: &mut Line, p: Point) -> Result<(), AllocError>
     ensures { IfOk result (λ done. list_of line.new ≡ list_of line.old) }
 {
     let (west, east) = line.blocks();
@@ -108,22 +106,22 @@ pub fn open(segments: &[Segment], line: &mut Line, p: Point) -> Result<(), Alloc
     } else {
         line.next()
     };
-    if is_east(segments, first, p) {
-        let behind = begin_east(segments, line, east, p);
+    if is_east(map, first, p) {
+        let behind = begin_east(map, line, east, p);
         go_east(line, east.saturating_sub(behind))
     } else {
-        let before = begin_west(segments, line, west, p);
+        let before = begin_west(map, line, west, p);
         go_west(line, west.saturating_sub(before.saturating_sub(1)))
     }
 }
 
 /// The place in the open block of the first segment that a point isn't east of.
-pub fn find(segments: &[Segment], line: &Line, p: Point) -> usize {
+pub fn find(map: &Map, line: &Line, p: Point) -> usize {
     let mut low = 0;
     let mut high = line.len();
     while low < high {
         let middle = low + (high - low) / 2;
-        if is_east(segments, line.at(middle), p) {
+        if is_east(map, line.at(middle), p) {
             low = middle + 1;
         } else {
             high = middle;

@@ -3,7 +3,6 @@ ghost use Rattle.std.specs.Prelude.{◌≤ℤ◌, ◌<ℤ◌, ◌⊎◌, pos, Is
 ghost use Rattle.tl_geom.specs.Plane.{turn_of};
 ghost use Rattle.tl_slabs.specs.Heights.{widest};
 ghost use Rattle.tl_slabs.specs.Neighbours.{IsWestOf, AreApartOrAtEnds, AreTested};
-ghost use Rattle.tl_sweep.specs.Keeping.Listed.{AreSegments};
 
 use crate::heights::{ends, is_lower};
 use tl_county::Map;
@@ -86,15 +85,15 @@ fn are_free(u: Segment, w: Segment) -> bool
 
 /// Whether segment `s` is west of segment `t`, and they are apart or share an end of both alone. It is not so of numbers of
 /// no segments.
-pub fn are_tested(map: &Map, segments: &[Segment], s: u32, t: u32) -> bool
-    requires { AreSegments map.now.chains segments.now }
+pub fn are_tested(map: &Map, s: u32, t: u32) -> bool
     ensures { IsTrue result → AreTested widest map.now.chains s t }
 {
-    if s as usize >= segments.len() || t as usize >= segments.len() {
+    let count = map.segments();
+    if s >= count || t >= count {
         return false;
     }
-    let one = segments[s as usize];
-    let other = segments[t as usize];
+    let one = map.segment(s);
+    let other = map.segment(t);
     if is_beside(one, other) {
         return true;
     }

@@ -6,7 +6,7 @@ ghost use Rattle.tl_slabs.specs.Beside.{IsEastOf, IsWestOfIt, IsEastOfLast, IsWe
 ghost use Rattle.tl_slabs.specs.Heights.{widest};
 ghost use Rattle.tl_sweep.specs.Keeping.Facing.{IsCounted};
 ghost use Rattle.tl_sweep.specs.Keeping.Lined.{list_of};
-ghost use Rattle.tl_sweep.specs.Keeping.Listed.{AreEvents, AreRising, AreSegments};
+ghost use Rattle.tl_sweep.specs.Keeping.Listed.{AreEvents, AreRising};
 ghost use Rattle.tl_sweep.specs.Keeping.Spotted.{AreInRange, IsPlacedPolygon};
 ghost use Rattle.tl_sweep.specs.Keeping.Swept.{IsSwept};
 
@@ -17,20 +17,18 @@ use crate::heights::{ends, height};
 use crate::line::Line;
 use std::alloc::AllocError;
 use tl_county::{Map, Side};
-use tl_geom::{Point, Segment, turn};
+use tl_geom::{Point, turn};
 
 /// Whether the point of a polygon is found to be placed, between the events up to a place and those behind it, where the
 /// list has so many places where facing sides differ.
 pub fn is_placed(
     map: &Map,
-    segments: &[Segment],
     line: &mut Line,
     events: &Events,
     from: usize,
     gaps: Option<u64>,
     polygon: u32,
 ) -> Result<bool, AllocError>
-    requires segments { AreSegments map.now.chains segments.now }
     requires events { AreEvents map.now.chains events.now }
     requires rising { AreRising events.now }
     requires ranges { AreInRange map.now.chains }
@@ -46,9 +44,9 @@ pub fn is_placed(
     if !is_between(events, from, height(p)) {
         return Ok(false);
     }
-    open(segments, line, p)?;
-    line.seek(find(segments, line, p));
-    Ok(sees(map, segments, line, p, polygon))
+    open(map, line, p)?;
+    line.seek(find(map, line, p));
+    Ok(sees(map, line, p, polygon))
 }
 
 /// Whether there is a count, and it is 0.
@@ -71,47 +69,44 @@ fn is_between(events: &Events, from: usize, h: i64) -> bool
 }
 
 /// Whether a point lies strictly between those that stand before and behind the place, and sees a polygon to its east.
-fn sees(map: &Map, segments: &[Segment], line: &Line, p: Point, polygon: u32) -> bool
-    requires { AreSegments map.now.chains segments.now }
+fn sees(map: &Map, line: &Line, p: Point, polygon: u32) -> bool
     ensures east { IsTrue result → IsEastOfLast widest map.now.chains p line.now.front }
     ensures west { IsTrue result → IsWestOfFirst widest map.now.chains p line.now.back }
     ensures sees { IsTrue result → seen_side map.now.chains line.now.back ≡ Polygon polygon }
 {
-    if !is_east_of(map, segments, line.previous(), p) {
+    if !is_east_of(map, line.previous(), p) {
         return false;
     }
-    if !is_west_of(map, segments, line.next(), p) {
+    if !is_west_of(map, line.next(), p) {
         return false;
     }
-    near_side(map, segments, line) == Some(Side::Polygon(polygon))
+    near_side(map, line) == Some(Side::Polygon(polygon))
 }
 
 /// Whether a point lies strictly east of a segment, if there is one.
-fn is_east_of(map: &Map, segments: &[Segment], s: Option<u32>, p: Point) -> bool
-    requires { AreSegments map.now.chains segments.now }
+fn is_east_of(map: &Map, s: Option<u32>, p: Point) -> bool
     ensures { IsTrue result → (t : ℕ) → s ≡ Some t → IsEastOf widest map.now.chains p t }
 {
     let Some(s) = s else {
         return true;
     };
-    if s as usize >= segments.len() {
+    if s >= map.segments() {
         return false;
     }
-    let (a, b) = ends(segments[s as usize]);
+    let (a, b) = ends(map.segment(s));
     turn(a, b, p).is_lt()
 }
 
 /// Whether a point lies strictly west of a segment, if there is one.
-fn is_west_of(map: &Map, segments: &[Segment], s: Option<u32>, p: Point) -> bool
-    requires { AreSegments map.now.chains segments.now }
+fn is_west_of(map: &Map, s: Option<u32>, p: Point) -> bool
     ensures { IsTrue result → (t : ℕ) → s ≡ Some t → IsWestOfIt widest map.now.chains p t }
 {
     let Some(s) = s else {
         return true;
     };
-    if s as usize >= segments.len() {
+    if s >= map.segments() {
         return false;
     }
-    let (a, b) = ends(segments[s as usize]);
+    let (a, b) = ends(map.segment(s));
     turn(a, b, p).is_gt()
 }

@@ -3,7 +3,7 @@ ghost use Rattle.std.specs.Prelude.{◌≡◌, ◌⊎◌, ◌<◌, ℕ, false, t
 ghost use Rattle.tl_inside.specs.Placed.{ArePlaced};
 ghost use Rattle.tl_sweep.specs.Keeping.Facing.{IsCounted};
 ghost use Rattle.tl_sweep.specs.Keeping.Lined.{list_of};
-ghost use Rattle.tl_sweep.specs.Keeping.Listed.{AreEvents, AreRising, AreSegments};
+ghost use Rattle.tl_sweep.specs.Keeping.Listed.{AreEvents, AreRising};
 ghost use Rattle.tl_sweep.specs.Keeping.Spotted.{AreInRange, AreMarks};
 ghost use Rattle.tl_sweep.specs.Keeping.Swept.{IsSwept};
 
@@ -13,7 +13,6 @@ use crate::line::Line;
 use crate::placing::is_placed;
 use std::alloc::{AllocError, Global};
 use tl_county::{Map, Ranked, presort_by_rank};
-use tl_geom::Segment;
 
 /// The point of a polygon, by its height.
 #[derive(Clone, Copy)]
@@ -57,13 +56,11 @@ impl Spots {
     pub fn look(
         &mut self,
         map: &Map,
-        segments: &[Segment],
         line: &mut Line,
         events: &Events,
         from: usize,
         gaps: Option<u64>,
     ) -> Result<(), AllocError>
-        requires segments { AreSegments map.now.chains segments.now }
         requires events { AreEvents map.now.chains events.now }
         requires rising { AreRising events.now }
         requires ranges { AreInRange map.now.chains }
@@ -76,7 +73,7 @@ impl Spots {
         while self.next < self.spots.len() && is_below(self.spots[self.next], events, from) {
             let polygon = self.spots[self.next].polygon;
             self.next += 1;
-            if is_placed(map, segments, line, events, from, gaps, polygon)? {
+            if is_placed(map, line, events, from, gaps, polygon)? {
                 mark(&mut self.marks, polygon);
             }
         }
@@ -109,7 +106,7 @@ fn list_spots(alloc: Global, map: &Map) -> Result<Vec<Spot>, AllocError> {
 /// Whether a point is below the events from a place on.
 fn is_below(spot: Spot, events: &Events, from: usize) -> bool {
     from < events.len()
-        && spot.latitude <= events.latitude(from)
+        && spot.latitude <= events.point(from).y
         && spot.height < events.at(from).height
 }
 

@@ -6,7 +6,7 @@ ghost use Rattle.tl_slabs.specs.Neighbours.{AreTested, EachTwo, IsWide};
 ghost use Rattle.tl_slabs.specs.Slabs.{AreSlabsTested};
 ghost use Rattle.tl_sweep.specs.Keeping.Facing.{IsCounted};
 ghost use Rattle.tl_sweep.specs.Keeping.Lined.{list_of};
-ghost use Rattle.tl_sweep.specs.Keeping.Listed.{begins_at, ends_at, AreEvents, AreRising, AreSegments};
+ghost use Rattle.tl_sweep.specs.Keeping.Listed.{begins_at, ends_at, AreEvents, AreRising};
 ghost use Rattle.tl_sweep.specs.Keeping.Spotted.{AreInRange, AreMarks};
 ghost use Rattle.tl_sweep.specs.declared.events.Event.{Event};
 
@@ -21,7 +21,7 @@ use crate::suspects::list_suspects;
 use std::alloc::{AllocError, Global};
 use std::cmp::Ordering;
 use tl_county::Map;
-use tl_geom::{Point, Segment, turn};
+use tl_geom::{Point, turn};
 
 /// The segments that end at the events of one height that begin at a place, and those that begin; and how far these events go.
 fn gather(
@@ -42,11 +42,11 @@ fn gather(
     ins.clear();
     let count = events.len();
     let height = events.at(from).height;
-    let latitude = events.latitude(from);
+    let latitude = events.point(from).y;
     let mut to = from;
     while to < count {
         // Most events that aren't at this height are at another latitude.
-        if to > from && events.latitude(to) != latitude {
+        if to > from && events.point(to).y != latitude {
             return Ok(to);
         }
         let event = events.at(to);
@@ -64,17 +64,17 @@ fn gather(
 }
 
 /// The ends of the segment of a number, if there is one: the lower one, and the higher one.
-fn ends_of(segments: &[Segment], s: u32) -> Option<(Point, Point)> {
-    if (s as usize) < segments.len() {
-        Some(ends(segments[s as usize]))
+fn ends_of(map: &Map, s: u32) -> Option<(Point, Point)> {
+    if s < map.segments() {
+        Some(ends(map.segment(s)))
     } else {
         None
     }
 }
 
 /// Which of two segments that share their low end, or their high end, comes first from west to east.
-fn west_first(segments: &[Segment], s: u32, t: u32) -> Ordering {
-    match (ends_of(segments, s), ends_of(segments, t)) {
+fn west_first(map: &Map, s: u32, t: u32) -> Ordering {
+    match (ends_of(map, s), ends_of(map, t)) {
         (Some((a, b)), Some((c, e))) => turn(a, b, if a == c { e } else { c }),
         (None, _) => Ordering::Equal,
         (Some(_), None) => Ordering::Equal,
@@ -83,47 +83,35 @@ fn west_first(segments: &[Segment], s: u32, t: u32) -> Ordering {
 
 /// Sorts segments that share their low end, or their high end, from west to east, if there are more than one.
 #[inline(always)]
-fn order(segments: &[Segment], numbers: &mut Vec<u32>)
+fn order(map: &Map, numbers: &mut Vec<u32>)
     ensures { (s : ℕ) → times s numbers.new.items ≡ times s numbers.old.items }
 {
     if numbers.len() > 1 {
-        order_some(segments, numbers);
+        order_some(map, numbers);
     }
 }
 
 /// Sorts two such segments or more.
-fn order_some(segments: &[Segment], numbers: &mut Vec<u32>)
+fn order_some(map: &Map, numbers: &mut Vec<u32>)
     ensures { (s : ℕ) → times s numbers.new.items ≡ times s numbers.old.items }
 {
     if numbers.len() > 2 {
-        numbers.sort_unstable_by(|s, t| west_first(segments, *s, *t));
-    } else if numbers.len() == 2 && west_first(segments, numbers[1], numbers[0]).is_lt() {
+        numbers.sort_unstable_by(|s, t| west_first(map, *s, *t));
+    } else if numbers.len() == 2 && west_first(map, numbers[1], numbers[0]).is_lt() {
         numbers.swap(0, 1);
     }
 }
 
-/// The point where these segments end, or where those begin.
-fn vertex(segments: &[Segment], outs: &[u32], ins: &[u32]) -> Option<Point> {
-    if !outs.is_empty() {
-        Some(ends_of(segments, outs[0])?.1)
-    } else if !ins.is_empty() {
-        Some(ends_of(segments, ins[0])?.0)
-    } else {
-        None
-    }
-}
-
-/// Passes a vertex: what ends there leaves the list, and what begins there enters it.
+/// Passes the vertex at a point: what ends there leaves the list, and what begins there enters it.
 fn step(
     map: &Map,
-    segments: &[Segment],
+    p: Point,
     line: &mut Line,
     outs: &mut Vec<u32>,
     ins: &mut Vec<u32>,
     places: &mut Places,
     gaps: &mut Option<u64>,
 ) -> Result<bool, AllocError>
-    requires { AreSegments map.now.chains segments.now }
     ensures moved { IfOk result (λ done. IsTrue done → (s : ℕ) →
         times s (list_of line.new) + times s outs.old.items ≡ times s (list_of line.old) + times s ins.old.items) }
     ensures tested { IfOk result (λ done. IsTrue done → EachTwo (AreTested widest map.now.chains) (list_of line.old) →
@@ -131,22 +119,21 @@ fn step(
     ensures counted { IfOk result (λ done. IsTrue done → IsCounted map.now.chains gaps.old (list_of line.old) →
         IsCounted map.now.chains gaps.new (list_of line.new)) }
 {
-    order(segments, outs);
-    order(segments, ins);
-    pass_vertex(map, segments, line, outs, ins, places, gaps)
+    order(map, outs);
+    order(map, ins);
+    pass_vertex(map, p, line, outs, ins, places, gaps)
 }
 
 /// Does so with the segments in their order from west to east.
 fn pass_vertex(
     map: &Map,
-    segments: &[Segment],
+    p: Point,
     line: &mut Line,
     outs: &[u32],
     ins: &[u32],
     places: &mut Places,
     gaps: &mut Option<u64>,
 ) -> Result<bool, AllocError>
-    requires { AreSegments map.now.chains segments.now }
     ensures moved { IfOk result (λ done. IsTrue done → (s : ℕ) →
         times s (list_of line.new) + times s outs.now ≡ times s (list_of line.old) + times s ins.now) }
     ensures tested { IfOk result (λ done. IsTrue done → EachTwo (AreTested widest map.now.chains) (list_of line.old) →
@@ -154,11 +141,8 @@ fn pass_vertex(
     ensures counted { IfOk result (λ done. IsTrue done → IsCounted map.now.chains gaps.old (list_of line.old) →
         IsCounted map.now.chains gaps.new (list_of line.new)) }
 {
-    let Some(p) = vertex(segments, outs, ins) else {
-        return Ok(false);
-    };
-    let place = find_place(segments, line, places, outs, p)?;
-    let is_passed = pass(map, segments, line, place, outs, ins, gaps)?;
+    let place = find_place(map, p, line, places, outs)?;
+    let is_passed = pass(map, line, place, outs, ins, gaps)?;
     places.keep(line, ins);
     Ok(is_passed)
 }
@@ -166,18 +150,18 @@ fn pass_vertex(
 /// Opens the block that a point is in, and gives the place there of the first of the segments that end at the point or, if none
 /// does or it isn't found at once, of the first segment that the point isn't east of.
 fn find_place(
-    segments: &[Segment],
+    map: &Map,
+    p: Point,
     line: &mut Line,
     places: &Places,
     outs: &[u32],
-    p: Point,
 ) -> Result<usize, AllocError>
     ensures { IfOk result (λ place. list_of line.new ≡ list_of line.old) }
 {
-    open(segments, line, p)?;
+    open(map, line, p)?;
     match places.find(line, outs) {
         Some(place) => Ok(place),
-        None => Ok(find(segments, line, p)),
+        None => Ok(find(map, line, p)),
     }
 }
 
@@ -186,12 +170,10 @@ fn find_place(
 pub fn sweep_list(
     alloc: Global,
     map: &Map,
-    segments: &[Segment],
     events: &Events,
     spots: &mut Spots,
     suspects: &mut Vec<u32>,
 ) -> Result<bool, AllocError>
-    requires segments { AreSegments map.now.chains segments.now }
     requires events { AreEvents map.now.chains events.now }
     requires rising { AreRising events.now }
     requires wide { IsWide widest map.now.chains }
@@ -200,13 +182,12 @@ pub fn sweep_list(
     ensures slabs { IfOk result (λ done. IsTrue done → AreSlabsTested widest map.now.chains) }
     ensures marks { IfOk result (λ done. IsTrue done → AreMarks map.now spots.new.marks.items) }
 {
-    let mut places = Places::new(alloc, segments.len())?;
+    let mut places = Places::new(alloc, map.segments() as usize)?;
     let mut line = Line::new(alloc);
     let mut outs = Vec::new(alloc);
     let mut ins = Vec::new(alloc);
     sweep_along(
         map,
-        segments,
         events,
         &mut line,
         &mut outs,
@@ -217,10 +198,9 @@ pub fn sweep_list(
     )
 }
 
-/// Does so with an empty list of active segments, and with lists for those that end and that begin at a vertex.
+/// Does so with an empty list of active map, and with lists for those that end and that begin at a vertex.
 fn sweep_along(
     map: &Map,
-    segments: &[Segment],
     events: &Events,
     line: &mut Line,
     outs: &mut Vec<u32>,
@@ -230,7 +210,6 @@ fn sweep_along(
     suspects: &mut Vec<u32>,
 ) -> Result<bool, AllocError>
     requires empty { list_of line.old ≡ [] }
-    requires segments { AreSegments map.now.chains segments.now }
     requires events { AreEvents map.now.chains events.now }
     requires rising { AreRising events.now }
     requires wide { IsWide widest map.now.chains }
@@ -242,9 +221,9 @@ fn sweep_along(
     let mut gaps = Some(0u64);
     let mut from = 0;
     while from < events.len() {
-        spots.look(map, segments, line, events, from, gaps)?;
+        spots.look(map, line, events, from, gaps)?;
         let to = gather(events, from, outs, ins)?;
-        if !step(map, segments, line, outs, ins, places, &mut gaps)? {
+        if !step(map, events.point(from), line, outs, ins, places, &mut gaps)? {
             list_suspects(line, outs, ins, suspects)?;
             return Ok(false);
         }

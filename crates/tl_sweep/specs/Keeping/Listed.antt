@@ -8,10 +8,6 @@ use Rattle.tl_sweep.specs.declared.events.Event.{Event}
 use Rattle.tl_slabs.specs.Heights.{height, widest, low_end, high_end}
 use Rattle.tl_slabs.specs.Neighbours.{IsNumbered}
 
--- the segments by their numbers
-abbrev pub AreSegments : List MapChain → List Segment → Type 0
-AreSegments chains segments = (s : ℕ) (d : Segment) → s < length segments → IsNumbered chains s (slice_index_or segments s d)
-
 -- the end of its segment that an event is at
 abbrev pub end_at : Event → Segment → Point
 end_at e segment = if e.first then segment.a else segment.b

@@ -1,7 +1,6 @@
 use Rattle.std.proofs.lemmas.Result.{err_from_is_err_and}
-use Rattle.std.proofs.Common.{◌≡◌, ◌-◌, ◌<◌, ◌≤◌, take, List, [], ◌+◌, length, ap, sym, refl, subst, arith}
-use Rattle.std.proofs.lemmas.List.Sums.{sum_by-take-le}
-use Rattle.tl_county.specs.Chains.{CompleteChain, segment_count}
+use Rattle.std.proofs.Common.{◌≡◌, ◌-◌, ◌<◌, List, [], ◌+◌, length, ap, sym, refl, subst, arith}
+use Rattle.tl_county.specs.Chains.{CompleteChain}
 use Rattle.tl_county.specs.Keeping.Numbered.{NumberUpTo}
 use Rattle.tl_county.proofs.NumberLemmas.{number_none, number_more, points_told, several_told}
 use Rattle.tl_county.proofs.segments.number_segments.Goals as goal
@@ -18,31 +17,20 @@ loop-c-preserved c =
     let lt : c.loop-c.c < length cs = omega (arith, c.loop-c-test.true, c.len-c-end.ensures) in
     let points = points_told cs c.loop-c.c c.points.result.now lt c.points.ensures d in
     let old = c.loop-c.of.ok.0 in
-    let long : length c.resize.new.self.items ≡ length c.loop-c.of.items + (length c.points.result.now - 1) = omega (arith, c.in_ok-resize.ensures.len, c.resize.new.self.ok.0, c.len-in-loop-c-2.ensures, c.loop-c.of.ok.0) in
-    rw c.in_ok-push.ensures.items
-    (number_more cs c.loop-c.c d c.loop-c.of.items c.resize.new.self.items c.loop-c.firsts.items (length c.points.result.now - 1) c.len-in-loop-c.result lt (omega (arith, c.len-in-loop-c.ensures, old)) (ap (λ (ps : List _). length ps - 1) (sym points)) long
-    (λ k e low. c.in_ok-resize.ensures.by_index.0 k e (omega (arith, low, c.len-in-loop-c-2.ensures, old)) (omega (arith, low, old)))
-    (λ k e low high. c.in_ok-resize.ensures.by_index.1 k e refl (omega (arith, low, old)) (omega (arith, high, long, c.len-in-loop-c-2.ensures, old)))
-    c.loop-c.invariant)
+    let long : length c.resize.new.self.items ≡ length c.loop-c.of.items + (length c.points.result.now - 1) = omega (arith, c.in_ok-resize.ensures.len, c.resize.new.self.ok.0, c.len.ensures, c.loop-c.of.ok.0) in
+    number_more cs c.loop-c.c d c.loop-c.of.items c.resize.new.self.items (length c.points.result.now - 1) lt (ap (λ (ps : List _). length ps - 1) (sym points)) long
+    (λ k e low. c.in_ok-resize.ensures.by_index.0 k e (omega (arith, low, c.len.ensures, old)) (omega (arith, low, old)))
+    (λ k e low high. c.in_ok-resize.ensures.by_index.1 k e refl (omega (arith, low, old)) (omega (arith, high, long, c.len.ensures, old)))
+    c.loop-c.invariant
 
 pub returns : goal.returns
 returns c =
     let whole : c.loop-c.c ≡ length c.args.chains.now.chains = omega (arith, c.loop-c-test.false, c.len-c-end.ensures, c.loop-c.auto.c-end) in
-    subst (λ n. NumberUpTo c.args.chains.now.chains n c.loop-c.of.items c.loop-c.firsts.items) whole c.loop-c.invariant
+    subst (λ n. NumberUpTo c.args.chains.now.chains n c.loop-c.of.items) whole c.loop-c.invariant
 
 pub returns-in_err-of : goal.returns-in_err-of
 returns-in_err-of c =
     let p = err_from_is_err_and c.from_residual.result c.from_residual.ensures.1 in
-    rw p.1 tt
-
-pub returns-in_err-firsts : goal.returns-in_err-firsts
-returns-in_err-firsts c =
-    let p = err_from_is_err_and c.from_residual-in_err-firsts.result c.from_residual-in_err-firsts.ensures.1 in
-    rw p.1 tt
-
-pub returns-in_err-push : goal.returns-in_err-push
-returns-in_err-push c =
-    let p = err_from_is_err_and c.from_residual-in_err-push.result c.from_residual-in_err-push.ensures.1 in
     rw p.1 tt
 
 pub returns-in_err-resize : goal.returns-in_err-resize
@@ -51,10 +39,4 @@ returns-in_err-resize c =
     rw p.1 tt
 
 pub loop-c-init : goal.loop-c-init
-loop-c-init c = number_none c.args.chains.now.chains _ _ c.in_ok-of.ensures.items c.in_ok-firsts.ensures.items
-
-pub overflow_cast-len-in-loop-c : goal.overflow_cast-len-in-loop-c
-overflow_cast-len-in-loop-c c =
-    let cs = c.args.chains.now.chains in
-    let before : segment_count (take c.loop-c.c cs) ≤ segment_count cs = sum_by-take-le (λ (x : CompleteChain). length x.points - 1) cs c.loop-c.c in
-    omega (arith, before, c.segments-total.ensures.count, c.segments-total.ensures.few, c.loop-c.invariant.count, c.len-in-loop-c.ensures, c.loop-c.of.ok.0)
+loop-c-init c = number_none c.args.chains.now.chains _ c.in_ok-of.ensures.items

@@ -6,9 +6,6 @@ use Rattle.tl_sweep.proofs.answer.sweep_tested.Goals as goal
 pub planar-requires-clause-planar : goal.planar-requires-clause-planar
 planar-requires-clause-planar c = planar widest c.args.map.now.chains c.requires.wide (c.in_ok-sweep_list.ensures.slabs c.if-not-branch.false) c.requires.vertices
 
-pub sweep_list-requires-clause-segments : goal.sweep_list-requires-clause-segments
-sweep_list-requires-clause-segments c = c.requires.segments
-
 pub sweep_list-requires-clause-events : goal.sweep_list-requires-clause-events
 sweep_list-requires-clause-events c = c.requires.events
 

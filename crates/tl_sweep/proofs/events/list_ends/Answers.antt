@@ -4,18 +4,20 @@ use Rattle.tl_county.specs.Segments.{segments_before}
 use Rattle.tl_planar.proofs.Numbering.{below_total}
 use Rattle.tl_index.proofs.Times.{same_or}
 use Rattle.tl_sweep.proofs.Ending.{ends_more, same_range}
+use Rattle.tl_sweep.proofs.Listing.{own}
 use Rattle.tl_sweep.proofs.Spotting.{wide_by_range}
 use Rattle.tl_sweep.proofs.events.list_ends.Goals as goal
 
 pub loop-s-preserved : goal.loop-s-preserved
 loop-s-preserved c =
-    let within : c.loop-s.s < length c.args.segments.now = let more = c.loop-s-test.true in let count = c.segments-count.ensures.count in let all = c.requires.all in omega (arith, more, count, all) in
+    let chains = c.args.map.now.chains in
+    let is = own chains c.loop-s.s c.segment.result c.segment.ensures in
     record {
       are = rw c.in_ok-push_both.ensures
-          (ends_more c.args.map.now.chains c.args.segments.now c.loop-s.s c.loop-s.ends.items c.ends_of.result.0 c.ends_of.result.1 c.requires.segments within c.ends_of.ensures.one c.ends_of.ensures.other c.loop-s.invariant.are);
-      ranges = λ s u lt is. same_or s c.loop-s.s
-          (λ e. same_range c.args.map.now.chains c.args.segments.now c.loop-s.s s u c.requires.segments within e is (c.ends_of.ensures.ranges u))
-          (λ ne. c.loop-s.invariant.ranges s u (omega (arith, lt, ne)) is);
+          (ends_more chains c.loop-s.s c.segment.result is c.loop-s.ends.items c.ends_of.result.0 c.ends_of.result.1 c.ends_of.ensures.one c.ends_of.ensures.other c.loop-s.invariant.are);
+      ranges = λ s u lt number. same_or s c.loop-s.s
+          (λ e. same_range chains c.loop-s.s c.segment.result is s u e number c.ends_of.ensures.ranges)
+          (λ ne. c.loop-s.invariant.ranges s u (omega (arith, lt, ne)) number);
     }
 
 pub returns-clause-ranges : goal.returns-clause-ranges

@@ -28,9 +28,6 @@ loop-from-preserved c =
       marks = c.in_ok-look.ensures.marks;
     }
 
-pub look-requires-clause-segments : goal.look-requires-clause-segments
-look-requires-clause-segments c = c.requires.segments
-
 pub look-requires-clause-events : goal.look-requires-clause-events
 look-requires-clause-events c = c.requires.events
 

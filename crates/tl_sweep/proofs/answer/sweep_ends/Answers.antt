@@ -2,7 +2,7 @@ use Rattle.std.proofs.Common.{length}
 use Rattle.std.proofs.lemmas.Result.{err_from_is_err_and}
 use Rattle.tl_county.specs.Segments.{segments_before}
 use Rattle.tl_sweep.proofs.Listing.{events_moved}
-use Rattle.tl_sweep.proofs.answer.sweep_segments.Goals as goal
+use Rattle.tl_sweep.proofs.answer.sweep_ends.Goals as goal
 
 pub sweep_events-requires-clause-events : goal.sweep_events-requires-clause-events
 sweep_events-requires-clause-events c =
