@@ -14,46 +14,24 @@ use std::cmp::Ordering;
 use tl_county::{Map, Ranked, presort_by_rank};
 use tl_geom::{Direction, round_cmp};
 
-/// The shares of a whole, by which headings within a quarter of a turn are told apart.
-const SHARES: u64 = 1 << 30;
-
-/// A dart, with the number of the node where it starts, the direction in which it heads, and about how far that is turned from
-/// east.
+/// A dart, with the number of the node where it starts and the direction in which it heads.
 #[derive(Clone, Copy)]
 pub struct DartStart {
     pub node: u32,
     pub dart: u32,
     pub heading: Direction,
-    pub turned: u32,
 }
 
 impl Ranked for DartStart {
-    /// By its node, and about one node by how far its heading is turned from east.
+    /// By its node.
     fn rank(&self) -> u64 {
-        u64::from(self.node) << 32 | u64::from(self.turned)
+        u64::from(self.node)
     }
-}
 
-/// About how far a direction is turned from east, counter-clockwise: by quarters of a turn, and within each by the share that
-/// the step away from its beginning has in both steps.
-fn turned(heading: Direction) -> u32 {
-    let (x, y) = (heading.x.unsigned_abs(), heading.y.unsigned_abs());
-    let (quarter, away) = if heading.y > 0 {
-        if heading.x > 0 { (0, y) } else { (1, x) }
-    } else if heading.y < 0 {
-        if heading.x < 0 { (2, y) } else { (3, x) }
-    } else if heading.x > 0 {
-        (0, 0)
-    } else {
-        (2, 0)
-    };
-    quarter << 30 | share(away, x.saturating_add(y))
-}
-
-/// How many of the shares of a whole a part has, but never all.
-fn share(part: u64, whole: u64) -> u32 {
-    let shares = part.wrapping_mul(SHARES) / whole.max(1);
-    shares.min(SHARES - 1) as u32
+    /// Of two darts of one node, the one that is turned less from east comes first.
+    fn compare(&self, other: &DartStart) -> Ordering {
+        start_cmp(self, other)
+    }
 }
 
 /// The darts of a map, those of each node together and counter-clockwise from east.
@@ -95,7 +73,6 @@ fn starts_of(alloc: Global, map: &Map) -> Result<Vec<DartStart>, AllocError>
             node,
             dart,
             heading,
-            turned: turned(heading),
         })?;
     }
     Ok(starts)

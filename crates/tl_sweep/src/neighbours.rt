@@ -83,6 +83,16 @@ fn are_free(u: Segment, w: Segment) -> bool
     }
 }
 
+/// Whether `u` is west of `w`, and they are apart or share an end of both alone, where the rectangles about them don't tell. It is
+/// kept out of where it is called, so that most neighbours take the short way.
+#[inline(never)]
+fn are_closely_tested(u: Segment, w: Segment) -> bool
+    ensures west { IsTrue result → IsWestOf widest u w }
+    ensures apart { IsTrue result → AreApartOrAtEnds u w }
+{
+    is_clearly_west_of(u, w) || (is_west_of(u, w) && are_free(u, w))
+}
+
 /// Whether segment `s` is west of segment `t`, and they are apart or share an end of both alone. It is not so of numbers of
 /// no segments.
 pub fn are_tested(map: &Map, s: u32, t: u32) -> bool
@@ -92,13 +102,6 @@ pub fn are_tested(map: &Map, s: u32, t: u32) -> bool
     if s >= count || t >= count {
         return false;
     }
-    let one = map.segment(s);
-    let other = map.segment(t);
-    if is_beside(one, other) {
-        return true;
-    }
-    if is_clearly_west_of(one, other) {
-        return true;
-    }
-    is_west_of(one, other) && are_free(one, other)
+    let (one, other) = (map.segment(s), map.segment(t));
+    is_beside(one, other) || are_closely_tested(one, other)
 }
