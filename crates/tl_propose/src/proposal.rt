@@ -79,7 +79,7 @@ fn propose_rings(alloc: Global, map: &Map) -> Result<(Vec<Vec<u32>>, Vec<Vec<u32
 {
     let starts = sort_starts(alloc, map)?;
     let rounds = rounds_of(alloc, map, &starts)?;
-    let walks = walks_of(alloc, map, &starts)?;
+    let walks = walks_of(alloc, map, starts)?;
     Ok((rounds, walks))
 }
 
@@ -91,7 +91,7 @@ pub fn propose_walks(alloc: Global, map: &Map) -> Result<Vec<Vec<u32>>, AllocErr
     ensures counted { IfOk result (λ walks. AreDartLists (lists_in walks.items)) }
 {
     let starts = sort_starts(alloc, map)?;
-    walks_of(alloc, map, &starts)
+    walks_of(alloc, map, starts)
 }
 
 /// The rounds of a map, by its sorted darts.
@@ -106,9 +106,9 @@ fn rounds_of(alloc: Global, map: &Map, starts: &[DartStart]) -> Result<Vec<Vec<u
     Ok(rounds)
 }
 
-/// The walks of a map, by its sorted darts.
-fn walks_of(alloc: Global, map: &Map, starts: &[DartStart]) -> Result<Vec<Vec<u32>>, AllocError>
-    requires { AreStarts map.now.chains starts.now }
+/// The walks of a map, by its sorted darts, whose list is freed before there are walks.
+fn walks_of(alloc: Global, map: &Map, starts: Vec<DartStart>) -> Result<Vec<Vec<u32>>, AllocError>
+    requires { AreStarts map.now.chains starts.items }
     ensures hold { IfOk result (λ walks. HoldOnce (2 * length map.now.chains) (lists_in walks.items)) }
     ensures are_walks { IfOk result (λ walks. AreProper map.now.chains → IsPlanar map.now.chains →
         AreWalks map.now.chains (lists_in walks.items)) }
@@ -116,7 +116,8 @@ fn walks_of(alloc: Global, map: &Map, starts: &[DartStart]) -> Result<Vec<Vec<u3
 {
     // that the nodes of a map are one list
     let _nodes = map.nodes();
-    let following = link_darts(alloc, starts)?;
+    let following = link_darts(alloc, &starts)?;
+    drop(starts);
     let walks = trace_walks(alloc, &following)?;
     Ok(walks)
 }

@@ -7,7 +7,7 @@ pub rounds_of-requires : goal.rounds_of-requires
 rounds_of-requires c = subst (AreStarts c.args.map.now.chains) (sym c.deref.ensures.value) c.in_ok-starts.ensures
 
 pub walks_of-requires : goal.walks_of-requires
-walks_of-requires c = subst (AreStarts c.args.map.now.chains) (sym c.deref-2.ensures.value) c.in_ok-starts.ensures
+walks_of-requires c = c.in_ok-starts.ensures
 
 pub returns-clause-rounds : goal.returns-clause-rounds
 returns-clause-rounds c = c.in_ok-rounds.ensures.hold

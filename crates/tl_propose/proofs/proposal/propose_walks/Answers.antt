@@ -1,10 +1,8 @@
-use Rattle.std.proofs.Common.{sym, subst}
 use Rattle.std.proofs.lemmas.Result.{err_from_is_err_and}
-use Rattle.tl_propose.specs.Keeping.Sorting.{AreStarts}
 use Rattle.tl_propose.proofs.proposal.propose_walks.Goals as goal
 
 pub walks_of-requires : goal.walks_of-requires
-walks_of-requires c = subst (AreStarts c.args.map.now.chains) (sym c.deref.ensures.value) c.in_ok-starts.ensures
+walks_of-requires c = c.in_ok-starts.ensures
 
 pub returns-clause-hold : goal.returns-clause-hold
 returns-clause-hold c = c.walks_of.ensures.hold
