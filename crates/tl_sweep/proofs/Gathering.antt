@@ -68,10 +68,6 @@ one_further events from k d le lt =
     take_more (drop from events) (k - from) d (omega (arith, rest, lt, le)) ∙
     ap (λ e. take (k - from) (drop from events) ++ e ∷ []) (get_or-drop from events (k - from) d ∙ ap (λ n. get_or events n d) (let there : from + (k - from) ≡ k = omega (arith, le) in there))
 
--- what isn't before a place and isn't there is past it
-pub past_where_differ : (a b : ℕ) → a ≤ b → (a ≡ b → ⊥) → a < b
-past_where_differ a b le differ = grind (arith, le, differ)
-
 -- one event more is at the height of the first
 pub level_further : (events : List Event) (from to : ℕ)
     → ((k : ℕ) (d : Event) → from ≤ k → k < to → (get_or events k d).height ≡ (get_or events from d).height)

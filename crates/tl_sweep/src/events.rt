@@ -59,10 +59,10 @@ impl Model for Events {
 }
 
 impl Events {
-    ghost use Rattle.std.specs.Prelude.{◌≡◌, ◌<◌, IfOk, length, slice_index_or};
+    ghost use Rattle.std.specs.Prelude.{◌≡◌, ◌<◌, ◌+ℤ◌, pos, IfOk, length, slice_index_or};
     ghost use Rattle.std.specs.List.Sorted.{IsPermutation};
     ghost use Rattle.tl_county.specs.Segments.{segments_before};
-    ghost use Rattle.tl_slabs.specs.Heights.{widest};
+    ghost use Rattle.tl_slabs.specs.Heights.{height as height_by, widest};
     ghost use Rattle.tl_sweep.specs.declared.events.Event.{Event};
     ghost use Rattle.tl_slabs.specs.Neighbours.{IsWide};
     ghost use Rattle.tl_sweep.specs.Keeping.Listed.{AreEvents};
@@ -93,9 +93,10 @@ impl Events {
         event_of(self.ends[place])
     }
 
-    /// The point of the event at a place, of which nothing is said.
+    /// The point of the event at a place.
     pub fn point(&self, place: usize) -> Point
         requires { place < length self.now }
+        ensures { (d : Event) → (slice_index_or self.now place d).height ≡ height_by widest result +ℤ pos 2147483647 }
     {
         self.ends[place].point
     }

@@ -41,18 +41,13 @@ fn gather(
     outs.clear();
     ins.clear();
     let count = events.len();
-    let height = events.at(from).height;
-    let latitude = events.point(from).y;
+    let p = events.point(from);
     let mut to = from;
     while to < count {
-        // Most events that aren't at this height are at another latitude.
-        if to > from && events.point(to).y != latitude {
+        if to > from && events.point(to) != p {
             return Ok(to);
         }
         let event = events.at(to);
-        if event.height != height {
-            return Ok(to);
-        }
         if event.begins {
             ins.push(event.segment)?;
         } else {

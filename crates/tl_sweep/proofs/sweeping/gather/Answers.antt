@@ -1,16 +1,17 @@
-use Rattle.std.proofs.Common.{◌≡◌, ◌+◌, ◌-◌, ◌++◌, ◌∷◌, [], List, Vec, Global, ℕ, FitsSigned, w64, to_z, of_z, to_z-of_z, take, drop, count_by, get_or, sym, ap, ◌∙◌, arith}
+use Rattle.std.proofs.Common.{◌≡◌, Bool, true, false, not, pos, ◌+ℤ◌, refl, ◌+◌, ◌-◌, ◌++◌, ◌∷◌, [], List, Vec, Global, ℕ, take, drop, count_by, get_or, sym, ap, ◌∙◌, arith}
 use Rattle.std.proofs.lemmas.Result.{err_from_is_err_and}
+use Rattle.tl_geom.proofs.Conditions.{same_point}
 use Rattle.tl_index.specs.Hits.{times}
 use Rattle.tl_sweep.specs.declared.events.Event.{Event}
+use Rattle.tl_slabs.specs.Heights.{height, widest}
 use Rattle.tl_sweep.specs.Keeping.Listed.{begins_at, ends_at}
-use Rattle.tl_sweep.proofs.Gathering.{one_begins, none_begins, one_ends, none_ends, one_further, past_where_differ, level_further}
+use Rattle.tl_sweep.proofs.Gathering.{one_begins, none_begins, one_ends, none_ends, one_further, level_further}
 use Rattle.tl_sweep.proofs.sweeping.gather.Goals as goal
-use Rattle.tl_sweep.proofs.sweeping.gather.Goals.{then-event+in_ok-push, else-event+in_ok-push-2}
+use Rattle.tl_sweep.proofs.sweeping.gather.Goals.{then-event+in_ok-push, else-event+in_ok-push-2, else-to-from-via-then-to-from+else-ne, else-to-from-via-else-to-from}
 
-pub returns-then-event-height-clause-past : goal.returns-then-event-height-clause-past
-returns-then-event-height-clause-past c =
-    past_where_differ c.args.from c.loop-to.to c.loop-to.invariant.past (λ e. c.if-event-height.true
-    (ap (λ (x : Event). of_z w64 x.height) (c.at-event.ensures c.at-event.result ∙ ap (λ n. get_or c.args.events.now n c.at-event.result) (sym e) ∙ sym (c.at-height.ensures c.at-event.result))))
+denied : (b : Bool) → false ≡ not b → true ≡ b
+denied true e = refl
+denied false e = absurd (cc)
 
 pub loop-to-preserved : goal.loop-to-preserved
 loop-to-preserved c =
@@ -22,9 +23,12 @@ loop-to-preserved c =
     one_further c.args.events.now c.args.from c.loop-to.to c.at-event.result c.loop-to.invariant.past (omega (arith, within, len))
     ∙ ap (λ e. take (c.loop-to.to - c.args.from) (drop c.args.from c.args.events.now) ++ e ∷ []) (sym (c.at-event.ensures c.at-event.result)) in
     let now = c.loop-to.invariant in
-    let fits : FitsSigned w64 c.at-event.result.height = search in
-    let same : (d : Event) → (get_or c.args.events.now c.loop-to.to d).height ≡ (get_or c.args.events.now c.args.from d).height =
-    λ d. ap (λ (e : Event). e.height) (sym (c.at-event.ensures d)) ∙ sym (to_z-of_z fits) ∙ ap (to_z w64) c.if-event-height.false ∙ now.head d in
+    let same : (d : Event) → (get_or c.args.events.now c.loop-to.to d).height ≡ (get_or c.args.events.now c.args.from d).height = λ d. elim c.else-to-from.branch [
+      | else-to-from-via-then-to-from+else-ne w ↦
+          let one : w.point.result ≡ c.point-p.result = same_point _ _ true (denied _ w.if-ne.ensures) refl in
+          w.point.ensures d ∙ ap (λ q. height widest q +ℤ pos 2147483647) one ∙ sym (now.head d)
+      | else-to-from-via-else-to-from w ↦ let here : c.loop-to.to ≡ c.args.from = omega (arith, w.if-to-from.false, now.past) in ap (λ n. (get_or c.args.events.now n d).height) here
+    ] in
     record {
       past = let past = now.past in omega (arith, past);
       within = omega (arith, within, len);
