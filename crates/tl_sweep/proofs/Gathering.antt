@@ -1,14 +1,12 @@
 -- What is counted of lists of events and of numbers.
-use Rattle.std.proofs.Common.{◌≡◌, ◌⊎◌, inl, inr, ℕ, ◌+◌, ◌-◌, ◌<◌, ◌≤◌, ◌==◌, Bool, true, false, not, ◌&&◌, if◌then◌else◌, List, [], ◌∷◌, ◌++◌, length, take, drop, get_or, sum_by, count_by, refl, sym, ap, ◌∙◌, arith}
+use Rattle.std.proofs.Common.{◌≡◌, ℕ, ◌+◌, ◌==◌, Bool, if◌then◌else◌, List, [], ◌∷◌, ◌++◌, sum_by, count_by, refl, sym, ap, ◌∙◌, arith}
 use Rattle.std.specs.List.Sorted.{IsPermutation}
 use Rattle.std.proofs.lemmas.Bool.Decides.{nat_tests}
-use Rattle.std.proofs.lemmas.List.{get_or-drop, length-drop, take_more}
 use Rattle.std.proofs.lemmas.List.Sorted.{sum_by-IsPermutation}
 use Rattle.std.proofs.lemmas.List.Sums.{sum_by-cons, sum_by-append}
 use Rattle.tl_index.specs.Hits.{times}
 use Rattle.tl_index.proofs.Times.{times-append}
 use Rattle.tl_sweep.specs.declared.events.Event.{Event}
-use Rattle.tl_sweep.specs.Keeping.Listed.{begins_at, ends_at}
 use Rattle.tl_slabs.proofs.Flanked.{bit}
 
 -- ---- numbers
@@ -26,58 +24,18 @@ times_moved s xs ys moved = times_sum s ys ∙ sum_by-IsPermutation (is_it s) xs
 
 -- ---- events
 
-count_more : (f : Event → Bool) (events : List Event) (x : Event) → count_by f (events ++ x ∷ []) ≡ count_by f events + bit (f x)
-count_more f events x =
-    let sum = sum_by-append (λ (e : Event). bit (f e)) events (x ∷ []) in
-    let one = sum_by-cons (λ (e : Event). bit (f e)) x [] in
-    omega (arith, sum, one)
-
-module _ (events : List Event) (x : Event) (s : ℕ) (list : List ℕ) where
-  listed_same : (f : Event → Bool) → f x ≡ false → times s list ≡ count_by f events → times s list ≡ count_by f (events ++ x ∷ [])
-  listed_same f none_there are = let more = count_more f events x in let none : bit (f x) ≡ 0 = ap bit none_there in omega (arith, more, none, are)
-
-  listed_more : (f : Event → Bool) → f x ≡ (x.segment == s) → times s list ≡ count_by f events → times s (list ++ x.segment ∷ []) ≡ count_by f (events ++ x ∷ [])
-  listed_more f is are =
-      let more = count_more f events x in
-      let both = times-append s list (x.segment ∷ []) in
-      let one : bit (f x) ≡ bit (x.segment == s) = ap bit is in
-      let same : bit (x.segment == s) ≡ times s (x.segment ∷ []) = turned x.segment s in
-      omega (arith, more, both, one, same, are)
-    where
-      turned : (t s : ℕ) → bit (t == s) ≡ (if s == t then 1 else 0) + 0
-      turned t s = grind (arith, nat_tests)
-
-  pub one_begins : x.begins ≡ true → times s list ≡ count_by (begins_at s) events → times s (list ++ x.segment ∷ []) ≡ count_by (begins_at s) (events ++ x ∷ [])
-  one_begins e are = listed_more (begins_at s) (ap (λ b. b && (x.segment == s)) e) are
-
-  pub none_ends : x.begins ≡ true → times s list ≡ count_by (ends_at s) events → times s list ≡ count_by (ends_at s) (events ++ x ∷ [])
-  none_ends e are = listed_same (ends_at s) (ap (λ b. not b && (x.segment == s)) e) are
-
-  pub one_ends : x.begins ≡ false → times s list ≡ count_by (ends_at s) events → times s (list ++ x.segment ∷ []) ≡ count_by (ends_at s) (events ++ x ∷ [])
-  one_ends e are = listed_more (ends_at s) (ap (λ b. not b && (x.segment == s)) e) are
-
-  pub none_begins : x.begins ≡ false → times s list ≡ count_by (begins_at s) events → times s list ≡ count_by (begins_at s) (events ++ x ∷ [])
-  none_begins e are = listed_same (begins_at s) (ap (λ b. b && (x.segment == s)) e) are
-
--- ---- one event more of those from a place on
-
-pub one_further : (events : List Event) (from k : ℕ) (d : Event) → from ≤ k → k < length events → take (k + 1 - from) (drop from events) ≡ take (k - from) (drop from events) ++ get_or events k d ∷ []
-one_further events from k d le lt =
-    let rest = length-drop from events in
-    ap (λ n. take n (drop from events)) (let next : k + 1 - from ≡ (k - from) + 1 = omega (arith, le) in next) ∙
-    take_more (drop from events) (k - from) d (omega (arith, rest, lt, le)) ∙
-    ap (λ e. take (k - from) (drop from events) ++ e ∷ []) (get_or-drop from events (k - from) d ∙ ap (λ n. get_or events n d) (let there : from + (k - from) ≡ k = omega (arith, le) in there))
-
--- one event more is at the height of the first
-pub level_further : (events : List Event) (from to : ℕ)
-    → ((k : ℕ) (d : Event) → from ≤ k → k < to → (get_or events k d).height ≡ (get_or events from d).height)
-    → ((d : Event) → (get_or events to d).height ≡ (get_or events from d).height)
-    → (k : ℕ) (d : Event) → from ≤ k → k < to + 1 → (get_or events k d).height ≡ (get_or events from d).height
-level_further events from to level next k d le lt = split (last k to lt)
+-- what is noted of an event
+pub noted : (s : ℕ) (list : List ℕ) (x : Event) (f : Event → Bool) → f x ≡ (x.segment == s) → times s (list ++ x.segment ∷ []) ≡ times s list + count_by f (x ∷ [])
+noted s list x f is =
+    let both = times-append s list (x.segment ∷ []) in
+    let one : bit (f x) ≡ bit (x.segment == s) = ap bit is in
+    let same : bit (x.segment == s) ≡ times s (x.segment ∷ []) = turned x.segment s in
+    let sum = sum_by-cons (λ (e : Event). bit (f e)) x [] in
+    omega (arith, both, one, same, sum)
   where
-    last : (k to : ℕ) → k < to + 1 → (k < to) ⊎ (k ≡ to)
-    last k to lt = grind (arith, lt)
+    turned : (t s : ℕ) → bit (t == s) ≡ (if s == t then 1 else 0) + 0
+    turned t s = grind (arith, nat_tests)
 
-    split : (k < to) ⊎ (k ≡ to) → (get_or events k d).height ≡ (get_or events from d).height
-    split (inl lt) = level k d le lt
-    split (inr e) = ap (λ n. (get_or events n d).height) e ∙ next d
+-- what is counted of two lists
+pub counted_both : (f : Event → Bool) (events more : List Event) → count_by f (events ++ more) ≡ count_by f events + count_by f more
+counted_both f events more = sum_by-append (λ (e : Event). bit (f e)) events more

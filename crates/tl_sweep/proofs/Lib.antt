@@ -2,11 +2,14 @@ pub mod Tests
 pub mod Beside
 pub mod Lining
 pub mod Listing
-pub mod Ending
+pub mod Joining
 pub mod Meeting
+pub mod Ending
 pub mod Found
+pub mod Pushing
 pub mod Gathering
 pub mod Slab
+pub mod Gone
 pub mod Stacked
 pub mod Gaps
 pub mod Spotting

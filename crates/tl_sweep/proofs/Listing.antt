@@ -1,10 +1,8 @@
 -- The events of segments.
 use Rattle.std.proofs.Common.{◌≡◌, ℕ, ◌+◌, ◌==◌, Bool, true, false, not, ◌&&◌, if◌then◌else◌, ℤ, pos, ◌+ℤ◌, List, [], ◌∷◌, ◌++◌, count_by, refl, sym, ap, ◌∙◌, arith}
 use Rattle.std.specs.Prelude.{int_lt}
-use Rattle.std.specs.List.Sorted.{IsPermutation}
 use Rattle.std.proofs.lemmas.Bool.Decides.{nat_tests}
-use Rattle.std.proofs.lemmas.List.Elements.{All-push}
-use Rattle.std.proofs.lemmas.List.Sorted.{All-permutation, sum_by-IsPermutation}
+use Rattle.std.proofs.lemmas.List.Elements.{All-nil, All-push}
 use Rattle.std.proofs.lemmas.List.Sums.{sum_by-cons, sum_by-append}
 use Rattle.tl_geom.specs.declared.segment.Segment.{Segment}
 use Rattle.tl_county.specs.TheMap.{MapChain}
@@ -116,15 +114,11 @@ module _ (chains : List MapChain) (n : ℕ) (events : List Event) (a b : Event) 
         (begun_same s ne ∙ (are.no_more s (omega (arith, le))).0, ended_same s ne ∙ (are.no_more s (omega (arith, le))).1);
   }
 
--- ---- in another order
-
-pub events_moved : (chains : List MapChain) (n : ℕ) (old new : List Event) → IsPermutation old new → AreEventsOf chains n old → AreEventsOf chains n new
-events_moved chains n old new moved are = record {
-  each = All-permutation (IsEvent chains) old new moved are.each;
-  begun = λ s lt. sum_by-IsPermutation (λ (e : Event). bit (begins_at s e)) old new moved ∙ are.begun s lt;
-  ended = λ s lt. sum_by-IsPermutation (λ (e : Event). bit (ends_at s e)) old new moved ∙ are.ended s lt;
-  no_more = λ s le. (
-    sum_by-IsPermutation (λ (e : Event). bit (begins_at s e)) old new moved ∙ (are.no_more s le).0,
-    sum_by-IsPermutation (λ (e : Event). bit (ends_at s e)) old new moved ∙ (are.no_more s le).1,
-  );
+-- of no segment there is none
+pub no_events : (chains : List MapChain) → AreEventsOf chains 0 []
+no_events chains = record {
+  each = All-nil (IsEvent chains);
+  begun = λ s lt. absurd (omega (arith, lt));
+  ended = λ s lt. absurd (omega (arith, lt));
+  no_more = λ s le. (refl, refl);
 }

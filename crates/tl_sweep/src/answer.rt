@@ -1,5 +1,5 @@
 //! What a sweep says of a map.
-ghost use Rattle.std.specs.Prelude.{◌≡◌, IfOk, IfSome, length};
+ghost use Rattle.std.specs.Prelude.{◌≡◌, All, IfOk, IfSome};
 ghost use Rattle.tl_planar.specs.Planar.{IsPlanar};
 ghost use Rattle.tl_planar.specs.declared.meet.Meet.{Meet};
 ghost use Rattle.tl_planar.specs.Searching.{IsTrueMeet};
@@ -8,7 +8,8 @@ ghost use Rattle.tl_crossings.specs.Headings.{AreProper};
 ghost use Rattle.tl_slabs.specs.Heights.{widest};
 ghost use Rattle.tl_slabs.specs.Neighbours.{IsWide};
 ghost use Rattle.tl_slabs.specs.Slabs.{AreVerticesTested};
-ghost use Rattle.tl_sweep.specs.Keeping.Listed.{AreEvents, AreRising};
+ghost use Rattle.tl_sweep.specs.Keeping.Listed.{joined, AreEvents, AreRising};
+ghost use Rattle.tl_sweep.specs.Keeping.Ended.{AreMet};
 ghost use Rattle.tl_sweep.specs.Keeping.Spotted.{AreInRange, AreMarks};
 ghost use Rattle.tl_sweep.specs.Keeping.Told.{IsTrueAnswer};
 
@@ -57,7 +58,8 @@ fn sweep_ends(alloc: Global, map: &Map) -> Result<Swept, AllocError>
 
 /// The same by all ends, which are sorted.
 fn sweep_events(alloc: Global, map: &Map, events: &Events) -> Result<Swept, AllocError>
-    requires events { AreEvents map.now.chains events.now }
+    requires events { AreEvents map.now.chains (joined events.now) }
+    requires met { All (AreMet map.now.chains) events.now }
     requires wide { IsWide widest map.now.chains }
     requires ranges { AreInRange map.now.chains }
     requires proper { AreProper map.now.chains }
@@ -77,8 +79,8 @@ fn sweep_tested(
     events: &Events,
     suspects: &mut Vec<u32>,
 ) -> Result<Swept, AllocError>
-    requires events { AreEvents map.now.chains events.now }
-    requires rising { AreRising events.now }
+    requires events { AreEvents map.now.chains (joined events.now) }
+    requires rising { AreRising (joined events.now) }
     requires wide { IsWide widest map.now.chains }
     requires ranges { AreInRange map.now.chains }
     requires vertices { AreVerticesTested map.now.chains }

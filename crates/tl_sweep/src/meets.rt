@@ -1,12 +1,13 @@
 //! What is tested at vertices.
-ghost use Rattle.std.specs.Prelude.{◌≡◌, ◌<◌, ℕ, length, IsTrue};
+ghost use Rattle.std.specs.Prelude.{◌≡◌, ◌<◌, ℕ, All, IsTrue, length};
 ghost use Rattle.tl_county.specs.Segments.{segments_before};
 ghost use Rattle.tl_crossings.specs.Headings.{AreProper};
 ghost use Rattle.tl_slabs.specs.Heights.{widest};
 ghost use Rattle.tl_slabs.specs.Neighbours.{IsWide};
 ghost use Rattle.tl_slabs.specs.Slabs.{AreVerticesTested};
-ghost use Rattle.tl_sweep.specs.Keeping.Listed.{AreEvents, AreRising};
-ghost use Rattle.tl_sweep.specs.Keeping.Vertices.{IsAtPlace, IsEndOfChain, MayMeet, AreInOrder, AreInOrderUpTo};
+ghost use Rattle.tl_sweep.specs.Keeping.Listed.{joined, AreEvents, AreRising};
+ghost use Rattle.tl_sweep.specs.Keeping.Ended.{one_or_two, AreMet};
+ghost use Rattle.tl_sweep.specs.Keeping.Vertices.{IsAtPlace, IsEndOfChain, MayMeet, IsLast, AreInOrder};
 
 use crate::events::{Event, Events};
 use tl_county::Map;
@@ -59,22 +60,35 @@ pub fn are_in_order(map: &Map, e: Event, f: Event) -> bool
     e.height < f.height || e.height == f.height && may_meet(map, e, f)
 }
 
-/// Whether events rise, and those at one point may meet.
+/// Whether events rise, and those at one point may meet. It is known of the two at a bend.
 pub fn are_vertices_tested(map: &Map, events: &Events) -> bool
-    ensures rising { IsTrue result → AreRising events.now }
-    ensures vertices { IsTrue result → AreEvents map.now.chains events.now → IsWide widest map.now.chains →
+    requires { All (AreMet map.now.chains) events.now }
+    ensures rising { IsTrue result → AreRising (joined events.now) }
+    ensures vertices { IsTrue result → AreEvents map.now.chains (joined events.now) → IsWide widest map.now.chains →
         AreProper map.now.chains → AreVerticesTested map.now.chains }
 {
     if events.len() == 0 {
         return true;
     }
-    let mut before = events.at(0);
+    let (event, next) = events.at(0);
+    let mut last = last_of(event, next);
     for k in 1..events.len() {
-        let event = events.at(k);
-        if !are_in_order(map, before, event) {
+        let (event, next) = events.at(k);
+        if !are_in_order(map, last, event) {
             return false;
         }
-        before = event;
+        last = last_of(event, next);
     }
     true
+}
+
+/// The last of an event and another one, if there is one.
+#[inline]
+pub fn last_of(event: Event, next: Option<Event>) -> Event
+    ensures { IsLast result (one_or_two event next) }
+{
+    match next {
+        Some(next) => next,
+        None => event,
+    }
 }

@@ -6,7 +6,7 @@ ghost use Rattle.tl_slabs.specs.Beside.{IsEastOf, IsWestOfIt, IsEastOfLast, IsWe
 ghost use Rattle.tl_slabs.specs.Heights.{widest};
 ghost use Rattle.tl_sweep.specs.Keeping.Facing.{IsCounted};
 ghost use Rattle.tl_sweep.specs.Keeping.Lined.{list_of};
-ghost use Rattle.tl_sweep.specs.Keeping.Listed.{AreEvents, AreRising};
+ghost use Rattle.tl_sweep.specs.Keeping.Listed.{before, joined, AreEvents, AreRising};
 ghost use Rattle.tl_sweep.specs.Keeping.Spotted.{AreInRange, IsPlacedPolygon};
 ghost use Rattle.tl_sweep.specs.Keeping.Swept.{IsSwept};
 
@@ -29,10 +29,11 @@ pub fn is_placed(
     gaps: Option<u64>,
     polygon: u32,
 ) -> Result<bool, AllocError>
-    requires events { AreEvents map.now.chains events.now }
-    requires rising { AreRising events.now }
+    requires events { AreEvents map.now.chains (joined events.now) }
+    requires rising { AreRising (joined events.now) }
     requires ranges { AreInRange map.now.chains }
-    requires swept { IsSwept map.now.chains events.now from (list_of line.old) }
+    requires within { from < length events.now }
+    requires swept { IsSwept map.now.chains (joined events.now) (before from events.now) (list_of line.old) }
     requires counted { IsCounted map.now.chains gaps (list_of line.old) }
     ensures list { IfOk result (λ done. list_of line.new ≡ list_of line.old) }
     ensures placed { IfOk result (λ done. IsTrue done → IsPlacedPolygon map.now polygon) }
@@ -58,14 +59,15 @@ fn are_facing(gaps: Option<u64>) -> bool
 
 /// Whether a height is above the events before a place, and below those from it on.
 fn is_between(events: &Events, from: usize, h: i64) -> bool
-    ensures below { IsTrue result → (d : Event) → 0 < from → from ≤ length events.now →
-        (slice_index_or events.now (from - 1) d).height <ℤ h }
-    ensures above { IsTrue result → (d : Event) → from < length events.now → h <ℤ (slice_index_or events.now from d).height }
+    requires { from < length events.now }
+    ensures below { IsTrue result → (d : Event) → 0 < before from events.now →
+        (slice_index_or (joined events.now) (before from events.now - 1) d).height <ℤ h }
+    ensures above { IsTrue result → (d : Event) → h <ℤ (slice_index_or (joined events.now) (before from events.now) d).height }
 {
-    if from > 0 && from <= events.len() && events.at(from - 1).height >= h {
+    if from > 0 && height(events.point(from - 1)) >= h {
         return false;
     }
-    from >= events.len() || h < events.at(from).height
+    h < height(events.point(from))
 }
 
 /// Whether a point lies strictly between those that stand before and behind the place, and sees a polygon to its east.

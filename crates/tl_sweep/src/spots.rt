@@ -3,7 +3,7 @@ ghost use Rattle.std.specs.Prelude.{◌≡◌, ◌⊎◌, ◌<◌, ℕ, false, t
 ghost use Rattle.tl_inside.specs.Placed.{ArePlaced};
 ghost use Rattle.tl_sweep.specs.Keeping.Facing.{IsCounted};
 ghost use Rattle.tl_sweep.specs.Keeping.Lined.{list_of};
-ghost use Rattle.tl_sweep.specs.Keeping.Listed.{AreEvents, AreRising};
+ghost use Rattle.tl_sweep.specs.Keeping.Listed.{before, joined, AreEvents, AreRising};
 ghost use Rattle.tl_sweep.specs.Keeping.Spotted.{AreInRange, AreMarks};
 ghost use Rattle.tl_sweep.specs.Keeping.Swept.{IsSwept};
 
@@ -61,10 +61,11 @@ impl Spots {
         from: usize,
         gaps: Option<u64>,
     ) -> Result<(), AllocError>
-        requires events { AreEvents map.now.chains events.now }
-        requires rising { AreRising events.now }
+        requires events { AreEvents map.now.chains (joined events.now) }
+        requires rising { AreRising (joined events.now) }
         requires ranges { AreInRange map.now.chains }
-        requires swept { IsSwept map.now.chains events.now from (list_of line.old) }
+        requires within { from < length events.now }
+        requires swept { IsSwept map.now.chains (joined events.now) (before from events.now) (list_of line.old) }
         requires counted { IsCounted map.now.chains gaps (list_of line.old) }
         requires marks { AreMarks map.now self.old.marks.items }
         ensures list { IfOk result (λ done. list_of line.new ≡ list_of line.old) }
@@ -107,7 +108,7 @@ fn list_spots(alloc: Global, map: &Map) -> Result<Vec<Spot>, AllocError> {
 fn is_below(spot: Spot, events: &Events, from: usize) -> bool {
     from < events.len()
         && spot.latitude <= events.point(from).y
-        && spot.height < events.at(from).height
+        && spot.height < height(events.point(from))
 }
 
 /// Marks a polygon.

@@ -4,7 +4,7 @@ ghost use Rattle.tl_planar.specs.Searching.{IsTrueMeet};
 
 use crate::events::Events;
 use crate::line::Line;
-use crate::meets::are_in_order;
+use crate::meets::{are_in_order, last_of};
 use std::alloc::AllocError;
 use tl_county::Map;
 use tl_index::Items;
@@ -70,7 +70,8 @@ pub fn find_meet_at_vertex(map: &Map, events: &Events) -> Option<Meet>
     ensures { IfSome result (IsTrueMeet map.now.chains) }
 {
     for k in 1..events.len() {
-        let (e, f) = (events.at(k - 1), events.at(k));
+        let (event, next) = events.at(k - 1);
+        let (e, f) = (last_of(event, next), events.at(k).0);
         if !are_in_order(map, e, f) {
             if let Some(meet) = meet_of(map, e.segment, f.segment) {
                 return Some(meet);

@@ -1,16 +1,17 @@
 //! The sweep: from event to event, with the list of active segments.
-ghost use Rattle.std.specs.Prelude.{◌≡◌, [], ◌+◌, ◌-◌, ◌<◌, ◌≤◌, ℕ, IfOk, IsTrue, length, count_by, slice_index_or, take, drop};
+ghost use Rattle.std.specs.Prelude.{◌≡◌, [], ◌∷◌, ◌+◌, ◌<◌, ℕ, IfOk, IsTrue, List, length, count_by, slice_index_or};
 ghost use Rattle.tl_index.specs.Hits.{times};
 ghost use Rattle.tl_slabs.specs.Heights.{widest};
 ghost use Rattle.tl_slabs.specs.Neighbours.{AreTested, EachTwo, IsWide};
 ghost use Rattle.tl_slabs.specs.Slabs.{AreSlabsTested};
 ghost use Rattle.tl_sweep.specs.Keeping.Facing.{IsCounted};
 ghost use Rattle.tl_sweep.specs.Keeping.Lined.{list_of};
-ghost use Rattle.tl_sweep.specs.Keeping.Listed.{begins_at, ends_at, AreEvents, AreRising};
+ghost use Rattle.tl_sweep.specs.Keeping.Listed.{begins_at, ends_at, joined, AreEvents, AreRising};
+ghost use Rattle.tl_sweep.specs.Keeping.Gathered.{AreGathered};
 ghost use Rattle.tl_sweep.specs.Keeping.Spotted.{AreInRange, AreMarks};
 ghost use Rattle.tl_sweep.specs.declared.events.Event.{Event};
 
-use crate::events::Events;
+use crate::events::{Event, Events};
 use crate::finding::{find, open};
 use crate::heights::ends;
 use crate::line::Line;
@@ -23,7 +24,41 @@ use std::cmp::Ordering;
 use tl_county::Map;
 use tl_geom::{Point, turn};
 
-/// The segments that end at the events of one height that begin at a place, and those that begin; and how far these events go.
+/// Notes the segment of an event, where it ends there or begins there.
+#[inline]
+fn note(event: Event, outs: &mut Vec<u32>, ins: &mut Vec<u32>) -> Result<(), AllocError>
+    ensures outs { IfOk result (λ done. (s : ℕ) → times s outs.new.items ≡ times s outs.old.items + count_by (ends_at s) (event ∷ [])) }
+    ensures ins { IfOk result (λ done. (s : ℕ) → times s ins.new.items ≡ times s ins.old.items + count_by (begins_at s) (event ∷ [])) }
+{
+    if event.begins {
+        ins.push(event.segment)?;
+    } else {
+        outs.push(event.segment)?;
+    }
+    Ok(())
+}
+
+/// Notes the segments of the events at a place.
+#[inline]
+fn note_all(
+    events: &Events,
+    place: usize,
+    outs: &mut Vec<u32>,
+    ins: &mut Vec<u32>,
+) -> Result<(), AllocError>
+    requires { place < length events.now }
+    ensures outs { IfOk result (λ done. (s : ℕ) (d : List Event) → times s outs.new.items ≡ times s outs.old.items + count_by (ends_at s) (slice_index_or events.now place d)) }
+    ensures ins { IfOk result (λ done. (s : ℕ) (d : List Event) → times s ins.new.items ≡ times s ins.old.items + count_by (begins_at s) (slice_index_or events.now place d)) }
+{
+    let (event, next) = events.at(place);
+    note(event, outs, ins)?;
+    match next {
+        Some(next) => note(next, outs, ins),
+        None => Ok(()),
+    }
+}
+
+/// The segments that end at the point of a place's events, and those that begin there; and how far these events go.
 fn gather(
     events: &Events,
     from: usize,
@@ -31,28 +66,19 @@ fn gather(
     ins: &mut Vec<u32>,
 ) -> Result<usize, AllocError>
     requires { from < length events.now }
-    ensures past { IfOk result (λ to. from < to) }
-    ensures within { IfOk result (λ to. to ≤ length events.now) }
-    ensures level { IfOk result (λ to. (k : ℕ) (d : Event) → from ≤ k → k < to →
-        (slice_index_or events.now k d).height ≡ (slice_index_or events.now from d).height) }
-    ensures outs { IfOk result (λ to. (s : ℕ) → times s outs.new.items ≡ count_by (ends_at s) (take (to - from) (drop from events.now))) }
-    ensures ins { IfOk result (λ to. (s : ℕ) → times s ins.new.items ≡ count_by (begins_at s) (take (to - from) (drop from events.now))) }
+    ensures { IfOk result (λ to. AreGathered events.now from to outs.new.items ins.new.items) }
 {
     outs.clear();
     ins.clear();
+    note_all(events, from, outs, ins)?;
     let count = events.len();
     let p = events.point(from);
-    let mut to = from;
+    let mut to = from + 1;
     while to < count {
-        if to > from && events.point(to) != p {
+        if events.point(to) != p {
             return Ok(to);
         }
-        let event = events.at(to);
-        if event.begins {
-            ins.push(event.segment)?;
-        } else {
-            outs.push(event.segment)?;
-        }
+        note_all(events, to, outs, ins)?;
         to += 1;
     }
     Ok(to)
@@ -169,8 +195,8 @@ pub fn sweep_list(
     spots: &mut Spots,
     suspects: &mut Vec<u32>,
 ) -> Result<bool, AllocError>
-    requires events { AreEvents map.now.chains events.now }
-    requires rising { AreRising events.now }
+    requires events { AreEvents map.now.chains (joined events.now) }
+    requires rising { AreRising (joined events.now) }
     requires wide { IsWide widest map.now.chains }
     requires ranges { AreInRange map.now.chains }
     requires marks { AreMarks map.now spots.old.marks.items }
@@ -205,8 +231,8 @@ fn sweep_along(
     suspects: &mut Vec<u32>,
 ) -> Result<bool, AllocError>
     requires empty { list_of line.old ≡ [] }
-    requires events { AreEvents map.now.chains events.now }
-    requires rising { AreRising events.now }
+    requires events { AreEvents map.now.chains (joined events.now) }
+    requires rising { AreRising (joined events.now) }
     requires wide { IsWide widest map.now.chains }
     requires ranges { AreInRange map.now.chains }
     requires marks { AreMarks map.now spots.old.marks.items }

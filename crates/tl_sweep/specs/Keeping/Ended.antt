@@ -1,9 +1,17 @@
 -- The ends of segments as they are kept, and the events that they are.
-use Rattle.std.specs.Prelude.{ℕ, ◌/◌, ◌%◌, ◌==◌, Bool, true, false, not, pos, ◌+ℤ◌, int_lt, List, map}
+use Rattle.std.specs.Prelude.{◌≡◌, ℕ, ◌+◌, ◌<◌, ◌/◌, ◌%◌, ◌==◌, Bool, true, false, not, pos, ◌+ℤ◌, int_lt, if◌then◌else◌, Option, None, Some, List, [], ◌∷◌, ◌++◌, length, map, All}
+use Rattle.tl_geom.specs.declared.point.Point.{Point}
 use Rattle.tl_geom.specs.declared.segment.Segment.{Segment}
+use Rattle.tl_geom.specs.Plane.{end_a, end_b}
+use Rattle.tl_county.specs.TheMap.{MapChain}
+use Rattle.tl_county.specs.Segments.{IsSegmentOf}
 use Rattle.tl_sweep.specs.declared.events.End.{End}
 use Rattle.tl_sweep.specs.declared.events.Event.{Event}
 use Rattle.tl_slabs.specs.Heights.{height, widest}
+use Rattle.tl_slabs.specs.Neighbours.{IsNumbered}
+use Rattle.tl_sweep.specs.Keeping.Listed.{AreEventsOf, joined}
+use Rattle.tl_sweep.specs.Keeping.Spotted.{IsInRange}
+use Rattle.tl_sweep.specs.Keeping.Vertices.{MayMeet}
 
 -- the event at the first end of a segment with this number, or at its last
 abbrev pub event_by : ℕ → Bool → Segment → Event
@@ -12,8 +20,51 @@ event_by s false u = record { height = height widest u.b +ℤ pos 2147483647; se
 
 -- the event at an end
 abbrev pub event_at : End → Event
-event_at e = record { height = height widest e.point +ℤ pos 2147483647; segment = e.number / 4; begins = e.number / 2 % 2 == 1; first = e.number % 2 == 1 }
+event_at e = record { height = height widest e.point +ℤ pos 2147483647; segment = e.number / 16; begins = e.number / 2 % 2 == 1; first = e.number % 2 == 1 }
 
--- the events at ends
-abbrev pub events_in : List End → List Event
-events_in ends = map event_at ends
+-- at a bend of a chain, the event at the first end of the next segment
+abbrev pub next_at : End → Event
+next_at e = record { height = height widest e.point +ℤ pos 2147483647; segment = e.number / 16 + 1; begins = e.number / 4 % 2 == 1; first = true }
+
+-- an event, and another one where there is one
+abbrev pub one_or_two : Event → Option Event → List Event
+one_or_two e None = e ∷ []
+one_or_two e (Some f) = e ∷ f ∷ []
+
+-- the events at what is kept
+abbrev pub events_at : End → List Event
+events_at e = if e.number / 8 % 2 == 1 then event_at e ∷ next_at e ∷ [] else event_at e ∷ []
+
+-- those of all that is kept, apart by what they are kept in
+abbrev pub events_in : List End → List (List Event)
+events_in ends = map events_at ends
+
+-- some events, at the height of a point
+pub record AreAt (p : Point) (events : List Event) : Type 0 where
+  pub some : 0 < length events
+  pub level : All (λ e. e.height ≡ height widest p +ℤ pos 2147483647) events
+
+-- where they are two, they may be at one point
+abbrev pub AreMet : List MapChain → List Event → Type 0
+AreMet chains events = (e f : Event) → events ≡ e ∷ f ∷ [] → MayMeet chains e f
+
+-- what comes behind the events of the first n segments: nothing, or the event at the first end of the next one
+abbrev pub IsBegun : List MapChain → ℕ → Bool → (events listed : List Event) → Type 0
+IsBegun chains n false events listed = listed ≡ events
+IsBegun chains n true events listed = (u : Segment) × IsNumbered chains n u × (listed ≡ events ++ event_by n true u ∷ [])
+
+-- the ends of the first n segments, and perhaps the first one of the next
+pub record AreListed (chains : List MapChain) (n : ℕ) (begun : Bool) (ends : List End) : Type 0 where
+  pub events : List Event
+  pub are : AreEventsOf chains n events
+  pub listed : IsBegun chains n begun events (joined (events_in ends))
+  pub ranges : (s : ℕ) (u : Segment) → s < n → IsNumbered chains s u → IsInRange u.a × IsInRange u.b
+  pub met : All (AreMet chains) (events_in ends)
+
+-- the segment has the next number, is of the same chain, and begins where the other ends
+pub record IsNextAlong (chains : List MapChain) (s : ℕ) (segment next : Segment) : Type 0 where
+  pub is : IsNumbered chains (s + 1) next
+  pub c : ℕ
+  pub one : (k : ℕ) × IsSegmentOf chains s c k
+  pub other : (k : ℕ) × IsSegmentOf chains (s + 1) c k
+  pub at : end_b segment ≡ end_a next

@@ -1,5 +1,5 @@
 -- The events of a sweep: each segment begins at its low end and ends at its high end.
-use Rattle.std.specs.Prelude.{◌≡◌, ℕ, ◌<◌, ◌≤◌, ◌==◌, Bool, true, false, not, ◌&&◌, pos, ◌+ℤ◌, ◌≤ℤ◌, if◌then◌else◌, List, length, count_by, slice_index_or, All}
+use Rattle.std.specs.Prelude.{◌≡◌, ℕ, ◌<◌, ◌≤◌, ◌==◌, Bool, true, false, not, ◌&&◌, pos, ◌+ℤ◌, ◌≤ℤ◌, ◌-◌, if◌then◌else◌, List, [], ◌∷◌, ◌++◌, length, take, drop, count_by, slice_index_or, All}
 use Rattle.tl_geom.specs.declared.point.Point.{Point}
 use Rattle.tl_geom.specs.declared.segment.Segment.{Segment}
 use Rattle.tl_county.specs.TheMap.{MapChain}
@@ -41,3 +41,16 @@ AreEvents chains events = AreEventsOf chains (segments_before chains (length cha
 -- none is higher than a later one
 abbrev pub AreRising : List Event → Type 0
 AreRising events = (k l : ℕ) (d : Event) → k ≤ l → l < length events → (slice_index_or events k d).height ≤ℤ (slice_index_or events l d).height
+
+-- events one after the other, of lists of them
+abbrev pub joined : List (List Event) → List Event
+joined [] = []
+joined (group ∷ groups) = group ++ joined groups
+
+-- those of the lists from one place up to another
+abbrev pub between : (from to : ℕ) → List (List Event) → List Event
+between from to groups = joined (take (to - from) (drop from groups))
+
+-- how many events stand in the lists before a place
+abbrev pub before : ℕ → List (List Event) → ℕ
+before from groups = length (joined (take from groups))

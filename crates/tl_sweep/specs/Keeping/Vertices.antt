@@ -1,5 +1,5 @@
 -- The vertices of chains, by the events there.
-use Rattle.std.specs.Prelude.{◌≡◌, ◌⊎◌, ℕ, ◌+◌, ◌<◌, ◌≤ℤ◌, if◌then◌else◌, Some, List, slice_get, slice_index_or}
+use Rattle.std.specs.Prelude.{◌≡◌, ◌⊎◌, ℕ, ◌+◌, ◌-◌, ◌<◌, ◌≤ℤ◌, if◌then◌else◌, Some, List, length, slice_get, slice_index_or}
 use Rattle.tl_county.specs.TheMap.{MapChain}
 use Rattle.tl_county.specs.Segments.{IsSegmentOf}
 use Rattle.tl_sweep.specs.declared.events.Event.{Event}
@@ -28,3 +28,8 @@ pub record AreInOrder (chains : List MapChain) (e f : Event) : Type 0 where
 -- it is so of the first n events
 abbrev pub AreInOrderUpTo : List MapChain → ℕ → List Event → Type 0
 AreInOrderUpTo chains n events = (k : ℕ) (d : Event) → k + 1 < n → AreInOrder chains (slice_index_or events k d) (slice_index_or events (k + 1) d)
+
+-- the event is the last of these
+pub record IsLast (e : Event) (events : List Event) : Type 0 where
+  pub some : 0 < length events
+  pub is : (d : Event) → e ≡ slice_index_or events (length events - 1) d

@@ -1,8 +1,7 @@
-use Rattle.std.proofs.Common.{◌≡◌, ◌-◌}
-use Rattle.std.specs.Prelude.{slice_index_or}
-use Rattle.tl_sweep.specs.declared.events.Event.{Event}
-use Rattle.tl_sweep.specs.Keeping.Vertices.{AreInOrderUpTo}
+use Rattle.std.proofs.Common.{length, take}
+use Rattle.tl_sweep.specs.Keeping.Listed.{joined}
+use Rattle.tl_sweep.specs.Keeping.Vertices.{IsLast, AreInOrderUpTo}
 use Rattle.tl_sweep.proofs.meets.are_vertices_tested.Given as goal
 
 abbrev pub invariant-loop-k : goal.invariant-loop-k
-invariant-loop-k l = AreInOrderUpTo l.map.chains l.k l.events × ((d : Event) → l.before ≡ slice_index_or l.events (l.k - 1) d)
+invariant-loop-k l = AreInOrderUpTo l.map.chains (length (joined (take l.k l.events))) (joined (take l.k l.events)) × IsLast l.last (joined (take l.k l.events))

@@ -5,6 +5,7 @@ use Rattle.tl_county.specs.declared.polygons.Polygon.{Polygon}
 use Rattle.tl_planar.specs.Keeping.Apart.{one_found}
 use Rattle.tl_inside.specs.Placed.{IsPlacedIn}
 use Rattle.tl_sweep.specs.Keeping.Lined.{list_of}
+use Rattle.tl_sweep.specs.Keeping.Listed.{before, joined}
 use Rattle.tl_sweep.specs.Keeping.Spotted.{IsInRange}
 use Rattle.tl_sweep.proofs.Spotting.{spotted}
 use Rattle.tl_sweep.proofs.Tests.{never}
@@ -17,8 +18,8 @@ returns-clause-placed c = λ h polygon e.
     let fits = c.height.type_inv in
     let bits : to_z w64 (of_z w64 c.height.result) ≡ c.height.result = omega (arith, ints, fits) in
     subst (λ (x : Polygon). IsPlacedIn c.args.map.now x.point c.args.polygon) (one_found c.polygon.result polygon _ c.polygon.ensures e)
-    (spotted c.args.map.now c.args.events.now c.args.from (list_of c.args.line.now) c.seek.new.self.front c.seek.new.self.back c.polygon.result.point (to_z w64 (of_z w64 c.height.result)) c.args.polygon
-    c.requires.events c.requires.rising c.requires.ranges range c.requires.swept (bits ∙ c.height.ensures) (c.is_between.ensures.below c.if-not-is_between.false) (c.is_between.ensures.above c.if-not-is_between.false)
+    (spotted c.args.map.now (joined c.args.events.now) (before c.args.from c.args.events.now) (list_of c.args.line.now) c.seek.new.self.front c.seek.new.self.back c.polygon.result.point (to_z w64 (of_z w64 c.height.result)) c.args.polygon
+    c.requires.events c.requires.rising c.requires.ranges range c.requires.swept (bits ∙ c.height.ensures) (λ d some within. c.is_between.ensures.below c.if-not-is_between.false d some) (λ d lt. c.is_between.ensures.above c.if-not-is_between.false d)
     parted (c.requires.counted 0 (c.are_facing.ensures c.if-not-are_facing.false)) (c.sees.ensures.east h) (c.sees.ensures.west h) (c.sees.ensures.sees h))
 
 pub returns-then-not-are_facing-clause-placed : goal.returns-then-not-are_facing-clause-placed

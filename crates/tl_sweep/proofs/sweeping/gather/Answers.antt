@@ -1,75 +1,73 @@
-use Rattle.std.proofs.Common.{◌≡◌, Bool, true, false, not, pos, ◌+ℤ◌, refl, ◌+◌, ◌-◌, ◌++◌, ◌∷◌, [], List, Vec, Global, ℕ, take, drop, count_by, get_or, sym, ap, ◌∙◌, arith}
+use Rattle.std.proofs.Common.{◌≡◌, ◌+◌, ◌++◌, ◌<◌, Bool, true, false, not, pos, ◌+ℤ◌, [], length, get_or, count_by, length-append, refl, sym, ap, subst, ◌∙◌, arith}
+use Rattle.std.proofs.lemmas.List.Elements.{All-append}
 use Rattle.std.proofs.lemmas.Result.{err_from_is_err_and}
+use Rattle.tl_geom.specs.declared.point.Point.{Point}
 use Rattle.tl_geom.proofs.Conditions.{same_point}
 use Rattle.tl_index.specs.Hits.{times}
 use Rattle.tl_sweep.specs.declared.events.Event.{Event}
 use Rattle.tl_slabs.specs.Heights.{height, widest}
-use Rattle.tl_sweep.specs.Keeping.Listed.{begins_at, ends_at}
-use Rattle.tl_sweep.proofs.Gathering.{one_begins, none_begins, one_ends, none_ends, one_further, level_further}
+use Rattle.tl_sweep.specs.Keeping.Ended.{AreAt}
+use Rattle.tl_sweep.specs.Keeping.Listed.{begins_at, ends_at, between}
+use Rattle.tl_sweep.proofs.Gathering.{counted_both}
+use Rattle.tl_sweep.proofs.Joining.{alone, further}
 use Rattle.tl_sweep.proofs.sweeping.gather.Goals as goal
-use Rattle.tl_sweep.proofs.sweeping.gather.Goals.{then-event+in_ok-push, else-event+in_ok-push-2, else-to-from-via-then-to-from+else-ne, else-to-from-via-else-to-from}
 
 denied : (b : Bool) → false ≡ not b → true ≡ b
 denied true e = refl
 denied false e = absurd (cc)
 
-pub loop-to-preserved : goal.loop-to-preserved
-loop-to-preserved c =
-    let x : Event = c.at-event.result in
-    let before : List Event = take (c.loop-to.to - c.args.from) (drop c.args.from c.args.events.now) in
-    let within = c.loop-to-test.true in
-    let len = c.len-count.ensures in
-    let more : take (c.loop-to.to + 1 - c.args.from) (drop c.args.from c.args.events.now) ≡ take (c.loop-to.to - c.args.from) (drop c.args.from c.args.events.now) ++ c.at-event.result ∷ [] =
-    one_further c.args.events.now c.args.from c.loop-to.to c.at-event.result c.loop-to.invariant.past (omega (arith, within, len))
-    ∙ ap (λ e. take (c.loop-to.to - c.args.from) (drop c.args.from c.args.events.now) ++ e ∷ []) (sym (c.at-event.ensures c.at-event.result)) in
-    let now = c.loop-to.invariant in
-    let same : (d : Event) → (get_or c.args.events.now c.loop-to.to d).height ≡ (get_or c.args.events.now c.args.from d).height = λ d. elim c.else-to-from.branch [
-      | else-to-from-via-then-to-from+else-ne w ↦
-          let one : w.point.result ≡ c.point-p.result = same_point _ _ true (denied _ w.if-ne.ensures) refl in
-          w.point.ensures d ∙ ap (λ q. height widest q +ℤ pos 2147483647) one ∙ sym (now.head d)
-      | else-to-from-via-else-to-from w ↦ let here : c.loop-to.to ≡ c.args.from = omega (arith, w.if-to-from.false, now.past) in ap (λ n. (get_or c.args.events.now n d).height) here
-    ] in
+pub loop-to-init : goal.loop-to-init
+loop-to-init c =
+    let events = c.args.events.now in
+    let one : between c.args.from (c.args.from + 1) c.args.events.now ≡ get_or c.args.events.now c.args.from [] = alone events c.args.from [] c.requires in
+    let at = c.point-p.ensures [] in
     record {
-      past = let past = now.past in omega (arith, past);
-      within = omega (arith, within, len);
-      head = now.head;
-      level = λ k d le lt. level_further c.args.events.now c.args.from c.loop-to.to now.level same k d le lt;
-      off = λ s. elim c.if-event.branch [
-        | then-event+in_ok-push w ↦ ap (λ (v : Vec ℕ Global). times s v.items) w.outs-is ∙ none_ends before x s c.loop-to.outs.items w.if-event.true (now.off s) ∙ ap (count_by (ends_at s)) (sym more)
-        | else-event+in_ok-push-2 w ↦ ap (λ (v : Vec ℕ Global). times s v.items) w.outs-is ∙ ap (times s) w.in_ok-push-2.ensures.items ∙ one_ends before x s c.loop-to.outs.items w.if-event.false (now.off s) ∙ ap (count_by (ends_at s)) (sym more)
-      ];
-      on = λ s. elim c.if-event.branch [
-        | then-event+in_ok-push w ↦ ap (λ (v : Vec ℕ Global). times s v.items) w.ins-is ∙ ap (times s) w.in_ok-push.ensures.items ∙ one_begins before x s c.loop-to.ins.items w.if-event.true (now.on s) ∙ ap (count_by (begins_at s)) (sym more)
-        | else-event+in_ok-push-2 w ↦ ap (λ (v : Vec ℕ Global). times s v.items) w.ins-is ∙ none_begins before x s c.loop-to.ins.items w.if-event.false (now.on s) ∙ ap (count_by (begins_at s)) (sym more)
-      ];
+      past = omega arith;
+      within = omega (arith, c.requires);
+      some = rw one at.some;
+      level = rw one at.level;
+      off = λ s.
+          let all = c.in_ok-note_all.ensures.outs s [] in
+          let none : times s c.clear.new.self.items ≡ 0 = ap (times s) c.clear.ensures.items in
+          let is : count_by (ends_at s) (between c.args.from (c.args.from + 1) c.args.events.now) ≡ count_by (ends_at s) (get_or c.args.events.now c.args.from []) = ap (count_by (ends_at s)) one in
+          omega (arith, all, none, is);
+      on = λ s.
+          let all = c.in_ok-note_all.ensures.ins s [] in
+          let none : times s c.clear-2.new.self.items ≡ 0 = ap (times s) c.clear-2.ensures.items in
+          let is : count_by (begins_at s) (between c.args.from (c.args.from + 1) c.args.events.now) ≡ count_by (begins_at s) (get_or c.args.events.now c.args.from []) = ap (count_by (begins_at s)) one in
+          omega (arith, all, none, is);
     }
 
-pub returns-in_err-push-clause-past : goal.returns-in_err-push-clause-past
-returns-in_err-push-clause-past c = let p = err_from_is_err_and c.from_residual.result c.from_residual.ensures.1 in rw p.1 tt
+pub loop-to-preserved : goal.loop-to-preserved
+loop-to-preserved c =
+    let events = c.args.events.now in
+    let now = c.loop-to.invariant in
+    let lt : c.loop-to.to < length c.args.events.now = omega (arith, c.loop-to-test.true, c.len-count.ensures) in
+    let more : between c.args.from (c.loop-to.to + 1) c.args.events.now ≡ between c.args.from c.loop-to.to c.args.events.now ++ get_or c.args.events.now c.loop-to.to [] =
+    further events c.args.from c.loop-to.to [] (let past = now.past in omega (arith, past)) lt in
+    let one : c.point.result ≡ c.point-p.result = same_point _ _ true (denied _ c.if-ne.ensures) refl in
+    let at : AreAt c.point-p.result (get_or c.args.events.now c.loop-to.to []) = subst (λ (p : Point). AreAt p (get_or c.args.events.now c.loop-to.to [])) one (c.point.ensures []) in
+    record {
+      past = let past = now.past in omega (arith, past);
+      within = omega (arith, lt);
+      some = let some = now.some in let long = ap length more in omega (arith, some, long, length-append (between c.args.from c.loop-to.to c.args.events.now) (get_or c.args.events.now c.loop-to.to []));
+      level = rw more (All-append (λ (e : Event). e.height ≡ height widest c.point-p.result +ℤ pos 2147483647) (between c.args.from c.loop-to.to c.args.events.now) (get_or c.args.events.now c.loop-to.to []) now.level at.level);
+      off = λ s. c.in_ok-note_all-2.ensures.outs s [] ∙ ap (λ n. n + count_by (ends_at s) (get_or c.args.events.now c.loop-to.to [])) (now.off s) ∙ sym (counted_both (ends_at s) (between c.args.from c.loop-to.to c.args.events.now) (get_or c.args.events.now c.loop-to.to [])) ∙ ap (count_by (ends_at s)) (sym more);
+      on = λ s. c.in_ok-note_all-2.ensures.ins s [] ∙ ap (λ n. n + count_by (begins_at s) (get_or c.args.events.now c.loop-to.to [])) (now.on s) ∙ sym (counted_both (begins_at s) (between c.args.from c.loop-to.to c.args.events.now) (get_or c.args.events.now c.loop-to.to [])) ∙ ap (count_by (begins_at s)) (sym more);
+    }
 
-pub returns-in_err-push-clause-within : goal.returns-in_err-push-clause-within
-returns-in_err-push-clause-within c = let p = err_from_is_err_and c.from_residual.result c.from_residual.ensures.1 in rw p.1 tt
+pub returns-then-ne : goal.returns-then-ne
+returns-then-ne c =
+    let now = c.loop-to.invariant in
+    record { past = now.past; within = now.within; some = now.some; height = height widest c.point-p.result +ℤ pos 2147483647; level = now.level; off = now.off; on = now.on }
 
-pub returns-in_err-push-clause-level : goal.returns-in_err-push-clause-level
-returns-in_err-push-clause-level c = let p = err_from_is_err_and c.from_residual.result c.from_residual.ensures.1 in rw p.1 tt
+pub returns : goal.returns
+returns c =
+    let now = c.loop-to.invariant in
+    record { past = now.past; within = now.within; some = now.some; height = height widest c.point-p.result +ℤ pos 2147483647; level = now.level; off = now.off; on = now.on }
 
-pub returns-in_err-push-clause-outs : goal.returns-in_err-push-clause-outs
-returns-in_err-push-clause-outs c = let p = err_from_is_err_and c.from_residual.result c.from_residual.ensures.1 in rw p.1 tt
+pub returns-in_err-note_all : goal.returns-in_err-note_all
+returns-in_err-note_all c = let p = err_from_is_err_and c.from_residual.result c.from_residual.ensures.1 in rw p.1 tt
 
-pub returns-in_err-push-clause-ins : goal.returns-in_err-push-clause-ins
-returns-in_err-push-clause-ins c = let p = err_from_is_err_and c.from_residual.result c.from_residual.ensures.1 in rw p.1 tt
-
-pub returns-in_err-push-2-clause-past : goal.returns-in_err-push-2-clause-past
-returns-in_err-push-2-clause-past c = let p = err_from_is_err_and c.from_residual-in_err-push-2.result c.from_residual-in_err-push-2.ensures.1 in rw p.1 tt
-
-pub returns-in_err-push-2-clause-within : goal.returns-in_err-push-2-clause-within
-returns-in_err-push-2-clause-within c = let p = err_from_is_err_and c.from_residual-in_err-push-2.result c.from_residual-in_err-push-2.ensures.1 in rw p.1 tt
-
-pub returns-in_err-push-2-clause-level : goal.returns-in_err-push-2-clause-level
-returns-in_err-push-2-clause-level c = let p = err_from_is_err_and c.from_residual-in_err-push-2.result c.from_residual-in_err-push-2.ensures.1 in rw p.1 tt
-
-pub returns-in_err-push-2-clause-outs : goal.returns-in_err-push-2-clause-outs
-returns-in_err-push-2-clause-outs c = let p = err_from_is_err_and c.from_residual-in_err-push-2.result c.from_residual-in_err-push-2.ensures.1 in rw p.1 tt
-
-pub returns-in_err-push-2-clause-ins : goal.returns-in_err-push-2-clause-ins
-returns-in_err-push-2-clause-ins c = let p = err_from_is_err_and c.from_residual-in_err-push-2.result c.from_residual-in_err-push-2.ensures.1 in rw p.1 tt
+pub returns-in_err-note_all-2 : goal.returns-in_err-note_all-2
+returns-in_err-note_all-2 c = let p = err_from_is_err_and c.from_residual-in_err-note_all-2.result c.from_residual-in_err-note_all-2.ensures.1 in rw p.1 tt

@@ -1,30 +1,35 @@
-use Rattle.std.proofs.Common.{refl, ap, sym, subst, ◌∙◌, arith}
+use Rattle.std.proofs.Common.{refl, ap, sym, subst, ◌∙◌}
 use Rattle.std.proofs.lemmas.Result.{err_from_is_err_and}
 use Rattle.tl_planar.specs.Keeping.Apart.{one_found}
 use Rattle.tl_sweep.specs.Keeping.Facing.{IsCounted, gaps_of}
 use Rattle.tl_sweep.specs.Keeping.Lined.{list_of}
+use Rattle.tl_sweep.specs.Keeping.Listed.{before, joined}
 use Rattle.tl_sweep.specs.Keeping.Swept.{IsSwept}
-use Rattle.tl_sweep.proofs.Slab.{begins, goes_on}
+use Rattle.tl_sweep.proofs.Slab.{begins}
+use Rattle.tl_sweep.proofs.Gone.{gone_on}
 use Rattle.tl_sweep.proofs.Tests.{never}
 use Rattle.tl_sweep.proofs.sweeping.sweep_along.Goals as goal
 
 pub loop-from-init : goal.loop-from-init
 loop-from-init c = record {
-  swept = begins c.args.map.now.chains c.args.events.now (list_of c.args.line.now) c.requires.events c.requires.empty;
+  swept = begins c.args.map.now.chains (joined c.args.events.now) (list_of c.args.line.now) c.requires.events c.requires.empty;
   counted = λ n e. sym (one_found 0 n _ refl e) ∙ sym (ap (gaps_of c.args.map.now.chains) c.requires.empty);
   marks = c.requires.marks;
 }
 
 pub loop-from-preserved : goal.loop-from-preserved
 loop-from-preserved c =
+    let chains = c.args.map.now.chains in
+    let events = c.args.events.now in
     let stays = sym c.in_ok-look.ensures.list in
-    let swept : IsSwept c.args.map.now.chains c.args.events.now c.loop-from.from (list_of c.look.new.line) =
-    subst (IsSwept c.args.map.now.chains c.args.events.now c.loop-from.from) stays c.loop-from.invariant.swept in
+    let swept : IsSwept chains (joined c.args.events.now) (before c.loop-from.from c.args.events.now) (list_of c.look.new.line) =
+    subst (IsSwept chains (joined events) (before c.loop-from.from events)) stays c.loop-from.invariant.swept in
+    let to = c.in_ok-to.ensures in
     record {
       swept =
-          goes_on c.args.map.now.chains c.args.events.now c.loop-from.from c.in_ok-to.to (list_of c.look.new.line) (list_of c.step.new.line) c.requires.events c.requires.rising swept
-          c.in_ok-to.ensures.past c.in_ok-to.ensures.within c.in_ok-to.ensures.level (λ s. let off = c.in_ok-to.ensures.outs s in let on = c.in_ok-to.ensures.ins s in let moved = c.in_ok-step.ensures.moved c.if-not-branch.false s in omega (arith, off, on, moved)) (c.in_ok-step.ensures.tested c.if-not-branch.false swept.tested);
-      counted = c.in_ok-step.ensures.counted c.if-not-branch.false (subst (IsCounted c.args.map.now.chains c.loop-from.gaps) stays c.loop-from.invariant.counted);
+          gone_on chains events c.loop-from.from c.in_ok-to.to (list_of c.look.new.line) (list_of c.step.new.line) _ _ c.requires.events c.requires.rising swept to
+          (c.in_ok-step.ensures.moved c.if-not-branch.false) (c.in_ok-step.ensures.tested c.if-not-branch.false swept.tested);
+      counted = c.in_ok-step.ensures.counted c.if-not-branch.false (subst (IsCounted chains c.loop-from.gaps) stays c.loop-from.invariant.counted);
       marks = c.in_ok-look.ensures.marks;
     }
 

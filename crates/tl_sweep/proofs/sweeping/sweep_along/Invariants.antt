@@ -3,13 +3,14 @@ use Rattle.tl_county.specs.TheMap.{TheMap}
 use Rattle.tl_sweep.specs.declared.events.Event.{Event}
 use Rattle.tl_sweep.specs.Keeping.Facing.{IsCounted}
 use Rattle.tl_sweep.specs.Keeping.Lined.{list_of}
+use Rattle.tl_sweep.specs.Keeping.Listed.{before, joined}
 use Rattle.tl_sweep.specs.Keeping.Spotted.{AreMarks}
 use Rattle.tl_sweep.specs.Keeping.Swept.{IsSwept}
 use Rattle.tl_sweep.proofs.sweeping.sweep_along.Given as goal
 
 -- how far the sweep has come, how often facing sides differ there, and which points were found
-pub record IsUnderWay (map : TheMap) (events : List Event) (from : ℕ) (list : List ℕ) (gaps : Option ℕ) (found : List Bool) : Type 0 where
-  pub swept : IsSwept map.chains events from list
+pub record IsUnderWay (map : TheMap) (events : List (List Event)) (from : ℕ) (list : List ℕ) (gaps : Option ℕ) (found : List Bool) : Type 0 where
+  pub swept : IsSwept map.chains (joined events) (before from events) list
   pub counted : IsCounted map.chains gaps list
   pub marks : AreMarks map found
 

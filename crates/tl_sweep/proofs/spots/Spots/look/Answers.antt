@@ -2,6 +2,7 @@ use Rattle.std.proofs.Common.{⊎_elim, sym, subst, ◌∙◌, refl, arith}
 use Rattle.std.proofs.lemmas.Result.{err_from_is_err_and}
 use Rattle.tl_sweep.specs.Keeping.Spotted.{IsPlacedPolygon}
 use Rattle.tl_sweep.specs.Keeping.Facing.{IsCounted}
+use Rattle.tl_sweep.specs.Keeping.Listed.{before, joined}
 use Rattle.tl_sweep.specs.Keeping.Swept.{IsSwept}
 use Rattle.tl_sweep.proofs.spots.Spots.look.Goals as goal
 
@@ -27,7 +28,7 @@ pub overflow_add-self : goal.overflow_add-self
 overflow_add-self c = omega arith
 
 pub is_placed-requires-clause-swept : goal.is_placed-requires-clause-swept
-is_placed-requires-clause-swept c = subst (IsSwept c.args.map.now.chains c.args.events.now c.args.from) (sym c.loop-self.invariant.stays) c.requires.swept
+is_placed-requires-clause-swept c = subst (IsSwept c.args.map.now.chains (joined c.args.events.now) (before c.args.from c.args.events.now)) (sym c.loop-self.invariant.stays) c.requires.swept
 
 pub is_placed-requires-clause-counted : goal.is_placed-requires-clause-counted
 is_placed-requires-clause-counted c = subst (IsCounted c.args.map.now.chains c.args.gaps) (sym c.loop-self.invariant.stays) c.requires.counted
