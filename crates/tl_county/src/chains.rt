@@ -1,7 +1,6 @@
 //! Chains with their points.
 
-ghost use Rattle.std.specs.Prelude.{◌≡◌, ◌≢◌, ℕ, ◌*◌, ◌<◌, All, List, length, map, slice_get, Some};
-ghost use Rattle.tl_geom.specs.Plane.{end_a, end_b};
+ghost use Rattle.std.specs.Prelude.{◌≡◌, ℕ, ◌*◌, ◌<◌, All, List, length, map, slice_get, Some};
 ghost use Rattle.tl_county.specs.Chains.{CompleteChain, IsProper, tlids, segment_count};
 ghost use Rattle.tl_county.specs.Darts.{directed};
 ghost use Rattle.tl_county.specs.Keeping.Numbered.{IsNumber, JoinsPoints};
@@ -104,7 +103,7 @@ impl Chains {
         ensures { (k : ℕ) → IsNumber self.now.chains (length self.now.chains) s c k → JoinsPoints self.now.chains c k result }
     {
         let place = s as usize + c as usize;
-        segment_between(self.points[place], self.points[place + 1])
+        Segment::between(self.points[place], self.points[place + 1])
     }
 
     /// How many darts there are: two of each chain.
@@ -119,18 +118,6 @@ impl Chains {
         ensures { result ≡ self.now.skipped }
     {
         self.skipped
-    }
-}
-
-/// The segment from one point to another.
-fn segment_between(a: Point, b: Point) -> Segment
-    requires { a ≢ b }
-    ensures from { end_a result ≡ a }
-    ensures to { end_b result ≡ b }
-{
-    match Segment::new(a, b) {
-        Some(segment) => segment,
-        None => unreachable!(),
     }
 }
 

@@ -1,8 +1,9 @@
 //! The map: chains with their sides, polygons, and landmarks with their polygons.
 
-ghost use Rattle.std.specs.Prelude.{◌≡◌, ◌≢◌, ◌<◌, ◌-ℤ◌, All, IfOk, length, slice_get, Some};
+ghost use Rattle.std.specs.Prelude.{◌≡◌, ◌≢◌, ◌<◌, ◌≤◌, ◌-ℤ◌, All, IfOk, length, slice_get, Some};
 ghost use Rattle.tl_county.specs.TheMap.{IsChain};
 ghost use Rattle.tl_county.specs.Chains.{CompleteChain, IsProper};
+ghost use Rattle.tl_county.specs.Limits.{most_segments};
 ghost use Rattle.tl_county.specs.Keeping.Numbered.{AreNumberedSegments};
 ghost use Rattle.tl_county.specs.Keeping.Noded.{AreNumberedNodes};
 
@@ -59,7 +60,7 @@ impl Model for Map {
 
     ghost Value = { TheMap };
 
-    ghost use Rattle.tl_county.specs.Limits.{most_polygons, most_landmarks};
+    ghost use Rattle.tl_county.specs.Limits.{most_segments, most_polygons, most_landmarks};
     ghost use Rattle.tl_county.specs.Chains.{CompleteChain, IsProper};
     ghost use Rattle.tl_county.specs.Rows.{IsRow, HasPolygonsOf, landmarks_in, polygon_in};
     ghost use Rattle.tl_county.specs.Rows.{sided};
@@ -81,14 +82,15 @@ impl Model for Map {
         × AreNumberedSegments m.chains.chains m.segment_chains.items
         × AreNumberedNodes m.chains.chains m.nodes
         × All (HasPolygonsOf (length m.polygons.entries) m.linked.items) m.rows.items
-        × (length m.rows.items ≡ length m.landmarks.entries) };
+        × (length m.rows.items ≡ length m.landmarks.entries)
+        × (length m.segment_chains.items ≤ most_segments) };
 }
 
 /// Numbers the nodes and the segments of the chains.
 fn number_parts(alloc: Global, chains: &Chains) -> Result<(Nodes, Vec<u32>), AllocError>
     requires { All (λ (c : CompleteChain). IsProper c.points) chains.now.chains }
     ensures nodes { IfOk result (λ made. AreNumberedNodes chains.now.chains made.0) }
-    ensures segments { IfOk result (λ made. AreNumberedSegments chains.now.chains made.1.items) }
+    ensures segments { IfOk result (λ made. AreNumberedSegments chains.now.chains made.1.items × (length made.1.items ≤ most_segments)) }
 {
     let nodes = number_nodes(alloc, chains)?;
     let segment_chains = number_segments(alloc, chains)?;
@@ -172,7 +174,7 @@ impl Map {
         ensures count { result ≡ segments_before self.now.chains (length self.now.chains) }
         ensures few { result ≤ most_segments }
     {
-        self.chains.segments()
+        self.segment_chains.len() as u32
     }
 
     /// How many polygons there are.

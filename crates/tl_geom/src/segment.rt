@@ -13,6 +13,7 @@ pub struct Segment {
 }
 
 impl Segment {
+    ghost use Rattle.std.specs.Prelude.{◌≡◌, ◌≢◌};
     ghost use Rattle.tl_geom.specs.Plane.{end_a, end_b};
 
     /// The segment from `a` to `b`, or `None` where they are one point.
@@ -21,6 +22,16 @@ impl Segment {
         ensures ends { IfSome result (λ s. (end_a s ≡ a) × (end_b s ≡ b)) }
     {
         if a == b { None } else { Some(Segment { a, b }) }
+    }
+
+    /// The segment between two points that are known to differ.
+    #[inline]
+    pub fn between(a: Point, b: Point) -> Segment
+        requires { a ≢ b }
+        ensures from { end_a result ≡ a }
+        ensures to { end_b result ≡ b }
+    {
+        Segment { a, b }
     }
 
     /// The first end.

@@ -1,6 +1,7 @@
 use Rattle.std.proofs.lemmas.Result.{err_from_is_err_and}
-use Rattle.std.proofs.Common.{◌≡◌, ◌-◌, ◌<◌, List, [], ◌+◌, length, ap, sym, refl, subst, arith}
-use Rattle.tl_county.specs.Chains.{CompleteChain}
+use Rattle.std.proofs.lemmas.List.{take_all}
+use Rattle.std.proofs.Common.{◌≡◌, ◌-◌, ◌<◌, take, List, [], ◌+◌, length, ap, sym, refl, subst, arith}
+use Rattle.tl_county.specs.Chains.{CompleteChain, segment_count}
 use Rattle.tl_county.specs.Keeping.Numbered.{NumberUpTo}
 use Rattle.tl_county.proofs.NumberLemmas.{number_none, number_more, points_told, several_told}
 use Rattle.tl_county.proofs.segments.number_segments.Goals as goal
@@ -25,8 +26,10 @@ loop-c-preserved c =
 
 pub returns : goal.returns
 returns c =
+    let cs = c.args.chains.now.chains in
     let whole : c.loop-c.c ≡ length c.args.chains.now.chains = omega (arith, c.loop-c-test.false, c.len-c-end.ensures, c.loop-c.auto.c-end) in
-    subst (λ n. NumberUpTo c.args.chains.now.chains n c.loop-c.of.items) whole c.loop-c.invariant
+    let all : segment_count (take c.loop-c.c c.args.chains.now.chains) ≡ segment_count c.args.chains.now.chains = ap segment_count (take_all c.loop-c.c cs (omega (arith, whole))) in
+    (subst (λ n. NumberUpTo c.args.chains.now.chains n c.loop-c.of.items) whole c.loop-c.invariant, omega (arith, c.loop-c.invariant.count, all, c.segments-total.ensures.count, c.segments-total.ensures.few))
 
 pub returns-in_err-of : goal.returns-in_err-of
 returns-in_err-of c =

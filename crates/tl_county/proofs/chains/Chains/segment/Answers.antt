@@ -13,8 +13,8 @@ index-requires-2 c =
     let given = rw (← c.self.view_is) at c.requires.number in
     omega (arith, number_among c.self.inside.points.items c.self.inside.rows.items c.args.s c.args.c given.0 c.self.invariant.1 given.1, c.self.inside.points.ok.0)
 
-pub segment_between-requires : goal.segment_between-requires
-segment_between-requires c = λ same.
+pub between-requires : goal.between-requires
+between-requires c = λ same.
     let points = c.self.inside.points.items in
     let given = rw (← c.self.view_is) at c.requires.number in
     let inside = number_among points c.self.inside.rows.items c.args.s c.args.c given.0 c.self.invariant.1 given.1 in
@@ -26,6 +26,6 @@ returns c = λ k number.
     let points = c.self.inside.points.items in
     let given = rw (← c.self.view_is) at number in
     let inside = number_among points c.self.inside.rows.items c.args.s c.args.c k c.self.invariant.1 given in
-    rw (← c.self.view_is) (joins_among points c.self.inside.rows.items c.args.s c.args.c k c.index.result.now c.segment_between.result c.self.invariant.1 given
-    (c.segment_between.ensures.from ∙ c.index.ensures)
-    (c.segment_between.ensures.to ∙ c.index-2.ensures ∙ get_or_default points (c.args.s + c.args.c + 1) c.index-2.result.now c.index.result.now inside))
+    rw (← c.self.view_is) (joins_among points c.self.inside.rows.items c.args.s c.args.c k c.index.result.now c.between.result c.self.invariant.1 given
+    (c.between.ensures.from ∙ c.index.ensures)
+    (c.between.ensures.to ∙ c.index-2.ensures ∙ get_or_default points (c.args.s + c.args.c + 1) c.index-2.result.now c.index.result.now inside))
