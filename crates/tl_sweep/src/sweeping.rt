@@ -1,5 +1,5 @@
 //! The sweep: from event to event, with the list of active segments.
-ghost use Rattle.std.specs.Prelude.{◌≡◌, [], ◌∷◌, ◌+◌, ◌<◌, ℕ, IfOk, IsTrue, List, length, count_by, slice_index_or};
+ghost use Rattle.std.specs.Prelude.{◌≡◌, ◌≢◌, [], ◌∷◌, ◌+◌, ◌<◌, ℕ, IfOk, IsTrue, IsFalse, List, length, count_by, slice_index_or};
 ghost use Rattle.tl_index.specs.Hits.{times};
 ghost use Rattle.tl_slabs.specs.Heights.{widest};
 ghost use Rattle.tl_slabs.specs.Neighbours.{AreTested, EachTwo, IsWide};
@@ -7,6 +7,7 @@ ghost use Rattle.tl_slabs.specs.Slabs.{AreSlabsTested};
 ghost use Rattle.tl_sweep.specs.Keeping.Facing.{IsCounted};
 ghost use Rattle.tl_sweep.specs.Keeping.Lined.{list_of};
 ghost use Rattle.tl_sweep.specs.Keeping.Listed.{begins_at, ends_at, joined, AreEvents, AreRising};
+ghost use Rattle.tl_sweep.specs.Keeping.Ended.{AreAt};
 ghost use Rattle.tl_sweep.specs.Keeping.Gathered.{AreGathered};
 ghost use Rattle.tl_sweep.specs.Keeping.Spotted.{AreInRange, AreMarks};
 ghost use Rattle.tl_sweep.specs.declared.events.Event.{Event};
@@ -70,18 +71,25 @@ fn gather(
 {
     outs.clear();
     ins.clear();
-    note_all(events, from, outs, ins)?;
     let count = events.len();
     let p = events.point(from);
-    let mut to = from + 1;
-    while to < count {
-        if events.point(to) != p {
-            return Ok(to);
-        }
+    let mut to = from;
+    while to < count && are_there(events, from, to, p) {
         note_all(events, to, outs, ins)?;
         to += 1;
     }
     Ok(to)
+}
+
+/// Whether the events at a place are at the point of those at another, the first one that is looked at.
+#[inline]
+fn are_there(events: &Events, first: usize, place: usize, p: Point) -> bool
+    requires known { place < length events.now }
+    requires first { (d : List Event) → AreAt p (slice_index_or events.now first d) }
+    ensures there { IsTrue result → (d : List Event) → AreAt p (slice_index_or events.now place d) }
+    ensures other { IsFalse result → place ≢ first }
+{
+    place == first || events.point(place) == p
 }
 
 /// The ends of the segment of a number, if there is one: the lower one, and the higher one.

@@ -8,9 +8,9 @@ use Rattle.tl_sweep.proofs.sweeping.gather.Given as goal
 
 -- the events so far are at the height of a point, and these are their segments
 pub record AreGatheredAt (p : Point) (events : List (List Event)) (from to : ℕ) (outs ins : List ℕ) : Type 0 where
-  pub past : from < to
+  pub past : from ≤ to
   pub within : to ≤ length events
-  pub some : 0 < length (between from to events)
+  pub some : from < to → 0 < length (between from to events)
   pub level : All (λ e. e.height ≡ height widest p +ℤ pos 2147483647) (between from to events)
   pub off : (s : ℕ) → times s outs ≡ count_by (ends_at s) (between from to events)
   pub on : (s : ℕ) → times s ins ≡ count_by (begins_at s) (between from to events)
