@@ -1,0 +1,4 @@
+pub mod KeptLemmas
+pub mod ToldLemmas
+pub mod NumberLemmas
+pub mod OrderLemmas

@@ -1,0 +1,45 @@
+use Rattle.std.proofs.Common.{◌≡◌, ℕ, ◌+◌, ◌<◌, ◌⊎◌, inl, inr, List, [], ◌∷◌, ◌++◌, All, Contains, refl, subst, arith}
+use Rattle.std.proofs.lemmas.Bool.{cases_lt}
+use Rattle.std.proofs.lemmas.List.Elements.{All-push, All-weaker, All-contains, All-contains_itself, Contains-append_left, Contains-push}
+use Rattle.tl_record.specs.declared.record.Record.{Record}
+use Rattle.tl_drawn.specs.declared.fault.MapFault.{MapFault}
+use Rattle.tl_drawn.specs.Faults.{IsTrueOf}
+use Rattle.tl_record_faults.specs.AllFaults.{fault_place}
+use Rattle.tl_record_faults.specs.Keeping.Told.{Tells, AreToldUpTo}
+
+-- nothing is to be told
+pub tells_none : (P : MapFault → Type 0) (faults : List MapFault) → ((f : MapFault) → ¬ P f) → Tells P faults faults
+tells_none P faults none = record {
+  each = All-weaker (Contains faults) (λ f. Contains faults f ⊎ P f) (λ f c. inl c) faults (All-contains_itself faults);
+  stay = All-contains_itself faults;
+  every = λ f p. absurd (none f p);
+}
+
+-- what is to be told is the same in other words
+pub tells_same : (P Q : MapFault → Type 0) (old new : List MapFault) → ((f : MapFault) → P f → Q f) → ((f : MapFault) → Q f → P f) → Tells P old new → Tells Q old new
+tells_same P Q old new to back h = record {
+  each = All-weaker (λ f. Contains old f ⊎ P f) (λ f. Contains old f ⊎ Q f) (λ f c. elim c [ inl a ↦ inl a | inr b ↦ inr (to f b) ]) new h.each;
+  stay = h.stay;
+  every = λ f q. h.every f (back f q);
+}
+
+-- one more fault is told
+pub tells_more : (P Q : MapFault → Type 0) (old new : List MapFault) (x : MapFault) → ((f : MapFault) → P f → Q f) → Q x → ((f : MapFault) → Q f → P f ⊎ (f ≡ x)) → Tells P old new → Tells Q old (new ++ x ∷ [])
+tells_more P Q old new x to here back h = record {
+  each = All-push (λ f. Contains old f ⊎ Q f) new x (All-weaker (λ f. Contains old f ⊎ P f) (λ f. Contains old f ⊎ Q f) (λ f c. elim c [ inl a ↦ inl a | inr b ↦ inr (to f b) ]) new h.each) (inr here);
+  stay = All-weaker (Contains new) (Contains (new ++ x ∷ [])) (λ f c. Contains-append_left new (x ∷ []) f c) old h.stay;
+  every = λ f q. elim (back f q) [
+    | inl p ↦ Contains-append_left new (x ∷ []) f (h.every f p)
+    | inr same ↦ rw same (Contains-push new x)
+  ];
+}
+
+-- all faults of one more code are told
+pub told_more : (rs : List Record) (code : ℕ) (P : MapFault → Type 0) (old new : List MapFault) → Tells P old new → ((f : MapFault) → P f → IsTrueOf rs f) → ((f : MapFault) → IsTrueOf rs f → (fault_place f).0 ≡ code → P f) → AreToldUpTo rs code old → AreToldUpTo rs (code + 1) new
+told_more rs code P old new tells true all before = record {
+  each = All-weaker (λ f. Contains old f ⊎ P f) (IsTrueOf rs) (λ f c. elim c [ inl a ↦ All-contains (IsTrueOf rs) old f before.each a | inr b ↦ true f b ]) new tells.each;
+  every = λ f holds below. elim (cases_lt (fault_place f).0 code) [
+    | inl earlier ↦ All-contains (Contains new) old f tells.stay (before.every f holds earlier)
+    | inr at ↦ tells.every f (all f holds (omega arith))
+  ];
+}

@@ -1,0 +1,4 @@
+-- What is kept on the way: what is seen of pairs, and the faults that are told so far.
+pub mod Told
+pub mod Shapes
+pub mod Numbers

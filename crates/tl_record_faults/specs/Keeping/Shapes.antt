@@ -1,0 +1,28 @@
+-- Kept on the way: what is seen of the pairs of type 2 records.
+use Rattle.std.specs.Prelude.{◌≡◌, ℕ, ◌+◌, ◌^◌, ◌-◌, min, Bool, true, false, ◌||◌, if◌then◌else◌, Option, Some, None, List, fold}
+use Rattle.tl_geom.specs.declared.point.Point.{Point}
+use Rattle.tl_drawn.specs.ChainsOf.{same_point}
+use Rattle.tl_record_faults.specs.declared.shape.Trace.{Trace}
+use Rattle.tl_record_faults.specs.declared.shape.Seen.{Seen}
+
+-- the steps with one more, which are counted up to a greatest number
+abbrev pub more_steps : ℕ → ℕ → ℕ
+more_steps m n = min (m + n) (2 ^ 32 - 1)
+
+-- the used points with one more
+abbrev pub traced : Option Trace → Point → Trace
+traced None p = record { first = p; last = p; steps = 0 }
+traced (Some t) p = record { first = t.first; last = p; steps = if same_point t.last p then t.steps else more_steps t.steps 1 }
+
+-- nothing is seen yet
+abbrev pub start : Seen
+start = record { trace = None; gap = false; unused = false }
+
+-- what is seen with one more pair
+abbrev pub see : Seen → Option Point → Seen
+see s None = record { trace = s.trace; gap = s.gap; unused = true }
+see s (Some p) = record { trace = Some (traced s.trace p); gap = s.gap || s.unused; unused = s.unused }
+
+-- what is seen of pairs
+abbrev pub seen_in : List (Option Point) → Seen
+seen_in pairs = fold see start pairs

@@ -1,0 +1,3 @@
+pub mod AllFaults
+pub mod Kept
+pub mod Keeping

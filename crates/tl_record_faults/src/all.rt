@@ -1,0 +1,1 @@
+//! All faults of the kept records.

@@ -1,0 +1,15 @@
+//! Every fault of a county's records at once.
+//!
+//! `tl_map` reads records up to a fault and names that one. Here all are named that are true of the records, in the order of
+//! their codes and then of their numbers, none twice: [`all_record_faults`]. Records are kept as they come, in [`KeptRecords`], which
+//! has of each what tells faults, and no more; each list is sorted once.
+#![tactic(auto)]
+
+mod all;
+mod collect;
+mod numbers;
+mod order;
+mod shape;
+
+
+pub use collect::KeptRecords;
