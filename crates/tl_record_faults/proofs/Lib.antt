@@ -2,3 +2,5 @@ pub mod KeptLemmas
 pub mod ToldLemmas
 pub mod NumberLemmas
 pub mod OrderLemmas
+pub mod CountedLemmas
+pub mod TlidLemmas

@@ -17,6 +17,9 @@ use Rattle.tl_drawn.specs.declared.fault.Limited.TheVariants.{Chains, Segments, 
 use Rattle.tl_drawn.specs.declared.fault.MapFault.{MapFault}
 use Rattle.tl_drawn.specs.declared.fault.MapFault.TheVariants.{DuplicateChain, ShapeWithoutChain, ShapeSequence, ShapeGap, ChainWithoutSides, SidesWithoutChain, DuplicateSides, DuplicatePolygon, SideWithoutPolygon, LinkWithoutLandmark, LinkWithoutPolygon, DegenerateChain, TooMany}
 use Rattle.tl_record_faults.specs.AllFaults.{Place, fault_place, place_cmp, ComesBefore}
+use Rattle.tl_record_faults.specs.declared.numbers.Numbered.{Numbered}
+use Rattle.tl_record_faults.specs.declared.numbers.Numbered.TheVariants as numbered
+use Rattle.tl_record_faults.specs.Keeping.Numbers.{fault_of}
 use Rattle.tl_record_faults.specs.Keeping.Told.{AreOrdered}
 
 -- are two places one
@@ -56,7 +59,7 @@ limited_at : ℕ → Limited
 limited_at n = cond (eqb n 0) Chains (cond (eqb n 1) Segments (cond (eqb n 2) Polygons Landmarks))
 
 -- the fault at a place
-fault_at : Place → MapFault
+pub fault_at : Place → MapFault
 fault_at p =
     cond (eqb p.0 1) (DuplicateChain p.1)
     (cond (eqb p.0 2) (ShapeWithoutChain p.1)
@@ -89,6 +92,29 @@ at_place (TooMany Chains) = refl
 at_place (TooMany Segments) = refl
 at_place (TooMany Polygons) = refl
 at_place (TooMany Landmarks) = refl
+
+-- a fault by its code
+pub with_code : (f : MapFault) (code : ℕ) → (fault_place f).0 ≡ code → f ≡ fault_at (code, (fault_place f).1, (fault_place f).2, (fault_place f).3, (fault_place f).4)
+with_code f code e = sym (at_place f) ∙ ap (λ c. fault_at (c, (fault_place f).1, (fault_place f).2, (fault_place f).3, (fault_place f).4)) e
+
+-- the code of a fault that has one number
+abbrev pub code_of : Numbered → ℕ
+code_of numbered.DuplicateChain = 1
+code_of numbered.ShapeWithoutChain = 2
+code_of numbered.ChainWithoutSides = 5
+code_of numbered.SidesWithoutChain = 6
+code_of numbered.DuplicateSides = 7
+code_of numbered.LinkWithoutLandmark = 10
+
+-- a fault of this code has such a number
+pub with_number : (what : Numbered) (f : MapFault) → (fault_place f).0 ≡ code_of what → (n : ℕ) × (f ≡ fault_of what n)
+unfolding fault_at
+with_number numbered.DuplicateChain f e = ((fault_place f).1, with_code f 1 e)
+with_number numbered.ShapeWithoutChain f e = ((fault_place f).1, with_code f 2 e)
+with_number numbered.ChainWithoutSides f e = ((fault_place f).1, with_code f 5 e)
+with_number numbered.SidesWithoutChain f e = ((fault_place f).1, with_code f 6 e)
+with_number numbered.DuplicateSides f e = ((fault_place f).1, with_code f 7 e)
+with_number numbered.LinkWithoutLandmark f e = ((fault_place f).4, with_code f 10 e)
 
 abbrev fault_cmp : MapFault → MapFault → Ordering
 fault_cmp f g = place_cmp (fault_place f) (fault_place g)

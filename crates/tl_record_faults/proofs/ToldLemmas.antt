@@ -1,11 +1,10 @@
-use Rattle.std.proofs.Common.{◌≡◌, ℕ, ◌+◌, ◌<◌, ◌⊎◌, inl, inr, List, [], ◌∷◌, ◌++◌, All, Contains, refl, subst, arith}
-use Rattle.std.proofs.lemmas.Bool.{cases_lt}
+use Rattle.std.proofs.Common.{◌≡◌, ℕ, zero, suc, ◌⊎◌, inl, inr, List, [], ◌∷◌, ◌++◌, All, Contains, sym, arith}
 use Rattle.std.proofs.lemmas.List.Elements.{All-push, All-weaker, All-contains, All-contains_itself, Contains-append_left, Contains-push}
 use Rattle.tl_record.specs.declared.record.Record.{Record}
 use Rattle.tl_drawn.specs.declared.fault.MapFault.{MapFault}
 use Rattle.tl_drawn.specs.Faults.{IsTrueOf}
 use Rattle.tl_record_faults.specs.AllFaults.{fault_place}
-use Rattle.tl_record_faults.specs.Keeping.Told.{Tells, AreToldUpTo}
+use Rattle.tl_record_faults.specs.Keeping.Told.{Tells, AreTold}
 
 -- nothing is to be told
 pub tells_none : (P : MapFault → Type 0) (faults : List MapFault) → ((f : MapFault) → ¬ P f) → Tells P faults faults
@@ -35,11 +34,15 @@ tells_more P Q old new x to here back h = record {
 }
 
 -- all faults of one more code are told
-pub told_more : (rs : List Record) (code : ℕ) (P : MapFault → Type 0) (old new : List MapFault) → Tells P old new → ((f : MapFault) → P f → IsTrueOf rs f) → ((f : MapFault) → IsTrueOf rs f → (fault_place f).0 ≡ code → P f) → AreToldUpTo rs code old → AreToldUpTo rs (code + 1) new
-told_more rs code P old new tells true all before = record {
+pub told_more : (rs : List Record) (codes : List ℕ) (code : ℕ) (P : MapFault → Type 0) (old new : List MapFault) → ((f : MapFault) → P f → IsTrueOf rs f) → ((f : MapFault) → IsTrueOf rs f → (fault_place f).0 ≡ code → P f) → Tells P old new → AreTold rs codes old → AreTold rs (code ∷ codes) new
+told_more rs codes code P old new true all tells before = record {
   each = All-weaker (λ f. Contains old f ⊎ P f) (IsTrueOf rs) (λ f c. elim c [ inl a ↦ All-contains (IsTrueOf rs) old f before.each a | inr b ↦ true f b ]) new tells.each;
-  every = λ f holds below. elim (cases_lt (fault_place f).0 code) [
-    | inl earlier ↦ All-contains (Contains new) old f tells.stay (before.every f holds earlier)
-    | inr at ↦ tells.every f (all f holds (omega arith))
+  every = λ f holds among. elim (cons_cases code codes (fault_place f).0 among) [
+    | inl here ↦ tells.every f (all f holds (sym here))
+    | inr later ↦ All-contains (Contains new) old f tells.stay (before.every f holds later)
   ];
 }
+  where
+    cons_cases : (c : ℕ) (cs : List ℕ) (x : ℕ) → Contains (c ∷ cs) x → (c ≡ x) ⊎ Contains cs x
+    cons_cases c cs x (zero, lt, at) = inl at
+    cons_cases c cs x (suc k, lt, at) = inr (k, omega arith, at)

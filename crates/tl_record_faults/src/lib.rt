@@ -10,6 +10,7 @@ mod collect;
 mod numbers;
 mod order;
 mod shape;
+mod tlids;
 
 
 pub use collect::KeptRecords;

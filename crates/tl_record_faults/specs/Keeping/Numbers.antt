@@ -1,5 +1,8 @@
 -- Kept on the way: the faults that lists of numbers tell.
-use Rattle.std.specs.Prelude.{◌≡◌, ℕ, ◌+◌, ◌<◌, List, Contains, slice_index_or}
+use Rattle.std.specs.Prelude.{◌≡◌, ℕ, ◌+◌, ◌<◌, ◌==◌, List, ◌∷◌, Contains, count_by, slice_index_or}
+use Rattle.tl_record.specs.declared.record.Record.{Record}
+use Rattle.tl_drawn.specs.ChainsOf.{is_chain, shape_count}
+use Rattle.tl_drawn.specs.MapOf.{sides_in}
 use Rattle.tl_drawn.specs.declared.fault.MapFault.{MapFault}
 use Rattle.tl_drawn.specs.declared.fault.MapFault.TheVariants as fault
 use Rattle.tl_record_faults.specs.declared.numbers.Numbered.{Numbered}
@@ -29,3 +32,24 @@ pub record IsMissing (what : Numbered) (numbers known : List ℕ) (f : MapFault)
   pub is : f ≡ fault_of what number
   pub among : Contains numbers number
   pub unknown : ¬ Contains known number
+
+-- each number stands as often as it is counted
+abbrev pub StandAsOften : (ℕ → ℕ) → List ℕ → Type 0
+StandAsOften count numbers = (n : ℕ) → count_by (λ x. x == n) numbers ≡ count n
+
+-- how many type 1 and type I records have a TLID
+abbrev pub chains_with : List Record → ℕ → ℕ
+chains_with rs t = count_by (is_chain t) rs
+
+abbrev pub sides_with : List Record → ℕ → ℕ
+sides_with rs t = count_by (λ s. s.tlid == t) (sides_in rs)
+
+-- the TLIDs of the type 1, 2 and I records
+pub record AreTlids (rs : List Record) (chains shapes sides : List ℕ) : Type 0 where
+  pub of_chains : StandAsOften (chains_with rs) chains
+  pub of_shapes : StandAsOften (shape_count rs) shapes
+  pub of_sides : StandAsOften (sides_with rs) sides
+
+-- the codes with those of the faults that TLIDs tell
+abbrev pub with_tlids : List ℕ → List ℕ
+with_tlids codes = 7 ∷ 6 ∷ 5 ∷ 2 ∷ 1 ∷ codes

@@ -1,5 +1,5 @@
 -- Kept on the way: the faults that are told so far.
-use Rattle.std.specs.Prelude.{◌≡◌, ℕ, ◌+◌, ◌<◌, ◌⊎◌, List, All, Contains, length, slice_index_or}
+use Rattle.std.specs.Prelude.{ℕ, ◌⊎◌, List, All, Contains}
 use Rattle.std.specs.List.{AllPairs}
 use Rattle.tl_record.specs.declared.record.Record.{Record}
 use Rattle.tl_drawn.specs.declared.fault.MapFault.{MapFault}
@@ -18,7 +18,7 @@ pub record Tells (P : MapFault → Type 0) (old new : List MapFault) : Type 0 wh
   pub stay : All (Contains new) old
   pub every : (f : MapFault) → P f → Contains new f
 
--- all faults of the first codes are told, and none that is not true
-pub record AreToldUpTo (rs : List Record) (codes : ℕ) (faults : List MapFault) : Type 0 where
+-- all faults of these codes are told, and none that is not true
+pub record AreTold (rs : List Record) (codes : List ℕ) (faults : List MapFault) : Type 0 where
   pub each : All (IsTrueOf rs) faults
-  pub every : (f : MapFault) → IsTrueOf rs f → (fault_place f).0 < codes → Contains faults f
+  pub every : (f : MapFault) → IsTrueOf rs f → Contains codes (fault_place f).0 → Contains faults f
