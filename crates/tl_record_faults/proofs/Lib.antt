@@ -4,3 +4,4 @@ pub mod NumberLemmas
 pub mod OrderLemmas
 pub mod CountedLemmas
 pub mod TlidLemmas
+pub mod KeyLemmas

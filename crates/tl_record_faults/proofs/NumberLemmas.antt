@@ -1,95 +1,95 @@
-use Rattle.std.proofs.Common.{◌≡◌, ◌≢◌, ℕ, ◌+◌, ◌-◌, ◌<◌, ◌≤◌, ◌⊎◌, inl, inr, List, [], ◌∷◌, ◌++◌, length, take, get_or, Contains, refl, sym, ap, ◌∙◌, arith}
+use Rattle.std.proofs.Common.{◌≡◌, ◌≢◌, ℕ, ◌+◌, ◌-◌, ◌<◌, ◌≤◌, ◌⊎◌, inl, inr, List, [], ◌∷◌, ◌++◌, length, take, get_or, Contains, refl, sym, ap, ◌∙◌, subst, arith}
 use Rattle.std.specs.List.Sorted.{IsNonDecreasing}
 use Rattle.std.proofs.lemmas.Bool.{cases_lt}
-use Rattle.std.proofs.lemmas.List.{get_or_default, get_or_past, take_more}
+use Rattle.std.proofs.lemmas.List.{get_or_default, take_all, take_more}
 use Rattle.std.proofs.lemmas.List.Elements.{Contains-append_left, Contains-push, Contains-push_cases}
 use Rattle.tl_drawn.specs.declared.fault.MapFault.{MapFault}
-use Rattle.tl_record_faults.specs.declared.numbers.Numbered.{Numbered}
 use Rattle.tl_record_faults.specs.Keeping.Told.{Tells}
-use Rattle.tl_record_faults.specs.Keeping.Numbers.{fault_of, StandsNext, IsMissing}
+use Rattle.tl_record_faults.specs.Keeping.Numbers.{StandsNext, IsMissing}
 use Rattle.tl_record_faults.proofs.ToldLemmas.{tells_none, tells_same, tells_more}
 
 -- no two neighbours end below the second place
-pub next_none : (what : Numbered) (numbers : List ℕ) (n : ℕ) (faults : List MapFault) → n ≤ 1 → Tells (StandsNext what numbers n) faults faults
-next_none what numbers n faults few = tells_none (StandsNext what numbers n) faults (λ f s. omega (arith, s.below))
+pub next_none : {X : Type 0} (g : X → MapFault) (items : List X) (n : ℕ) (faults : List MapFault) → n ≤ 1 → Tells (StandsNext g items n) faults faults
+next_none g items n faults few = tells_none (StandsNext g items n) faults (λ f s. omega (arith, s.below))
 
-longer : (what : Numbered) (numbers : List ℕ) (i : ℕ) (f : MapFault) → StandsNext what numbers i f → StandsNext what numbers (i + 1) f
-longer what numbers i f s = record { number = s.number; is = s.is; place = s.place; below = omega (arith, s.below); first = s.first; second = s.second }
+-- two neighbours up to one place more
+longer : {X : Type 0} (g : X → MapFault) (items : List X) (i j : ℕ) (f : MapFault) → (s : StandsNext g items i f) → s.place + 1 < j → StandsNext g items j f
+longer g items i j f s lt = record { item = s.item; is = s.is; place = s.place; below = lt; within = s.within; first = s.first; second = s.second }
 
--- two neighbours up to the i-th place stand before it or at it
-split : (what : Numbered) (numbers : List ℕ) (i : ℕ) (f : MapFault) → StandsNext what numbers (i + 1) f → StandsNext what numbers i f ⊎ ((s : StandsNext what numbers (i + 1) f) × (s.place + 1 ≡ i))
-split what numbers i f s = elim (cases_lt (s.place + 1) i) [
-  | inl earlier ↦ inl (record { number = s.number; is = s.is; place = s.place; below = earlier; first = s.first; second = s.second })
+split : {X : Type 0} (g : X → MapFault) (items : List X) (i : ℕ) (f : MapFault) → StandsNext g items (i + 1) f → StandsNext g items i f ⊎ ((s : StandsNext g items (i + 1) f) × (s.place + 1 ≡ i))
+split g items i f s = elim (cases_lt (s.place + 1) i) [
+  | inl earlier ↦ inl (longer g items (i + 1) i f s earlier)
   | inr at ↦ inr (s, omega (arith, s.below))
 ]
 
--- the i-th number is the one before
-pub next_more : (what : Numbered) (numbers : List ℕ) (i d e : ℕ) (old new : List MapFault) → 1 ≤ i → i < length numbers → get_or numbers (i - 1) e ≡ get_or numbers i d → Tells (StandsNext what numbers i) old new → Tells (StandsNext what numbers (i + 1)) old (new ++ fault_of what (get_or numbers i d) ∷ [])
-next_more what numbers i d e old new low lt same h =
+-- the i-th item is the one before
+pub next_more : {X : Type 0} (g : X → MapFault) (items : List X) (i : ℕ) (d e : X) (old new : List MapFault) → 1 ≤ i → i < length items → get_or items (i - 1) e ≡ get_or items i d → Tells (StandsNext g items i) old new → Tells (StandsNext g items (i + 1)) old (new ++ g (get_or items i d) ∷ [])
+next_more {X} g items i d e old new low lt same h =
     let back : i - 1 + 1 ≡ i = omega arith in
-    tells_more (StandsNext what numbers i) (StandsNext what numbers (i + 1)) old new (fault_of what (get_or numbers i d)) (longer what numbers i)
+    tells_more (StandsNext g items i) (StandsNext g items (i + 1)) old new (g (get_or items i d)) (λ f s. longer g items i (i + 1) f s (omega (arith, s.below)))
     (record {
-      number = get_or numbers i d;
+      item = get_or items i d;
       is = refl;
       place = i - 1;
       below = omega arith;
-      first = λ x. get_or_default numbers (i - 1) x e (omega arith) ∙ same;
-      second = λ x. rw back (get_or_default numbers i x d lt);
+      within = omega arith;
+      first = λ x. get_or_default items (i - 1) x e (omega arith) ∙ same;
+      second = λ x. rw back (get_or_default items i x d lt);
     })
-    (λ f s. elim (split what numbers i f s) [
+    (λ f s. elim (split g items i f s) [
       | inl earlier ↦ inl earlier
-      | inr w ↦ inr (w.0.is ∙ ap (fault_of what) (sym (rw w.1 at (w.0.second d))))
+      | inr w ↦ inr (w.0.is ∙ ap g (sym (rw w.1 at (w.0.second d))))
     ]) h
 
--- the i-th number is another one than the one before
-pub next_other : (what : Numbered) (numbers : List ℕ) (i d e : ℕ) (old new : List MapFault) → 1 ≤ i → i < length numbers → get_or numbers (i - 1) e ≢ get_or numbers i d → Tells (StandsNext what numbers i) old new → Tells (StandsNext what numbers (i + 1)) old new
-next_other what numbers i d e old new low lt other h =
-    tells_same (StandsNext what numbers i) (StandsNext what numbers (i + 1)) old new (longer what numbers i)
-    (λ f s. elim (split what numbers i f s) [
+-- the i-th item is another one than the one before
+pub next_other : {X : Type 0} (g : X → MapFault) (items : List X) (i : ℕ) (d e : X) (old new : List MapFault) → 1 ≤ i → i < length items → get_or items (i - 1) e ≢ get_or items i d → Tells (StandsNext g items i) old new → Tells (StandsNext g items (i + 1)) old new
+next_other g items i d e old new low lt other h =
+    tells_same (StandsNext g items i) (StandsNext g items (i + 1)) old new (λ f s. longer g items i (i + 1) f s (omega (arith, s.below)))
+    (λ f s. elim (split g items i f s) [
       | inl earlier ↦ earlier
       | inr w ↦
           let at : w.0.place ≡ i - 1 = omega (arith, w.1) in
           absurd (other ((rw at at (w.0.first e)) ∙ sym (rw w.1 at (w.0.second d))))
     ]) h
 
--- two neighbours stand below the end
-inside : (what : Numbered) (numbers : List ℕ) (i : ℕ) (f : MapFault) (s : StandsNext what numbers i f) → s.place + 1 < length numbers
-inside what numbers i f s = elim (cases_lt (s.place + 1) (length numbers)) [
-  | inl before ↦ before
-  | inr past ↦ omega (arith, s.second 0, s.second 1, get_or_past numbers (s.place + 1) 0 past, get_or_past numbers (s.place + 1) 1 past)
-]
+-- the items up to the end are all
+pub next_all : {X : Type 0} (g : X → MapFault) (items : List X) (i : ℕ) (old new : List MapFault) → length items ≤ i → Tells (StandsNext g items i) old new → Tells (StandsNext g items (length items)) old new
+next_all g items i old new past h =
+    tells_same (StandsNext g items i) (StandsNext g items (length items)) old new
+    (λ f s. longer g items i (length items) f s s.within)
+    (λ f s. longer g items (length items) i f s (omega (arith, s.within))) h
 
--- the numbers up to the end are all
-pub next_all : (what : Numbered) (numbers : List ℕ) (i : ℕ) (old new : List MapFault) → length numbers ≤ i → Tells (StandsNext what numbers i) old new → Tells (StandsNext what numbers (length numbers)) old new
-next_all what numbers i old new past h =
-    tells_same (StandsNext what numbers i) (StandsNext what numbers (length numbers)) old new
-    (λ f s. record { number = s.number; is = s.is; place = s.place; below = inside what numbers i f s; first = s.first; second = s.second })
-    (λ f s. record { number = s.number; is = s.is; place = s.place; below = omega (arith, s.below); first = s.first; second = s.second }) h
+more_items : {X K : Type 0} (g : X → MapFault) (name : X → K) (items : List X) (x : X) (known : List K) (f : MapFault) → IsMissing g name items known f → IsMissing g name (items ++ x ∷ []) known f
+more_items g name items x known f m = record { item = m.item; is = m.is; among = Contains-append_left items (x ∷ []) m.item m.among; unknown = m.unknown }
 
--- one more number, of which nothing is told
-pub missing_known : (what : Numbered) (numbers known : List ℕ) (i d : ℕ) (old new : List MapFault) → i < length numbers → Contains known (get_or numbers i d) → Tells (IsMissing what (take i numbers) known) old new → Tells (IsMissing what (take (i + 1) numbers) known) old new
-missing_known what numbers known i d old new lt has h = rw (take_more numbers i d lt)
-  (tells_same (IsMissing what (take i numbers) known) (IsMissing what (take i numbers ++ get_or numbers i d ∷ []) known) old new
-  (λ f m. record { number = m.number; is = m.is; among = Contains-append_left (take i numbers) (get_or numbers i d ∷ []) m.number m.among; unknown = m.unknown })
-  (λ f m. elim (Contains-push_cases (take i numbers) (get_or numbers i d) m.number m.among) [
-    | inl before ↦ record { number = m.number; is = m.is; among = before; unknown = m.unknown }
-    | inr here ↦ absurd (m.unknown (rw here at has))
+-- one more item, of which nothing is told
+pub missing_known : {X K : Type 0} (g : X → MapFault) (name : X → K) (items : List X) (known : List K) (i : ℕ) (d : X) (old new : List MapFault) → i < length items → Contains known (name (get_or items i d)) → Tells (IsMissing g name (take i items) known) old new → Tells (IsMissing g name (take (i + 1) items) known) old new
+missing_known g name items known i d old new lt has h = rw (take_more items i d lt)
+  (tells_same (IsMissing g name (take i items) known) (IsMissing g name (take i items ++ get_or items i d ∷ []) known) old new
+  (λ f m. more_items g name (take i items) (get_or items i d) known f m)
+  (λ f m. elim (Contains-push_cases (take i items) (get_or items i d) m.item m.among) [
+    | inl before ↦ record { item = m.item; is = m.is; among = before; unknown = m.unknown }
+    | inr here ↦ absurd (m.unknown (subst (λ x. Contains known (name x)) here has))
   ]) h)
 
--- one more number, which is told
-pub missing_more : (what : Numbered) (numbers known : List ℕ) (i d : ℕ) (old new : List MapFault) → i < length numbers → ¬ Contains known (get_or numbers i d) → Tells (IsMissing what (take i numbers) known) old new → Tells (IsMissing what (take (i + 1) numbers) known) old (new ++ fault_of what (get_or numbers i d) ∷ [])
-missing_more what numbers known i d old new lt none h = rw (take_more numbers i d lt)
-  (tells_more (IsMissing what (take i numbers) known) (IsMissing what (take i numbers ++ get_or numbers i d ∷ []) known) old new (fault_of what (get_or numbers i d))
-  (λ f m. record { number = m.number; is = m.is; among = Contains-append_left (take i numbers) (get_or numbers i d ∷ []) m.number m.among; unknown = m.unknown })
-  (record { number = get_or numbers i d; is = refl; among = Contains-push (take i numbers) (get_or numbers i d); unknown = none })
-  (λ f m. elim (Contains-push_cases (take i numbers) (get_or numbers i d) m.number m.among) [
-    | inl before ↦ inl (record { number = m.number; is = m.is; among = before; unknown = m.unknown })
-    | inr here ↦ inr (m.is ∙ ap (fault_of what) (sym here))
+-- one more item, which is told
+pub missing_more : {X K : Type 0} (g : X → MapFault) (name : X → K) (items : List X) (known : List K) (i : ℕ) (d : X) (old new : List MapFault) → i < length items → ¬ Contains known (name (get_or items i d)) → Tells (IsMissing g name (take i items) known) old new → Tells (IsMissing g name (take (i + 1) items) known) old (new ++ g (get_or items i d) ∷ [])
+missing_more g name items known i d old new lt none h = rw (take_more items i d lt)
+  (tells_more (IsMissing g name (take i items) known) (IsMissing g name (take i items ++ get_or items i d ∷ []) known) old new (g (get_or items i d))
+  (λ f m. more_items g name (take i items) (get_or items i d) known f m)
+  (record { item = get_or items i d; is = refl; among = Contains-push (take i items) (get_or items i d); unknown = none })
+  (λ f m. elim (Contains-push_cases (take i items) (get_or items i d) m.item m.among) [
+    | inl before ↦ inl (record { item = m.item; is = m.is; among = before; unknown = m.unknown })
+    | inr here ↦ inr (m.is ∙ ap g (sym here))
   ]) h)
 
--- of no numbers nothing is told
-pub missing_none : (what : Numbered) (known : List ℕ) (faults : List MapFault) → Tells (IsMissing what [] known) faults faults
-missing_none what known faults = tells_none (IsMissing what [] known) faults (λ f m. omega (arith, m.among.1))
+-- of no items nothing is told
+pub missing_none : {X K : Type 0} (g : X → MapFault) (name : X → K) (known : List K) (faults : List MapFault) → Tells (IsMissing g name [] known) faults faults
+missing_none g name known faults = tells_none (IsMissing g name [] known) faults (λ f m. omega (arith, m.among.1))
+
+-- the items up to the end are all
+pub missing_all : {X K : Type 0} (g : X → MapFault) (name : X → K) (items : List X) (known : List K) (i : ℕ) (old new : List MapFault) → length items ≤ i → Tells (IsMissing g name (take i items) known) old new → Tells (IsMissing g name items known) old new
+missing_all g name items known i old new past h = rw (take_all i items past) at h
 
 -- the number at a place is known
 pub found_at : (known : List ℕ) (place v : ℕ) → place < length known → get_or known place 0 ≡ v → Contains known v

@@ -2,3 +2,4 @@
 pub mod Told
 pub mod Shapes
 pub mod Numbers
+pub mod Keys

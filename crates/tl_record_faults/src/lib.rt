@@ -7,6 +7,7 @@
 
 mod all;
 mod collect;
+mod keys;
 mod numbers;
 mod order;
 mod shape;

@@ -39,7 +39,8 @@ pub fn tell_repeats(
     what: Numbered,
     numbers: &[u64],
 ) -> Result<(), AllocError>
-    ensures { OnOk result (Tells (StandsNext what numbers.now (length numbers.now)) faults.old.items faults.new.items) }
+    ensures { OnOk result (Tells (StandsNext (fault_of what) numbers.now (length numbers.now))
+        faults.old.items faults.new.items) }
 {
     for place in 1..numbers.len() {
         let number = numbers[place];
@@ -59,7 +60,8 @@ pub fn tell_missing(
 ) -> Result<(), AllocError>
     requires numbers { IsNonDecreasing numbers.now }
     requires known { IsNonDecreasing known.now }
-    ensures { OnOk result (Tells (IsMissing what numbers.now known.now) faults.old.items faults.new.items) }
+    ensures { OnOk result (Tells (IsMissing (fault_of what) (λ n. n) numbers.now known.now)
+        faults.old.items faults.new.items) }
 {
     let mut place = 0;
     for number in numbers {

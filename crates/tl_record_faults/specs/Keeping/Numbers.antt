@@ -1,5 +1,5 @@
 -- Kept on the way: the faults that lists of numbers tell.
-use Rattle.std.specs.Prelude.{◌≡◌, ℕ, ◌+◌, ◌<◌, ◌==◌, List, ◌∷◌, Contains, count_by, slice_index_or}
+use Rattle.std.specs.Prelude.{◌≡◌, ℕ, ◌+◌, ◌<◌, ◌==◌, List, ◌∷◌, length, Contains, count_by, slice_index_or}
 use Rattle.tl_record.specs.declared.record.Record.{Record}
 use Rattle.tl_drawn.specs.ChainsOf.{is_chain, shape_count}
 use Rattle.tl_drawn.specs.MapOf.{sides_in}
@@ -17,21 +17,22 @@ fault_of SidesWithoutChain n = fault.SidesWithoutChain n
 fault_of DuplicateSides n = fault.DuplicateSides n
 fault_of LinkWithoutLandmark n = fault.LinkWithoutLandmark n
 
--- the fault's number stands at two neighbouring places below an end
-pub record StandsNext (what : Numbered) (numbers : List ℕ) (end : ℕ) (f : MapFault) : Type 0 where
-  pub number : ℕ
-  pub is : f ≡ fault_of what number
+-- an item of the fault stands at two neighbouring places below an end
+pub record StandsNext {X : Type 0} (g : X → MapFault) (items : List X) (end : ℕ) (f : MapFault) : Type 0 where
+  pub item : X
+  pub is : f ≡ g item
   pub place : ℕ
   pub below : place + 1 < end
-  pub first : (d : ℕ) → slice_index_or numbers place d ≡ number
-  pub second : (d : ℕ) → slice_index_or numbers (place + 1) d ≡ number
+  pub within : place + 1 < length items
+  pub first : (d : X) → slice_index_or items place d ≡ item
+  pub second : (d : X) → slice_index_or items (place + 1) d ≡ item
 
--- the fault's number is one of these and not known
-pub record IsMissing (what : Numbered) (numbers known : List ℕ) (f : MapFault) : Type 0 where
-  pub number : ℕ
-  pub is : f ≡ fault_of what number
-  pub among : Contains numbers number
-  pub unknown : ¬ Contains known number
+-- an item of the fault is one of these, and what it names is not known
+pub record IsMissing {X K : Type 0} (g : X → MapFault) (name : X → K) (items : List X) (known : List K) (f : MapFault) : Type 0 where
+  pub item : X
+  pub is : f ≡ g item
+  pub among : Contains items item
+  pub unknown : ¬ Contains known (name item)
 
 -- each number stands as often as it is counted
 abbrev pub StandAsOften : (ℕ → ℕ) → List ℕ → Type 0
