@@ -5,3 +5,4 @@ pub mod OrderLemmas
 pub mod CountedLemmas
 pub mod TlidLemmas
 pub mod KeyLemmas
+pub mod AreaLemmas

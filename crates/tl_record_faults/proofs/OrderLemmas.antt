@@ -55,7 +55,7 @@ place_is p q h =
     λ i. (a i, b i, d i, e i, f i)
 
 -- what there can be too many of, by its number
-limited_at : ℕ → Limited
+pub limited_at : ℕ → Limited
 limited_at n = cond (eqb n 0) Chains (cond (eqb n 1) Segments (cond (eqb n 2) Polygons Landmarks))
 
 -- the fault at a place
@@ -115,6 +115,35 @@ with_number numbered.ChainWithoutSides f e = ((fault_place f).1, with_code f 5 e
 with_number numbered.SidesWithoutChain f e = ((fault_place f).1, with_code f 6 e)
 with_number numbered.DuplicateSides f e = ((fault_place f).1, with_code f 7 e)
 with_number numbered.LinkWithoutLandmark f e = ((fault_place f).4, with_code f 10 e)
+
+-- the faults of the other codes
+pub sequence_there : (f : MapFault) → (fault_place f).0 ≡ 3 → f ≡ ShapeSequence (fault_place f).1
+unfolding fault_at
+sequence_there f e = with_code f 3 e
+
+pub gap_there : (f : MapFault) → (fault_place f).0 ≡ 4 → f ≡ ShapeGap (fault_place f).1
+unfolding fault_at
+gap_there f e = with_code f 4 e
+
+pub twice_there : (f : MapFault) → (fault_place f).0 ≡ 8 → f ≡ DuplicatePolygon (record { cenid = (fault_place f).2; polyid = (fault_place f).3 })
+unfolding fault_at
+twice_there f e = with_code f 8 e
+
+pub side_there : (f : MapFault) → (fault_place f).0 ≡ 9 → f ≡ SideWithoutPolygon (fault_place f).1 (record { cenid = (fault_place f).2; polyid = (fault_place f).3 })
+unfolding fault_at
+side_there f e = with_code f 9 e
+
+pub link_there : (f : MapFault) → (fault_place f).0 ≡ 11 → f ≡ LinkWithoutPolygon (record { cenid = (fault_place f).2; polyid = (fault_place f).3 }) (fault_place f).4
+unfolding fault_at
+link_there f e = with_code f 11 e
+
+pub degenerate_there : (f : MapFault) → (fault_place f).0 ≡ 12 → f ≡ DegenerateChain (fault_place f).1
+unfolding fault_at
+degenerate_there f e = with_code f 12 e
+
+pub many_there : (f : MapFault) → (fault_place f).0 ≡ 13 → f ≡ TooMany (limited_at (fault_place f).1)
+unfolding fault_at
+many_there f e = with_code f 13 e
 
 abbrev fault_cmp : MapFault → MapFault → Ordering
 fault_cmp f g = place_cmp (fault_place f) (fault_place g)

@@ -3,3 +3,4 @@ pub mod Told
 pub mod Shapes
 pub mod Numbers
 pub mod Keys
+pub mod Areas

@@ -6,6 +6,7 @@
 #![tactic(auto)]
 
 mod all;
+mod areas;
 mod collect;
 mod keys;
 mod numbers;
