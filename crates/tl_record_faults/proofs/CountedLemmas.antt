@@ -46,7 +46,7 @@ pub number_counted : (count : ℕ → ℕ) (numbers : List ℕ) (n : ℕ) → St
 number_counted count numbers n often has = omega (arith, often n, stands_counted eqb (λ x. eq-eqb x x refl) numbers n has)
 
 -- what is left of a list that doesn't fall
-fewer : (x : ℕ) (xs : List ℕ) → IsNonDecreasing (x ∷ xs) → IsNonDecreasing xs
+pub fewer : (x : ℕ) (xs : List ℕ) → IsNonDecreasing (x ∷ xs) → IsNonDecreasing xs
 fewer x xs order i j d le lt = rw (add-one i, add-one j) at (order (i + 1) (j + 1) d (omega arith) (omega arith))
 
 behind : (x : ℕ) (xs : List ℕ) (k d n : ℕ) → get_or xs (k + 1) d ≡ n → get_or (x ∷ xs) (suc k + 1) d ≡ n

@@ -6,3 +6,5 @@ pub mod CountedLemmas
 pub mod TlidLemmas
 pub mod KeyLemmas
 pub mod AreaLemmas
+pub mod SequenceLemmas
+pub mod RunLemmas

@@ -4,3 +4,4 @@ pub mod Shapes
 pub mod Numbers
 pub mod Keys
 pub mod Areas
+pub mod Runs

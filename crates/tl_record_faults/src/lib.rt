@@ -11,6 +11,7 @@ mod collect;
 mod keys;
 mod numbers;
 mod order;
+mod runs;
 mod shape;
 mod tlids;
 

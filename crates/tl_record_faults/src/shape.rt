@@ -43,15 +43,18 @@ impl Ranked for ShapeSummary {
     }
 }
 
+/// Nothing is seen yet.
+pub const NOTHING_SEEN: Seen = Seen {
+    trace: None,
+    gap: false,
+    unused: false,
+};
+
 /// What is seen of the pairs of a record.
 pub fn seen_of(pairs: &[Option<Point>; PAIRS]) -> Seen
     ensures { result ≡ seen_in pairs.now }
 {
-    let mut seen = Seen {
-        trace: None,
-        gap: false,
-        unused: false,
-    };
+    let mut seen = NOTHING_SEEN;
     for pair in pairs {
         seen = with_pair(seen, *pair);
     }
