@@ -8,3 +8,4 @@ pub mod KeyLemmas
 pub mod AreaLemmas
 pub mod SequenceLemmas
 pub mod RunLemmas
+pub mod TraceLemmas

@@ -108,7 +108,7 @@ pub fn joined_traces(trace: Option<Trace>, next: Option<Trace>) -> Option<Trace>
     let Some(trace) = trace else {
         return Some(next);
     };
-    let between = if trace.last == next.first { 0 } else { 1 };
+    let between = if next.first == trace.last { 0 } else { 1 };
     Some(Trace {
         first: trace.first,
         last: next.last,

@@ -89,14 +89,11 @@ fn with_point(trace: Option<Trace>, point: Point) -> Trace
             last: point,
             steps: 0,
         },
+        Some(trace) if point == trace.last => trace,
         Some(trace) => Trace {
             first: trace.first,
             last: point,
-            steps: if trace.last == point {
-                trace.steps
-            } else {
-                trace.steps.saturating_add(1)
-            },
+            steps: trace.steps.saturating_add(1),
         },
     }
 }

@@ -32,7 +32,7 @@ join_traces None (Some b) = Some b
 join_traces (Some a) (Some b) = Some (record {
   first = a.first;
   last = b.last;
-  steps = more_steps (more_steps a.steps b.steps) (if same_point a.last b.first then 0 else 1);
+  steps = more_steps (more_steps a.steps b.steps) (if same_point b.first a.last then 0 else 1);
 })
 
 -- what is seen of both, one behind the other

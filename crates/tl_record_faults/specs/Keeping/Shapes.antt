@@ -12,7 +12,7 @@ more_steps m n = min (m + n) (2 ^ 32 - 1)
 -- the used points with one more
 abbrev pub traced : Option Trace → Point → Trace
 traced None p = record { first = p; last = p; steps = 0 }
-traced (Some t) p = record { first = t.first; last = p; steps = if same_point t.last p then t.steps else more_steps t.steps 1 }
+traced (Some t) p = if same_point p t.last then t else record { first = t.first; last = p; steps = more_steps t.steps 1 }
 
 -- nothing is seen yet
 abbrev pub start : Seen
