@@ -9,3 +9,4 @@ pub mod AreaLemmas
 pub mod SequenceLemmas
 pub mod RunLemmas
 pub mod TraceLemmas
+pub mod ShapeLemmas

@@ -33,16 +33,24 @@ tells_more P Q old new x to here back h = record {
   ];
 }
 
--- all faults of one more code are told
-pub told_more : (rs : List Record) (codes : List ℕ) (code : ℕ) (P : MapFault → Type 0) (old new : List MapFault) → ((f : MapFault) → P f → IsTrueOf rs f) → ((f : MapFault) → IsTrueOf rs f → (fault_place f).0 ≡ code → P f) → Tells P old new → AreTold rs codes old → AreTold rs (code ∷ codes) new
-told_more rs codes code P old new true all tells before = record {
-  each = All-weaker (λ f. Contains old f ⊎ P f) (IsTrueOf rs) (λ f c. elim c [ inl a ↦ All-contains (IsTrueOf rs) old f before.each a | inr b ↦ true f b ]) new tells.each;
+cons_cases : (c : ℕ) (cs : List ℕ) (x : ℕ) → Contains (c ∷ cs) x → (c ≡ x) ⊎ Contains cs x
+cons_cases c cs x (zero, lt, at) = inl at
+cons_cases c cs x (suc k, lt, at) = inr (k, omega arith, at)
+
+-- all faults of one more code are told already
+pub told_also : (rs : List Record) (codes : List ℕ) (code : ℕ) (faults : List MapFault) → ((f : MapFault) → IsTrueOf rs f → (fault_place f).0 ≡ code → Contains faults f) → AreTold rs codes faults → AreTold rs (code ∷ codes) faults
+told_also rs codes code faults all before = record {
+  each = before.each;
   every = λ f holds among. elim (cons_cases code codes (fault_place f).0 among) [
-    | inl here ↦ tells.every f (all f holds (sym here))
-    | inr later ↦ All-contains (Contains new) old f tells.stay (before.every f holds later)
+    | inl here ↦ all f holds (sym here)
+    | inr later ↦ before.every f holds later
   ];
 }
-  where
-    cons_cases : (c : ℕ) (cs : List ℕ) (x : ℕ) → Contains (c ∷ cs) x → (c ≡ x) ⊎ Contains cs x
-    cons_cases c cs x (zero, lt, at) = inl at
-    cons_cases c cs x (suc k, lt, at) = inr (k, omega arith, at)
+
+-- all faults of one more code are told
+pub told_more : (rs : List Record) (codes : List ℕ) (code : ℕ) (P : MapFault → Type 0) (old new : List MapFault) → ((f : MapFault) → P f → IsTrueOf rs f) → ((f : MapFault) → IsTrueOf rs f → (fault_place f).0 ≡ code → P f) → Tells P old new → AreTold rs codes old → AreTold rs (code ∷ codes) new
+told_more rs codes code P old new true all tells before =
+    told_also rs codes code new (λ f holds here. tells.every f (all f holds here)) (record {
+      each = All-weaker (λ f. Contains old f ⊎ P f) (IsTrueOf rs) (λ f c. elim c [ inl a ↦ All-contains (IsTrueOf rs) old f before.each a | inr b ↦ true f b ]) new tells.each;
+      every = λ f holds among. All-contains (Contains new) old f tells.stay (before.every f holds among);
+    })
