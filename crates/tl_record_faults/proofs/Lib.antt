@@ -10,3 +10,5 @@ pub mod SequenceLemmas
 pub mod RunLemmas
 pub mod TraceLemmas
 pub mod ShapeLemmas
+pub mod JoinedLemmas
+pub mod ChainLemmas

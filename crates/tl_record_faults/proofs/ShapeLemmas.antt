@@ -21,7 +21,7 @@ use Rattle.tl_record_faults.specs.declared.shape.Seen.{Seen}
 use Rattle.tl_record_faults.specs.Kept.{shape_at}
 use Rattle.tl_record_faults.specs.Keeping.Shapes.{start, seen_in}
 use Rattle.tl_record_faults.specs.Keeping.Told.{Tells, AreTold}
-use Rattle.tl_record_faults.specs.Keeping.Runs.{run_fault, IsRunFault, Precedes, AreInOrder, run_of, join, seen_in_run, count_up, in_sequence}
+use Rattle.tl_record_faults.specs.Keeping.Runs.{AreShapes, run_fault, IsRunFault, Precedes, AreInOrder, run_of, join, seen_in_run, count_up, in_sequence}
 use Rattle.tl_record_faults.proofs.CountedLemmas.{count_yes, count_no, count-map, items_counted}
 use Rattle.tl_record_faults.proofs.SequenceLemmas.{times, once_each, count_up_from_once}
 use Rattle.tl_record_faults.proofs.TraceLemmas.{join_seen, seen_closed}
@@ -29,11 +29,6 @@ use Rattle.tl_record_faults.specs.AllFaults.{fault_place}
 use Rattle.tl_record_faults.proofs.ToldLemmas.{told_also, told_more}
 use Rattle.tl_record_faults.proofs.OrderLemmas.{sequence_there, gap_there as gap_there_at}
 use Rattle.tl_record_faults.proofs.RunLemmas.{nothing}
-
--- the shapes are those of the records, in order
-pub record AreShapes (rs : List Record) (shapes : List ShapeSummary) : Type 0 where
-  pub moved : IsPermutation (filter_map shape_at rs) shapes
-  pub order : AreInOrder shapes
 
 -- what passes two tests is counted among what passes the first
 count-filter : {X : Type 0} (p q : X → Bool) (xs : List X) → count_by q (filter p xs) ≡ count_by (λ x. p x && q x) xs
@@ -201,7 +196,7 @@ shape_there rs shapes t are some =
     (among.0, among.1, λ d. ap (λ (s : ShapeSummary). s.tlid) (get_or_default shapes among.0 d first among.1 ∙ among.2) ∙ run_tlid shapes t 0 nothing long)
 
 -- what a fault of a run says
-run_true : (rs : List Record) (shapes : List ShapeSummary) (t : ℕ) (f : MapFault) → AreShapes rs shapes → run_fault t (run_of shapes t) ≡ Some f → ((f ≡ ShapeSequence t) × ¬ IsNumbered rs t) ⊎ ((f ≡ ShapeGap t) × IsBroken rs t)
+pub run_true : (rs : List Record) (shapes : List ShapeSummary) (t : ℕ) (f : MapFault) → AreShapes rs shapes → run_fault t (run_of shapes t) ≡ Some f → ((f ≡ ShapeSequence t) × ¬ IsNumbered rs t) ⊎ ((f ≡ ShapeGap t) × IsBroken rs t)
 run_true rs shapes t f are is = go (in_sequence (run_of shapes t)) refl (seen_in_run (run_of shapes t)).gap refl is
   where
     go : (b : Bool) → in_sequence (run_of shapes t) ≡ b → (g : Bool) → (seen_in_run (run_of shapes t)).gap ≡ g → cond b (cond g (Some (ShapeGap t)) None) (Some (ShapeSequence t)) ≡ Some f → ((f ≡ ShapeSequence t) × ¬ IsNumbered rs t) ⊎ ((f ≡ ShapeGap t) × IsBroken rs t)

@@ -19,11 +19,15 @@ pub absent : (n : ℕ) → ¬ (1 ≤ n) → n ≡ 0
 absent zero h = refl
 absent (suc n) h = absurd (h (omega arith))
 
+-- a number that stands next to itself stands twice
+pub next_counted : (what : Numbered) (count : ℕ → ℕ) (numbers : List ℕ) (f : MapFault) → StandAsOften count numbers → (s : StandsNext (fault_of what) numbers (length numbers) f) → 2 ≤ count s.item
+next_counted what count numbers f often s = omega (arith, often s.item, two_counted (λ x. eqb x s.item) numbers s.place 0 s.below (eq-eqb _ _ (s.first 0)) (eq-eqb _ _ (s.second 0)))
+
 -- the faults of a code that are true where a number stands twice
 pub told_repeats : (what : Numbered) (rs : List Record) (codes : List ℕ) (count : ℕ → ℕ) (numbers : List ℕ) (old new : List MapFault) → IsNonDecreasing numbers → StandAsOften count numbers → ((n : ℕ) → 2 ≤ count n → IsTrueOf rs (fault_of what n)) → ((n : ℕ) → IsTrueOf rs (fault_of what n) → 2 ≤ count n) → Tells (StandsNext (fault_of what) numbers (length numbers)) old new → AreTold rs codes old → AreTold rs (code_of what ∷ codes) new
 told_repeats what rs codes count numbers old new order often true twice tells before =
     told_more rs codes (code_of what) (StandsNext (fault_of what) numbers (length numbers)) old new
-    (λ f s. subst (IsTrueOf rs) (sym s.is) (true s.item (omega (arith, often s.item, two_counted (λ x. eqb x s.item) numbers s.place 0 s.below (eq-eqb _ _ (s.first 0)) (eq-eqb _ _ (s.second 0))))))
+    (λ f s. subst (IsTrueOf rs) (sym s.is) (true s.item (next_counted what count numbers f often s)))
     (λ f holds code.
       let number = with_number what f code in
       let two = next_from_twice numbers number.0 order (omega (arith, often number.0, twice number.0 (subst (IsTrueOf rs) number.1 holds))) in

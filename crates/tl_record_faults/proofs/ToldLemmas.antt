@@ -1,4 +1,7 @@
-use Rattle.std.proofs.Common.{◌≡◌, ℕ, zero, suc, ◌⊎◌, inl, inr, List, [], ◌∷◌, ◌++◌, All, Contains, sym, arith}
+use Rattle.std.proofs.Common.{◌≡◌, ℕ, zero, suc, Bool, eqb, ◌⊎◌, inl, inr, List, [], ◌∷◌, ◌++◌, length, All, Contains, refl, sym, ap, ◌∙◌, arith}
+use Rattle.std.specs.Bool.{Decides}
+use Rattle.std.proofs.lemmas.Bool.{eq-eqb, eqb-true}
+use Rattle.std.proofs.lemmas.List.{nil_from_length}
 use Rattle.std.proofs.lemmas.List.Elements.{All-push, All-weaker, All-contains, All-contains_itself, Contains-append_left, Contains-push}
 use Rattle.tl_record.specs.declared.record.Record.{Record}
 use Rattle.tl_drawn.specs.declared.fault.MapFault.{MapFault}
@@ -54,3 +57,22 @@ told_more rs codes code P old new true all tells before =
       each = All-weaker (λ f. Contains old f ⊎ P f) (IsTrueOf rs) (λ f c. elim c [ inl a ↦ All-contains (IsTrueOf rs) old f before.each a | inr b ↦ true f b ]) new tells.each;
       every = λ f holds among. All-contains (Contains new) old f tells.stay (before.every f holds among);
     })
+
+-- of no fault none is told
+pub told_none : (rs : List Record) → AreTold rs [] []
+told_none rs = record { each = λ k d lt. absurd (omega arith); every = λ f holds among. absurd (omega (arith, among.1)) }
+
+-- where there is nothing to tell nothing is told
+pub tells_nothing : (P : MapFault → Type 0) (old new : List MapFault) → Tells P old new → old ≡ [] → ((f : MapFault) → ¬ P f) → new ≡ []
+tells_nothing P old [] tells none never = refl
+tells_nothing P old (x ∷ new) tells none never = elim (tells.each 0 x (omega arith)) [
+  | inl before ↦ absurd (let has = rw none at before in omega (arith, has.1))
+  | inr here ↦ absurd (never x here)
+]
+
+-- a list of length 0 is empty
+pub empty_items : (b : Bool) (n : ℕ) (xs : List MapFault) → b ≡ eqb n 0 → n ≡ length xs → Decides b (xs ≡ [])
+empty_items b n xs is long = (
+  λ e. nil_from_length xs (omega (arith, long, eqb-true n 0 (sym is ∙ e))),
+  λ none. is ∙ eq-eqb n 0 (long ∙ ap length none)
+)

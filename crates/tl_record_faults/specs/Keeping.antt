@@ -5,3 +5,4 @@ pub mod Numbers
 pub mod Keys
 pub mod Areas
 pub mod Runs
+pub mod Chains

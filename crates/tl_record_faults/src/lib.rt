@@ -7,6 +7,7 @@
 
 mod all;
 mod areas;
+mod chains;
 mod collect;
 mod keys;
 mod numbers;

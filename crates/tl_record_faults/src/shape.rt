@@ -80,7 +80,7 @@ fn with_pair(seen: Seen, pair: Option<Point>) -> Seen
 }
 
 /// The used points with one more.
-fn with_point(trace: Option<Trace>, point: Point) -> Trace
+pub fn with_point(trace: Option<Trace>, point: Point) -> Trace
     ensures { result ≡ traced trace point }
 {
     match trace {

@@ -1,7 +1,7 @@
 -- Kept on the way: the faults that lists of numbers tell.
 use Rattle.std.specs.Prelude.{◌≡◌, ℕ, ◌+◌, ◌<◌, ◌==◌, List, ◌∷◌, length, Contains, count_by, slice_index_or}
 use Rattle.tl_record.specs.declared.record.Record.{Record}
-use Rattle.tl_drawn.specs.ChainsOf.{is_chain, shape_count}
+use Rattle.tl_drawn.specs.ChainsOf.{is_chain}
 use Rattle.tl_drawn.specs.MapOf.{sides_in}
 use Rattle.tl_drawn.specs.declared.fault.MapFault.{MapFault}
 use Rattle.tl_drawn.specs.declared.fault.MapFault.TheVariants as fault
@@ -45,12 +45,6 @@ chains_with rs t = count_by (is_chain t) rs
 abbrev pub sides_with : List Record → ℕ → ℕ
 sides_with rs t = count_by (λ s. s.tlid == t) (sides_in rs)
 
--- the TLIDs of the type 1, 2 and I records
-pub record AreTlids (rs : List Record) (chains shapes sides : List ℕ) : Type 0 where
-  pub of_chains : StandAsOften (chains_with rs) chains
-  pub of_shapes : StandAsOften (shape_count rs) shapes
-  pub of_sides : StandAsOften (sides_with rs) sides
-
--- the codes with those of the faults that TLIDs tell
-abbrev pub with_tlids : List ℕ → List ℕ
-with_tlids codes = 7 ∷ 6 ∷ 5 ∷ 2 ∷ 1 ∷ codes
+-- the codes with those of the faults that TLIDs of chains and sides tell
+abbrev pub with_sides : List ℕ → List ℕ
+with_sides codes = 7 ∷ 6 ∷ 5 ∷ codes

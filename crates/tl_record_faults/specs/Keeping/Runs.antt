@@ -2,7 +2,10 @@
 use Rattle.std.specs.Prelude.{◌≡◌, ℕ, ◌+◌, ◌<◌, ◌≤◌, Bool, true, false, ◌&&◌, ◌||◌, not, ◌==◌, is_some, if◌then◌else◌, Option, Some, None, List, [], ◌∷◌, map, filter, fold, length, slice_index_or}
 use Rattle.std.specs.Ordering.{ordering_then, nat_cmp}
 use Rattle.std.specs.declared.cmp.Ordering.{Ordering}
-use Rattle.std.specs.List.Sorted.{IsSortedByKey, IsNonDecreasingBy}
+use Rattle.std.specs.List.{filter_map}
+use Rattle.std.specs.List.Sorted.{IsPermutation}
+use Rattle.tl_record.specs.declared.record.Record.{Record}
+use Rattle.tl_record_faults.specs.Kept.{shape_at}
 use Rattle.tl_drawn.specs.ChainsOf.{same_point}
 use Rattle.tl_drawn.specs.declared.entry.ChainEntry.{ChainEntry}
 use Rattle.tl_drawn.specs.declared.fault.MapFault.{MapFault}
@@ -20,6 +23,11 @@ pub record Precedes (x y : ShapeSummary) : Type 0 where
 -- by rising TLID, and within one TLID by rising RTSQ
 abbrev pub AreInOrder : List ShapeSummary → Type 0
 AreInOrder shapes = (i j : ℕ) (d : ShapeSummary) → i ≤ j → j < length shapes → Precedes (slice_index_or shapes i d) (slice_index_or shapes j d)
+
+-- the shapes are those of the records, in order
+pub record AreShapes (rs : List Record) (shapes : List ShapeSummary) : Type 0 where
+  pub moved : IsPermutation (filter_map shape_at rs) shapes
+  pub order : AreInOrder shapes
 
 -- the shapes of one TLID
 abbrev pub run_of : List ShapeSummary → ℕ → List ShapeSummary

@@ -1,9 +1,10 @@
 -- Kept on the way: the faults that are told so far.
-use Rattle.std.specs.Prelude.{ℕ, ◌⊎◌, List, All, Contains}
+use Rattle.std.specs.Prelude.{ℕ, ◌⊎◌, Bool, List, [], ◌∷◌, All, Contains}
+use Rattle.std.specs.Bool.{Decides}
 use Rattle.std.specs.List.{AllPairs}
 use Rattle.tl_record.specs.declared.record.Record.{Record}
 use Rattle.tl_drawn.specs.declared.fault.MapFault.{MapFault}
-use Rattle.tl_drawn.specs.Faults.{IsTrueOf}
+use Rattle.tl_drawn.specs.Faults.{IsTrueOf, AreJoined}
 use Rattle.tl_record_faults.specs.AllFaults.{fault_place, ComesBefore}
 
 -- the same faults, each before all later ones
@@ -22,3 +23,8 @@ pub record Tells (P : MapFault → Type 0) (old new : List MapFault) : Type 0 wh
 pub record AreTold (rs : List Record) (codes : List ℕ) (faults : List MapFault) : Type 0 where
   pub each : All (IsTrueOf rs) faults
   pub every : (f : MapFault) → IsTrueOf rs f → Contains codes (fault_place f).0 → Contains faults f
+
+-- the faults of chains and shapes are told, and it is said whether there is none
+pub record AreChainsTold (rs : List Record) (joined : Bool) (faults : List MapFault) : Type 0 where
+  pub told : AreTold rs (4 ∷ 3 ∷ 2 ∷ 1 ∷ []) faults
+  pub are_joined : Decides joined (AreJoined rs)
