@@ -27,7 +27,7 @@ tlid_order chains order i j d le lt =
     omega (arith, order i j no_chain le within, get_or-map tlid chains i no_chain d (omega arith), get_or-map tlid chains j no_chain d within)
 
 -- no more than one chain has the TLID
-few_alone : (chains : List ChainEntry) (t : ℕ) → count_by (λ (c : ChainEntry). eqb c.tlid t) chains < 2 → is_alone chains t ≡ true
+pub few_alone : (chains : List ChainEntry) (t : ℕ) → count_by (λ (c : ChainEntry). eqb c.tlid t) chains < 2 → is_alone chains t ≡ true
 few_alone chains t few = lt-ltb _ _ few
 
 pub alone_few : (chains : List ChainEntry) (t : ℕ) → is_alone chains t ≡ true → count_by (λ (c : ChainEntry). eqb c.tlid t) chains < 2

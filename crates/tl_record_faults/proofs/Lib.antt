@@ -12,3 +12,6 @@ pub mod TraceLemmas
 pub mod ShapeLemmas
 pub mod JoinedLemmas
 pub mod ChainLemmas
+pub mod PointLemmas
+pub mod LimitLemmas
+pub mod PartLemmas

@@ -6,3 +6,5 @@ pub mod Keys
 pub mod Areas
 pub mod Runs
 pub mod Chains
+pub mod Limits
+pub mod Parts

@@ -9,7 +9,7 @@ ghost use Rattle.tl_record_faults.specs.Keeping.Areas.{AreAreas, with_areas};
 
 use crate::collect::NamedSide;
 use crate::keys::{tell_repeated_keys, tell_unknown_links, tell_unknown_sides};
-use crate::numbers::{Numbered, tell_missing};
+use crate::numbers::{Numbered, sort_numbers, tell_missing};
 use std::alloc::{AllocError, Global};
 use tl_drawn::{LinkEntry, MapFault};
 use tl_record::PolyKey;
@@ -23,7 +23,7 @@ pub fn lands_of_links(alloc: Global, links: &[LinkEntry]) -> Result<Vec<u64>, Al
     for link in links {
         lands.push(link.land)?;
     }
-    lands.sort_unstable();
+    sort_numbers(&mut lands);
     Ok(lands)
 }
 

@@ -10,6 +10,7 @@ mod areas;
 mod chains;
 mod collect;
 mod keys;
+mod limits;
 mod numbers;
 mod order;
 mod runs;
@@ -17,4 +18,5 @@ mod shape;
 mod tlids;
 
 
+pub use all::all_record_faults;
 pub use collect::KeptRecords;

@@ -1,7 +1,7 @@
 //! Faults that sorted lists of numbers tell.
 
 ghost use Rattle.std.specs.Prelude.{◌≡◌, ℕ, ◌<◌, ◌≤◌, OnOk, length, slice_index_or};
-ghost use Rattle.std.specs.List.Sorted.{IsNonDecreasing};
+ghost use Rattle.std.specs.List.Sorted.{IsNonDecreasing, IsPermutation};
 ghost use Rattle.tl_record_faults.specs.Keeping.Told.{Tells};
 ghost use Rattle.tl_record_faults.specs.Keeping.Numbers.{fault_of, StandsNext, IsMissing};
 
@@ -31,6 +31,14 @@ fn fault_with(what: Numbered, number: u64) -> MapFault
         Numbered::DuplicateSides => MapFault::DuplicateSides { tlid: number },
         Numbered::LinkWithoutLandmark => MapFault::LinkWithoutLandmark { land: number },
     }
+}
+
+/// Sorts numbers.
+pub fn sort_numbers(numbers: &mut Vec<u64>)
+    ensures ordered { IsNonDecreasing numbers.new.items }
+    ensures moved { IsPermutation numbers.old.items numbers.new.items }
+{
+    numbers.sort_unstable();
 }
 
 /// Tells the fault of each number that stands next to itself.

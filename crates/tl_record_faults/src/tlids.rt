@@ -37,6 +37,17 @@ pub fn tlids_of_chains(alloc: Global, chains: &[ChainEntry]) -> Result<Vec<u64>,
     Ok(tlids)
 }
 
+/// The TLIDs of sorted shapes.
+pub fn tlids_of_shapes(alloc: Global, shapes: &[ShapeSummary]) -> Result<Vec<u64>, AllocError>
+    ensures { IfOk result (λ tlids. tlids.items ≡ map (λ s. s.tlid) shapes.now) }
+{
+    let mut tlids = Vec::with_capacity(alloc, shapes.len())?;
+    for shape in shapes {
+        tlids.push(shape.tlid)?;
+    }
+    Ok(tlids)
+}
+
 /// Tells of chains and shapes, of which no fault is told yet, which TLIDs stand twice, have no chain, are out of sequence or have a
 /// gap. Says whether none has such a fault.
 pub fn tell_chains(
