@@ -1,13 +1,12 @@
-use Rattle.std.proofs.Common.{◌≡◌, ◌≢◌, ℕ, zero, suc, ◌+◌, ◌<◌, ◌≤◌, Bool, true, false, cond, eqb, ◌⊎◌, inl, inr, Option, Some, None, List, [], ◌∷◌, ◌++◌, length, map, count_by, get_or, take, Contains, refl, sym, ap, ◌∙◌, subst, arith, add-one}
-use Rattle.std.specs.Prelude.{Any, slice_get}
+use Rattle.std.proofs.Common.{◌≡◌, ℕ, zero, suc, ◌+◌, ◌<◌, ◌≤◌, true, false, cond, eqb, inl, inr, Option, Some, None, List, [], ◌∷◌, length, map, count_by, get_or, take, Contains, refl, sym, ap, ◌∙◌, subst, arith}
+use Rattle.std.specs.Prelude.{Any}
 use Rattle.std.specs.List.{flat_map}
-use Rattle.std.specs.List.Sorted.{IsPermutation, IsNonDecreasing, IsSortedBy}
+use Rattle.std.specs.List.Sorted.{IsPermutation}
 use Rattle.std.specs.declared.cmp.Ordering.{Ordering}
 use Rattle.std.specs.declared.cmp.Ordering.TheVariants.{Less, Equal, Greater}
 use Rattle.std.specs.Ordering.{is_lt, ordering_reverse}
-use Rattle.std.specs.Cmp.{IsTotalOrder, IsStrictWeakOrder}
-use Rattle.std.proofs.lemmas.Bool.{eq-eqb, eqb-true, cases_Bool, cases_lt}
-use Rattle.std.proofs.lemmas.Cmp.{tied_itself}
+use Rattle.std.specs.Cmp.{IsStrictWeakOrder}
+use Rattle.std.proofs.lemmas.Bool.{eq-eqb, eqb-true, cases_Bool}
 use Rattle.std.proofs.lemmas.Option.{slice_get-get_or, slice_get_within, get_or_from_slice_get}
 use Rattle.std.proofs.lemmas.List.{get_or_default, get_or-map, length-map, get_or-take, length-take-le}
 use Rattle.std.proofs.lemmas.List.Elements.{Contains-append_left, Contains-append_right, Contains-append_cases}
@@ -20,7 +19,7 @@ use Rattle.tl_drawn.specs.declared.entry.LinkEntry.{LinkEntry}
 use Rattle.tl_drawn.specs.declared.fault.MapFault.{MapFault}
 use Rattle.tl_drawn.specs.declared.fault.MapFault.TheVariants as fault
 use Rattle.tl_drawn.specs.MapOf.{sides_in, polygons_in, landmarks_in, links_in, keys, same_key}
-use Rattle.tl_drawn.specs.Faults.{IsTrueOf, StandsTwice, Names, HasPolygon, HasLandmark}
+use Rattle.tl_drawn.specs.Faults.{IsTrueOf, StandsTwice, Names}
 use Rattle.tl_drawn.proofs.CountLemmas.{one_counted}
 use Rattle.tl_map.proofs.IndexLemmas.{same_key-is, same_key-refl}
 use Rattle.tl_record_faults.specs.declared.collect.NamedSide.{NamedSide}
@@ -28,10 +27,10 @@ use Rattle.tl_record_faults.specs.declared.numbers.Numbered.TheVariants.{LinkWit
 use Rattle.tl_record_faults.specs.AllFaults.{fault_place}
 use Rattle.tl_record_faults.specs.Kept.{named, names_of}
 use Rattle.tl_record_faults.specs.Keeping.Told.{Tells, AreTold}
-use Rattle.tl_record_faults.specs.Keeping.Numbers.{fault_of, StandsNext, IsMissing, StandAsOften}
+use Rattle.tl_record_faults.specs.Keeping.Numbers.{fault_of, StandsNext, IsMissing}
 use Rattle.tl_record_faults.specs.Keeping.Keys.{parts, parts_cmp, AreByKey, side_fault, link_fault}
 use Rattle.tl_record_faults.proofs.ToldLemmas.{told_more}
-use Rattle.tl_record_faults.proofs.CountedLemmas.{count_yes, count_no, counted_stands, stands_counted, count-map}
+use Rattle.tl_record_faults.proofs.CountedLemmas.{count_yes, count_no, counted_stands, stands_counted}
 use Rattle.tl_record_faults.proofs.OrderLemmas.{twice_there, side_there, link_there}
 use Rattle.tl_record_faults.proofs.TlidLemmas.{absent, told_missing}
 use Rattle.tl_record_faults.proofs.KeyLemmas.{parts_total, one_key}
@@ -92,11 +91,11 @@ told_duplicate_polygons rs codes ks old new sorted moved tells before =
     told_more rs codes 8 (StandsNext fault.DuplicatePolygon ks (length ks)) old new
     (λ f s. subst (IsTrueOf rs) (sym s.is) (counted_twice (keys (polygons_in rs)) s.item (omega (arith, counts s.item, twice_counted ks s.item (s.place, s.place + 1, omega arith, slice_get-get_or ks s.place s.item (omega (arith, s.below)) ∙ ap Some (s.first s.item), slice_get-get_or ks (s.place + 1) s.item s.below ∙ ap Some (s.second s.item))))))
     (λ f holds code.
-      let k : PolyKey = record { cenid = (fault_place f).2; polyid = (fault_place f).3 } in
-      let is : f ≡ fault.DuplicatePolygon k = twice_there f code in
-      let twice : StandsTwice (keys (polygons_in rs)) k = subst (IsTrueOf rs) is holds in
-      let next = next_key ks k sorted (counted_twice ks k (omega (arith, counts k, twice_counted (keys (polygons_in rs)) k twice))) in
-      record { item = k; is = is; place = next.0; below = next.1; within = next.1; first = next.2; second = next.3 })
+    let k : PolyKey = record { cenid = (fault_place f).2; polyid = (fault_place f).3 } in
+    let is : f ≡ fault.DuplicatePolygon k = twice_there f code in
+    let twice : StandsTwice (keys (polygons_in rs)) k = subst (IsTrueOf rs) is holds in
+    let next = next_key ks k sorted (counted_twice ks k (omega (arith, counts k, twice_counted (keys (polygons_in rs)) k twice))) in
+    record { item = k; is = is; place = next.0; below = next.1; within = next.1; first = next.2; second = next.3 })
     tells before
 
 flat_has : {X A : Type 0} (f : X → List A) (xs : List X) (x : X) (y : A) → Contains xs x → Contains (f x) y → Contains (flat_map f xs) y
@@ -137,21 +136,21 @@ pub told_unknown_sides : (rs : List Record) (codes : List ℕ) (names : List Nam
 told_unknown_sides rs codes names ks old new are moved tells before =
     told_more rs codes 9 (IsMissing side_fault (λ (n : NamedSide). n.key) names ks) old new
     (λ f m.
-      let named = has_flat names_of (sides_in rs) m.item (rw are at m.among) in
-      let is = names_are named.1 m.item named.4 in
-      subst (IsTrueOf rs) (sym m.is) ((named.0, named.1, named.2, named.3, is), λ has. m.unknown (Contains-permutation (keys (polygons_in rs)) ks m.item.key moved has)))
+    let named = has_flat names_of (sides_in rs) m.item (rw are at m.among) in
+    let is = names_are named.1 m.item named.4 in
+    subst (IsTrueOf rs) (sym m.is) ((named.0, named.1, named.2, named.3, is), λ has. m.unknown (Contains-permutation (keys (polygons_in rs)) ks m.item.key moved has)))
     (λ f holds code.
-      let t = (fault_place f).1 in
-      let k : PolyKey = record { cenid = (fault_place f).2; polyid = (fault_place f).3 } in
-      let is : f ≡ fault.SideWithoutPolygon t k = side_there f code in
-      let true : IsTrueOf rs (fault.SideWithoutPolygon t k) = subst (IsTrueOf rs) is holds in
-      let n : NamedSide = record { tlid = t; key = k } in
-      record {
-        item = n;
-        is = is;
-        among = rw are (flat_has names_of (sides_in rs) true.0.1 n (true.0.0, true.0.2, true.0.3) (subst (λ u. Contains (names_of true.0.1) (record { tlid = u; key = k })) true.0.4.0 (names_have true.0.1 k true.0.4.1)));
-        unknown = λ has. true.1 (Contains-permutation ks (keys (polygons_in rs)) k (IsPermutation-sym (keys (polygons_in rs)) ks moved) has);
-      })
+    let t = (fault_place f).1 in
+    let k : PolyKey = record { cenid = (fault_place f).2; polyid = (fault_place f).3 } in
+    let is : f ≡ fault.SideWithoutPolygon t k = side_there f code in
+    let true : IsTrueOf rs (fault.SideWithoutPolygon t k) = subst (IsTrueOf rs) is holds in
+    let n : NamedSide = record { tlid = t; key = k } in
+    record {
+      item = n;
+      is = is;
+      among = rw are (flat_has names_of (sides_in rs) true.0.1 n (true.0.0, true.0.2, true.0.3) (subst (λ u. Contains (names_of true.0.1) (record { tlid = u; key = k })) true.0.4.0 (names_have true.0.1 k true.0.4.1)));
+      unknown = λ has. true.1 (Contains-permutation ks (keys (polygons_in rs)) k (IsPermutation-sym (keys (polygons_in rs)) ks moved) has);
+    })
     tells before
 
 -- M11 is told
@@ -159,21 +158,21 @@ pub told_unknown_links : (rs : List Record) (codes : List ℕ) (links : List Lin
 told_unknown_links rs codes links ks old new are moved tells before =
     told_more rs codes 11 (IsMissing link_fault (λ (l : LinkEntry). l.key) links ks) old new
     (λ f m.
-      let has = rw are at m.among in
-      subst (IsTrueOf rs) (sym m.is) ((has.0, m.item, has.1, has.2, (refl, refl)), λ there. m.unknown (Contains-permutation (keys (polygons_in rs)) ks m.item.key moved there)))
+    let has = rw are at m.among in
+    subst (IsTrueOf rs) (sym m.is) ((has.0, m.item, has.1, has.2, (refl, refl)), λ there. m.unknown (Contains-permutation (keys (polygons_in rs)) ks m.item.key moved there)))
     (λ f holds code.
-      let n = (fault_place f).4 in
-      let k : PolyKey = record { cenid = (fault_place f).2; polyid = (fault_place f).3 } in
-      let is : f ≡ fault.LinkWithoutPolygon k n = link_there f code in
-      let true : IsTrueOf rs (fault.LinkWithoutPolygon k n) = subst (IsTrueOf rs) is holds in
-      let l : LinkEntry = true.0.1 in
-      let same : l ≡ record { key = k; land = n } = λ i. record { key = true.0.4.0 i; land = true.0.4.1 i } in
-      record {
-        item = record { key = k; land = n };
-        is = is;
-        among = rw are (subst (Contains (links_in rs)) same (true.0.0, true.0.2, true.0.3));
-        unknown = λ has. true.1 (Contains-permutation ks (keys (polygons_in rs)) k (IsPermutation-sym (keys (polygons_in rs)) ks moved) has);
-      })
+    let n = (fault_place f).4 in
+    let k : PolyKey = record { cenid = (fault_place f).2; polyid = (fault_place f).3 } in
+    let is : f ≡ fault.LinkWithoutPolygon k n = link_there f code in
+    let true : IsTrueOf rs (fault.LinkWithoutPolygon k n) = subst (IsTrueOf rs) is holds in
+    let l : LinkEntry = true.0.1 in
+    let same : l ≡ record { key = k; land = n } = λ i. record { key = true.0.4.0 i; land = true.0.4.1 i } in
+    record {
+      item = record { key = k; land = n };
+      is = is;
+      among = rw are (subst (Contains (links_in rs)) same (true.0.0, true.0.2, true.0.3));
+      unknown = λ has. true.1 (Contains-permutation ks (keys (polygons_in rs)) k (IsPermutation-sym (keys (polygons_in rs)) ks moved) has);
+    })
     tells before
 
 has_map : {X : Type 0} (g : X → ℕ) (xs : List X) (n : ℕ) → Contains (map g xs) n → Any (λ x. g x ≡ n) xs

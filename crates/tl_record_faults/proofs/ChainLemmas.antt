@@ -1,8 +1,7 @@
-use Rattle.std.proofs.Common.{◌≡◌, ◌≢◌, ℕ, zero, suc, ◌+◌, ◌-◌, ◌^◌, ◌<◌, ◌≤◌, Bool, true, false, not, cond, eqb, ltb, ◌&&◌, ◌⊎◌, inl, inr, pos, Option, Some, None, List, [], ◌∷◌, ◌++◌, length, take, map, get_or, count_by, sum_by, Contains, refl, sym, ap, ◌∙◌, subst, arith}
+use Rattle.std.proofs.Common.{◌≡◌, ◌≢◌, ℕ, ◌+◌, ◌-◌, ◌<◌, ◌≤◌, true, false, eqb, ◌⊎◌, inl, inr, pos, List, [], ◌∷◌, ◌++◌, length, take, map, get_or, count_by, sum_by, refl, sym, ap, ◌∙◌, subst, arith}
 use Rattle.std.specs.Prelude.{min}
-use Rattle.std.specs.List.{filter_map}
-use Rattle.std.specs.List.Sorted.{IsPermutation, IsNonDecreasing, IsNonDecreasingBy}
-use Rattle.std.proofs.lemmas.Bool.{eq-eqb, eqb-true, cases_Bool, cases_lt, true≢false, lt-ltb, le-ltb}
+use Rattle.std.specs.List.Sorted.{IsNonDecreasing, IsNonDecreasingBy}
+use Rattle.std.proofs.lemmas.Bool.{eq-eqb, cases_lt, true≢false, lt-ltb, le-ltb}
 use Rattle.std.proofs.lemmas.List.{get_or_default, get_or-map, length-map}
 use Rattle.std.proofs.lemmas.List.Sums.{sum_by_more}
 use Rattle.tl_drawn.specs.declared.entry.ChainEntry.{ChainEntry}

@@ -1,7 +1,7 @@
-use Rattle.std.proofs.Common.{◌≡◌, ◌≢◌, ℕ, zero, suc, ◌+◌, ◌<◌, ◌≤◌, Bool, true, false, cond, eqb, ◌⊎◌, inl, inr, Option, Some, None, List, [], ◌∷◌, length, map, count_by, sum_by, get_or, Contains, refl, sym, ap, ◌∙◌, arith, add-one}
+use Rattle.std.proofs.Common.{◌≡◌, ℕ, suc, ◌+◌, ◌<◌, ◌≤◌, Bool, true, false, cond, eqb, inl, inr, Option, Some, None, List, [], ◌∷◌, length, map, count_by, get_or, Contains, refl, ap, ◌∙◌, arith, add-one}
 use Rattle.std.specs.List.{filter_map}
 use Rattle.std.specs.List.Sorted.{IsNonDecreasing, IsPermutation}
-use Rattle.std.proofs.lemmas.Bool.{eq-eqb, eqb-true, cases_Bool, cases_lt}
+use Rattle.std.proofs.lemmas.Bool.{eq-eqb, eqb-true, cases_Bool}
 use Rattle.std.proofs.lemmas.List.{get_or_default}
 use Rattle.std.proofs.lemmas.List.Sums.{sum_by-cons}
 use Rattle.std.proofs.lemmas.List.Sorted.{sum_by-IsPermutation}
@@ -12,9 +12,9 @@ use Rattle.tl_drawn.specs.declared.entry.SidesEntry.{SidesEntry}
 use Rattle.tl_drawn.specs.ChainsOf.{is_chain, is_shape, shape_count}
 use Rattle.tl_drawn.specs.MapOf.{sides_in}
 use Rattle.tl_drawn.specs.Faults.{HasChain, HasSides}
-use Rattle.tl_drawn.proofs.CountLemmas.{one_counted, two_counted}
+use Rattle.tl_drawn.proofs.CountLemmas.{one_counted}
 use Rattle.tl_record_faults.specs.declared.shape.ShapeSummary.{ShapeSummary}
-use Rattle.tl_record_faults.specs.Keeping.Shapes.{seen_in}
+use Rattle.tl_record_faults.specs.Shapes.{seen_in}
 use Rattle.tl_record_faults.specs.Kept.{chain_at, shape_at}
 use Rattle.tl_record_faults.specs.Keeping.Numbers.{StandAsOften, chains_with, sides_with}
 

@@ -1,4 +1,4 @@
-use Rattle.std.proofs.Common.{◌≡◌, ◌≢◌, ℕ, ◌+◌, ◌<◌, ◌≤◌, Bool, true, false, inl, inr, Result, Ok, Err, List, length, get_or, Contains, refl, sym, ap, ◌∙◌, arith}
+use Rattle.std.proofs.Common.{◌≡◌, ◌≢◌, ℕ, false, inl, inr, Result, Ok, Err, List, length, get_or, Contains, refl, sym, ap, ◌∙◌, arith}
 use Rattle.std.specs.Prelude.{is_ok}
 use Rattle.std.specs.Bool.{Decides}
 use Rattle.std.specs.List.Sorted.{IsBinarySearchResult, IsSearchInRange}
@@ -9,7 +9,6 @@ use Rattle.std.specs.Cmp.{IsTotalOrder, unsigned_ties}
 use Rattle.std.specs.Cmp.Lexicographic.{slice_cmp, lists_ties, same_text}
 use Rattle.std.proofs.lemmas.Bool.{cases_lt, true≢false, eqb-true}
 use Rattle.std.proofs.lemmas.Cmp.{on_total, then_total, nat_cmp_total, nat_list_cmp_total, tied_itself}
-use Rattle.std.proofs.lemmas.List.{get_or_default}
 use Rattle.std.proofs.lemmas.List.Sorted.{searchable_from_sorted}
 use Rattle.tl_key.specs.declared.key.PolyKey.{PolyKey}
 use Rattle.tl_drawn.specs.MapOf.{same_key}
@@ -37,12 +36,13 @@ pub searched_key : (keys : List PolyKey) (k : PolyKey) (r : Result ℕ ℕ) → 
 searched_key keys k (Ok i) sorted within found = (λ e. (i, within, one_key (get_or keys i k) k (found k)), λ has. refl)
 searched_key keys k (Err i) sorted within found =
     let part = found (searchable_from_sorted parts_total parts keys (parts k) sorted) in
-    let itself = tied_itself parts_total (parts k) in
-    (λ e. absurd (true≢false (sym e)),
-    λ has. elim (cases_lt has.0 i) [
-      | inl below ↦ absurd (let less : parts_cmp (parts k) (parts k) ≡ Less = rw has.2 at (part.0 has.0 k (omega arith) below) in let not : Less ≡ Equal = sym less ∙ itself in cc)
-      | inr above ↦ absurd (let more : parts_cmp (parts k) (parts k) ≡ Greater = rw has.2 at (part.1 has.0 k above has.1) in let not : Greater ≡ Equal = sym more ∙ itself in cc)
-    ])
+    let itself = tied_itself parts_total (parts k) in (
+      λ e. absurd (true≢false (sym e)),
+      λ has. elim (cases_lt has.0 i) [
+        | inl below ↦ absurd (let less : parts_cmp (parts k) (parts k) ≡ Less = rw has.2 at (part.0 has.0 k (omega arith) below) in let not : Less ≡ Equal = sym less ∙ itself in cc)
+        | inr above ↦ absurd (let more : parts_cmp (parts k) (parts k) ≡ Greater = rw has.2 at (part.1 has.0 k above has.1) in let not : Greater ≡ Equal = sym more ∙ itself in cc)
+      ],
+    )
 
 -- keys that are not the same differ
 pub other_key : (k l : PolyKey) → same_key k l ≡ false → k ≢ l

@@ -1,5 +1,5 @@
-use Rattle.std.proofs.Common.{◌≡◌, ◌≢◌, ℕ, zero, suc, ◌+◌, ◌-◌, ◌<◌, ◌≤◌, Bool, true, false, cond, eqb, ltb, ◌⊎◌, inl, inr, List, [], ◌∷◌, ◌++◌, length, map, get_or, count_by, Contains, refl, sym, ap, ◌∙◌, subst, arith}
-use Rattle.std.specs.Prelude.{min, nat_eq}
+use Rattle.std.proofs.Common.{◌≡◌, ℕ, ◌+◌, ◌<◌, ◌≤◌, Bool, true, false, cond, eqb, ltb, ◌⊎◌, inl, inr, List, [], ◌∷◌, ◌++◌, length, map, get_or, count_by, Contains, refl, sym, ap, ◌∙◌, subst, arith}
+use Rattle.std.specs.Prelude.{min}
 use Rattle.std.specs.List.{dedup, list_any}
 use Rattle.std.specs.List.Sorted.{IsPermutation, IsNonDecreasing, IsStrictlyIncreasing, IsSorted}
 use Rattle.std.specs.Ordering.{nat_cmp, is_lt}
@@ -14,7 +14,7 @@ use Rattle.std.proofs.lemmas.List.Kept.{Contains-dedup_nat, Contains-from_dedup,
 use Rattle.std.proofs.lemmas.Map.Keys.{IsStrictlyIncreasing-dedup}
 use Rattle.std.proofs.lemmas.List.Sorted.{sum_by-IsPermutation}
 use Rattle.tl_record.specs.declared.record.Record.{Record}
-use Rattle.tl_drawn.specs.MapOf.{landmarks_in, firsts, firsts_after, first_landmarks}
+use Rattle.tl_drawn.specs.MapOf.{landmarks_in, firsts_after, first_landmarks}
 use Rattle.tl_drawn.specs.declared.entry.LandmarkEntry.{LandmarkEntry}
 use Rattle.std.specs.Bool.{Decides}
 use Rattle.std.proofs.lemmas.List.Elements.{All-weaker, All-contains}
@@ -28,7 +28,7 @@ use Rattle.tl_record_faults.specs.Keeping.Told.{Tells, AreTold}
 use Rattle.tl_record_faults.specs.Keeping.Limits.{IsMore}
 use Rattle.tl_record_faults.proofs.ToldLemmas.{tells_none, tells_more, told_more}
 use Rattle.tl_record_faults.proofs.OrderLemmas.{limited_at, many_there}
-use Rattle.tl_record_faults.proofs.CountedLemmas.{count_yes, count_no, count-map, counted_stands, stands_counted, next_from_twice}
+use Rattle.tl_record_faults.proofs.CountedLemmas.{count_no, count-map, counted_stands, stands_counted, next_from_twice}
 use Rattle.tl_record_faults.proofs.SequenceLemmas.{times, no_longer}
 
 not_less : (a b : ℕ) → b ≤ a → is_lt (nat_cmp a b) ≡ false
@@ -99,9 +99,9 @@ landmarks_counted rs sorted order moved =
     let land = λ (e : LandmarkEntry). e.land in
     let firsts_of = map land (first_landmarks rs) in
     let same : (n : ℕ) → times n (dedup eqb sorted) ≡ times n firsts_of = λ n.
-      dedup_times sorted n order
-      ∙ ap (min 1) (sum_by-IsPermutation (λ x. cond (eqb x n) 1 0) (map land (landmarks_in rs)) sorted moved ∙ count-map (λ x. eqb x n) land (landmarks_in rs))
-      ∙ omega arith ∙ sym (firsts_times land [] (landmarks_in rs) n (λ m. omega arith)) ∙ sym (count-map (λ x. eqb x n) land (first_landmarks rs)) in
+    dedup_times sorted n order
+    ∙ ap (min 1) (sum_by-IsPermutation (λ x. cond (eqb x n) 1 0) (map land (landmarks_in rs)) sorted moved ∙ count-map (λ x. eqb x n) land (landmarks_in rs))
+    ∙ omega arith ∙ sym (firsts_times land [] (landmarks_in rs) n (λ m. omega arith)) ∙ sym (count-map (λ x. eqb x n) land (first_landmarks rs)) in
     let less = no_longer (dedup eqb sorted) firsts_of (λ n. omega (arith, same n)) in
     let more = no_longer firsts_of (dedup eqb sorted) (λ n. omega (arith, same n)) in
     omega (arith, less, more, length-map (first_landmarks rs) land)
@@ -147,9 +147,9 @@ told_limits rs codes a b c d old one two three new chains segments polygons land
       | inr m ↦ said f d Landmarks landmarks m
     ])
     (λ f holds code.
-      let what = limited_at (fault_place f).1 in
-      let is = many_there f code in
-      found f what is (subst (IsTrueOf rs) is holds))
+    let what = limited_at (fault_place f).1 in
+    let is = many_there f code in
+    found f what is (subst (IsTrueOf rs) is holds))
     all before
   where
     said : (f : MapFault) (b : Bool) (what : Limited) → Tests rs b what → IsMore b what f → IsTrueOf rs f

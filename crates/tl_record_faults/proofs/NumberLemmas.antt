@@ -65,23 +65,23 @@ more_items g name items x known f m = record { item = m.item; is = m.is; among =
 -- one more item, of which nothing is told
 pub missing_known : {X K : Type 0} (g : X → MapFault) (name : X → K) (items : List X) (known : List K) (i : ℕ) (d : X) (old new : List MapFault) → i < length items → Contains known (name (get_or items i d)) → Tells (IsMissing g name (take i items) known) old new → Tells (IsMissing g name (take (i + 1) items) known) old new
 missing_known g name items known i d old new lt has h = rw (take_more items i d lt)
-  (tells_same (IsMissing g name (take i items) known) (IsMissing g name (take i items ++ get_or items i d ∷ []) known) old new
-  (λ f m. more_items g name (take i items) (get_or items i d) known f m)
-  (λ f m. elim (Contains-push_cases (take i items) (get_or items i d) m.item m.among) [
-    | inl before ↦ record { item = m.item; is = m.is; among = before; unknown = m.unknown }
-    | inr here ↦ absurd (m.unknown (subst (λ x. Contains known (name x)) here has))
-  ]) h)
+    (tells_same (IsMissing g name (take i items) known) (IsMissing g name (take i items ++ get_or items i d ∷ []) known) old new
+    (λ f m. more_items g name (take i items) (get_or items i d) known f m)
+    (λ f m. elim (Contains-push_cases (take i items) (get_or items i d) m.item m.among) [
+      | inl before ↦ record { item = m.item; is = m.is; among = before; unknown = m.unknown }
+      | inr here ↦ absurd (m.unknown (subst (λ x. Contains known (name x)) here has))
+    ]) h)
 
 -- one more item, which is told
 pub missing_more : {X K : Type 0} (g : X → MapFault) (name : X → K) (items : List X) (known : List K) (i : ℕ) (d : X) (old new : List MapFault) → i < length items → ¬ Contains known (name (get_or items i d)) → Tells (IsMissing g name (take i items) known) old new → Tells (IsMissing g name (take (i + 1) items) known) old (new ++ g (get_or items i d) ∷ [])
 missing_more g name items known i d old new lt none h = rw (take_more items i d lt)
-  (tells_more (IsMissing g name (take i items) known) (IsMissing g name (take i items ++ get_or items i d ∷ []) known) old new (g (get_or items i d))
-  (λ f m. more_items g name (take i items) (get_or items i d) known f m)
-  (record { item = get_or items i d; is = refl; among = Contains-push (take i items) (get_or items i d); unknown = none })
-  (λ f m. elim (Contains-push_cases (take i items) (get_or items i d) m.item m.among) [
-    | inl before ↦ inl (record { item = m.item; is = m.is; among = before; unknown = m.unknown })
-    | inr here ↦ inr (m.is ∙ ap g (sym here))
-  ]) h)
+    (tells_more (IsMissing g name (take i items) known) (IsMissing g name (take i items ++ get_or items i d ∷ []) known) old new (g (get_or items i d))
+    (λ f m. more_items g name (take i items) (get_or items i d) known f m)
+    (record { item = get_or items i d; is = refl; among = Contains-push (take i items) (get_or items i d); unknown = none })
+    (λ f m. elim (Contains-push_cases (take i items) (get_or items i d) m.item m.among) [
+      | inl before ↦ inl (record { item = m.item; is = m.is; among = before; unknown = m.unknown })
+      | inr here ↦ inr (m.is ∙ ap g (sym here))
+    ]) h)
 
 -- of no items nothing is told
 pub missing_none : {X K : Type 0} (g : X → MapFault) (name : X → K) (known : List K) (faults : List MapFault) → Tells (IsMissing g name [] known) faults faults

@@ -1,10 +1,10 @@
-use Rattle.std.proofs.Common.{◌≡◌, ◌≢◌, ℕ, ◌<◌, Bool, true, false, cond, List, [], ◌∷◌, length, map, sum_by, Contains, refl, sym, ap, ◌∙◌, subst, arith}
+use Rattle.std.proofs.Common.{◌≡◌, ℕ, ◌<◌, Bool, true, false, cond, List, [], ◌∷◌, length, map, sum_by, Contains, refl, sym, arith}
 use Rattle.std.specs.Prelude.{min}
 use Rattle.std.specs.Bool.{Decides}
-use Rattle.std.specs.List.{filter_map, flat_map}
-use Rattle.std.specs.List.Sorted.{IsPermutation, IsNonDecreasing, IsNonDecreasingBy}
+use Rattle.std.specs.List.{filter_map}
+use Rattle.std.specs.List.Sorted.{IsPermutation, IsNonDecreasing}
 use Rattle.std.proofs.lemmas.Bool.{true≢false}
-use Rattle.std.proofs.lemmas.List.Elements.{All-weaker, All-contains, All-contains_itself}
+use Rattle.std.proofs.lemmas.List.Elements.{All-weaker, All-contains}
 use Rattle.std.proofs.lemmas.List.{length-map, get_or-map}
 use Rattle.std.proofs.lemmas.List.Sums.{sum_by-cons}
 use Rattle.tl_record.specs.declared.record.Record.{Record}
@@ -12,11 +12,11 @@ use Rattle.tl_record.specs.declared.record.Record.TheVariants.{Chain, Shape, Sid
 use Rattle.tl_key.specs.declared.key.PolyKey.{PolyKey}
 use Rattle.tl_county.specs.declared.polygons.Polygon.{Polygon}
 use Rattle.tl_drawn.specs.declared.entry.ChainEntry.{ChainEntry}
-use Rattle.tl_drawn.specs.declared.fault.Limited.TheVariants.{Segments, Chains, Polygons, Landmarks}
+use Rattle.tl_drawn.specs.declared.fault.Limited.TheVariants.{Segments}
 use Rattle.tl_drawn.specs.declared.fault.MapFault.{MapFault}
 use Rattle.tl_drawn.specs.declared.fault.MapFault.TheVariants.{DuplicateChain, ShapeWithoutChain, ShapeSequence, ShapeGap, ChainWithoutSides, SidesWithoutChain, DuplicateSides, DuplicatePolygon, SideWithoutPolygon, LinkWithoutLandmark, LinkWithoutPolygon, DegenerateChain, TooMany}
-use Rattle.tl_drawn.specs.ChainsOf.{shape_count, chain_count, is_any_chain, segments_of}
-use Rattle.tl_drawn.specs.MapOf.{sides_in, polygons_in, keys, first_landmarks}
+use Rattle.tl_drawn.specs.ChainsOf.{shape_count, chain_count, is_any_chain}
+use Rattle.tl_drawn.specs.MapOf.{sides_in, polygons_in, keys}
 use Rattle.tl_drawn.specs.Faults.{IsTrueOf, IsTooMany, AreJoined}
 use Rattle.tl_drawn.specs.declared.entry.LinkEntry.{LinkEntry}
 use Rattle.tl_record_faults.specs.declared.collect.NamedSide.{NamedSide}
@@ -28,8 +28,8 @@ use Rattle.tl_record_faults.specs.Keeping.Told.{Tells, AreTold, AreChainsTold, A
 use Rattle.tl_record_faults.specs.Keeping.Numbers.{StandAsOften, chains_with, sides_with, with_sides}
 use Rattle.tl_record_faults.specs.Keeping.Runs.{AreInOrder, AreShapes}
 use Rattle.tl_record_faults.specs.Keeping.Chains.{IsOnePointFault, steps_with}
-use Rattle.tl_record_faults.specs.Keeping.Parts.{KeepsChains, KeepsAreas, AreSorted, AreChainCounts, chain_codes, all_codes}
-use Rattle.tl_record_faults.proofs.CountedLemmas.{chain_tlids, shape_tlids, side_tlids, items_counted}
+use Rattle.tl_record_faults.specs.Keeping.Parts.{KeepsChains, KeepsAreas, AreSorted, AreChainCounts, all_codes}
+use Rattle.tl_record_faults.proofs.CountedLemmas.{chain_tlids, shape_tlids, side_tlids}
 use Rattle.tl_record_faults.proofs.RunLemmas.{nothing}
 use Rattle.tl_record_faults.proofs.PointLemmas.{told_degenerate, segments_told}
 

@@ -1,10 +1,9 @@
-use Rattle.std.proofs.Common.{◌≡◌, ◌≢◌, ℕ, zero, suc, ◌+◌, ◌-◌, ◌<◌, ◌≤◌, Bool, true, false, not, cond, eqb, ◌&&◌, inl, inr, Option, Some, None, List, [], ◌∷◌, ◌++◌, length, map, get_or, count_by, sum_by, Contains, refl, sym, ap, ◌∙◌, subst, arith}
+use Rattle.std.proofs.Common.{◌≡◌, ℕ, zero, suc, ◌-◌, ◌<◌, ◌≤◌, Bool, true, false, not, eqb, ◌&&◌, inl, inr, Option, List, [], ◌∷◌, ◌++◌, length, count_by, sum_by, Contains, refl, sym, ap, ◌∙◌, subst, arith}
 use Rattle.std.specs.Prelude.{min}
 use Rattle.std.specs.List.{filter_map}
 use Rattle.std.specs.List.Sorted.{IsPermutation}
-use Rattle.std.proofs.lemmas.Bool.{eq-eqb, eqb-true, cases_Bool, cases_lt, true≢false}
+use Rattle.std.proofs.lemmas.Bool.{eqb-true, cases_Bool, cases_lt, true≢false}
 use Rattle.std.proofs.lemmas.List.{get_or_default}
-use Rattle.std.proofs.lemmas.List.Elements.{Contains-get_or}
 use Rattle.std.proofs.lemmas.List.Sums.{sum_by-cons}
 use Rattle.std.proofs.lemmas.List.Sorted.{Contains-permutation, IsPermutation-sym, sum_by-IsPermutation}
 use Rattle.tl_geom.specs.declared.point.Point.{Point}
@@ -12,17 +11,14 @@ use Rattle.tl_record.specs.declared.record.Record.{Record}
 use Rattle.tl_record.specs.declared.record.Record.TheVariants.{Chain, Shape, Sides, PolyPoint, Landmark, AreaLink}
 use Rattle.tl_drawn.specs.declared.entry.ChainEntry.{ChainEntry}
 use Rattle.tl_drawn.specs.declared.fault.MapFault.{MapFault}
-use Rattle.tl_drawn.specs.declared.fault.MapFault.TheVariants.{DegenerateChain}
-use Rattle.tl_drawn.specs.ChainsOf.{used, pairs_of, points_between, segments_by, segments_of, has_gap}
-use Rattle.tl_drawn.specs.Faults.{IsTrueOf, IsRepeated, IsNumbered, IsBroken, IsDegenerate, AreJoined}
-use Rattle.tl_drawn.proofs.CountLemmas.{sum_by-same}
+use Rattle.tl_drawn.specs.ChainsOf.{used, pairs_of, points_between, segments_by, segments_of}
+use Rattle.tl_drawn.specs.Faults.{IsTrueOf, IsRepeated, IsNumbered, IsDegenerate, AreJoined}
 use Rattle.tl_map.proofs.RowLemmas.{dedup_from-is}
-use Rattle.tl_record_faults.specs.declared.shape.Seen.{Seen}
 use Rattle.tl_record_faults.specs.declared.shape.ShapeSummary.{ShapeSummary}
 use Rattle.tl_record_faults.specs.AllFaults.{fault_place}
 use Rattle.tl_record_faults.specs.Kept.{chain_at}
 use Rattle.tl_record_faults.specs.Keeping.Told.{Tells, AreTold}
-use Rattle.tl_record_faults.specs.Keeping.Numbers.{StandAsOften, chains_with}
+use Rattle.tl_record_faults.specs.Keeping.Numbers.{chains_with}
 use Rattle.tl_record_faults.specs.Keeping.Runs.{AreShapes, run_of, in_sequence, seen_in_run, chain_steps, is_one_point}
 use Rattle.tl_record_faults.specs.Keeping.Chains.{is_alone, IsOnePointFault, steps_with}
 use Rattle.tl_record_faults.proofs.ToldLemmas.{told_more}
@@ -91,21 +87,21 @@ told_degenerate rs codes chains shapes old new moved are tells before =
     told_more rs codes 12 (IsOnePointFault chains shapes (length chains)) old new
     (λ f p. subst (IsTrueOf rs) (sym p.is) (true_point p.chain (p.place, p.within, p.there p.chain) p.alone p.one_point))
     (λ f holds code.
-      let t = (fault_place f).1 in
-      let is = degenerate_there f code in
-      let d : IsDegenerate rs t = subst (IsTrueOf rs) is holds in
-      let c : ChainEntry = record { tlid = t; from = d.from; to = d.to } in
-      let at : Contains chains c = Contains-permutation (filter_map chain_at rs) chains c moved (of_chain rs t d.from d.to d.record_of_it) in
-      record {
-        chain = c;
-        place = at.0;
-        below = at.1;
-        within = at.1;
-        there = λ x. get_or_default chains at.0 x c at.1 ∙ at.2;
-        is = is;
-        alone = few_alone chains t (omega (arith, chains_counted rs chains t moved, few t d.once));
-        one_point = point_found t d;
-      })
+    let t = (fault_place f).1 in
+    let is = degenerate_there f code in
+    let d : IsDegenerate rs t = subst (IsTrueOf rs) is holds in
+    let c : ChainEntry = record { tlid = t; from = d.from; to = d.to } in
+    let at : Contains chains c = Contains-permutation (filter_map chain_at rs) chains c moved (of_chain rs t d.from d.to d.record_of_it) in
+    record {
+      chain = c;
+      place = at.0;
+      below = at.1;
+      within = at.1;
+      there = λ x. get_or_default chains at.0 x c at.1 ∙ at.2;
+      is = is;
+      alone = few_alone chains t (omega (arith, chains_counted rs chains t moved, few t d.once));
+      one_point = point_found t d;
+    })
     tells before
   where
     few : (t : ℕ) → ¬ IsRepeated rs t → chains_with rs t < 2

@@ -1,7 +1,7 @@
-use Rattle.std.proofs.Common.{◌≡◌, ◌≢◌, ℕ, zero, suc, ◌+◌, ◌-◌, ◌<◌, ◌≤◌, Bool, true, false, cond, eqb, ◌&&◌, inl, inr, List, [], ◌∷◌, length, count_by, get_or, Contains, refl, sym, ap, ◌∙◌, arith, add-one}
+use Rattle.std.proofs.Common.{◌≡◌, ◌≢◌, ℕ, zero, suc, ◌+◌, ◌<◌, ◌≤◌, Bool, true, false, cond, eqb, ◌&&◌, inl, inr, List, [], ◌∷◌, length, count_by, get_or, refl, sym, ap, ◌∙◌, arith}
 use Rattle.std.specs.List.{remove}
 use Rattle.std.specs.List.Sorted.{IsNonDecreasing, IsPermutation}
-use Rattle.std.proofs.lemmas.Bool.{eq-eqb, eqb-true, ne_eqb, cases_Bool, cases_lt, true≢false}
+use Rattle.std.proofs.lemmas.Bool.{eq-eqb, eqb-true, ne_eqb, cases_lt}
 use Rattle.std.proofs.lemmas.List.Sums.{sum_by-cons}
 use Rattle.std.proofs.lemmas.List.Sorted.{IsPermutation-remove, length_permutation, sum_by-IsPermutation}
 use Rattle.tl_drawn.proofs.CountLemmas.{none_counted}
@@ -90,11 +90,11 @@ count_up_from_once n [] order each = refl
 count_up_from_once n (q ∷ qs) order each =
     let without : (m : ℕ) → q ≢ m → times m (q ∷ qs) ≡ times m qs = λ m other. count_no (λ y. eqb y m) q qs (ne_eqb q m other) in
     let not_above : n < q → ⊥ = λ above.
-      let none : times n (q ∷ qs) ≡ 0 = none_counted (λ y. eqb y n) (q ∷ qs) (λ i d lt. ne_eqb (get_or (q ∷ qs) i d) n (λ e. omega (arith, e, above, order 0 i d (omega arith) lt))) in
-      omega (arith, none, each n (omega arith) (omega arith)) in
+    let none : times n (q ∷ qs) ≡ 0 = none_counted (λ y. eqb y n) (q ∷ qs) (λ i d lt. ne_eqb (get_or (q ∷ qs) i d) n (λ e. omega (arith, e, above, order 0 i d (omega arith) lt))) in
+    omega (arith, none, each n (omega arith) (omega arith)) in
     let not_below : q < n → ⊥ = λ below.
-      let many = as_many n (suc (length qs)) qs (λ m from to. sym (without m (λ e. omega (arith, e, below, from))) ∙ each m from to) in
-      omega (arith, many) in
+    let many = as_many n (suc (length qs)) qs (λ m from to. sym (without m (λ e. omega (arith, e, below, from))) ∙ each m from to) in
+    omega (arith, many) in
     let q_is : q ≡ n = at (not_above) (not_below) in
     let met = eq-eqb q n q_is in
     rw met (count_up_from_once (n + 1) qs (fewer q qs order) (λ m from to. sym (without m (λ e. omega (arith, e, q_is, from))) ∙ each m (omega arith) (omega arith)))

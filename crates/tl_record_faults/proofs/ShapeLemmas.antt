@@ -1,11 +1,10 @@
-use Rattle.std.proofs.Common.{◌≡◌, ◌≢◌, ℕ, zero, suc, ◌+◌, ◌-◌, ◌<◌, ◌≤◌, Bool, true, false, not, cond, eqb, ◌&&◌, ◌⊎◌, inl, inr, Option, Some, None, List, [], ◌∷◌, ◌++◌, length, take, map, filter, get_or, count_by, sum_by, All, Contains, refl, sym, ap, ◌∙◌, subst, arith, add-one}
-use Rattle.std.specs.Prelude.{fold}
+use Rattle.std.proofs.Common.{◌≡◌, ℕ, zero, suc, ◌+◌, ◌<◌, ◌≤◌, Bool, true, false, cond, eqb, ◌&&◌, ◌⊎◌, inl, inr, Option, Some, None, List, [], ◌∷◌, length, take, map, filter, get_or, count_by, Contains, refl, sym, ap, ◌∙◌, subst, arith, add-one}
 use Rattle.std.specs.List.{filter_map, AllPairs}
-use Rattle.std.specs.List.Sorted.{IsPermutation, IsNonDecreasing}
-use Rattle.std.proofs.lemmas.Bool.{eq-eqb, eqb-true, cases_Bool, cases_lt}
+use Rattle.std.specs.List.Sorted.{IsNonDecreasing}
+use Rattle.std.proofs.lemmas.Bool.{eqb-true, cases_Bool, cases_lt}
 use Rattle.std.proofs.lemmas.List.{get_or_default, get_or-map, length-map, take_all}
 use Rattle.std.proofs.lemmas.List.Sums.{sum_by-cons, length-filter, fold_more}
-use Rattle.std.proofs.lemmas.List.Elements.{All-filter, All-contains, All-contains_itself, All-get_or, Contains-get_or, filter_passes}
+use Rattle.std.proofs.lemmas.List.Elements.{All-filter, All-contains, All-contains_itself, Contains-get_or, filter_passes}
 use Rattle.std.proofs.lemmas.List.Kept.{AllPairs-filter}
 use Rattle.std.proofs.lemmas.List.Sorted.{sum_by-IsPermutation, Contains-permutation, IsPermutation-sym}
 use Rattle.tl_geom.specs.declared.point.Point.{Point}
@@ -19,7 +18,7 @@ use Rattle.tl_map.proofs.GapLemmas.{pairs_at_is}
 use Rattle.tl_record_faults.specs.declared.shape.ShapeSummary.{ShapeSummary}
 use Rattle.tl_record_faults.specs.declared.shape.Seen.{Seen}
 use Rattle.tl_record_faults.specs.Kept.{shape_at}
-use Rattle.tl_record_faults.specs.Keeping.Shapes.{start, seen_in}
+use Rattle.tl_record_faults.specs.Shapes.{start, seen_in}
 use Rattle.tl_record_faults.specs.Keeping.Told.{Tells, AreTold}
 use Rattle.tl_record_faults.specs.Keeping.Runs.{AreShapes, run_fault, IsRunFault, Precedes, AreInOrder, run_of, join, seen_in_run, count_up, in_sequence}
 use Rattle.tl_record_faults.proofs.CountedLemmas.{count_yes, count_no, count-map, items_counted}
@@ -163,9 +162,8 @@ seen_run rs shapes t are up =
     so_far zero le = refl
     so_far (suc i) le =
         let more : seen_in_run (take (suc i) (run_of shapes t)) ≡ join (seen_in_run (take i (run_of shapes t))) (get_or (run_of shapes t) i nothing).seen =
-          rw (add-one i) at (fold_more (λ (s : Seen) (x : ShapeSummary). join s x.seen) start (run_of shapes t) i nothing (omega arith)) in
+        rw (add-one i) at (fold_more (λ (s : Seen) (x : ShapeSummary). join s x.seen) start (run_of shapes t) i nothing (omega arith)) in
         more ∙ (λ j. join (so_far i (omega arith) j) (one i nothing (omega arith) j)) ∙ join_seen (pairs_up_to rs t i) (pairs_at rs t (suc i))
-
 
 -- a TLID's shapes have the fault that its records have
 pub gap_run : (rs : List Record) (shapes : List ShapeSummary) (t : ℕ) → AreShapes rs shapes → in_sequence (run_of shapes t) ≡ true → (seen_in_run (run_of shapes t)).gap ≡ has_gap (pairs_of rs t)
@@ -225,17 +223,17 @@ told_shapes rs codes shapes old new are tells before =
     let there = λ (t : ℕ) (some : 1 ≤ shape_count rs t). shape_there rs shapes t are some in
     told_also rs (3 ∷ codes) 4 new
     (λ f holds code.
-      let t = (fault_place f).1 in
-      let is = gap_there_at f code in
-      let broken : IsBroken rs t = subst (IsTrueOf rs) is holds in
-      tells.every f (rw is (found_at shapes t (ShapeGap t) (there t (gap_there rs t broken.gap)) (gap_found rs shapes t are broken))))
+    let t = (fault_place f).1 in
+    let is = gap_there_at f code in
+    let broken : IsBroken rs t = subst (IsTrueOf rs) is holds in
+    tells.every f (rw is (found_at shapes t (ShapeGap t) (there t (gap_there rs t broken.gap)) (gap_found rs shapes t are broken))))
     (told_more rs codes 3 (IsRunFault shapes (length shapes)) old new
     (λ f r.
-      let s = get_or shapes r.place nothing in
-      elim (run_true rs shapes s.tlid f are (r.is nothing)) [ inl w ↦ subst (IsTrueOf rs) (sym w.0) w.1 | inr w ↦ subst (IsTrueOf rs) (sym w.0) w.1 ])
+    let s = get_or shapes r.place nothing in
+    elim (run_true rs shapes s.tlid f are (r.is nothing)) [ inl w ↦ subst (IsTrueOf rs) (sym w.0) w.1 | inr w ↦ subst (IsTrueOf rs) (sym w.0) w.1 ])
     (λ f holds code.
-      let t = (fault_place f).1 in
-      let is = sequence_there f code in
-      let wrong : ¬ IsNumbered rs t = subst (IsTrueOf rs) is holds in
-      rw is (found_at shapes t (ShapeSequence t) (there t (shapes_there rs t wrong)) (sequence_found rs shapes t are wrong)))
+    let t = (fault_place f).1 in
+    let is = sequence_there f code in
+    let wrong : ¬ IsNumbered rs t = subst (IsTrueOf rs) is holds in
+    rw is (found_at shapes t (ShapeSequence t) (there t (shapes_there rs t wrong)) (sequence_found rs shapes t are wrong)))
     tells before)

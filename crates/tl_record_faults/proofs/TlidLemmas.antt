@@ -1,6 +1,6 @@
-use Rattle.std.proofs.Common.{◌≡◌, ℕ, zero, suc, ◌+◌, ◌<◌, ◌≤◌, eqb, List, ◌∷◌, length, count_by, Contains, refl, sym, ap, ◌∙◌, subst, arith}
+use Rattle.std.proofs.Common.{◌≡◌, ℕ, zero, suc, ◌≤◌, eqb, List, ◌∷◌, length, refl, sym, subst, arith}
 use Rattle.std.specs.List.Sorted.{IsNonDecreasing}
-use Rattle.std.proofs.lemmas.Bool.{eq-eqb, cases_lt}
+use Rattle.std.proofs.lemmas.Bool.{eq-eqb}
 use Rattle.tl_record.specs.declared.record.Record.{Record}
 use Rattle.tl_drawn.specs.declared.fault.MapFault.{MapFault}
 use Rattle.tl_drawn.specs.Faults.{IsTrueOf}
@@ -8,7 +8,6 @@ use Rattle.tl_drawn.specs.ChainsOf.{shape_count}
 use Rattle.tl_drawn.proofs.CountLemmas.{two_counted}
 use Rattle.tl_record_faults.specs.declared.numbers.Numbered.{Numbered}
 use Rattle.tl_record_faults.specs.declared.numbers.Numbered.TheVariants.{DuplicateChain, ShapeWithoutChain, ChainWithoutSides, SidesWithoutChain, DuplicateSides}
-use Rattle.tl_record_faults.specs.AllFaults.{fault_place}
 use Rattle.tl_record_faults.specs.Keeping.Told.{Tells, AreTold}
 use Rattle.tl_record_faults.specs.Keeping.Numbers.{fault_of, StandsNext, IsMissing, StandAsOften, chains_with, sides_with}
 use Rattle.tl_record_faults.proofs.ToldLemmas.{told_more}
@@ -29,9 +28,9 @@ told_repeats what rs codes count numbers old new order often true twice tells be
     told_more rs codes (code_of what) (StandsNext (fault_of what) numbers (length numbers)) old new
     (λ f s. subst (IsTrueOf rs) (sym s.is) (true s.item (next_counted what count numbers f often s)))
     (λ f holds code.
-      let number = with_number what f code in
-      let two = next_from_twice numbers number.0 order (omega (arith, often number.0, twice number.0 (subst (IsTrueOf rs) number.1 holds))) in
-      record { item = number.0; is = number.1; place = two.0; below = two.1; within = two.1; first = two.2; second = two.3 })
+    let number = with_number what f code in
+    let two = next_from_twice numbers number.0 order (omega (arith, often number.0, twice number.0 (subst (IsTrueOf rs) number.1 holds))) in
+    record { item = number.0; is = number.1; place = two.0; below = two.1; within = two.1; first = two.2; second = two.3 })
     tells before
 
 -- the faults of a code that are true where a number is not known
@@ -40,9 +39,9 @@ told_missing what rs codes count among numbers known old new often known_often t
     told_more rs codes (code_of what) (IsMissing (fault_of what) (λ (n : ℕ). n) numbers known) old new
     (λ f m. subst (IsTrueOf rs) (sym m.is) (true m.item (number_counted count numbers m.item often m.among) (absent (among m.item) (λ some. m.unknown (number_stands among known m.item known_often some)))))
     (λ f holds code.
-      let number = with_number what f code in
-      let said = missing number.0 (subst (IsTrueOf rs) number.1 holds) in
-      record { item = number.0; is = number.1; among = number_stands count numbers number.0 often said.0; unknown = λ has. omega (arith, said.1, number_counted among known number.0 known_often has) })
+    let number = with_number what f code in
+    let said = missing number.0 (subst (IsTrueOf rs) number.1 holds) in
+    record { item = number.0; is = number.1; among = number_stands count numbers number.0 often said.0; unknown = λ has. omega (arith, said.1, number_counted among known number.0 known_often has) })
     tells before
 
 -- two type 1 records have a TLID
@@ -66,7 +65,6 @@ told_chains_without_sides rs codes chains sides old new often known tells before
     told_missing ChainWithoutSides rs codes (chains_with rs) (sides_with rs) chains sides old new often known
     (λ n some none. (has_chain rs n some, λ has. omega (arith, none, counted_sides rs n has)))
     (λ n h. (counted_chain rs n h.0, absent (sides_with rs n) (λ some. h.1 (has_sides rs n some)))) tells before
-
 
 -- a type I record has a TLID, and no type 1 record has
 pub told_sides_without_chain : (rs : List Record) (codes sides chains : List ℕ) (old new : List MapFault) → StandAsOften (sides_with rs) sides → StandAsOften (chains_with rs) chains → Tells (IsMissing (fault_of SidesWithoutChain) (λ (n : ℕ). n) sides chains) old new → AreTold rs codes old → AreTold rs (6 ∷ codes) new

@@ -1,4 +1,4 @@
-use Rattle.std.proofs.Common.{◌≡◌, ℕ, zero, suc, Bool, eqb, ◌⊎◌, inl, inr, List, [], ◌∷◌, ◌++◌, length, All, Contains, refl, sym, ap, ◌∙◌, arith}
+use Rattle.std.proofs.Common.{◌≡◌, ℕ, zero, suc, Bool, eqb, ◌⊎◌, inl, inr, List, [], ◌∷◌, ◌++◌, length, Contains, refl, sym, ap, ◌∙◌, arith}
 use Rattle.std.specs.Bool.{Decides}
 use Rattle.std.proofs.lemmas.Bool.{eq-eqb, eqb-true}
 use Rattle.std.proofs.lemmas.List.{nil_from_length}
@@ -74,5 +74,5 @@ tells_nothing P old (x ∷ new) tells none never = elim (tells.each 0 x (omega a
 pub empty_items : (b : Bool) (n : ℕ) (xs : List MapFault) → b ≡ eqb n 0 → n ≡ length xs → Decides b (xs ≡ [])
 empty_items b n xs is long = (
   λ e. nil_from_length xs (omega (arith, long, eqb-true n 0 (sym is ∙ e))),
-  λ none. is ∙ eq-eqb n 0 (long ∙ ap length none)
+  λ none. is ∙ eq-eqb n 0 (long ∙ ap length none),
 )

@@ -1,4 +1,4 @@
-use Rattle.std.proofs.Common.{◌≡◌, ℕ, zero, suc, ◌+◌, ◌-◌, ◌<◌, ◌≤◌, Bool, true, false, cond, ◌&&◌, ◌||◌, inl, inr, Option, Some, None, List, [], ◌∷◌, ◌++◌, length, refl, sym, ap, ◌∙◌, arith}
+use Rattle.std.proofs.Common.{◌≡◌, ℕ, suc, ◌+◌, ◌-◌, ◌≤◌, Bool, true, false, cond, ◌&&◌, ◌||◌, inl, inr, Option, Some, None, List, [], ◌∷◌, ◌++◌, length, refl, sym, ap, ◌∙◌, arith}
 use Rattle.std.specs.Prelude.{fold, is_some, IfSome, min}
 use Rattle.std.proofs.lemmas.Bool.{cases_Bool}
 use Rattle.std.proofs.lemmas.List.Sums.{fold-append}
@@ -12,7 +12,7 @@ use Rattle.tl_map.proofs.GapLemmas.{used-append, some_unused-append, has_gap-app
 use Rattle.tl_map.proofs.RowLemmas.{dedup_from-is}
 use Rattle.tl_record_faults.specs.declared.shape.Trace.{Trace}
 use Rattle.tl_record_faults.specs.declared.shape.Seen.{Seen}
-use Rattle.tl_record_faults.specs.Keeping.Shapes.{more_steps, traced, start, see, seen_in}
+use Rattle.tl_record_faults.specs.Shapes.{more_steps, traced, start, see, seen_in}
 use Rattle.tl_record_faults.specs.Keeping.Runs.{join_traces, join, chain_steps}
 
 -- the trace with more points
@@ -150,9 +150,9 @@ seen_closed pairs = see_all start pairs ∙ seen_is _ _ refl (sym (or_false (has
 pub join_seen : (ps qs : List (Option Point)) → join (seen_in ps) (seen_in qs) ≡ seen_in (ps ++ qs)
 join_seen ps qs =
     let trace : join_traces (traces None (used ps)) (traces None (used qs)) ≡ traces None (used (ps ++ qs)) =
-      sym (traces_join (traces None (used ps)) (used qs) (capped (used ps))) ∙ sym (fold-append (λ (t : Option Trace) (p : Point). Some (traced t p)) None (used ps) (used qs)) ∙ ap (traces None) (sym (used-append ps qs)) in
+    sym (traces_join (traces None (used ps)) (used qs) (capped (used ps))) ∙ sym (fold-append (λ (t : Option Trace) (p : Point). Some (traced t p)) None (used ps) (used qs)) ∙ ap (traces None) (sym (used-append ps qs)) in
     let gap : ((has_gap ps || has_gap qs) || (some_unused ps && is_some (traces None (used qs)))) ≡ has_gap (ps ++ qs) =
-      ap (λ b. (has_gap ps || has_gap qs) || (some_unused ps && b)) (traced_some qs) ∙ gap_turned (has_gap ps) (has_gap qs) (some_unused ps && some_used qs) ∙ sym (has_gap-append ps qs) in
+    ap (λ b. (has_gap ps || has_gap qs) || (some_unused ps && b)) (traced_some qs) ∙ gap_turned (has_gap ps) (has_gap qs) (some_unused ps && some_used qs) ∙ sym (has_gap-append ps qs) in
     (λ i. join (seen_closed ps i) (seen_closed qs i)) ∙ seen_is _ _ trace gap (sym (some_unused-append ps qs)) ∙ sym (seen_closed (ps ++ qs))
 
 abbrev steps_in : Option Trace → ℕ
@@ -166,5 +166,5 @@ steps_are c pairs =
     let rest : List Point = used pairs ++ c.to ∷ [] in
     let joined : join_traces (Some f) (traces None (used pairs)) ≡ traces (Some f) (used pairs) = sym (traces_join (Some f) (used pairs) (omega arith)) in
     let all : Some (traced (join_traces (Some f) (traces None (used pairs))) c.to) ≡ Some (record { first = c.from; last = last_of c.from rest; steps = more_steps 0 (step_count c.from rest) }) =
-      ap (λ t. Some (traced t c.to)) joined ∙ sym (fold-append (λ (t : Option Trace) (p : Point). Some (traced t p)) (Some f) (used pairs) (c.to ∷ [])) ∙ traces_is f rest (omega arith) in
+    ap (λ t. Some (traced t c.to)) joined ∙ sym (fold-append (λ (t : Option Trace) (p : Point). Some (traced t p)) (Some f) (used pairs) (c.to ∷ [])) ∙ traces_is f rest (omega arith) in
     ap (chain_steps c) (seen_closed pairs) ∙ ap steps_in all ∙ omega (arith, ap length (dedup_from-is c.from rest))

@@ -1,6 +1,5 @@
--- What is kept on the way: what is seen of pairs, and the faults that are told so far.
+-- What is kept on the way: the faults that are told so far, and the sorted lists that tell them. No public contract cites a file of this folder.
 pub mod Told
-pub mod Shapes
 pub mod Numbers
 pub mod Keys
 pub mod Areas

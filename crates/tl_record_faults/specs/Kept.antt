@@ -10,7 +10,7 @@ use Rattle.tl_drawn.specs.MapOf.{sides_in, polygons_in, landmarks_in, links_in, 
 use Rattle.tl_record_faults.specs.declared.shape.ShapeSummary.{ShapeSummary}
 use Rattle.tl_record_faults.specs.declared.collect.NamedSide.{NamedSide}
 use Rattle.tl_record_faults.specs.declared.collect.KeptRecords.{KeptRecords}
-use Rattle.tl_record_faults.specs.Keeping.Shapes.{seen_in}
+use Rattle.tl_record_faults.specs.Shapes.{seen_in}
 
 -- what a type 1 record says
 abbrev pub chain_at : Record → Option ChainEntry

@@ -47,7 +47,11 @@ fn tell_sorted(
     tell_sides(faults, chain_tlids, sides)?;
     tell_points(faults, chains, shapes)?;
     // Of chains that are not joined the segments are not asked for.
-    Ok(if joined { count_segments(chains, shapes) } else { 0 })
+    Ok(if joined {
+        count_segments(chains, shapes)
+    } else {
+        0
+    })
 }
 
 /// The same with lists in any order.

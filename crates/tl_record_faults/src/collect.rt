@@ -18,15 +18,15 @@ pub struct NamedSide {
 /// What is kept of the records so far, each list in file order.
 #[derive(Drop)]
 pub struct KeptRecords {
-    pub chains: Vec<ChainEntry>,
-    pub shapes: Vec<ShapeSummary>,
+    pub(crate) chains: Vec<ChainEntry>,
+    pub(crate) shapes: Vec<ShapeSummary>,
     /// The TLIDs of the type I records.
-    pub sides: Vec<u64>,
-    pub names: Vec<NamedSide>,
-    pub polygons: Vec<PolyKey>,
+    pub(crate) sides: Vec<u64>,
+    pub(crate) names: Vec<NamedSide>,
+    pub(crate) polygons: Vec<PolyKey>,
     /// The LANDs of the type 7 records.
-    pub landmarks: Vec<u64>,
-    pub links: Vec<LinkEntry>,
+    pub(crate) landmarks: Vec<u64>,
+    pub(crate) links: Vec<LinkEntry>,
 }
 
 impl KeptRecords {
@@ -72,7 +72,10 @@ impl KeptRecords {
                 },
             ),
             Record::Sides {
-                tlid, left, right, ..
+                tlid,
+                left,
+                right,
+                ..
             } => {
                 append(&mut self.sides, *tlid)?;
                 append_name(&mut self.names, *tlid, *left)?;

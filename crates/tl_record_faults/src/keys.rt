@@ -35,7 +35,8 @@ fn has_key(keys: &[PolyKey], key: PolyKey) -> bool
     ensures { Decides result (Contains keys.now key) }
 {
     let wanted = parts_of(key);
-    keys.binary_search_by_key(&wanted, |other| parts_of(*other)).is_ok()
+    keys.binary_search_by_key(&wanted, |other| parts_of(*other))
+        .is_ok()
 }
 
 /// Tells each key that stands next to itself.

@@ -17,6 +17,5 @@ mod runs;
 mod shape;
 mod tlids;
 
-
 pub use all::all_record_faults;
 pub use collect::KeptRecords;

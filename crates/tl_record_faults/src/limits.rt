@@ -4,7 +4,6 @@ ghost use Rattle.std.specs.Prelude.{◌≡◌, ℕ, List, ◌∷◌, OnOk, lengt
 ghost use Rattle.std.specs.List.{dedup};
 ghost use Rattle.std.specs.Prelude.{nat_eq};
 ghost use Rattle.tl_record.specs.declared.record.Record.{Record};
-
 ghost use Rattle.tl_record_faults.specs.Keeping.Told.{Tells, AreTold};
 ghost use Rattle.tl_record_faults.specs.Keeping.Limits.{IsMore, AreCounts};
 
@@ -44,8 +43,24 @@ pub fn tell_too_many(faults: &mut Vec<MapFault>, counts: Counts) -> Result<(), A
     ensures { (rs : List Record) (codes : List ℕ) → AreCounts rs counts → AreTold rs codes faults.old.items →
         OnOk result (AreTold rs (13 ∷ codes) faults.new.items) }
 {
-    tell_if(faults, counts.chains > CHAIN_LIMIT as usize, Limited::Chains)?;
-    tell_if(faults, counts.segments > SEGMENT_LIMIT as u64, Limited::Segments)?;
-    tell_if(faults, counts.polygons > POLYGON_LIMIT as usize, Limited::Polygons)?;
-    tell_if(faults, counts.landmarks > LANDMARK_LIMIT as usize, Limited::Landmarks)
+    tell_if(
+        faults,
+        counts.chains > CHAIN_LIMIT as usize,
+        Limited::Chains,
+    )?;
+    tell_if(
+        faults,
+        counts.segments > SEGMENT_LIMIT as u64,
+        Limited::Segments,
+    )?;
+    tell_if(
+        faults,
+        counts.polygons > POLYGON_LIMIT as usize,
+        Limited::Polygons,
+    )?;
+    tell_if(
+        faults,
+        counts.landmarks > LANDMARK_LIMIT as usize,
+        Limited::Landmarks,
+    )
 }

@@ -20,7 +20,7 @@ pub fn order_faults(faults: &mut Vec<MapFault>)
     faults.dedup_by_key(|fault| place_of(fault));
 }
 
-/// What is fault is ordered by.
+/// What a fault is ordered by.
 fn place_of(fault: &MapFault) -> Place
     ensures { result ≡ fault_place fault.now }
 {

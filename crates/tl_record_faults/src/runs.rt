@@ -5,7 +5,7 @@ ghost use Rattle.std.specs.List.Sorted.{IsPermutation};
 ghost use Rattle.tl_record_faults.specs.declared.shape.ShapeSummary.{ShapeSummary};
 ghost use Rattle.tl_record_faults.specs.Keeping.Told.{Tells};
 ghost use Rattle.tl_record_faults.specs.Keeping.Runs.{AreInOrder, run_of, join, join_traces, seen_in_run, in_sequence, run_fault, IsRunFault};
-ghost use Rattle.tl_record_faults.specs.Keeping.Shapes.{start};
+ghost use Rattle.tl_record_faults.specs.Shapes.{start};
 
 use crate::shape::{NOTHING_SEEN, Seen, ShapeSummary, Trace};
 use std::alloc::{AllocError, Global};
@@ -112,7 +112,10 @@ pub fn joined_traces(trace: Option<Trace>, next: Option<Trace>) -> Option<Trace>
     Some(Trace {
         first: trace.first,
         last: next.last,
-        steps: trace.steps.saturating_add(next.steps).saturating_add(between),
+        steps: trace
+            .steps
+            .saturating_add(next.steps)
+            .saturating_add(between),
     })
 }
 

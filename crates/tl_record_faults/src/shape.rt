@@ -1,7 +1,7 @@
 //! What of a type 2 record tells faults.
 
 ghost use Rattle.std.specs.Prelude.{◌≡◌};
-ghost use Rattle.tl_record_faults.specs.Keeping.Shapes.{start, see, seen_in, traced};
+ghost use Rattle.tl_record_faults.specs.Shapes.{start, see, seen_in, traced};
 
 use tl_county::Ranked;
 use tl_geom::Point;

@@ -1,7 +1,5 @@
 -- Kept on the way: the shapes of one TLID in the order of their RTSQ.
-use Rattle.std.specs.Prelude.{◌≡◌, ℕ, ◌+◌, ◌<◌, ◌≤◌, Bool, true, false, ◌&&◌, ◌||◌, not, ◌==◌, is_some, if◌then◌else◌, Option, Some, None, List, [], ◌∷◌, map, filter, fold, length, slice_index_or}
-use Rattle.std.specs.Ordering.{ordering_then, nat_cmp}
-use Rattle.std.specs.declared.cmp.Ordering.{Ordering}
+use Rattle.std.specs.Prelude.{◌≡◌, ℕ, ◌+◌, ◌<◌, ◌≤◌, Bool, true, ◌&&◌, ◌||◌, not, ◌==◌, is_some, if◌then◌else◌, Option, Some, None, List, [], ◌∷◌, map, filter, fold, length, slice_index_or}
 use Rattle.std.specs.List.{filter_map}
 use Rattle.std.specs.List.Sorted.{IsPermutation}
 use Rattle.tl_record.specs.declared.record.Record.{Record}
@@ -13,7 +11,7 @@ use Rattle.tl_drawn.specs.declared.fault.MapFault.TheVariants.{ShapeSequence, Sh
 use Rattle.tl_record_faults.specs.declared.shape.Trace.{Trace}
 use Rattle.tl_record_faults.specs.declared.shape.Seen.{Seen}
 use Rattle.tl_record_faults.specs.declared.shape.ShapeSummary.{ShapeSummary}
-use Rattle.tl_record_faults.specs.Keeping.Shapes.{start, more_steps, traced}
+use Rattle.tl_record_faults.specs.Shapes.{start, more_steps, traced}
 
 -- x stands no later than y by TLID, and within one TLID by RTSQ
 pub record Precedes (x y : ShapeSummary) : Type 0 where

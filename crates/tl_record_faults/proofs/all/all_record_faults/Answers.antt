@@ -1,5 +1,5 @@
 use Rattle.std.proofs.Common.{ap, length, arith}
-use Rattle.tl_record_faults.specs.Keeping.Parts.{chain_codes, KeepsAreas}
+use Rattle.tl_record_faults.specs.Keeping.Parts.{chain_codes}
 use Rattle.tl_record_faults.specs.Keeping.Areas.{with_areas}
 use Rattle.tl_record_faults.proofs.PartLemmas.{all_told, chains_long, keys_long}
 use Rattle.tl_record_faults.proofs.all.all_record_faults.Goals as goal

@@ -1,4 +1,4 @@
-use Rattle.std.proofs.Common.{◌∙◌, refl}
+use Rattle.std.proofs.Common.{◌∙◌}
 use Rattle.tl_record_faults.proofs.LimitLemmas.{landmarks_counted}
 use Rattle.tl_record_faults.proofs.PartLemmas.{kept_areas}
 use Rattle.tl_record_faults.proofs.all.tell_of_areas.Goals as goal

@@ -1,4 +1,3 @@
-use Rattle.std.proofs.Common.{refl}
 use Rattle.tl_record_faults.proofs.PartLemmas.{kept_sorted}
 use Rattle.tl_record_faults.proofs.all.tell_of_chains.Goals as goal
 

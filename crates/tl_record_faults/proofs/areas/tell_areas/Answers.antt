@@ -14,4 +14,4 @@ returns c = λ rs codes are before.
     let nine = told_unknown_sides rs (8 ∷ codes) c.args.names.now polygons _ _ are.of_sides are.of_polygons c.in_ok-tell_unknown_sides.ensures eight in
     let ten = told_unknown_lands rs (9 ∷ 8 ∷ codes) c.args.lands.now c.args.landmarks.now _ _ are.of_lands are.of_landmarks c.in_ok-tell_missing.ensures nine in
     on_ok_weaker c.tell_unknown_links.result (λ (tells : Tells (IsMissing link_fault (λ (l : LinkEntry). l.key) c.args.links.now polygons) c.tell_missing.new.faults.items c.tell_unknown_links.new.faults.items).
-      told_unknown_links rs (10 ∷ 9 ∷ 8 ∷ codes) c.args.links.now polygons _ _ are.of_links are.of_polygons tells ten) c.tell_unknown_links.ensures
+    told_unknown_links rs (10 ∷ 9 ∷ 8 ∷ codes) c.args.links.now polygons _ _ are.of_links are.of_polygons tells ten) c.tell_unknown_links.ensures

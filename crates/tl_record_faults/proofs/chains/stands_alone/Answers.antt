@@ -25,6 +25,6 @@ returns-else-place-chains c = λ d.
     elim (cases_Bool (eqb (get_or chains (i + 1) no_chain).tlid (get_or chains i no_chain).tlid)) [
       | inl met ↦ ap not met ∙ not_alone chains i no_chain no_chain d next (sym (eqb-true _ _ met)) i (inl refl)
       | inr other ↦ ap not other ∙ alone chains i no_chain no_chain no_chain d c.requires.order c.requires.within
-        (λ low. elim c.else-place-gt0.branch [ else-place-gt0-via-then-place-gt0+else-chains-place w ↦ w.if-chains-place.false | else-place-gt0-via-else-place-gt0 w ↦ absurd (omega (arith, low, w.if-place-gt0.false)) ])
-        (λ more same. true≢false (sym (eq-eqb _ _ same) ∙ other))
+          (λ low. elim c.else-place-gt0.branch [ else-place-gt0-via-then-place-gt0+else-chains-place w ↦ w.if-chains-place.false | else-place-gt0-via-else-place-gt0 w ↦ absurd (omega (arith, low, w.if-place-gt0.false)) ])
+          (λ more same. true≢false (sym (eq-eqb _ _ same) ∙ other))
     ]

@@ -1,4 +1,4 @@
-use Rattle.std.proofs.Common.{eqb, length, ap, ◌∙◌, arith}
+use Rattle.std.proofs.Common.{eqb, length, ap, arith}
 use Rattle.std.proofs.lemmas.List.Filters.{dedup_is}
 use Rattle.tl_record_faults.proofs.limits.count_distinct.Goals as goal
 

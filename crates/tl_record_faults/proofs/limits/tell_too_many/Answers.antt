@@ -16,5 +16,5 @@ returns c = λ rs codes are before.
     let polygons : Tests rs (ltb 1048576 counts.polygons) Polygons = tests_more rs counts.polygons (length (polygons_in rs)) 1048576 Polygons are.polygons (λ h. h) (λ h. h) in
     let landmarks : Tests rs (ltb 1048576 counts.landmarks) Landmarks = tests_more rs counts.landmarks (length (first_landmarks rs)) 1048576 Landmarks are.landmarks (λ h. h) (λ h. h) in
     on_ok_weaker c.tell_if-4.result (λ (tells : Tells (IsMore (ltb 1048576 counts.landmarks) Landmarks) c.tell_if-3.new.faults.items c.tell_if-4.new.faults.items).
-      told_limits rs codes (ltb 1048576 counts.chains) (ltb 16777216 counts.segments) (ltb 1048576 counts.polygons) (ltb 1048576 counts.landmarks) c.args.faults.now.items c.tell_if.new.faults.items c.tell_if-2.new.faults.items c.tell_if-3.new.faults.items c.tell_if-4.new.faults.items
-      chains segments polygons landmarks c.in_ok-tell_if.ensures c.in_ok-tell_if-2.ensures c.in_ok-tell_if-3.ensures tells before) c.tell_if-4.ensures
+    told_limits rs codes (ltb 1048576 counts.chains) (ltb 16777216 counts.segments) (ltb 1048576 counts.polygons) (ltb 1048576 counts.landmarks) c.args.faults.now.items c.tell_if.new.faults.items c.tell_if-2.new.faults.items c.tell_if-3.new.faults.items c.tell_if-4.new.faults.items
+    chains segments polygons landmarks c.in_ok-tell_if.ensures c.in_ok-tell_if-2.ensures c.in_ok-tell_if-3.ensures tells before) c.tell_if-4.ensures

@@ -1,4 +1,4 @@
-use Rattle.std.proofs.Common.{ℕ, ◌<◌, ◌+◌, length, get_or, take, arith}
+use Rattle.std.proofs.Common.{ℕ, ◌<◌, length, get_or, arith}
 use Rattle.tl_record_faults.specs.Keeping.Numbers.{fault_of}
 use Rattle.tl_record_faults.proofs.NumberLemmas.{missing_none, missing_known, missing_more, missing_all, passed_all, found_at, not_found, below_next}
 use Rattle.tl_record_faults.proofs.numbers.tell_missing.Goals as goal

@@ -13,4 +13,4 @@ returns c = λ rs codes of_chains of_sides before.
     let five = told_chains_without_sides rs codes chains sides _ _ of_chains of_sides c.in_ok-tell_missing.ensures before in
     let six = told_sides_without_chain rs (5 ∷ codes) sides chains _ _ of_sides of_chains c.in_ok-tell_missing-2.ensures five in
     on_ok_weaker c.tell_repeats.result (λ (tells : Tells (StandsNext (fault_of DuplicateSides) sides (length sides)) c.tell_missing-2.new.faults.items c.tell_repeats.new.faults.items).
-      told_duplicate_sides rs (6 ∷ 5 ∷ codes) sides _ _ c.requires.sides of_sides tells six) c.tell_repeats.ensures
+    told_duplicate_sides rs (6 ∷ 5 ∷ codes) sides _ _ c.requires.sides of_sides tells six) c.tell_repeats.ensures

@@ -1,5 +1,5 @@
--- Kept on the way: what is seen of the pairs of type 2 records.
-use Rattle.std.specs.Prelude.{◌≡◌, ℕ, ◌+◌, ◌^◌, ◌-◌, min, Bool, true, false, ◌||◌, if◌then◌else◌, Option, Some, None, List, fold}
+-- What is kept of the pairs of a type 2 record: how they are filled, and how many steps their points make.
+use Rattle.std.specs.Prelude.{ℕ, ◌+◌, ◌^◌, ◌-◌, min, true, false, ◌||◌, if◌then◌else◌, Option, Some, None, List, fold}
 use Rattle.tl_geom.specs.declared.point.Point.{Point}
 use Rattle.tl_drawn.specs.ChainsOf.{same_point}
 use Rattle.tl_record_faults.specs.declared.shape.Trace.{Trace}
