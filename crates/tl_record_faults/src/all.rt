@@ -8,7 +8,8 @@ ghost use Rattle.tl_record_faults.specs.AllFaults.{AreAllFaults};
 ghost use Rattle.tl_record_faults.specs.Kept.{KeepsRecords};
 ghost use Rattle.tl_record_faults.specs.Keeping.Told.{AreTold};
 ghost use Rattle.tl_record_faults.specs.Keeping.Runs.{AreInOrder};
-ghost use Rattle.tl_record_faults.specs.Keeping.Parts.{KeepsChains, AreSorted, KeepsAreas, AreChainCounts, AreAreaCounts};
+ghost use Rattle.tl_record_faults.specs.Keeping.Parts.{KeepsChains, AreSorted, AreChainCounts};
+ghost use Rattle.tl_record_faults.specs.Keeping.Parts.{KeepsAreas, AreAreaCounts};
 
 use crate::areas::{lands_of_links, tell_areas};
 use crate::chains::{count_segments, tell_points};
@@ -24,8 +25,8 @@ use std::alloc::{AllocError, Global};
 use tl_drawn::{ChainEntry, LinkEntry, MapFault};
 use tl_record::PolyKey;
 
-/// Tells what sorted lists of chains, shapes and sides tell, where no fault is told yet. Gives how many segments there are, and none
-/// where the chains are not joined.
+/// Tells what sorted lists of chains, shapes and sides tell, where no fault is told yet. Gives how many segments there
+/// are, and none where the chains are not joined.
 fn tell_sorted(
     faults: &mut Vec<MapFault>,
     chains: &[ChainEntry],
@@ -93,8 +94,8 @@ fn tell_of_areas(
     Ok(count_distinct(&mut landmarks))
 }
 
-/// All faults that are true of the records that were kept, by their codes and then by their numbers, none twice. An error says that
-/// memory was refused.
+/// All faults that are true of the records that were kept, by their codes and then by their numbers, none twice. An
+/// error says that memory was refused.
 pub fn all_record_faults(alloc: Global, kept: KeptRecords) -> Result<Vec<MapFault>, AllocError>
     ensures { (rs : List Record) → KeepsRecords rs kept → IfOk result (λ faults. AreAllFaults rs faults.items) }
 {

@@ -1,11 +1,10 @@
 //! Chains with their shapes: which are one point, and how many segments all have.
 
-ghost use Rattle.std.specs.Prelude.{◌≡◌, ℕ, ◌+◌, ◌^◌, ◌-◌, ◌<◌, ◌≤◌, List, OnOk, length, min, sum_by, count_by, ◌==◌, nat_lt, slice_index_or};
+ghost use Rattle.std.specs.Prelude.{◌≡◌, ◌^◌, ◌-◌, ◌<◌, OnOk, length, min, sum_by, slice_index_or};
 ghost use Rattle.std.specs.List.Sorted.{IsNonDecreasingBy};
 ghost use Rattle.tl_drawn.specs.declared.entry.ChainEntry.{ChainEntry};
-ghost use Rattle.tl_record_faults.specs.declared.shape.ShapeSummary.{ShapeSummary};
 ghost use Rattle.tl_record_faults.specs.Keeping.Told.{Tells};
-ghost use Rattle.tl_record_faults.specs.Keeping.Runs.{AreInOrder, run_of, chain_steps, is_one_point, seen_in_run};
+ghost use Rattle.tl_record_faults.specs.Keeping.Runs.{AreInOrder, chain_steps, is_one_point};
 ghost use Rattle.tl_record_faults.specs.Keeping.Chains.{is_alone, IsOnePointFault, steps_with};
 
 use crate::runs::{first_shape_not_below, is_in_sequence, joined_traces, run_at, seen_of_run};
@@ -50,7 +49,8 @@ pub fn tell_points(
 ) -> Result<(), AllocError>
     requires chains { IsNonDecreasingBy (λ (c : ChainEntry). c.tlid) chains.now }
     requires shapes { AreInOrder shapes.now }
-    ensures { OnOk result (Tells (IsOnePointFault chains.now shapes.now (length chains.now)) faults.old.items faults.new.items) }
+    ensures { OnOk result (Tells (IsOnePointFault chains.now shapes.now (length chains.now))
+        faults.old.items faults.new.items) }
 {
     let mut start = 0;
     for place in 0..chains.len() {
@@ -63,7 +63,8 @@ pub fn tell_points(
     Ok(())
 }
 
-/// How many segments sorted chains have with sorted shapes. Where several chains have a TLID its shapes are looked at for each.
+/// How many segments sorted chains have with sorted shapes. Where several chains have a TLID its shapes are looked at
+/// for each, which may take long.
 pub fn count_segments(chains: &[ChainEntry], shapes: &[ShapeSummary]) -> u64
     requires chains { IsNonDecreasingBy (λ (c : ChainEntry). c.tlid) chains.now }
     requires shapes { AreInOrder shapes.now }

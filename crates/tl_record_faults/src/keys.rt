@@ -41,7 +41,8 @@ fn has_key(keys: &[PolyKey], key: PolyKey) -> bool
 
 /// Tells each key that stands next to itself.
 pub fn tell_repeated_keys(faults: &mut Vec<MapFault>, keys: &[PolyKey]) -> Result<(), AllocError>
-    ensures { OnOk result (Tells (StandsNext DuplicatePolygon keys.now (length keys.now)) faults.old.items faults.new.items) }
+    ensures { OnOk result (Tells (StandsNext DuplicatePolygon keys.now (length keys.now))
+        faults.old.items faults.new.items) }
 {
     for place in 1..keys.len() {
         let polygon = keys[place];
@@ -59,7 +60,8 @@ pub fn tell_unknown_sides(
     keys: &[PolyKey],
 ) -> Result<(), AllocError>
     requires { AreByKey keys.now }
-    ensures { OnOk result (Tells (IsMissing side_fault (λ n. n.key) names.now keys.now) faults.old.items faults.new.items) }
+    ensures { OnOk result (Tells (IsMissing side_fault (λ n. n.key) names.now keys.now)
+        faults.old.items faults.new.items) }
 {
     for name in names {
         if !has_key(keys, name.key) {
@@ -79,7 +81,8 @@ pub fn tell_unknown_links(
     keys: &[PolyKey],
 ) -> Result<(), AllocError>
     requires { AreByKey keys.now }
-    ensures { OnOk result (Tells (IsMissing link_fault (λ l. l.key) links.now keys.now) faults.old.items faults.new.items) }
+    ensures { OnOk result (Tells (IsMissing link_fault (λ l. l.key) links.now keys.now)
+        faults.old.items faults.new.items) }
 {
     for link in links {
         if !has_key(keys, link.key) {

@@ -1,11 +1,11 @@
 //! The shapes of each TLID, and the faults that they tell.
 
-ghost use Rattle.std.specs.Prelude.{◌≡◌, ◌≢◌, ℕ, ◌<◌, ◌≤◌, List, OnOk, length, slice_index_or};
+ghost use Rattle.std.specs.Prelude.{◌≡◌, ◌≢◌, ℕ, ◌<◌, ◌≤◌, OnOk, length, slice_index_or};
 ghost use Rattle.std.specs.List.Sorted.{IsPermutation};
 ghost use Rattle.tl_record_faults.specs.declared.shape.ShapeSummary.{ShapeSummary};
 ghost use Rattle.tl_record_faults.specs.Keeping.Told.{Tells};
-ghost use Rattle.tl_record_faults.specs.Keeping.Runs.{AreInOrder, run_of, join, join_traces, seen_in_run, in_sequence, run_fault, IsRunFault};
-ghost use Rattle.tl_record_faults.specs.Shapes.{start};
+ghost use Rattle.tl_record_faults.specs.Keeping.Runs.{AreInOrder, run_of, join, join_traces, seen_in_run};
+ghost use Rattle.tl_record_faults.specs.Keeping.Runs.{in_sequence, run_fault, IsRunFault};
 
 use crate::shape::{NOTHING_SEEN, Seen, ShapeSummary, Trace};
 use std::alloc::{AllocError, Global};

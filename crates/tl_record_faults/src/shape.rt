@@ -16,7 +16,7 @@ pub struct Trace {
     pub steps: u32,
 }
 
-/// What is seen of pairs: the used points, and whether a used pair comes after an unused one, and whether one is unused.
+/// What is seen of pairs: the used points, whether a used pair comes after an unused one, and whether one is unused.
 #[derive(Clone, Copy)]
 pub struct Seen {
     pub trace: Option<Trace>,

@@ -48,8 +48,8 @@ pub fn tlids_of_shapes(alloc: Global, shapes: &[ShapeSummary]) -> Result<Vec<u64
     Ok(tlids)
 }
 
-/// Tells of chains and shapes, of which no fault is told yet, which TLIDs stand twice, have no chain, are out of sequence or have a
-/// gap. Says whether none has such a fault.
+/// Tells of chains and shapes, of which no fault is told yet, which TLIDs stand twice, have no chain, are out of
+/// sequence or have a gap. Says whether none has such a fault.
 pub fn tell_chains(
     faults: &mut Vec<MapFault>,
     chains: &[u64],
