@@ -15,3 +15,4 @@ pub mod ChainLemmas
 pub mod PointLemmas
 pub mod LimitLemmas
 pub mod PartLemmas
+pub mod OneListLemmas

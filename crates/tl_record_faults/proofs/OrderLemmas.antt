@@ -25,7 +25,7 @@ use Rattle.tl_record_faults.specs.Keeping.Told.{AreOrdered}
 abbrev pub same_place : Place → Place → Bool
 same_place p q = (((nat_eq p.0 q.0 && nat_eq p.1 q.1) && pointwise nat_eq p.2 q.2) && nat_eq p.3 q.3) && nat_eq p.4 q.4
 
-place_total : IsTotalOrder place_cmp
+pub place_total : IsTotalOrder place_cmp
 place_total = then_total (then_total (then_total (then_total (on_total (λ (p : Place). p.0) nat_cmp_total) (on_total (λ (p : Place). p.1) nat_cmp_total)) (on_total (λ (p : Place). p.2) nat_list_cmp_total)) (on_total (λ (p : Place). p.3) nat_cmp_total)) (on_total (λ (p : Place). p.4) nat_cmp_total)
 
 place_ties : (p q : Place) → same_place p q ≡ eq_by_cmp place_cmp p q

@@ -11,6 +11,7 @@ mod areas;
 mod chains;
 mod collect;
 mod keys;
+pub mod laws;
 mod limits;
 mod numbers;
 mod order;
