@@ -16,7 +16,7 @@ use Rattle.tl_map.proofs.IndexLemmas.{same_key-refl}
 use Rattle.tl_record_faults.specs.Keeping.Keys.{parts, parts_cmp, AreByKey}
 
 pub parts_total : IsTotalOrder parts_cmp
-parts_total = then_total (on_total (λ (p : List ℕ × ℕ). p.0) nat_list_cmp_total) (on_total (λ (p : List ℕ × ℕ). p.1) nat_cmp_total)
+parts_total = then_total (on_total (λ (p : ℕ × List ℕ). p.0) nat_cmp_total) (on_total (λ (p : ℕ × List ℕ). p.1) nat_list_cmp_total)
 
 both_equal : (a b : Ordering) → ordering_then a b ≡ Equal → (a ≡ Equal) × (b ≡ Equal)
 both_equal Less b h = absurd (let e : Less ≡ Equal = h in cc)
@@ -26,9 +26,9 @@ both_equal Greater b h = absurd (let e : Greater ≡ Equal = h in cc)
 -- parts that tie are those of one key
 pub one_key : (k l : PolyKey) → parts_cmp (parts k) (parts l) ≡ Equal → k ≡ l
 one_key k l h =
-    let both = both_equal (slice_cmp nat_cmp k.cenid l.cenid) (nat_cmp k.polyid l.polyid) h in
-    let a = same_text k.cenid l.cenid (sym (lists_ties nat_cmp unsigned_ties k.cenid l.cenid ∙ ap is_eq both.0)) in
-    let b = eqb-true k.polyid l.polyid (unsigned_ties k.polyid l.polyid ∙ ap is_eq both.1) in
+    let both = both_equal (nat_cmp k.polyid l.polyid) (slice_cmp nat_cmp k.cenid l.cenid) h in
+    let a = same_text k.cenid l.cenid (sym (lists_ties nat_cmp unsigned_ties k.cenid l.cenid ∙ ap is_eq both.1)) in
+    let b = eqb-true k.polyid l.polyid (unsigned_ties k.polyid l.polyid ∙ ap is_eq both.0) in
     λ i. record { cenid = a i; polyid = b i }
 
 -- what a search for a key answers

@@ -13,7 +13,7 @@ use std::alloc::AllocError;
 use tl_drawn::{LinkEntry, MapFault};
 use tl_record::PolyKey;
 
-/// Sorts keys by CENID, and those of one CENID by POLYID.
+/// Sorts keys by POLYID, and those of one POLYID by CENID: of most counties all keys have one CENID.
 pub fn sort_keys(keys: &mut Vec<PolyKey>)
     ensures ordered { AreByKey keys.new.items }
     ensures moved { IsPermutation keys.old.items keys.new.items }
@@ -22,11 +22,11 @@ pub fn sort_keys(keys: &mut Vec<PolyKey>)
 }
 
 /// Both parts of a key, by which keys are sorted.
-fn parts_of(key: PolyKey) -> ([u8; 5], u64)
+fn parts_of(key: PolyKey) -> (u64, [u8; 5])
     ensures { result ≡ parts key }
 {
     let cenid = key.cenid;
-    (cenid, key.polyid)
+    (key.polyid, cenid)
 }
 
 /// Is the key one of these, which are sorted?

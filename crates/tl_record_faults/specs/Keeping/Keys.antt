@@ -11,12 +11,12 @@ use Rattle.tl_drawn.specs.declared.fault.MapFault.TheVariants.{SideWithoutPolygo
 use Rattle.tl_record_faults.specs.declared.collect.NamedSide.{NamedSide}
 
 -- both parts of a key
-abbrev pub parts : PolyKey → List ℕ × ℕ
-parts k = (k.cenid, k.polyid)
+abbrev pub parts : PolyKey → ℕ × List ℕ
+parts k = (k.polyid, k.cenid)
 
--- by CENID, and within one CENID by POLYID
-abbrev pub parts_cmp : List ℕ × ℕ → List ℕ × ℕ → Ordering
-parts_cmp p q = ordering_then (slice_cmp nat_cmp p.0 q.0) (nat_cmp p.1 q.1)
+-- by POLYID, and within one POLYID by CENID
+abbrev pub parts_cmp : ℕ × List ℕ → ℕ × List ℕ → Ordering
+parts_cmp p q = ordering_then (nat_cmp p.0 q.0) (slice_cmp nat_cmp p.1 q.1)
 
 -- no key stands before a lower one
 abbrev pub AreByKey : List PolyKey → Type 0
