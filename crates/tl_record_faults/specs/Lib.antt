@@ -1,0 +1,4 @@
+pub mod AllFaults
+pub mod Shapes
+pub mod Kept
+pub mod Keeping

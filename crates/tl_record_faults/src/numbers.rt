@@ -1,0 +1,97 @@
+//! Faults that sorted lists of numbers tell.
+
+ghost use Rattle.std.specs.Prelude.{◌≡◌, ℕ, ◌<◌, ◌≤◌, OnOk, length, slice_index_or};
+ghost use Rattle.std.specs.List.Sorted.{IsNonDecreasing, IsPermutation};
+ghost use Rattle.tl_record_faults.specs.Keeping.Told.{Tells};
+ghost use Rattle.tl_record_faults.specs.Keeping.Numbers.{fault_of, StandsNext, IsMissing};
+
+use std::alloc::AllocError;
+use tl_drawn::MapFault;
+
+/// The faults that have one number and no more.
+#[derive(Clone, Copy)]
+pub enum Numbered {
+    DuplicateChain,
+    ShapeWithoutChain,
+    ChainWithoutSides,
+    SidesWithoutChain,
+    DuplicateSides,
+    LinkWithoutLandmark,
+}
+
+/// The fault of this number.
+fn fault_with(what: Numbered, number: u64) -> MapFault
+    ensures { result ≡ fault_of what number }
+{
+    match what {
+        Numbered::DuplicateChain => MapFault::DuplicateChain { tlid: number },
+        Numbered::ShapeWithoutChain => MapFault::ShapeWithoutChain { tlid: number },
+        Numbered::ChainWithoutSides => MapFault::ChainWithoutSides { tlid: number },
+        Numbered::SidesWithoutChain => MapFault::SidesWithoutChain { tlid: number },
+        Numbered::DuplicateSides => MapFault::DuplicateSides { tlid: number },
+        Numbered::LinkWithoutLandmark => MapFault::LinkWithoutLandmark { land: number },
+    }
+}
+
+/// Sorts numbers.
+pub fn sort_numbers(numbers: &mut Vec<u64>)
+    ensures ordered { IsNonDecreasing numbers.new.items }
+    ensures moved { IsPermutation numbers.old.items numbers.new.items }
+{
+    numbers.sort_unstable();
+}
+
+/// Tells the fault of each number that stands next to itself.
+pub fn tell_repeats(
+    faults: &mut Vec<MapFault>,
+    what: Numbered,
+    numbers: &[u64],
+) -> Result<(), AllocError>
+    ensures { OnOk result (Tells (StandsNext (fault_of what) numbers.now (length numbers.now))
+        faults.old.items faults.new.items) }
+{
+    for place in 1..numbers.len() {
+        let number = numbers[place];
+        if numbers[place - 1] == number {
+            faults.push(fault_with(what, number))?;
+        }
+    }
+    Ok(())
+}
+
+/// Tells the fault of each number that is not known.
+pub fn tell_missing(
+    faults: &mut Vec<MapFault>,
+    what: Numbered,
+    numbers: &[u64],
+    known: &[u64],
+) -> Result<(), AllocError>
+    requires numbers { IsNonDecreasing numbers.now }
+    requires known { IsNonDecreasing known.now }
+    ensures { OnOk result (Tells (IsMissing (fault_of what) (λ n. n) numbers.now known.now)
+        faults.old.items faults.new.items) }
+{
+    let mut place = 0;
+    for number in numbers {
+        place = first_not_below(known, place, *number);
+        if place == known.len() || known[place] != *number {
+            faults.push(fault_with(what, *number))?;
+        }
+    }
+    Ok(())
+}
+
+/// The place of the first number from `start` on that isn't below this one.
+fn first_not_below(known: &[u64], start: usize, number: u64) -> usize
+    requires { start ≤ length known.now }
+    ensures within { result ≤ length known.now }
+    ensures from { start ≤ result }
+    ensures below { (k : ℕ) (d : ℕ) → start ≤ k → k < result → slice_index_or known.now k d < number }
+    ensures stops { (d : ℕ) → result < length known.now → number ≤ slice_index_or known.now result d }
+{
+    let mut place = start;
+    while place < known.len() && known[place] < number {
+        place += 1;
+    }
+    place
+}
