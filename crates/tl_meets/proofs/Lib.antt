@@ -1,0 +1,6 @@
+pub mod Reaching
+pub mod Rows
+pub mod Pushing
+mod Listing
+mod Telling
+mod Wholes
