@@ -1,0 +1,7 @@
+mod SortLemmas
+mod Sorting
+mod Places
+mod Ends
+mod Nexts
+mod Parts
+mod Rows

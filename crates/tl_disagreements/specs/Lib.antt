@@ -1,0 +1,2 @@
+pub mod Disagreements
+pub mod Keeping
