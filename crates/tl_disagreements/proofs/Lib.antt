@@ -5,3 +5,7 @@ mod Ends
 mod Nexts
 mod Parts
 mod Rows
+mod Pairs
+mod StartLemmas
+mod OddLemmas
+mod Agreeing

@@ -2,3 +2,5 @@
 pub mod Around
 pub mod Grouped
 pub mod Telling
+pub mod Starts
+pub mod Odds

@@ -1,2 +1,3 @@
 pub mod Disagreements
+pub mod CellOdds
 pub mod Keeping

@@ -2,8 +2,12 @@
 //! zero-cell ids.
 #![tactic(auto)]
 
+mod cells;
 mod groups;
 mod headed;
+pub mod laws;
 mod sides;
+mod starts;
 
+pub use cells::all_cells_at_odds;
 pub use sides::all_disagreements;
