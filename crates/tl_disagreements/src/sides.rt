@@ -18,8 +18,9 @@ use tl_sides::Disagreement;
 /// on the right of the second: by rising number of the first, and of one first by rising number of the next. An error says
 /// that memory was refused.
 ///
-/// Each pair of a dart and a next one is looked at. These are as many as the darts, unless darts head in one direction about
-/// one node, as they don't in a planar map.
+/// Each pair of a dart and a next one is looked at. These are as many as the darts, but where darts head in one direction
+/// about one node: there they are no more than the darts and about twice the meets of the map, since any two darts that do
+/// are a meet of their first segments.
 pub fn all_disagreements(alloc: Global, map: &Map) -> Result<Vec<Disagreement>, Memory>
     ensures { IfOk result (λ found. AreAllDisagreements map.now.chains found.items) }
 {

@@ -44,7 +44,8 @@ IsFrom starts n o = (k : ℕ) × (k < n) × (o.second ≡ (start_at starts k).da
 -- the pairs with second darts at the first n places, each once
 pub record HaveTold (chains : List MapChain) (starts : List CellStart) (n : ℕ) (found : List CellsAtOdds) : Type 0 where
   pub good : All (λ o. AreToldAtOdds chains o.first o.second o.first_id o.second_id) found
-  pub all : (k a id_a id_b : ℕ) → k < n → AreToldAtOdds chains a (start_at starts k).dart id_a id_b → Any (λ o. (o.first ≡ a) × (o.second ≡ (start_at starts k).dart)) found
+  pub all : (k a id_a id_b : ℕ) → k < n → AreToldAtOdds chains a (start_at starts k).dart id_a id_b →
+      Any (λ o. (o.first ≡ a) × (o.second ≡ (start_at starts k).dart)) found
   pub once : AllPairs ArePairsApart found
   pub from : All (IsFrom starts n) found
 

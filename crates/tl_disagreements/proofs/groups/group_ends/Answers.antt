@@ -1,4 +1,5 @@
 use Rattle.std.proofs.Common.{◌≡◌, ◌+◌, ◌-◌, length, subst, slice_set, arith}
+use Rattle.std.proofs.lemmas.Result.{err_from_is_err_and}
 use Rattle.tl_disagreements.specs.Keeping.Grouped.{IsEndOf, AreEnds}
 use Rattle.tl_disagreements.proofs.Ends.{one_end}
 use Rattle.tl_disagreements.proofs.groups.group_ends.Goals as goal
@@ -23,3 +24,12 @@ loop-behind-preserved c =
       ends = subst (λ p. AreEnds darts p (slice_set c.loop-behind.ends.items (n - 1 - c.loop-behind.behind) c.end_at-end.result)) e
           (one_end darts (n - 1 - c.loop-behind.behind) (n - c.loop-behind.behind) c.end_at-end.result c.loop-behind.ends.items (omega (arith, within)) (omega (arith, within)) c.end_at-end.ensures c.loop-behind.invariant.ends);
     }
+
+pub returns : goal.returns
+returns c =
+    let done = c.loop-behind-test.false in
+    let end : length c.args.darts.now - c.loop-behind.behind ≡ 0 = omega (arith, done) in
+    subst (λ p. AreEnds c.args.darts.now p c.loop-behind.ends.items) end c.loop-behind.invariant.ends
+
+pub returns-in_err-ends : goal.returns-in_err-ends
+returns-in_err-ends c = let p = err_from_is_err_and c.from_residual.result c.from_residual.ensures.1 in rw p.1 tt
