@@ -12,8 +12,8 @@ pub record HaveSidesAtOdds (chains : List MapChain) (a b : ℕ) : Type 0 where
   pub is_next : IsNext chains a b
   pub differ : dart_left chains a ≢ dart_right chains b
 
--- each is of two darts whose sides are at odds; each two such darts stand there; and they rise strictly, so that none stands
--- there twice
+-- each is of two darts whose sides are at odds; each two such darts stand there; and they rise strictly, so that none
+-- stands there twice
 pub record AreAllDisagreements (chains : List MapChain) (found : List Disagreement) : Type 0 where
   pub true_ones : All (λ d. HaveSidesAtOdds chains d.first d.next) found
   pub complete : (a b : ℕ) → HaveSidesAtOdds chains a b → Any (λ d. (d.first ≡ a) × (d.next ≡ b)) found

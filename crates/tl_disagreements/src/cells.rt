@@ -12,11 +12,11 @@ use tl_cells::CellsAtOdds;
 use tl_county::Map;
 use tl_index::Memory;
 
-/// All zero-cell ids that are at odds, told by as few pairs of darts as will do: of each id the first dart that has it with
-/// the first at each other start, and of each start the first dart there that has an id with the first there of each other
-/// id. So an id at several starts gives a pair less than it has starts, and a start with several ids a pair less than it has
-/// ids. The pairs come by rising number of the first dart, and of one first by rising number of the second. An error says
-/// that memory was refused.
+/// All zero-cell ids that are at odds, told by as few pairs of darts as will do: of each id the first dart that has it
+/// with the first at each other start, and of each start the first dart there that has an id with the first there of
+/// each other id. So an id at several starts gives a pair less than it has starts, and a start with several ids a pair
+/// less than it has ids. The pairs come by rising number of the first dart, and of one first by rising number of the
+/// second. An error says that memory was refused.
 pub fn all_cells_at_odds(alloc: Global, map: &Map) -> Result<Vec<CellsAtOdds>, Memory>
     ensures { IfOk result (λ found. AreAllCellsAtOdds map.now.chains found.items) }
 {

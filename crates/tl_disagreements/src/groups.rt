@@ -12,8 +12,8 @@ use std::cmp::Ordering;
 use tl_county::Map;
 use tl_geom::round_cmp;
 
-/// The darts of a map, those of each group together, with the place where the group of each place ends, and the first place
-/// of the group that is next after that of each dart.
+/// The darts of a map, those of each group together, with the place where the group of each place ends, and the first
+/// place of the group that is next after that of each dart.
 #[derive(Drop)]
 pub struct Groups {
     darts: Vec<HeadedDart>,

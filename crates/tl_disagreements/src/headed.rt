@@ -25,8 +25,8 @@ impl Ranked for HeadedDart {
     }
 }
 
-/// The darts of a map, those of each node together and counter-clockwise from east, and those that head in one direction by
-/// their numbers.
+/// The darts of a map, those of each node together and counter-clockwise from east, and those that head in one
+/// direction by their numbers.
 pub fn sort_darts(alloc: Global, map: &Map) -> Result<Vec<HeadedDart>, AllocError>
     ensures { IfOk result (λ darts. AreAround map.now.chains darts.items) }
 {

@@ -14,13 +14,13 @@ use tl_county::{Map, Side};
 use tl_index::Memory;
 use tl_sides::Disagreement;
 
-/// All pairs of darts, the second next after the first about their node, where what is on the left of the first isn't what is
-/// on the right of the second: by rising number of the first, and of one first by rising number of the next. An error says
-/// that memory was refused.
+/// All pairs of darts, the second next after the first about their node, where what is on the left of the first isn't
+/// what is on the right of the second: by rising number of the first, and of one first by rising number of the next. An
+/// error says that memory was refused.
 ///
-/// Each pair of a dart and a next one is looked at. These are as many as the darts, but where darts head in one direction
-/// about one node: there they are no more than the darts and about twice the meets of the map, since any two darts that do
-/// are a meet of their first segments.
+/// Each pair of a dart and a next one is looked at. There are as many as darts, but where several darts head in one
+/// direction about one node. Any two of those overlap, so the pairs more are at most four times as many as the map's
+/// meets.
 pub fn all_disagreements(alloc: Global, map: &Map) -> Result<Vec<Disagreement>, Memory>
     ensures { IfOk result (λ found. AreAllDisagreements map.now.chains found.items) }
 {

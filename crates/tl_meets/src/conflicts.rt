@@ -19,6 +19,9 @@ pub struct Conflict<C> {
 
 /// All conflicts of items, by an index that fits them, by rising `i` and of one `i` by rising `j`. An error says that
 /// memory was refused.
+///
+/// Each item is tested with the items of higher numbers whose rectangles meet its own. Beside the conflicts that are
+/// listed it keeps the numbers of those that conflict with one item.
 pub fn all_conflicts<I: ConsistentItems, X: BoxIndex>(
     alloc: Global,
     index: &X,

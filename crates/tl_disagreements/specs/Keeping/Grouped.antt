@@ -7,8 +7,8 @@ use Rattle.tl_disagreements.specs.declared.headed.HeadedDart.{HeadedDart}
 use Rattle.tl_disagreements.specs.declared.groups.Groups.{Groups}
 use Rattle.tl_disagreements.specs.Keeping.Around.{headed_at, AreOneGroup, AreAround}
 
--- from the place up to the end all are of its group, and behind that end there is another, or none; at the place behind all
--- darts it is that one
+-- from the place up to the end all are of its group, and behind that end there is another, or none; at the place behind
+-- all darts it is that one
 pub record IsEndOf (darts : List HeadedDart) (place end : ℕ) : Type 0 where
   pub behind : place < length darts → place < end
   pub within : end ≤ length darts

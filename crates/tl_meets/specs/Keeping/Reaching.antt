@@ -6,8 +6,8 @@ use Rattle.tl_meets.specs.declared.conflicts.Conflict.{Conflict}
 use Rattle.tl_meets.specs.Orders.{IsPairBefore, AreRising}
 use Rattle.tl_meets.specs.Keeping.Listing.{IsListed}
 
--- of things with two numbers each: all are good, they rise strictly, all come before the pair of a and b, and each pair before
--- that one that is wanted stands there
+-- of things with two numbers each: all are good, they rise strictly, all come before the pair of a and b, and each pair
+-- before that one that is wanted stands there
 pub record ReachTo {X : Type 0} (first second : X → ℕ) (Good : X → Type 0) (Wanted : ℕ → ℕ → Type 0) (a b : ℕ) (xs : List X) : Type 0 where
   pub good : All Good xs
   pub rising : AreRising first second xs
