@@ -9,3 +9,4 @@ mod Pairs
 mod StartLemmas
 mod OddLemmas
 mod Agreeing
+mod Telling

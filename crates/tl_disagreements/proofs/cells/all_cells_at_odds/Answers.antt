@@ -3,7 +3,7 @@ use Rattle.std.proofs.lemmas.Result.{err_from_is_err_and}
 use Rattle.tl_disagreements.specs.declared.starts.CellStart.{CellStart}
 use Rattle.tl_disagreements.specs.Keeping.Odds.{HaveTold}
 use Rattle.tl_disagreements.proofs.StartLemmas.{sorted_of, firsts_of}
-use Rattle.tl_disagreements.proofs.OddLemmas.{all_told}
+use Rattle.tl_disagreements.proofs.Telling.{all_told}
 use Rattle.tl_disagreements.proofs.cells.all_cells_at_odds.Goals as goal
 
 pub tell_all-requires-clause-starts : goal.tell_all-requires-clause-starts

@@ -2,7 +2,8 @@ use Rattle.std.proofs.Common.{◌≡◌, ◌<◌, ◌++◌, length, length-set, 
 use Rattle.std.proofs.lemmas.Result.{err_from_is_err_and}
 use Rattle.tl_disagreements.specs.Keeping.Starts.{no_start, start_at, first_of, IsHeadOf}
 use Rattle.tl_disagreements.specs.Keeping.Odds.{start_odds, HaveTold}
-use Rattle.tl_disagreements.proofs.OddLemmas.{head_first, not_first, is_first, seen_kept, seen_more, seen_same, seen_other, told_skipped, told_more}
+use Rattle.tl_disagreements.proofs.OddLemmas.{head_first, not_first, is_first, seen_kept, seen_more, seen_same, seen_other}
+use Rattle.tl_disagreements.proofs.Telling.{told_skipped, told_more}
 use Rattle.tl_disagreements.proofs.cells.tell_all.Goals as goal
 
 pub loop-place-preserved-then-eq : goal.loop-place-preserved-then-eq
