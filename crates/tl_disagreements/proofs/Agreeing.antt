@@ -1,43 +1,15 @@
 -- Where there is no pair to tell, cells agree.
-use Rattle.std.proofs.Common.{◌≡◌, ◌⊎◌, inl, inr, ℕ, zero, suc, ◌<◌, ℤ, Option, Some, None, List, refl, sym, ap, ◌∙◌, arith}
+use Rattle.std.proofs.Common.{◌≡◌, ◌⊎◌, inl, inr, ℕ, zero, suc, ◌<◌, Option, Some, None, List, refl, sym, ap, ◌∙◌, arith}
 use Rattle.std.proofs.lemmas.Bool.{cases_lt, cases_eq}
-use Rattle.std.proofs.lemmas.Int.{ints, by_lt_z}
-use Rattle.tl_geom.specs.declared.point.Point.{Point}
 use Rattle.tl_county.specs.TheMap.{MapChain}
 use Rattle.tl_county.specs.Darts.{dart_start, dart_cell}
-use Rattle.tl_cells.specs.Cells.{HasCell, HaveOneStart, CellsAgree}
+use Rattle.tl_cells.specs.Cells.{HasCell, HaveOneStart, CellsAgree, AreCellsAtOdds}
+use Rattle.tl_cells.proofs.Cells.{one_id}
+use Rattle.tl_meets.proofs.Deciding.{Decided, same_point, same_option}
 use Rattle.tl_disagreements.specs.CellOdds.{IsFirstWithId, IsFirstAtStart, IsFirstOfBoth, AreToldAtOdds}
 
--- it holds or it doesn't
-abbrev Decided : Type 0 → Type 0
-Decided P = P ⊎ (¬ P)
-
-same_int : (a b : ℤ) → Decided (a ≡ b)
-same_int a b =
-    by_lt_z a b
-    (λ less. inr (λ e. omega (arith, ints, less, e)))
-    (λ ge. by_lt_z b a (λ more. inr (λ e. omega (arith, ints, more, e))) (λ le. inl (omega (arith, ints, ge, le))))
-
-same_point : (p q : Point) → Decided (p ≡ q)
-same_point p q = elim (same_int p.x q.x) [
-  | inr other ↦ inr (λ e. other (ap (λ (r : Point). r.x) e))
-  | inl x ↦ elim (same_int p.y q.y) [
-    | inr other ↦ inr (λ e. other (ap (λ (r : Point). r.y) e))
-    | inl y ↦ inl (λ i. record { x = x i; y = y i })
-  ]
-]
-
-same_place : (p q : Option Point) → Decided (p ≡ q)
-same_place None None = inl refl
-same_place None (Some q) = inr (λ e. absurd cc)
-same_place (Some p) None = inr (λ e. absurd cc)
-same_place (Some p) (Some q) = elim (same_point p q) [
-  | inl same ↦ inl (ap Some same)
-  | inr other ↦ inr (λ e. other (let s : Some p ≡ Some q = e in cc))
-]
-
 one_start : (chains : List MapChain) (a b : ℕ) → Decided (HaveOneStart chains a b)
-one_start chains a b = same_place (dart_start chains a) (dart_start chains b)
+one_start chains a b = same_option same_point (dart_start chains a) (dart_start chains b)
 
 -- the dart has some id, or none
 some_cell : (chains : List MapChain) (d : ℕ) → Decided ((id : ℕ) × HasCell chains d id)
@@ -139,3 +111,30 @@ module _ (chains : List MapChain) (none : (a b id_a id_b : ℕ) → ¬ AreToldAt
           let own : ℕ = l.holds.1.0 in
           let first : IsFirstAtStart chains own l.least = record { has = l.holds.1.1; first = λ e other lt at has. l.none e lt (at ∙ l.holds.0, (other, has)) } in
           sym (id_of_first a l.least id_a own has_a first l.holds.0) ∙ id_of_first b l.least id_b own has_b first (l.holds.0 ∙ same)
+
+-- a pair that is told is at odds
+pub at_odds : (chains : List MapChain) (a b id_a id_b : ℕ) → AreToldAtOdds chains a b id_a id_b → AreCellsAtOdds chains a b id_a id_b
+at_odds chains a b id_a id_b (inl k) = record {
+  in_order = elim (cases_lt a b) [
+    | inl lt ↦ lt
+    | inr ge ↦ elim (cases_lt b a) [
+      | inl gt ↦ absurd (k.head.first b gt (rw k.same k.other.has))
+      | inr le ↦ absurd (k.apart (let same : a ≡ b = omega (arith, ge, le) in ap (dart_start chains) same))
+    ]
+  ];
+  a_has = k.head.has;
+  b_has = k.other.has;
+  odd = inl (k.same, k.apart);
+}
+at_odds chains a b id_a id_b (inr k) = record {
+  in_order = elim (cases_lt a b) [
+    | inl lt ↦ lt
+    | inr ge ↦ elim (cases_lt b a) [
+      | inl gt ↦ absurd (k.head.first b id_b gt (sym k.same) k.other.has)
+      | inr le ↦ absurd (k.apart (let same : a ≡ b = omega (arith, ge, le) in one_id chains b id_a id_b (rw same at k.head.has) k.other.has))
+    ]
+  ];
+  a_has = k.head.has;
+  b_has = k.other.has;
+  odd = inr (k.same, k.apart);
+}

@@ -10,3 +10,4 @@ mod StartLemmas
 mod OddLemmas
 mod Agreeing
 mod Telling
+mod Emptiness

@@ -4,3 +4,5 @@ pub mod Pushing
 mod Listing
 mod Telling
 mod Wholes
+pub mod Deciding
+mod Planar

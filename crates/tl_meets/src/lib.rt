@@ -7,6 +7,7 @@
 mod behind;
 mod conflicts;
 mod consistent;
+pub mod laws;
 mod meets;
 
 pub use conflicts::{Conflict, all_conflicts};
