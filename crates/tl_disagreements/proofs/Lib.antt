@@ -1,0 +1,13 @@
+mod SortLemmas
+mod Sorting
+mod Places
+mod Ends
+mod Nexts
+mod Parts
+mod Rows
+mod Pairs
+mod StartLemmas
+mod OddLemmas
+mod Agreeing
+mod Telling
+mod Emptiness

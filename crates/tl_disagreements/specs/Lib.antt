@@ -1,0 +1,3 @@
+pub mod Disagreements
+pub mod CellOdds
+pub mod Keeping

@@ -1,0 +1,4 @@
+pub mod Orders
+pub mod Conflicts
+pub mod Meets
+pub mod Keeping

@@ -1,0 +1,15 @@
+//! All conflicts of items, and all places where a map's chains meet that they may not.
+//!
+//! Where a search for one conflict ends at the first, [`all_conflicts`] lists them all, each once and in order, and
+//! [`all_meets`] does so of a map's segments.
+#![tactic(auto)]
+
+mod behind;
+mod conflicts;
+mod consistent;
+pub mod laws;
+mod meets;
+
+pub use conflicts::{Conflict, all_conflicts};
+pub use consistent::ConsistentItems;
+pub use meets::all_meets;
