@@ -7,6 +7,7 @@ pub mod TextLemmas
 pub mod KnownLemmas
 pub mod NextLemmas
 pub mod RecordLemmas
+pub mod RefusalLemmas
 pub mod MoveLemmas
 pub mod ReadOn
 pub mod Filled

@@ -16,6 +16,7 @@ use Rattle.tl_record.specs.declared.reader.RecordReader.{RecordReader}
 use Rattle.tl_record.specs.Failures.{one_more}
 use Rattle.tl_record.specs.Lines.{raw_lines, line_feeds}
 use Rattle.tl_record.specs.Records.{Records, records_of_lines}
+use Rattle.tl_record.specs.Refusals.{refusals_of_lines}
 use Rattle.tl_record.specs.declared.reader.NextLine.{NextLine}
 use Rattle.tl_record.specs.NextLine.{FindsNext, JudgesSome, PendingWhole, CountsNext}
 
@@ -53,6 +54,21 @@ with_skipped before records = record { entries = records.entries; refusal = reco
 abbrev pub to_come : {R : Type 0} → (R → Option (List ℕ)) → RecordReader R → Option Records
 to_come remaining reader =
     option_map (λ text. with_skipped (skipped_of reader) (records_of_lines (layout_of reader) (lines_of reader) (raw_lines text))) (unjudged remaining reader)
+
+-- the lines that are refused among the bytes that weren't judged, where they're known
+abbrev pub refusals_unjudged : {R : Type 0} → (R → Option (List ℕ)) → RecordReader R → Option (List (ℕ × Cause))
+refusals_unjudged remaining reader =
+    option_map (λ text. refusals_of_lines (layout_of reader) (lines_of reader) (raw_lines text)) (unjudged remaining reader)
+
+abbrev pub refusals_standing : Standing → Option (List (ℕ × Cause)) → Option (List (ℕ × Cause))
+refusals_standing Reading coming = coming
+refusals_standing Ended coming = Some []
+refusals_standing (Stopped stop) coming = coming
+
+-- All lines that are refused from where the reader is, the line at which it stopped before the others, where they are
+-- known.
+abbrev pub refusals_to_come : {R : Type 0} → (R → Option (List ℕ)) → RecordReader R → Option (List (ℕ × Cause))
+refusals_to_come remaining reader = refusals_standing (standing_of reader) (refusals_unjudged remaining reader)
 
 -- nothing comes any more
 abbrev pub nothing_after : ℕ → Records
@@ -133,6 +149,11 @@ abbrev pub KeepsRecords : Option Records → Option Records → Type 0
 KeepsRecords None new = ⊤
 KeepsRecords (Some records) new = new ≡ Some records
 
+-- known refusals stay as they were
+abbrev pub KeepsRefusals : Option (List (ℕ × Cause)) → Option (List (ℕ × Cause)) → Type 0
+KeepsRefusals None new = ⊤
+KeepsRefusals (Some refusals) new = new ≡ Some refusals
+
 -- each line feed that is gone from a known text ended a line that was counted
 abbrev pub CountsLineFeeds : Option (List ℕ) → ℕ → Option (List ℕ) → ℕ → Type 0
 CountsLineFeeds None old_lines new lines = ⊤
@@ -210,6 +231,7 @@ pub record PassesOver {R : Type 0} (remaining : R → Option (List ℕ)) (failur
   pub counts : skipped_of new + lines_of old ≡ skipped_of old + lines_of new
   pub feeds : CountsLineFeeds (unjudged remaining old) (lines_of old) (unjudged remaining new) (lines_of new)
   pub coming : KeepsRecords (to_come remaining old) (to_come remaining new)
+  pub refusals : KeepsRefusals (refusals_unjudged remaining old) (refusals_unjudged remaining new)
 
 -- what a reader answers that reads
 pub record Moves {R : Type 0} (remaining : R → Option (List ℕ)) (failure_count : R → ℕ) (old new : RecordReader R) (answer : Answer) : Type 0 where
@@ -218,3 +240,4 @@ pub record Moves {R : Type 0} (remaining : R → Option (List ℕ)) (failure_cou
   pub counts : Counts (lines_of old) (skipped_of old) (lines_of new) (skipped_of new) answer
   pub failures : TellsFailure Reading (failure_count (source_of old)) (failure_count (source_of new)) answer
   pub whole : FailsWhole remaining old new answer
+  pub refusals : KeepsRefusals (refusals_unjudged remaining old) (refusals_to_come remaining new)

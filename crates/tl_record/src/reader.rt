@@ -10,6 +10,7 @@ ghost use Rattle.tl_record.specs.Layout.{tiger_2006, layout_with};
 ghost use Rattle.tl_record.specs.declared.judge.Judgement.TheVariants.{Refused};
 ghost use Rattle.tl_record.specs.Judgement.{judgement, judgement as judgement_of};
 ghost use Rattle.tl_record.specs.Records.{records_of};
+ghost use Rattle.tl_record.specs.Refusals.{refusals_of};
 ghost use Rattle.tl_record.specs.NextLine.{Shows, CountsFetch, found_with, KeepsUnfound};
 ghost use Rattle.tl_record.specs.Meaning.{judgement_with, KeepsUnread};
 ghost use Rattle.tl_record.specs.declared.record.Record.{Record};
@@ -81,12 +82,14 @@ impl<R: Source> RecordReader<R> {
     ghost use Rattle.tl_record.specs.Reader.{source_of, layout_of, lines_of, skipped_of, standing_of, pending_of};
     ghost use Rattle.tl_record.specs.Reader.{outcome, StepsTo, CountsLine, Moves, Gives, Settles, Repeats, Counts};
     ghost use Rattle.tl_record.specs.Reader.{answer_with, KeepsUnanswered};
-    ghost use Rattle.tl_record.specs.Reader.{TellsFailure, FailsWhole, WhereReading};
+    ghost use Rattle.tl_record.specs.Reader.{TellsFailure, FailsWhole, WhereReading, refusals_to_come, KeepsRefusals};
 
     /// A reader of the source's records, by the column table of the TIGER/Line files of 2006.
     pub fn new(source: R) -> RecordReader<R>
         ensures source { source_of result ≡ source }
         ensures records { outcome R.remaining result ≡ option_map (records_of tiger_2006) (R.remaining source) }
+        ensures refusals { refusals_to_come R.remaining result
+            ≡ option_map (refusals_of tiger_2006) (R.remaining source) }
         ensures lines { lines_of result ≡ 0 }
         ensures skipped { skipped_of result ≡ 0 }
         ensures standing { standing_of result ≡ Standing.Reading }
@@ -99,6 +102,8 @@ impl<R: Source> RecordReader<R> {
         ensures source { source_of result ≡ source }
         ensures records { outcome R.remaining result
             ≡ option_map (records_of (layout_with options)) (R.remaining source) }
+        ensures refusals { refusals_to_come R.remaining result
+            ≡ option_map (refusals_of (layout_with options)) (R.remaining source) }
         ensures lines { lines_of result ≡ 0 }
         ensures skipped { skipped_of result ≡ 0 }
         ensures standing { standing_of result ≡ Standing.Reading }
@@ -155,6 +160,9 @@ impl<R: Source> RecordReader<R> {
         match fetch_line(&mut self.buffer, &mut self.source) {
             Fetched::Whole(len) => {
                 let meaning = self.judge_pending(len, place);
+                if let Meaning::Refused(_) = meaning {
+                    return NextLine::Line(meaning);
+                }
                 self.buffer.consume(len + 1);
                 NextLine::Line(meaning)
             }
@@ -240,6 +248,8 @@ impl<R: Source> RecordReader<R> {
         ensures same_reference { R.reference (source_of self.new) ≡ R.reference (source_of self.old) }
         ensures whole_lines { WhereReading (standing_of self.old)
             (FailsWhole R.remaining self.old self.new (answer_with result place.new)) }
+        ensures refusals { KeepsRefusals (refusals_to_come R.remaining self.old)
+            (refusals_to_come R.remaining self.new) }
         ensures kept { KeepsUnanswered result place.old place.new }
     {
         match self.standing {
@@ -270,6 +280,9 @@ impl<R: Source> RecordReader<R> {
         // Its source is the one that it was.
         ensures same_reference { R.reference (source_of self.new) ≡ R.reference (source_of self.old) }
         ensures whole_lines { WhereReading (standing_of self.old) (FailsWhole R.remaining self.old self.new result) }
+        // No line that is refused is lost: the one at which it stops is still to come, and so are those behind it.
+        ensures refusals { KeepsRefusals (refusals_to_come R.remaining self.old)
+            (refusals_to_come R.remaining self.new) }
     {
         let mut record = NO_RECORD;
         let answer = self.read_next(&mut record);
