@@ -1,15 +1,19 @@
 -- What the next line takes from the refusals that were to come.
-use Rattle.std.proofs.Common.{◌≡◌, ◌≢◌, ℕ, ◌+◌, List, [], Option, None, Some, refl, sym, ap, ◌∙◌}
-use Rattle.std.specs.List.{filter_map}
+use Rattle.std.proofs.Common.{◌≡◌, ℕ, ◌+◌, List, [], Option, None, Some, Ok, refl, sym, ap, ◌∙◌}
+use Rattle.std.specs.List.{filter_map, cons_option}
 use Rattle.std.specs.Option.{option_map}
 use Rattle.tl_record.specs.declared.layout.Layout.{Layout}
 use Rattle.tl_record.specs.declared.record.Record.{Record}
 use Rattle.tl_record.specs.declared.stop.Cause.{Cause}
+use Rattle.tl_record.specs.declared.judge.Judgement.{Judgement}
 use Rattle.tl_record.specs.declared.judge.Judgement.TheVariants.{PassedOver, Read, Refused}
 use Rattle.tl_record.specs.declared.reader.NextLine.TheVariants as next
-use Rattle.tl_record.specs.Lines.{raw_lines, after_first_line}
+use Rattle.tl_record.specs.declared.refusal_reader.Taken.TheVariants as taken
+use Rattle.tl_record.specs.Lines.{raw_lines, first_line, after_first_line}
+use Rattle.tl_record.specs.Judgement.{judgement}
 use Rattle.tl_record.specs.Records.{refusal_of}
-use Rattle.tl_record.specs.Refusals.{refusals_of_lines}
+use Rattle.tl_record.specs.Refusals.{refusals_of_lines, cause_of}
+use Rattle.tl_record.specs.RefusalReader.{TakesFirst, TakesNext, GivesRefusal}
 use Rattle.tl_record.specs.NextLine.{JudgesFirst, FindsNext}
 use Rattle.tl_record.specs.Reader.{KeepsRefusals}
 use Rattle.tl_record.proofs.RecordLemmas.{judgements-first}
@@ -89,3 +93,36 @@ KeepsRefusals-refl (Some r) = refl
 pub KeepsRefusals-trans : (a b c : Option (List (ℕ × Cause))) → KeepsRefusals a b → KeepsRefusals b c → KeepsRefusals a c
 KeepsRefusals-trans None b c p q = tt
 KeepsRefusals-trans (Some r) b c p q = rw p at q
+
+-- ---- what a reader of refusals gives
+
+refusal_is : (number : ℕ) (j : Judgement) (cause : Option Cause) → cause ≡ cause_of j → refusal_of (number, j) ≡ option_map (λ c. (number, c)) cause
+refusal_is number PassedOver cause is = rw is refl
+refusal_is number (Read r) cause is = rw is refl
+refusal_is number (Refused c) cause is = rw is refl
+
+-- the first line of a text comes before the others, if it is refused
+first_taken : (layout : Layout) (lines : ℕ) (text : List ℕ) (new : Option (List ℕ)) (cause : Option Cause) → TakesFirst layout (lines + 1) text new cause
+    → refused_in layout lines text ≡ cons_option (option_map (λ c. (lines + 1, c)) cause) (refused_in layout (lines + 1) (after_first_line text))
+first_taken layout lines text new cause takes =
+    let j = judgement layout (lines + 1) (first_line text) in
+    ap (filter_map refusal_of) (judgements-first layout lines text j takes.some refl)
+    ∙ ap (λ first. cons_option first (refused_in layout (lines + 1) (after_first_line text))) (refusal_is (lines + 1) j cause takes.is)
+
+-- a line that is refused gives the first refusal
+pub gives_taken : (layout : Layout) (lines : ℕ) (old new : Option (List ℕ)) (cause : Cause) → TakesNext layout (lines + 1) old new (taken.Line (Some cause))
+    → GivesRefusal (refused layout lines old) (refused layout (lines + 1) new) (Ok (Some (record { line = lines + 1; cause = cause })))
+gives_taken layout lines None new cause takes = tt
+gives_taken layout lines (Some text) new cause takes =
+    (refused_in layout (lines + 1) (after_first_line text), ap (refused layout (lines + 1)) takes.rest, first_taken layout lines text new (Some cause) takes)
+
+-- one that isn't refused gives none
+pub keeps_taken : (layout : Layout) (lines : ℕ) (old new : Option (List ℕ)) → TakesNext layout (lines + 1) old new (taken.Line None)
+    → KeepsRefusals (refused layout lines old) (refused layout (lines + 1) new)
+keeps_taken layout lines None new takes = tt
+keeps_taken layout lines (Some text) new takes = some_refused layout lines new text (after_first_line text) (first_taken layout lines text new None takes) takes.rest
+
+pub end_taken : (layout : Layout) (lines : ℕ) (old new : Option (List ℕ)) (left : Option (List (ℕ × Cause))) → TakesNext layout (lines + 1) old new taken.End
+    → GivesRefusal (refused layout lines old) left (Ok None)
+end_taken layout lines None new left takes = tt
+end_taken layout lines (Some text) new left takes = ap (refused_in layout lines) takes

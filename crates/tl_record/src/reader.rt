@@ -21,11 +21,13 @@ use crate::layout::{Layout, layout_with};
 use crate::line_buffer::{Fetched, LineBuffer, fetch_line};
 use crate::options::Options;
 use crate::record::{NO_RECORD, Record};
+use crate::refusal::RefusalStop;
+use crate::refusal_reader::{Progress, RefusalReader};
 use crate::source::Source;
 use crate::stop::{Cause, ReadStop};
 
 // How many bytes of the text are kept: what is fetched at once.
-const BLOCK: usize = 65_536;
+pub(crate) const BLOCK: usize = 65_536;
 
 /// The next line, judged: `J` is what is told of it.
 #[derive(Clone, Copy)]
@@ -67,7 +69,7 @@ pub struct RecordReader<R> {
 }
 
 /// Why a line is refused that is longer than any that is read.
-fn long_line_cause(number: u64) -> Cause
+pub(crate) fn long_line_cause(number: u64) -> Cause
     ensures { (layout : Layout) (line : List ℕ) → most_line_bytes < length line
         → judgement layout number line ≡ Refused result }
 {
@@ -81,7 +83,9 @@ fn long_line_cause(number: u64) -> Cause
 impl<R: Source> RecordReader<R> {
     ghost use Rattle.tl_record.specs.Reader.{source_of, layout_of, lines_of, skipped_of, standing_of, pending_of};
     ghost use Rattle.tl_record.specs.Reader.{outcome, StepsTo, CountsLine, Moves, Gives, Settles, Repeats, Counts};
-    ghost use Rattle.tl_record.specs.Reader.{answer_with, KeepsUnanswered};
+    ghost use Rattle.tl_record.specs.Reader.{answer_with, KeepsUnanswered, unjudged};
+    ghost use Rattle.tl_record.specs.RefusalReader.{refusals_left, progress_of, progress_after, extent, extent_of};
+    ghost use Rattle.tl_record.specs.RefusalReader.{source_of as source_left};
     ghost use Rattle.tl_record.specs.Reader.{TellsFailure, FailsWhole, WhereReading, refusals_to_come, KeepsRefusals};
 
     /// A reader of the source's records, by the column table of the TIGER/Line files of 2006.
@@ -287,5 +291,21 @@ impl<R: Source> RecordReader<R> {
         let mut record = NO_RECORD;
         let answer = self.read_next(&mut record);
         with_record(answer, record)
+    }
+
+    /// A reader of the lines that are refused from here on, the one at which this reader stopped before the others.
+    pub fn into_refusals(self) -> RefusalReader<R>
+        ensures source { source_left result ≡ source_of self }
+        ensures refusals { refusals_left R.remaining result ≡ refusals_to_come R.remaining self }
+        // It reads, unless this reader is at the end of the text, or a read failed.
+        ensures progress { progress_of result ≡ progress_after (standing_of self) }
+        ensures extent { extent R.remaining result ≡ extent_of (lines_of self) (unjudged R.remaining self) }
+    {
+        let progress = match self.standing {
+            Standing::Ended => Progress::Ended,
+            Standing::Stopped(ReadStop::Device) => Progress::Stopped(RefusalStop::Device),
+            _ => Progress::Reading,
+        };
+        RefusalReader::new(self.source, self.layout, self.buffer, self.lines, progress)
     }
 }
