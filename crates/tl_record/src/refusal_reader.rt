@@ -2,14 +2,17 @@
 
 ghost use Rattle.std.specs.Prelude.{◌≡◌};
 ghost use Rattle.std.specs.Io.KnownBytes.{prepend_known};
+ghost use Rattle.std.specs.Option.{option_map};
+ghost use Rattle.tl_record.specs.Layout.{layout_with};
 ghost use Rattle.tl_record.specs.Judgement.{judgement};
-ghost use Rattle.tl_record.specs.Refusals.{cause_of};
+ghost use Rattle.tl_record.specs.Refusals.{cause_of, refusals_of};
 ghost use Rattle.tl_record.specs.RefusalReader.{SkipsLine, CountsSkip, TakesNext, CountsTaken};
 
 use crate::judge::{Meaning, judge_into};
-use crate::layout::Layout;
+use crate::layout::{Layout, layout_with};
 use crate::line_buffer::{Fetched, LineBuffer, fetch_line};
 use crate::reader::{BLOCK, long_line_cause};
+use crate::options::Options;
 use crate::record::NO_RECORD;
 use crate::refusal::{Refusal, RefusalStop};
 use crate::source::Source;
@@ -121,8 +124,26 @@ fn take_line<R: Source>(
 
 impl<R: Source> RefusalReader<R> {
     ghost use Rattle.tl_record.specs.RefusalReader.{source_of, layout_of, lines_of, progress_of, pending_of};
-    ghost use Rattle.tl_record.specs.RefusalReader.{refusals_left, extent, GivesRefusal, Settles, Repeats};
+    ghost use Rattle.tl_record.specs.RefusalReader.{refusals_left, extent, extent_of, GivesRefusal, Settles, Repeats};
     ghost use Rattle.tl_record.specs.RefusalReader.{TellsFailure, GivesUp, WhereReading, Goes};
+
+    /// A reader of the refusals of a source's text, by the column table of the TIGER/Line files of 2006 with what the
+    /// options choose of type I.
+    pub fn with(source: R, options: Options) -> RefusalReader<R>
+        ensures source { source_of result ≡ source }
+        ensures refusals { refusals_left R.remaining result
+            ≡ option_map (refusals_of (layout_with options)) (R.remaining source) }
+        ensures progress { progress_of result ≡ Progress.Reading }
+        ensures extent { extent R.remaining result ≡ extent_of 0 (R.remaining source) }
+    {
+        RefusalReader::new(
+            source,
+            layout_with(options),
+            LineBuffer::new(),
+            0,
+            Progress::Reading,
+        )
+    }
 
     /// A reader of what is left of a text, of which so many lines were judged.
     pub(crate) fn new(

@@ -1,0 +1,32 @@
+-- What listing the refused lines of a text answers.
+use Rattle.std.specs.Prelude.{◌≡◌, ℕ, ◌+◌, ◌≤◌, ◌^◌, ⊤, List, map, Option, IfSome, Result, Ok, Err}
+use Rattle.tl_record.specs.declared.stop.Cause.{Cause}
+use Rattle.tl_record.specs.declared.refusal.Refusal.{Refusal}
+use Rattle.tl_record.specs.declared.refusal.RefusalStop.{RefusalStop}
+use Rattle.tl_record.specs.declared.refusal.RefusalStop.TheVariants as read
+use Rattle.tl_record.specs.declared.refusal_reader.Progress.{Progress}
+use Rattle.tl_record.specs.RefusalReader.{pair_of, failed_once}
+use Rattle.tl_refusals.specs.declared.stop.ListStop.{ListStop}
+use Rattle.tl_refusals.specs.declared.stop.ListStop.TheVariants.{Device, Endless, Memory}
+
+-- the list has these refusals, where they are known, in their order
+abbrev pub ListsAll : Option (List (ℕ × Cause)) → List Refusal → Type 0
+ListsAll known list = IfSome known (λ refusals. map pair_of list ≡ refusals)
+
+-- `Device` is answered where a read failed, and nowhere else; the count of failures goes from old to new
+abbrev pub TellsDevice : {T : Type 0} → Progress → ℕ → ℕ → Result T ListStop → Type 0
+TellsDevice progress old new (Ok list) = new ≡ old
+TellsDevice progress old new (Err Device) = new ≡ failed_once progress old
+TellsDevice progress old new (Err Endless) = new ≡ old
+TellsDevice progress old new (Err Memory) = new ≡ old
+
+-- it is given up where a known text has 2^64 - 1 bytes or more, its lines that were judged counted as a byte each
+abbrev pub GivesUp : Option ℕ → ListStop → Type 0
+GivesUp known Device = ⊤
+GivesUp known Endless = IfSome known (λ count. 2 ^ 64 ≤ count + 1)
+GivesUp known Memory = ⊤
+
+-- what a reader's stop is here
+abbrev pub stop_of : RefusalStop → ListStop
+stop_of read.Device = Device
+stop_of read.Endless = Endless
