@@ -11,7 +11,7 @@ pub mod SkipLemmas
 pub mod RefusalLemmas
 pub mod MoveLemmas
 pub mod ReadOn
-pub mod RefusalOn
+pub mod SearchOn
 pub mod Filled
 pub mod Lanes
 pub mod EightDigits

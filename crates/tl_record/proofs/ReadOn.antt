@@ -13,7 +13,7 @@ use Rattle.tl_record.specs.declared.judge.Judgement.TheVariants.{PassedOver, Rea
 use Rattle.tl_record.specs.declared.reader.NextLine.TheVariants as next
 use Rattle.tl_record.specs.declared.reader.Standing.TheVariants.{Reading, Ended, Stopped}
 use Rattle.tl_record.specs.declared.reader.RecordReader.{RecordReader}
-use Rattle.tl_record.specs.Reader.{Answer, source_of, lines_of, skipped_of, standing_of, pending_of, layout_of, unjudged, outcome, to_come, nothing_after, StepsTo, CountsLine, PassesOver, Moves, Gives, answer_of, answer_with, KeepsUnanswered, lines_with, skipped_with, standing_with}
+use Rattle.tl_record.specs.Reader.{Answer, source_of, lines_of, skipped_of, standing_of, pending_of, layout_of, unjudged, outcome, to_come, nothing_after, StepsTo, CountsLine, PassesOver, Moves, Gives, answer_of, answer_with, KeepsUnanswered, lines_with, skipped_with, judged_of, judged_with, standing_with}
 use Rattle.tl_record.specs.Failures.{one_more}
 use Rattle.tl_record.specs.Lines.{line_feeds}
 use Rattle.tl_record.specs.Records.{Records}
@@ -69,6 +69,7 @@ answers_line remaining failure_count first before found after (Read r) answer pa
     }
 answers_line remaining failure_count first before found after (Refused cause) answer passed step counted =
     let layout : after.layout ≡ before.layout = counted.layout ∙ step.progress.layout in
+    let judged : after.judged ≡ before.lines = counted.judged ∙ step.progress.lines in
     let lines : after.lines ≡ before.lines = counted.lines ∙ step.progress.lines in
     let skipped : after.skipped ≡ before.skipped = counted.skipped ∙ step.progress.skipped in
     let told : answer ≡ Err (stop.Refused (found.lines + 1) cause) = let is = counted.is in cc in
@@ -82,7 +83,7 @@ answers_line remaining failure_count first before found after (Refused cause) an
       failures = ap failure_count counted.source ∙ step.failures ∙ passed.failures;
       whole = tt;
       refusals = KeepsRefusals-trans _ _ _ passed.refusals
-          (rw (standing, layout, lines, counted.source, counted.pending) (refusals_refused before.layout before.lines (unjudged remaining before) (unjudged remaining found) cause step.finds));
+          (rw (standing, layout, judged, counted.source, counted.pending) (refusals_refused before.layout before.lines (unjudged remaining before) (unjudged remaining found) cause step.finds));
     }
 
 -- a last line, counted by a reader that holds itself at the end
@@ -90,6 +91,7 @@ pub record IsAccepted {R : Type 0} (old new : RecordReader R) (j : Judgement) (t
   pub is : told ≡ answer_of (lines_of old + 1) j
   pub lines : lines_of new ≡ lines_with (lines_of old) j
   pub skipped : skipped_of new ≡ skipped_with (skipped_of old) j
+  pub judged : judged_of new ≡ judged_with (judged_of old) (lines_of old) j
   pub standing : standing_of new ≡ standing_with Ended (lines_of old + 1) j
   pub layout : layout_of new ≡ layout_of old
   pub source : source_of new ≡ source_of old
@@ -129,6 +131,7 @@ answers_last remaining failure_count first before found after (Read r) told pass
     }
 answers_last remaining failure_count first before found after (Refused cause) told passed step counted =
     let layout : after.layout ≡ before.layout = counted.layout ∙ step.progress.layout in
+    let judged : after.judged ≡ before.lines = counted.judged ∙ step.progress.lines in
     let lines : after.lines ≡ before.lines = counted.lines ∙ step.progress.lines in
     let skipped : after.skipped ≡ before.skipped = counted.skipped ∙ step.progress.skipped in
     let is : told ≡ Some (Err (stop.Refused (before.lines + 1) cause)) = counted.is ∙ ap (λ n. Some (Err (stop.Refused (n + 1) cause))) step.progress.lines in
@@ -141,7 +144,7 @@ answers_last remaining failure_count first before found after (Refused cause) to
       failures = ap failure_count counted.source ∙ step.failures ∙ passed.failures;
       whole = tt;
       refusals = KeepsRefusals-trans _ _ _ passed.refusals
-          (rw (standing, layout, lines, counted.source, counted.pending) (last_refusals_refused before.layout before.lines (unjudged remaining before) (unjudged remaining found) cause step.finds));
+          (rw (standing, layout, judged, counted.source, counted.pending) (last_refusals_refused before.layout before.lines (unjudged remaining before) (unjudged remaining found) cause step.finds));
     }
 
 -- where no line is left, the end is answered

@@ -8,12 +8,12 @@ use Rattle.tl_record.specs.declared.stop.Cause.{Cause}
 use Rattle.tl_record.specs.declared.judge.Judgement.{Judgement}
 use Rattle.tl_record.specs.declared.judge.Judgement.TheVariants.{PassedOver, Read, Refused}
 use Rattle.tl_record.specs.declared.reader.NextLine.TheVariants as next
-use Rattle.tl_record.specs.declared.refusal_reader.Taken.TheVariants as taken
+use Rattle.tl_record.specs.declared.take.Taken.TheVariants as taken
 use Rattle.tl_record.specs.Lines.{raw_lines, first_line, after_first_line}
 use Rattle.tl_record.specs.Judgement.{judgement}
 use Rattle.tl_record.specs.Records.{refusal_of}
-use Rattle.tl_record.specs.Refusals.{refusals_of_lines, cause_of}
-use Rattle.tl_record.specs.RefusalReader.{TakesFirst, TakesNext, GivesRefusal}
+use Rattle.tl_record.specs.Refusals.{refusals_of_lines, refused, cause_of}
+use Rattle.tl_record.specs.Searching.{TakesFirst, TakesNext, GivesRefusal}
 use Rattle.tl_record.specs.NextLine.{JudgesFirst, FindsNext}
 use Rattle.tl_record.specs.Reader.{KeepsRefusals}
 use Rattle.tl_record.proofs.RecordLemmas.{judgements-first}
@@ -21,9 +21,6 @@ use Rattle.tl_record.proofs.RecordLemmas.{judgements-first}
 -- the refusals of a text, where so many lines come before it
 abbrev pub refused_in : Layout → ℕ → List ℕ → List (ℕ × Cause)
 refused_in layout lines text = refusals_of_lines layout lines (raw_lines text)
-
-abbrev pub refused : Layout → ℕ → Option (List ℕ) → Option (List (ℕ × Cause))
-refused layout lines text = option_map (refused_in layout lines) text
 
 -- a first line that is passed over, or that holds a record, is no refusal
 first_passed : (layout : Layout) (lines : ℕ) (text : List ℕ) → JudgesFirst layout (lines + 1) text PassedOver

@@ -7,10 +7,10 @@ use Rattle.tl_record.specs.Lines.{line_feed, line_feeds, first_line, after_first
 use Rattle.tl_record.specs.declared.layout.Layout.{Layout}
 use Rattle.tl_record.specs.declared.stop.Cause.{Cause}
 use Rattle.tl_record.specs.declared.judge.Judgement.TheVariants.{Refused}
-use Rattle.tl_record.specs.declared.refusal_reader.Taken.TheVariants as taken
+use Rattle.tl_record.specs.declared.take.Taken.TheVariants as taken
 use Rattle.tl_record.specs.Judgement.{judgement}
 use Rattle.tl_record.specs.Refusals.{cause_of}
-use Rattle.tl_record.specs.RefusalReader.{TakesNext, SkipsLine}
+use Rattle.tl_record.specs.Searching.{TakesNext, SkipsLine}
 use Rattle.tl_record.proofs.LineLemmas.{no_feed_here, after_first_line_before, first_line_whole, after_first_line_whole, split_at_feed}
 use Rattle.tl_record.proofs.NextLemmas.{finds_line, finds_full}
 

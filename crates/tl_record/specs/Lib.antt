@@ -15,4 +15,4 @@ pub mod Records
 pub mod Refusals
 pub mod NextLine
 pub mod Reader
-pub mod RefusalReader
+pub mod Searching

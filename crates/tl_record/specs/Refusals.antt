@@ -1,6 +1,7 @@
 -- The lines of a text that are refused.
 use Rattle.std.specs.Prelude.{ℕ, List, Option, None, Some}
 use Rattle.std.specs.List.{filter_map}
+use Rattle.std.specs.Option.{option_map}
 use Rattle.tl_record.specs.declared.layout.Layout.{Layout}
 use Rattle.tl_record.specs.declared.stop.Cause.{Cause}
 use Rattle.tl_record.specs.declared.judge.Judgement.{Judgement}
@@ -21,3 +22,7 @@ abbrev pub cause_of : Judgement → Option Cause
 cause_of PassedOver = None
 cause_of (Read r) = None
 cause_of (Refused cause) = Some cause
+
+-- the lines that are refused of a text that may be known, where so many lines come before it
+abbrev pub refused : Layout → ℕ → Option (List ℕ) → Option (List (ℕ × Cause))
+refused layout before text = option_map (λ bytes. refusals_of_lines layout before (raw_lines bytes)) text

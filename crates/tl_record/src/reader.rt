@@ -1,6 +1,6 @@
 //! The records of a text, one after the other.
 
-ghost use Rattle.std.specs.Prelude.{◌≡◌, ◌+◌, ◌<◌, ◌≤◌, ℕ, List, length, take};
+ghost use Rattle.std.specs.Prelude.{◌≡◌, ◌+◌, ◌<◌, ◌≤◌, ℕ, List, true, length, take};
 ghost use Rattle.std.specs.Option.{option_map};
 ghost use Rattle.std.specs.Io.KnownBytes.{IsAtEnd, Keeps, prepend_known};
 ghost use Rattle.tl_record.specs.Limits.{most_lines, most_line_bytes};
@@ -21,10 +21,10 @@ use crate::layout::{Layout, layout_with};
 use crate::line_buffer::{Fetched, LineBuffer, fetch_line};
 use crate::options::Options;
 use crate::record::{NO_RECORD, Record};
-use crate::refusal::RefusalStop;
-use crate::refusal_reader::{Progress, RefusalReader};
+use crate::refusal::{Refusal, RefusalStop};
 use crate::source::Source;
 use crate::stop::{Cause, ReadStop};
+use crate::take::{Taken, take_line};
 
 // How many bytes of the text are kept: what is fetched at once.
 pub(crate) const BLOCK: usize = 65_536;
@@ -63,6 +63,7 @@ pub struct RecordReader<R> {
     buffer: LineBuffer<BLOCK>,
     lines: u64,
     skipped: u64,
+    judged: u64,
     standing: Standing,
     ghost few_lines: { lines ≤ most_lines },
     ghost some_skipped: { skipped ≤ lines },
@@ -83,9 +84,9 @@ pub(crate) fn long_line_cause(number: u64) -> Cause
 impl<R: Source> RecordReader<R> {
     ghost use Rattle.tl_record.specs.Reader.{source_of, layout_of, lines_of, skipped_of, standing_of, pending_of};
     ghost use Rattle.tl_record.specs.Reader.{outcome, StepsTo, CountsLine, Moves, Gives, Settles, Repeats, Counts};
-    ghost use Rattle.tl_record.specs.Reader.{answer_with, KeepsUnanswered, unjudged};
-    ghost use Rattle.tl_record.specs.RefusalReader.{refusals_left, progress_of, progress_after, extent, extent_of};
-    ghost use Rattle.tl_record.specs.RefusalReader.{source_of as source_left};
+    ghost use Rattle.tl_record.specs.Reader.{answer_with, KeepsUnanswered};
+    ghost use Rattle.tl_record.specs.Searching.{extent, extent_of, GivesRefusal, SettlesSearch, RepeatsSearch};
+    ghost use Rattle.tl_record.specs.Searching.{TellsFailed, goes_on, GivesUp, Finds};
     ghost use Rattle.tl_record.specs.Reader.{TellsFailure, FailsWhole, WhereReading, refusals_to_come, KeepsRefusals};
 
     /// A reader of the source's records, by the column table of the TIGER/Line files of 2006.
@@ -94,6 +95,7 @@ impl<R: Source> RecordReader<R> {
         ensures records { outcome R.remaining result ≡ option_map (records_of tiger_2006) (R.remaining source) }
         ensures refusals { refusals_to_come R.remaining result
             ≡ option_map (refusals_of tiger_2006) (R.remaining source) }
+        ensures extent { extent R.remaining result ≡ extent_of 0 (R.remaining source) }
         ensures lines { lines_of result ≡ 0 }
         ensures skipped { skipped_of result ≡ 0 }
         ensures standing { standing_of result ≡ Standing.Reading }
@@ -108,6 +110,7 @@ impl<R: Source> RecordReader<R> {
             ≡ option_map (records_of (layout_with options)) (R.remaining source) }
         ensures refusals { refusals_to_come R.remaining result
             ≡ option_map (refusals_of (layout_with options)) (R.remaining source) }
+        ensures extent { extent R.remaining result ≡ extent_of 0 (R.remaining source) }
         ensures lines { lines_of result ≡ 0 }
         ensures skipped { skipped_of result ≡ 0 }
         ensures standing { standing_of result ≡ Standing.Reading }
@@ -118,6 +121,7 @@ impl<R: Source> RecordReader<R> {
             buffer: LineBuffer::new(),
             lines: 0,
             skipped: 0,
+            judged: 0,
             standing: Standing::Reading,
         }
     }
@@ -199,6 +203,7 @@ impl<R: Source> RecordReader<R> {
                     line: number,
                     cause,
                 };
+                self.judged = self.lines;
                 self.standing = Standing::Stopped(stop);
                 Some(Err(stop))
             }
@@ -293,19 +298,72 @@ impl<R: Source> RecordReader<R> {
         with_record(answer, record)
     }
 
-    /// A reader of the lines that are refused from here on, the one at which this reader stopped before the others.
-    pub fn into_refusals(self) -> RefusalReader<R>
-        ensures source { source_left result ≡ source_of self }
-        ensures refusals { refusals_left R.remaining result ≡ refusals_to_come R.remaining self }
-        // It reads, unless this reader is at the end of the text, or a read failed.
-        ensures progress { progress_of result ≡ progress_after (standing_of self) }
-        ensures extent { extent R.remaining result ≡ extent_of (lines_of self) (unjudged R.remaining self) }
+    // Judges on behind the lines that were judged, up to a line that is refused.
+    fn search_on(&mut self) -> Result<Option<Refusal>, RefusalStop>
+        ensures finds { Finds R.remaining R.failure_count self.old self.new result }
+        ensures same_reference { R.reference (source_of self.new) ≡ R.reference (source_of self.old) }
     {
-        let progress = match self.standing {
-            Standing::Ended => Progress::Ended,
-            Standing::Stopped(ReadStop::Device) => Progress::Stopped(RefusalStop::Device),
-            _ => Progress::Reading,
-        };
-        RefusalReader::new(self.source, self.layout, self.buffer, self.lines, progress)
+        'lines: loop {
+            if self.judged == u64::MAX {
+                return Err(RefusalStop::Endless);
+            }
+            let line = self.judged + 1;
+            match take_line(&mut self.buffer, &mut self.source, &self.layout, line) {
+                Taken::Line(cause) => {
+                    self.judged = line;
+                    if let Some(cause) = cause {
+                        self.standing = Standing::Stopped(ReadStop::Refused { line, cause });
+                        return Ok(Some(Refusal { line, cause }));
+                    }
+                }
+                Taken::End => {
+                    self.standing = Standing::Ended;
+                    return Ok(None);
+                }
+                Taken::Stopped(RefusalStop::Device) => {
+                    self.standing = Standing::Stopped(ReadStop::Device);
+                    return Err(RefusalStop::Device);
+                }
+                Taken::Stopped(RefusalStop::Endless) => {
+                    let cause = long_line_cause(line);
+                    self.standing = Standing::Stopped(ReadStop::Refused { line, cause });
+                    self.judged = u64::MAX;
+                    return Err(RefusalStop::Endless);
+                }
+            }
+        }
+    }
+
+    /// The next line that is refused, or `None` at the end of the text: the one at which the reader stopped, and then those
+    /// behind it, whatever stands between them. A line may be of any length.
+    ///
+    /// The other lines are judged and left: from the first call on no more records are read. A read that fails, an
+    /// interrupted one too, is answered as [`RefusalStop::Device`]. After that and after the end, each later call answers
+    /// the same and reads nothing.
+    pub fn next_refusal(&mut self) -> Result<Option<Refusal>, RefusalStop>
+        // The first of the refusals that were to come, or their end.
+        ensures gives { GivesRefusal (refusals_to_come R.remaining self.old) (refusals_to_come R.remaining self.new)
+            result }
+        ensures settles { SettlesSearch (standing_of self.new) result }
+        // An end or a failed read is answered again and again, and nothing is read any more.
+        ensures repeats { RepeatsSearch (standing_of self.old) self.old self.new result }
+        // `Device` is answered where a read failed in this call, and nowhere else.
+        ensures failures { TellsFailed (standing_of self.old) (R.failure_count (source_of self.old))
+            (R.failure_count (source_of self.new)) result }
+        // `Endless` is answered of no text that has an end within 2^64 - 1 bytes.
+        ensures endless { goes_on (standing_of self.old) ≡ true →
+            GivesUp (extent R.remaining self.old) (extent R.remaining self.new) result }
+        // Its source is the one that it was.
+        ensures same_reference { R.reference (source_of self.new) ≡ R.reference (source_of self.old) }
+    {
+        match self.standing {
+            Standing::Reading => {
+                self.judged = self.lines;
+                self.search_on()
+            }
+            Standing::Stopped(ReadStop::Refused { .. }) => self.search_on(),
+            Standing::Ended => Ok(None),
+            Standing::Stopped(ReadStop::Device) => Err(RefusalStop::Device),
+        }
     }
 }

@@ -1,16 +1,17 @@
 -- What one more answer of a reader adds to a list of refused lines.
-use Rattle.std.proofs.Common.{◌≡◌, ℕ, ◌+◌, ◌≤◌, List, [], ◌∷◌, ◌++◌, map, Option, None, Some, Result, Ok, Err, IfSome, refl, sym, ap, ◌∙◌, arith, append_assoc, append-nil}
+use Rattle.std.proofs.Common.{◌≡◌, ℕ, List, [], ◌∷◌, ◌++◌, map, Option, None, Some, Ok, Err, refl, sym, ap, ◌∙◌, arith, append_assoc, append-nil}
 use Rattle.std.proofs.lemmas.List.{map-append}
 use Rattle.tl_record.specs.declared.stop.Cause.{Cause}
 use Rattle.tl_record.specs.declared.refusal.Refusal.{Refusal}
 use Rattle.tl_record.specs.declared.refusal.RefusalStop.{RefusalStop}
 use Rattle.tl_record.specs.declared.refusal.RefusalStop.TheVariants as read
-use Rattle.tl_record.specs.declared.refusal_reader.Progress.{Progress}
-use Rattle.tl_record.specs.declared.refusal_reader.Progress.TheVariants.{Reading, Ended, Stopped}
-use Rattle.tl_record.specs.declared.refusal_reader.RefusalReader.{RefusalReader}
-use Rattle.tl_record.specs.RefusalReader.{Answer, pair_of, GivesRefusal, Repeats, TellsFailure, WhereReading, Shrinks}
-use Rattle.tl_record.specs.RefusalReader as reader
-use Rattle.tl_refusals.specs.declared.stop.ListStop.{ListStop}
+use Rattle.tl_record.specs.declared.reader.Standing.{Standing}
+use Rattle.tl_record.specs.declared.reader.Standing.TheVariants.{Reading, Ended, Stopped}
+use Rattle.tl_record.specs.declared.reader.RecordReader.{RecordReader}
+use Rattle.tl_record.specs.declared.stop.ReadStop.TheVariants.{Refused}
+use Rattle.tl_record.specs.declared.stop.ReadStop.TheVariants as stop
+use Rattle.tl_record.specs.Searching.{pair_of, GivesRefusal, RepeatsSearch, SettlesSearch, TellsFailed, goes_on, Shrinks}
+use Rattle.tl_record.specs.Searching as search_of
 use Rattle.tl_refusals.specs.Listing.{ListsAll, TellsDevice, GivesUp, stop_of}
 
 -- the list has the first of the refusals that were to come, and the rest are still to come
@@ -41,47 +42,34 @@ lists_all (Some all) (Some left) new list so_far gives =
     let same : left ≡ so_far.0 = let is = so_far.1 in cc in
     sym (append-nil (map pair_of list)) ∙ ap (λ (l : List (ℕ × Cause)). map pair_of list ++ l) (sym gives ∙ same) ∙ so_far.2
 
--- a reader that gives a refusal reads, before and after
-pub still_reads : {R : Type 0} (progress after : Progress) (old new : RefusalReader R) (refusal : Refusal) → Repeats progress old new (Ok (Some refusal)) → after ≡ Reading → after ≡ progress
-still_reads Reading after old new refusal repeats settles = settles
-still_reads Ended after old new refusal repeats settles = absurd (let wrong = repeats.0 in cc)
-still_reads (Stopped stop) after old new refusal repeats settles = absurd (let wrong = repeats.0 in cc)
+-- a search that gives a refusal goes on, before and after
+pub still_goes_on : {R : Type 0} (standing after : Standing) (old new : RecordReader R) (refusal : Refusal) → RepeatsSearch standing old new (Ok (Some refusal))
+    → SettlesSearch after (Ok (Some refusal)) → goes_on after ≡ goes_on standing
+still_goes_on Reading after old new refusal repeats settles = ap goes_on settles
+still_goes_on Ended after old new refusal repeats settles = absurd (let wrong = repeats.0 in cc)
+still_goes_on (Stopped (Refused line cause)) after old new refusal repeats settles = ap goes_on settles
+still_goes_on (Stopped stop.Device) after old new refusal repeats settles = absurd (let wrong = repeats.0 in cc)
 
 -- a known sum of lines and bytes that isn't greater than at first
-abbrev pub ShrinksSoFar : Progress → Option ℕ → Option ℕ → Type 0
-ShrinksSoFar progress old new = WhereReading progress (Shrinks old new)
+pub shrinks_none : (known : Option ℕ) → Shrinks known known
+shrinks_none None = tt
+shrinks_none (Some n) = (n, refl, omega arith)
 
-pub shrinks_none : (progress : Progress) (known : Option ℕ) → ShrinksSoFar progress known known
-shrinks_none Reading None = tt
-shrinks_none Reading (Some n) = (n, refl, omega arith)
-shrinks_none Ended known = tt
-shrinks_none (Stopped stop) known = tt
-
-pub shrinks_more : (progress : Progress) (known old new : Option ℕ) (refusal : Refusal) → ShrinksSoFar progress known old → WhereReading progress (reader.GivesUp old new (Ok (Some refusal)))
-    → ShrinksSoFar progress known new
-shrinks_more Reading None old new refusal so_far up = tt
-shrinks_more Reading (Some n) None new refusal so_far up = absurd (let wrong = so_far.1 in cc)
-shrinks_more Reading (Some n) (Some m) new refusal so_far up =
+pub shrinks_more : (known old new : Option ℕ) (refusal : Refusal) → Shrinks known old → search_of.GivesUp old new (Ok (Some refusal)) → Shrinks known new
+shrinks_more None old new refusal so_far up = tt
+shrinks_more (Some n) None new refusal so_far up = absurd (let wrong = so_far.1 in cc)
+shrinks_more (Some n) (Some m) new refusal so_far up =
     let same : m ≡ so_far.0 = let is = so_far.1 in cc in (up.0, up.1, omega (arith, so_far.2, up.2, same))
-shrinks_more Ended known old new refusal so_far up = tt
-shrinks_more (Stopped stop) known old new refusal so_far up = tt
 
-pub gives_up : (progress : Progress) (known old new : Option ℕ) (stop : RefusalStop) → ShrinksSoFar progress known old → WhereReading progress (reader.GivesUp old new (Err stop))
-    → WhereReading progress (GivesUp known (stop_of stop))
-gives_up Reading known old new read.Device so_far up = tt
-gives_up Reading None old new read.Endless so_far up = tt
-gives_up Reading (Some n) None new read.Endless so_far up = absurd (let wrong = so_far.1 in cc)
-gives_up Reading (Some n) (Some m) new read.Endless so_far up =
+pub gives_up : (known old new : Option ℕ) (stop : RefusalStop) → Shrinks known old → search_of.GivesUp old new (Err stop) → GivesUp known (stop_of stop)
+gives_up known old new read.Device so_far up = tt
+gives_up None old new read.Endless so_far up = tt
+gives_up (Some n) None new read.Endless so_far up = absurd (let wrong = so_far.1 in cc)
+gives_up (Some n) (Some m) new read.Endless so_far up =
     let same : m ≡ so_far.0 = let is = so_far.1 in cc in omega (arith, so_far.2, up, same)
-gives_up Ended known old new stop so_far up = tt
-gives_up (Stopped s) known old new stop so_far up = tt
-
-pub gives_up_not : (progress : Progress) → WhereReading progress (Unit {0})
-gives_up_not Reading = tt
-gives_up_not Ended = tt
-gives_up_not (Stopped stop) = tt
 
 -- a stop is told as what it is
-pub stop_told : (T : Type 0) (progress : Progress) (first old new : ℕ) (stop : RefusalStop) → old ≡ first → TellsFailure progress old new (Err stop) → TellsDevice {T = T} progress first new (Err (stop_of stop))
-stop_told T progress first old new read.Device same told = rw (← same) told
-stop_told T progress first old new read.Endless same told = told ∙ same
+pub stop_told : (T : Type 0) (standing now : Standing) (first old new : ℕ) (stop : RefusalStop) → old ≡ first → goes_on now ≡ goes_on standing → TellsFailed now old new (Err stop)
+    → TellsDevice {T = T} standing first new (Err (stop_of stop))
+stop_told T standing now first old new read.Device same goes told = rw (← same, ← goes) told
+stop_told T standing now first old new read.Endless same goes told = told ∙ same

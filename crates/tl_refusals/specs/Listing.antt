@@ -4,8 +4,8 @@ use Rattle.tl_record.specs.declared.stop.Cause.{Cause}
 use Rattle.tl_record.specs.declared.refusal.Refusal.{Refusal}
 use Rattle.tl_record.specs.declared.refusal.RefusalStop.{RefusalStop}
 use Rattle.tl_record.specs.declared.refusal.RefusalStop.TheVariants as read
-use Rattle.tl_record.specs.declared.refusal_reader.Progress.{Progress}
-use Rattle.tl_record.specs.RefusalReader.{pair_of, failed_once}
+use Rattle.tl_record.specs.declared.reader.Standing.{Standing}
+use Rattle.tl_record.specs.Searching.{pair_of, failed_once}
 use Rattle.tl_refusals.specs.declared.stop.ListStop.{ListStop}
 use Rattle.tl_refusals.specs.declared.stop.ListStop.TheVariants.{Device, Endless, Memory}
 
@@ -14,11 +14,11 @@ abbrev pub ListsAll : Option (List (ℕ × Cause)) → List Refusal → Type 0
 ListsAll known list = IfSome known (λ refusals. map pair_of list ≡ refusals)
 
 -- `Device` is answered where a read failed, and nowhere else; the count of failures goes from old to new
-abbrev pub TellsDevice : {T : Type 0} → Progress → ℕ → ℕ → Result T ListStop → Type 0
-TellsDevice progress old new (Ok list) = new ≡ old
-TellsDevice progress old new (Err Device) = new ≡ failed_once progress old
-TellsDevice progress old new (Err Endless) = new ≡ old
-TellsDevice progress old new (Err Memory) = new ≡ old
+abbrev pub TellsDevice : {T : Type 0} → Standing → ℕ → ℕ → Result T ListStop → Type 0
+TellsDevice standing old new (Ok list) = new ≡ old
+TellsDevice standing old new (Err Device) = new ≡ failed_once standing old
+TellsDevice standing old new (Err Endless) = new ≡ old
+TellsDevice standing old new (Err Memory) = new ≡ old
 
 -- it is given up where a known text has 2^64 - 1 bytes or more, its lines that were judged counted as a byte each
 abbrev pub GivesUp : Option ℕ → ListStop → Type 0

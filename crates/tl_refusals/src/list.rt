@@ -1,30 +1,32 @@
 //! The list of a text's refused lines.
 
-ghost use Rattle.std.specs.Prelude.{◌≡◌, IfOk, IfErr};
+ghost use Rattle.std.specs.Prelude.{◌≡◌, true, IfOk, IfErr};
 ghost use Rattle.std.specs.Option.{option_map};
-ghost use Rattle.tl_record.specs.declared.refusal_reader.Progress.TheVariants.{Reading};
+ghost use Rattle.tl_record.specs.declared.reader.Standing.TheVariants.{Reading};
 ghost use Rattle.tl_record.specs.Layout.{layout_with};
 ghost use Rattle.tl_record.specs.Refusals.{refusals_of};
-ghost use Rattle.tl_record.specs.RefusalReader.{source_of, progress_of, refusals_left, extent, extent_of, WhereReading};
+ghost use Rattle.tl_record.specs.Reader.{source_of, standing_of, refusals_to_come};
+ghost use Rattle.tl_record.specs.Searching.{extent, extent_of, goes_on};
 ghost use Rattle.tl_refusals.specs.Listing.{ListsAll, TellsDevice, GivesUp};
 
 use crate::stop::ListStop;
 use std::alloc::Global;
-use tl_record::{Options, Refusal, RefusalReader, Source};
+use tl_record::{Options, RecordReader, Refusal, Source};
 
-/// Lists all lines that are refused from where a reader is, in the order of the text.
+/// Lists all lines that are refused from where a reader is, the one at which it stopped among them, in the order of the
+/// text.
 pub fn list_refusals<R: Source>(
     alloc: Global,
-    reader: &mut RefusalReader<R>,
+    reader: &mut RecordReader<R>,
 ) -> Result<Vec<Refusal>, ListStop>
     // Where the bytes are known: all refusals that the reader had to give, and no other.
-    ensures refusals { IfOk result (λ list. ListsAll (refusals_left R.remaining reader.old) list.items) }
+    ensures refusals { IfOk result (λ list. ListsAll (refusals_to_come R.remaining reader.old) list.items) }
     // `Device` is answered where a read failed, and nowhere else.
-    ensures failures { TellsDevice (progress_of reader.old) (R.failure_count (source_of reader.old))
+    ensures failures { TellsDevice (standing_of reader.old) (R.failure_count (source_of reader.old))
         (R.failure_count (source_of reader.new)) result }
     // `Endless` is answered of no text that has an end within 2^64 - 1 bytes.
-    ensures endless { IfErr result (λ stop. WhereReading (progress_of reader.old)
-        (GivesUp (extent R.remaining reader.old) stop)) }
+    ensures endless { goes_on (standing_of reader.old) ≡ true →
+        IfErr result (GivesUp (extent R.remaining reader.old)) }
     // Its source is the one that it was.
     ensures same_reference { R.reference (source_of reader.new) ≡ R.reference (source_of reader.old) }
 {
@@ -52,6 +54,6 @@ pub fn refused_lines<R: Source>(
     // `Endless` is answered of no text that has an end within 2^64 - 1 bytes.
     ensures endless { IfErr result (GivesUp (extent_of 0 (R.remaining records.old))) }
 {
-    let mut refusals = RefusalReader::with(records, options);
-    list_refusals(alloc, &mut refusals)
+    let mut reader = RecordReader::with(records, options);
+    list_refusals(alloc, &mut reader)
 }

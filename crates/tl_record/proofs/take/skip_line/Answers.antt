@@ -1,6 +1,6 @@
 use Rattle.std.proofs.Common.{◌∙◌, arith}
 use Rattle.tl_record.proofs.SkipLemmas.{skips_block, skips_to_feed, skips_to_end}
-use Rattle.tl_record.proofs.refusal_reader.skip_line.Goals as goal
+use Rattle.tl_record.proofs.take.skip_line.Goals as goal
 
 pub returns-in-Whole-clause-skips : goal.returns-in-Whole-clause-skips
 returns-in-Whole-clause-skips g c =

@@ -2,7 +2,7 @@ use Rattle.std.proofs.Common.{◌≡◌, ◌≢◌, [], ap, ◌∙◌, arith, le
 use Rattle.tl_record.specs.Judgement.{judgement}
 use Rattle.tl_record.specs.Refusals.{cause_of}
 use Rattle.tl_record.proofs.SkipLemmas.{takes_line, takes_last, takes_full, skipped_behind}
-use Rattle.tl_record.proofs.refusal_reader.take_line.Goals as goal
+use Rattle.tl_record.proofs.take.take_line.Goals as goal
 
 pub returns-in-Whole-clause-takes : goal.returns-in-Whole-clause-takes
 returns-in-Whole-clause-takes g c =

@@ -1,7 +1,7 @@
 use Rattle.std.proofs.Common.{◌≡◌}
 use Rattle.std.specs.Io.KnownBytes.{prepend_known}
 use Rattle.tl_record.proofs.SkipLemmas.{SkipsOn}
-use Rattle.tl_record.proofs.refusal_reader.skip_line.Given as goal
+use Rattle.tl_record.proofs.take.skip_line.Given as goal
 
 abbrev pub invariant-blocks-2 : goal.invariant-blocks-2
 invariant-blocks-2 g l = record {
