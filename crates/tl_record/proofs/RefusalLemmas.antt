@@ -1,7 +1,7 @@
 -- What the next line takes from the refusals that were to come.
-use Rattle.std.proofs.Common.{◌≡◌, ℕ, ◌+◌, List, [], Option, None, Some, Ok, refl, sym, ap, ◌∙◌}
-use Rattle.std.specs.List.{filter_map, cons_option}
-use Rattle.std.specs.Option.{option_map}
+use Rattle.std.proofs.Common.{◌≡◌, ℕ, ◌+◌, List, [], ◌∷◌, Option, None, Some, Ok, refl, sym, ap, ◌∙◌}
+use Rattle.std.specs.List.{filter_map, cons_option, slice_get, find}
+use Rattle.std.specs.Option.{option_map, option_and_then}
 use Rattle.tl_record.specs.declared.layout.Layout.{Layout}
 use Rattle.tl_record.specs.declared.record.Record.{Record}
 use Rattle.tl_record.specs.declared.stop.Cause.{Cause}
@@ -11,7 +11,7 @@ use Rattle.tl_record.specs.declared.reader.NextLine.TheVariants as next
 use Rattle.tl_record.specs.declared.take.Taken.TheVariants as taken
 use Rattle.tl_record.specs.Lines.{raw_lines, first_line, after_first_line}
 use Rattle.tl_record.specs.Judgement.{judgement}
-use Rattle.tl_record.specs.Records.{refusal_of}
+use Rattle.tl_record.specs.Records.{refusal_of, is_refused}
 use Rattle.tl_record.specs.Refusals.{refusals_of_lines, refused, cause_of}
 use Rattle.tl_record.specs.Searching.{TakesFirst, TakesNext, GivesRefusal}
 use Rattle.tl_record.specs.NextLine.{JudgesFirst, FindsNext}
@@ -91,7 +91,14 @@ pub KeepsRefusals-trans : (a b c : Option (List (ℕ × Cause))) → KeepsRefusa
 KeepsRefusals-trans None b c p q = tt
 KeepsRefusals-trans (Some r) b c p q = rw p at q
 
--- ---- what a reader of refusals gives
+-- the first of the refusals is the first judgement that is one
+pub first_refusal : (judged : List (ℕ × Judgement)) → slice_get (filter_map refusal_of judged) 0 ≡ option_and_then refusal_of (find is_refused judged)
+first_refusal [] = refl
+first_refusal ((n, PassedOver) ∷ rest) = first_refusal rest
+first_refusal ((n, Read r) ∷ rest) = first_refusal rest
+first_refusal ((n, Refused cause) ∷ rest) = refl
+
+-- ---- what a search for refused lines gives
 
 refusal_is : (number : ℕ) (j : Judgement) (cause : Option Cause) → cause ≡ cause_of j → refusal_of (number, j) ≡ option_map (λ c. (number, c)) cause
 refusal_is number PassedOver cause is = rw is refl
