@@ -53,7 +53,8 @@ pub enum Standing {
     Stopped(ReadStop),
 }
 
-/// Gives the records of a source's text one after the other, up to its end or to its first refused line.
+/// Gives the records of a source's text one after the other, up to its end or to its first refused line, and behind that
+/// one all other lines that are refused.
 ///
 /// It keeps at most 65,536 bytes of the text, in an array, and takes no memory.
 #[derive(Drop)]

@@ -32,7 +32,7 @@ impl fmt::Debug for Refusal {
 }
 
 /// Why a reader gives no more refusals.
-#[derive(Clone, Copy, PartialEq, Eq)]
+#[derive(Clone, Copy, Debug, PartialEq, Eq)]
 pub enum RefusalStop {
     /// A read of the source failed.
     Device,

@@ -1,5 +1,6 @@
 -- What one more answer of a reader adds to a list of refused lines.
-use Rattle.std.proofs.Common.{◌≡◌, ℕ, List, [], ◌∷◌, ◌++◌, map, Option, None, Some, Ok, Err, refl, sym, ap, ◌∙◌, arith, append_assoc, append-nil}
+use Rattle.std.proofs.Common.{◌≡◌, ℕ, List, [], ◌∷◌, ◌++◌, map, length, zero-add, Option, None, Some, IfSome, Result, Ok, Err, IfOk, IfErr, Vec, Global, refl, sym, ap, ◌∙◌, arith, append_assoc, append-nil}
+use Rattle.std.specs.Option.{option_map}
 use Rattle.std.proofs.lemmas.List.{map-append}
 use Rattle.tl_record.specs.declared.stop.Cause.{Cause}
 use Rattle.tl_record.specs.declared.refusal.Refusal.{Refusal}
@@ -10,8 +11,10 @@ use Rattle.tl_record.specs.declared.reader.Standing.TheVariants.{Reading, Ended,
 use Rattle.tl_record.specs.declared.reader.RecordReader.{RecordReader}
 use Rattle.tl_record.specs.declared.stop.ReadStop.TheVariants.{Refused}
 use Rattle.tl_record.specs.declared.stop.ReadStop.TheVariants as stop
-use Rattle.tl_record.specs.Searching.{pair_of, GivesRefusal, RepeatsSearch, SettlesSearch, TellsFailed, goes_on, Shrinks}
+use Rattle.tl_record.specs.Searching.{pair_of, GivesRefusal, RepeatsSearch, SettlesSearch, TellsFailed, goes_on, extent_of, Shrinks}
 use Rattle.tl_record.specs.Searching as search_of
+use Rattle.tl_refusals.specs.declared.stop.ListStop.{ListStop}
+use Rattle.tl_refusals.specs.declared.stop.ListStop.TheVariants.{Memory}
 use Rattle.tl_refusals.specs.Listing.{ListsAll, TellsDevice, GivesUp, stop_of}
 
 -- the list has the first of the refusals that were to come, and the rest are still to come
@@ -35,7 +38,7 @@ lists_more (Some all) (Some left) new list refusal so_far gives =
           ∙ ap (λ (l : List (ℕ × Cause)). map pair_of list ++ l) (sym gives.2 ∙ same) ∙ so_far.2,
     )
 
-pub lists_all : (known old new : Option (List (ℕ × Cause))) (list : List Refusal) → ListsSoFar known old list → GivesRefusal old new (Ok None) → ListsAll known list
+pub lists_all : (known old new : Option (List (ℕ × Cause))) (list : List Refusal) → ListsSoFar known old list → GivesRefusal old new (Ok None) → IfSome known (λ refusals. ListsAll refusals list)
 lists_all None old new list so_far gives = tt
 lists_all (Some all) None new list so_far gives = absurd (let wrong = so_far.1 in cc)
 lists_all (Some all) (Some left) new list so_far gives =
@@ -61,9 +64,9 @@ shrinks_more (Some n) None new refusal so_far up = absurd (let wrong = so_far.1 
 shrinks_more (Some n) (Some m) new refusal so_far up =
     let same : m ≡ so_far.0 = let is = so_far.1 in cc in (up.0, up.1, omega (arith, so_far.2, up.2, same))
 
-pub gives_up : (known old new : Option ℕ) (stop : RefusalStop) → Shrinks known old → search_of.GivesUp old new (Err stop) → GivesUp known (stop_of stop)
-gives_up known old new read.Device so_far up = tt
-gives_up None old new read.Endless so_far up = tt
+pub gives_up : (known old new : Option ℕ) (stop : RefusalStop) → Shrinks known old → search_of.GivesUp old new (Err stop) → IfSome known (λ count. GivesUp count (stop_of stop))
+gives_up None old new stop so_far up = tt
+gives_up (Some n) old new read.Device so_far up = tt
 gives_up (Some n) None new read.Endless so_far up = absurd (let wrong = so_far.1 in cc)
 gives_up (Some n) (Some m) new read.Endless so_far up =
     let same : m ≡ so_far.0 = let is = so_far.1 in cc in omega (arith, so_far.2, up, same)
@@ -73,3 +76,21 @@ pub stop_told : (T : Type 0) (standing now : Standing) (first old new : ℕ) (st
     → TellsDevice {T = T} standing first new (Err (stop_of stop))
 stop_told T standing now first old new read.Device same goes told = rw (← same, ← goes) told
 stop_told T standing now first old new read.Endless same goes told = told ∙ same
+
+-- of a whole text
+pub lists_text : (f : List ℕ → List (ℕ × Cause)) (known : Option (List ℕ)) (all : Option (List (ℕ × Cause))) (E : Type 0) (result : Result (Vec Refusal Global) E) → all ≡ option_map f known
+    → IfOk result (λ list. IfSome all (λ refusals. ListsAll refusals list.items)) → IfOk result (λ list. IfSome known (λ text. ListsAll (f text) list.items))
+lists_text f None all E (Ok list) is listed = tt
+lists_text f (Some text) all E (Ok list) is listed = rw is at listed
+lists_text f known all E (Err stop) is listed = tt
+
+pub gives_up_text : (known : Option (List ℕ)) (counted : Option ℕ) (T : Type 0) (result : Result T ListStop) → counted ≡ extent_of 0 known
+    → IfErr result (λ stop. IfSome counted (λ count. GivesUp count stop)) → IfErr result (λ stop. IfSome known (λ text. GivesUp (length text) stop))
+gives_up_text known counted T (Ok made) is up = tt
+gives_up_text None counted T (Err stop) is up = tt
+gives_up_text (Some text) counted T (Err stop) is up = rw (zero-add (length text)) at (rw is at up)
+
+-- memory may be refused at any length
+pub memory_refused : (known : Option ℕ) → IfSome known (λ count. GivesUp count Memory)
+memory_refused None = tt
+memory_refused (Some n) = tt

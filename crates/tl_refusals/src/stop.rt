@@ -8,7 +8,7 @@ use std::alloc::AllocFailed;
 use tl_record::RefusalStop;
 
 /// Why there is no list of refused lines.
-#[derive(Clone, Copy, PartialEq, Eq)]
+#[derive(Clone, Copy, Debug, PartialEq, Eq)]
 pub enum ListStop {
     /// A read of the source failed.
     Device,

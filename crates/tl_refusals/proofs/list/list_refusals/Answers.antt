@@ -3,7 +3,7 @@ use Rattle.std.proofs.lemmas.Result.{err_from_is_err_and}
 use Rattle.tl_record.specs.declared.refusal.Refusal.{Refusal}
 use Rattle.tl_record.specs.Reader.{standing_of, refusals_to_come}
 use Rattle.tl_record.specs.Searching.{extent}
-use Rattle.tl_refusals.proofs.ListLemmas.{lists_none, lists_more, lists_all, still_goes_on, shrinks_none, shrinks_more, gives_up, stop_told}
+use Rattle.tl_refusals.proofs.ListLemmas.{lists_none, lists_more, lists_all, still_goes_on, shrinks_none, shrinks_more, gives_up, memory_refused, stop_told}
 use Rattle.tl_refusals.proofs.list.list_refusals.Goals as goal
 
 pub refusals-init : goal.refusals-init
@@ -63,6 +63,6 @@ returns-in_err-push-in-Ok-Some g c =
     rw (p.1, p.2) (record {
       refusals = tt;
       failures = found.failures ∙ before.failures;
-      endless = λ goes. tt;
+      endless = λ goes. memory_refused _;
       same_reference = found.same_reference ∙ before.same;
     })
