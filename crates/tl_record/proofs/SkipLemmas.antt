@@ -1,5 +1,5 @@
 -- Lines that are taken off a text, however long they are.
-use Rattle.std.proofs.Common.{◌≡◌, ◌≢◌, ℕ, ◌+◌, ◌≤◌, ◌<◌, List, [], ◌∷◌, ◌++◌, Option, None, Some, Ok, length, take, drop, refl, sym, ap, ◌∙◌, arith, append_assoc, append-nil}
+use Rattle.std.proofs.Common.{◌≡◌, ◌≢◌, ℕ, ◌+◌, ◌≤◌, ◌<◌, List, [], ◌∷◌, ◌++◌, Option, None, Some, Ok, Err, length, take, drop, refl, sym, ap, ◌∙◌, arith, append_assoc, append-nil}
 use Rattle.std.specs.List.{slice_index}
 use Rattle.std.proofs.lemmas.List.{length-append}
 use Rattle.std.specs.Io.KnownBytes.{Keeps, IsAtEnd, prepend_known}
@@ -7,6 +7,8 @@ use Rattle.tl_record.specs.Lines.{line_feed, line_feeds, first_line, after_first
 use Rattle.tl_record.specs.declared.layout.Layout.{Layout}
 use Rattle.tl_record.specs.declared.stop.Cause.{Cause}
 use Rattle.tl_record.specs.declared.judge.Judgement.TheVariants.{Refused}
+use Rattle.tl_record.specs.declared.refusal.RefusalStop.{RefusalStop}
+use Rattle.tl_record.specs.declared.refusal.RefusalStop.TheVariants.{Device, Endless}
 use Rattle.tl_record.specs.declared.take.Taken.TheVariants as taken
 use Rattle.tl_record.specs.Judgement.{judgement}
 use Rattle.tl_record.specs.Refusals.{cause_of}
@@ -123,3 +125,20 @@ skips_to_end count None old left bytes so_far kept none ended = tt
 skips_to_end count (Some text) None left bytes so_far kept none ended = absurd so_far
 skips_to_end count (Some text) (Some now) left bytes so_far kept none ended =
     (last_taken (Some now) left bytes now refl kept none ended).0 ∙ ap (λ (l : List ℕ). Some l) so_far.0
+
+pub skips_failed : (first new : Option (List ℕ)) → SkipsLine {T = Unit {0}} first new (Err Device)
+skips_failed None new = tt
+skips_failed (Some text) new = tt
+
+-- what is told of a line that could not be skipped, in the words of the line that was to be taken
+pub stops_full : (T : Type 0) (layout : Layout) (number : ℕ) (old left new : Option (List ℕ)) (bytes : List ℕ) (stop : RefusalStop) → Keeps old (prepend_known bytes left)
+    → SkipsLine {T = T} (prepend_known bytes left) new (Err stop) → TakesNext layout number old new (taken.Stopped stop)
+stops_full T layout number None left new bytes stop kept skips = tt
+stops_full T layout number (Some text) None new bytes stop kept skips = absurd kept
+stops_full T layout number (Some text) (Some xs) new bytes Device kept skips = tt
+stops_full T layout number (Some text) (Some xs) new bytes Endless kept skips = rw kept at skips
+
+-- a failed read tells nothing of the text
+pub takes_failed : (layout : Layout) (number : ℕ) (old new : Option (List ℕ)) → TakesNext layout number old new (taken.Stopped Device)
+takes_failed layout number None new = tt
+takes_failed layout number (Some text) new = tt

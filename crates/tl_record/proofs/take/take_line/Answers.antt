@@ -1,7 +1,7 @@
 use Rattle.std.proofs.Common.{◌≡◌, ◌≢◌, [], ap, ◌∙◌, arith, length, take, false, ◌==◌}
 use Rattle.tl_record.specs.Judgement.{judgement}
 use Rattle.tl_record.specs.Refusals.{cause_of}
-use Rattle.tl_record.proofs.SkipLemmas.{takes_line, takes_last, takes_full, skipped_behind}
+use Rattle.tl_record.proofs.SkipLemmas.{takes_line, takes_last, takes_full, skipped_behind, stops_full, takes_failed}
 use Rattle.tl_record.proofs.take.take_line.Goals as goal
 
 pub returns-in-Whole-clause-takes : goal.returns-in-Whole-clause-takes
@@ -29,3 +29,35 @@ returns-in-Ok-clause-takes g c =
     takes_full c.args.layout.now c.args.number _ (g.R.Source.remaining c.fetch_line.new.source) _ c.fetch_line.new.buffer c.long_line_cause.result
     c.in-Full.ensures.bytes shows.0 (omega (arith, shows.1)) (λ line long. cause line (omega (arith, long, shows.1)))
     (skipped_behind _ _ c.in-Ok.field-0 c.in-Ok.ensures.skips)
+
+pub returns-in-Whole-clause-failures : goal.returns-in-Whole-clause-failures
+returns-in-Whole-clause-failures g c = c.in-Whole.ensures.failures
+
+pub returns-in-Whole-clause-same_reference : goal.returns-in-Whole-clause-same_reference
+returns-in-Whole-clause-same_reference g c = c.in-Whole.ensures.same_reference
+
+pub returns-else-is_empty-clause-failures : goal.returns-else-is_empty-clause-failures
+returns-else-is_empty-clause-failures g c = c.in-Rest.ensures.failures
+
+pub returns-else-is_empty-clause-same_reference : goal.returns-else-is_empty-clause-same_reference
+returns-else-is_empty-clause-same_reference g c = c.in-Rest.ensures.same_reference
+
+pub returns-in-Ok-clause-failures : goal.returns-in-Ok-clause-failures
+returns-in-Ok-clause-failures g c = c.in-Ok.ensures.failures ∙ c.in-Full.ensures.failures
+
+pub returns-in-Ok-clause-same_reference : goal.returns-in-Ok-clause-same_reference
+returns-in-Ok-clause-same_reference g c = c.in-Ok.ensures.same_reference ∙ c.in-Full.ensures.same_reference
+
+pub returns-in-Err-clause-takes : goal.returns-in-Err-clause-takes
+returns-in-Err-clause-takes g c =
+    stops_full (Unit {0}) c.args.layout.now c.args.number _ (g.R.Source.remaining c.fetch_line.new.source) _ c.fetch_line.new.buffer c.in-Err.stop c.in-Full.ensures.bytes c.in-Err.ensures.skips
+
+pub returns-in-Err-clause-same_reference : goal.returns-in-Err-clause-same_reference
+returns-in-Err-clause-same_reference g c = c.in-Err.ensures.same_reference ∙ c.in-Full.ensures.same_reference
+
+pub returns-in-Failed : goal.returns-in-Failed
+returns-in-Failed g c = record {
+  takes = takes_failed c.args.layout.now c.args.number _ _;
+  failures = c.in-Failed.ensures.failures;
+  same_reference = c.in-Failed.ensures.same_reference;
+}
