@@ -53,8 +53,8 @@ pub enum Standing {
     Stopped(ReadStop),
 }
 
-/// Gives the records of a source's text one after the other, up to its end or to its first refused line, and behind that
-/// one all other lines that are refused.
+/// Gives the records of a source's text one after the other, up to its end or to its first refused line, and from there
+/// all lines that are refused.
 ///
 /// It keeps at most 65,536 bytes of the text, in an array, and takes no memory.
 #[derive(Drop)]
@@ -326,6 +326,7 @@ impl<R: Source> RecordReader<R> {
                     return Err(RefusalStop::Device);
                 }
                 Taken::Stopped(RefusalStop::Endless) => {
+                    // What is left are bytes of this line, which nothing more may be told of.
                     let cause = long_line_cause(line);
                     self.standing = Standing::Stopped(ReadStop::Refused { line, cause });
                     self.judged = u64::MAX;
@@ -335,12 +336,12 @@ impl<R: Source> RecordReader<R> {
         }
     }
 
-    /// The next line that is refused, or `None` at the end of the text: the one at which the reader stopped, and then those
-    /// behind it, whatever stands between them. A line may be of any length.
+    /// The next line that is refused, or `None` at the end of the text: the one at which the reader stopped, and then
+    /// those behind it, whatever stands between them. A line may be of any length.
     ///
     /// The other lines are judged and left: from the first call on no more records are read. A read that fails, an
-    /// interrupted one too, is answered as [`RefusalStop::Device`]. After that and after the end, each later call answers
-    /// the same and reads nothing.
+    /// interrupted one too, is answered as [`RefusalStop::Device`]. After that and after the end, each later call
+    /// answers the same and reads nothing.
     pub fn next_refusal(&mut self) -> Result<Option<Refusal>, RefusalStop>
         // The first of the refusals that were to come, or their end.
         ensures gives { GivesRefusal (refusals_to_come R.remaining self.old) (refusals_to_come R.remaining self.new)

@@ -44,6 +44,7 @@ fn skip_line<R: Source>(buffer: &mut LineBuffer<BLOCK>, source: &mut R) -> Resul
     ensures failures { CountsSkip (R.failure_count source.old) (R.failure_count source.new) result }
     ensures same_reference { R.reference source.new ≡ R.reference source.old }
 {
+    // A source may have no end.
     'blocks: for _ in 0..u64::MAX {
         match fetch_line(buffer, source) {
             Fetched::Whole(len) => {
