@@ -10,6 +10,10 @@ use Rattle.tl_record.specs.declared.judge.Judgement.TheVariants.{Refused}
 use Rattle.tl_record.specs.declared.refusal.RefusalStop.{RefusalStop}
 use Rattle.tl_record.specs.declared.refusal.RefusalStop.TheVariants.{Device, Endless}
 use Rattle.tl_record.specs.declared.take.Taken.TheVariants as taken
+use Rattle.tl_record.specs.declared.judge.Meaning.{Meaning}
+use Rattle.tl_record.specs.declared.judge.Meaning.TheVariants as meaning
+use Rattle.tl_record.specs.declared.record.Record.{Record}
+use Rattle.tl_record.specs.Meaning.{judgement_with}
 use Rattle.tl_record.specs.Judgement.{judgement}
 use Rattle.tl_record.specs.Refusals.{cause_of}
 use Rattle.tl_record.specs.Searching.{TakesNext, SkipsLine}
@@ -142,3 +146,14 @@ stops_full T layout number (Some text) (Some xs) new bytes Endless kept skips = 
 pub takes_failed : (layout : Layout) (number : ℕ) (old new : Option (List ℕ)) → TakesNext layout number old new (taken.Stopped Device)
 takes_failed layout number None new = tt
 takes_failed layout number (Some text) new = tt
+
+-- why a line is refused, by what it means
+pub cause_told : (told : Meaning) (cause : Cause) (r : Record) → told ≡ meaning.Refused cause → Some cause ≡ cause_of (judgement_with told r)
+cause_told meaning.PassedOver cause r is = absurd (let wrong = is in cc)
+cause_told meaning.Read cause r is = absurd (let wrong = is in cc)
+cause_told (meaning.Refused c) cause r is = let same : c ≡ cause = let whole = is in cc in ap (λ (x : Cause). Some x) (sym same)
+
+pub none_told : (told : Meaning) (r : Record) → ((cause : Cause) → told ≡ meaning.Refused cause → ⊥) → (let none : Option Cause = None in none ≡ cause_of (judgement_with told r))
+none_told meaning.PassedOver r not = refl
+none_told meaning.Read r not = refl
+none_told (meaning.Refused c) r not = absurd (not c refl)
