@@ -7,8 +7,11 @@ pub mod TextLemmas
 pub mod KnownLemmas
 pub mod NextLemmas
 pub mod RecordLemmas
+pub mod SkipLemmas
+pub mod RefusalLemmas
 pub mod MoveLemmas
 pub mod ReadOn
+pub mod SearchOn
 pub mod Filled
 pub mod Lanes
 pub mod EightDigits

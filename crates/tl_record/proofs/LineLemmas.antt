@@ -69,7 +69,7 @@ no_bytes front [] none = append-nil front
 no_bytes front (byte ∷ bytes) none = absurd (omega arith)
 
 -- a text with no line feed is one line, and nothing follows it
-no_feed_here : (byte : ℕ) (text : List ℕ) → line_feeds (byte ∷ text) ≡ 0 → (is_byte line_feed byte ≡ false) × (line_feeds text ≡ 0)
+pub no_feed_here : (byte : ℕ) (text : List ℕ) → line_feeds (byte ∷ text) ≡ 0 → (is_byte line_feed byte ≡ false) × (line_feeds text ≡ 0)
 no_feed_here byte text none =
     elim (cases_Bool (is_byte line_feed byte)) [
       | inl is ↦ let counted = feed_counts byte text is in absurd (omega (arith, counted))

@@ -70,7 +70,7 @@ pub last_passed : (layout : Layout) (lines skipped : ℕ) (old left : Option (Li
     → Gives (coming layout lines skipped old) new (skipped + 1) (Ok None)
 last_passed layout lines skipped None left new found = tt
 last_passed layout lines skipped (Some text) left new found =
-    first_passed layout lines skipped text found.0 ∙ ap (coming_of layout (lines + 1) (skipped + 1)) found.1 ∙ records_none layout (lines + 1) (skipped + 1)
+    first_passed layout lines skipped text found.first ∙ ap (coming_of layout (lines + 1) (skipped + 1)) found.rest ∙ records_none layout (lines + 1) (skipped + 1)
 
 pub last_read : (layout : Layout) (lines skipped : ℕ) (old left : Option (List ℕ)) (r : Record) (n : ℕ) → FindsNext layout (lines + 1) old left (next.Last (Read r))
     → Gives (coming layout lines skipped old) (Some (nothing_after skipped)) n (Ok (Some (lines + 1, r)))
@@ -78,15 +78,15 @@ last_read layout lines skipped None left r n found = tt
 last_read layout lines skipped (Some text) left r n found = (
   nothing_after skipped,
   refl,
-  first_read layout lines skipped text r found.0
-      ∙ ap (λ rest. with_entry (lines + 1, r) (coming_of layout (lines + 1) skipped rest)) found.1 ∙ ap (with_entry (lines + 1, r)) (records_none layout (lines + 1) skipped),
+  first_read layout lines skipped text r found.first
+      ∙ ap (λ rest. with_entry (lines + 1, r) (coming_of layout (lines + 1) skipped rest)) found.rest ∙ ap (with_entry (lines + 1, r)) (records_none layout (lines + 1) skipped),
 )
 
 pub last_refused : (layout : Layout) (lines skipped : ℕ) (old left : Option (List ℕ)) (new : Option Records) (cause : Cause)
     → FindsNext layout (lines + 1) old left (next.Last (Refused cause))
     → Gives (coming layout lines skipped old) new skipped (Err (stop.Refused (lines + 1) cause))
 last_refused layout lines skipped None left new cause found = tt
-last_refused layout lines skipped (Some text) left new cause found = first_refused layout lines skipped text cause found.0
+last_refused layout lines skipped (Some text) left new cause found = first_refused layout lines skipped text cause found.first
 
 -- no line is left
 pub end_reached : (layout : Layout) (lines skipped : ℕ) (old left : Option (List ℕ)) (new : Option Records) → FindsNext layout (lines + 1) old left next.End

@@ -13,10 +13,11 @@ use Rattle.tl_record.specs.declared.judge.Judgement.TheVariants.{PassedOver, Rea
 use Rattle.tl_record.specs.declared.reader.NextLine.TheVariants as next
 use Rattle.tl_record.specs.declared.reader.Standing.TheVariants.{Reading, Ended, Stopped}
 use Rattle.tl_record.specs.declared.reader.RecordReader.{RecordReader}
-use Rattle.tl_record.specs.Reader.{Answer, source_of, lines_of, skipped_of, standing_of, pending_of, layout_of, unjudged, outcome, to_come, nothing_after, StepsTo, CountsLine, PassesOver, Moves, Gives, answer_of, answer_with, KeepsUnanswered, lines_with, skipped_with, standing_with}
+use Rattle.tl_record.specs.Reader.{Answer, source_of, lines_of, skipped_of, standing_of, pending_of, layout_of, unjudged, outcome, to_come, nothing_after, StepsTo, CountsLine, PassesOver, Moves, Gives, answer_of, answer_with, KeepsUnanswered, lines_with, skipped_with, judged_of, judged_with, standing_with}
 use Rattle.tl_record.specs.Failures.{one_more}
 use Rattle.tl_record.specs.Lines.{line_feeds}
 use Rattle.tl_record.specs.Records.{Records}
+use Rattle.tl_record.proofs.RefusalLemmas.{refusals_passed, refusals_read, refusals_refused, last_refusals_passed, last_refusals_read, last_refusals_refused, end_refusals, failed_refusals, KeepsRefusals-trans}
 use Rattle.tl_record.proofs.MoveLemmas.{coming, line_passed, feed_passed, line_read, line_refused, last_passed, last_read, last_refused, end_reached, read_failed, feeds_failed, KeepsRecords-trans, Gives-after, CountsLineFeeds-trans}
 
 -- one more line is passed over
@@ -36,6 +37,8 @@ passes_on remaining failure_count first before found after PassedOver passed ste
           (rw (same, lines) (feed_passed before.layout before.lines (unjudged remaining before) (unjudged remaining found) step.finds));
       coming = KeepsRecords-trans _ _ _ passed.coming
           (rw (same, layout, lines, skipped) (line_passed before.layout before.lines before.skipped (unjudged remaining before) (unjudged remaining found) step.finds));
+      refusals = KeepsRefusals-trans _ _ _ passed.refusals
+          (rw (same, layout, lines) (refusals_passed before.layout before.lines (unjudged remaining before) (unjudged remaining found) step.finds));
     }
 passes_on remaining failure_count first before found after (Read r) passed step counted = let bad = counted.is in cc
 passes_on remaining failure_count first before found after (Refused cause) passed step counted = let bad = counted.is in cc
@@ -61,8 +64,12 @@ answers_line remaining failure_count first before found after (Read r) answer pa
       counts = (sym lines, omega (arith, passed.counts, lines, skipped));
       failures = ap failure_count counted.source ∙ step.failures ∙ passed.failures;
       whole = tt;
+      refusals = KeepsRefusals-trans _ _ _ passed.refusals
+          (rw (standing, layout, lines, counted.source, counted.pending) (refusals_read before.layout before.lines (unjudged remaining before) (unjudged remaining found) r step.finds));
     }
 answers_line remaining failure_count first before found after (Refused cause) answer passed step counted =
+    let layout : after.layout ≡ before.layout = counted.layout ∙ step.progress.layout in
+    let judged : after.judged ≡ before.lines = counted.judged ∙ step.progress.lines in
     let lines : after.lines ≡ before.lines = counted.lines ∙ step.progress.lines in
     let skipped : after.skipped ≡ before.skipped = counted.skipped ∙ step.progress.skipped in
     let told : answer ≡ Err (stop.Refused (found.lines + 1) cause) = let is = counted.is in cc in
@@ -75,6 +82,8 @@ answers_line remaining failure_count first before found after (Refused cause) an
       counts = (ap (λ n. n + 1) (sym lines), omega (arith, passed.counts, lines, skipped));
       failures = ap failure_count counted.source ∙ step.failures ∙ passed.failures;
       whole = tt;
+      refusals = KeepsRefusals-trans _ _ _ passed.refusals
+          (rw (standing, layout, judged, counted.source, counted.pending) (refusals_refused before.layout before.lines (unjudged remaining before) (unjudged remaining found) cause step.finds));
     }
 
 -- a last line, counted by a reader that holds itself at the end
@@ -82,8 +91,11 @@ pub record IsAccepted {R : Type 0} (old new : RecordReader R) (j : Judgement) (t
   pub is : told ≡ answer_of (lines_of old + 1) j
   pub lines : lines_of new ≡ lines_with (lines_of old) j
   pub skipped : skipped_of new ≡ skipped_with (skipped_of old) j
+  pub judged : judged_of new ≡ judged_with (judged_of old) (lines_of old) j
   pub standing : standing_of new ≡ standing_with Ended (lines_of old + 1) j
+  pub layout : layout_of new ≡ layout_of old
   pub source : source_of new ≡ source_of old
+  pub pending : pending_of new ≡ pending_of old
 
 -- a last line with no line feed is answered, or the end where it is passed over
 pub answers_last : {R : Type 0} (remaining : R → Option (List ℕ)) (failure_count : R → ℕ) (first before found after : RecordReader R) (j : Judgement) (told : Option Answer)
@@ -99,6 +111,8 @@ answers_last remaining failure_count first before found after PassedOver told pa
       counts = omega (arith, passed.counts, lines, skipped);
       failures = ap failure_count counted.source ∙ step.failures ∙ passed.failures;
       whole = tt;
+      refusals = KeepsRefusals-trans _ _ _ passed.refusals
+          (rw counted.standing (last_refusals_passed before.layout before.lines (unjudged remaining before) (unjudged remaining found) step.finds));
     }
 answers_last remaining failure_count first before found after (Read r) told passed step counted =
     let lines : after.lines ≡ before.lines + 1 = counted.lines ∙ ap (λ n. n + 1) step.progress.lines in
@@ -112,8 +126,12 @@ answers_last remaining failure_count first before found after (Read r) told pass
       counts = (sym lines, omega (arith, passed.counts, lines, skipped));
       failures = ap failure_count counted.source ∙ step.failures ∙ passed.failures;
       whole = tt;
+      refusals = KeepsRefusals-trans _ _ _ passed.refusals
+          (rw counted.standing (last_refusals_read before.layout before.lines (unjudged remaining before) (unjudged remaining found) r step.finds));
     }
 answers_last remaining failure_count first before found after (Refused cause) told passed step counted =
+    let layout : after.layout ≡ before.layout = counted.layout ∙ step.progress.layout in
+    let judged : after.judged ≡ before.lines = counted.judged ∙ step.progress.lines in
     let lines : after.lines ≡ before.lines = counted.lines ∙ step.progress.lines in
     let skipped : after.skipped ≡ before.skipped = counted.skipped ∙ step.progress.skipped in
     let is : told ≡ Some (Err (stop.Refused (before.lines + 1) cause)) = counted.is ∙ ap (λ n. Some (Err (stop.Refused (n + 1) cause))) step.progress.lines in
@@ -125,6 +143,8 @@ answers_last remaining failure_count first before found after (Refused cause) to
       counts = (ap (λ n. n + 1) (sym lines), omega (arith, passed.counts, lines, skipped));
       failures = ap failure_count counted.source ∙ step.failures ∙ passed.failures;
       whole = tt;
+      refusals = KeepsRefusals-trans _ _ _ passed.refusals
+          (rw (standing, layout, judged, counted.source, counted.pending) (last_refusals_refused before.layout before.lines (unjudged remaining before) (unjudged remaining found) cause step.finds));
     }
 
 -- where no line is left, the end is answered
@@ -142,6 +162,8 @@ answers_end remaining failure_count first before found after passed step standin
       counts = omega (arith, passed.counts, lines_are, skipped_are);
       failures = ap failure_count source ∙ step.failures ∙ passed.failures;
       whole = tt;
+      refusals = KeepsRefusals-trans _ _ _ passed.refusals
+          (rw standing (end_refusals before.layout before.lines (unjudged remaining before) (unjudged remaining found) step.finds));
     }
 
 device_gives : (old new : Option Records) (skipped : ℕ) → Gives old new skipped (Err stop.Device)
@@ -177,6 +199,8 @@ answers_failed remaining failure_count first before found after passed step stan
         coming = KeepsRecords-trans _ _ _ passed.coming
             (rw (same, layout, lines, skipped) (read_failed before.layout before.lines before.skipped (unjudged remaining before) (unjudged remaining found) step.finds));
       };
+      refusals = KeepsRefusals-trans _ _ _ passed.refusals
+          (rw (standing, same, layout, lines) (failed_refusals before.layout before.lines (unjudged remaining before) (unjudged remaining found) step.finds));
     }
 
 -- ---- the record's place

@@ -12,5 +12,7 @@ pub mod Outcome
 pub mod Judgement
 pub mod Meaning
 pub mod Records
+pub mod Refusals
 pub mod NextLine
 pub mod Reader
+pub mod Searching

@@ -41,6 +41,12 @@ IfAccepted PassedOver P = P
 IfAccepted (Read r) P = P
 IfAccepted (Refused cause) P = ⊤
 
+-- what holds where a line is refused
+abbrev pub IfRefused : Judgement → Type 0 → Type 0
+IfRefused PassedOver P = ⊤
+IfRefused (Read r) P = ⊤
+IfRefused (Refused cause) P = P
+
 -- some line has this judgement
 abbrev pub JudgesSome : Layout → ℕ → NextLine Judgement → Type 0
 JudgesSome layout number (next.Line j) = (line : List ℕ) × (j ≡ judgement layout number line)
@@ -48,17 +54,24 @@ JudgesSome layout number (next.Last j) = (line : List ℕ) × (j ≡ judgement l
 JudgesSome layout number next.End = ⊤
 JudgesSome layout number next.Failed = ⊤
 
--- a line that ends in a line feed was judged, and what follows it is left
+-- a line that ends in a line feed was judged, and what follows it is left, or the line too where it is refused
 pub record TakesLine (layout : Layout) (number : ℕ) (text : List ℕ) (new : Option (List ℕ)) (j : Judgement) : Type 0 where
   pub first : JudgesFirst layout number text j
   pub rest : IfAccepted j (new ≡ Some (after_first_line text))
   pub feeds : IfAccepted j (line_feeds text ≡ line_feeds (after_first_line text) + 1)
+  pub stays : IfRefused j (new ≡ Some text)
+
+-- a last line with no line feed was judged, and is left
+pub record ShowsLast (layout : Layout) (number : ℕ) (text : List ℕ) (new : Option (List ℕ)) (j : Judgement) : Type 0 where
+  pub first : JudgesFirst layout number text j
+  pub rest : after_first_line text ≡ []
+  pub stays : new ≡ Some text
 
 -- what was found in the text that wasn't judged before, where that is known
 abbrev pub FindsNext : Layout → ℕ → Option (List ℕ) → Option (List ℕ) → NextLine Judgement → Type 0
 FindsNext layout number None new found = ⊤
 FindsNext layout number (Some text) new (next.Line j) = TakesLine layout number text new j
-FindsNext layout number (Some text) new (next.Last j) = JudgesFirst layout number text j × (after_first_line text ≡ [])
+FindsNext layout number (Some text) new (next.Last j) = ShowsLast layout number text new j
 FindsNext layout number (Some text) new next.End = text ≡ []
 FindsNext layout number (Some text) new next.Failed = new ≡ Some text
 

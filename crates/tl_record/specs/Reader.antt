@@ -16,6 +16,7 @@ use Rattle.tl_record.specs.declared.reader.RecordReader.{RecordReader}
 use Rattle.tl_record.specs.Failures.{one_more}
 use Rattle.tl_record.specs.Lines.{raw_lines, line_feeds}
 use Rattle.tl_record.specs.Records.{Records, records_of_lines}
+use Rattle.tl_record.specs.Refusals.{refused}
 use Rattle.tl_record.specs.declared.reader.NextLine.{NextLine}
 use Rattle.tl_record.specs.NextLine.{FindsNext, JudgesSome, PendingWhole, CountsNext}
 
@@ -31,6 +32,10 @@ lines_of reader = reader.lines
 
 abbrev pub skipped_of : {R : Type 0} → RecordReader R → ℕ
 skipped_of reader = reader.skipped
+
+-- how many lines were judged so far, where the reader stopped at a refused line
+abbrev pub judged_of : {R : Type 0} → RecordReader R → ℕ
+judged_of reader = reader.judged
 
 -- whether the reader still reads, or which answer it repeats
 abbrev pub standing_of : {R : Type 0} → RecordReader R → Standing
@@ -53,6 +58,26 @@ with_skipped before records = record { entries = records.entries; refusal = reco
 abbrev pub to_come : {R : Type 0} → (R → Option (List ℕ)) → RecordReader R → Option Records
 to_come remaining reader =
     option_map (λ text. with_skipped (skipped_of reader) (records_of_lines (layout_of reader) (lines_of reader) (raw_lines text))) (unjudged remaining reader)
+
+-- how many lines come before the bytes that weren't judged: those that were accepted, and where the reader stopped at a
+-- refused line, all that were judged
+abbrev pub lines_before : Standing → ℕ → ℕ → ℕ
+lines_before Reading lines judged = lines
+lines_before Ended lines judged = lines
+lines_before (Stopped (Refused line cause)) lines judged = judged
+lines_before (Stopped Device) lines judged = lines
+
+-- nothing is left at the end of the text
+abbrev pub left_standing : Standing → Option (List (ℕ × Cause)) → Option (List (ℕ × Cause))
+left_standing Reading coming = coming
+left_standing Ended coming = Some []
+left_standing (Stopped stop) coming = coming
+
+-- All lines that are refused from where the reader is, where they are known. Among them is the one at which it stopped,
+-- unless that was given as a refusal.
+abbrev pub refusals_to_come : {R : Type 0} → (R → Option (List ℕ)) → RecordReader R → Option (List (ℕ × Cause))
+refusals_to_come remaining reader =
+    left_standing (standing_of reader) (refused (layout_of reader) (lines_before (standing_of reader) (lines_of reader) (judged_of reader)) (unjudged remaining reader))
 
 -- nothing comes any more
 abbrev pub nothing_after : ℕ → Records
@@ -133,6 +158,11 @@ abbrev pub KeepsRecords : Option Records → Option Records → Type 0
 KeepsRecords None new = ⊤
 KeepsRecords (Some records) new = new ≡ Some records
 
+-- known refusals stay as they were
+abbrev pub KeepsRefusals : Option (List (ℕ × Cause)) → Option (List (ℕ × Cause)) → Type 0
+KeepsRefusals None new = ⊤
+KeepsRefusals (Some refusals) new = new ≡ Some refusals
+
 -- each line feed that is gone from a known text ended a line that was counted
 abbrev pub CountsLineFeeds : Option (List ℕ) → ℕ → Option (List ℕ) → ℕ → Type 0
 CountsLineFeeds None old_lines new lines = ⊤
@@ -193,11 +223,17 @@ standing_with standing number PassedOver = standing
 standing_with standing number (Read r) = standing
 standing_with standing number (judged.Refused cause) = Stopped (Refused number cause)
 
+abbrev pub judged_with : ℕ → ℕ → Judgement → ℕ
+judged_with count lines PassedOver = count
+judged_with count lines (Read r) = count
+judged_with count lines (judged.Refused cause) = lines
+
 -- a judged line is counted, and answered unless it is passed over
 pub record CountsLine {R : Type 0} (old new : RecordReader R) (j : Judgement) (answer : Option Answer) : Type 0 where
   pub is : answer ≡ answer_of (lines_of old + 1) j
   pub lines : lines_of new ≡ lines_with (lines_of old) j
   pub skipped : skipped_of new ≡ skipped_with (skipped_of old) j
+  pub judged : judged_of new ≡ judged_with (judged_of old) (lines_of old) j
   pub standing : standing_of new ≡ standing_with (standing_of old) (lines_of old + 1) j
   pub layout : layout_of new ≡ layout_of old
   pub source : source_of new ≡ source_of old
@@ -210,6 +246,7 @@ pub record PassesOver {R : Type 0} (remaining : R → Option (List ℕ)) (failur
   pub counts : skipped_of new + lines_of old ≡ skipped_of old + lines_of new
   pub feeds : CountsLineFeeds (unjudged remaining old) (lines_of old) (unjudged remaining new) (lines_of new)
   pub coming : KeepsRecords (to_come remaining old) (to_come remaining new)
+  pub refusals : KeepsRefusals (refused (layout_of old) (lines_of old) (unjudged remaining old)) (refused (layout_of new) (lines_of new) (unjudged remaining new))
 
 -- what a reader answers that reads
 pub record Moves {R : Type 0} (remaining : R → Option (List ℕ)) (failure_count : R → ℕ) (old new : RecordReader R) (answer : Answer) : Type 0 where
@@ -218,3 +255,4 @@ pub record Moves {R : Type 0} (remaining : R → Option (List ℕ)) (failure_cou
   pub counts : Counts (lines_of old) (skipped_of old) (lines_of new) (skipped_of new) answer
   pub failures : TellsFailure Reading (failure_count (source_of old)) (failure_count (source_of new)) answer
   pub whole : FailsWhole remaining old new answer
+  pub refusals : KeepsRefusals (refused (layout_of old) (lines_of old) (unjudged remaining old)) (refusals_to_come remaining new)

@@ -1,9 +1,18 @@
 //! What holds of the definitions alone. Each law is a function that does nothing: its contract is the law.
 
-ghost use Rattle.std.specs.Prelude.{◌≡◌, ◌↔◌, ℕ, List};
+ghost use Rattle.std.specs.Prelude.{◌≡◌, ◌↔◌, ℕ, List, slice_get};
+ghost use Rattle.tl_record.specs.declared.layout.Layout.{Layout};
 ghost use Rattle.tl_record.specs.Lines.{raw_lines, AreLinesOf};
+ghost use Rattle.tl_record.specs.Records.{records_of};
+ghost use Rattle.tl_record.specs.Refusals.{refusals_of};
 
 /// A text has one list of raw lines: those that it is made of when they are joined by line feeds.
 pub fn a_text_has_its_lines()
     ensures { (text : List ℕ) (lines : List (List ℕ)) → (raw_lines text ≡ lines) ↔ AreLinesOf text lines }
+{}
+
+/// The first refusal of a text is the one at which reading its records stops, and a text that has none is read whole.
+pub fn the_first_refusal_stops_reading()
+    ensures { (layout : Layout) (text : List ℕ) →
+        slice_get (refusals_of layout text) 0 ≡ (records_of layout text).refusal }
 {}

@@ -2,8 +2,9 @@
 //!
 //! A [`Source`] gives the bytes of a text in reads of any size and counts the reads that failed; a [`RecordReader`]
 //! over it hands out the text's records one after the other, with their line numbers, up to the text's end or to the
-//! first line that is refused. Which columns each record type has is a value, [`Layout`], and what a line means is one
-//! definition over that value. Nothing here takes memory.
+//! first line that is refused, and from there, where it is asked for them, all lines that are refused. Which columns
+//! each record type has is a value, [`Layout`], and what a line means is one definition over that value. Nothing here
+//! takes memory.
 #![tactic(auto)]
 
 mod aligned;
@@ -21,9 +22,11 @@ mod number;
 mod options;
 mod reader;
 mod record;
+mod refusal;
 mod sink;
 mod source;
 mod stop;
+mod take;
 mod word;
 
 pub use columns::{ColumnRange, Columns, FiveColumns};
@@ -41,6 +44,7 @@ pub use number::{Spelt, coordinate_spelt};
 pub use options::Options;
 pub use reader::RecordReader;
 pub use record::{NO_RECORD, PAIRS, Record};
+pub use refusal::{Refusal, RefusalStop};
 pub use sink::Sink;
 pub use source::Source;
 pub use stop::{Cause, Field, ReadStop};

@@ -1,6 +1,6 @@
 //! The bytes that were fetched from a source and not taken yet, and the search for the end of a line in them.
 
-ghost use Rattle.std.specs.Prelude.{◌≡◌, ℕ, ◌-◌, ◌<◌, ◌≤◌, List, [], length, take, drop};
+ghost use Rattle.std.specs.Prelude.{◌≡◌, ℕ, ◌+◌, ◌-◌, ◌<◌, ◌≤◌, List, [], length, take, drop};
 ghost use Rattle.std.specs.Io.KnownBytes.{Keeps, prepend_known};
 ghost use Rattle.tl_record.specs.Failures.{CountsRead};
 ghost use Rattle.tl_record.specs.NextLine.{Shows, CountsFetch};
@@ -81,6 +81,22 @@ impl<const N: usize> LineBuffer<N> {
         ensures { self.new ≡ drop count self.old }
     {
         self.at += count;
+    }
+
+    /// Takes a line of so many bytes off the front, and the byte that ends it.
+    pub fn consume_line(&mut self, len: usize)
+        requires { len < length self.old }
+        ensures { self.new ≡ drop (len + 1) self.old }
+    {
+        self.at = self.at + len + 1;
+    }
+
+    /// Takes all bytes off.
+    pub fn clear(&mut self)
+        ensures { self.new ≡ [] }
+    {
+        self.at = 0;
+        self.filled = 0;
     }
 
     /// Fetches bytes to the end, as many as one read of the source gives and there is room for.

@@ -1,6 +1,6 @@
 //! The records of a text, one after the other.
 
-ghost use Rattle.std.specs.Prelude.{◌≡◌, ◌+◌, ◌<◌, ◌≤◌, ℕ, List, length, take};
+ghost use Rattle.std.specs.Prelude.{◌≡◌, ◌+◌, ◌<◌, ◌≤◌, ℕ, List, true, length, take};
 ghost use Rattle.std.specs.Option.{option_map};
 ghost use Rattle.std.specs.Io.KnownBytes.{IsAtEnd, Keeps, prepend_known};
 ghost use Rattle.tl_record.specs.Limits.{most_lines, most_line_bytes};
@@ -10,6 +10,7 @@ ghost use Rattle.tl_record.specs.Layout.{tiger_2006, layout_with};
 ghost use Rattle.tl_record.specs.declared.judge.Judgement.TheVariants.{Refused};
 ghost use Rattle.tl_record.specs.Judgement.{judgement, judgement as judgement_of};
 ghost use Rattle.tl_record.specs.Records.{records_of};
+ghost use Rattle.tl_record.specs.Refusals.{refusals_of};
 ghost use Rattle.tl_record.specs.NextLine.{Shows, CountsFetch, found_with, KeepsUnfound};
 ghost use Rattle.tl_record.specs.Meaning.{judgement_with, KeepsUnread};
 ghost use Rattle.tl_record.specs.declared.record.Record.{Record};
@@ -20,11 +21,13 @@ use crate::layout::{Layout, layout_with};
 use crate::line_buffer::{Fetched, LineBuffer, fetch_line};
 use crate::options::Options;
 use crate::record::{NO_RECORD, Record};
+use crate::refusal::{Refusal, RefusalStop};
 use crate::source::Source;
 use crate::stop::{Cause, ReadStop};
+use crate::take::{Taken, take_line};
 
 // How many bytes of the text are kept: what is fetched at once.
-const BLOCK: usize = 65_536;
+pub(crate) const BLOCK: usize = 65_536;
 
 /// The next line, judged: `J` is what is told of it.
 #[derive(Clone, Copy)]
@@ -50,7 +53,8 @@ pub enum Standing {
     Stopped(ReadStop),
 }
 
-/// Gives the records of a source's text one after the other, up to its end or to its first refused line.
+/// Gives the records of a source's text one after the other, up to its end or to its first refused line, and from there
+/// all lines that are refused.
 ///
 /// It keeps at most 65,536 bytes of the text, in an array, and takes no memory.
 #[derive(Drop)]
@@ -60,13 +64,14 @@ pub struct RecordReader<R> {
     buffer: LineBuffer<BLOCK>,
     lines: u64,
     skipped: u64,
+    judged: u64,
     standing: Standing,
     ghost few_lines: { lines ≤ most_lines },
     ghost some_skipped: { skipped ≤ lines },
 }
 
 /// Why a line is refused that is longer than any that is read.
-fn long_line_cause(number: u64) -> Cause
+pub(crate) fn long_line_cause(number: u64) -> Cause
     ensures { (layout : Layout) (line : List ℕ) → most_line_bytes < length line
         → judgement layout number line ≡ Refused result }
 {
@@ -81,12 +86,17 @@ impl<R: Source> RecordReader<R> {
     ghost use Rattle.tl_record.specs.Reader.{source_of, layout_of, lines_of, skipped_of, standing_of, pending_of};
     ghost use Rattle.tl_record.specs.Reader.{outcome, StepsTo, CountsLine, Moves, Gives, Settles, Repeats, Counts};
     ghost use Rattle.tl_record.specs.Reader.{answer_with, KeepsUnanswered};
-    ghost use Rattle.tl_record.specs.Reader.{TellsFailure, FailsWhole, WhereReading};
+    ghost use Rattle.tl_record.specs.Searching.{extent, extent_of, GivesRefusal, SettlesSearch, RepeatsSearch};
+    ghost use Rattle.tl_record.specs.Searching.{TellsFailed, goes_on, GivesUp, Finds};
+    ghost use Rattle.tl_record.specs.Reader.{TellsFailure, FailsWhole, WhereReading, refusals_to_come, KeepsRefusals};
 
     /// A reader of the source's records, by the column table of the TIGER/Line files of 2006.
     pub fn new(source: R) -> RecordReader<R>
         ensures source { source_of result ≡ source }
         ensures records { outcome R.remaining result ≡ option_map (records_of tiger_2006) (R.remaining source) }
+        ensures refusals { refusals_to_come R.remaining result
+            ≡ option_map (refusals_of tiger_2006) (R.remaining source) }
+        ensures extent { extent R.remaining result ≡ extent_of 0 (R.remaining source) }
         ensures lines { lines_of result ≡ 0 }
         ensures skipped { skipped_of result ≡ 0 }
         ensures standing { standing_of result ≡ Standing.Reading }
@@ -99,6 +109,9 @@ impl<R: Source> RecordReader<R> {
         ensures source { source_of result ≡ source }
         ensures records { outcome R.remaining result
             ≡ option_map (records_of (layout_with options)) (R.remaining source) }
+        ensures refusals { refusals_to_come R.remaining result
+            ≡ option_map (refusals_of (layout_with options)) (R.remaining source) }
+        ensures extent { extent R.remaining result ≡ extent_of 0 (R.remaining source) }
         ensures lines { lines_of result ≡ 0 }
         ensures skipped { skipped_of result ≡ 0 }
         ensures standing { standing_of result ≡ Standing.Reading }
@@ -109,6 +122,7 @@ impl<R: Source> RecordReader<R> {
             buffer: LineBuffer::new(),
             lines: 0,
             skipped: 0,
+            judged: 0,
             standing: Standing::Reading,
         }
     }
@@ -155,6 +169,9 @@ impl<R: Source> RecordReader<R> {
         match fetch_line(&mut self.buffer, &mut self.source) {
             Fetched::Whole(len) => {
                 let meaning = self.judge_pending(len, place);
+                if let Meaning::Refused(_) = meaning {
+                    return NextLine::Line(meaning);
+                }
                 self.buffer.consume(len + 1);
                 NextLine::Line(meaning)
             }
@@ -187,6 +204,7 @@ impl<R: Source> RecordReader<R> {
                     line: number,
                     cause,
                 };
+                self.judged = self.lines;
                 self.standing = Standing::Stopped(stop);
                 Some(Err(stop))
             }
@@ -240,6 +258,8 @@ impl<R: Source> RecordReader<R> {
         ensures same_reference { R.reference (source_of self.new) ≡ R.reference (source_of self.old) }
         ensures whole_lines { WhereReading (standing_of self.old)
             (FailsWhole R.remaining self.old self.new (answer_with result place.new)) }
+        ensures refusals { KeepsRefusals (refusals_to_come R.remaining self.old)
+            (refusals_to_come R.remaining self.new) }
         ensures kept { KeepsUnanswered result place.old place.new }
     {
         match self.standing {
@@ -270,9 +290,82 @@ impl<R: Source> RecordReader<R> {
         // Its source is the one that it was.
         ensures same_reference { R.reference (source_of self.new) ≡ R.reference (source_of self.old) }
         ensures whole_lines { WhereReading (standing_of self.old) (FailsWhole R.remaining self.old self.new result) }
+        // No line that is refused is lost: the one at which it stops is still to come, and so are those behind it.
+        ensures refusals { KeepsRefusals (refusals_to_come R.remaining self.old)
+            (refusals_to_come R.remaining self.new) }
     {
         let mut record = NO_RECORD;
         let answer = self.read_next(&mut record);
         with_record(answer, record)
+    }
+
+    // Judges on behind the lines that were judged, up to a line that is refused.
+    fn search_on(&mut self) -> Result<Option<Refusal>, RefusalStop>
+        ensures finds { Finds R.remaining R.failure_count self.old self.new result }
+        ensures same_reference { R.reference (source_of self.new) ≡ R.reference (source_of self.old) }
+    {
+        'lines: loop {
+            if self.judged == u64::MAX {
+                return Err(RefusalStop::Endless);
+            }
+            let line = self.judged + 1;
+            match take_line(&mut self.buffer, &mut self.source, &self.layout, line) {
+                Taken::Line(cause) => {
+                    self.judged = line;
+                    if let Some(cause) = cause {
+                        self.standing = Standing::Stopped(ReadStop::Refused { line, cause });
+                        return Ok(Some(Refusal { line, cause }));
+                    }
+                }
+                Taken::End => {
+                    self.standing = Standing::Ended;
+                    return Ok(None);
+                }
+                Taken::Stopped(RefusalStop::Device) => {
+                    self.standing = Standing::Stopped(ReadStop::Device);
+                    return Err(RefusalStop::Device);
+                }
+                Taken::Stopped(RefusalStop::Endless) => {
+                    // What is left are bytes of this line, which nothing more may be told of.
+                    let cause = long_line_cause(line);
+                    self.standing = Standing::Stopped(ReadStop::Refused { line, cause });
+                    self.judged = u64::MAX;
+                    return Err(RefusalStop::Endless);
+                }
+            }
+        }
+    }
+
+    /// The next line that is refused, or `None` at the end of the text: the one at which the reader stopped, and then
+    /// those behind it, whatever stands between them. A line may be of any length.
+    ///
+    /// The other lines are judged and left: from the first call on no more records are read. A read that fails, an
+    /// interrupted one too, is answered as [`RefusalStop::Device`]. After that and after the end, each later call
+    /// answers the same and reads nothing.
+    pub fn next_refusal(&mut self) -> Result<Option<Refusal>, RefusalStop>
+        // The first of the refusals that were to come, or their end.
+        ensures gives { GivesRefusal (refusals_to_come R.remaining self.old) (refusals_to_come R.remaining self.new)
+            result }
+        ensures settles { SettlesSearch (standing_of self.new) result }
+        // An end or a failed read is answered again and again, and nothing is read any more.
+        ensures repeats { RepeatsSearch (standing_of self.old) self.old self.new result }
+        // `Device` is answered where a read failed in this call, and nowhere else.
+        ensures failures { TellsFailed (standing_of self.old) (R.failure_count (source_of self.old))
+            (R.failure_count (source_of self.new)) result }
+        // `Endless` is answered of no text that has an end within 2^64 - 1 bytes.
+        ensures endless { goes_on (standing_of self.old) ≡ true →
+            GivesUp (extent R.remaining self.old) (extent R.remaining self.new) result }
+        // Its source is the one that it was.
+        ensures same_reference { R.reference (source_of self.new) ≡ R.reference (source_of self.old) }
+    {
+        match self.standing {
+            Standing::Reading => {
+                self.judged = self.lines;
+                self.search_on()
+            }
+            Standing::Stopped(ReadStop::Refused { .. }) => self.search_on(),
+            Standing::Ended => Ok(None),
+            Standing::Stopped(ReadStop::Device) => Err(RefusalStop::Device),
+        }
     }
 }

@@ -13,7 +13,7 @@ returns-clause-steps g c =
     let some : bytes ≢ [] = λ none. c.if-len-eq0.false (same ∙ ap length none) in
     let is = c.judge_pending.ensures.judged ∙ ap (judgement reader.layout (reader.lines + 1)) all in
     record {
-      finds = finds_last reader.layout (reader.lines + 1) (g.R.Source.remaining reader.source) _ bytes (judgement_with c.judge_pending.result c.judge_pending.new.place) some c.requires.ended c.requires.none is;
+      finds = finds_last reader.layout (reader.lines + 1) (g.R.Source.remaining reader.source) bytes (judgement_with c.judge_pending.result c.judge_pending.new.place) some c.requires.ended c.requires.none is;
       judges = (bytes, is);
       pending = tt;
       failures = refl;

@@ -20,3 +20,6 @@ returns-clause-same_reference g c = c.read_next-answer.ensures.same_reference
 
 pub returns-clause-whole_lines : goal.returns-clause-whole_lines
 returns-clause-whole_lines g c = rw c.with_record.ensures c.read_next-answer.ensures.whole_lines
+
+pub returns-clause-refusals : goal.returns-clause-refusals
+returns-clause-refusals g c = c.read_next-answer.ensures.refusals

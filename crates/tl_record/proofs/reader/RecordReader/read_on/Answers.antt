@@ -27,7 +27,7 @@ returns-in-Last-clause-moves g c =
     let record_now = c.next_line.new.place in
     let counted = c.count_line-in-Last.ensures record_now in
     let answered = answers_last g.R.Source.remaining g.R.Source.failure_count c.args.self.now c.lines.self c.next_line.new.self c.count_line-in-Last.new.self (judgement_with c.in-Last.meaning record_now) _
-    c.lines.invariant.passes c.in-Last.ensures.steps record { is = counted.is; lines = counted.lines; skipped = counted.skipped; standing = counted.standing; source = counted.source } in
+    c.lines.invariant.passes c.in-Last.ensures.steps record { is = counted.is; lines = counted.lines; skipped = counted.skipped; judged = counted.judged; standing = counted.standing; layout = counted.layout; source = counted.source; pending = counted.pending } in
     rw c.unwrap_or.ensures (rw (unwrapped_with c.count_line-in-Last.result record_now) at answered)
 
 pub returns-in-Last-clause-kept : goal.returns-in-Last-clause-kept

@@ -1,0 +1,2 @@
+-- What the contracts of lists of refused lines cite.
+pub mod Listing
