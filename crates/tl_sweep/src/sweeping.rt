@@ -48,8 +48,10 @@ fn note_all(
     ins: &mut Vec<u32>,
 ) -> Result<(), AllocError>
     requires { place < length events.now }
-    ensures outs { IfOk result (λ done. (s : ℕ) (d : List Event) → times s outs.new.items ≡ times s outs.old.items + count_by (ends_at s) (slice_index_or events.now place d)) }
-    ensures ins { IfOk result (λ done. (s : ℕ) (d : List Event) → times s ins.new.items ≡ times s ins.old.items + count_by (begins_at s) (slice_index_or events.now place d)) }
+    ensures outs { IfOk result (λ done. (s : ℕ) (d : List Event) → times s outs.new.items ≡
+        times s outs.old.items + count_by (ends_at s) (slice_index_or events.now place d)) }
+    ensures ins { IfOk result (λ done. (s : ℕ) (d : List Event) → times s ins.new.items ≡
+        times s ins.old.items + count_by (begins_at s) (slice_index_or events.now place d)) }
 {
     let (event, next) = events.at(place);
     note(event, outs, ins)?;
