@@ -1,5 +1,6 @@
 //! The events of a sweep: the ends of all segments, by height.
-ghost use Rattle.std.specs.Prelude.{◌≡◌, ◌+◌, ◌/◌, ◌%◌, ◌==◌, ◌^◌, ◌<◌, ◌∷◌, [], true, false, All, IfOk, IfSome, Some, length};
+ghost use Rattle.std.specs.Prelude.{◌≡◌, ◌+◌, ◌/◌, ◌%◌, ◌==◌, ◌^◌, ◌<◌, ◌∷◌, [], true, false};
+ghost use Rattle.std.specs.Prelude.{All, IfOk, IfSome, Some, length};
 ghost use Rattle.tl_geom.specs.Plane.{end_a, end_b};
 ghost use Rattle.tl_county.specs.Segments.{segments_before};
 ghost use Rattle.tl_slabs.specs.Heights.{widest};
