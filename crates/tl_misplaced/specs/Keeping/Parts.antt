@@ -1,0 +1,32 @@
+-- Parts of the list of all faults.
+use Rattle.std.specs.Prelude.{◌≡◌, ◌≢◌, ℕ, ◌<◌, List, length, All, Contains}
+use Rattle.std.specs.List.{AllPairs}
+use Rattle.tl_geom.specs.declared.point.Point.{Point}
+use Rattle.tl_county.specs.TheMap.{TheMap}
+use Rattle.tl_inside.specs.declared.misplaced.Misplaced.{Misplaced}
+use Rattle.tl_inside.specs.Inside.{IsClear}
+use Rattle.tl_misplaced.specs.AllMisplaced.{FaultPlace, ComesBefore, IsTrueAt, AreTrueAt}
+
+-- all faults that are true at such places, in their order
+pub record AreFaultsIn (m : TheMap) (In : FaultPlace → Type 0) (found : List Misplaced) : Type 0 where
+  pub places : List FaultPlace
+  pub told : AreTrueAt m places found
+  pub within : All In places
+  pub whole : (at : FaultPlace) (fault : Misplaced) → In at → IsTrueAt m at fault → Contains places at
+  pub in_order : AllPairs ComesBefore places
+
+-- those of polygon p of one kind; of polygon p; and of all polygons before p
+abbrev pub IsOf : (p kind : ℕ) → FaultPlace → Type 0
+IsOf p kind at = (at.polygon ≡ p) × (at.kind ≡ kind)
+
+abbrev pub IsOfPolygon : ℕ → FaultPlace → Type 0
+IsOfPolygon p at = at.polygon ≡ p
+
+abbrev pub IsBefore : ℕ → FaultPlace → Type 0
+IsBefore p at = at.polygon < p
+
+-- polygon n is another than p, and the point isn't clear of it
+pub record IsIn (m : TheMap) (q : Point) (p n : ℕ) : Type 0 where
+  pub known : n < length m.polygons
+  pub two : n ≢ p
+  pub within : ¬ IsClear m.chains q n

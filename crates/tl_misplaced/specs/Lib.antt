@@ -1,0 +1,2 @@
+pub mod AllMisplaced
+pub mod Keeping
