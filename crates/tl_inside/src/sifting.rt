@@ -1,12 +1,12 @@
 //! What holds a point, or is crossed by its ray, among what lies in its strip.
 
-ghost use Rattle.std.specs.Prelude.{◌<◌, ◌↔◌, IsTrue, length, IfOk, OnOk, MatchOption, ⊤};
+ghost use Rattle.std.specs.Prelude.{ℕ, ◌<◌, ◌↔◌, IsTrue, length, All, Contains, IfOk, OnOk, MatchOption, ⊤};
 ghost use Rattle.tl_county.specs.Segments.{segments_before};
 ghost use Rattle.tl_inside.specs.Inside.{IsCrossed};
 ghost use Rattle.tl_inside.specs.Places.{IsHeldBy, IsOffChains};
 ghost use Rattle.tl_inside.specs.Keeping.Probing.{IsHolding};
 ghost use Rattle.tl_inside.specs.Keeping.Strips.{AreEnough};
-ghost use Rattle.tl_inside.specs.Keeping.Sifted.{IsKept};
+ghost use Rattle.tl_inside.specs.Keeping.Sifted.{IsKept, IsKeptHolder};
 ghost use Rattle.tl_inside.specs.Keeping.Tallies.{TellCounts};
 
 use crate::flanks::{Flanks, flanks_of};
@@ -36,6 +36,43 @@ pub fn sift(
         keep_if_crossed(map, hits[place], point, crossed)?;
     }
     Ok(None)
+}
+
+/// Lists all chains that hold the point, in any order, and the flanks of the segments that the ray crosses, in the place of
+/// what was listed.
+pub fn sift_all(
+    map: &Map,
+    hits: &[u32],
+    point: Point,
+    held: &mut Vec<u32>,
+    crossed: &mut Vec<Flanks>,
+) -> Result<(), Memory>
+    requires enough { AreEnough map.now.chains point hits.now }
+    ensures each { OnOk result (All (IsHeldBy map.now.chains point) held.new.items) }
+    ensures all { OnOk result ((c : ℕ) → IsHeldBy map.now.chains point c → Contains held.new.items c) }
+    ensures tell { OnOk result (TellCounts map.now.chains point crossed.new.items) }
+{
+    held.clear();
+    crossed.clear();
+    for place in 0..hits.len() {
+        keep_if_holding(map, hits[place], point, held)?;
+        keep_if_crossed(map, hits[place], point, crossed)?;
+    }
+    Ok(())
+}
+
+/// Appends the chain of the segment, if the segment holds the point.
+fn keep_if_holding(map: &Map, s: u32, point: Point, held: &mut Vec<u32>) -> Result<(), Memory>
+    requires { s < segments_before map.now.chains (length map.now.chains) }
+    ensures { OnOk result (IsKeptHolder map.now.chains point s held.old.items held.new.items) }
+{
+    if !is_holding(map, s, point) {
+        return Ok(());
+    }
+    match held.push(map.segment_chain(s)) {
+        Ok(()) => Ok(()),
+        Err(_) => Err(Memory),
+    }
 }
 
 /// Whether the segment holds the point.
