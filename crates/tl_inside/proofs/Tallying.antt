@@ -11,7 +11,7 @@ use Rattle.tl_inside.specs.Keeping.Tallies.{near_count, far_count, AreTallies, A
 count_cons : {X : Type 0} (P : X → Bool) (x : X) (xs : List X) → count_by P (x ∷ xs) ≡ cond (P x) 1 0 + count_by P xs
 count_cons P x xs = sum_by-cons (λ y. cond (P y) 1 0) x xs
 
-more : (P : Flanks → Bool) (xs : List Flanks) (k : ℕ) (d : Flanks) → k < length xs → count_by P (take (k + 1) xs) ≡ count_by P (take k xs) + cond (P (get_or xs k d)) 1 0
+pub more : (P : Flanks → Bool) (xs : List Flanks) (k : ℕ) (d : Flanks) → k < length xs → count_by P (take (k + 1) xs) ≡ count_by P (take k xs) + cond (P (get_or xs k d)) 1 0
 more P [] k d lt = absurd (let no : k < 0 = lt in omega (arith, no))
 more P (x ∷ xs) zero d lt = let one = count_cons P x [] in let none : count_by P [] ≡ 0 = refl in omega (arith, one, none)
 more P (x ∷ xs) (suc k) d lt = ap (λ n. count_by P (take n (x ∷ xs))) after ∙ step (more P xs k d (omega (arith, lt)))
@@ -89,7 +89,7 @@ module _ (crossed : List Flanks) (near far : List ℕ) (k : ℕ) (past : length 
   pub none_far : AreNone far
   none_far p lt = t.fars p lt ∙ ap (λ ys. far_count ys (is_polygon p)) (drop_all k crossed past)
 
-known_or : {A : Type 0} (b : Bool) (m n : ℕ) → m ≡ n + cond b 1 0 → 1 ≤ m → (1 ≤ n → A) → (b ≡ true → A) → A
+pub known_or : {A : Type 0} (b : Bool) (m n : ℕ) → m ≡ n + cond b 1 0 → 1 ≤ m → (1 ≤ n → A) → (b ≡ true → A) → A
 known_or true m n e h f g = g refl
 known_or false m n e h f g = f (omega (arith, e, h))
 

@@ -1,0 +1,9 @@
+mod Listing
+mod Joining
+mod Rows
+mod Odds
+mod Wholes
+mod Pushing
+mod Unique
+mod Crossing
+mod Placed
