@@ -11,10 +11,10 @@ use Rattle.tl_geom.specs.Ray.{IsParted, Crosses}
 use Rattle.tl_geom.proofs.Rays.{crossed_up, crossed_down}
 use Rattle.tl_county.specs.TheMap.{MapChain}
 use Rattle.tl_county.specs.Segments.{segments_before, IsSegmentOf, Joins}
-use Rattle.tl_index.specs.Hits.{times, AreHits}
+use Rattle.tl_index.specs.Hits.{times}
 use Rattle.tl_index.proofs.Times.{same_or, times-same, times-other}
 use Rattle.tl_planar.specs.Keeping.Apart.{one_found}
-use Rattle.tl_inside.specs.Inside.{flanks_at, balance, is_polygon, IsCrossed, AreCrossed, IsCount, IsPolygonCount}
+use Rattle.tl_inside.specs.Inside.{flanks_at, balance, is_polygon, IsCrossed, IsPolygonCount}
 
 -- a segment from one point to the other that the ray crosses
 record IsCrossing (q a b : Point) : Type 0 where
@@ -85,18 +85,18 @@ module _ (chains : List MapChain) (q : Point) (s : ℕ) where
     at_points : (a b : Point) → slice_get chain.points k ≡ Some a → slice_get chain.points (k + 1) ≡ Some b → IsCrossedOf c ⊎ (¬ IsCrossedOf c)
     at_points a b from to = elim (crossing_or q a b) [
       | inl x ↦ inl (record {
-          k = k;
-          segment = x.segment;
-          number = record { chain = chain; is = is; place = slice_get_within chain.points (k + 1) b to; number = at };
-          joins = record { chain = chain; is = is; from = from ∙ ap Some (sym x.first); to = to ∙ ap Some (sym x.last) };
-          crosses = x.crosses;
-        })
+        k = k;
+        segment = x.segment;
+        number = record { chain = chain; is = is; place = slice_get_within chain.points (k + 1) b to; number = at };
+        joins = record { chain = chain; is = is; from = from ∙ ap Some (sym x.first); to = to ∙ ap Some (sym x.last) };
+        crosses = x.crosses;
+      })
       | inr never ↦ inr (λ x. never (record {
-          segment = x.segment;
-          first = one_found x.segment.a a (slice_get chain.points k) (from_is x) from;
-          last = one_found x.segment.b b (slice_get chain.points (k + 1)) (to_is x) to;
-          crosses = x.crosses;
-        }))
+        segment = x.segment;
+        first = one_found x.segment.a a (slice_get chain.points k) (from_is x) from;
+        last = one_found x.segment.b b (slice_get chain.points (k + 1)) (to_is x) to;
+        crosses = x.crosses;
+      }))
     ]
 
     at_place : (o p : Option Point) → slice_get chain.points k ≡ o → slice_get chain.points (k + 1) ≡ p → IsCrossedOf c ⊎ (¬ IsCrossedOf c)
@@ -133,10 +133,10 @@ module _ (chains : List MapChain) (q : Point) (s : ℕ) where
   crossed_or = elim (below_or (length chains)) [
     | inl x ↦ inl (record { c = x.c; k = x.of.k; segment = x.of.segment; number = x.of.number; joins = x.of.joins; crosses = x.of.crosses })
     | inr none ↦ inr (λ x. none (record {
-        c = x.c;
-        below = slice_get_within chains x.c x.number.chain x.number.is;
-        of = record { k = x.k; segment = x.segment; number = x.number; joins = x.joins; crosses = x.crosses };
-      }))
+      c = x.c;
+      below = slice_get_within chains x.c x.number.chain x.number.is;
+      of = record { k = x.k; segment = x.segment; number = x.number; joins = x.joins; crosses = x.crosses };
+    }))
   ]
 
 -- so those that are crossed can be listed
@@ -153,17 +153,17 @@ module _ (hit : ℕ → Type 0) (known : (i : ℕ) → hit i ⊎ (¬ hit i)) whe
       let l : IsListed n = all_listed n in
       elim (known n) [
         | inl h ↦ record {
-            list = n ∷ l.list;
-            once = λ i lt hi. same_or i n (λ e. let here = times-same i n l.list e in let rest = l.past i (omega (arith, e)) in omega (arith, here, rest)) (λ ne. times-other i n l.list ne ∙ l.once i (omega (arith, lt, ne)) hi);
-            others = λ i never. same_or i n (λ e. absurd (never (subst hit (sym e) h))) (λ ne. times-other i n l.list ne ∙ l.others i never);
-            past = λ i le. times-other i n l.list (λ e. omega (arith, le, e)) ∙ l.past i (omega (arith, le));
-          }
+          list = n ∷ l.list;
+          once = λ i lt hi. same_or i n (λ e. let here = times-same i n l.list e in let rest = l.past i (omega (arith, e)) in omega (arith, here, rest)) (λ ne. times-other i n l.list ne ∙ l.once i (omega (arith, lt, ne)) hi);
+          others = λ i never. same_or i n (λ e. absurd (never (subst hit (sym e) h))) (λ ne. times-other i n l.list ne ∙ l.others i never);
+          past = λ i le. times-other i n l.list (λ e. omega (arith, le, e)) ∙ l.past i (omega (arith, le));
+        }
         | inr never ↦ record {
-            list = l.list;
-            once = λ i lt hi. same_or i n (λ e. absurd (never (subst hit e hi))) (λ ne. l.once i (omega (arith, lt, ne)) hi);
-            others = l.others;
-            past = λ i le. l.past i (omega (arith, le));
-          }
+          list = l.list;
+          once = λ i lt hi. same_or i n (λ e. absurd (never (subst hit e hi))) (λ ne. l.once i (omega (arith, lt, ne)) hi);
+          others = l.others;
+          past = λ i le. l.past i (omega (arith, le));
+        }
       ]
 
 -- and each polygon has a count

@@ -1,5 +1,5 @@
 -- Numbers that are sorted, and each left once.
-use Rattle.std.proofs.Common.{◌≡◌, ◌↔◌, ℕ, eqb, List, length, get_or, All, Contains, sym, subst}
+use Rattle.std.proofs.Common.{◌≡◌, ◌↔◌, ℕ, eqb, List, get_or, All, Contains, subst}
 use Rattle.std.specs.Ordering.{nat_cmp}
 use Rattle.std.specs.List.{dedup}
 use Rattle.std.specs.List.Sorted.{IsPermutation, IsSorted, IsStrictlyIncreasing}

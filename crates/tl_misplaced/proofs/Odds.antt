@@ -1,5 +1,5 @@
 -- The polygons that are near and far not equally often, and what that says of a point.
-use Rattle.std.proofs.Common.{◌≡◌, ◌≢◌, ◌↔◌, inl, inr, Bool, true, false, not, eqb, IsTrue, ℕ, ◌+◌, ◌<◌, ◌≤◌, List, [], length, get_or, take, All, Contains, refl, sym, subst, ap, ◌∙◌, arith}
+use Rattle.std.proofs.Common.{◌≡◌, ◌≢◌, ◌↔◌, inl, inr, Bool, true, false, not, eqb, IsTrue, ℕ, ◌+◌, ◌<◌, ◌≤◌, List, [], length, get_or, take, Contains, refl, arith}
 use Rattle.std.specs.Prelude.{slice_index}
 use Rattle.std.proofs.lemmas.Bool.{cases_lt, eqb-true, eq-eqb, false≢true}
 use Rattle.std.proofs.lemmas.List.{take_all}
@@ -7,7 +7,7 @@ use Rattle.std.proofs.lemmas.List.Elements.{All-nil}
 use Rattle.tl_geom.specs.declared.point.Point.{Point}
 use Rattle.tl_county.specs.TheMap.{TheMap}
 use Rattle.tl_inside.specs.declared.flanks.Flanks.{Flanks}
-use Rattle.tl_inside.specs.Inside.{is_polygon, IsInside, IsClear}
+use Rattle.tl_inside.specs.Inside.{is_polygon, IsInside}
 use Rattle.tl_inside.specs.Keeping.Tallies.{near_count, far_count, AreTallies, TellCounts, IsOdd}
 use Rattle.tl_inside.proofs.Counting.{inside, not_inside, clear, not_clear}
 use Rattle.tl_inside.proofs.Tallying.{more, known_or}

@@ -1,6 +1,5 @@
 -- Polygons' points are placed exactly where no fault is listed.
-use Rattle.std.proofs.Common.{◌≡◌, ◌≢◌, ◌↔◌, inl, inr, ℕ, ◌<◌, ℤ, pos, List, [], ◌∷◌, length, get_or, Contains, refl, sym, subst, ap, ◌∙◌, arith}
-use Rattle.std.specs.Prelude.{slice_get, Some}
+use Rattle.std.proofs.Common.{◌≡◌, ◌↔◌, ℕ, ℤ, pos, List, [], ◌∷◌, get_or, Contains, refl, subst, arith}
 use Rattle.std.proofs.lemmas.Int.{ints, by_lt_z}
 use Rattle.std.proofs.lemmas.Option.{slice_get_within, slice_get-get_or}
 use Rattle.tl_geom.specs.declared.point.Point.{Point}
@@ -8,9 +7,8 @@ use Rattle.tl_county.specs.declared.polygons.Polygon.{Polygon}
 use Rattle.tl_county.specs.TheMap.{TheMap, MapChain}
 use Rattle.tl_inside.specs.declared.misplaced.Misplaced.{Misplaced}
 use Rattle.tl_inside.specs.declared.misplaced.Misplaced.TheVariants.{OnChain, Outside, InOther}
-use Rattle.tl_inside.specs.Inside.{is_polygon, IsPolygonCount, IsInside, IsClear}
-use Rattle.tl_inside.specs.Places.{IsHeldBy}
-use Rattle.tl_inside.specs.Placed.{IsPlacedIn, ArePlaced, IsTrueMisplaced}
+use Rattle.tl_inside.specs.Inside.{is_polygon, IsPolygonCount}
+use Rattle.tl_inside.specs.Placed.{ArePlaced, IsTrueMisplaced}
 use Rattle.tl_misplaced.specs.AllMisplaced.{AreAllMisplaced}
 use Rattle.tl_inside.proofs.Counting.{one_count}
 use Rattle.tl_misplaced.proofs.Crossing.{polygon_count}

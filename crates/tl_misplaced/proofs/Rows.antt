@@ -1,5 +1,5 @@
 -- The faults of one polygon's point.
-use Rattle.std.proofs.Common.{◌≡◌, ◌⊎◌, inl, inr, true, false, Bool, ℕ, suc, ◌+◌, ◌<◌, ◌≤◌, ◌↔◌, List, [], ◌∷◌, ◌++◌, length, get_or, map, take, cond, All, Contains, refl, sym, subst, ap, ◌∙◌, arith}
+use Rattle.std.proofs.Common.{◌≡◌, ◌⊎◌, inl, inr, true, false, Bool, ℕ, ◌+◌, ◌<◌, ◌≤◌, ◌↔◌, List, [], ◌∷◌, ◌++◌, length, map, take, cond, All, Contains, refl, sym, subst, ap, ◌∙◌, arith}
 use Rattle.std.specs.Prelude.{slice_get, slice_index, Some}
 use Rattle.std.specs.Bool.{IsTrue}
 use Rattle.std.specs.List.{AllPairs}
@@ -18,7 +18,7 @@ use Rattle.tl_inside.specs.declared.misplaced.Misplaced.{Misplaced}
 use Rattle.tl_inside.specs.declared.misplaced.Misplaced.TheVariants.{OnChain, Outside, InOther}
 use Rattle.tl_inside.specs.Inside.{IsInside, IsClear}
 use Rattle.tl_inside.specs.Places.{IsHeldBy}
-use Rattle.tl_misplaced.specs.AllMisplaced.{FaultPlace, ComesBefore, IsOnChainAt, IsOutsideAt, IsInOtherAt, IsTrueAt, AreTrueAt}
+use Rattle.tl_misplaced.specs.AllMisplaced.{FaultPlace, ComesBefore, IsTrueAt, AreTrueAt}
 use Rattle.tl_misplaced.specs.Keeping.Listed.{AreListed}
 use Rattle.tl_misplaced.specs.Keeping.Parts.{AreFaultsIn, HasPart, HasRow, IsOf, IsOfPolygon, IsIn, row_places}
 use Rattle.tl_misplaced.proofs.Joining.{told_append, joined}

@@ -1,5 +1,5 @@
 -- A map has one list of all faults.
-use Rattle.std.proofs.Common.{◌≡◌, ◌⊎◌, inl, inr, ℕ, zero, suc, ◌+◌, ◌<◌, ◌≤◌, List, [], ◌∷◌, length, get_or, All, Contains, refl, sym, subst, ap, ◌∙◌, arith}
+use Rattle.std.proofs.Common.{◌≡◌, ◌⊎◌, inl, inr, ℕ, zero, suc, ◌<◌, List, [], ◌∷◌, length, get_or, Contains, refl, sym, subst, ◌∙◌, arith}
 use Rattle.std.specs.List.{AllPairs}
 use Rattle.tl_county.specs.TheMap.{TheMap}
 use Rattle.tl_inside.specs.declared.misplaced.Misplaced.{Misplaced}
@@ -60,14 +60,14 @@ module _ {X : Type 0} (R : X → X → Type 0) (never : (x y : X) → R x y → 
   one_list (x ∷ xs) (y ∷ ys) a b there back =
       let one : x ≡ y = same_first x y xs ys a b (there x (first_in x xs)) (back y (first_in y ys)) in
       let rest : xs ≡ ys = one_list xs ys (rest_up x xs a) (rest_up y ys b)
-          (λ z h. elim (first_or y ys z (there z (rest_in x xs z h))) [
-            | inl e ↦ absurd (let r : R x z = before_rest x xs z a h in let s : R x x = subst (R x) (sym (one ∙ e)) r in never x x s s)
-            | inr s ↦ s
-          ])
-          (λ z h. elim (first_or x xs z (back z (rest_in y ys z h))) [
-            | inl e ↦ absurd (let r : R y z = before_rest y ys z b h in let s : R y y = subst (R y) (sym (sym one ∙ e)) r in never y y s s)
-            | inr s ↦ s
-          ]) in
+      (λ z h. elim (first_or y ys z (there z (rest_in x xs z h))) [
+        | inl e ↦ absurd (let r : R x z = before_rest x xs z a h in let s : R x x = subst (R x) (sym (one ∙ e)) r in never x x s s)
+        | inr s ↦ s
+      ])
+      (λ z h. elim (first_or x xs z (back z (rest_in y ys z h))) [
+        | inl e ↦ absurd (let r : R y z = before_rest y ys z b h in let s : R y y = subst (R y) (sym (sym one ∙ e)) r in never y y s s)
+        | inr s ↦ s
+      ]) in
       λ i. one i ∷ rest i
 
 one_told : (m : TheMap) (places : List FaultPlace) (found others : List Misplaced) → AreTrueAt m places found → AreTrueAt m places others → found ≡ others

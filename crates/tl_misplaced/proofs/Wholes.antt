@@ -1,6 +1,6 @@
 -- The faults of all polygons are all that there are.
-use Rattle.std.proofs.Common.{◌≡◌, ◌⊎◌, inl, inr, ℕ, zero, suc, ◌+◌, ◌<◌, ◌≤◌, List, [], ◌∷◌, length, get_or, All, Contains, refl, sym, subst, ap, ◌∙◌, arith}
-use Rattle.std.specs.Prelude.{slice_get, Some}
+use Rattle.std.proofs.Common.{◌≡◌, ℕ, zero, suc, ◌<◌, ◌≤◌, List, [], ◌∷◌, length, get_or, Contains, refl, sym, subst, ap, ◌∙◌, arith}
+use Rattle.std.specs.Prelude.{slice_get}
 use Rattle.std.specs.List.{AllByRecursion}
 use Rattle.std.proofs.lemmas.List.Elements.{All-from_recursion}
 use Rattle.std.proofs.lemmas.Option.{slice_get_within}
@@ -12,7 +12,7 @@ use Rattle.tl_planar.specs.Keeping.Apart.{one_found}
 use Rattle.tl_inside.specs.declared.misplaced.Misplaced.{Misplaced}
 use Rattle.tl_inside.specs.declared.misplaced.Misplaced.TheVariants.{OnChain, Outside, InOther}
 use Rattle.tl_inside.specs.Placed.{IsPointOf, IsTrueMisplaced}
-use Rattle.tl_misplaced.specs.AllMisplaced.{FaultPlace, ComesBefore, IsTrueAt, AreTrueAt, AreAllMisplaced}
+use Rattle.tl_misplaced.specs.AllMisplaced.{FaultPlace, IsTrueAt, AreTrueAt, AreAllMisplaced}
 use Rattle.tl_misplaced.specs.Keeping.Parts.{AreFaultsIn, IsBefore}
 
 -- what is true at a place is true

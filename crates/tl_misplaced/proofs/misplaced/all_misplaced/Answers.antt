@@ -1,5 +1,5 @@
 use Rattle.std.proofs.Common.{arith}
-use Rattle.tl_misplaced.proofs.Joining.{none_yet, one_more}
+use Rattle.tl_misplaced.proofs.Joining.{one_more}
 use Rattle.tl_misplaced.proofs.Wholes.{all_of}
 use Rattle.tl_misplaced.proofs.misplaced.all_misplaced.Goals as goal
 

@@ -1,4 +1,4 @@
-use Rattle.std.proofs.Common.{◌∙◌, subst}
+use Rattle.std.proofs.Common.{◌∙◌}
 use Rattle.tl_misplaced.proofs.Odds.{others_listed, outside_told}
 use Rattle.tl_misplaced.proofs.odd.list_odd.Goals as goal
 

@@ -1,7 +1,6 @@
-use Rattle.std.proofs.Common.{subst}
 use Rattle.tl_inside.specs.Keeping.Tallies.{IsOdd}
 use Rattle.tl_misplaced.proofs.Listing.{listed_once}
-use Rattle.tl_misplaced.proofs.Odds.{none_odd, odd_more, all_odd}
+use Rattle.tl_misplaced.proofs.Odds.{odd_more, all_odd}
 use Rattle.tl_misplaced.proofs.odd.list_odd_of.Goals as goal
 
 pub loop-place-preserved : goal.loop-place-preserved

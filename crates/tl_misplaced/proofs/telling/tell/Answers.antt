@@ -1,4 +1,4 @@
-use Rattle.std.proofs.lemmas.Result.{on_ok_weaker, err_from_is_err_and}
+use Rattle.std.proofs.lemmas.Result.{on_ok_weaker}
 use Rattle.tl_misplaced.specs.Keeping.Parts.{HasRow}
 use Rattle.tl_misplaced.proofs.Rows.{rows_joined}
 use Rattle.tl_misplaced.proofs.telling.tell.Goals as goal
