@@ -1,5 +1,6 @@
 -- It is told of each segment whether a ray crosses it, so that each polygon has a count at each point.
-use Rattle.std.proofs.Common.{◌≡◌, ◌⊎◌, inl, inr, ℕ, zero, suc, ◌+◌, ◌-◌, ◌<◌, ◌≤◌, ℤ, pos, ◌<ℤ◌, ◌≤ℤ◌, Option, Some, None, List, [], ◌∷◌, length, map, refl, sym, subst, ap, ◌∙◌, arith}
+use Rattle.std.proofs.Common.{◌≡◌, ◌⊎◌, inl, inr, ℕ, zero, suc, ◌+◌, ◌-◌, ◌<◌, ◌≤◌, ℤ, pos, ◌<ℤ◌}
+use Rattle.std.proofs.Common.{◌≤ℤ◌, Option, Some, None, List, [], ◌∷◌, length, map, refl, sym, subst, ap, ◌∙◌, arith}
 use Rattle.std.specs.Prelude.{slice_get}
 use Rattle.std.proofs.lemmas.Bool.{cases_lt}
 use Rattle.std.proofs.lemmas.Int.{ints, by_lt_z}
@@ -53,11 +54,17 @@ module _ (q a b : Point) where
   crossing_or =
       by_lt_z q.y b.y
       (λ b_above. by_lt_z q.y a.y
-      (λ a_above. inr (not_parted (λ h. elim h [ inl up ↦ let l = up.0 in omega (arith, ints, l, a_above) | inr down ↦ let l = down.0 in omega (arith, ints, l, b_above) ])))
+      (λ a_above. inr (not_parted (λ h. elim h [
+        | inl up ↦ let l = up.0 in omega (arith, ints, l, a_above)
+        | inr down ↦ let l = down.0 in omega (arith, ints, l, b_above)
+      ])))
       (λ a_low. going_up a_low b_above))
       (λ b_low. by_lt_z q.y a.y
       (λ a_above. going_down b_low a_above)
-      (λ a_low. inr (not_parted (λ h. elim h [ inl up ↦ let l = up.1 in omega (arith, ints, l, b_low) | inr down ↦ let l = down.1 in omega (arith, ints, l, a_low) ]))))
+      (λ a_low. inr (not_parted (λ h. elim h [
+        | inl up ↦ let l = up.1 in omega (arith, ints, l, b_low)
+        | inr down ↦ let l = down.1 in omega (arith, ints, l, a_low)
+      ]))))
 
 module _ (chains : List MapChain) (q : Point) (s : ℕ) where
   -- the segment of this number is one of chain c, and crossed
@@ -75,12 +82,14 @@ module _ (chains : List MapChain) (q : Point) (s : ℕ) where
     from_is : (x : IsCrossedOf c) → slice_get chain.points k ≡ Some x.segment.a
     from_is x =
         let one : x.joins.chain ≡ chain = one_found x.joins.chain chain (slice_get chains c) x.joins.is is in
-        subst (λ (z : MapChain). slice_get z.points k ≡ Some x.segment.a) one (subst (λ n. slice_get x.joins.chain.points n ≡ Some x.segment.a) (place_is x) x.joins.from)
+        subst (λ (z : MapChain). slice_get z.points k ≡ Some x.segment.a) one
+        (subst (λ n. slice_get x.joins.chain.points n ≡ Some x.segment.a) (place_is x) x.joins.from)
 
     to_is : (x : IsCrossedOf c) → slice_get chain.points (k + 1) ≡ Some x.segment.b
     to_is x =
         let one : x.joins.chain ≡ chain = one_found x.joins.chain chain (slice_get chains c) x.joins.is is in
-        subst (λ (z : MapChain). slice_get z.points (k + 1) ≡ Some x.segment.b) one (subst (λ n. slice_get x.joins.chain.points (n + 1) ≡ Some x.segment.b) (place_is x) x.joins.to)
+        subst (λ (z : MapChain). slice_get z.points (k + 1) ≡ Some x.segment.b) one
+        (subst (λ n. slice_get x.joins.chain.points (n + 1) ≡ Some x.segment.b) (place_is x) x.joins.to)
 
     at_points : (a b : Point) → slice_get chain.points k ≡ Some a → slice_get chain.points (k + 1) ≡ Some b → IsCrossedOf c ⊎ (¬ IsCrossedOf c)
     at_points a b from to = elim (crossing_or q a b) [
@@ -125,7 +134,8 @@ module _ (chains : List MapChain) (q : Point) (s : ℕ) where
     | inl x ↦ inl (record { c = n; below = omega arith; of = x })
     | inr never ↦ elim (below_or n) [
       | inl x ↦ inl (record { c = x.c; below = let lt = x.below in omega (arith, lt); of = x.of })
-      | inr none ↦ inr (λ x. same_or x.c n (λ e. never (subst IsCrossedOf e x.of)) (λ ne. none (record { c = x.c; below = let lt = x.below in omega (arith, lt, ne); of = x.of })))
+      | inr none ↦ inr (λ x. same_or x.c n (λ e. never (subst IsCrossedOf e x.of))
+          (λ ne. none (record { c = x.c; below = let lt = x.below in omega (arith, lt, ne); of = x.of })))
     ]
   ]
 
@@ -154,7 +164,8 @@ module _ (hit : ℕ → Type 0) (known : (i : ℕ) → hit i ⊎ (¬ hit i)) whe
       elim (known n) [
         | inl h ↦ record {
           list = n ∷ l.list;
-          once = λ i lt hi. same_or i n (λ e. let here = times-same i n l.list e in let rest = l.past i (omega (arith, e)) in omega (arith, here, rest)) (λ ne. times-other i n l.list ne ∙ l.once i (omega (arith, lt, ne)) hi);
+          once = λ i lt hi. same_or i n (λ e. let here = times-same i n l.list e in let rest = l.past i (omega (arith, e)) in omega (arith, here, rest))
+              (λ ne. times-other i n l.list ne ∙ l.once i (omega (arith, lt, ne)) hi);
           others = λ i never. same_or i n (λ e. absurd (never (subst hit (sym e) h))) (λ ne. times-other i n l.list ne ∙ l.others i never);
           past = λ i le. times-other i n l.list (λ e. omega (arith, le, e)) ∙ l.past i (omega (arith, le));
         }
@@ -173,7 +184,7 @@ pub record HasPolygonCount (chains : List MapChain) (q : Point) (p : ℕ) : Type
 
 pub polygon_count : (chains : List MapChain) (q : Point) (p : ℕ) → HasPolygonCount chains q p
 polygon_count chains q p =
-    let l : IsListed (IsCrossed chains q) (crossed_or chains q) (segments_before chains (length chains)) = all_listed (IsCrossed chains q) (crossed_or chains q) (segments_before chains (length chains)) in
+    let l = all_listed (IsCrossed chains q) (crossed_or chains q) (segments_before chains (length chains)) in
     record {
       n = balance (is_polygon p) (map (flanks_at chains) l.list);
       count = record { crossed = l.list; are = record { once = l.once; others = l.others; known = l.past }; counted = refl };

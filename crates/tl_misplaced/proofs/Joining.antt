@@ -1,5 +1,6 @@
 -- Parts of the list of all faults, one behind the other.
-use Rattle.std.proofs.Common.{◌≡◌, ◌⊎◌, inl, inr, ℕ, ◌+◌, ◌-◌, ◌<◌, List, [], ◌∷◌, ◌++◌, length, get_or, All, refl, arith, length-append}
+use Rattle.std.proofs.Common.{◌≡◌, ◌⊎◌, inl, inr, ℕ, ◌+◌, ◌-◌, ◌<◌, List}
+use Rattle.std.proofs.Common.{[], ◌∷◌, ◌++◌, length, get_or, All, refl, arith, length-append}
 use Rattle.std.specs.List.{AllPairs}
 use Rattle.std.proofs.lemmas.Bool.{cases_lt}
 use Rattle.std.proofs.lemmas.List.{get_or_append_left, get_or-append_right}
@@ -9,13 +10,15 @@ use Rattle.tl_inside.specs.declared.misplaced.Misplaced.{Misplaced}
 use Rattle.tl_misplaced.specs.AllMisplaced.{FaultPlace, ComesBefore, IsTrueAt, AreTrueAt}
 use Rattle.tl_misplaced.specs.Keeping.Parts.{AreFaultsIn, HasPart, IsBefore, IsOfPolygon}
 
-pub told_append : (m : TheMap) (places others : List FaultPlace) (found more : List Misplaced) → AreTrueAt m places found → AreTrueAt m others more → AreTrueAt m (places ++ others) (found ++ more)
+pub told_append : (m : TheMap) (places others : List FaultPlace) (found more : List Misplaced) → AreTrueAt m places found → AreTrueAt m others more →
+    AreTrueAt m (places ++ others) (found ++ more)
 told_append m [] others [] more t u = u
 told_append m [] others (fault ∷ found) more t u = absurd t
 told_append m (at ∷ places) others [] more t u = absurd t
 told_append m (at ∷ places) others (fault ∷ found) more t u = (t.0, told_append m places others found more t.1 u)
 
-pairs_append : {X : Type 0} (R : X → X → Type 0) (P Q : X → Type 0) (xs ys : List X) → ((x y : X) → P x → Q y → R x y) → All P xs → All Q ys → AllPairs R xs → AllPairs R ys → AllPairs R (xs ++ ys)
+pairs_append : {X : Type 0} (R : X → X → Type 0) (P Q : X → Type 0) (xs ys : List X) → ((x y : X) → P x → Q y → R x y) → All P xs →
+    All Q ys → AllPairs R xs → AllPairs R ys → AllPairs R (xs ++ ys)
 pairs_append R P Q xs ys between p q first second i j d lt within =
     let long = length-append xs ys in
     elim (cases_lt j (length xs)) [
@@ -24,13 +27,18 @@ pairs_append R P Q xs ys between p q first second i j d lt within =
           let there : get_or (xs ++ ys) j d ≡ get_or ys (j - length xs) d = get_or-append_right xs ys (length xs) j d refl high in
           let inner : j - length xs < length ys = omega (arith, within, long, high) in
           elim (cases_lt i (length xs)) [
-            | inl low ↦ rw (get_or_append_left xs ys d i low, there) (between (get_or xs i d) (get_or ys (j - length xs) d) (p i d low) (q (j - length xs) d inner))
-            | inr past ↦ rw (get_or-append_right xs ys (length xs) i d refl past, there) (second (i - length xs) (j - length xs) d (omega (arith, lt, past, high)) inner)
+            | inl low ↦ rw (get_or_append_left xs ys d i low, there) (between (get_or xs i d) (get_or ys (j - length xs) d) (p i d low)
+                (q (j - length xs) d inner))
+            | inr past ↦ rw (get_or-append_right xs ys (length xs) i d refl past, there)
+                (second (i - length xs) (j - length xs) d (omega (arith, lt, past, high)) inner)
           ]
     ]
 
 -- all faults of one part come before all of the other
-pub joined : (m : TheMap) (In First Second : FaultPlace → Type 0) (found more : List Misplaced) → ((f g : FaultPlace) → First f → Second g → ComesBefore f g) → ((f : FaultPlace) → First f → In f) → ((f : FaultPlace) → Second f → In f) → ((f : FaultPlace) (fault : Misplaced) → In f → IsTrueAt m f fault → First f ⊎ Second f) → AreFaultsIn m First found → AreFaultsIn m Second more → AreFaultsIn m In (found ++ more)
+pub joined : (m : TheMap) (In First Second : FaultPlace → Type 0) (found more : List Misplaced) →
+    ((f g : FaultPlace) → First f → Second g → ComesBefore f g) → ((f : FaultPlace) → First f → In f) →
+    ((f : FaultPlace) → Second f → In f) → ((f : FaultPlace) (fault : Misplaced) → In f → IsTrueAt m f fault → First f ⊎ Second f) →
+    AreFaultsIn m First found → AreFaultsIn m Second more → AreFaultsIn m In (found ++ more)
 joined m In First Second found more between first_in second_in split a b = record {
   places = a.places ++ b.places;
   told = told_append m a.places b.places found more a.told b.told;
@@ -53,7 +61,8 @@ none_yet m = record {
 }
 
 -- those of one polygon more
-pub one_more : (m : TheMap) (p : ℕ) (old new : List Misplaced) → AreFaultsIn m (IsBefore p) old → HasPart m (IsOfPolygon p) old new → AreFaultsIn m (IsBefore (p + 1)) new
+pub one_more : (m : TheMap) (p : ℕ) (old new : List Misplaced) → AreFaultsIn m (IsBefore p) old → HasPart m (IsOfPolygon p) old new →
+    AreFaultsIn m (IsBefore (p + 1)) new
 one_more m p old new before h =
     rw h.are (joined m (IsBefore (p + 1)) (IsBefore p) (IsOfPolygon p) old h.faults
     (λ f g lt is. inl (omega (arith, lt, is)))

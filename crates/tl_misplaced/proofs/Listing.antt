@@ -20,7 +20,8 @@ same old sorted new moved kept x = rw kept (
 )
 
 -- so what holds of each number of the old list, and of no other, is listed
-pub listed_once : (P : ℕ → Type 0) (old new : List ℕ) → IsStrictlyIncreasing new → ((x : ℕ) → Contains new x ↔ Contains old x) → All P old → ((x : ℕ) → P x → Contains old x) → AreListed P new
+pub listed_once : (P : ℕ → Type 0) (old new : List ℕ) → IsStrictlyIncreasing new → ((x : ℕ) → Contains new x ↔ Contains old x) →
+    All P old → ((x : ℕ) → P x → Contains old x) → AreListed P new
 listed_once P old new up one each complete = record {
   rising = up;
   each = λ k d lt.
@@ -30,7 +31,8 @@ listed_once P old new up one each complete = record {
   complete = λ x p. (one x).1 (complete x p);
 }
 
-pub listed_as : (P Q : ℕ → Type 0) (numbers : List ℕ) → ((x : ℕ) → P x → Q x) → ((x : ℕ) → Q x → P x) → AreListed P numbers → AreListed Q numbers
+pub listed_as : (P Q : ℕ → Type 0) (numbers : List ℕ) → ((x : ℕ) → P x → Q x) → ((x : ℕ) → Q x → P x) → AreListed P numbers →
+    AreListed Q numbers
 listed_as P Q numbers there back listed = record {
   rising = listed.rising;
   each = All-weaker P Q there numbers listed.each;

@@ -17,7 +17,8 @@ use Rattle.tl_misplaced.proofs.Crossing.{polygon_count}
 none_true : (m : TheMap) (fault : Misplaced) → ArePlaced m → IsTrueMisplaced m fault → ⊥
 none_true m (OnChain key tlid) placed t = (placed t.p (record { key = key; point = t.point }) t.of).off t.c t.held
 none_true m (Outside key) placed t = t.outside (placed t.p (record { key = key; point = t.point }) t.of).inside
-none_true m (InOther key other) placed t = t.within ((placed t.p (record { key = key; point = t.point }) t.of).clear t.q (slice_get_within m.polygons t.q (record { key = other; point = t.other_point }) t.other_of) t.two)
+none_true m (InOther key other) placed t = t.within ((placed t.p (record { key = key; point = t.point }) t.of).clear t.q
+    (slice_get_within m.polygons t.q (record { key = other; point = t.other_point }) t.other_of) t.two)
 
 empty : (m : TheMap) (found : List Misplaced) → AreAllMisplaced m found → ArePlaced m → found ≡ []
 empty m [] all placed = refl

@@ -1,5 +1,6 @@
 -- The faults of one polygon's point.
-use Rattle.std.proofs.Common.{◌≡◌, ◌⊎◌, inl, inr, true, false, Bool, ℕ, ◌+◌, ◌<◌, ◌≤◌, ◌↔◌, List, [], ◌∷◌, ◌++◌, length, map, take, cond, All, Contains, refl, sym, subst, ap, ◌∙◌, arith}
+use Rattle.std.proofs.Common.{◌≡◌, ◌⊎◌, inl, inr, true, false, Bool, ℕ, ◌+◌, ◌<◌, ◌≤◌, ◌↔◌, List, []}
+use Rattle.std.proofs.Common.{◌∷◌, ◌++◌, length, map, take, cond, All, Contains, refl, sym, subst, ap, ◌∙◌, arith}
 use Rattle.std.specs.Prelude.{slice_get, slice_index, Some}
 use Rattle.std.specs.Bool.{IsTrue}
 use Rattle.std.specs.List.{AllPairs}
@@ -34,7 +35,9 @@ pub row_begun : (m : TheMap) (p kind : ℕ) (old : List Misplaced) → HasRow m 
 row_begun m p kind old = record { faults = []; are = sym (append-nil old); told = tt }
 
 -- one is told more
-pub row_more : (m : TheMap) (p kind : ℕ) (others : List ℕ) (k : ℕ) (old now new : List Misplaced) (fault : Misplaced) → k < length others → HasRow m p kind (take k others) old now → new ≡ now ++ fault ∷ [] → IsTrueAt m (place p kind (slice_index others k)) fault → HasRow m p kind (take (k + 1) others) old new
+pub row_more : (m : TheMap) (p kind : ℕ) (others : List ℕ) (k : ℕ) (old now new : List Misplaced) (fault : Misplaced) → k < length others →
+    HasRow m p kind (take k others) old now → new ≡ now ++ fault ∷ [] → IsTrueAt m (place p kind (slice_index others k)) fault →
+    HasRow m p kind (take (k + 1) others) old new
 row_more m p kind others k old now new fault lt before is holds = record {
   faults = before.faults ++ fault ∷ [];
   are = is ∙ ap (λ fs. fs ++ fault ∷ []) before.are ∙ append_assoc old before.faults (fault ∷ []);
@@ -45,12 +48,14 @@ row_more m p kind others k old now new fault lt before is holds = record {
 }
 
 -- all are told
-pub row_ended : (m : TheMap) (p kind : ℕ) (others : List ℕ) (k : ℕ) (old now : List Misplaced) → length others ≤ k → HasRow m p kind (take k others) old now → HasRow m p kind others old now
+pub row_ended : (m : TheMap) (p kind : ℕ) (others : List ℕ) (k : ℕ) (old now : List Misplaced) → length others ≤ k →
+    HasRow m p kind (take k others) old now → HasRow m p kind others old now
 row_ended m p kind others k old now past row = subst (λ ns. HasRow m p kind ns old now) (take_all k others past) row
 
 -- what is told of a polygon's point is true at its place
 module _ (m : TheMap) (p : ℕ) (polygon : Polygon) (is : slice_get m.polygons p ≡ Some polygon) where
-  pub on_chain : (c tlid : ℕ) (points : List Point) (left right : Side) → IsHeldBy m.chains polygon.point c → IsChain (slice_get m.chains c) tlid points left right → IsTrueAt m (place p 0 c) (OnChain polygon.key tlid)
+  pub on_chain : (c tlid : ℕ) (points : List Point) (left right : Side) → IsHeldBy m.chains polygon.point c →
+      IsChain (slice_get m.chains c) tlid points left right → IsTrueAt m (place p 0 c) (OnChain polygon.key tlid)
   on_chain c tlid points left right held chain = record {
     kind = refl;
     point = polygon.point;
@@ -64,14 +69,24 @@ module _ (m : TheMap) (p : ℕ) (polygon : Polygon) (is : slice_get m.polygons p
   pub outside : ¬ IsInside m.chains polygon.point p → IsTrueAt m (place p 1 0) (Outside polygon.key)
   outside out = record { kind = refl; no_other = refl; point = polygon.point; of = is; outside = out }
 
-  pub in_other : (n : ℕ) (other : Polygon) → slice_get m.polygons n ≡ Some other → IsIn m polygon.point p n → IsTrueAt m (place p 2 n) (InOther polygon.key other.key)
-  in_other n other other_is h = record { kind = refl; point = polygon.point; of = is; other_point = other.point; other_of = other_is; two = h.two; within = h.within }
+  pub in_other : (n : ℕ) (other : Polygon) → slice_get m.polygons n ≡ Some other → IsIn m polygon.point p n →
+      IsTrueAt m (place p 2 n) (InOther polygon.key other.key)
+  in_other n other other_is h = record {
+    kind = refl;
+    point = polygon.point;
+    of = is;
+    other_point = other.point;
+    other_of = other_is;
+    two = h.two;
+    within = h.within;
+  }
 
 row_within : (p kind : ℕ) (others : List ℕ) → All (IsOf p kind) (row_places p kind others)
 row_within p kind [] = All-nil (IsOf p kind)
 row_within p kind (n ∷ others) = All-cons (IsOf p kind) (place p kind n) (row_places p kind others) (refl, refl) (row_within p kind others)
 
-row_has : (p kind : ℕ) (others : List ℕ) (at : FaultPlace) → at.polygon ≡ p → at.kind ≡ kind → Contains others at.other → Contains (row_places p kind others) at
+row_has : (p kind : ℕ) (others : List ℕ) (at : FaultPlace) → at.polygon ≡ p → at.kind ≡ kind → Contains others at.other →
+    Contains (row_places p kind others) at
 row_has p kind others at e f h = (
   h.0,
   let long = length-map others (place p kind) in let lt = h.1 in omega (arith, long, lt),
@@ -86,13 +101,16 @@ row_rises p kind others up i j d lt within =
     (inr (refl, inr (refl, AllPairs-from_increasing others up i j 0 lt inner)))
 
 -- those of one kind
-pub row_part : (m : TheMap) (P : ℕ → Type 0) (p kind : ℕ) (others : List ℕ) (faults : List Misplaced) → AreListed P others → ((n : ℕ) (fault : Misplaced) → IsTrueAt m (place p kind n) fault → P n) → AreTrueAt m (row_places p kind others) faults → AreFaultsIn m (IsOf p kind) faults
+pub row_part : (m : TheMap) (P : ℕ → Type 0) (p kind : ℕ) (others : List ℕ) (faults : List Misplaced) → AreListed P others →
+    ((n : ℕ) (fault : Misplaced) → IsTrueAt m (place p kind n) fault → P n) → AreTrueAt m (row_places p kind others) faults →
+    AreFaultsIn m (IsOf p kind) faults
 row_part m P p kind others faults listed wanted told = record {
   places = row_places p kind others;
   told = told;
   within = row_within p kind others;
   whole = λ at fault of is.
-      row_has p kind others at of.0 of.1 (listed.complete at.other (wanted at.other fault (subst (λ f. IsTrueAt m f fault) (sym (place_is at p kind of.0 of.1)) is)));
+      row_has p kind others at of.0 of.1 (listed.complete at.other (wanted at.other fault
+      (subst (λ f. IsTrueAt m f fault) (sym (place_is at p kind of.0 of.1)) is)));
   in_order = row_rises p kind others listed.rising;
 }
 
@@ -139,10 +157,14 @@ outside_listed {P} false is = record {
 }
 
 -- all that is wrong with a polygon's point
-pub rows_joined : (m : TheMap) (p : ℕ) (polygon : Polygon) (held : List ℕ) (out : Bool) (odd : List ℕ) (old first second new : List Misplaced) → slice_get m.polygons p ≡ Some polygon → AreListed (IsHeldBy m.chains polygon.point) held → (IsTrue out ↔ (¬ IsInside m.chains polygon.point p)) → AreListed (IsIn m polygon.point p) odd → HasRow m p 0 held old first → HasRow m p 1 (cond out (0 ∷ []) []) first second → HasRow m p 2 odd second new → HasPart m (IsOfPolygon p) old new
+pub rows_joined : (m : TheMap) (p : ℕ) (polygon : Polygon) (held : List ℕ) (out : Bool) (odd : List ℕ) (old first second new : List Misplaced) →
+    slice_get m.polygons p ≡ Some polygon → AreListed (IsHeldBy m.chains polygon.point) held →
+    (IsTrue out ↔ (¬ IsInside m.chains polygon.point p)) → AreListed (IsIn m polygon.point p) odd → HasRow m p 0 held old first →
+    HasRow m p 1 (cond out (0 ∷ []) []) first second → HasRow m p 2 odd second new → HasPart m (IsOfPolygon p) old new
 rows_joined m p polygon held out odd old first second new is held_are out_is odd_are a b c = record {
   faults = a.faults ++ (b.faults ++ c.faults);
-  are = c.are ∙ ap (λ fs. fs ++ c.faults) (b.are ∙ ap (λ fs. fs ++ b.faults) a.are) ∙ append_assoc (old ++ a.faults) b.faults c.faults ∙ append_assoc old a.faults (b.faults ++ c.faults);
+  are = c.are ∙ ap (λ fs. fs ++ c.faults) (b.are ∙ ap (λ fs. fs ++ b.faults) a.are) ∙ append_assoc (old ++ a.faults) b.faults c.faults ∙
+      append_assoc old a.faults (b.faults ++ c.faults);
   part =
       joined m (IsOfPolygon p) (IsOf p 0) Later a.faults (b.faults ++ c.faults)
       (λ f g u v. inr (u.0 ∙ sym v.0, inl (let k = u.1 in let l = v.1 in omega (arith, k, l))))
@@ -161,7 +183,8 @@ rows_joined m p polygon held out odd old first second new is held_are out_is odd
         | inr (inl k) ↦ inl (u.0, k)
         | inr (inr k) ↦ inr (u.0, k)
       ])
-      (row_part m (λ n. (n ≡ 0) × (¬ IsInside m.chains polygon.point p)) p 1 (cond out (0 ∷ []) []) b.faults (outside_listed out out_is) (outside_at m p polygon is) b.told)
+      (row_part m (λ n. (n ≡ 0) × (¬ IsInside m.chains polygon.point p)) p 1 (cond out (0 ∷ []) []) b.faults (outside_listed out out_is)
+      (outside_at m p polygon is) b.told)
       (row_part m (IsIn m polygon.point p) p 2 odd c.faults odd_are (in_at m p polygon is) c.told));
 }
   where

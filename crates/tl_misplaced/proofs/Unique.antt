@@ -1,5 +1,6 @@
 -- A map has one list of all faults.
-use Rattle.std.proofs.Common.{◌≡◌, ◌⊎◌, inl, inr, ℕ, zero, suc, ◌<◌, List, [], ◌∷◌, length, get_or, Contains, refl, sym, subst, ◌∙◌, arith}
+use Rattle.std.proofs.Common.{◌≡◌, ◌⊎◌, inl, inr, ℕ, zero, suc, ◌<◌, List}
+use Rattle.std.proofs.Common.{[], ◌∷◌, length, get_or, Contains, refl, sym, subst, ◌∙◌, arith}
 use Rattle.std.specs.List.{AllPairs}
 use Rattle.tl_county.specs.TheMap.{TheMap}
 use Rattle.tl_inside.specs.declared.misplaced.Misplaced.{Misplaced}
@@ -13,7 +14,8 @@ asymmetric f g (inl a) (inr b) = let e = b.0 in omega (arith, a, e)
 asymmetric f g (inr a) (inl b) = let e = a.0 in omega (arith, b, e)
 asymmetric f g (inr a) (inr b) = inner a.1 b.1
   where
-    inner : ((f.kind < g.kind) ⊎ ((f.kind ≡ g.kind) × (f.other < g.other))) → ((g.kind < f.kind) ⊎ ((g.kind ≡ f.kind) × (g.other < f.other))) → ⊥
+    inner : ((f.kind < g.kind) ⊎ ((f.kind ≡ g.kind) × (f.other < g.other))) → ((g.kind < f.kind) ⊎ ((g.kind ≡ f.kind) × (g.other < f.other))) →
+        ⊥
     inner (inl x) (inl y) = omega (arith, x, y)
     inner (inl x) (inr y) = let e = y.0 in omega (arith, x, e)
     inner (inr x) (inl y) = let e = x.0 in omega (arith, y, e)
@@ -53,7 +55,8 @@ module _ {X : Type 0} (R : X → X → Type 0) (never : (x y : X) → R x y → 
   ]
 
   -- two lists in that order are one where the same stands in both
-  pub one_list : (xs ys : List X) → AllPairs R xs → AllPairs R ys → ((x : X) → Contains xs x → Contains ys x) → ((x : X) → Contains ys x → Contains xs x) → xs ≡ ys
+  pub one_list : (xs ys : List X) → AllPairs R xs → AllPairs R ys → ((x : X) → Contains xs x → Contains ys x) →
+      ((x : X) → Contains ys x → Contains xs x) → xs ≡ ys
   one_list [] [] a b there back = refl
   one_list [] (y ∷ ys) a b there back = absurd (none_in y (back y (first_in y ys)))
   one_list (x ∷ xs) [] a b there back = absurd (none_in x (there x (first_in x xs)))
@@ -70,7 +73,8 @@ module _ {X : Type 0} (R : X → X → Type 0) (never : (x y : X) → R x y → 
       ]) in
       λ i. one i ∷ rest i
 
-one_told : (m : TheMap) (places : List FaultPlace) (found others : List Misplaced) → AreTrueAt m places found → AreTrueAt m places others → found ≡ others
+one_told : (m : TheMap) (places : List FaultPlace) (found others : List Misplaced) → AreTrueAt m places found → AreTrueAt m places others →
+    found ≡ others
 one_told m [] [] [] a b = refl
 one_told m [] (f ∷ found) others a b = absurd a
 one_told m [] [] (g ∷ others) a b = absurd b
@@ -81,12 +85,14 @@ one_told m (at ∷ places) (f ∷ found) (g ∷ others) a b =
     let rest : found ≡ others = one_told m places found others a.1 b.1 in
     λ i. first i ∷ rest i
 
-stands_in : (m : TheMap) (found others : List Misplaced) (a : AreAllMisplaced m found) (b : AreAllMisplaced m others) (at : FaultPlace) → Contains a.places at → Contains b.places at
+stands_in : (m : TheMap) (found others : List Misplaced) (a : AreAllMisplaced m found) (b : AreAllMisplaced m others) (at : FaultPlace) →
+    Contains a.places at → Contains b.places at
 stands_in m found others a b at h =
     let told = told_at m a.places found h.0 at a.told h.1 in
     b.whole at told.fault (subst (λ f. IsTrueAt m f told.fault) h.2 told.true_one)
 
 pub one_list_of_all : (m : TheMap) (found others : List Misplaced) → AreAllMisplaced m found → AreAllMisplaced m others → found ≡ others
 one_list_of_all m found others a b =
-    let places : a.places ≡ b.places = one_list ComesBefore asymmetric a.places b.places a.in_order b.in_order (stands_in m found others a b) (stands_in m others found b a) in
+    let places : a.places ≡ b.places = one_list ComesBefore asymmetric a.places b.places a.in_order b.in_order (stands_in m found others a b)
+    (stands_in m others found b a) in
     one_told m b.places found others (subst (λ ps. AreTrueAt m ps found) places a.told) b.told

@@ -1,5 +1,6 @@
 -- The faults of all polygons are all that there are.
-use Rattle.std.proofs.Common.{◌≡◌, ℕ, zero, suc, ◌<◌, ◌≤◌, List, [], ◌∷◌, length, get_or, Contains, refl, sym, subst, ap, ◌∙◌, arith}
+use Rattle.std.proofs.Common.{◌≡◌, ℕ, zero, suc, ◌<◌, ◌≤◌, List, [], ◌∷◌}
+use Rattle.std.proofs.Common.{length, get_or, Contains, refl, sym, subst, ap, ◌∙◌, arith}
 use Rattle.std.specs.Prelude.{slice_get}
 use Rattle.std.specs.List.{AllByRecursion}
 use Rattle.std.proofs.lemmas.List.Elements.{All-from_recursion}
@@ -19,7 +20,16 @@ use Rattle.tl_misplaced.specs.Keeping.Parts.{AreFaultsIn, IsBefore}
 pub true_at : (m : TheMap) (at : FaultPlace) (fault : Misplaced) → IsTrueAt m at fault → IsTrueMisplaced m fault
 true_at m at (OnChain key tlid) t = record { p = at.polygon; point = t.point; of = t.of; c = at.other; held = t.held; tlid_is = t.tlid_is }
 true_at m at (Outside key) t = record { p = at.polygon; point = t.point; of = t.of; outside = t.outside }
-true_at m at (InOther key other) t = record { p = at.polygon; point = t.point; of = t.of; q = at.other; other_point = t.other_point; other_of = t.other_of; two = t.two; within = t.within }
+true_at m at (InOther key other) t = record {
+  p = at.polygon;
+  point = t.point;
+  of = t.of;
+  q = at.other;
+  other_point = t.other_point;
+  other_of = t.other_of;
+  two = t.two;
+  within = t.within;
+}
 
 -- what is true is true at a place
 pub record HasPlace (m : TheMap) (fault : Misplaced) : Type 0 where
@@ -27,12 +37,22 @@ pub record HasPlace (m : TheMap) (fault : Misplaced) : Type 0 where
   pub is : IsTrueAt m at fault
 
 pub place_of : (m : TheMap) (fault : Misplaced) → IsTrueMisplaced m fault → HasPlace m fault
-place_of m (OnChain key tlid) t = record { at = record { polygon = t.p; kind = 0; other = t.c }; is = record { kind = refl; point = t.point; of = t.of; held = t.held; tlid_is = t.tlid_is } }
-place_of m (Outside key) t = record { at = record { polygon = t.p; kind = 1; other = 0 }; is = record { kind = refl; no_other = refl; point = t.point; of = t.of; outside = t.outside } }
-place_of m (InOther key other) t = record { at = record { polygon = t.p; kind = 2; other = t.q }; is = record { kind = refl; point = t.point; of = t.of; other_point = t.other_point; other_of = t.other_of; two = t.two; within = t.within } }
+place_of m (OnChain key tlid) t = record {
+  at = record { polygon = t.p; kind = 0; other = t.c };
+  is = record { kind = refl; point = t.point; of = t.of; held = t.held; tlid_is = t.tlid_is };
+}
+place_of m (Outside key) t = record {
+  at = record { polygon = t.p; kind = 1; other = 0 };
+  is = record { kind = refl; no_other = refl; point = t.point; of = t.of; outside = t.outside };
+}
+place_of m (InOther key other) t = record {
+  at = record { polygon = t.p; kind = 2; other = t.q };
+  is = record { kind = refl; point = t.point; of = t.of; other_point = t.other_point; other_of = t.other_of; two = t.two; within = t.within };
+}
 
 one_key : (m : TheMap) (p : ℕ) (key other : PolyKey) (q r : Point) → IsPointOf m p key q → IsPointOf m p other r → key ≡ other
-one_key m p key other q r a b = ap (λ (z : Polygon). z.key) (one_found (record { key = key; point = q }) (record { key = other; point = r }) (slice_get m.polygons p) a b)
+one_key m p key other q r a b = ap (λ (z : Polygon). z.key) (one_found (record { key = key; point = q }) (record { key = other; point = r })
+    (slice_get m.polygons p) a b)
 
 -- at one place one fault is true
 pub one_fault : (m : TheMap) (at : FaultPlace) (f g : Misplaced) → IsTrueAt m at f → IsTrueAt m at g → f ≡ g
@@ -60,7 +80,8 @@ pub record IsToldAt (m : TheMap) (found : List Misplaced) (k : ℕ) (at : FaultP
   pub is : (d : Misplaced) → get_or found k d ≡ fault
   pub true_one : IsTrueAt m at fault
 
-pub told_at : (m : TheMap) (places : List FaultPlace) (found : List Misplaced) (k : ℕ) (d : FaultPlace) → AreTrueAt m places found → k < length places → IsToldAt m found k (get_or places k d)
+pub told_at : (m : TheMap) (places : List FaultPlace) (found : List Misplaced) (k : ℕ) (d : FaultPlace) → AreTrueAt m places found →
+    k < length places → IsToldAt m found k (get_or places k d)
 told_at m [] found k d t lt = absurd (let no : k < 0 = lt in omega (arith, no))
 told_at m (at ∷ places) [] k d t lt = absurd t
 told_at m (at ∷ places) (fault ∷ found) zero d t lt = record { within = omega arith; fault = fault; is = λ e. refl; true_one = t.0 }
@@ -75,7 +96,8 @@ each_true m (at ∷ places) [] t = absurd t
 each_true m (at ∷ places) (fault ∷ found) t = (true_at m at fault t.0, each_true m places found t.1)
 
 -- what is true at one of the places is told
-told_has : (m : TheMap) (places : List FaultPlace) (found : List Misplaced) (at : FaultPlace) (fault : Misplaced) → AreTrueAt m places found → Contains places at → IsTrueAt m at fault → Contains found fault
+told_has : (m : TheMap) (places : List FaultPlace) (found : List Misplaced) (at : FaultPlace) (fault : Misplaced) → AreTrueAt m places found →
+    Contains places at → IsTrueAt m at fault → Contains found fault
 told_has m places found at fault t has is =
     let told = told_at m places found has.0 at t has.1 in
     let there : IsTrueAt m at told.fault = subst (λ f. IsTrueAt m f told.fault) has.2 told.true_one in

@@ -10,4 +10,5 @@ loop-p-preserved g c = record {
 }
 
 pub returns : goal.returns
-returns g c = let past = c.loop-p-test.false in all_of c.args.map.now c.loop-p.p _ (omega (arith, past, c.polygons-p-end.ensures, c.loop-p.auto.p-end)) c.loop-p.invariant.found
+returns g c = let past = c.loop-p-test.false in all_of c.args.map.now c.loop-p.p _ (omega (arith, past, c.polygons-p-end.ensures, c.loop-p.auto.p-end))
+    c.loop-p.invariant.found

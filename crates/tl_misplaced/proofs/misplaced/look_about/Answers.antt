@@ -11,4 +11,5 @@ sift_all-requires g c = record {
 
 pub returns-clause-held : goal.returns-clause-held
 returns-clause-held g c =
-    listed_once (IsHeldBy c.args.map.now.chains c.args.site.point) _ _ c.sort_once.ensures.rising c.sort_once.ensures.same c.in_ok-sift_all.ensures.each c.in_ok-sift_all.ensures.all
+    listed_once (IsHeldBy c.args.map.now.chains c.args.site.point) _ _ c.sort_once.ensures.rising c.sort_once.ensures.same c.in_ok-sift_all.ensures.each
+    c.in_ok-sift_all.ensures.all

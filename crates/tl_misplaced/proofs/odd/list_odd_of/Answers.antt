@@ -11,4 +11,5 @@ loop-place-preserved c =
 pub returns : goal.returns
 returns c =
     listed_once (IsOdd c.args.near.now c.args.far.now c.args.own) _ _ c.sort_once.ensures.rising c.sort_once.ensures.same c.loop-place.invariant.each
-    (all_odd c.args.near.now c.args.far.now c.args.own c.args.crossed.now c.loop-place.place _ c.loop-place-test.false c.requires.alike c.requires.tallies c.loop-place.invariant)
+    (all_odd c.args.near.now c.args.far.now c.args.own c.args.crossed.now c.loop-place.place _ c.loop-place-test.false c.requires.alike c.requires.tallies
+    c.loop-place.invariant)

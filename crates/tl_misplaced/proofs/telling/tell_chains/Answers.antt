@@ -10,7 +10,8 @@ pub loop-place-preserved : goal.loop-place-preserved
 loop-place-preserved c =
     row_more c.args.map.now c.args.p 0 c.args.held.now c.loop-place.place _ _ _ _ c.loop-place-test.true c.loop-place.invariant
     (pushed c.push.result _ _ _ c.push.ensures.items (sym c.is_err.ensures.value ∙ c.if-is_err.false))
-    (on_chain c.args.map.now c.args.p c.args.polygon c.requires.is _ _ _ _ _ (c.requires.held c.loop-place.place 0 c.loop-place-test.true) c.chain.ensures.chain)
+    (on_chain c.args.map.now c.args.p c.args.polygon c.requires.is _ _ _ _ _ (c.requires.held c.loop-place.place 0 c.loop-place-test.true)
+    c.chain.ensures.chain)
 
 pub returns : goal.returns
 returns c = row_ended _ _ _ _ c.loop-place.place _ _ c.loop-place-test.false c.loop-place.invariant
