@@ -1,7 +1,7 @@
 #!/usr/bin/env python3
 """A second opinion on a small county: every fault that is true of it, or that its map is sound.
 
-usage: judge.py audit [--zero-cells] [--released] FILES..
+usage: judge.py audit [--all [--most N]] [--zero-cells] [--released] FILES..
        judge.py check --cert CERT [--tests N] [--zero-cells] [--released] FILES..
        judge.py locate [--released] @X,Y FILES..
        judge.py show [--released] FILES..
@@ -10,7 +10,8 @@ usage: judge.py audit [--zero-cells] [--released] FILES..
 Written from docs/records.md, docs/sound.md, docs/faults.md and docs/certificate.md alone. It states each definition as
 it stands there, in whole numbers and fractions, with no regard to speed: it goes over all pairs of segments and all
 darts, and knows nothing of how the program searches. Where the program names one fault, the judge has the set of all
-that are true; so tests/judged.py can ask of each answer whether it is one that may be given.
+that are true; so tests/judged.py can ask of each answer whether it is one that may be given. What `audit --all` lists is that set in its
+order, but for zero-cell ids at odds, of which it lists as few pairs as tell them all.
 """
 
 import re
@@ -214,11 +215,16 @@ def raw_lines(texts):
 
 @dataclass
 class Records:
-    """What is read: the records in their order, how many lines were passed over, and the first line that is refused."""
+    """What is read: the records in their order, how many lines were passed over, and the lines that are refused."""
 
     all: list = field(default_factory=list)
     skipped: int = 0
-    refusal: str | None = None
+    refusals: list = field(default_factory=list)
+
+    @property
+    def refusal(self):
+        """The first line that is refused, or None."""
+        return next(iter(self.refusals), None)
 
     @cached_property
     def by_kind(self):
@@ -232,7 +238,7 @@ class Records:
 
 
 def read(texts, zero_cells=False, released=False):
-    """The records of the texts, up to the first refused line."""
+    """What the lines of the texts mean. Each line is read by itself, whatever stands before it."""
     records = Records()
     for number, raw in enumerate(raw_lines(texts), 1):
         try:
@@ -242,8 +248,8 @@ def read(texts, zero_cells=False, released=False):
                 raise Refused("L1 LineTooLong")
             record = record_of(Line(raw.removesuffix(b"\r")), zero_cells, released)
         except Refused as cause:
-            records.refusal = f"refused line {number} {cause}"
-            return records
+            records.refusals.append(f"refused line {number} {cause}")
+            continue
         if record is None:
             records.skipped += 1
         else:
@@ -256,6 +262,37 @@ def read(texts, zero_cells=False, released=False):
 
 MOST_CHAINS = MOST_POLYGONS = MOST_LANDMARKS = 1_048_576
 MOST_SEGMENTS = 16_777_216
+# What there can be too much of.
+LIMITED = ("chains", "segments", "polygons", "landmarks")
+
+
+@dataclass(frozen=True)
+class RecordFault:
+    """An M fault by its code and its name, with those of these that it tells: a TLID, the key of a polygon, a LAND, and
+    of what there is too much."""
+
+    code: int
+    name: str
+    tlid: int | None = None
+    key: Key | None = None
+    land: int | None = None
+    limited: str | None = None
+
+    def __str__(self):
+        numbers = (("tlid", self.tlid), ("polygon", self.key), ("land", self.land))
+        words = [f"{word} {number}" for word, number in numbers if number is not None]
+        return " ".join([f"map fault M{self.code} {self.name}", *words, *([self.limited] if self.limited else [])])
+
+    @property
+    def place(self):
+        """What faults are ordered by: the code, then TLID, CENID, POLYID and LAND, where what isn't told is 0."""
+        key = self.key or Key(bytes(5), 0)
+        tlid = LIMITED.index(self.limited) if self.limited else self.tlid or 0
+        return self.code, tlid, key.cenid, key.polyid, self.land or 0
+
+
+def too_many(limited):
+    return RecordFault(13, "TooMany", limited=limited)
 
 
 def shapes_of(records, tlid):
@@ -293,23 +330,23 @@ def chain_faults(records):
     for tlid in sorted({*tlids, *(it.tlid for it in records.of(Shape))}):
         shapes = shapes_of(records, tlid)
         if tlids.count(tlid) >= 2:
-            faults.append(f"M1 DuplicateChain tlid {tlid}")
+            faults.append(RecordFault(1, "DuplicateChain", tlid))
         if tlid not in tlids:
-            faults.append(f"M2 ShapeWithoutChain tlid {tlid}")
+            faults.append(RecordFault(2, "ShapeWithoutChain", tlid))
         if not is_numbered(shapes):
-            faults.append(f"M3 ShapeSequence tlid {tlid}")
+            faults.append(RecordFault(3, "ShapeSequence", tlid))
         elif has_gap(pairs_of(shapes)):
-            faults.append(f"M4 ShapeGap tlid {tlid}")
-    if len(chains) > MOST_CHAINS:
-        faults.append("M13 TooMany chains")
+            faults.append(RecordFault(4, "ShapeGap", tlid))
     if not faults and sum(len(points_of(it, shapes_of(records, it.tlid))) - 1 for it in chains) > MOST_SEGMENTS:
-        faults.append("M13 TooMany segments")
+        faults.append(too_many("segments"))
+    if len(chains) > MOST_CHAINS:
+        faults.append(too_many("chains"))
     for chain in chains:
         shapes = shapes_of(records, chain.tlid)
         is_sure = tlids.count(chain.tlid) == 1 and is_numbered(shapes) and not has_gap(pairs_of(shapes))
         if is_sure and len(points_of(chain, shapes)) == 1:
-            faults.append(f"M12 DegenerateChain tlid {chain.tlid}")
-    return [f"map fault {it}" for it in faults]
+            faults.append(RecordFault(12, "DegenerateChain", chain.tlid))
+    return faults
 
 
 def join_faults(records):
@@ -318,19 +355,19 @@ def join_faults(records):
     sides = [it.tlid for it in records.of(Sides)]
     keys = [it.key for it in records.of(Polygon)]
     lands = {it.land for it in records.of(Landmark)}
-    faults = [f"M5 ChainWithoutSides tlid {tlid}" for tlid in chains - set(sides)]
-    faults += [f"M6 SidesWithoutChain tlid {tlid}" for tlid in set(sides) - chains]
-    faults += [f"M7 DuplicateSides tlid {tlid}" for tlid in set(sides) if sides.count(tlid) >= 2]
-    faults += [f"M8 DuplicatePolygon polygon {key}" for key in set(keys) if keys.count(key) >= 2]
+    faults = [RecordFault(5, "ChainWithoutSides", tlid) for tlid in chains - set(sides)]
+    faults += [RecordFault(6, "SidesWithoutChain", tlid) for tlid in set(sides) - chains]
+    faults += [RecordFault(7, "DuplicateSides", tlid) for tlid in set(sides) if sides.count(tlid) >= 2]
+    faults += [RecordFault(8, "DuplicatePolygon", key=key) for key in set(keys) if keys.count(key) >= 2]
     for it in records.of(Sides):
         unknown = {it.left, it.right} - {None, *keys}
-        faults += [f"M9 SideWithoutPolygon tlid {it.tlid} polygon {key}" for key in unknown]
+        faults += [RecordFault(9, "SideWithoutPolygon", it.tlid, key) for key in unknown]
     for it in records.of(Link):
-        faults += [f"M10 LinkWithoutLandmark land {it.land}"] if it.land not in lands else []
-        faults += [f"M11 LinkWithoutPolygon polygon {it.key} land {it.land}"] if it.key not in keys else []
-    faults += ["M13 TooMany polygons"] if len(keys) > MOST_POLYGONS else []
-    faults += ["M13 TooMany landmarks"] if len(lands) > MOST_LANDMARKS else []
-    return [f"map fault {it}" for it in faults]
+        faults += [RecordFault(10, "LinkWithoutLandmark", land=it.land)] if it.land not in lands else []
+        faults += [RecordFault(11, "LinkWithoutPolygon", key=it.key, land=it.land)] if it.key not in keys else []
+    faults += [too_many("polygons")] if len(keys) > MOST_POLYGONS else []
+    faults += [too_many("landmarks")] if len(lands) > MOST_LANDMARKS else []
+    return faults
 
 
 # ---------------------------------------------------------------------------------------------------------------------
@@ -679,8 +716,33 @@ def cell_faults(the_map):
     for one, other in combinations([dart for dart in the_map.darts if the_map.cell(dart) is not None], 2):
         ids = the_map.cell(one), the_map.cell(other)
         if (ids[0] == ids[1]) != (the_map.start(one) == the_map.start(other)):
-            faults.append("map fault G6 Cell darts {} {} ids {} {}".format(one, other, *ids))
+            faults.append(cell_fault(the_map, one, other))
     return faults
+
+
+def listed_cell_faults(the_map):
+    """Those of them that tell all ids at odds by as few pairs as will do, by the first dart and then by the second: of
+    each id the first dart that has it with the first at each other point where it starts, and of each point the first dart
+    there that has an id with the first there of each other id."""
+    with_ids = [dart for dart in the_map.darts if the_map.cell(dart) is not None]
+
+    def first(darts, sort):
+        """The first dart of each sort."""
+        return {sort(dart): dart for dart in reversed(darts)}
+
+    def both(dart):
+        return the_map.cell(dart), the_map.start(dart)
+
+    of_id, at_start = first(with_ids, the_map.cell), first(with_ids, the_map.start)
+    pairs = []
+    for (cell, start), dart in first(with_ids, both).items():
+        pairs += [(of_id[cell], dart)] if the_map.start(of_id[cell]) != start else []
+        pairs += [(at_start[start], dart)] if the_map.cell(at_start[start]) != cell else []
+    return [cell_fault(the_map, *pair) for pair in sorted(pairs)]
+
+
+def cell_fault(the_map, one, other):
+    return f"map fault G6 Cell darts {one} {other} ids {the_map.cell(one)} {the_map.cell(other)}"
 
 
 def place_of(the_map, point):
@@ -843,11 +905,6 @@ def counts_of(the_map):
     return len(the_map.chains), len(the_map.segments), len(the_map.starting), len(the_map.polygons)
 
 
-def map_faults(the_map):
-    """Each fault of the map; of two segments that meet one line, though more points may be true."""
-    return meets(the_map) + side_faults(the_map) + point_faults(the_map) + cell_faults(the_map)
-
-
 def sound_report(the_map):
     """The numbers of a map that has no fault, or None where its boundaries aren't closed, so that it isn't sound."""
     rings = rings_of(the_map)
@@ -868,7 +925,13 @@ class Opinion:
     @property
     def status(self):
         """That of the first answer."""
-        return STATUSES.get(self.answers[0].split(" ")[0], 0) if self.answers else 1
+        return status_of(self.answers[0]) if self.answers else 1
+
+    @property
+    def outputs(self):
+        """The status and the two outputs of each answer."""
+        texts = [(status_of(it), it.encode("latin-1") + b"\n") for it in self.answers]
+        return [(status, text, b"") if status in ON_OUTPUT else (status, b"", text) for status, text in texts]
 
     def allows(self, status, out, err):
         """Whether the program's status and its two outputs may be so."""
@@ -876,9 +939,58 @@ class Opinion:
         if (err if status in ON_OUTPUT else out) or not text.endswith("\n"):
             return False
         answer = text[:-1]
-        if status != STATUSES.get(answer.split(" ")[0], 0):
+        if status != status_of(answer):
             return False
         return answer in self.answers or self.the_map is not None and is_true_meet(self.the_map, answer)
+
+
+@dataclass
+class Listing:
+    """What `audit --all` prints of a county that has faults, or lines that are refused: all of them in their order, or
+    with `most` so many at most; whether polygons' points weren't looked at; and how many there are. Of two segments that
+    meet where they may not, the line may name any point that is true of them."""
+
+    faults: list
+    counted: str
+    most: int | None = None
+    points_left: bool = False
+    the_map: Map | None = None
+
+    @property
+    def status(self):
+        return status_of(self.faults[0])
+
+    @property
+    def lines(self):
+        printed = self.faults[: self.most]
+        count = f"{self.counted}={len(self.faults)}" + (f" printed={len(printed)}" if self.most is not None else "")
+        return [*printed, *(["points not looked at"] if self.points_left else []), count]
+
+    @property
+    def answers(self):
+        return ["\n".join(self.lines)]
+
+    @property
+    def outputs(self):
+        """All of it is written to the standard output, refused lines too."""
+        return [(self.status, it.encode("latin-1") + b"\n", b"") for it in self.answers]
+
+    def allows(self, status, out, err):
+        """Whether the program's status and its two outputs may be so."""
+        told = out.decode("latin-1").split("\n")
+        wanted = [*self.lines, ""]
+        are_well = len(told) == len(wanted) and all(map(self.is_as_good, told, wanted))
+        return status == self.status and not err and are_well
+
+    def is_as_good(self, line, wanted):
+        """It is the line that is wanted, or names another point of the same two segments that is as true."""
+        if line == wanted or self.the_map is None:
+            return line == wanted
+        return line.split(" at ")[0] == wanted.split(" at ")[0] and is_true_meet(self.the_map, line)
+
+
+def status_of(answer):
+    return STATUSES.get(answer.split(" ")[0], 0)
 
 
 class County:
@@ -888,19 +1000,36 @@ class County:
         self.records = read(texts, zero_cells, released)
 
     @cached_property
+    def record_faults(self):
+        """Each fault of the records once, by code and then by numbers."""
+        faults = {*chain_faults(self.records), *join_faults(self.records)}
+        return [str(it) for it in sorted(faults, key=lambda it: it.place)]
+
+    @property
     def faults(self):
         """The first refused line, or each fault of the records."""
-        if self.records.refusal:
-            return [self.records.refusal]
-        return chain_faults(self.records) + join_faults(self.records)
+        return [self.records.refusal] if self.records.refusal else self.record_faults
 
     @cached_property
     def map(self):
         return map_of(self.records)
 
     @cached_property
+    def meets(self):
+        return meets(self.map)
+
+    @cached_property
+    def side_faults(self):
+        return side_faults(self.map)
+
+    @cached_property
+    def point_faults(self):
+        return point_faults(self.map)
+
+    @cached_property
     def map_faults(self):
-        return map_faults(self.map)
+        """Each fault of the map; of two segments that meet one line, though more points may be true."""
+        return self.meets + self.side_faults + self.point_faults + cell_faults(self.map)
 
     @cached_property
     def report(self):
@@ -911,6 +1040,17 @@ class County:
         if self.faults:
             return Opinion(self.faults)
         return Opinion([f"{word} {self.report}"] if self.report else self.map_faults, self.map)
+
+    def audit_all(self, most=None):
+        """All lines that are refused; or all faults of the records; or all of the map, where polygons' points are looked
+        at if sides agree."""
+        if self.records.refusals:
+            return Listing(self.records.refusals, "refused", most)
+        if self.record_faults:
+            return Listing(self.record_faults, "faults", most)
+        points = [] if self.side_faults else self.point_faults
+        faults = self.meets + self.side_faults + listed_cell_faults(self.map) + points
+        return Listing(faults, "faults", most, bool(self.side_faults), self.map) if faults else self.audit()
 
     def build(self):
         """As `audit`, but for the word; the certificate that is made is looked at by `certificate_faults`."""
@@ -941,7 +1081,7 @@ class County:
     def show(self):
         """By types 1 and 2 alone."""
         if self.records.refusal or chain_faults(self.records):
-            return Opinion([self.records.refusal] if self.records.refusal else chain_faults(self.records))
+            return Opinion([self.records.refusal] if self.records.refusal else [*map(str, chain_faults(self.records))])
         drawn = [(it.tlid, points_of(it, shapes_of(self.records, it.tlid))) for it in self.records.of(Chain)]
         lines = [" ".join([f"tlid {tlid}", *(f"{it.x},{it.y}" for it in points)]) for tlid, points in sorted(drawn)]
         segments = sum(len(points) - 1 for _, points in drawn)
@@ -960,9 +1100,9 @@ def asked(words, text_of):
     rest = [it for word in words[1:] for it in (word.split("=", 1) if word.startswith("--") else [word])]
     while rest:
         word = rest.pop(0)
-        if word in ("--cert", "--tests", "--out") and rest:
+        if word in ("--cert", "--tests", "--out", "--most") and rest:
             values[word] = rest.pop(0)
-        elif word in ("--zero-cells", "--released"):
+        elif word in ("--zero-cells", "--released", "--all"):
             switches.add(word)
         elif word != "--":
             names.append(word)
@@ -971,9 +1111,14 @@ def asked(words, text_of):
         return None
     if (command == "check" and "--cert" not in values) or (command == "locate" and not point):
         return None
+    is_all, most = "--all" in switches, values.get("--most")
+    if (is_all and command != "audit") or (most is not None and not (is_all and most.isdigit())):
+        return None
     county = County([text_of(name) for name in names], "--zero-cells" in switches, "--released" in switches)
     if command == "check":
         return county.check(text_of(values["--cert"]), int(values["--tests"]) if "--tests" in values else None)
+    if is_all:
+        return county.audit_all(None if most is None else int(most))
     return county.locate(Point(*map(int, point.groups()))) if point else getattr(county, command)()
 
 

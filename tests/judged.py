@@ -4,7 +4,7 @@
 usage: judged.py [--seed SEED] [--cases N] [--only NUMBER] [--program PROGRAM]
 
 First the judge is judged: it has to agree with each row of tests/*.rows of which it can speak. Then each case is asked
-for by `audit`, and by others: `build`, whose certificate has to be valid by the judge, `check` by that certificate, by
+for by `audit` and by `audit --all`, whose whole list has to be the judge's, and by others: `build`, whose certificate has to be valid by the judge, `check` by that certificate, by
 one that tests/draw.py proposes and by both changed, with a budget of tests at times, `locate`, `show` and `landmarks`.
 No expected value comes from the program. A town that is drawn to be sound has to be so by the judge too.
 
@@ -66,14 +66,8 @@ def row_agrees(row, words):
     if opinion is None:
         return None
     if is_front:
-        return any(row.is_met(streams(answer)) for answer in opinion.answers)
+        return any(row.is_met(output) for output in opinion.outputs)
     return all(opinion.allows(*answer) for answer in row.wanted)
-
-
-def streams(answer):
-    """The status and the two outputs of an answer."""
-    status, text = judge.STATUSES.get(answer.split(" ")[0], 0), answer.encode("latin-1") + b"\n"
-    return (status, text, b"") if status in judge.ON_OUTPUT else (status, b"", text)
 
 
 class Table:
@@ -114,6 +108,10 @@ def complaints(table, case, chance):
         return [f"{' '.join(words)}\n  the program: {found}\n  the judge: {opinion.status} {opinion.answers[:9]}"]
 
     yield from wrong(county.audit(), "audit", *switches, *names)
+    yield from wrong(county.audit_all(), "audit", "--all", *switches, *names)
+    if chance.random() < 0.1:
+        most = chance.choice((1, 2, 2, 5))
+        yield from wrong(county.audit_all(most), "audit", "--all", "--most", str(most), *switches, *names)
     if case.is_town and not county.report and len(texts) == 1:
         yield f"a town that was drawn to be sound isn't: {county.faults or county.map_faults}"
     made = table.folder / "made"
