@@ -4,6 +4,7 @@ use std::alloc::Global;
 use tl_county::Map;
 use tl_geom::Rational;
 use tl_inside::{Misplaced, find_misplaced};
+use tl_misplaced::all_misplaced;
 use tl_planar::{Meeting, Segments, first_meet};
 use tl_tree::{Items, PlainList};
 
@@ -21,10 +22,14 @@ pub fn meet_at(map: &Map, at: Rational) -> bool {
     }
 }
 
-/// Whether this is found of the points of a map's polygons.
+/// Whether this is found of the points of a map's polygons, and is the first of all that is wrong with them.
 pub fn is_misplaced(alloc: Global, map: &Map, wanted: Option<Misplaced>) -> bool {
-    match find_misplaced(alloc, map, &PlainList::new(map.segments())) {
-        Ok(found) => found == wanted,
+    let index = PlainList::new(map.segments());
+    let Ok(found) = find_misplaced(alloc, map, &index) else {
+        return false;
+    };
+    match all_misplaced(alloc, &index, map) {
+        Ok(all) => found == wanted && all.first().copied() == wanted,
         Err(_) => false,
     }
 }
