@@ -1,0 +1,2 @@
+pub mod MapFaults
+pub mod Listings

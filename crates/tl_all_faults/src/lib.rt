@@ -1,0 +1,2 @@
+//! All that is wrong with a county.
+#![tactic(auto)]
