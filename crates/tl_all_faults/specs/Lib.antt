@@ -1,2 +1,3 @@
 pub mod MapFaults
 pub mod Listings
+pub mod Keeping

@@ -38,6 +38,6 @@ IsListingOf layout text (Faults faults points_left) =
     (faults.items ≢ []) × ((records_of layout text).refusal ≡ None) × AreFaults (records_of layout text) faults.items points_left
 
 -- `Device` is answered where a read failed, and nowhere else; the count of failures goes from old to new
-abbrev pub TellsDevice : ℕ → ℕ → Result Listing ListingStop → Type 0
+abbrev pub TellsDevice : {T : Type 0} → ℕ → ℕ → Result T ListingStop → Type 0
 TellsDevice old new (Err Device) = new ≡ one_more old
 TellsDevice old new other = new ≡ old

@@ -12,14 +12,13 @@ use tl_inside::Misplaced;
 /// All that is wrong with where the points of a map's polygons lie, by an index that fits the map's segments. An error
 /// says that memory was refused.
 pub fn all_misplaced<X: BoxIndex>(
-    alloc: Global,
-    index: &X,
-    map: &Map,
+    _alloc: Global,
+    _index: &X,
+    _map: &Map,
 ) -> Result<Vec<Misplaced>, Memory>
-    requires { X.fits index.now (segments_before map.now.chains (length map.now.chains))
-        (segment_rect map.now.chains) }
-    ensures { IfOk result (λ found. AreAllMisplaced map.now found.items) }
+    requires { X.fits _index.now (segments_before _map.now.chains (length _map.now.chains))
+        (segment_rect _map.now.chains) }
+    ensures { IfOk result (λ found. AreAllMisplaced _map.now found.items) }
 {
-    let _stub = (alloc, index.items(), map.chains());
     Err(Memory)
 }
