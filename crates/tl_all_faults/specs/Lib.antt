@@ -1,3 +1,4 @@
 pub mod MapFaults
 pub mod Listings
+pub mod Telling
 pub mod Keeping

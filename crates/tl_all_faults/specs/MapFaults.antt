@@ -1,5 +1,5 @@
 -- All faults of a map, in their order.
-use Rattle.std.specs.Prelude.{◌≡◌, ◌≢◌, ℕ, Bool, true, false, List, [], ◌++◌, map}
+use Rattle.std.specs.Prelude.{◌≡◌, ◌≢◌, ℕ, pos, Bool, true, false, List, [], ◌++◌, map}
 use Rattle.std.specs.Option.{unwrap_or}
 use Rattle.tl_geom.specs.declared.point.Point.{Point}
 use Rattle.tl_county.specs.TheMap.{TheMap, MapChain}
@@ -15,9 +15,13 @@ use Rattle.tl_misplaced.specs.AllMisplaced.{AreAllMisplaced}
 use Rattle.tl_verdict.specs.declared.fault.MapFault.{MapFault}
 use Rattle.tl_verdict.specs.declared.fault.MapFault.TheVariants as fault
 
--- the point where a dart starts: each dart that is told has one
+-- where no dart starts
+abbrev pub nowhere : Point
+nowhere = record { x = pos 0; y = pos 0 }
+
+-- the point where a dart starts: each dart that is told starts somewhere
 abbrev pub start_of : List MapChain → ℕ → Point
-start_of chains dart = unwrap_or (dart_start chains dart) (record { x = 0; y = 0 })
+start_of chains dart = unwrap_or (dart_start chains dart) nowhere
 
 -- sides that disagree, told with the node about which they do
 abbrev pub side_fault : List MapChain → Disagreement → MapFault

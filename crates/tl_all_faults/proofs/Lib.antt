@@ -1,0 +1,7 @@
+pub mod Lists
+pub mod Emptiness
+pub mod Truth
+pub mod Told
+pub mod Gathering
+pub mod Assembling
+pub mod Listed
