@@ -70,7 +70,7 @@ no_fault : (m : TheMap) (f : MapFault) → HasNone m → ¬ IsTrueOfMap m f
 no_fault m (fault.Records told) none true_one = absurd true_one
 no_fault m (fault.Meet meet) none true_one = none_named _ (none.meets.complete meet.s meet.t meet.at true_one.ordered true_one.told.meet)
 no_fault m (fault.Side node first next) none true_one = none_named _ (none.sides.complete first next (record { is_next = true_one.is_next; differ = true_one.differ }))
-no_fault m (fault.PolygonPoint misplaced) none true_one = none_held misplaced (none.points.complete misplaced true_one)
+no_fault m (fault.PolygonPoint misplaced) none true_one = none_held misplaced (none.points.every misplaced true_one)
 no_fault m (fault.Cell odds) none true_one = odds_deny m.chains odds.first odds.second odds.first_id odds.second_id true_one (cells_agree m.chains none.cells)
 
 -- where a fault is true of the map, the list of all isn't empty

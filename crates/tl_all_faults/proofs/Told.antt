@@ -42,7 +42,7 @@ module _ (m : TheMap) (faults : List MapFault) (points_left : Bool) (all : AreMa
 
   point_told : (left : Bool) → ArePointsTold m all.sides left all.points → (misplaced : Misplaced) → IsTrueOfMap m (fault.PolygonPoint misplaced)
       → IsTold faults left (fault.PolygonPoint misplaced)
-  point_told false told misplaced true_one = inl (among_points (fault.PolygonPoint misplaced) (held_map fault.PolygonPoint all.points misplaced (told.1.complete misplaced true_one)))
+  point_told false told misplaced true_one = inl (among_points (fault.PolygonPoint misplaced) (held_map fault.PolygonPoint all.points misplaced (told.1.every misplaced true_one)))
   point_told true told misplaced true_one =
       let some = some_first all.sides told.0 in
       inr (refl, named_by IsOfSides faults (side_fault m.chains some.0) (among_sides _ (held_map (side_fault m.chains) all.sides some.0 some.1)) tt)

@@ -27,7 +27,7 @@ side_is_true : (m : TheMap) (d : Disagreement) → HaveSidesAtOdds m.chains d.fi
 side_is_true m d odds = record { at = start_known m.chains d.first odds.is_next.node odds.is_next.a_starts; is_next = odds.is_next; differ = odds.differ }
 
 points_are_true : (m : TheMap) (sides : List Disagreement) (points_left : Bool) (points : List Misplaced) → ArePointsTold m sides points_left points → All (IsTrueMisplaced m) points
-points_are_true m sides false points told = told.1.true_ones
+points_are_true m sides false points told = told.1.each
 points_are_true m sides true points told = rw told.1 (All-nil (IsTrueMisplaced m))
 
 pub each_is_true : (m : TheMap) (faults : List MapFault) (points_left : Bool) → AreMapFaults m faults points_left → All (IsTrueOfMap m) faults

@@ -1,6 +1,6 @@
 //! All faults of a map, or that it is sound.
 
-ghost use Rattle.std.specs.Prelude.{◌≡◌, ◌≢◌, [], IfOk, IsTrue, length};
+ghost use Rattle.std.specs.Prelude.{◌≡◌, ◌≢◌, [], false, IfOk, OnOk, IsTrue, length};
 ghost use Rattle.tl_county.specs.Segments.{segments_before};
 ghost use Rattle.tl_planar.specs.Planar.{IsPlanar};
 ghost use Rattle.tl_planar.specs.Rectangles.{segment_rect};
@@ -16,11 +16,13 @@ use tl_disagreements::{all_cells_at_odds, all_disagreements};
 use tl_index::{BoxIndex, Memory, TreeNode, TreeStop};
 use tl_listing::Listing;
 use tl_meets::all_meets;
+use tl_meets::laws::planar_where_no_meet_is_listed;
 use tl_misplaced::all_misplaced;
 use tl_pack::pack;
 use tl_planar::{Meet, Segments};
 use tl_sweep::{Swept, sweep};
 use tl_tree::FlatTree;
+use tl_verdict::MapFault;
 
 /// All faults of a map, or its report where it is sound: by a sweep, and where that doesn't tell that the chains are
 /// planar, by a search for all their meets. An error says that memory was refused.
@@ -57,13 +59,28 @@ fn list_unsound(alloc: Global, map: &Map, placed: bool) -> Result<Listing, Memor
 {
     let mut faults = Vec::new(alloc);
     let points_left = tell_agreement(alloc, map, &mut faults)?;
-    if !points_left && !placed {
-        tell_by_new_tree(alloc, map, &mut faults)?;
-    }
+    tell_unless(alloc, map, points_left, placed, &mut faults)?;
     Ok(Listing::Faults {
         faults,
         points_left,
     })
+}
+
+/// Appends what is wrong with where polygons' points lie, unless they are left, or known to be placed.
+fn tell_unless(
+    alloc: Global,
+    map: &Map,
+    left: bool,
+    placed: bool,
+    faults: &mut Vec<MapFault>,
+) -> Result<(), Memory>
+    requires { IsTrue placed → ArePlaced map.now }
+    ensures { OnOk result (AddsPoints map.now left faults.old.items faults.new.items) }
+{
+    if left || placed {
+        return Ok(());
+    }
+    tell_by_new_tree(alloc, map, faults)
 }
 
 /// Appends what is wrong with where polygons' points lie, by a tree that is made for it.
@@ -72,7 +89,7 @@ fn tell_by_new_tree(
     map: &Map,
     faults: &mut Vec<MapFault>,
 ) -> Result<(), Memory>
-    ensures { OnOk result (AddsPoints map.now faults.old.items faults.new.items) }
+    ensures { OnOk result (AddsPoints map.now false faults.old.items faults.new.items) }
 {
     let Ok(nodes) = pack(alloc, &Segments::new(map)) else {
         return Err(Memory);
@@ -107,6 +124,7 @@ fn list_by<X: BoxIndex>(alloc: Global, index: &X, map: &Map) -> Result<Listing, 
     ensures { IfOk result (IsListingOfMap map.now) }
 {
     let meets = all_meets(alloc, index, map)?;
+    planar_where_no_meet_is_listed();
     if meets.is_empty() {
         list_planar(alloc, map, false)
     } else {
@@ -131,16 +149,12 @@ fn list_met<X: BoxIndex>(
     tell_meets(&mut faults, &meets)?;
     drop(meets);
     let points_left = tell_agreement(alloc, map, &mut faults)?;
-    if !points_left {
-        tell_misplaced(alloc, index, map, &mut faults)?;
-    }
+    tell_unless_left(alloc, index, map, points_left, &mut faults)?;
     Ok(Listing::Faults {
         faults,
         points_left,
     })
 }
-
-ghost use Rattle.std.specs.Prelude.{OnOk};
 
 /// Appends sides that disagree, and behind them zero-cell ids that are at odds. Gives whether sides disagree.
 fn tell_agreement(
@@ -159,6 +173,24 @@ fn tell_agreement(
     Ok(differ)
 }
 
+/// Appends what is wrong with where polygons' points lie, unless they are left.
+fn tell_unless_left<X: BoxIndex>(
+    alloc: Global,
+    index: &X,
+    map: &Map,
+    left: bool,
+    faults: &mut Vec<MapFault>,
+) -> Result<(), Memory>
+    requires { X.fits index.now (segments_before map.now.chains (length map.now.chains))
+        (segment_rect map.now.chains) }
+    ensures { OnOk result (AddsPoints map.now left faults.old.items faults.new.items) }
+{
+    if left {
+        return Ok(());
+    }
+    tell_misplaced(alloc, index, map, faults)
+}
+
 /// Appends what is wrong with where polygons' points lie.
 fn tell_misplaced<X: BoxIndex>(
     alloc: Global,
@@ -168,7 +200,7 @@ fn tell_misplaced<X: BoxIndex>(
 ) -> Result<(), Memory>
     requires { X.fits index.now (segments_before map.now.chains (length map.now.chains))
         (segment_rect map.now.chains) }
-    ensures { OnOk result (AddsPoints map.now faults.old.items faults.new.items) }
+    ensures { OnOk result (AddsPoints map.now false faults.old.items faults.new.items) }
 {
     let points = all_misplaced(alloc, index, map)?;
     tell_points(faults, &points)

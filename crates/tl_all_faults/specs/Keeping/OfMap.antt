@@ -1,5 +1,5 @@
 -- What is told of a map.
-use Rattle.std.specs.Prelude.{◌≡◌, ◌≢◌, ◌↔◌, Bool, true, List, [], ◌++◌, map}
+use Rattle.std.specs.Prelude.{◌≡◌, ◌≢◌, Bool, true, false, List, [], ◌++◌, map}
 use Rattle.tl_county.specs.TheMap.{TheMap}
 use Rattle.tl_sides.specs.declared.fault.Disagreement.{Disagreement}
 use Rattle.tl_cells.specs.declared.at_odds.CellsAtOdds.{CellsAtOdds}
@@ -26,17 +26,27 @@ IsListingOfMap m (Faults faults points_left) = (faults.items ≢ []) × AreMapFa
 abbrev pub IsFaulty : TheMap → Type 0
 IsFaulty m = (fault : MapFault) × IsTrueOfMap m fault
 
+-- sides differ exactly where there is one to tell
+abbrev pub Differ : Bool → List Disagreement → Type 0
+Differ true sides = sides ≢ []
+Differ false sides = sides ≡ []
+
 -- to the faults are appended all that tells whether sides and zero-cell ids agree
 pub record AddsAgreement (m : TheMap) (differ : Bool) (old new : List MapFault) : Type 0 where
   pub sides : List Disagreement
   pub cells : List CellsAtOdds
   pub all_sides : AreAllDisagreements m.chains sides
   pub all_cells : AreAllCellsAtOdds m.chains cells
-  pub is : (differ ≡ true) ↔ (sides ≢ [])
+  pub is : Differ differ sides
   pub are : new ≡ old ++ map (side_fault m.chains) sides ++ map fault.Cell cells
 
--- to the faults is appended all that is wrong with where polygons' points lie
-pub record AddsPoints (m : TheMap) (old new : List MapFault) : Type 0 where
+-- all that is wrong with where polygons' points lie, unless they are left
+abbrev pub AreLookedAt : TheMap → Bool → List Misplaced → Type 0
+AreLookedAt m true points = points ≡ []
+AreLookedAt m false points = AreAllMisplaced m points
+
+-- that is appended to the faults
+pub record AddsPoints (m : TheMap) (left : Bool) (old new : List MapFault) : Type 0 where
   pub points : List Misplaced
-  pub all_points : AreAllMisplaced m points
+  pub all_points : AreLookedAt m left points
   pub are : new ≡ old ++ map fault.PolygonPoint points
