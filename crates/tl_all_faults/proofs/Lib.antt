@@ -6,3 +6,5 @@ pub mod OfMap
 pub mod Gathering
 pub mod Assembling
 pub mod Listed
+pub mod OneOrder
+pub mod Same

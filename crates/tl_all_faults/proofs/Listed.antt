@@ -31,7 +31,7 @@ use Rattle.tl_all_faults.proofs.Truth.{each_is_true}
 use Rattle.tl_all_faults.proofs.Told.{told}
 use Rattle.tl_all_faults.proofs.Assembling.{first_is}
 
-held_so : {X : Type 0} (P : X → Type 0) (xs : List X) (x : X) → All P xs → Contains xs x → P x
+pub held_so : {X : Type 0} (P : X → Type 0) (xs : List X) (x : X) → All P xs → Contains xs x → P x
 held_so P xs x each held = subst P held.2 (each held.0 x held.1)
 
 -- ---- what is told is true
@@ -56,7 +56,7 @@ each_true layout text (Faults faults points_left) is = faults_true (records_of l
 
 -- ---- sound maps
 
-none_is_refused : (layout : Layout) (text : List ℕ) (listed : List (ℕ × Cause)) → listed ≡ refusals_of layout text → (records_of layout text).refusal ≡ None → listed ≡ []
+pub none_is_refused : (layout : Layout) (text : List ℕ) (listed : List (ℕ × Cause)) → listed ≡ refusals_of layout text → (records_of layout text).refusal ≡ None → listed ≡ []
 none_is_refused layout text listed is unrefused = is ∙ none_first _ (first_is layout text ∙ unrefused)
 
 pub sound_alone : (layout : Layout) (text : List ℕ) (listing : Listing) → IsListingOf layout text listing → SaysSound listing ↔ HaveMap (records_of layout text) IsSound
@@ -83,7 +83,7 @@ unrefused_where_true all (fault.Cell odds) true_one = true_one.is_read.no_refusa
 
 module _ (all : Records) (faults : List MapFault) (points_left : Bool) where
   -- records that have a map have no fault
-  no_map : (P : TheMap → Type 0) → faults ≢ [] → AreRecordFaults all faults → ¬ HaveMap all P
+  pub no_map : (P : TheMap → Type 0) → faults ≢ [] → AreRecordFaults all faults → ¬ HaveMap all P
   no_map P some of_records have =
       let first = some_first of_records.told (λ none. some (rw none at of_records.are)) in
       have.is_read.no_fault first.0 (held_so (IsTrueOf (records_in all)) of_records.told first.0 of_records.are_all.each first.1)

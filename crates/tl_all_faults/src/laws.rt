@@ -9,6 +9,9 @@ ghost use Rattle.tl_verdict.specs.Records.{HaveMap, IsTrueOfRecords};
 ghost use Rattle.tl_listing.specs.declared.listing.Listing.{Listing};
 ghost use Rattle.tl_all_faults.specs.Listings.{IsListingOf};
 ghost use Rattle.tl_all_faults.specs.Telling.{SaysSound, EachFault, Tells};
+ghost use Rattle.tl_all_faults.specs.Alike.{AreAlike};
+
+use tl_misplaced::laws::a_map_has_one_list_of_all_misplaced;
 
 /// A listing says that the map is sound exactly where the records have a map that is sound.
 pub fn a_sound_map_alone_is_listed_as_sound()
@@ -27,3 +30,11 @@ pub fn each_fault_that_is_true_is_told()
     ensures { (layout : Layout) (text : List ℕ) (listing : Listing) (fault : MapFault) →
         IsListingOf layout text listing → IsTrueOfRecords (records_of layout text) fault → Tells listing fault }
 {}
+
+/// A text has one listing, but for the points at which segments meet and for the numbers of a sound map.
+pub fn a_text_has_one_listing()
+    ensures { (layout : Layout) (text : List ℕ) (listing other : Listing) → IsListingOf layout text listing →
+        IsListingOf layout text other → AreAlike listing other }
+{
+    a_map_has_one_list_of_all_misplaced();
+}

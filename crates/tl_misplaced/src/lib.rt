@@ -2,5 +2,6 @@
 #![tactic(auto)]
 
 mod all;
+pub mod laws;
 
 pub use all::all_misplaced;

@@ -1,0 +1,2 @@
+mod Wholes
+mod Unique
