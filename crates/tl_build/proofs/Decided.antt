@@ -1,5 +1,5 @@
 -- What the clauses of answers to maps read off what these say.
-use Rattle.std.proofs.Common.{◌≡◌, ◌↔◌, ℕ, List, length, Option, Some, None, Result, Ok, Err, subst, ◌∙◌}
+use Rattle.std.proofs.Common.{◌≡◌, ◌↔◌, ℕ, List, length, Option, Some, None, Result, Ok, Err, refl, subst, ◌∙◌}
 use Rattle.std.specs.Prelude.{IfOk, IfErr, MatchOption}
 use Rattle.tl_county.specs.declared.sides.Side.TheVariants.{Outside, Polygon}
 use Rattle.tl_county.specs.TheMap.{TheMap}
@@ -19,6 +19,7 @@ use Rattle.tl_verdict.specs.Verdicts.{IsReport, AreNumbers}
 use Rattle.tl_verdict.proofs.Denials.{not_sound}
 use Rattle.tl_build.specs.declared.answer.Audit.TheVariants as audit
 use Rattle.tl_build.specs.declared.answer.Built.TheVariants as built
+use Rattle.tl_build.specs.declared.stop.AuditStop.TheVariants as why
 use Rattle.tl_build.specs.Auditing.{Auditing, IfSound, OnSound, IfFaulty, SaysSound}
 use Rattle.tl_build.specs.Building.{Building, IfCert, OnCert, IfFault, HasCert}
 use Rattle.tl_build.specs.Keeping.Deciding.{Audits, Builds, IsBuilt}
@@ -84,6 +85,12 @@ module _ (m : TheMap) where
   pub stops : (answer : Auditing) → Audits m answer → IfErr answer IsMapStop
   stops (Ok told) says = tt
   stops (Err stop) says = says
+
+  pub memory_alone : (answer : Auditing) → Audits m answer → IfErr answer (λ stop. stop ≡ why.Memory)
+  memory_alone (Ok told) says = tt
+  memory_alone (Err (why.Record line cause)) says = absurd says
+  memory_alone (Err why.Memory) says = refl
+  memory_alone (Err why.Device) says = absurd says
 
   -- ---- builds
 

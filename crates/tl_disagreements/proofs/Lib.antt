@@ -8,6 +8,6 @@ mod Rows
 mod Pairs
 mod StartLemmas
 mod OddLemmas
-mod Agreeing
+pub mod Agreeing
 mod Telling
-mod Emptiness
+pub mod Emptiness

@@ -1,3 +1,4 @@
+pub mod Collecting
 pub mod Keeping
 pub use Rattle.tl_county.specs.Chains
 pub use Rattle.tl_county.specs.TheMap

@@ -11,6 +11,7 @@ mod areas;
 mod build;
 mod build_map;
 mod collect;
+mod collected;
 mod guess;
 mod join;
 mod kept;
@@ -21,6 +22,7 @@ mod read;
 mod sides;
 mod sort;
 
+pub use collected::CollectedRecords;
 pub use read::{read_chains, read_chains_with, read_map, read_map_with};
 pub use tl_county::{
     CHAIN_LIMIT, Chain, Chains, LANDMARK_LIMIT, Landmark, Map, POLYGON_LIMIT, Polygon,

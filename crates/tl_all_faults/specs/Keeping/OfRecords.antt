@@ -1,0 +1,31 @@
+-- What is told of records that are read.
+use Rattle.std.specs.Prelude.{◌≡◌, ◌≢◌, ℕ, false, List, [], map, None}
+use Rattle.tl_record.specs.declared.stop.Cause.{Cause}
+use Rattle.tl_record.specs.Records.{Records}
+use Rattle.tl_refusals.specs.Listing.{ListsAll}
+use Rattle.tl_drawn.specs.declared.fault.MapFault.{MapFault as RecordFault}
+use Rattle.tl_verdict.specs.declared.fault.MapFault.TheVariants as fault
+use Rattle.tl_verdict.specs.Sound.{IsSound}
+use Rattle.tl_verdict.specs.Verdicts.{IsReport}
+use Rattle.tl_verdict.specs.Records.{HaveMap}
+use Rattle.tl_listing.specs.declared.listing.Listing.{Listing}
+use Rattle.tl_listing.specs.declared.listing.Listing.TheVariants.{Sound, Refused, Faults}
+use Rattle.tl_all_faults.specs.Listings.{AreFaults}
+
+-- the map of the records is sound, and these are its numbers; or no line is refused, and these are all faults
+abbrev pub IsListingOfRecords : Records → Listing → Type 0
+IsListingOfRecords all (Sound report) = HaveMap all (λ m. IsSound m × IsReport m report)
+IsListingOfRecords all (Refused list) = ⊥
+IsListingOfRecords all (Faults faults points_left) = (faults.items ≢ []) × (all.refusal ≡ None) × AreFaults all faults.items points_left
+
+-- these faults of records are told
+abbrev pub AreTold : List RecordFault → Listing → Type 0
+AreTold told (Sound report) = ⊥
+AreTold told (Refused list) = ⊥
+AreTold told (Faults faults points_left) = (faults.items ≡ map fault.Records told) × (points_left ≡ false)
+
+-- these refusals are told
+abbrev pub ListsRefusals : Listing → List (ℕ × Cause) → Type 0
+ListsRefusals (Sound report) refusals = ⊥
+ListsRefusals (Refused list) refusals = ListsAll refusals list.items
+ListsRefusals (Faults faults points_left) refusals = ⊥

@@ -1,0 +1,72 @@
+//! Reads records once, for what tells their faults and for what draws their map.
+
+ghost use Rattle.std.specs.Prelude.{◌≡◌, true, IfOk, OnOk};
+ghost use Rattle.std.specs.Prelude.{List, ◌∷◌, [], ◌++◌};
+ghost use Rattle.tl_record.specs.declared.record.Record.{Record};
+ghost use Rattle.tl_record.specs.declared.reader.Standing.TheVariants.{Reading};
+ghost use Rattle.tl_record.specs.Reader.{source_of, skipped_of, standing_of, outcome, refusals_to_come};
+ghost use Rattle.tl_all_faults.specs.Listings.{TellsDevice};
+ghost use Rattle.tl_all_faults.specs.Keeping.Reading.{Keeps, MayRead};
+
+use std::alloc::{AllocError, Global};
+use tl_listing::ListingStop;
+use tl_map::CollectedRecords;
+use tl_record::{NO_RECORD, ReadStop, Record, RecordReader, Source};
+use tl_record_faults::KeptRecords;
+
+/// What is kept of records: what draws their map, and what tells their faults.
+#[derive(Drop)]
+pub struct BothKept {
+    pub collected: CollectedRecords,
+    pub kept: KeptRecords,
+}
+
+impl BothKept {
+    ghost use Rattle.std.specs.Prelude.{List, ◌∷◌, [], ◌++◌, OnOk};
+    ghost use Rattle.tl_record.specs.declared.record.Record.{Record};
+    ghost use Rattle.tl_all_faults.specs.Keeping.Reading.{Keeps};
+
+    /// No record.
+    fn new(alloc: Global) -> BothKept
+        ensures { Keeps [] result }
+    {
+        BothKept {
+            collected: CollectedRecords::new(alloc),
+            kept: KeptRecords::new(alloc),
+        }
+    }
+
+    /// Keeps one more record. An error says that memory was refused.
+    fn add(&mut self, next: &Record) -> Result<(), AllocError>
+        ensures { (rs : List Record) → Keeps rs self.old → OnOk result (Keeps (rs ++ next.now ∷ []) self.new) }
+    {
+        self.collected.add(next)?;
+        self.kept.add(next)
+    }
+}
+
+/// Keeps all records that a reader has to give, or none where a line is refused: there the reader stops.
+pub fn read_all<R: Source>(
+    alloc: Global,
+    reader: &mut RecordReader<R>,
+) -> Result<Option<BothKept>, ListingStop>
+    requires { standing_of reader.old ≡ Reading }
+    ensures read { IfOk result (MayRead R.remaining reader.old reader.new) }
+    ensures failures { TellsDevice (R.failure_count (source_of reader.old))
+        (R.failure_count (source_of reader.new)) result }
+    ensures same_reference { R.reference (source_of reader.new) ≡ R.reference (source_of reader.old) }
+{
+    let mut both = BothKept::new(alloc);
+    let mut next = NO_RECORD;
+    'records: loop {
+        match reader.read_next(&mut next) {
+            Ok(Some(_)) => match both.add(&next) {
+                Ok(()) => {}
+                Err(_) => return Err(ListingStop::Memory),
+            },
+            Ok(None) => return Ok(Some(both)),
+            Err(ReadStop::Refused { .. }) => return Ok(None),
+            Err(ReadStop::Device) => return Err(ListingStop::Device),
+        }
+    }
+}

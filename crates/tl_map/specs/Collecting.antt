@@ -1,0 +1,29 @@
+-- Records that were collected, and the map that is built of them.
+use Rattle.std.specs.Prelude.{◌≡◌, ℕ, ⊤, List}
+use Rattle.tl_record.specs.declared.record.Record.{Record}
+use Rattle.tl_county.specs.TheMap.{TheMap}
+use Rattle.tl_drawn.specs.declared.fault.MapStop.{MapStop}
+use Rattle.tl_drawn.specs.declared.fault.MapStop.TheVariants.{Refused, Device, Memory, Fault}
+use Rattle.tl_drawn.specs.Faults.{IsTrueOf, HaveNoFault}
+use Rattle.tl_drawn.specs.MapOf.{IsMapOf}
+use Rattle.tl_map.specs.declared.collected.CollectedRecords.{CollectedRecords}
+use Rattle.tl_map.specs.Keeping.Collected.{Collects}
+use Rattle.tl_map.specs.Keeping.Areas.{KeepsAreas}
+
+-- these records were collected, in this order, and no other
+pub record HasCollected (rs : List Record) (c : CollectedRecords) : Type 0 where
+  pub lines : Collects rs c.lines
+  pub areas : KeepsAreas rs c.areas
+
+-- the map is that of the records, which have no fault, with so many lines passed over
+pub record IsMapOfRecords (rs : List Record) (skipped : ℕ) (m : TheMap) : Type 0 where
+  pub no_fault : HaveNoFault rs
+  pub map : IsMapOf rs m
+  pub skipped_lines : m.skipped ≡ skipped
+
+-- why records have no map: memory was refused, or they have the fault
+abbrev pub StopsOn : List Record → MapStop → Type 0
+StopsOn rs Device = ⊥
+StopsOn rs Memory = ⊤
+StopsOn rs (Refused line cause) = ⊥
+StopsOn rs (Fault fault) = IsTrueOf rs fault
