@@ -111,11 +111,7 @@ fn usage_of(
 }
 
 // What is wrong with a number of faults: there is no --all beside it, or it isn't spelt as one.
-fn misused_most(
-    alloc: Global,
-    matches: &ArgMatches<'_>,
-    most: &str,
-) -> Result<String, AllocError>
+fn misused_most(alloc: Global, matches: &ArgMatches<'_>, most: &str) -> Result<String, AllocError>
     ensures { IfOk result HasNoEscape }
 {
     if word_of(matches, "audit", "all") != Some("true") {
