@@ -1,5 +1,5 @@
 -- Kept on the way: commands and their arguments by the names that the code gives them. No public contract cites this file.
-use Rattle.std.specs.Prelude.{Bool, false, List, [], ◌∷◌, Some, Result, Ok, Err, codes}
+use Rattle.std.specs.Prelude.{Bool, false, List, [], ◌∷◌, Result, Ok, Err, codes}
 use Rattle.clap.specs.Simple.{App, app_of, with_rule, with_subcommand}
 use Rattle.clap.specs.Walk.{Rule, Text, rule_of}
 use Rattle.clap.specs.declared.builder.arg.Arg.{Arg}

@@ -109,6 +109,6 @@ pub const ZERO_CELLS: &str =
 
 pub const ALL: &str = "Tells each fault, or each line that is refused, and how many there are";
 
-pub const MOST: &str = "Tells the first N of them, and how many there are; wants --all";
+pub const MOST: &str = "Tells the first N of them, and how many there are; needs --all";
 
 pub const TESTS: &str = "Stops where more than N pairs of segments would have to be tested";

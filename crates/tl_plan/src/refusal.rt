@@ -16,7 +16,7 @@ const SPELLING: &str =
     "a number from 0 to 18446744073709551615 is wanted, with no sign and no leading zero";
 
 // What is said of a number of faults where there is no --all.
-const NO_ALL: &str = "the argument '--most <N>' is used with '--all' alone";
+const NO_ALL: &str = "the argument '--most <N>' needs '--all'";
 
 // How a point is spelt.
 const POINT_SPELLING: &str =
