@@ -1,0 +1,47 @@
+-- All faults of a map, in their order.
+use Rattle.std.specs.Prelude.{◌≡◌, ◌≢◌, ℕ, pos, Bool, true, false, List, [], ◌++◌, map}
+use Rattle.std.specs.Option.{unwrap_or}
+use Rattle.tl_geom.specs.declared.point.Point.{Point}
+use Rattle.tl_county.specs.TheMap.{TheMap, MapChain}
+use Rattle.tl_county.specs.Darts.{dart_start}
+use Rattle.tl_planar.specs.declared.meet.Meet.{Meet}
+use Rattle.tl_sides.specs.declared.fault.Disagreement.{Disagreement}
+use Rattle.tl_cells.specs.declared.at_odds.CellsAtOdds.{CellsAtOdds}
+use Rattle.tl_inside.specs.declared.misplaced.Misplaced.{Misplaced}
+use Rattle.tl_meets.specs.Meets.{AreAllMeets}
+use Rattle.tl_disagreements.specs.Disagreements.{AreAllDisagreements}
+use Rattle.tl_disagreements.specs.CellOdds.{AreAllCellsAtOdds}
+use Rattle.tl_misplaced.specs.AllMisplaced.{AreAllMisplaced}
+use Rattle.tl_verdict.specs.declared.fault.MapFault.{MapFault}
+use Rattle.tl_verdict.specs.declared.fault.MapFault.TheVariants as fault
+
+-- where no dart starts
+abbrev pub nowhere : Point
+nowhere = record { x = pos 0; y = pos 0 }
+
+-- the point where a dart starts: each dart that is told starts somewhere
+abbrev pub start_of : List MapChain → ℕ → Point
+start_of chains dart = unwrap_or (dart_start chains dart) nowhere
+
+-- sides that disagree, told with the node about which they do
+abbrev pub side_fault : List MapChain → Disagreement → MapFault
+side_fault chains d = fault.Side (start_of chains d.first) d.first d.next
+
+-- The points of polygons are looked at where sides agree. Where they don't, a wrong side shifts the counts of all
+-- polygons to its west, and none is told.
+abbrev pub ArePointsTold : TheMap → List Disagreement → Bool → List Misplaced → Type 0
+ArePointsTold m sides false points = (sides ≡ []) × AreAllMisplaced m points
+ArePointsTold m sides true points = (sides ≢ []) × (points ≡ [])
+
+-- all faults of a map: each two segments that meet, all sides that disagree, all zero-cell ids that are at odds, and
+-- unless points are left, all that is wrong with where polygons' points lie
+pub record AreMapFaults (m : TheMap) (faults : List MapFault) (points_left : Bool) : Type 0 where
+  pub meets : List Meet
+  pub sides : List Disagreement
+  pub cells : List CellsAtOdds
+  pub points : List Misplaced
+  pub all_meets : AreAllMeets m.chains meets
+  pub all_sides : AreAllDisagreements m.chains sides
+  pub all_cells : AreAllCellsAtOdds m.chains cells
+  pub all_points : ArePointsTold m sides points_left points
+  pub are : faults ≡ map fault.Meet meets ++ map (side_fault m.chains) sides ++ map fault.Cell cells ++ map fault.PolygonPoint points
