@@ -1,6 +1,7 @@
 #!/usr/bin/env python3
 """Runs the commands of the pages below as from the top of the repository, and compares what they print, each stream by
-itself: lines of refusals and stops belong to standard error, all others to standard output. Each page is played in a folder
+itself: lines of refusals and stops belong to standard error, all others to standard output, and of `audit --all`, which
+prints refusals as its answer, those of stops alone. Each page is played in a folder
 of its own, where the files that its commands make stay, with a `./tigertopo` that is the repository's and its `examples`."""
 
 import re
@@ -21,10 +22,10 @@ def steps(text):
             yield command, printed
 
 
-def streams_of(printed):
+def streams_of(command, printed):
     """The lines that belong to standard output, and those that belong to standard error."""
     lines = printed.splitlines(keepends=True)
-    is_error = re.compile(r"(refused line|stopped|error:) ").match
+    is_error = re.compile(r"(stopped|error:) " if " --all " in command else r"(refused line|stopped|error:) ").match
     return "".join(it for it in lines if not is_error(it)), "".join(it for it in lines if is_error(it))
 
 
@@ -41,7 +42,7 @@ def play(page, folder):
         done = subprocess.run(command, shell=True, cwd=folder, capture_output=True, text=True)
         status = done.returncode
         count += 1
-        if (done.stdout, done.stderr) != streams_of(wanted):
+        if (done.stdout, done.stderr) != streams_of(command, wanted):
             failed += 1
             print(f"{page}: $ {command}\n-- wanted\n{wanted}-- printed\n{done.stdout}{done.stderr}", end="")
     return count - failed, failed

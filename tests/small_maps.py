@@ -29,6 +29,7 @@ def write_all(folder):
             ["locate", "@10,10", *records],
             ["locate", "@16,17", *records],
             ["audit", *records],
+            ["audit", "--all", *records],
             ["build", "--out", MADE, *records],
             ["check", "--cert", certificate, *records],
             ["convert", certificate, MADE],

@@ -15,7 +15,10 @@ use Rattle.tl_verdict.proofs.Deciding.{not_sound_records, not_valid_text}
 use Rattle.tl_output.specs.Writing.{Writes}
 use Rattle.tl_command.specs.declared.stop.TheConstants.{DONE, MAP_FAULT, CERT_FAULT, REFUSED, STOPPED}
 use Rattle.tl_command.specs.Running.{IsChecked, IsAudited, IsBuilt, NamesFault, NamesCertFault, NamesRefusal, NamesBudget, IsRunStatus}
+use Rattle.tl_command.specs.Listings.{TellsFaults}
 use Rattle.tl_command.specs.Deciding.{IsDoneWhereSound, AreSoundWith}
+use Rattle.tl_listing.specs.declared.listing.Listing.TheVariants.{Faults}
+use Rattle.tl_all_faults.proofs.Listed.{sound_alone}
 
 -- ---- the status
 
@@ -38,6 +41,13 @@ audit_decides layout known unread searched wrote status done fault =
     done_where_sound layout known status
     (λ is. IfSome_then known (done is).decided (λ text have. weaker (records_of layout text) _ _ (λ m so. so.sound) have))
     (λ is. faults_no_sound_map layout known unread searched wrote (fault is))
+
+pub all_decides : (most : Option ℕ) (layout : Layout) (known : Option (List ℕ)) (wrote : List ℕ → Type 0) (status : ℕ) → (status ≡ DONE → IsAudited layout known wrote)
+    → (status ≡ MAP_FAULT → TellsFaults most layout known wrote) → (status ≡ DONE) ⊎ (status ≡ MAP_FAULT) → IsDoneWhereSound layout known status
+all_decides most layout known wrote status done fault =
+    done_where_sound layout known status
+    (λ is. IfSome_then known (done is).decided (λ text have. weaker (records_of layout text) _ _ (λ m so. so.sound) have))
+    (λ is. let told = fault is in IfSome_then known told.are_all (λ text are sound. (sound_alone layout text (Faults told.faults told.points_left) are).1 sound))
 
 pub check_decides : (layout : Layout) (budget : ℕ) (known spelt : Option (List ℕ)) (unread searched : Type 0) (wrote : List ℕ → Type 0) (status : ℕ) → (status ≡ DONE → IsChecked layout budget known spelt wrote)
     → (status ≡ MAP_FAULT → NamesFault layout known unread searched wrote) → (status ≡ DONE) ⊎ (status ≡ MAP_FAULT) → IsDoneWhereSound layout known status

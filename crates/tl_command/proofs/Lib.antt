@@ -11,3 +11,4 @@ pub mod OpeningLemmas
 pub mod LineLemmas
 pub mod DecisionLemmas
 pub mod AnswerLemmas
+pub mod ListingLemmas

@@ -24,14 +24,14 @@ use Rattle.tl_verdict.specs.declared.fault.MapFault.{MapFault}
 use Rattle.tl_verdict.specs.declared.fault.MapFault.TheVariants.{Records, Meet, Side, PolygonPoint, Cell}
 use Rattle.tl_verdict.specs.Records.{LeavesUnread}
 use Rattle.tl_plan.specs.declared.plan.Plan.{Plan}
-use Rattle.tl_plan.specs.declared.plan.Plan.TheVariants.{Show, Landmarks, Locate, Convert, Check, Audit, Build}
+use Rattle.tl_plan.specs.declared.plan.Plan.TheVariants.{Show, Landmarks, Locate, Convert, Check, Audit, AuditAll, Build}
 use Rattle.tl_command.specs.declared.building.Making.{Making}
 use Rattle.tl_command.specs.declared.building.Making.TheVariants.{Made, Fault}
 use Rattle.tl_command.specs.declared.convert.Converted.{Converted}
 use Rattle.tl_verdict.specs.declared.stop.Stop.{Stop}
 use Rattle.tl_verdict.specs.declared.stop.Stop.TheVariants.{Record, Memory, Device, Budget}
 use Rattle.tl_command.specs.declared.stop.TheConstants.{DONE, MAP_FAULT, CERT_FAULT, REFUSED, STOPPED, USAGE}
-use Rattle.tl_command.specs.Running.{IsAnswered, IsBuilt, IsConverted, BreaksOff, FaultsMap, NamesFault, MayBeSearched, FaultsCertificate, NamesRefusal, StopsRun, NamesStop, IsTold, IsRunStatus, ReadsNoCertificate, MakesNoCertificate, layout_of}
+use Rattle.tl_command.specs.Running.{IsAnswered, IsBuilt, IsConverted, BreaksOff, FaultsMap, NamesFault, MayBeSearched, FaultsCertificate, TellsRefused, StopsRun, NamesStop, IsTold, IsRunStatus, ReadsNoCertificate, MakesNoCertificate}
 use Rattle.tl_command.specs.Making.{Makes, OfMap, IsBegunOf, TellsMaking, Rewrites, BeginsRewritten, TellsConverted, was_made}
 use Rattle.tl_command.specs.Deciding.{IsExact}
 use Rattle.tl_command.specs.Opening.{RunsOver, records_under, certificate_under, Stands, KeepsOthers, KeepsAll, RefusesName, IsBuildOf, IsCheckBy, IsConversionBy, Converts, IsNamed, FilesFail, names_read, read_by, made_by}
@@ -81,6 +81,7 @@ fault_read (Locate point options files) known spelt unread wrote is = is
 fault_read (Convert cert to) known spelt unread wrote is = is
 fault_read (Check cert budget options files) known spelt unread wrote is = fault_read_of (layout_with options) known unread (MayBeSearched (layout_with options) known spelt) wrote is
 fault_read (Audit options files) known spelt unread wrote is = is
+fault_read (AuditAll most options files) known spelt unread wrote is = is
 fault_read (Build to options files) known spelt unread wrote is = is
 
 fault_plain : (plan : Plan) (known spelt other : Option (List ℕ)) (unread : Type 0) (wrote : List ℕ → Type 0) → ReadsNoCertificate plan → FaultsMap plan known spelt unread wrote → FaultsMap plan known other ⊤ wrote
@@ -90,6 +91,7 @@ fault_plain (Locate point options files) known spelt other unread wrote reads is
 fault_plain (Convert cert to) known spelt other unread wrote reads is = is
 fault_plain (Check cert budget options files) known spelt other unread wrote reads is = absurd reads
 fault_plain (Audit options files) known spelt other unread wrote reads is = is
+fault_plain (AuditAll most options files) known spelt other unread wrote reads is = is
 fault_plain (Build to options files) known spelt other unread wrote reads is = is
 
 -- an answer in which no certificate has a part
@@ -101,6 +103,7 @@ answered_plain (Locate point options files) known spelt other made kept wrote re
 answered_plain (Convert cert to) known spelt other made kept wrote reads makes is = absurd reads
 answered_plain (Check cert budget options files) known spelt other made kept wrote reads makes is = absurd reads
 answered_plain (Audit options files) known spelt other made kept wrote reads makes is = is
+answered_plain (AuditAll most options files) known spelt other made kept wrote reads makes is = is
 answered_plain (Build to options files) known spelt other made kept wrote reads makes is = absurd makes
 
 cert_fault_plain : (plan : Plan) (known spelt other : Option (List ℕ)) (wrote : List ℕ → Type 0) → ReadsNoCertificate plan → FaultsCertificate plan known spelt wrote → FaultsCertificate plan known other wrote
@@ -110,6 +113,7 @@ cert_fault_plain (Locate point options files) known spelt other wrote reads is =
 cert_fault_plain (Convert cert to) known spelt other wrote reads is = absurd reads
 cert_fault_plain (Check cert budget options files) known spelt other wrote reads is = absurd reads
 cert_fault_plain (Audit options files) known spelt other wrote reads is = is
+cert_fault_plain (AuditAll most options files) known spelt other wrote reads is = is
 cert_fault_plain (Build to options files) known spelt other wrote reads is = is
 
 -- a beginning of what is true to write, in which no certificate has a part
@@ -117,7 +121,8 @@ breaks_plain : (plan : Plan) (known spelt other : Option (List ℕ)) (unread : T
     → BreaksOff plan known other ⊤ kept part
 breaks_plain plan known spelt other unread made kept part reads makes (inl answered) = inl (answered_plain plan known spelt other made kept part reads makes answered)
 breaks_plain plan known spelt other unread made kept part reads makes (inr (inl fault)) = inr (inl (fault_plain plan known spelt other unread part reads fault))
-breaks_plain plan known spelt other unread made kept part reads makes (inr (inr fault)) = inr (inr (cert_fault_plain plan known spelt other part reads fault))
+breaks_plain plan known spelt other unread made kept part reads makes (inr (inr (inl fault))) = inr (inr (inl (cert_fault_plain plan known spelt other part reads fault)))
+breaks_plain plan known spelt other unread made kept part reads makes (inr (inr (inr refusals))) = inr (inr (inr refusals))
 
 -- a stop, where less is said of a write that failed
 stop_read : (plan : Plan) (known spelt : Option (List ℕ)) (told : List ℕ → Type 0) (failed well same cut broken : Type 0) → (cut → broken) → StopsRun plan known spelt told failed well same cut
@@ -136,6 +141,7 @@ stop_plain (Locate point options files) known spelt other told failed well same 
 stop_plain (Convert cert to) known spelt other told failed well same cut reads (inr spent) = absurd spent.0
 stop_plain (Check cert budget options files) known spelt other told failed well same cut reads (inr spent) = absurd reads
 stop_plain (Audit options files) known spelt other told failed well same cut reads (inr spent) = absurd spent.0
+stop_plain (AuditAll most options files) known spelt other told failed well same cut reads (inr spent) = absurd spent.0
 stop_plain (Build to options files) known spelt other told failed well same cut reads (inr spent) = absurd spent.0
 
 no_usage : (status : ℕ) → IsRunStatus status → status ≢ USAGE
@@ -150,10 +156,10 @@ pub over_plain : (plan : Plan) (under : Under) (known spelt : Option (List ℕ))
     → ReadsNoCertificate plan → MakesNoCertificate plan → known ≡ records_under under plan
     → IsRunStatus status → (status ≡ DONE → IsAnswered plan known spelt made wrote) → (status ≡ MAP_FAULT → FaultsMap plan known spelt unread wrote)
     → ((status ≡ DONE) ⊎ (status ≡ MAP_FAULT) → IsExact plan known status)
-    → (status ≡ CERT_FAULT → FaultsCertificate plan known spelt wrote) → (status ≡ REFUSED → NamesRefusal (layout_of plan) known told)
-    → (status ≡ STOPPED → StopsRun plan known spelt told failed ⊤ out_same (BreaksOff plan known spelt unread made part)) → ((status ≡ DONE) ⊎ ((status ≡ MAP_FAULT) ⊎ (status ≡ CERT_FAULT)) → err_same) → (status ≡ REFUSED → out_same)
+    → (status ≡ CERT_FAULT → FaultsCertificate plan known spelt wrote) → (status ≡ REFUSED → TellsRefused plan known wrote told out_same err_same)
+    → (status ≡ STOPPED → StopsRun plan known spelt told failed ⊤ out_same (BreaksOff plan known spelt unread made part)) → ((status ≡ DONE) ⊎ ((status ≡ MAP_FAULT) ⊎ (status ≡ CERT_FAULT)) → err_same)
     → RunsOver plan status under under wrote told part failed out_same err_same
-over_plain plan under known spelt status unread made wrote told part failed out_same err_same reads makes same is answered fault exactly cert_fault refused stopped err_stays out_stays = record {
+over_plain plan under known spelt status unread made wrote told part failed out_same err_same reads makes same is answered fault exactly cert_fault refused stopped err_stays = record {
   is_status = inl is;
   answered = λ e. rw (← same) (answered_plain plan known spelt (certificate_under under plan) made (Stands under plan) wrote reads makes (answered e));
   fault = λ e. rw (← same) (fault_plain plan known spelt (certificate_under under plan) unread wrote reads (fault e));
@@ -165,7 +171,7 @@ over_plain plan under known spelt status unread made wrote told part failed out_
       (breaks_plain plan known spelt (certificate_under under plan) unread made (Stands under plan) part reads makes) (stopped e)));
   usage = λ e. absurd (no_usage status is e);
   err_stays = err_stays;
-  out_stays = λ e. elim e [ inl r ↦ out_stays r | inr u ↦ absurd (no_usage status is u) ];
+  out_stays = λ e. absurd (no_usage status is e);
   others = λ name other. refl;
   begun = λ e. inl (λ name other. refl);
   unmade = λ not_done not_stopped name other. refl;
@@ -176,10 +182,10 @@ pub over_check : (plan : Plan) (name : List ℕ) (under : Under) (known spelt : 
     → IsCheckBy plan name → known ≡ records_under under plan → spelt ≡ bytes_under under name
     → IsRunStatus status → (status ≡ DONE → IsAnswered plan known spelt made wrote) → (status ≡ MAP_FAULT → FaultsMap plan known spelt unread wrote)
     → ((status ≡ DONE) ⊎ (status ≡ MAP_FAULT) → IsExact plan known status)
-    → (status ≡ CERT_FAULT → FaultsCertificate plan known spelt wrote) → (status ≡ REFUSED → NamesRefusal (layout_of plan) known told)
-    → (status ≡ STOPPED → StopsRun plan known spelt told failed ⊤ out_same (BreaksOff plan known spelt unread made part)) → ((status ≡ DONE) ⊎ ((status ≡ MAP_FAULT) ⊎ (status ≡ CERT_FAULT)) → err_same) → (status ≡ REFUSED → out_same)
+    → (status ≡ CERT_FAULT → FaultsCertificate plan known spelt wrote) → (status ≡ REFUSED → TellsRefused plan known wrote told out_same err_same)
+    → (status ≡ STOPPED → StopsRun plan known spelt told failed ⊤ out_same (BreaksOff plan known spelt unread made part)) → ((status ≡ DONE) ⊎ ((status ≡ MAP_FAULT) ⊎ (status ≡ CERT_FAULT)) → err_same)
     → RunsOver plan status under under wrote told part failed out_same err_same
-over_check (Check cert budget options files) name under known spelt status unread made wrote told part failed out_same err_same of is_known is_spelt is answered fault exactly cert_fault refused stopped err_stays out_stays =
+over_check (Check cert budget options files) name under known spelt status unread made wrote told part failed out_same err_same of is_known is_spelt is answered fault exactly cert_fault refused stopped err_stays =
     let plan : Plan = Check cert budget options files in
     let text : spelt ≡ certificate_under under plan = is_spelt ∙ ap (bytes_under under) (sym of) in
     record {
@@ -191,24 +197,25 @@ over_check (Check cert budget options files) name under known spelt status unrea
       exactly = λ e. subst (λ (k : Option (List ℕ)). IsExact plan k status) is_known (exactly e);
       cert_fault = λ e. subst (λ (k : Option (List ℕ)). FaultsCertificate plan k (certificate_under under plan) wrote) is_known
           (subst (λ (s : Option (List ℕ)). FaultsCertificate plan known s wrote) text (cert_fault e));
-      refused = λ e. subst (λ (k : Option (List ℕ)). NamesRefusal (layout_of plan) k told) is_known (refused e);
+      refused = λ e. subst (λ (k : Option (List ℕ)). TellsRefused plan k wrote told out_same err_same) is_known (refused e);
       stopped = λ e. subst (λ (k : Option (List ℕ)). StopsRun plan k (certificate_under under plan) told failed ⊤ out_same (BreaksOff plan k (certificate_under under plan) ⊤ (Stands under plan) part)) is_known
           (subst (λ (s : Option (List ℕ)). StopsRun plan known s told failed ⊤ out_same (BreaksOff plan known s ⊤ (Stands under plan) part)) text
           (stop_read plan known spelt told failed ⊤ out_same (BreaksOff plan known spelt unread made part) (BreaksOff plan known spelt ⊤ (Stands under plan) part)
           (λ broken. elim broken [ inl answer ↦ inl answer | inr more ↦ inr (elim more [ inl names ↦ inl (fault_read plan known spelt unread part names) | inr names ↦ inr names ]) ]) (stopped e)));
       usage = λ e. absurd (no_usage status is e);
       err_stays = err_stays;
-      out_stays = λ e. elim e [ inl r ↦ out_stays r | inr u ↦ absurd (no_usage status is u) ];
+      out_stays = λ e. absurd (no_usage status is e);
       others = λ other differs. refl;
       begun = λ e. inl (λ other differs. refl);
       unmade = λ not_done not_stopped other differs. refl;
     }
-over_check (Show options files) name under known spelt status unread made wrote told part failed out_same err_same of is_known is_spelt is answered fault exactly cert_fault refused stopped err_stays out_stays = absurd of
-over_check (Landmarks options files) name under known spelt status unread made wrote told part failed out_same err_same of is_known is_spelt is answered fault exactly cert_fault refused stopped err_stays out_stays = absurd of
-over_check (Locate point options files) name under known spelt status unread made wrote told part failed out_same err_same of is_known is_spelt is answered fault exactly cert_fault refused stopped err_stays out_stays = absurd of
-over_check (Convert cert to) name under known spelt status unread made wrote told part failed out_same err_same of is_known is_spelt is answered fault exactly cert_fault refused stopped err_stays out_stays = absurd of
-over_check (Audit options files) name under known spelt status unread made wrote told part failed out_same err_same of is_known is_spelt is answered fault exactly cert_fault refused stopped err_stays out_stays = absurd of
-over_check (Build to options files) name under known spelt status unread made wrote told part failed out_same err_same of is_known is_spelt is answered fault exactly cert_fault refused stopped err_stays out_stays = absurd of
+over_check (Show options files) name under known spelt status unread made wrote told part failed out_same err_same of is_known is_spelt is answered fault exactly cert_fault refused stopped err_stays = absurd of
+over_check (Landmarks options files) name under known spelt status unread made wrote told part failed out_same err_same of is_known is_spelt is answered fault exactly cert_fault refused stopped err_stays = absurd of
+over_check (Locate point options files) name under known spelt status unread made wrote told part failed out_same err_same of is_known is_spelt is answered fault exactly cert_fault refused stopped err_stays = absurd of
+over_check (Convert cert to) name under known spelt status unread made wrote told part failed out_same err_same of is_known is_spelt is answered fault exactly cert_fault refused stopped err_stays = absurd of
+over_check (Audit options files) name under known spelt status unread made wrote told part failed out_same err_same of is_known is_spelt is answered fault exactly cert_fault refused stopped err_stays = absurd of
+over_check (AuditAll most options files) name under known spelt status unread made wrote told part failed out_same err_same of is_known is_spelt is answered fault exactly cert_fault refused stopped err_stays = absurd of
+over_check (Build to options files) name under known spelt status unread made wrote told part failed out_same err_same of is_known is_spelt is answered fault exactly cert_fault refused stopped err_stays = absurd of
 
 -- no certificate is made of a check
 pub check_makes_none : (plan : Plan) (name : List ℕ) → IsCheckBy plan name → MakesNoCertificate plan
@@ -218,6 +225,7 @@ check_makes_none (Landmarks options files) name of = absurd of
 check_makes_none (Locate point options files) name of = absurd of
 check_makes_none (Convert cert to) name of = absurd of
 check_makes_none (Audit options files) name of = absurd of
+check_makes_none (AuditAll most options files) name of = absurd of
 check_makes_none (Build to options files) name of = absurd of
 
 -- a count that is 0 didn't rise and stay
@@ -286,7 +294,7 @@ over_stop plan stop status before after wrote told part why failed out_same err_
       stopped = λ d. inl names.1;
       usage = λ d. absurd (cc (sym e ∙ d));
       err_stays = λ any. absurd (elim any [ inl d ↦ cc (sym e ∙ d) | inr more ↦ elim more [ inl d ↦ cc (sym e ∙ d) | inr d ↦ cc (sym e ∙ d) ] ]);
-      out_stays = λ any. absurd (elim any [ inl d ↦ cc (sym e ∙ d) | inr d ↦ cc (sym e ∙ d) ]);
+      out_stays = λ d. absurd (cc (sym e ∙ d));
       others = others_too (made_by plan) before after all;
       begun = λ d. inl all;
       unmade = λ not_done not_stopped. all;
@@ -343,6 +351,7 @@ names_of_build (Locate point options files) name chosen of = absurd of
 names_of_build (Convert cert to) name chosen of = absurd of
 names_of_build (Check cert budget options files) name chosen of = absurd of
 names_of_build (Audit options files) name chosen of = absurd of
+names_of_build (AuditAll most options files) name chosen of = absurd of
 
 names_of_conversion : (plan : Plan) (from to : List ℕ) → IsConversionBy plan from to → (made_by plan ≡ Some to) × (names_read plan ≡ from ∷ [])
 names_of_conversion (Convert cert target) from to of = (ap Some of.1, ap (λ n. n ∷ []) of.0)
@@ -351,6 +360,7 @@ names_of_conversion (Landmarks options files) from to of = absurd of
 names_of_conversion (Locate point options files) from to of = absurd of
 names_of_conversion (Check cert budget options files) from to of = absurd of
 names_of_conversion (Audit options files) from to of = absurd of
+names_of_conversion (AuditAll most options files) from to of = absurd of
 names_of_conversion (Build made options files) from to of = absurd of
 
 pub made_by_build : (plan : Plan) (name : List ℕ) (options : Options) → IsBuildOf plan name options → made_by plan ≡ Some name
@@ -363,6 +373,7 @@ made_by_conversion (Landmarks options files) to of = absurd of
 made_by_conversion (Locate point options files) to of = absurd of
 made_by_conversion (Check cert budget options files) to of = absurd of
 made_by_conversion (Audit options files) to of = absurd of
+made_by_conversion (AuditAll most options files) to of = absurd of
 made_by_conversion (Build made options files) to of = absurd of
 
 pub read_by_check : (plan : Plan) (name : List ℕ) → IsCheckBy plan name → read_by plan ≡ Some name
@@ -372,6 +383,7 @@ read_by_check (Landmarks options files) name of = absurd of
 read_by_check (Locate point options files) name of = absurd of
 read_by_check (Convert cert made) name of = absurd of
 read_by_check (Audit options files) name of = absurd of
+read_by_check (AuditAll most options files) name of = absurd of
 read_by_check (Build made options files) name of = absurd of
 
 pub names_by_conversion : (plan : Plan) (from to : List ℕ) → IsConversionBy plan from to → (read_by plan ≡ Some from) × (made_by plan ≡ Some to)
@@ -381,6 +393,7 @@ names_by_conversion (Landmarks options files) from to of = absurd of
 names_by_conversion (Locate point options files) from to of = absurd of
 names_by_conversion (Check cert budget options files) from to of = absurd of
 names_by_conversion (Audit options files) from to of = absurd of
+names_by_conversion (AuditAll most options files) from to of = absurd of
 names_by_conversion (Build made options files) from to of = absurd of
 
 -- a build, and a conversion, whose certificate may not take its name
@@ -503,7 +516,9 @@ over_build (Build to options files) name chosen before after known made begun wr
       fault = faulty;
       exactly = build_decides layout all ⊤ ⊤ (Stands after plan) wrote status built faulty;
       cert_fault = λ e. absurd (no_cert_fault status statuses e);
-      refused = λ e. (making_refused layout all made begun wrote told part same failed out_same err_same making status makes tells e).0;
+      refused = λ e.
+          let told_so = making_refused layout all made begun wrote told part same failed out_same err_same making status makes tells e in
+          (told_so.0, told_so.1);
       stopped = λ e. inl (making_stopped layout all made begun wrote told part same failed out_same err_same any ⊤ (BreaksOff plan all (certificate_under before plan) ⊤ (Stands after plan) part) making status 0 0 weaker (λ reads written. tt)
           (λ whole is. inl (built_stands layout all made (Stands after plan) part (kept whole) is)) (λ is. inr (inl is))
           (stays_unless Device 0 0 making refl) makes tells e);
@@ -512,10 +527,7 @@ over_build (Build to options files) name chosen before after known made begun wr
         | inl d ↦ making_err_stays making status wrote told part out_same err_same tells (inl d)
         | inr more ↦ elim more [ inl d ↦ making_err_stays making status wrote told part out_same err_same tells (inr d) | inr e ↦ absurd (no_cert_fault status statuses e) ]
       ];
-      out_stays = λ any. elim any [
-        | inl r ↦ (making_refused layout all made begun wrote told part same failed out_same err_same making status makes tells r).1
-        | inr u ↦ absurd (no_usage status (run_status status statuses) u)
-      ];
+      out_stays = λ e. absurd (no_usage status (run_status status statuses) e);
       others = others;
       begun = λ e. whole_or_none layout all made begun same failed plan before after making makes kept unkept;
       unmade = λ not_done not_stopped. unkept (not_made making status wrote told part out_same err_same tells not_done not_stopped);
@@ -526,6 +538,7 @@ over_build (Locate point options files) name chosen before after known made begu
 over_build (Convert cert to) name chosen before after known made begun wrote told part same failed out_same err_same any making status weaker of is_known makes tells others kept unkept = absurd of
 over_build (Check cert budget options files) name chosen before after known made begun wrote told part same failed out_same err_same any making status weaker of is_known makes tells others kept unkept = absurd of
 over_build (Audit options files) name chosen before after known made begun wrote told part same failed out_same err_same any making status weaker of is_known makes tells others kept unkept = absurd of
+over_build (AuditAll most options files) name chosen before after known made begun wrote told part same failed out_same err_same any making status weaker of is_known makes tells others kept unkept = absurd of
 
 -- ---- a certificate that is written in version 2
 
@@ -581,14 +594,14 @@ over_conversion (Convert cert target) to before after spelt made begun wrote tol
       cert_fault = λ e. (converted_fault text made begun wrote told part same failed out_same err_same answer status rewrites tells e).0;
       refused = λ e. absurd ((no_fault status statuses).1 e);
       stopped = λ e. inl (converted_stopped text made begun wrote told part same failed out_same err_same any ⊤ (BreaksOff plan (records_under before plan) text ⊤ (Stands after plan) part) answer status 0 0 weaker (λ reads written. tt)
-          (λ whole is. inl (converted_stands text made (Stands after plan) part (kept whole) is)) (λ is. inr (inr is))
+          (λ whole is. inl (converted_stands text made (Stands after plan) part (kept whole) is)) (λ is. inr (inr (inl is)))
           (stays_unless cert_stop.Device 0 0 answer refl) rewrites tells e);
       usage = λ e. absurd (no_usage status (cert_status status statuses) e);
       err_stays = λ any. elim any [
         | inl d ↦ converted_err_stays answer status wrote told part out_same err_same tells (inl d)
         | inr more ↦ elim more [ inl d ↦ absurd ((no_fault status statuses).0 d) | inr e ↦ converted_err_stays answer status wrote told part out_same err_same tells (inr e) ]
       ];
-      out_stays = λ any. absurd (elim any [ inl r ↦ (no_fault status statuses).1 r | inr u ↦ no_usage status (cert_status status statuses) u ]);
+      out_stays = λ e. absurd (no_usage status (cert_status status statuses) e);
       others = others;
       begun = λ e. rewritten_or_none text made begun same failed plan before after answer rewrites kept unkept;
       unmade = λ not_done not_stopped. unkept (not_rewritten answer status wrote told part out_same err_same tells not_done not_stopped);
@@ -598,4 +611,5 @@ over_conversion (Landmarks options files) to before after spelt made begun wrote
 over_conversion (Locate point options files) to before after spelt made begun wrote told part same failed out_same err_same any answer status weaker of is_known rewrites tells others kept unkept = absurd of
 over_conversion (Check cert budget options files) to before after spelt made begun wrote told part same failed out_same err_same any answer status weaker of is_known rewrites tells others kept unkept = absurd of
 over_conversion (Audit options files) to before after spelt made begun wrote told part same failed out_same err_same any answer status weaker of is_known rewrites tells others kept unkept = absurd of
+over_conversion (AuditAll most options files) to before after spelt made begun wrote told part same failed out_same err_same any answer status weaker of is_known rewrites tells others kept unkept = absurd of
 over_conversion (Build made_name options files) to before after spelt made begun wrote told part same failed out_same err_same any answer status weaker of is_known rewrites tells others kept unkept = absurd of

@@ -3,16 +3,17 @@ use Rattle.std.proofs.Common.{◌≡◌, ◌≢◌, ◌⊎◌, inl, inr, ℕ, Li
 use Rattle.std.specs.Bool.{⊤}
 use Rattle.tl_record.specs.declared.options.Options.{Options}
 use Rattle.tl_plan.specs.declared.plan.Plan.{Plan}
-use Rattle.tl_plan.specs.declared.plan.Plan.TheVariants.{Show, Landmarks, Locate, Convert, Check, Audit, Build}
+use Rattle.tl_plan.specs.declared.plan.Plan.TheVariants.{Show, Landmarks, Locate, Convert, Check, Audit, AuditAll, Build}
 use Rattle.tl_record.specs.Layout.{layout_with}
 use Rattle.tl_command.specs.Deciding.{IsExact}
 use Rattle.tl_command.specs.Keeping.{Runs}
 use Rattle.tl_command.specs.Making.{OfMap, IsBegunOf, BeginsRewritten}
 use Rattle.tl_command.specs.declared.stop.TheConstants.{DONE, MAP_FAULT, CERT_FAULT, REFUSED, STOPPED}
-use Rattle.tl_command.specs.Running.{IsRunStatus, AnswersRecords, IsAnswered, NamesRecordFault, FaultsMap, LooksFor, ReadsNoRecords, layout_of}
+use Rattle.tl_command.specs.Running.{IsRunStatus, AnswersRecords, IsAnswered, NamesRecordFault, FaultsMap, TellsRefused, LooksFor, ReadsNoRecords, layout_of}
+use Rattle.tl_command.specs.Listings.{TellsFaults, TellsRefusals}
 use Rattle.tl_command.specs.Running.{IsAudited, IsBuilt, IsChecked, IsConverted, NamesFault, NamesCertFault, NamesBadLine, NamesRefusal, NamesStop, NamesBudget, MayBeSearched, IsTold}
 use Rattle.tl_verdict.specs.declared.stop.Stop.TheVariants.{Memory}
-use Rattle.tl_command.proofs.DecidingLemmas.{audit_decides, build_decides, check_decides}
+use Rattle.tl_command.proofs.DecidingLemmas.{all_decides, audit_decides, build_decides, check_decides}
 use Rattle.tl_command.proofs.ToldLemmas.{weaker_stop}
 
 -- the statuses of a command that reads records and no certificate
@@ -94,19 +95,22 @@ IsOfRecords (Locate point options files) = ⊤
 IsOfRecords (Convert cert made) = ⊥
 IsOfRecords (Check cert budget options files) = ⊥
 IsOfRecords (Audit options files) = ⊥
+IsOfRecords (AuditAll most options files) = ⊥
 IsOfRecords (Build made options files) = ⊥
 
 pub of_records : (plan : Plan) → ((cert made : String Global) → plan ≡ Convert cert made → ⊥)
     → ((cert : String Global) (budget : ℕ) (options : Options) (files : Vec (String Global) Global) → plan ≡ Check cert budget options files → ⊥)
     → ((options : Options) (files : Vec (String Global) Global) → plan ≡ Audit options files → ⊥)
+    → ((most : Option ℕ) (options : Options) (files : Vec (String Global) Global) → plan ≡ AuditAll most options files → ⊥)
     → ((made : String Global) (options : Options) (files : Vec (String Global) Global) → plan ≡ Build made options files → ⊥) → IsOfRecords plan
-of_records (Show options files) no_convert no_check no_audit no_build = tt
-of_records (Landmarks options files) no_convert no_check no_audit no_build = tt
-of_records (Locate point options files) no_convert no_check no_audit no_build = tt
-of_records (Convert cert made) no_convert no_check no_audit no_build = absurd (no_convert cert made refl)
-of_records (Check cert budget options files) no_convert no_check no_audit no_build = absurd (no_check cert budget options files refl)
-of_records (Audit options files) no_convert no_check no_audit no_build = absurd (no_audit options files refl)
-of_records (Build made options files) no_convert no_check no_audit no_build = absurd (no_build made options files refl)
+of_records (Show options files) no_convert no_check no_audit no_all no_build = tt
+of_records (Landmarks options files) no_convert no_check no_audit no_all no_build = tt
+of_records (Locate point options files) no_convert no_check no_audit no_all no_build = tt
+of_records (Convert cert made) no_convert no_check no_audit no_all no_build = absurd (no_convert cert made refl)
+of_records (Check cert budget options files) no_convert no_check no_audit no_all no_build = absurd (no_check cert budget options files refl)
+of_records (Audit options files) no_convert no_check no_audit no_all no_build = absurd (no_audit options files refl)
+of_records (AuditAll most options files) no_convert no_check no_audit no_all no_build = absurd (no_all most options files refl)
+of_records (Build made options files) no_convert no_check no_audit no_all no_build = absurd (no_build made options files refl)
 
 pub answers_records : (plan : Plan) (known spelt : Option (List ℕ)) (making wrote : List ℕ → Type 0) → IsOfRecords plan → AnswersRecords plan known wrote → IsAnswered plan known spelt making wrote
 answers_records (Show options files) known spelt making wrote of is = is
@@ -115,6 +119,7 @@ answers_records (Locate point options files) known spelt making wrote of is = is
 answers_records (Convert cert made) known spelt making wrote of is = absurd of
 answers_records (Check cert budget options files) known spelt making wrote of is = absurd of
 answers_records (Audit options files) known spelt making wrote of is = absurd of
+answers_records (AuditAll most options files) known spelt making wrote of is = absurd of
 answers_records (Build made options files) known spelt making wrote of is = absurd of
 
 pub faults_records : (plan : Plan) (known spelt : Option (List ℕ)) (unread : Type 0) (wrote : List ℕ → Type 0) → IsOfRecords plan → NamesRecordFault (layout_of plan) known (LooksFor plan) wrote → FaultsMap plan known spelt unread wrote
@@ -124,7 +129,19 @@ faults_records (Locate point options files) known spelt unread wrote of is = is
 faults_records (Convert cert made) known spelt unread wrote of is = absurd of
 faults_records (Check cert budget options files) known spelt unread wrote of is = absurd of
 faults_records (Audit options files) known spelt unread wrote of is = absurd of
+faults_records (AuditAll most options files) known spelt unread wrote of is = absurd of
 faults_records (Build made options files) known spelt unread wrote of is = absurd of
+
+pub refuses_records : (plan : Plan) (known : Option (List ℕ)) (wrote told : List ℕ → Type 0) (out_same err_same : Type 0) → IsOfRecords plan → NamesRefusal (layout_of plan) known told → out_same
+    → TellsRefused plan known wrote told out_same err_same
+refuses_records (Show options files) known wrote told out_same err_same of is stays = (is, stays)
+refuses_records (Landmarks options files) known wrote told out_same err_same of is stays = (is, stays)
+refuses_records (Locate point options files) known wrote told out_same err_same of is stays = (is, stays)
+refuses_records (Convert cert made) known wrote told out_same err_same of is stays = absurd of
+refuses_records (Check cert budget options files) known wrote told out_same err_same of is stays = absurd of
+refuses_records (Audit options files) known wrote told out_same err_same of is stays = absurd of
+refuses_records (AuditAll most options files) known wrote told out_same err_same of is stays = absurd of
+refuses_records (Build made options files) known wrote told out_same err_same of is stays = absurd of
 
 pub exact_records : (plan : Plan) (known : Option (List ℕ)) (status : ℕ) → IsOfRecords plan → IsExact plan known status
 exact_records (Show options files) known status of = tt
@@ -133,6 +150,7 @@ exact_records (Locate point options files) known status of = tt
 exact_records (Convert cert made) known status of = absurd of
 exact_records (Check cert budget options files) known status of = absurd of
 exact_records (Audit options files) known status of = absurd of
+exact_records (AuditAll most options files) known status of = absurd of
 exact_records (Build made options files) known status of = absurd of
 
 pub reads_records : (plan : Plan) → IsOfRecords plan → ReadsNoRecords plan → ⊥
@@ -142,6 +160,7 @@ reads_records (Locate point options files) of none = none
 reads_records (Convert cert made) of none = of
 reads_records (Check cert budget options files) of none = of
 reads_records (Audit options files) of none = of
+reads_records (AuditAll most options files) of none = of
 reads_records (Build made options files) of none = of
 
 -- ---- a run
@@ -165,10 +184,36 @@ module _ {known spelt : Option (List ℕ)} {made begun wrote told part : List �
     fault = fault;
     exactly = audit_decides (layout_with options) known ⊤ ⊤ wrote status answered fault;
     cert_fault = λ e. absurd (no_cert_fault status is e);
-    refused = refused;
+    refused = λ e. (refused e, out_stays e);
     stopped = λ e. inl (stop_as told _ _ _ _ out_same _ _ (λ failed. inl (inl failed)) (λ calm. ((calm, cert_calm), made_calm)) (λ broken. elim broken [ inl so ↦ inl so | inr so ↦ inr (inl so) ]) (stopped e));
     err_stays = records_stay status err_same is err_stays;
-    out_stays = out_stays;
+    read_whole = read_whole;
+    cert_whole = λ going. cert_calm;
+    cert = λ none. cert_stays;
+    made_stays = λ none. made_stays;
+    records = λ none. absurd none;
+    unread = λ e. cert_stays;
+    unmade = λ any. made_stays;
+    begins = λ e. inl made_stays;
+  }
+
+  pub runs_all : (most : Option ℕ) (options : Options) (files : Vec (String Global) Global) (status : ℕ) → cert_well → made_well → cert_same → made_same → IsRecordStatus status
+      → (status ≡ DONE → IsAudited (layout_with options) known wrote) → (status ≡ MAP_FAULT → TellsFaults most (layout_with options) known wrote)
+      → (status ≡ REFUSED → TellsRefusals most (layout_with options) known wrote)
+      → (status ≡ STOPPED → NamesStop told reads read_well out_same
+      (IsAudited (layout_with options) known part ⊎ (TellsFaults most (layout_with options) known part ⊎ TellsRefusals most (layout_with options) known part)))
+      → (status ≢ STOPPED → err_same) → (status ≢ STOPPED → read_well)
+      → Runs (AuditAll most options files) status known spelt made begun wrote told part reads cert_reads writes read_well cert_well made_well out_same err_same cert_same made_same records_same
+  runs_all most options files status cert_calm made_calm cert_stays made_stays is answered faults refused stopped err_stays read_whole = record {
+    is_status = records_run status is;
+    answered = answered;
+    fault = faults;
+    exactly = all_decides most (layout_with options) known wrote status answered faults;
+    cert_fault = λ e. absurd (no_cert_fault status is e);
+    refused = λ e. (refused e, err_stays (λ stop. stop_no_refusal status stop e));
+    stopped = λ e. inl (stop_as told _ _ _ _ out_same _ _ (λ failed. inl (inl failed)) (λ calm. ((calm, cert_calm), made_calm))
+        (λ broken. elim broken [ inl so ↦ inl so | inr more ↦ inr (elim more [ inl so ↦ inl so | inr so ↦ inr (inr so) ]) ]) (stopped e));
+    err_stays = λ any. err_stays (λ stop. stop_no_answer status stop any);
     read_whole = read_whole;
     cert_whole = λ going. cert_calm;
     cert = λ none. cert_stays;
@@ -192,11 +237,10 @@ module _ {known spelt : Option (List ℕ)} {made begun wrote told part : List �
     fault = fault;
     exactly = build_decides (layout_with options) known ⊤ ⊤ made wrote status answered fault;
     cert_fault = λ e. absurd (no_cert_fault status is e);
-    refused = refused;
+    refused = λ e. (refused e, out_stays e);
     stopped = λ e. inl (stop_as told _ _ _ _ out_same _ _ (λ failed. elim failed [ inl r ↦ inl (inl r) | inr w ↦ inr w ]) (λ calm. ((calm.0, cert_calm), calm.1))
         (λ broken. elim broken [ inl so ↦ inl so | inr so ↦ inr (inl so) ]) (stopped e));
     err_stays = records_stay status err_same is err_stays;
-    out_stays = out_stays;
     read_whole = read_whole;
     cert_whole = λ going. cert_calm;
     cert = λ none. cert_stays;
@@ -224,13 +268,12 @@ module _ {known spelt : Option (List ℕ)} {made begun wrote told part : List �
     fault = fault;
     exactly = check_decides (layout_with options) budget known spelt cert_same (MayBeSearched (layout_with options) known spelt) wrote status answered fault;
     cert_fault = cert_fault;
-    refused = refused;
+    refused = λ e. (refused e, out_stays e);
     stopped = λ e. elim (stopped e) [
-      | inl named ↦ inl (stop_as told _ _ _ _ out_same _ _ (λ failed. inl failed) (λ calm. (calm, made_calm)) (λ broken. broken) named)
+      | inl named ↦ inl (stop_as told _ _ _ _ out_same _ _ (λ failed. inl failed) (λ calm. (calm, made_calm)) (λ broken. elim broken [ inl so ↦ inl so | inr more ↦ inr (elim more [ inl so ↦ inl so | inr so ↦ inr (inl so) ]) ]) named)
       | inr spent ↦ inr (spent.0, (spent.1, made_calm), spent.2)
     ];
     err_stays = err_stays;
-    out_stays = out_stays;
     read_whole = read_whole;
     cert_whole = cert_whole;
     cert = λ none. absurd none;
@@ -255,9 +298,8 @@ module _ {known spelt : Option (List ℕ)} {made begun wrote told part : List �
     cert_fault = fault;
     refused = λ e. absurd (no_refusal status is e);
     stopped = λ e. inl (stop_as told _ _ _ _ out_same _ _ (λ failed. elim failed [ inl r ↦ inl (inr r) | inr w ↦ inr w ]) (λ calm. ((read_calm, calm.0), calm.1))
-        (λ broken. elim broken [ inl so ↦ inl so | inr so ↦ inr (inr so) ]) (stopped e));
+        (λ broken. elim broken [ inl so ↦ inl so | inr so ↦ inr (inr (inl so)) ]) (stopped e));
     err_stays = rewrite_stays status err_same is err_stays;
-    out_stays = λ e. absurd (no_refusal status is e);
     read_whole = λ going. read_calm;
     cert_whole = cert_whole;
     cert = λ none. absurd none;
@@ -280,11 +322,10 @@ module _ {known spelt : Option (List ℕ)} {made begun wrote told part : List �
     fault = λ e. faults_records plan known spelt cert_same wrote of (fault e);
     exactly = λ told. exact_records plan known status of;
     cert_fault = λ e. absurd (no_cert_fault status is e);
-    refused = refused;
+    refused = λ e. refuses_records plan known wrote told out_same err_same of (refused e) (out_stays e);
     stopped = λ e. inl (stop_as told _ _ _ _ out_same _ _ (λ failed. inl (inl failed)) (λ calm. ((calm, cert_calm), made_calm))
         (λ broken. elim broken [ inl so ↦ inl (answers_records plan known spelt made part of so) | inr so ↦ inr (inl (faults_records plan known spelt cert_same part of so)) ]) (stopped e));
     err_stays = records_stay status err_same is err_stays;
-    out_stays = out_stays;
     read_whole = read_whole;
     cert_whole = λ going. cert_calm;
     cert = λ none. cert_stays;
@@ -307,7 +348,6 @@ module _ {known spelt : Option (List ℕ)} {made begun wrote told part : List �
     refused = λ e. absurd (stop_no_refusal status is.0 e);
     stopped = λ e. inl (inl (is.1, ((read_calm, cert_calm), made_calm), out_stays));
     err_stays = λ any. absurd (stop_no_answer status is.0 any);
-    out_stays = λ e. out_stays;
     read_whole = λ going. read_calm;
     cert_whole = λ going. cert_calm;
     cert = λ none. cert_stays;
@@ -332,7 +372,6 @@ module _ {known spelt : Option (List ℕ)} {made begun wrote told part : List �
     stopped = λ e. weaker_stop plan known spelt told _ _ _ _ out_same _ (λ any. elim any [ inl read ↦ inl (elim read [ inl records ↦ inl (fails records) | inr cert ↦ inr cert ]) | inr write ↦ inr write ])
         (λ well. ((calm well.0.0, well.0.1), well.1)) (run.stopped e);
     err_stays = run.err_stays;
-    out_stays = run.out_stays;
     read_whole = λ going. calm (run.read_whole going);
     cert_whole = run.cert_whole;
     cert = run.cert;

@@ -81,7 +81,7 @@ module _ (words : List Text) (wrote told part : List ℕ → Type 0) (of_files :
     refused = λ d. absurd (cc (sym e ∙ d));
     stopped = λ d. absurd (cc (sym e ∙ d));
     err_stays = λ any. stays;
-    out_stays = λ any. absurd (elim any [ inl d ↦ cc (sym e ∙ d) | inr d ↦ cc (sym e ∙ d) ]);
+    out_stays = λ d. absurd (cc (sym e ∙ d));
     exactly = λ any. inl shows.no_use;
     begun = λ d. absurd (cc (sym e ∙ d));
     files = inr (λ name. refl);
@@ -98,7 +98,7 @@ module _ (words : List Text) (wrote told part : List ℕ → Type 0) (of_files :
     refused = λ d. absurd (cc (sym e ∙ d));
     stopped = λ d. inl (may, stops);
     err_stays = λ any. absurd (elim any [ inl d ↦ cc (sym e ∙ d) | inr more ↦ elim more [ inl d ↦ cc (sym e ∙ d) | inr d ↦ cc (sym e ∙ d) ] ]);
-    out_stays = λ any. absurd (elim any [ inl d ↦ cc (sym e ∙ d) | inr d ↦ cc (sym e ∙ d) ]);
+    out_stays = λ d. absurd (cc (sym e ∙ d));
     exactly = λ any. absurd (elim any [ inl d ↦ cc (sym e ∙ d) | inr d ↦ cc (sym e ∙ d) ]);
     begun = λ d. inl (λ name. refl);
     files = inr (λ name. refl);

@@ -39,8 +39,13 @@ use Rattle.tl_command.specs.Deciding.{IsExact}
 use Rattle.tl_command.specs.Making.{IsLine, IsBegunBy}
 use Rattle.tl_command.specs.Places.{TellsPlace}
 use Rattle.tl_command.specs.Running.{IsListed, IsLocated, StopsAnswer, StaysUnless}
-use Rattle.tl_command.specs.Running.{IsTold, IsRunStatus, IsAnswered, FaultsMap, FaultsCertificate, NamesRefusal, StopsRun, BreaksOff, ReadsNoCertificate, MakesNoCertificate, ReadsNoRecords, layout_of}
+use Rattle.tl_command.specs.Running.{IsTold, IsRunStatus, IsAnswered, FaultsMap, FaultsCertificate, TellsRefused, StopsRun, BreaksOff, ReadsNoCertificate, MakesNoCertificate, ReadsNoRecords}
 use Rattle.tl_command.specs.Verdicts.{verdict_text, verdict_status}
+use Rattle.tl_command.specs.Listings.{listing_status}
+use Rattle.tl_listing.specs.declared.listing.Listing.{Listing}
+use Rattle.tl_listing.specs.declared.listing.ListingStop.{ListingStop}
+use Rattle.tl_listing.specs.declared.listing.ListingStop.TheVariants as listing_stop
+use Rattle.tl_listing.specs.Texts.{listing_text as all_text}
 
 -- how the answer of a check is told
 abbrev pub TellsDecision : Result Verdict Stop → ℕ → (wrote told part : List ℕ → Type 0) → (out_same err_same : Type 0) → Type 0
@@ -61,6 +66,19 @@ stop_decision (map_stop.Fault fault) = Ok (verdict.MapFault (Records fault))
 stop_decision (map_stop.Refused line cause) = Err (Record line cause)
 stop_decision map_stop.Memory = Err Memory
 stop_decision map_stop.Device = Err Device
+
+-- how a listing is told: it was written, or so many of its lines, with its own status; or the write failed, and a device was
+-- told
+abbrev pub TellsListing : Option ℕ → Listing → ℕ → (wrote told part : List ℕ → Type 0) → (err_same : Type 0) → Type 0
+TellsListing most listing status wrote told part err_same =
+    ((status ≡ listing_status listing) × wrote (all_text most listing) × err_same)
+    ⊎ ((status ≡ STOPPED) × told (line_of (stop_text Device)) × part (all_text most listing))
+
+-- how that of all that is wrong is told
+abbrev pub TellsAll : Option ℕ → Result Listing ListingStop → ℕ → (wrote told part : List ℕ → Type 0) → (out_same err_same : Type 0) → Type 0
+TellsAll most (Ok listing) status wrote told part out_same err_same = TellsListing most listing status wrote told part err_same
+TellsAll most (Err listing_stop.Memory) status wrote told part out_same err_same = IsTold Memory status told × out_same
+TellsAll most (Err listing_stop.Device) status wrote told part out_same err_same = IsTold Device status told × out_same
 
 -- how that of an audit is told
 abbrev pub TellsAudit : Result Audit AuditStop → ℕ → (wrote told part : List ℕ → Type 0) → (out_same err_same : Type 0) → Type 0
@@ -116,11 +134,10 @@ pub record Runs (plan : Plan) (status : ℕ) (known spelt : Option (List ℕ)) (
   pub fault : status ≡ MAP_FAULT → FaultsMap plan known spelt cert_same wrote
   pub exactly : (status ≡ DONE) ⊎ (status ≡ MAP_FAULT) → IsExact plan known status
   pub cert_fault : status ≡ CERT_FAULT → FaultsCertificate plan known spelt wrote
-  pub refused : status ≡ REFUSED → NamesRefusal (layout_of plan) known told
+  pub refused : status ≡ REFUSED → TellsRefused plan known wrote told out_same err_same
   pub stopped : status ≡ STOPPED → StopsRun plan known spelt told ((reads ⊎ cert_reads) ⊎ writes) ((read_well × cert_well) × made_well) out_same
       (BreaksOff plan known spelt cert_same made part)
   pub err_stays : (status ≡ DONE) ⊎ ((status ≡ MAP_FAULT) ⊎ (status ≡ CERT_FAULT)) → err_same
-  pub out_stays : status ≡ REFUSED → out_same
   pub read_whole : status ≢ STOPPED → read_well
   pub cert_whole : status ≢ STOPPED → cert_well
   pub cert : ReadsNoCertificate plan → cert_same
@@ -137,10 +154,10 @@ pub record Starts (words : List Text) (status : ℕ) (before after : Under) (wro
   pub done : status ≡ DONE → AnswersSome words before after wrote ⊎ ShowsHelp words wrote
   pub fault : status ≡ MAP_FAULT → FaultsSome words before wrote
   pub cert_fault : status ≡ CERT_FAULT → FaultsText words before wrote
-  pub refused : status ≡ REFUSED → RefusesSome words before told
+  pub refused : status ≡ REFUSED → RefusesSome words before wrote told out_same err_same
   pub stopped : status ≡ STOPPED → StopsSome words before after told part of_files out_same
   pub err_stays : (status ≡ DONE) ⊎ ((status ≡ MAP_FAULT) ⊎ (status ≡ CERT_FAULT)) → err_same
-  pub out_stays : (status ≡ REFUSED) ⊎ (status ≡ USAGE) → out_same
+  pub out_stays : status ≡ USAGE → out_same
   pub exactly : (status ≡ DONE) ⊎ (status ≡ MAP_FAULT) → DecidesSome words before status
   pub begun : status ≡ STOPPED → BeginsSome words before after
   pub files : KeepsSome words status before after

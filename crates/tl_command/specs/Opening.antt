@@ -6,12 +6,12 @@ use Rattle.tl_files.specs.Files.{Under, bytes_under, beside, IsRoom}
 use Rattle.tl_files.specs.declared.file_system.Room.TheVariants.{Taken, IsRead}
 use Rattle.tl_text.specs.Joining.{joined_bytes, failures_of}
 use Rattle.tl_plan.specs.declared.plan.Plan.{Plan}
-use Rattle.tl_plan.specs.declared.plan.Plan.TheVariants.{Show, Landmarks, Locate, Convert, Check, Audit, Build}
+use Rattle.tl_plan.specs.declared.plan.Plan.TheVariants.{Show, Landmarks, Locate, Convert, Check, Audit, AuditAll, Build}
 use Rattle.tl_plan.specs.CommandLine.{files_of}
 use Rattle.tl_output.specs.Writing.{FailsToWrite, line_of}
 use Rattle.tl_command.specs.declared.stop.TheConstants.{DONE, MAP_FAULT, CERT_FAULT, REFUSED, STOPPED, USAGE}
 use Rattle.tl_record.specs.declared.options.Options.{Options}
-use Rattle.tl_command.specs.Running.{IsRunStatus, IsAnswered, FaultsMap, FaultsCertificate, NamesRefusal, BreaksOff, StopsRun, FailsToRead, layout_of}
+use Rattle.tl_command.specs.Running.{IsRunStatus, IsAnswered, FaultsMap, FaultsCertificate, TellsRefused, BreaksOff, StopsRun, FailsToRead}
 use Rattle.tl_command.specs.Deciding.{IsExact}
 use Rattle.tl_command.specs.Making.{IsBegunBy}
 
@@ -23,6 +23,7 @@ read_by (Locate point options files) = None
 read_by (Convert cert made) = Some (string_bytes cert)
 read_by (Check cert budget options files) = Some (string_bytes cert)
 read_by (Audit options files) = None
+read_by (AuditAll most options files) = None
 read_by (Build made options files) = None
 
 -- the name of the certificate that is made
@@ -33,6 +34,7 @@ made_by (Locate point options files) = None
 made_by (Convert cert made) = Some (string_bytes made)
 made_by (Check cert budget options files) = None
 made_by (Audit options files) = None
+made_by (AuditAll most options files) = None
 made_by (Build made options files) = Some (string_bytes made)
 
 -- the text of the plan's records: of its files, each opened once and in their order, as one text
@@ -122,12 +124,12 @@ pub record RunsOver (plan : Plan) (status : ℕ) (before after : Under) (wrote t
   pub fault : status ≡ MAP_FAULT → FaultsMap plan (records_under before plan) (certificate_under before plan) ⊤ wrote
   pub exactly : (status ≡ DONE) ⊎ (status ≡ MAP_FAULT) → IsExact plan (records_under before plan) status
   pub cert_fault : status ≡ CERT_FAULT → FaultsCertificate plan (records_under before plan) (certificate_under before plan) wrote
-  pub refused : status ≡ REFUSED → NamesRefusal (layout_of plan) (records_under before plan) told
+  pub refused : status ≡ REFUSED → TellsRefused plan (records_under before plan) wrote told out_same err_same
   pub stopped : status ≡ STOPPED → StopsRun plan (records_under before plan) (certificate_under before plan) told failed ⊤ out_same
       (BreaksOff plan (records_under before plan) (certificate_under before plan) ⊤ (Stands after plan) part)
   pub usage : status ≡ USAGE → RefusesOut before plan told
   pub err_stays : (status ≡ DONE) ⊎ ((status ≡ MAP_FAULT) ⊎ (status ≡ CERT_FAULT)) → err_same
-  pub out_stays : (status ≡ REFUSED) ⊎ (status ≡ USAGE) → out_same
+  pub out_stays : status ≡ USAGE → out_same
   pub others : KeepsOthers before after plan
   pub begun : status ≡ STOPPED → KeepsAll before after plan ⊎ IsBegunBy plan (records_under before plan) (certificate_under before plan) (Stands after plan)
   pub unmade : (status ≢ DONE) → (status ≢ STOPPED) → KeepsAll before after plan

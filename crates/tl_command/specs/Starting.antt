@@ -17,7 +17,7 @@ use Rattle.tl_files.specs.Files.{Under, bytes_under}
 use Rattle.tl_command.specs.Opening.{records_under, certificate_under, Stands, KeepsOthers, KeepsAll, RefusesOut}
 use Rattle.tl_command.specs.Deciding.{IsExact}
 use Rattle.tl_command.specs.Making.{IsBegunBy}
-use Rattle.tl_command.specs.Running.{IsRunStatus, IsAnswered, FaultsMap, NamesRefusal, FaultsCertificate, NamesStop, BreaksOff, StopsRun, layout_of}
+use Rattle.tl_command.specs.Running.{IsRunStatus, IsAnswered, FaultsMap, TellsRefused, FaultsCertificate, NamesStop, BreaksOff, StopsRun}
 
 -- the statuses of the program
 abbrev pub IsStartStatus : ℕ → Type 0
@@ -37,9 +37,10 @@ abbrev pub FaultsText : List Text → Under → (List ℕ → Type 0) → Type 0
 FaultsText words before wrote = (plan : Plan) × AskFor words plan
     × FaultsCertificate plan (records_under before plan) (certificate_under before plan) wrote
 
--- the words ask for a plan, and the first refusal of its records was told
-abbrev pub RefusesSome : List Text → Under → (List ℕ → Type 0) → Type 0
-RefusesSome words before wrote = (plan : Plan) × AskFor words plan × NamesRefusal (layout_of plan) (records_under before plan) wrote
+-- the words ask for a plan, and the first refusal of its records was told, or where it asks for all, all of them were
+abbrev pub RefusesSome : List Text → Under → (wrote told : List ℕ → Type 0) → (out_same err_same : Type 0) → Type 0
+RefusesSome words before wrote told out_same err_same = (plan : Plan) × AskFor words plan
+    × TellsRefused plan (records_under before plan) wrote told out_same err_same
 
 -- the words wish for help or for the version, and a text without an escape was written, which isn't empty
 pub record ShowsHelp (words : List Text) (wrote : List ℕ → Type 0) : Type 0 where
@@ -100,10 +101,10 @@ pub record AnswersWords (words : List Text) (status : ℕ) (wrote told part : Li
   pub done : status ≡ DONE → AnswersSome words unknown unknown wrote ⊎ ShowsHelp words wrote
   pub fault : status ≡ MAP_FAULT → FaultsSome words unknown wrote
   pub cert_fault : status ≡ CERT_FAULT → FaultsText words unknown wrote
-  pub refused : status ≡ REFUSED → RefusesSome words unknown told
+  pub refused : status ≡ REFUSED → RefusesSome words unknown wrote told out_same err_same
   pub stopped : status ≡ STOPPED → StopsSome words unknown unknown told part (λ plan. ⊤) out_same
   pub err_stays : (status ≡ DONE) ⊎ ((status ≡ MAP_FAULT) ⊎ (status ≡ CERT_FAULT)) → err_same
-  pub out_stays : (status ≡ REFUSED) ⊎ (status ≡ USAGE) → out_same
+  pub out_stays : status ≡ USAGE → out_same
 
 -- the words can't be read, or there are no keys for hashers: why was written, and the output is as it was
 abbrev pub StopsBefore : ℕ → (told : List ℕ → Type 0) → (out_same : Type 0) → Type 0

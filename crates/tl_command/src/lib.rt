@@ -10,6 +10,7 @@ pub mod building;
 pub mod convert;
 pub mod deciding;
 pub mod laws;
+pub mod listing;
 pub mod locating;
 mod new_file;
 pub mod open;

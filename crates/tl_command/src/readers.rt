@@ -4,8 +4,8 @@ ghost use Rattle.std.specs.Prelude.{◌≡◌, ◌≢◌, ◌⊎◌, false, ⊤}
 ghost use Rattle.tl_text.specs.Joining.{joined_bytes, failures_of};
 ghost use Rattle.tl_output.specs.Writing.{Writes, WritesSome, FailsToWrite};
 ghost use Rattle.tl_command.specs.declared.stop.TheConstants.{DONE, MAP_FAULT, CERT_FAULT, REFUSED, STOPPED};
-ghost use Rattle.tl_command.specs.Running.{IsAnswered, FaultsMap, NamesRefusal, BreaksOff, StopsRun, IsRunStatus, CountStays};
-ghost use Rattle.tl_command.specs.Running.{FailsToRead, layout_of, TriesToWrite};
+ghost use Rattle.tl_command.specs.Running.{IsAnswered, FaultsMap, TellsRefused, BreaksOff, StopsRun, IsRunStatus, CountStays};
+ghost use Rattle.tl_command.specs.Running.{FailsToRead, TriesToWrite};
 ghost use Rattle.tl_command.specs.Running.{FaultsCertificate, ReadsNoCertificate, MakesNoCertificate};
 ghost use Rattle.tl_command.specs.Deciding.{IsExact};
 ghost use Rattle.tl_command.specs.Keeping.{Runs};
@@ -47,8 +47,9 @@ pub fn run_on_readers<F: Source + Drop, S: Source, C: Sink, W: Sink, E: Sink>(
         → FaultsCertificate plan.now (joined_bytes F.remaining false readers.old.items) (S.remaining cert.old)
         (Writes W.contents W.failure_count out.old out.new) }
     ensures refused { result ≡ REFUSED
-        → NamesRefusal (layout_of plan.now) (joined_bytes F.remaining false readers.old.items)
-        (TriesToWrite E.contents E.failure_count err.old err.new) }
+        → TellsRefused plan.now (joined_bytes F.remaining false readers.old.items)
+        (Writes W.contents W.failure_count out.old out.new)
+        (TriesToWrite E.contents E.failure_count err.old err.new) (out.new ≡ out.old) (err.new ≡ err.old) }
     // Of a device only where a read of one of the readers or of the certificate failed, or a write. The output is as it
     // was, unless a write of it failed: then it grew by a beginning of what is true to write.
     ensures stopped { result ≡ STOPPED
@@ -64,7 +65,6 @@ pub fn run_on_readers<F: Source + Drop, S: Source, C: Sink, W: Sink, E: Sink>(
         (BreaksOff plan.now (joined_bytes F.remaining false readers.old.items) (S.remaining cert.old) (cert.new ≡ cert.old)
         (Writes C.contents C.failure_count made.old made.new) (WritesSome W.contents W.failure_count out.old out.new)) }
     ensures err_stays { (result ≡ DONE) ⊎ ((result ≡ MAP_FAULT) ⊎ (result ≡ CERT_FAULT)) → err.new ≡ err.old }
-    ensures out_stays { result ≡ REFUSED → out.new ≡ out.old }
     ensures read_whole { result ≢ STOPPED
         → CountStays (failures_of F.failure_count) readers.old.items readers.new.items }
     ensures cert_whole { result ≢ STOPPED → CountStays S.failure_count cert.old cert.new }

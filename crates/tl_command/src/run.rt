@@ -6,7 +6,7 @@ ghost use Rattle.tl_text.specs.Printing.{shown_text, listing_text};
 ghost use Rattle.tl_output.specs.Writing.{Writes, WritesSome, FailsToWrite, CountsFailure, TriesToPassOn, line_of};
 ghost use Rattle.tl_command.specs.declared.stop.TheConstants.{DONE, MAP_FAULT, CERT_FAULT, REFUSED, STOPPED};
 ghost use Rattle.tl_command.specs.Running.{IsAnswered, AnswersRecords, IsShown, NamesRecordFault, NamesRefusal, TriesToWrite};
-ghost use Rattle.tl_command.specs.Running.{BreaksOff, NamesStop, StopsRun, FaultsMap, FaultsCertificate};
+ghost use Rattle.tl_command.specs.Running.{BreaksOff, NamesStop, StopsRun, FaultsMap, FaultsCertificate, TellsRefused};
 ghost use Rattle.tl_command.specs.Running.{ReadsNoCertificate, MakesNoCertificate, ReadsNoRecords};
 ghost use Rattle.tl_command.specs.Running.{IsRunStatus, FailsToRead, CountStays, LooksFor, layout_of};
 ghost use Rattle.tl_drawn.specs.Faults.{IsFaultOfChains};
@@ -20,6 +20,7 @@ use crate::auditing::audit;
 use crate::building::build;
 use crate::convert::convert;
 use crate::deciding::{decide, tell_decision};
+use crate::listing::audit_all;
 use crate::stop::DONE;
 use std::alloc::Global;
 use std::hash::RandomState;
@@ -51,8 +52,8 @@ pub fn run<R: Source, S: Source, C: Sink, W: Sink, E: Sink>(
     ensures answered { result ≡ DONE
         → IsAnswered plan.now (R.remaining records.old) (S.remaining cert.old)
         (Writes C.contents C.failure_count made.old made.new) (Writes W.contents W.failure_count out.old out.new) }
-    // The output grew by the line of a fault that is true of the records or of their map. Where the records have no map,
-    // nothing of the certificate was read.
+    // The output grew by the line of a fault that is true of the records or of their map, or by all of them. Where the
+    // records have no map, nothing of the certificate was read.
     ensures fault { result ≡ MAP_FAULT
         → FaultsMap plan.now (R.remaining records.old) (S.remaining cert.old) (cert.new ≡ cert.old)
         (Writes W.contents W.failure_count out.old out.new) }
@@ -63,13 +64,15 @@ pub fn run<R: Source, S: Source, C: Sink, W: Sink, E: Sink>(
     ensures cert_fault { result ≡ CERT_FAULT
         → FaultsCertificate plan.now (R.remaining records.old) (S.remaining cert.old)
         (Writes W.contents W.failure_count out.old out.new) }
-    // The line of the first refusal was written to `err`, or the write of it failed.
+    // The line of the first refusal was written to `err`, or the write of it failed, and the output is as it was; or where
+    // all are asked for, the output grew by all of them, and `err` is as it was.
     ensures refused { result ≡ REFUSED
-        → NamesRefusal (layout_of plan.now) (R.remaining records.old) (TriesToWrite E.contents E.failure_count err.old err.new) }
+        → TellsRefused plan.now (R.remaining records.old) (Writes W.contents W.failure_count out.old out.new)
+        (TriesToWrite E.contents E.failure_count err.old err.new) (out.new ≡ out.old) (err.new ≡ err.old) }
     // The line of a stop was, or the write of it failed; of a device only where a read or a write failed, of a want of
     // memory and of a spent budget only where none did, and of a budget only where more pairs of segments have rectangles
-    // that meet. The output is as it was, unless a write of it failed: then it grew by a beginning of an answer or of a
-    // fault's line, which is true.
+    // that meet. The output is as it was, unless a write of it failed: then it grew by a beginning of an answer, of a
+    // fault's line, or of all that is wrong, which is true.
     ensures stopped { result ≡ STOPPED
         → StopsRun plan.now (R.remaining records.old) (S.remaining cert.old)
         (TriesToWrite E.contents E.failure_count err.old err.new)
@@ -83,7 +86,6 @@ pub fn run<R: Source, S: Source, C: Sink, W: Sink, E: Sink>(
 
     // The other stream stays as it was.
     ensures err_stays { (result ≡ DONE) ⊎ ((result ≡ MAP_FAULT) ⊎ (result ≡ CERT_FAULT)) → err.new ≡ err.old }
-    ensures out_stays { result ≡ REFUSED → out.new ≡ out.old }
     // No read failed where the run didn't stop.
     ensures read_whole { result ≢ STOPPED → R.failure_count records.new ≡ R.failure_count records.old }
     ensures cert_whole { result ≢ STOPPED → S.failure_count cert.new ≡ S.failure_count cert.old }
@@ -132,6 +134,9 @@ pub(crate) fn run_by<R: Source, S: Source, C: Sink, W: Sink, E: Sink>(
             ..
         } => decide(alloc, hasher, records, cert, *budget, *options, out, err),
         Plan::Audit { options, .. } => audit(alloc, hasher, records, *options, out, err),
+        Plan::AuditAll { most, options, .. } => audit_all(
+            alloc, hasher, records, *most, *options, out, err,
+        ),
         Plan::Build { options, .. } => build(alloc, hasher, records, made, *options, out, err),
         _ => run_on_records(alloc, hasher, plan, records, out, err),
     }

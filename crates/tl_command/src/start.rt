@@ -52,7 +52,8 @@ pub fn start<F: FileSystem, W: Sink, E: Sink>(
         (Writes W.contents W.failure_count out.old out.new) }
     ensures refused { result ≡ REFUSED
         → RefusesSome (map string_bytes words.now) (F.under files.old)
-        (TriesToWrite E.contents E.failure_count err.old err.new) }
+        (Writes W.contents W.failure_count out.old out.new)
+        (TriesToWrite E.contents E.failure_count err.old err.new) (out.new ≡ out.old) (err.new ≡ err.old) }
     ensures stopped { result ≡ STOPPED
         → StopsSome (map string_bytes words.now) (F.under files.old) (F.under files.new)
         (TriesToWrite E.contents E.failure_count err.old err.new) (WritesSome W.contents W.failure_count out.old out.new)
@@ -60,7 +61,7 @@ pub fn start<F: FileSystem, W: Sink, E: Sink>(
         (out.new ≡ out.old) }
     // The other stream stays as it was.
     ensures err_stays { (result ≡ DONE) ⊎ ((result ≡ MAP_FAULT) ⊎ (result ≡ CERT_FAULT)) → err.new ≡ err.old }
-    ensures out_stays { (result ≡ REFUSED) ⊎ (result ≡ USAGE) → out.new ≡ out.old }
+    ensures out_stays { result ≡ USAGE → out.new ≡ out.old }
     // Of `audit`, `build` and `check`: a status of 0 or 1 is 0 exactly where the records have a map that is sound.
     ensures exactly { (result ≡ DONE) ⊎ (result ≡ MAP_FAULT)
         → DecidesSome (map string_bytes words.now) (F.under files.old) result }

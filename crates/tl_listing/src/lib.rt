@@ -1,6 +1,15 @@
-//! What is told of a county where all that is wrong with it is asked for.
+//! What is told of a county where all that is wrong with it is asked for, and how it is printed.
+//!
+//! A [`Listing`] says that the county is sound, or has all its faults or all its lines that are refused. [`print_listing`]
+//! says exactly which bytes are written of it, and an error comes exactly where a write failed.
 #![tactic(auto)]
 
+mod faults;
+mod line;
 mod listing;
+mod print;
+mod refusals;
 
 pub use listing::{Listing, ListingStop};
+pub use print::print_listing;
+pub use refusals::refusal_line;

@@ -1,9 +1,10 @@
 -- Texts that spell a number, and what `parse` reads of them.
-use Rattle.std.proofs.Common.{◌≡◌, ◌≢◌, ℕ, zero, suc, ◌<◌, ◌≤◌, ◌^◌, List, length, get_or, refl, sym, ap, subst, ◌∙◌, arith, decimal, Result, Ok, Err}
+use Rattle.std.proofs.Common.{◌≡◌, ◌≢◌, ℕ, zero, suc, ◌<◌, ◌^◌, List, length, get_or, refl, sym, ap, subst, ◌∙◌, arith, decimal, Result, Ok, Err}
 use Rattle.std.specs.Str.Parse.{ParsesUnsigned, AllDigits, IsNumeral, digits_value}
 use Rattle.std.proofs.lemmas.Str.Parse.{IsNumeralModel, digit_at, without_leading_plus_none}
 use Rattle.std.proofs.lemmas.Fmt.{decimal-digits_value, decimal_is_IsNumeral, decimal_nonempty, first_decimal, decimal_digit, parse-decimal}
-use Rattle.tl_plan.specs.CommandLine.{greatest_budget}
+use Rattle.std.specs.Prelude.{Option, Some, None}
+use Rattle.tl_plan.specs.CommandLine.{IsSpelt, IsMost}
 use Rattle.tl_plan.specs.Spelling.{MaySpell}
 
 own : IsNumeralModel (AllDigits 10) (digits_value 10)
@@ -24,12 +25,12 @@ decimal_may : (n : ℕ) (bytes : List ℕ) → n < 2 ^ 64 → bytes ≡ decimal 
 decimal_may n bytes small is = rw is record { some = decimal_nonempty n small; sign = no_plus n small; lead = lead_of_decimal n small }
 
 -- other bytes spell none
-pub no_number : (bytes : List ℕ) → (MaySpell bytes → ⊥) → (n : ℕ) → n ≤ greatest_budget → bytes ≡ decimal n → ⊥
-no_number bytes other n small is = other (decimal_may n bytes (omega (arith, small)) is)
+pub no_number : (bytes : List ℕ) → (MaySpell bytes → ⊥) → (n : ℕ) → IsSpelt bytes n → ⊥
+no_number bytes other n is = other (decimal_may n bytes (omega (arith, is.1)) is.0)
 
 -- what is read is the number
 pub is_read : {E : Type 0} (bytes : List ℕ) (n : ℕ) (r : Result ℕ E) → MaySpell bytes → ParsesUnsigned 64 10 bytes r → r ≡ Ok n
-    → (bytes ≡ decimal n) × (n ≤ greatest_budget)
+    → IsSpelt bytes n
 is_read bytes n r may parses is =
     let plain = without_leading_plus_none bytes may.sign in
     let both = subst (ParsesUnsigned 64 10 bytes) is parses in
@@ -40,5 +41,11 @@ is_read bytes n r may parses is =
 
 -- what can't be read is none
 pub not_read : {E : Type 0} (bytes : List ℕ) (e : E) (r : Result ℕ E) → ParsesUnsigned 64 10 bytes r → r ≡ Err e
-    → (n : ℕ) → n ≤ greatest_budget → bytes ≡ decimal n → ⊥
-not_read bytes e r parses is n small spelt = cc (is, parse-decimal 64 n bytes r (omega (arith, small)) (omega (arith, small)) spelt parses)
+    → (n : ℕ) → IsSpelt bytes n → ⊥
+not_read bytes e r parses is n spelt =
+    cc (is, parse-decimal 64 n bytes r (omega (arith, spelt.1)) (omega (arith, spelt.1)) spelt.0 parses)
+
+-- where the text is no number, nothing that was given is one
+pub no_most : (text : List ℕ) → ((n : ℕ) → IsSpelt text n → ⊥) → (n : Option ℕ) → IsMost (Some text) n → ⊥
+no_most text none None is = is
+no_most text none (Some n) is = none n is

@@ -1,7 +1,7 @@
 -- What words make a plan, and why others don't.
 use Rattle.std.proofs.Common.{◌≡◌, ◌≢◌, ◌⊎◌, ℕ, ◌<◌, inl, inr, true, false, length, List, [], Option, Some, None, refl, sym}
 use Rattle.std.proofs.Common.{ap, subst, ◌∙◌, map, option_map, unwrap_or, codes, arith, Global, Bor}
-use Rattle.std.specs.Prelude.{String, string_bytes, nat_eq}
+use Rattle.std.specs.Prelude.{String, string_bytes, nat_eq, is_some}
 use Rattle.std.specs.Cmp.Lexicographic.{pointwise}
 use Rattle.std.proofs.lemmas.Cmp.{nat_list_eq_equiv}
 use Rattle.std.proofs.lemmas.List.{length-map}
@@ -25,9 +25,9 @@ use Rattle.tl_geom.specs.declared.point.Point.{Point}
 use Rattle.tl_plan.specs.Points.{Spells}
 use Rattle.tl_plan.specs.Commands.{command_line, convert_name, check_name, locate_name, show_name, landmarks_name, audit_name, build_name}
 use Rattle.tl_plan.specs.CommandLine.{IsStopOf, IsUsage, StopsPlanning, Request, request_in, named_in}
-use Rattle.tl_plan.specs.CommandLine.{IsConversionOf, IsPlanOf, IsWhole, HasFiles, IsBudget, AskFor}
+use Rattle.tl_plan.specs.CommandLine.{IsConversionOf, IsPlanOf, IsWhole, HasFiles, IsBudget, IsMost, AskFor, AskForFaults}
 use Rattle.tl_plan.specs.declared.plan.Plan.{Plan}
-use Rattle.tl_plan.specs.declared.plan.Plan.TheVariants.{Show, Landmarks, Locate, Convert, Check, Audit, Build}
+use Rattle.tl_plan.specs.declared.plan.Plan.TheVariants.{Show, Landmarks, Locate, Convert, Check, Audit, AuditAll, Build}
 
 pub is_simple-command_line : is_simple command_line ≡ true
 unfolding clap_on_literals
@@ -83,6 +83,15 @@ not_given o given text same none is = cc (ap (option_map (λ v. v.now)) none, sa
 pub is_given : (o : Option (Bor Text)) (given : Option Text) (v : Bor Text) → option_map (λ v. v.now) o ≡ given → o ≡ Some v → given ≡ Some v.now
 is_given o given v same is = sym same ∙ ap (option_map (λ v. v.now)) is
 
+-- the same, of a test
+pub some_given : (o : Option (Bor Text)) (given : Option Text) → option_map (λ v. v.now) o ≡ given → is_some o ≡ true → given ≢ None
+some_given None given same is = absurd (cc is)
+some_given (Some v) given same is = λ e. cc (same, e)
+
+pub none_given : (o : Option (Bor Text)) (given : Option Text) → option_map (λ v. v.now) o ≡ given → is_some o ≡ false → given ≡ None
+none_given None given same is = sym same
+none_given (Some v) given same is = absurd (cc is)
+
 -- what was given is one text
 pub same_given : (given : Option Text) (one two : Text) → given ≡ Some one → given ≡ Some two → one ≡ two
 same_given given one two first second = cc (first, second)
@@ -112,24 +121,24 @@ one_command given other name another apart named same is = differ name another a
 
 -- no command that wants files alone has another's name
 no_listing : (given : Request) (name : Text) → given.command ≡ name → pointwise nat_eq name show_name ≡ false
-    → pointwise nat_eq name landmarks_name ≡ false → pointwise nat_eq name audit_name ≡ false → HasFiles (Some given) → ⊥
-no_listing given name named no_show no_landmarks no_audit files = go files.named
+    → pointwise nat_eq name landmarks_name ≡ false → HasFiles (Some given) → ⊥
+no_listing given name named no_show no_landmarks files = go files.named
   where
-    go : (files.given.command ≡ show_name) ⊎ ((files.given.command ≡ landmarks_name) ⊎ (files.given.command ≡ audit_name)) → ⊥
+    go : (files.given.command ≡ show_name) ⊎ (files.given.command ≡ landmarks_name) → ⊥
     go (inl shows) = one_command given files.given name show_name no_show named files.same shows
-    go (inr (inl lists)) = one_command given files.given name landmarks_name no_landmarks named files.same lists
-    go (inr (inr audits)) = one_command given files.given name audit_name no_audit named files.same audits
+    go (inr lists) = one_command given files.given name landmarks_name no_landmarks named files.same lists
 
 -- a conversion lacks one of its names
 no_conversion : (given : Request) → given.command ≡ convert_name → ((from to : Text) → given.cert ≡ Some from → given.out ≡ Some to → ⊥)
     → IsWhole (Some given) → ⊥
-no_conversion given named lacks (inl files) = no_listing given convert_name named refl refl refl files
+no_conversion given named lacks (inl files) = no_listing given convert_name named refl refl files
 no_conversion given named lacks (inr (inl both)) =
     let e = is_request _ _ both.2.same in
     lacks both.0 both.1 (ap (λ r. r.cert) e ∙ both.2.from) (ap (λ r. r.out) e ∙ both.2.to)
 no_conversion given named lacks (inr (inr (inl check))) = one_command given check.given convert_name check_name refl named check.same check.named
 no_conversion given named lacks (inr (inr (inr (inl build)))) = one_command given build.given convert_name build_name refl named build.same build.named
-no_conversion given named lacks (inr (inr (inr (inr place)))) = one_command given place.given convert_name locate_name refl named place.same place.named
+no_conversion given named lacks (inr (inr (inr (inr (inl place))))) = one_command given place.given convert_name locate_name refl named place.same place.named
+no_conversion given named lacks (inr (inr (inr (inr (inr audit))))) = one_command given audit.given convert_name audit_name refl named audit.same audit.named
 
 -- what a conversion's arguments make of the request
 pub conversion_plan : (found : Option (Text × List Row)) (rows : List Row) (plan : Option Plan)
@@ -142,6 +151,7 @@ conversion_plan found rows (Some (Landmarks options files)) named has is = absur
 conversion_plan found rows (Some (Locate point options files)) named has is = absurd is
 conversion_plan found rows (Some (Check from budget options files)) named has is = absurd is
 conversion_plan found rows (Some (Audit options files)) named has is = absurd is
+conversion_plan found rows (Some (AuditAll most options files)) named has is = absurd is
 conversion_plan found rows (Some (Build made options files)) named has is = absurd is
 conversion_plan found rows None named has is = λ whole.
     let same = ap named_in (both_found found convert_name rows named has) in
@@ -157,7 +167,7 @@ found_plan found name rows plan named has is = subst (λ request. IsPlanOf reque
 pub no_check : (given : Request) → given.command ≡ check_name
     → ((cert : Text) (budget : ℕ) (files : List Text) → given.cert ≡ Some cert → IsBudget given.tests budget → given.files ≡ Some files → 0 < length files → ⊥)
     → IsWhole (Some given) → ⊥
-no_check given named lacks (inl files) = no_listing given check_name named refl refl refl files
+no_check given named lacks (inl files) = no_listing given check_name named refl refl files
 no_check given named lacks (inr (inl both)) = one_command given both.2.given check_name convert_name refl named both.2.same both.2.named
 no_check given named lacks (inr (inr (inl check))) =
     let e = is_request _ _ check.same in
@@ -165,32 +175,60 @@ no_check given named lacks (inr (inr (inl check))) =
     (subst (λ (tests : Option Text). IsBudget tests check.budget) (sym (ap (λ r. r.tests) e)) check.tests)
     (ap (λ r. r.files) e ∙ check.are) check.some_file
 no_check given named lacks (inr (inr (inr (inl build)))) = one_command given build.given check_name build_name refl named build.same build.named
-no_check given named lacks (inr (inr (inr (inr place)))) = one_command given place.given check_name locate_name refl named place.same place.named
+no_check given named lacks (inr (inr (inr (inr (inl place))))) = one_command given place.given check_name locate_name refl named place.same place.named
+no_check given named lacks (inr (inr (inr (inr (inr audit))))) = one_command given audit.given check_name audit_name refl named audit.same audit.named
 
 -- a request to build lacks a name for what is made, or a file
 pub no_build : (given : Request) → given.command ≡ build_name
     → ((made : Text) (files : List Text) → given.out ≡ Some made → given.files ≡ Some files → 0 < length files → ⊥)
     → IsWhole (Some given) → ⊥
-no_build given named lacks (inl files) = no_listing given build_name named refl refl refl files
+no_build given named lacks (inl files) = no_listing given build_name named refl refl files
 no_build given named lacks (inr (inl both)) = one_command given both.2.given build_name convert_name refl named both.2.same both.2.named
 no_build given named lacks (inr (inr (inl check))) = one_command given check.given build_name check_name refl named check.same check.named
 no_build given named lacks (inr (inr (inr (inl build)))) =
     let e = is_request _ _ build.same in
     lacks build.made build.files (ap (λ r. r.out) e ∙ build.to) (ap (λ r. r.files) e ∙ build.are) build.some_file
-no_build given named lacks (inr (inr (inr (inr place)))) = one_command given place.given build_name locate_name refl named place.same place.named
+no_build given named lacks (inr (inr (inr (inr (inl place))))) = one_command given place.given build_name locate_name refl named place.same place.named
+no_build given named lacks (inr (inr (inr (inr (inr audit))))) = one_command given audit.given build_name audit_name refl named audit.same audit.named
 
 -- a question of a point lacks a word that spells one, or a file
 pub no_locate : (given : Request) → given.command ≡ locate_name
     → ((word : Text) (point : Point) (files : List Text) → given.point ≡ Some word → Spells word point → given.files ≡ Some files → 0 < length files → ⊥)
     → IsWhole (Some given) → ⊥
-no_locate given named lacks (inl files) = no_listing given locate_name named refl refl refl files
+no_locate given named lacks (inl files) = no_listing given locate_name named refl refl files
 no_locate given named lacks (inr (inl both)) = one_command given both.2.given locate_name convert_name refl named both.2.same both.2.named
 no_locate given named lacks (inr (inr (inl check))) = one_command given check.given locate_name check_name refl named check.same check.named
 no_locate given named lacks (inr (inr (inr (inl build)))) = one_command given build.given locate_name build_name refl named build.same build.named
-no_locate given named lacks (inr (inr (inr (inr place)))) =
+no_locate given named lacks (inr (inr (inr (inr (inl place))))) =
     let e = is_request _ _ place.same in
     lacks place.word place.point place.files (ap (λ r. r.point) e ∙ place.at) place.spelt
     (ap (λ r. r.files) e ∙ place.are) place.some_file
+no_locate given named lacks (inr (inr (inr (inr (inr audit))))) = one_command given audit.given locate_name audit_name refl named audit.same audit.named
+
+-- an audit asks for no faults that may be asked for, or lacks a file
+pub no_audit : (given : Request) → given.command ≡ audit_name
+    → ((files : List Text) → AskForFaults given.all given.most → given.files ≡ Some files → 0 < length files → ⊥)
+    → IsWhole (Some given) → ⊥
+no_audit given named lacks (inl files) = no_listing given audit_name named refl refl files
+no_audit given named lacks (inr (inl both)) = one_command given both.2.given audit_name convert_name refl named both.2.same both.2.named
+no_audit given named lacks (inr (inr (inl check))) = one_command given check.given audit_name check_name refl named check.same check.named
+no_audit given named lacks (inr (inr (inr (inl build)))) = one_command given build.given audit_name build_name refl named build.same build.named
+no_audit given named lacks (inr (inr (inr (inr (inl place))))) = one_command given place.given audit_name locate_name refl named place.same place.named
+no_audit given named lacks (inr (inr (inr (inr (inr audit))))) =
+    let e = is_request _ _ audit.same in
+    lacks audit.files
+    (subst (λ (r : Request). AskForFaults r.all r.most) (sym e) audit.asked)
+    (ap (λ r. r.files) e ∙ audit.are) audit.some_file
+
+-- no number is given, and no faults are asked for
+pub none_for_one : (all most : Option Text) → all ≡ Some (codes "true") → ((n : Option ℕ) → IsMost most n → ⊥) → AskForFaults all most → ⊥
+none_for_one all most each none (inl one) = one.one each
+none_for_one all most each none (inr (number, asked)) = none number asked.told
+
+-- a number is given, and not all are asked for
+pub none_for_all : (all most : Option Text) → all ≢ Some (codes "true") → most ≢ None → AskForFaults all most → ⊥
+none_for_all all most other some (inl one) = some one.no_most
+none_for_all all most other some (inr (number, asked)) = other asked.each
 
 -- a command that wants files lacks them
 pub no_file : (given : Request) (files : List (String Global)) → map string_bytes files ≡ unwrap_or given.files [] → length files ≡ 0 → pointwise nat_eq given.command convert_name ≡ false → IsWhole (Some given) → ⊥
@@ -207,7 +245,8 @@ no_file given files same none other = go
     go (inr (inl both)) = one_command given both.2.given given.command convert_name other refl both.2.same both.2.named
     go (inr (inr (inl check))) = lacks check.given check.files check.same check.are check.some_file
     go (inr (inr (inr (inl build)))) = lacks build.given build.files build.same build.are build.some_file
-    go (inr (inr (inr (inr place)))) = lacks place.given place.files place.same place.are place.some_file
+    go (inr (inr (inr (inr (inl place))))) = lacks place.given place.files place.same place.are place.some_file
+    go (inr (inr (inr (inr (inr audit))))) = lacks audit.given audit.files audit.same audit.are audit.some_file
 
 -- words that clap takes, and that name a plan
 pub one_plan : (words : List Text) (found : Option (Text × List Row)) (plan : Plan) → found ≡ subcommand_of command_line words → IsPlanOf (named_in found) (Some plan) → fault_of command_line words ≡ []

@@ -15,16 +15,16 @@ use Rattle.clap.specs.declared.error.kind.ErrorKind.TheVariants.{DisplayHelp, Di
 use Rattle.tl_geom.specs.declared.point.Point.{Point}
 use Rattle.tl_plan.specs.declared.plan.Plan.{Plan}
 use Rattle.tl_record.specs.declared.options.Options.{Options}
-use Rattle.tl_plan.specs.declared.plan.Plan.TheVariants.{Show, Landmarks, Locate, Convert, Check, Audit, Build}
+use Rattle.tl_plan.specs.declared.plan.Plan.TheVariants.{Show, Landmarks, Locate, Convert, Check, Audit, AuditAll, Build}
 use Rattle.tl_plan.specs.declared.plan.PlanStop.{PlanStop}
 use Rattle.tl_plan.specs.declared.plan.PlanStop.TheVariants.{Usage, Help, Memory}
 use Rattle.tl_plan.specs.Commands.{command_line, show_name, landmarks_name, locate_name, convert_name, check_name}
 use Rattle.tl_plan.specs.Commands.{audit_name, build_name}
 use Rattle.tl_plan.specs.Points.{Spells}
 
--- a command; what was given for its FILES, if anything was, and the values of its --released and its --zero-cells, each of
--- which is the word true where the switch is given; and what was given for its @X,Y, its CERT or --cert, its OUT or --out,
--- and its --tests
+-- a command; what was given for its FILES, if anything was, and the values of its --released, its --zero-cells and its --all,
+-- each of which is the word true where the switch is given; and what was given for its @X,Y, its CERT or --cert, its OUT or
+-- --out, its --tests, and its --most
 pub record Request : Type 0 where
   pub command : Text
   pub files : Option (List Text)
@@ -34,6 +34,8 @@ pub record Request : Type 0 where
   pub cert : Option Text
   pub out : Option Text
   pub tests : Option Text
+  pub all : Option Text
+  pub most : Option Text
 
 -- a command that was found, with its arguments
 abbrev pub request_in : Text × List Row → Request
@@ -46,6 +48,8 @@ request_in found = record {
   cert = first_of (codes "cert") found.1;
   out = first_of (codes "out") found.1;
   tests = first_of (codes "tests") found.1;
+  all = first_of (codes "all") found.1;
+  most = first_of (codes "most") found.1;
 }
 
 abbrev pub named_in : Option (Text × List Row) → Option Request
@@ -63,6 +67,7 @@ command_of (Locate point options files) = locate_name
 command_of (Convert cert made) = convert_name
 command_of (Check cert budget options files) = check_name
 command_of (Audit options files) = audit_name
+command_of (AuditAll most options files) = audit_name
 command_of (Build made options files) = build_name
 
 -- the names of the plan's files, in their order
@@ -73,6 +78,7 @@ files_of (Locate point options files) = map string_bytes files.items
 files_of (Convert cert made) = []
 files_of (Check cert budget options files) = map string_bytes files.items
 files_of (Audit options files) = map string_bytes files.items
+files_of (AuditAll most options files) = map string_bytes files.items
 files_of (Build made options files) = map string_bytes files.items
 
 -- the values of the two switches say what is chosen of the columns
@@ -80,14 +86,39 @@ pub record AreChosen (released zero_cells : Option Text) (options : Options) : T
   pub columns : IsTrue options.released ↔ (released ≡ Some (codes "true"))
   pub cells : IsTrue options.zero_cells ↔ (zero_cells ≡ Some (codes "true"))
 
--- the greatest budget, which is the one where none is given
+-- the greatest number that can be given, which is the budget where none is
 abbrev pub greatest_budget : ℕ
 greatest_budget = 18446744073709551615
 
--- what was given for --tests, if anything was, is this number, with no sign and no leading zero
+-- the text is this number, with no sign and no leading zero
+abbrev pub IsSpelt : Text → ℕ → Type 0
+IsSpelt text number = (text ≡ decimal number) × (number ≤ greatest_budget)
+
+-- what was given for --tests, if anything was, is this number
 abbrev pub IsBudget : Option Text → ℕ → Type 0
 IsBudget None budget = budget ≡ greatest_budget
-IsBudget (Some text) budget = (text ≡ decimal budget) × (budget ≤ greatest_budget)
+IsBudget (Some text) budget = IsSpelt text budget
+
+-- what was given for --most is this number, where anything was
+abbrev pub IsMost : Option Text → Option ℕ → Type 0
+IsMost None None = ⊤
+IsMost None (Some number) = ⊥
+IsMost (Some text) None = ⊥
+IsMost (Some text) (Some number) = IsSpelt text number
+
+-- what was given for --all and for --most asks for one fault
+pub record AskForOne (all most : Option Text) : Type 0 where
+  pub one : all ≢ Some (codes "true")
+  pub no_most : most ≡ None
+
+-- or for all faults, of which so many are to be told, or each
+pub record AskForAll (all most : Option Text) (number : Option ℕ) : Type 0 where
+  pub each : all ≡ Some (codes "true")
+  pub told : IsMost most number
+
+-- or for one or the other
+abbrev pub AskForFaults : (all most : Option Text) → Type 0
+AskForFaults all most = AskForOne all most ⊎ ((number : Option ℕ) × AskForAll all most number)
 
 -- the request names a command with files: this one, these files word for word and in their order, and the switch; it has
 -- no switch for zero-cell ids
@@ -131,11 +162,13 @@ pub record AsksToCheck (request : Option Request) (cert : Text) (budget : ℕ) (
   pub are : given.files ≡ Some files
   pub some_file : 0 < length files
 
--- the request names an audit of these files, word for word and in their order, with these switches
-pub record AsksToAudit (request : Option Request) (options : Options) (files : List Text) : Type 0 where
+-- the request names an audit of these files, word for word and in their order, with these switches; `faults` says which
+-- faults are asked for, by what was given for --all and for --most
+pub record AsksToAudit (request : Option Request) (faults : (all most : Option Text) → Type 0) (options : Options) (files : List Text) : Type 0 where
   pub given : Request
   pub same : request ≡ Some given
   pub named : given.command ≡ audit_name
+  pub asked : faults given.all given.most
   pub chosen : AreChosen given.released given.zero_cells options
   pub are : given.files ≡ Some files
   pub some_file : 0 < length files
@@ -159,7 +192,9 @@ IsFor request (Locate point options files) = AsksToLocate request point options 
 IsFor request (Convert cert made) = AsksToConvert request (string_bytes cert) (string_bytes made)
 IsFor request (Check cert budget options files) =
     AsksToCheck request (string_bytes cert) budget options (map string_bytes files.items)
-IsFor request (Audit options files) = AsksToAudit request options (map string_bytes files.items)
+IsFor request (Audit options files) = AsksToAudit request AskForOne options (map string_bytes files.items)
+IsFor request (AuditAll most options files) =
+    AsksToAudit request (λ all given. AskForAll all given most) options (map string_bytes files.items)
 IsFor request (Build made options files) = AsksToBuild request (string_bytes made) options (map string_bytes files.items)
 
 -- the request names a command of the program that wants files alone, and some file
@@ -167,7 +202,17 @@ pub record HasFiles (request : Option Request) : Type 0 where
   pub given : Request
   pub files : List Text
   pub same : request ≡ Some given
-  pub named : (given.command ≡ show_name) ⊎ ((given.command ≡ landmarks_name) ⊎ (given.command ≡ audit_name))
+  pub named : (given.command ≡ show_name) ⊎ (given.command ≡ landmarks_name)
+  pub are : given.files ≡ Some files
+  pub some_file : 0 < length files
+
+-- the request names an audit of some file, for one fault or for all, with no number but where it asks for all
+pub record IsAudit (request : Option Request) : Type 0 where
+  pub given : Request
+  pub files : List Text
+  pub same : request ≡ Some given
+  pub named : given.command ≡ audit_name
+  pub asked : AskForFaults given.all given.most
   pub are : given.files ≡ Some files
   pub some_file : 0 < length files
 
@@ -213,7 +258,8 @@ pub record IsLocate (request : Option Request) : Type 0 where
 abbrev pub IsWhole : Option Request → Type 0
 IsWhole request =
     HasFiles request
-    ⊎ (((cert : Text) × (made : Text) × AsksToConvert request cert made) ⊎ (IsCheck request ⊎ (IsBuild request ⊎ IsLocate request)))
+    ⊎ (((cert : Text) × (made : Text) × AsksToConvert request cert made)
+    ⊎ (IsCheck request ⊎ (IsBuild request ⊎ (IsLocate request ⊎ IsAudit request))))
 
 -- the plan that a request is for, if it is for one
 abbrev pub IsPlanOf : Option Request → Option Plan → Type 0
@@ -228,6 +274,7 @@ IsConversionOf cert out (Some (Landmarks options files)) = ⊥
 IsConversionOf cert out (Some (Locate point options files)) = ⊥
 IsConversionOf cert out (Some (Check from budget options files)) = ⊥
 IsConversionOf cert out (Some (Audit options files)) = ⊥
+IsConversionOf cert out (Some (AuditAll most options files)) = ⊥
 IsConversionOf cert out (Some (Build made options files)) = ⊥
 IsConversionOf cert out None = (from to : Text) → cert ≡ Some from → out ≡ Some to → ⊥
 
@@ -281,7 +328,7 @@ abbrev pub HasAnswer : Kinds → Type 0
 HasAnswer kinds = (kind : ErrorKind) × IsAmong kind kinds × IsAnswer kind
 
 -- Why the words make no plan: they are no use of a command, and either a mistake, a wish for help or for the version, or
--- taken by clap, as those with a budget that is no number or a point that isn't spelt as one; or memory was refused, and the
+-- taken by clap, as those with a number or a point that isn't spelt as one, or with --most and no --all; or memory was refused, and the
 -- first of them doesn't show that they are no use of a command.
 abbrev pub StopsPlanning : List Text → PlanStop → Type 0
 StopsPlanning words (Usage text) = (¬ AreAUse words) × (HasMistake (fault_of command_line words) ⊎ (fault_of command_line words ≡ []))

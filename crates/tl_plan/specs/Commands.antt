@@ -32,9 +32,19 @@ zero_cells_argument = switch (codes "zero-cells")
 abbrev pub certificate_argument : Text → Rule
 certificate_argument id = record (new_rule id) { long = Some id; value_names = 1; required = true }
 
--- --tests N: one number
+-- --all: each fault is told, and not the first alone
+abbrev pub all_argument : Rule
+all_argument = switch (codes "all")
+
+-- --most N and --tests N: one number
+abbrev pub number_argument : Text → Rule
+number_argument id = record (new_rule id) { long = Some id; value_names = 1 }
+
+abbrev pub most_argument : Rule
+most_argument = number_argument (codes "most")
+
 abbrev pub tests_argument : Rule
-tests_argument = record (new_rule (codes "tests")) { long = Some (codes "tests"); value_names = 1 }
+tests_argument = number_argument (codes "tests")
 
 -- a command of this name, with --released and FILES..
 abbrev pub command_on_files : Text → App
@@ -63,12 +73,12 @@ conversion_app = with_rule (with_rule (new_app convert_name) (name_argument (cod
 abbrev pub on_a_map : App → App
 on_a_map app = with_rule (with_rule (with_rule app zero_cells_argument) released_argument) files_argument
 
--- audit [--zero-cells] [--released] FILES..
+-- audit [--all] [--most N] [--zero-cells] [--released] FILES..
 abbrev pub audit_name : Text
 audit_name = codes "audit"
 
 abbrev pub audit_app : App
-audit_app = on_a_map (new_app audit_name)
+audit_app = on_a_map (with_rule (with_rule (new_app audit_name) all_argument) most_argument)
 
 -- build --out CERT [--zero-cells] [--released] FILES..
 abbrev pub build_name : Text

@@ -1,6 +1,6 @@
 -- Kept on the way: commands and their arguments by the names that the code gives them. No public contract cites this file.
-use Rattle.std.specs.Prelude.{Bool, false, List, [], ◌∷◌, Some, Result, Ok, Err, codes}
-use Rattle.clap.specs.Simple.{App, app_of, new_rule, with_rule, with_subcommand}
+use Rattle.std.specs.Prelude.{Bool, false, List, [], ◌∷◌, Result, Ok, Err, codes}
+use Rattle.clap.specs.Simple.{App, app_of, with_rule, with_subcommand}
 use Rattle.clap.specs.Walk.{Rule, Text, rule_of}
 use Rattle.clap.specs.declared.builder.arg.Arg.{Arg}
 use Rattle.clap.specs.declared.builder.command.Command.{Command}
@@ -8,13 +8,15 @@ use Rattle.clap.specs.declared.builder.command.Command.TheViews.{out-Command}
 use Rattle.tl_plan.specs.declared.command_line.Named.{Named}
 use Rattle.tl_plan.specs.declared.command_line.Named.TheVariants.{Show, Landmarks, Locate, Audit, Build, Check, Convert}
 use Rattle.tl_plan.specs.declared.command_line.Argument.{Argument}
-use Rattle.tl_plan.specs.declared.command_line.Argument.TheVariants.{ZeroCells, Released, Files, Point, CertOption, OutOption, Tests, Cert, Out}
-use Rattle.tl_plan.specs.Commands.{zero_cells_argument, released_argument, files_argument, name_argument, certificate_argument, tests_argument}
+use Rattle.tl_plan.specs.declared.command_line.Argument.TheVariants.{All, Most, ZeroCells, Released, Files, Point, CertOption, OutOption, Tests, Cert, Out}
+use Rattle.tl_plan.specs.Commands.{all_argument, most_argument, zero_cells_argument, released_argument, files_argument, name_argument, certificate_argument, tests_argument}
 use Rattle.tl_plan.specs.Commands.{command_on_files, show_name, landmarks_name, locate_name, audit_name, build_name, check_name, convert_name}
 use Rattle.tl_plan.specs.Commands.{locate_app, audit_app, build_app, check_app, conversion_app}
 
 -- what clap is told of an argument
 abbrev pub rule_for : Argument → Rule
+rule_for All = all_argument
+rule_for Most = most_argument
 rule_for ZeroCells = zero_cells_argument
 rule_for Released = released_argument
 rule_for Files = files_argument
@@ -74,14 +76,10 @@ abbrev pub arguments_for : Named → List Argument
 arguments_for Show = Released ∷ Files ∷ []
 arguments_for Landmarks = Released ∷ Files ∷ []
 arguments_for Locate = Released ∷ Point ∷ Files ∷ []
-arguments_for Audit = ZeroCells ∷ Released ∷ Files ∷ []
+arguments_for Audit = All ∷ Most ∷ ZeroCells ∷ Released ∷ Files ∷ []
 arguments_for Build = OutOption ∷ ZeroCells ∷ Released ∷ Files ∷ []
 arguments_for Check = CertOption ∷ Tests ∷ ZeroCells ∷ Released ∷ Files ∷ []
 arguments_for Convert = Cert ∷ Out ∷ []
-
--- what clap is told of an option with a value
-abbrev pub option_rule : Text → Rule
-option_rule id = record (new_rule id) { long = Some id; value_names = 1 }
 
 -- a command was made, and it is so
 abbrev pub OnMade : {E : Type 0} → Result Command E → (Command → Type 0) → Type 0

@@ -5,16 +5,16 @@ ghost use Rattle.clap.specs.Simple.{app_of, new_app};
 ghost use Rattle.clap.specs.Walk.{rule_of};
 ghost use Rattle.tl_plan.specs.Commands.{program, command_line, name_argument as name_rule};
 ghost use Rattle.tl_plan.specs.Commands.{switch as switch_rule, files_argument as files_rule};
-ghost use Rattle.tl_plan.specs.Commands.{certificate_argument as certificate_rule};
-ghost use Rattle.tl_plan.specs.Keeping.{with_each, with_named, name_of, arguments_for, option_rule, OnMade};
+ghost use Rattle.tl_plan.specs.Commands.{certificate_argument as certificate_rule, number_argument};
+ghost use Rattle.tl_plan.specs.Keeping.{with_each, with_named, name_of, arguments_for, OnMade};
 ghost use Rattle.tl_plan.specs.Keeping.{told_of, named_told, rule_told, argument_told};
 ghost use Rattle.tl_plan.specs.declared.command_line.Argument.{Argument};
 ghost use Rattle.tl_plan.specs.declared.command_line.Named.{Named};
 
 use crate::help::{
-    ABOUT, AUDIT_ABOUT, AUDIT_EXAMPLE, BUILD_ABOUT, BUILD_EXAMPLE, CHECK_ABOUT, CHECK_EXAMPLE,
+    ABOUT, ALL, AUDIT_ABOUT, AUDIT_EXAMPLE, BUILD_ABOUT, BUILD_EXAMPLE, CHECK_ABOUT, CHECK_EXAMPLE,
     CONVERT_ABOUT, CONVERT_EXAMPLE, EXAMPLES, LANDMARKS_ABOUT, LANDMARKS_EXAMPLE, LOCATE_ABOUT,
-    LOCATE_EXAMPLE, RELEASED, SHOW_ABOUT, SHOW_EXAMPLE, TESTS, ZERO_CELLS,
+    LOCATE_EXAMPLE, MOST, RELEASED, SHOW_ABOUT, SHOW_EXAMPLE, TESTS, ZERO_CELLS,
 };
 use clap::{Arg, ArgAction, Command};
 use std::alloc::{AllocError, Global};
@@ -34,6 +34,10 @@ pub enum Named {
 
 // An argument of a command.
 enum Argument {
+    // --all
+    All,
+    // --most N
+    Most,
     // --zero-cells
     ZeroCells,
     // --released
@@ -146,7 +150,13 @@ fn arguments_of<'a>(named: &Named) -> &'a [Argument]
         Named::Show => &[Argument::Released, Argument::Files],
         Named::Landmarks => &[Argument::Released, Argument::Files],
         Named::Locate => &[Argument::Released, Argument::Point, Argument::Files],
-        Named::Audit => &[Argument::ZeroCells, Argument::Released, Argument::Files],
+        Named::Audit => &[
+            Argument::All,
+            Argument::Most,
+            Argument::ZeroCells,
+            Argument::Released,
+            Argument::Files,
+        ],
         Named::Build => &[
             Argument::OutOption,
             Argument::ZeroCells,
@@ -195,6 +205,8 @@ fn told<'a>(alloc: Global, argument: &Argument) -> Arg<'a>
     ensures { rule_told result ≡ argument_told argument.now }
 {
     match argument {
+        Argument::All => switch(alloc, "all", ALL),
+        Argument::Most => numbered_option(alloc, "most", MOST),
         Argument::ZeroCells => switch(alloc, "zero-cells", ZERO_CELLS),
         Argument::Released => switch(alloc, "released", RELEASED),
         Argument::Files => files_argument(alloc),
@@ -206,7 +218,7 @@ fn told<'a>(alloc: Global, argument: &Argument) -> Arg<'a>
         ),
         Argument::CertOption => certificate_argument(alloc, "cert", "The certificate"),
         Argument::OutOption => certificate_argument(alloc, "out", "The certificate that is made"),
-        Argument::Tests => valued_option(alloc, "tests", "N", TESTS),
+        Argument::Tests => numbered_option(alloc, "tests", TESTS),
         Argument::Cert => name_argument(alloc, "cert", "CERT", "The certificate that is read"),
         Argument::Out => name_argument(alloc, "out", "OUT", "The certificate that is made"),
     }
@@ -220,12 +232,12 @@ fn certificate_argument<'a>(alloc: Global, id: &'a str, help: &'a str) -> Arg<'a
     name_argument(alloc, id, "CERT", help).long(id)
 }
 
-// An option with a value.
-fn valued_option<'a>(alloc: Global, id: &'a str, shown: &'a str, help: &'a str) -> Arg<'a>
-    ensures rule { rule_of result ≡ option_rule id.entry.now }
+// An option with a number.
+fn numbered_option<'a>(alloc: Global, id: &'a str, help: &'a str) -> Arg<'a>
+    ensures rule { rule_of result ≡ number_argument id.entry.now }
     ensures local { result.global ≡ false }
 {
-    Arg::new(alloc, id).long(id).value_name(shown).help(help)
+    Arg::new(alloc, id).long(id).value_name("N").help(help)
 }
 
 // A switch, which is on where it is given.

@@ -8,6 +8,7 @@ Examples:
   tigertopo landmarks --released TGR24001.RT* prints each landmark and its polygons
   tigertopo locate @-78762000,39652000 A.RT*  tells where a point lies
   tigertopo audit TGR24001.RT*                decides whether the map is sound
+  tigertopo audit --all --most 20 A.RT*       tells the first 20 faults, and how many there are
   tigertopo build --out A.CERT TGR24001.RT*   makes a certificate of a sound map
   tigertopo check --cert A.CERT TGR24001.RT*  decides by a certificate whether the map is sound
   tigertopo convert OLD.CERT NEW.CERT         writes a certificate anew in version 2
@@ -60,8 +61,14 @@ pub const AUDIT_EXAMPLE: &str = "\
 Of a sound map the line is `sound chains=C segments=S nodes=N polygons=P landmarks=L rings=R`. Else it
 is `map fault` with a code, a name and what it is about. A certificate is made, checked and not kept.
 
-Example:
-  tigertopo audit TGR24001.RT*";
+With --all each fault has its line, or each line that is refused, on the standard output, and the last
+line is `faults=K` or `refused=K`. Where a record is refused no fault is looked for, where records have
+a fault their map isn't looked at, and where sides don't agree `points not looked at` says that the
+polygons' points weren't. With --most N the last line is `faults=K printed=P`.
+
+Examples:
+  tigertopo audit TGR24001.RT*
+  tigertopo audit --all TGR24001.RT*";
 
 pub const BUILD_ABOUT: &str = "Makes a certificate of a sound map, in version 2";
 
@@ -99,5 +106,9 @@ pub const RELEASED: &str =
 
 pub const ZERO_CELLS: &str =
     "Reads zero-cell ids of type I lines, TZIDS in 21-30 and TZIDE in 31-40, and tests that they agree";
+
+pub const ALL: &str = "Tells each fault, or each line that is refused, and how many there are";
+
+pub const MOST: &str = "Tells the first N of them, and how many there are; needs --all";
 
 pub const TESTS: &str = "Stops where more than N pairs of segments would have to be tested";

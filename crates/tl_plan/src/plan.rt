@@ -45,6 +45,12 @@ pub enum Plan {
         options: Options,
         files: Vec<String>,
     },
+    /// To tell all that is wrong with the map: each fault, or each line that is refused, or the first `most` of them.
+    AuditAll {
+        most: Option<u64>,
+        options: Options,
+        files: Vec<String>,
+    },
     /// To make a certificate of this name, in version 2, where the map is sound.
     Build {
         made: String,
@@ -68,6 +74,7 @@ impl Plan {
             Plan::Convert { .. } => &[],
             Plan::Check { files, .. } => files.as_slice(),
             Plan::Audit { files, .. } => files.as_slice(),
+            Plan::AuditAll { files, .. } => files.as_slice(),
             Plan::Build { files, .. } => files.as_slice(),
         }
     }

@@ -11,9 +11,12 @@ use clap::error::ErrorKind;
 use clap::{ArgMatches, Command, Error};
 use std::alloc::{AllocError, Global};
 
-// How a number of tests is spelt.
+// How a number of tests or of faults is spelt.
 const SPELLING: &str =
     "a number from 0 to 18446744073709551615 is wanted, with no sign and no leading zero";
+
+// What is said of a number of faults where there is no --all.
+const NO_ALL: &str = "the argument '--most <N>' needs '--all'";
 
 // How a point is spelt.
 const POINT_SPELLING: &str =
@@ -101,7 +104,27 @@ fn usage_of(
             POINT_SPELLING,
         );
     }
+    if let Some(most) = word_of(matches, "audit", "most") {
+        return misused_most(alloc, matches, most);
+    }
     plain_usage(alloc, command)
+}
+
+// What is wrong with a number of faults: there is no --all beside it, or it isn't spelt as one.
+fn misused_most(alloc: Global, matches: &ArgMatches<'_>, most: &str) -> Result<String, AllocError>
+    ensures { IfOk result HasNoEscape }
+{
+    if word_of(matches, "audit", "all") != Some("true") {
+        return told_by(alloc, &Named::Audit, "tigertopo audit", NO_ALL);
+    }
+    misspelt(
+        alloc,
+        &Named::Audit,
+        "tigertopo audit",
+        "--most <N>",
+        most,
+        SPELLING,
+    )
 }
 
 // The word that was given for an argument of this command, where the words name that.

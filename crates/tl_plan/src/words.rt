@@ -14,7 +14,7 @@ ghost use Rattle.tl_plan.specs.CommandLine.{request_in, named_in};
 ghost use Rattle.tl_plan.specs.CommandLine.{AreChosen, AskFor, StopsPlanning, IsPlanOf, IsConversionOf};
 ghost use Rattle.tl_plan.specs.Plans.{ShowsNoEscape};
 
-use crate::budget::budget_of;
+use crate::budget::{budget_of, most_of};
 use crate::command_line::command;
 use crate::first_word::unread;
 use crate::plan::{Plan, PlanStop};
@@ -75,7 +75,7 @@ fn plan_in<S: AsStr>(
 {
     match plan_of(alloc, matches)? {
         Some(plan) => Ok(plan),
-        // The words name a number or a point that isn't spelt so: clap has refused others before.
+        // The words name a number or a point that isn't spelt so, or --most and no --all: clap has refused others before.
         None => Err(misuse(alloc, command, matches)),
     }
 }
@@ -187,15 +187,40 @@ fn locate_of(alloc: Global, command: &ArgMatches<'_>) -> Result<Option<Plan>, Al
     }))
 }
 
-// The audit that the command's words name, where they name a file.
+// The audit that the command's words name, where they name a file, and a number of faults only beside --all.
 fn audit_of(alloc: Global, command: &ArgMatches<'_>) -> Result<Option<Plan>, AllocError>
     ensures { IfOk result (IsPlanOf (Some (request_in (audit_name, rows_of (found_of command.now))))) }
 {
+    if is_set(command.get_str("all")) {
+        return audit_all_of(alloc, command);
+    }
+    if command.get_str("most").is_some() {
+        return Ok(None);
+    }
     let files = files_of(alloc, command)?;
     if files.is_empty() {
         return Ok(None);
     }
     Ok(Some(Plan::Audit {
+        options: options_with_zero_cells(command),
+        files,
+    }))
+}
+
+// The audit of all faults that the command's words name, where they name a file, and their number is spelt as one.
+fn audit_all_of(alloc: Global, command: &ArgMatches<'_>) -> Result<Option<Plan>, AllocError>
+    requires { first_of (codes "all") (rows_of (found_of command.now)) ≡ Some (codes "true") }
+    ensures { IfOk result (IsPlanOf (Some (request_in (audit_name, rows_of (found_of command.now))))) }
+{
+    let Some(most) = most_of(command.get_str("most")) else {
+        return Ok(None);
+    };
+    let files = files_of(alloc, command)?;
+    if files.is_empty() {
+        return Ok(None);
+    }
+    Ok(Some(Plan::AuditAll {
+        most,
         options: options_with_zero_cells(command),
         files,
     }))

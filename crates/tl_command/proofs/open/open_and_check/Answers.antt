@@ -23,4 +23,4 @@ returns-in-Ok g c =
       ]))
       | inr made ↦ absurd (none_failed _ c.new-made.ensures.failures (rw unmade at made))
     ]) (λ well. tt) (run.stopped e))
-    run.err_stays run.out_stays
+    run.err_stays

@@ -17,4 +17,4 @@ returns g c =
       ]
       | inr made ↦ absurd (none_failed _ c.new-made.ensures.failures (rw (run.made_stays c.requires.makes) at made))
     ]) (λ well. tt) (run.stopped e))
-    run.err_stays run.out_stays
+    run.err_stays

@@ -24,9 +24,6 @@ returns-clause-stopped g c = c.run_by_readers.ensures.stopped
 pub returns-clause-err_stays : goal.returns-clause-err_stays
 returns-clause-err_stays g c = c.run_by_readers.ensures.err_stays
 
-pub returns-clause-out_stays : goal.returns-clause-out_stays
-returns-clause-out_stays g c = c.run_by_readers.ensures.out_stays
-
 pub returns-clause-read_whole : goal.returns-clause-read_whole
 returns-clause-read_whole g c = c.run_by_readers.ensures.read_whole
 

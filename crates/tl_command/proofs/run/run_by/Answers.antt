@@ -1,5 +1,5 @@
 use Rattle.std.proofs.Common.{refl}
-use Rattle.tl_command.proofs.RunLemmas.{of_records, runs_audit, runs_build, runs_check, runs_conversion, runs_records}
+use Rattle.tl_command.proofs.RunLemmas.{of_records, runs_all, runs_audit, runs_build, runs_check, runs_conversion, runs_records}
 use Rattle.tl_command.proofs.run.run_by.Goals as goal
 
 pub returns-in-Convert : goal.returns-in-Convert
@@ -18,6 +18,11 @@ returns-in-Audit g c =
     let it = c.audit.ensures in
     rw c.in-Audit.is (runs_audit _ _ c.audit.result refl refl refl refl it.status it.audited it.fault it.refused it.stopped it.err_stays it.out_stays it.read_whole)
 
+pub returns-in-AuditAll : goal.returns-in-AuditAll
+returns-in-AuditAll g c =
+    let it = c.audit_all.ensures in
+    rw c.in-AuditAll.is (runs_all _ _ _ c.audit_all.result refl refl refl refl it.status it.sound it.faults it.refused it.stopped it.err_stays it.read_whole)
+
 pub returns-in-Build : goal.returns-in-Build
 returns-in-Build g c =
     let it = c.build.ensures in
@@ -26,5 +31,5 @@ returns-in-Build g c =
 pub returns-in_default : goal.returns-in_default
 returns-in_default g c =
     let it = c.run_on_records.ensures in
-    runs_records c.args.plan.now c.run_on_records.result (of_records c.args.plan.now c.in_default.not-Convert c.in_default.not-Check c.in_default.not-Audit c.in_default.not-Build) refl refl refl refl
+    runs_records c.args.plan.now c.run_on_records.result (of_records c.args.plan.now c.in_default.not-Convert c.in_default.not-Check c.in_default.not-Audit c.in_default.not-AuditAll c.in_default.not-Build) refl refl refl refl
     it.status it.answered it.fault it.refused it.stopped it.err_stays it.out_stays it.read_whole

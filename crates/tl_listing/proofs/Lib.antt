@@ -1,0 +1,3 @@
+-- Lemmas on what is printed of listings.
+pub mod LineLemmas
+pub mod PrintLemmas

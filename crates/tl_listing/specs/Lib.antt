@@ -1,0 +1,2 @@
+-- What the contracts of listings cite.
+pub mod Texts

@@ -1,0 +1,213 @@
+//! The lines of faults.
+
+ghost use Rattle.std.specs.Prelude.{◌≡◌, ◌+◌, ◌≤◌, ◌++◌, codes, length};
+ghost use Rattle.arrayvec.specs.ArrayString.{array_string_len};
+ghost use Rattle.tl_drawn.specs.Messages.{fault_name, subject_text, fault_text, limited_text};
+ghost use Rattle.tl_output.specs.Writing.{line_of};
+ghost use Rattle.tl_verdict.specs.Messages.{map_fault_text, segment_text, node_text, rational_text, misplaced_text};
+ghost use Rattle.tl_verdict.specs.declared.fault.MapFault.TheVariants.{Meet as MeetFault, Side, PolygonPoint, Cell};
+
+use crate::line::{LINE_ROOM, push_key, push_number};
+use arrayvec::ArrayString;
+use tl_cells::CellsAtOdds;
+use tl_drawn::Limited;
+use tl_geom::{Point, Rational};
+use tl_inside::Misplaced;
+use tl_planar::Meet;
+use tl_verdict::MapFault;
+
+/// The line of a fault.
+pub fn fault_line(fault: &MapFault) -> ArrayString<LINE_ROOM>
+    ensures { result.bytes ≡ line_of (map_fault_text fault.now) }
+{
+    let mut line = fault_words(fault);
+    line.push_str("\n");
+    line
+}
+
+// The same, without its end.
+fn fault_words(fault: &MapFault) -> ArrayString<LINE_ROOM>
+    ensures bytes { result.bytes ≡ map_fault_text fault.now }
+    ensures room { array_string_len result ≤ 500 }
+{
+    match fault {
+        MapFault::Records(fault) => record_words(fault),
+        MapFault::Meet(meet) => meet_words(meet),
+        MapFault::Side { node, first, next } => side_words(*node, *first, *next),
+        MapFault::PolygonPoint(misplaced) => misplaced_words(misplaced),
+        MapFault::Cell(odds) => cell_words(odds),
+    }
+}
+
+// M1 to M13: the code and the name, and what the fault is about.
+fn record_words(fault: &tl_drawn::MapFault) -> ArrayString<LINE_ROOM>
+    ensures bytes { result.bytes ≡ fault_text fault.now }
+    ensures room { array_string_len result ≤ 500 }
+{
+    let mut line = ArrayString::new();
+    line.push_str("map fault ");
+    line.push_str(record_name(fault));
+    push_subject(&mut line, fault);
+    line
+}
+
+// The code and the name of a fault of the records.
+fn record_name<'a>(fault: &tl_drawn::MapFault) -> &'a str
+    ensures name { result.now ≡ fault_name fault.now }
+    ensures short { length result.now ≤ 24 }
+{
+    match fault {
+        tl_drawn::MapFault::DuplicateChain { .. } => "M1 DuplicateChain",
+        tl_drawn::MapFault::ShapeWithoutChain { .. } => "M2 ShapeWithoutChain",
+        tl_drawn::MapFault::ShapeSequence { .. } => "M3 ShapeSequence",
+        tl_drawn::MapFault::ShapeGap { .. } => "M4 ShapeGap",
+        tl_drawn::MapFault::ChainWithoutSides { .. } => "M5 ChainWithoutSides",
+        tl_drawn::MapFault::SidesWithoutChain { .. } => "M6 SidesWithoutChain",
+        tl_drawn::MapFault::DuplicateSides { .. } => "M7 DuplicateSides",
+        tl_drawn::MapFault::DuplicatePolygon { .. } => "M8 DuplicatePolygon",
+        tl_drawn::MapFault::SideWithoutPolygon { .. } => "M9 SideWithoutPolygon",
+        tl_drawn::MapFault::LinkWithoutLandmark { .. } => "M10 LinkWithoutLandmark",
+        tl_drawn::MapFault::LinkWithoutPolygon { .. } => "M11 LinkWithoutPolygon",
+        tl_drawn::MapFault::DegenerateChain { .. } => "M12 DegenerateChain",
+        tl_drawn::MapFault::TooMany(_) => "M13 TooMany",
+    }
+}
+
+// Adds what a fault of the records is about.
+fn push_subject(line: &mut ArrayString<LINE_ROOM>, fault: &tl_drawn::MapFault)
+    requires { array_string_len line.old ≤ 40 }
+    ensures bytes { line.new.bytes ≡ line.old.bytes ++ subject_text fault.now }
+    ensures room { array_string_len line.new ≤ 400 }
+{
+    match fault {
+        tl_drawn::MapFault::DuplicateChain { tlid }
+        | tl_drawn::MapFault::ShapeWithoutChain { tlid }
+        | tl_drawn::MapFault::ShapeSequence { tlid }
+        | tl_drawn::MapFault::ShapeGap { tlid }
+        | tl_drawn::MapFault::ChainWithoutSides { tlid }
+        | tl_drawn::MapFault::SidesWithoutChain { tlid }
+        | tl_drawn::MapFault::DuplicateSides { tlid }
+        | tl_drawn::MapFault::DegenerateChain { tlid } => push_number(line, " tlid ", *tlid),
+        tl_drawn::MapFault::DuplicatePolygon { polygon } => push_key(line, " polygon ", *polygon),
+        tl_drawn::MapFault::SideWithoutPolygon { tlid, polygon } => {
+            push_number(line, " tlid ", *tlid);
+            push_key(line, " polygon ", *polygon);
+        }
+        tl_drawn::MapFault::LinkWithoutLandmark { land } => push_number(line, " land ", *land),
+        tl_drawn::MapFault::LinkWithoutPolygon { polygon, land } => {
+            push_key(line, " polygon ", *polygon);
+            push_number(line, " land ", *land);
+        }
+        tl_drawn::MapFault::TooMany(what) => {
+            line.push_str(" ");
+            line.push_str(limited_word(*what));
+        }
+    }
+}
+
+// What there are too many of.
+fn limited_word<'a>(what: Limited) -> &'a str
+    ensures word { result.now ≡ limited_text what }
+    ensures short { length result.now ≤ 9 }
+{
+    match what {
+        Limited::Chains => "chains",
+        Limited::Segments => "segments",
+        Limited::Polygons => "polygons",
+        Limited::Landmarks => "landmarks",
+    }
+}
+
+// G1: the TLID of each chain and the number of its segment, and where they meet.
+fn meet_words(meet: &Meet) -> ArrayString<LINE_ROOM>
+    ensures bytes { result.bytes ≡ map_fault_text (MeetFault meet.now) }
+    ensures room { array_string_len result ≤ 500 }
+{
+    let mut line = ArrayString::new();
+    line.push_str("map fault G1 Meet ");
+    push_segment(&mut line, meet.tlid, meet.s);
+    line.push_str(" ");
+    push_segment(&mut line, meet.other, meet.t);
+    line.push_str(" at ");
+    push_rational(&mut line, &meet.at);
+    line
+}
+
+// Adds a segment: the TLID of its chain, and its number among all segments.
+fn push_segment(line: &mut ArrayString<LINE_ROOM>, tlid: u64, number: u32)
+    requires { array_string_len line.old ≤ 200 }
+    ensures bytes { line.new.bytes ≡ line.old.bytes ++ segment_text tlid number }
+    ensures room { array_string_len line.new ≤ array_string_len line.old + 94 }
+{
+    push_number(line, "tlid ", tlid);
+    push_number(line, " segment ", number);
+}
+
+// Adds a rational point: two numerators and their denominator.
+fn push_rational(line: &mut ArrayString<LINE_ROOM>, at: &Rational)
+    requires { array_string_len line.old ≤ 300 }
+    ensures bytes { line.new.bytes ≡ line.old.bytes ++ rational_text at.now }
+    ensures room { array_string_len line.new ≤ array_string_len line.old + 122 }
+{
+    push_number(line, "", at.x);
+    push_number(line, " ", at.y);
+    push_number(line, " ", at.d);
+}
+
+// G2: the node, and the two darts.
+fn side_words(node: Point, first: u32, next: u32) -> ArrayString<LINE_ROOM>
+    ensures bytes { result.bytes ≡ map_fault_text (Side node first next) }
+    ensures room { array_string_len result ≤ 500 }
+{
+    let mut line = ArrayString::new();
+    line.push_str("map fault G2 Side at ");
+    push_node(&mut line, node);
+    push_number(&mut line, " darts ", first);
+    push_number(&mut line, " ", next);
+    line
+}
+
+// Adds the point of a node: its longitude and its latitude.
+fn push_node(line: &mut ArrayString<LINE_ROOM>, node: Point)
+    requires { array_string_len line.old ≤ 300 }
+    ensures bytes { line.new.bytes ≡ line.old.bytes ++ node_text node }
+    ensures room { array_string_len line.new ≤ array_string_len line.old + 81 }
+{
+    push_number(line, "", node.x);
+    push_number(line, " ", node.y);
+}
+
+// G3, G4 and G5: what is wrong with where a polygon's point lies, and the keys.
+fn misplaced_words(misplaced: &Misplaced) -> ArrayString<LINE_ROOM>
+    ensures bytes { result.bytes ≡ map_fault_text (PolygonPoint misplaced.now) }
+    ensures room { array_string_len result ≤ 500 }
+{
+    let mut line = ArrayString::new();
+    match misplaced {
+        Misplaced::OnChain { polygon, tlid } => {
+            push_key(&mut line, "map fault G3 PointOnChain polygon ", *polygon);
+            push_number(&mut line, " tlid ", *tlid);
+        }
+        Misplaced::Outside { polygon } => {
+            push_key(&mut line, "map fault G4 PointOutside polygon ", *polygon);
+        }
+        Misplaced::InOther { polygon, other } => {
+            push_key(&mut line, "map fault G5 PointInOther polygon ", *polygon);
+            push_key(&mut line, " other ", *other);
+        }
+    }
+    line
+}
+
+// G6: the two darts, and their ids.
+fn cell_words(odds: &CellsAtOdds) -> ArrayString<LINE_ROOM>
+    ensures bytes { result.bytes ≡ map_fault_text (Cell odds.now) }
+    ensures room { array_string_len result ≤ 500 }
+{
+    let mut line = ArrayString::new();
+    push_number(&mut line, "map fault G6 Cell darts ", odds.first);
+    push_number(&mut line, " ", odds.second);
+    push_number(&mut line, " ids ", odds.first_id);
+    push_number(&mut line, " ", odds.second_id);
+    line
+}
