@@ -12,7 +12,8 @@
 # make bench               measures the program on record files of 1,000 to 1,000,000 chains, checks of counties, maps
 #                          decided and certificates built with none given, maps of long segments, what sweeps say of all
 #                          these, searches in trees, and certificates written and read, and counts instructions where
-#                          valgrind is there; with BESIDE=PROGRAM it counts and times that program's too
+#                          valgrind is there; with BESIDE=PROGRAM it counts and times that program's too; and lists
+#                          of every fault
 # make speed               prints the tables of docs/speed.md, which are the rows of 100,000 chains among these
 # make install PREFIX=..   installs the program as PREFIX/bin/tigertopo
 
@@ -62,12 +63,14 @@ bench: build
 	python3 bench/run.py
 	python3 bench/instructions.py $(if $(BESIDE),--beside $(BESIDE))
 	python3 bench/beside.py $(if $(BESIDE),--beside $(BESIDE))
+	python3 bench/faulty.py
 
 speed: build
 	python3 proving/prove.py bench
 	python3 bench/run.py --kinds county,comb,lines,star,squares,spiral --counties 100000 --decided 100000 --long 100000 --segments 2750000 --certificates 1000000
 	python3 bench/instructions.py $(if $(BESIDE),--beside $(BESIDE))
 	python3 bench/beside.py --counties 100000 $(if $(BESIDE),--beside $(BESIDE))
+	python3 bench/faulty.py
 
 install: build
 	install -d $(DESTDIR)$(PREFIX)/bin
