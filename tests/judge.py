@@ -7,11 +7,11 @@ usage: judge.py audit [--all [--most N]] [--zero-cells] [--released] FILES..
        judge.py show [--released] FILES..
        judge.py landmarks [--released] FILES..
 
-Written from docs/records.md, docs/sound.md, docs/faults.md and docs/certificate.md alone. It states each definition as
-it stands there, in whole numbers and fractions, with no regard to speed: it goes over all pairs of segments and all
-darts, and knows nothing of how the program searches. Where the program names one fault, the judge has the set of all
-that are true; so tests/judged.py can ask of each answer whether it is one that may be given. What `audit --all` lists is
-that set in its order, but for zero-cell ids at odds, of which it lists as few pairs as tell them all.
+Written from docs/records.md, docs/sound.md, docs/faults.md and docs/certificate.md alone. It states each definition
+as it stands there, in whole numbers and fractions, with no regard to speed: it goes over all pairs of segments and
+all darts, and knows nothing of how the program searches. Where the program names one fault, the judge has the set of
+all that are true; so tests/judged.py can ask of each answer whether it is one that may be given. What `audit --all`
+lists is that set in its order, but for zero-cell ids at odds, of which it lists as few pairs as tell them all.
 """
 
 import re
