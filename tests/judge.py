@@ -7,11 +7,11 @@ usage: judge.py audit [--all [--most N]] [--zero-cells] [--released] FILES..
        judge.py show [--released] FILES..
        judge.py landmarks [--released] FILES..
 
-Written from docs/records.md, docs/sound.md, docs/faults.md and docs/certificate.md alone. It states each definition as
-it stands there, in whole numbers and fractions, with no regard to speed: it goes over all pairs of segments and all
-darts, and knows nothing of how the program searches. Where the program names one fault, the judge has the set of all
-that are true; so tests/judged.py can ask of each answer whether it is one that may be given. What `audit --all` lists is that set in its
-order, but for zero-cell ids at odds, of which it lists as few pairs as tell them all.
+Written from docs/records.md, docs/sound.md, docs/faults.md and docs/certificate.md alone. It states each definition
+as it stands there, in whole numbers and fractions, with no regard to speed: it goes over all pairs of segments and
+all darts, and knows nothing of how the program searches. Where the program names one fault, the judge has the set of
+all that are true; so tests/judged.py can ask of each answer whether it is one that may be given. What `audit --all`
+lists is that set in its order, but for zero-cell ids at odds, of which it lists as few pairs as tell them all.
 """
 
 import re
@@ -722,8 +722,8 @@ def cell_faults(the_map):
 
 def listed_cell_faults(the_map):
     """Those of them that tell all ids at odds by as few pairs as will do, by the first dart and then by the second: of
-    each id the first dart that has it with the first at each other point where it starts, and of each point the first dart
-    there that has an id with the first there of each other id."""
+    each id the first dart that has it with the first at each other point where one starts, and of each point the first
+    dart there that has an id with the first there of each other id."""
     with_ids = [dart for dart in the_map.darts if the_map.cell(dart) is not None]
 
     def first(darts, sort):
@@ -947,8 +947,8 @@ class Opinion:
 @dataclass
 class Listing:
     """What `audit --all` prints of a county that has faults, or lines that are refused: all of them in their order, or
-    with `most` so many at most; whether polygons' points weren't looked at; and how many there are. Of two segments that
-    meet where they may not, the line may name any point that is true of them."""
+    with `most` so many at most; whether polygons' points weren't looked at; and how many there are. The line of two
+    segments that meet where they may not may name any point that is true of them."""
 
     faults: list
     counted: str
@@ -1042,8 +1042,8 @@ class County:
         return Opinion([f"{word} {self.report}"] if self.report else self.map_faults, self.map)
 
     def audit_all(self, most=None):
-        """All lines that are refused; or all faults of the records; or all of the map, where polygons' points are looked
-        at if sides agree."""
+        """All lines that are refused; or all faults of the records; or all of the map, where polygons' points are
+        looked at if sides agree."""
         if self.records.refusals:
             return Listing(self.records.refusals, "refused", most)
         if self.record_faults:

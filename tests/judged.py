@@ -3,10 +3,11 @@
 
 usage: judged.py [--seed SEED] [--cases N] [--only NUMBER] [--program PROGRAM]
 
-First the judge is judged: it has to agree with each row of tests/*.rows of which it can speak. Then each case is asked
-for by `audit` and by `audit --all`, whose whole list has to be the judge's, and by others: `build`, whose certificate has to be valid by the judge, `check` by that certificate, by
-one that tests/draw.py proposes and by both changed, with a budget of tests at times, `locate`, `show` and `landmarks`.
-No expected value comes from the program. A town that is drawn to be sound has to be so by the judge too.
+First the judge is judged: it has to agree with each row of tests/*.rows of which it can speak. Then each case is
+asked for by `audit`, and by `audit --all`, whose whole output has to be the judge's list. It is asked for by others
+too: `build`, whose certificate has to be valid by the judge, `check` by that certificate, by one that tests/draw.py
+proposes and by both changed, with a budget of tests at times, `locate`, `show` and `landmarks`. No expected value
+comes from the program. A town that is drawn to be sound has to be so by the judge too.
 
 The seed is printed, and with it each case can be drawn again. Of the first case that fails the lines are printed that
 are left when each line is taken away that isn't needed for it to fail, with the program's answer and the judge's.
