@@ -1,5 +1,5 @@
 -- What is told of a text, put together of what is told of its lines, its records and their map.
-use Rattle.std.proofs.Common.{◌≡◌, ◌≢◌, ℕ, inl, inr, List, [], ◌∷◌, map, Option, Some, None, Result, Ok, Err, refl, sym, ap, ◌∙◌}
+use Rattle.std.proofs.Common.{◌≡◌, ◌≢◌, ℕ, inl, inr, List, [], map, Option, Some, None, Result, Ok, Err, sym, ap, ◌∙◌}
 use Rattle.std.specs.Prelude.{IfOk, IfSome, slice_get}
 use Rattle.std.specs.Option.{option_map}
 use Rattle.tl_record.specs.declared.record.Record.{Record}
@@ -11,7 +11,6 @@ use Rattle.tl_record.specs.Reader.{KeepsRefusals}
 use Rattle.tl_record.specs.Refusals.{refusals_of}
 use Rattle.tl_record.specs.Searching.{pair_of}
 use Rattle.tl_record.proofs.RefusalLemmas.{first_refusal}
-use Rattle.tl_refusals.specs.Listing.{ListsAll}
 use Rattle.tl_drawn.specs.declared.fault.MapFault.{MapFault as RecordFault}
 use Rattle.tl_drawn.specs.Reading.{IsReadFrom}
 use Rattle.tl_county.specs.TheMap.{TheMap}
@@ -37,14 +36,16 @@ read_from all rs skipped m whole made = record {
 }
 
 -- what is told of the map is told of the records
-pub drawn : (all : Records) (rs : List Record) (skipped : ℕ) (m : TheMap) (listing : Listing) → AreWhole all skipped rs → IsMapOfRecords rs skipped m → IsListingOfMap m listing → IsListingOfRecords all listing
+pub drawn : (all : Records) (rs : List Record) (skipped : ℕ) (m : TheMap) (listing : Listing) → AreWhole all skipped rs
+    → IsMapOfRecords rs skipped m → IsListingOfMap m listing → IsListingOfRecords all listing
 drawn all rs skipped m (Sound report) whole made told = record { map = m; is_read = read_from all rs skipped m whole made; so = told }
 drawn all rs skipped m (Refused list) whole made told = absurd told
 drawn all rs skipped m (Faults faults points_left) whole made told =
     (told.0, whole.no_refusal, inr (record { map = m; is_read = read_from all rs skipped m whole made; so = told.1 }))
 
 -- faults of records are told
-pub told_of_records : (all : Records) (rs : List Record) (skipped : ℕ) (told : List RecordFault) (listing : Listing) → AreWhole all skipped rs → AreAllFaults rs told → told ≢ [] → AreTold told listing
+pub told_of_records : (all : Records) (rs : List Record) (skipped : ℕ) (told : List RecordFault) (listing : Listing) → AreWhole all skipped rs
+    → AreAllFaults rs told → told ≢ [] → AreTold told listing
     → IsListingOfRecords all listing
 told_of_records all rs skipped told (Sound report) whole are some is = absurd is
 told_of_records all rs skipped told (Refused list) whole are some is = absurd is
@@ -55,7 +56,8 @@ told_of_records all rs skipped told (Faults faults points_left) whole are some i
 )
 
 -- what is told of the records is told of their text
-pub of_text : (layout : Layout) (text : List ℕ) (listing : Listing) → IsListingOfRecords (records_of layout text) listing → IsListingOf layout text listing
+pub of_text : (layout : Layout) (text : List ℕ) (listing : Listing) → IsListingOfRecords (records_of layout text) listing
+    → IsListingOf layout text listing
 of_text layout text (Sound report) told = told
 of_text layout text (Refused list) told = absurd told
 of_text layout text (Faults faults points_left) told = told
@@ -63,22 +65,26 @@ of_text layout text (Faults faults points_left) told = told
 pub first_is : (layout : Layout) (text : List ℕ) → slice_get (refusals_of layout text) 0 ≡ (records_of layout text).refusal
 first_is layout text = first_refusal (judgements layout 0 (raw_lines text))
 
-none_refused : (layout : Layout) (text : List ℕ) (line : ℕ) (cause : Cause) → (records_of layout text).refusal ≡ Some (line, cause) → refusals_of layout text ≢ []
+none_refused : (layout : Layout) (text : List ℕ) (line : ℕ) (cause : Cause) → (records_of layout text).refusal ≡ Some (line, cause)
+    → refusals_of layout text ≢ []
 none_refused layout text line cause refused none =
     let unrefused : (records_of layout text).refusal ≡ None = sym (first_is layout text) ∙ ap (λ (rs : List (ℕ × Cause)). slice_get rs 0) none in
     absurd cc
 
 -- and so are lines that are refused
-pub refused_text : (layout : Layout) (text : List ℕ) (line : ℕ) (cause : Cause) (listing : Listing) → (records_of layout text).refusal ≡ Some (line, cause)
+pub refused_text : (layout : Layout) (text : List ℕ) (line : ℕ) (cause : Cause) (listing : Listing) → (records_of layout text).refusal ≡ Some
+    (line, cause)
     → ListsRefusals listing (refusals_of layout text) → IsListingOf layout text listing
 refused_text layout text line cause (Sound report) refused told = absurd told
-refused_text layout text line cause (Refused list) refused told = ((λ none. none_refused layout text line cause refused (sym told ∙ ap (map pair_of) none)), told)
+refused_text layout text line cause (Refused list) refused told =
+    ((λ none. none_refused layout text line cause refused (sym told ∙ ap (map pair_of) none)), told)
 refused_text layout text line cause (Faults faults points_left) refused told = absurd told
 
 -- ---- of bytes that may be known
 
 module _ (layout : Layout) (known : Option (List ℕ)) where
-  pub kept_told : (at_first : Option Records) (skipped : ℕ) (both : BothKept) (result : Result Listing ListingStop) → at_first ≡ option_map (records_of layout) known → KeepsAll at_first skipped both
+  pub kept_told : (at_first : Option Records) (skipped : ℕ) (both : BothKept) (result : Result Listing ListingStop) → at_first ≡ option_map
+      (records_of layout) known → KeepsAll at_first skipped both
       → ((all : Records) (rs : List Record) → AreWhole all skipped rs → Keeps rs both → IfOk result (IsListingOfRecords all))
       → IfOk result (λ listing. IfSome known (λ text. IsListingOf layout text listing))
   kept_told at_first skipped both (Err stop) is keeps told = tt
@@ -88,13 +94,16 @@ module _ (layout : Layout) (known : Option (List ℕ)) where
       go None e = tt
       go (Some text) e = of_text layout text listing (told (records_of layout text) keeps.records (let known = keeps.known in rw e at known) keeps.keeps)
 
-  pub refused_told : (at_first : Option Records) (refusals now : Option (List (ℕ × Cause))) (line : ℕ) (cause : Cause) (result : Result Listing ListingStop) → at_first ≡ option_map (records_of layout) known
-      → refusals ≡ option_map (refusals_of layout) known → IfSome at_first (λ all. all.refusal ≡ Some (line, cause)) → KeepsRefusals refusals now → IfOk result (λ listing. IfSome now (ListsRefusals listing))
+  pub refused_told : (at_first : Option Records) (refusals now : Option (List (ℕ × Cause))) (line : ℕ) (cause : Cause)
+      (result : Result Listing ListingStop) → at_first ≡ option_map (records_of layout) known
+      → refusals ≡ option_map (refusals_of layout) known → IfSome at_first (λ all. all.refusal ≡ Some (line, cause))
+      → KeepsRefusals refusals now → IfOk result (λ listing. IfSome now (ListsRefusals listing))
       → IfOk result (λ listing. IfSome known (λ text. IsListingOf layout text listing))
   refused_told at_first refusals now line cause (Err stop) is are refused keeps told = tt
   refused_told at_first refusals now line cause (Ok listing) is are refused keeps told = go known is are
     where
-      go : (bytes : Option (List ℕ)) → at_first ≡ option_map (records_of layout) bytes → refusals ≡ option_map (refusals_of layout) bytes → IfSome bytes (λ text. IsListingOf layout text listing)
+      go : (bytes : Option (List ℕ)) → at_first ≡ option_map (records_of layout) bytes → refusals ≡ option_map (refusals_of layout) bytes
+          → IfSome bytes (λ text. IsListingOf layout text listing)
       go None e f = tt
       go (Some text) e f =
           let kept : now ≡ Some (refusals_of layout text) = rw f at keeps in

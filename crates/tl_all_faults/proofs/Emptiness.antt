@@ -1,8 +1,8 @@
 -- A map that has a fault has one that is told, and where one is told it isn't sound.
-use Rattle.std.proofs.Common.{◌≡◌, ◌≢◌, ℕ, ◌<◌, inl, inr, Bool, true, false, List, [], ◌∷◌, ◌++◌, map, refl, sym, subst, ◌∙◌, arith}
-use Rattle.std.specs.List.{Any, All, Contains}
+use Rattle.std.proofs.Common.{◌≡◌, ◌≢◌, ℕ, ◌<◌, inl, inr, Bool, true, false, List, [], ◌∷◌, ◌++◌, map, refl, sym, subst}
+use Rattle.std.proofs.Common.{◌∙◌, arith}
+use Rattle.std.specs.List.{Any, Contains}
 use Rattle.tl_county.specs.TheMap.{TheMap, MapChain}
-use Rattle.tl_planar.specs.Planar.{IsPlanar}
 use Rattle.tl_sides.specs.declared.fault.Disagreement.{Disagreement}
 use Rattle.tl_inside.specs.declared.misplaced.Misplaced.{Misplaced}
 use Rattle.tl_cells.specs.Cells.{CellsAgree, AreCellsAtOdds}
@@ -32,7 +32,8 @@ joined_empty : {X : Type 0} (xs ys : List X) → xs ++ ys ≡ [] → (xs ≡ [])
 joined_empty [] ys e = (refl, e)
 joined_empty (x ∷ xs) ys e = absurd cc
 
-points_told : (m : TheMap) (sides : List Disagreement) (points_left : Bool) (points : List Misplaced) → ArePointsTold m sides points_left points → sides ≡ [] → AreAllMisplaced m points
+points_told : (m : TheMap) (sides : List Disagreement) (points_left : Bool) (points : List Misplaced) → ArePointsTold m sides points_left points
+    → sides ≡ [] → AreAllMisplaced m points
 points_told m sides false points told none = told.1
 points_told m sides true points told none = absurd (told.0 none)
 
@@ -69,10 +70,12 @@ odds_deny chains a b id_a id_b odds agree = elim odds.odd [
 no_fault : (m : TheMap) (f : MapFault) → HasNone m → ¬ IsTrueOfMap m f
 no_fault m (fault.Records told) none true_one = absurd true_one
 no_fault m (fault.Meet meet) none true_one = none_named _ (none.meets.complete meet.s meet.t meet.at true_one.ordered true_one.told.meet)
-no_fault m (fault.Side node first next) none true_one = none_named _ (none.sides.complete first next (record { is_next = true_one.is_next; differ = true_one.differ }))
+no_fault m (fault.Side node first next) none true_one =
+    none_named _ (none.sides.complete first next (record { is_next = true_one.is_next; differ = true_one.differ }))
 no_fault m (fault.PolygonPoint misplaced) none true_one = none_held misplaced (none.points.every misplaced true_one)
 no_fault m (fault.Cell odds) none true_one = odds_deny m.chains odds.first odds.second odds.first_id odds.second_id true_one (cells_agree m.chains none.cells)
 
 -- where a fault is true of the map, the list of all isn't empty
-pub one_is_told : (m : TheMap) (faults : List MapFault) (points_left : Bool) (f : MapFault) → AreMapFaults m faults points_left → IsTrueOfMap m f → faults ≢ []
+pub one_is_told : (m : TheMap) (faults : List MapFault) (points_left : Bool) (f : MapFault) → AreMapFaults m faults points_left → IsTrueOfMap m f
+    → faults ≢ []
 one_is_told m faults points_left f all true_one = λ none. no_fault m f (has_none m faults points_left all none) true_one

@@ -1,6 +1,6 @@
 -- What one more answer of a reader adds to the records that are kept.
-use Rattle.std.proofs.Common.{◌≡◌, ℕ, List, [], ◌∷◌, ◌++◌, Option, Some, None, refl, ◌∙◌}
-use Rattle.std.specs.Prelude.{Ok, Err, IfSome}
+use Rattle.std.proofs.Common.{◌≡◌, ℕ, List, [], ◌∷◌, ◌++◌, Option, Some, None, refl}
+use Rattle.std.specs.Prelude.{Ok, IfSome}
 use Rattle.tl_record.specs.declared.record.Record.{Record}
 use Rattle.tl_record.specs.declared.stop.Cause.{Cause}
 use Rattle.tl_record.specs.Records.{Records}
@@ -21,11 +21,13 @@ keeps_more at_first now new skipped line r a b gives adds before = record {
   known = so_far_more at_first now new skipped line r before.records gives before.known;
 }
 
-whole : (at_first : Option Records) (rs : List Record) (skipped : ℕ) → IfSome at_first (λ all. (records_in all ≡ rs) × (all.refusal ≡ None) × (all.skipped ≡ skipped)) → IfSome at_first (λ all. AreWhole all skipped rs)
+whole : (at_first : Option Records) (rs : List Record) (skipped : ℕ) → IfSome at_first
+    (λ all. (records_in all ≡ rs) × (all.refusal ≡ None) × (all.skipped ≡ skipped)) → IfSome at_first (λ all. AreWhole all skipped rs)
 whole None rs skipped known = tt
 whole (Some all) rs skipped known = record { records_are = known.0; no_refusal = known.1; skipped_lines = known.2 }
 
-pub keeps_all : (at_first now new : Option Records) (skipped : ℕ) (both : BothKept) → Gives now new skipped (Ok None) → KeepsSoFar at_first now both → KeepsAll at_first skipped both
+pub keeps_all : (at_first now new : Option Records) (skipped : ℕ) (both : BothKept) → Gives now new skipped (Ok None)
+    → KeepsSoFar at_first now both → KeepsAll at_first skipped both
 keeps_all at_first now new skipped both gives so_far = record {
   records = so_far.records;
   keeps = so_far.keeps;

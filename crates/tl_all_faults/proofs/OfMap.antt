@@ -1,5 +1,6 @@
 -- What is told of a map, put together of its parts.
-use Rattle.std.proofs.Common.{◌≡◌, ◌≢◌, ◌||◌, ℕ, ◌<◌, Bool, true, false, IsTrue, List, [], ◌∷◌, ◌++◌, map, Vec, Global, append-nil, refl, sym, ap, ◌∙◌, arith}
+use Rattle.std.proofs.Common.{◌≡◌, ◌≢◌, ◌||◌, Bool, true, false, IsTrue, List, [], ◌∷◌, ◌++◌, map}
+use Rattle.std.proofs.Common.{append-nil, refl, sym, ap, ◌∙◌, arith}
 use Rattle.std.proofs.lemmas.Option.{slice_get_within}
 use Rattle.tl_county.specs.TheMap.{TheMap, MapChain}
 use Rattle.tl_planar.specs.declared.meet.Meet.{Meet}
@@ -13,7 +14,6 @@ use Rattle.tl_meets.specs.Meets.{AreAllMeets}
 use Rattle.tl_misplaced.specs.AllMisplaced.{FaultPlace, IsTrueAt, AreAllMisplaced}
 use Rattle.tl_verdict.specs.declared.fault.MapFault.{MapFault}
 use Rattle.tl_verdict.specs.declared.fault.MapFault.TheVariants as fault
-use Rattle.tl_verdict.specs.Truth.{IsTrueOfMap}
 use Rattle.tl_all_faults.specs.MapFaults.{side_fault, ArePointsTold, AreMapFaults}
 use Rattle.tl_all_faults.specs.Keeping.OfMap.{IsFaulty, Differ, AddsAgreement, AreLookedAt, AddsPoints}
 use Rattle.tl_all_faults.proofs.Emptiness.{one_is_told}
@@ -31,12 +31,25 @@ none_misplaced : (m : TheMap) (misplaced : Misplaced) → ArePlaced m → ¬ IsT
 none_misplaced m (OnChain key tlid) placed t = (placed t.p (record { key = key; point = t.point }) t.of).off t.c t.held
 none_misplaced m (Outside key) placed t = t.outside (placed t.p (record { key = key; point = t.point }) t.of).inside
 none_misplaced m (InOther key other) placed t =
-    t.within ((placed t.p (record { key = key; point = t.point }) t.of).clear t.q (slice_get_within m.polygons t.q (record { key = other; point = t.other_point }) t.other_of) t.two)
+    t.within ((placed t.p (record {
+      key =
+          key;
+      point = t.point;
+    }) t.of).clear t.q (slice_get_within m.polygons t.q (record { key = other; point = t.other_point }) t.other_of) t.two)
 
 true_at : (m : TheMap) (at : FaultPlace) (misplaced : Misplaced) → IsTrueAt m at misplaced → IsTrueMisplaced m misplaced
 true_at m at (OnChain key tlid) t = record { p = at.polygon; point = t.point; of = t.of; c = at.other; held = t.held; tlid_is = t.tlid_is }
 true_at m at (Outside key) t = record { p = at.polygon; point = t.point; of = t.of; outside = t.outside }
-true_at m at (InOther key other) t = record { p = at.polygon; point = t.point; of = t.of; q = at.other; other_point = t.other_point; other_of = t.other_of; two = t.two; within = t.within }
+true_at m at (InOther key other) t = record {
+  p = at.polygon;
+  point = t.point;
+  of = t.of;
+  q = at.other;
+  other_point = t.other_point;
+  other_of = t.other_of;
+  two = t.two;
+  within = t.within;
+}
 
 pub no_points : (m : TheMap) → ArePlaced m → AreAllMisplaced m []
 no_points m placed = record {
@@ -49,16 +62,19 @@ no_points m placed = record {
 }
 
 -- nothing is appended where points are left, or placed
-pub adds_none : (m : TheMap) (left placed : Bool) (faults : List MapFault) → (left || placed) ≡ true → (IsTrue placed → ArePlaced m) → AddsPoints m left faults faults
+pub adds_none : (m : TheMap) (left placed : Bool) (faults : List MapFault) → (left || placed) ≡ true → (IsTrue placed → ArePlaced m)
+    → AddsPoints m left faults faults
 adds_none m true placed faults either known = record { points = []; all_points = refl; are = sym (append-nil faults) }
 adds_none m false placed faults either known = record { points = []; all_points = no_points m (known either); are = sym (append-nil faults) }
 
-points_told : (m : TheMap) (left : Bool) (sides : List Disagreement) (points : List Misplaced) → Differ left sides → AreLookedAt m left points → ArePointsTold m sides left points
+points_told : (m : TheMap) (left : Bool) (sides : List Disagreement) (points : List Misplaced) → Differ left sides → AreLookedAt m left points
+    → ArePointsTold m sides left points
 points_told m true sides points differ looked = (differ, looked)
 points_told m false sides points agree looked = (agree, looked)
 
 -- meets, what tells of sides and cells, and points are all faults
-pub all_told : (m : TheMap) (meets : List Meet) (left : Bool) (old more faults : List MapFault) → AreAllMeets m.chains meets → old ≡ map fault.Meet meets → AddsAgreement m left old more → AddsPoints m left more faults
+pub all_told : (m : TheMap) (meets : List Meet) (left : Bool) (old more faults : List MapFault) → AreAllMeets m.chains meets
+    → old ≡ map fault.Meet meets → AddsAgreement m left old more → AddsPoints m left more faults
     → AreMapFaults m faults left
 all_told m meets left old more faults all is agreement points = record {
   meets = meets;

@@ -55,7 +55,8 @@ module _ {X : Type 0} (first second : X → ℕ) where
   joined : (x y z : X) → AreOne x y → AreOne z y → AreOne x z
   joined x y z one other = record { first_is = one.first_is ∙ sym other.first_is; second_is = one.second_is ∙ sym other.second_is }
 
-  same_first : (x y : X) (xs ys : List X) → AllPairs Before (x ∷ xs) → AllPairs Before (y ∷ ys) → Any (AreOne x) (y ∷ ys) → Any (AreOne y) (x ∷ xs) → AreOne x y
+  same_first : (x y : X) (xs ys : List X) → AllPairs Before (x ∷ xs) → AllPairs Before (y ∷ ys) → Any (AreOne x) (y ∷ ys) → Any
+      (AreOne y) (x ∷ xs) → AreOne x y
   same_first x y xs ys up_x up_y there back = elim (first_or x y ys there) [
     | inl one ↦ one
     | inr later ↦ elim (first_or y x xs back) [
@@ -74,14 +75,17 @@ module _ {X : Type 0} (first second : X → ℕ) where
   held_rest : (x z : X) (xs : List X) → Contains xs z → Contains (x ∷ xs) z
   held_rest x z xs held = (suc held.0, omega (arith, held.1), held.2)
 
-  pub one_order : (xs ys : List X) → AllPairs Before xs → AllPairs Before ys → ((x : X) → Contains xs x → Any (AreOne x) ys) → ((y : X) → Contains ys y → Any (AreOne y) xs) → AreInOne xs ys
+  pub one_order : (xs ys : List X) → AllPairs Before xs → AllPairs Before ys → ((x : X) → Contains xs x → Any (AreOne x) ys) →
+      ((y : X) → Contains ys y → Any (AreOne y) xs) → AreInOne xs ys
   one_order [] [] up_x up_y there back = tt
-  one_order [] (y ∷ ys) up_x up_y there back = absurd (let named = back y (0, omega arith, refl) in let within : named.0 < 0 = named.2 in omega (arith, within))
-  one_order (x ∷ xs) [] up_x up_y there back = absurd (let named = there x (0, omega arith, refl) in let within : named.0 < 0 = named.2 in omega (arith, within))
+  one_order [] (y ∷ ys) up_x up_y there back =
+      absurd (let named = back y (0, omega arith, refl) in let within : named.0 < 0 = named.2 in omega (arith, within))
+  one_order (x ∷ xs) [] up_x up_y there back =
+      absurd (let named = there x (0, omega arith, refl) in let within : named.0 < 0 = named.2 in omega (arith, within))
   one_order (x ∷ xs) (y ∷ ys) up_x up_y there back =
       let one : AreOne x y = same_first x y xs ys up_x up_y (there x (0, omega arith, refl)) (back y (0, omega arith, refl)) in
       let rest : AreInOne xs ys = one_order xs ys (rest_up x xs up_x) (rest_up y ys up_y)
-          (λ z held. in_rest x y z xs ys up_x one held (there z (held_rest x z xs held)))
-          (λ z held. in_rest y x z ys xs up_y (turned x y one) held (back z (held_rest y z ys held)))
+      (λ z held. in_rest x y z xs ys up_x one held (there z (held_rest x z xs held)))
+      (λ z held. in_rest y x z ys xs up_y (turned x y one) held (back z (held_rest y z ys held)))
       in
       (one, rest)

@@ -1,17 +1,16 @@
 -- A text has one listing, but for the points at which segments meet.
-use Rattle.std.proofs.Common.{◌≡◌, ◌≢◌, ◌↔◌, ◌⊎◌, inl, inr, ℕ, suc, Bool, true, false, List, [], ◌∷◌, ◌++◌, map, refl, sym, ap, subst, ◌∙◌, arith}
+use Rattle.std.proofs.Common.{◌≡◌, ◌≢◌, inl, inr, ℕ, suc, Bool, true, false, List, [], ◌∷◌, ◌++◌, map}
+use Rattle.std.proofs.Common.{refl, sym, ap, subst, ◌∙◌, arith}
 use Rattle.std.specs.List.{All, Any, Contains}
 use Rattle.std.proofs.lemmas.List.Elements.{All-contains}
-use Rattle.tl_record.specs.declared.record.Record.{Record}
 use Rattle.tl_record.specs.declared.layout.Layout.{Layout}
 use Rattle.tl_record.specs.declared.stop.Cause.{Cause}
 use Rattle.tl_record.specs.declared.refusal.Refusal.{Refusal}
 use Rattle.tl_record.specs.Records.{Records, records_of}
 use Rattle.tl_record.specs.Searching.{pair_of}
-use Rattle.tl_drawn.specs.declared.fault.MapFault.{MapFault as RecordFault}
 use Rattle.tl_drawn.specs.Reading.{records_in}
 use Rattle.tl_record_faults.proofs.OneListLemmas.{one_list}
-use Rattle.tl_county.specs.TheMap.{TheMap, MapChain}
+use Rattle.tl_county.specs.TheMap.{TheMap}
 use Rattle.tl_planar.specs.declared.meet.Meet.{Meet}
 use Rattle.tl_planar.specs.Searching.{IsTrueMeet}
 use Rattle.tl_sides.specs.declared.fault.Disagreement.{Disagreement}
@@ -25,15 +24,18 @@ use Rattle.tl_disagreements.proofs.Agreeing.{at_odds}
 use Rattle.tl_misplaced.specs.AllMisplaced.{AreAllMisplaced}
 use Rattle.tl_verdict.specs.declared.fault.MapFault.{MapFault}
 use Rattle.tl_verdict.specs.declared.fault.MapFault.TheVariants as fault
+use Rattle.tl_verdict.specs.declared.verdict.Report.{Report}
+use Rattle.tl_verdict.specs.Sound.{IsSound}
+use Rattle.tl_verdict.specs.Verdicts.{IsReport}
 use Rattle.tl_verdict.specs.Records.{HaveMap}
 use Rattle.tl_verdict.proofs.OneMap.{both}
 use Rattle.tl_listing.specs.declared.listing.Listing.{Listing}
 use Rattle.tl_listing.specs.declared.listing.Listing.TheVariants.{Sound, Refused, Faults}
 use Rattle.tl_all_faults.specs.MapFaults.{side_fault, ArePointsTold, AreMapFaults}
 use Rattle.tl_all_faults.specs.Listings.{AreFaults, IsListingOf}
-use Rattle.tl_all_faults.specs.Alike.{IsSameFault, AreSameFaults, AreAlike}
+use Rattle.tl_all_faults.specs.Alike.{IsSameFault, AreSameFaults, HaveSameNumbers, AreAlike}
 use Rattle.tl_all_faults.proofs.OneOrder.{AreOne, AreInOne, one_order}
-use Rattle.tl_all_faults.proofs.Listed.{held_so, none_is_refused, sound_alone, no_map}
+use Rattle.tl_all_faults.proofs.Listed.{none_is_refused, sound_alone, no_map}
 use Rattle.tl_all_faults.proofs.Emptiness.{map_empty}
 
 -- ---- lists of the same faults
@@ -59,7 +61,8 @@ joined (f ∷ a) [] c d one other = absurd one
 joined (f ∷ a) (g ∷ b) c d one other = (one.0, joined a b c d one.1 other)
 
 -- what is told of things with the same pairs of numbers
-told_same : {X : Type 0} (first second : X → ℕ) (f : X → MapFault) (P : X → Type 0) → ((x y : X) → P x → P y → AreOne first second x y → IsSameFault (f x) (f y)) → (xs ys : List X) → All P xs → All P ys
+told_same : {X : Type 0} (first second : X → ℕ) (f : X → MapFault) (P : X → Type 0) →
+    ((x y : X) → P x → P y → AreOne first second x y → IsSameFault (f x) (f y)) → (xs ys : List X) → All P xs → All P ys
     → AreInOne first second xs ys → AreSameFaults (map f xs) (map f ys)
 told_same first second f P leads [] [] each other one = tt
 told_same first second f P leads [] (y ∷ ys) each other one = absurd one
@@ -69,14 +72,16 @@ told_same first second f P leads (x ∷ xs) (y ∷ ys) each other one = (
   told_same first second f P leads xs ys (λ k d lt. each (suc k) d (omega (arith, lt))) (λ k d lt. other (suc k) d (omega (arith, lt))) one.1,
 )
 
-turned_any : {X : Type 0} (first second : X → ℕ) (x : X) (ys : List X) → Any (λ y. (first y ≡ first x) × (second y ≡ second x)) ys → Any (AreOne first second x) ys
+turned_any : {X : Type 0} (first second : X → ℕ) (x : X) (ys : List X) → Any (λ y. (first y ≡ first x) × (second y ≡ second x)) ys → Any
+    (AreOne first second x) ys
 turned_any first second x ys named = (named.0, named.1, named.2, named.3, record { first_is = sym named.4.0; second_is = sym named.4.1 })
 
 module _ (m : TheMap) where
   meets_in_one : (a b : List Meet) → AreAllMeets m.chains a → AreAllMeets m.chains b → AreInOne (λ x. x.s) (λ x. x.t) a b
   meets_in_one a b all others = one_order (λ x. x.s) (λ x. x.t) a b all.rising others.rising (named a b all others) (named b a others all)
     where
-      named : (a b : List Meet) → AreAllMeets m.chains a → AreAllMeets m.chains b → (x : Meet) → Contains a x → Any (AreOne (λ y. y.s) (λ y. y.t) x) b
+      named : (a b : List Meet) → AreAllMeets m.chains a → AreAllMeets m.chains b → (x : Meet) → Contains a x → Any
+          (AreOne (λ y. y.s) (λ y. y.t) x) b
       named a b all others x held =
           let true_one : IsTrueMeet m.chains x = All-contains (IsTrueMeet m.chains) a x all.true_ones held in
           turned_any (λ y. y.s) (λ y. y.t) x b (others.complete x.s x.t x.at true_one.ordered true_one.told.meet)
@@ -84,25 +89,38 @@ module _ (m : TheMap) where
   sides_in_one : (a b : List Disagreement) → AreAllDisagreements m.chains a → AreAllDisagreements m.chains b → AreInOne (λ x. x.first) (λ x. x.next) a b
   sides_in_one a b all others = one_order (λ x. x.first) (λ x. x.next) a b all.rising others.rising (named a b all others) (named b a others all)
     where
-      named : (a b : List Disagreement) → AreAllDisagreements m.chains a → AreAllDisagreements m.chains b → (x : Disagreement) → Contains a x → Any (AreOne (λ y. y.first) (λ y. y.next) x) b
-      named a b all others x held = turned_any (λ y. y.first) (λ y. y.next) x b (others.complete x.first x.next (All-contains (λ (d : Disagreement). HaveSidesAtOdds m.chains d.first d.next) a x all.true_ones held))
+      named : (a b : List Disagreement) → AreAllDisagreements m.chains a → AreAllDisagreements m.chains b → (x : Disagreement) → Contains a x
+          → Any (AreOne (λ y. y.first) (λ y. y.next) x) b
+      named a b all others x held =
+          turned_any (λ y. y.first) (λ y. y.next) x b
+          (others.complete x.first x.next (All-contains (λ (d : Disagreement). HaveSidesAtOdds m.chains d.first d.next) a x all.true_ones held))
 
   cells_in_one : (a b : List CellsAtOdds) → AreAllCellsAtOdds m.chains a → AreAllCellsAtOdds m.chains b → AreInOne (λ x. x.first) (λ x. x.second) a b
   cells_in_one a b all others = one_order (λ x. x.first) (λ x. x.second) a b all.rising others.rising (named a b all others) (named b a others all)
     where
-      named : (a b : List CellsAtOdds) → AreAllCellsAtOdds m.chains a → AreAllCellsAtOdds m.chains b → (x : CellsAtOdds) → Contains a x → Any (AreOne (λ y. y.first) (λ y. y.second) x) b
-      named a b all others x held = turned_any (λ y. y.first) (λ y. y.second) x b (others.complete x.first x.second x.first_id x.second_id (All-contains (λ (o : CellsAtOdds). AreToldAtOdds m.chains o.first o.second o.first_id o.second_id) a x all.true_ones held))
+      named : (a b : List CellsAtOdds) → AreAllCellsAtOdds m.chains a → AreAllCellsAtOdds m.chains b → (x : CellsAtOdds) → Contains a x
+          → Any (AreOne (λ y. y.first) (λ y. y.second) x) b
+      named a b all others x held =
+          turned_any (λ y. y.first) (λ y. y.second) x b
+          (others.complete x.first x.second x.first_id x.second_id
+          (All-contains (λ (o : CellsAtOdds). AreToldAtOdds m.chains o.first o.second o.first_id o.second_id) a x all.true_ones held))
 
   same_meets : (a b : List Meet) → AreAllMeets m.chains a → AreAllMeets m.chains b → AreSameFaults (map fault.Meet a) (map fault.Meet b)
-  same_meets a b all others = told_same (λ x. x.s) (λ x. x.t) fault.Meet (IsTrueMeet m.chains) (λ x y p q one. (sym one.first_is, sym one.second_is)) a b all.true_ones others.true_ones (meets_in_one a b all others)
+  same_meets a b all others =
+      told_same (λ x. x.s) (λ x. x.t) fault.Meet (IsTrueMeet m.chains)
+      (λ x y p q one. (sym one.first_is, sym one.second_is)) a b all.true_ones others.true_ones (meets_in_one a b all others)
 
   one_side : (x y : Disagreement) → AreOne (λ z. z.first) (λ z. z.next) x y → IsSameFault (side_fault m.chains x) (side_fault m.chains y)
   one_side x y one = rw (one.first_is, one.second_is) refl
 
-  same_sides : (a b : List Disagreement) → AreAllDisagreements m.chains a → AreAllDisagreements m.chains b → AreSameFaults (map (side_fault m.chains) a) (map (side_fault m.chains) b)
-  same_sides a b all others = told_same (λ x. x.first) (λ x. x.next) (side_fault m.chains) (λ (d : Disagreement). HaveSidesAtOdds m.chains d.first d.next) (λ x y p q one. one_side x y one) a b all.true_ones others.true_ones (sides_in_one a b all others)
+  same_sides : (a b : List Disagreement) → AreAllDisagreements m.chains a → AreAllDisagreements m.chains b → AreSameFaults
+      (map (side_fault m.chains) a) (map (side_fault m.chains) b)
+  same_sides a b all others =
+      told_same (λ x. x.first) (λ x. x.next) (side_fault m.chains) (λ (d : Disagreement). HaveSidesAtOdds m.chains d.first d.next)
+      (λ x y p q one. one_side x y one) a b all.true_ones others.true_ones (sides_in_one a b all others)
 
-  one_cell : (x y : CellsAtOdds) → AreToldAtOdds m.chains x.first x.second x.first_id x.second_id → AreToldAtOdds m.chains y.first y.second y.first_id y.second_id
+  one_cell : (x y : CellsAtOdds) → AreToldAtOdds m.chains x.first x.second x.first_id x.second_id
+      → AreToldAtOdds m.chains y.first y.second y.first_id y.second_id
       → AreOne (λ z. z.first) (λ z. z.second) x y → IsSameFault (fault.Cell x) (fault.Cell y)
   one_cell x y told other one =
       let p = at_odds m.chains x.first x.second x.first_id x.second_id told in
@@ -111,12 +129,17 @@ module _ (m : TheMap) where
       let b : x.second_id ≡ y.second_id = one_id m.chains x.second x.second_id y.second_id p.b_has (rw one.second_is q.b_has) in
       λ i. fault.Cell (record { first = one.first_is i; second = one.second_is i; first_id = a i; second_id = b i })
 
-  same_cells : (a b : List CellsAtOdds) → AreAllCellsAtOdds m.chains a → AreAllCellsAtOdds m.chains b → AreSameFaults (map fault.Cell a) (map fault.Cell b)
-  same_cells a b all others = told_same (λ x. x.first) (λ x. x.second) fault.Cell (λ (o : CellsAtOdds). AreToldAtOdds m.chains o.first o.second o.first_id o.second_id) one_cell a b all.true_ones others.true_ones (cells_in_one a b all others)
+  same_cells : (a b : List CellsAtOdds) → AreAllCellsAtOdds m.chains a → AreAllCellsAtOdds m.chains b → AreSameFaults (map fault.Cell a)
+      (map fault.Cell b)
+  same_cells a b all others =
+      told_same (λ x. x.first) (λ x. x.second) fault.Cell
+      (λ (o : CellsAtOdds). AreToldAtOdds m.chains o.first o.second o.first_id o.second_id) one_cell a b all.true_ones others.true_ones
+      (cells_in_one a b all others)
 
   -- points are left in both or in neither, and there one list tells them
   module _ (one_points : (a b : List Misplaced) → AreAllMisplaced m a → AreAllMisplaced m b → a ≡ b) where
-    same_points : (s t : List Disagreement) (l r : Bool) (a b : List Misplaced) → AreInOne (λ x. x.first) (λ x. x.next) s t → ArePointsTold m s l a → ArePointsTold m t r b → (a ≡ b) × (l ≡ r)
+    same_points : (s t : List Disagreement) (l r : Bool) (a b : List Misplaced) → AreInOne (λ x. x.first) (λ x. x.next) s t
+        → ArePointsTold m s l a → ArePointsTold m t r b → (a ≡ b) × (l ≡ r)
     same_points s t true true a b one told other = (told.1 ∙ sym other.1, refl)
     same_points s t false false a b one told other = (one_points a b told.1 other.1, refl)
     same_points [] [] true false a b one told other = absurd (told.0 refl)
@@ -130,13 +153,15 @@ module _ (m : TheMap) where
     same_of_map f g l r a b =
         let points = same_points a.sides b.sides l r a.points b.points (sides_in_one a.sides b.sides a.all_sides b.all_sides) a.all_points b.all_points in
         let told : AreSameFaults
-            (map fault.Meet a.meets ++ map (side_fault m.chains) a.sides ++ map fault.Cell a.cells ++ map fault.PolygonPoint a.points)
-            (map fault.Meet b.meets ++ map (side_fault m.chains) b.sides ++ map fault.Cell b.cells ++ map fault.PolygonPoint b.points) =
-            joined (map fault.Meet a.meets ++ map (side_fault m.chains) a.sides ++ map fault.Cell a.cells) (map fault.Meet b.meets ++ map (side_fault m.chains) b.sides ++ map fault.Cell b.cells) _ _
-            (joined (map fault.Meet a.meets ++ map (side_fault m.chains) a.sides) (map fault.Meet b.meets ++ map (side_fault m.chains) b.sides) _ _
-            (joined (map fault.Meet a.meets) (map fault.Meet b.meets) _ _ (same_meets a.meets b.meets a.all_meets b.all_meets) (same_sides a.sides b.sides a.all_sides b.all_sides))
-            (same_cells a.cells b.cells a.all_cells b.all_cells))
-            (one_list_same _ _ (ap (map fault.PolygonPoint) points.0))
+        (map fault.Meet a.meets ++ map (side_fault m.chains) a.sides ++ map fault.Cell a.cells ++ map fault.PolygonPoint a.points)
+        (map fault.Meet b.meets ++ map (side_fault m.chains) b.sides ++ map fault.Cell b.cells ++ map fault.PolygonPoint b.points) =
+        joined (map fault.Meet a.meets ++ map (side_fault m.chains) a.sides ++ map fault.Cell a.cells)
+        (map fault.Meet b.meets ++ map (side_fault m.chains) b.sides ++ map fault.Cell b.cells) _ _
+        (joined (map fault.Meet a.meets ++ map (side_fault m.chains) a.sides) (map fault.Meet b.meets ++ map (side_fault m.chains) b.sides) _ _
+        (joined (map fault.Meet a.meets) (map fault.Meet b.meets) _ _ (same_meets a.meets b.meets a.all_meets b.all_meets)
+        (same_sides a.sides b.sides a.all_sides b.all_sides))
+        (same_cells a.cells b.cells a.all_cells b.all_cells))
+        (one_list_same _ _ (ap (map fault.PolygonPoint) points.0))
         in
         (rw (a.are, b.are) told, points.1)
 
@@ -146,7 +171,8 @@ module _ (m : TheMap) where
 abbrev pub OnePoints : Type 0
 OnePoints = (m : TheMap) (a b : List Misplaced) → AreAllMisplaced m a → AreAllMisplaced m b → a ≡ b
 
-same_faults : OnePoints → (all : Records) (f g : List MapFault) (l r : Bool) → f ≢ [] → g ≢ [] → AreFaults all f l → AreFaults all g r → AreSameFaults f g × (l ≡ r)
+same_faults : OnePoints → (all : Records) (f g : List MapFault) (l r : Bool) → f ≢ [] → g ≢ [] → AreFaults all f l → AreFaults all g r
+    → AreSameFaults f g × (l ≡ r)
 same_faults one_points all f g l r some_f some_g (inl a) (inl b) = (
   one_list_same f g (a.0.are ∙ ap (map fault.Records) (one_list (records_in all) a.0.told b.0.told a.0.are_all b.0.are_all) ∙ sym b.0.are),
   a.1 ∙ sym b.1,
@@ -168,13 +194,33 @@ same_refusals (x ∷ a) (y ∷ b) same =
     let rest : a ≡ b = same_refusals a b cc in
     λ i. record { line = line i; cause = cause i } ∷ rest i
 
+same_numbers : (all : Records) (a b : Report) → HaveMap all (λ m. IsSound m × IsReport m a) → HaveMap all (λ m. IsSound m × IsReport m b)
+    → HaveSameNumbers a b
+same_numbers all a b one other =
+    let same = both all (λ m. IsSound m × IsReport m a) (λ m. IsSound m × IsReport m b) one other in
+    let p : IsReport same.map a = same.so.0.1 in
+    let q : IsReport same.map b = same.so.1.1 in
+    record {
+      chains = p.chains ∙ sym q.chains;
+      segments = p.segments ∙ sym q.segments;
+      polygons = p.polygons ∙ sym q.polygons;
+      landmarks = p.landmarks ∙ sym q.landmarks;
+    }
+
 pub alike : OnePoints → (layout : Layout) (text : List ℕ) (a b : Listing) → IsListingOf layout text a → IsListingOf layout text b → AreAlike a b
-alike one_points layout text (Sound report) (Sound other) is too = tt
-alike one_points layout text (Sound report) (Refused others) is too = (sound_alone layout text (Refused others) too).1 ((sound_alone layout text (Sound report) is).0 tt)
-alike one_points layout text (Sound report) (Faults others left) is too = (sound_alone layout text (Faults others left) too).1 ((sound_alone layout text (Sound report) is).0 tt)
-alike one_points layout text (Refused list) (Sound other) is too = (sound_alone layout text (Refused list) is).1 ((sound_alone layout text (Sound other) too).0 tt)
+alike one_points layout text (Sound report) (Sound other) is too = same_numbers (records_of layout text) report other is too
+alike one_points layout text (Sound report) (Refused others) is too =
+    (sound_alone layout text (Refused others) too).1 ((sound_alone layout text (Sound report) is).0 tt)
+alike one_points layout text (Sound report) (Faults others left) is too =
+    (sound_alone layout text (Faults others left) too).1 ((sound_alone layout text (Sound report) is).0 tt)
+alike one_points layout text (Refused list) (Sound other) is too =
+    (sound_alone layout text (Refused list) is).1 ((sound_alone layout text (Sound other) too).0 tt)
 alike one_points layout text (Refused list) (Refused others) is too = same_refusals list.items others.items (is.1 ∙ sym too.1)
-alike one_points layout text (Refused list) (Faults others left) is too = absurd (is.0 (map_empty pair_of list.items (none_is_refused layout text _ is.1 too.1)))
-alike one_points layout text (Faults faults left) (Sound other) is too = (sound_alone layout text (Faults faults left) is).1 ((sound_alone layout text (Sound other) too).0 tt)
-alike one_points layout text (Faults faults left) (Refused others) is too = absurd (too.0 (map_empty pair_of others.items (none_is_refused layout text _ too.1 is.1)))
-alike one_points layout text (Faults faults left) (Faults others right) is too = same_faults one_points (records_of layout text) faults.items others.items left right is.0 too.0 is.2 too.2
+alike one_points layout text (Refused list) (Faults others left) is too =
+    absurd (is.0 (map_empty pair_of list.items (none_is_refused layout text _ is.1 too.1)))
+alike one_points layout text (Faults faults left) (Sound other) is too =
+    (sound_alone layout text (Faults faults left) is).1 ((sound_alone layout text (Sound other) too).0 tt)
+alike one_points layout text (Faults faults left) (Refused others) is too =
+    absurd (too.0 (map_empty pair_of others.items (none_is_refused layout text _ too.1 is.1)))
+alike one_points layout text (Faults faults left) (Faults others right) is too =
+    same_faults one_points (records_of layout text) faults.items others.items left right is.0 too.0 is.2 too.2

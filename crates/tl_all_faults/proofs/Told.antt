@@ -1,9 +1,9 @@
 -- Each fault that is true of a map is told by the list of all.
-use Rattle.std.proofs.Common.{◌≡◌, ◌≢◌, ℕ, inl, inr, Bool, true, false, Some, List, [], ◌∷◌, ◌++◌, map, refl, sym, ap, subst, ◌∙◌}
-use Rattle.std.specs.List.{Any, Contains}
+use Rattle.std.proofs.Common.{◌≡◌, ◌≢◌, ℕ, inl, inr, Bool, true, false, Some, List, [], ◌++◌, map, refl, subst}
+use Rattle.std.specs.List.{Contains}
 use Rattle.std.proofs.lemmas.List.Elements.{Contains-append_left, Contains-append_right}
 use Rattle.tl_geom.specs.declared.point.Point.{Point}
-use Rattle.tl_county.specs.TheMap.{TheMap, MapChain}
+use Rattle.tl_county.specs.TheMap.{TheMap}
 use Rattle.tl_county.specs.Darts.{dart_start}
 use Rattle.tl_sides.specs.declared.fault.Disagreement.{Disagreement}
 use Rattle.tl_inside.specs.declared.misplaced.Misplaced.{Misplaced}
@@ -13,7 +13,7 @@ use Rattle.tl_disagreements.proofs.Emptiness.{cells_agree}
 use Rattle.tl_verdict.specs.declared.fault.MapFault.{MapFault}
 use Rattle.tl_verdict.specs.declared.fault.MapFault.TheVariants as fault
 use Rattle.tl_verdict.specs.Truth.{IsTrueOfMap}
-use Rattle.tl_all_faults.specs.MapFaults.{start_of, side_fault, ArePointsTold, AreMapFaults}
+use Rattle.tl_all_faults.specs.MapFaults.{side_fault, ArePointsTold, AreMapFaults}
 use Rattle.tl_all_faults.specs.Telling.{IsMeetOf, IsOfSides, IsOfCells, IsTold}
 use Rattle.tl_all_faults.proofs.Emptiness.{odds_deny}
 use Rattle.tl_all_faults.proofs.Lists.{held_map, named_by, some_first}
@@ -27,22 +27,26 @@ module _ (m : TheMap) (faults : List MapFault) (points_left : Bool) (all : AreMa
   among_sides f held = rw all.are (Contains-append_left _ _ f (Contains-append_left _ _ f (Contains-append_right (map fault.Meet all.meets) _ f held)))
 
   among_cells : (f : MapFault) → Contains (map fault.Cell all.cells) f → Contains faults f
-  among_cells f held = rw all.are (Contains-append_left _ _ f (Contains-append_right (map fault.Meet all.meets ++ map (side_fault m.chains) all.sides) _ f held))
+  among_cells f held =
+      rw all.are (Contains-append_left _ _ f (Contains-append_right (map fault.Meet all.meets ++ map (side_fault m.chains) all.sides) _ f held))
 
   among_points : (f : MapFault) → Contains (map fault.PolygonPoint all.points) f → Contains faults f
   among_points f held =
       rw all.are (Contains-append_right (map fault.Meet all.meets ++ map (side_fault m.chains) all.sides ++ map fault.Cell all.cells) _ f held)
 
   -- a disagreement of two darts is told with the node of the first
-  side_told : (node : Point) (first next : ℕ) (d : Disagreement) → dart_start m.chains first ≡ Some node → d.first ≡ first → d.next ≡ next → side_fault m.chains d ≡ fault.Side node first next
+  side_told : (node : Point) (first next : ℕ) (d : Disagreement) → dart_start m.chains first ≡ Some node → d.first ≡ first
+      → d.next ≡ next → side_fault m.chains d ≡ fault.Side node first next
   side_told node first next d at one other = rw (one, other, start_is m.chains first node at) refl
 
   some_cell : (cells : List CellsAtOdds) → AreAllCellsAtOdds m.chains cells → (odds : CellsAtOdds) → IsTrueOfMap m (fault.Cell odds) → cells ≢ []
-  some_cell cells told odds true_one = λ none. odds_deny m.chains odds.first odds.second odds.first_id odds.second_id true_one (cells_agree m.chains (rw none at told))
+  some_cell cells told odds true_one =
+      λ none. odds_deny m.chains odds.first odds.second odds.first_id odds.second_id true_one (cells_agree m.chains (rw none at told))
 
   point_told : (left : Bool) → ArePointsTold m all.sides left all.points → (misplaced : Misplaced) → IsTrueOfMap m (fault.PolygonPoint misplaced)
       → IsTold faults left (fault.PolygonPoint misplaced)
-  point_told false told misplaced true_one = inl (among_points (fault.PolygonPoint misplaced) (held_map fault.PolygonPoint all.points misplaced (told.1.every misplaced true_one)))
+  point_told false told misplaced true_one =
+      inl (among_points (fault.PolygonPoint misplaced) (held_map fault.PolygonPoint all.points misplaced (told.1.every misplaced true_one)))
   point_told true told misplaced true_one =
       let some = some_first all.sides told.0 in
       inr (refl, named_by IsOfSides faults (side_fault m.chains some.0) (among_sides _ (held_map (side_fault m.chains) all.sides some.0 some.1)) tt)
@@ -54,7 +58,8 @@ module _ (m : TheMap) (faults : List MapFault) (points_left : Bool) (all : AreMa
       named_by (IsMeetOf meet.s meet.t) faults (fault.Meet named.1) (among_meets _ (held_map fault.Meet all.meets named.1 (named.0, named.2, named.3))) named.4
   told (fault.Side node first next) true_one =
       let named = all.all_sides.complete first next (record { is_next = true_one.is_next; differ = true_one.differ }) in
-      subst (Contains faults) (side_told node first next named.1 true_one.at named.4.0 named.4.1) (among_sides _ (held_map (side_fault m.chains) all.sides named.1 (named.0, named.2, named.3)))
+      subst (Contains faults) (side_told node first next named.1 true_one.at named.4.0 named.4.1)
+      (among_sides _ (held_map (side_fault m.chains) all.sides named.1 (named.0, named.2, named.3)))
   told (fault.PolygonPoint misplaced) true_one = point_told points_left all.all_points misplaced true_one
   told (fault.Cell odds) true_one =
       let some = some_first all.cells (some_cell all.cells all.all_cells odds true_one) in

@@ -1,5 +1,5 @@
 -- Each fault that is told of a map is true of it.
-use Rattle.std.proofs.Common.{◌≡◌, ℕ, Bool, true, false, Some, List, [], ◌∷◌, ◌++◌, map, refl, sym, ap, ◌∙◌}
+use Rattle.std.proofs.Common.{◌≡◌, ℕ, Bool, true, false, Some, List, sym, ap, ◌∙◌}
 use Rattle.std.specs.Option.{unwrap_or}
 use Rattle.std.specs.List.{All}
 use Rattle.std.proofs.lemmas.List.Elements.{All-nil, All-append, All-map}
@@ -26,7 +26,8 @@ start_is chains dart p e = ap (λ o. unwrap_or o nowhere) e
 side_is_true : (m : TheMap) (d : Disagreement) → HaveSidesAtOdds m.chains d.first d.next → IsTrueOfMap m (side_fault m.chains d)
 side_is_true m d odds = record { at = start_known m.chains d.first odds.is_next.node odds.is_next.a_starts; is_next = odds.is_next; differ = odds.differ }
 
-points_are_true : (m : TheMap) (sides : List Disagreement) (points_left : Bool) (points : List Misplaced) → ArePointsTold m sides points_left points → All (IsTrueMisplaced m) points
+points_are_true : (m : TheMap) (sides : List Disagreement) (points_left : Bool) (points : List Misplaced) → ArePointsTold m sides points_left points
+    → All (IsTrueMisplaced m) points
 points_are_true m sides false points told = told.1.each
 points_are_true m sides true points told = rw told.1 (All-nil (IsTrueMisplaced m))
 

@@ -2,6 +2,7 @@
 use Rattle.std.specs.Prelude.{◌≡◌, ⊤, List, [], ◌∷◌}
 use Rattle.tl_verdict.specs.declared.fault.MapFault.{MapFault}
 use Rattle.tl_verdict.specs.declared.fault.MapFault.TheVariants.{Meet}
+use Rattle.tl_verdict.specs.declared.verdict.Report.{Report}
 use Rattle.tl_listing.specs.declared.listing.Listing.{Listing}
 use Rattle.tl_listing.specs.declared.listing.Listing.TheVariants.{Sound, Refused, Faults}
 use Rattle.tl_all_faults.specs.Telling.{IsMeetOf}
@@ -18,9 +19,16 @@ AreSameFaults [] (other ∷ others) = ⊥
 AreSameFaults (fault ∷ faults) [] = ⊥
 AreSameFaults (fault ∷ faults) (other ∷ others) = IsSameFault fault other × AreSameFaults faults others
 
+-- the numbers of two reports are the same; of nodes and rings nothing is said
+pub record HaveSameNumbers (report other : Report) : Type 0 where
+  pub chains : report.chains ≡ other.chains
+  pub segments : report.segments ≡ other.segments
+  pub polygons : report.polygons ≡ other.polygons
+  pub landmarks : report.landmarks ≡ other.landmarks
+
 -- both say that the map is sound; or they have the same refused lines; or the same faults, and leave points or don't
 abbrev pub AreAlike : Listing → Listing → Type 0
-AreAlike (Sound report) (Sound other) = ⊤
+AreAlike (Sound report) (Sound other) = HaveSameNumbers report other
 AreAlike (Sound report) (Refused others) = ⊥
 AreAlike (Sound report) (Faults others points_left) = ⊥
 AreAlike (Refused list) (Sound other) = ⊥

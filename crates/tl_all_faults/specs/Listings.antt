@@ -1,5 +1,5 @@
 -- What a county's text is told to be where all that is wrong with it is asked for.
-use Rattle.std.specs.Prelude.{◌≡◌, ◌≢◌, ◌⊎◌, ℕ, Bool, false, List, [], map, None, Result, Ok, Err, ⊤}
+use Rattle.std.specs.Prelude.{◌≡◌, ◌≢◌, ◌⊎◌, ℕ, Bool, false, List, [], map, None, Result, Err}
 use Rattle.tl_record.specs.declared.layout.Layout.{Layout}
 use Rattle.tl_record.specs.Failures.{one_more}
 use Rattle.tl_record.specs.Records.{Records, records_of}

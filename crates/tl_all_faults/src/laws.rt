@@ -31,7 +31,7 @@ pub fn each_fault_that_is_true_is_told()
         IsListingOf layout text listing → IsTrueOfRecords (records_of layout text) fault → Tells listing fault }
 {}
 
-/// A text has one listing, but for the points at which segments meet and for the numbers of a sound map.
+/// A text has one listing, but for the points at which segments meet, and the nodes and rings of a sound map.
 pub fn a_text_has_one_listing()
     ensures { (layout : Layout) (text : List ℕ) (listing other : Listing) → IsListingOf layout text listing →
         IsListingOf layout text other → AreAlike listing other }

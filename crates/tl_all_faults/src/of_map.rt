@@ -84,11 +84,7 @@ fn tell_unless(
 }
 
 /// Appends what is wrong with where polygons' points lie, by a tree that is made for it.
-fn tell_by_new_tree(
-    alloc: Global,
-    map: &Map,
-    faults: &mut Vec<MapFault>,
-) -> Result<(), Memory>
+fn tell_by_new_tree(alloc: Global, map: &Map, faults: &mut Vec<MapFault>) -> Result<(), Memory>
     ensures { OnOk result (AddsPoints map.now false faults.old.items faults.new.items) }
 {
     let Ok(nodes) = pack(alloc, &Segments::new(map)) else {
@@ -157,11 +153,7 @@ fn list_met<X: BoxIndex>(
 }
 
 /// Appends sides that disagree, and behind them zero-cell ids that are at odds. Gives whether sides disagree.
-fn tell_agreement(
-    alloc: Global,
-    map: &Map,
-    faults: &mut Vec<MapFault>,
-) -> Result<bool, Memory>
+fn tell_agreement(alloc: Global, map: &Map, faults: &mut Vec<MapFault>) -> Result<bool, Memory>
     ensures { IfOk result (λ differ. AddsAgreement map.now differ faults.old.items faults.new.items) }
 {
     let sides = all_disagreements(alloc, map)?;

@@ -44,12 +44,7 @@ impl CollectedRecords {
     }
 
     /// The map of the records, of whose text so many lines were passed over. `hasher` is that of [`crate::read_map`].
-    pub fn build(
-        self,
-        alloc: Global,
-        hasher: RandomState,
-        skipped: u64,
-    ) -> Result<Map, MapStop>
+    pub fn build(self, alloc: Global, hasher: RandomState, skipped: u64) -> Result<Map, MapStop>
         // It has collected some records.
         requires { (rs : List Record) × HasCollected rs self }
         // The map is theirs, and no fault is true of them.

@@ -1,5 +1,5 @@
 -- What is kept of the records that a reader gives, and what is still to come.
-use Rattle.std.specs.Prelude.{◌≡◌, ◌⊎◌, ℕ, true, List, ◌++◌, Option, Some, None, IfSome}
+use Rattle.std.specs.Prelude.{◌≡◌, ℕ, true, List, ◌++◌, Option, Some, None, IfSome}
 use Rattle.tl_record.specs.declared.record.Record.{Record}
 use Rattle.tl_record.specs.declared.stop.Cause.{Cause}
 use Rattle.tl_record.specs.declared.reader.RecordReader.{RecordReader}
@@ -18,7 +18,9 @@ pub record Keeps (rs : List Record) (both : BothKept) : Type 0 where
 
 -- so many records were given of those that were to come at first, and the rest comes now
 abbrev pub IsSoFar : Option Records → Option Records → List Record → Type 0
-IsSoFar at_first now rs = IfSome at_first (λ all. (rest : Records) × (now ≡ Some rest) × (records_in all ≡ rs ++ records_in rest) × (all.refusal ≡ rest.refusal) × (all.skipped ≡ rest.skipped))
+IsSoFar at_first now rs =
+    IfSome at_first (λ all. (rest : Records) × (now ≡ Some rest) × (records_in all ≡ rs ++ records_in rest) × (all.refusal ≡ rest.refusal)
+    × (all.skipped ≡ rest.skipped))
 
 -- the records so far are kept
 pub record KeepsSoFar (at_first now : Option Records) (both : BothKept) : Type 0 where

@@ -8,5 +8,6 @@ returns c =
     let m = c.args.map.now in
     let left = c.in_ok-points_left.points_left in
     let faults = c.tell_unless.new.faults.items in
-    let all : AreMapFaults m faults left = all_told m [] left _ _ faults (no_meets m.chains c.requires.planar) c.new-faults.ensures.items c.in_ok-points_left.ensures c.in_ok-tell_unless.ensures in
+    let all : AreMapFaults m faults left = all_told m [] left _ _ faults
+    (no_meets m.chains c.requires.planar) c.new-faults.ensures.items c.in_ok-points_left.ensures c.in_ok-tell_unless.ensures in
     (some_told m faults left all c.requires.faulty, all)

@@ -1,9 +1,7 @@
-use Rattle.std.proofs.Common.{◌∙◌, inl, refl, ap}
+use Rattle.std.proofs.Common.{◌∙◌, inl, refl}
 use Rattle.tl_record.specs.Reader.{standing_of, outcome, refusals_to_come}
-use Rattle.tl_record.specs.Searching.{goes_on}
-use Rattle.tl_map.proofs.GatherLemmas.{none_failed, stop_told, failure_told}
-use Rattle.tl_all_faults.specs.declared.reading.BothKept.{BothKept}
-use Rattle.tl_all_faults.proofs.Gathering.{keeps_none, keeps_more, keeps_all, keeps_refusals, keeps_same}
+use Rattle.tl_map.proofs.GatherLemmas.{none_failed}
+use Rattle.tl_all_faults.proofs.Gathering.{keeps_none, keeps_more, keeps_refusals, keeps_same}
 use Rattle.tl_all_faults.proofs.reading.read_all.Goals as goal
 
 pub records-init : goal.records-init
