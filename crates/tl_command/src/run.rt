@@ -34,8 +34,9 @@ use tl_text::{print_chains, print_landmarks};
 use tl_verdict::{MapFault, Stop, Verdict};
 
 /// Does what the plan asks and gives the program's exit status. Answers and faults go to `out`, refusals and stops to
-/// `err`. `cert` is the certificate that is read, and `made` takes the one that is written; a command that has none
-/// leaves them alone, and one that reads no records leaves those alone.
+/// `err`, but for a list of all refusals that is asked for, which goes to `out`. `cert` is the certificate that is read,
+/// and `made` takes the one that is written; a command that has none leaves them alone, and one that reads no records
+/// leaves those alone.
 pub fn run<R: Source, S: Source, C: Sink, W: Sink, E: Sink>(
     alloc: Global,
     hasher: RandomState,

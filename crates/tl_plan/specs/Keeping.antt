@@ -9,7 +9,8 @@ use Rattle.tl_plan.specs.declared.command_line.Named.{Named}
 use Rattle.tl_plan.specs.declared.command_line.Named.TheVariants.{Show, Landmarks, Locate, Audit, Build, Check, Convert}
 use Rattle.tl_plan.specs.declared.command_line.Argument.{Argument}
 use Rattle.tl_plan.specs.declared.command_line.Argument.TheVariants.{All, Most, ZeroCells, Released, Files, Point, CertOption, OutOption, Tests, Cert, Out}
-use Rattle.tl_plan.specs.Commands.{all_argument, most_argument, zero_cells_argument, released_argument, files_argument, name_argument, certificate_argument, tests_argument}
+use Rattle.tl_plan.specs.Commands.{all_argument, most_argument, zero_cells_argument, released_argument, files_argument}
+use Rattle.tl_plan.specs.Commands.{name_argument, certificate_argument, tests_argument}
 use Rattle.tl_plan.specs.Commands.{command_on_files, show_name, landmarks_name, locate_name, audit_name, build_name, check_name, convert_name}
 use Rattle.tl_plan.specs.Commands.{locate_app, audit_app, build_app, check_app, conversion_app}
 

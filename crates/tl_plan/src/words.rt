@@ -30,7 +30,7 @@ use tl_record::Options;
 /// with the text that `clap` has for them.
 pub fn plan<S: AsStr>(alloc: Global, words: &[S]) -> Result<Plan, PlanStop>
     // The plan is what the words ask for: they are none that `clap` has an error for, and its command, its switches, its
-    // budget, and the names of its files, word for word and in their order, are theirs.
+    // budget or number of faults, and the names of its files, word for word and in their order, are theirs.
     ensures plan { IfOk result (AskFor (map S.text words.now)) }
     // Words that are a use of a command are refused for want of memory alone, and words of which the first shows that they are
     // none never for that.
