@@ -13,7 +13,7 @@ use std::alloc::Global;
 use tl_build::{Audit, audit_planar_map};
 use tl_county::Map;
 use tl_disagreements::{all_cells_at_odds, all_disagreements};
-use tl_index::{BoxIndex, Memory, TreeNode, TreeStop};
+use tl_index::{BoxIndex, Memory, TreeStop};
 use tl_listing::Listing;
 use tl_meets::all_meets;
 use tl_meets::laws::planar_where_no_meet_is_listed;
@@ -120,6 +120,7 @@ fn list_by<X: BoxIndex>(alloc: Global, index: &X, map: &Map) -> Result<Listing, 
     ensures { IfOk result (IsListingOfMap map.now) }
 {
     let meets = all_meets(alloc, index, map)?;
+    // So the chains are planar where there is none.
     planar_where_no_meet_is_listed();
     if meets.is_empty() {
         list_planar(alloc, map, false)

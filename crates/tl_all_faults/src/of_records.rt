@@ -1,6 +1,6 @@
 //! All that is wrong with the text of a county.
 
-ghost use Rattle.std.specs.Prelude.{◌≡◌, ◌≢◌, ℕ, List, [], true, IfOk, IfErr, IfSome};
+ghost use Rattle.std.specs.Prelude.{◌≡◌, ◌≢◌, List, [], true, IfOk, IfErr, IfSome};
 ghost use Rattle.tl_record.specs.Layout.{layout_with};
 ghost use Rattle.tl_record.specs.Records.{Records as AllRecords};
 ghost use Rattle.tl_record.specs.Reader.{source_of, standing_of, refusals_to_come};

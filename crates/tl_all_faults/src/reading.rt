@@ -1,12 +1,10 @@
 //! Reads records once, for what tells their faults and for what draws their map.
 
-ghost use Rattle.std.specs.Prelude.{◌≡◌, true, IfOk, OnOk};
-ghost use Rattle.std.specs.Prelude.{List, ◌∷◌, [], ◌++◌};
-ghost use Rattle.tl_record.specs.declared.record.Record.{Record};
+ghost use Rattle.std.specs.Prelude.{◌≡◌, IfOk};
 ghost use Rattle.tl_record.specs.declared.reader.Standing.TheVariants.{Reading};
-ghost use Rattle.tl_record.specs.Reader.{source_of, skipped_of, standing_of, outcome, refusals_to_come};
+ghost use Rattle.tl_record.specs.Reader.{source_of, standing_of};
 ghost use Rattle.tl_all_faults.specs.Listings.{TellsDevice};
-ghost use Rattle.tl_all_faults.specs.Keeping.Reading.{Keeps, MayRead};
+ghost use Rattle.tl_all_faults.specs.Keeping.Reading.{MayRead};
 
 use std::alloc::{AllocError, Global};
 use tl_listing::ListingStop;

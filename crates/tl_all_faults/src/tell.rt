@@ -1,7 +1,6 @@
 //! Faults of a map, told one kind behind the other.
 
 ghost use Rattle.std.specs.Prelude.{◌≡◌, ◌∷◌, [], ◌++◌, OnOk, map};
-ghost use Rattle.tl_drawn.specs.declared.fault.MapFault.{MapFault as RecordFault};
 ghost use Rattle.tl_disagreements.specs.Disagreements.{AreAllDisagreements};
 ghost use Rattle.tl_all_faults.specs.MapFaults.{side_fault};
 
