@@ -1,10 +1,10 @@
-pub mod Lists
-pub mod Emptiness
-pub mod Truth
-pub mod Told
-pub mod OfMap
-pub mod Gathering
-pub mod Assembling
-pub mod Listed
-pub mod OneOrder
-pub mod Same
+mod Lists
+mod Emptiness
+mod Truth
+mod Told
+mod OfMap
+mod Gathering
+mod Assembling
+mod Listed
+mod OneOrder
+mod Same

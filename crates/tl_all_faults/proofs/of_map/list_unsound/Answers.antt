@@ -1,4 +1,5 @@
 use Rattle.std.proofs.Common.{[]}
+use Rattle.std.proofs.lemmas.Result.{err_from_is_err_and}
 use Rattle.tl_all_faults.proofs.OfMap.{no_meets, all_told, some_told}
 use Rattle.tl_all_faults.specs.MapFaults.{AreMapFaults}
 use Rattle.tl_all_faults.proofs.of_map.list_unsound.Goals as goal
@@ -11,3 +12,9 @@ returns c =
     let all : AreMapFaults m faults left = all_told m [] left _ _ faults
     (no_meets m.chains c.requires.planar) c.new-faults.ensures.items c.in_ok-points_left.ensures c.in_ok-tell_unless.ensures in
     (some_told m faults left all c.requires.faulty, all)
+
+pub returns-in_err-points_left : goal.returns-in_err-points_left
+returns-in_err-points_left c = let p = err_from_is_err_and c.from_residual.result c.from_residual.ensures.1 in rw p.1 tt
+
+pub returns-in_err-tell_unless : goal.returns-in_err-tell_unless
+returns-in_err-tell_unless c = let p = err_from_is_err_and c.from_residual-in_err-tell_unless.result c.from_residual-in_err-tell_unless.ensures.1 in rw p.1 tt
