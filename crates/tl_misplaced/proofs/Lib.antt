@@ -7,3 +7,4 @@ mod Pushing
 mod Unique
 mod Crossing
 mod Placed
+mod Suspected

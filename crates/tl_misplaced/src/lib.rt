@@ -5,6 +5,7 @@
 //! (`specs/AllMisplaced`).
 #![tactic(auto)]
 
+mod among;
 pub mod laws;
 mod listed;
 mod misplaced;
@@ -12,4 +13,5 @@ mod odd;
 mod room;
 mod telling;
 
+pub use among::all_misplaced_among;
 pub use misplaced::all_misplaced;

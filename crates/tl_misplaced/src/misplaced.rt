@@ -44,7 +44,7 @@ pub fn all_misplaced<X: BoxIndex>(
 }
 
 /// Appends all that is wrong with the point of polygon `p`.
-fn list_at<X: BoxIndex>(
+pub fn list_at<X: BoxIndex>(
     index: &X,
     map: &Map,
     p: u32,

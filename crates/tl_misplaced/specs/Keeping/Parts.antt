@@ -27,6 +27,10 @@ IsOfPolygon p at = at.polygon ≡ p
 abbrev pub IsBefore : ℕ → FaultPlace → Type 0
 IsBefore p at = at.polygon < p
 
+-- places of these polygons
+abbrev pub IsOfAny : List ℕ → FaultPlace → Type 0
+IsOfAny polygons at = Contains polygons at.polygon
+
 -- behind the old faults stand all that are true at such places
 pub record HasPart (m : TheMap) (In : FaultPlace → Type 0) (old new : List Misplaced) : Type 0 where
   pub faults : List Misplaced
