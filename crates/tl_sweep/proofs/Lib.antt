@@ -14,3 +14,4 @@ pub mod Stacked
 pub mod Gaps
 pub mod Spotting
 pub mod Answered
+pub mod Unmarked

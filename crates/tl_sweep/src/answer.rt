@@ -1,21 +1,22 @@
 //! What a sweep says of a map.
-ghost use Rattle.std.specs.Prelude.{◌≡◌, All, IfOk, IfSome};
+ghost use Rattle.std.specs.Prelude.{◌≡◌, ◌⊎◌, ◌<◌, ℕ, [], Some, length, slice_get, All, Contains, IfOk, IfSome};
+ghost use Rattle.tl_county.specs.declared.polygons.Polygon.{Polygon};
 ghost use Rattle.tl_planar.specs.Planar.{IsPlanar};
 ghost use Rattle.tl_planar.specs.declared.meet.Meet.{Meet};
 ghost use Rattle.tl_planar.specs.Searching.{IsTrueMeet};
-ghost use Rattle.tl_inside.specs.Placed.{ArePlaced};
+ghost use Rattle.tl_inside.specs.Placed.{ArePlaced, IsPlacedIn};
 ghost use Rattle.tl_crossings.specs.Headings.{AreProper};
 ghost use Rattle.tl_slabs.specs.Heights.{widest};
 ghost use Rattle.tl_slabs.specs.Neighbours.{IsWide};
 ghost use Rattle.tl_slabs.specs.Slabs.{AreVerticesTested};
 ghost use Rattle.tl_sweep.specs.Keeping.Listed.{joined, AreEvents, AreRising};
 ghost use Rattle.tl_sweep.specs.Keeping.Ended.{AreMet};
-ghost use Rattle.tl_sweep.specs.Keeping.Spotted.{AreInRange, AreMarks};
+ghost use Rattle.tl_sweep.specs.Keeping.Spotted.{AreInRange, AreMarks, AreTrueMarks};
 ghost use Rattle.tl_sweep.specs.Keeping.Told.{IsTrueAnswer};
 
 use crate::events::Events;
 use crate::meets::are_vertices_tested;
-use crate::spots::Spots;
+use crate::spots::{Spots, list_unmarked};
 use crate::suspects::{find_meet, find_meet_at_vertex};
 use crate::sweeping::sweep_list;
 use std::alloc::{AllocError, Global};
@@ -42,34 +43,66 @@ pub fn sweep(alloc: Global, map: &Map) -> Result<Swept, AllocError>
     ensures planar { IfOk result (λ answer. answer ≡ Swept.Planar → IsPlanar map.now.chains) }
     ensures meet { IfOk result (λ answer. (meet : Meet) → answer ≡ Swept.Meet meet → IsTrueMeet map.now.chains meet) }
 {
+    let mut marks = Vec::new(alloc);
     look_at_chains(map);
-    sweep_ends(alloc, map)
+    sweep_ends(alloc, map, &mut marks)
 }
 
-/// The same by the ends of all segments.
-fn sweep_ends(alloc: Global, map: &Map) -> Result<Swept, AllocError>
+/// Sweeps as [`sweep`] does, and lists polygons in the place of those that were listed, by their numbers: the point of each
+/// other polygon lies where it has to. Where the chains aren't found to be planar, these are all.
+pub fn sweep_for_points(
+    alloc: Global,
+    map: &Map,
+    suspects: &mut Vec<u32>,
+) -> Result<Swept, AllocError>
+    ensures placed { IfOk result (λ answer. answer ≡ Swept.Placed → IsPlanar map.now.chains × ArePlaced map.now) }
+    ensures planar { IfOk result (λ answer. answer ≡ Swept.Planar → IsPlanar map.now.chains) }
+    ensures meet { IfOk result (λ answer. (meet : Meet) → answer ≡ Swept.Meet meet → IsTrueMeet map.now.chains meet) }
+    ensures known { IfOk result (λ answer. All (λ p. p < length map.now.polygons) suspects.new.items) }
+    ensures others { IfOk result (λ answer. (p : ℕ) (polygon : Polygon) → slice_get map.now.polygons p ≡ Some polygon →
+        Contains suspects.new.items p ⊎ IsPlacedIn map.now polygon.point p) }
+{
+    let mut marks = Vec::new(alloc);
+    look_at_chains(map);
+    let swept = sweep_ends(alloc, map, &mut marks)?;
+    list_unmarked(map, &marks, suspects)?;
+    Ok(swept)
+}
+
+/// The same by the ends of all segments. Where the chains are found to be planar, the polygons are marked whose points were
+/// found to be placed.
+fn sweep_ends(alloc: Global, map: &Map, marks: &mut Vec<bool>) -> Result<Swept, AllocError>
     requires proper { AreProper map.now.chains }
-    ensures { IfOk result (IsTrueAnswer map.now) }
+    requires none { marks.old.items ≡ [] }
+    ensures answer { IfOk result (IsTrueAnswer map.now) }
+    ensures marks { IfOk result (λ answer. AreTrueMarks map.now marks.new.items) }
 {
     let mut events = Events::new(alloc, map)?;
     events.sort(alloc)?;
-    sweep_events(alloc, map, &events)
+    sweep_events(alloc, map, &events, marks)
 }
 
 /// The same by all ends, which are sorted.
-fn sweep_events(alloc: Global, map: &Map, events: &Events) -> Result<Swept, AllocError>
+fn sweep_events(
+    alloc: Global,
+    map: &Map,
+    events: &Events,
+    marks: &mut Vec<bool>,
+) -> Result<Swept, AllocError>
     requires events { AreEvents map.now.chains (joined events.now) }
     requires met { All (AreMet map.now.chains) events.now }
     requires wide { IsWide widest map.now.chains }
     requires ranges { AreInRange map.now.chains }
     requires proper { AreProper map.now.chains }
-    ensures { IfOk result (IsTrueAnswer map.now) }
+    requires none { marks.old.items ≡ [] }
+    ensures answer { IfOk result (IsTrueAnswer map.now) }
+    ensures marks { IfOk result (λ answer. AreTrueMarks map.now marks.new.items) }
 {
     if !are_vertices_tested(map, events) {
         return Ok(told(map, find_meet_at_vertex(map, events)));
     }
     let mut suspects = Vec::new(alloc);
-    sweep_tested(alloc, map, events, &mut suspects)
+    sweep_tested(alloc, map, events, &mut suspects, marks)
 }
 
 /// The same where vertices are tested, with a list for the segments at which the sweep ends.
@@ -78,19 +111,24 @@ fn sweep_tested(
     map: &Map,
     events: &Events,
     suspects: &mut Vec<u32>,
+    marks: &mut Vec<bool>,
 ) -> Result<Swept, AllocError>
     requires events { AreEvents map.now.chains (joined events.now) }
     requires rising { AreRising (joined events.now) }
     requires wide { IsWide widest map.now.chains }
     requires ranges { AreInRange map.now.chains }
     requires vertices { AreVerticesTested map.now.chains }
-    ensures { IfOk result (IsTrueAnswer map.now) }
+    requires none { marks.old.items ≡ [] }
+    ensures answer { IfOk result (IsTrueAnswer map.now) }
+    ensures marks { IfOk result (λ answer. AreTrueMarks map.now marks.new.items) }
 {
     let mut spots = Spots::new(alloc, map)?;
     if !sweep_list(alloc, map, events, &mut spots, suspects)? {
         return Ok(told(map, find_meet(map, suspects)));
     }
-    Ok(planar(map, &spots))
+    let answer = planar(map, &spots);
+    *marks = spots.into_marks();
+    Ok(answer)
 }
 
 /// What is answered where the chains are planar.

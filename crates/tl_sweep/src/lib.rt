@@ -22,4 +22,4 @@ mod spots;
 mod suspects;
 mod sweeping;
 
-pub use answer::{Swept, sweep};
+pub use answer::{Swept, sweep, sweep_for_points};

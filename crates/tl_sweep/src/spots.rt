@@ -1,5 +1,5 @@
 //! The points of polygons, on the way of a sweep.
-ghost use Rattle.std.specs.Prelude.{◌≡◌, ◌⊎◌, ◌<◌, ℕ, false, true, IfOk, IsTrue, length, slice_index_or};
+ghost use Rattle.std.specs.Prelude.{◌≡◌, ◌⊎◌, ◌<◌, ℕ, false, true, All, Contains, IfOk, OnOk, IsTrue, length, slice_index_or};
 ghost use Rattle.tl_inside.specs.Placed.{ArePlaced};
 ghost use Rattle.tl_sweep.specs.Keeping.Facing.{IsCounted};
 ghost use Rattle.tl_sweep.specs.Keeping.Lined.{list_of};
@@ -87,6 +87,43 @@ impl Spots {
         ensures { IsTrue result → ArePlaced map.now }
     {
         are_all(&self.marks)
+    }
+
+    /// The polygons whose points were found to be placed, by a mark for each polygon.
+    pub fn into_marks(self) -> Vec<bool>
+        ensures { result.items ≡ self.marks.items }
+    {
+        self.marks
+    }
+}
+
+/// Lists the polygons of a map that have no mark, in the place of those that were listed.
+pub fn list_unmarked(
+    map: &Map,
+    marks: &[bool],
+    polygons: &mut Vec<u32>,
+) -> Result<(), AllocError>
+    ensures known { OnOk result (All (λ p. p < length map.now.polygons) polygons.new.items) }
+    ensures others { OnOk result ((p : ℕ) → p < length map.now.polygons →
+        Contains polygons.new.items p ⊎ (slice_index_or marks.now p false ≡ true)) }
+{
+    polygons.clear();
+    for p in 0..map.polygons() {
+        if is_marked(marks, p) {
+            continue;
+        }
+        polygons.push(p)?;
+    }
+    Ok(())
+}
+
+/// Whether a polygon is marked.
+fn is_marked(marks: &[bool], polygon: u32) -> bool
+    ensures { IsTrue result → slice_index_or marks.now polygon false ≡ true }
+{
+    match marks.get(polygon as usize) {
+        Some(mark) => *mark,
+        None => false,
     }
 }
 

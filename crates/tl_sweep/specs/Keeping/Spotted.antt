@@ -24,3 +24,7 @@ IsPlacedPolygon m p = (polygon : Polygon) → slice_get m.polygons p ≡ Some po
 pub record AreMarks (m : TheMap) (marks : List Bool) : Type 0 where
   pub long : length marks ≡ length m.polygons
   pub placed : (p : ℕ) → slice_index_or marks p false ≡ true → IsPlacedPolygon m p
+
+-- the points of polygons that are marked lie where they have to
+abbrev pub AreTrueMarks : TheMap → List Bool → Type 0
+AreTrueMarks m marks = (p : ℕ) → slice_index_or marks p false ≡ true → IsPlacedPolygon m p

@@ -13,8 +13,14 @@ sweep_events-requires-clause-events c =
 pub sweep_events-requires-clause-met : goal.sweep_events-requires-clause-met
 sweep_events-requires-clause-met c = All-permutation (AreMet c.args.map.now.chains) _ _ c.in_ok-sort.ensures c.in_ok-events.ensures.met
 
-pub returns-in_err-events : goal.returns-in_err-events
-returns-in_err-events c = let p = err_from_is_err_and c.from_residual.result c.from_residual.ensures.1 in rw p.1 tt
+pub returns-in_err-events-clause-answer : goal.returns-in_err-events-clause-answer
+returns-in_err-events-clause-answer c = let p = err_from_is_err_and c.from_residual.result c.from_residual.ensures.1 in rw p.1 tt
 
-pub returns-in_err-sort : goal.returns-in_err-sort
-returns-in_err-sort c = let p = err_from_is_err_and c.from_residual-in_err-sort.result c.from_residual-in_err-sort.ensures.1 in rw p.1 tt
+pub returns-in_err-events-clause-marks : goal.returns-in_err-events-clause-marks
+returns-in_err-events-clause-marks c = let p = err_from_is_err_and c.from_residual.result c.from_residual.ensures.1 in rw p.1 tt
+
+pub returns-in_err-sort-clause-answer : goal.returns-in_err-sort-clause-answer
+returns-in_err-sort-clause-answer c = let p = err_from_is_err_and c.from_residual-in_err-sort.result c.from_residual-in_err-sort.ensures.1 in rw p.1 tt
+
+pub returns-in_err-sort-clause-marks : goal.returns-in_err-sort-clause-marks
+returns-in_err-sort-clause-marks c = let p = err_from_is_err_and c.from_residual-in_err-sort.result c.from_residual-in_err-sort.ensures.1 in rw p.1 tt
