@@ -6,6 +6,7 @@ ghost use Rattle.tl_planar.specs.Planar.{IsPlanar};
 ghost use Rattle.tl_planar.specs.Rectangles.{segment_rect};
 ghost use Rattle.tl_inside.specs.Placed.{ArePlaced};
 ghost use Rattle.tl_meets.specs.Meets.{AreAllMeets};
+ghost use Rattle.tl_misplaced.specs.Suspects.{AreSuspects};
 ghost use Rattle.tl_all_faults.specs.Keeping.OfMap.{IsListingOfMap, IsFaulty, AddsAgreement, AddsPoints};
 
 use crate::tell::{tell_cells, tell_meets, tell_points, tell_sides};
@@ -17,49 +18,63 @@ use tl_index::{BoxIndex, Memory, TreeStop};
 use tl_listing::Listing;
 use tl_meets::all_meets;
 use tl_meets::laws::planar_where_no_meet_is_listed;
-use tl_misplaced::all_misplaced;
+use tl_misplaced::all_misplaced_among;
 use tl_pack::pack;
 use tl_planar::{Meet, Segments};
-use tl_sweep::{Swept, sweep};
+use tl_sweep::{Swept, sweep_for_points};
 use tl_tree::FlatTree;
 use tl_verdict::MapFault;
 
 /// All faults of a map, or its report where it is sound: by a sweep, and where that doesn't tell that the chains are
-/// planar, by a search for all their meets. An error says that memory was refused.
+/// planar, by a search for all their meets. Of polygons' points those are looked at that the sweep doesn't know to be placed.
+/// An error says that memory was refused.
 pub fn list_map(alloc: Global, map: &Map) -> Result<Listing, Memory>
     ensures { IfOk result (IsListingOfMap map.now) }
 {
-    match sweep(alloc, map) {
-        Ok(Swept::Placed) => list_planar(alloc, map, true),
-        Ok(Swept::Planar) => list_planar(alloc, map, false),
-        Ok(Swept::Meet(_) | Swept::Unknown) => list_by_search(alloc, map),
+    let mut suspects = Vec::new(alloc);
+    match sweep_for_points(alloc, map, &mut suspects) {
+        Ok(Swept::Placed) => list_planar(alloc, map, true, suspects),
+        Ok(Swept::Planar) => list_planar(alloc, map, false, suspects),
+        Ok(Swept::Meet(_) | Swept::Unknown) => list_by_search(alloc, map, suspects),
         Err(_) => Err(Memory),
     }
 }
 
-/// The same of a map whose chains are planar, and whose polygons' points may be known to be placed.
-fn list_planar(alloc: Global, map: &Map, placed: bool) -> Result<Listing, Memory>
+/// The same of a map whose chains are planar, and whose polygons' points may be known to be placed, but for suspects.
+fn list_planar(
+    alloc: Global,
+    map: &Map,
+    placed: bool,
+    suspects: Vec<u32>,
+) -> Result<Listing, Memory>
     requires planar { IsPlanar map.now.chains }
     requires placed { IsTrue placed → ArePlaced map.now }
+    requires suspects { AreSuspects map.now suspects.items }
     ensures { IfOk result (IsListingOfMap map.now) }
 {
     match audit_planar_map(alloc, map, placed) {
         Ok(Audit::Sound(report)) => Ok(Listing::Sound(report)),
-        Ok(Audit::Fault(_)) => list_unsound(alloc, map, placed),
+        Ok(Audit::Fault(_)) => list_unsound(alloc, map, placed, suspects),
         Err(_) => Err(Memory),
     }
 }
 
 /// All faults of such a map, which has one.
-fn list_unsound(alloc: Global, map: &Map, placed: bool) -> Result<Listing, Memory>
+fn list_unsound(
+    alloc: Global,
+    map: &Map,
+    placed: bool,
+    suspects: Vec<u32>,
+) -> Result<Listing, Memory>
     requires planar { IsPlanar map.now.chains }
     requires placed { IsTrue placed → ArePlaced map.now }
+    requires suspects { AreSuspects map.now suspects.items }
     requires faulty { IsFaulty map.now }
     ensures { IfOk result (IsListingOfMap map.now) }
 {
     let mut faults = Vec::new(alloc);
     let points_left = tell_agreement(alloc, map, &mut faults)?;
-    tell_unless(alloc, map, points_left, placed, &mut faults)?;
+    tell_unless(alloc, map, points_left, placed, suspects, &mut faults)?;
     Ok(Listing::Faults {
         faults,
         points_left,
@@ -72,26 +87,34 @@ fn tell_unless(
     map: &Map,
     left: bool,
     placed: bool,
+    suspects: Vec<u32>,
     faults: &mut Vec<MapFault>,
 ) -> Result<(), Memory>
-    requires { IsTrue placed → ArePlaced map.now }
+    requires placed { IsTrue placed → ArePlaced map.now }
+    requires suspects { AreSuspects map.now suspects.items }
     ensures { OnOk result (AddsPoints map.now left faults.old.items faults.new.items) }
 {
     if left || placed {
         return Ok(());
     }
-    tell_by_new_tree(alloc, map, faults)
+    tell_by_new_tree(alloc, map, suspects, faults)
 }
 
 /// Appends what is wrong with where polygons' points lie, by a tree that is made for it.
-fn tell_by_new_tree(alloc: Global, map: &Map, faults: &mut Vec<MapFault>) -> Result<(), Memory>
+fn tell_by_new_tree(
+    alloc: Global,
+    map: &Map,
+    suspects: Vec<u32>,
+    faults: &mut Vec<MapFault>,
+) -> Result<(), Memory>
+    requires { AreSuspects map.now suspects.items }
     ensures { OnOk result (AddsPoints map.now false faults.old.items faults.new.items) }
 {
     let Ok(nodes) = pack(alloc, &Segments::new(map)) else {
         return Err(Memory);
     };
     match FlatTree::from_nodes(alloc, &nodes) {
-        Ok(tree) => tell_misplaced(alloc, &tree, map, faults),
+        Ok(tree) => tell_misplaced(alloc, &tree, map, suspects, faults),
         Err(TreeStop::Memory) => Err(Memory),
         // A tree that is packed is never so deep.
         Err(TreeStop::TooDeep) => unreachable!(),
@@ -99,14 +122,15 @@ fn tell_by_new_tree(alloc: Global, map: &Map, faults: &mut Vec<MapFault>) -> Res
 }
 
 /// All faults of a map, or its report where it is sound, by a tree over its segments.
-fn list_by_search(alloc: Global, map: &Map) -> Result<Listing, Memory>
+fn list_by_search(alloc: Global, map: &Map, suspects: Vec<u32>) -> Result<Listing, Memory>
+    requires { AreSuspects map.now suspects.items }
     ensures { IfOk result (IsListingOfMap map.now) }
 {
     let Ok(nodes) = pack(alloc, &Segments::new(map)) else {
         return Err(Memory);
     };
     match FlatTree::from_nodes(alloc, &nodes) {
-        Ok(tree) => list_by(alloc, &tree, map),
+        Ok(tree) => list_by(alloc, &tree, map, suspects),
         Err(TreeStop::Memory) => Err(Memory),
         // A tree that is packed is never so deep.
         Err(TreeStop::TooDeep) => unreachable!(),
@@ -114,18 +138,24 @@ fn list_by_search(alloc: Global, map: &Map) -> Result<Listing, Memory>
 }
 
 /// The same by an index that fits the map's segments.
-fn list_by<X: BoxIndex>(alloc: Global, index: &X, map: &Map) -> Result<Listing, Memory>
-    requires { X.fits index.now (segments_before map.now.chains (length map.now.chains))
+fn list_by<X: BoxIndex>(
+    alloc: Global,
+    index: &X,
+    map: &Map,
+    suspects: Vec<u32>,
+) -> Result<Listing, Memory>
+    requires fits { X.fits index.now (segments_before map.now.chains (length map.now.chains))
         (segment_rect map.now.chains) }
+    requires suspects { AreSuspects map.now suspects.items }
     ensures { IfOk result (IsListingOfMap map.now) }
 {
     let meets = all_meets(alloc, index, map)?;
     // So the chains are planar where there is none.
     planar_where_no_meet_is_listed();
     if meets.is_empty() {
-        list_planar(alloc, map, false)
+        list_planar(alloc, map, false, suspects)
     } else {
-        list_met(alloc, index, map, meets)
+        list_met(alloc, index, map, meets, suspects)
     }
 }
 
@@ -135,18 +165,20 @@ fn list_met<X: BoxIndex>(
     index: &X,
     map: &Map,
     meets: Vec<Meet>,
+    suspects: Vec<u32>,
 ) -> Result<Listing, Memory>
     requires fits { X.fits index.now (segments_before map.now.chains (length map.now.chains))
         (segment_rect map.now.chains) }
     requires all { AreAllMeets map.now.chains meets.items }
     requires some { meets.items ≢ [] }
+    requires suspects { AreSuspects map.now suspects.items }
     ensures { IfOk result (IsListingOfMap map.now) }
 {
     let mut faults = Vec::new(alloc);
     tell_meets(&mut faults, &meets)?;
     drop(meets);
     let points_left = tell_agreement(alloc, map, &mut faults)?;
-    tell_unless_left(alloc, index, map, points_left, &mut faults)?;
+    tell_unless_left(alloc, index, map, points_left, suspects, &mut faults)?;
     Ok(Listing::Faults {
         faults,
         points_left,
@@ -172,16 +204,18 @@ fn tell_unless_left<X: BoxIndex>(
     index: &X,
     map: &Map,
     left: bool,
+    suspects: Vec<u32>,
     faults: &mut Vec<MapFault>,
 ) -> Result<(), Memory>
-    requires { X.fits index.now (segments_before map.now.chains (length map.now.chains))
+    requires fits { X.fits index.now (segments_before map.now.chains (length map.now.chains))
         (segment_rect map.now.chains) }
+    requires suspects { AreSuspects map.now suspects.items }
     ensures { OnOk result (AddsPoints map.now left faults.old.items faults.new.items) }
 {
     if left {
         return Ok(());
     }
-    tell_misplaced(alloc, index, map, faults)
+    tell_misplaced(alloc, index, map, suspects, faults)
 }
 
 /// Appends what is wrong with where polygons' points lie.
@@ -189,12 +223,14 @@ fn tell_misplaced<X: BoxIndex>(
     alloc: Global,
     index: &X,
     map: &Map,
+    mut suspects: Vec<u32>,
     faults: &mut Vec<MapFault>,
 ) -> Result<(), Memory>
-    requires { X.fits index.now (segments_before map.now.chains (length map.now.chains))
+    requires fits { X.fits index.now (segments_before map.now.chains (length map.now.chains))
         (segment_rect map.now.chains) }
+    requires suspects { AreSuspects map.now suspects.items }
     ensures { OnOk result (AddsPoints map.now false faults.old.items faults.new.items) }
 {
-    let points = all_misplaced(alloc, index, map)?;
+    let points = all_misplaced_among(alloc, index, map, &mut suspects)?;
     tell_points(faults, &points)
 }

@@ -9,4 +9,4 @@ returns-then-left c = adds_none c.args.map.now c.args.left c.args.placed c.args.
       | then-left-via-then-left w ↦ rw w.if-left.true refl
       | then-left-via-else-left+then-placed w ↦ rw (w.if-left.false, w.if-placed.true) refl
     ])
-    c.requires
+    c.requires.placed
