@@ -41,8 +41,8 @@ def play_all(program=PROGRAM):
     """How many ways give the table that the page prints, and how many don't."""
     # The page's 203 counties become six, of which the same two aren't sound.
     text = PAGE.read_text().replace("seq 101 303", "seq 101 106").replace("    201 0\n", "      4 0\n")
-    commands, (wanted, _) = blocks_of(text)
-    make, spoil, script, *ways, table = commands
+    commands, (wanted, counted, _) = blocks_of(text)
+    make, spoil, script, *ways, table, count = commands
     passed = failed = 0
     for way in filter(is_there, ways):
         with tempfile.TemporaryDirectory() as folder:
@@ -50,12 +50,12 @@ def play_all(program=PROGRAM):
             (Path(folder) / "bench").symlink_to(TOP / "bench")
             (Path(folder) / "audit_county").write_text(script)
             (Path(folder) / "audit_county").chmod(0o755)
-            done = [run(command, folder) for command in (make, spoil, way, table)]
-        if done[-1].stdout == wanted and not any(it.stderr for it in done):
+            done = [run(command, folder) for command in (make, spoil, way, table, count)]
+        if [it.stdout for it in done[-2:]] == [wanted, counted] and not any(it.stderr for it in done):
             passed += 1
             continue
         failed += 1
-        print(f"$ {way}-- wanted\n{wanted}-- printed\n{''.join(it.stdout + it.stderr for it in done)}", end="")
+        print(f"$ {way}-- wanted\n{wanted}{counted}-- printed\n{''.join(it.stdout + it.stderr for it in done)}", end="")
     return passed, failed
 
 

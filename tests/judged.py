@@ -33,7 +33,7 @@ PROGRAM = rows.PROGRAM
 CASES = 20_000
 # How many cases a process plays before it says how they went.
 SHARE = 50
-ROWS = ("audit", "check", "fields", "landmarks", "locate", "show")
+ROWS = ("all", "audit", "check", "fields", "landmarks", "locate", "show")
 # The rows' files above this many bytes are left to the program alone: the judge goes over all pairs of segments.
 MOST_BYTES = 60_000
 
