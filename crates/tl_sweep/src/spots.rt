@@ -98,11 +98,7 @@ impl Spots {
 }
 
 /// Lists the polygons of a map that have no mark, in the place of those that were listed.
-pub fn list_unmarked(
-    map: &Map,
-    marks: &[bool],
-    polygons: &mut Vec<u32>,
-) -> Result<(), AllocError>
+pub fn list_unmarked(map: &Map, marks: &[bool], polygons: &mut Vec<u32>) -> Result<(), AllocError>
     ensures known { OnOk result (All (λ p. p < length map.now.polygons) polygons.new.items) }
     ensures others { OnOk result ((p : ℕ) → p < length map.now.polygons →
         Contains polygons.new.items p ⊎ (slice_index_or marks.now p false ≡ true)) }
