@@ -5,6 +5,6 @@ mod Told
 mod OfMap
 mod Gathering
 mod Assembling
-mod Listed
+pub mod Listed
 mod OneOrder
 mod Same
