@@ -44,7 +44,7 @@ pub record HasNone (m : TheMap) : Type 0 where
   pub cells : AreAllCellsAtOdds m.chains []
   pub points : AreAllMisplaced m []
 
-has_none : (m : TheMap) (faults : List MapFault) (points_left : Bool) → AreMapFaults m faults points_left → faults ≡ [] → HasNone m
+pub has_none : (m : TheMap) (faults : List MapFault) (points_left : Bool) → AreMapFaults m faults points_left → faults ≡ [] → HasNone m
 has_none m faults points_left all none =
     let a = joined_empty _ (map fault.PolygonPoint all.points) (sym all.are ∙ none) in
     let b = joined_empty _ (map fault.Cell all.cells) a.0 in

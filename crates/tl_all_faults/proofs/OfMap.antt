@@ -1,5 +1,5 @@
 -- What is told of a map, put together of its parts.
-use Rattle.std.proofs.Common.{◌≡◌, ◌≢◌, ◌||◌, Bool, true, false, IsTrue, List, [], ◌∷◌, ◌++◌, map}
+use Rattle.std.proofs.Common.{◌≡◌, ◌≢◌, ◌<◌, inl, inr, Bool, true, false, List, [], ◌∷◌, ◌++◌, map}
 use Rattle.std.proofs.Common.{append-nil, refl, sym, ap, ◌∙◌, arith}
 use Rattle.std.proofs.lemmas.Option.{slice_get_within}
 use Rattle.tl_county.specs.TheMap.{TheMap, MapChain}
@@ -7,15 +7,18 @@ use Rattle.tl_planar.specs.declared.meet.Meet.{Meet}
 use Rattle.tl_planar.specs.Planar.{IsPlanar}
 use Rattle.tl_planar.proofs.Planes.{meet_not_planar}
 use Rattle.tl_sides.specs.declared.fault.Disagreement.{Disagreement}
+use Rattle.tl_sides.specs.Sides.{SidesAgree}
 use Rattle.tl_inside.specs.declared.misplaced.Misplaced.{Misplaced}
 use Rattle.tl_inside.specs.declared.misplaced.Misplaced.TheVariants.{OnChain, Outside, InOther}
 use Rattle.tl_inside.specs.Placed.{ArePlaced, IsTrueMisplaced}
 use Rattle.tl_meets.specs.Meets.{AreAllMeets}
+use Rattle.tl_disagreements.specs.Disagreements.{AreAllDisagreements}
 use Rattle.tl_misplaced.specs.AllMisplaced.{FaultPlace, IsTrueAt, AreAllMisplaced}
+use Rattle.tl_misplaced.specs.Suspects.{AreSuspects}
 use Rattle.tl_verdict.specs.declared.fault.MapFault.{MapFault}
 use Rattle.tl_verdict.specs.declared.fault.MapFault.TheVariants as fault
 use Rattle.tl_all_faults.specs.MapFaults.{side_fault, ArePointsTold, AreMapFaults}
-use Rattle.tl_all_faults.specs.Keeping.OfMap.{IsFaulty, Differ, AddsAgreement, AreLookedAt, AddsPoints}
+use Rattle.tl_all_faults.specs.Keeping.OfMap.{IsFaulty, Differ, AddsAgreement, AddsCells, AreLookedAt, AddsPoints}
 use Rattle.tl_all_faults.proofs.Emptiness.{one_is_told}
 
 -- planar chains have no meet
@@ -62,10 +65,45 @@ no_points m placed = record {
 }
 
 -- nothing is appended where points are left, or placed
-pub adds_none : (m : TheMap) (left placed : Bool) (faults : List MapFault) → (left || placed) ≡ true → (IsTrue placed → ArePlaced m)
-    → AddsPoints m left faults faults
-adds_none m true placed faults either known = record { points = []; all_points = refl; are = sym (append-nil faults) }
-adds_none m false placed faults either known = record { points = []; all_points = no_points m (known either); are = sym (append-nil faults) }
+pub points_left : (m : TheMap) (faults : List MapFault) → AddsPoints m true faults faults
+points_left m faults = record { points = []; all_points = refl; are = sym (append-nil faults) }
+
+-- nor where no polygon is suspect
+placed_all : (m : TheMap) → AreSuspects m [] → ArePlaced m
+placed_all m suspects p polygon is = elim (suspects.others p polygon is) [
+  | inl listed ↦ absurd (let within : listed.0 < 0 = listed.1 in omega (arith, within))
+  | inr placed ↦ placed
+]
+
+pub points_placed : (m : TheMap) (faults : List MapFault) → AreSuspects m [] → AddsPoints m false faults faults
+points_placed m faults suspects = record { points = []; all_points = no_points m (placed_all m suspects); are = sym (append-nil faults) }
+
+-- where points are placed, no polygon is suspect
+pub no_suspects : (m : TheMap) → ArePlaced m → AreSuspects m []
+no_suspects m placed = record { known = λ k d lt. absurd (omega (arith, lt)); others = λ p polygon is. inr (placed p polygon is) }
+
+-- sides that disagree, and zero-cell ids behind them
+pub agreement_of : (m : TheMap) (differ : Bool) (sides : List Disagreement) (old between new : List MapFault) → AreAllDisagreements m.chains sides
+    → Differ differ sides → between ≡ old ++ map (side_fault m.chains) sides → AddsCells m between new → AddsAgreement m differ old new
+agreement_of m differ sides old between new all is told cells = record {
+  sides = sides;
+  cells = cells.cells;
+  all_sides = all;
+  all_cells = cells.all_cells;
+  is = is;
+  are = cells.are ∙ ap (λ (fs : List MapFault). fs ++ map fault.Cell cells.cells) told;
+}
+
+no_disagreement : (chains : List MapChain) → SidesAgree chains → AreAllDisagreements chains []
+no_disagreement chains agree = record {
+  true_ones = λ k d lt. absurd (omega (arith, lt));
+  complete = λ a b odds. absurd (odds.differ (agree a b odds.is_next));
+  rising = λ i j d lt within. absurd (omega (arith, within));
+}
+
+-- where sides agree, zero-cell ids are all
+pub agreeing : (m : TheMap) (old new : List MapFault) → SidesAgree m.chains → AddsCells m old new → AddsAgreement m false old new
+agreeing m old new agree cells = agreement_of m false [] old old new (no_disagreement m.chains agree) refl (sym (append-nil old)) cells
 
 points_told : (m : TheMap) (left : Bool) (sides : List Disagreement) (points : List Misplaced) → Differ left sides → AreLookedAt m left points
     → ArePointsTold m sides left points
@@ -97,3 +135,8 @@ some_told m faults left all faulty = one_is_told m faults left faulty.0 all faul
 pub meet_is_fault : (m : TheMap) (meets : List Meet) → AreAllMeets m.chains meets → meets ≢ [] → IsFaulty m
 meet_is_fault m [] all some = absurd (some refl)
 meet_is_fault m (meet ∷ meets) all some = (fault.Meet meet, all.true_ones 0 meet (omega arith))
+
+-- of planar chains whose sides agree, zero-cell ids and points are all faults
+pub all_agreeing : (m : TheMap) (old cells faults : List MapFault) → IsPlanar m.chains → old ≡ [] → SidesAgree m.chains → AddsCells m old cells
+    → AddsPoints m false cells faults → AreMapFaults m faults false
+all_agreeing m old cells faults planar none agree told points = all_told m [] false old cells faults (no_meets m.chains planar) none (agreeing m old cells agree told) points

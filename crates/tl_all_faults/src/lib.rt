@@ -7,8 +7,11 @@
 #![tactic(auto)]
 
 pub mod laws;
+mod met;
 mod of_map;
 mod of_records;
+mod parts;
+mod planar;
 mod reading;
 mod tell;
 

@@ -1,40 +1,26 @@
 -- What the clauses of answers to maps read off what these say.
-use Rattle.std.proofs.Common.{◌≡◌, ◌↔◌, ℕ, List, length, Option, Some, None, Result, Ok, Err, refl, subst, ◌∙◌}
+use Rattle.std.proofs.Common.{◌≡◌, ◌↔◌, ℕ, List, Option, Some, None, Result, Ok, Err, refl, subst}
 use Rattle.std.specs.Prelude.{IfOk, IfErr, MatchOption}
-use Rattle.tl_county.specs.declared.sides.Side.TheVariants.{Outside, Polygon}
 use Rattle.tl_county.specs.TheMap.{TheMap}
 use Rattle.tl_planar.specs.Planar.{IsPlanar}
 use Rattle.tl_sides.specs.Sides.{SidesAgree}
 use Rattle.tl_sides.specs.Walks.{AreWalks}
-use Rattle.tl_sides.proofs.Boundaries.{boundary_of}
 use Rattle.tl_inside.specs.Placed.{ArePlaced}
 use Rattle.tl_cells.specs.Cells.{CellsAgree}
 use Rattle.tl_cert.specs.Certificates.{TheCertificate}
 use Rattle.tl_index.specs.declared.index.Memory.{Memory}
 use Rattle.tl_verdict.specs.declared.fault.MapFault.{MapFault}
-use Rattle.tl_verdict.specs.declared.verdict.Report.{Report}
-use Rattle.tl_verdict.specs.Sound.{AreClosed, IsSound}
+use Rattle.tl_verdict.specs.Sound.{IsSound}
 use Rattle.tl_verdict.specs.Truth.{IsTrueOfMap}
-use Rattle.tl_verdict.specs.Verdicts.{IsReport, AreNumbers}
+use Rattle.tl_verdict.specs.Verdicts.{IsReport}
 use Rattle.tl_verdict.proofs.Denials.{not_sound}
+use Rattle.tl_propose.proofs.Soundness.{sound_by}
 use Rattle.tl_build.specs.declared.answer.Audit.TheVariants as audit
 use Rattle.tl_build.specs.declared.answer.Built.TheVariants as built
-use Rattle.tl_build.specs.declared.stop.AuditStop.TheVariants as why
 use Rattle.tl_build.specs.Auditing.{Auditing, IfSound, OnSound, IfFaulty, SaysSound}
 use Rattle.tl_build.specs.Building.{Building, IfCert, OnCert, IfFault, HasCert}
 use Rattle.tl_build.specs.Keeping.Deciding.{Audits, Builds, IsBuilt}
 use Rattle.tl_build.specs.Keeping.Judging.{IsMapStop}
-
--- ---- a sound map
-
-pub closed_by : (m : TheMap) (walks : List (List ℕ)) → AreWalks m.chains walks → SidesAgree m.chains → AreClosed m
-closed_by m walks are sides = record {
-  polygons = λ p h. boundary_of m.chains walks (Polygon p) are sides;
-  outside = boundary_of m.chains walks Outside are sides;
-}
-
-pub sound_by : (m : TheMap) (walks : List (List ℕ)) → AreWalks m.chains walks → IsPlanar m.chains → SidesAgree m.chains × CellsAgree m.chains → ArePlaced m → IsSound m
-sound_by m walks are planar agree placed = record { planar = planar; sides = agree.0; closed = closed_by m walks are agree.0; points = placed; cells = agree.1 }
 
 -- where nothing was found to be at odds
 pub none_found : (m : TheMap) (found : Option MapFault) → found ≡ None → MatchOption found (SidesAgree m.chains × CellsAgree m.chains) (IsTrueOfMap m) → SidesAgree m.chains × CellsAgree m.chains
@@ -46,18 +32,6 @@ pub sound_where : (m : TheMap) (walks : List (List ℕ)) → AreWalks m.chains w
 sound_where m walks are planar agree (Ok None) told = sound_by m walks are planar agree told
 sound_where m walks are planar agree (Ok (Some fault)) told = told
 sound_where m walks are planar agree (Err refused) told = tt
-
-pub report_by : (m : TheMap) (walks : List (List ℕ)) (rings : ℕ) (r : Report) → AreWalks m.chains walks → rings ≡ length walks → AreNumbers m rings r → IsReport m r
-report_by m walks rings r are many n = record {
-  chains = n.chains;
-  segments = n.segments;
-  nodes = n.nodes;
-  polygons = n.polygons;
-  landmarks = n.landmarks;
-  walks = walks;
-  rings = are;
-  counted = n.rings_are ∙ many;
-}
 
 -- ---- audits
 
@@ -85,12 +59,6 @@ module _ (m : TheMap) where
   pub stops : (answer : Auditing) → Audits m answer → IfErr answer IsMapStop
   stops (Ok told) says = tt
   stops (Err stop) says = says
-
-  pub memory_alone : (answer : Auditing) → Audits m answer → IfErr answer (λ stop. stop ≡ why.Memory)
-  memory_alone (Ok told) says = tt
-  memory_alone (Err (why.Record line cause)) says = absurd says
-  memory_alone (Err why.Memory) says = refl
-  memory_alone (Err why.Device) says = absurd says
 
   -- ---- builds
 

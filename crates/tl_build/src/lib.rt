@@ -10,13 +10,11 @@
 mod answer;
 mod judge;
 mod of_map;
-mod of_planar;
 mod of_records;
 mod planar;
 mod stop;
 
 pub use answer::{Audit, Built};
 pub use of_map::build;
-pub use of_planar::audit_planar_map;
 pub use of_records::{audit, audit_with};
 pub use stop::{AuditStop, BuildStop};

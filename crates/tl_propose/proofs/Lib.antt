@@ -9,3 +9,5 @@ pub mod MarkFacts
 pub mod Holding
 pub mod Packed
 pub mod SideLemmas
+pub mod ApartLemmas
+pub mod Soundness

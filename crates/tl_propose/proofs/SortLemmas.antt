@@ -6,16 +6,11 @@ use Rattle.std.specs.List.Sorted.{IsSortedBy}
 use Rattle.std.specs.Ordering.{is_lt}
 use Rattle.std.specs.declared.cmp.Ordering.{Ordering}
 use Rattle.std.specs.declared.cmp.Ordering.TheVariants.{Less, Equal, Greater}
-use Rattle.tl_geom.specs.Turning.{IsOneDirection}
 use Rattle.tl_geom.proofs.Within.{below_trans, alike_above}
 use Rattle.tl_sides.proofs.Headings.{never_both, never_one}
 use Rattle.tl_crossings.proofs.Turns.{order}
 use Rattle.tl_propose.specs.declared.rounds.DartStart.{DartStart}
-use Rattle.tl_propose.specs.Keeping.Sorting.{ComesBefore, AreSorted}
-
--- both start at one node and head in one direction
-abbrev pub Ties : DartStart → DartStart → Type 0
-Ties s t = (s.node ≡ t.node) × IsOneDirection s.heading t.heading
+use Rattle.tl_propose.specs.Keeping.Sorting.{ComesBefore, AreSorted, Ties}
 
 -- the first comes before the other, or neither does, or the other before it
 abbrev pub Compared : DartStart → DartStart → Type 0
@@ -42,11 +37,11 @@ never_after s t (inl less) (inr more) = omega (arith, less, more.0)
 never_after s t (inr less) (inl more) = omega (arith, less.0, more)
 never_after s t (inr less) (inr more) = never_both s.heading t.heading less.1 more.1
 
-never_ties : (s t : DartStart) → ComesBefore s t → ¬ Ties s t
+pub never_ties : (s t : DartStart) → ComesBefore s t → ¬ Ties s t
 never_ties s t (inl less) ties = omega (arith, less, ties.0)
 never_ties s t (inr less) ties = never_one s.heading t.heading less.1 ties.1
 
-chained : (s t u : DartStart) → ComesBefore s t → ComesBefore t u → ComesBefore s u
+pub chained : (s t u : DartStart) → ComesBefore s t → ComesBefore t u → ComesBefore s u
 chained s t u (inl one) (inl two) = inl (omega (arith, one, two))
 chained s t u (inl one) (inr two) = inl (omega (arith, one, two.0))
 chained s t u (inr one) (inl two) = inl (omega (arith, one.0, two))

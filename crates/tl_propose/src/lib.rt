@@ -9,6 +9,6 @@ mod rounds;
 mod sides;
 mod walks;
 
-pub use points::{find_misplaced_beside, find_misplaced_by};
-pub use proposal::{propose, propose_tree, propose_walks};
+pub use points::{find_misplaced_beside, find_misplaced_by, list_suspects_by};
+pub use proposal::{propose, propose_tree, propose_walks, propose_walks_apart};
 pub use sides::find_sides_at_odds;

@@ -1,10 +1,13 @@
 //! The points of polygons, by the rings of a map.
 
-ghost use Rattle.std.specs.Prelude.{◌≡◌, ◌<◌, ◌^◌, length, IfOk, MatchOption};
+ghost use Rattle.std.specs.Prelude.{◌≡◌, ◌⊎◌, ℕ, ◌<◌, ◌^◌, Some, length, slice_get, All, Contains, IfOk, MatchOption};
+ghost use Rattle.tl_county.specs.Segments.{segments_before};
+ghost use Rattle.tl_county.specs.declared.polygons.Polygon.{Polygon};
 ghost use Rattle.tl_index.specs.Preorder.{IsPreorder};
+ghost use Rattle.tl_planar.specs.Rectangles.{segment_rect};
 ghost use Rattle.tl_sides.specs.Sides.{SidesAgree};
 ghost use Rattle.tl_sides.specs.Walks.{AreWalks};
-ghost use Rattle.tl_inside.specs.Placed.{ArePlaced};
+ghost use Rattle.tl_inside.specs.Placed.{ArePlaced, IsPlacedIn};
 ghost use Rattle.tl_rings.specs.Rings.{AreBoxed};
 ghost use Rattle.tl_verdict.specs.Truth.{IsTrueOfMap};
 ghost use Rattle.tl_verdict.specs.Valid.{IsTree};
@@ -13,8 +16,8 @@ ghost use Rattle.tl_propose.specs.Keeping.Lists.{lists_in};
 use crate::proposal::propose_tree;
 use std::alloc::Global;
 use tl_county::Map;
-use tl_index::{Memory, TreeNode, TreeStop};
-use tl_rings::{Rings, find_misplaced};
+use tl_index::{BoxIndex, Memory, TreeNode, TreeStop};
+use tl_rings::{Rings, find_misplaced, list_suspects};
 use tl_tree::FlatTree;
 use tl_verdict::MapFault;
 
@@ -81,6 +84,29 @@ fn find_misplaced_among(
     match find_misplaced(alloc, map, &tree, rings) {
         Ok(Some(fault)) => Ok(Some(MapFault::PolygonPoint(fault))),
         Ok(None) => Ok(None),
+        Err(_) => Err(Memory),
+    }
+}
+
+/// The polygons whose points the rings of a map don't show to lie where they have to, in any order, by the walks of a map
+/// whose sides agree and any index that fits its segments. The chains may be planar or not. An error says that memory was
+/// refused.
+pub fn list_suspects_by<X: BoxIndex>(
+    alloc: Global,
+    map: &Map,
+    index: &X,
+    walks: &[Vec<u32>],
+) -> Result<Vec<u32>, Memory>
+    requires fits { X.fits index.now (segments_before map.now.chains (length map.now.chains)) (segment_rect map.now.chains) }
+    requires sides { SidesAgree map.now.chains }
+    requires walks { AreWalks map.now.chains (lists_in walks.now) }
+    requires few { length walks.now < 2 ^ 32 }
+    ensures known { IfOk result (λ suspects. All (λ p. p < length map.now.polygons) suspects.items) }
+    ensures others { IfOk result (λ suspects. (p : ℕ) (polygon : Polygon) → slice_get map.now.polygons p ≡ Some polygon →
+        Contains suspects.items p ⊎ IsPlacedIn map.now polygon.point p) }
+{
+    match rings_of(alloc, map, walks) {
+        Ok(rings) => list_suspects(alloc, map, index, &rings),
         Err(_) => Err(Memory),
     }
 }

@@ -1,6 +1,6 @@
 //! The certificate that is proposed for a map.
 
-ghost use Rattle.std.specs.Prelude.{◌*◌, ◌≤◌, length, All, IfOk};
+ghost use Rattle.std.specs.Prelude.{◌*◌, ◌≤◌, ◌↔◌, length, All, IfOk, IfSome, IsTrue, MatchOption};
 ghost use Rattle.tl_index.specs.Preorder.{IsPreorder};
 ghost use Rattle.tl_index.specs.Trees.{depth, tree_of};
 ghost use Rattle.tl_pack.specs.Packed.{IsEvenlySplit};
@@ -8,14 +8,14 @@ ghost use Rattle.tl_planar.specs.Planar.{IsPlanar};
 ghost use Rattle.tl_sides.specs.Lists.{HoldOnce};
 ghost use Rattle.tl_sides.specs.Rounds.{AreRounds};
 ghost use Rattle.tl_sides.specs.Walks.{AreWalks};
-ghost use Rattle.tl_crossings.specs.Headings.{AreProper};
+ghost use Rattle.tl_crossings.specs.Headings.{AreProper, HeadApart};
 ghost use Rattle.tl_cert.specs.Certificates.{AreDartLists, IsCounted, IsNode};
 ghost use Rattle.tl_verdict.specs.Valid.{AreCounts, IsTree};
 ghost use Rattle.tl_propose.specs.Keeping.Lists.{lists_in};
 ghost use Rattle.tl_propose.specs.Keeping.Proposed.{IsProposal};
 ghost use Rattle.tl_propose.specs.Keeping.Sorting.{AreStarts};
 
-use crate::rounds::{DartStart, cut_rounds, sort_starts};
+use crate::rounds::{DartStart, cut_rounds, have_no_ties, sort_starts};
 use crate::walks::{link_darts, trace_walks};
 use std::alloc::{AllocError, Global};
 use tl_cert::{Certificate, Counts};
@@ -94,6 +94,30 @@ pub fn propose_walks(alloc: Global, map: &Map) -> Result<Vec<Vec<u32>>, AllocErr
     walks_of(alloc, map, starts)
 }
 
+/// The walks of a map whose darts head apart about each node, planar or not; none where two of a node head in one direction.
+pub fn propose_walks_apart(alloc: Global, map: &Map) -> Result<Option<Vec<Vec<u32>>>, AllocError>
+    ensures apart { IfOk result (λ found. MatchOption found (¬ HeadApart map.now.chains) (λ walks. HeadApart map.now.chains)) }
+    ensures are_walks { IfOk result (λ found. IfSome found (λ walks. AreProper map.now.chains →
+        AreWalks map.now.chains (lists_in walks.items))) }
+    ensures counted { IfOk result (λ found. IfSome found (λ walks. AreDartLists (lists_in walks.items))) }
+{
+    let starts = sort_starts(alloc, map)?;
+    if !head_apart(map, &starts) {
+        return Ok(None);
+    }
+    Ok(Some(walks_of(alloc, map, starts)?))
+}
+
+/// Whether the darts of a map head apart about each node, by the sorted darts.
+fn head_apart(map: &Map, starts: &[DartStart]) -> bool
+    requires { AreStarts map.now.chains starts.now }
+    ensures { IsTrue result ↔ HeadApart map.now.chains }
+{
+    // that the nodes of a map are one list
+    let _nodes = map.nodes();
+    have_no_ties(starts)
+}
+
 /// The rounds of a map, by its sorted darts.
 fn rounds_of(alloc: Global, map: &Map, starts: &[DartStart]) -> Result<Vec<Vec<u32>>, AllocError>
     requires { AreStarts map.now.chains starts.now }
@@ -110,7 +134,7 @@ fn rounds_of(alloc: Global, map: &Map, starts: &[DartStart]) -> Result<Vec<Vec<u
 fn walks_of(alloc: Global, map: &Map, starts: Vec<DartStart>) -> Result<Vec<Vec<u32>>, AllocError>
     requires { AreStarts map.now.chains starts.items }
     ensures hold { IfOk result (λ walks. HoldOnce (2 * length map.now.chains) (lists_in walks.items)) }
-    ensures are_walks { IfOk result (λ walks. AreProper map.now.chains → IsPlanar map.now.chains →
+    ensures are_walks { IfOk result (λ walks. AreProper map.now.chains → HeadApart map.now.chains →
         AreWalks map.now.chains (lists_in walks.items)) }
     ensures counted { IfOk result (λ walks. AreDartLists (lists_in walks.items)) }
 {

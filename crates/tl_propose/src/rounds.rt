@@ -1,13 +1,13 @@
 //! The rounds of a map: the darts of each node in the order of their headings.
 
 ghost use Rattle.std.specs.Prelude.{◌≡◌, ◌≢◌, ◌↔◌, [], ℕ, ◌*◌, ◌-◌, ◌^◌, ◌<◌, ◌≤◌, zero};
-ghost use Rattle.std.specs.Prelude.{length, map, All, IfOk, OnOk, slice_index_or};
+ghost use Rattle.std.specs.Prelude.{length, map, All, IfOk, OnOk, IsTrue, slice_index_or};
 ghost use Rattle.std.specs.List.{concat};
 ghost use Rattle.std.specs.List.Sorted.{IsPermutation};
 ghost use Rattle.tl_propose.specs.declared.rounds.DartStart.{DartStart};
 ghost use Rattle.tl_pack.specs.Lists.{up};
 ghost use Rattle.tl_propose.specs.Keeping.Lists.{darts_in, lists_in, AreDartsBelow};
-ghost use Rattle.tl_propose.specs.Keeping.Sorting.{ComesBefore, AreSorted, AreStarts, AreCut, IsStartOf};
+ghost use Rattle.tl_propose.specs.Keeping.Sorting.{ComesBefore, AreSorted, Ties, HaveNoTies, AreStarts, AreCut, IsStartOf};
 
 use std::alloc::{AllocError, Global};
 use std::cmp::Ordering;
@@ -86,6 +86,25 @@ fn start_cmp(one: &DartStart, other: &DartStart) -> Ordering
         Ordering::Equal => round_cmp(one.heading, other.heading),
         apart => apart,
     }
+}
+
+/// Whether no two of some darts that follow one another start at one node and head in one direction.
+pub fn have_no_ties(starts: &[DartStart]) -> bool
+    ensures { IsTrue result ↔ HaveNoTies starts.now }
+{
+    for place in 1..starts.len() {
+        if tie(&starts[place - 1], &starts[place]) {
+            return false;
+        }
+    }
+    true
+}
+
+/// Whether two darts start at one node and head in one direction.
+fn tie(one: &DartStart, other: &DartStart) -> bool
+    ensures { IsTrue result ↔ Ties one.now other.now }
+{
+    one.node == other.node && round_cmp(one.heading, other.heading) == Ordering::Equal
 }
 
 /// The rounds of darts that stand together by their nodes.

@@ -5,3 +5,4 @@ pub mod Adding
 pub mod Upward
 pub mod Looking
 pub mod Ordering
+pub mod Suspecting

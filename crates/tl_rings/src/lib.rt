@@ -15,6 +15,8 @@ mod misplaced;
 mod rings;
 mod sites;
 mod spot;
+mod suspects;
 
 pub use misplaced::find_misplaced;
 pub use rings::Rings;
+pub use suspects::list_suspects;

@@ -1,7 +1,9 @@
 -- What is told of a map.
-use Rattle.std.specs.Prelude.{◌≡◌, ◌≢◌, Bool, true, false, List, [], ◌++◌, map}
+use Rattle.std.specs.Prelude.{◌≡◌, ◌≢◌, ℕ, Bool, true, false, List, [], ◌++◌, map, length}
 use Rattle.tl_county.specs.TheMap.{TheMap}
 use Rattle.tl_sides.specs.declared.fault.Disagreement.{Disagreement}
+use Rattle.tl_sides.specs.Sides.{SidesAgree}
+use Rattle.tl_sides.specs.Walks.{AreWalks}
 use Rattle.tl_cells.specs.declared.at_odds.CellsAtOdds.{CellsAtOdds}
 use Rattle.tl_inside.specs.declared.misplaced.Misplaced.{Misplaced}
 use Rattle.tl_disagreements.specs.Disagreements.{AreAllDisagreements}
@@ -50,3 +52,22 @@ pub record AddsPoints (m : TheMap) (left : Bool) (old new : List MapFault) : Typ
   pub points : List Misplaced
   pub all_points : AreLookedAt m left points
   pub are : new ≡ old ++ map fault.PolygonPoint points
+
+-- all zero-cell ids that are at odds are appended
+pub record AddsCells (m : TheMap) (old new : List MapFault) : Type 0 where
+  pub cells : List CellsAtOdds
+  pub all_cells : AreAllCellsAtOdds m.chains cells
+  pub are : new ≡ old ++ map fault.Cell cells
+
+-- all that is wrong but meets is appended, unless points are left
+pub record AddsRest (m : TheMap) (left : Bool) (old new : List MapFault) : Type 0 where
+  pub between : List MapFault
+  pub agreement : AddsAgreement m left old between
+  pub points : AddsPoints m left between new
+
+-- sides agree, and the map's boundaries have so many rings
+pub record HasRings (m : TheMap) (rings : ℕ) : Type 0 where
+  pub agree : SidesAgree m.chains
+  pub walks : List (List ℕ)
+  pub are : AreWalks m.chains walks
+  pub counted : rings ≡ length walks

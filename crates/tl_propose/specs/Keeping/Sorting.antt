@@ -5,7 +5,7 @@ use Rattle.tl_geom.specs.declared.point.Point.{Point}
 use Rattle.tl_county.specs.TheMap.{MapChain}
 use Rattle.tl_county.specs.Darts.{dart_start, Heads}
 use Rattle.tl_county.specs.Nodes.{AreNodes}
-use Rattle.tl_geom.specs.Turning.{IsBelow}
+use Rattle.tl_geom.specs.Turning.{IsBelow, IsOneDirection}
 use Rattle.tl_pack.specs.Lists.{HoldsAll}
 use Rattle.tl_propose.specs.declared.rounds.DartStart.{DartStart}
 use Rattle.tl_propose.specs.Keeping.Lists.{darts_in}
@@ -17,6 +17,14 @@ ComesBefore s t = (s.node < t.node) ⊎ ((s.node ≡ t.node) × IsBelow s.headin
 -- none comes before the one in front of it
 abbrev pub AreSorted : List DartStart → Type 0
 AreSorted starts = (k : ℕ) (d : DartStart) → k + 1 < length starts → ¬ ComesBefore (slice_index_or starts (k + 1) d) (slice_index_or starts k d)
+
+-- both start at one node and head in one direction
+abbrev pub Ties : DartStart → DartStart → Type 0
+Ties s t = (s.node ≡ t.node) × IsOneDirection s.heading t.heading
+
+-- none ties with the one in front of it
+abbrev pub HaveNoTies : List DartStart → Type 0
+HaveNoTies starts = (k : ℕ) (d : DartStart) → k + 1 < length starts → ¬ Ties (slice_index_or starts k d) (slice_index_or starts (k + 1) d)
 
 -- what is said of a dart is true: the number of its node, and its heading
 pub record IsStartOf (chains : List MapChain) (s : DartStart) : Type 0 where

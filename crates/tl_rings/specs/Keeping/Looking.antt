@@ -1,5 +1,5 @@
 -- What is found of a polygon's point on the way.
-use Rattle.std.specs.Prelude.{◌≡◌, ℕ, ◌<◌, ◌^◌, length, ℤ, pos, neg_ℤ, ◌+ℤ◌, Bool, false, if◌then◌else◌, Some, List, slice_get, slice_index_or, All, ⊤}
+use Rattle.std.specs.Prelude.{◌≡◌, ◌⊎◌, ℕ, ◌<◌, ◌^◌, length, ℤ, pos, neg_ℤ, ◌+ℤ◌, Bool, false, if◌then◌else◌, Some, List, slice_get, slice_index_or, All, Contains, ⊤}
 use Rattle.tl_geom.specs.declared.point.Point.{Point}
 use Rattle.tl_geom.specs.declared.rect.Rect.{Rect}
 use Rattle.tl_county.specs.Segments.{segments_before}
@@ -44,6 +44,10 @@ IsLook m site Costly = ⊤
 -- the point of polygon p lies where it has to
 abbrev pub IsPlacedPolygon : TheMap → ℕ → Type 0
 IsPlacedPolygon m p = (polygon : Polygon) → slice_get m.polygons p ≡ Some polygon → IsPlacedIn m polygon.point p
+
+-- polygon p is one of these, or its point lies where it has to
+abbrev pub IsPlacedOrIn : TheMap → List ℕ → ℕ → Type 0
+IsPlacedOrIn m suspects p = Contains suspects p ⊎ IsPlacedPolygon m p
 
 -- where those that are left are placed, so are the first k of these polygons
 abbrev pub ArePlacedBut : TheMap → List Site → List ℕ → ℕ → Type 0

@@ -1,5 +1,6 @@
 use Rattle.std.proofs.Common.{sym, subst}
 use Rattle.std.proofs.lemmas.Result.{err_from_is_err_and}
+use Rattle.tl_crossings.proofs.Apart.{apart}
 use Rattle.tl_propose.specs.Keeping.Sorting.{AreStarts}
 use Rattle.tl_propose.proofs.proposal.propose_rings.Goals as goal
 
@@ -19,7 +20,7 @@ pub returns-clause-are_rounds : goal.returns-clause-are_rounds
 returns-clause-are_rounds c = c.in_ok-rounds.ensures.are_rounds
 
 pub returns-clause-are_walks : goal.returns-clause-are_walks
-returns-clause-are_walks c = c.in_ok-walks.ensures.are_walks
+returns-clause-are_walks c = λ proper planar. c.in_ok-walks.ensures.are_walks proper (apart c.args.map.now.chains planar proper)
 
 pub returns-clause-rounds_counted : goal.returns-clause-rounds_counted
 returns-clause-rounds_counted c = c.in_ok-rounds.ensures.counted

@@ -1,4 +1,6 @@
 use Rattle.std.proofs.lemmas.Result.{err_from_is_err_and}
+use Rattle.tl_inside.proofs.Placing.{if_ok}
+use Rattle.tl_crossings.proofs.Apart.{apart}
 use Rattle.tl_propose.proofs.proposal.propose_walks.Goals as goal
 
 pub walks_of-requires : goal.walks_of-requires
@@ -8,7 +10,7 @@ pub returns-clause-hold : goal.returns-clause-hold
 returns-clause-hold c = c.walks_of.ensures.hold
 
 pub returns-clause-are_walks : goal.returns-clause-are_walks
-returns-clause-are_walks c = c.walks_of.ensures.are_walks
+returns-clause-are_walks c = if_ok c.walks_of.result (λ walks are proper planar. are proper (apart c.args.map.now.chains planar proper)) c.walks_of.ensures.are_walks
 
 pub returns-clause-counted : goal.returns-clause-counted
 returns-clause-counted c = c.walks_of.ensures.counted

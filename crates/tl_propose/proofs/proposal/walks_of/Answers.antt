@@ -1,6 +1,5 @@
 use Rattle.std.proofs.Common.{◌≡◌, ◌*◌, ◌<◌, zero, length, ap, sym, subst, ◌∙◌, arith}
 use Rattle.std.proofs.lemmas.Result.{err_from_is_err_and}
-use Rattle.tl_crossings.proofs.Apart.{apart}
 use Rattle.tl_pack.specs.Lists.{HoldsAll}
 use Rattle.tl_sides.specs.Lists.{HoldOnce}
 use Rattle.tl_propose.specs.Keeping.Lists.{darts_in, lists_in}
@@ -23,14 +22,14 @@ returns-clause-hold c =
     subst (λ n. HoldOnce n (lists_in c.in_ok-walks.walks.items)) long c.in_ok-walks.ensures.hold
 
 pub returns-clause-are_walks : goal.returns-clause-are_walks
-returns-clause-are_walks c = λ proper planar.
+returns-clause-are_walks c = λ proper apart.
     let chains = c.args.map.now.chains in
     let m = length chains in
     let following = c.deref-2.result.now in
     let long : length following ≡ 2 * m = ap length c.deref-2.ensures.value ∙ (c.in_ok-following.ensures.long ∙ ap length c.deref.ensures.value ∙ c.requires.long) in
     let by : IsLinkedBy c.args.starts.items following = subst (λ starts. IsLinkedBy starts following) c.deref.ensures.value (subst (IsLinkedBy c.deref.result.now) (sym c.deref-2.ensures.value) c.in_ok-following.ensures.linked) in
     let hold : HoldOnce (2 * m) by.rounds = held_once (2 * m) by.rounds (darts_in c.args.starts.items) by.whole c.requires.all in
-    let is = are_rounds chains c.nodes-nodes.ensures.0 c.nodes-nodes.ensures.1 c.args.starts.items c.requires.each by.rounds (by.cut c.requires.sorted) hold (apart chains planar proper) in
+    let is = are_rounds chains c.nodes-nodes.ensures.0 c.nodes-nodes.ensures.1 c.args.starts.items c.requires.each by.rounds (by.cut c.requires.sorted) hold apart in
     let only = one_to_one m by.rounds following hold long by.linked in
     are_walks chains proper by.rounds is following long by.linked (lists_in c.in_ok-walks.walks.items) (returns-clause-hold c)
     (each_of (λ w. zero < length w) c.in_ok-walks.walks.items c.in_ok-walks.ensures.some)
