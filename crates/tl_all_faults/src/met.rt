@@ -1,6 +1,6 @@
 //! All faults of a map with chains that meet where they may not.
 
-ghost use Rattle.std.specs.Prelude.{◌≢◌, ◌<◌, ◌^◌, [], IfOk, IfSome, length};
+ghost use Rattle.std.specs.Prelude.{◌≢◌, ◌<◌, ◌^◌, [], false, IfOk, OnOk, IfSome, length};
 ghost use Rattle.tl_county.specs.Segments.{segments_before};
 ghost use Rattle.tl_planar.specs.Rectangles.{segment_rect};
 ghost use Rattle.tl_sides.specs.Sides.{SidesAgree};
@@ -8,9 +8,9 @@ ghost use Rattle.tl_sides.specs.Walks.{AreWalks};
 ghost use Rattle.tl_propose.specs.Keeping.Lists.{lists_in};
 ghost use Rattle.tl_meets.specs.Meets.{AreAllMeets};
 ghost use Rattle.tl_misplaced.specs.Suspects.{AreSuspects};
-ghost use Rattle.tl_all_faults.specs.Keeping.OfMap.{IsListingOfMap, AddsRest};
+ghost use Rattle.tl_all_faults.specs.Keeping.OfMap.{IsListingOfMap, AddsPoints, AddsRest};
 
-use crate::parts::{tell_agreement, tell_all_cells, tell_misplaced};
+use crate::parts::{tell_agreement, tell_misplaced};
 use crate::tell::tell_meets;
 use std::alloc::Global;
 use tl_county::Map;
@@ -18,7 +18,7 @@ use tl_crossings::look_at_chains;
 use tl_index::{BoxIndex, Memory};
 use tl_listing::Listing;
 use tl_planar::Meet;
-use tl_propose::{find_sides_at_odds, list_suspects_by, propose_walks_apart};
+use tl_propose::{list_suspects_by, propose_walks_apart};
 use tl_verdict::MapFault;
 
 /// All faults of a map with these meets, by an index that fits its segments, where the points of all polygons but the suspects
@@ -60,38 +60,55 @@ fn tell_rest<X: BoxIndex>(
     requires suspects { AreSuspects map.now suspects.items }
     ensures { IfOk result (λ left. AddsRest map.now left faults.old.items faults.new.items) }
 {
+    if tell_agreement(alloc, map, faults)? {
+        return Ok(true);
+    }
+    tell_points(alloc, index, map, suspects, faults)?;
+    Ok(false)
+}
+
+/// Appends what is wrong with where polygons' points lie, where sides agree.
+fn tell_points<X: BoxIndex>(
+    alloc: Global,
+    index: &X,
+    map: &Map,
+    suspects: Vec<u32>,
+    faults: &mut Vec<MapFault>,
+) -> Result<(), Memory>
+    requires fits { X.fits index.now (segments_before map.now.chains (length map.now.chains))
+        (segment_rect map.now.chains) }
+    requires agree { SidesAgree map.now.chains }
+    requires suspects { AreSuspects map.now suspects.items }
+    ensures { OnOk result (AddsPoints map.now false faults.old.items faults.new.items) }
+{
     match suspects_by_rings(alloc, index, map)? {
-        Some(fewer) => tell_agreeing(alloc, index, map, fewer, faults),
-        None => tell_doubtful(alloc, index, map, suspects, faults),
+        Some(fewer) => tell_misplaced(alloc, index, map, fewer, faults),
+        None => tell_misplaced(alloc, index, map, suspects, faults),
     }
 }
 
-/// Where sides agree and darts head apart about each node, the polygons whose points the rings of a map don't show to lie
-/// where they have to. Chains need not be planar for it.
+/// Where darts head apart about each node, the polygons whose points the rings of a map don't show to lie where they have
+/// to. Sides have to agree, but chains need not be planar.
 fn suspects_by_rings<X: BoxIndex>(
     alloc: Global,
     index: &X,
     map: &Map,
 ) -> Result<Option<Vec<u32>>, Memory>
-    requires { X.fits index.now (segments_before map.now.chains (length map.now.chains))
+    requires fits { X.fits index.now (segments_before map.now.chains (length map.now.chains))
         (segment_rect map.now.chains) }
-    ensures agree { IfOk result (λ found. IfSome found (λ suspects. SidesAgree map.now.chains)) }
-    ensures suspects { IfOk result (λ found. IfSome found (λ suspects. AreSuspects map.now suspects.items)) }
+    requires agree { SidesAgree map.now.chains }
+    ensures { IfOk result (λ found. IfSome found (λ suspects. AreSuspects map.now suspects.items)) }
 {
+    // that each chain has two points or more
     look_at_chains(map);
-    let Ok(proposed) = propose_walks_apart(alloc, map) else {
-        return Err(Memory);
-    };
-    let Some(walks) = proposed else {
-        return Ok(None);
-    };
-    match find_sides_at_odds(map, &walks) {
-        Some(_) => Ok(None),
-        None => suspects_by_walks(alloc, index, map, &walks),
+    match propose_walks_apart(alloc, map) {
+        Ok(Some(walks)) => suspects_by_walks(alloc, index, map, &walks),
+        Ok(None) => Ok(None),
+        Err(_) => Err(Memory),
     }
 }
 
-/// The same by the walks of a map whose sides agree.
+/// The same by the walks of a map.
 fn suspects_by_walks<X: BoxIndex>(
     alloc: Global,
     index: &X,
@@ -103,50 +120,10 @@ fn suspects_by_walks<X: BoxIndex>(
     requires agree { SidesAgree map.now.chains }
     requires walks { AreWalks map.now.chains (lists_in walks.now) }
     requires few { length walks.now < 2 ^ 32 }
-    ensures agree { IfOk result (λ found. IfSome found (λ suspects. SidesAgree map.now.chains)) }
-    ensures suspects { IfOk result (λ found. IfSome found (λ suspects. AreSuspects map.now suspects.items)) }
+    ensures { IfOk result (λ found. IfSome found (λ suspects. AreSuspects map.now suspects.items)) }
 {
     match list_suspects_by(alloc, map, index, walks) {
         Ok(suspects) => Ok(Some(suspects)),
         Err(_) => Err(Memory),
     }
-}
-
-/// Appends what else is wrong where sides agree.
-fn tell_agreeing<X: BoxIndex>(
-    alloc: Global,
-    index: &X,
-    map: &Map,
-    suspects: Vec<u32>,
-    faults: &mut Vec<MapFault>,
-) -> Result<bool, Memory>
-    requires fits { X.fits index.now (segments_before map.now.chains (length map.now.chains))
-        (segment_rect map.now.chains) }
-    requires agree { SidesAgree map.now.chains }
-    requires suspects { AreSuspects map.now suspects.items }
-    ensures { IfOk result (λ left. AddsRest map.now left faults.old.items faults.new.items) }
-{
-    tell_all_cells(alloc, map, faults)?;
-    tell_misplaced(alloc, index, map, suspects, faults)?;
-    Ok(false)
-}
-
-/// Appends what else is wrong where it isn't known whether sides agree.
-fn tell_doubtful<X: BoxIndex>(
-    alloc: Global,
-    index: &X,
-    map: &Map,
-    suspects: Vec<u32>,
-    faults: &mut Vec<MapFault>,
-) -> Result<bool, Memory>
-    requires fits { X.fits index.now (segments_before map.now.chains (length map.now.chains))
-        (segment_rect map.now.chains) }
-    requires suspects { AreSuspects map.now suspects.items }
-    ensures { IfOk result (λ left. AddsRest map.now left faults.old.items faults.new.items) }
-{
-    if tell_agreement(alloc, map, faults)? {
-        return Ok(true);
-    }
-    tell_misplaced(alloc, index, map, suspects, faults)?;
-    Ok(false)
 }

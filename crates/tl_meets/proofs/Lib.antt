@@ -6,3 +6,4 @@ mod Telling
 mod Wholes
 pub mod Deciding
 mod Planar
+mod Doubting

@@ -27,7 +27,7 @@ times_moved : (i : ℕ) (xs ys : List ℕ) → IsPermutation xs ys → times i y
 times_moved i xs ys p = times_sum i ys ∙ (sum_by-IsPermutation (is_here i) xs ys p ∙ sym (times_sum i xs))
 
 -- a number that stands in the list
-stands : (x : ℕ) (xs : List ℕ) → 1 ≤ times x xs → Contains xs x
+pub stands : (x : ℕ) (xs : List ℕ) → 1 ≤ times x xs → Contains xs x
 stands x [] h = absurd (let no : 1 ≤ 0 = h in omega (arith, no))
 stands x (y ∷ xs) h =
     same_or x y
@@ -51,7 +51,7 @@ stands_twice (x ∷ xs) (suc i) (suc j) lt within e =
     (λ ne. omega (arith, times-other (get_or xs i 0) x xs ne, rest))
 
 -- two rectangles meet or don't
-meeting_or_not : (r q : Rect) → AreMeeting r q ⊎ (¬ AreMeeting r q)
+pub meeting_or_not : (r q : Rect) → AreMeeting r q ⊎ (¬ AreMeeting r q)
 meeting_or_not r q =
     by_lt_z (int_min r.xmax q.xmax) (int_max r.xmin q.xmin)
     (λ apart. inr (λ m. let h = (by_meeting r q m).0 in omega (arith, ints, apart, h)))

@@ -2,3 +2,4 @@
 pub mod Listing
 pub mod Reaching
 pub mod Telling
+pub mod Doubting

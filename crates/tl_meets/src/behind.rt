@@ -39,7 +39,7 @@ where
 ghost use Rattle.std.specs.Prelude.{◌↔◌, IsTrue, None};
 
 /// Whether two items conflict.
-fn conflicts<I: ConsistentItems>(items: &I, i: u32, j: u32) -> bool
+pub fn conflicts<I: ConsistentItems>(items: &I, i: u32, j: u32) -> bool
 where
     I::C: Drop,
     requires ordered { i < j }

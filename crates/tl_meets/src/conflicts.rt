@@ -6,6 +6,7 @@ ghost use Rattle.tl_meets.specs.Keeping.Reaching.{AreConflictsBefore};
 
 use crate::ConsistentItems;
 use crate::behind::list_behind;
+use crate::doubtful::{is_marked, mark_doubtful};
 use std::alloc::Global;
 use tl_index::{BoxIndex, Items, Memory};
 
@@ -20,8 +21,9 @@ pub struct Conflict<C> {
 /// All conflicts of items, by an index that fits them, by rising `i` and of one `i` by rising `j`. An error says that
 /// memory was refused.
 ///
-/// Each item is tested with the items of higher numbers whose rectangles meet its own. Beside the conflicts that are
-/// listed it keeps the numbers of those that conflict with one item.
+/// Each item is tested with the items of higher numbers whose rectangles meet its own, until one conflicts with it, and those
+/// that conflict with one are tested again with all of these. Beside the conflicts that are listed it keeps a mark and 8 bytes
+/// an item.
 pub fn all_conflicts<I: ConsistentItems, X: BoxIndex>(
     alloc: Global,
     index: &X,
@@ -32,9 +34,13 @@ where
     requires { X.fits index.now (I.count items.now) (I.bounds_of items.now) }
     ensures { IfOk result (λ found. AreAllConflicts (I.count items.now) (I.tells items.now) found.items) }
 {
+    let marks = mark_doubtful(alloc, index, items)?;
     let mut found = Vec::new(alloc);
     let mut hits = Vec::new(alloc);
     for i in 0..items.len() {
+        if !is_marked(&marks, i) {
+            continue;
+        }
         list_behind(index, items, i, &mut hits)?;
         tell_behind(items, i, &hits, &mut found)?;
     }

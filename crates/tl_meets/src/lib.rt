@@ -7,8 +7,10 @@
 mod behind;
 mod conflicts;
 mod consistent;
+mod doubtful;
 pub mod laws;
 mod meets;
+mod near;
 
 pub use conflicts::{Conflict, all_conflicts};
 pub use consistent::ConsistentItems;
