@@ -15,6 +15,7 @@ use crate::tell::tell_meets;
 use std::alloc::Global;
 use tl_county::Map;
 use tl_crossings::look_at_chains;
+use tl_disagreements::laws::sides_agree_where_no_disagreement_is_listed;
 use tl_index::{BoxIndex, Memory};
 use tl_listing::Listing;
 use tl_planar::Meet;
@@ -60,9 +61,12 @@ fn tell_rest<X: BoxIndex>(
     requires suspects { AreSuspects map.now suspects.items }
     ensures { IfOk result (λ left. AddsRest map.now left faults.old.items faults.new.items) }
 {
-    if tell_agreement(alloc, map, faults)? {
+    let left = tell_agreement(alloc, map, faults)?;
+    if left {
         return Ok(true);
     }
+    // So sides agree.
+    sides_agree_where_no_disagreement_is_listed();
     tell_points(alloc, index, map, suspects, faults)?;
     Ok(false)
 }
