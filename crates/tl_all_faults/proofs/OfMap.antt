@@ -14,7 +14,7 @@ use Rattle.tl_meets.specs.Meets.{AreAllMeets}
 use Rattle.tl_misplaced.specs.AllMisplaced.{FaultPlace, IsTrueAt, AreAllMisplaced}
 use Rattle.tl_verdict.specs.declared.fault.MapFault.{MapFault}
 use Rattle.tl_verdict.specs.declared.fault.MapFault.TheVariants as fault
-use Rattle.tl_all_faults.specs.MapFaults.{side_fault, ArePointsTold, AreMapFaults}
+use Rattle.tl_listing.specs.MapFaults.{side_fault, ArePointsTold, AreMapFaults}
 use Rattle.tl_all_faults.specs.Keeping.OfMap.{IsFaulty, Differ, AddsAgreement, AreLookedAt, AddsPoints}
 use Rattle.tl_all_faults.proofs.Emptiness.{one_is_told}
 
