@@ -6,7 +6,7 @@ use Rattle.tl_plan.specs.declared.plan.Plan.{Plan}
 use Rattle.tl_plan.specs.declared.plan.Plan.TheVariants.{Show, Landmarks, Locate, Convert, Check, Audit, AuditAll, Build}
 use Rattle.tl_record.specs.Layout.{layout_with}
 use Rattle.tl_answers.specs.Deciding.{IsExact}
-use Rattle.tl_answers.specs.Runs.{Runs, ListsNothing}
+use Rattle.tl_answers.specs.Runs.{Runs}
 use Rattle.tl_answers.specs.Beginnings.{OfMap, IsBegunOf}
 use Rattle.tl_answers.specs.Beginnings.{BeginsRewritten}
 use Rattle.tl_answers.specs.declared.stop.TheConstants.{DONE, MAP_FAULT, CERT_FAULT, REFUSED, STOPPED}
@@ -84,17 +84,6 @@ stop_no_answer status is (inr (inr e)) = cc (sym is ∙ e)
 
 pub stop_no_refusal : (status : ℕ) → status ≡ STOPPED → status ≢ REFUSED
 stop_no_refusal status is e = cc (sym is ∙ e)
-
--- a plan that asks for no list
-pub lists_nothing : (plan : Plan) → ((most : Option ℕ) (options : Options) (files : Vec (String Global) Global) → plan ≡ AuditAll most options files → ⊥) → ListsNothing plan
-lists_nothing (Show options files) no_all = tt
-lists_nothing (Landmarks options files) no_all = tt
-lists_nothing (Locate point options files) no_all = tt
-lists_nothing (Convert cert made) no_all = tt
-lists_nothing (Check cert budget options files) no_all = tt
-lists_nothing (Audit options files) no_all = tt
-lists_nothing (AuditAll most options files) no_all = absurd (no_all most options files refl)
-lists_nothing (Build made options files) no_all = tt
 
 -- ---- a command that asks of records alone
 

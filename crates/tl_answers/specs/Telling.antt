@@ -10,7 +10,6 @@ use Rattle.tl_verdict.specs.Stops.{stop_text}
 use Rattle.tl_answers.specs.declared.usage.TheConstants.{NO_USE}
 use Rattle.tl_output.specs.Writing.{line_of}
 use Rattle.tl_verdict.specs.declared.verdict.Verdict.{Verdict}
-use Rattle.tl_verdict.specs.declared.verdict.Verdict.TheVariants as verdict
 use Rattle.tl_verdict.specs.declared.stop.Stop.{Stop}
 use Rattle.tl_verdict.specs.declared.stop.Stop.TheVariants.{Memory, Device}
 use Rattle.tl_answers.specs.declared.stop.TheConstants.{DONE, STOPPED, USAGE}

@@ -26,7 +26,6 @@ use Rattle.tl_record.specs.Failures.{one_more}
 use Rattle.tl_record.specs.Messages.{refusal_text}
 use Rattle.tl_record.specs.declared.stop.Cause.{Cause}
 use Rattle.tl_build.specs.declared.stop.AuditStop.TheVariants as audit_stop
-use Rattle.tl_verdict.specs.declared.stop.Stop.TheVariants.{Memory, Device}
 use Rattle.tl_answers.specs.declared.stop.TheConstants.{DONE, MAP_FAULT, REFUSED, STOPPED}
 use Rattle.tl_making.specs.Keeping.{TellsAudit}
 use Rattle.tl_answers.proofs.ToldLemmas.{line_stops, stopped_not_done, stopped_not_fault, stopped_not_refused}

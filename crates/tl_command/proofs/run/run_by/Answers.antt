@@ -1,5 +1,4 @@
 use Rattle.std.proofs.Common.{refl}
-use Rattle.tl_answers.proofs.RunLemmas.{lists_nothing}
 use Rattle.tl_command.proofs.AllFaultsLemmas.{runs_all}
 use Rattle.tl_command.proofs.run.run_by.Goals as goal
 
