@@ -21,7 +21,7 @@ use Rattle.tl_listing.specs.declared.listing.Listing.{Listing}
 use Rattle.tl_listing.specs.declared.listing.Listing.TheVariants.{Sound, Refused, Faults}
 use Rattle.tl_listing.specs.declared.listing.ListingStop.{ListingStop}
 use Rattle.tl_all_faults.specs.declared.reading.BothKept.{BothKept}
-use Rattle.tl_all_faults.specs.Listings.{IsListingOf}
+use Rattle.tl_listing.specs.Listings.{IsListingOf}
 use Rattle.tl_all_faults.specs.Keeping.Reading.{Keeps, AreWhole, KeepsAll}
 use Rattle.tl_all_faults.specs.Keeping.OfMap.{IsListingOfMap}
 use Rattle.tl_all_faults.specs.Keeping.OfRecords.{IsListingOfRecords, AreTold, ListsRefusals}

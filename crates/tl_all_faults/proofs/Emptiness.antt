@@ -14,7 +14,7 @@ use Rattle.tl_misplaced.specs.AllMisplaced.{AreAllMisplaced}
 use Rattle.tl_verdict.specs.declared.fault.MapFault.{MapFault}
 use Rattle.tl_verdict.specs.declared.fault.MapFault.TheVariants as fault
 use Rattle.tl_verdict.specs.Truth.{IsTrueOfMap}
-use Rattle.tl_all_faults.specs.MapFaults.{side_fault, ArePointsTold, AreMapFaults}
+use Rattle.tl_listing.specs.MapFaults.{side_fault, ArePointsTold, AreMapFaults}
 
 -- an empty list has no element
 none_named : {X : Type 0} (P : X → Type 0) → ¬ Any P []

@@ -21,8 +21,8 @@ use Rattle.tl_verdict.proofs.OneMap.{both, weaker}
 use Rattle.tl_verdict.proofs.Deciding.{not_sound_records}
 use Rattle.tl_listing.specs.declared.listing.Listing.{Listing}
 use Rattle.tl_listing.specs.declared.listing.Listing.TheVariants.{Sound, Refused, Faults}
-use Rattle.tl_all_faults.specs.MapFaults.{AreMapFaults}
-use Rattle.tl_all_faults.specs.Listings.{AreRecordFaults, AreFaults, IsListingOf}
+use Rattle.tl_listing.specs.MapFaults.{AreMapFaults}
+use Rattle.tl_listing.specs.Listings.{AreRecordFaults, AreFaults, IsListingOf}
 use Rattle.tl_all_faults.specs.Telling.{IsTold, Tells, SaysSound, EachFault}
 use Rattle.tl_all_faults.proofs.Emptiness.{map_empty}
 use Rattle.tl_all_faults.proofs.Lists.{held_map, some_first, none_first}

@@ -17,7 +17,7 @@ use Rattle.tl_misplaced.specs.AllMisplaced.{FaultPlace, IsTrueAt, AreAllMisplace
 use Rattle.tl_misplaced.specs.Suspects.{AreSuspects}
 use Rattle.tl_verdict.specs.declared.fault.MapFault.{MapFault}
 use Rattle.tl_verdict.specs.declared.fault.MapFault.TheVariants as fault
-use Rattle.tl_all_faults.specs.MapFaults.{side_fault, ArePointsTold, AreMapFaults}
+use Rattle.tl_listing.specs.MapFaults.{side_fault, ArePointsTold, AreMapFaults}
 use Rattle.tl_all_faults.specs.Keeping.OfMap.{IsFaulty, Differ, AddsAgreement, AddsCells, AreLookedAt, AddsPoints}
 use Rattle.tl_all_faults.proofs.Emptiness.{one_is_told}
 

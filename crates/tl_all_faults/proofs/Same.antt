@@ -31,8 +31,8 @@ use Rattle.tl_verdict.specs.Records.{HaveMap}
 use Rattle.tl_verdict.proofs.OneMap.{both}
 use Rattle.tl_listing.specs.declared.listing.Listing.{Listing}
 use Rattle.tl_listing.specs.declared.listing.Listing.TheVariants.{Sound, Refused, Faults}
-use Rattle.tl_all_faults.specs.MapFaults.{side_fault, ArePointsTold, AreMapFaults}
-use Rattle.tl_all_faults.specs.Listings.{AreFaults, IsListingOf}
+use Rattle.tl_listing.specs.MapFaults.{side_fault, ArePointsTold, AreMapFaults}
+use Rattle.tl_listing.specs.Listings.{AreFaults, IsListingOf}
 use Rattle.tl_all_faults.specs.Alike.{IsSameFault, AreSameFaults, HaveSameNumbers, AreAlike}
 use Rattle.tl_all_faults.proofs.OneOrder.{AreOne, AreInOne, one_order}
 use Rattle.tl_all_faults.proofs.Listed.{none_is_refused, sound_alone, no_map}

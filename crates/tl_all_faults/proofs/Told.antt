@@ -13,7 +13,7 @@ use Rattle.tl_disagreements.proofs.Emptiness.{cells_agree}
 use Rattle.tl_verdict.specs.declared.fault.MapFault.{MapFault}
 use Rattle.tl_verdict.specs.declared.fault.MapFault.TheVariants as fault
 use Rattle.tl_verdict.specs.Truth.{IsTrueOfMap}
-use Rattle.tl_all_faults.specs.MapFaults.{side_fault, ArePointsTold, AreMapFaults}
+use Rattle.tl_listing.specs.MapFaults.{side_fault, ArePointsTold, AreMapFaults}
 use Rattle.tl_all_faults.specs.Telling.{IsMeetOf, IsOfSides, IsOfCells, IsTold}
 use Rattle.tl_all_faults.proofs.Emptiness.{odds_deny}
 use Rattle.tl_all_faults.proofs.Lists.{held_map, named_by, some_first}

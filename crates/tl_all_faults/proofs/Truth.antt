@@ -14,7 +14,7 @@ use Rattle.tl_disagreements.proofs.Agreeing.{at_odds}
 use Rattle.tl_verdict.specs.declared.fault.MapFault.{MapFault}
 use Rattle.tl_verdict.specs.declared.fault.MapFault.TheVariants as fault
 use Rattle.tl_verdict.specs.Truth.{IsTrueOfMap}
-use Rattle.tl_all_faults.specs.MapFaults.{nowhere, start_of, side_fault, ArePointsTold, AreMapFaults}
+use Rattle.tl_listing.specs.MapFaults.{nowhere, start_of, side_fault, ArePointsTold, AreMapFaults}
 
 -- a dart that starts somewhere starts at the point that is told
 start_known : (chains : List MapChain) (dart : ℕ) (p : Point) → dart_start chains dart ≡ Some p → dart_start chains dart ≡ Some (start_of chains dart)

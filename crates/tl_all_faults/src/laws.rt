@@ -7,7 +7,7 @@ ghost use Rattle.tl_verdict.specs.declared.fault.MapFault.{MapFault};
 ghost use Rattle.tl_verdict.specs.Sound.{IsSound};
 ghost use Rattle.tl_verdict.specs.Records.{HaveMap, IsTrueOfRecords};
 ghost use Rattle.tl_listing.specs.declared.listing.Listing.{Listing};
-ghost use Rattle.tl_all_faults.specs.Listings.{IsListingOf};
+ghost use Rattle.tl_listing.specs.Listings.{IsListingOf};
 ghost use Rattle.tl_all_faults.specs.Telling.{SaysSound, EachFault, Tells};
 ghost use Rattle.tl_all_faults.specs.Alike.{AreAlike};
 

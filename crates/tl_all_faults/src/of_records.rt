@@ -8,7 +8,7 @@ ghost use Rattle.tl_record.specs.Searching.{goes_on};
 ghost use Rattle.tl_record.specs.declared.record.Record.{Record};
 ghost use Rattle.tl_record_faults.specs.AllFaults.{AreAllFaults};
 ghost use Rattle.tl_map.specs.Collecting.{HasCollected};
-ghost use Rattle.tl_all_faults.specs.Listings.{IsListingOf, TellsDevice};
+ghost use Rattle.tl_listing.specs.Listings.{IsListingOf, TellsDevice};
 ghost use Rattle.tl_all_faults.specs.Keeping.Reading.{Keeps, AreWhole};
 ghost use Rattle.tl_all_faults.specs.Keeping.OfRecords.{IsListingOfRecords, AreTold, ListsRefusals};
 

@@ -3,7 +3,7 @@
 ghost use Rattle.std.specs.Prelude.{◌≡◌, IfOk};
 ghost use Rattle.tl_record.specs.declared.reader.Standing.TheVariants.{Reading};
 ghost use Rattle.tl_record.specs.Reader.{source_of, standing_of};
-ghost use Rattle.tl_all_faults.specs.Listings.{TellsDevice};
+ghost use Rattle.tl_listing.specs.Listings.{TellsDevice};
 ghost use Rattle.tl_all_faults.specs.Keeping.Reading.{MayRead};
 
 use std::alloc::{AllocError, Global};

@@ -2,7 +2,7 @@
 
 ghost use Rattle.std.specs.Prelude.{◌≡◌, ◌∷◌, [], ◌++◌, OnOk, map};
 ghost use Rattle.tl_disagreements.specs.Disagreements.{AreAllDisagreements};
-ghost use Rattle.tl_all_faults.specs.MapFaults.{side_fault};
+ghost use Rattle.tl_listing.specs.MapFaults.{side_fault};
 
 use tl_cells::CellsAtOdds;
 use tl_county::Map;

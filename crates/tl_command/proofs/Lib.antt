@@ -1,14 +1,3 @@
-pub mod AuditLemmas
-pub mod MakingLemmas
-pub mod ConvertLemmas
-pub mod OpenLemmas
-pub mod CheckLemmas
-pub mod DecidingLemmas
-pub mod ToldLemmas
+-- Lemmas on the command.
+pub mod AllFaultsLemmas
 pub mod StartLemmas
-pub mod RunLemmas
-pub mod OpeningLemmas
-pub mod LineLemmas
-pub mod DecisionLemmas
-pub mod AnswerLemmas
-pub mod ListingLemmas

@@ -1,24 +1,24 @@
 -- What the program answers: to words that make a plan, and to those that make none; and over files of which nothing is known.
-use Rattle.std.proofs.Common.{◌≡◌, ◌≢◌, inl, inr, ℕ, Bool, true, false, List, [], ◌∷◌, length, refl, sym, string_bytes, ◌∙◌}
-use Rattle.std.specs.Prelude.{◌==◌}
+use Rattle.std.proofs.Common.{◌≡◌, inl, inr, ℕ, true, List, refl, sym, string_bytes, ◌∙◌}
 use Rattle.std.specs.Bool.{⊤}
 use Rattle.clap.specs.Walk.{Text}
 use Rattle.tl_plan.specs.CommandLine.{AskFor, StopsPlanning, may_be_use}
 use Rattle.tl_plan.specs.Plans.{ShowsNoEscape}
 use Rattle.tl_files.specs.Files.{Under}
 use Rattle.tl_plan.specs.declared.plan.Plan.{Plan}
-use Rattle.tl_command.specs.Opening.{records_under, certificate_under, RunsOver}
+use Rattle.tl_making.specs.Opening.{records_under, certificate_under, RunsOver}
 use Rattle.tl_plan.specs.declared.plan.PlanStop.{PlanStop}
 use Rattle.tl_plan.specs.declared.plan.PlanStop.TheVariants.{Usage, Help}
 use Rattle.tl_plan.specs.declared.plan.PlanStop.TheVariants as plan_stop
 use Rattle.tl_plan.proofs.FirstWord.{wish_may}
 use Rattle.tl_plan.proofs.PlansLemmas.{All-plain_text}
-use Rattle.tl_command.specs.declared.start.TheConstants.{NO_USE}
-use Rattle.tl_command.specs.declared.stop.TheConstants.{DONE, STOPPED, USAGE}
-use Rattle.tl_command.specs.Keeping.{Starts, TellsPlanStop}
-use Rattle.tl_command.specs.Running.{NamesStop}
+use Rattle.tl_answers.specs.declared.usage.TheConstants.{NO_USE}
+use Rattle.tl_answers.specs.declared.stop.TheConstants.{DONE, STOPPED, USAGE}
+use Rattle.tl_command.specs.Keeping.{Starts}
+use Rattle.tl_answers.specs.Telling.{TellsPlanStop}
+use Rattle.tl_answers.specs.Running.{NamesStop}
 use Rattle.tl_command.specs.Starting.{ShowsHelp, ShowsUsage, StopsSome}
-use Rattle.tl_command.proofs.ToldLemmas.{weaker_stop}
+use Rattle.tl_answers.proofs.ToldLemmas.{weaker_stop}
 
 -- a stop, with nothing said of which file failed
 pub stops_any : (words : List Text) (before after : Under) (told part : List ℕ → Type 0) (of_files : Plan → Type 0) (same : Type 0) → StopsSome words before after told part of_files same
@@ -26,11 +26,6 @@ pub stops_any : (words : List Text) (before after : Under) (told part : List ℕ
 stops_any words before after told part of_files same (inl unplanned) = inl unplanned
 stops_any words before after told part of_files same (inr planned) =
     inr (planned.0, planned.1, weaker_stop planned.0 (records_under before planned.0) (certificate_under before planned.0) told (of_files planned.0) ⊤ ⊤ ⊤ same _ (λ fails. tt) (λ calm. tt) planned.2)
-
--- a text that is told to be none is none, and else it has a byte
-pub not_empty : (bytes : List ℕ) (test : Bool) → test ≡ (length bytes == 0) → test ≡ false → bytes ≢ []
-not_empty [] test is differs e = absurd (cc (sym differs ∙ is))
-not_empty (byte ∷ rest) test is differs e = cc e
 
 -- ---- what is answered to words
 

@@ -1,23 +1,20 @@
 -- What the program answers to its words.
-use Rattle.std.specs.Prelude.{◌≡◌, ◌≢◌, ◌⊎◌, ℕ, true, List, [], None, All, Contains, codes, ⊤}
+use Rattle.std.specs.Prelude.{◌≡◌, ◌≢◌, ◌⊎◌, ℕ, true, List, [], None, All, codes, ⊤}
 use Rattle.clap.specs.Faults.{fault_of}
 use Rattle.clap.specs.Walk.{Text}
 use Rattle.tl_plan.specs.declared.plan.Plan.{Plan}
 use Rattle.tl_output.specs.Writing.{line_of}
 use Rattle.tl_verdict.specs.Stops.{stop_text}
-use Rattle.tl_verdict.specs.declared.stop.Stop.{Stop}
-use Rattle.tl_verdict.specs.declared.stop.Stop.TheVariants.{Record, Memory, Device, Budget}
-use Rattle.tl_command.specs.declared.stop.TheConstants.{DONE, MAP_FAULT, CERT_FAULT, REFUSED, STOPPED, USAGE}
+use Rattle.tl_verdict.specs.declared.stop.Stop.TheVariants.{Memory, Device}
+use Rattle.tl_answers.specs.declared.stop.TheConstants.{DONE, MAP_FAULT, CERT_FAULT, REFUSED, STOPPED, USAGE}
 use Rattle.tl_plan.specs.Commands.{command_line}
 use Rattle.tl_plan.specs.CommandLine.{AskFor, AreAUse, HasMistake, HasAnswer, may_be_use}
 use Rattle.tl_plan.specs.Plans.{escape}
-use Rattle.tl_files.specs.declared.file_system.FileStop.{FileStop}
-use Rattle.tl_files.specs.declared.file_system.FileStop.TheVariants as file
-use Rattle.tl_files.specs.Files.{Under, bytes_under}
-use Rattle.tl_command.specs.Opening.{records_under, certificate_under, Stands, KeepsOthers, KeepsAll, RefusesOut}
-use Rattle.tl_command.specs.Deciding.{IsExact}
-use Rattle.tl_command.specs.Making.{IsBegunBy}
-use Rattle.tl_command.specs.Running.{IsRunStatus, IsAnswered, FaultsMap, TellsRefused, FaultsCertificate, NamesStop, BreaksOff, StopsRun}
+use Rattle.tl_files.specs.Files.{Under}
+use Rattle.tl_making.specs.Opening.{records_under, certificate_under, Stands, KeepsOthers, KeepsAll, RefusesOut}
+use Rattle.tl_answers.specs.Deciding.{IsExact}
+use Rattle.tl_answers.specs.Beginnings.{IsBegunBy}
+use Rattle.tl_answers.specs.Running.{IsRunStatus, IsAnswered, FaultsMap, TellsRefused, FaultsCertificate, NamesStop, BreaksOff, StopsRun}
 
 -- the statuses of the program
 abbrev pub IsStartStatus : ℕ → Type 0
@@ -111,19 +108,3 @@ abbrev pub StopsBefore : ℕ → (told : List ℕ → Type 0) → (out_same : Ty
 StopsBefore status told out_same =
     (((status ≡ STOPPED) × (told (line_of (stop_text Memory)) ⊎ told (line_of (stop_text Device))))
     ⊎ ((status ≡ USAGE) × told (line_of (codes "error: a word of the command line is no UTF-8 text")))) × out_same
-
--- files aren't opened for want of memory, or where a device fails
-abbrev pub StopsOpening : Type 0 → Stop → Type 0
-StopsOpening failed (Record line cause) = ⊥
-StopsOpening failed Memory = ⊤
-StopsOpening failed Device = failed
-StopsOpening failed Budget = ⊥
-
--- the same of files of these names: of one the bytes aren't known
-abbrev pub StopsOpeningAll : Under → List (List ℕ) → Stop → Type 0
-StopsOpeningAll under names = StopsOpening ((name : List ℕ) × Contains names name × (bytes_under under name ≡ None))
-
--- what is told of a file that can't be opened or made
-abbrev pub told_of : FileStop → Stop
-told_of file.Memory = Memory
-told_of file.Device = Device

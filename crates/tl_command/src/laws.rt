@@ -6,9 +6,9 @@ ghost use Rattle.tl_record.specs.Records.{records_of};
 ghost use Rattle.tl_planar.specs.Searching.{meeting_segments};
 ghost use Rattle.tl_verdict.specs.Records.{HaveMap};
 ghost use Rattle.tl_output.specs.Writing.{Writes};
-ghost use Rattle.tl_command.specs.declared.stop.TheConstants.{DONE, MAP_FAULT, CERT_FAULT, REFUSED, STOPPED};
-ghost use Rattle.tl_command.specs.Running.{IsBuilt, NamesFault, NamesCertFault, NamesRefusal, NamesBudget, MayBeSearched, IsRunStatus, TriesToWrite};
-ghost use Rattle.tl_command.specs.Deciding.{AreSoundWith};
+ghost use Rattle.tl_answers.specs.declared.stop.TheConstants.{DONE, MAP_FAULT, CERT_FAULT, REFUSED, STOPPED};
+ghost use Rattle.tl_answers.specs.Running.{IsBuilt, NamesFault, NamesCertFault, NamesRefusal, NamesBudget, MayBeSearched, IsRunStatus, TriesToWrite};
+ghost use Rattle.tl_answers.specs.Deciding.{AreSoundWith};
 
 use tl_record::{Sink, Source};
 

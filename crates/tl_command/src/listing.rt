@@ -3,18 +3,15 @@
 ghost use Rattle.std.specs.Prelude.{◌≡◌, ◌≢◌, ◌⊎◌};
 ghost use Rattle.tl_record.specs.Layout.{layout_with};
 ghost use Rattle.tl_output.specs.Writing.{Writes, WritesSome};
-ghost use Rattle.tl_command.specs.declared.stop.TheConstants.{DONE, MAP_FAULT, REFUSED, STOPPED};
-ghost use Rattle.tl_command.specs.Keeping.{TellsAll, TellsListing};
-ghost use Rattle.tl_command.specs.Listings.{TellsFaults, TellsRefusals, listing_status};
-ghost use Rattle.tl_command.specs.Running.{IsAudited, NamesStop, FailsToRead, CountStays, TriesToWrite};
+ghost use Rattle.tl_answers.specs.declared.stop.TheConstants.{DONE, MAP_FAULT, REFUSED, STOPPED};
+ghost use Rattle.tl_answers.specs.Listings.{TellsFaults, TellsRefusals};
+ghost use Rattle.tl_answers.specs.Running.{IsAudited, NamesStop, FailsToRead, CountStays, TriesToWrite};
 
-use crate::stop::{DONE, MAP_FAULT, REFUSED, stopped};
 use std::alloc::Global;
 use std::hash::RandomState;
 use tl_all_faults::list_faults;
-use tl_listing::{Listing, ListingStop, print_listing};
+use tl_answers::listing::tell_all;
 use tl_record::{Options, Sink, Source};
-use tl_verdict::Stop;
 
 /// Tells all that is wrong with the map of the records, or the first `most` of it, and gives the program's exit status.
 /// Lines that are refused are told on `out` too.
@@ -48,50 +45,4 @@ pub fn audit_all<R: Source, W: Sink, E: Sink>(
 {
     let listing = list_faults(alloc, hasher, records, options);
     tell_all(&listing, most, out, err)
-}
-
-// Tells all that is wrong, or why it isn't known.
-fn tell_all<W: Sink, E: Sink>(
-    listing: &Result<Listing, ListingStop>,
-    most: Option<u64>,
-    out: &mut W,
-    err: &mut E,
-) -> u8
-    ensures { TellsAll most listing.now result (Writes W.contents W.failure_count out.old out.new)
-        (TriesToWrite E.contents E.failure_count err.old err.new) (WritesSome W.contents W.failure_count out.old out.new)
-        (out.new ≡ out.old) (err.new ≡ err.old) }
-{
-    match listing {
-        Ok(listing) => tell_listing(listing, most, out, err),
-        Err(ListingStop::Memory) => stopped(&Stop::Memory, err),
-        Err(ListingStop::Device) => stopped(&Stop::Device, err),
-    }
-}
-
-// Writes a listing, with its status.
-fn tell_listing<W: Sink, E: Sink>(
-    listing: &Listing,
-    most: Option<u64>,
-    out: &mut W,
-    err: &mut E,
-) -> u8
-    ensures { TellsListing most listing.now result (Writes W.contents W.failure_count out.old out.new)
-        (TriesToWrite E.contents E.failure_count err.old err.new) (WritesSome W.contents W.failure_count out.old out.new)
-        (err.new ≡ err.old) }
-{
-    match print_listing(listing, most, out) {
-        Ok(()) => status_of(listing),
-        Err(_) => stopped(&Stop::Device, err),
-    }
-}
-
-// The status of a listing.
-fn status_of(listing: &Listing) -> u8
-    ensures { result ≡ listing_status listing.now }
-{
-    match listing {
-        Listing::Sound(_) => DONE,
-        Listing::Refused(_) => REFUSED,
-        Listing::Faults { .. } => MAP_FAULT,
-    }
 }

@@ -1,23 +1,21 @@
 //! Doing what a plan asks over the files that it names.
 
-ghost use Rattle.std.specs.Prelude.{◌≡◌, ◌⊎◌, false, string_bytes};
+ghost use Rattle.std.specs.Prelude.{◌≡◌, false, string_bytes};
 ghost use Rattle.tl_text.specs.Joining.{joined_bytes};
-ghost use Rattle.tl_files.specs.Files.{bytes_under};
 ghost use Rattle.tl_output.specs.Writing.{Writes, WritesSome};
-ghost use Rattle.tl_command.specs.Running.{ReadsNoCertificate, MakesNoCertificate, TriesToWrite};
-ghost use Rattle.tl_command.specs.Opening.{RunsOver, IsCheckBy, IsBuildOf, IsConversionBy, records_under, FilesFail};
+ghost use Rattle.tl_answers.specs.Running.{ReadsNoCertificate, MakesNoCertificate, TriesToWrite};
+ghost use Rattle.tl_making.specs.Opening.{RunsOver, IsCheckBy, records_under, FilesFail};
 
-use crate::new_file::{IS_READ, TAKEN, build_into, convert_into, room_for, say_refusal};
-use crate::opening::{open_all, open_certificate};
 use crate::readers::run_by_readers;
-use crate::stop::stopped;
 use std::alloc::Global;
 use std::hash::RandomState;
-use std::{io, slice};
-use tl_files::{FileSystem, Room};
+use std::io;
+use tl_answers::stop::stopped;
+use tl_files::FileSystem;
+use tl_making::new_file::{open_and_build, open_and_convert};
+use tl_making::opening::{open_all, open_certificate};
 use tl_plan::Plan;
-use tl_record::{Meter, MeterOut, Options, Sink, Source};
-use tl_text::Buffered;
+use tl_record::{Meter, MeterOut, Sink};
 
 /// Opens the plan's files, each once and in the order of their names, does what it asks, and gives the program's exit
 /// status. All files are opened before the first is read, and where one can't be, nothing is printed on `out`. A
@@ -133,83 +131,6 @@ fn open_and_check<F: FileSystem, W: Sink, E: Sink>(
             let mut made = MeterOut::new(io::sink());
             run_by_readers(alloc, hasher, plan, readers, &mut cert, &mut made, out, err)
         }
-        Err(stop) => stopped(&stop, err),
-    }
-}
-
-// Makes a certificate where it may take its name.
-fn open_and_build<F: FileSystem, W: Sink, E: Sink>(
-    files: &mut F,
-    alloc: Global,
-    hasher: RandomState,
-    plan: &Plan,
-    readers: &mut Vec<F::Reader>,
-    name: &String,
-    options: Options,
-    out: &mut W,
-    err: &mut E,
-) -> u8
-    requires plan { IsBuildOf plan.now (string_bytes name.now) options }
-    requires known { joined_bytes F.Reader.remaining false readers.old.items ≡ records_under (F.under files.old) plan.now }
-    ensures { RunsOver plan.now result (F.under files.old) (F.under files.new)
-        (Writes W.contents W.failure_count out.old out.new)
-        (TriesToWrite E.contents E.failure_count err.old err.new) (WritesSome W.contents W.failure_count out.old out.new)
-        (FilesFail F.Reader.failure_count F.Draft.failure_count F.knows (F.under files.old) plan.now)
-        (out.new ≡ out.old) (err.new ≡ err.old) }
-{
-    match room_for(&*files, name, plan.files()) {
-        Ok(Room::Free) => build_into(files, alloc, hasher, plan, readers, name, options, out, err),
-        Ok(Room::Taken) => say_refusal(TAKEN, err),
-        Ok(Room::IsRead) => say_refusal(IS_READ, err),
-        Err(stop) => stopped(&stop, err),
-    }
-}
-
-// Writes a certificate that is read in version 2, where it may take its name.
-fn open_and_convert<F: FileSystem, W: Sink, E: Sink>(
-    files: &mut F,
-    alloc: Global,
-    plan: &Plan,
-    names: (&String, &String),
-    out: &mut W,
-    err: &mut E,
-) -> u8
-    requires { IsConversionBy plan.now (string_bytes names.0.now) (string_bytes names.1.now) }
-    ensures { RunsOver plan.now result (F.under files.old) (F.under files.new)
-        (Writes W.contents W.failure_count out.old out.new)
-        (TriesToWrite E.contents E.failure_count err.old err.new) (WritesSome W.contents W.failure_count out.old out.new)
-        (FilesFail F.Reader.failure_count F.Draft.failure_count F.knows (F.under files.old) plan.now)
-        (out.new ≡ out.old) (err.new ≡ err.old) }
-{
-    match open_certificate(&*files, alloc, names.0) {
-        Ok(mut cert) => convert_by(files, alloc, plan, &mut cert, names, out, err),
-        Err(stop) => stopped(&stop, err),
-    }
-}
-
-// Writes this certificate in version 2, where the new one may take its name.
-fn convert_by<F: FileSystem, W: Sink, E: Sink>(
-    files: &mut F,
-    alloc: Global,
-    plan: &Plan,
-    cert: &mut Buffered<F::Reader>,
-    names: (&String, &String),
-    out: &mut W,
-    err: &mut E,
-) -> u8
-    requires plan { IsConversionBy plan.now (string_bytes names.0.now) (string_bytes names.1.now) }
-    requires known { ⟦<Buffered<F::Reader> as Source>⟧.remaining cert.old
-        ≡ bytes_under (F.under files.old) (string_bytes names.0.now) }
-    ensures { RunsOver plan.now result (F.under files.old) (F.under files.new)
-        (Writes W.contents W.failure_count out.old out.new)
-        (TriesToWrite E.contents E.failure_count err.old err.new) (WritesSome W.contents W.failure_count out.old out.new)
-        (FilesFail F.Reader.failure_count F.Draft.failure_count F.knows (F.under files.old) plan.now)
-        (out.new ≡ out.old) (err.new ≡ err.old) }
-{
-    match room_for(&*files, names.1, slice::from_ref(names.0)) {
-        Ok(Room::Free) => convert_into(files, alloc, plan, cert, names.1, out, err),
-        Ok(Room::Taken) => say_refusal(TAKEN, err),
-        Ok(Room::IsRead) => say_refusal(IS_READ, err),
         Err(stop) => stopped(&stop, err),
     }
 }

@@ -3,12 +3,11 @@
 ghost use Rattle.std.specs.Prelude.{◌≡◌, ◌⊎◌, List, map, string_bytes, codes};
 ghost use Rattle.clap.specs.Walk.{Text};
 ghost use Rattle.tl_output.specs.Writing.{Writes, WritesSome, line_of};
-ghost use Rattle.tl_command.specs.declared.stop.TheConstants.{USAGE};
+ghost use Rattle.tl_answers.specs.declared.stop.TheConstants.{USAGE};
 ghost use Rattle.tl_command.specs.Starting.{AnswersWords, StopsBefore};
-ghost use Rattle.tl_command.specs.Running.{TriesToWrite};
+ghost use Rattle.tl_answers.specs.Running.{TriesToWrite};
 
 use crate::start::start;
-use crate::stop::{USAGE, stopped};
 use std::alloc::{Alloc, Global};
 use std::fs::File;
 use std::hash::RandomState;
@@ -16,6 +15,7 @@ use std::io::ErrorKind;
 use std::random::RandomSource;
 use std::rt::{Env, Files};
 use std::{env, io};
+use tl_answers::stop::{USAGE, stopped};
 use tl_files::SystemFiles;
 use tl_output::write_all;
 use tl_record::Sink;
@@ -51,10 +51,13 @@ enum Unread {
 // The words behind the program's name.
 fn words_of<R: Env + Alloc<A = Global>>(rt: &R, alloc: Global) -> Result<Vec<String>, Unread> {
     match env::args(rt) {
-        Ok(args) => match args.skip(1).collect::<Vec<String>>(alloc) {
-            Ok(words) => Ok(words),
-            Err(_) => Err(Unread::Memory),
-        },
+        Ok(mut args) => {
+            let _ = args.next();
+            match args.collect::<Vec<String>>(alloc) {
+                Ok(words) => Ok(words),
+                Err(_) => Err(Unread::Memory),
+            }
+        }
         Err(error) => Err(unread_by(&error)),
     }
 }

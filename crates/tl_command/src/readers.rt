@@ -3,19 +3,19 @@
 ghost use Rattle.std.specs.Prelude.{◌≡◌, ◌≢◌, ◌⊎◌, false, ⊤};
 ghost use Rattle.tl_text.specs.Joining.{joined_bytes, failures_of};
 ghost use Rattle.tl_output.specs.Writing.{Writes, WritesSome, FailsToWrite};
-ghost use Rattle.tl_command.specs.declared.stop.TheConstants.{DONE, MAP_FAULT, CERT_FAULT, REFUSED, STOPPED};
-ghost use Rattle.tl_command.specs.Running.{IsAnswered, FaultsMap, TellsRefused, BreaksOff, StopsRun, IsRunStatus, CountStays};
-ghost use Rattle.tl_command.specs.Running.{FailsToRead, TriesToWrite};
-ghost use Rattle.tl_command.specs.Running.{FaultsCertificate, ReadsNoCertificate, MakesNoCertificate};
-ghost use Rattle.tl_command.specs.Deciding.{IsExact};
-ghost use Rattle.tl_command.specs.Keeping.{Runs};
-ghost use Rattle.tl_command.specs.Making.{Begins, IsBegunBy};
+ghost use Rattle.tl_answers.specs.declared.stop.TheConstants.{DONE, MAP_FAULT, CERT_FAULT, REFUSED, STOPPED};
+ghost use Rattle.tl_answers.specs.Running.{IsAnswered, FaultsMap, TellsRefused, BreaksOff, StopsRun, IsRunStatus, CountStays, FailsToRead};
+ghost use Rattle.tl_answers.specs.Running.{TriesToWrite, FaultsCertificate, ReadsNoCertificate, MakesNoCertificate};
+ghost use Rattle.tl_answers.specs.Deciding.{IsExact};
+ghost use Rattle.tl_answers.specs.Runs.{Runs};
+ghost use Rattle.tl_answers.specs.Beginnings.{Begins};
+ghost use Rattle.tl_answers.specs.Beginnings.{IsBegunBy};
 
-use crate::opening::{as_one_text, give_back, room_for_bytes};
 use crate::run::run_by;
-use crate::stop::stopped;
 use std::alloc::Global;
 use std::hash::RandomState;
+use tl_answers::stop::stopped;
+use tl_making::opening::{as_one_text, give_back, room_for_bytes};
 use tl_plan::Plan;
 use tl_record::{Sink, Source};
 use tl_verdict::Stop;

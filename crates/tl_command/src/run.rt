@@ -1,37 +1,21 @@
 //! Doing what a plan asks.
 
-ghost use Rattle.std.specs.Prelude.{◌≡◌, ◌≢◌, ◌⊎◌, [], OnOk, IfErr};
-ghost use Rattle.tl_record.specs.Layout.{layout_with};
-ghost use Rattle.tl_text.specs.Printing.{shown_text, listing_text};
-ghost use Rattle.tl_output.specs.Writing.{Writes, WritesSome, FailsToWrite, CountsFailure, TriesToPassOn, line_of};
-ghost use Rattle.tl_command.specs.declared.stop.TheConstants.{DONE, MAP_FAULT, CERT_FAULT, REFUSED, STOPPED};
-ghost use Rattle.tl_command.specs.Running.{IsAnswered, AnswersRecords, IsShown, NamesRecordFault, NamesRefusal, TriesToWrite};
-ghost use Rattle.tl_command.specs.Running.{BreaksOff, NamesStop, StopsRun, FaultsMap, FaultsCertificate, TellsRefused};
-ghost use Rattle.tl_command.specs.Running.{ReadsNoCertificate, MakesNoCertificate, ReadsNoRecords};
-ghost use Rattle.tl_command.specs.Running.{IsRunStatus, FailsToRead, CountStays, LooksFor, layout_of};
-ghost use Rattle.tl_drawn.specs.Faults.{IsFaultOfChains};
-ghost use Rattle.tl_command.specs.Deciding.{IsExact};
-ghost use Rattle.tl_command.specs.Places.{StopsTelling};
-ghost use Rattle.tl_command.specs.Keeping.{Answered, Runs, TellsAnswer, stop_decision};
-ghost use Rattle.tl_command.specs.Making.{Begins, IsBegunBy};
+ghost use Rattle.std.specs.Prelude.{◌≡◌, ◌≢◌, ◌⊎◌};
+ghost use Rattle.tl_output.specs.Writing.{Writes, WritesSome, FailsToWrite};
+ghost use Rattle.tl_answers.specs.declared.stop.TheConstants.{DONE, MAP_FAULT, CERT_FAULT, REFUSED, STOPPED};
+ghost use Rattle.tl_answers.specs.Running.{IsAnswered, TriesToWrite, BreaksOff, StopsRun, FaultsMap, FaultsCertificate, TellsRefused};
+ghost use Rattle.tl_answers.specs.Running.{ReadsNoCertificate, MakesNoCertificate, ReadsNoRecords, IsRunStatus, FailsToRead, CountStays};
+ghost use Rattle.tl_answers.specs.Deciding.{IsExact};
+ghost use Rattle.tl_answers.specs.Runs.{Runs};
+ghost use Rattle.tl_answers.specs.Beginnings.{Begins};
+ghost use Rattle.tl_answers.specs.Beginnings.{IsBegunBy};
 
-use crate::asking::{Asked, answer_of_map};
-use crate::auditing::audit;
-use crate::building::build;
-use crate::convert::convert;
-use crate::deciding::{decide, tell_decision};
 use crate::listing::audit_all;
-use crate::stop::DONE;
 use std::alloc::Global;
 use std::hash::RandomState;
-use std::io;
-use tl_county::{Chains, Map};
-use tl_map::{MapStop, read_chains_with};
-use tl_output::OutputBuffer;
+use tl_making::running::run_without_listing;
 use tl_plan::Plan;
-use tl_record::{Options, Sink, Source};
-use tl_text::{print_chains, print_landmarks};
-use tl_verdict::{MapFault, Stop, Verdict};
+use tl_record::{Sink, Source};
 
 /// Does what the plan asks and gives the program's exit status. Answers and faults go to `out`, refusals and stops to
 /// `err`, but for a list of all refusals that is asked for, which goes to `out`. `cert` is the certificate that is read,
@@ -128,172 +112,9 @@ pub(crate) fn run_by<R: Source, S: Source, C: Sink, W: Sink, E: Sink>(
         (out.new ≡ out.old) (err.new ≡ err.old) (cert.new ≡ cert.old) (made.new ≡ made.old) (records.new ≡ records.old) }
 {
     match plan {
-        Plan::Convert { .. } => convert(alloc, cert, made, out, err),
-        Plan::Check {
-            budget,
-            options,
-            ..
-        } => decide(alloc, hasher, records, cert, *budget, *options, out, err),
-        Plan::Audit { options, .. } => audit(alloc, hasher, records, *options, out, err),
         Plan::AuditAll { most, options, .. } => audit_all(
             alloc, hasher, records, *most, *options, out, err,
         ),
-        Plan::Build { options, .. } => build(alloc, hasher, records, made, *options, out, err),
-        _ => run_on_records(alloc, hasher, plan, records, out, err),
-    }
-}
-
-// Does what the plan asks of records alone.
-fn run_on_records<R: Source, W: Sink, E: Sink>(
-    alloc: Global,
-    hasher: RandomState,
-    plan: &Plan,
-    records: &mut R,
-    out: &mut W,
-    err: &mut E,
-) -> u8
-    ensures status { ((result ≡ DONE) ⊎ (result ≡ MAP_FAULT)) ⊎ ((result ≡ REFUSED) ⊎ (result ≡ STOPPED)) }
-    ensures answered { result ≡ DONE
-        → AnswersRecords plan.now (R.remaining records.old) (Writes W.contents W.failure_count out.old out.new) }
-    ensures fault { result ≡ MAP_FAULT
-        → NamesRecordFault (layout_of plan.now) (R.remaining records.old) (LooksFor plan.now) (Writes W.contents W.failure_count out.old out.new) }
-    ensures refused { result ≡ REFUSED
-        → NamesRefusal (layout_of plan.now) (R.remaining records.old) (TriesToWrite E.contents E.failure_count err.old err.new) }
-    ensures stopped { result ≡ STOPPED
-        → NamesStop (TriesToWrite E.contents E.failure_count err.old err.new)
-        (FailsToRead R.failure_count records.old records.new) (CountStays R.failure_count records.old records.new)
-        (out.new ≡ out.old)
-        (AnswersRecords plan.now (R.remaining records.old) (WritesSome W.contents W.failure_count out.old out.new)
-        ⊎ NamesRecordFault (layout_of plan.now) (R.remaining records.old) (LooksFor plan.now) (WritesSome W.contents W.failure_count out.old out.new)) }
-    ensures err_stays { (result ≡ DONE) ⊎ (result ≡ MAP_FAULT) → err.new ≡ err.old }
-    ensures out_stays { result ≡ REFUSED → out.new ≡ out.old }
-    ensures read_whole { result ≢ STOPPED → R.failure_count records.new ≡ R.failure_count records.old }
-{
-    let answered = answer(alloc, hasher, plan, records, out);
-    tell_answer(answered, out, err)
-}
-
-// Tells why records have no answer. Of an answer, which is written already, it tells nothing.
-fn tell_answer<W: Sink, E: Sink>(answered: Result<(), MapStop>, out: &mut W, err: &mut E) -> u8
-    ensures { TellsAnswer answered result (Writes W.contents W.failure_count out.old out.new)
-        (TriesToWrite E.contents E.failure_count err.old err.new) (WritesSome W.contents W.failure_count out.old out.new)
-        (out.new ≡ out.old) (err.new ≡ err.old) }
-{
-    match answered {
-        Ok(()) => DONE,
-        Err(stop) => tell_decision(decision_by(stop), out, err),
-    }
-}
-
-// The decision of records that have no answer.
-fn decision_by(stop: MapStop) -> Result<Verdict, Stop>
-    ensures { result ≡ stop_decision stop }
-{
-    match stop {
-        MapStop::Fault(fault) => Ok(Verdict::MapFault(MapFault::Records(fault))),
-        MapStop::Refused { line, cause } => Err(Stop::Record { line, cause }),
-        MapStop::Memory => Err(Stop::Memory),
-        MapStop::Device => Err(Stop::Device),
-    }
-}
-
-// Writes the answer to what the plan asks of records.
-fn answer<R: Source, W: Sink>(
-    alloc: Global,
-    hasher: RandomState,
-    plan: &Plan,
-    records: &mut R,
-    out: &mut W,
-) -> Result<(), MapStop>
-    ensures { Answered (layout_of plan.now) (R.remaining records.old)
-        (R.failure_count records.old) (R.failure_count records.new) (out.new ≡ out.old)
-        (AnswersRecords plan.now (R.remaining records.old) (Writes W.contents W.failure_count out.old out.new))
-        (AnswersRecords plan.now (R.remaining records.old) (WritesSome W.contents W.failure_count out.old out.new))
-        (LooksFor plan.now) result }
-{
-    match plan {
-        Plan::Show { options, .. } => show(alloc, *options, records, out),
-        Plan::Landmarks { options, .. } => answer_of_map(
-            alloc,
-            hasher,
-            Asked::Landmarks,
-            *options,
-            records,
-            out,
-        ),
-        Plan::Locate { point, options, .. } => answer_of_map(
-            alloc,
-            hasher,
-            Asked::Place(*point),
-            *options,
-            records,
-            out,
-        ),
-        // They ask nothing of records alone.
-        _ => Ok(()),
-    }
-}
-
-// Writes the chains that the records draw; a fault is one of theirs.
-fn show<R: Source, W: Sink>(
-    alloc: Global,
-    options: Options,
-    records: &mut R,
-    out: &mut W,
-) -> Result<(), MapStop>
-    ensures { Answered (layout_with options) (R.remaining records.old)
-        (R.failure_count records.old) (R.failure_count records.new) (out.new ≡ out.old)
-        (IsShown (layout_with options) (R.remaining records.old) (Writes W.contents W.failure_count out.old out.new))
-        (IsShown (layout_with options) (R.remaining records.old) (WritesSome W.contents W.failure_count out.old out.new))
-        IsFaultOfChains result }
-{
-    match read_chains_with(alloc, records, options) {
-        Ok(chains) => tell_chains(&chains, out),
-        Err(stop) => Err(stop),
-    }
-}
-
-fn tell_chains<W: Sink>(chains: &Chains, out: &mut W) -> Result<(), MapStop>
-    ensures told { OnOk result (Writes W.contents W.failure_count out.old out.new (shown_text chains.now)) }
-    ensures stops { IfErr result (StopsTelling (out.new ≡ out.old)
-        (WritesSome W.contents W.failure_count out.old out.new (shown_text chains.now))) }
-{
-    match print_all_chains(chains, out) {
-        Ok(()) => Ok(()),
-        Err(_) => Err(MapStop::Device),
-    }
-}
-
-/// Writes a map's landmarks with their polygons.
-pub(crate) fn tell_landmarks<W: Sink>(map: &Map, out: &mut W) -> Result<(), MapStop>
-    ensures told { OnOk result (Writes W.contents W.failure_count out.old out.new (listing_text map.now)) }
-    ensures stops { IfErr result (StopsTelling (out.new ≡ out.old)
-        (WritesSome W.contents W.failure_count out.old out.new (listing_text map.now))) }
-{
-    match print_all_landmarks(map, out) {
-        Ok(()) => Ok(()),
-        Err(_) => Err(MapStop::Device),
-    }
-}
-
-fn print_all_chains<W: Sink>(chains: &Chains, out: &mut W) -> io::Result<()>
-    ensures bytes { TriesToPassOn (W.contents out.old) (W.contents out.new) [] [] (shown_text chains.now) result }
-    ensures failures { CountsFailure (W.failure_count out.old) (W.failure_count out.new) result }
-{
-    let mut buffer = OutputBuffer::new();
-    match print_chains(chains, &mut buffer, out) {
-        Ok(()) => buffer.flush(out),
-        Err(error) => Err(error),
-    }
-}
-
-fn print_all_landmarks<W: Sink>(map: &Map, out: &mut W) -> io::Result<()>
-    ensures bytes { TriesToPassOn (W.contents out.old) (W.contents out.new) [] [] (listing_text map.now) result }
-    ensures failures { CountsFailure (W.failure_count out.old) (W.failure_count out.new) result }
-{
-    let mut buffer = OutputBuffer::new();
-    match print_landmarks(map, &mut buffer, out) {
-        Ok(()) => buffer.flush(out),
-        Err(error) => Err(error),
+        _ => run_without_listing(alloc, hasher, plan, records, cert, made, out, err),
     }
 }

@@ -2,25 +2,20 @@
 
 ghost use Rattle.std.specs.Prelude.{◌≡◌, ◌⊎◌, map, string_bytes};
 ghost use Rattle.tl_output.specs.Writing.{Writes, WritesSome};
-ghost use Rattle.tl_command.specs.declared.stop.TheConstants.{DONE, MAP_FAULT, CERT_FAULT, REFUSED, STOPPED, USAGE};
-ghost use Rattle.tl_command.specs.Keeping.{Starts, TellsPlanStop, SaysHelp};
-ghost use Rattle.tl_command.specs.Opening.{FilesFail};
-ghost use Rattle.tl_command.specs.Starting.{IsStartStatus, ShowsUsage, ShowsHelp, AnswersSome, FaultsSome, RefusesSome};
-ghost use Rattle.tl_command.specs.Starting.{FaultsText, StopsSome, DecidesSome, BeginsSome, RefusesSomeOut, KeepsSome};
-ghost use Rattle.tl_command.specs.Running.{TriesToWrite};
+ghost use Rattle.tl_answers.specs.declared.stop.TheConstants.{DONE, MAP_FAULT, CERT_FAULT, REFUSED, STOPPED, USAGE};
+ghost use Rattle.tl_command.specs.Keeping.{Starts};
+ghost use Rattle.tl_making.specs.Opening.{FilesFail};
+ghost use Rattle.tl_command.specs.Starting.{IsStartStatus, ShowsUsage, ShowsHelp, AnswersSome, FaultsSome, RefusesSome, FaultsText, StopsSome};
+ghost use Rattle.tl_command.specs.Starting.{DecidesSome, BeginsSome, RefusesSomeOut, KeepsSome};
+ghost use Rattle.tl_answers.specs.Running.{TriesToWrite};
 
 use crate::open::open_and_run;
-use crate::stop::{DONE, USAGE, stopped};
 use std::alloc::Global;
 use std::hash::RandomState;
+use tl_answers::usage::tell_stop;
 use tl_files::FileSystem;
-use tl_output::write_all;
-use tl_plan::{PlanStop, words};
+use tl_plan::words;
 use tl_record::Sink;
-use tl_verdict::Stop;
-
-// What is said of words that are no use of a command, where memory was refused for a text that says why.
-const NO_USE: &str = "error: the words are no use of a command\n";
 
 /// Does what the words after the program's name ask, over these files, and gives the program's exit status.
 pub fn start<F: FileSystem, W: Sink, E: Sink>(
@@ -92,54 +87,5 @@ fn start_by<F: FileSystem, W: Sink, E: Sink>(
     match words::plan(alloc, words) {
         Ok(plan) => open_and_run(files, alloc, hasher, &plan, out, err),
         Err(stop) => tell_stop(&stop, out, err),
-    }
-}
-
-// Tells why there is no plan.
-fn tell_stop<W: Sink, E: Sink>(stop: &PlanStop, out: &mut W, err: &mut E) -> u8
-    ensures { TellsPlanStop stop.now result (Writes W.contents W.failure_count out.old out.new)
-        (TriesToWrite E.contents E.failure_count err.old err.new) (WritesSome W.contents W.failure_count out.old out.new)
-        (out.new ≡ out.old) (err.new ≡ err.old) }
-{
-    match stop {
-        PlanStop::Memory => stopped(&Stop::Memory, err),
-        PlanStop::Usage(text) => {
-            let shown = text.as_str();
-            if shown.is_empty() {
-                say_usage(NO_USE, err)
-            } else {
-                say_usage(shown, err)
-            }
-        }
-        PlanStop::Help(text) => {
-            let shown = text.as_str();
-            if shown.is_empty() {
-                // It never is: `clap` has a text for each wish.
-                stopped(&Stop::Memory, err)
-            } else {
-                say_help(shown, out, err)
-            }
-        }
-    }
-}
-
-// Says what is wrong with the words. Where that can't be written, the status alone is left to tell it.
-fn say_usage<E: Sink>(text: &str, err: &mut E) -> u8
-    ensures status { result ≡ USAGE }
-    ensures said { TriesToWrite E.contents E.failure_count err.old err.new text.now }
-{
-    let _ = write_all(text.as_bytes(), err);
-    USAGE
-}
-
-// Gives the help that the words wish for. Where that can't be written, the program is stopped.
-fn say_help<W: Sink, E: Sink>(text: &str, out: &mut W, err: &mut E) -> u8
-    ensures { SaysHelp text.now result (Writes W.contents W.failure_count out.old out.new)
-        (TriesToWrite E.contents E.failure_count err.old err.new) (WritesSome W.contents W.failure_count out.old out.new)
-        (err.new ≡ err.old) }
-{
-    match write_all(text.as_bytes(), out) {
-        Ok(()) => DONE,
-        Err(_) => stopped(&Stop::Device, err),
     }
 }

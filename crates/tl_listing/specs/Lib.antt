@@ -1,2 +1,4 @@
 -- What the contracts of listings cite.
 pub mod Texts
+pub mod MapFaults
+pub mod Listings

@@ -16,7 +16,7 @@ use Rattle.tl_verdict.specs.Truth.{IsTrueOfMap}
 use Rattle.tl_verdict.specs.Verdicts.{IsReport}
 use Rattle.tl_listing.specs.declared.listing.Listing.{Listing}
 use Rattle.tl_listing.specs.declared.listing.Listing.TheVariants.{Sound, Refused, Faults}
-use Rattle.tl_all_faults.specs.MapFaults.{side_fault, AreMapFaults}
+use Rattle.tl_listing.specs.MapFaults.{side_fault, AreMapFaults}
 
 -- the map is sound, and these are its numbers; or these are all its faults, and there is one
 abbrev pub IsListingOfMap : TheMap → Listing → Type 0

@@ -10,7 +10,7 @@ use Rattle.tl_verdict.specs.Verdicts.{IsReport}
 use Rattle.tl_verdict.specs.Records.{HaveMap}
 use Rattle.tl_listing.specs.declared.listing.Listing.{Listing}
 use Rattle.tl_listing.specs.declared.listing.Listing.TheVariants.{Sound, Refused, Faults}
-use Rattle.tl_all_faults.specs.Listings.{AreFaults}
+use Rattle.tl_listing.specs.Listings.{AreFaults}
 
 -- the map of the records is sound, and these are its numbers; or no line is refused, and these are all faults
 abbrev pub IsListingOfRecords : Records → Listing → Type 0

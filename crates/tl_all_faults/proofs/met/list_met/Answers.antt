@@ -1,7 +1,7 @@
 use Rattle.std.proofs.Common.{◌≡◌, map, refl, ◌∙◌}
 use Rattle.std.proofs.lemmas.Result.{err_from_is_err_and}
 use Rattle.tl_verdict.specs.declared.fault.MapFault.TheVariants as fault
-use Rattle.tl_all_faults.specs.MapFaults.{AreMapFaults}
+use Rattle.tl_listing.specs.MapFaults.{AreMapFaults}
 use Rattle.tl_all_faults.proofs.OfMap.{all_told, some_told, meet_is_fault}
 use Rattle.tl_all_faults.proofs.met.list_met.Goals as goal
 

@@ -1,7 +1,7 @@
 use Rattle.std.proofs.Common.{[]}
 use Rattle.std.proofs.lemmas.Result.{err_from_is_err_and}
 use Rattle.tl_all_faults.proofs.OfMap.{no_meets, all_told, some_told}
-use Rattle.tl_all_faults.specs.MapFaults.{AreMapFaults}
+use Rattle.tl_listing.specs.MapFaults.{AreMapFaults}
 use Rattle.tl_all_faults.proofs.planar.list_differing.Goals as goal
 
 pub returns : goal.returns

@@ -1,5 +1,5 @@
 use Rattle.std.proofs.Common.{◌≡◌, ◌++◌, take, map}
-use Rattle.tl_all_faults.specs.MapFaults.{side_fault}
+use Rattle.tl_listing.specs.MapFaults.{side_fault}
 use Rattle.tl_all_faults.proofs.tell.tell_sides.Given as goal
 
 abbrev pub invariant-loop-side : goal.invariant-loop-side

@@ -1,4 +1,4 @@
-use Rattle.tl_command.proofs.DecidingLemmas.{built_text}
+use Rattle.tl_answers.proofs.DecidingLemmas.{built_text}
 use Rattle.tl_command.proofs.laws.what_was_built_is_valid.Goals as goal
 
 pub returns : goal.returns

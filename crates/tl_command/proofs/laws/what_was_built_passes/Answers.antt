@@ -1,4 +1,4 @@
-use Rattle.tl_command.proofs.DecidingLemmas.{passes, not_spent}
+use Rattle.tl_answers.proofs.DecidingLemmas.{passes, not_spent}
 use Rattle.tl_command.proofs.laws.what_was_built_passes.Goals as goal
 
 pub returns-clause-status : goal.returns-clause-status

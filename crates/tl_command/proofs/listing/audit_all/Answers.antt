@@ -1,5 +1,5 @@
 use Rattle.tl_record.specs.Layout.{layout_with}
-use Rattle.tl_command.proofs.ListingLemmas.{all_status, all_sound, all_faults, all_refused, all_stopped, all_err_stays, all_whole}
+use Rattle.tl_answers.proofs.ListingLemmas.{all_status, all_sound, all_faults, all_refused, all_stopped, all_err_stays, all_whole}
 use Rattle.tl_command.proofs.listing.audit_all.Goals as goal
 
 pub returns-clause-status : goal.returns-clause-status

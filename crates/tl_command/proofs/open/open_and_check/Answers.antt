@@ -1,7 +1,7 @@
-use Rattle.tl_command.specs.Running.{TriesToWrite}
+use Rattle.tl_answers.specs.Running.{TriesToWrite}
 use Rattle.std.proofs.Common.{inl, inr, refl, string_bytes}
-use Rattle.tl_command.proofs.ToldLemmas.{weaker_stop}
-use Rattle.tl_command.proofs.OpenLemmas.{over_unopened, over_check, read_by_check, check_makes_none, none_failed}
+use Rattle.tl_answers.proofs.ToldLemmas.{weaker_stop}
+use Rattle.tl_making.proofs.OpenLemmas.{over_unopened, over_check, read_by_check, check_makes_none, none_failed}
 use Rattle.tl_command.proofs.open.open_and_check.Goals as goal
 
 pub returns-in-Err : goal.returns-in-Err

@@ -1,5 +1,5 @@
 use Rattle.std.proofs.Common.{string_bytes, refl}
-use Rattle.tl_command.proofs.OpenLemmas.{records_are, over_unopened_records}
+use Rattle.tl_making.proofs.OpenLemmas.{records_are, over_unopened_records}
 use Rattle.tl_command.proofs.open.open_and_run.Goals as goal
 
 pub run_over-requires : goal.run_over-requires

@@ -1,7 +1,7 @@
-use Rattle.tl_command.specs.Running.{TriesToWrite}
+use Rattle.tl_answers.specs.Running.{TriesToWrite}
 use Rattle.std.proofs.Common.{inl, inr}
-use Rattle.tl_command.proofs.ToldLemmas.{weaker_stop}
-use Rattle.tl_command.proofs.OpenLemmas.{over_plain, none_failed}
+use Rattle.tl_answers.proofs.ToldLemmas.{weaker_stop}
+use Rattle.tl_making.proofs.OpenLemmas.{over_plain, none_failed}
 use Rattle.tl_command.proofs.open.run_plainly.Goals as goal
 
 pub returns : goal.returns

@@ -1,4 +1,4 @@
-use Rattle.tl_command.proofs.ToldLemmas.{tries}
+use Rattle.tl_answers.proofs.ToldLemmas.{tries}
 use Rattle.tl_command.proofs.program.say_no_text.Goals as goal
 
 pub returns-clause-said : goal.returns-clause-said

@@ -1,4 +1,4 @@
-use Rattle.tl_command.specs.Running.{TriesToWrite}
+use Rattle.tl_answers.specs.Running.{TriesToWrite}
 use Rattle.std.proofs.Common.{inl, inr, map, refl, string_bytes}
 use Rattle.tl_output.specs.Writing.{WritesSome}
 use Rattle.tl_command.specs.Starting.{unknown}

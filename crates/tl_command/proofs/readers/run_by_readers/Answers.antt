@@ -1,6 +1,6 @@
 use Rattle.std.proofs.Common.{refl, ap, ◌∙◌}
 use Rattle.tl_record.specs.Failures.{one_more}
-use Rattle.tl_command.proofs.RunLemmas.{runs_for, runs_out}
+use Rattle.tl_answers.proofs.RunLemmas.{runs_for, runs_out}
 use Rattle.tl_command.proofs.readers.run_by_readers.Goals as goal
 
 pub returns-in_default : goal.returns-in_default

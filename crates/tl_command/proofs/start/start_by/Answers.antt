@@ -1,5 +1,5 @@
 use Rattle.std.proofs.Common.{map, string_bytes}
-use Rattle.tl_command.specs.Opening.{FilesFail}
+use Rattle.tl_making.specs.Opening.{FilesFail}
 use Rattle.tl_command.proofs.StartLemmas.{starts_planned, starts_unplanned}
 use Rattle.tl_command.proofs.start.start_by.Goals as goal
 

@@ -1,0 +1,59 @@
+//! What is asked of the records' map.
+
+ghost use Rattle.std.specs.Prelude.{◌≡◌, OnOk, IfErr, ⊤};
+ghost use Rattle.tl_record.specs.Layout.{layout_with};
+ghost use Rattle.tl_output.specs.Writing.{Writes, WritesSome};
+ghost use Rattle.tl_answers.specs.Keeping.{Answered, IsAnswerTo, IsToldOf};
+ghost use Rattle.tl_answers.specs.Places.{StopsTelling};
+
+use crate::locating::tell_on;
+use crate::records::tell_landmarks;
+use std::alloc::Global;
+use std::hash::RandomState;
+use tl_county::Map;
+use tl_geom::Point;
+use tl_map::{MapStop, read_map_with};
+use tl_record::{Options, Sink, Source};
+
+/// What is asked of a map.
+#[derive(Clone, Copy)]
+pub enum Asked {
+    /// Its landmarks with their polygons.
+    Landmarks,
+    /// Where this point lies.
+    Place(Point),
+}
+
+/// Writes what is asked of the map of the records.
+pub fn answer_of_map<R: Source, W: Sink>(
+    alloc: Global,
+    hasher: RandomState,
+    asked: Asked,
+    options: Options,
+    records: &mut R,
+    out: &mut W,
+) -> Result<(), MapStop>
+    ensures { Answered (layout_with options) (R.remaining records.old)
+        (R.failure_count records.old) (R.failure_count records.new) (out.new ≡ out.old)
+        (IsAnswerTo asked (layout_with options) (R.remaining records.old) (Writes W.contents W.failure_count out.old out.new))
+        (IsAnswerTo asked (layout_with options) (R.remaining records.old)
+        (WritesSome W.contents W.failure_count out.old out.new))
+        (λ fault. ⊤) result }
+{
+    match read_map_with(alloc, hasher, records, options) {
+        Ok(map) => tell_of_map(alloc, &map, asked, out),
+        Err(stop) => Err(stop),
+    }
+}
+
+// Writes what is asked of a map.
+fn tell_of_map<W: Sink>(alloc: Global, map: &Map, asked: Asked, out: &mut W) -> Result<(), MapStop>
+    ensures told { OnOk result (IsToldOf asked map.now (Writes W.contents W.failure_count out.old out.new)) }
+    ensures stops { IfErr result (StopsTelling (out.new ≡ out.old)
+        (IsToldOf asked map.now (WritesSome W.contents W.failure_count out.old out.new))) }
+{
+    match asked {
+        Asked::Landmarks => tell_landmarks(map, out),
+        Asked::Place(point) => tell_on(alloc, map, point, out),
+    }
+}

@@ -1,0 +1,63 @@
+//! How a stop is told, and the exit statuses.
+
+ghost use Rattle.std.specs.Prelude.{◌≡◌};
+ghost use Rattle.tl_record.specs.Messages.{refusal_text};
+ghost use Rattle.tl_output.specs.Writing.{line_of};
+ghost use Rattle.tl_answers.specs.declared.stop.TheConstants.{REFUSED, STOPPED};
+ghost use Rattle.tl_answers.specs.Running.{IsTold, TriesToWrite};
+
+use tl_listing::refusal_line;
+use tl_output::write_all;
+use tl_record::{Cause, Sink};
+use tl_verdict::Stop;
+
+/// The status of a command that is done, and of help.
+pub const DONE: u8 = 0;
+
+/// The status where the map has a fault.
+pub const MAP_FAULT: u8 = 1;
+
+/// The status where the certificate has a fault.
+pub const CERT_FAULT: u8 = 2;
+
+/// The status where a record is refused.
+pub const REFUSED: u8 = 3;
+
+/// The status where memory was refused, a file or the output failed, or the budget is spent.
+pub const STOPPED: u8 = 4;
+
+/// The status where the words are no command.
+pub const USAGE: u8 = 64;
+
+/// Says on `err` why a command stopped, and gives the exit status of that. Where the write fails, the status alone is left
+/// to tell it. The lines are put together here and not by `Display`, whose errors no contract excludes: so each stop is
+/// told as what it is.
+pub fn stopped<E: Sink>(stop: &Stop, err: &mut E) -> u8
+    ensures { IsTold stop.now result (TriesToWrite E.contents E.failure_count err.old err.new) }
+{
+    match stop {
+        Stop::Record { line, cause } => refused(*line, *cause, err),
+        Stop::Memory => say(b"stopped Memory\n", err),
+        Stop::Device => say(b"stopped Device\n", err),
+        Stop::Budget => say(b"stopped Budget\n", err),
+    }
+}
+
+// Writes this line, with the status of a stop.
+fn say<E: Sink>(line: &[u8], err: &mut E) -> u8
+    ensures status { result ≡ STOPPED }
+    ensures said { TriesToWrite E.contents E.failure_count err.old err.new line.now }
+{
+    let _ = write_all(line, err);
+    STOPPED
+}
+
+// Writes the line of a refusal, with its status.
+fn refused<E: Sink>(line: u64, cause: Cause, err: &mut E) -> u8
+    ensures status { result ≡ REFUSED }
+    ensures said { TriesToWrite E.contents E.failure_count err.old err.new (line_of (refusal_text line cause)) }
+{
+    let text = refusal_line(line, cause);
+    let _ = write_all(text.as_str().as_bytes(), err);
+    REFUSED
+}

@@ -1,0 +1,5 @@
+-- Lemmas on what is made.
+pub mod AuditLemmas
+pub mod MakingLemmas
+pub mod OpenLemmas
+pub mod OpeningLemmas

@@ -1,0 +1,4 @@
+-- What the contracts of what is made cite.
+pub mod Making
+pub mod Opening
+pub mod Keeping
