@@ -9,7 +9,7 @@ use Rattle.tl_geom.specs.Ray.{IsParted, Crosses}
 use Rattle.tl_county.specs.TheMap.{MapChain}
 use Rattle.tl_county.specs.Segments.{segments_before}
 use Rattle.tl_inside.specs.Inside.{flanks_at, flanks_between, IsCrossed}
-use Rattle.tl_inside.proofs.Hitting.{HaveSameEnds, same_ends}
+use Rattle.tl_planar.proofs.Numbering.{HaveSameEnds, same_ends}
 use Rattle.tl_inside.proofs.Sides.{by_points}
 use Rattle.tl_crossings.specs.Heights.{is_above, parts}
 use Rattle.tl_crossings.specs.Headings.{AreProper}

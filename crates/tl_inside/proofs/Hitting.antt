@@ -1,6 +1,5 @@
--- One segment has one number, and is hit or not.
-use Rattle.std.proofs.Common.{◌≡◌, ◌↔◌, ℕ, ◌+◌, Bool, List, sym, subst, ap, ◌∙◌}
-use Rattle.std.specs.Prelude.{slice_get}
+-- A segment is told by its number, and is hit or not.
+use Rattle.std.proofs.Common.{◌≡◌, ◌↔◌, ℕ, Bool, List, sym, subst, ap, ◌∙◌}
 use Rattle.std.specs.Bool.{IsTrue}
 use Rattle.tl_geom.specs.declared.point.Point.{Point}
 use Rattle.tl_geom.specs.declared.rational.Rational.{Rational}
@@ -12,26 +11,10 @@ use Rattle.tl_geom.specs.Rectangle.{Holds, AreMeeting, rect_of, ray_rect}
 use Rattle.tl_county.specs.TheMap.{MapChain}
 use Rattle.tl_county.specs.Segments.{IsSegmentOf, Joins}
 use Rattle.tl_planar.specs.Rectangles.{segment_rect}
-use Rattle.tl_planar.specs.Keeping.Apart.{one_found}
-use Rattle.tl_planar.proofs.Numbering.{one_chain, one_place}
+use Rattle.tl_planar.proofs.Numbering.{HaveSameEnds, same_ends}
 use Rattle.tl_planar.proofs.Rects.{rect_by_number}
 use Rattle.tl_inside.specs.Inside.{IsCrossed}
 use Rattle.tl_inside.specs.Keeping.Probing.{IsHolding, IsReached, IsTouching}
-
--- two segments of one number have the same ends
-pub record HaveSameEnds (one other : Segment) : Type 0 where
-  pub first : one.a ≡ other.a
-  pub last : one.b ≡ other.b
-
-pub same_ends : (chains : List MapChain) (s c k d j : ℕ) (one other : Segment) → IsSegmentOf chains s c k → Joins chains c k one → IsSegmentOf chains s d j → Joins chains d j other → HaveSameEnds one other
-same_ends chains s c k d j one other n joins m others =
-    let chain : c ≡ d = one_chain chains s c k d j n m in
-    let place : k ≡ j = one_place chains s c k d j n m in
-    let same : joins.chain ≡ others.chain = one_found joins.chain others.chain (slice_get chains c) joins.is (ap (λ i. slice_get chains i) chain ∙ others.is) in
-    record {
-      first = one_found one.a other.a (slice_get joins.chain.points k) joins.from ((λ i. slice_get (same i).points (place i)) ∙ others.from);
-      last = one_found one.b other.b (slice_get joins.chain.points (k + 1)) joins.to ((λ i. slice_get (same i).points (place i + 1)) ∙ others.to);
-    }
 
 on_same : (s t : Segment) (r : Rational) → HaveSameEnds s t → IsOn s r → IsOn t r
 on_same s t r e on = record {

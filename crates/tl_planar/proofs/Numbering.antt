@@ -1,11 +1,12 @@
 -- The numbers of segments: those of an earlier chain come first, and a number is of one segment alone.
-use Rattle.std.proofs.Common.{◌≡◌, ⊎_elim, ℕ, zero, suc, ◌+◌, ◌-◌, ◌<◌, ◌≤◌, Some, List, [], ◌∷◌, length, take, refl, ap, arith}
+use Rattle.std.proofs.Common.{◌≡◌, ⊎_elim, ℕ, zero, suc, ◌+◌, ◌-◌, ◌<◌, ◌≤◌, Some, List, [], ◌∷◌, length, take, refl, ap, ◌∙◌, arith}
 use Rattle.std.specs.Prelude.{slice_get}
 use Rattle.std.proofs.lemmas.Bool.{cases_order}
 use Rattle.std.proofs.lemmas.Option.{slice_get_within}
 use Rattle.std.proofs.lemmas.List.Sums.{sum_by-cons}
+use Rattle.tl_geom.specs.declared.segment.Segment.{Segment}
 use Rattle.tl_county.specs.TheMap.{MapChain}
-use Rattle.tl_county.specs.Segments.{segments_before, IsSegmentOf}
+use Rattle.tl_county.specs.Segments.{segments_before, IsSegmentOf, Joins}
 use Rattle.tl_planar.specs.Keeping.Apart.{one_found}
 
 -- a chain's segments come before those of the later chains
@@ -41,3 +42,18 @@ pub one_place : (cs : List MapChain) (s c i d j : ℕ) → IsSegmentOf cs s c i 
 one_place cs s c i d j first second =
     let same : segments_before cs c ≡ segments_before cs d = ap (λ n. segments_before cs n) (one_chain cs s c i d j first second) in
     omega (arith, same, first.number, second.number)
+
+-- two segments of one number have the same ends
+pub record HaveSameEnds (one other : Segment) : Type 0 where
+  pub first : one.a ≡ other.a
+  pub last : one.b ≡ other.b
+
+pub same_ends : (chains : List MapChain) (s c k d j : ℕ) (one other : Segment) → IsSegmentOf chains s c k → Joins chains c k one → IsSegmentOf chains s d j → Joins chains d j other → HaveSameEnds one other
+same_ends chains s c k d j one other n joins m others =
+    let chain : c ≡ d = one_chain chains s c k d j n m in
+    let place : k ≡ j = one_place chains s c k d j n m in
+    let same : joins.chain ≡ others.chain = one_found joins.chain others.chain (slice_get chains c) joins.is (ap (λ i. slice_get chains i) chain ∙ others.is) in
+    record {
+      first = one_found one.a other.a (slice_get joins.chain.points k) joins.from ((λ i. slice_get (same i).points (place i)) ∙ others.from);
+      last = one_found one.b other.b (slice_get joins.chain.points (k + 1)) joins.to ((λ i. slice_get (same i).points (place i + 1)) ∙ others.to);
+    }

@@ -7,6 +7,3 @@ pub mod Walking
 pub mod Floors
 pub mod Vertices
 pub mod Planarity
-pub mod Crossed
-pub mod Flanked
-pub mod Between

@@ -8,7 +8,7 @@ use Rattle.tl_geom.proofs.Places.{same_sym}
 use Rattle.tl_geom.proofs.Crossings.{end_same}
 use Rattle.tl_county.specs.TheMap.{MapChain}
 use Rattle.tl_planar.specs.Meets.{IsSharedBy}
-use Rattle.tl_inside.proofs.Hitting.{HaveSameEnds, same_ends}
+use Rattle.tl_planar.proofs.Numbering.{HaveSameEnds, same_ends}
 use Rattle.tl_slabs.specs.Neighbours.{IsNumbered, AreApartOrAtEnds}
 
 pub one_segment : (chains : List MapChain) (s : ℕ) (u w : Segment) → IsNumbered chains s u → IsNumbered chains s w → HaveSameEnds u w

@@ -1,5 +1,5 @@
 -- Two segments of a tested list that share a place share an end of both: the place lies on all segments from one to the other.
-use Rattle.std.proofs.Common.{◌≡◌, ◌⊎◌, inl, inr, ⊎_elim, ℕ, suc, ◌<◌, ℤ, pos, ◌+ℤ◌, ◌*ℤ◌, ◌≤ℤ◌, List, [], ◌∷◌, sym, subst, ◌∙◌, arith}
+use Rattle.std.proofs.Common.{◌≡◌, ◌⊎◌, inl, inr, ⊎_elim, ℕ, suc, ◌<◌, ℤ, pos, ◌+ℤ◌, ◌*ℤ◌, ◌≤ℤ◌, List, [], ◌∷◌, ◌++◌, sym, subst, ◌∙◌, arith}
 use Rattle.std.specs.Prelude.{All}
 use Rattle.std.proofs.lemmas.Int.{ints}
 use Rattle.tl_geom.specs.declared.rational.Rational.{Rational}
@@ -38,6 +38,15 @@ all_head P x xs all = all 0 0 (omega arith)
 pub two_tail : (P : ℕ → ℕ → Type 0) (x : ℕ) (xs : List ℕ) → EachTwo P (x ∷ xs) → EachTwo P xs
 two_tail P x [] two = tt
 two_tail P x (y ∷ xs) two = two.1
+
+pub two_back : (P : ℕ → ℕ → Type 0) (xs ys : List ℕ) → EachTwo P (xs ++ ys) → EachTwo P ys
+two_back P [] ys two = two
+two_back P (x ∷ xs) ys two = two_back P xs ys (two_tail P x (xs ++ ys) two)
+
+pub two_front : (P : ℕ → ℕ → Type 0) (xs ys : List ℕ) → EachTwo P (xs ++ ys) → EachTwo P xs
+two_front P [] ys two = tt
+two_front P (x ∷ []) ys two = tt
+two_front P (x ∷ (y ∷ xs)) ys two = (two.0, two_front P (y ∷ xs) ys two.1)
 
 -- ---- along the list of a slab that holds the height of a place
 

@@ -1,5 +1,4 @@
 pub mod Heights
 pub mod Neighbours
 pub mod Slabs
-pub mod Beside
 pub mod Keeping

@@ -11,19 +11,19 @@ use Rattle.tl_geom.specs.declared.segment.Segment.{Segment}
 use Rattle.tl_county.specs.TheMap.{MapChain}
 use Rattle.tl_county.specs.Segments.{segments_before, IsSegmentOf}
 use Rattle.tl_planar.specs.Keeping.Apart.{one_found}
-use Rattle.tl_planar.proofs.Numbering.{one_chain, one_place, below_total}
-use Rattle.tl_inside.proofs.Hitting.{HaveSameEnds}
+use Rattle.tl_planar.proofs.Numbering.{one_chain, one_place, below_total, HaveSameEnds}
 use Rattle.tl_crossings.specs.Headings.{AreProper}
-use Rattle.tl_sweep.specs.declared.events.Event.{Event}
+use Rattle.tl_line.specs.declared.events.Event.{Event}
 use Rattle.tl_slabs.specs.Heights.{height, widest, low_end, high_end}
 use Rattle.tl_slabs.specs.Neighbours.{IsNumbered, IsWide}
 use Rattle.tl_slabs.specs.Slabs.{IsPointOf, AreVerticesTested}
-use Rattle.tl_sweep.specs.Keeping.Listed.{end_at, IsEvent, begins_at, ends_at, AreEvents, AreRising}
-use Rattle.tl_sweep.specs.Keeping.Vertices.{IsAtPlace, IsEndOfChain, MayMeet, AreInOrderUpTo}
-use Rattle.tl_slabs.proofs.Flanked.{bit}
+use Rattle.tl_line.specs.Events.{end_at, IsEvent, begins_at, ends_at, AreEvents, AreRising}
+use Rattle.tl_line.specs.Vertices.{IsAtPlace, IsEndOfChain, MayMeet}
+use Rattle.tl_sweep.specs.Keeping.Vertices.{AreInOrderUpTo}
+use Rattle.tl_line.proofs.Bits.{bit}
 use Rattle.tl_slabs.proofs.Rising.{ends_of}
 use Rattle.tl_slabs.proofs.Numbered.{one_segment}
-use Rattle.tl_sweep.proofs.Tests.{same_low}
+use Rattle.tl_line.proofs.Tests.{same_low}
 
 abbrev pub no_event : Event
 no_event = record { height = pos 0; segment = 0; begins = false; first = false }

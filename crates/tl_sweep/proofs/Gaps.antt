@@ -5,10 +5,10 @@ use Rattle.tl_county.specs.declared.sides.Side.{Side}
 use Rattle.tl_county.specs.declared.sides.Side.TheVariants.{Outside, Polygon}
 use Rattle.tl_county.specs.TheMap.{MapChain}
 use Rattle.tl_inside.specs.Inside.{flanks_at}
-use Rattle.tl_slabs.specs.Beside.{AreFacing, seen_side}
+use Rattle.tl_sweep.specs.Beside.{AreFacing, seen_side}
 use Rattle.tl_sweep.specs.Keeping.Facing.{are_one, gap, gaps_between, gaps_of, last_far}
-use Rattle.tl_sweep.specs.Keeping.Lined.{last_of}
-use Rattle.tl_sweep.proofs.Lining.{last_more}
+use Rattle.tl_line.specs.Lined.{last_of}
+use Rattle.tl_line.proofs.Lining.{last_more}
 
 -- ---- two sides
 

@@ -2,13 +2,13 @@
 use Rattle.std.proofs.Common.{◌≡◌, ℕ, ◌+◌, ◌-◌, ◌≤◌, List, take, drop, count_by, sym, ap, ◌∙◌, arith}
 use Rattle.tl_county.specs.TheMap.{MapChain}
 use Rattle.tl_index.specs.Hits.{times}
-use Rattle.tl_sweep.specs.declared.events.Event.{Event}
+use Rattle.tl_line.specs.declared.events.Event.{Event}
 use Rattle.tl_slabs.specs.Heights.{widest}
 use Rattle.tl_slabs.specs.Neighbours.{AreTested, EachTwo}
-use Rattle.tl_sweep.specs.Keeping.Gathered.{AreGathered}
-use Rattle.tl_sweep.specs.Keeping.Listed.{begins_at, ends_at, AreEvents, AreRising, joined, between, before}
+use Rattle.tl_line.specs.Gathered.{AreGathered}
+use Rattle.tl_line.specs.Events.{begins_at, ends_at, AreEvents, AreRising, joined, between, before}
 use Rattle.tl_sweep.specs.Keeping.Swept.{IsSwept}
-use Rattle.tl_sweep.proofs.Joining.{before_past, before_within, part_is, level_there}
+use Rattle.tl_line.proofs.Joining.{before_past, before_within, part_is, level_there}
 use Rattle.tl_sweep.proofs.Slab.{goes_on}
 
 pub gone_on : (chains : List MapChain) (events : List (List Event)) (from to : ℕ) (list next outs ins : List ℕ) → AreEvents chains (joined events) → AreRising (joined events) → IsSwept chains (joined events) (before from events) list →

@@ -4,9 +4,10 @@ use Rattle.std.proofs.lemmas.Bool.{cases_lt}
 use Rattle.std.proofs.lemmas.Int.{ints}
 use Rattle.std.proofs.lemmas.List.{append_assoc, get_or_append_left, get_or-append-add, get_or_push, length_push}
 use Rattle.tl_county.specs.TheMap.{MapChain}
-use Rattle.tl_sweep.specs.declared.events.Event.{Event}
-use Rattle.tl_sweep.specs.Keeping.Ended.{AreMet, one_or_two}
-use Rattle.tl_sweep.specs.Keeping.Vertices.{IsLast, MayMeet, AreInOrder, AreInOrderUpTo}
+use Rattle.tl_line.specs.declared.events.Event.{Event}
+use Rattle.tl_line.specs.Events.{AreMet, one_or_two}
+use Rattle.tl_sweep.specs.Keeping.Vertices.{IsLast, AreInOrder, AreInOrderUpTo}
+use Rattle.tl_line.specs.Vertices.{MayMeet}
 
 module _ (chains : List MapChain) where
   -- events that are all in order

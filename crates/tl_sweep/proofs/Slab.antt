@@ -8,20 +8,19 @@ use Rattle.std.proofs.lemmas.List.Sums.{sum_by-cons, sum_by-append}
 use Rattle.tl_geom.specs.declared.segment.Segment.{Segment}
 use Rattle.tl_county.specs.TheMap.{MapChain}
 use Rattle.tl_county.specs.Segments.{segments_before}
-use Rattle.tl_planar.proofs.Numbering.{below_total}
+use Rattle.tl_planar.proofs.Numbering.{below_total, HaveSameEnds}
 use Rattle.tl_index.specs.Hits.{times}
 use Rattle.tl_index.proofs.Times.{same_or, times-same, times-other}
-use Rattle.tl_inside.proofs.Hitting.{HaveSameEnds}
-use Rattle.tl_sweep.specs.declared.events.Event.{Event}
+use Rattle.tl_line.specs.declared.events.Event.{Event}
 use Rattle.tl_slabs.specs.Heights.{height, widest, low_end, high_end}
 use Rattle.tl_slabs.specs.Neighbours.{IsNumbered, AreTested, EachTwo}
 use Rattle.tl_slabs.specs.Slabs.{IsActive, IsListOf, AreSlabsTested}
-use Rattle.tl_sweep.specs.Keeping.Listed.{IsEvent, begins_at, ends_at, AreEvents, AreRising}
+use Rattle.tl_line.specs.Events.{IsEvent, begins_at, ends_at, AreEvents, AreRising}
 use Rattle.tl_sweep.specs.Keeping.Swept.{AreAbove, IsSwept}
-use Rattle.tl_slabs.proofs.Flanked.{bit}
+use Rattle.tl_line.proofs.Bits.{bit}
 use Rattle.tl_sweep.proofs.Found.{no_event, found, both_true, is_number, not_true}
 use Rattle.tl_slabs.proofs.Numbered.{one_segment}
-use Rattle.tl_sweep.proofs.Tests.{low_height, high_height}
+use Rattle.tl_line.proofs.Tests.{low_height, high_height}
 
 -- ---- what is counted of the first events
 

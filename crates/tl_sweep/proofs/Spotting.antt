@@ -1,11 +1,8 @@
 -- The point of a polygon, between two events and two neighbours of the list there.
-use Rattle.std.proofs.Common.{◌≡◌, inl, inr, ⊎_elim, ℕ, ◌+◌, ◌-◌, ◌<◌, ◌≤◌, ◌<ℤ◌, ◌+ℤ◌, ℤ, pos, Bool, true, IsTrue, Ordering, Some, List, [], ◌∷◌, ◌++◌, length, get_or, take, count_by, refl, sym, ap, ap₂, subst, ◌∙◌, arith}
-use Rattle.std.specs.Prelude.{slice_get, int_lt}
+use Rattle.std.proofs.Common.{◌≡◌, inl, inr, ⊎_elim, ℕ, ◌+◌, ◌-◌, ◌<◌, ◌≤◌, ◌<ℤ◌, ◌+ℤ◌, ℤ, pos, true, Some, List, [], ◌∷◌, ◌++◌, length, get_or, take, count_by, refl, sym, ap, ap₂, subst, ◌∙◌, arith}
+use Rattle.std.specs.Prelude.{slice_get}
 use Rattle.std.proofs.lemmas.Bool.{cases_lt}
-use Rattle.std.proofs.lemmas.Cmp.{int_ranked}
 use Rattle.std.proofs.lemmas.Int.{ints}
-use Rattle.std.specs.declared.cmp.Ordering.TheVariants.{Less, Equal, Greater}
-use Rattle.std.specs.Ordering.{int_cmp, is_lt, is_gt, MatchOrdering}
 use Rattle.tl_geom.specs.declared.point.Point.{Point}
 use Rattle.tl_geom.specs.declared.segment.Segment.{Segment}
 use Rattle.tl_geom.specs.Plane.{turn_of}
@@ -13,37 +10,25 @@ use Rattle.tl_county.specs.declared.sides.Side.TheVariants.{Polygon}
 use Rattle.tl_county.specs.TheMap.{TheMap, MapChain}
 use Rattle.tl_inside.specs.Placed.{IsPlacedIn}
 use Rattle.tl_index.specs.Hits.{times}
-use Rattle.tl_sweep.specs.declared.events.Event.{Event}
-use Rattle.tl_slabs.specs.Beside.{IsNoVertex, IsEastOf, IsWestOfIt, IsEastOfLast, IsWestOfFirst, seen_side}
-use Rattle.tl_slabs.specs.Heights.{height, widest, low_end, high_end, turn_to, AreNear}
-use Rattle.tl_slabs.specs.Neighbours.{IsNumbered, IsWide}
+use Rattle.tl_line.specs.declared.events.Event.{Event}
+use Rattle.tl_sweep.specs.Beside.{IsNoVertex, IsEastOf, IsWestOfIt, IsEastOfLast, IsWestOfFirst, seen_side}
+use Rattle.tl_line.proofs.Wide.{near_by_range, wide_by_range}
+use Rattle.tl_slabs.specs.Heights.{height, widest, low_end, high_end, turn_to}
+use Rattle.tl_slabs.specs.Neighbours.{IsNumbered}
 use Rattle.tl_slabs.specs.Slabs.{IsListOf}
 use Rattle.tl_sweep.specs.Keeping.Facing.{gaps_of}
-use Rattle.tl_sweep.specs.Keeping.Lined.{last_of}
-use Rattle.tl_sweep.specs.Keeping.Listed.{begins_at, ends_at, AreEvents, AreRising}
-use Rattle.tl_sweep.specs.Keeping.Spotted.{IsInRange, AreInRange}
+use Rattle.tl_line.specs.Lined.{last_of}
+use Rattle.tl_line.specs.Events.{begins_at, ends_at, AreEvents, AreRising}
+use Rattle.tl_line.specs.Ranges.{IsInRange, AreInRange}
 use Rattle.tl_sweep.specs.Keeping.Swept.{IsSwept}
-use Rattle.tl_slabs.proofs.Between.{placed, turn_same}
+use Rattle.tl_sweep.proofs.Between.{placed, turn_same}
 use Rattle.tl_sweep.proofs.Found.{no_event, found}
 use Rattle.tl_sweep.proofs.Gaps.{facing_behind}
-use Rattle.tl_sweep.proofs.Lining.{last_more}
+use Rattle.tl_line.proofs.Lining.{last_more}
 use Rattle.tl_slabs.proofs.Numbered.{one_segment}
 use Rattle.tl_slabs.proofs.Rising.{AreEndsOf, ends_of}
 use Rattle.tl_sweep.proofs.Slab.{begun_by, ended_by, known, list_of_slab}
-use Rattle.tl_sweep.proofs.Tests.{low_height, high_height}
-
--- ---- longitudes
-
-pub near_by_range : (p q : Point) → IsInRange p → IsInRange q → AreNear widest p q
-near_by_range p q r t =
-    let a = r.west in
-    let b = r.east in
-    let c = t.west in
-    let d = t.east in
-    record { west = omega (arith, ints, b, c); east = omega (arith, ints, a, d) }
-
-pub wide_by_range : (chains : List MapChain) → AreInRange chains → IsWide widest chains
-wide_by_range chains ranges s segment is = let both = ranges s segment is in near_by_range segment.a segment.b both.0 both.1
+use Rattle.tl_line.proofs.Tests.{low_height, high_height}
 
 -- ---- a height between the events before a place and those from it on
 
@@ -100,26 +85,6 @@ module _ (chains : List MapChain) (events : List Event) (are : AreEvents chains 
         ends s u is = ends_of widest u (wide_by_range chains ranges s u is)
 
 -- ---- the segments before and behind a place
-
-lt_cases : (z : ℤ) (o : Ordering) → MatchOrdering o (z <ℤ pos 0) (z ≡ pos 0) (pos 0 <ℤ z) → IsTrue (is_lt o) → z <ℤ pos 0
-lt_cases z Less m h = m
-lt_cases z Equal m h = absurd (cc)
-lt_cases z Greater m h = absurd (cc)
-
--- what is moved by the same stays in its order
-pub lower_moved : (a b h k m : ℤ) → h ≡ a +ℤ m → k ≡ b +ℤ m → int_lt h k ≡ int_lt a b
-lower_moved a b h k m e f = grind (arith, ints)
-
-pub lt_test : (z : ℤ) (o : Ordering) (t : Bool) → o ≡ int_cmp z (pos 0) → t ≡ is_lt o → IsTrue t → z <ℤ pos 0
-lt_test z o t e f h = lt_cases z o (int_ranked z (pos 0) o e) (sym f ∙ h)
-
-gt_cases : (z : ℤ) (o : Ordering) → MatchOrdering o (z <ℤ pos 0) (z ≡ pos 0) (pos 0 <ℤ z) → IsTrue (is_gt o) → pos 0 <ℤ z
-gt_cases z Less m h = absurd (cc)
-gt_cases z Equal m h = absurd (cc)
-gt_cases z Greater m h = m
-
-pub gt_test : (z : ℤ) (o : Ordering) (t : Bool) → o ≡ int_cmp z (pos 0) → t ≡ is_gt o → IsTrue t → pos 0 <ℤ z
-gt_test z o t e f h = gt_cases z o (int_ranked z (pos 0) o e) (sym f ∙ h)
 
 module _ (K : ℤ) (chains : List MapChain) (q : Point) where
   module _ (s t : ℕ) (u : Segment) (a b : Point) (one : s ≡ t) (is : IsNumbered chains s u) (low : a ≡ low_end K u) (high : b ≡ high_end K u) where

@@ -1,2 +1,3 @@
 -- What the laws of sweeps cite.
+pub mod Beside
 pub mod Keeping

@@ -9,12 +9,11 @@ ghost use Rattle.tl_crossings.specs.Headings.{AreProper};
 ghost use Rattle.tl_slabs.specs.Heights.{widest};
 ghost use Rattle.tl_slabs.specs.Neighbours.{IsWide};
 ghost use Rattle.tl_slabs.specs.Slabs.{AreVerticesTested};
-ghost use Rattle.tl_sweep.specs.Keeping.Listed.{joined, AreEvents, AreRising};
-ghost use Rattle.tl_sweep.specs.Keeping.Ended.{AreMet};
-ghost use Rattle.tl_sweep.specs.Keeping.Spotted.{AreInRange, AreMarks, AreTrueMarks};
+ghost use Rattle.tl_line.specs.Events.{joined, AreEvents, AreRising, AreMet};
+ghost use Rattle.tl_line.specs.Ranges.{AreInRange};
+ghost use Rattle.tl_sweep.specs.Keeping.Spotted.{AreMarks, AreTrueMarks};
 ghost use Rattle.tl_sweep.specs.Keeping.Told.{IsTrueAnswer};
 
-use crate::events::Events;
 use crate::meets::are_vertices_tested;
 use crate::spots::{Spots, list_unmarked};
 use crate::suspects::{find_meet, find_meet_at_vertex};
@@ -22,6 +21,7 @@ use crate::sweeping::sweep_list;
 use std::alloc::{AllocError, Global};
 use tl_county::Map;
 use tl_crossings::look_at_chains;
+use tl_line::Events;
 use tl_planar::Meet;
 
 /// What a sweep answers.

@@ -5,12 +5,12 @@ ghost use Rattle.tl_county.specs.declared.sides.Side.TheVariants.{Outside};
 ghost use Rattle.tl_county.specs.Segments.{segments_before};
 ghost use Rattle.tl_inside.specs.declared.flanks.Flanks.{Flanks};
 ghost use Rattle.tl_inside.specs.Inside.{flanks_at};
-ghost use Rattle.tl_slabs.specs.Beside.{seen_side};
+ghost use Rattle.tl_sweep.specs.Beside.{seen_side};
 ghost use Rattle.tl_sweep.specs.Keeping.Facing.{gap as gap_of, gaps_between, last_far};
 
-use crate::line::Line;
 use tl_county::{Map, Side};
 use tl_inside::Flanks;
+use tl_line::Line;
 
 /// The sides of a segment: the near side, which a point west of it sees, and the far side.
 fn flanks_of(map: &Map, s: u32) -> Flanks

@@ -1,22 +1,17 @@
 //! How one sweep from south to north decides that chains are planar.
 //!
 //! The sweep keeps a list of the segments that are active at the height that it has reached, from west to east, and tests
-//! each two that are neighbours for the first time. Neither the order of the list nor the way in which a place in it was
-//! found is trusted: `tl_slabs` says what follows from the tests alone. So [`sweep`] answers [`Swept::Planar`] only where the
-//! chains are planar. Where a test fails it names two segments that meet where they may not, or says nothing of the map.
+//! each two that are neighbours for the first time (`tl_line`). Neither the order of the list nor the way in which a place in it
+//! was found is trusted: `tl_slabs` says what follows from the tests alone. So [`sweep`] answers [`Swept::Planar`] only where the
+//! chains are planar. Where a test fails it names two segments that meet where they may not, or says nothing of the map. A point
+//! between two neighbours lies in the polygon that the side of its eastern neighbour names, as [`laws`] say.
 #![tactic(auto)]
 
 mod answer;
-mod blocks;
-mod events;
 mod facing;
-mod finding;
-mod heights;
-mod line;
+pub mod laws;
 mod meets;
-mod neighbours;
 mod passing;
-mod places;
 mod placing;
 mod spots;
 mod suspects;

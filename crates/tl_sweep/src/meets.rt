@@ -5,12 +5,12 @@ ghost use Rattle.tl_crossings.specs.Headings.{AreProper};
 ghost use Rattle.tl_slabs.specs.Heights.{widest};
 ghost use Rattle.tl_slabs.specs.Neighbours.{IsWide};
 ghost use Rattle.tl_slabs.specs.Slabs.{AreVerticesTested};
-ghost use Rattle.tl_sweep.specs.Keeping.Listed.{joined, AreEvents, AreRising};
-ghost use Rattle.tl_sweep.specs.Keeping.Ended.{one_or_two, AreMet};
-ghost use Rattle.tl_sweep.specs.Keeping.Vertices.{IsAtPlace, IsEndOfChain, MayMeet, IsLast, AreInOrder};
+ghost use Rattle.tl_line.specs.Events.{joined, AreEvents, AreRising, one_or_two, AreMet};
+ghost use Rattle.tl_line.specs.Vertices.{IsAtPlace, IsEndOfChain, MayMeet};
+ghost use Rattle.tl_sweep.specs.Keeping.Vertices.{IsLast, AreInOrder};
 
-use crate::events::{Event, Events};
 use tl_county::Map;
+use tl_line::{Event, Events};
 
 /// Whether an event is at an end of its chain.
 fn is_chain_end(map: &Map, e: Event) -> bool

@@ -1,23 +1,21 @@
 //! Whether the list of active segments shows that a polygon's point is placed.
 ghost use Rattle.std.specs.Prelude.{◌≡◌, ◌<◌, ◌≤◌, ◌-◌, ◌+ℤ◌, ◌<ℤ◌, ℕ, pos, Some, IfOk, IsTrue, length, slice_index_or};
 ghost use Rattle.tl_county.specs.declared.sides.Side.TheVariants.{Polygon};
-ghost use Rattle.tl_sweep.specs.declared.events.Event.{Event};
-ghost use Rattle.tl_slabs.specs.Beside.{IsEastOf, IsWestOfIt, IsEastOfLast, IsWestOfFirst, seen_side};
+ghost use Rattle.tl_line.specs.declared.events.Event.{Event};
+ghost use Rattle.tl_sweep.specs.Beside.{IsEastOf, IsWestOfIt, IsEastOfLast, IsWestOfFirst, seen_side};
 ghost use Rattle.tl_slabs.specs.Heights.{widest};
 ghost use Rattle.tl_sweep.specs.Keeping.Facing.{IsCounted};
-ghost use Rattle.tl_sweep.specs.Keeping.Lined.{list_of};
-ghost use Rattle.tl_sweep.specs.Keeping.Listed.{before, joined, AreEvents, AreRising};
-ghost use Rattle.tl_sweep.specs.Keeping.Spotted.{AreInRange, IsPlacedPolygon};
+ghost use Rattle.tl_line.specs.Lined.{list_of};
+ghost use Rattle.tl_line.specs.Events.{before, joined, AreEvents, AreRising};
+ghost use Rattle.tl_line.specs.Ranges.{AreInRange};
+ghost use Rattle.tl_sweep.specs.Keeping.Spotted.{IsPlacedPolygon};
 ghost use Rattle.tl_sweep.specs.Keeping.Swept.{IsSwept};
 
-use crate::events::Events;
 use crate::facing::near_side;
-use crate::finding::{find, open};
-use crate::heights::{ends, height};
-use crate::line::Line;
 use std::alloc::AllocError;
 use tl_county::{Map, Side};
 use tl_geom::{Point, turn};
+use tl_line::{Events, Line, ends, go_to, height};
 
 /// Whether the point of a polygon is found to be placed, between the events up to a place and those behind it, where the
 /// list has so many places where facing sides differ.
@@ -45,8 +43,7 @@ pub fn is_placed(
     if !is_between(events, from, height(p)) {
         return Ok(false);
     }
-    open(map, line, p)?;
-    line.seek(find(map, line, p));
+    go_to(map, line, p)?;
     Ok(sees(map, line, p, polygon))
 }
 

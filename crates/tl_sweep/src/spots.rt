@@ -2,17 +2,16 @@
 ghost use Rattle.std.specs.Prelude.{◌≡◌, ◌⊎◌, ◌<◌, ℕ, false, true, All, Contains, IfOk, OnOk, IsTrue, length, slice_index_or};
 ghost use Rattle.tl_inside.specs.Placed.{ArePlaced};
 ghost use Rattle.tl_sweep.specs.Keeping.Facing.{IsCounted};
-ghost use Rattle.tl_sweep.specs.Keeping.Lined.{list_of};
-ghost use Rattle.tl_sweep.specs.Keeping.Listed.{before, joined, AreEvents, AreRising};
-ghost use Rattle.tl_sweep.specs.Keeping.Spotted.{AreInRange, AreMarks};
+ghost use Rattle.tl_line.specs.Lined.{list_of};
+ghost use Rattle.tl_line.specs.Events.{before, joined, AreEvents, AreRising};
+ghost use Rattle.tl_line.specs.Ranges.{AreInRange};
+ghost use Rattle.tl_sweep.specs.Keeping.Spotted.{AreMarks};
 ghost use Rattle.tl_sweep.specs.Keeping.Swept.{IsSwept};
 
-use crate::events::Events;
-use crate::heights::height;
-use crate::line::Line;
 use crate::placing::is_placed;
 use std::alloc::{AllocError, Global};
 use tl_county::{Map, Ranked, presort_by_rank};
+use tl_line::{Events, Line, height};
 
 /// The point of a polygon, by its height.
 #[derive(Clone, Copy)]

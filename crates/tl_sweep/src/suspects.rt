@@ -2,12 +2,11 @@
 ghost use Rattle.std.specs.Prelude.{IfSome, IsTrue};
 ghost use Rattle.tl_planar.specs.Searching.{IsTrueMeet};
 
-use crate::events::Events;
-use crate::line::Line;
 use crate::meets::{are_in_order, last_of};
 use std::alloc::AllocError;
 use tl_county::Map;
 use tl_index::Items;
+use tl_line::{Events, Line};
 use tl_planar::{Meet, Segments};
 
 /// The meet of two segments, if they meet where they may not and the first has the lower number.

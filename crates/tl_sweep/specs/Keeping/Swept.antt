@@ -2,11 +2,11 @@
 use Rattle.std.specs.Prelude.{◌≡◌, ℕ, ◌+◌, ◌<◌, ◌≤◌, ℤ, pos, ◌+ℤ◌, ◌<ℤ◌, List, length, take, count_by, slice_index_or}
 use Rattle.tl_county.specs.TheMap.{MapChain}
 use Rattle.tl_index.specs.Hits.{times}
-use Rattle.tl_sweep.specs.declared.events.Event.{Event}
+use Rattle.tl_line.specs.declared.events.Event.{Event}
 use Rattle.tl_slabs.specs.Heights.{widest}
 use Rattle.tl_slabs.specs.Neighbours.{AreTested, EachTwo}
 use Rattle.tl_slabs.specs.Slabs.{IsListOf}
-use Rattle.tl_sweep.specs.Keeping.Listed.{begins_at, ends_at}
+use Rattle.tl_line.specs.Events.{begins_at, ends_at}
 
 -- all events from a place on are above height n
 abbrev pub AreAbove : ℤ → ℕ → List Event → Type 0

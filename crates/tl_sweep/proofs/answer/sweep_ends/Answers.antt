@@ -2,8 +2,8 @@ use Rattle.std.proofs.Common.{length}
 use Rattle.std.proofs.lemmas.List.Sorted.{All-permutation}
 use Rattle.std.proofs.lemmas.Result.{err_from_is_err_and}
 use Rattle.tl_county.specs.Segments.{segments_before}
-use Rattle.tl_sweep.specs.Keeping.Ended.{AreMet}
-use Rattle.tl_sweep.proofs.Joining.{joined_moved}
+use Rattle.tl_line.specs.Events.{AreMet}
+use Rattle.tl_line.proofs.Joining.{joined_moved}
 use Rattle.tl_sweep.proofs.answer.sweep_ends.Goals as goal
 
 pub sweep_events-requires-clause-events : goal.sweep_events-requires-clause-events

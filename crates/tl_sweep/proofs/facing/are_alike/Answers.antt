@@ -1,4 +1,4 @@
-use Rattle.tl_sweep.proofs.Tests.{never}
+use Rattle.tl_line.proofs.Tests.{never}
 use Rattle.tl_sweep.proofs.facing.are_alike.Goals as goal
 
 pub returns-in-Some-None : goal.returns-in-Some-None

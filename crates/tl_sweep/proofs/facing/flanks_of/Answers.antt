@@ -1,7 +1,7 @@
 use Rattle.std.proofs.Common.{◌<ℤ◌, ◌≤ℤ◌, arith}
 use Rattle.std.proofs.lemmas.Int.{ints}
 use Rattle.tl_inside.proofs.Sides.{upward, downward}
-use Rattle.tl_sweep.proofs.Listing.{own}
+use Rattle.tl_line.proofs.Listing.{own}
 use Rattle.tl_sweep.proofs.facing.flanks_of.Goals as goal
 
 pub returns-then-a-b : goal.returns-then-a-b

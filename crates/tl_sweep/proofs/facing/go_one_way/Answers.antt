@@ -3,7 +3,7 @@ use Rattle.std.specs.Prelude.{slice_get}
 use Rattle.std.proofs.lemmas.Int.{ints}
 use Rattle.tl_county.specs.TheMap.{IsChain}
 use Rattle.tl_inside.proofs.Sides.{upward, downward}
-use Rattle.tl_sweep.proofs.Listing.{own}
+use Rattle.tl_line.proofs.Listing.{own}
 use Rattle.tl_sweep.proofs.facing.go_one_way.Goals as goal
 
 pub returns-then-a-b : goal.returns-then-a-b

@@ -1,11 +1,10 @@
 use Rattle.std.proofs.Common.{◌≡◌, ◌+◌, ◌++◌, ◌<◌, List, [], length, take, ap, subst, ◌∙◌, arith}
 use Rattle.std.proofs.lemmas.List.{take_all}
 use Rattle.std.proofs.lemmas.List.Elements.{All-get_or}
-use Rattle.tl_sweep.specs.declared.events.Event.{Event}
-use Rattle.tl_sweep.specs.Keeping.Ended.{AreMet, one_or_two}
-use Rattle.tl_sweep.specs.Keeping.Listed.{joined}
+use Rattle.tl_line.specs.declared.events.Event.{Event}
+use Rattle.tl_line.specs.Events.{AreMet, one_or_two, joined}
 use Rattle.tl_sweep.specs.Keeping.Vertices.{AreInOrderUpTo}
-use Rattle.tl_sweep.proofs.Joining.{before_further, none_joined}
+use Rattle.tl_line.proofs.Joining.{before_further, none_joined}
 use Rattle.tl_sweep.proofs.Pushing.{pushed_all, first_all, last_behind}
 use Rattle.tl_sweep.proofs.Found.{rising, vertices_tested, no_event}
 use Rattle.tl_sweep.proofs.meets.are_vertices_tested.Goals as goal

@@ -1,5 +1,5 @@
 use Rattle.std.proofs.Common.{length, take}
-use Rattle.tl_sweep.specs.Keeping.Listed.{joined}
+use Rattle.tl_line.specs.Events.{joined}
 use Rattle.tl_sweep.specs.Keeping.Vertices.{IsLast, AreInOrderUpTo}
 use Rattle.tl_sweep.proofs.meets.are_vertices_tested.Given as goal
 

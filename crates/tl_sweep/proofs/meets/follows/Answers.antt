@@ -1,6 +1,6 @@
 use Rattle.std.proofs.Common.{ℕ, sym, subst, arith}
 use Rattle.tl_county.specs.Segments.{IsSegmentOf}
-use Rattle.tl_sweep.proofs.Meeting.{one_after, equal, is_true}
+use Rattle.tl_line.proofs.Meeting.{one_after, equal, is_true}
 use Rattle.tl_sweep.proofs.meets.follows.Goals as goal
 
 pub returns : goal.returns

@@ -1,5 +1,5 @@
 use Rattle.std.proofs.Common.{arith}
-use Rattle.tl_sweep.proofs.Meeting.{first_end, last_end, differ}
+use Rattle.tl_line.proofs.Meeting.{first_end, last_end, differ}
 use Rattle.tl_sweep.proofs.meets.is_chain_end.Goals as goal
 
 pub returns-else-e-eq0 : goal.returns-else-e-eq0

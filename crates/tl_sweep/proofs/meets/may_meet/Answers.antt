@@ -1,4 +1,4 @@
-use Rattle.tl_sweep.proofs.Meeting.{both_ends, turned}
+use Rattle.tl_line.proofs.Meeting.{both_ends, turned}
 use Rattle.tl_sweep.proofs.meets.may_meet.Goals as goal
 use Rattle.tl_sweep.proofs.meets.may_meet.Goals.{then-follows-via-then-follows, then-follows-via-else-follows+then-follows-2}
 

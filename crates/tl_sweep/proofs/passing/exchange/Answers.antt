@@ -3,12 +3,12 @@ use Rattle.std.proofs.lemmas.Result.{err_from_is_err_and}
 use Rattle.tl_county.specs.declared.sides.Side.TheVariants.{Outside}
 use Rattle.tl_slabs.specs.Heights.{widest}
 use Rattle.tl_slabs.specs.Neighbours.{AreTested}
-use Rattle.tl_slabs.specs.Beside.{seen_side}
+use Rattle.tl_sweep.specs.Beside.{seen_side}
 use Rattle.tl_sweep.specs.Keeping.Facing.{gaps_between, last_far}
-use Rattle.tl_sweep.specs.Keeping.Lined.{list_of}
+use Rattle.tl_line.specs.Lined.{list_of}
 use Rattle.tl_sweep.proofs.Gaps.{in_stead}
-use Rattle.tl_sweep.proofs.Lining.{moved, before_tested}
-use Rattle.tl_sweep.proofs.Tests.{never}
+use Rattle.tl_line.proofs.Lining.{moved, before_tested}
+use Rattle.tl_line.proofs.Tests.{never}
 use Rattle.tl_sweep.proofs.passing.exchange.Goals as goal
 
 pub returns-clause-moved : goal.returns-clause-moved

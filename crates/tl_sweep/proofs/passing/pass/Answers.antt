@@ -1,15 +1,15 @@
-use Rattle.std.proofs.Common.{◌≡◌, ℕ, List, [], ◌∷◌, IfOk, IsTrue, length, ◌+◌, ◌++◌, get_or, sym, ap, subst, ◌∙◌, arith}
+use Rattle.std.proofs.Common.{◌≡◌, ℕ, List, [], ◌∷◌, IsTrue, length, ◌+◌, ◌++◌, get_or, refl, sym, ap, ◌∙◌, arith}
 use Rattle.tl_index.specs.Hits.{times}
 use Rattle.tl_slabs.specs.Heights.{widest}
 use Rattle.tl_slabs.specs.Neighbours.{AreTested, EachTwo}
-use Rattle.tl_slabs.specs.Beside.{seen_side}
+use Rattle.tl_sweep.specs.Beside.{seen_side}
 use Rattle.tl_county.specs.declared.sides.Side.{Side}
 use Rattle.tl_county.specs.declared.sides.Side.TheVariants.{Outside}
 use Rattle.tl_sweep.specs.Keeping.Facing.{IsCounted, gaps_between, last_far}
-use Rattle.tl_sweep.specs.Keeping.Lined.{TheLine, list_of}
-use Rattle.tl_sweep.proofs.Answered.{ok_more}
+use Rattle.tl_line.specs.Lined.{TheLine, list_of}
+use Rattle.tl_line.proofs.Answered.{ok_more}
 use Rattle.tl_sweep.proofs.Gaps.{in_stead}
-use Rattle.tl_sweep.proofs.Lining.{single, moved, before_tested}
+use Rattle.tl_line.proofs.Lining.{single, moved, before_tested}
 use Rattle.tl_sweep.proofs.passing.pass.Goals as goal
 
 -- the list before and behind a bend, by what ends and what begins there
@@ -25,20 +25,20 @@ pub returns-then-are_alike-clause-moved : goal.returns-then-are_alike-clause-mov
 returns-then-are_alike-clause-moved c =
     let outs = c.args.outs.now in
     let ins = c.args.ins.now in
-    let here = c.seek.new.self in
+    let here = c.args.line.now in
     let new = c.bend.new.line in
     let one : length outs ≡ 1 = omega (arith, c.if-outs-eq1.true) in
     let one' : length ins ≡ 1 = omega (arith, c.if-ins-eq1.true) in
     ok_more c.bend.result _ (λ done. IsTrue done → (s : ℕ) → times s (list_of new) + times s outs ≡ times s (list_of c.args.line.now) + times s ins)
     (λ done is h s. moved s here.front outs ins new.back (list_of c.args.line.now) (list_of new)
-    (before outs ins one one' (list_of c.args.line.now) here new c.seek.ensures (is h).back (is h).front)
-    (behind outs ins one one' (list_of c.args.line.now) here new c.seek.ensures (is h).back (is h).front)) c.bend.ensures
+    (before outs ins one one' (list_of c.args.line.now) here new refl (is h).back (is h).front)
+    (behind outs ins one one' (list_of c.args.line.now) here new refl (is h).back (is h).front)) c.bend.ensures
 
 pub returns-then-are_alike-clause-tested : goal.returns-then-are_alike-clause-tested
 returns-then-are_alike-clause-tested c =
     let outs = c.args.outs.now in
     let ins = c.args.ins.now in
-    let here = c.seek.new.self in
+    let here = c.args.line.now in
     let new = c.bend.new.line in
     let P = EachTwo (AreTested widest c.args.map.now.chains) in
     let one : length outs ≡ 1 = omega (arith, c.if-outs-eq1.true) in
@@ -46,7 +46,7 @@ returns-then-are_alike-clause-tested c =
     ok_more c.bend.result _ (λ done. IsTrue done → P (list_of c.args.line.now) → P (list_of new))
     (λ done is h two.
     let both = before_tested (AreTested widest c.args.map.now.chains) here.front outs new.back (list_of c.args.line.now)
-    (before outs ins one one' (list_of c.args.line.now) here new c.seek.ensures (is h).back (is h).front) two in
+    (before outs ins one one' (list_of c.args.line.now) here new refl (is h).back (is h).front) two in
     (is h).tested both.0 both.1) c.bend.ensures
 
 pub returns-then-are_alike-clause-counted : goal.returns-then-are_alike-clause-counted
@@ -54,7 +54,7 @@ returns-then-are_alike-clause-counted c =
     let chains = c.args.map.now.chains in
     let outs = c.args.outs.now in
     let ins = c.args.ins.now in
-    let here = c.seek.new.self in
+    let here = c.args.line.now in
     let new = c.bend.new.line in
     let gaps = c.args.gaps.now in
     let one : length outs ≡ 1 = omega (arith, c.if-outs-eq1.true) in
@@ -64,21 +64,15 @@ returns-then-are_alike-clause-counted c =
     ok_more c.bend.result _ (λ done. IsTrue done → IsCounted chains gaps (list_of c.args.line.now) → IsCounted chains gaps (list_of new))
     (λ done is h counted n count.
     in_stead chains here.front outs ins new.back (list_of c.args.line.now) (list_of new) n n
-    (before outs ins one one' (list_of c.args.line.now) here new c.seek.ensures (is h).back (is h).front)
-    (behind outs ins one one' (list_of c.args.line.now) here new c.seek.ensures (is h).back (is h).front)
+    (before outs ins one one' (list_of c.args.line.now) here new refl (is h).back (is h).front)
+    (behind outs ins one one' (list_of c.args.line.now) here new refl (is h).back (is h).front)
     (counted n count) (ap (λ g. n + g) (alike (last_far chains Outside here.front) (seen_side chains new.back)))) c.bend.ensures
 
 pub returns-clause-moved : goal.returns-clause-moved
-returns-clause-moved c =
-    subst (λ (l : List ℕ). IfOk c.exchange.result (λ done. IsTrue done → (s : ℕ) → times s (list_of c.exchange.new.line) + times s c.args.outs.now ≡ times s l + times s c.args.ins.now))
-    c.seek.ensures c.exchange.ensures.moved
+returns-clause-moved c = c.exchange.ensures.moved
 
 pub returns-clause-tested : goal.returns-clause-tested
-returns-clause-tested c =
-    subst (λ (l : List ℕ). IfOk c.exchange.result (λ done. IsTrue done → EachTwo (AreTested widest c.args.map.now.chains) l → EachTwo (AreTested widest c.args.map.now.chains) (list_of c.exchange.new.line)))
-    c.seek.ensures c.exchange.ensures.tested
+returns-clause-tested c = c.exchange.ensures.tested
 
 pub returns-clause-counted : goal.returns-clause-counted
-returns-clause-counted c =
-    subst (λ (l : List ℕ). IfOk c.exchange.result (λ done. IsTrue done → IsCounted c.args.map.now.chains c.args.gaps.now l → IsCounted c.args.map.now.chains c.exchange.new.gaps (list_of c.exchange.new.line)))
-    c.seek.ensures c.exchange.ensures.counted
+returns-clause-counted c = c.exchange.ensures.counted

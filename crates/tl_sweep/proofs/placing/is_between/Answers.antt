@@ -1,6 +1,6 @@
 use Rattle.std.proofs.Common.{arith}
 use Rattle.std.proofs.lemmas.Int.{ints}
-use Rattle.tl_sweep.proofs.Joining.{first_behind, last_before, none_before}
+use Rattle.tl_line.proofs.Joining.{first_behind, last_before, none_before}
 use Rattle.tl_sweep.proofs.placing.is_between.Goals as goal
 use Rattle.tl_sweep.proofs.placing.is_between.Goals.{else-from-gt0-via-then-from-gt0+else-height-h, else-from-gt0-via-else-from-gt0}
 

@@ -1,7 +1,7 @@
 use Rattle.std.proofs.Common.{◌∙◌}
 use Rattle.tl_slabs.specs.Heights.{widest}
 use Rattle.tl_sweep.proofs.Spotting.{east_of_last, west_of_first}
-use Rattle.tl_sweep.proofs.Tests.{never}
+use Rattle.tl_line.proofs.Tests.{never}
 use Rattle.tl_sweep.proofs.placing.sees.Goals as goal
 
 pub returns-clause-east : goal.returns-clause-east

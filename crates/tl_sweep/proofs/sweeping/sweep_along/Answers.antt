@@ -2,12 +2,12 @@ use Rattle.std.proofs.Common.{refl, ap, sym, subst, ◌∙◌}
 use Rattle.std.proofs.lemmas.Result.{err_from_is_err_and}
 use Rattle.tl_planar.specs.Keeping.Apart.{one_found}
 use Rattle.tl_sweep.specs.Keeping.Facing.{IsCounted, gaps_of}
-use Rattle.tl_sweep.specs.Keeping.Lined.{list_of}
-use Rattle.tl_sweep.specs.Keeping.Listed.{before, joined}
+use Rattle.tl_line.specs.Lined.{list_of}
+use Rattle.tl_line.specs.Events.{before, joined}
 use Rattle.tl_sweep.specs.Keeping.Swept.{IsSwept}
 use Rattle.tl_sweep.proofs.Slab.{begins}
 use Rattle.tl_sweep.proofs.Gone.{gone_on}
-use Rattle.tl_sweep.proofs.Tests.{never}
+use Rattle.tl_line.proofs.Tests.{never}
 use Rattle.tl_sweep.proofs.sweeping.sweep_along.Goals as goal
 
 pub loop-from-init : goal.loop-from-init

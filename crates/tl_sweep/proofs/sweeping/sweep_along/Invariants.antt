@@ -1,9 +1,9 @@
 use Rattle.std.proofs.Common.{◌-◌, ℕ, Bool, Option, List, length}
 use Rattle.tl_county.specs.TheMap.{TheMap}
-use Rattle.tl_sweep.specs.declared.events.Event.{Event}
+use Rattle.tl_line.specs.declared.events.Event.{Event}
 use Rattle.tl_sweep.specs.Keeping.Facing.{IsCounted}
-use Rattle.tl_sweep.specs.Keeping.Lined.{list_of}
-use Rattle.tl_sweep.specs.Keeping.Listed.{before, joined}
+use Rattle.tl_line.specs.Lined.{list_of}
+use Rattle.tl_line.specs.Events.{before, joined}
 use Rattle.tl_sweep.specs.Keeping.Spotted.{AreMarks}
 use Rattle.tl_sweep.specs.Keeping.Swept.{IsSwept}
 use Rattle.tl_sweep.proofs.sweeping.sweep_along.Given as goal

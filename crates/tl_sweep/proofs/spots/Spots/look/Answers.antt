@@ -2,7 +2,7 @@ use Rattle.std.proofs.Common.{⊎_elim, sym, subst, ◌∙◌, refl, arith}
 use Rattle.std.proofs.lemmas.Result.{err_from_is_err_and}
 use Rattle.tl_sweep.specs.Keeping.Spotted.{IsPlacedPolygon}
 use Rattle.tl_sweep.specs.Keeping.Facing.{IsCounted}
-use Rattle.tl_sweep.specs.Keeping.Listed.{before, joined}
+use Rattle.tl_line.specs.Events.{before, joined}
 use Rattle.tl_sweep.specs.Keeping.Swept.{IsSwept}
 use Rattle.tl_sweep.proofs.spots.Spots.look.Goals as goal
 

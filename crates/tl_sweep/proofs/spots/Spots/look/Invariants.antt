@@ -1,6 +1,6 @@
 use Rattle.std.proofs.Common.{◌≡◌, ◌-◌, ℕ, Bool, List, length}
 use Rattle.tl_county.specs.TheMap.{TheMap}
-use Rattle.tl_sweep.specs.Keeping.Lined.{list_of}
+use Rattle.tl_line.specs.Lined.{list_of}
 use Rattle.tl_sweep.specs.Keeping.Spotted.{AreMarks}
 use Rattle.tl_sweep.proofs.spots.Spots.look.Given as goal
 

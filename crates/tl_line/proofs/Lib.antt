@@ -1,0 +1,12 @@
+pub mod Bits
+pub mod Answered
+pub mod Wide
+pub mod Tests
+pub mod Beside
+pub mod Lining
+pub mod Stacked
+pub mod Listing
+pub mod Joining
+pub mod Meeting
+pub mod Ending
+pub mod Gathering

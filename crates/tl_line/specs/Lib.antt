@@ -1,0 +1,8 @@
+-- What the calls of a sweep's list and its events cite.
+pub mod Lined
+pub mod Vertices
+pub mod Events
+pub mod Ranges
+pub mod Gathered
+pub mod Bent
+pub mod Keeping
