@@ -18,7 +18,7 @@ mod segments;
 mod sides;
 
 pub use chains::{ChainRow, Chains};
-pub use kept::KeptChainSides;
+pub use kept::SidesOfChains;
 pub use landmarks::{LandmarkRow, LinkedLandmarks};
 pub use limits::{CHAIN_LIMIT, LANDMARK_LIMIT, POLYGON_LIMIT, SEGMENT_LIMIT};
 pub use map::{Chain, Landmark, Map};

@@ -8,7 +8,7 @@ ghost use Rattle.tl_county.specs.Keeping.Numbered.{AreNumberedSegments};
 ghost use Rattle.tl_county.specs.Keeping.Noded.{AreNumberedNodes};
 
 use crate::chains::{Chains, point_along};
-use crate::kept::KeptChainSides;
+use crate::kept::SidesOfChains;
 use crate::landmarks::{LandmarkRow, LinkedLandmarks};
 use crate::nodes::{Nodes, number_nodes};
 use crate::polygons::Polygon;
@@ -26,7 +26,7 @@ use tl_key::PolyKey;
 #[derive(Drop)]
 pub struct Map {
     chains: Chains,
-    sides: Vec<KeptChainSides>,
+    sides: SidesOfChains,
     polygons: IndexMap<PolyKey, Point, RandomState>,
     landmarks: IndexMap<u64, Option<Point>, RandomState>,
     rows: Vec<LandmarkRow>,
@@ -68,13 +68,13 @@ impl Model for Map {
     ghost use Rattle.tl_county.specs.Keeping.Noded.{AreNumberedNodes};
 
     ghost view = { λ m. record {
-      chains = sided m.chains.chains m.sides.items;
+      chains = sided m.chains.chains m.sides;
       polygons = map polygon_in m.polygons.entries;
       landmarks = landmarks_in m.linked.items m.landmarks.entries m.rows.items;
       skipped = m.chains.skipped;
     } };
 
-    ghost invariant = { λ m. (length m.sides.items ≡ length m.chains.chains)
+    ghost invariant = { λ m. (length m.sides ≡ length m.chains.chains)
         × (length m.polygons.entries ≤ most_polygons)
         × (length m.landmarks.entries ≤ most_landmarks)
         × All (IsRow m.linked.items) m.rows.items
@@ -119,11 +119,11 @@ impl Map {
     pub fn new(
         alloc: Global,
         chains: Chains,
-        sides: Vec<KeptChainSides>,
+        sides: SidesOfChains,
         polygons: IndexMap<PolyKey, Point, RandomState>,
         landmarks: LinkedLandmarks,
     ) -> Result<Map, AllocError>
-        requires paired { length sides.items ≡ length chains.chains }
+        requires paired { length sides ≡ length chains.chains }
         requires polygons { length polygons.entries ≤ most_polygons }
         requires landmarks { length landmarks.points.entries ≤ most_landmarks }
         requires beside { length landmarks.rows.items ≡ length landmarks.points.entries }
@@ -131,7 +131,7 @@ impl Map {
         requires proper { All (λ (c : CompleteChain). IsProper c.points) chains.chains }
         requires linked { All (HasPolygonsOf (length polygons.entries) landmarks.linked.items) landmarks.rows.items }
         ensures { IfOk result (λ m. m ≡ record {
-          chains = sided chains.chains sides.items;
+          chains = sided chains.chains sides;
           polygons = map polygon_in polygons.entries;
           landmarks = landmarks_in landmarks.linked.items landmarks.points.entries landmarks.rows.items;
           skipped = chains.skipped;
@@ -206,7 +206,7 @@ impl Map {
         ensures chain { IsChain (slice_get self.now.chains c) result.tlid result.points.now result.left result.right }
         ensures points { IsProper result.points.now }
     {
-        let sides = self.sides[c as usize].whole();
+        let sides = self.sides.get(c as usize);
         Chain {
             tlid: self.chains.tlid(c),
             points: self.chains.points(c),
@@ -321,7 +321,7 @@ impl Map {
         requires { d < 2 * length self.now.chains }
         ensures { dart_cell_of self.now.chains d ≡ Some result }
     {
-        let sides = self.sides[(d / 2) as usize].whole();
+        let sides = self.sides.get((d / 2) as usize);
         if d % 2 == 0 {
             sides.start_cell
         } else {
