@@ -1,5 +1,5 @@
 -- Options as they are kept: a part, and whether it is there; and numbers of polygons.
-use Rattle.std.specs.Prelude.{ℕ, ◌+◌, ◌^◌, ◌<◌, Bool, if◌then◌else◌, Option, Some, None}
+use Rattle.std.specs.Prelude.{◌+◌, ◌^◌, ◌<◌, Bool, if◌then◌else◌, Option, Some, None}
 use Rattle.tl_county.specs.declared.sides.Side.{Side}
 use Rattle.tl_county.specs.declared.sides.Side.TheVariants.{Outside, Polygon}
 

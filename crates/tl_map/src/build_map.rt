@@ -17,7 +17,7 @@ use crate::build::build_chains;
 use crate::collect::Collected;
 use crate::kept::KeptSides;
 use crate::landmarks::build_landmarks;
-use crate::polygons::index_polygons;
+use crate::polygons::{index_polygons, polygons_of};
 use crate::sides::{pair_sides, resolve_sides};
 use indexmap::IndexMap;
 use std::alloc::Global;
@@ -79,7 +79,9 @@ fn link_map(
         (StopsLinking (keys index) landmarks.now links.now) }
 {
     let linked = build_landmarks(alloc, hasher, &index, landmarks, links)?;
-    let map = Map::new(alloc, chains, sides, index, linked)?;
+    let polygons = polygons_of(alloc, &index)?;
+    drop(index);
+    let map = Map::new(alloc, chains, sides, polygons, linked)?;
     Ok(map)
 }
 
