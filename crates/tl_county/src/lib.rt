@@ -6,6 +6,7 @@
 #![tactic(auto)]
 
 mod chains;
+mod freeing;
 mod kept;
 mod landmarks;
 pub mod laws;
@@ -18,6 +19,7 @@ mod segments;
 mod sides;
 
 pub use chains::{ChainRow, Chains};
+pub use freeing::release;
 pub use kept::SidesOfChains;
 pub use landmarks::{LandmarkRow, LinkedLandmarks};
 pub use limits::{CHAIN_LIMIT, LANDMARK_LIMIT, POLYGON_LIMIT, SEGMENT_LIMIT};

@@ -22,7 +22,7 @@ use crate::sides::{pair_sides, resolve_sides};
 use indexmap::IndexMap;
 use std::alloc::Global;
 use std::hash::RandomState;
-use tl_county::{Chains, Map, POLYGON_LIMIT, Polygon, SidesOfChains};
+use tl_county::{Chains, Map, POLYGON_LIMIT, Polygon, SidesOfChains, release};
 use tl_drawn::{LandmarkEntry, Limited, LinkEntry, MapFault, MapStop};
 use tl_geom::Point;
 use tl_record::PolyKey;
@@ -56,8 +56,9 @@ fn index_sides(
         (StopsIndexedSides polygons.items paired) }
 {
     let index = index_polygons(alloc, hasher, &polygons)?;
-    drop(polygons);
+    release(polygons);
     let sides = resolve_sides(alloc, &index, &paired)?;
+    paired.release();
     Ok((index, sides))
 }
 

@@ -8,6 +8,7 @@ ghost use Rattle.tl_drawn.specs.MapOf.{same_key};
 use indexmap::IndexMap;
 use std::alloc::{AllocError, Global};
 use std::hash::RandomState;
+use tl_county::release;
 use tl_geom::Point;
 use tl_record::PolyKey;
 
@@ -40,6 +41,12 @@ impl Guesses {
             }
         }
         Ok(Guesses { numbers })
+    }
+
+    /// Frees the guesses.
+    pub fn release(self) {
+        let Guesses { numbers } = self;
+        release(numbers);
     }
 
     /// The number of the polygon with this key. What a right guess takes stands where the call is.

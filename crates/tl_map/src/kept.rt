@@ -12,7 +12,7 @@ ghost use Rattle.tl_map.specs.Keeping.Kept.{short_of, long_of, kept_in, IsRow};
 
 use std::alloc::{AllocError, Global};
 use std::marker::Model;
-use tl_county::{Ranked, presort_by_rank};
+use tl_county::{Ranked, presort_by_rank, release};
 use tl_drawn::SidesEntry;
 use tl_record::PolyKey;
 
@@ -133,6 +133,13 @@ impl KeptSides {
         ensures moved { IsPermutation self.old self.new }
     {
         sort_rows(alloc, &mut self.rows)
+    }
+
+    /// Frees the records.
+    pub fn release(self) {
+        let KeptSides { rows, more } = self;
+        release(rows);
+        release(more);
     }
 }
 

@@ -69,6 +69,7 @@ pub fn resolve_sides(
             end_cell: entry.end_cell,
         })?;
     }
+    guesses.release();
     Ok(sides)
 }
 
