@@ -6,6 +6,7 @@
 #![tactic(auto)]
 
 mod chains;
+mod freeing;
 mod kept;
 mod landmarks;
 pub mod laws;
@@ -18,7 +19,8 @@ mod segments;
 mod sides;
 
 pub use chains::{ChainRow, Chains};
-pub use kept::KeptChainSides;
+pub use freeing::release;
+pub use kept::SidesOfChains;
 pub use landmarks::{LandmarkRow, LinkedLandmarks};
 pub use limits::{CHAIN_LIMIT, LANDMARK_LIMIT, POLYGON_LIMIT, SEGMENT_LIMIT};
 pub use map::{Chain, Landmark, Map};

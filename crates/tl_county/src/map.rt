@@ -8,7 +8,7 @@ ghost use Rattle.tl_county.specs.Keeping.Numbered.{AreNumberedSegments};
 ghost use Rattle.tl_county.specs.Keeping.Noded.{AreNumberedNodes};
 
 use crate::chains::{Chains, point_along};
-use crate::kept::KeptChainSides;
+use crate::kept::SidesOfChains;
 use crate::landmarks::{LandmarkRow, LinkedLandmarks};
 use crate::nodes::{Nodes, number_nodes};
 use crate::polygons::Polygon;
@@ -19,15 +19,14 @@ use std::alloc::{AllocError, Global};
 use std::hash::RandomState;
 use std::marker::Model;
 use tl_geom::{Direction, Point, Segment};
-use tl_key::PolyKey;
 
 /// The map of a county: chains by rising TLID, polygons in the order of their type P records, landmarks in the order of
 /// their first type 7 record, each numbered from 0. Coordinates are in millionths of a degree.
 #[derive(Drop)]
 pub struct Map {
     chains: Chains,
-    sides: Vec<KeptChainSides>,
-    polygons: IndexMap<PolyKey, Point, RandomState>,
+    sides: SidesOfChains,
+    polygons: Vec<Polygon>,
     landmarks: IndexMap<u64, Option<Point>, RandomState>,
     rows: Vec<LandmarkRow>,
     linked: Vec<u32>,
@@ -62,26 +61,26 @@ impl Model for Map {
 
     ghost use Rattle.tl_county.specs.Limits.{most_segments, most_polygons, most_landmarks};
     ghost use Rattle.tl_county.specs.Chains.{CompleteChain, IsProper};
-    ghost use Rattle.tl_county.specs.Rows.{IsRow, HasPolygonsOf, landmarks_in, polygon_in};
+    ghost use Rattle.tl_county.specs.Rows.{IsRow, HasPolygonsOf, landmarks_in};
     ghost use Rattle.tl_county.specs.Rows.{sided};
     ghost use Rattle.tl_county.specs.Keeping.Numbered.{AreNumberedSegments};
     ghost use Rattle.tl_county.specs.Keeping.Noded.{AreNumberedNodes};
 
     ghost view = { λ m. record {
-      chains = sided m.chains.chains m.sides.items;
-      polygons = map polygon_in m.polygons.entries;
+      chains = sided m.chains.chains m.sides;
+      polygons = m.polygons.items;
       landmarks = landmarks_in m.linked.items m.landmarks.entries m.rows.items;
       skipped = m.chains.skipped;
     } };
 
-    ghost invariant = { λ m. (length m.sides.items ≡ length m.chains.chains)
-        × (length m.polygons.entries ≤ most_polygons)
+    ghost invariant = { λ m. (length m.sides ≡ length m.chains.chains)
+        × (length m.polygons.items ≤ most_polygons)
         × (length m.landmarks.entries ≤ most_landmarks)
         × All (IsRow m.linked.items) m.rows.items
         × All (λ (c : CompleteChain). IsProper c.points) m.chains.chains
         × AreNumberedSegments m.chains.chains m.segment_chains.items
         × AreNumberedNodes m.chains.chains m.nodes
-        × All (HasPolygonsOf (length m.polygons.entries) m.linked.items) m.rows.items
+        × All (HasPolygonsOf (length m.polygons.items) m.linked.items) m.rows.items
         × (length m.rows.items ≡ length m.landmarks.entries)
         × (length m.segment_chains.items ≤ most_segments) };
 }
@@ -105,7 +104,7 @@ impl Map {
     ghost use Rattle.tl_county.specs.Darts.{dart_left as dart_left_of, dart_cell as dart_cell_of, Heads};
     ghost use Rattle.tl_county.specs.Limits.{most_segments, most_polygons, most_landmarks};
     ghost use Rattle.tl_county.specs.Chains.{CompleteChain, IsProper};
-    ghost use Rattle.tl_county.specs.Rows.{IsRow, HasPolygonsOf, landmarks_in, polygon_in};
+    ghost use Rattle.tl_county.specs.Rows.{IsRow, HasPolygonsOf, landmarks_in};
     ghost use Rattle.tl_county.specs.Rows.{sided};
     ghost use Rattle.tl_county.specs.Keeping.Noded.{AreNumberedNodes};
     ghost use Rattle.tl_county.specs.Nodes.{AreNodes};
@@ -119,20 +118,20 @@ impl Map {
     pub fn new(
         alloc: Global,
         chains: Chains,
-        sides: Vec<KeptChainSides>,
-        polygons: IndexMap<PolyKey, Point, RandomState>,
+        sides: SidesOfChains,
+        polygons: Vec<Polygon>,
         landmarks: LinkedLandmarks,
     ) -> Result<Map, AllocError>
-        requires paired { length sides.items ≡ length chains.chains }
-        requires polygons { length polygons.entries ≤ most_polygons }
+        requires paired { length sides ≡ length chains.chains }
+        requires polygons { length polygons.items ≤ most_polygons }
         requires landmarks { length landmarks.points.entries ≤ most_landmarks }
         requires beside { length landmarks.rows.items ≡ length landmarks.points.entries }
         requires within { All (IsRow landmarks.linked.items) landmarks.rows.items }
         requires proper { All (λ (c : CompleteChain). IsProper c.points) chains.chains }
-        requires linked { All (HasPolygonsOf (length polygons.entries) landmarks.linked.items) landmarks.rows.items }
+        requires linked { All (HasPolygonsOf (length polygons.items) landmarks.linked.items) landmarks.rows.items }
         ensures { IfOk result (λ m. m ≡ record {
-          chains = sided chains.chains sides.items;
-          polygons = map polygon_in polygons.entries;
+          chains = sided chains.chains sides;
+          polygons = polygons.items;
           landmarks = landmarks_in landmarks.linked.items landmarks.points.entries landmarks.rows.items;
           skipped = chains.skipped;
         }) }
@@ -206,7 +205,7 @@ impl Map {
         ensures chain { IsChain (slice_get self.now.chains c) result.tlid result.points.now result.left result.right }
         ensures points { IsProper result.points.now }
     {
-        let sides = self.sides[c as usize].whole();
+        let sides = self.sides.get(c as usize);
         Chain {
             tlid: self.chains.tlid(c),
             points: self.chains.points(c),
@@ -220,13 +219,7 @@ impl Map {
         requires { p < length self.now.polygons }
         ensures { slice_get self.now.polygons p ≡ Some result }
     {
-        match self.polygons.get_index(p as usize) {
-            Some((key, point)) => Polygon {
-                key: *key,
-                point: *point,
-            },
-            None => unreachable!(),
-        }
+        self.polygons[p as usize]
     }
 
     /// A landmark by its number.
@@ -321,7 +314,7 @@ impl Map {
         requires { d < 2 * length self.now.chains }
         ensures { dart_cell_of self.now.chains d ≡ Some result }
     {
-        let sides = self.sides[(d / 2) as usize].whole();
+        let sides = self.sides.get((d / 2) as usize);
         if d % 2 == 0 {
             sides.start_cell
         } else {

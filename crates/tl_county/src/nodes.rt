@@ -7,6 +7,7 @@ ghost use Rattle.tl_county.specs.Keeping.Noded.{start_in, TellStarts, AreByPoint
 ghost use Rattle.tl_county.specs.Keeping.Noded.{AreNumberedNodes};
 
 use crate::chains::{Chains, point_along};
+use crate::freeing::release;
 use crate::presort::{Ranked, presort_by_rank};
 use std::alloc::{AllocError, Global};
 use tl_geom::Point;
@@ -102,5 +103,6 @@ pub fn number_nodes(alloc: Global, chains: &Chains) -> Result<Nodes, AllocError>
     let mut starts = dart_starts(alloc, chains)?;
     sort_starts(alloc, &mut starts)?;
     let nodes = number_starts(alloc, &starts)?;
+    release(starts);
     Ok(nodes)
 }

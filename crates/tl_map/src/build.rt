@@ -16,7 +16,7 @@ use crate::join::join;
 use crate::passes::{gap_tlid, misnumbered_tlid, repeated_tlid, stray_tlid};
 use crate::sort::{sort_chains, sort_shapes};
 use std::alloc::Global;
-use tl_county::Chains;
+use tl_county::{Chains, release};
 use tl_drawn::{ChainEntry, Limited, MapFault, MapStop, ShapeEntry};
 
 /// A fault of sorted chains and shapes that shows before they are joined.
@@ -63,5 +63,9 @@ pub fn build_chains(alloc: Global, collected: Collected, skipped: u64) -> Result
     if let Some(fault) = first_fault(&chains, &shapes) {
         return Err(MapStop::Fault(fault));
     }
-    join(alloc, &chains, &shapes, &pool, skipped)
+    let joined = join(alloc, &chains, &shapes, &pool, skipped);
+    release(chains);
+    release(shapes);
+    release(pool);
+    joined
 }

@@ -17,12 +17,12 @@ use crate::build::build_chains;
 use crate::collect::Collected;
 use crate::kept::KeptSides;
 use crate::landmarks::build_landmarks;
-use crate::polygons::index_polygons;
+use crate::polygons::{index_polygons, polygons_of};
 use crate::sides::{pair_sides, resolve_sides};
 use indexmap::IndexMap;
 use std::alloc::Global;
 use std::hash::RandomState;
-use tl_county::{Chains, KeptChainSides, Map, POLYGON_LIMIT, Polygon};
+use tl_county::{Chains, Map, POLYGON_LIMIT, Polygon, SidesOfChains, release};
 use tl_drawn::{LandmarkEntry, Limited, LinkEntry, MapFault, MapStop};
 use tl_geom::Point;
 use tl_record::PolyKey;
@@ -50,14 +50,15 @@ fn index_sides(
     hasher: RandomState,
     polygons: Vec<Polygon>,
     paired: KeptSides,
-) -> Result<(IndexMap<PolyKey, Point, RandomState>, Vec<KeptChainSides>), MapStop>
+) -> Result<(IndexMap<PolyKey, Point, RandomState>, SidesOfChains), MapStop>
     requires { length polygons.items ≤ most_polygons }
-    ensures { MatchResult result (λ made. AreIndexedSides polygons.items paired made.0 made.1.items)
+    ensures { MatchResult result (λ made. AreIndexedSides polygons.items paired made.0 made.1)
         (StopsIndexedSides polygons.items paired) }
 {
     let index = index_polygons(alloc, hasher, &polygons)?;
-    drop(polygons);
+    release(polygons);
     let sides = resolve_sides(alloc, &index, &paired)?;
+    paired.release();
     Ok((index, sides))
 }
 
@@ -66,20 +67,22 @@ fn link_map(
     alloc: Global,
     hasher: RandomState,
     chains: Chains,
-    sides: Vec<KeptChainSides>,
+    sides: SidesOfChains,
     index: IndexMap<PolyKey, Point, RandomState>,
     landmarks: &[LandmarkEntry],
     links: &[LinkEntry],
 ) -> Result<Map, MapStop>
-    requires paired { length sides.items ≡ length chains.chains }
+    requires paired { length sides ≡ length chains.chains }
     requires proper { All (λ (c : CompleteChain). IsProper c.points) chains.chains }
     requires polygons { length index.entries ≤ most_polygons }
     requires unique { IsUnique same_key index }
-    ensures { MatchResult result (IsLinkedMap chains sides.items index landmarks.now links.now)
+    ensures { MatchResult result (IsLinkedMap chains sides index landmarks.now links.now)
         (StopsLinking (keys index) landmarks.now links.now) }
 {
     let linked = build_landmarks(alloc, hasher, &index, landmarks, links)?;
-    let map = Map::new(alloc, chains, sides, index, linked)?;
+    let polygons = polygons_of(alloc, &index)?;
+    drop(index);
+    let map = Map::new(alloc, chains, sides, polygons, linked)?;
     Ok(map)
 }
 

@@ -1,41 +1,52 @@
-//! Type I records, as they are kept until all are read: in rows of 40 bytes, where whether a part is there stands beside
-//! the parts, and numbers but for the TLID take 32 bits. The few records with a larger one are kept whole beside the rows.
+//! Type I records, as they are kept until all are read: in rows of 32 bytes, where whether a part is there stands beside
+//! the parts, and POLYIDs take 32 bits. Of a record with a zero-cell id or a larger POLYID all that a row has no place for is
+//! kept beside the rows.
 
-ghost use Rattle.std.specs.Prelude.{◌≡◌, ◌++◌, false, is_some, IfOk, IfSome, OnOk, List};
+ghost use Rattle.std.specs.Prelude.{◌≡◌, ◌++◌, is_some, IfOk, IfSome, OnOk, List};
 ghost use Rattle.std.specs.List.Sorted.{IsNonDecreasingBy, IsPermutation};
 ghost use Rattle.tl_drawn.specs.declared.entry.SidesEntry.{SidesEntry};
 ghost use Rattle.tl_map.specs.declared.kept.SidesRow.{SidesRow};
+ghost use Rattle.tl_map.specs.declared.kept.SidesMore.{SidesMore};
 ghost use Rattle.tl_county.specs.Kept.{given};
-ghost use Rattle.tl_map.specs.Keeping.Kept.{short_of, kept_in, IsRow};
+ghost use Rattle.tl_map.specs.Keeping.Kept.{short_of, long_of, kept_in, IsRow};
 
 use std::alloc::{AllocError, Global};
 use std::marker::Model;
-use tl_county::{Ranked, presort_by_rank};
+use tl_county::{Ranked, presort_by_rank, release};
 use tl_drawn::SidesEntry;
 use tl_record::PolyKey;
 
 /// The first number that takes more than 32 bits.
 const SHORT_END: u64 = 1 << 32;
 
-/// A type I record whose numbers take 32 bits, or, where it `is_long`, one that is kept whole, with its TLID.
+/// A type I record. Where `more` isn't 0, the record has more than the row: the `more`-th of what is kept beside the rows, and its
+/// POLYIDs stand there.
 #[derive(Clone, Copy)]
 pub struct SidesRow {
     pub tlid: u64,
-    /// The id of the start, or the place of a record that is kept whole.
-    pub start_cell: u32,
-    pub end_cell: u32,
     pub left_polyid: u32,
     pub right_polyid: u32,
+    pub more: u32,
     pub left_cenid: [u8; 5],
     pub right_cenid: [u8; 5],
-    pub has_start: bool,
-    pub has_end: bool,
     pub has_left: bool,
     pub has_right: bool,
-    pub is_long: bool,
 }
 
-const _: () = prove!(size_of::<SidesRow>() == 40);
+/// What a record has beside its row.
+#[derive(Clone, Copy)]
+pub struct SidesMore {
+    pub start_cell: u64,
+    pub end_cell: u64,
+    pub left_polyid: u64,
+    pub right_polyid: u64,
+    pub has_start: bool,
+    pub has_end: bool,
+}
+
+const _: () = prove!(size_of::<SidesRow>() == 32);
+
+const _: () = prove!(size_of::<SidesMore>() == 40);
 
 impl Ranked for SidesRow {
     /// By TLID.
@@ -48,7 +59,7 @@ impl Ranked for SidesRow {
 #[derive(Drop)]
 pub struct KeptSides {
     rows: Vec<SidesRow>,
-    long: Vec<SidesEntry>,
+    more: Vec<SidesMore>,
 }
 
 impl Model for KeptSides {
@@ -58,9 +69,9 @@ impl Model for KeptSides {
 
     ghost Value = { List SidesEntry };
 
-    ghost view = { λ s. map (kept_in s.long.items) s.rows.items };
+    ghost view = { λ s. map (kept_in s.more.items) s.rows.items };
 
-    ghost invariant = { λ s. All (IsRow s.long.items) s.rows.items };
+    ghost invariant = { λ s. All (IsRow s.more.items) s.rows.items };
 }
 
 impl KeptSides {
@@ -75,7 +86,7 @@ impl KeptSides {
     {
         KeptSides {
             rows: Vec::new(alloc),
-            long: Vec::new(alloc),
+            more: Vec::new(alloc),
         }
     }
 
@@ -90,7 +101,7 @@ impl KeptSides {
     pub fn push(&mut self, entry: SidesEntry) -> Result<(), AllocError>
         ensures { OnOk result (self.new ≡ self.old ++ entry ∷ []) }
     {
-        let row = row_of(&mut self.long, entry)?;
+        let row = row_of(&mut self.more, entry)?;
         self.rows.push(row)?;
         Ok(())
     }
@@ -109,10 +120,10 @@ impl KeptSides {
         ensures { (d : SidesEntry) → result ≡ slice_index_or self.now place d }
     {
         let row = self.rows[place];
-        if row.is_long {
-            self.long[row.start_cell as usize]
-        } else {
+        if row.more == 0 {
             short_entry(row)
+        } else {
+            long_entry(row, self.more[row.more as usize - 1])
         }
     }
 
@@ -122,6 +133,13 @@ impl KeptSides {
         ensures moved { IsPermutation self.old self.new }
     {
         sort_rows(alloc, &mut self.rows)
+    }
+
+    /// Frees the records.
+    pub fn release(self) {
+        let KeptSides { rows, more } = self;
+        release(rows);
+        release(more);
     }
 }
 
@@ -135,89 +153,103 @@ fn sort_rows(alloc: Global, rows: &mut Vec<SidesRow>) -> Result<(), AllocError>
     Ok(())
 }
 
-/// The row of a record. It is kept whole where one of its numbers takes more than 32 bits.
-fn row_of(long: &mut Vec<SidesEntry>, entry: SidesEntry) -> Result<SidesRow, AllocError>
-    ensures grows { (more : List SidesEntry) × (long.new.items ≡ long.old.items ++ more) }
-    ensures row { IfOk result (IsRow long.new.items) }
-    ensures same { IfOk result (λ row. kept_in long.new.items row ≡ entry) }
+/// The row of a record. What it has no place for is kept beside the rows.
+fn row_of(more: &mut Vec<SidesMore>, entry: SidesEntry) -> Result<SidesRow, AllocError>
+    ensures grows { (xs : List SidesMore) × (more.new.items ≡ more.old.items ++ xs) }
+    ensures row { IfOk result (IsRow more.new.items) }
+    ensures same { IfOk result (λ row. kept_in more.new.items row ≡ entry) }
 {
     match short_row(entry) {
         Some(row) => Ok(row),
-        None => keep_whole(long, entry),
+        None => keep_more(more, entry),
     }
 }
 
-/// Keeps a record whole, and gives its row.
-fn keep_whole(long: &mut Vec<SidesEntry>, entry: SidesEntry) -> Result<SidesRow, AllocError>
-    ensures grows { (more : List SidesEntry) × (long.new.items ≡ long.old.items ++ more) }
-    ensures row { IfOk result (IsRow long.new.items) }
-    ensures same { IfOk result (λ row. kept_in long.new.items row ≡ entry) }
+/// Keeps what a record has beside its row, and gives the row.
+fn keep_more(more: &mut Vec<SidesMore>, entry: SidesEntry) -> Result<SidesRow, AllocError>
+    ensures grows { (xs : List SidesMore) × (more.new.items ≡ more.old.items ++ xs) }
+    ensures row { IfOk result (IsRow more.new.items) }
+    ensures same { IfOk result (λ row. kept_in more.new.items row ≡ entry) }
 {
-    // A record of a text has a place: there are fewer lines.
-    let Ok(start_cell) = u32::try_from(long.len()) else {
+    let left = key_or_blank(entry.left);
+    let right = key_or_blank(entry.right);
+    more.push(SidesMore {
+        start_cell: entry.start_cell.unwrap_or(0),
+        end_cell: entry.end_cell.unwrap_or(0),
+        left_polyid: left.polyid,
+        right_polyid: right.polyid,
+        has_start: entry.start_cell.is_some(),
+        has_end: entry.end_cell.is_some(),
+    })?;
+    // A record of a text has a number: there are fewer lines.
+    let Ok(number) = u32::try_from(more.len()) else {
         return Err(AllocError);
     };
-    long.push(entry)?;
+    let left_cenid = left.cenid;
+    let right_cenid = right.cenid;
     Ok(SidesRow {
         tlid: entry.tlid,
-        start_cell,
-        end_cell: 0,
         left_polyid: 0,
         right_polyid: 0,
-        left_cenid: [0; 5],
-        right_cenid: [0; 5],
-        has_start: false,
-        has_end: false,
-        has_left: false,
-        has_right: false,
-        is_long: true,
+        more: number,
+        left_cenid,
+        right_cenid,
+        has_left: entry.left.is_some(),
+        has_right: entry.right.is_some(),
     })
 }
 
-/// The row of a record whose numbers take 32 bits.
+/// The row of a record that has no more than that.
 fn short_row(entry: SidesEntry) -> Option<SidesRow>
-    ensures short { IfSome result (λ row. row.is_long ≡ false) }
+    ensures short { IfSome result (λ row. row.more ≡ 0) }
     ensures same { IfSome result (λ row. short_of row ≡ entry) }
 {
     let left = key_or_blank(entry.left);
     let right = key_or_blank(entry.right);
-    let start_cell = entry.start_cell.unwrap_or(0);
-    let end_cell = entry.end_cell.unwrap_or(0);
-    if start_cell >= SHORT_END
-        || end_cell >= SHORT_END
-        || left.polyid >= SHORT_END
-        || right.polyid >= SHORT_END
-    {
+    if left.polyid >= SHORT_END || right.polyid >= SHORT_END {
+        return None;
+    }
+    if entry.start_cell.is_some() || entry.end_cell.is_some() {
         return None;
     }
     let left_cenid = left.cenid;
     let right_cenid = right.cenid;
     Some(SidesRow {
         tlid: entry.tlid,
-        start_cell: start_cell as u32,
-        end_cell: end_cell as u32,
         left_polyid: left.polyid as u32,
         right_polyid: right.polyid as u32,
+        more: 0,
         left_cenid,
         right_cenid,
-        has_start: entry.start_cell.is_some(),
-        has_end: entry.end_cell.is_some(),
         has_left: entry.left.is_some(),
         has_right: entry.right.is_some(),
-        is_long: false,
     })
 }
 
-/// The record of a row's own numbers.
+/// The record of a row that has no more.
+#[inline(always)]
 fn short_entry(row: SidesRow) -> SidesEntry
     ensures { result ≡ short_of row }
 {
     SidesEntry {
         tlid: row.tlid,
-        start_cell: row.has_start.then_some(u64::from(row.start_cell)),
-        end_cell: row.has_end.then_some(u64::from(row.end_cell)),
-        left: key_if(row.has_left, row.left_cenid, row.left_polyid),
-        right: key_if(row.has_right, row.right_cenid, row.right_polyid),
+        start_cell: None,
+        end_cell: None,
+        left: key_if(row.has_left, row.left_cenid, u64::from(row.left_polyid)),
+        right: key_if(row.has_right, row.right_cenid, u64::from(row.right_polyid)),
+    }
+}
+
+/// The record of a row that has more.
+fn long_entry(row: SidesRow, more: SidesMore) -> SidesEntry
+    ensures { result ≡ long_of row more }
+{
+    SidesEntry {
+        tlid: row.tlid,
+        start_cell: more.has_start.then_some(more.start_cell),
+        end_cell: more.has_end.then_some(more.end_cell),
+        left: key_if(row.has_left, row.left_cenid, more.left_polyid),
+        right: key_if(row.has_right, row.right_cenid, more.right_polyid),
     }
 }
 
@@ -235,14 +267,11 @@ fn key_or_blank(key: Option<PolyKey>) -> PolyKey
 }
 
 /// The key of these parts, where there is one.
-fn key_if(is_there: bool, cenid: [u8; 5], polyid: u32) -> Option<PolyKey>
+fn key_if(is_there: bool, cenid: [u8; 5], polyid: u64) -> Option<PolyKey>
     ensures { result ≡ given is_there (record { cenid = cenid; polyid = polyid }) }
 {
     if is_there {
-        Some(PolyKey {
-            cenid,
-            polyid: u64::from(polyid),
-        })
+        Some(PolyKey { cenid, polyid })
     } else {
         None
     }

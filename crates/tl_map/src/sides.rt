@@ -6,6 +6,7 @@ ghost use Rattle.std.specs.Prelude.{count_by, All};
 ghost use Rattle.std.specs.List.Sorted.{IsNonDecreasingBy, IsStrictlyIncreasing};
 ghost use Rattle.tl_drawn.specs.declared.entry.SidesEntry.{SidesEntry};
 ghost use Rattle.tl_county.specs.Chains.{tlids};
+ghost use Rattle.tl_county.specs.Kept.{HasNumber};
 ghost use Rattle.tl_key.specs.declared.key.PolyKey.{PolyKey};
 ghost use Rattle.tl_map.specs.Keeping.Index.{Indexes};
 ghost use Rattle.tl_map.specs.Keeping.Sided.{sided_by, IsSide, NamesKnown, StopsSide, StopsSides, sides_tlids};
@@ -16,7 +17,7 @@ use crate::kept::KeptSides;
 use indexmap::IndexMap;
 use std::alloc::Global;
 use std::hash::RandomState;
-use tl_county::{ChainSides, Chains, KeptChainSides, Side};
+use tl_county::{ChainSides, Chains, Side, SidesOfChains};
 use tl_drawn::{MapFault, MapStop};
 use tl_geom::Point;
 use tl_record::PolyKey;
@@ -30,7 +31,8 @@ fn resolve_side(
     tlid: u64,
 ) -> Result<Side, MapStop>
     requires { length index.now.entries < 2 ^ 32 }
-    ensures { (ks : List PolyKey) → Indexes ks index.now → MatchResult result (IsSide ks key) (StopsSide ks key tlid) }
+    ensures side { (ks : List PolyKey) → Indexes ks index.now → MatchResult result (IsSide ks key) (StopsSide ks key tlid) }
+    ensures number { IfOk result HasNumber }
 {
     match key {
         None => Ok(Side::Outside),
@@ -46,27 +48,28 @@ pub fn resolve_sides(
     alloc: Global,
     index: &IndexMap<PolyKey, Point, RandomState>,
     entries: &KeptSides,
-) -> Result<Vec<KeptChainSides>, MapStop>
+) -> Result<SidesOfChains, MapStop>
     requires { length index.now.entries < 2 ^ 32 }
     ensures sides { (ks : List PolyKey) → Indexes ks index.now →
-        IfOk result (λ sides. sides.items ≡ map (sided_by ks) entries.now) }
+        IfOk result (λ sides. sides ≡ map (sided_by ks) entries.now) }
     ensures known { (ks : List PolyKey) → Indexes ks index.now → OnOk result (All (NamesKnown ks) entries.now) }
     ensures stops { (ks : List PolyKey) → Indexes ks index.now → IfErr result (StopsSides ks entries.now) }
 {
     let mut guesses = Guesses::new(alloc, index)?;
-    let mut sides = Vec::with_capacity(alloc, entries.len())?;
+    let mut sides = SidesOfChains::with_capacity(alloc, entries.len())?;
     let count = entries.len();
     for place in 0..count {
         let entry = entries.get(place);
         let left = resolve_side(index, &mut guesses, entry.left, entry.tlid)?;
         let right = resolve_side(index, &mut guesses, entry.right, entry.tlid)?;
-        sides.push(KeptChainSides::new(ChainSides {
+        sides.push(ChainSides {
             left,
             right,
             start_cell: entry.start_cell,
             end_cell: entry.end_cell,
-        }))?;
+        })?;
     }
+    guesses.release();
     Ok(sides)
 }
 

@@ -1,24 +1,38 @@
--- Kept on the way: type I records in rows, and those with a number of more than 32 bits whole.
-use Rattle.std.specs.Prelude.{◌≡◌, ◌<◌, true, if◌then◌else◌, List, length, slice_index_or}
+-- Kept on the way: type I records in rows, and what some have beside them.
+use Rattle.std.specs.Prelude.{◌≡◌, ◌≤◌, ◌-◌, ◌==◌, false, None, if◌then◌else◌, List, length, slice_index_or}
 use Rattle.tl_county.specs.Kept.{given}
 use Rattle.tl_drawn.specs.declared.entry.SidesEntry.{SidesEntry}
 use Rattle.tl_map.specs.declared.kept.SidesRow.{SidesRow}
+use Rattle.tl_map.specs.declared.kept.SidesMore.{SidesMore}
 
--- the record of a row's own numbers
+-- the record of a row that has no more
 abbrev pub short_of : SidesRow → SidesEntry
 short_of s = record {
   tlid = s.tlid;
-  start_cell = given s.has_start s.start_cell;
-  end_cell = given s.has_end s.end_cell;
+  start_cell = None;
+  end_cell = None;
   left = given s.has_left (record { cenid = s.left_cenid; polyid = s.left_polyid });
   right = given s.has_right (record { cenid = s.right_cenid; polyid = s.right_polyid });
 }
 
--- the record of a row, beside those that are kept whole
-abbrev pub kept_in : List SidesEntry → SidesRow → SidesEntry
-kept_in long s = if s.is_long then slice_index_or long s.start_cell (short_of s) else short_of s
+-- the record of a row that has more
+abbrev pub long_of : SidesRow → SidesMore → SidesEntry
+long_of s m = record {
+  tlid = s.tlid;
+  start_cell = given m.has_start m.start_cell;
+  end_cell = given m.has_end m.end_cell;
+  left = given s.has_left (record { cenid = s.left_cenid; polyid = m.left_polyid });
+  right = given s.has_right (record { cenid = s.right_cenid; polyid = m.right_polyid });
+}
 
--- where the row is that of a record which is kept whole, it has its place and its TLID
-pub record IsRow (long : List SidesEntry) (s : SidesRow) : Type 0 where
-  pub inside : s.is_long ≡ true → s.start_cell < length long
-  pub tlid : (kept_in long s).tlid ≡ s.tlid
+-- nothing
+abbrev pub no_more : SidesMore
+no_more = record { start_cell = 0; end_cell = 0; left_polyid = 0; right_polyid = 0; has_start = false; has_end = false }
+
+-- the record of a row, by what is kept beside the rows
+abbrev pub kept_in : List SidesMore → SidesRow → SidesEntry
+kept_in more s = if s.more == 0 then short_of s else long_of s (slice_index_or more (s.more - 1) no_more)
+
+-- what a row has more is kept
+abbrev pub IsRow : List SidesMore → SidesRow → Type 0
+IsRow more s = s.more ≤ length more

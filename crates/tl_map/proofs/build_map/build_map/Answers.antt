@@ -30,7 +30,7 @@ returns-in_err-index c = λ rs h k.
 pub link_map-requires-clause-paired : goal.link_map-requires-clause-paired
 link_map-requires-clause-paired c =
     let pairs = c.in_ok-chains.ensures c.requires.0 c.requires.1 c.requires.2.sides in
-    as_many c.requires.0 c.args.skipped c.in_ok-chains.chains _ c.in_ok-chains.paired c.in_ok-index.sides.items (keys c.args.areas.polygons.items) pairs.built pairs.pairs c.in_ok-index.ensures.resolved
+    as_many c.requires.0 c.args.skipped c.in_ok-chains.chains _ c.in_ok-chains.paired c.in_ok-index.sides (keys c.args.areas.polygons.items) pairs.built pairs.pairs c.in_ok-index.ensures.resolved
 
 pub link_map-requires-clause-proper : goal.link_map-requires-clause-proper
 link_map-requires-clause-proper c = (c.in_ok-chains.ensures c.requires.0 c.requires.1 c.requires.2.sides).built.proper
@@ -44,4 +44,4 @@ link_map-requires-clause-unique c = c.in_ok-index.ensures.unique
 pub returns : goal.returns
 returns c = λ rs h k.
     let few : length c.args.areas.polygons.items ≤ most_polygons = omega (arith, c.len.ensures, c.if-len.false, c.args.areas.polygons.ok.0) in
-    linked_all rs c.args.skipped c.in_ok-chains.chains c.args.areas c.in_ok-chains.paired c.in_ok-index.index c.in_ok-index.sides.items c.link_map.result k (c.in_ok-chains.ensures rs h k.sides) c.in_ok-index.ensures few (rw (c.deref.ensures.value, c.deref-2.ensures.value) at c.link_map.ensures)
+    linked_all rs c.args.skipped c.in_ok-chains.chains c.args.areas c.in_ok-chains.paired c.in_ok-index.index c.in_ok-index.sides c.link_map.result k (c.in_ok-chains.ensures rs h k.sides) c.in_ok-index.ensures few (rw (c.deref.ensures.value, c.deref-2.ensures.value) at c.link_map.ensures)

@@ -7,6 +7,6 @@ use Rattle.tl_map.proofs.sides.resolve_sides.Given as goal
 
 abbrev pub invariant-loop-place : goal.invariant-loop-place
 invariant-loop-place l = record {
-  sides : (ks : List PolyKey) → Indexes ks l.index → l.sides.items ≡ map (sided_by ks) (take l.place l.entries);
+  sides : (ks : List PolyKey) → Indexes ks l.index → l.sides ≡ map (sided_by ks) (take l.place l.entries);
   known : (ks : List PolyKey) → Indexes ks l.index → (j : ℕ) (d : SidesEntry) → j < l.place → NamesKnown ks (get_or l.entries j d);
 }

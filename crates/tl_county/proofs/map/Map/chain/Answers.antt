@@ -4,27 +4,27 @@ use Rattle.tl_county.proofs.map.Map.chain.Goals as goal
 
 pub tlid-requires : goal.tlid-requires
 tlid-requires c =
-    let wide = length-sided c.self.inside.chains.chains c.self.inside.sides.items c.self.invariant.0 in
+    let wide = length-sided c.self.inside.chains.chains c.self.inside.sides c.self.invariant.0 in
     omega (arith, wide, rw (← c.self.view_is) at c.requires)
 
 pub points-requires : goal.points-requires
 points-requires c =
-    let wide = length-sided c.self.inside.chains.chains c.self.inside.sides.items c.self.invariant.0 in
+    let wide = length-sided c.self.inside.chains.chains c.self.inside.sides c.self.invariant.0 in
     omega (arith, wide, rw (← c.self.view_is) at c.requires)
 
-pub index-requires : goal.index-requires
-index-requires c =
-    let wide = length-sided c.self.inside.chains.chains c.self.inside.sides.items c.self.invariant.0 in
-    omega (arith, wide, c.self.invariant.0, c.self.inside.sides.ok.0, rw (← c.self.view_is) at c.requires)
+pub get-sides-requires : goal.get-sides-requires
+get-sides-requires c =
+    let wide = length-sided c.self.inside.chains.chains c.self.inside.sides c.self.invariant.0 in
+    omega (arith, wide, c.self.invariant.0, rw (← c.self.view_is) at c.requires)
 
 pub returns-clause-chain : goal.returns-clause-chain
 returns-clause-chain c =
-    let wide = length-sided c.self.inside.chains.chains c.self.inside.sides.items c.self.invariant.0 in
+    let wide = length-sided c.self.inside.chains.chains c.self.inside.sides c.self.invariant.0 in
     let lt : c.args.c < length c.self.inside.chains.chains = omega (arith, wide, rw (← c.self.view_is) at c.requires) in
-    rw (← c.self.view_is, c.whole-sides.ensures) (chain_read c.self.inside.chains.chains c.self.inside.sides.items c.args.c c.tlid.result c.points.result.now c.index.result.now lt c.self.invariant.0 c.tlid.ensures c.points.ensures c.index.ensures)
+    rw (← c.self.view_is) (chain_read c.self.inside.chains.chains c.self.inside.sides c.args.c c.tlid.result c.points.result.now c.get-sides.result lt c.self.invariant.0 c.tlid.ensures c.points.ensures (c.get-sides.ensures c.get-sides.result))
 
 pub returns-clause-points : goal.returns-clause-points
 returns-clause-points c =
-    let wide = length-sided c.self.inside.chains.chains c.self.inside.sides.items c.self.invariant.0 in
+    let wide = length-sided c.self.inside.chains.chains c.self.inside.sides c.self.invariant.0 in
     let lt : c.args.c < length c.self.inside.chains.chains = omega (arith, wide, rw (← c.self.view_is) at c.requires) in
     proper_read c.self.inside.chains.chains c.args.c c.points.result.now lt c.points.ensures c.self.invariant.4

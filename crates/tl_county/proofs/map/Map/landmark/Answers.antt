@@ -1,8 +1,6 @@
 use Rattle.std.proofs.Common.{◌≡◌, ◌∙◌, ◌-◌, ◌+◌, ◌<◌, Some, None, length, sym, ap, arith}
 use Rattle.std.specs.Option.{option_map}
-use Rattle.std.proofs.lemmas.List.{length-map}
 use Rattle.std.proofs.lemmas.Option.{slice_get-get_or}
-use Rattle.tl_county.specs.Rows.{polygon_in}
 use Rattle.tl_county.proofs.RowLemmas.{length-landmarks_in, slice_get-landmarks_in, cut_read}
 use Rattle.tl_county.proofs.map.Map.landmark.Goals as goal
 
@@ -40,4 +38,4 @@ returns-clause-polygons c =
     let within : c.args.l < length m.rows.items = omega (arith, long, c.self.invariant.8, rw (← c.self.view_is) at c.requires) in
     let these = c.self.invariant.7 c.args.l row within in
     let n : row.first + row.count - row.first ≡ row.count = omega arith in
-    rw (← c.self.view_is, length-map m.polygons.entries polygon_in, n, c.deref.ensures.value) (rw (← c.index-row.ensures) at these)
+    rw (← c.self.view_is, n, c.deref.ensures.value) (rw (← c.index-row.ensures) at these)

@@ -2,15 +2,13 @@ use Rattle.std.proofs.Common.{◌≡◌, ℕ, Some, length, subst, arith}
 use Rattle.std.specs.Prelude.{slice_get}
 use Rattle.tl_county.specs.TheMap.{TheMap, MapLandmark}
 use Rattle.tl_county.specs.Landmarks.{ArePolygonsOf}
-use Rattle.tl_county.specs.Rows.{polygon_in}
 use Rattle.tl_county.proofs.RowLemmas.{of_each, length-landmarks_in}
-use Rattle.std.proofs.lemmas.List.{length-map}
 use Rattle.tl_county.proofs.map.Map.landmarks.Goals as goal
 
 pub returns-clause-polygons : goal.returns-clause-polygons
 returns-clause-polygons c =
     subst (λ (m : TheMap). (l : ℕ) (landmark : MapLandmark) → slice_get m.landmarks l ≡ Some landmark → ArePolygonsOf (length m.polygons) landmark.polygons) c.self.view_is
-    (rw (length-map c.self.inside.polygons.entries polygon_in) (of_each (length c.self.inside.polygons.entries) c.self.inside.linked.items c.self.inside.landmarks.entries c.self.inside.rows.items c.self.invariant.7))
+    (of_each (length c.self.inside.polygons.items) c.self.inside.linked.items c.self.inside.landmarks.entries c.self.inside.rows.items c.self.invariant.7)
 
 pub returns-clause-count : goal.returns-clause-count
 returns-clause-count c =

@@ -4,12 +4,12 @@ use Rattle.tl_county.proofs.map.Map.segment.Goals as goal
 
 pub index-requires : goal.index-requires
 index-requires c =
-    let all = all_numbered c.self.inside.chains.chains c.self.inside.sides.items c.self.inside.segment_chains.items c.self.invariant.0 c.self.invariant.5 in
+    let all = all_numbered c.self.inside.chains.chains c.self.inside.sides c.self.inside.segment_chains.items c.self.invariant.0 c.self.invariant.5 in
     omega (arith, all, c.self.inside.segment_chains.ok.0, rw (← c.self.view_is) at c.requires)
 
 pub segment-requires-clause-number : goal.segment-requires-clause-number
 segment-requires-clause-number c =
-    let all = all_numbered c.self.inside.chains.chains c.self.inside.sides.items c.self.inside.segment_chains.items c.self.invariant.0 c.self.invariant.5 in
+    let all = all_numbered c.self.inside.chains.chains c.self.inside.sides c.self.inside.segment_chains.items c.self.invariant.0 c.self.invariant.5 in
     let lt : c.args.s < length c.self.inside.segment_chains.items = omega (arith, all, rw (← c.self.view_is) at c.requires) in
     numbered c.self.inside.chains.chains c.self.inside.segment_chains.items c.args.s c.index.result.now c.self.invariant.5 lt c.index.ensures
 
@@ -19,7 +19,7 @@ segment-requires-clause-proper c = c.self.invariant.4
 pub returns : goal.returns
 returns c =
     let cs = c.self.inside.chains.chains in
-    let ss = c.self.inside.sides.items in
+    let ss = c.self.inside.sides in
     let all = all_numbered cs ss c.self.inside.segment_chains.items c.self.invariant.0 c.self.invariant.5 in
     let lt : c.args.s < length c.self.inside.segment_chains.items = omega (arith, all, rw (← c.self.view_is) at c.requires) in
     let found = numbered cs c.self.inside.segment_chains.items c.args.s c.index.result.now c.self.invariant.5 lt c.index.ensures in

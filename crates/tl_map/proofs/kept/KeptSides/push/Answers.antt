@@ -4,14 +4,14 @@ use Rattle.tl_map.proofs.kept.KeptSides.push.Goals as goal
 
 pub invariant_of-self-2 : goal.invariant_of-self-2
 invariant_of-self-2 c =
-    rows_more c.self.inside.long.items _ c.in_ok-row.ensures.grows.0 c.self.inside.rows.items _ c.in_ok-row.row c.in_ok-row.ensures.grows.1 c.self.invariant c.in_ok-row.ensures.row c.in_ok-push.ensures.items
+    rows_more c.self.inside.more.items _ c.in_ok-row.ensures.grows.0 c.self.inside.rows.items _ c.in_ok-row.row c.in_ok-row.ensures.grows.1 c.self.invariant c.in_ok-row.ensures.row c.in_ok-push.ensures.items
 
 pub returns : goal.returns
 returns c =
-    rw (← c.self.view_is) (one_more c.self.inside.long.items _ c.in_ok-row.ensures.grows.0 c.self.inside.rows.items _ c.in_ok-row.row c.args.entry c.in_ok-row.ensures.grows.1 c.self.invariant c.in_ok-row.ensures.same c.in_ok-push.ensures.items)
+    rw (← c.self.view_is) (one_more c.self.inside.more.items _ c.in_ok-row.ensures.grows.0 c.self.inside.rows.items _ c.in_ok-row.row c.args.entry c.in_ok-row.ensures.grows.1 c.self.invariant c.in_ok-row.ensures.same c.in_ok-push.ensures.items)
 
 pub invariant_of-self : goal.invariant_of-self
-invariant_of-self c = rw c.row_of.ensures.grows.1 (rows_still c.self.inside.long.items c.row_of.ensures.grows.0 c.self.inside.rows.items c.self.invariant)
+invariant_of-self c = rw c.row_of.ensures.grows.1 (rows_still c.self.inside.more.items c.row_of.ensures.grows.0 c.self.inside.rows.items c.self.invariant)
 
 pub returns-in_err-row : goal.returns-in_err-row
 returns-in_err-row c =
@@ -20,7 +20,7 @@ returns-in_err-row c =
 
 pub invariant_of-self-in_err-push : goal.invariant_of-self-in_err-push
 invariant_of-self-in_err-push c =
-    rw (c.in_err-push.ensures.items, c.row_of.ensures.grows.1) (rows_still c.self.inside.long.items c.row_of.ensures.grows.0 c.self.inside.rows.items c.self.invariant)
+    rw (c.in_err-push.ensures.items, c.row_of.ensures.grows.1) (rows_still c.self.inside.more.items c.row_of.ensures.grows.0 c.self.inside.rows.items c.self.invariant)
 
 pub returns-in_err-push : goal.returns-in_err-push
 returns-in_err-push c =
