@@ -12,7 +12,7 @@ use Rattle.tl_pack.specs.declared.order.Placed.{Placed}
 use Rattle.tl_pack.specs.Lists.{HoldsAll, items_in}
 use Rattle.tl_pack.proofs.Holding.{once_in}
 use Rattle.tl_meets.specs.Keeping.Listing.{IsBehind, IsListed}
-use Rattle.tl_meets.specs.Keeping.Doubting.{IsCleared, AreNear}
+use Rattle.tl_meets.specs.Keeping.Doubting.{IsCleared, IsClearOf, AreNear}
 use Rattle.tl_meets.proofs.Listing.{stands, meeting_or_not}
 
 -- what holds of the elements before a place and of that at the place
@@ -34,15 +34,6 @@ cover_more bounds_of old new one group i e old_in one_in is inside before =
     one_more (λ (p : Placed). Covers new (bounds_of p.item)) group i e
     (λ k d lt q held. old_in q (before k d lt q held)) inside (λ q held. one_in q (subst (λ r. Holds r q) (sym is) held))
 
-pub bounds_more : (bounds_of : ℕ → Rect) (old new : List Rect) (listed : List ℕ) (i e : ℕ) (one : Rect) → old ≡ map bounds_of (take i listed) → new ≡ old ++ one ∷ []
-    → one ≡ bounds_of (get_or listed i e) → i < length listed → new ≡ map bounds_of (take (i + 1) listed)
-bounds_more bounds_of old new listed i e one before is same inside =
-    is
-    ∙ ap (λ rs. rs ++ one ∷ []) before
-    ∙ ap (λ r. map bounds_of (take i listed) ++ r ∷ []) same
-    ∙ sym (map-append bounds_of (take i listed) (get_or listed i e ∷ []))
-    ∙ ap (map bounds_of) (sym (take_more listed i e inside))
-
 -- items whose rectangles meet one that covers that of an item
 pub near_by : (n : ℕ) (bounds_of : ℕ → Rect) (around : Rect) (i : ℕ) (listed : List ℕ) → Covers around (bounds_of i)
     → AreHits n (λ j. AreMeeting around (bounds_of j)) listed → AreNear n bounds_of i listed
@@ -62,10 +53,9 @@ hits_below n hit listed hits k d inside = elim (cases_lt (get_or listed k d) n) 
     times_at : (xs : List ℕ) (k d : ℕ) → k < length xs → 1 ≤ times (get_or xs k d) xs
     times_at xs k d lt = rw (← get_or_default xs k 0 d lt) (times-at xs k lt)
 
--- what holds is so behind any answer
-pub on_ok_of : {U E P : Type 0} (r : Result U E) → P → OnOk r P
-on_ok_of (Ok u) p = p
-on_ok_of (Err e) p = tt
+pub on_ok : {U E P Q : Type 0} (r : Result U E) → (P → Q) → OnOk r P → OnOk r Q
+on_ok (Ok u) f p = f p
+on_ok (Err e) f p = tt
 
 -- a list that is written back as long as it was
 pub written : {X : Type 0} (n : ℕ) (new items : List X) → length new ≡ n → length items ≡ n → take n (new ++ drop (length new) items) ≡ new
@@ -75,34 +65,34 @@ written n new items long was =
 
 -- ---- marks
 
+-- what isn't marked with a mark more wasn't without it
+pub unmarked : (marks : List Bool) (i k : ℕ) → i < length marks → get_or (set marks i true) k false ≡ false → get_or marks k false ≡ false
+unmarked marks i k inside e = elim (cases_eq k i) [
+  | inl same ↦ absurd (true≢false (sym (ap (λ j. get_or (set marks i true) j false) same ∙ get_or-set_same marks i true false inside) ∙ e))
+  | inr other ↦ sym (get_or-set_other marks i k true false other) ∙ e
+]
+
+pub is_marked : {P : Type 0} (marks : List Bool) (i : ℕ) → i < length marks → get_or (set marks i true) i false ≡ false → P
+is_marked marks i inside e = absurd (true≢false (sym (get_or-set_same marks i true false inside) ∙ e))
+
 module _ {C : Type 0} (n : ℕ) (tells : ℕ → ℕ → Option C → Type 0) where
-  -- a mark more clears no less
-  pub marked : (marks : List Bool) (i k : ℕ) → i < length marks → IsCleared n tells marks k → IsCleared n tells (set marks i true) k
-  marked marks i k inside cleared unmarked = elim (cases_eq k i) [
-    | inl same ↦ absurd (true≢false (sym (ap (λ j. get_or (set marks i true) j false) same ∙ get_or-set_same marks i true false inside) ∙ unmarked))
-    | inr other ↦ cleared (sym (get_or-set_other marks i k true false other) ∙ unmarked)
-  ]
-
-  pub is_marked : (marks : List Bool) (i : ℕ) → i < length marks → IsCleared n tells (set marks i true) i
-  is_marked marks i inside unmarked = absurd (true≢false (sym (get_or-set_same marks i true false inside) ∙ unmarked))
-
   -- an item that none near it is behind is cleared
   pub cleared_by : (bounds_of : ℕ → Rect) → ((i j : ℕ) → i < j → j < n → ¬ AreMeeting (bounds_of i) (bounds_of j) → tells i j None)
-      → (marks : List Bool) (i : ℕ) (listed : List ℕ) → AreNear n bounds_of i listed → All (λ j. ¬ IsBehind bounds_of tells i (bounds_of i) j) listed
+      → (marks : List Bool) (i : ℕ) (listed : List ℕ) → AreNear n bounds_of i listed → All (IsClearOf bounds_of tells marks i) listed
       → IsCleared n tells marks i
   cleared_by bounds_of apart marks i listed near none unmarked j one = elim (meeting_or_not (bounds_of i) (bounds_of j)) [
     | inr away ↦ one.conflict (apart i j one.behind one.known away)
-    | inl meet ↦ All-contains (λ k. ¬ IsBehind bounds_of tells i (bounds_of i) k) listed j none (near j one.known meet)
+    | inl meet ↦ All-contains (IsClearOf bounds_of tells marks i) listed j none (near j one.known meet) unmarked
         (record { behind = one.behind; meet = meet; conflict = one.conflict })
   ]
 
   -- the items of a group are cleared, and so all up to its end
   pub group_more : (old new : List Bool) (order group : List Placed) (first end : ℕ) → first ≤ end → end ≤ length order → group ≡ take (end - first) (drop first order)
-      → ((i : ℕ) → IsCleared n tells old i → IsCleared n tells new i) → All (λ (p : Placed). IsCleared n tells new p.item) group
+      → ((i : ℕ) → get_or new i false ≡ false → get_or old i false ≡ false) → All (λ (p : Placed). IsCleared n tells new p.item) group
       → ((k : ℕ) (d : Placed) → k < first → IsCleared n tells old (get_or order k d).item)
       → (k : ℕ) (d : Placed) → k < end → IsCleared n tells new (get_or order k d).item
   group_more old new order group first end up inside is kept cleared before k d lt = elim (cases_lt k first) [
-    | inl less ↦ kept (get_or order k d).item (before k d less)
+    | inl less ↦ λ e. before k d less (kept (get_or order k d).item e)
     | inr past ↦
         let here : k - first < end - first = omega (arith, lt, past) in
         let back : first + (k - first) ≡ k = omega (arith, past) in

@@ -1,34 +1,15 @@
 //! The items that lie near some others.
-ghost use Rattle.std.specs.Prelude.{◌≡◌, ◌<◌, IsTrue, IsFalse, ◌↔◌, length, map, OnOk, All};
+ghost use Rattle.std.specs.Prelude.{◌≡◌, ℕ, ◌<◌, ◌≤◌, length, slice_index_or, OnOk, All};
+ghost use Rattle.tl_geom.specs.EightRectangles.{lane};
 ghost use Rattle.tl_geom.specs.Rectangle.{Covers};
 ghost use Rattle.tl_pack.specs.declared.order.Placed.{Placed};
 ghost use Rattle.tl_pack.specs.Lists.{AreItemsBelow};
-ghost use Rattle.tl_meets.specs.Keeping.Listing.{IsBehind};
 ghost use Rattle.tl_meets.specs.Keeping.Doubting.{AreNear};
 
 use crate::ConsistentItems;
-use crate::behind::conflicts;
-use std::alloc::Global;
-use tl_geom::Rect;
+use tl_geom::{Rect, Rect8};
 use tl_index::{BoxIndex, Items, Memory, Probe};
 use tl_pack::Placed;
-
-/// The items that lie near some others, and the rectangle of each. The lists are filled anew for each group of items.
-#[derive(Drop)]
-pub struct Near {
-    pub items: Vec<u32>,
-    pub bounds: Vec<Rect>,
-}
-
-impl Near {
-    /// No item.
-    pub fn new(alloc: Global) -> Near {
-        Near {
-            items: Vec::new(alloc),
-            bounds: Vec::new(alloc),
-        }
-    }
-}
 
 /// The items whose rectangles meet this one.
 #[derive(Clone, Copy)]
@@ -57,26 +38,23 @@ where
     }
 }
 
-/// Lists all items whose rectangles meet that of one of these, and others, with their rectangles, in the place of those that
-/// were listed.
+/// Lists all items whose rectangles meet that of one of these, and others, in the place of those that were listed.
 pub fn list_near<I: ConsistentItems, X: BoxIndex>(
     index: &X,
     items: &I,
     group: &[Placed],
-    near: &mut Near,
+    near: &mut Vec<u32>,
 ) -> Result<(), Memory>
 where
     I::C: Drop,
     requires fits { X.fits index.now (I.count items.now) (I.bounds_of items.now) }
     requires known { AreItemsBelow (I.count items.now) group.now }
-    ensures near { OnOk result (All (λ (p : Placed). AreNear (I.count items.now) (I.bounds_of items.now) p.item near.new.items.items) group.now) }
-    ensures known { OnOk result (All (λ j. j < I.count items.now) near.new.items.items) }
-    ensures bounds { OnOk result (near.new.bounds.items ≡ map (I.bounds_of items.now) near.new.items.items) }
+    ensures near { OnOk result (All (λ (p : Placed). AreNear (I.count items.now) (I.bounds_of items.now) p.item near.new.items) group.now) }
+    ensures known { OnOk result (All (λ j. j < I.count items.now) near.new.items) }
 {
-    near.items.clear();
+    near.clear();
     let around = Around(around_all(items, group));
-    index.collect_hits(items, &around, &mut near.items)?;
-    list_bounds(items, &near.items, &mut near.bounds)
+    index.collect_hits(items, &around, near)
 }
 
 /// A rectangle that holds those of all these items.
@@ -93,51 +71,18 @@ where
     around
 }
 
-/// Lists the rectangles of items, in the place of those that were listed.
-fn list_bounds<I: ConsistentItems>(
-    items: &I,
-    listed: &[u32],
-    bounds: &mut Vec<Rect>,
-) -> Result<(), Memory>
+/// The rectangles of at most eight items, side by side.
+pub fn bounds_of<I: ConsistentItems>(items: &I, group: &[Placed]) -> Rect8
 where
     I::C: Drop,
-    requires { All (λ j. j < I.count items.now) listed.now }
-    ensures { OnOk result (bounds.new.items ≡ map (I.bounds_of items.now) listed.now) }
+    requires known { AreItemsBelow (I.count items.now) group.now }
+    requires few { length group.now ≤ 8 }
+    ensures { (k : ℕ) (d : Placed) → k < length group.now →
+        lane result k ≡ I.bounds_of items.now (slice_index_or group.now k d).item }
 {
-    bounds.clear();
-    for place in 0..listed.len() {
-        if bounds.push(items.bounds(listed[place])).is_err() {
-            return Err(Memory);
-        }
+    let mut bounds = [Rect::NOTHING; 8];
+    for place in 0..group.len() {
+        bounds[place] = items.bounds(group[place].item);
     }
-    Ok(())
-}
-
-/// Whether one of the listed items, whose rectangles these are, has a higher number than item `i`, and conflicts with it.
-pub fn has_behind<I: ConsistentItems>(items: &I, i: u32, listed: &[u32], bounds: &[Rect]) -> bool
-where
-    I::C: Drop,
-    requires known { i < I.count items.now }
-    requires listed { All (λ j. j < I.count items.now) listed.now }
-    requires bounds { bounds.now ≡ map (I.bounds_of items.now) listed.now }
-    ensures { IsFalse result → All (λ j. ¬ IsBehind (I.bounds_of items.now) (I.tells items.now) i (I.bounds_of items.now i) j) listed.now }
-{
-    let around = items.bounds(i);
-    for place in 0..listed.len() {
-        if is_behind(items, i, around, listed[place], bounds[place]) {
-            return true;
-        }
-    }
-    false
-}
-
-/// Whether item `j`, whose rectangle this is, has a higher number than item `i`, meets its rectangle, and conflicts with it.
-fn is_behind<I: ConsistentItems>(items: &I, i: u32, around: Rect, j: u32, bounds: Rect) -> bool
-where
-    I::C: Drop,
-    requires known { j < I.count items.now }
-    requires is { bounds ≡ I.bounds_of items.now j }
-    ensures { IsTrue result ↔ IsBehind (I.bounds_of items.now) (I.tells items.now) i around j }
-{
-    j > i && around.meets(bounds) && conflicts(items, i, j)
+    Rect8::gather(&bounds)
 }

@@ -1,40 +1,31 @@
-use Rattle.std.proofs.Common.{◌<◌, length, get_or, All, ap, sym, subst, ◌∙◌, true, arith}
-use Rattle.std.proofs.lemmas.List.{length-set}
+use Rattle.std.proofs.Common.{◌<◌, length, get_or, All, sym, subst, ◌∙◌, arith, lit<}
+use Rattle.tl_geom.specs.Rectangle.{AreMeeting}
 use Rattle.tl_pack.specs.declared.order.Placed.{Placed}
-use Rattle.tl_meets.specs.Keeping.Listing.{IsBehind}
-use Rattle.tl_meets.specs.Keeping.Doubting.{IsCleared}
-use Rattle.tl_meets.proofs.Doubting.{one_more, marked, is_marked, cleared_by}
+use Rattle.tl_meets.specs.Keeping.Doubting.{IsClearOf}
+use Rattle.tl_meets.proofs.Doubting.{one_more, cleared_by}
 use Rattle.tl_meets.proofs.doubtful.mark_group.Goals as goal
 
-abbrev none : Placed
-none = record { place = 0; item = 0 }
-
-pub loop-place-preserved-then-not-has_behind : goal.loop-place-preserved-then-not-has_behind
-loop-place-preserved-then-not-has_behind g c =
-    let n = g.I.Items.count c.args.items.now in
-    let tells = g.I.Items.tells c.args.items.now in
-    let item = (get_or c.args.group.now c.loop-place.place none).item in
-    record {
-      long = c.loop-place.invariant.long;
-      kept = c.loop-place.invariant.kept;
-      cleared = one_more (λ (p : Placed). IsCleared n tells c.loop-place.marks p.item) c.args.group.now c.loop-place.place none c.loop-place.invariant.cleared c.loop-place-test.true
-          (cleared_by n tells (g.I.Items.bounds_of c.args.items.now) (g.met.I.Items.apart c.args.items.now) c.loop-place.marks item c.list_near.new.near.items.items
-          (c.in_ok-list_near.ensures.near c.loop-place.place none c.loop-place-test.true)
-          (subst (All (λ j. ¬ IsBehind (g.I.Items.bounds_of c.args.items.now) tells item (g.I.Items.bounds_of c.args.items.now item) j)) c.deref.ensures.value (c.has_behind.ensures c.if-not-has_behind.true)));
-    }
+pub mark_met-requires-clause-met : goal.mark_met-requires-clause-met
+mark_met-requires-clause-met g c = λ k d inside meet.
+    (c.meets8.ensures k (omega (arith, inside, c.requires.few))).1
+    (subst (λ r. AreMeeting r c.bounds.result) (sym (c.bounds_of-eight.ensures k d inside))
+    (subst (AreMeeting (g.I.Items.bounds_of c.args.items.now (get_or c.args.group.now k d).item)) (sym c.bounds.ensures) meet))
 
 pub loop-place-preserved : goal.loop-place-preserved
 loop-place-preserved g c =
-    let n = g.I.Items.count c.args.items.now in
+    let bounds = g.I.Items.bounds_of c.args.items.now in
     let tells = g.I.Items.tells c.args.items.now in
-    let item = (get_or c.args.group.now c.loop-place.place none).item in
-    let inside : item < length c.loop-place.marks = omega (arith, c.requires.known c.loop-place.place none c.loop-place-test.true, c.loop-place.invariant.long, c.requires.long) in
     record {
-      long = ap length c.mark.ensures ∙ (length-set c.loop-place.marks item true ∙ c.loop-place.invariant.long);
-      kept = λ i cleared. subst (λ ms. IsCleared n tells ms i) (sym c.mark.ensures) (marked n tells c.loop-place.marks item i inside (c.loop-place.invariant.kept i cleared));
-      cleared = one_more (λ (p : Placed). IsCleared n tells c.mark.new.marks p.item) c.args.group.now c.loop-place.place none
-          (λ k d less. subst (λ ms. IsCleared n tells ms (get_or c.args.group.now k d).item) (sym c.mark.ensures)
-          (marked n tells c.loop-place.marks item (get_or c.args.group.now k d).item inside (c.loop-place.invariant.cleared k d less)))
-          c.loop-place-test.true
-          (subst (λ ms. IsCleared n tells ms item) (sym c.mark.ensures) (is_marked n tells c.loop-place.marks item inside));
+      long = c.mark_met.ensures.long ∙ c.loop-place.invariant.long;
+      more = λ i e. c.loop-place.invariant.more i (c.mark_met.ensures.more i e);
+      cleared = λ k d inside. one_more (IsClearOf bounds tells c.mark_met.new.marks (get_or c.args.group.now k d).item) c.list_near.new.near.items c.loop-place.place c.index-j.result.now
+          (λ p e less unmarked. c.loop-place.invariant.cleared k d inside p e less (c.mark_met.ensures.more (get_or c.args.group.now k d).item unmarked))
+          (let lt = c.loop-place-test.true in let end = c.len-place-end.ensures in omega (arith, lt, end))
+          (subst (IsClearOf bounds tells c.mark_met.new.marks (get_or c.args.group.now k d).item) c.index-j.ensures (c.mark_met.ensures.cleared k d inside));
     }
+
+pub returns-clause-cleared : goal.returns-clause-cleared
+returns-clause-cleared g c = λ k d inside.
+    cleared_by (g.I.Items.count c.args.items.now) (g.I.Items.tells c.args.items.now) (g.I.Items.bounds_of c.args.items.now) (g.met.I.Items.apart c.args.items.now) c.loop-place.marks
+    (get_or c.args.group.now k d).item c.list_near.new.near.items (c.in_ok-list_near.ensures.near k d inside)
+    (λ p e within. c.loop-place.invariant.cleared k d inside p e (let past = c.loop-place-test.false in let end = c.len-place-end.ensures in omega (arith, within, past, end)))
