@@ -1,6 +1,7 @@
 //! What follows from a map's darts, and is proposed of it: the rounds about its nodes, the walks along its boundaries and the tree
 //! over its segments, which make a certificate, and by these whether sides agree and polygons' points lie where they have to.
-//! Of planar chains all of it is right; of others nothing is claimed.
+//! Of planar chains all of it is right. Of others it is claimed where the darts about each node head apart: there the walks
+//! are the map's too, and rings tell where polygons' points lie.
 #![tactic(auto)]
 
 mod points;
