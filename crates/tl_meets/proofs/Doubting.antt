@@ -34,6 +34,15 @@ cover_more bounds_of old new one group i e old_in one_in is inside before =
     one_more (λ (p : Placed). Covers new (bounds_of p.item)) group i e
     (λ k d lt q held. old_in q (before k d lt q held)) inside (λ q held. one_in q (subst (λ r. Holds r q) (sym is) held))
 
+pub bounds_more : (bounds_of : ℕ → Rect) (old new : List Rect) (listed : List ℕ) (i e : ℕ) (one : Rect) → old ≡ map bounds_of (take i listed)
+    → new ≡ old ++ one ∷ [] → one ≡ bounds_of (get_or listed i e) → i < length listed → new ≡ map bounds_of (take (i + 1) listed)
+bounds_more bounds_of old new listed i e one before is same inside =
+    is
+    ∙ ap (λ rs. rs ++ one ∷ []) before
+    ∙ ap (λ r. map bounds_of (take i listed) ++ r ∷ []) same
+    ∙ sym (map-append bounds_of (take i listed) (get_or listed i e ∷ []))
+    ∙ ap (map bounds_of) (sym (take_more listed i e inside))
+
 -- items whose rectangles meet one that covers that of an item
 pub near_by : (n : ℕ) (bounds_of : ℕ → Rect) (around : Rect) (i : ℕ) (listed : List ℕ) → Covers around (bounds_of i)
     → AreHits n (λ j. AreMeeting around (bounds_of j)) listed → AreNear n bounds_of i listed
@@ -53,15 +62,23 @@ hits_below n hit listed hits k d inside = elim (cases_lt (get_or listed k d) n) 
     times_at : (xs : List ℕ) (k d : ℕ) → k < length xs → 1 ≤ times (get_or xs k d) xs
     times_at xs k d lt = rw (← get_or_default xs k 0 d lt) (times-at xs k lt)
 
-pub on_ok : {U E P Q : Type 0} (r : Result U E) → (P → Q) → OnOk r P → OnOk r Q
-on_ok (Ok u) f p = f p
-on_ok (Err e) f p = tt
+pub on_ok_of : {U E P : Type 0} (r : Result U E) → P → OnOk r P
+on_ok_of (Ok u) p = p
+on_ok_of (Err e) p = tt
 
 -- a list that is written back as long as it was
 pub written : {X : Type 0} (n : ℕ) (new items : List X) → length new ≡ n → length items ≡ n → take n (new ++ drop (length new) items) ≡ new
 written n new items long was =
     let none : drop (length new) items ≡ [] = nil_from_length (drop (length new) items) (omega (arith, length-drop (length new) items, long, was)) in
     ap (λ xs. take n (new ++ xs)) none ∙ (ap (take n) (append-nil new) ∙ take_all n new (omega (arith, long)))
+
+-- what holds of all elements holds of a part
+pub all_part : {X : Type 0} (P : X → Type 0) (xs : List X) (first end : ℕ) → first ≤ end → end ≤ length xs → All P xs → All P (take (end - first) (drop first xs))
+all_part P xs first end up inside all k d lt =
+    let many : end - first ≤ length (drop first xs) = omega (arith, length-drop first xs, inside) in
+    let long = length-take-le (end - first) (drop first xs) many in
+    subst P (sym (get_or-take (end - first) (drop first xs) k d (omega (arith, lt, long)) ∙ get_or-drop first xs k d))
+    (all (first + k) d (omega (arith, lt, long, up, inside)))
 
 -- ---- marks
 
