@@ -1,18 +1,14 @@
 -- Items that are cleared of any conflict with those behind them.
-use Rattle.std.proofs.Common.{◌≡◌, inl, inr, ℕ, ◌+◌, ◌-◌, ◌<◌, ◌≤◌, Bool, true, false, Option, None, List, [], ◌∷◌, ◌++◌, length, get_or, take, drop, map, set, append-nil, All, Contains, Result, Ok, Err, ap, sym, subst, ◌∙◌, refl, arith}
+use Rattle.std.proofs.Common.{◌≡◌, inl, inr, ℕ, ◌+◌, ◌<◌, ◌≤◌, Bool, true, false, Option, None, List, [], ◌∷◌, ◌++◌, length, get_or, take, drop, map, set, append-nil, All, Result, Ok, Err, ap, sym, subst, ◌∙◌, arith}
 use Rattle.std.specs.Prelude.{OnOk}
 use Rattle.std.proofs.lemmas.Bool.{cases_lt, cases_eq, true≢false}
-use Rattle.std.proofs.lemmas.List.{get_or_default, get_or-take, get_or-drop, get_or-set_same, get_or-set_other, length-drop, length-take-le, map-append, nil_from_length, take_all, take_more}
-use Rattle.std.proofs.lemmas.List.Elements.{All-contains, All-map}
+use Rattle.std.proofs.lemmas.List.{get_or_default, get_or-set_same, get_or-set_other, length-drop, map-append, nil_from_length, take_all, take_more}
+use Rattle.std.proofs.lemmas.List.Elements.{All-contains}
 use Rattle.tl_geom.specs.declared.rect.Rect.{Rect}
 use Rattle.tl_geom.specs.Rectangle.{AreMeeting, Covers, Holds}
 use Rattle.tl_index.specs.Hits.{times, AreHits}
 use Rattle.tl_index.proofs.Marks.{times-at}
-use Rattle.tl_pack.specs.declared.order.Placed.{Placed}
-use Rattle.tl_pack.specs.Lists.{HoldsAll, items_in}
-use Rattle.tl_pack.proofs.Holding.{once_in}
-use Rattle.tl_meets.specs.Keeping.Listing.{IsBehind, IsListed}
-use Rattle.tl_meets.specs.Keeping.Doubting.{IsCleared, IsClearOf, AreNear}
+use Rattle.tl_meets.specs.Keeping.Doubting.{IsCleared, IsClearOf, IsAround, AreNear}
 use Rattle.tl_meets.proofs.Listing.{stands, meeting_or_not}
 
 -- what holds of the elements before a place and of that at the place
@@ -27,12 +23,14 @@ one_more P xs i e before inside now k d lt = elim (cases_lt k i) [
 
 -- ---- rectangles
 
-pub cover_more : (bounds_of : ℕ → Rect) (old new one : Rect) (group : List Placed) (i : ℕ) (e : Placed) → Covers new old → Covers new one
-    → one ≡ bounds_of (get_or group i e).item → i < length group → ((k : ℕ) (d : Placed) → k < i → Covers old (bounds_of (get_or group k d).item))
-    → (k : ℕ) (d : Placed) → k < i + 1 → Covers new (bounds_of (get_or group k d).item)
-cover_more bounds_of old new one group i e old_in one_in is inside before =
-    one_more (λ (p : Placed). Covers new (bounds_of p.item)) group i e
-    (λ k d lt q held. old_in q (before k d lt q held)) inside (λ q held. one_in q (subst (λ r. Holds r q) (sym is) held))
+pub cover_more : (bounds_of : ℕ → Rect) (old new one : Rect) (first i : ℕ) → Covers new old → Covers new one → one ≡ bounds_of i
+    → ((k : ℕ) → first ≤ k → k < i → Covers old (bounds_of k)) → (k : ℕ) → first ≤ k → k < i + 1 → Covers new (bounds_of k)
+cover_more bounds_of old new one first i old_in one_in is before k low lt = elim (cases_lt k i) [
+  | inl less ↦ λ q held. old_in q (before k low less q held)
+  | inr past ↦
+      let same : k ≡ i = omega (arith, lt, past) in
+      λ q held. one_in q (subst (λ r. Holds r q) (ap bounds_of same ∙ sym is) held)
+]
 
 pub bounds_more : (bounds_of : ℕ → Rect) (old new : List Rect) (listed : List ℕ) (i e : ℕ) (one : Rect) → old ≡ map bounds_of (take i listed)
     → new ≡ old ++ one ∷ [] → one ≡ bounds_of (get_or listed i e) → i < length listed → new ≡ map bounds_of (take (i + 1) listed)
@@ -44,10 +42,13 @@ bounds_more bounds_of old new listed i e one before is same inside =
     ∙ ap (map bounds_of) (sym (take_more listed i e inside))
 
 -- items whose rectangles meet one that covers that of an item
-pub near_by : (n : ℕ) (bounds_of : ℕ → Rect) (around : Rect) (i : ℕ) (listed : List ℕ) → Covers around (bounds_of i)
-    → AreHits n (λ j. AreMeeting around (bounds_of j)) listed → AreNear n bounds_of i listed
-near_by n bounds_of around i listed covers hits j known meet =
-    let once = hits.once j known (record { point = meet.point; in_first = covers meet.point meet.in_first; in_second = meet.in_second }) in
+pub near_by : (n : ℕ) (bounds_of : ℕ → Rect) (around : Rect) (first i : ℕ) (listed : List ℕ) → first ≤ i → Covers around (bounds_of i)
+    → AreHits n (IsAround bounds_of first around) listed → AreNear n bounds_of i listed
+near_by n bounds_of around first i listed low covers hits j less known meet =
+    let once = hits.once j known (record {
+      behind = omega (arith, low, less);
+      meet = record { point = meet.point; in_first = covers meet.point meet.in_first; in_second = meet.in_second };
+    }) in
     stands j listed (omega (arith, once))
 
 pub hits_below : (n : ℕ) (hit : ℕ → Type 0) (listed : List ℕ) → AreHits n hit listed → All (λ j. j < n) listed
@@ -72,13 +73,20 @@ written n new items long was =
     let none : drop (length new) items ≡ [] = nil_from_length (drop (length new) items) (omega (arith, length-drop (length new) items, long, was)) in
     ap (λ xs. take n (new ++ xs)) none ∙ (ap (take n) (append-nil new) ∙ take_all n new (omega (arith, long)))
 
--- what holds of all elements holds of a part
-pub all_part : {X : Type 0} (P : X → Type 0) (xs : List X) (first end : ℕ) → first ≤ end → end ≤ length xs → All P xs → All P (take (end - first) (drop first xs))
-all_part P xs first end up inside all k d lt =
-    let many : end - first ≤ length (drop first xs) = omega (arith, length-drop first xs, inside) in
-    let long = length-take-le (end - first) (drop first xs) many in
-    subst P (sym (get_or-take (end - first) (drop first xs) k d (omega (arith, lt, long)) ∙ get_or-drop first xs k d))
-    (all (first + k) d (omega (arith, lt, long, up, inside)))
+-- what holds from a first number on up to one holds one further where it holds there
+pub up_to : (P : ℕ → Type 0) (first i : ℕ) → ((k : ℕ) → first ≤ k → k < i → P k) → P i → (k : ℕ) → first ≤ k → k < i + 1 → P k
+up_to P first i before now k low lt = elim (cases_lt k i) [
+  | inl less ↦ before k low less
+  | inr past ↦ let same : i ≡ k = omega (arith, lt, past) in subst P same now
+]
+
+-- and up to where a part ends, where it holds of the part
+pub part_more : (P Q : ℕ → Type 0) (first place end : ℕ) → ((k : ℕ) → P k → Q k) → ((k : ℕ) → first ≤ k → k < place → P k)
+    → ((k : ℕ) → place ≤ k → k < end → Q k) → (k : ℕ) → first ≤ k → k < end → Q k
+part_more P Q first place end kept before now k low lt = elim (cases_lt k place) [
+  | inl less ↦ kept k (before k low less)
+  | inr past ↦ now k past lt
+]
 
 -- ---- marks
 
@@ -99,35 +107,6 @@ module _ {C : Type 0} (n : ℕ) (tells : ℕ → ℕ → Option C → Type 0) wh
       → IsCleared n tells marks i
   cleared_by bounds_of apart marks i listed near none unmarked j one = elim (meeting_or_not (bounds_of i) (bounds_of j)) [
     | inr away ↦ one.conflict (apart i j one.behind one.known away)
-    | inl meet ↦ All-contains (IsClearOf bounds_of tells marks i) listed j none (near j one.known meet) unmarked
+    | inl meet ↦ All-contains (IsClearOf bounds_of tells marks i) listed j none (near j one.behind one.known meet) unmarked
         (record { behind = one.behind; meet = meet; conflict = one.conflict })
   ]
-
-  -- the items of a group are cleared, and so all up to its end
-  pub group_more : (old new : List Bool) (order group : List Placed) (first end : ℕ) → first ≤ end → end ≤ length order → group ≡ take (end - first) (drop first order)
-      → ((i : ℕ) → get_or new i false ≡ false → get_or old i false ≡ false) → All (λ (p : Placed). IsCleared n tells new p.item) group
-      → ((k : ℕ) (d : Placed) → k < first → IsCleared n tells old (get_or order k d).item)
-      → (k : ℕ) (d : Placed) → k < end → IsCleared n tells new (get_or order k d).item
-  group_more old new order group first end up inside is kept cleared before k d lt = elim (cases_lt k first) [
-    | inl less ↦ λ e. before k d less (kept (get_or order k d).item e)
-    | inr past ↦
-        let here : k - first < end - first = omega (arith, lt, past) in
-        let back : first + (k - first) ≡ k = omega (arith, past) in
-        let at : get_or group (k - first) d ≡ get_or order k d =
-        ap (λ xs. get_or xs (k - first) d) is ∙ (get_or-take (end - first) (drop first order) (k - first) d here ∙ (get_or-drop first order (k - first) d ∙ ap (λ j. get_or order j d) back)) in
-        subst (λ (p : Placed). IsCleared n tells new p.item) at (cleared (k - first) d (long here))
-  ]
-    where
-      many : end - first ≤ length (drop first order)
-      many = omega (arith, length-drop first order, inside)
-
-      long : {j : ℕ} → j < end - first → j < length group
-      long {j} lt = let whole = ap length is ∙ length-take-le (end - first) (drop first order) many in omega (arith, lt, whole)
-
--- where each of all items is cleared, so is each by its number
-pub each_cleared : {C : Type 0} (n : ℕ) (tells : ℕ → ℕ → Option C → Type 0) (marks : List Bool) (order : List Placed) → HoldsAll n (items_in order)
-    → All (λ (p : Placed). IsCleared n tells marks p.item) order → (i : ℕ) → i < n → IsCleared n tells marks i
-each_cleared n tells marks order holds all i known =
-    let once = once_in n (items_in order) holds i known in
-    let at = stands i (items_in order) (omega (arith, once)) in
-    All-contains (IsCleared n tells marks) (items_in order) i (All-map (IsCleared n tells marks) (λ (p : Placed). p.item) order all) at

@@ -22,8 +22,8 @@ pub struct Conflict<C> {
 /// memory was refused.
 ///
 /// Each item is tested with the items of higher numbers whose rectangles meet its own, until one conflicts with it, and those
-/// that conflict with one are tested again with all of these. Beside the conflicts that are listed it keeps a mark and 8 bytes
-/// an item.
+/// that conflict with one are tested again with all of these. Beside the conflicts that are listed it keeps a mark of
+/// each item.
 pub fn all_conflicts<I: ConsistentItems, X: BoxIndex>(
     alloc: Global,
     index: &X,

@@ -8,6 +8,7 @@ mod behind;
 mod conflicts;
 mod consistent;
 mod doubtful;
+mod groups;
 pub mod laws;
 mod meets;
 mod near;

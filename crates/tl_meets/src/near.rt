@@ -1,16 +1,13 @@
 //! The items that lie near some others.
-ghost use Rattle.std.specs.Prelude.{◌≡◌, ℕ, ◌<◌, ◌≤◌, length, map, slice_index_or, OnOk, All};
+ghost use Rattle.std.specs.Prelude.{◌≡◌, ℕ, ◌-◌, ◌<◌, ◌≤◌, map, OnOk, All};
 ghost use Rattle.tl_geom.specs.EightRectangles.{lane};
 ghost use Rattle.tl_geom.specs.Rectangle.{Covers};
-ghost use Rattle.tl_pack.specs.declared.order.Placed.{Placed};
-ghost use Rattle.tl_pack.specs.Lists.{AreItemsBelow};
 ghost use Rattle.tl_meets.specs.Keeping.Doubting.{AreNear};
 
 use crate::ConsistentItems;
 use std::alloc::Global;
 use tl_geom::{Rect, Rect8};
 use tl_index::{BoxIndex, Items, Memory, Probe};
-use tl_pack::Placed;
 
 /// The items that lie near some others, and the rectangle of each. The lists are filled anew for each group of items.
 #[derive(Drop)]
@@ -29,51 +26,58 @@ impl Near {
     }
 }
 
-/// The items whose rectangles meet this one.
+/// The items with higher numbers than this one's whose rectangles meet a rectangle.
 #[derive(Clone, Copy)]
-struct Around(Rect);
+struct Around {
+    first: u32,
+    bounds: Rect,
+}
 
 impl<I: ConsistentItems> Probe<I> for Around
 where
     I::C: Drop,
 {
-    ghost use Rattle.tl_geom.specs.Rectangle.{AreMeeting};
+    ghost use Rattle.tl_meets.specs.Keeping.Doubting.{IsAround};
 
-    ghost region_of = { λ around. around.0 };
+    ghost region_of = { λ around. around.bounds };
 
-    ghost hit = { λ around items j. AreMeeting around.0 (I.bounds_of items j) };
+    ghost hit = { λ around items. IsAround (I.bounds_of items) around.first around.bounds };
 
-    ghost hits_meet = { λ around items j known hit. hit };
+    ghost hits_meet = { λ around items j known hit. hit.meet };
 
     fn region(&self) -> Rect
-        ensures { result ≡ self.now.0 }
+        ensures { result ≡ self.now.bounds }
     {
-        self.0
+        self.bounds
     }
 
     fn hits(&self, items: &I, i: u32) -> bool {
-        self.0.meets(items.bounds(i))
+        i > self.first && self.bounds.meets(items.bounds(i))
     }
 }
 
-/// Lists all items whose rectangles meet that of one of these, and others, with their rectangles, in the place of those that
-/// were listed.
+/// Lists all items behind one from the first up to the end whose rectangles meet its own, and others, with their rectangles, in
+/// the place of those that were listed.
 pub fn list_near<I: ConsistentItems, X: BoxIndex>(
     index: &X,
     items: &I,
-    group: &[Placed],
+    first: u32,
+    end: u32,
     near: &mut Near,
 ) -> Result<(), Memory>
 where
     I::C: Drop,
     requires fits { X.fits index.now (I.count items.now) (I.bounds_of items.now) }
-    requires known { AreItemsBelow (I.count items.now) group.now }
-    ensures near { OnOk result (All (λ (p : Placed). AreNear (I.count items.now) (I.bounds_of items.now) p.item near.new.items.items) group.now) }
+    requires known { end ≤ I.count items.now }
+    ensures near { OnOk result ((i : ℕ) → first ≤ i → i < end → AreNear (I.count items.now) (I.bounds_of items.now) i near.new.items.items) }
     ensures known { OnOk result (All (λ j. j < I.count items.now) near.new.items.items) }
     ensures bounds { OnOk result (near.new.bounds.items ≡ map (I.bounds_of items.now) near.new.items.items) }
 {
     near.items.clear();
-    let around = Around(around_all(items, group));
+    let around = Around {
+        first,
+        bounds: around_all(items, first, end),
+    };
     index.collect_hits(items, &around, &mut near.items)?;
     list_bounds(items, &near.items, &mut near.bounds)
 }
@@ -99,31 +103,30 @@ where
 }
 
 /// A rectangle that holds those of all these items.
-fn around_all<I: ConsistentItems>(items: &I, group: &[Placed]) -> Rect
+fn around_all<I: ConsistentItems>(items: &I, first: u32, end: u32) -> Rect
 where
     I::C: Drop,
-    requires { AreItemsBelow (I.count items.now) group.now }
-    ensures { All (λ (p : Placed). Covers result (I.bounds_of items.now p.item)) group.now }
+    requires { end ≤ I.count items.now }
+    ensures { (i : ℕ) → first ≤ i → i < end → Covers result (I.bounds_of items.now i) }
 {
     let mut around = Rect::NOTHING;
-    for place in 0..group.len() {
-        around = around.join(items.bounds(group[place].item));
+    for i in first..end {
+        around = around.join(items.bounds(i));
     }
     around
 }
 
 /// The rectangles of at most eight items, side by side.
-pub fn bounds_of<I: ConsistentItems>(items: &I, group: &[Placed]) -> Rect8
+pub fn bounds_of<I: ConsistentItems>(items: &I, first: u32, end: u32) -> Rect8
 where
     I::C: Drop,
-    requires known { AreItemsBelow (I.count items.now) group.now }
-    requires few { length group.now ≤ 8 }
-    ensures { (k : ℕ) (d : Placed) → k < length group.now →
-        lane result k ≡ I.bounds_of items.now (slice_index_or group.now k d).item }
+    requires known { end ≤ I.count items.now }
+    requires few { end - first ≤ 8 }
+    ensures { (i : ℕ) → first ≤ i → i < end → lane result (i - first) ≡ I.bounds_of items.now i }
 {
     let mut bounds = [Rect::NOTHING; 8];
-    for place in 0..group.len() {
-        bounds[place] = items.bounds(group[place].item);
+    for i in first..end {
+        bounds[(i - first) as usize] = items.bounds(i);
     }
     Rect8::gather(&bounds)
 }

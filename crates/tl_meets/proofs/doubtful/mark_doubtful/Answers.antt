@@ -1,8 +1,6 @@
-use Rattle.std.proofs.Common.{◌≡◌, ◌<◌, length, All, ap, sym, subst, ◌∙◌, arith}
-use Rattle.std.proofs.lemmas.Result.{err_from_is_err_and}
-use Rattle.tl_pack.specs.declared.order.Placed.{Placed}
+use Rattle.std.proofs.Common.{length, ap, sym, subst, ◌∙◌, arith}
 use Rattle.tl_meets.specs.Keeping.Doubting.{IsCleared}
-use Rattle.tl_meets.proofs.Doubting.{each_cleared, written}
+use Rattle.tl_meets.proofs.Doubting.{written}
 use Rattle.tl_meets.proofs.doubtful.mark_doubtful.Goals as goal
 
 pub returns-clause-cleared : goal.returns-clause-cleared
@@ -12,6 +10,5 @@ returns-clause-cleared g c =
     let new = c.mark_groups.new.marks in
     let one = c.deref_mut.ensures.len in
     let long = c.mark_groups.ensures.long in
-    let is = written c.in-Ok-vec.marks.len new c.in-Ok-vec.marks.items (long ∙ one) (ap length (sym c.deref_mut.ensures.value) ∙ one) in
-    λ i known. subst (λ ms. IsCleared n tells ms i) (sym is)
-    (each_cleared n tells new c.in-Ok.order.items c.in-Ok.ensures.all (subst (All (λ (p : Placed). IsCleared n tells new p.item)) c.deref.ensures.value c.in_ok-mark_groups.ensures.cleared) i known)
+    let is = written c.in-Ok.marks.len new c.in-Ok.marks.items (long ∙ one) (ap length (sym c.deref_mut.ensures.value) ∙ one) in
+    λ i known. subst (λ ms. IsCleared n tells ms i) (sym is) (c.in_ok-mark_groups.ensures.cleared i (omega (arith, known, c.len-2.ensures)))

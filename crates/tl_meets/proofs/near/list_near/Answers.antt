@@ -10,8 +10,8 @@ list_bounds-requires g c =
 
 pub returns-clause-near : goal.returns-clause-near
 returns-clause-near g c = on_ok_of c.list_bounds.result
-    (λ k d inside. near_by (g.I.Items.count c.args.items.now) (g.I.Items.bounds_of c.args.items.now) c.around_all.result _ c.collect_hits.new.out.items
-    (c.around_all.ensures k d inside) (hits_of _ _ _ _ c.in_ok-collect_hits.ensures.hits c.clear.ensures.items))
+    (λ i low lt. near_by (g.I.Items.count c.args.items.now) (g.I.Items.bounds_of c.args.items.now) c.around_all.result c.args.first i c.collect_hits.new.out.items low
+    (c.around_all.ensures i low lt) (hits_of _ _ _ _ c.in_ok-collect_hits.ensures.hits c.clear.ensures.items))
 
 pub returns-clause-known : goal.returns-clause-known
 returns-clause-known g c = on_ok_of c.list_bounds.result
