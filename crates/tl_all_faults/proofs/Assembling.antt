@@ -24,8 +24,11 @@ use Rattle.tl_all_faults.specs.declared.reading.BothKept.{BothKept}
 use Rattle.tl_listing.specs.Listings.{IsListingOf}
 use Rattle.tl_all_faults.specs.Keeping.Reading.{Keeps, AreWhole, KeepsAll}
 use Rattle.tl_all_faults.specs.Keeping.OfMap.{IsListingOfMap}
-use Rattle.tl_all_faults.specs.Keeping.OfRecords.{IsListingOfRecords, AreTold, ListsRefusals}
-use Rattle.tl_all_faults.proofs.Emptiness.{map_empty}
+use Rattle.tl_all_faults.specs.declared.of_records.Findings.{Findings}
+use Rattle.tl_all_faults.specs.Findings.{IsMapIfAny, AreFindingsOf}
+use Rattle.tl_all_faults.specs.Keeping.OfRecords.{IsListingOfRecords, AreFindingsOfRecords, IsListOf, AreTold, ListsRefusals}
+use Rattle.tl_drawn.specs.Faults.{IsTrueOf}
+use Rattle.tl_all_faults.proofs.Emptiness.{map_empty, none_held}
 
 read_from : (all : Records) (rs : List Record) (skipped : ℕ) (m : TheMap) → AreWhole all skipped rs → IsMapOfRecords rs skipped m → IsReadFrom all m
 read_from all rs skipped m whole made = record {
@@ -45,7 +48,7 @@ drawn all rs skipped m (Faults faults points_left) whole made told =
 
 -- faults of records are told
 pub told_of_records : (all : Records) (rs : List Record) (skipped : ℕ) (told : List RecordFault) (listing : Listing) → AreWhole all skipped rs
-    → AreAllFaults rs told → told ≢ [] → AreTold told listing
+    → AreAllFaults rs told → told ≢ [] → IsListOf told listing
     → IsListingOfRecords all listing
 told_of_records all rs skipped told (Sound report) whole are some is = absurd is
 told_of_records all rs skipped told (Refused list) whole are some is = absurd is
@@ -54,6 +57,28 @@ told_of_records all rs skipped told (Faults faults points_left) whole are some i
   whole.no_refusal,
   inl (record { told = told; are_all = rw whole.records_are are; are = is.0 }, is.1),
 )
+
+-- ---- beside the map
+
+-- records that have a map are listed with it
+pub listed_with_map : (all : Records) (rs : List Record) (skipped : ℕ) (m : TheMap) (listed : Findings) → AreWhole all skipped rs
+    → IsMapOfRecords rs skipped m → listed.map ≡ Some m → IsListingOfMap m listed.listing → AreFindingsOfRecords all listed
+listed_with_map all rs skipped m listed whole made is told = record {
+  told = drawn all rs skipped m listed.listing whole made told;
+  drawn = rw is (read_from all rs skipped m whole made);
+}
+
+-- of records of which a fault is true, some fault is told
+some_told : (rs : List Record) (told : List RecordFault) (fault : RecordFault) → AreAllFaults rs told → IsTrueOf rs fault → told ≢ []
+some_told rs told fault are true_one none = none_held fault (rw none at (are.every fault true_one))
+
+-- and they have no map
+pub listed_with_none : (all : Records) (rs : List Record) (skipped : ℕ) (fault : RecordFault) (listed : Findings) → AreWhole all skipped rs
+    → IsTrueOf rs fault → AreTold rs listed → AreFindingsOfRecords all listed
+listed_with_none all rs skipped fault listed whole true_one told = record {
+  told = told_of_records all rs skipped told.faults listed.listing whole told.are_all (some_told rs told.faults fault told.are_all true_one) told.told;
+  drawn = rw told.undrawn (λ have. have.is_read.no_fault fault (rw whole.records_are true_one));
+}
 
 -- what is told of the records is told of their text
 pub of_text : (layout : Layout) (text : List ℕ) (listing : Listing) → IsListingOfRecords (records_of layout text) listing
@@ -80,31 +105,43 @@ refused_text layout text line cause (Refused list) refused told =
     ((λ none. none_refused layout text line cause refused (sym told ∙ ap (map pair_of) none)), told)
 refused_text layout text line cause (Faults faults points_left) refused told = absurd told
 
+listed_text : (layout : Layout) (text : List ℕ) (listed : Findings) → AreFindingsOfRecords (records_of layout text) listed → AreFindingsOf layout text listed
+listed_text layout text listed all = record { told = of_text layout text listed.listing all.told; drawn = all.drawn }
+
+-- where a line is refused there is no map
+listed_refusals : (layout : Layout) (text : List ℕ) (line : ℕ) (cause : Cause) (listed : Findings) → (records_of layout text).refusal ≡ Some (line, cause)
+    → ListsRefusals listed.listing (refusals_of layout text) → listed.map ≡ None → AreFindingsOf layout text listed
+listed_refusals layout text line cause listed refused told undrawn = record {
+  told = refused_text layout text line cause listed.listing refused told;
+  drawn = rw undrawn (λ have. let unrefused : (records_of layout text).refusal ≡ None = have.is_read.no_refusal in absurd cc);
+}
+
 -- ---- of bytes that may be known
 
 module _ (layout : Layout) (known : Option (List ℕ)) where
-  pub kept_told : (at_first : Option Records) (skipped : ℕ) (both : BothKept) (result : Result Listing ListingStop) → at_first ≡ option_map
+  pub kept_told : (at_first : Option Records) (skipped : ℕ) (both : BothKept) (result : Result Findings ListingStop) → at_first ≡ option_map
       (records_of layout) known → KeepsAll at_first skipped both
-      → ((all : Records) (rs : List Record) → AreWhole all skipped rs → Keeps rs both → IfOk result (IsListingOfRecords all))
-      → IfOk result (λ listing. IfSome known (λ text. IsListingOf layout text listing))
+      → ((all : Records) (rs : List Record) → AreWhole all skipped rs → Keeps rs both → IfOk result (AreFindingsOfRecords all))
+      → IfOk result (λ listed. IfSome known (λ text. AreFindingsOf layout text listed))
   kept_told at_first skipped both (Err stop) is keeps told = tt
-  kept_told at_first skipped both (Ok listing) is keeps told = go known is
+  kept_told at_first skipped both (Ok listed) is keeps told = go known is
     where
-      go : (bytes : Option (List ℕ)) → at_first ≡ option_map (records_of layout) bytes → IfSome bytes (λ text. IsListingOf layout text listing)
+      go : (bytes : Option (List ℕ)) → at_first ≡ option_map (records_of layout) bytes → IfSome bytes (λ text. AreFindingsOf layout text listed)
       go None e = tt
-      go (Some text) e = of_text layout text listing (told (records_of layout text) keeps.records (let known = keeps.known in rw e at known) keeps.keeps)
+      go (Some text) e = listed_text layout text listed (told (records_of layout text) keeps.records (let known = keeps.known in rw e at known) keeps.keeps)
 
   pub refused_told : (at_first : Option Records) (refusals now : Option (List (ℕ × Cause))) (line : ℕ) (cause : Cause)
-      (result : Result Listing ListingStop) → at_first ≡ option_map (records_of layout) known
+      (result : Result Findings ListingStop) → at_first ≡ option_map (records_of layout) known
       → refusals ≡ option_map (refusals_of layout) known → IfSome at_first (λ all. all.refusal ≡ Some (line, cause))
-      → KeepsRefusals refusals now → IfOk result (λ listing. IfSome now (ListsRefusals listing))
-      → IfOk result (λ listing. IfSome known (λ text. IsListingOf layout text listing))
+      → KeepsRefusals refusals now → IfOk result (λ listed. IfSome now (ListsRefusals listed.listing) × (listed.map ≡ None))
+      → IfOk result (λ listed. IfSome known (λ text. AreFindingsOf layout text listed))
   refused_told at_first refusals now line cause (Err stop) is are refused keeps told = tt
-  refused_told at_first refusals now line cause (Ok listing) is are refused keeps told = go known is are
+  refused_told at_first refusals now line cause (Ok listed) is are refused keeps told = go known is are
     where
       go : (bytes : Option (List ℕ)) → at_first ≡ option_map (records_of layout) bytes → refusals ≡ option_map (refusals_of layout) bytes
-          → IfSome bytes (λ text. IsListingOf layout text listing)
+          → IfSome bytes (λ text. AreFindingsOf layout text listed)
       go None e f = tt
       go (Some text) e f =
           let kept : now ≡ Some (refusals_of layout text) = rw f at keeps in
-          refused_text layout text line cause listing (rw e at refused) (rw kept at told)
+          let are_told = told.0 in
+          listed_refusals layout text line cause listed (rw e at refused) (rw kept at are_told) told.1

@@ -20,7 +20,7 @@ use Rattle.tl_listing.specs.MapFaults.{side_fault, ArePointsTold, AreMapFaults}
 none_named : {X : Type 0} (P : X → Type 0) → ¬ Any P []
 none_named P named = let within : named.0 < 0 = named.2 in omega (arith, within)
 
-none_held : {X : Type 0} (x : X) → ¬ Contains [] x
+pub none_held : {X : Type 0} (x : X) → ¬ Contains [] x
 none_held x held = let within : held.0 < 0 = held.1 in omega (arith, within)
 
 -- and what makes an empty list is empty

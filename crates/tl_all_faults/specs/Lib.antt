@@ -1,3 +1,4 @@
 pub mod Telling
 pub mod Alike
+pub mod Findings
 pub mod Keeping

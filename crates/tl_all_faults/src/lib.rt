@@ -15,4 +15,4 @@ mod planar;
 mod reading;
 mod tell;
 
-pub use of_records::list_faults;
+pub use of_records::{Findings, list_faults, list_with_map};

@@ -1,27 +1,38 @@
 //! All that is wrong with the text of a county.
 
-ghost use Rattle.std.specs.Prelude.{◌≡◌, ◌≢◌, List, [], true, IfOk, IfErr, IfSome};
+ghost use Rattle.std.specs.Prelude.{◌≡◌, List, true, None, Some, IfOk, IfErr, IfSome};
 ghost use Rattle.tl_record.specs.Layout.{layout_with};
 ghost use Rattle.tl_record.specs.Records.{Records as AllRecords};
 ghost use Rattle.tl_record.specs.Reader.{source_of, standing_of, refusals_to_come};
 ghost use Rattle.tl_record.specs.Searching.{goes_on};
 ghost use Rattle.tl_record.specs.declared.record.Record.{Record};
-ghost use Rattle.tl_record_faults.specs.AllFaults.{AreAllFaults};
-ghost use Rattle.tl_map.specs.Collecting.{HasCollected};
+ghost use Rattle.tl_record_faults.specs.Kept.{KeepsRecords};
 ghost use Rattle.tl_listing.specs.Listings.{IsListingOf, TellsDevice};
+ghost use Rattle.tl_all_faults.specs.Findings.{AreFindingsOf};
 ghost use Rattle.tl_all_faults.specs.Keeping.Reading.{Keeps, AreWhole};
-ghost use Rattle.tl_all_faults.specs.Keeping.OfRecords.{IsListingOfRecords, AreTold, ListsRefusals};
+ghost use Rattle.tl_all_faults.specs.Keeping.OfMap.{IsListingOfMap};
+ghost use Rattle.tl_all_faults.specs.Keeping.OfRecords.{AreFindingsOfRecords, AreTold, ListsRefusals};
 
 use crate::of_map::list_map;
 use crate::reading::{BothKept, read_all};
 use crate::tell::tell_records;
 use std::alloc::Global;
 use std::hash::RandomState;
+use tl_county::Map;
 use tl_listing::{Listing, ListingStop};
-use tl_map::{CollectedRecords, MapStop};
+use tl_map::MapStop;
 use tl_record::{Options, RecordReader, Source};
-use tl_record_faults::all_record_faults;
+use tl_record_faults::{KeptRecords, all_record_faults};
 use tl_refusals::{ListStop, list_refusals};
+
+/// All that is wrong with a county, and the map that its records draw.
+#[derive(Drop)]
+pub struct Findings {
+    /// What is told of it.
+    pub listing: Listing,
+    /// The map of its records, where they have one.
+    pub map: Option<Map>,
+}
 
 /// Lists all that is wrong with a county, from the text of its record files, with the columns that the options choose of
 /// type I, or says that its map is sound.
@@ -40,6 +51,25 @@ pub fn list_faults<R: Source>(
     // `Device` is answered where a read failed in this call, and nowhere else.
     ensures failures { TellsDevice (R.failure_count records.old) (R.failure_count records.new) result }
 {
+    let Findings { listing, map } = list_with_map(alloc, hasher, records, options)?;
+    drop(map);
+    Ok(listing)
+}
+
+/// Lists all that is wrong with a county as [`list_faults`] does, and hands out the map of its records, where they have one.
+pub fn list_with_map<R: Source>(
+    alloc: Global,
+    hasher: RandomState,
+    records: &mut R,
+    options: Options,
+) -> Result<Findings, ListingStop>
+    // The listing is that of `list_faults`, and the map is that of the text's records; there is none exactly where a line is
+    // refused or the records have a fault.
+    ensures listed { IfOk result (λ listed. IfSome (R.remaining records.old)
+        (λ text. AreFindingsOf (layout_with options) text listed)) }
+    // `Device` is answered where a read failed in this call, and nowhere else.
+    ensures failures { TellsDevice (R.failure_count records.old) (R.failure_count records.new) result }
+{
     let mut reader = RecordReader::with(records, options);
     match read_all(alloc, &mut reader)? {
         Some(both) => list_kept(alloc, hasher, both, reader.skipped()),
@@ -51,79 +81,81 @@ pub fn list_faults<R: Source>(
 fn list_refused<R: Source>(
     alloc: Global,
     reader: &mut RecordReader<R>,
-) -> Result<Listing, ListingStop>
+) -> Result<Findings, ListingStop>
     requires { goes_on (standing_of reader.old) ≡ true }
-    ensures listing { IfOk result (λ listing. IfSome (refusals_to_come R.remaining reader.old)
-        (ListsRefusals listing)) }
+    ensures listed { IfOk result (λ listed. IfSome (refusals_to_come R.remaining reader.old)
+        (ListsRefusals listed.listing) × (listed.map ≡ None)) }
     ensures failures { TellsDevice (R.failure_count (source_of reader.old))
         (R.failure_count (source_of reader.new)) result }
     ensures same_reference { R.reference (source_of reader.new) ≡ R.reference (source_of reader.old) }
 {
     match list_refusals(alloc, reader) {
-        Ok(list) => Ok(Listing::Refused(list)),
+        Ok(list) => Ok(Findings {
+            listing: Listing::Refused(list),
+            map: None,
+        }),
         Err(ListStop::Device) => Err(ListingStop::Device),
         Err(ListStop::Endless | ListStop::Memory) => Err(ListingStop::Memory),
     }
 }
 
-/// All faults of records that are kept, so many of whose text's lines were passed over, or all of their map.
+/// All faults of records that are kept, so many of whose text's lines were passed over, or all of their map. The map is drawn
+/// first: of records that draw one no fault is true, and none is looked for.
 fn list_kept(
     alloc: Global,
     hasher: RandomState,
     both: BothKept,
     skipped: u64,
-) -> Result<Listing, ListingStop>
+) -> Result<Findings, ListingStop>
     requires { (rs : List Record) × Keeps rs both }
-    ensures listing { (all : AllRecords) (rs : List Record) → AreWhole all skipped rs → Keeps rs both →
-        IfOk result (IsListingOfRecords all) }
+    ensures listed { (all : AllRecords) (rs : List Record) → AreWhole all skipped rs → Keeps rs both →
+        IfOk result (AreFindingsOfRecords all) }
     ensures stops { IfErr result (λ stop. stop ≡ ListingStop.Memory) }
 {
     let BothKept { collected, kept } = both;
-    let Ok(told) = all_record_faults(alloc, kept) else {
-        return Err(ListingStop::Memory);
-    };
-    if told.is_empty() {
-        list_drawn(alloc, hasher, collected, skipped)
-    } else {
-        list_told(alloc, &told)
+    match collected.build(alloc, hasher, skipped) {
+        Ok(map) => {
+            drop(kept);
+            list_drawn(alloc, map)
+        }
+        Err(MapStop::Fault(_)) => list_told(alloc, kept),
+        Err(MapStop::Memory) => Err(ListingStop::Memory),
+        // All records are read.
+        Err(MapStop::Device | MapStop::Refused { .. }) => unreachable!(),
     }
 }
 
-/// The faults of records as those of a county.
-fn list_told(alloc: Global, told: &[tl_drawn::MapFault]) -> Result<Listing, ListingStop>
-    requires { told.now ≢ [] }
-    ensures listing { IfOk result (AreTold told.now) }
+/// All faults of records that have one, as those of a county.
+fn list_told(alloc: Global, kept: KeptRecords) -> Result<Findings, ListingStop>
+    ensures listed { (rs : List Record) → KeepsRecords rs kept → IfOk result (AreTold rs) }
     ensures stops { IfErr result (λ stop. stop ≡ ListingStop.Memory) }
 {
     let mut faults = Vec::new(alloc);
-    match tell_records(&mut faults, told) {
-        Ok(()) => Ok(Listing::Faults {
-            faults,
-            points_left: false,
+    let Ok(told) = all_record_faults(alloc, kept) else {
+        return Err(ListingStop::Memory);
+    };
+    match tell_records(&mut faults, &told) {
+        Ok(()) => Ok(Findings {
+            listing: Listing::Faults {
+                faults,
+                points_left: false,
+            },
+            map: None,
         }),
         Err(_) => Err(ListingStop::Memory),
     }
 }
 
-/// All faults of the map of records that have no fault, or its report.
-fn list_drawn(
-    alloc: Global,
-    hasher: RandomState,
-    collected: CollectedRecords,
-    skipped: u64,
-) -> Result<Listing, ListingStop>
-    requires { (rs : List Record) × HasCollected rs collected × AreAllFaults rs [] }
-    ensures listing { (all : AllRecords) (rs : List Record) → AreWhole all skipped rs → HasCollected rs collected →
-        IfOk result (IsListingOfRecords all) }
+/// All faults of a map, or its report.
+fn list_drawn(alloc: Global, map: Map) -> Result<Findings, ListingStop>
+    ensures listed { IfOk result (λ listed. (listed.map ≡ Some map) × IsListingOfMap map listed.listing) }
     ensures stops { IfErr result (λ stop. stop ≡ ListingStop.Memory) }
 {
-    match collected.build(alloc, hasher, skipped) {
-        Ok(map) => match list_map(alloc, &map) {
-            Ok(listing) => Ok(listing),
-            Err(_) => Err(ListingStop::Memory),
-        },
-        Err(MapStop::Memory) => Err(ListingStop::Memory),
-        // No fault is true of the records, and all of them are read.
-        Err(MapStop::Fault(_) | MapStop::Device | MapStop::Refused { .. }) => unreachable!(),
+    match list_map(alloc, &map) {
+        Ok(listing) => Ok(Findings {
+            listing,
+            map: Some(map),
+        }),
+        Err(_) => Err(ListingStop::Memory),
     }
 }

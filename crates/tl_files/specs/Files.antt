@@ -1,6 +1,8 @@
 -- What stands under the names of a file system.
 use Rattle.std.specs.Prelude.{◌≡◌, ◌++◌, ◌==◌, ◌||◌, ℕ, nat_eq, Bool, true, false, List, length, Option, Some, None, Contains, IfSome, codes, ⊤}
 use Rattle.std.specs.List.{starts_with}
+use Rattle.tl_files.specs.declared.beginning.FileKind.{FileKind}
+use Rattle.tl_files.specs.declared.beginning.FileKind.TheVariants.{Certificate, Collection, Picture}
 use Rattle.tl_files.specs.declared.file_system.FileStop.{FileStop}
 use Rattle.tl_files.specs.declared.file_system.FileStop.TheVariants.{Memory, Device}
 use Rattle.tl_files.specs.declared.file_system.Room.{Room}
@@ -31,19 +33,21 @@ standing (Some bytes) = Some (Some bytes)
 abbrev pub beside : List ℕ → List ℕ
 beside name = name ++ codes ".unfinished"
 
--- how each certificate begins
-abbrev pub beginning : List ℕ
-beginning = codes "TIGERCERT "
+-- how each file of a kind begins, so that it is known for one that this program has made
+abbrev pub beginning_of : FileKind → List ℕ
+beginning_of Certificate = codes "TIGERCERT "
+beginning_of Collection = codes "{\"type\":\"FeatureCollection\",\"name\":\"tigertopo\""
+beginning_of Picture = codes "<svg xmlns=\"http://www.w3.org/2000/svg\" class=\"tigertopo\""
 
--- may a file of these bytes be written over: there are none, or they begin as certificates do
-abbrev pub may_go : List ℕ → Bool
-may_go bytes = (length bytes == 0) || starts_with nat_eq bytes beginning
+-- may a file of these bytes be written over by one of the kind: there are none, or they begin as those of the kind do
+abbrev pub may_go : FileKind → List ℕ → Bool
+may_go kind bytes = (length bytes == 0) || starts_with nat_eq bytes (beginning_of kind)
 
--- the answer to whether a file may be made of a name, where the names `read` are read
-abbrev pub IsRoom : Under → List ℕ → List (List ℕ) → Room → Type 0
-IsRoom under name read Free = IfSome (under name) (λ file. IfSome file (λ bytes. may_go bytes ≡ true) × ¬ Contains read name)
-IsRoom under name read Taken = IfSome (under name) (λ file. (bytes : List ℕ) × (file ≡ Some bytes) × (may_go bytes ≡ false))
-IsRoom under name read IsRead = IfSome (under name) (λ file. Contains read name)
+-- the answer to whether a file of the kind may be made of a name, where the names `read` are read
+abbrev pub IsRoom : Under → List ℕ → List (List ℕ) → FileKind → Room → Type 0
+IsRoom under name read kind Free = IfSome (under name) (λ file. IfSome file (λ bytes. may_go kind bytes ≡ true) × ¬ Contains read name)
+IsRoom under name read kind Taken = IfSome (under name) (λ file. (bytes : List ℕ) × (file ≡ Some bytes) × (may_go kind bytes ≡ false))
+IsRoom under name read kind IsRead = IfSome (under name) (λ file. Contains read name)
 
 -- so that is true, if a device failed
 abbrev pub OfDevice : Type 0 → FileStop → Type 0

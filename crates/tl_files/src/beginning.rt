@@ -1,17 +1,38 @@
-//! How certificates begin.
+//! The kinds of files that are made, and how each begins.
 
-ghost use Rattle.std.specs.Prelude.{◌≡◌};
-ghost use Rattle.tl_files.specs.Files.{may_go as may_go_of};
+ghost use Rattle.std.specs.Prelude.{◌≡◌, ◌≤◌, length};
+ghost use Rattle.tl_files.specs.Files.{beginning_of, may_go as may_go_of};
 
-/// How each certificate begins.
-pub const BEGINNING: &[u8; FRONT] = b"TIGERCERT ";
+/// What is made.
+#[derive(Clone, Copy, Debug, PartialEq, Eq)]
+pub enum FileKind {
+    /// A certificate.
+    Certificate,
+    /// A collection of features, in GeoJSON.
+    Collection,
+    /// A picture, in SVG.
+    Picture,
+}
 
-/// How many bytes that are.
-pub const FRONT: usize = 10;
+/// At least as many bytes as a beginning has.
+pub const FRONT: usize = 64;
 
-/// Whether a file of these bytes may be written over: there are none, or they begin as certificates do.
-pub fn may_go(bytes: &[u8]) -> bool
-    ensures { result ≡ may_go_of bytes.now }
+/// How each file of the kind begins.
+pub fn beginning<'a>(kind: FileKind) -> &'a [u8]
+    ensures bytes { result.now ≡ beginning_of kind }
+    ensures short { length result.now ≤ FRONT }
 {
-    bytes.is_empty() || bytes.starts_with(b"TIGERCERT ")
+    match kind {
+        FileKind::Certificate => b"TIGERCERT ",
+        FileKind::Collection => b"{\"type\":\"FeatureCollection\",\"name\":\"tigertopo\"",
+        FileKind::Picture => b"<svg xmlns=\"http://www.w3.org/2000/svg\" class=\"tigertopo\"",
+    }
+}
+
+/// Whether a file of these bytes may be written over by one of the kind: there are none, or they begin as those of the kind
+/// do.
+pub fn may_go(kind: FileKind, bytes: &[u8]) -> bool
+    ensures { result ≡ may_go_of kind bytes.now }
+{
+    bytes.is_empty() || bytes.starts_with(beginning(kind))
 }

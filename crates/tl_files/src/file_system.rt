@@ -3,15 +3,16 @@
 ghost use Rattle.std.specs.Prelude.{◌≡◌, ◌≢◌, ℕ, Bool, false, is_some, List, [], None, IfOk, IfErr, IfSome, OnOk, OnErr, map, string_bytes};
 ghost use Rattle.tl_files.specs.Files.{Under, bytes_under, standing, beside, IsRoom, OfDevice};
 
+use crate::beginning::FileKind;
 use std::alloc::Global;
 use tl_record::{Sink, Source};
 
 /// Whether a file may be made of a name.
 #[derive(Clone, Copy, Debug, PartialEq, Eq)]
 pub enum Room {
-    /// It may: nothing stands there, or an empty file, or one that begins as certificates do, or no regular file.
+    /// It may: nothing stands there, or an empty file, or one that begins as those of its kind do, or no regular file.
     Free,
-    /// A regular file stands there that isn't empty and doesn't begin as certificates do.
+    /// A regular file stands there that isn't empty and doesn't begin as those of its kind do.
     Taken,
     /// It is one of the files that are read.
     IsRead,
@@ -46,13 +47,13 @@ pub trait FileSystem {
         ensures opened { IfOk result (λ file. Self.Reader.remaining file ≡ bytes_under (under self.now) name.now) }
         ensures failed { IfErr result (OfDevice (bytes_under (under self.now) name.now ≡ None)) };
 
-    /// Whether a new file may take a name, where those of these names are read.
-    fn room(&self, name: &str, read: &[String]) -> Result<Room, FileStop>
-        ensures room { IfOk result (IsRoom (under self.now) name.now (map string_bytes read.now)) }
+    /// Whether a new file of this kind may take a name, where those of these names are read.
+    fn room(&self, name: &str, read: &[String], kind: FileKind) -> Result<Room, FileStop>
+        ensures room { IfOk result (IsRoom (under self.now) name.now (map string_bytes read.now) kind) }
         ensures failed { IfErr result (OfDevice (under self.now name.now ≡ None)) };
 
-    /// A new file that may take a name. It is made when its first byte is written.
-    fn draft(&self, alloc: Global, name: &str) -> Result<Self::Draft, FileStop>
+    /// A new file of this kind that may take a name. It is made when its first byte is written.
+    fn draft(&self, alloc: Global, name: &str, kind: FileKind) -> Result<Self::Draft, FileStop>
         ensures empty { IfOk result (λ file. IfSome (Self.Draft.contents file) (λ bytes. bytes ≡ [])) }
         ensures refused { IfErr result (OfDevice (knows ≡ false)) };
 

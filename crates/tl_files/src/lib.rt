@@ -9,6 +9,6 @@ mod beginning;
 mod file_system;
 mod system;
 
-pub use beginning::may_go;
+pub use beginning::{FileKind, may_go};
 pub use file_system::{FileStop, FileSystem, Room};
 pub use system::{SystemDraft, SystemFiles, SystemReader};

@@ -3,7 +3,7 @@
 ghost use Rattle.std.specs.Prelude.{◌≡◌};
 ghost use Rattle.std.specs.Io.{WritesAtMost};
 
-use crate::beginning::{BEGINNING, FRONT, may_go};
+use crate::beginning::{FRONT, FileKind, beginning, may_go};
 use crate::file_system::{FileStop, FileSystem, Room};
 use std::alloc::Global;
 use std::fs::{File, Metadata, OpenOptions, TryLockError};
@@ -55,6 +55,7 @@ pub struct SystemDraft<'a, R> {
     target: String,
     // Where it is written.
     place: String,
+    kind: FileKind,
     file: Option<File>,
     failures: u64,
 }
@@ -82,7 +83,7 @@ impl<R: Files<File = File>> SystemDraft<'_, R> {
         if self.is_straight() {
             File::create(self.rt, place)
         } else {
-            make_beside(self.rt, self.target.as_str(), place)
+            make_beside(self.rt, self.target.as_str(), place, self.kind)
         }
     }
 
@@ -165,15 +166,20 @@ impl<'a, R: Files<File = File>> FileSystem for SystemFiles<'a, R> {
         }
     }
 
-    fn room(&self, name: &str, read: &[String]) -> Result<Room, FileStop> {
-        match room_of(self.rt, name, read) {
+    fn room(&self, name: &str, read: &[String], kind: FileKind) -> Result<Room, FileStop> {
+        match room_of(self.rt, name, read, kind) {
             Ok(room) => Ok(room),
             Err(error) => Err(stop_of(&error)),
         }
     }
 
-    fn draft(&self, alloc: Global, name: &str) -> Result<SystemDraft<'a, R>, FileStop> {
-        match draft_of(self.rt, alloc, name) {
+    fn draft(
+        &self,
+        alloc: Global,
+        name: &str,
+        kind: FileKind,
+    ) -> Result<SystemDraft<'a, R>, FileStop> {
+        match draft_of(self.rt, alloc, name, kind) {
             Ok(draft) => Ok(draft),
             Err(error) => Err(stop_of(&error)),
         }
@@ -209,8 +215,13 @@ fn stop_of(error: &Error) -> FileStop {
     }
 }
 
-// Whether a new file may take the name, where those of `read` are read.
-fn room_of<R: Files<File = File>>(rt: &R, name: &str, read: &[String]) -> io::Result<Room> {
+// Whether a new file of this kind may take the name, where those of `read` are read.
+fn room_of<R: Files<File = File>>(
+    rt: &R,
+    name: &str,
+    read: &[String],
+    kind: FileKind,
+) -> io::Result<Room> {
     let stands = match fs::metadata(rt, name) {
         Ok(stands) => stands,
         Err(error) if error.kind() == ErrorKind::NotFound => return Ok(Room::Free),
@@ -222,18 +233,19 @@ fn room_of<R: Files<File = File>>(rt: &R, name: &str, read: &[String]) -> io::Re
     if is_among(rt, &stands, read) {
         return Ok(Room::IsRead);
     }
-    if is_certificate(rt, name, stands.len())? {
+    if is_of_kind(rt, name, stands.len(), kind)? {
         Ok(Room::Free)
     } else {
         Ok(Room::Taken)
     }
 }
 
-// A new file that may take the name.
+// A new file of this kind that may take the name.
 fn draft_of<'a, R: Files<File = File>>(
     rt: &'a R,
     alloc: Global,
     name: &str,
+    kind: FileKind,
 ) -> io::Result<SystemDraft<'a, R>> {
     let target = target_of(rt, alloc, name)?;
     let mut place = String::from_str(alloc, target.as_str())?;
@@ -244,6 +256,7 @@ fn draft_of<'a, R: Files<File = File>>(
         rt,
         target,
         place,
+        kind,
         file: None,
         failures: 0,
     })
@@ -288,29 +301,52 @@ fn is_same(one: &Metadata, other: &Metadata) -> bool {
     one.dev() == other.dev() && one.ino() == other.ino()
 }
 
-// Whether the file of this length is empty or begins as certificates do.
-fn is_certificate<R: Files<File = File>>(rt: &R, name: &str, length: u64) -> io::Result<bool> {
+// Whether the file of this length is empty or begins as those of the kind do.
+fn is_of_kind<R: Files<File = File>>(
+    rt: &R,
+    name: &str,
+    length: u64,
+    kind: FileKind,
+) -> io::Result<bool> {
     if length == 0 {
         return Ok(true);
     }
-    if length < FRONT as u64 {
-        return Ok(false);
-    }
     let mut front = [0; FRONT];
     let mut file = File::open(rt, name)?;
-    file.read_exact(&mut front)?;
-    Ok(may_go(&front))
+    Ok(may_go(kind, front_of(&mut file, length, kind, &mut front)?))
+}
+
+// As many bytes from the front of a file of this length as the beginning of the kind has, or all where it has fewer.
+fn front_of<'a>(
+    file: &mut File,
+    length: u64,
+    kind: FileKind,
+    front: &'a mut [u8; FRONT],
+) -> io::Result<&'a [u8]> {
+    let whole = beginning(kind).len();
+    let count = if length < whole as u64 {
+        length as usize
+    } else {
+        whole
+    };
+    file.read_exact(&mut front[..count])?;
+    Ok(&front[..count])
 }
 
 // Makes a file beside its target, or takes over one that an earlier run left unfinished; with the permissions of the file
 // in whose place it comes.
-fn make_beside<R: Files<File = File>>(rt: &R, target: &str, place: &str) -> io::Result<File> {
+fn make_beside<R: Files<File = File>>(
+    rt: &R,
+    target: &str,
+    place: &str,
+    kind: FileKind,
+) -> io::Result<File> {
     let file = match File::create_new(rt, place) {
         Ok(file) => {
             lock(&file)?;
             file
         }
-        Err(error) if error.kind() == ErrorKind::AlreadyExists => take_over(rt, place)?,
+        Err(error) if error.kind() == ErrorKind::AlreadyExists => take_over(rt, place, kind)?,
         Err(error) => return Err(error),
     };
     if let Ok(stands) = fs::metadata(rt, target) {
@@ -321,7 +357,7 @@ fn make_beside<R: Files<File = File>>(rt: &R, target: &str, place: &str) -> io::
 
 // Empties a file that an earlier run left unfinished. One that another run is making, or that is none of ours, is left
 // alone.
-fn take_over<R: Files<File = File>>(rt: &R, place: &str) -> io::Result<File> {
+fn take_over<R: Files<File = File>>(rt: &R, place: &str, kind: FileKind) -> io::Result<File> {
     if !fs::symlink_metadata(rt, place)?.is_file() {
         return Err(Error::from(ErrorKind::AlreadyExists));
     }
@@ -329,7 +365,7 @@ fn take_over<R: Files<File = File>>(rt: &R, place: &str) -> io::Result<File> {
     lock(&file)?;
     let opened = file.metadata()?;
     let stands = fs::symlink_metadata(rt, place)?;
-    if !is_same(&opened, &stands) || !is_unfinished(&mut file, opened.len())? {
+    if !is_same(&opened, &stands) || !is_unfinished(&mut file, opened.len(), kind)? {
         return Err(Error::from(ErrorKind::AlreadyExists));
     }
     file.set_len(0)?;
@@ -337,16 +373,11 @@ fn take_over<R: Files<File = File>>(rt: &R, place: &str) -> io::Result<File> {
     Ok(file)
 }
 
-// Whether the file of this length begins as certificates do, or ends before it could.
-fn is_unfinished(file: &mut File, length: u64) -> io::Result<bool> {
+// Whether the file of this length begins as those of the kind do, or ends before it could.
+fn is_unfinished(file: &mut File, length: u64, kind: FileKind) -> io::Result<bool> {
     let mut front = [0; FRONT];
-    let count = if length < FRONT as u64 {
-        length as usize
-    } else {
-        FRONT
-    };
-    file.read_exact(&mut front[..count])?;
-    Ok(front[..count] == BEGINNING[..count])
+    let front = front_of(file, length, kind, &mut front)?;
+    Ok(beginning(kind).starts_with(front))
 }
 
 // Locks a file that is written against other runs. Where the system has no locks for it, it does without.

@@ -11,6 +11,7 @@ use Rattle.tl_record.specs.Layout.{layout_with}
 use Rattle.tl_text.specs.Joining.{joined_bytes, closed}
 use Rattle.tl_plan.specs.CommandLine.{files_of}
 use Rattle.tl_output.specs.Writing.{line_of}
+use Rattle.tl_files.specs.declared.beginning.FileKind.TheVariants.{Certificate}
 use Rattle.tl_files.specs.declared.file_system.Room.{Room}
 use Rattle.tl_files.specs.declared.file_system.Room.TheVariants.{Free, Taken, IsRead}
 use Rattle.tl_files.specs.Files.{Known, Under, bytes_of, bytes_under, standing, beside, IsRoom, OfDevice}
@@ -37,7 +38,7 @@ use Rattle.tl_answers.specs.Beginnings.{OfMap, IsBegunOf}
 use Rattle.tl_answers.specs.Rewriting.{Rewrites, TellsConverted}
 use Rattle.tl_answers.specs.Beginnings.{BeginsRewritten}
 use Rattle.tl_answers.specs.Deciding.{IsExact}
-use Rattle.tl_making.specs.Opening.{RunsOver, records_under, certificate_under, Stands, KeepsOthers, KeepsAll, RefusesName, IsBuildOf, IsCheckBy, IsConversionBy, Converts, IsNamed, FilesFail, names_read, read_by, made_by, StopsOpening, StopsOpeningAll, told_of}
+use Rattle.tl_making.specs.Opening.{RunsOver, records_under, certificate_under, Stands, KeepsOthers, KeepsAll, RefusesName, taken_text, IsBuildOf, IsCheckBy, IsConversionBy, Converts, IsNamed, FilesFail, names_read, read_by, made_by, StopsOpening, StopsOpeningAll, told_of}
 use Rattle.std.proofs.lemmas.List.{get_or-map, length-map}
 use Rattle.tl_answers.proofs.DecidingLemmas.{build_decides}
 use Rattle.tl_making.proofs.MakingLemmas.{stays_unless, not_done, making_status, making_built, making_fault, making_refused, making_stopped, making_err_stays}
@@ -250,7 +251,7 @@ stops_opening failed file.Device may = may
 
 -- a certificate that may not take its name
 pub over_refusal : (plan : Plan) (name : List ℕ) (status : ℕ) (under : Under) (wrote told part : List ℕ → Type 0) (failed out_same err_same : Type 0) → made_by plan ≡ Some name → out_same → status ≡ USAGE
-    → RefusesName under name (names_read plan) told → RunsOver plan status under under wrote told part failed out_same err_same
+    → RefusesName Certificate under name (names_read plan) told → RunsOver plan status under under wrote told part failed out_same err_same
 over_refusal plan name status under wrote told part failed out_same err_same made stays e refuses = record {
   is_status = inr e;
   answered = λ d. absurd (cc (sym e ∙ d));
@@ -337,10 +338,10 @@ unopened_item f under xs i x file.Device lt at may = (f x, among f xs i x lt at,
 -- the line of what is wrong with a name was told
 abbrev pub SaysRoom : Room → (List ℕ → Type 0) → Type 0
 SaysRoom Free told = ⊥
-SaysRoom Taken told = told (line_of (codes "OUT stands and is no certificate"))
+SaysRoom Taken told = told (line_of (taken_text Certificate))
 SaysRoom IsRead told = told (line_of (codes "OUT is one of the files that are read"))
 
-refuses_by : (under : Under) (name : List ℕ) (read : List (List ℕ)) (room : Room) (told : List ℕ → Type 0) → IsRoom under name read room → SaysRoom room told → RefusesName under name read told
+refuses_by : (under : Under) (name : List ℕ) (read : List (List ℕ)) (room : Room) (told : List ℕ → Type 0) → IsRoom under name read Certificate room → SaysRoom room told → RefusesName Certificate under name read told
 refuses_by under name read Free told is says = absurd says
 refuses_by under name read Taken told is says = inl (is, says)
 refuses_by under name read IsRead told is says = inr (is, says)
@@ -400,16 +401,16 @@ names_by_conversion (Build made options files) from to of = absurd of
 
 -- a build, and a conversion, whose certificate may not take its name
 pub refused_build : (plan : Plan) (name : List ℕ) (options : Options) (read : List (List ℕ)) (room : Room) (status : ℕ) (under : Under) (wrote told part : List ℕ → Type 0) (failed out_same err_same : Type 0) → IsBuildOf plan name options
-    → read ≡ files_of plan → IsRoom under name read room → out_same → status ≡ USAGE → SaysRoom room told → RunsOver plan status under under wrote told part failed out_same err_same
+    → read ≡ files_of plan → IsRoom under name read Certificate room → out_same → status ≡ USAGE → SaysRoom room told → RunsOver plan status under under wrote told part failed out_same err_same
 refused_build plan name options read room status under wrote told part failed out_same err_same of files is stays e says =
     let names = names_of_build plan name options of in
-    over_refusal plan name status under wrote told part failed out_same err_same names.0 stays e (refuses_by under name (names_read plan) room told (subst (λ ns. IsRoom under name ns room) (files ∙ sym names.1) is) says)
+    over_refusal plan name status under wrote told part failed out_same err_same names.0 stays e (refuses_by under name (names_read plan) room told (subst (λ ns. IsRoom under name ns Certificate room) (files ∙ sym names.1) is) says)
 
 pub refused_conversion : (plan : Plan) (from name : List ℕ) (read : List (List ℕ)) (room : Room) (status : ℕ) (under : Under) (wrote told part : List ℕ → Type 0) (failed out_same err_same : Type 0) → IsConversionBy plan from name
-    → read ≡ from ∷ [] → IsRoom under name read room → out_same → status ≡ USAGE → SaysRoom room told → RunsOver plan status under under wrote told part failed out_same err_same
+    → read ≡ from ∷ [] → IsRoom under name read Certificate room → out_same → status ≡ USAGE → SaysRoom room told → RunsOver plan status under under wrote told part failed out_same err_same
 refused_conversion plan from name read room status under wrote told part failed out_same err_same of files is stays e says =
     let names = names_of_conversion plan from name of in
-    over_refusal plan name status under wrote told part failed out_same err_same names.0 stays e (refuses_by under name (names_read plan) room told (subst (λ ns. IsRoom under name ns room) (files ∙ sym names.1) is) says)
+    over_refusal plan name status under wrote told part failed out_same err_same names.0 stays e (refuses_by under name (names_read plan) room told (subst (λ ns. IsRoom under name ns Certificate room) (files ∙ sym names.1) is) says)
 
 -- what stays of names, by the name of the certificate
 pub keeps_others : (plan : Plan) (name : List ℕ) (before after : Under) → made_by plan ≡ Some name → ((other : List ℕ) → other ≢ name → other ≢ beside name → after other ≡ before other) → KeepsOthers before after plan

@@ -3,6 +3,8 @@
 -- beginning of it was written to the output, and that a write failed; `failed` that a file failed.
 use Rattle.std.specs.Prelude.{◌≡◌, ◌≢◌, ◌⊎◌, ℕ, Bool, false, Contains, List, [], ◌∷◌, Option, Some, None, IfSome, codes, string_bytes, ⊤}
 use Rattle.tl_files.specs.Files.{Under, bytes_under, beside, IsRoom}
+use Rattle.tl_files.specs.declared.beginning.FileKind.{FileKind}
+use Rattle.tl_files.specs.declared.beginning.FileKind.TheVariants.{Certificate, Collection, Picture}
 use Rattle.tl_files.specs.declared.file_system.Room.TheVariants.{Taken, IsRead}
 use Rattle.tl_text.specs.Joining.{joined_bytes, failures_of}
 use Rattle.tl_plan.specs.declared.plan.Plan.{Plan}
@@ -71,14 +73,21 @@ abbrev pub names_read : Plan → List (List ℕ)
 names_read (Convert cert made) = string_bytes cert ∷ []
 names_read plan = files_of plan
 
--- no certificate may be made of the name, where those of `read` are read: what stands there is none, or is one of those
-abbrev pub RefusesName : Under → List ℕ → List (List ℕ) → (List ℕ → Type 0) → Type 0
-RefusesName before name read told = (IsRoom before name read Taken × told (line_of (codes "OUT stands and is no certificate")))
-    ⊎ (IsRoom before name read IsRead × told (line_of (codes "OUT is one of the files that are read")))
+-- what is said where another file stands under the name of a new one of the kind
+abbrev pub taken_text : FileKind → List ℕ
+taken_text Certificate = codes "OUT stands and is no certificate"
+taken_text Collection = codes "OUT stands and is no GeoJSON of tigertopo"
+taken_text Picture = codes "OUT stands and is no picture of tigertopo"
+
+-- no file of the kind may be made of the name, where those of `read` are read: what stands there is none of its kind, or is
+-- one of those
+abbrev pub RefusesName : FileKind → Under → List ℕ → List (List ℕ) → (List ℕ → Type 0) → Type 0
+RefusesName kind before name read told = (IsRoom before name read kind Taken × told (line_of (taken_text kind)))
+    ⊎ (IsRoom before name read kind IsRead × told (line_of (codes "OUT is one of the files that are read")))
 
 -- no certificate may be made by the plan's command
 abbrev pub RefusesOut : Under → Plan → (List ℕ → Type 0) → Type 0
-RefusesOut before plan told = (made : List ℕ) × (made_by plan ≡ Some made) × RefusesName before made (names_read plan) told
+RefusesOut before plan told = (made : List ℕ) × (made_by plan ≡ Some made) × RefusesName Certificate before made (names_read plan) told
 
 -- the name is one of the plan's: of a file that is read, or of the certificate that is made
 abbrev pub IsNamed : Plan → List ℕ → Type 0

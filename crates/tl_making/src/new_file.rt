@@ -4,10 +4,10 @@ ghost use Rattle.std.specs.Prelude.{◌≡◌, ◌≢◌, ◌<◌, ◌⊎◌, �
 ghost use Rattle.std.specs.Prelude.{map, string_bytes};
 ghost use Rattle.tl_record.specs.Layout.{layout_with};
 ghost use Rattle.tl_text.specs.Joining.{joined_bytes, failures_of};
-ghost use Rattle.tl_output.specs.Writing.{Writes, WritesSome, FailsToWrite};
+ghost use Rattle.tl_output.specs.Writing.{Writes, WritesSome, FailsToWrite, line_of};
 ghost use Rattle.tl_files.specs.Files.{bytes_under, standing, beside, IsRoom};
 ghost use Rattle.tl_answers.specs.declared.stop.TheConstants.{USAGE};
-ghost use Rattle.tl_making.specs.Opening.{RunsOver, IsBuildOf, Converts, records_under, certificate_under, FilesFail, StopsOpening, IsConversionBy};
+ghost use Rattle.tl_making.specs.Opening.{taken_text, RunsOver, IsBuildOf, Converts, records_under, certificate_under, FilesFail, StopsOpening, IsConversionBy};
 ghost use Rattle.tl_answers.specs.Beginnings.{Begins};
 ghost use Rattle.tl_making.specs.Making.{Makes};
 ghost use Rattle.tl_answers.specs.Running.{FailsToRead, TriesToWrite};
@@ -19,32 +19,45 @@ use std::hash::RandomState;
 use std::slice;
 use tl_answers::convert::{rewrite, tell_converted};
 use tl_answers::stop::{USAGE, stopped};
-use tl_files::{FileSystem, Room};
+use tl_files::{FileKind, FileSystem, Room};
 use tl_output::write_all;
 use tl_plan::Plan;
 use tl_record::{Options, Sink, Source};
 use tl_text::Buffered;
 use tl_verdict::Stop;
 
-// What is said where another file stands under the name of the certificate that is made.
-const TAKEN: &[u8] = b"OUT stands and is no certificate\n";
+/// What is said where the name of a new file is one of the files that are read.
+pub const IS_READ: &[u8] = b"OUT is one of the files that are read\n";
 
-// What is said where that name is one of the files that are read.
-const IS_READ: &[u8] = b"OUT is one of the files that are read\n";
+/// What is said where another file stands under the name of a new one of this kind.
+pub fn taken_line<'a>(kind: FileKind) -> &'a [u8]
+    ensures { result.now ≡ line_of (taken_text kind) }
+{
+    match kind {
+        FileKind::Certificate => b"OUT stands and is no certificate\n",
+        FileKind::Collection => b"OUT stands and is no GeoJSON of tigertopo\n",
+        FileKind::Picture => b"OUT stands and is no picture of tigertopo\n",
+    }
+}
 
-// Whether a certificate may take the name, where those of these names are read.
-fn room_for<F: FileSystem>(files: &F, name: &String, read: &[String]) -> Result<Room, Stop>
-    ensures room { IfOk result (IsRoom (F.under files.now) (string_bytes name.now) (map string_bytes read.now)) }
+/// Whether a new file of this kind may take the name, where those of these names are read.
+pub fn room_for<F: FileSystem>(
+    files: &F,
+    name: &String,
+    read: &[String],
+    kind: FileKind,
+) -> Result<Room, Stop>
+    ensures room { IfOk result (IsRoom (F.under files.now) (string_bytes name.now) (map string_bytes read.now) kind) }
     ensures stops { IfErr result (StopsOpening (bytes_under (F.under files.now) (string_bytes name.now) ≡ None)) }
 {
-    match files.room(name.as_str(), read) {
+    match files.room(name.as_str(), read, kind) {
         Ok(room) => Ok(room),
         Err(stop) => Err(stop_of(stop)),
     }
 }
 
-// Says why a certificate may not take its name. Where that can't be written, the status alone is left to tell it.
-fn say_refusal<E: Sink>(text: &[u8], err: &mut E) -> u8
+/// Says why a new file may not take its name. Where that can't be written, the status alone is left to tell it.
+pub fn say_refusal<E: Sink>(text: &[u8], err: &mut E) -> u8
     ensures status { result ≡ USAGE }
     ensures said { TriesToWrite E.contents E.failure_count err.old err.new text.now }
 {
@@ -75,7 +88,7 @@ fn build_into<F: FileSystem, W: Sink, E: Sink>(
     let Ok(room) = room_for_bytes(alloc) else {
         return stopped(&Stop::Memory, err);
     };
-    let mut draft = match files.draft(alloc, name.as_str()) {
+    let mut draft = match files.draft(alloc, name.as_str(), FileKind::Certificate) {
         Ok(draft) => draft,
         Err(stop) => return stopped(&stop_of(stop), err),
     };
@@ -126,7 +139,7 @@ fn convert_into<F: FileSystem, W: Sink, E: Sink>(
         (FilesFail F.Reader.failure_count F.Draft.failure_count F.knows (F.under files.old) plan.now)
         (out.new ≡ out.old) (err.new ≡ err.old) }
 {
-    let mut draft = match files.draft(alloc, name.as_str()) {
+    let mut draft = match files.draft(alloc, name.as_str(), FileKind::Certificate) {
         Ok(draft) => draft,
         Err(stop) => return stopped(&stop_of(stop), err),
     };
@@ -137,8 +150,8 @@ fn convert_into<F: FileSystem, W: Sink, E: Sink>(
     }
 }
 
-// Lets a new file take its name where it is whole, and else takes it away. Says why it stops where it may not have it.
-fn settle<F: FileSystem>(
+/// Lets a new file take its name where it is whole, and else takes it away. Says why it stops where it may not have it.
+pub fn settle<F: FileSystem>(
     files: &mut F,
     alloc: Global,
     draft: F::Draft,
@@ -185,9 +198,9 @@ pub fn open_and_build<F: FileSystem, W: Sink, E: Sink>(
         (FilesFail F.Reader.failure_count F.Draft.failure_count F.knows (F.under files.old) plan.now)
         (out.new ≡ out.old) (err.new ≡ err.old) }
 {
-    match room_for(&*files, name, plan.files()) {
+    match room_for(&*files, name, plan.files(), FileKind::Certificate) {
         Ok(Room::Free) => build_into(files, alloc, hasher, plan, readers, name, options, out, err),
-        Ok(Room::Taken) => say_refusal(TAKEN, err),
+        Ok(Room::Taken) => say_refusal(taken_line(FileKind::Certificate), err),
         Ok(Room::IsRead) => say_refusal(IS_READ, err),
         Err(stop) => stopped(&stop, err),
     }
@@ -235,9 +248,14 @@ fn convert_by<F: FileSystem, W: Sink, E: Sink>(
         (FilesFail F.Reader.failure_count F.Draft.failure_count F.knows (F.under files.old) plan.now)
         (out.new ≡ out.old) (err.new ≡ err.old) }
 {
-    match room_for(&*files, names.1, slice::from_ref(names.0)) {
+    match room_for(
+        &*files,
+        names.1,
+        slice::from_ref(names.0),
+        FileKind::Certificate,
+    ) {
         Ok(Room::Free) => convert_into(files, alloc, plan, cert, names.1, out, err),
-        Ok(Room::Taken) => say_refusal(TAKEN, err),
+        Ok(Room::Taken) => say_refusal(taken_line(FileKind::Certificate), err),
         Ok(Room::IsRead) => say_refusal(IS_READ, err),
         Err(stop) => stopped(&stop, err),
     }

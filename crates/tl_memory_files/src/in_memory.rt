@@ -9,7 +9,7 @@ use std::alloc::{AllocError, Global};
 use std::collections::VecDeque;
 use std::io;
 use std::io::{Read, Write};
-use tl_files::{FileStop, FileSystem, Room, may_go};
+use tl_files::{FileKind, FileStop, FileSystem, Room, may_go};
 use tl_record::{Sink, Source};
 
 /// A file with its name.
@@ -145,17 +145,17 @@ impl FileSystem for FilesInMemory {
         }
     }
 
-    fn room(&self, name: &str, read: &[String]) -> Result<Room, FileStop> {
+    fn room(&self, name: &str, read: &[String], kind: FileKind) -> Result<Room, FileStop> {
         if is_among(name, read) {
             return Ok(Room::IsRead);
         }
         match self.bytes(name) {
-            Some(bytes) if !may_go(bytes) => Ok(Room::Taken),
+            Some(bytes) if !may_go(kind, bytes) => Ok(Room::Taken),
             _ => Ok(Room::Free),
         }
     }
 
-    fn draft(&self, alloc: Global, _name: &str) -> Result<Draft, FileStop> {
+    fn draft(&self, alloc: Global, _name: &str, _kind: FileKind) -> Result<Draft, FileStop> {
         Ok(Draft {
             bytes: Vec::new(alloc),
             failures: 0,

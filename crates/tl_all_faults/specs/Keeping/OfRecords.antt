@@ -11,6 +11,10 @@ use Rattle.tl_verdict.specs.Records.{HaveMap}
 use Rattle.tl_listing.specs.declared.listing.Listing.{Listing}
 use Rattle.tl_listing.specs.declared.listing.Listing.TheVariants.{Sound, Refused, Faults}
 use Rattle.tl_listing.specs.Listings.{AreFaults}
+use Rattle.tl_record.specs.declared.record.Record.{Record}
+use Rattle.tl_record_faults.specs.AllFaults.{AreAllFaults}
+use Rattle.tl_all_faults.specs.declared.of_records.Findings.{Findings}
+use Rattle.tl_all_faults.specs.Findings.{IsMapIfAny}
 
 -- the map of the records is sound, and these are its numbers; or no line is refused, and these are all faults
 abbrev pub IsListingOfRecords : Records → Listing → Type 0
@@ -18,11 +22,23 @@ IsListingOfRecords all (Sound report) = HaveMap all (λ m. IsSound m × IsReport
 IsListingOfRecords all (Refused list) = ⊥
 IsListingOfRecords all (Faults faults points_left) = (faults.items ≢ []) × (all.refusal ≡ None) × AreFaults all faults.items points_left
 
--- these faults of records are told
-abbrev pub AreTold : List RecordFault → Listing → Type 0
-AreTold told (Sound report) = ⊥
-AreTold told (Refused list) = ⊥
-AreTold told (Faults faults points_left) = (faults.items ≡ map fault.Records told) × (points_left ≡ false)
+-- what is listed of records, none of whose lines is refused, and their map
+pub record AreFindingsOfRecords (all : Records) (listed : Findings) : Type 0 where
+  pub told : IsListingOfRecords all listed.listing
+  pub drawn : IsMapIfAny all listed.map
+
+-- these faults of records are listed
+abbrev pub IsListOf : List RecordFault → Listing → Type 0
+IsListOf told (Sound report) = ⊥
+IsListOf told (Refused list) = ⊥
+IsListOf told (Faults faults points_left) = (faults.items ≡ map fault.Records told) × (points_left ≡ false)
+
+-- all faults of the records are listed, and no map
+pub record AreTold (rs : List Record) (listed : Findings) : Type 0 where
+  pub faults : List RecordFault
+  pub are_all : AreAllFaults rs faults
+  pub told : IsListOf faults listed.listing
+  pub undrawn : listed.map ≡ None
 
 -- these refusals are told
 abbrev pub ListsRefusals : Listing → List (ℕ × Cause) → Type 0

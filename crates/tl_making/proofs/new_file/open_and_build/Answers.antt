@@ -6,7 +6,7 @@ use Rattle.tl_making.proofs.new_file.open_and_build.Goals as goal
 pub returns-in-Ok-Taken : goal.returns-in-Ok-Taken
 returns-in-Ok-Taken g c =
     refused_build c.args.plan.now (string_bytes c.args.name.now) c.args.options _ Taken c.say_refusal.result (g.F.FileSystem.under c.args.files.now) _ _ _ _ _ _ c.requires.plan c.files.ensures
-    (rw c.in-Ok-Taken.field-0-is at c.in-Ok-Taken.ensures.room) refl c.say_refusal.ensures.status c.say_refusal.ensures.said
+    (rw c.in-Ok-Taken.field-0-is at c.in-Ok-Taken.ensures.room) refl c.say_refusal.ensures.status (let e = c.taken_line.ensures in rw e at (c.say_refusal.ensures.said))
 
 pub returns-in-Ok-IsRead : goal.returns-in-Ok-IsRead
 returns-in-Ok-IsRead g c =

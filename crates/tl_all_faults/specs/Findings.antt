@@ -1,0 +1,19 @@
+-- All that is wrong with a county, beside the map of its records.
+use Rattle.std.specs.Prelude.{ℕ, List, Option, Some, None, ⊤}
+use Rattle.tl_record.specs.declared.layout.Layout.{Layout}
+use Rattle.tl_record.specs.Records.{Records, records_of}
+use Rattle.tl_drawn.specs.Reading.{IsReadFrom}
+use Rattle.tl_county.specs.TheMap.{TheMap}
+use Rattle.tl_verdict.specs.Records.{HaveMap}
+use Rattle.tl_listing.specs.Listings.{IsListingOf}
+use Rattle.tl_all_faults.specs.declared.of_records.Findings.{Findings}
+
+-- the map is the one that the records have, and there is none where they have none
+abbrev pub IsMapIfAny : Records → Option TheMap → Type 0
+IsMapIfAny all (Some m) = IsReadFrom all m
+IsMapIfAny all None = ¬ HaveMap all (λ m. ⊤)
+
+-- what is listed of a text, and the map of its records
+pub record AreFindingsOf (layout : Layout) (text : List ℕ) (listed : Findings) : Type 0 where
+  pub told : IsListingOf layout text listed.listing
+  pub drawn : IsMapIfAny (records_of layout text) listed.map
