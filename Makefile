@@ -15,12 +15,15 @@
 #                          valgrind is there; with BESIDE=PROGRAM it counts and times that program's too; and lists
 #                          of every fault
 # make speed               prints the tables of docs/speed.md, which are the rows of 100,000 chains among these
-# make install PREFIX=..   installs the program as PREFIX/bin/tigertopo
+# make pictures            reads what `export` and `draw` make by GDAL and by a browser, where they are there
+# make pages               looks at the manual page and the completions, which are made of the program's help
+# make install PREFIX=..   installs the program as PREFIX/bin/tigertopo, its manual page and its completions
+# make uninstall PREFIX=.. takes these away
 
 PREFIX = /usr/local
 PROGRAM = crates/tigertopo/out/tigertopo
 
-.PHONY: build check rows certificates judge full-size limits memory devices examples counties bench speed install
+.PHONY: build check rows certificates judge full-size limits memory devices examples counties bench speed pictures pages install uninstall
 
 build:
 	python3 proving/prove.py
@@ -72,6 +75,26 @@ speed: build
 	python3 bench/beside.py --counties 100000 $(if $(BESIDE),--beside $(BESIDE))
 	python3 bench/faulty.py
 
+pictures: build
+	python3 tests/pictures.py
+	python3 tests/drawn.py
+
+pages: build
+	python3 tests/installed.py
+
+SHARE = $(DESTDIR)$(PREFIX)/share
+
 install: build
-	install -d $(DESTDIR)$(PREFIX)/bin
+	python3 install/pages.py $(PROGRAM) install/out
+	install -d $(DESTDIR)$(PREFIX)/bin $(SHARE)/man/man1 $(SHARE)/bash-completion/completions \
+	    $(SHARE)/zsh/site-functions $(SHARE)/fish/vendor_completions.d
 	install $(PROGRAM) $(DESTDIR)$(PREFIX)/bin/tigertopo
+	install -m 644 install/out/tigertopo.1 $(SHARE)/man/man1/tigertopo.1
+	install -m 644 install/out/tigertopo.bash $(SHARE)/bash-completion/completions/tigertopo
+	install -m 644 install/out/_tigertopo $(SHARE)/zsh/site-functions/_tigertopo
+	install -m 644 install/out/tigertopo.fish $(SHARE)/fish/vendor_completions.d/tigertopo.fish
+
+uninstall:
+	rm -f $(DESTDIR)$(PREFIX)/bin/tigertopo $(SHARE)/man/man1/tigertopo.1 \
+	    $(SHARE)/bash-completion/completions/tigertopo $(SHARE)/zsh/site-functions/_tigertopo \
+	    $(SHARE)/fish/vendor_completions.d/tigertopo.fish

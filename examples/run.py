@@ -24,9 +24,13 @@ def steps(text):
 
 def streams_of(command, printed):
     """The lines that belong to standard output, and those that belong to standard error."""
-    lines = printed.splitlines(keepends=True)
     is_error = re.compile(r"(stopped|error:) " if " --all " in command else r"(refused line|stopped|error:) ").match
-    return "".join(it for it in lines if not is_error(it)), "".join(it for it in lines if is_error(it))
+    streams, before = ["", ""], 0
+    for line in printed.splitlines(keepends=True):
+        # What begins with two blanks belongs to the line before it.
+        before = before if line.startswith("  ") else int(bool(is_error(line)))
+        streams[before] += line
+    return tuple(streams)
 
 
 def play(page, folder):

@@ -20,7 +20,8 @@ import sys
 import tempfile
 from pathlib import Path
 
-from memory import EXAMPLES, STANDS, answer_over_a_file, library_of
+import hints
+from memory import EXAMPLES, answer_over_a_file, library_of, standing
 from rows import PROGRAM
 from small_maps import MADE, write_all
 
@@ -37,6 +38,8 @@ RUNS = [
     ["audit", "--all", "--most", "3", EXAMPLES / "faults" / "town"],
     ["build", "--out", MADE, EXAMPLES / "county"],
     ["build", "--out", MADE, EXAMPLES / "faults" / "G1"],
+    ["export", "--geojson", MADE, EXAMPLES / "county"],
+    ["draw", "--out", MADE, "--faults", EXAMPLES / "faults" / "town"],
     ["convert", EXAMPLES / "square.CERT", MADE],
     ["check", "--cert", EXAMPLES / "county.CERT", EXAMPLES / "county"],
     ["check", "--cert", EXAMPLES / "faults" / "G1.CERT", EXAMPLES / "faults" / "G1"],
@@ -96,18 +99,18 @@ ssize_t write(int file, const void *bytes, size_t count) {
 """
 
 
-def is_stopped(answer, left, usual, whole):
+def is_stopped(answer, left, usual, whole, stood):
     """A device failed: that is said, behind a beginning of what is printed otherwise. What stood stands, or it is whole."""
     status, printed, told = answer
     stopped = status == 4 and told == b"stopped Device\n" and usual[1].startswith(printed)
-    return stopped and left in (STANDS, whole)
+    return stopped and left in (stood, whole)
 
 
-def is_stopped_at_once(answer, left, usual, whole):
-    return answer == (4, b"", b"stopped Device\n") and left == STANDS
+def is_stopped_at_once(answer, left, usual, whole, stood):
+    return answer == (4, b"", b"stopped Device\n") and left == stood
 
 
-def is_usual(answer, left, usual, whole):
+def is_usual(answer, left, usual, whole, stood):
     return (answer, left) == (usual, whole)
 
 
@@ -144,16 +147,17 @@ def play_calls(count, ask, runs):
                 wrong = f"{' '.join(map(str, words))}: with {kind} {which}: {answer}, and the file {left[:40]}"
                 # The first read is of how the file begins that stands there, and is tried again.
                 is_again = MADE in words and (kind, which) == ("INTERRUPTED_READ", 1)
-                count.count((is_usual if is_again else is_well)(answer, left, usual, whole), wrong)
+                count.count((is_usual if is_again else is_well)(answer, left, usual, whole, standing(words)), wrong)
 
 
 def answer_to(program, folder, words, **streams):
     """The answer, where a file stands under the name of what is made, and what it holds afterwards."""
     made = Path(folder, MADE)
-    made.write_bytes(STANDS)
+    made.write_bytes(standing(words))
     streams = {"stdout": subprocess.PIPE, "stderr": subprocess.PIPE, **streams}
     done = subprocess.run([program, *words], cwd=folder, stdin=subprocess.DEVNULL, **streams)
-    return (done.returncode, done.stdout or b"", done.stderr or b""), made.read_bytes()
+    told = hints.without(done.stderr or b"", words, folder)
+    return (done.returncode, done.stdout or b"", told), made.read_bytes()
 
 
 def play_names(count, program, folder, runs):
@@ -169,7 +173,7 @@ def play_names(count, program, folder, runs):
             for name in UNWRITABLE if is_made else UNREADABLE:
                 asked = [*words[:place], name, *words[place + 1 :]]
                 answer, left = answer_to(program, folder, asked)
-                count.count((answer, left) == (wanted, STANDS), f"{' '.join(asked)}: {answer}, and the file {left[:40]}")
+                count.count((answer, left) == (wanted, standing(words)), f"{' '.join(asked)}: {answer}, and the file {left[:40]}")
 
 
 def play_streams(count, program, folder, runs):
@@ -181,12 +185,12 @@ def play_streams(count, program, folder, runs):
             usual, whole = answer_to(program, folder, words)
             for name, stream in [("a full output", full), ("a closed pipe", closed)]:
                 answer, left = answer_to(program, folder, words, stdout=stream)
-                is_well = answer == DEVICE and left in (STANDS, whole) if usual[1] else answer == usual
+                is_well = answer == DEVICE and left in (standing(words), whole) if usual[1] else answer == usual
                 count.count(is_well, f"{' '.join(words)}: with {name}: {answer}, and the file {left[:40]}")
             if words[0] != "convert":
                 asked = [*words[:-1], "none"]
                 answer, left = answer_to(program, folder, asked, stderr=full)
-                count.count((answer, left) == ((4, b"", b""), STANDS), f"{' '.join(asked)}: with a full error output: {answer}")
+                count.count((answer, left) == ((4, b"", b""), standing(words)), f"{' '.join(asked)}: with a full error output: {answer}")
     os.close(closed)
 
 

@@ -17,6 +17,7 @@ import sys
 import tempfile
 from pathlib import Path
 
+import hints
 from grids import KEY, POINT, SIDE, grid, report_of
 from layout import line_of
 from rows import PROGRAM, TOP, play, rows_of
@@ -29,6 +30,11 @@ POLYGON_LIMIT = 1_048_576
 LANDMARK_LIMIT = 1_048_576
 SEGMENT_LIMIT = 16_777_216
 LINE_LIMIT = 67_108_864
+# How many strokes a picture is to have at most, by leaving out small chains, how many of them behind each that is shown, and how
+# many bytes it may have.
+STROKES = 300_000
+SKIPS = [0, 1, 2, 3, 4, 5, 6, 7, 9, 12, 16, 24, 32, 64, 128, 256]
+PICTURE_LIMIT = 6_000_000
 # Rows of tests/check.rows: a tree of depth 64, and one of depth 65.
 TREES = ["a tree as deep as may be", "a tree that is too deep"]
 
@@ -84,7 +90,8 @@ class Plays:
             print(f"{title}: {float(seconds):.1f} s, {int(kilobytes) // 1024} MB", flush=True)
         digest = lambda text: (len(text), hashlib.sha256(text).hexdigest())
         wanted = (status, digest(out.encode()), err.encode())
-        well = (done.returncode, digest(done.stdout), done.stderr) == wanted
+        told = hints.without(done.stderr, [command, *names], self.folder)
+        well = (done.returncode, digest(done.stdout), told) == wanted
         self.count(well, f"{title}: status {done.returncode}, {done.stdout[-200:]} {done.stderr[-200:]}")
 
     def count(self, well, wrong):
@@ -221,11 +228,35 @@ def play_path(plays):
     checked("a round that falls", ["--cert", plays.file("falling", falling), path], 2, fault)
 
 
+def drawn_of(count):
+    """How many chains a picture shows of a map of so many by so many squares: 980 pixels are as long as its side, and where
+    there are too many chains that can be seen, only one in so many of those is shown that are small."""
+    at = [9_800 * k // count for k in range(count + 1)]
+    length = [after - before for before, after in zip(at, at[1:])]
+    lengths = []
+    for row in range(count + 1):
+        for column in range(count + 1):
+            lengths += length[column : column + 1]
+            lengths += length[count - row - 1 : count - row] if row < count else []
+    for skipped in SKIPS:
+        shown = sum(it > 3 * (skipped + 1) or it > 3 and k % (skipped + 1) == 0 for k, it in enumerate(lengths))
+        if shown <= STROKES:
+            return shown
+    return None
+
+
 def play_squares(plays):
     """Answers to as many squares as fit the limit of chains: each of the most polygons that share their chains has its point."""
     across = next(k for k in range(1, CHAIN_LIMIT) if 2 * (k + 1) * (k + 2) > CHAIN_LIMIT)
     text = grid(across)
-    plays.decide("the most squares", plays.file("squares", text), 0, report_of(across))
+    squares, made = plays.file("squares", text), Path(plays.folder, "made")
+    plays.decide("the most squares", squares, 0, report_of(across))
+    exported = f"exported chains={2 * across * (across + 1)} polygons={across**2} rings={across**2 + 1}\n"
+    plays.play("the most squares, exported", ["--geojson", made.name, squares], 0, exported, command="export")
+    made.unlink(missing_ok=True)
+    plays.play("the most squares, drawn", ["--out", made.name, squares], 0, f"drawn chains={drawn_of(across)}\n", command="draw")
+    plays.count(made.exists() and made.stat().st_size < PICTURE_LIMIT, "a picture of the most squares is too large")
+    made.unlink(missing_ok=True)
     # The last square's point lies west of all squares.
     last, y = KEY % across**2, SIDE * across - SIDE // 2
     strayed = text.replace(POINT % (last, y, y), POINT % (last, -1, y))

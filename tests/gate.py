@@ -43,10 +43,13 @@ def main():
     import certificates
     import counties
     import devices
+    import drawn
     import full_size
+    import installed
     import judged
     import made_files
     import memory
+    import pictures
     import rows
     import run as examples
     import times
@@ -70,8 +73,13 @@ def main():
         ("examples", examples.play_all),
         ("many counties", counties.play_all),
         ("certificates made over files", made_files.play_all),
+        ("pictures", drawn.play_all),
+        ("manual page, completions and programs of the libraries", installed.play_all),
         ("rows", rows.play_all),
     ]
+    # Debian's gdal-bin isn't everywhere.
+    if not pictures.missing():
+        parts.append(("files of GeoJSON", pictures.play_all))
     begun = time.monotonic()
     with times.Watch() as watch:
         counts = [timed(proofs)]

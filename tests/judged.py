@@ -26,6 +26,7 @@ from pathlib import Path
 
 import certificates
 import draw
+import hints
 import judge
 import rows
 
@@ -83,7 +84,7 @@ class Table:
     def ask(self, *words):
         how = {"cwd": self.folder, "stdin": subprocess.DEVNULL, "capture_output": True, "close_fds": False}
         done = subprocess.run([self.program, *words], check=False, **how)
-        return done.returncode, done.stdout, done.stderr
+        return done.returncode, done.stdout, hints.without(done.stderr, words, self.folder)
 
 
 def complaints(table, case, chance):

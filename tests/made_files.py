@@ -18,6 +18,7 @@ import sys
 import tempfile
 from pathlib import Path
 
+import hints
 from memory import EXAMPLES, library_of
 from rows import PROGRAM
 
@@ -68,7 +69,7 @@ class Play:
 
     def ask(self, words, **more):
         ran = subprocess.run([self.program, *words], cwd=self.folder, capture_output=True, stdin=subprocess.DEVNULL, **more)
-        return ran.returncode, ran.stdout, ran.stderr
+        return ran.returncode, ran.stdout, hints.without(ran.stderr, words, self.folder)
 
     def count(self, is_well, wrong):
         self.passed, self.failed = self.passed + bool(is_well), self.failed + (not is_well)

@@ -15,12 +15,18 @@ import sys
 import tempfile
 from pathlib import Path
 
+import hints
 from rows import PROGRAM, TOP, rows_of
 from small_maps import MADE, write_all
 
 EXAMPLES = TOP / "examples"
 # What stands under the name of what is made before each run.
 STANDS = b"TIGERCERT 2\na file that stands\n"
+# And of what isn't a certificate.
+OTHERS_STAND = {
+    "export": b'{"type":"FeatureCollection","name":"tigertopo"\n',
+    "draw": b'<svg xmlns="http://www.w3.org/2000/svg" class="tigertopo"\n',
+}
 # What is said of words that are no use of a command, where memory was refused for a text that says why.
 NO_USE = (64, b"", b"error: the words are no use of a command\n")
 # What is asked beside what is asked of the small maps.
@@ -50,6 +56,13 @@ RUNS = [
     ["build", "--out", MADE, EXAMPLES / "north.RT1"],
     ["build", "--out", MADE, EXAMPLES / "faults" / "G1"],
     ["build", "--out", MADE],
+    ["export", "--geojson", MADE, EXAMPLES / "county"],
+    ["export", "--geojson", MADE, EXAMPLES / "faults" / "G1"],
+    ["draw", "--out", MADE, EXAMPLES / "county"],
+    ["draw", "--out", MADE, "--faults", EXAMPLES / "faults" / "town"],
+    ["draw", "--out", MADE, "--at", "@40,30", "--width", "20", EXAMPLES / "county"],
+    ["export", "--geojson", MADE, EXAMPLES / "faults" / "L2"],
+    ["draw", "--out", MADE, "--faults", EXAMPLES / "faults" / "M9"],
     ["convert", EXAMPLES / "square.CERT", MADE],
     ["check", "--cert", EXAMPLES / "county.CERT", EXAMPLES / "county"],
     ["check", "--cert", EXAMPLES / "county.CERT", "--tests", "1", EXAMPLES / "county"],
@@ -121,22 +134,27 @@ def answer_of(words, library, which, asked="REFUSED_ALLOCATION", folder=None):
     os.close(told)
     was_reached = os.read(reached, 1) == b"r"
     os.close(reached)
-    return (done.returncode, done.stdout, done.stderr), was_reached
+    return (done.returncode, done.stdout, hints.without(done.stderr, words[1:], folder or ".")), was_reached
+
+
+def standing(words):
+    """What stands under the name of what these words make, before."""
+    return OTHERS_STAND.get(words[0], STANDS) if words else STANDS
 
 
 def answer_over_a_file(words, library, which, asked, folder):
     """The same where a file stands under the name of what is made, and what it holds afterwards."""
     made = Path(folder, MADE)
-    made.write_bytes(STANDS)
+    made.write_bytes(standing(words[1:]))
     answer, was_reached = answer_of(words, library, which, asked, folder)
     return answer, made.read_bytes(), was_reached
 
 
-def is_well(answer, left, usual, whole):
+def is_well(answer, left, usual, whole, stood):
     """Memory was refused, and what is made is whole or the file is as it was; or the program could do without."""
-    if usual[0] == 64 and (answer, left) == (NO_USE, STANDS):
+    if usual[0] == 64 and (answer, left) == (NO_USE, stood):
         return True
-    return (answer, left) == (usual, whole) or answer == (4, b"", b"stopped Memory\n") and left in (STANDS, whole)
+    return (answer, left) == (usual, whole) or answer == (4, b"", b"stopped Memory\n") and left in (stood, whole)
 
 
 def write_rows(folder):
@@ -161,7 +179,7 @@ def play_all(program=PROGRAM):
                 if not was_reached:
                     break
                 count += 1
-                if not is_well(answer, left, usual, whole):
+                if not is_well(answer, left, usual, whole, standing(words)):
                     failed += 1
                     print(f"{' '.join(map(str, words))}: with allocation {which} refused: {answer}, and the file {left[:40]}")
     return count - failed, failed

@@ -17,7 +17,7 @@ A row begins with a line `== TITLE`. Then come its files:
 
 and then `run WORD ..`, words as a shell splits them, where `\\xNN` is a byte, run in a folder that holds the files alone;
 `status N`; and `out` and `err`, whose texts follow indented, and are empty where they are left out; `or` begins another
-output that is as good. Several `run` lines in one row share its files and its answer. Each stream is compared byte for
+output that is as good. What is said behind a refused line and behind `stopped Device` no row has: tests/hints.py tells it. Several `run` lines in one row share its files and its answer. Each stream is compared byte for
 byte. A run has to leave the files as they are and to make no other, but for those of a line `makes NAME ..`. A line
 `then WORD ..` has words that are run behind each run, in the same folder; what follows it is their answer.
 
@@ -42,6 +42,7 @@ import sys
 import tempfile
 from pathlib import Path
 
+import hints
 from grids import grid, report_of
 from layout import bytes_of, line_of
 
@@ -293,7 +294,7 @@ def play_in(folder, program, row, words):
     """What is wrong with the answer in this folder, or with the files that are left in it."""
     before = files_of(folder, row.makes)
     done = subprocess.run([program, *map(bytes_of, words)], cwd=folder, stdin=subprocess.DEVNULL, capture_output=True)
-    told = STEP.sub(b"", done.stderr) if program == BENCH else done.stderr
+    told = STEP.sub(b"", done.stderr) if program == BENCH else hints.without(done.stderr, map(bytes_of, words), folder)
     found = (done.returncode, done.stdout, told)
     if not row.is_met(found):
         return f"{row.title}: {shlex.join(words)}\n  wanted {row.wanted}\n  found  {found}"

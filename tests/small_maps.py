@@ -31,6 +31,8 @@ def write_all(folder):
             ["audit", *records],
             ["audit", "--all", *records],
             ["build", "--out", MADE, *records],
+            ["export", "--geojson", MADE, *records],
+            ["draw", "--out", MADE, "--faults", *records],
             ["check", "--cert", certificate, *records],
             ["convert", certificate, MADE],
         ]

@@ -1,6 +1,7 @@
 //! The command `tigertopo`: does what its words ask, over the files of the system.
 #![tactic(auto)]
 
+use std::io::IsTerminal;
 use std::process::ExitCode;
 use tl_command::program::answer;
 use tl_record::MeterOut;
@@ -8,5 +9,6 @@ use tl_record::MeterOut;
 fn main(rt: HostRuntime) -> ExitCode {
     let mut out = MeterOut::new(rt.stdout());
     let mut err = MeterOut::new(rt.stderr());
-    ExitCode::from(answer(&rt, rt.alloc(), &mut out, &mut err))
+    let is_seen = rt.stderr().is_terminal();
+    ExitCode::from(answer(&rt, rt.alloc(), is_seen, &mut out, &mut err))
 }

@@ -30,8 +30,8 @@ pub fn tell_all<W: Sink, E: Sink>(
     }
 }
 
-// Writes a listing, with its status.
-fn tell_listing<W: Sink, E: Sink>(
+/// Writes a listing, or the first `most` of it, and gives its status.
+pub fn tell_listing<W: Sink, E: Sink>(
     listing: &Listing,
     most: Option<u64>,
     out: &mut W,

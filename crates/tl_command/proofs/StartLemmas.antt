@@ -1,11 +1,14 @@
 -- What the program answers: to words that make a plan, and to those that make none; and over files of which nothing is known.
-use Rattle.std.proofs.Common.{◌≡◌, inl, inr, ℕ, true, List, refl, sym, string_bytes, ◌∙◌}
+use Rattle.std.proofs.Common.{◌≡◌, inl, inr, ℕ, Bool, true, List, Option, Result, Ok, Err, refl, sym, string_bytes, ◌∙◌}
 use Rattle.std.specs.Bool.{⊤}
 use Rattle.clap.specs.Walk.{Text}
-use Rattle.tl_plan.specs.CommandLine.{AskFor, StopsPlanning, may_be_use}
+use Rattle.std.specs.Prelude.{OnOk, OnErr}
+use Rattle.tl_plan.specs.CommandLine.{AskFor, AskForTask, StopsPlanning, may_be_use}
 use Rattle.tl_plan.specs.Plans.{ShowsNoEscape}
 use Rattle.tl_files.specs.Files.{Under}
 use Rattle.tl_plan.specs.declared.plan.Plan.{Plan}
+use Rattle.tl_plan.specs.declared.plan.Task.{Task}
+use Rattle.tl_plan.specs.declared.plan.Task.TheVariants as task
 use Rattle.tl_making.specs.Opening.{records_under, certificate_under, RunsOver}
 use Rattle.tl_plan.specs.declared.plan.PlanStop.{PlanStop}
 use Rattle.tl_plan.specs.declared.plan.PlanStop.TheVariants.{Usage, Help}
@@ -14,25 +17,116 @@ use Rattle.tl_plan.proofs.FirstWord.{wish_may}
 use Rattle.tl_plan.proofs.PlansLemmas.{All-plain_text}
 use Rattle.tl_answers.specs.declared.usage.TheConstants.{NO_USE}
 use Rattle.tl_answers.specs.declared.stop.TheConstants.{DONE, STOPPED, USAGE}
-use Rattle.tl_command.specs.Keeping.{Starts}
+use Rattle.tl_command.specs.Hinting.{HintsTask, HintsAfter}
+use Rattle.tl_command.specs.Tasks.{Starts, DoesTask, AnswersWords, unknown}
 use Rattle.tl_answers.specs.Telling.{TellsPlanStop}
 use Rattle.tl_answers.specs.Running.{NamesStop}
-use Rattle.tl_command.specs.Starting.{ShowsHelp, ShowsUsage, StopsSome}
+use Rattle.tl_command.specs.Starting.{AnswersPlan, ShowsHelp, ShowsUsage, StopsSome}
 use Rattle.tl_answers.proofs.ToldLemmas.{weaker_stop}
+use Rattle.tl_record.specs.declared.layout.Layout.{Layout}
+use Rattle.tl_plan.specs.declared.plan.View.{View}
+use Rattle.tl_export.specs.Exports.{SomeFileFails}
+use Rattle.tl_draw.specs.Drawing.{Draws, DrawFails}
 
 -- a stop, with nothing said of which file failed
-pub stops_any : (words : List Text) (before after : Under) (told part : List ℕ → Type 0) (of_files : Plan → Type 0) (same : Type 0) → StopsSome words before after told part of_files same
+stops_any : (words : List Text) (before after : Under) (told part : List ℕ → Type 0) (of_files : Plan → Type 0) (same : Type 0) → StopsSome words before after told part of_files same
     → StopsSome words before after told part (λ plan. ⊤) same
 stops_any words before after told part of_files same (inl unplanned) = inl unplanned
 stops_any words before after told part of_files same (inr planned) =
     inr (planned.0, planned.1, weaker_stop planned.0 (records_under before planned.0) (certificate_under before planned.0) told (of_files planned.0) ⊤ ⊤ ⊤ same _ (λ fails. tt) (λ calm. tt) planned.2)
+
+-- the same of a stop of which less is said of the file that failed
+names_weaker : (told : List ℕ → Type 0) (failed other same cut : Type 0) → (failed → other) → NamesStop told failed ⊤ same cut → NamesStop told other ⊤ same cut
+names_weaker told failed other same cut weaker (inl memory) = inl memory
+names_weaker told failed other same cut weaker (inr device) = inr (device.0, elim device.1 [ inl one ↦ inl (weaker one.0, one.1) | inr broken ↦ inr broken ])
+
+task_any : (wanted : Task) (status : ℕ) (before after : Under) (wrote told part : List ℕ → Type 0) (of_files : List ℕ → List (List ℕ) → Type 0) (out_same err_same : Type 0)
+    → DoesTask wanted status before after wrote told part of_files out_same err_same
+    → DoesTask wanted status before after wrote told part (λ made read. ⊤) out_same err_same
+task_any (task.Plan plan progress) status before after wrote told part of_files out_same err_same does = absurd does
+task_any (task.Export made options files) status before after wrote told part of_files out_same err_same does = record {
+  is_status = does.is_status;
+  exported = does.exported;
+  fault = does.fault;
+  refused = does.refused;
+  usage = does.usage;
+  err_stays = does.err_stays;
+  out_stays = does.out_stays;
+  others = does.others;
+  unmade = does.unmade;
+  kept = does.kept;
+  stopped = λ e. names_weaker told _ ⊤ out_same _ (λ fails. tt) (does.stopped e);
+}
+task_any (task.Draw made view faults options files) status before after wrote told part of_files out_same err_same does = record {
+  is_status = does.is_status;
+  drawn = does.drawn;
+  fault = does.fault;
+  refused = does.refused;
+  usage = does.usage;
+  err_stays = does.err_stays;
+  others = does.others;
+  unmade = does.unmade;
+  stopped = λ e. names_weaker told _ ⊤ out_same _ (λ fails. tt) (does.stopped e);
+}
+
+-- where drawing fails, a file does
+draw_fails : {R D : Type 0} (reads : R → ℕ) (writes : D → ℕ) (knows : Bool) (before : Under) (made : List ℕ) (read : List (List ℕ))
+    → DrawFails reads writes knows before made read → SomeFileFails reads writes knows before made read
+draw_fails reads writes knows before made read (inl unknown_name) = inl (made, inr refl, unknown_name)
+draw_fails reads writes knows before made read (inr (inl (inl unread))) = inl (unread.0, inl unread.1, unread.2)
+draw_fails reads writes knows before made read (inr (inl (inr failed))) = inr (inl failed)
+draw_fails reads writes knows before made read (inr (inr unmade)) = inr (inr unmade)
+
+-- what drawing answers, with what is said of files that fail for all tasks
+pub drawn_fails : {R D : Type 0} (reads : R → ℕ) (writes : D → ℕ) (knows : Bool) (layout : Layout) (known : Option (List ℕ)) (made : List ℕ) (view : Option View) (shows : Bool)
+    (read : List (List ℕ)) (status : ℕ) (before after : Under) (wrote told part : List ℕ → Type 0) (out_same err_same : Type 0)
+    → Draws layout known made view shows read status before after wrote told part (DrawFails reads writes knows before made read) out_same err_same
+    → Draws layout known made view shows read status before after wrote told part (SomeFileFails reads writes knows before made read) out_same err_same
+drawn_fails reads writes knows layout known made view shows read status before after wrote told part out_same err_same draws = record {
+  is_status = draws.is_status;
+  drawn = draws.drawn;
+  fault = draws.fault;
+  refused = draws.refused;
+  usage = draws.usage;
+  err_stays = draws.err_stays;
+  others = draws.others;
+  unmade = draws.unmade;
+  stopped = λ e. names_weaker told _ _ out_same _ (draw_fails reads writes knows before made read) (draws.stopped e);
+}
+
+-- what is answered over files of which nothing is known
+pub answers_any : (words : List Text) (status : ℕ) (wrote told part : List ℕ → Type 0) (of_plan : Plan → Type 0) (of_files : List ℕ → List (List ℕ) → Type 0) (out_same err_same : Type 0)
+    → Starts words status unknown unknown wrote told part of_plan of_files out_same err_same → AnswersWords words status wrote told part out_same err_same
+answers_any words status wrote told part of_plan of_files out_same err_same (inl plan) =
+    inl (record {
+      is_status = plan.is_status;
+      usage = plan.usage;
+      done = plan.done;
+      fault = plan.fault;
+      cert_fault = plan.cert_fault;
+      refused = plan.refused;
+      err_stays = plan.err_stays;
+      out_stays = plan.out_stays;
+      exactly = plan.exactly;
+      begun = plan.begun;
+      files = plan.files;
+      stopped = λ e. stops_any words unknown unknown told part of_plan out_same (plan.stopped e);
+    })
+answers_any words status wrote told part of_plan of_files out_same err_same (inr other) =
+    inr (other.0, other.1, task_any other.0 status unknown unknown wrote told part of_files out_same err_same other.2)
+
+-- what is said behind the answer, or why nothing is
+pub hints_of : {T S : Type 0} (words : List Text) (wanted : Task) (status : ℕ) (under : Under) (told : List ℕ → Type 0) (same : Type 0) (result : Result T S)
+    → AskForTask words wanted → OnOk result (HintsTask wanted status under told) → OnErr result same → HintsAfter words status under told same
+hints_of words wanted status under told same (Ok done) asks said unsaid = inr (wanted, asks, said)
+hints_of words wanted status under told same (Err stop) asks said unsaid = inl unsaid
 
 -- ---- what is answered to words
 
 module _ (words : List Text) (wrote told part : List ℕ → Type 0) (of_files : Plan → Type 0) (out_same err_same : Type 0) where
   -- words that make a plan
   pub starts_planned : (plan : Plan) (status : ℕ) (before after : Under) → AskFor words plan → RunsOver plan status before after wrote told part (of_files plan) out_same err_same
-      → Starts words status before after wrote told part of_files out_same err_same
+      → AnswersPlan words status before after wrote told part of_files out_same err_same
   starts_planned plan status before after asks runs = record {
     is_status = runs.is_status;
     usage = λ e. inr (plan, asks, runs.usage e);
@@ -49,7 +143,7 @@ module _ (words : List Text) (wrote told part : List ℕ → Type 0) (of_files :
   }
 
   -- words that are no use of a command
-  starts_usage : (status : ℕ) (before : Under) → status ≡ USAGE → ShowsUsage words told → out_same → Starts words status before before wrote told part of_files out_same err_same
+  starts_usage : (status : ℕ) (before : Under) → status ≡ USAGE → ShowsUsage words told → out_same → AnswersPlan words status before before wrote told part of_files out_same err_same
   starts_usage status before e shows stays = record {
     is_status = inr e;
     usage = λ d. inl shows;
@@ -66,7 +160,7 @@ module _ (words : List Text) (wrote told part : List ℕ → Type 0) (of_files :
   }
 
   -- help that was shown
-  starts_help : (status : ℕ) (before : Under) → status ≡ DONE → ShowsHelp words wrote → err_same → Starts words status before before wrote told part of_files out_same err_same
+  starts_help : (status : ℕ) (before : Under) → status ≡ DONE → ShowsHelp words wrote → err_same → AnswersPlan words status before before wrote told part of_files out_same err_same
   starts_help status before e shows stays = record {
     is_status = inl (inl (inl e));
     usage = λ d. absurd (cc (sym e ∙ d));
@@ -83,7 +177,7 @@ module _ (words : List Text) (wrote told part : List ℕ → Type 0) (of_files :
   }
 
   -- what stops before there is a plan
-  starts_stopped : (status : ℕ) (before : Under) → status ≡ STOPPED → may_be_use words ≡ true → NamesStop told ⊥ ⊤ out_same (ShowsHelp words part) → Starts words status before before wrote told part of_files out_same err_same
+  starts_stopped : (status : ℕ) (before : Under) → status ≡ STOPPED → may_be_use words ≡ true → NamesStop told ⊥ ⊤ out_same (ShowsHelp words part) → AnswersPlan words status before before wrote told part of_files out_same err_same
   starts_stopped status before e may stops = record {
     is_status = inl (inr (inr (inr e)));
     usage = λ d. absurd (cc (sym e ∙ d));
@@ -101,7 +195,7 @@ module _ (words : List Text) (wrote told part : List ℕ → Type 0) (of_files :
 
   -- words that make none
   pub starts_unplanned : (stop : PlanStop) (status : ℕ) (before : Under) → StopsPlanning words stop → ShowsNoEscape stop → TellsPlanStop stop status wrote told part out_same err_same
-      → Starts words status before before wrote told part of_files out_same err_same
+      → AnswersPlan words status before before wrote told part of_files out_same err_same
   starts_unplanned (Usage text) status before stops plain tells =
       starts_usage status before tells.0
       (elim tells.1 [

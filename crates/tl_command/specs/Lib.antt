@@ -1,3 +1,4 @@
 -- What the command's contracts cite.
 pub mod Starting
-pub mod Keeping
+pub mod Tasks
+pub mod Hinting

@@ -1,5 +1,5 @@
 -- What the program answers to its words.
-use Rattle.std.specs.Prelude.{◌≡◌, ◌≢◌, ◌⊎◌, ℕ, true, List, [], None, All, codes, ⊤}
+use Rattle.std.specs.Prelude.{◌≡◌, ◌≢◌, ◌⊎◌, ℕ, true, List, [], All, codes, ⊤}
 use Rattle.clap.specs.Faults.{fault_of}
 use Rattle.clap.specs.Walk.{Text}
 use Rattle.tl_plan.specs.declared.plan.Plan.{Plan}
@@ -87,21 +87,32 @@ pub record ShowsUsage (words : List Text) (wrote : List ℕ → Type 0) : Type 0
   pub no_escape : All (λ byte. byte ≢ escape) text
   pub written : wrote text
 
--- nothing is known of what stands under any name, as of the system's files
-abbrev pub unknown : Under
-unknown name = None
-
--- what the program answers to words over such files
-pub record AnswersWords (words : List Text) (status : ℕ) (wrote told part : List ℕ → Type 0) (out_same err_same : Type 0) : Type 0 where
+-- What is answered to words that ask for a plan, for help or for the version, or that are no use of a command.
+--
+-- `before` and `after` say what stands under each name, where that is known; `wrote` says of a text that it was written to the
+-- output, `told` to the error output; `part` that a beginning of it was written to the output, and that a write failed;
+-- `of_plan` that a file of a plan's failed; and the last two that the output and the error output are as they were.
+pub record AnswersPlan (words : List Text) (status : ℕ) (before after : Under) (wrote told part : List ℕ → Type 0) (of_plan : Plan → Type 0) (out_same err_same : Type 0) : Type 0 where
   pub is_status : IsStartStatus status
-  pub usage : status ≡ USAGE → ShowsUsage words told ⊎ RefusesSomeOut words unknown told
-  pub done : status ≡ DONE → AnswersSome words unknown unknown wrote ⊎ ShowsHelp words wrote
-  pub fault : status ≡ MAP_FAULT → FaultsSome words unknown wrote
-  pub cert_fault : status ≡ CERT_FAULT → FaultsText words unknown wrote
-  pub refused : status ≡ REFUSED → RefusesSome words unknown wrote told out_same err_same
-  pub stopped : status ≡ STOPPED → StopsSome words unknown unknown told part (λ plan. ⊤) out_same
+  -- the words are no use of a command, or a certificate may not take its name: what is wrong was written to the error output, or
+  -- the write failed
+  pub usage : status ≡ USAGE → ShowsUsage words told ⊎ RefusesSomeOut words before told
+  -- the output grew by the answer to what the words ask for, or by the help that they ask for
+  pub done : status ≡ DONE → AnswersSome words before after wrote ⊎ ShowsHelp words wrote
+  -- the words ask for a plan, and the output or the error output grew by the line that its run writes
+  pub fault : status ≡ MAP_FAULT → FaultsSome words before wrote
+  pub cert_fault : status ≡ CERT_FAULT → FaultsText words before wrote
+  pub refused : status ≡ REFUSED → RefusesSome words before wrote told out_same err_same
+  pub stopped : status ≡ STOPPED → StopsSome words before after told part of_plan out_same
+  -- the other stream stays as it was
   pub err_stays : (status ≡ DONE) ⊎ ((status ≡ MAP_FAULT) ⊎ (status ≡ CERT_FAULT)) → err_same
   pub out_stays : status ≡ USAGE → out_same
+  -- of `audit`, `build` and `check`: a status of 0 or 1 is 0 exactly where the records have a map that is sound
+  pub exactly : (status ≡ DONE) ⊎ (status ≡ MAP_FAULT) → DecidesSome words before status
+  -- where it stops, no name stands for other bytes, or a certificate that is valid took the name of the one that is made
+  pub begun : status ≡ STOPPED → BeginsSome words before after
+  -- no name stands for other bytes than before but that of the certificate that is made
+  pub files : KeepsSome words status before after
 
 -- the words can't be read, or there are no keys for hashers: why was written, and the output is as it was
 abbrev pub StopsBefore : ℕ → (told : List ℕ → Type 0) → (out_same : Type 0) → Type 0

@@ -24,6 +24,11 @@ bytes_of (Some file) = file
 abbrev pub bytes_under : Under → List ℕ → Option (List ℕ)
 bytes_under under name = bytes_of (under name)
 
+-- why what stands under a name can't be opened: no file does
+abbrev pub trouble_of : Option (List ℕ) → Option (List ℕ)
+trouble_of None = Some (codes "No such file or directory")
+trouble_of (Some bytes) = None
+
 -- a file of these bytes stands there, where they are known
 abbrev pub standing : Option (List ℕ) → Known
 standing None = None

@@ -1,10 +1,10 @@
 //! What a file system does.
 
-ghost use Rattle.std.specs.Prelude.{◌≡◌, ◌≢◌, ℕ, Bool, false, is_some, List, [], None, IfOk, IfErr, IfSome, OnOk, OnErr, map, string_bytes};
-ghost use Rattle.tl_files.specs.Files.{Under, bytes_under, standing, beside, IsRoom, OfDevice};
+ghost use Rattle.std.specs.Prelude.{◌≡◌, ◌≢◌, ℕ, Bool, false, is_some, List, [], None, IfOk, IfErr, IfSome, IfNone, OnOk, OnErr, map, option_map, string_bytes};
+ghost use Rattle.tl_files.specs.Files.{Under, bytes_under, standing, beside, trouble_of, IsRoom, OfDevice};
 
 use crate::beginning::FileKind;
-use std::alloc::Global;
+use std::alloc::{AllocError, Global};
 use tl_record::{Sink, Source};
 
 /// Whether a file may be made of a name.
@@ -46,6 +46,24 @@ pub trait FileSystem {
     fn open(&self, alloc: Global, name: &str) -> Result<Self::Reader, FileStop>
         ensures opened { IfOk result (λ file. Self.Reader.remaining file ≡ bytes_under (under self.now) name.now) }
         ensures failed { IfErr result (OfDevice (bytes_under (under self.now) name.now ≡ None)) };
+
+    /// Opens the file that stands under a name once more, where it can be read again from its beginning. `None` says that it
+    /// can't: it is no regular file, as a pipe is none.
+    fn open_again(&self, alloc: Global, name: &str) -> Result<Option<Self::Reader>, FileStop>
+        ensures opened { IfOk result (λ again. IfSome again (λ file.
+            Self.Reader.remaining file ≡ bytes_under (under self.now) name.now)) }
+        ensures passing { IfOk result (λ again. IfNone again (under self.now name.now ≡ None)) }
+        ensures failed { IfErr result (OfDevice (bytes_under (under self.now) name.now ≡ None)) };
+
+    /// Why the file of a name can't be opened or read, in the system's words, and `None` where it can be. The error is that
+    /// memory was refused.
+    fn trouble(&self, alloc: Global, name: &str) -> Result<Option<String>, AllocError>
+        ensures { IfOk result (λ words. IfSome (under self.now name.now) (λ file.
+            option_map string_bytes words ≡ trouble_of file)) };
+
+    /// From now on it is shown how far the reading of files is, where someone may see it; the file of this name is read last.
+    fn show_progress(&mut self, alloc: Global, last: &str)
+        ensures { under self.new ≡ under self.old };
 
     /// Whether a new file of this kind may take a name, where those of these names are read.
     fn room(&self, name: &str, read: &[String], kind: FileKind) -> Result<Room, FileStop>

@@ -7,6 +7,7 @@
 
 mod beginning;
 mod file_system;
+mod progress;
 mod system;
 
 pub use beginning::{FileKind, may_go};

@@ -5,44 +5,77 @@ ghost use Rattle.std.specs.Io.{WritesAtMost};
 
 use crate::beginning::{FRONT, FileKind, beginning, may_go};
 use crate::file_system::{FileStop, FileSystem, Room};
-use std::alloc::Global;
+use crate::progress::Progress;
+use std::alloc::{AllocError, Global};
 use std::fs::{File, Metadata, OpenOptions, TryLockError};
-use std::io::{Error, ErrorKind, Read, Seek, SeekFrom, Write};
+use std::io::{Eprint, Error, ErrorKind, Read, Seek, SeekFrom, Write};
 use std::os::unix::fs::MetadataExt;
 use std::path::AsPath;
 use std::rt::Files;
+use std::time::Clock;
 use std::{fs, io};
 use tl_record::{Meter, Sink};
 
 // What follows a name in that of a new file that is to take it.
 const UNFINISHED: &str = ".unfinished";
 
+// How many bytes are read at a time where none of them is kept.
+const BLOCK: usize = 16_384;
+
 /// The files of the system. What stands under its names no contract knows.
-#[derive(Clone, Copy)]
+#[derive(Drop)]
 pub struct SystemFiles<'a, R> {
     rt: &'a R,
+    // Whether the error output is a terminal, where someone sees how far reading is.
+    is_seen: bool,
+    // The name of the file that is read last, where it is to be shown how far reading is.
+    last: Option<String>,
 }
 
-impl<'a, R: Files<File = File>> SystemFiles<'a, R> {
-    /// The files that the runtime reaches.
-    pub fn new(rt: &'a R) -> SystemFiles<'a, R> {
-        SystemFiles { rt }
+impl<'a, R: Files<File = File> + Clock + Eprint> SystemFiles<'a, R> {
+    /// The files that the runtime reaches. `is_seen` says whether its error output is a terminal.
+    pub fn new(rt: &'a R, is_seen: bool) -> SystemFiles<'a, R> {
+        SystemFiles {
+            rt,
+            is_seen,
+            last: None,
+        }
+    }
+
+    // How far the reading of this file is, where that is to be shown.
+    fn progress_of(&self, alloc: Global, name: &str, file: &File) -> Option<Progress<'a, R>> {
+        let Some(last) = &self.last else {
+            return None;
+        };
+        let Ok(shown) = String::from_str(alloc, name) else {
+            return None;
+        };
+        let size = match file.metadata() {
+            Ok(stands) if stands.is_file() => stands.len(),
+            _ => 0,
+        };
+        Progress::new(self.rt, shown, size, last.as_str() == name)
     }
 }
 
 /// A file of the system that is read.
 #[derive(Drop)]
-pub struct SystemReader {
+pub struct SystemReader<'a, R> {
     file: File,
+    progress: Option<Progress<'a, R>>,
 }
 
-impl Read for SystemReader {
+impl<R: Clock + Eprint> Read for SystemReader<'_, R> {
     ghost use Rattle.std.specs.Prelude.{None};
 
     ghost remaining = { λ _. None };
 
     fn read(&mut self, buf: &mut [u8]) -> io::Result<usize> {
-        self.file.read(buf)
+        let taken = self.file.read(buf)?;
+        if let Some(progress) = &mut self.progress {
+            progress.step(taken);
+        }
+        Ok(taken)
     }
 }
 
@@ -146,8 +179,8 @@ impl<R: Files<File = File>> Sink for SystemDraft<'_, R> {
     }
 }
 
-impl<'a, R: Files<File = File>> FileSystem for SystemFiles<'a, R> {
-    type Reader = Meter<SystemReader>;
+impl<'a, R: Files<File = File> + Clock + Eprint> FileSystem for SystemFiles<'a, R> {
+    type Reader = Meter<SystemReader<'a, R>>;
 
     type Draft = SystemDraft<'a, R>;
 
@@ -159,10 +192,43 @@ impl<'a, R: Files<File = File>> FileSystem for SystemFiles<'a, R> {
 
     ghost alike = { λ draft. refl };
 
-    fn open(&self, _alloc: Global, name: &str) -> Result<Meter<SystemReader>, FileStop> {
+    fn open(&self, alloc: Global, name: &str) -> Result<Meter<SystemReader<'a, R>>, FileStop> {
         match File::open(self.rt, name) {
-            Ok(file) => Ok(Meter::new(SystemReader { file })),
+            Ok(file) => {
+                let progress = self.progress_of(alloc, name, &file);
+                Ok(Meter::new(SystemReader { file, progress }))
+            }
             Err(error) => Err(stop_of(&error)),
+        }
+    }
+
+    fn open_again(
+        &self,
+        alloc: Global,
+        name: &str,
+    ) -> Result<Option<Meter<SystemReader<'a, R>>>, FileStop> {
+        match fs::metadata(self.rt, name) {
+            Ok(stands) if !stands.is_file() => Ok(None),
+            Ok(_) => match self.open(alloc, name) {
+                Ok(file) => Ok(Some(file)),
+                Err(stop) => Err(stop),
+            },
+            Err(error) => Err(stop_of(&error)),
+        }
+    }
+
+    fn trouble(&self, alloc: Global, name: &str) -> Result<Option<String>, AllocError> {
+        match read_through(self.rt, name) {
+            Ok(()) => Ok(None),
+            Err(error) => Ok(Some(words_of(alloc, &error)?)),
+        }
+    }
+
+    fn show_progress(&mut self, alloc: Global, last: &str) {
+        if self.is_seen {
+            if let Ok(last) = String::from_str(alloc, last) {
+                self.last = Some(last);
+            }
         }
     }
 
@@ -212,6 +278,33 @@ fn stop_of(error: &Error) -> FileStop {
         FileStop::Memory
     } else {
         FileStop::Device
+    }
+}
+
+// Reads a file to its end. A pipe isn't opened: it may have no end.
+fn read_through<R: Files<File = File>>(rt: &R, name: &str) -> io::Result<()> {
+    let stands = fs::metadata(rt, name)?;
+    if !stands.is_file() && !stands.is_dir() {
+        return Ok(());
+    }
+    let mut file = File::open(rt, name)?;
+    let mut bytes = [0; BLOCK];
+    for _ in 0..u64::MAX {
+        if file.read(&mut bytes)? == 0 {
+            return Ok(());
+        }
+    }
+    Ok(())
+}
+
+// An error in the system's words, without its number.
+fn words_of(alloc: Global, error: &Error) -> Result<String, AllocError> {
+    let Ok(text) = format!(in alloc; "{error}") else {
+        return String::from_str(alloc, "unknown error");
+    };
+    match text.as_str().split_once(" (os error ") {
+        Some((words, _)) => String::from_str(alloc, words),
+        None => Ok(text),
     }
 }
 

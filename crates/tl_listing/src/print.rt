@@ -113,8 +113,8 @@ fn print_faults<S: Sink>(
     }
 }
 
-// What is printed of a list.
-fn first_of<T>(list: &[T], most: Option<u64>) -> &[T]
+/// What is printed of a list: all of it, or where a number is given, so many from the front.
+pub fn first_of<T>(list: &[T], most: Option<u64>) -> &[T]
     ensures { result.now ≡ printed most list.now }
 {
     match most {
@@ -175,8 +175,8 @@ fn print_end<S: Sink>(
     buffer.add(text.as_str().as_bytes(), out)
 }
 
-// The same, put together before it is added.
-fn text_of_end(
+/// Whether points weren't looked at, and the line of how many there are, behind a word of at most ten bytes.
+pub fn text_of_end(
     points_left: bool,
     word: &str,
     most: Option<u64>,

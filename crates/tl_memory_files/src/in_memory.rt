@@ -145,6 +145,22 @@ impl FileSystem for FilesInMemory {
         }
     }
 
+    fn open_again(&self, alloc: Global, name: &str) -> Result<Option<Held>, FileStop> {
+        match self.open(alloc, name) {
+            Ok(file) => Ok(Some(file)),
+            Err(stop) => Err(stop),
+        }
+    }
+
+    fn trouble(&self, alloc: Global, name: &str) -> Result<Option<String>, AllocError> {
+        match self.bytes(name) {
+            Some(_) => Ok(None),
+            None => Ok(Some(String::from_str(alloc, "No such file or directory")?)),
+        }
+    }
+
+    fn show_progress(&mut self, _alloc: Global, _last: &str) {}
+
     fn room(&self, name: &str, read: &[String], kind: FileKind) -> Result<Room, FileStop> {
         if is_among(name, read) {
             return Ok(Room::IsRead);

@@ -1,10 +1,9 @@
 -- Texts that spell a number, and what `parse` reads of them.
-use Rattle.std.proofs.Common.{◌≡◌, ◌≢◌, ℕ, zero, suc, ◌<◌, ◌^◌, List, length, get_or, refl, sym, ap, subst, ◌∙◌, arith, decimal, Result, Ok, Err}
+use Rattle.std.proofs.Common.{◌≡◌, ◌≢◌, ℕ, zero, suc, ◌<◌, ◌≤◌, ◌^◌, List, length, get_or, refl, sym, ap, subst, ◌∙◌, arith, decimal, Result, Ok, Err}
 use Rattle.std.specs.Str.Parse.{ParsesUnsigned, AllDigits, IsNumeral, digits_value}
 use Rattle.std.proofs.lemmas.Str.Parse.{IsNumeralModel, digit_at, without_leading_plus_none}
-use Rattle.std.proofs.lemmas.Fmt.{decimal-digits_value, decimal_is_IsNumeral, decimal_nonempty, first_decimal, decimal_digit, parse-decimal}
-use Rattle.std.specs.Prelude.{Option, Some, None}
-use Rattle.tl_plan.specs.CommandLine.{IsSpelt, IsMost}
+use Rattle.std.proofs.lemmas.Fmt.{decimal-digits_value, decimal_is_IsNumeral, decimal_nonempty, first_decimal, decimal_digit, decimal_injective, parse-decimal}
+use Rattle.tl_plan.specs.CommandLine.{IsSpelt, SpellsWidth, greatest_width}
 use Rattle.tl_plan.specs.Spelling.{MaySpell}
 
 own : IsNumeralModel (AllDigits 10) (digits_value 10)
@@ -45,7 +44,15 @@ pub not_read : {E : Type 0} (bytes : List ℕ) (e : E) (r : Result ℕ E) → Pa
 not_read bytes e r parses is n spelt =
     cc (is, parse-decimal 64 n bytes r (omega (arith, spelt.1)) (omega (arith, spelt.1)) spelt.0 parses)
 
--- where the text is no number, nothing that was given is one
-pub no_most : (text : List ℕ) → ((n : ℕ) → IsSpelt text n → ⊥) → (n : Option ℕ) → IsMost (Some text) n → ⊥
-no_most text none None is = is
-no_most text none (Some n) is = none n is
+-- a text is one number
+pub one_number : (text : List ℕ) (m n : ℕ) → IsSpelt text m → IsSpelt text n → m ≡ n
+one_number text m n first second =
+    decimal_injective m n (omega (arith, first.1)) (omega (arith, second.1)) (sym first.0 ∙ second.0)
+
+-- a number past the widths spells none
+pub no_width : (text : List ℕ) (n : ℕ) → IsSpelt text n → (1 ≤ n → n ≤ greatest_width → ⊥) → (width : ℕ) → SpellsWidth text width → ⊥
+no_width text n is past width spelt =
+    let same : n ≡ width = one_number text n width is spelt.is in
+    let some = spelt.some in
+    let most = spelt.most in
+    past (omega (arith, same, some)) (omega (arith, same, most))

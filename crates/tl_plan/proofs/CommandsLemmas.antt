@@ -13,7 +13,7 @@ use Rattle.tl_plan.specs.Commands.{IsLocal}
 use Rattle.tl_plan.specs.Keeping.{rule_for, with_each, app_named, with_named, name_of, arguments_for, OnMade, told_of, named_told, rule_told, argument_told}
 use Rattle.tl_plan.specs.declared.command_line.Argument.{Argument}
 use Rattle.tl_plan.specs.declared.command_line.Named.{Named}
-use Rattle.tl_plan.specs.declared.command_line.Named.TheVariants.{Show, Landmarks, Locate, Audit, Build, Check, Convert}
+use Rattle.tl_plan.specs.declared.command_line.Named.TheVariants.{Show, Landmarks, Locate, Audit, Build, Check, Convert, Export, Draw}
 
 -- a command whose settings are those of another, but for texts that are printed
 pub same_app : {app : App} {old : Command} (new : Command) (fields : Command-F Command) → out-Command new ≡ fields
@@ -86,3 +86,5 @@ named_app Audit = refl
 named_app Build = refl
 named_app Check = refl
 named_app Convert = refl
+named_app Export = refl
+named_app Draw = refl

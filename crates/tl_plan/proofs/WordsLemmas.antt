@@ -1,7 +1,7 @@
 -- What words make a plan, and why others don't.
 use Rattle.std.proofs.Common.{◌≡◌, ◌≢◌, ◌⊎◌, ℕ, ◌<◌, inl, inr, true, false, length, List, [], Option, Some, None, refl, sym}
 use Rattle.std.proofs.Common.{ap, subst, ◌∙◌, map, option_map, unwrap_or, codes, arith, Global, Bor}
-use Rattle.std.specs.Prelude.{String, string_bytes, nat_eq, is_some}
+use Rattle.std.specs.Prelude.{String, string_bytes, nat_eq, is_some, MatchOption, Bool}
 use Rattle.std.specs.Cmp.Lexicographic.{pointwise}
 use Rattle.std.proofs.lemmas.Cmp.{nat_list_eq_equiv}
 use Rattle.std.proofs.lemmas.List.{length-map}
@@ -23,11 +23,18 @@ use Rattle.tl_plan.specs.declared.plan.PlanStop.{PlanStop}
 use Rattle.tl_plan.specs.declared.plan.PlanStop.TheVariants.{Usage, Help, Memory}
 use Rattle.tl_geom.specs.declared.point.Point.{Point}
 use Rattle.tl_plan.specs.Points.{Spells}
-use Rattle.tl_plan.specs.Commands.{command_line, convert_name, check_name, locate_name, show_name, landmarks_name, audit_name, build_name}
+use Rattle.tl_plan.specs.Commands.{command_line, convert_name, check_name, locate_name, show_name, landmarks_name, audit_name, build_name, export_name, draw_name}
 use Rattle.tl_plan.specs.CommandLine.{IsStopOf, IsUsage, StopsPlanning, Request, request_in, named_in}
-use Rattle.tl_plan.specs.CommandLine.{IsConversionOf, IsPlanOf, IsWhole, HasFiles, IsBudget, IsMost, AskFor, AskForFaults}
+use Rattle.tl_plan.specs.CommandLine.{IsConversionOf, IsTaskOf, IsWhole, HasFiles, IsBudget, IsView, IsSwitch, AreChosen, AskForTask, AskForTold, AskForFaults}
+use Rattle.tl_plan.specs.Asked.{IsAuditPlan}
 use Rattle.tl_plan.specs.declared.plan.Plan.{Plan}
+use Rattle.tl_plan.specs.declared.budget.Told.{Told}
+use Rattle.tl_plan.specs.declared.budget.Told.TheVariants.{One, All}
+use Rattle.tl_record.specs.declared.options.Options.{Options}
 use Rattle.tl_plan.specs.declared.plan.Plan.TheVariants.{Show, Landmarks, Locate, Convert, Check, Audit, AuditAll, Build}
+use Rattle.tl_plan.specs.declared.plan.View.{View}
+use Rattle.tl_plan.specs.declared.plan.Task.{Task}
+use Rattle.tl_plan.specs.declared.plan.Task.TheVariants as task
 
 pub is_simple-command_line : is_simple command_line ≡ true
 unfolding clap_on_literals
@@ -138,30 +145,28 @@ no_conversion given named lacks (inr (inl both)) =
 no_conversion given named lacks (inr (inr (inl check))) = one_command given check.given convert_name check_name refl named check.same check.named
 no_conversion given named lacks (inr (inr (inr (inl build)))) = one_command given build.given convert_name build_name refl named build.same build.named
 no_conversion given named lacks (inr (inr (inr (inr (inl place))))) = one_command given place.given convert_name locate_name refl named place.same place.named
-no_conversion given named lacks (inr (inr (inr (inr (inr audit))))) = one_command given audit.given convert_name audit_name refl named audit.same audit.named
+no_conversion given named lacks (inr (inr (inr (inr (inr (inl audit)))))) = one_command given audit.given convert_name audit_name refl named audit.same audit.named
+no_conversion given named lacks (inr (inr (inr (inr (inr (inr (inl exported))))))) = one_command given exported.given convert_name export_name refl named exported.same exported.named
+no_conversion given named lacks (inr (inr (inr (inr (inr (inr (inr drawn))))))) = one_command given drawn.given convert_name draw_name refl named drawn.same drawn.named
 
 -- what a conversion's arguments make of the request
-pub conversion_plan : (found : Option (Text × List Row)) (rows : List Row) (plan : Option Plan)
+pub conversion_task : (found : Option (Text × List Row)) (rows : List Row) (made : Option Task)
     → option_map (λ p. p.0) found ≡ Some convert_name → option_map (λ p. p.1) found ≡ Some rows
-    → IsConversionOf (first_of (codes "cert") rows) (first_of (codes "out") rows) plan → IsPlanOf (named_in found) plan
-conversion_plan found rows (Some (Convert from to)) named has is =
-    record { given = request_in (convert_name, rows); same = ap named_in (both_found found convert_name rows named has); named = refl; from = is.0; to = is.1 }
-conversion_plan found rows (Some (Show options files)) named has is = absurd is
-conversion_plan found rows (Some (Landmarks options files)) named has is = absurd is
-conversion_plan found rows (Some (Locate point options files)) named has is = absurd is
-conversion_plan found rows (Some (Check from budget options files)) named has is = absurd is
-conversion_plan found rows (Some (Audit options files)) named has is = absurd is
-conversion_plan found rows (Some (AuditAll most options files)) named has is = absurd is
-conversion_plan found rows (Some (Build made options files)) named has is = absurd is
-conversion_plan found rows None named has is = λ whole.
+    → IsConversionOf (first_of (codes "cert") rows) (first_of (codes "out") rows) made → IsTaskOf (named_in found) made
+conversion_task found rows (Some (task.Plan (Convert from to) progress)) named has is = (
+  record { given = request_in (convert_name, rows); same = ap named_in (both_found found convert_name rows named has); named = refl; from = is.0; to = is.1 },
+  is.2,
+)
+conversion_task found rows (Some other) named has is = absurd is
+conversion_task found rows None named has is = λ whole.
     let same = ap named_in (both_found found convert_name rows named has) in
     no_conversion (request_in (convert_name, rows)) refl is (subst IsWhole same whole)
 
--- the plan of the command that was found
-pub found_plan : (found : Option (Text × List Row)) (name : Text) (rows : List Row) (plan : Option Plan)
+-- the task of the command that was found
+pub found_task : (found : Option (Text × List Row)) (name : Text) (rows : List Row) (made : Option Task)
     → option_map (λ p. p.0) found ≡ Some name → option_map (λ p. p.1) found ≡ Some rows
-    → IsPlanOf (Some (request_in (name, rows))) plan → IsPlanOf (named_in found) plan
-found_plan found name rows plan named has is = subst (λ request. IsPlanOf request plan) (sym (ap named_in (both_found found name rows named has))) is
+    → IsTaskOf (Some (request_in (name, rows))) made → IsTaskOf (named_in found) made
+found_task found name rows made named has is = subst (λ request. IsTaskOf request made) (sym (ap named_in (both_found found name rows named has))) is
 
 -- a check lacks its certificate, or a number of tests that is spelt as one, or a file
 pub no_check : (given : Request) → given.command ≡ check_name
@@ -176,7 +181,9 @@ no_check given named lacks (inr (inr (inl check))) =
     (ap (λ r. r.files) e ∙ check.are) check.some_file
 no_check given named lacks (inr (inr (inr (inl build)))) = one_command given build.given check_name build_name refl named build.same build.named
 no_check given named lacks (inr (inr (inr (inr (inl place))))) = one_command given place.given check_name locate_name refl named place.same place.named
-no_check given named lacks (inr (inr (inr (inr (inr audit))))) = one_command given audit.given check_name audit_name refl named audit.same audit.named
+no_check given named lacks (inr (inr (inr (inr (inr (inl audit)))))) = one_command given audit.given check_name audit_name refl named audit.same audit.named
+no_check given named lacks (inr (inr (inr (inr (inr (inr (inl exported))))))) = one_command given exported.given check_name export_name refl named exported.same exported.named
+no_check given named lacks (inr (inr (inr (inr (inr (inr (inr drawn))))))) = one_command given drawn.given check_name draw_name refl named drawn.same drawn.named
 
 -- a request to build lacks a name for what is made, or a file
 pub no_build : (given : Request) → given.command ≡ build_name
@@ -189,7 +196,9 @@ no_build given named lacks (inr (inr (inr (inl build)))) =
     let e = is_request _ _ build.same in
     lacks build.made build.files (ap (λ r. r.out) e ∙ build.to) (ap (λ r. r.files) e ∙ build.are) build.some_file
 no_build given named lacks (inr (inr (inr (inr (inl place))))) = one_command given place.given build_name locate_name refl named place.same place.named
-no_build given named lacks (inr (inr (inr (inr (inr audit))))) = one_command given audit.given build_name audit_name refl named audit.same audit.named
+no_build given named lacks (inr (inr (inr (inr (inr (inl audit)))))) = one_command given audit.given build_name audit_name refl named audit.same audit.named
+no_build given named lacks (inr (inr (inr (inr (inr (inr (inl exported))))))) = one_command given exported.given build_name export_name refl named exported.same exported.named
+no_build given named lacks (inr (inr (inr (inr (inr (inr (inr drawn))))))) = one_command given drawn.given build_name draw_name refl named drawn.same drawn.named
 
 -- a question of a point lacks a word that spells one, or a file
 pub no_locate : (given : Request) → given.command ≡ locate_name
@@ -203,7 +212,9 @@ no_locate given named lacks (inr (inr (inr (inr (inl place))))) =
     let e = is_request _ _ place.same in
     lacks place.word place.point place.files (ap (λ r. r.point) e ∙ place.at) place.spelt
     (ap (λ r. r.files) e ∙ place.are) place.some_file
-no_locate given named lacks (inr (inr (inr (inr (inr audit))))) = one_command given audit.given locate_name audit_name refl named audit.same audit.named
+no_locate given named lacks (inr (inr (inr (inr (inr (inl audit)))))) = one_command given audit.given locate_name audit_name refl named audit.same audit.named
+no_locate given named lacks (inr (inr (inr (inr (inr (inr (inl exported))))))) = one_command given exported.given locate_name export_name refl named exported.same exported.named
+no_locate given named lacks (inr (inr (inr (inr (inr (inr (inr drawn))))))) = one_command given drawn.given locate_name draw_name refl named drawn.same drawn.named
 
 -- an audit asks for no faults that may be asked for, or lacks a file
 pub no_audit : (given : Request) → given.command ≡ audit_name
@@ -214,21 +225,45 @@ no_audit given named lacks (inr (inl both)) = one_command given both.2.given aud
 no_audit given named lacks (inr (inr (inl check))) = one_command given check.given audit_name check_name refl named check.same check.named
 no_audit given named lacks (inr (inr (inr (inl build)))) = one_command given build.given audit_name build_name refl named build.same build.named
 no_audit given named lacks (inr (inr (inr (inr (inl place))))) = one_command given place.given audit_name locate_name refl named place.same place.named
-no_audit given named lacks (inr (inr (inr (inr (inr audit))))) =
+no_audit given named lacks (inr (inr (inr (inr (inr (inl audit)))))) =
     let e = is_request _ _ audit.same in
     lacks audit.files
     (subst (λ (r : Request). AskForFaults r.all r.most) (sym e) audit.asked)
     (ap (λ r. r.files) e ∙ audit.are) audit.some_file
+no_audit given named lacks (inr (inr (inr (inr (inr (inr (inl exported))))))) = one_command given exported.given audit_name export_name refl named exported.same exported.named
+no_audit given named lacks (inr (inr (inr (inr (inr (inr (inr drawn))))))) = one_command given drawn.given audit_name draw_name refl named drawn.same drawn.named
 
--- no number is given, and no faults are asked for
-pub none_for_one : (all most : Option Text) → all ≡ Some (codes "true") → ((n : Option ℕ) → IsMost most n → ⊥) → AskForFaults all most → ⊥
-none_for_one all most each none (inl one) = one.one each
-none_for_one all most each none (inr (number, asked)) = none number asked.told
+-- a request for a file of GeoJSON lacks its name, or a file
+pub no_export : (given : Request) → given.command ≡ export_name
+    → ((made : Text) (files : List Text) → given.geojson ≡ Some made → given.files ≡ Some files → 0 < length files → ⊥)
+    → IsWhole (Some given) → ⊥
+no_export given named lacks (inl files) = no_listing given export_name named refl refl files
+no_export given named lacks (inr (inl both)) = one_command given both.2.given export_name convert_name refl named both.2.same both.2.named
+no_export given named lacks (inr (inr (inl check))) = one_command given check.given export_name check_name refl named check.same check.named
+no_export given named lacks (inr (inr (inr (inl build)))) = one_command given build.given export_name build_name refl named build.same build.named
+no_export given named lacks (inr (inr (inr (inr (inl place))))) = one_command given place.given export_name locate_name refl named place.same place.named
+no_export given named lacks (inr (inr (inr (inr (inr (inl audit)))))) = one_command given audit.given export_name audit_name refl named audit.same audit.named
+no_export given named lacks (inr (inr (inr (inr (inr (inr (inl exported))))))) =
+    let e = is_request _ _ exported.same in
+    lacks exported.made exported.files (ap (λ r. r.geojson) e ∙ exported.to) (ap (λ r. r.files) e ∙ exported.are) exported.some_file
+no_export given named lacks (inr (inr (inr (inr (inr (inr (inr drawn))))))) = one_command given drawn.given export_name draw_name refl named drawn.same drawn.named
 
--- a number is given, and not all are asked for
-pub none_for_all : (all most : Option Text) → all ≢ Some (codes "true") → most ≢ None → AskForFaults all most → ⊥
-none_for_all all most other some (inl one) = some one.no_most
-none_for_all all most other some (inr (number, asked)) = other asked.each
+-- a request for a picture lacks its name, a view or none, or a file
+pub no_drawing : (given : Request) → given.command ≡ draw_name
+    → ((made : Text) (view : Option View) (files : List Text) → given.out ≡ Some made → IsView given.center given.width view → given.files ≡ Some files → 0 < length files → ⊥)
+    → IsWhole (Some given) → ⊥
+no_drawing given named lacks (inl files) = no_listing given draw_name named refl refl files
+no_drawing given named lacks (inr (inl both)) = one_command given both.2.given draw_name convert_name refl named both.2.same both.2.named
+no_drawing given named lacks (inr (inr (inl check))) = one_command given check.given draw_name check_name refl named check.same check.named
+no_drawing given named lacks (inr (inr (inr (inl build)))) = one_command given build.given draw_name build_name refl named build.same build.named
+no_drawing given named lacks (inr (inr (inr (inr (inl place))))) = one_command given place.given draw_name locate_name refl named place.same place.named
+no_drawing given named lacks (inr (inr (inr (inr (inr (inl audit)))))) = one_command given audit.given draw_name audit_name refl named audit.same audit.named
+no_drawing given named lacks (inr (inr (inr (inr (inr (inr (inl exported))))))) = one_command given exported.given draw_name export_name refl named exported.same exported.named
+no_drawing given named lacks (inr (inr (inr (inr (inr (inr (inr drawn))))))) =
+    let e = is_request _ _ drawn.same in
+    lacks drawn.made drawn.view drawn.files (ap (λ r. r.out) e ∙ drawn.to)
+    (subst (λ (r : Request). IsView r.center r.width drawn.view) (sym e) drawn.seen)
+    (ap (λ r. r.files) e ∙ drawn.are) drawn.some_file
 
 -- a command that wants files lacks them
 pub no_file : (given : Request) (files : List (String Global)) → map string_bytes files ≡ unwrap_or given.files [] → length files ≡ 0 → pointwise nat_eq given.command convert_name ≡ false → IsWhole (Some given) → ⊥
@@ -246,16 +281,60 @@ no_file given files same none other = go
     go (inr (inr (inl check))) = lacks check.given check.files check.same check.are check.some_file
     go (inr (inr (inr (inl build)))) = lacks build.given build.files build.same build.are build.some_file
     go (inr (inr (inr (inr (inl place))))) = lacks place.given place.files place.same place.are place.some_file
-    go (inr (inr (inr (inr (inr audit))))) = lacks audit.given audit.files audit.same audit.are audit.some_file
+    go (inr (inr (inr (inr (inr (inl audit)))))) = lacks audit.given audit.files audit.same audit.are audit.some_file
+    go (inr (inr (inr (inr (inr (inr (inl exported))))))) = lacks exported.given exported.files exported.same exported.are exported.some_file
+    go (inr (inr (inr (inr (inr (inr (inr drawn))))))) = lacks drawn.given drawn.files drawn.same drawn.are drawn.some_file
 
--- words that clap takes, and that name a plan
-pub one_plan : (words : List Text) (found : Option (Text × List Row)) (plan : Plan) → found ≡ subcommand_of command_line words → IsPlanOf (named_in found) (Some plan) → fault_of command_line words ≡ []
-    → AskFor words plan
-one_plan words found plan is made right = record { taken = right; asked = subst (λ f. IsPlanOf (named_in f) (Some plan)) is made }
+-- what was given is the same, however it is told
+pub told_the_same : (result : Option Told) (all each most number : Option Text) → all ≡ each → most ≡ number
+    → MatchOption result (¬ AskForFaults all most) (AskForTold all most) → MatchOption result (¬ AskForFaults each number) (AskForTold each number)
+told_the_same result all each most number e f told =
+    subst (λ (given : Option Text). MatchOption result (¬ AskForFaults each given) (AskForTold each given)) f
+    (subst (λ (given : Option Text). MatchOption result (¬ AskForFaults given most) (AskForTold given most)) e told)
 
--- words that clap takes, and that name no plan
-pub no_plan : (words : List Text) (found : Option (Text × List Row)) (stop : PlanStop) → found ≡ subcommand_of command_line words → IsPlanOf (named_in found) None → fault_of command_line words ≡ []
-    → IsUsage stop → StopsPlanning words stop
-no_plan words found (Usage text) is none right usage = (λ use_of. none (subst (λ f. IsWhole (named_in f)) (sym is) use_of.whole), inr right)
-no_plan words found (Help text) is none right usage = absurd usage
-no_plan words found Memory is none right usage = absurd usage
+pub seen_the_same : (view : Option View) (at center wide width : Option Text) → at ≡ center → wide ≡ width → IsView at wide view → IsView center width view
+seen_the_same view at center wide width e f seen =
+    subst (λ (given : Option Text). IsView center given view) f (subst (λ (given : Option Text). IsView given wide view) e seen)
+
+pub unseen_the_same : (view : Option View) (at center wide width : Option Text) → at ≡ center → wide ≡ width → ¬ IsView at wide view → ¬ IsView center width view
+unseen_the_same view at center wide width e f unseen seen = unseen (seen_the_same view center at width wide (sym e) (sym f) seen)
+
+-- an audit is a plan
+pub audit_planned : (given : Request) (told : Told) (options : Options) (files : List Text) (plan : Plan) (watched : Bool) → given.command ≡ audit_name
+    → AskForTold given.all given.most told → AreChosen given.released given.zero_cells options → given.files ≡ Some files
+    → 0 < length files → IsSwitch given.progress watched → IsAuditPlan told options files plan
+    → IsTaskOf (Some given) (Some (task.Plan plan watched))
+audit_planned given One options files (Audit chosen names) watched named asked are files_are some shown is = (
+  rw (is.0, is.1) (record { given = given; same = refl; named = named; asked = asked; chosen = are; are = files_are; some_file = some }),
+  (given, refl, shown),
+)
+audit_planned given (All most) options files (AuditAll number chosen names) watched named asked are files_are some shown is = (
+  rw (is.0, is.1, is.2) (record { given = given; same = refl; named = named; asked = asked; chosen = are; are = files_are; some_file = some }),
+  (given, refl, shown),
+)
+audit_planned given One options files (AuditAll number chosen names) watched named asked are files_are some shown is = absurd is
+audit_planned given (All most) options files (Audit chosen names) watched named asked are files_are some shown is = absurd is
+audit_planned given One options files (Show chosen names) watched named asked are files_are some shown is = absurd is
+audit_planned given One options files (Landmarks chosen names) watched named asked are files_are some shown is = absurd is
+audit_planned given One options files (Locate point chosen names) watched named asked are files_are some shown is = absurd is
+audit_planned given One options files (Convert cert made) watched named asked are files_are some shown is = absurd is
+audit_planned given One options files (Check cert budget chosen names) watched named asked are files_are some shown is = absurd is
+audit_planned given One options files (Build made chosen names) watched named asked are files_are some shown is = absurd is
+audit_planned given (All most) options files (Show chosen names) watched named asked are files_are some shown is = absurd is
+audit_planned given (All most) options files (Landmarks chosen names) watched named asked are files_are some shown is = absurd is
+audit_planned given (All most) options files (Locate point chosen names) watched named asked are files_are some shown is = absurd is
+audit_planned given (All most) options files (Convert cert made) watched named asked are files_are some shown is = absurd is
+audit_planned given (All most) options files (Check cert budget chosen names) watched named asked are files_are some shown is = absurd is
+audit_planned given (All most) options files (Build made chosen names) watched named asked are files_are some shown is = absurd is
+
+-- words that clap takes, and that name a task
+pub one_task : (words : List Text) (found : Option (Text × List Row)) (made : Task) → found ≡ subcommand_of command_line words
+    → IsTaskOf (named_in found) (Some made) → fault_of command_line words ≡ [] → AskForTask words made
+one_task words found made is for right = record { taken = right; asked = subst (λ f. IsTaskOf (named_in f) (Some made)) is for }
+
+-- words that clap takes, and that name none
+pub no_task : (words : List Text) (found : Option (Text × List Row)) (stop : PlanStop) → found ≡ subcommand_of command_line words
+    → IsTaskOf (named_in found) None → fault_of command_line words ≡ [] → IsUsage stop → StopsPlanning words stop
+no_task words found (Usage text) is none right usage = (λ use_of. none (subst (λ f. IsWhole (named_in f)) (sym is) use_of.whole), inr right)
+no_task words found (Help text) is none right usage = absurd usage
+no_task words found Memory is none right usage = absurd usage

@@ -14,17 +14,23 @@ use Rattle.clap.specs.declared.error.kind.ErrorKind.{ErrorKind}
 use Rattle.clap.specs.declared.error.kind.ErrorKind.TheVariants.{DisplayHelp, DisplayVersion, OutOfMemory}
 use Rattle.tl_geom.specs.declared.point.Point.{Point}
 use Rattle.tl_plan.specs.declared.plan.Plan.{Plan}
+use Rattle.tl_plan.specs.declared.budget.Told.{Told}
+use Rattle.tl_plan.specs.declared.budget.Told.TheVariants.{One, All}
+use Rattle.tl_plan.specs.declared.plan.View.{View}
+use Rattle.tl_plan.specs.declared.plan.Task.{Task}
+use Rattle.tl_plan.specs.declared.plan.Task.TheVariants as task
 use Rattle.tl_record.specs.declared.options.Options.{Options}
 use Rattle.tl_plan.specs.declared.plan.Plan.TheVariants.{Show, Landmarks, Locate, Convert, Check, Audit, AuditAll, Build}
 use Rattle.tl_plan.specs.declared.plan.PlanStop.{PlanStop}
 use Rattle.tl_plan.specs.declared.plan.PlanStop.TheVariants.{Usage, Help, Memory}
 use Rattle.tl_plan.specs.Commands.{command_line, show_name, landmarks_name, locate_name, convert_name, check_name}
-use Rattle.tl_plan.specs.Commands.{audit_name, build_name}
+use Rattle.tl_plan.specs.Commands.{audit_name, build_name, export_name, draw_name}
 use Rattle.tl_plan.specs.Points.{Spells}
 
 -- a command; what was given for its FILES, if anything was, and the values of its --released, its --zero-cells and its --all,
 -- each of which is the word true where the switch is given; and what was given for its @X,Y, its CERT or --cert, its OUT or
--- --out, its --tests, and its --most
+-- --out, its --tests, and its --most; its --progress and its --faults, which are switches; its --geojson, its --at and its
+-- --width
 pub record Request : Type 0 where
   pub command : Text
   pub files : Option (List Text)
@@ -36,6 +42,11 @@ pub record Request : Type 0 where
   pub tests : Option Text
   pub all : Option Text
   pub most : Option Text
+  pub progress : Option Text
+  pub faults : Option Text
+  pub geojson : Option Text
+  pub center : Option Text
+  pub width : Option Text
 
 -- a command that was found, with its arguments
 abbrev pub request_in : Text × List Row → Request
@@ -50,6 +61,11 @@ request_in found = record {
   tests = first_of (codes "tests") found.1;
   all = first_of (codes "all") found.1;
   most = first_of (codes "most") found.1;
+  progress = first_of (codes "progress") found.1;
+  faults = first_of (codes "faults") found.1;
+  geojson = first_of (codes "geojson") found.1;
+  center = first_of (codes "at") found.1;
+  width = first_of (codes "width") found.1;
 }
 
 abbrev pub named_in : Option (Text × List Row) → Option Request
@@ -116,9 +132,14 @@ pub record AskForAll (all most : Option Text) (number : Option ℕ) : Type 0 whe
   pub each : all ≡ Some (codes "true")
   pub told : IsMost most number
 
--- or for one or the other
+-- so many faults are asked for
+abbrev pub AskForTold : (all most : Option Text) → Told → Type 0
+AskForTold all most One = AskForOne all most
+AskForTold all most (All number) = AskForAll all most number
+
+-- some are
 abbrev pub AskForFaults : (all most : Option Text) → Type 0
-AskForFaults all most = AskForOne all most ⊎ ((number : Option ℕ) × AskForAll all most number)
+AskForFaults all most = (told : Told) × AskForTold all most told
 
 -- the request names a command with files: this one, these files word for word and in their order, and the switch; it has
 -- no switch for zero-cell ids
@@ -162,13 +183,62 @@ pub record AsksToCheck (request : Option Request) (cert : Text) (budget : ℕ) (
   pub are : given.files ≡ Some files
   pub some_file : 0 < length files
 
--- the request names an audit of these files, word for word and in their order, with these switches; `faults` says which
--- faults are asked for, by what was given for --all and for --most
+-- a switch is on exactly where its value is the word true
+abbrev pub IsSwitch : Option Text → Bool → Type 0
+IsSwitch given on = IsTrue on ↔ (given ≡ Some (codes "true"))
+
+-- the request names an audit of these files, word for word and in their order, with these switches; `faults` says
+-- which faults are asked for, by what was given for --all and for --most
 pub record AsksToAudit (request : Option Request) (faults : (all most : Option Text) → Type 0) (options : Options) (files : List Text) : Type 0 where
   pub given : Request
   pub same : request ≡ Some given
   pub named : given.command ≡ audit_name
   pub asked : faults given.all given.most
+  pub chosen : AreChosen given.released given.zero_cells options
+  pub are : given.files ≡ Some files
+  pub some_file : 0 < length files
+
+-- the request asks to make this file of GeoJSON, word for word, of these files, word for word and in their order; it has no switch
+-- for zero-cell ids
+pub record AsksToExport (request : Option Request) (made : Text) (options : Options) (files : List Text) : Type 0 where
+  pub given : Request
+  pub same : request ≡ Some given
+  pub named : given.command ≡ export_name
+  pub to : given.geojson ≡ Some made
+  pub chosen : AreChosen given.released None options
+  pub are : given.files ≡ Some files
+  pub some_file : 0 < length files
+
+-- the greatest width of a view: the whole way round
+abbrev pub greatest_width : ℕ
+greatest_width = 360000000
+
+-- the word is this number, from 1 to the greatest width
+pub record SpellsWidth (word : Text) (width : ℕ) : Type 0 where
+  pub is : IsSpelt word width
+  pub some : 1 ≤ width
+  pub most : width ≤ greatest_width
+
+-- the two words are this view
+pub record SpellsView (center width : Text) (view : View) : Type 0 where
+  pub at : Spells center view.center
+  pub wide : SpellsWidth width view.width
+
+-- what was given for --at and for --width is this view, or nothing was given for either
+abbrev pub IsView : (center width : Option Text) → Option View → Type 0
+IsView None None None = ⊤
+IsView (Some center) (Some width) (Some view) = SpellsView center width view
+IsView center width view = ⊥
+
+-- the request asks to make this picture, word for word, of these files, word for word and in their order, with this view and these
+-- switches
+pub record AsksToDraw (request : Option Request) (made : Text) (view : Option View) (faults : Bool) (options : Options) (files : List Text) : Type 0 where
+  pub given : Request
+  pub same : request ≡ Some given
+  pub named : given.command ≡ draw_name
+  pub to : given.out ≡ Some made
+  pub seen : IsView given.center given.width view
+  pub shown : IsSwitch given.faults faults
   pub chosen : AreChosen given.released given.zero_cells options
   pub are : given.files ≡ Some files
   pub some_file : 0 < length files
@@ -253,29 +323,63 @@ pub record IsLocate (request : Option Request) : Type 0 where
   pub are : given.files ≡ Some files
   pub some_file : 0 < length files
 
--- the request names a command of the program, and what it wants: files, two certificates, a certificate and files, or a
--- point and files
+-- the request asks for a file of GeoJSON that it names, of some file
+pub record IsExport (request : Option Request) : Type 0 where
+  pub given : Request
+  pub made : Text
+  pub files : List Text
+  pub same : request ≡ Some given
+  pub named : given.command ≡ export_name
+  pub to : given.geojson ≡ Some made
+  pub are : given.files ≡ Some files
+  pub some_file : 0 < length files
+
+-- the request asks for a picture that it names, of some file, with a view or with none
+pub record IsDrawing (request : Option Request) : Type 0 where
+  pub given : Request
+  pub made : Text
+  pub view : Option View
+  pub files : List Text
+  pub same : request ≡ Some given
+  pub named : given.command ≡ draw_name
+  pub to : given.out ≡ Some made
+  pub seen : IsView given.center given.width view
+  pub are : given.files ≡ Some files
+  pub some_file : 0 < length files
+
+-- the request names a command of the program, and what it wants: files, two certificates, a certificate and files, a point and
+-- files, or what is made and files
 abbrev pub IsWhole : Option Request → Type 0
 IsWhole request =
     HasFiles request
     ⊎ (((cert : Text) × (made : Text) × AsksToConvert request cert made)
-    ⊎ (IsCheck request ⊎ (IsBuild request ⊎ (IsLocate request ⊎ IsAudit request))))
+    ⊎ (IsCheck request ⊎ (IsBuild request ⊎ (IsLocate request ⊎ (IsAudit request ⊎ (IsExport request ⊎ IsDrawing request))))))
 
--- the plan that a request is for, if it is for one
-abbrev pub IsPlanOf : Option Request → Option Plan → Type 0
-IsPlanOf request (Some plan) = IsFor request plan
-IsPlanOf request None = ¬ IsWhole request
+-- how far reading is is shown where the command has a switch for that and it is given
+abbrev pub IsWatched : Option Request → Plan → Bool → Type 0
+IsWatched request (Show options files) watched = watched ≡ false
+IsWatched request (Landmarks options files) watched = watched ≡ false
+IsWatched request (Locate point options files) watched = watched ≡ false
+IsWatched request (Convert cert made) watched = watched ≡ false
+IsWatched request plan watched = (given : Request) × (request ≡ Some given) × IsSwitch given.progress watched
+
+-- the request is one for the task
+abbrev pub IsForTask : Option Request → Task → Type 0
+IsForTask request (task.Plan plan progress) = IsFor request plan × IsWatched request plan progress
+IsForTask request (task.Export made options files) = AsksToExport request (string_bytes made) options (map string_bytes files.items)
+IsForTask request (task.Draw made view faults options files) =
+    AsksToDraw request (string_bytes made) view faults options (map string_bytes files.items)
+
+-- the task that a request is for, if it is for one
+abbrev pub IsTaskOf : Option Request → Option Task → Type 0
+IsTaskOf request (Some task) = IsForTask request task
+IsTaskOf request None = ¬ IsWhole request
 
 -- the conversion of what was given for CERT and OUT, if both were
-abbrev pub IsConversionOf : Option Text → Option Text → Option Plan → Type 0
-IsConversionOf cert out (Some (Convert from to)) = (cert ≡ Some (string_bytes from)) × (out ≡ Some (string_bytes to))
-IsConversionOf cert out (Some (Show options files)) = ⊥
-IsConversionOf cert out (Some (Landmarks options files)) = ⊥
-IsConversionOf cert out (Some (Locate point options files)) = ⊥
-IsConversionOf cert out (Some (Check from budget options files)) = ⊥
-IsConversionOf cert out (Some (Audit options files)) = ⊥
-IsConversionOf cert out (Some (AuditAll most options files)) = ⊥
-IsConversionOf cert out (Some (Build made options files)) = ⊥
+abbrev pub IsConversionOf : Option Text → Option Text → Option Task → Type 0
+IsConversionOf cert out (Some (task.Plan (Convert from to) progress)) =
+    (cert ≡ Some (string_bytes from)) × (out ≡ Some (string_bytes to)) × (progress ≡ false)
+IsConversionOf cert out (Some other) = ⊥
 IsConversionOf cert out None = (from to : Text) → cert ≡ Some from → out ≡ Some to → ⊥
 
 -- the words ask for the plan: clap has no error for them, of any kind, and the command that they name, with what they give
@@ -284,6 +388,11 @@ pub record AskFor (words : List Text) (plan : Plan) : Type 0 where
   pub taken : fault_of command_line words ≡ []
   pub asked : IsFor (named_command words) plan
 
+-- the words ask for the task
+pub record AskForTask (words : List Text) (wanted : Task) : Type 0 where
+  pub taken : fault_of command_line words ≡ []
+  pub asked : IsForTask (named_command words) wanted
+
 -- the words are a use of a command: they are taken, and name a command of the program and what it wants
 pub record AreAUse (words : List Text) : Type 0 where
   pub taken : takes command_line words ≡ true
@@ -291,7 +400,9 @@ pub record AreAUse (words : List Text) : Type 0 where
 
 -- the names that a first word may have: those of the commands, and clap's own help
 abbrev pub first_names : List Text
-first_names = show_name ∷ landmarks_name ∷ locate_name ∷ audit_name ∷ build_name ∷ check_name ∷ convert_name ∷ codes "help" ∷ []
+first_names =
+    show_name ∷ landmarks_name ∷ locate_name ∷ audit_name ∷ build_name ∷ check_name ∷ convert_name
+    ∷ export_name ∷ draw_name ∷ codes "help" ∷ []
 
 -- does the word begin with a hyphen, as options do
 abbrev pub is_option : Text → Bool

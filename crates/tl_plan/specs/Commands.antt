@@ -28,23 +28,31 @@ released_argument = switch (codes "released")
 abbrev pub zero_cells_argument : Rule
 zero_cells_argument = switch (codes "zero-cells")
 
--- --cert CERT and --out CERT: one name, which has to be given
-abbrev pub certificate_argument : Text → Rule
-certificate_argument id = record (new_rule id) { long = Some id; value_names = 1; required = true }
+-- --cert CERT, --out OUT and --geojson OUT: one name, which has to be given
+abbrev pub named_argument : Text → Rule
+named_argument id = record (new_rule id) { long = Some id; value_names = 1; required = true }
 
 -- --all: each fault is told, and not the first alone
 abbrev pub all_argument : Rule
 all_argument = switch (codes "all")
 
--- --most N and --tests N: one number
-abbrev pub number_argument : Text → Rule
-number_argument id = record (new_rule id) { long = Some id; value_names = 1 }
+-- --most N, --tests N, --at @X,Y and --width W: one word
+abbrev pub value_argument : Text → Rule
+value_argument id = record (new_rule id) { long = Some id; value_names = 1 }
+
+-- --progress: how far reading is is shown
+abbrev pub progress_argument : Rule
+progress_argument = switch (codes "progress")
+
+-- --faults: a picture shows the faults
+abbrev pub faults_argument : Rule
+faults_argument = switch (codes "faults")
 
 abbrev pub most_argument : Rule
-most_argument = number_argument (codes "most")
+most_argument = value_argument (codes "most")
 
 abbrev pub tests_argument : Rule
-tests_argument = number_argument (codes "tests")
+tests_argument = value_argument (codes "tests")
 
 -- a command of this name, with --released and FILES..
 abbrev pub command_on_files : Text → App
@@ -73,26 +81,27 @@ conversion_app = with_rule (with_rule (new_app convert_name) (name_argument (cod
 abbrev pub on_a_map : App → App
 on_a_map app = with_rule (with_rule (with_rule app zero_cells_argument) released_argument) files_argument
 
--- audit [--all] [--most N] [--zero-cells] [--released] FILES..
+-- audit [--all] [--most N] [--progress] [--zero-cells] [--released] FILES..
 abbrev pub audit_name : Text
 audit_name = codes "audit"
 
 abbrev pub audit_app : App
-audit_app = on_a_map (with_rule (with_rule (new_app audit_name) all_argument) most_argument)
+audit_app = on_a_map (with_rule (with_rule (with_rule (new_app audit_name) all_argument) most_argument) progress_argument)
 
--- build --out CERT [--zero-cells] [--released] FILES..
+-- build --out CERT [--progress] [--zero-cells] [--released] FILES..
 abbrev pub build_name : Text
 build_name = codes "build"
 
 abbrev pub build_app : App
-build_app = on_a_map (with_rule (new_app build_name) (certificate_argument (codes "out")))
+build_app = on_a_map (with_rule (with_rule (new_app build_name) (named_argument (codes "out"))) progress_argument)
 
--- check --cert CERT [--tests N] [--zero-cells] [--released] FILES..
+-- check --cert CERT [--tests N] [--progress] [--zero-cells] [--released] FILES..
 abbrev pub check_name : Text
 check_name = codes "check"
 
 abbrev pub check_app : App
-check_app = on_a_map (with_rule (with_rule (new_app check_name) (certificate_argument (codes "cert"))) tests_argument)
+check_app =
+    on_a_map (with_rule (with_rule (with_rule (new_app check_name) (named_argument (codes "cert"))) tests_argument) progress_argument)
 
 -- locate [--released] @X,Y FILES..
 abbrev pub locate_name : Text
@@ -100,6 +109,22 @@ locate_name = codes "locate"
 
 abbrev pub locate_app : App
 locate_app = with_rule (with_rule (with_rule (new_app locate_name) released_argument) (name_argument (codes "point"))) files_argument
+
+-- export --geojson OUT [--released] FILES..
+abbrev pub export_name : Text
+export_name = codes "export"
+
+abbrev pub export_app : App
+export_app = with_rule (with_rule (with_rule (new_app export_name) (named_argument (codes "geojson"))) released_argument) files_argument
+
+-- draw --out OUT [--at @X,Y --width W] [--faults] [--zero-cells] [--released] FILES..
+abbrev pub draw_name : Text
+draw_name = codes "draw"
+
+abbrev pub draw_app : App
+draw_app =
+    on_a_map (with_rule (with_rule (with_rule (with_rule (new_app draw_name) (named_argument (codes "out"))) (value_argument (codes "at")))
+    (value_argument (codes "width"))) faults_argument)
 
 -- the program, whose words begin behind its own name, which has a version, and which wants a command
 abbrev pub program : App
@@ -115,8 +140,12 @@ with_listings = with_subcommand (with_subcommand program (command_on_files show_
 abbrev pub with_decisions : App → App
 with_decisions app = with_subcommand (with_subcommand (with_subcommand app audit_app.top) build_app.top) check_app.top
 
+-- and those that make something else of a map
+abbrev pub with_drawings : App → App
+with_drawings app = with_subcommand (with_subcommand app export_app.top) draw_app.top
+
 abbrev pub command_line : App
-command_line = with_subcommand (with_decisions (with_subcommand with_listings locate_app.top)) conversion_app.top
+command_line = with_drawings (with_subcommand (with_decisions (with_subcommand with_listings locate_app.top)) conversion_app.top)
 
 -- clap was told of this command, and of no argument of it that holds for others too
 pub record IsLocal (app : App) (command : Command) : Type 0 where

@@ -6,13 +6,14 @@ use Rattle.clap.specs.declared.builder.arg.Arg.{Arg}
 use Rattle.clap.specs.declared.builder.command.Command.{Command}
 use Rattle.clap.specs.declared.builder.command.Command.TheViews.{out-Command}
 use Rattle.tl_plan.specs.declared.command_line.Named.{Named}
-use Rattle.tl_plan.specs.declared.command_line.Named.TheVariants.{Show, Landmarks, Locate, Audit, Build, Check, Convert}
+use Rattle.tl_plan.specs.declared.command_line.Named.TheVariants.{Show, Landmarks, Locate, Audit, Build, Check, Convert, Export, Draw}
 use Rattle.tl_plan.specs.declared.command_line.Argument.{Argument}
-use Rattle.tl_plan.specs.declared.command_line.Argument.TheVariants.{All, Most, ZeroCells, Released, Files, Point, CertOption, OutOption, Tests, Cert, Out}
+use Rattle.tl_plan.specs.declared.command_line.Argument.TheVariants.{All, Most, Progress, ZeroCells, Released, Files, Point, CertOption, OutOption, Tests, Cert, Out, CollectionOption, PictureOption, At, Width, Faults}
 use Rattle.tl_plan.specs.Commands.{all_argument, most_argument, zero_cells_argument, released_argument, files_argument}
-use Rattle.tl_plan.specs.Commands.{name_argument, certificate_argument, tests_argument}
-use Rattle.tl_plan.specs.Commands.{command_on_files, show_name, landmarks_name, locate_name, audit_name, build_name, check_name, convert_name}
-use Rattle.tl_plan.specs.Commands.{locate_app, audit_app, build_app, check_app, conversion_app}
+use Rattle.tl_plan.specs.Commands.{progress_argument, faults_argument, value_argument}
+use Rattle.tl_plan.specs.Commands.{name_argument, named_argument, tests_argument}
+use Rattle.tl_plan.specs.Commands.{command_on_files, show_name, landmarks_name, locate_name, audit_name, build_name, check_name, convert_name, export_name, draw_name}
+use Rattle.tl_plan.specs.Commands.{locate_app, audit_app, build_app, check_app, conversion_app, export_app, draw_app}
 
 -- what clap is told of an argument
 abbrev pub rule_for : Argument → Rule
@@ -22,11 +23,17 @@ rule_for ZeroCells = zero_cells_argument
 rule_for Released = released_argument
 rule_for Files = files_argument
 rule_for Point = name_argument (codes "point")
-rule_for CertOption = certificate_argument (codes "cert")
-rule_for OutOption = certificate_argument (codes "out")
+rule_for CertOption = named_argument (codes "cert")
+rule_for OutOption = named_argument (codes "out")
 rule_for Tests = tests_argument
 rule_for Cert = name_argument (codes "cert")
 rule_for Out = name_argument (codes "out")
+rule_for Progress = progress_argument
+rule_for CollectionOption = named_argument (codes "geojson")
+rule_for PictureOption = named_argument (codes "out")
+rule_for At = value_argument (codes "at")
+rule_for Width = value_argument (codes "width")
+rule_for Faults = faults_argument
 
 -- a command with these arguments more
 abbrev pub with_each : App → List Argument → App
@@ -42,6 +49,8 @@ app_named Audit = audit_app
 app_named Build = build_app
 app_named Check = check_app
 app_named Convert = conversion_app
+app_named Export = export_app
+app_named Draw = draw_app
 
 -- what clap is told of a command and of an argument, and whether something of it holds for others too: of what it was told,
 -- and of these, of which nothing does
@@ -71,16 +80,20 @@ name_of Audit = audit_name
 name_of Build = build_name
 name_of Check = check_name
 name_of Convert = convert_name
+name_of Export = export_name
+name_of Draw = draw_name
 
 -- the arguments of a command
 abbrev pub arguments_for : Named → List Argument
 arguments_for Show = Released ∷ Files ∷ []
 arguments_for Landmarks = Released ∷ Files ∷ []
 arguments_for Locate = Released ∷ Point ∷ Files ∷ []
-arguments_for Audit = All ∷ Most ∷ ZeroCells ∷ Released ∷ Files ∷ []
-arguments_for Build = OutOption ∷ ZeroCells ∷ Released ∷ Files ∷ []
-arguments_for Check = CertOption ∷ Tests ∷ ZeroCells ∷ Released ∷ Files ∷ []
+arguments_for Audit = All ∷ Most ∷ Progress ∷ ZeroCells ∷ Released ∷ Files ∷ []
+arguments_for Build = OutOption ∷ Progress ∷ ZeroCells ∷ Released ∷ Files ∷ []
+arguments_for Check = CertOption ∷ Tests ∷ Progress ∷ ZeroCells ∷ Released ∷ Files ∷ []
 arguments_for Convert = Cert ∷ Out ∷ []
+arguments_for Export = CollectionOption ∷ Released ∷ Files ∷ []
+arguments_for Draw = PictureOption ∷ At ∷ Width ∷ Faults ∷ ZeroCells ∷ Released ∷ Files ∷ []
 
 -- a command was made, and it is so
 abbrev pub OnMade : {E : Type 0} → Result Command E → (Command → Type 0) → Type 0

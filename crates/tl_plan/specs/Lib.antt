@@ -4,4 +4,5 @@ pub mod Points
 pub mod CommandLine
 pub mod Plans
 pub mod Spelling
+pub mod Asked
 pub mod Keeping

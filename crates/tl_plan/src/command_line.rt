@@ -5,21 +5,23 @@ ghost use Rattle.clap.specs.Simple.{app_of, new_app};
 ghost use Rattle.clap.specs.Walk.{rule_of};
 ghost use Rattle.tl_plan.specs.Commands.{program, command_line, name_argument as name_rule};
 ghost use Rattle.tl_plan.specs.Commands.{switch as switch_rule, files_argument as files_rule};
-ghost use Rattle.tl_plan.specs.Commands.{certificate_argument as certificate_rule, number_argument};
+ghost use Rattle.tl_plan.specs.Commands.{named_argument as named_rule, value_argument};
 ghost use Rattle.tl_plan.specs.Keeping.{with_each, with_named, name_of, arguments_for, OnMade};
 ghost use Rattle.tl_plan.specs.Keeping.{told_of, named_told, rule_told, argument_told};
 ghost use Rattle.tl_plan.specs.declared.command_line.Argument.{Argument};
 ghost use Rattle.tl_plan.specs.declared.command_line.Named.{Named};
 
 use crate::help::{
-    ABOUT, ALL, AUDIT_ABOUT, AUDIT_EXAMPLE, BUILD_ABOUT, BUILD_EXAMPLE, CHECK_ABOUT, CHECK_EXAMPLE,
-    CONVERT_ABOUT, CONVERT_EXAMPLE, EXAMPLES, LANDMARKS_ABOUT, LANDMARKS_EXAMPLE, LOCATE_ABOUT,
-    LOCATE_EXAMPLE, MOST, RELEASED, SHOW_ABOUT, SHOW_EXAMPLE, TESTS, ZERO_CELLS,
+    ABOUT, ALL, AT, AUDIT_ABOUT, AUDIT_EXAMPLE, BUILD_ABOUT, BUILD_EXAMPLE, CHECK_ABOUT,
+    CHECK_EXAMPLE, CONVERT_ABOUT, CONVERT_EXAMPLE, DRAW_ABOUT, DRAW_EXAMPLE, EXAMPLES,
+    EXPORT_ABOUT, EXPORT_EXAMPLE, FAULTS, LANDMARKS_ABOUT, LANDMARKS_EXAMPLE, LOCATE_ABOUT,
+    LOCATE_EXAMPLE, MOST, PROGRESS, RELEASED, SHOW_ABOUT, SHOW_EXAMPLE, TESTS, WIDTH, ZERO_CELLS,
 };
 use clap::{Arg, ArgAction, Command};
 use std::alloc::{AllocError, Global};
 
-const VERSION: &str = "0.1.0";
+// The version, and the line of the kit that the program is proved with.
+const VERSION: &str = "0.1.0, proved with rattle-kit-13b logic dac8208d650f15bf";
 
 /// A command of the program.
 pub enum Named {
@@ -30,6 +32,8 @@ pub enum Named {
     Build,
     Check,
     Convert,
+    Export,
+    Draw,
 }
 
 // An argument of a command.
@@ -56,6 +60,18 @@ enum Argument {
     Cert,
     // OUT
     Out,
+    // --progress
+    Progress,
+    // --geojson OUT
+    CollectionOption,
+    // --out OUT
+    PictureOption,
+    // --at @X,Y
+    At,
+    // --width W
+    Width,
+    // --faults
+    Faults,
 }
 
 /// The program with its commands.
@@ -72,6 +88,8 @@ pub fn command<'a>(alloc: Global) -> Result<Command<'a>, AllocError>
             Named::Build,
             Named::Check,
             Named::Convert,
+            Named::Export,
+            Named::Draw,
         ],
     ) {
         Ok(commands) => with_commands(program(alloc), commands),
@@ -139,6 +157,8 @@ fn words_of<'a>(named: &Named) -> (&'a str, &'a str, &'a str)
         Named::Build => ("build", BUILD_ABOUT, BUILD_EXAMPLE),
         Named::Check => ("check", CHECK_ABOUT, CHECK_EXAMPLE),
         Named::Convert => ("convert", CONVERT_ABOUT, CONVERT_EXAMPLE),
+        Named::Export => ("export", EXPORT_ABOUT, EXPORT_EXAMPLE),
+        Named::Draw => ("draw", DRAW_ABOUT, DRAW_EXAMPLE),
     }
 }
 
@@ -153,12 +173,14 @@ fn arguments_of<'a>(named: &Named) -> &'a [Argument]
         Named::Audit => &[
             Argument::All,
             Argument::Most,
+            Argument::Progress,
             Argument::ZeroCells,
             Argument::Released,
             Argument::Files,
         ],
         Named::Build => &[
             Argument::OutOption,
+            Argument::Progress,
             Argument::ZeroCells,
             Argument::Released,
             Argument::Files,
@@ -166,11 +188,26 @@ fn arguments_of<'a>(named: &Named) -> &'a [Argument]
         Named::Check => &[
             Argument::CertOption,
             Argument::Tests,
+            Argument::Progress,
             Argument::ZeroCells,
             Argument::Released,
             Argument::Files,
         ],
         Named::Convert => &[Argument::Cert, Argument::Out],
+        Named::Export => &[
+            Argument::CollectionOption,
+            Argument::Released,
+            Argument::Files,
+        ],
+        Named::Draw => &[
+            Argument::PictureOption,
+            Argument::At,
+            Argument::Width,
+            Argument::Faults,
+            Argument::ZeroCells,
+            Argument::Released,
+            Argument::Files,
+        ],
     }
 }
 
@@ -206,7 +243,7 @@ fn told<'a>(alloc: Global, argument: &Argument) -> Arg<'a>
 {
     match argument {
         Argument::All => switch(alloc, "all", ALL),
-        Argument::Most => numbered_option(alloc, "most", MOST),
+        Argument::Most => option(alloc, "most", "N", MOST),
         Argument::ZeroCells => switch(alloc, "zero-cells", ZERO_CELLS),
         Argument::Released => switch(alloc, "released", RELEASED),
         Argument::Files => files_argument(alloc),
@@ -216,28 +253,36 @@ fn told<'a>(alloc: Global, argument: &Argument) -> Arg<'a>
             "@X,Y",
             "The point, in millionths of a degree",
         ),
-        Argument::CertOption => certificate_argument(alloc, "cert", "The certificate"),
-        Argument::OutOption => certificate_argument(alloc, "out", "The certificate that is made"),
-        Argument::Tests => numbered_option(alloc, "tests", TESTS),
+        Argument::CertOption => needed_option(alloc, "cert", "CERT", "The certificate"),
+        Argument::OutOption => needed_option(alloc, "out", "CERT", "The certificate that is made"),
+        Argument::Tests => option(alloc, "tests", "N", TESTS),
         Argument::Cert => name_argument(alloc, "cert", "CERT", "The certificate that is read"),
         Argument::Out => name_argument(alloc, "out", "OUT", "The certificate that is made"),
+        Argument::Progress => switch(alloc, "progress", PROGRESS),
+        Argument::CollectionOption => {
+            needed_option(alloc, "geojson", "OUT", "The file of GeoJSON that is made")
+        }
+        Argument::PictureOption => needed_option(alloc, "out", "OUT", "The picture that is made"),
+        Argument::At => option(alloc, "at", "@X,Y", AT),
+        Argument::Width => option(alloc, "width", "W", WIDTH),
+        Argument::Faults => switch(alloc, "faults", FAULTS),
     }
 }
 
-// The name of a certificate, behind an option that has to be given.
-fn certificate_argument<'a>(alloc: Global, id: &'a str, help: &'a str) -> Arg<'a>
-    ensures rule { rule_of result ≡ certificate_rule id.entry.now }
+// A name behind an option that has to be given.
+fn needed_option<'a>(alloc: Global, id: &'a str, shown: &'a str, help: &'a str) -> Arg<'a>
+    ensures rule { rule_of result ≡ named_rule id.entry.now }
     ensures local { result.global ≡ false }
 {
-    name_argument(alloc, id, "CERT", help).long(id)
+    name_argument(alloc, id, shown, help).long(id)
 }
 
-// An option with a number.
-fn numbered_option<'a>(alloc: Global, id: &'a str, help: &'a str) -> Arg<'a>
-    ensures rule { rule_of result ≡ number_argument id.entry.now }
+// An option with a value.
+fn option<'a>(alloc: Global, id: &'a str, shown: &'a str, help: &'a str) -> Arg<'a>
+    ensures rule { rule_of result ≡ value_argument id.entry.now }
     ensures local { result.global ≡ false }
 {
-    Arg::new(alloc, id).long(id).value_name("N").help(help)
+    Arg::new(alloc, id).long(id).value_name(shown).help(help)
 }
 
 // A switch, which is on where it is given.

@@ -56,6 +56,8 @@ fn is_name(word: &str) -> bool
             "build",
             "check",
             "convert",
+            "export",
+            "draw",
             "help",
         ],
     )

@@ -12,6 +12,8 @@ Examples:
   tigertopo build --out A.CERT TGR24001.RT*   makes a certificate of a sound map
   tigertopo check --cert A.CERT TGR24001.RT*  decides by a certificate whether the map is sound
   tigertopo convert OLD.CERT NEW.CERT         writes a certificate anew in version 2
+  tigertopo export --geojson A.geojson A.RT*  writes the map as GeoJSON
+  tigertopo draw --out A.svg --faults A.RT*   draws the map and its faults for a browser
 
 Exit status:
   0   done or sound, or help was asked for
@@ -100,6 +102,40 @@ when it is whole. A file that is no certificate, or is CERT, is not replaced.
 
 Example:
   tigertopo convert OLD.CERT NEW.CERT";
+
+pub const EXPORT_ABOUT: &str = "Writes the map as GeoJSON";
+
+pub const EXPORT_EXAMPLE: &str = "\
+OUT is a collection of features of RFC 7946, in degrees: each chain as a line with its TLID and the
+polygons on both sides, each polygon's point with its landmarks, and where the map is sound, each
+polygon's rings with its area in square millionths of a degree. OUT is written as OUT.unfinished and takes
+its name when it is whole. A file that this command hasn't made, or that is one of FILES, is not replaced.
+The line is `exported chains=C polygons=P rings=R`, with no rings where the map isn't sound.
+
+Example:
+  tigertopo export --geojson TGR24001.geojson TGR24001.RT*";
+
+pub const DRAW_ABOUT: &str = "Draws the map as a picture for a browser";
+
+pub const DRAW_EXAMPLE: &str = "\
+OUT is a picture in SVG, of the whole map, or of the place about X,Y that is W millionths of a degree
+wide: chains, nodes and polygons' points, and with --faults each fault in red, which says what it is
+where the pointer rests on it. What is smaller than a third of a pixel is left out. OUT is made as that of
+`export` is. The line is `drawn chains=C`, with the number of chains that are drawn, and with --faults
+`drawn chains=C faults=F`.
+
+Examples:
+  tigertopo draw --out TGR24001.svg --faults TGR24001.RT*
+  tigertopo draw --out place.svg --at @-78762000,39652000 --width 20000 TGR24001.RT*";
+
+pub const PROGRESS: &str =
+    "Shows how far reading is, once a second, where the error output is a terminal";
+
+pub const AT: &str = "The middle of what is drawn, in millionths of a degree; needs --width";
+
+pub const WIDTH: &str = "How wide that is, in millionths of a degree; needs --at";
+
+pub const FAULTS: &str = "Draws the faults too";
 
 pub const RELEASED: &str =
     "Reads type I lines by the columns of the released files, FILE in 6-10 and TLID in 11-20";

@@ -1,4 +1,4 @@
-//! What the words of the command line ask for: a [`Plan`], which [`words::plan`] makes of them by `clap`'s reading.
+//! What the words of the command line ask for: a [`Task`], which [`words::task`] makes of them by `clap`'s reading.
 #![tactic(auto)]
 
 mod budget;
@@ -8,6 +8,7 @@ mod help;
 mod plan;
 mod point;
 mod refusal;
+mod view;
 pub mod words;
 
-pub use plan::{Plan, PlanStop};
+pub use plan::{Plan, PlanStop, Task, View};

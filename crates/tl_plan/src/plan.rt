@@ -59,6 +59,39 @@ pub enum Plan {
     },
 }
 
+/// A place that a picture shows, in millionths of a degree.
+#[derive(Clone, Copy)]
+pub struct View {
+    /// The point in its middle.
+    pub center: Point,
+    /// How wide it is: from 1 to 360,000,000.
+    pub width: u32,
+}
+
+/// What the words ask for.
+#[derive(Drop)]
+pub enum Task {
+    /// What a plan asks, and nothing else. Where `progress` is asked for, how far it is is shown while files are read.
+    Plan {
+        plan: Plan,
+        progress: bool,
+    },
+    /// To make a file of GeoJSON of this name, of the map.
+    Export {
+        made: String,
+        options: Options,
+        files: Vec<String>,
+    },
+    /// To make a picture of this name, of the map or of a place in it, with its faults where they are asked for.
+    Draw {
+        made: String,
+        view: Option<View>,
+        faults: bool,
+        options: Options,
+        files: Vec<String>,
+    },
+}
+
 impl Plan {
     ghost use Rattle.std.specs.Prelude.{◌≡◌, map, string_bytes};
     ghost use Rattle.tl_plan.specs.CommandLine.{files_of};

@@ -7,6 +7,7 @@ ghost use Rattle.tl_plan.specs.Plans.{plain_text, HasNoEscape, ShowsNoEscape};
 
 use crate::command_line::{Named, subcommand};
 use crate::plan::PlanStop;
+use crate::point::point_of;
 use clap::error::ErrorKind;
 use clap::{ArgMatches, Command, Error};
 use std::alloc::{AllocError, Global};
@@ -17,6 +18,15 @@ const SPELLING: &str =
 
 // What is said of a number of faults where there is no --all.
 const NO_ALL: &str = "the argument '--most <N>' needs '--all'";
+
+// What is said of one part of a view where the other isn't given.
+const NO_WIDTH: &str = "the argument '--at <@X,Y>' needs '--width <W>'";
+
+const NO_CENTER: &str = "the argument '--width <W>' needs '--at <@X,Y>'";
+
+// How the width of a view is spelt.
+const WIDTH_SPELLING: &str =
+    "a number from 1 to 360000000 is wanted, with no sign and no leading zero";
 
 // How a point is spelt.
 const POINT_SPELLING: &str =
@@ -107,7 +117,34 @@ fn usage_of(
     if let Some(most) = word_of(matches, "audit", "most") {
         return misused_most(alloc, matches, most);
     }
-    plain_usage(alloc, command)
+    match (
+        word_of(matches, "draw", "at"),
+        word_of(matches, "draw", "width"),
+    ) {
+        (Some(center), Some(width)) => misspelt_view(alloc, center, width),
+        (Some(_), None) => told_by(alloc, &Named::Draw, "tigertopo draw", NO_WIDTH),
+        (None, Some(_)) => told_by(alloc, &Named::Draw, "tigertopo draw", NO_CENTER),
+        (None, None) => plain_usage(alloc, command),
+    }
+}
+
+// What is wrong with the words of a view: one of them isn't spelt as it has to be.
+fn misspelt_view(alloc: Global, center: &str, width: &str) -> Result<String, AllocError>
+    ensures { IfOk result HasNoEscape }
+{
+    let (argument, value, spelling) = if point_of(center).is_none() {
+        ("--at <@X,Y>", center, POINT_SPELLING)
+    } else {
+        ("--width <W>", width, WIDTH_SPELLING)
+    };
+    misspelt(
+        alloc,
+        &Named::Draw,
+        "tigertopo draw",
+        argument,
+        value,
+        spelling,
+    )
 }
 
 // What is wrong with a number of faults: there is no --all beside it, or it isn't spelt as one.

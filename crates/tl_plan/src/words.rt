@@ -1,6 +1,6 @@
 //! What the words of the command line ask for.
 
-ghost use Rattle.std.specs.Prelude.{◌≡◌, ◌↔◌, IfOk, IfErr, IsTrue, true, [], codes, map, option_map, unwrap_or, string_bytes};
+ghost use Rattle.std.specs.Prelude.{◌≡◌, ◌↔◌, IfOk, IfErr, MatchOption, IsTrue, true, [], codes, map, option_map, unwrap_or, string_bytes};
 ghost use Rattle.clap.specs.Simple.{app_of, subcommand_of, subcommand_rows_of};
 ghost use Rattle.clap.specs.Takes.{takes};
 ghost use Rattle.clap.specs.Faults.{fault_of};
@@ -9,29 +9,31 @@ ghost use Rattle.clap.specs.Values.{kind_of};
 ghost use Rattle.clap.specs.declared.error.kind.ErrorKind.TheVariants.{OutOfMemory};
 ghost use Rattle.clap.specs.Walk.{rows_of, all_of, first_of};
 ghost use Rattle.clap.specs.Matches.{found_of};
-ghost use Rattle.tl_plan.specs.Commands.{command_line, show_name, landmarks_name, audit_name, build_name, check_name, locate_name};
+ghost use Rattle.tl_plan.specs.Commands.{command_line, show_name, landmarks_name, audit_name, build_name, check_name, locate_name, export_name, draw_name};
 ghost use Rattle.tl_plan.specs.CommandLine.{request_in, named_in};
-ghost use Rattle.tl_plan.specs.CommandLine.{AreChosen, AskFor, StopsPlanning, IsPlanOf, IsConversionOf};
+ghost use Rattle.tl_plan.specs.CommandLine.{AreChosen, AskForTask, AskForFaults, AskForTold, StopsPlanning, IsSwitch, IsTaskOf, IsConversionOf};
+ghost use Rattle.tl_plan.specs.Asked.{IsAuditPlan};
 ghost use Rattle.tl_plan.specs.Plans.{ShowsNoEscape};
 
-use crate::budget::{budget_of, most_of};
+use crate::budget::{Told, budget_of, told_by};
 use crate::command_line::command;
 use crate::first_word::unread;
-use crate::plan::{Plan, PlanStop};
+use crate::plan::{Plan, PlanStop, Task};
 use crate::point::point_of;
 use crate::refusal::{misuse, stop_of};
+use crate::view::view_of;
 use clap::{ArgMatches, Command, Error};
 use std::alloc::{AllocError, Global};
 use std::convert::AsStr;
 use tl_record::Options;
 
-/// The plan that the words after the program's name stand for. `PlanStop::Usage` comes for words that are no command
+/// The task that the words after the program's name stand for. `PlanStop::Usage` comes for words that are no command
 /// of the program, no words among them, and `PlanStop::Help` for those that ask for help or for the version; both come
 /// with the text that `clap` has for them.
-pub fn plan<S: AsStr>(alloc: Global, words: &[S]) -> Result<Plan, PlanStop>
-    // The plan is what the words ask for: they are none that `clap` has an error for, and its command, its switches, its
-    // budget or number of faults, and the names of its files, word for word and in their order, are theirs.
-    ensures plan { IfOk result (AskFor (map S.text words.now)) }
+pub fn task<S: AsStr>(alloc: Global, words: &[S]) -> Result<Task, PlanStop>
+    // The task is what the words ask for: they are none that `clap` has an error for, and its command, its switches, its
+    // budget or number of faults, its view, and the names of its files, word for word and in their order, are theirs.
+    ensures task { IfOk result (AskForTask (map S.text words.now)) }
     // Words that are a use of a command are refused for want of memory alone, and words of which the first shows that they are
     // none never for that.
     ensures stops { IfErr result (StopsPlanning (map S.text words.now)) }
@@ -40,42 +42,43 @@ pub fn plan<S: AsStr>(alloc: Global, words: &[S]) -> Result<Plan, PlanStop>
     let Ok(mut command) = command(alloc) else {
         return Err(unread(alloc, words));
     };
-    plan_by(alloc, &mut command, words)
+    task_by(alloc, &mut command, words)
 }
 
-// The plan of the words by this command line.
-fn plan_by<'a, S: AsStr>(
+// The task of the words by this command line.
+fn task_by<'a, S: AsStr>(
     alloc: Global,
     command: &mut Command<'a>,
     words: &'a [S],
-) -> Result<Plan, PlanStop>
+) -> Result<Task, PlanStop>
     requires { app_of command.old ≡ command_line }
-    ensures plan { IfOk result (AskFor (map S.text words.now)) }
+    ensures task { IfOk result (AskForTask (map S.text words.now)) }
     ensures stops { IfErr result (StopsPlanning (map S.text words.now)) }
     ensures texts { IfErr result ShowsNoEscape }
 {
     match command.try_get_matches_from_mut(words) {
-        Ok(matches) => plan_in(alloc, command, words, &matches),
+        Ok(matches) => task_in(alloc, command, words, &matches),
         Err(error) => Err(stop_by(alloc, &error, words)),
     }
 }
 
-// The plan of words that `clap` takes, by what it found in them.
-fn plan_in<S: AsStr>(
+// The task of words that `clap` takes, by what it found in them.
+fn task_in<S: AsStr>(
     alloc: Global,
     command: &mut Command<'_>,
     words: &[S],
     matches: &ArgMatches<'_>,
-) -> Result<Plan, PlanStop>
+) -> Result<Task, PlanStop>
     requires found { subcommand_rows_of matches.now ≡ subcommand_of command_line (map S.text words.now) }
     requires taken { fault_of command_line (map S.text words.now) ≡ [] }
-    ensures plan { IfOk result (AskFor (map S.text words.now)) }
+    ensures task { IfOk result (AskForTask (map S.text words.now)) }
     ensures stops { IfErr result (StopsPlanning (map S.text words.now)) }
     ensures texts { IfErr result ShowsNoEscape }
 {
-    match plan_of(alloc, matches)? {
-        Some(plan) => Ok(plan),
-        // The words name a number or a point that isn't spelt so, or --most and no --all: clap has refused others before.
+    match task_of(alloc, matches)? {
+        Some(task) => Ok(task),
+        // The words name a number or a point that isn't spelt so, or one option and not the other that it needs: clap has
+        // refused others before.
         None => Err(misuse(alloc, command, matches)),
     }
 }
@@ -93,9 +96,9 @@ fn stop_by<S: AsStr>(alloc: Global, error: &Error, words: &[S]) -> PlanStop
     }
 }
 
-// The plan that the matches stand for, where they name a command with files.
-fn plan_of(alloc: Global, matches: &ArgMatches<'_>) -> Result<Option<Plan>, AllocError>
-    ensures { IfOk result (IsPlanOf (named_in (subcommand_rows_of matches.now))) }
+// The task that the matches stand for, where they name a command with files.
+fn task_of(alloc: Global, matches: &ArgMatches<'_>) -> Result<Option<Task>, AllocError>
+    ensures { IfOk result (IsTaskOf (named_in (subcommand_rows_of matches.now))) }
 {
     if let Some(show) = matches.subcommand_matches("show") {
         return show_of(alloc, show);
@@ -118,39 +121,51 @@ fn plan_of(alloc: Global, matches: &ArgMatches<'_>) -> Result<Option<Plan>, Allo
     if let Some(convert) = matches.subcommand_matches("convert") {
         return conversion_of(alloc, convert);
     }
+    if let Some(export) = matches.subcommand_matches("export") {
+        return export_of(alloc, export);
+    }
+    if let Some(draw) = matches.subcommand_matches("draw") {
+        return drawing_of(alloc, draw);
+    }
     Ok(None)
 }
 
 // The listing of chains that the command's words name, where they name a file.
-fn show_of(alloc: Global, command: &ArgMatches<'_>) -> Result<Option<Plan>, AllocError>
-    ensures { IfOk result (IsPlanOf (Some (request_in (show_name, rows_of (found_of command.now))))) }
+fn show_of(alloc: Global, command: &ArgMatches<'_>) -> Result<Option<Task>, AllocError>
+    ensures { IfOk result (IsTaskOf (Some (request_in (show_name, rows_of (found_of command.now))))) }
 {
     let files = files_of(alloc, command)?;
     if files.is_empty() {
         return Ok(None);
     }
-    Ok(Some(Plan::Show {
-        options: options_of(command, None),
-        files,
+    Ok(Some(Task::Plan {
+        plan: Plan::Show {
+            options: options_of(command, None),
+            files,
+        },
+        progress: false,
     }))
 }
 
 // The listing of landmarks that the command's words name, where they name a file.
-fn landmarks_of(alloc: Global, command: &ArgMatches<'_>) -> Result<Option<Plan>, AllocError>
-    ensures { IfOk result (IsPlanOf (Some (request_in (landmarks_name, rows_of (found_of command.now))))) }
+fn landmarks_of(alloc: Global, command: &ArgMatches<'_>) -> Result<Option<Task>, AllocError>
+    ensures { IfOk result (IsTaskOf (Some (request_in (landmarks_name, rows_of (found_of command.now))))) }
 {
     let files = files_of(alloc, command)?;
     if files.is_empty() {
         return Ok(None);
     }
-    Ok(Some(Plan::Landmarks {
-        options: options_of(command, None),
-        files,
+    Ok(Some(Task::Plan {
+        plan: Plan::Landmarks {
+            options: options_of(command, None),
+            files,
+        },
+        progress: false,
     }))
 }
 
 // The conversion that the command's words name, where they name both certificates.
-fn conversion_of(alloc: Global, command: &ArgMatches<'_>) -> Result<Option<Plan>, AllocError>
+fn conversion_of(alloc: Global, command: &ArgMatches<'_>) -> Result<Option<Task>, AllocError>
     ensures { IfOk result (IsConversionOf (first_of (codes "cert") (rows_of (found_of command.now)))
         (first_of (codes "out") (rows_of (found_of command.now)))) }
 {
@@ -160,15 +175,18 @@ fn conversion_of(alloc: Global, command: &ArgMatches<'_>) -> Result<Option<Plan>
     let Some(made) = command.get_str("out") else {
         return Ok(None);
     };
-    Ok(Some(Plan::Convert {
-        cert: String::from_str(alloc, cert)?,
-        made: String::from_str(alloc, made)?,
+    Ok(Some(Task::Plan {
+        plan: Plan::Convert {
+            cert: String::from_str(alloc, cert)?,
+            made: String::from_str(alloc, made)?,
+        },
+        progress: false,
     }))
 }
 
 // What the command's words ask of a point, where they spell one.
-fn locate_of(alloc: Global, command: &ArgMatches<'_>) -> Result<Option<Plan>, AllocError>
-    ensures { IfOk result (IsPlanOf (Some (request_in (locate_name, rows_of (found_of command.now))))) }
+fn locate_of(alloc: Global, command: &ArgMatches<'_>) -> Result<Option<Task>, AllocError>
+    ensures { IfOk result (IsTaskOf (Some (request_in (locate_name, rows_of (found_of command.now))))) }
 {
     let Some(word) = command.get_str("point") else {
         return Ok(None);
@@ -180,55 +198,103 @@ fn locate_of(alloc: Global, command: &ArgMatches<'_>) -> Result<Option<Plan>, Al
     if files.is_empty() {
         return Ok(None);
     }
-    Ok(Some(Plan::Locate {
-        point,
-        options: options_of(command, None),
-        files,
+    Ok(Some(Task::Plan {
+        plan: Plan::Locate {
+            point,
+            options: options_of(command, None),
+            files,
+        },
+        progress: false,
     }))
 }
 
 // The audit that the command's words name, where they name a file, and a number of faults only beside --all.
-fn audit_of(alloc: Global, command: &ArgMatches<'_>) -> Result<Option<Plan>, AllocError>
-    ensures { IfOk result (IsPlanOf (Some (request_in (audit_name, rows_of (found_of command.now))))) }
+fn audit_of(alloc: Global, command: &ArgMatches<'_>) -> Result<Option<Task>, AllocError>
+    ensures { IfOk result (IsTaskOf (Some (request_in (audit_name, rows_of (found_of command.now))))) }
 {
-    if is_set(command.get_str("all")) {
-        return audit_all_of(alloc, command);
-    }
-    if command.get_str("most").is_some() {
-        return Ok(None);
-    }
-    let files = files_of(alloc, command)?;
-    if files.is_empty() {
-        return Ok(None);
-    }
-    Ok(Some(Plan::Audit {
-        options: options_with_zero_cells(command),
-        files,
-    }))
-}
-
-// The audit of all faults that the command's words name, where they name a file, and their number is spelt as one.
-fn audit_all_of(alloc: Global, command: &ArgMatches<'_>) -> Result<Option<Plan>, AllocError>
-    requires { first_of (codes "all") (rows_of (found_of command.now)) ≡ Some (codes "true") }
-    ensures { IfOk result (IsPlanOf (Some (request_in (audit_name, rows_of (found_of command.now))))) }
-{
-    let Some(most) = most_of(command.get_str("most")) else {
+    let Some(faults) = told_of(command) else {
         return Ok(None);
     };
     let files = files_of(alloc, command)?;
     if files.is_empty() {
         return Ok(None);
     }
-    Ok(Some(Plan::AuditAll {
-        most,
+    Ok(Some(Task::Plan {
+        plan: audit_plan(faults, options_with_zero_cells(command), files),
+        progress: switch_of(command, "progress"),
+    }))
+}
+
+// How many faults the command's words ask for, by --all and --most. A number without --all asks for none, and so does one that
+// isn't spelt as one.
+fn told_of(command: &ArgMatches<'_>) -> Option<Told>
+    ensures { MatchOption result
+        (¬ AskForFaults (first_of (codes "all") (rows_of (found_of command.now)))
+        (first_of (codes "most") (rows_of (found_of command.now))))
+        (AskForTold (first_of (codes "all") (rows_of (found_of command.now)))
+        (first_of (codes "most") (rows_of (found_of command.now)))) }
+{
+    told_by(command.get_str("all"), command.get_str("most"))
+}
+
+// The plan of an audit that tells so many faults.
+fn audit_plan(faults: Told, options: Options, files: Vec<String>) -> Plan
+    ensures { IsAuditPlan faults options (map string_bytes files.items) result }
+{
+    match faults {
+        Told::One => Plan::Audit { options, files },
+        Told::All(most) => Plan::AuditAll {
+            most,
+            options,
+            files,
+        },
+    }
+}
+
+// The file of GeoJSON that the command's words ask for, where they name it and a file.
+fn export_of(alloc: Global, command: &ArgMatches<'_>) -> Result<Option<Task>, AllocError>
+    ensures { IfOk result (IsTaskOf (Some (request_in (export_name, rows_of (found_of command.now))))) }
+{
+    let Some(name) = command.get_str("geojson") else {
+        return Ok(None);
+    };
+    let files = files_of(alloc, command)?;
+    if files.is_empty() {
+        return Ok(None);
+    }
+    Ok(Some(Task::Export {
+        made: String::from_str(alloc, name)?,
+        options: options_of(command, None),
+        files,
+    }))
+}
+
+// The picture that the command's words ask for, where they name it and a file, and spell a view or none.
+fn drawing_of(alloc: Global, command: &ArgMatches<'_>) -> Result<Option<Task>, AllocError>
+    ensures { IfOk result (IsTaskOf (Some (request_in (draw_name, rows_of (found_of command.now))))) }
+{
+    let Some(name) = command.get_str("out") else {
+        return Ok(None);
+    };
+    let Some(view) = view_of(command.get_str("at"), command.get_str("width")) else {
+        return Ok(None);
+    };
+    let files = files_of(alloc, command)?;
+    if files.is_empty() {
+        return Ok(None);
+    }
+    Ok(Some(Task::Draw {
+        made: String::from_str(alloc, name)?,
+        view,
+        faults: switch_of(command, "faults"),
         options: options_with_zero_cells(command),
         files,
     }))
 }
 
 // The certificate that the command's words ask to be built, where they name it and a file.
-fn build_of(alloc: Global, command: &ArgMatches<'_>) -> Result<Option<Plan>, AllocError>
-    ensures { IfOk result (IsPlanOf (Some (request_in (build_name, rows_of (found_of command.now))))) }
+fn build_of(alloc: Global, command: &ArgMatches<'_>) -> Result<Option<Task>, AllocError>
+    ensures { IfOk result (IsTaskOf (Some (request_in (build_name, rows_of (found_of command.now))))) }
 {
     let Some(name) = command.get_str("out") else {
         return Ok(None);
@@ -237,16 +303,19 @@ fn build_of(alloc: Global, command: &ArgMatches<'_>) -> Result<Option<Plan>, All
     if files.is_empty() {
         return Ok(None);
     }
-    Ok(Some(Plan::Build {
-        made: String::from_str(alloc, name)?,
-        options: options_with_zero_cells(command),
-        files,
+    Ok(Some(Task::Plan {
+        plan: Plan::Build {
+            made: String::from_str(alloc, name)?,
+            options: options_with_zero_cells(command),
+            files,
+        },
+        progress: switch_of(command, "progress"),
     }))
 }
 
 // The check that the command's words name, where their number of tests is spelt as one.
-fn check_of(alloc: Global, command: &ArgMatches<'_>) -> Result<Option<Plan>, AllocError>
-    ensures { IfOk result (IsPlanOf (Some (request_in (check_name, rows_of (found_of command.now))))) }
+fn check_of(alloc: Global, command: &ArgMatches<'_>) -> Result<Option<Task>, AllocError>
+    ensures { IfOk result (IsTaskOf (Some (request_in (check_name, rows_of (found_of command.now))))) }
 {
     let Some(cert) = command.get_str("cert") else {
         return Ok(None);
@@ -258,11 +327,14 @@ fn check_of(alloc: Global, command: &ArgMatches<'_>) -> Result<Option<Plan>, All
     if files.is_empty() {
         return Ok(None);
     }
-    Ok(Some(Plan::Check {
-        cert: String::from_str(alloc, cert)?,
-        budget,
-        options: options_with_zero_cells(command),
-        files,
+    Ok(Some(Task::Plan {
+        plan: Plan::Check {
+            cert: String::from_str(alloc, cert)?,
+            budget,
+            options: options_with_zero_cells(command),
+            files,
+        },
+        progress: switch_of(command, "progress"),
     }))
 }
 
@@ -291,6 +363,13 @@ fn options_of(command: &ArgMatches<'_>, zero_cells: Option<&str>) -> Options
         zero_cells: is_set(zero_cells),
         released: is_set(command.get_str("released")),
     }
+}
+
+// Whether the switch of this name is given.
+fn switch_of(command: &ArgMatches<'_>, name: &str) -> bool
+    ensures { IsSwitch (first_of name.now (rows_of (found_of command.now))) result }
+{
+    is_set(command.get_str(name))
 }
 
 // Whether a switch's value is the one that it has where it is given.

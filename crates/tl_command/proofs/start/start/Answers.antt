@@ -1,37 +1,11 @@
+use Rattle.std.proofs.Common.{inl, map, string_bytes}
+use Rattle.tl_making.specs.Opening.{FilesFail}
+use Rattle.tl_command.proofs.StartLemmas.{starts_unplanned}
 use Rattle.tl_command.proofs.start.start.Goals as goal
 
-pub returns-clause-status : goal.returns-clause-status
-returns-clause-status g c = c.start_by.ensures.is_status
+pub returns-in-Ok : goal.returns-in-Ok
+returns-in-Ok g c = c.perform.ensures (map string_bytes c.args.words.now) c.in-Ok.ensures.task
 
-pub returns-clause-usage : goal.returns-clause-usage
-returns-clause-usage g c = c.start_by.ensures.usage
-
-pub returns-clause-done : goal.returns-clause-done
-returns-clause-done g c = c.start_by.ensures.done
-
-pub returns-clause-fault : goal.returns-clause-fault
-returns-clause-fault g c = c.start_by.ensures.fault
-
-pub returns-clause-cert_fault : goal.returns-clause-cert_fault
-returns-clause-cert_fault g c = c.start_by.ensures.cert_fault
-
-pub returns-clause-refused : goal.returns-clause-refused
-returns-clause-refused g c = c.start_by.ensures.refused
-
-pub returns-clause-stopped : goal.returns-clause-stopped
-returns-clause-stopped g c = c.start_by.ensures.stopped
-
-pub returns-clause-err_stays : goal.returns-clause-err_stays
-returns-clause-err_stays g c = c.start_by.ensures.err_stays
-
-pub returns-clause-out_stays : goal.returns-clause-out_stays
-returns-clause-out_stays g c = c.start_by.ensures.out_stays
-
-pub returns-clause-exactly : goal.returns-clause-exactly
-returns-clause-exactly g c = c.start_by.ensures.exactly
-
-pub returns-clause-begun : goal.returns-clause-begun
-returns-clause-begun g c = c.start_by.ensures.begun
-
-pub returns-clause-files : goal.returns-clause-files
-returns-clause-files g c = c.start_by.ensures.files
+pub returns-in-Err : goal.returns-in-Err
+returns-in-Err g c =
+    inl (starts_unplanned (map string_bytes c.args.words.now) _ _ _ (FilesFail g.F.Reader.Source.failure_count g.F.Draft.Sink.failure_count g.F.FileSystem.knows (g.F.FileSystem.under c.args.files.now)) _ _ c.in-Err.stop _ _ c.in-Err.ensures.stops c.in-Err.ensures.texts c.tell_stop.ensures)

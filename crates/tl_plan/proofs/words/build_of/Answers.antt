@@ -18,15 +18,18 @@ pub returns : goal.returns
 returns c =
     let out = c.get_str.ensures ∙ first_value-rows (found_of c.args.command.now) (codes "out") in
     let items : 0 < length c.in_ok-files.files.items = search (rules, arith, nat_tests) in
-    let files = are_given (all_of (codes "files") (rows_of (found_of c.args.command.now))) c.in_ok-files.files.items c.in_ok-files.ensures items in record {
-      given = request_in (build_name, rows_of (found_of c.args.command.now));
-      same = refl;
-      named = refl;
-      to = is_given c.get_str.result _ c.in-Some.name out c.in-Some.is ∙ ap Some (sym c.in_ok-from_str.ensures.ok);
-      chosen = c.options_with_zero_cells.ensures;
-      are = files.0;
-      some_file = files.1;
-    }
+    let files = are_given (all_of (codes "files") (rows_of (found_of c.args.command.now))) c.in_ok-files.files.items c.in_ok-files.ensures items in (
+      record {
+        given = request_in (build_name, rows_of (found_of c.args.command.now));
+        same = refl;
+        named = refl;
+        to = is_given c.get_str.result _ c.in-Some.name out c.in-Some.is ∙ ap Some (sym c.in_ok-from_str.ensures.ok);
+        chosen = c.options_with_zero_cells.ensures;
+        are = files.0;
+        some_file = files.1;
+      },
+      (request_in (build_name, rows_of (found_of c.args.command.now)), refl, c.switch_of.ensures),
+    )
 
 pub returns-then-is_empty : goal.returns-then-is_empty
 returns-then-is_empty c =

@@ -25,16 +25,19 @@ returns c =
     let cert = c.get_str.ensures ∙ first_value-rows (found_of c.args.command.now) (codes "cert") in
     let tests = c.get_str-2.ensures ∙ first_value-rows (found_of c.args.command.now) (codes "tests") in
     let items : 0 < length c.in_ok-files.files.items = search (rules, arith, nat_tests) in
-    let files = are_given (all_of (codes "files") (rows_of (found_of c.args.command.now))) c.in_ok-files.files.items c.in_ok-files.ensures items in record {
-      given = request_in (check_name, rows_of (found_of c.args.command.now));
-      same = refl;
-      named = refl;
-      by = is_given c.get_str.result _ c.in-Some.cert cert c.in-Some.is ∙ ap Some (sym c.in_ok-from_str.ensures.ok);
-      tests = subst (λ (given : Option (List ℕ)). IsBudget given c.in-Some-budget_of.budget) tests c.in-Some-budget_of.ensures;
-      chosen = c.options_with_zero_cells.ensures;
-      are = files.0;
-      some_file = files.1;
-    }
+    let files = are_given (all_of (codes "files") (rows_of (found_of c.args.command.now))) c.in_ok-files.files.items c.in_ok-files.ensures items in (
+      record {
+        given = request_in (check_name, rows_of (found_of c.args.command.now));
+        same = refl;
+        named = refl;
+        by = is_given c.get_str.result _ c.in-Some.cert cert c.in-Some.is ∙ ap Some (sym c.in_ok-from_str.ensures.ok);
+        tests = subst (λ (given : Option (List ℕ)). IsBudget given c.in-Some-budget_of.budget) tests c.in-Some-budget_of.ensures;
+        chosen = c.options_with_zero_cells.ensures;
+        are = files.0;
+        some_file = files.1;
+      },
+      (request_in (check_name, rows_of (found_of c.args.command.now)), refl, c.switch_of.ensures),
+    )
 
 pub returns-then-is_empty : goal.returns-then-is_empty
 returns-then-is_empty c =

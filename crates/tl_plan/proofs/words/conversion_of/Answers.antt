@@ -1,4 +1,4 @@
-use Rattle.std.proofs.Common.{Some, codes, sym, ap, ◌∙◌}
+use Rattle.std.proofs.Common.{Some, codes, refl, sym, ap, ◌∙◌}
 use Rattle.clap.specs.Matches.{found_of}
 use Rattle.clap.proofs.WalkLemmas.{first_value-rows}
 use Rattle.tl_plan.proofs.WordsLemmas.{not_given, is_given}
@@ -20,4 +20,5 @@ returns c =
     let out = c.get_str-2.ensures ∙ first_value-rows (found_of c.args.command.now) (codes "out") in (
       is_given c.get_str.result _ c.in-Some.cert cert c.in-Some.is ∙ ap Some (sym c.in_ok-from_str.ensures.ok),
       is_given c.get_str-2.result _ c.in-Some-get_str.made out c.in-Some-get_str.is ∙ ap Some (sym c.in_ok-from_str-2.ensures.ok),
+      refl,
     )

@@ -26,17 +26,20 @@ pub returns : goal.returns
 returns c =
     let same = c.get_str.ensures ∙ first_value-rows (found_of c.args.command.now) (codes "point") in
     let items : 0 < length c.in_ok-files.files.items = search (rules, arith, nat_tests) in
-    let files = are_given (all_of (codes "files") (rows_of (found_of c.args.command.now))) c.in_ok-files.files.items c.in_ok-files.ensures items in record {
-      given = request_in (locate_name, rows_of (found_of c.args.command.now));
-      word = c.in-Some.word.now;
-      same = refl;
-      named = refl;
-      at = is_given c.get_str.result _ c.in-Some.word same c.in-Some.is;
-      spelt = c.in-Some-point_of.ensures;
-      chosen = c.options_of.ensures;
-      are = files.0;
-      some_file = files.1;
-    }
+    let files = are_given (all_of (codes "files") (rows_of (found_of c.args.command.now))) c.in_ok-files.files.items c.in_ok-files.ensures items in (
+      record {
+        given = request_in (locate_name, rows_of (found_of c.args.command.now));
+        word = c.in-Some.word.now;
+        same = refl;
+        named = refl;
+        at = is_given c.get_str.result _ c.in-Some.word same c.in-Some.is;
+        spelt = c.in-Some-point_of.ensures;
+        chosen = c.options_of.ensures;
+        are = files.0;
+        some_file = files.1;
+      },
+      refl,
+    )
 
 pub returns-then-is_empty : goal.returns-then-is_empty
 returns-then-is_empty c =

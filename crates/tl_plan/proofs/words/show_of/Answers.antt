@@ -10,14 +10,17 @@ use Rattle.tl_plan.proofs.words.show_of.Goals as goal
 pub returns : goal.returns
 returns c =
     let items : 0 < length c.in_ok-files.files.items = search (rules, arith, nat_tests) in
-    let files = are_given (all_of (codes "files") (rows_of (found_of c.args.command.now))) c.in_ok-files.files.items c.in_ok-files.ensures items in record {
-      given = request_in (show_name, rows_of (found_of c.args.command.now));
-      same = refl;
-      named = refl;
-      chosen = c.options_of.ensures;
-      are = files.0;
-      some_file = files.1;
-    }
+    let files = are_given (all_of (codes "files") (rows_of (found_of c.args.command.now))) c.in_ok-files.files.items c.in_ok-files.ensures items in (
+      record {
+        given = request_in (show_name, rows_of (found_of c.args.command.now));
+        same = refl;
+        named = refl;
+        chosen = c.options_of.ensures;
+        are = files.0;
+        some_file = files.1;
+      },
+      refl,
+    )
 
 pub returns-then-is_empty : goal.returns-then-is_empty
 returns-then-is_empty c =

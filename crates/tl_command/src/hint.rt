@@ -1,0 +1,158 @@
+//! What helps who reads that a line is refused, or that a device failed: the outermost layer of the program.
+
+ghost use Rattle.std.specs.Prelude.{◌≡◌, ◌++◌, IfOk, OnOk, OnErr, map, string_bytes};
+ghost use Rattle.tl_output.specs.Writing.{Writes, WritesSome};
+ghost use Rattle.tl_answers.specs.Running.{TriesToWrite};
+ghost use Rattle.tl_making.specs.Opening.{FilesFail};
+ghost use Rattle.tl_export.specs.Exports.{SomeFileFails};
+ghost use Rattle.tl_command.specs.Tasks.{Starts};
+ghost use Rattle.tl_command.specs.Hinting.{HintsAfter, HintsTask, options_for, record_names, certificate_names, lists_refusals, hinted_names};
+
+use crate::start::start;
+use std::alloc::{AllocError, Global};
+use std::hash::RandomState;
+use std::slice;
+use tl_answers::stop::{REFUSED, STOPPED};
+use tl_files::FileSystem;
+use tl_hint::{HintStop, tell_hint};
+use tl_plan::{Plan, Task, words};
+use tl_record::{Options, Sink};
+
+// The columns where nothing is chosen.
+const PLAIN: Options = Options {
+    zero_cells: false,
+    released: false,
+};
+
+/// Does what the words after the program's name ask as [`start`] does, and gives its status. Behind a refused line and behind
+/// a device that failed it says what helps to find them, of the files as they stand then.
+pub fn start_with_hint<F: FileSystem, W: Sink, E: Sink>(
+    files: &mut F,
+    alloc: Global,
+    hasher: RandomState,
+    words: &[String],
+    out: &mut W,
+    err: &mut E,
+) -> u8
+    ensures { (told : E) × Starts (map string_bytes words.now) result (F.under files.old) (F.under files.new)
+        (Writes W.contents W.failure_count out.old out.new)
+        (TriesToWrite E.contents E.failure_count err.old told) (WritesSome W.contents W.failure_count out.old out.new)
+        (FilesFail F.Reader.failure_count F.Draft.failure_count F.knows (F.under files.old))
+        (SomeFileFails F.Reader.failure_count F.Draft.failure_count F.knows (F.under files.old))
+        (out.new ≡ out.old) (told ≡ err.old)
+        × HintsAfter (map string_bytes words.now) result (F.under files.new)
+        (TriesToWrite E.contents E.failure_count told err.new) (err.new ≡ told) }
+{
+    let status = start(files, alloc, hasher, words, out, err);
+    hint(&*files, alloc, words, status, err);
+    status
+}
+
+// Says what helps behind this status of a command.
+fn hint<F: FileSystem, E: Sink>(files: &F, alloc: Global, words: &[String], status: u8, err: &mut E)
+    ensures { HintsAfter (map string_bytes words.now) status (F.under files.now)
+        (TriesToWrite E.contents E.failure_count err.old err.new) (err.new ≡ err.old) }
+{
+    if status != REFUSED && status != STOPPED {
+        return;
+    }
+    if let Ok(task) = words::task(alloc, words) {
+        let _ = hint_of(files, alloc, &task, status, err);
+    }
+}
+
+// The same, of the task that the words ask for.
+fn hint_of<F: FileSystem, E: Sink>(
+    files: &F,
+    alloc: Global,
+    task: &Task,
+    status: u8,
+    err: &mut E,
+) -> Result<(), HintStop>
+    ensures hint { OnOk result (HintsTask task.now status (F.under files.now)
+        (TriesToWrite E.contents E.failure_count err.old err.new)) }
+    ensures stop { OnErr result (err.new ≡ err.old) }
+{
+    let names = names_for(alloc, task, status)?;
+    tell_hint(files, alloc, &names, options_of(task), status, err)
+}
+
+// The names of the files of which something may be said: of the records where a line of them is refused that isn't among those
+// that are listed, and where it stopped, of the certificate too.
+fn names_for(alloc: Global, task: &Task, status: u8) -> Result<Vec<String>, AllocError>
+    ensures { IfOk result (λ names. map string_bytes names.items ≡ hinted_names task.now status) }
+{
+    let mut names = Vec::new(alloc);
+    if status == REFUSED && is_listing(task) {
+        return Ok(names);
+    }
+    append(alloc, &mut names, names_of(task))?;
+    if status != REFUSED {
+        append(alloc, &mut names, certificates_of(task))?;
+    }
+    Ok(names)
+}
+
+// Appends names.
+fn append(alloc: Global, names: &mut Vec<String>, more: &[String]) -> Result<(), AllocError>
+    ensures { OnOk result (map string_bytes names.new.items
+        ≡ map string_bytes names.old.items ++ map string_bytes more.now) }
+{
+    for name in more {
+        names.push(String::from_str(alloc, name.as_str())?)?;
+    }
+    Ok(())
+}
+
+// Whether the task lists all lines that are refused.
+fn is_listing(task: &Task) -> bool
+    ensures { result ≡ lists_refusals task.now }
+{
+    match task {
+        Task::Plan { plan, .. } => matches!(plan, Plan::AuditAll { .. }),
+        Task::Export { .. } | Task::Draw { .. } => false,
+    }
+}
+
+// The names of the record files.
+fn names_of(task: &Task) -> &[String]
+    ensures { map string_bytes result.now ≡ record_names task.now }
+{
+    match task {
+        Task::Plan { plan, .. } => plan.files(),
+        Task::Export { files, .. } => files.as_slice(),
+        Task::Draw { files, .. } => files.as_slice(),
+    }
+}
+
+// The name of the certificate that is read, if one is.
+fn certificates_of(task: &Task) -> &[String]
+    ensures { map string_bytes result.now ≡ certificate_names task.now }
+{
+    match task {
+        Task::Plan { plan, .. } => match plan {
+            Plan::Check { cert, .. } | Plan::Convert { cert, .. } => slice::from_ref(cert),
+            _ => &[],
+        },
+        _ => &[],
+    }
+}
+
+// The columns that the task chooses.
+fn options_of(task: &Task) -> Options
+    ensures { result ≡ options_for task.now }
+{
+    match task {
+        Task::Plan { plan, .. } => match plan {
+            Plan::Show { options, .. }
+            | Plan::Landmarks { options, .. }
+            | Plan::Locate { options, .. }
+            | Plan::Check { options, .. }
+            | Plan::Audit { options, .. }
+            | Plan::AuditAll { options, .. }
+            | Plan::Build { options, .. } => *options,
+            Plan::Convert { .. } => PLAIN,
+        },
+        Task::Export { options, .. } | Task::Draw { options, .. } => *options,
+    }
+}

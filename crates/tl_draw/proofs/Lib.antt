@@ -1,0 +1,3 @@
+-- Lemmas on drawing.
+pub mod DrawLemmas
+pub mod SubjectLemmas

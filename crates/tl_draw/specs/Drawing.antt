@@ -1,0 +1,113 @@
+-- What drawing a county answers, over the files of a file system. `before` and `after` say what stands under each name, where
+-- that is known; `wrote` and `told` say of a text that it was written to the output and to the error output; `part` that a
+-- beginning of it was written to the output, and that a write failed; `failed` that a file failed.
+use Rattle.std.specs.Prelude.{◌≡◌, ◌≢◌, ◌⊎◌, ℕ, Bool, true, false, List, ◌++◌, Option, Some, None, IfSome, Contains, codes, decimal, ⊤}
+use Rattle.tl_record.specs.declared.layout.Layout.{Layout}
+use Rattle.tl_record.specs.Records.{records_of}
+use Rattle.tl_drawn.specs.Reading.{IsReadFrom}
+use Rattle.tl_county.specs.TheMap.{TheMap}
+use Rattle.tl_verdict.specs.declared.fault.MapFault.{MapFault}
+use Rattle.tl_verdict.specs.declared.stop.Stop.TheVariants.{Device}
+use Rattle.tl_files.specs.Files.{Under, bytes_under, beside}
+use Rattle.tl_text.specs.Joining.{failures_of}
+use Rattle.tl_files.specs.declared.beginning.FileKind.TheVariants.{Picture as PictureKind}
+use Rattle.tl_output.specs.Writing.{line_of}
+use Rattle.tl_plan.specs.declared.plan.View.{View}
+use Rattle.tl_answers.specs.declared.stop.TheConstants.{DONE, MAP_FAULT, REFUSED, STOPPED, USAGE}
+use Rattle.tl_answers.specs.Running.{NamesRecordFault, NamesRefusal, NamesStop, IsTold}
+use Rattle.tl_answers.specs.Lines.{IsLine}
+use Rattle.tl_drawn.specs.Messages.{fault_text}
+use Rattle.tl_making.specs.Opening.{RefusesName, SomeRead, SomeWrite}
+use Rattle.tl_svg.specs.declared.frame.Frame.{Frame}
+use Rattle.tl_svg.specs.declared.picture.Picture.{Picture}
+use Rattle.tl_svg.specs.Frames.{fitted, frame_at}
+use Rattle.tl_svg.specs.Pictures.{picture_of, chain_count, fault_count}
+use Rattle.tl_svg.specs.Texts.{picture_text}
+use Rattle.tl_draw.specs.declared.subject.Subject.{Subject}
+use Rattle.tl_draw.specs.declared.subject.Unread.{Unread}
+use Rattle.tl_draw.specs.declared.subject.Unread.TheVariants.{Fault, Stopped}
+use Rattle.tl_draw.specs.Subjects.{AreToShow}
+
+-- the frame of a picture: about a place, or fitted to the map
+abbrev pub frame_of : Option View → TheMap → Frame
+frame_of None m = fitted m.chains
+frame_of (Some view) m = frame_at view.center view.width
+
+-- the picture of a map
+abbrev pub picture_by : Option View → TheMap → Picture
+picture_by view m = picture_of (frame_of view m) m
+
+-- how many chains are shown, and how many faults, where they are asked for
+abbrev pub drawn_text : ℕ → Option ℕ → List ℕ
+drawn_text chains None = codes "drawn chains=" ++ decimal chains
+drawn_text chains (Some faults) = codes "drawn chains=" ++ decimal chains ++ codes " faults=" ++ decimal faults
+
+-- the number of faults that are shown, where they are asked for
+abbrev pub shown_count : Bool → Frame → TheMap → List MapFault → Option ℕ
+shown_count false f m faults = None
+shown_count true f m faults = Some (fault_count f m faults)
+
+-- the line of what a picture shows
+abbrev pub drawn_line : Picture → Bool → TheMap → List MapFault → List ℕ
+drawn_line picture shows m faults = line_of (drawn_text (chain_count picture m) (shown_count shows picture.frame m faults))
+
+-- the picture of the map that the records draw, with the faults to show, stands, and its line was written
+pub record IsDrawn (layout : Layout) (known : Option (List ℕ)) (view : Option View) (shows : Bool) (stands wrote : List ℕ → Type 0) : Type 0 where
+  pub map : TheMap
+  pub faults : List MapFault
+  pub drawn : IfSome known (λ text. IsReadFrom (records_of layout text) map × AreToShow shows map faults)
+  pub kept : stands (picture_text map (picture_by view map) faults)
+  pub written : wrote (drawn_line (picture_by view map) shows map faults)
+
+-- a file of this text stands under a name
+abbrev pub StandsUnder : Under → List ℕ → List ℕ → Type 0
+StandsUnder after name text = IfSome (after name) (λ file. file ≡ Some text)
+
+-- each name but this one, and that of one that isn't whole yet, is as it was
+abbrev pub KeepsOthers : Under → Under → List ℕ → Type 0
+KeepsOthers before after made = (name : List ℕ) → name ≢ made → name ≢ beside made → after name ≡ before name
+
+-- so is this one, too
+abbrev pub KeepsAll : Under → Under → List ℕ → Type 0
+KeepsAll before after made = (name : List ℕ) → name ≢ beside made → after name ≡ before name
+
+-- what drawing into a file of this name answers
+pub record Draws (layout : Layout) (known : Option (List ℕ)) (made : List ℕ) (view : Option View) (shows : Bool) (read : List (List ℕ)) (status : ℕ) (before after : Under) (wrote told part : List ℕ → Type 0) (failed out_same err_same : Type 0) : Type 0 where
+  pub is_status : ((status ≡ DONE) ⊎ (status ≡ MAP_FAULT)) ⊎ ((status ≡ REFUSED) ⊎ ((status ≡ STOPPED) ⊎ (status ≡ USAGE)))
+  pub drawn : status ≡ DONE → IsDrawn layout known view shows (StandsUnder after made) wrote
+  pub fault : status ≡ MAP_FAULT → NamesRecordFault layout known (λ fault. ⊤) wrote
+  pub refused : status ≡ REFUSED → NamesRefusal layout known told × out_same
+  pub stopped : status ≡ STOPPED → NamesStop told failed ⊤ out_same
+      (IsDrawn layout known view shows (StandsUnder after made) part ⊎ NamesRecordFault layout known (λ fault. ⊤) part)
+  pub usage : status ≡ USAGE → RefusesName PictureKind before made read told × out_same
+  pub err_stays : (status ≡ DONE) ⊎ (status ≡ MAP_FAULT) → err_same
+  pub others : KeepsOthers before after made
+  pub unmade : (status ≢ DONE) → KeepsAll before after made ⊎ ((status ≡ STOPPED) × IsDrawn layout known view shows (StandsUnder after made) (λ line. ⊤))
+
+-- one of the files that are read has no bytes that are known, so that it may be that it can't be opened, or a read failed
+abbrev pub ReadsFail : {R : Type 0} → (reads : R → ℕ) → Under → List (List ℕ) → Type 0
+ReadsFail reads before read = ((name : List ℕ) × Contains read name × (bytes_under before name ≡ None)) ⊎ SomeRead (failures_of reads)
+
+-- the new file can't be made, or a write of it failed
+abbrev pub MakesFail : {D : Type 0} → (writes : D → ℕ) → (knows : Bool) → Type 0
+MakesFail writes knows = (knows ≡ false) ⊎ SomeWrite writes
+
+-- one of these failed, or it can't be told what stands under the name
+abbrev pub DrawFails : {R D : Type 0} → (reads : R → ℕ) → (writes : D → ℕ) → (knows : Bool) → Under → List ℕ → List (List ℕ) → Type 0
+DrawFails reads writes knows before made read = (bytes_under before made ≡ None) ⊎ (ReadsFail reads before read ⊎ MakesFail writes knows)
+
+-- how it is told why nothing is drawn
+abbrev pub TellsUnread : Unread → ℕ → (wrote told part : List ℕ → Type 0) → (out_same err_same : Type 0) → Type 0
+TellsUnread (Fault fault) status wrote told part out_same err_same =
+    IsLine status MAP_FAULT (line_of (fault_text fault)) wrote told part out_same err_same
+TellsUnread (Stopped stop) status wrote told part out_same err_same = IsTold stop status told × out_same
+
+-- how it is told what was drawn
+abbrev pub TellsDrawn : Picture → Bool → Subject → ℕ → (wrote told part : List ℕ → Type 0) → (out_same err_same : Type 0) → Type 0
+TellsDrawn picture shows subject status wrote told part out_same err_same =
+    IsLine status DONE (drawn_line picture shows subject.map subject.faults.items) wrote told part out_same err_same
+
+-- the same, or that the picture wasn't written whole
+abbrev pub TellsWritten : Bool → Picture → Bool → Subject → ℕ → (wrote told part : List ℕ → Type 0) → (out_same err_same : Type 0) → Type 0
+TellsWritten true picture shows subject status wrote told part out_same err_same = TellsDrawn picture shows subject status wrote told part out_same err_same
+TellsWritten false picture shows subject status wrote told part out_same err_same = IsTold Device status told × out_same

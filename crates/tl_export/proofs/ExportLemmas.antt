@@ -1,0 +1,178 @@
+-- What is answered of an export.
+use Rattle.std.proofs.Common.{◌≡◌, ◌≢◌, ◌⊎◌, inl, inr, ℕ, Bool, false, List, [], ◌∷◌, map, Option, Some, None, Result, Ok, Err, refl, sym, ap, ◌∙◌}
+use Rattle.std.specs.Prelude.{⊤}
+use Rattle.std.specs.Option.{IfSome, option_map}
+use Rattle.std.specs.Fmt.{option_append}
+use Rattle.tl_record.specs.declared.layout.Layout.{Layout}
+use Rattle.tl_record.specs.Records.{records_of}
+use Rattle.tl_county.specs.TheMap.{TheMap}
+use Rattle.tl_drawn.specs.declared.fault.MapStop.{MapStop}
+use Rattle.tl_drawn.specs.declared.fault.MapStop.TheVariants as map_stop
+use Rattle.tl_drawn.specs.Messages.{fault_text}
+use Rattle.tl_drawn.specs.Reading.{IsReadFrom}
+use Rattle.tl_files.specs.Files.{Under, bytes_under}
+use Rattle.tl_text.specs.Joining.{joined_bytes, closed}
+use Rattle.tl_output.specs.Writing.{line_of}
+use Rattle.tl_verdict.specs.declared.stop.Stop.{Stop}
+use Rattle.tl_verdict.specs.declared.stop.Stop.TheVariants.{Record, Memory, Device, Budget}
+use Rattle.tl_answers.specs.declared.stop.TheConstants.{DONE, MAP_FAULT, REFUSED, STOPPED, USAGE}
+use Rattle.tl_answers.specs.Running.{NamesRecordFault}
+use Rattle.tl_answers.proofs.ToldLemmas.{line_stops}
+use Rattle.tl_files.specs.declared.beginning.FileKind.TheVariants.{Collection}
+use Rattle.tl_making.specs.Opening.{RefusesName, StopsOpening}
+use Rattle.tl_making.proofs.OpenLemmas.{joined_same}
+use Rattle.tl_export.specs.declared.exported.Exported.{Exported}
+use Rattle.tl_export.specs.declared.exporting.Exporting.{Exporting}
+use Rattle.tl_export.specs.declared.exporting.Exporting.TheVariants.{Made, Fault}
+use Rattle.tl_export.specs.Told.{exported_text}
+use Rattle.tl_export.specs.Files.{StandsUnder, KeepsBut, KeepsEach}
+use Rattle.tl_export.specs.Exports.{SomeFileFails, Exports, ExportsMap, DrawsMap, IsMadeOf, made_by, unexported_by}
+use Rattle.tl_export.specs.Answering.{TellsExport, IsExported, ExportsOver, records_of_files}
+
+each_name : {A B C : Type 0} (f : B → C) (h : A → B) (xs : List A) → map (λ x. f (h x)) xs ≡ map f (map h xs)
+each_name f h [] = refl
+each_name f h (x ∷ xs) = ap (λ rest. f (h x) ∷ rest) (each_name f h xs)
+
+-- readers that give the bytes that stand under names give the joined text of these
+pub joined_under : {A B : Type 0} (f : A → Option (List ℕ)) (under : Under) (h : B → List ℕ) (xs : List A) (ys : List B) → map f xs ≡ map (λ y. bytes_under under (h y)) ys
+    → joined_bytes f false xs ≡ joined_bytes (bytes_under under) false (map h ys)
+joined_under f under h xs ys same = joined_same f (bytes_under under) false xs (map h ys) (same ∙ each_name (bytes_under under) h ys)
+
+-- what is exported of the records' map
+pub exports_of_map : (layout : Layout) (known : Option (List ℕ)) (before after : Under) (name : List ℕ) (file_failed failed : Type 0) (m : TheMap) (result : Result Exported Stop) → (file_failed → failed)
+    → IfSome known (λ text. IsReadFrom (records_of layout text) m) → ExportsMap m before after name file_failed result → Exports layout known before after name failed (made_by result)
+exports_of_map layout known before after name file_failed failed m (Ok exported) weaker drawn exports = (exports.0, (m, drawn, exports.1))
+exports_of_map layout known before after name file_failed failed m (Err (Record line cause)) weaker drawn exports = absurd exports.1
+exports_of_map layout known before after name file_failed failed m (Err Memory) weaker drawn exports = (exports.0, tt)
+exports_of_map layout known before after name file_failed failed m (Err Device) weaker drawn exports = (exports.0, weaker exports.1)
+exports_of_map layout known before after name file_failed failed m (Err Budget) weaker drawn exports = absurd exports.1
+
+-- records that have no map
+pub exports_none : (layout : Layout) (known : Option (List ℕ)) (before : Under) (name : List ℕ) (read_failed failed : Type 0) (stop : MapStop) → (read_failed → failed) → DrawsMap layout known read_failed (Err stop)
+    → Exports layout known before before name failed (unexported_by stop)
+exports_none layout known before name read_failed failed (map_stop.Fault fault) weaker draws = ((λ other b. refl), draws)
+exports_none layout known before name read_failed failed (map_stop.Refused line cause) weaker draws = ((λ other b. refl), draws)
+exports_none layout known before name read_failed failed map_stop.Memory weaker draws = ((λ other b. refl), tt)
+exports_none layout known before name read_failed failed map_stop.Device weaker draws = ((λ other b. refl), weaker draws)
+
+-- what comes of it, and how it was told
+pub over_export : (layout : Layout) (name : List ℕ) (read : List (List ℕ)) (before after : Under) (wrote told part : List ℕ → Type 0) (failed out_same err_same : Type 0) (result : Result Exporting Stop) (status : ℕ)
+    → Exports layout (records_of_files before read) before after name failed result → TellsExport result status wrote told part out_same err_same
+    → ExportsOver layout name read status before after wrote told part failed out_same err_same
+over_export layout name read before after wrote told part failed out_same err_same (Ok (Made exported)) status exports (inl is) = record {
+  is_status = inl (is.0);
+  exported = λ d. (exported, exports.1, is.1);
+  fault = λ d. absurd (cc (sym (is.0) ∙ d));
+  refused = λ d. absurd (cc (sym (is.0) ∙ d));
+  stopped = λ d. absurd (cc (sym (is.0) ∙ d));
+  usage = λ d. absurd (cc (sym (is.0) ∙ d));
+  err_stays = λ any. is.2;
+  out_stays = λ any. absurd (elim any [ inl d ↦ cc (sym (is.0) ∙ d) | inr d ↦ cc (sym (is.0) ∙ d) ]);
+  others = exports.0;
+  unmade = λ no_done no_stop. absurd (no_done (is.0));
+  kept = λ d. absurd (cc (sym (is.0) ∙ d));
+}
+over_export layout name read before after wrote told part failed out_same err_same (Ok (Made exported)) status exports (inr is) = record {
+  is_status = inr (inr (inr (inl (is.0))));
+  exported = λ d. absurd (cc (sym (is.0) ∙ d));
+  fault = λ d. absurd (cc (sym (is.0) ∙ d));
+  refused = λ d. absurd (cc (sym (is.0) ∙ d));
+  stopped = λ d. line_stops told failed ⊤ out_same (part (line_of (exported_text exported))) _ tt (λ cut. inl (exported, exports.1, cut)) is.1;
+  usage = λ d. absurd (cc (sym (is.0) ∙ d));
+  err_stays = λ any. absurd (elim any [ inl d ↦ cc (sym (is.0) ∙ d) | inr d ↦ cc (sym (is.0) ∙ d) ]);
+  out_stays = λ any. absurd (elim any [ inl d ↦ cc (sym (is.0) ∙ d) | inr d ↦ cc (sym (is.0) ∙ d) ]);
+  others = exports.0;
+  unmade = λ no_done no_stop. absurd (no_stop (is.0));
+  kept = λ d. inr (exported, exports.1);
+}
+over_export layout name read before after wrote told part failed out_same err_same (Ok (Fault fault)) status exports (inl is) = record {
+  is_status = inr (inl (is.0));
+  exported = λ d. absurd (cc (sym (is.0) ∙ d));
+  fault = λ d. record { fault = fault; written = is.1; is = tt; holds = exports.1 };
+  refused = λ d. absurd (cc (sym (is.0) ∙ d));
+  stopped = λ d. absurd (cc (sym (is.0) ∙ d));
+  usage = λ d. absurd (cc (sym (is.0) ∙ d));
+  err_stays = λ any. is.2;
+  out_stays = λ any. absurd (elim any [ inl d ↦ cc (sym (is.0) ∙ d) | inr d ↦ cc (sym (is.0) ∙ d) ]);
+  others = λ other n b. exports.0 other b;
+  unmade = λ no_done no_stop. exports.0;
+  kept = λ d. absurd (cc (sym (is.0) ∙ d));
+}
+over_export layout name read before after wrote told part failed out_same err_same (Ok (Fault fault)) status exports (inr is) = record {
+  is_status = inr (inr (inr (inl (is.0))));
+  exported = λ d. absurd (cc (sym (is.0) ∙ d));
+  fault = λ d. absurd (cc (sym (is.0) ∙ d));
+  refused = λ d. absurd (cc (sym (is.0) ∙ d));
+  stopped = λ d. line_stops told failed ⊤ out_same (part (line_of (fault_text fault))) _ tt (λ cut. inr (record { fault = fault; written = cut; is = tt; holds = exports.1 })) is.1;
+  usage = λ d. absurd (cc (sym (is.0) ∙ d));
+  err_stays = λ any. absurd (elim any [ inl d ↦ cc (sym (is.0) ∙ d) | inr d ↦ cc (sym (is.0) ∙ d) ]);
+  out_stays = λ any. absurd (elim any [ inl d ↦ cc (sym (is.0) ∙ d) | inr d ↦ cc (sym (is.0) ∙ d) ]);
+  others = λ other n b. exports.0 other b;
+  unmade = λ no_done no_stop. absurd (no_stop (is.0));
+  kept = λ d. inl exports.0;
+}
+over_export layout name read before after wrote told part failed out_same err_same (Err (Record line cause)) status exports tells = record {
+  is_status = inr (inr (inl (tells.0.0)));
+  exported = λ d. absurd (cc (sym (tells.0.0) ∙ d));
+  fault = λ d. absurd (cc (sym (tells.0.0) ∙ d));
+  refused = λ d. record { line = line; cause = cause; written = tells.0.1; first = exports.1 };
+  stopped = λ d. absurd (cc (sym (tells.0.0) ∙ d));
+  usage = λ d. absurd (cc (sym (tells.0.0) ∙ d));
+  err_stays = λ any. absurd (elim any [ inl d ↦ cc (sym (tells.0.0) ∙ d) | inr d ↦ cc (sym (tells.0.0) ∙ d) ]);
+  out_stays = λ any. tells.1;
+  others = λ other n b. exports.0 other b;
+  unmade = λ no_done no_stop. exports.0;
+  kept = λ d. absurd (cc (sym (tells.0.0) ∙ d));
+}
+over_export layout name read before after wrote told part failed out_same err_same (Err Memory) status exports tells = record {
+  is_status = inr (inr (inr (inl (tells.0.0))));
+  exported = λ d. absurd (cc (sym (tells.0.0) ∙ d));
+  fault = λ d. absurd (cc (sym (tells.0.0) ∙ d));
+  refused = λ d. absurd (cc (sym (tells.0.0) ∙ d));
+  stopped = λ d. inl (tells.0.1, tt, tells.1);
+  usage = λ d. absurd (cc (sym (tells.0.0) ∙ d));
+  err_stays = λ any. absurd (elim any [ inl d ↦ cc (sym (tells.0.0) ∙ d) | inr d ↦ cc (sym (tells.0.0) ∙ d) ]);
+  out_stays = λ any. absurd (elim any [ inl d ↦ cc (sym (tells.0.0) ∙ d) | inr d ↦ cc (sym (tells.0.0) ∙ d) ]);
+  others = λ other n b. exports.0 other b;
+  unmade = λ no_done no_stop. absurd (no_stop (tells.0.0));
+  kept = λ d. inl exports.0;
+}
+over_export layout name read before after wrote told part failed out_same err_same (Err Device) status exports tells = record {
+  is_status = inr (inr (inr (inl (tells.0.0))));
+  exported = λ d. absurd (cc (sym (tells.0.0) ∙ d));
+  fault = λ d. absurd (cc (sym (tells.0.0) ∙ d));
+  refused = λ d. absurd (cc (sym (tells.0.0) ∙ d));
+  stopped = λ d. inr (tells.0.1, inl (exports.1, tells.1));
+  usage = λ d. absurd (cc (sym (tells.0.0) ∙ d));
+  err_stays = λ any. absurd (elim any [ inl d ↦ cc (sym (tells.0.0) ∙ d) | inr d ↦ cc (sym (tells.0.0) ∙ d) ]);
+  out_stays = λ any. absurd (elim any [ inl d ↦ cc (sym (tells.0.0) ∙ d) | inr d ↦ cc (sym (tells.0.0) ∙ d) ]);
+  others = λ other n b. exports.0 other b;
+  unmade = λ no_done no_stop. absurd (no_stop (tells.0.0));
+  kept = λ d. inl exports.0;
+}
+over_export layout name read before after wrote told part failed out_same err_same (Err Budget) status exports tells = absurd exports.1
+
+-- a file that may not take its name
+pub over_refusal : (layout : Layout) (name : List ℕ) (read : List (List ℕ)) (before : Under) (wrote told part : List ℕ → Type 0) (failed out_same err_same : Type 0) (status : ℕ)
+    → status ≡ USAGE → RefusesName Collection before name read told → out_same → ExportsOver layout name read status before before wrote told part failed out_same err_same
+over_refusal layout name read before wrote told part failed out_same err_same status e refuses same = record {
+  is_status = inr (inr (inr (inr e)));
+  exported = λ d. absurd (cc (sym e ∙ d));
+  fault = λ d. absurd (cc (sym e ∙ d));
+  refused = λ d. absurd (cc (sym e ∙ d));
+  stopped = λ d. absurd (cc (sym e ∙ d));
+  usage = λ d. refuses;
+  err_stays = λ any. absurd (elim any [ inl d ↦ cc (sym e ∙ d) | inr d ↦ cc (sym e ∙ d) ]);
+  out_stays = λ any. same;
+  others = λ other n b. refl;
+  unmade = λ no_done no_stop other b. refl;
+  kept = λ d. absurd (cc (sym e ∙ d));
+}
+
+-- a name of which it can't be told whether a file may have it
+pub stops_asking : {R D : Type 0} (layout : Layout) (known : Option (List ℕ)) (reads : R → ℕ) (writes : D → ℕ) (knows : Bool) (before : Under) (name : List ℕ) (read : List (List ℕ)) (stop : Stop)
+    → StopsOpening (bytes_under before name ≡ None) stop → Exports layout known before before name (SomeFileFails reads writes knows before name read) (Err stop)
+stops_asking layout known reads writes knows before name read (Record line cause) stops = absurd stops
+stops_asking layout known reads writes knows before name read Memory stops = ((λ other b. refl), tt)
+stops_asking layout known reads writes knows before name read Device stops = ((λ other b. refl), inl (name, inr refl, stops))
+stops_asking layout known reads writes knows before name read Budget stops = absurd stops

@@ -1,0 +1,2 @@
+-- Lemmas on exports.
+pub mod ExportLemmas

@@ -1,0 +1,164 @@
+//! Counties that are exported over a file system.
+
+ghost use Rattle.std.specs.Prelude.{◌≡◌, ◌<◌, ◌^◌, false, length, map as map_list, string_bytes};
+ghost use Rattle.tl_record.specs.Layout.{layout_with};
+ghost use Rattle.tl_text.specs.Joining.{joined_bytes, failures_of};
+ghost use Rattle.tl_files.specs.Files.{bytes_under};
+ghost use Rattle.tl_verdict.specs.Sound.{IsSound};
+ghost use Rattle.tl_sides.specs.Walks.{AreWalks};
+ghost use Rattle.tl_answers.specs.Running.{FailsToRead};
+ghost use Rattle.tl_export.specs.Exports.{Exports, ExportsMap, SomeFileFails, DrawsMap, made_by, unexported_by};
+ghost use Rattle.tl_export.specs.Files.{NewFileFails};
+
+use crate::exported::Exported;
+use crate::exporting::Exporting;
+use crate::text_file::make_text_file;
+use std::alloc::Global;
+use std::hash::RandomState;
+use tl_build::{BuildStop, Built, build};
+use tl_county::Map;
+use tl_files::{FileKind, FileSystem};
+use tl_geojson::{CountyText, CountyTextWith};
+use tl_making::opening::{as_one_text, give_back, open_all, room_for_bytes};
+use tl_map::{MapStop, read_map_with};
+use tl_record::{Options, Source};
+use tl_verdict::Stop;
+
+/// Exports the map of the records in the files of these names, as GeoJSON under the name `made`. Where it stops, or the records
+/// have a fault, what stood under the name stays.
+pub fn export<F: FileSystem>(
+    files: &mut F,
+    alloc: Global,
+    hasher: RandomState,
+    made: &String,
+    options: Options,
+    names: &[String],
+) -> Result<Exporting, Stop>
+    ensures { Exports (layout_with options)
+        (joined_bytes (bytes_under (F.under files.old)) false (map_list string_bytes names.now))
+        (F.under files.old) (F.under files.new) (string_bytes made.now)
+        (SomeFileFails F.Reader.failure_count F.Draft.failure_count F.knows (F.under files.old) (string_bytes made.now)
+        (map_list string_bytes names.now)) result }
+{
+    let mut readers = match open_all(&*files, alloc, names) {
+        Ok(readers) => readers,
+        Err(stop) => return Err(stop),
+    };
+    match read_county(alloc, hasher, &mut readers, options) {
+        Ok(map) => made_of(export_map(files, alloc, made, &map)),
+        Err(stop) => unexported(stop),
+    }
+}
+
+// The map of the records that these readers give, read one after the other as one text.
+fn read_county<R: Source + Drop>(
+    alloc: Global,
+    hasher: RandomState,
+    readers: &mut Vec<R>,
+    options: Options,
+) -> Result<Map, MapStop>
+    ensures { DrawsMap (layout_with options) (joined_bytes R.remaining false readers.old.items)
+        (FailsToRead (failures_of R.failure_count) readers.old.items readers.new.items) result }
+{
+    let Ok(room) = room_for_bytes(alloc) else {
+        return Err(MapStop::Memory);
+    };
+    let mut records = as_one_text(alloc, readers, room);
+    let read = read_map_with(alloc, hasher, &mut records, options);
+    give_back(records, readers);
+    read
+}
+
+// What comes of it where a map was exported, or wasn't.
+fn made_of(exported: Result<Exported, Stop>) -> Result<Exporting, Stop>
+    ensures { result ≡ made_by exported }
+{
+    match exported {
+        Ok(exported) => Ok(Exporting::Made(exported)),
+        Err(stop) => Err(stop),
+    }
+}
+
+// What comes of it where the records have no map.
+fn unexported(stop: MapStop) -> Result<Exporting, Stop>
+    ensures { result ≡ unexported_by stop }
+{
+    match stop {
+        MapStop::Fault(fault) => Ok(Exporting::Fault(fault)),
+        MapStop::Refused { line, cause } => Err(Stop::Record { line, cause }),
+        MapStop::Memory => Err(Stop::Memory),
+        MapStop::Device => Err(Stop::Device),
+    }
+}
+
+// Exports a map, with its polygons' boundaries where it is sound.
+fn export_map<F: FileSystem>(
+    files: &mut F,
+    alloc: Global,
+    made: &String,
+    map: &Map,
+) -> Result<Exported, Stop>
+    ensures { ExportsMap map.now (F.under files.old) (F.under files.new) (string_bytes made.now)
+        (NewFileFails F.Draft.failure_count F.knows) result }
+{
+    match build(alloc, map) {
+        Ok(Built::Cert(certificate)) => export_sound(files, alloc, made, map, certificate.walks()),
+        Ok(Built::Fault(_)) => export_faulty(files, alloc, made, map),
+        Err(BuildStop::Memory) => Err(Stop::Memory),
+    }
+}
+
+// Exports a sound map, whose walks these are.
+fn export_sound<F: FileSystem>(
+    files: &mut F,
+    alloc: Global,
+    made: &String,
+    map: &Map,
+    walks: &[Vec<u32>],
+) -> Result<Exported, Stop>
+    requires sound { IsSound map.now }
+    requires walks { AreWalks map.now.chains (map_list (λ w. w.items) walks.now) }
+    requires counted { length walks.now < 2 ^ 32 }
+    ensures { ExportsMap map.now (F.under files.old) (F.under files.new) (string_bytes made.now)
+        (NewFileFails F.Draft.failure_count F.knows) result }
+{
+    let text = CountyTextWith { map, walks };
+    match make_text_file(files, alloc, made, FileKind::Collection, &text) {
+        Ok(()) => Ok(counts(map, Some(walks.len() as u32))),
+        Err(stop) => Err(stop),
+    }
+}
+
+// Exports a map that isn't sound.
+fn export_faulty<F: FileSystem>(
+    files: &mut F,
+    alloc: Global,
+    made: &String,
+    map: &Map,
+) -> Result<Exported, Stop>
+    requires { ¬ IsSound map.now }
+    ensures { ExportsMap map.now (F.under files.old) (F.under files.new) (string_bytes made.now)
+        (NewFileFails F.Draft.failure_count F.knows) result }
+{
+    match make_text_file(
+        files,
+        alloc,
+        made,
+        FileKind::Collection,
+        &CountyText { map },
+    ) {
+        Ok(()) => Ok(counts(map, None)),
+        Err(stop) => Err(stop),
+    }
+}
+
+// The numbers of a map that was exported, with so many rings.
+fn counts(map: &Map, rings: Option<u32>) -> Exported
+    ensures { result ≡ record { chains = length map.now.chains; polygons = length map.now.polygons; rings = rings } }
+{
+    Exported {
+        chains: map.chains(),
+        polygons: map.polygons(),
+        rings,
+    }
+}

@@ -1,0 +1,25 @@
+//! Counties as GeoJSON, and a printer for such texts.
+//!
+//! A [`Printer`] takes text on its way to a sink, and keeps its first failure. [`print_county`] and [`print_county_with`] write a
+//! county's chains and polygons as one FeatureCollection of RFC 7946, and say exactly which bytes are written. As a [`Text`] what is
+//! printed can be handed to whoever makes a file of it.
+#![tactic(auto)]
+
+mod areas;
+mod county;
+mod features;
+mod groups;
+mod polygons;
+mod positions;
+mod printer;
+mod rings;
+mod stop;
+mod strings;
+mod text;
+
+pub use county::{print_county, print_county_with};
+pub use positions::print_position;
+pub use printer::Printer;
+pub use stop::PrintStop;
+pub use strings::{print_key, print_string};
+pub use text::{CountyText, CountyTextWith, Text};

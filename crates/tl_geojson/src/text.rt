@@ -1,0 +1,64 @@
+//! Texts that are printed, and those of counties.
+
+use crate::county::{print_county, print_county_with};
+use crate::stop::PrintStop;
+use std::alloc::Global;
+use tl_county::Map;
+use tl_record::Sink;
+
+/// A text that is printed, whatever into.
+pub trait Text {
+    ghost use Rattle.std.specs.Prelude.{ℕ, List};
+    ghost use Rattle.tl_geojson.specs.Ending.{PrintsText};
+
+    // The text.
+    ghost text: { Self → List ℕ };
+
+    // What has to be true of it before it is printed.
+    ghost is_ready: { Self → Type 0 };
+
+    /// Prints the text.
+    fn print<S: Sink>(&self, alloc: Global, out: &mut S) -> Result<(), PrintStop>
+        requires { is_ready self.now }
+        ensures { PrintsText S.contents S.failure_count out.old out.new (text self.now) result };
+}
+
+/// A county's chains and its polygons' points.
+#[derive(Clone, Copy)]
+pub struct CountyText<'a> {
+    pub map: &'a Map,
+}
+
+impl Text for CountyText<'_> {
+    ghost use Rattle.std.specs.Prelude.{⊤};
+    ghost use Rattle.tl_geojson.specs.Rings.{county_text};
+
+    ghost text = { λ county. county_text county.map.now };
+
+    ghost is_ready = { λ county. ⊤ };
+
+    fn print<S: Sink>(&self, alloc: Global, out: &mut S) -> Result<(), PrintStop> {
+        print_county(alloc, self.map, out)
+    }
+}
+
+/// The same and its polygons' boundaries, which are of these walks.
+#[derive(Clone, Copy)]
+pub struct CountyTextWith<'a> {
+    pub map: &'a Map,
+    pub walks: &'a [Vec<u32>],
+}
+
+impl Text for CountyTextWith<'_> {
+    ghost use Rattle.std.specs.Prelude.{map as map_list};
+    ghost use Rattle.tl_sides.specs.Walks.{AreWalks};
+    ghost use Rattle.tl_geojson.specs.Rings.{county_text_with};
+
+    ghost text = { λ county. county_text_with county.map.now (map_list (λ w. w.items) county.walks.now) };
+
+    ghost is_ready = { λ county. AreWalks county.map.now.chains (map_list (λ w. w.items) county.walks.now) };
+
+    fn print<S: Sink>(&self, alloc: Global, out: &mut S) -> Result<(), PrintStop> {
+        print_county_with(alloc, self.map, self.walks, out)
+    }
+}

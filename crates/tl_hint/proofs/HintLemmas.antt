@@ -1,0 +1,133 @@
+-- What is told behind a status.
+use Rattle.std.proofs.Common.{◌≡◌, ◌≢◌, ℕ, zero, suc, ◌+◌, ◌<◌, ◌≤◌, List, [], ◌∷◌, ◌++◌, Option, None, Some, IfSome, Result, Ok, Err, IfOk, map, option_map, length, drop, get_or, slice_get, refl, sym, ap, ◌∙◌, arith, append_assoc, append-nil, drop-cons, add-one}
+use Rattle.std.proofs.lemmas.List.{drop_all}
+use Rattle.std.proofs.lemmas.Option.{slice_get-get_or, slice_get_past}
+use Rattle.tl_record.specs.declared.layout.Layout.{Layout}
+use Rattle.tl_record.specs.declared.stop.Cause.{Cause}
+use Rattle.tl_record.specs.declared.refusal.Refusal.{Refusal}
+use Rattle.tl_record.specs.Searching.{GivesRefusal}
+use Rattle.tl_record.specs.Refusals.{refusals_of}
+use Rattle.tl_where.specs.LinePlaces.{line_count, place_of}
+use Rattle.tl_where.specs.Finding.{Answers, IsCount}
+use Rattle.tl_text.specs.Joining.{joined}
+use Rattle.tl_files.specs.Files.{Under, bytes_under, trouble_of}
+use Rattle.tl_answers.specs.declared.stop.TheConstants.{REFUSED, STOPPED}
+use Rattle.tl_hint.specs.Hints.{refusal_hint, refusal_at, hint_at, hint_in}
+use Rattle.tl_hint.specs.Keeping.{IsFirstOf}
+use Rattle.tl_hint.specs.Telling.{HaveTexts, TellsRefusal, TellsWords, TellsTrouble, TellsHint}
+
+-- what holds of a text that was made holds where it is written
+words_told : (P Q : List ℕ → Type 0) → ((t : List ℕ) → P t → Q t) → (name : List ℕ) (words : Option (List ℕ)) (A B : Type 0) → (A → B) → TellsWords name words P A → TellsWords name words Q B
+words_told P Q f name None A B g told = g told
+words_told P Q f name (Some words) A B g told = f _ told
+
+some_told : (P Q : List ℕ → Type 0) → ((t : List ℕ) → P t → Q t) → (name : List ℕ) (file : Option (Option (List ℕ))) (A B : Type 0) → (A → B)
+    → IfSome file (λ f. TellsWords name (trouble_of f) P A) → IfSome file (λ f. TellsWords name (trouble_of f) Q B)
+some_told P Q f name None A B g told = tt
+some_told P Q f name (Some file) A B g told = words_told P Q f name (trouble_of file) A B g told
+
+trouble_told : (P Q : List ℕ → Type 0) → ((t : List ℕ) → P t → Q t) → (under : Under) (names : List (List ℕ)) → TellsTrouble under names P → TellsTrouble under names Q
+trouble_told P Q f under [] told = f [] told
+trouble_told P Q f under (name ∷ rest) told = some_told P Q f name (under name) (TellsTrouble under rest P) (TellsTrouble under rest Q) (trouble_told P Q f under rest) told
+
+pub hint_told : (P Q : List ℕ → Type 0) → ((t : List ℕ) → P t → Q t) → (status : ℕ) (layout : Layout) (under : Under) (names : List (List ℕ)) → TellsHint status layout under names P → TellsHint status layout under names Q
+hint_told P Q f status layout under names told = record {
+  refused = λ is texts have. f _ (told.refused is texts have);
+  stopped = λ is. trouble_told P Q f under names (told.stopped is);
+  other = λ no none. f [] (told.other no none);
+}
+
+-- ---- names, and the texts that stand under them
+
+pub fused : {A B C : Type 0} (f : B → C) (h : A → B) (xs : List A) → map f (map h xs) ≡ map (λ x. f (h x)) xs
+fused f h [] = refl
+fused f h (x ∷ xs) = ap (λ l. f (h x) ∷ l) (fused f h xs)
+
+module _ {A : Type 0} (h : A → List ℕ) (under : Under) where
+  -- as many texts as names
+  pub same_count : (names : List A) (texts : List (List ℕ)) → HaveTexts under (map h names) texts → length names ≡ length texts
+  same_count [] [] have = refl
+  same_count [] (text ∷ texts) have = absurd (let wrong = have in cc)
+  same_count (name ∷ names) [] have = absurd (let wrong = have in cc)
+  same_count (name ∷ names) (text ∷ texts) have =
+      let rest : HaveTexts under (map h names) texts = let all = have in cc in ap suc (same_count names texts rest)
+
+  -- the text under a name
+  pub text_at : (names : List A) (texts : List (List ℕ)) (i : ℕ) (name : A) → i < length names → name ≡ get_or names i name → HaveTexts under (map h names) texts
+      → bytes_under under (h name) ≡ Some (get_or texts i [])
+  text_at [] texts i name within is have = absurd (omega arith)
+  text_at (first ∷ names) [] i name within is have = absurd (let wrong = have in cc)
+  text_at (first ∷ names) (text ∷ texts) zero name within is have =
+      let head : bytes_under under (h first) ≡ Some text = let all = have in cc in ap (λ n. bytes_under under (h n)) is ∙ head
+  text_at (first ∷ names) (text ∷ texts) (suc i) name within is have =
+      let rest : HaveTexts under (map h names) texts = let all = have in cc in text_at names texts i name (omega arith) is rest
+
+  -- of a name that isn't known, none is
+  pub not_known : (names : List A) (i : ℕ) (name : A) (told : List ℕ) → i < length names → name ≡ get_or names i name → told ≡ h name → under told ≡ None
+      → (texts : List (List ℕ)) → HaveTexts under (map h names) texts → ⊥
+  not_known names i name told within is said none texts have =
+      let text = text_at names texts i name within is have in
+      let unknown : under (h name) ≡ None = ap under (sym said) ∙ none in
+      let wrong = rw unknown at text in absurd (let no = wrong in cc)
+
+named : {A : Type 0} (h : A → List ℕ) (names : List A) (i : ℕ) (name : A) → i < length names → name ≡ get_or names i name → get_or (map h names) i [] ≡ h name
+named h [] i name within is = absurd (omega arith)
+named h (first ∷ names) zero name within is = ap h (sym is)
+named h (first ∷ names) (suc i) name within is = named h names i name (omega arith) is
+
+-- ---- the first refused line
+
+pub refusal_found : (layout : Layout) (text : List ℕ) (known : Option (List ℕ)) (old new : Option (List (ℕ × Cause))) (found : Option Refusal) → known ≡ Some text
+    → old ≡ option_map (refusals_of layout) known → GivesRefusal old new (Ok found) → IsFirstOf (refusals_of layout text) found
+refusal_found layout text known old new None is come gives = let all : old ≡ Some (refusals_of layout text) = come ∙ ap (option_map (refusals_of layout)) is in rw all at gives
+refusal_found layout text known old new (Some refusal) is come gives =
+    let all : old ≡ Some (refusals_of layout text) = come ∙ ap (option_map (refusals_of layout)) is in
+    let given = rw all at gives in (given.0, given.2)
+
+-- one text more was counted
+pub counts_more : (texts : List (List ℕ)) (i : ℕ) (counts grown : List ℕ) (count : ℕ) (known : Option (List ℕ)) → i < length texts → known ≡ Some (get_or texts i [])
+    → Answers known IsCount (Ok count) → grown ≡ counts ++ count ∷ [] → counts ++ map line_count (drop i texts) ≡ map line_count texts
+    → grown ++ map line_count (drop (i + 1) texts) ≡ map line_count texts
+counts_more texts i counts grown count known within is counted pushed before =
+    let same : count ≡ line_count (get_or texts i []) = rw is at counted in
+    let split : drop i texts ≡ get_or texts i [] ∷ drop (i + 1) texts = rw (add-one, drop-cons texts i []) refl in
+    rw (pushed, append_assoc, same) (rw split at before)
+
+pub counts_all : (texts : List (List ℕ)) (i : ℕ) (counts : List ℕ) → length texts ≤ i → counts ++ map line_count (drop i texts) ≡ map line_count texts → counts ≡ map line_count texts
+counts_all texts i counts past before =
+    sym (append-nil counts) ∙ ap (λ (l : List (List ℕ)). counts ++ map line_count l) (sym (drop_all i texts past)) ∙ before
+
+-- what holds of what was made
+pub made_then : {V E : Type 0} (P Q : V → Type 0) (r : Result V E) → IfOk r P → ((v : V) → P v → Q v) → IfOk r Q
+made_then P Q (Ok v) made f = f v made
+made_then P Q (Err e) made f = tt
+
+-- the line of a refusal, by its place
+module _ {A : Type 0} (h : A → List ℕ) (layout : Layout) (under : Under) (names : List A) (texts : List (List ℕ)) (have : HaveTexts under (map h names) texts) where
+  pub hint_within : (text line : ℕ) (cause : Cause) (name : A) (made : List ℕ) → text < length names → name ≡ get_or names text name
+      → ((held : List ℕ) → bytes_under under (h name) ≡ Some held → made ≡ hint_in layout (h name) held cause line) → made ≡ hint_at layout (map h names) texts cause (text, line)
+  hint_within text line cause name made within is hint =
+      let size = same_count h under names texts have in
+      let there : slice_get texts text ≡ Some (get_or texts text []) = slice_get-get_or texts text [] (omega (arith, size)) in
+      let called = named h names text name within is in
+      rw (there, called) (hint (get_or texts text []) (text_at h under names texts text name within is have))
+
+  pub hint_beyond : (text line : ℕ) (cause : Cause) → length names ≤ text → [] ≡ hint_at layout (map h names) texts cause (text, line)
+  hint_beyond text line cause past =
+      let size = same_count h under names texts have in
+      let none : slice_get texts text ≡ None = slice_get_past texts text (omega (arith, size)) in
+      rw none refl
+
+pub by_place : (layout : Layout) (names texts : List (List ℕ)) (refusal : ℕ × Cause) (counts made : List ℕ) (place : ℕ × ℕ) → Some counts ≡ Some (map line_count texts)
+    → Some place ≡ place_of counts refusal.0 → made ≡ hint_at layout names texts refusal.1 place → made ≡ refusal_at layout names texts refusal
+by_place layout names texts refusal counts made place are stands hint =
+    let same : counts ≡ map line_count texts = let all = are in cc in
+    let there : place_of (map line_count texts) refusal.0 ≡ Some place = ap (λ (l : List ℕ). place_of l refusal.0) (sym same) ∙ sym stands in
+    rw there hint
+
+pub by_none : (layout : Layout) (names texts : List (List ℕ)) (refusal : ℕ × Cause) (counts : List ℕ) → Some counts ≡ Some (map line_count texts)
+    → None ≡ place_of counts refusal.0 → [] ≡ refusal_at layout names texts refusal
+by_none layout names texts refusal counts are stands =
+    let same : counts ≡ map line_count texts = let all = are in cc in
+    let there : place_of (map line_count texts) refusal.0 ≡ None = ap (λ (l : List ℕ). place_of l refusal.0) (sym same) ∙ sym stands in
+    rw there refl

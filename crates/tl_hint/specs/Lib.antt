@@ -1,0 +1,5 @@
+-- What the contracts of hints cite.
+pub mod Shown
+pub mod Hints
+pub mod Telling
+pub mod Keeping

@@ -1,0 +1,35 @@
+-- What is told behind a status. `told` says of a text that it was written; nothing is claimed of names under which what stands
+-- isn't known.
+use Rattle.std.specs.Prelude.{◌≡◌, ◌≢◌, ◌⊎◌, ℕ, List, [], ◌∷◌, Option, None, Some, IfSome, map}
+use Rattle.tl_record.specs.declared.layout.Layout.{Layout}
+use Rattle.tl_record.specs.Refusals.{refusals_of}
+use Rattle.tl_output.specs.Writing.{line_of}
+use Rattle.tl_text.specs.Joining.{joined}
+use Rattle.tl_files.specs.Files.{Under, bytes_under, trouble_of}
+use Rattle.tl_answers.specs.declared.stop.TheConstants.{REFUSED, STOPPED}
+use Rattle.tl_hint.specs.Hints.{refusal_hint, trouble_text}
+
+-- files of these bytes stand under the names
+abbrev pub HaveTexts : Under → List (List ℕ) → List (List ℕ) → Type 0
+HaveTexts under names texts = map (bytes_under under) names ≡ map Some texts
+
+-- where the text of each file is known: the first refused line is told, and nothing where none is
+abbrev pub TellsRefusal : Layout → Under → List (List ℕ) → (List ℕ → Type 0) → Type 0
+TellsRefusal layout under names told =
+    (texts : List (List ℕ)) → HaveTexts under names texts → told (refusal_hint layout names texts (refusals_of layout (joined texts)))
+
+-- why a file can't be read is told, or where it can be, what is told of the later ones
+abbrev pub TellsWords : List ℕ → Option (List ℕ) → (List ℕ → Type 0) → Type 0 → Type 0
+TellsWords name None told later = later
+TellsWords name (Some words) told later = told (line_of (trouble_text name words))
+
+-- of the first name that can't be opened or read it is told why, and nothing where each can
+abbrev pub TellsTrouble : Under → List (List ℕ) → (List ℕ → Type 0) → Type 0
+TellsTrouble under [] told = told []
+TellsTrouble under (name ∷ rest) told = IfSome (under name) (λ file. TellsWords name (trouble_of file) told (TellsTrouble under rest told))
+
+-- what is told behind a status
+pub record TellsHint (status : ℕ) (layout : Layout) (under : Under) (names : List (List ℕ)) (told : List ℕ → Type 0) : Type 0 where
+  pub refused : status ≡ REFUSED → TellsRefusal layout under names told
+  pub stopped : status ≡ STOPPED → TellsTrouble under names told
+  pub other : status ≢ REFUSED → status ≢ STOPPED → told []

@@ -1,0 +1,75 @@
+-- Lines that are held are those of the text.
+use Rattle.std.proofs.Common.{◌≡◌, ℕ, zero, suc, Bool, List, [], ◌∷◌, ◌++◌, Option, None, Some, IfSome, IfOk, IsSomeAnd, length, Result, Ok, Err, Vec, Global, map, option_map, take, slice_get, refl, sym, ap, subst, ◌∙◌}
+use Rattle.tl_record.specs.declared.record.Record.{Record}
+use Rattle.tl_county.specs.TheMap.{MapChain}
+use Rattle.tl_verdict.specs.declared.fault.MapFault.{MapFault}
+use Rattle.tl_verdict.specs.declared.fault.MapFault.TheVariants.{Records, Meet, Side, PolygonPoint, Cell}
+use Rattle.tl_verdict.specs.Messages.{map_fault_text}
+use Rattle.tl_output.specs.Writing.{line_of}
+use Rattle.tl_placing.specs.declared.told.Told.{Told}
+use Rattle.tl_placing.specs.declared.told.Told.TheVariants.{One, All}
+use Rattle.tl_record_lines.specs.declared.subject.Subject.{Subject}
+use Rattle.tl_record_lines.specs.declared.line.RecordLine.{RecordLine}
+use Rattle.tl_record_lines.specs.declared.lines.RecordLines.{RecordLines}
+use Rattle.tl_record_lines.specs.SpokenOf.{subjects_of, lines_about}
+use Rattle.tl_record_lines.specs.Keeping.{held}
+use Rattle.tl_record_lines.specs.Finding.{HoldsLines, HoldsAll}
+use Rattle.tl_placing.specs.Texts.{lines_for, fault_place, first_point, record_lines_text, spoken_text, placed_fault_text, placed_faults_text, placed_text, chosen, end_text}
+
+module _ (names : List (List ℕ)) (counts : List ℕ) (chains : List MapChain) (entries : List (ℕ × Record)) (kept : RecordLines) where
+  -- the lines of a subject
+  same_lines : (subject : Option Subject) → HoldsLines entries kept subject → lines_for (held kept) subject ≡ lines_for (lines_about entries) subject
+  same_lines None holds = refl
+  same_lines (Some s) holds = holds
+
+  -- where a fault lies
+  same_place : (fault : MapFault) → HoldsLines entries kept (subjects_of chains fault).0 → fault_place chains (held kept) fault ≡ fault_place chains (lines_about entries) fault
+  same_place (Records fault) holds = refl
+  same_place (Meet meet) holds = refl
+  same_place (Side node first next) holds = refl
+  same_place (PolygonPoint misplaced) holds = ap first_point (same_lines (subjects_of chains (PolygonPoint misplaced)).0 holds)
+  same_place (Cell odds) holds = refl
+
+  same_fault : (fault : MapFault) → HoldsLines entries kept (subjects_of chains fault).0 → HoldsLines entries kept (subjects_of chains fault).1
+      → placed_fault_text names counts chains (held kept) fault ≡ placed_fault_text names counts chains (lines_about entries) fault
+  same_fault fault one two =
+      let place = same_place fault one in
+      let first = same_lines (subjects_of chains fault).0 one in
+      let second = same_lines (subjects_of chains fault).1 two in
+      λ i. line_of (map_fault_text fault) ++ (record_lines_text names counts (place i) (first i) ++ record_lines_text names counts (place i) (second i))
+
+  same_faults : (faults : List MapFault) → HoldsAll chains faults entries kept → placed_faults_text names counts chains (held kept) faults ≡ placed_faults_text names counts chains (lines_about entries) faults
+  same_faults [] holds = refl
+  same_faults (fault ∷ rest) holds =
+      let here = holds 0 fault refl in
+      let one = same_fault fault here.0 here.1 in
+      let more = same_faults rest (λ k f there. holds (suc k) f there) in
+      λ i. one i ++ more i
+
+  got_taken : (n : ℕ) (faults : List MapFault) (k : ℕ) (fault : MapFault) → slice_get (take n faults) k ≡ Some fault → slice_get faults k ≡ Some fault
+  got_taken zero faults k fault there = absurd (let wrong = there in cc)
+  got_taken (suc n) [] k fault there = there
+  got_taken (suc n) (first ∷ faults) zero fault there = there
+  got_taken (suc n) (first ∷ faults) (suc k) fault there = got_taken n faults k fault there
+
+  same_chosen : (told : Told) (faults : List MapFault) → HoldsAll chains faults entries kept → HoldsAll chains (chosen told faults) entries kept
+  same_chosen One faults holds = λ k fault there. holds k fault (got_taken 1 faults k fault there)
+  same_chosen (All None) faults holds = holds
+  same_chosen (All (Some n)) faults holds = λ k fault there. holds k fault (got_taken n faults k fault there)
+
+  pub same_text : (told : Told) (faults : List MapFault) (points_left : Bool) → HoldsAll chains faults entries kept
+      → placed_text names counts chains (held kept) told faults points_left ≡ placed_text names counts chains (lines_about entries) told faults points_left
+  same_text told faults points_left holds =
+      ap (λ (l : List ℕ). l ++ end_text told (length faults) points_left) (same_faults (chosen told faults) (same_chosen told faults holds))
+
+pub of_known : (known : Option (List ℕ)) (text : List ℕ) (P : List ℕ → Type 0) → known ≡ Some text → IfSome known P → P text
+of_known None text P is holds = absurd (let wrong = is in cc)
+of_known (Some other) text P is holds = let same : other ≡ text = let all = is in cc in subst P same holds
+
+-- the text that was put together, of counts that are those of the texts
+pub same_whole : (names : List (List ℕ)) (counts right : List ℕ) (chains : List MapChain) (entries : List (ℕ × Record)) (kept : RecordLines) (told : Told) (faults : List MapFault) (points_left : Bool) (made : List ℕ)
+    → Some counts ≡ Some right → HoldsAll chains faults entries kept → made ≡ placed_text names counts chains (held kept) told faults points_left
+    → Some made ≡ Some (placed_text names right chains (lines_about entries) told faults points_left)
+same_whole names counts right chains entries kept told faults points_left made are holds is =
+    let same : counts ≡ right = let all = are in cc in
+    ap (λ (l : List ℕ). Some l) (is ∙ ap (λ (l : List ℕ). placed_text names l chains (held kept) told faults points_left) same ∙ same_text names right chains entries kept told faults points_left holds)

@@ -1,0 +1,7 @@
+-- What the contracts of record lines cite.
+pub mod SpokenOf
+pub mod Naming
+pub mod Keeping
+pub mod Wanting
+pub mod Finding
+pub mod Reading

@@ -1,0 +1,18 @@
+-- How lines are kept while a text is read.
+use Rattle.std.specs.Prelude.{◌≡◌, ⊤, true, List, ◌++◌, Option, None, Some}
+use Rattle.tl_record.specs.Records.{Records}
+use Rattle.tl_record_lines.specs.declared.subject.Subject.{Subject}
+use Rattle.tl_record_lines.specs.declared.lines.RecordLines.{RecordLines}
+use Rattle.tl_record_lines.specs.SpokenOf.{lines_about}
+use Rattle.tl_record_lines.specs.Keeping.{held, is_wanted}
+
+-- the lines of the records that were read are kept, and those of the rest are still to come
+abbrev pub KeptSoFar : RecordLines → Option Records → Option Records → RecordLines → Type 0
+KeptSoFar empty None now kept = ⊤
+KeptSoFar empty (Some all) now kept = (rest : Records) × (now ≡ Some rest)
+    × ((s : Subject) → is_wanted empty s ≡ true → held kept s ++ lines_about rest.entries s ≡ lines_about all.entries s)
+
+-- the lines of all records are kept
+abbrev pub KeptAll : RecordLines → Option Records → RecordLines → Type 0
+KeptAll empty None kept = ⊤
+KeptAll empty (Some all) kept = (s : Subject) → is_wanted empty s ≡ true → held kept s ≡ lines_about all.entries s

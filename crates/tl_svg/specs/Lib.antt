@@ -1,0 +1,5 @@
+-- What the contracts of pictures cite.
+pub mod Frames
+pub mod Strokes
+pub mod Pictures
+pub mod Texts

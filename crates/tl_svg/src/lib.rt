@@ -1,0 +1,19 @@
+//! Pictures of maps for a browser.
+//!
+//! [`picture_of`] says how a map is drawn by a [`Frame`], which is fitted to the map or set about a point, and
+//! [`print_picture`] writes the picture with the faults that it's given: exactly which bytes, and an error comes exactly where
+//! a write failed. Nothing is allocated.
+#![tactic(auto)]
+
+mod chains;
+mod frame;
+mod marks;
+mod picture;
+mod places;
+mod print;
+mod text;
+mod walk;
+
+pub use frame::{Frame, Spot};
+pub use picture::{Picture, chain_count, fault_count, picture_of};
+pub use print::print_picture;

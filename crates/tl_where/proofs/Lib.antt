@@ -1,0 +1,4 @@
+pub mod PlaceLemmas
+pub mod FindingLemmas
+pub mod ShownLemmas
+pub mod DegreeLemmas

@@ -1,0 +1,19 @@
+//! Where a fault and a refused line lie: in which of the files that are read as one text, in which of its lines, in which
+//! of its columns, and at which place of the map.
+//!
+//! [`place_of`] gives the file and the line of a line of all files as one text, [`count_lines`] and [`find_line`] read
+//! what that takes, and [`columns_of`] says which columns a field has.
+#![tactic(auto)]
+
+mod columns;
+mod degrees;
+mod field_columns;
+pub mod laws;
+mod lines;
+mod place;
+
+pub use columns::columns_of;
+pub use degrees::{COORDINATE_ROOM, is_in_reach, push_degrees};
+pub use field_columns::FieldColumns;
+pub use lines::{BLOCK, Found, count_lines, find_line};
+pub use place::{Place, place_of};

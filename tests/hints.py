@@ -1,0 +1,104 @@
+"""The line that the program says behind `refused ..` and behind `stopped Device`, by the files' bytes: in which file the line
+stands, in which of its lines and columns, and what it holds there; or which file can't be read, and why.
+
+It is said here once more, by docs/records.md, and compared wherever the program is played."""
+
+import re
+from pathlib import Path
+
+from layout import COLUMNS
+
+REFUSED = re.compile(rb"refused line (\d+) L\d \w+ ?(\w+)?\n")
+# The options that have a value, and that of them which names a certificate that is read.
+VALUED = {"--cert", "--out", "--tests", "--most", "--at", "--width", "--geojson"}
+
+
+class Asked:
+    """What words ask for: the command, its switches, and the names of the files that are read, a certificate behind the
+    records."""
+
+    def __init__(self, words):
+        words = [it.decode(errors="surrogateescape") if isinstance(it, bytes) else str(it) for it in words]
+        self.command, *rest = words or [""]
+        self.switches, self.names, cert = set(), [], []
+        while rest:
+            word, *rest = rest
+            if word == "--":
+                self.names += rest
+                break
+            option, equals, value = word.partition("=")
+            if option in VALUED:
+                if not equals and rest:
+                    value, *rest = rest
+                cert += [value] if option == "--cert" else []
+            elif word.startswith("-") and word != "-":
+                self.switches.add(word)
+            else:
+                self.names.append(word)
+        if self.command == "locate":
+            self.names = self.names[1:]
+        if self.command == "convert":
+            self.names = self.names[:1]
+        self.all_names = self.names + cert
+
+
+def shown(data):
+    """Bytes as they are shown: printable ASCII as it is, but for the backquote and the backslash."""
+    return b"".join(bytes([it]) if 32 <= it <= 126 and it not in b"`\\" else b"\\x%02x" % it for it in data)
+
+
+def columns_of(line, field, released):
+    """The columns of the field of a line of this type."""
+    kind = line[:1].decode("latin-1")
+    return COLUMNS["released" if kind == "I" and released else kind][field]
+
+
+def of_refusal(names, texts, number, field, released):
+    """Where line so and so of these texts, read as one, stands."""
+    for name, text in zip(names, texts):
+        lines = text.split(b"\n")
+        lines = lines[:-1] if not lines[-1] else lines
+        if number > len(lines):
+            number -= len(lines)
+            continue
+        said = b"  " + name.encode(errors="surrogateescape") + b" line %d" % number
+        if field:
+            line = lines[number - 1].removesuffix(b"\r")
+            first, last = columns_of(line, field, released)
+            said += b", columns %d to %d: `" % (first, last) + shown(line[first - 1:last]) + b"`"
+        return said + b"\n"
+    return b""
+
+
+def of_trouble(folder, names):
+    """Which of the files can't be read, and why."""
+    for name in names:
+        try:
+            # An empty name is none of the folder's own.
+            with open(Path(folder, name) if name else "", "rb") as file:
+                file.read()
+        except OSError as error:
+            return f"  {name}: {error.strerror}\n".encode(errors="surrogateescape")
+    return b""
+
+
+def wanted(told, words, folder):
+    """What has to stand behind the first line that was told on standard error."""
+    asked = Asked(words)
+    if told == b"stopped Device\n":
+        return of_trouble(folder, asked.all_names)
+    refused = REFUSED.fullmatch(told)
+    if not refused:
+        return b""
+    texts = [Path(folder, name).read_bytes() for name in asked.names]
+    field = refused[2] and refused[2].decode()
+    return of_refusal(asked.names, texts, int(refused[1]), field, "--released" in asked.switches)
+
+
+def without(told, words, folder):
+    """What was told on standard error without the line behind the first, where that is the one that is wanted; else all of it."""
+    first, feed, rest = told.partition(b"\n")
+    first += feed
+    if not (first.startswith(b"refused line ") or first == b"stopped Device\n"):
+        return told
+    return first if rest == wanted(first, words, folder) else told
