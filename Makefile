@@ -16,7 +16,8 @@
 #                          of every fault
 # make speed               prints the tables of docs/speed.md, which are the rows of 100,000 chains among these
 # make pictures            reads what `export` and `draw` make by GDAL and by a browser, where they are there
-# make pages               looks at the manual page and the completions, which are made of the program's help
+# make pages               looks at the manual page and the completions, which are made of the program's help, and at what
+#                          `--progress` shows
 # make install PREFIX=..   installs the program as PREFIX/bin/tigertopo, its manual page and its completions
 # make uninstall PREFIX=.. takes these away
 
@@ -81,6 +82,7 @@ pictures: build
 
 pages: build
 	python3 tests/installed.py
+	python3 tests/progress.py
 
 SHARE = $(DESTDIR)$(PREFIX)/share
 

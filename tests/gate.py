@@ -50,6 +50,7 @@ def main():
     import made_files
     import memory
     import pictures
+    import progress
     import rows
     import run as examples
     import times
@@ -75,6 +76,7 @@ def main():
         ("certificates made over files", made_files.play_all),
         ("pictures", drawn.play_all),
         ("manual page, completions and programs of the libraries", installed.play_all),
+        ("progress", progress.play_all),
         ("rows", rows.play_all),
     ]
     # Debian's gdal-bin isn't everywhere.
