@@ -24,6 +24,7 @@ TOWN = TOP / "examples" / "faults" / "town"
 BEGINNING = b'<svg xmlns="http://www.w3.org/2000/svg" class="tigertopo"'
 SVG = "{http://www.w3.org/2000/svg}"
 BROWSERS = ("chromium", "chromium-browser", "google-chrome")
+HEADLESS = ("--headless", "--no-sandbox", "--disable-gpu")
 
 
 class Wrong(Exception):
@@ -146,7 +147,7 @@ def shown(browser, program, folder):
         made, image = folder / "map.svg", folder / "shown.png"
         run(program, "draw", "--out", made, *words)
         subprocess.run(
-            [browser, "--headless", "--no-sandbox", "--disable-gpu", "--window-size=1000,1000", f"--screenshot={image}", made.as_uri()],
+            [browser, *HEADLESS, "--window-size=1000,1000", f"--screenshot={image}", made.as_uri()],
             capture_output=True,
             check=True,
             timeout=120,
@@ -155,30 +156,42 @@ def shown(browser, program, folder):
     want("a blank picture beside others", sizes[0] < sizes[1] and sizes[0] < sizes[2], True)
 
 
+def can_show(command, folder):
+    """Whether a browser makes an image here: one that is there may still lack what it runs on."""
+    image = Path(folder, "blank.png")
+    try:
+        done = subprocess.run([command, *HEADLESS, f"--screenshot={image}", "about:blank"], capture_output=True, check=False, timeout=60)
+    except subprocess.TimeoutExpired:
+        return False
+    return done.returncode == 0 and image.exists()
+
+
 def browser():
-    """The command of a browser, where there is one."""
-    return next(filter(None, map(shutil.which, BROWSERS)), None)
+    """The command of a browser, where there is one that makes images."""
+    with tempfile.TemporaryDirectory() as folder:
+        return next((command for command in filter(None, map(shutil.which, BROWSERS)) if can_show(command, folder)), None)
 
 
 def play_all(program=PROGRAM):
     """How many pictures are as they have to be, and how many aren't. Where there is no browser none is shown by it."""
     parts = [whole, part, faulty, escaped, refused]
-    if browser():
-        parts.append(lambda program, folder: shown(browser(), program, folder))
+    shows = browser()
+    if shows:
+        parts.append(lambda program, folder: shown(shows, program, folder))
+    else:
+        print("no browser, so no picture is shown")
     failed = 0
     for each in parts:
         with tempfile.TemporaryDirectory() as folder:
             try:
                 each(program, Path(folder))
-            except Wrong as wrong:
+            except (Wrong, subprocess.SubprocessError) as wrong:
                 failed += 1
                 print(wrong)
     return len(parts) - failed, failed
 
 
 if __name__ == "__main__":
-    if not browser():
-        print("no Chromium, so no picture is shown")
     passed, failed = play_all(*(Path(word).resolve() for word in sys.argv[1:2]))
     print(f"{passed} passed, {failed} failed")
     sys.exit(failed > 0)
