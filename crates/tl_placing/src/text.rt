@@ -15,8 +15,8 @@ use tl_record_lines::{RecordLines, subjects_of};
 use tl_verdict::MapFault;
 
 /// The first fault, or all, or so many from the front, each with the records that it speaks of, and where
-/// all are told whether points weren't looked at and how many there are. The files have these names and so many lines each; chains of darts are those of the map,
-/// where the records have one.
+/// all are told whether points weren't looked at and how many there are. The files have these names and so many lines each; chains of
+/// darts are those of the map, where the records have one.
 pub fn placed_text(
     alloc: Global,
     names: &[String],
