@@ -4,7 +4,8 @@
 usage: judged.py [--seed SEED] [--cases N] [--only NUMBER] [--program PROGRAM]
 
 First the judge is judged: it has to agree with each row of tests/*.rows of which it can speak. Then each case is
-asked for by `audit`, and by `audit --all`, whose whole output has to be the judge's list. It is asked for by others
+asked for by `audit`, and by `audit --all`, whose whole output has to be the judge's list; with `--where`, whose lines of
+records tests/placed.py says, and with `--geojson`, whose file's features it says. It is asked for by others
 too: `build`, whose certificate has to be valid by the judge, `check` by that certificate, by one that tests/draw.py
 proposes and by both changed, with a budget of tests at times, `locate`, `show` and `landmarks`. No expected value
 comes from the program. A town that is drawn to be sound has to be so by the judge too.
@@ -28,6 +29,7 @@ import certificates
 import draw
 import hints
 import judge
+import placed
 import rows
 
 PROGRAM = rows.PROGRAM
@@ -114,6 +116,9 @@ def complaints(table, case, chance):
     if chance.random() < 0.1:
         most = chance.choice((1, 2, 2, 5))
         yield from wrong(county.audit_all(most), "audit", "--all", "--most", str(most), *switches, *names)
+    faults = county.drawn_faults(names)
+    if faults.are_clear:
+        yield from placed_complaints(table, chance, county, faults, wrong, [*switches, *names])
     if case.is_town and not county.report and len(texts) == 1:
         yield f"a town that was drawn to be sound isn't: {county.faults or county.map_faults}"
     made = table.folder / "made"
@@ -136,6 +141,30 @@ def complaints(table, case, chance):
     if chance.random() < 0.1:
         yield from wrong(others.show(), "show", *reading, *names)
         yield from wrong(others.landmarks(), "landmarks", *reading, *names)
+
+
+def placed_complaints(table, chance, county, faults, wrong, words):
+    """What is wrong with the lines of records behind faults, and with the file that is made of faults."""
+    is_all, most = chance.random() < 0.8, chance.choice((None, None, None, 0, 1, 3))
+    plain = county.audit_all(most) if is_all else county.audit_first()
+    told = ["--all", *([] if most is None else ["--most", str(most)])] if is_all else []
+    where = judge.Placed(plain, faults)
+    out = table.folder / "faults.geojson"
+    stood = out.read_bytes() if out.exists() else None
+    yield from wrong(where, "audit", "--where", *told, *words)
+    has_where = chance.random() < 0.3
+    asked = ["audit", *told, "--geojson", out.name, *["--where"] * has_where, *words]
+    yield from wrong(where if has_where else plain, *asked)
+    made = out.read_bytes() if out.exists() else None
+    if county.records.refusals:
+        if made != stood:
+            yield f"{' '.join(asked)}: a line is refused, and a file was made or changed"
+        return
+    # Which point of two segments is told is open, and has to be one in all answers.
+    listed = [it for it in table.ask("audit", "--all", *words)[1].decode("latin-1").split("\n") if it.startswith("map fault ")]
+    complaint = placed.wrong_collection(made or b"", faults.features(listed if is_all else listed[:1]))
+    if complaint:
+        yield f"{' '.join(asked)}: {complaint}"
 
 
 def certificates_of(chance, town, built):
