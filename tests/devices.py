@@ -40,7 +40,7 @@ RUNS = [
     ["audit", "--all", EXAMPLES / "faults" / "M9"],
     ["audit", "--all", "--most", "3", EXAMPLES / "faults" / "town"],
     ["audit", "--all", "--where", EXAMPLES / "faults" / "town"],
-    ["audit", "--where", EXAMPLES / "faults" / "L2"],
+    ["audit", "--all", "--where", EXAMPLES / "faults" / "L2"],
     ["audit", "--geojson", MADE, EXAMPLES / "county"],
     ["audit", "--geojson", MADE, EXAMPLES / "faults" / "M9"],
     ["audit", "--all", "--where", "--geojson", MADE, EXAMPLES / "faults" / "town"],

@@ -78,7 +78,7 @@ class Table:
     """A folder where a case is laid out and the program is asked of it."""
 
     def __init__(self, program, folder):
-        self.program, self.folder = str(program), Path(folder)
+        self.program, self.folder, self.printed = str(program), Path(folder), b""
 
     def lay(self, name, text):
         (self.folder / name).write_bytes(text)
@@ -86,6 +86,7 @@ class Table:
     def ask(self, *words):
         how = {"cwd": self.folder, "stdin": subprocess.DEVNULL, "capture_output": True, "close_fds": False}
         done = subprocess.run([self.program, *words], check=False, **how)
+        self.printed = done.stdout
         return done.returncode, done.stdout, hints.without(done.stderr, words, self.folder)
 
 
@@ -113,12 +114,13 @@ def complaints(table, case, chance):
 
     yield from wrong(county.audit(), "audit", *switches, *names)
     yield from wrong(county.audit_all(), "audit", "--all", *switches, *names)
+    listed = [it for it in table.printed.decode("latin-1").split("\n") if it.startswith("map fault ")]
     if chance.random() < 0.1:
         most = chance.choice((1, 2, 2, 5))
         yield from wrong(county.audit_all(most), "audit", "--all", "--most", str(most), *switches, *names)
     faults = county.drawn_faults(names)
     if faults.are_clear:
-        yield from placed_complaints(table, chance, county, faults, wrong, [*switches, *names])
+        yield from placed_complaints(table, chance, county, faults, listed, wrong, [*switches, *names])
     if case.is_town and not county.report and len(texts) == 1:
         yield f"a town that was drawn to be sound isn't: {county.faults or county.map_faults}"
     made = table.folder / "made"
@@ -143,8 +145,9 @@ def complaints(table, case, chance):
         yield from wrong(others.landmarks(), "landmarks", *reading, *names)
 
 
-def placed_complaints(table, chance, county, faults, wrong, words):
-    """What is wrong with the lines of records behind faults, and with the file that is made of faults."""
+def placed_complaints(table, chance, county, faults, listed, wrong, words):
+    """What is wrong with the lines of records behind faults, and with the file that is made of faults, where these are the lines
+    of the list: which point of two segments is told is open, and one is in all answers."""
     is_all, most = chance.random() < 0.8, chance.choice((None, None, None, 0, 1, 3))
     plain = county.audit_all(most) if is_all else county.audit_first()
     told = ["--all", *([] if most is None else ["--most", str(most)])] if is_all else []
@@ -160,8 +163,6 @@ def placed_complaints(table, chance, county, faults, wrong, words):
         if made != stood:
             yield f"{' '.join(asked)}: a line is refused, and a file was made or changed"
         return
-    # Which point of two segments is told is open, and has to be one in all answers.
-    listed = [it for it in table.ask("audit", "--all", *words)[1].decode("latin-1").split("\n") if it.startswith("map fault ")]
     complaint = placed.wrong_collection(made or b"", faults.features(listed if is_all else listed[:1]))
     if complaint:
         yield f"{' '.join(asked)}: {complaint}"
