@@ -1031,7 +1031,7 @@ class County:
     """The texts of a county's files, and what is asked of them."""
 
     def __init__(self, texts, zero_cells=False, released=False):
-        self.texts, self.released = texts, released
+        self.released = released
         self.records = read(texts, zero_cells, released)
 
     @cached_property
@@ -1094,11 +1094,11 @@ class County:
             return self.audit()
         return replace(listing, faults=listing.faults[:1], counted=None, points_left=False)
 
-    def drawn_faults(self, names):
-        """The faults with the lines of their records in files of these names, and with the map, where there is one; of lines
-        that are refused there are none."""
+    def drawn_faults(self, names, texts):
+        """The faults with the lines of their records in files of these names and texts, and with the map, where there is one;
+        of lines that are refused there are none."""
         names = [] if self.records.refusals else names
-        return placed.Faults(names, self.texts, self.released, None if self.faults else self.map)
+        return placed.Faults(names, texts, self.released, None if self.faults else self.map)
 
     def build(self):
         """As `audit`, but for the word; the certificate that is made is looked at by `certificate_faults`."""
@@ -1163,12 +1163,13 @@ def asked(words, text_of):
     is_more = is_all or "--where" in switches or "--geojson" in values
     if (is_more and command != "audit") or (most is not None and not (is_all and most.isdigit())):
         return None
-    county = County([text_of(name) for name in names], "--zero-cells" in switches, "--released" in switches)
+    texts = [text_of(name) for name in names]
+    county = County(texts, "--zero-cells" in switches, "--released" in switches)
     if command == "check":
         return county.check(text_of(values["--cert"]), int(values["--tests"]) if "--tests" in values else None)
     if is_more:
         told = county.audit_all(None if most is None else int(most)) if is_all else county.audit_first()
-        return Placed(told, county.drawn_faults(names)) if "--where" in switches else told
+        return Placed(told, county.drawn_faults(names, texts)) if "--where" in switches else told
     return county.locate(Point(*map(int, point.groups()))) if point else getattr(county, command)()
 
 

@@ -18,6 +18,7 @@ import argparse
 import multiprocessing
 import os
 import random
+import re
 import subprocess
 import sys
 import tempfile
@@ -118,9 +119,13 @@ def complaints(table, case, chance):
     if chance.random() < 0.1:
         most = chance.choice((1, 2, 2, 5))
         yield from wrong(county.audit_all(most), "audit", "--all", "--most", str(most), *switches, *names)
-    faults = county.drawn_faults(names)
+    parts = parts_of(chance, texts)
+    names_of_parts = [f"part{number}" for number in range(len(parts))]
+    for name, part in zip(names_of_parts, parts):
+        table.lay(name, part)
+    faults = county.drawn_faults(names_of_parts, parts)
     if faults.are_clear:
-        yield from placed_complaints(table, chance, county, faults, listed, wrong, [*switches, *names])
+        yield from placed_complaints(table, chance, county, faults, listed, wrong, [*switches, *names_of_parts])
     if case.is_town and not county.report and len(texts) == 1:
         yield f"a town that was drawn to be sound isn't: {county.faults or county.map_faults}"
     made = table.folder / "made"
@@ -143,6 +148,15 @@ def complaints(table, case, chance):
     if chance.random() < 0.1:
         yield from wrong(others.show(), "show", *reading, *names)
         yield from wrong(others.landmarks(), "landmarks", *reading, *names)
+
+
+def parts_of(chance, texts):
+    """The texts, or at times a single one cut behind line feeds into up to four: as one text that is the same."""
+    if len(texts) > 1 or chance.random() < 0.6:
+        return texts
+    lines = re.findall(rb"[^\n]*\n|[^\n]+", texts[0])
+    cuts = sorted(chance.randrange(len(lines) + 1) for _ in range(chance.choice((1, 1, 2, 3))))
+    return [b"".join(lines[first:last]) for first, last in zip([0, *cuts], [*cuts, len(lines)])]
 
 
 def placed_complaints(table, chance, county, faults, listed, wrong, words):
