@@ -1,0 +1,14 @@
+pub mod Numbers
+pub mod Crossing
+pub mod Steep
+pub mod Hits
+pub mod Whole
+pub mod Bounds
+pub mod Lines
+pub mod Ends
+pub mod Items
+pub mod Sorting
+pub mod Toward
+pub mod Along
+pub mod Sums
+pub mod OnePolygon

@@ -1,0 +1,5 @@
+use Rattle.tl_faces.proofs.OnePolygon.{one_polygon}
+use Rattle.tl_faces.proofs.laws.one_polygon.Goals as goal
+
+pub returns : goal.returns
+returns c = λ chains planar agree. one_polygon chains planar agree

@@ -1,0 +1,4 @@
+-- What the laws cite.
+pub mod Rays
+pub mod Facing
+pub mod Truth

@@ -1,0 +1,28 @@
+//! Laws of the definitions, each the contract of a function that does nothing.
+
+ghost use Rattle.std.specs.Prelude.{◌≡◌, ◌↔◌, ℤ, Bool, List};
+ghost use Rattle.tl_geom.specs.declared.point.Point.{Point};
+ghost use Rattle.tl_geom.specs.declared.rational.Rational.{Rational};
+ghost use Rattle.tl_geom.specs.Plane.{whole};
+ghost use Rattle.tl_county.specs.declared.sides.Side.{Side};
+ghost use Rattle.tl_county.specs.TheMap.{MapChain};
+ghost use Rattle.tl_planar.specs.Planar.{IsPlanar};
+ghost use Rattle.tl_inside.specs.Inside.{IsCount};
+ghost use Rattle.tl_faces.specs.Rays.{IsCountAt};
+ghost use Rattle.tl_faces.specs.Facing.{FacesAgree};
+ghost use Rattle.tl_faces.specs.Truth.{HasOnePolygon};
+
+/// The counts of rational points are those of whole points, where both speak of one point.
+pub fn counts_of_a_whole_point()
+    ensures { (chains : List MapChain) (q : Point) (S : Side → Bool) (n : ℤ) → IsCountAt chains (whole q) S n ↔ IsCount chains q S n }
+{}
+
+/// Any sides have one count at a rational point.
+pub fn sides_have_one_count_at_a_place()
+    ensures { (chains : List MapChain) (q : Rational) (S : Side → Bool) (m n : ℤ) → IsCountAt chains q S m → IsCountAt chains q S n → m ≡ n }
+{}
+
+/// Where chains are planar and faces agree, each place that is on no chain lies in one polygon, or outside of all.
+pub fn one_polygon()
+    ensures { (chains : List MapChain) → IsPlanar chains → FacesAgree chains → HasOnePolygon chains }
+{}
