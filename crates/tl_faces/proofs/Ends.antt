@@ -26,6 +26,14 @@ pub record IsSomeEnd (chains : List MapChain) (r : Rational) : Type 0 where
   pub is : IsNumbered chains s segment
   pub end : IsSame r (whole segment.a) ⊎ IsSame r (whole segment.b)
 
+-- it is an end of a segment of a chain with these points
+pub record IsEndIn (points : List Point) (r : Rational) : Type 0 where
+  pub k : ℕ
+  pub segment : Segment
+  pub from : slice_get points k ≡ Some segment.a
+  pub to : slice_get points (k + 1) ≡ Some segment.b
+  pub end : IsSame r (whole segment.a) ⊎ IsSame r (whole segment.b)
+
 pub point_or : (p q : Point) → (p ≡ q) ⊎ ¬ (p ≡ q)
 point_or p q =
     ⊎_elim (λ h. inr (λ e. let x : p.x ≡ q.x = ap (λ (z : Point). z.x) e in omega (arith, ints, h, x)))
@@ -46,30 +54,32 @@ module _ (chains : List MapChain) (c : ℕ) (chain : MapChain) (is : slice_get c
     joins = record { chain = chain; is = is; from = from; to = to };
   }
 
+module _ (chain : MapChain) where
   module _ (i : ℕ) (u : Segment) (from : slice_get chain.points i ≡ Some u.a) (to : slice_get chain.points (i + 1) ≡ Some u.b) (r : Rational) where
-    first_end : (g k : ℕ) (p : Point) → k + g ≡ i → slice_get chain.points k ≡ Some p → IsSame r (whole p) → IsSomeEnd chains r
+    first_end : (g k : ℕ) (p : Point) → k + g ≡ i → slice_get chain.points k ≡ Some p → IsSame r (whole p) → IsEndIn chain.points r
     first_end zero k p e at same =
         let here : k ≡ i = omega (arith, e) in
         let one : p ≡ u.a = one_found p u.a (slice_get chain.points i) (subst (λ n. slice_get chain.points n ≡ Some p) here at) from in
-        record { s = segments_before chains c + i; segment = u; is = numbered i u from to; end = inl (subst (λ z. IsSame r (whole z)) one same) }
+        record { k = i; segment = u; from = from; to = to; end = inl (subst (λ z. IsSame r (whole z)) one same) }
     first_end (suc g) k p e at same =
         let within = slice_get_within chain.points (i + 1) u.b to in
         let next : slice_get chain.points (k + 1) ≡ Some (get_or chain.points (k + 1) p) = slice_get-get_or chain.points (k + 1) p (omega (arith, e, within)) in
         ⊎_elim
         (λ one. first_end g (k + 1) p (omega (arith, e)) (next ∙ ap Some (sym one)) same)
         (λ ne. record {
-          s = segments_before chains c + k;
+          k = k;
           segment = record { a = p; b = get_or chain.points (k + 1) p; different = ne };
-          is = numbered k (record { a = p; b = get_or chain.points (k + 1) p; different = ne }) at next;
+          from = at;
+          to = next;
           end = inl same;
         })
         (point_or p (get_or chain.points (k + 1) p))
 
-    last_end : (g k : ℕ) (p : Point) → k ≡ i + 1 + g → slice_get chain.points k ≡ Some p → IsSame r (whole p) → IsSomeEnd chains r
+    last_end : (g k : ℕ) (p : Point) → k ≡ i + 1 + g → slice_get chain.points k ≡ Some p → IsSame r (whole p) → IsEndIn chain.points r
     last_end zero k p e at same =
         let here : k ≡ i + 1 = omega (arith, e) in
         let one : p ≡ u.b = one_found p u.b (slice_get chain.points (i + 1)) (subst (λ n. slice_get chain.points n ≡ Some p) here at) to in
-        record { s = segments_before chains c + i; segment = u; is = numbered i u from to; end = inr (subst (λ z. IsSame r (whole z)) one same) }
+        record { k = i; segment = u; from = from; to = to; end = inr (subst (λ z. IsSame r (whole z)) one same) }
     last_end (suc g) k p e at same =
         let within = slice_get_within chain.points k p at in
         let before : slice_get chain.points (k - 1) ≡ Some (get_or chain.points (k - 1) p) = slice_get-get_or chain.points (k - 1) p (omega (arith, e, within)) in
@@ -77,14 +87,15 @@ module _ (chains : List MapChain) (c : ℕ) (chain : MapChain) (is : slice_get c
         ⊎_elim
         (λ one. last_end g (k - 1) p (omega (arith, e)) (before ∙ ap Some one) same)
         (λ ne. record {
-          s = segments_before chains c + (k - 1);
+          k = k - 1;
           segment = record { a = get_or chain.points (k - 1) p; b = p; different = ne };
-          is = numbered (k - 1) (record { a = get_or chain.points (k - 1) p; b = p; different = ne }) before (subst (λ n. slice_get chain.points n ≡ Some p) back at);
+          from = before;
+          to = subst (λ n. slice_get chain.points n ≡ Some p) back at;
           end = inr same;
         })
         (point_or (get_or chain.points (k - 1) p) p)
 
-    pub chain_end : IsChainEnd chain.points r → IsSomeEnd chains r
+    pub chain_end : IsChainEnd chain.points r → IsEndIn chain.points r
     chain_end = ⊎_elim
         (λ v. first_end i 0 v.point (omega arith) v.is v.same)
         (λ v.
@@ -93,7 +104,7 @@ module _ (chains : List MapChain) (c : ℕ) (chain : MapChain) (is : slice_get c
 
 -- ---- what two segments share
 
-on_place : (chains : List MapChain) (s : ℕ) (u : Segment) (n : IsNumbered chains s u) (r : Rational) → IsOn u r → IsOnSegment n.number.chain.points n.k r
+pub on_place : (chains : List MapChain) (s : ℕ) (u : Segment) (n : IsNumbered chains s u) (r : Rational) → IsOn u r → IsOnSegment n.number.chain.points n.k r
 on_place chains s u n r on =
     let one : n.joins.chain ≡ n.number.chain = one_found n.joins.chain n.number.chain (slice_get chains n.c) n.joins.is n.number.is in
     record {
@@ -105,7 +116,9 @@ on_place chains s u n r on =
 
 of_shared : (chains : List MapChain) (s t : ℕ) (r : Rational) (m : IsSharedBy chains s t r) → IsAllowed chains s t r m → IsSomeEnd chains r
 of_shared chains s t r m = ⊎_elim
-    (λ k. chain_end chains m.c m.first.chain m.first.is m.i m.on_first.segment m.on_first.from m.on_first.to r k.1.0)
+    (λ k.
+    let e : IsEndIn m.first.chain.points r = chain_end m.first.chain m.i m.on_first.segment m.on_first.from m.on_first.to r k.1.0 in
+    record { s = segments_before chains m.c + e.k; segment = e.segment; is = numbered chains m.c m.first.chain m.first.is e.k e.segment e.from e.to; end = e.end })
     (λ k.
     let one : m.second.chain ≡ m.first.chain = one_points chains s t r m k.0 in
     ⊎_elim

@@ -12,3 +12,9 @@ pub mod Toward
 pub mod Along
 pub mod Sums
 pub mod OnePolygon
+pub mod Alone
+pub mod Near
+pub mod Others
+pub mod Own
+pub mod TrueSides
+pub mod Unique

@@ -31,6 +31,7 @@ use Rattle.tl_faces.proofs.Crossing.{IsEastUp, IsWestUp, IsEast, IsWest, east_of
 use Rattle.tl_faces.proofs.Steep.{IsSpanned, spanned_east, spanned_west, east_spanned, west_spanned}
 use Rattle.tl_faces.proofs.Bounds.{IsSteep, some_steepness}
 use Rattle.tl_faces.proofs.Lines.{AreLevel, IsWestward, west_of_turn, east_of_turn, turn_of_west, turn_of_east}
+use Rattle.tl_faces.proofs.Hits.{one_balance}
 use Rattle.tl_faces.proofs.Items.{Item, IsNoEnd, numbered, ends_of_item}
 use Rattle.tl_faces.proofs.Sorting.{Has, IsSorted, IsListed, IsFound, numbers, has_front, has_back, times-both, no_times, found, all, spanned_same}
 use Rattle.tl_faces.proofs.Along.{AreFacing, facing}
@@ -87,10 +88,10 @@ west_slanted u q = ⊎_elim
 -- ---- parts of a list
 
 module _ (K : ℤ) (chains : List MapChain) (r : Rational) (steep : IsSteep K chains r) (clear : IsNoEnd chains r) where
-  abbrev turn : Item K chains r → ℤ
+  abbrev pub turn : Item K chains r → ℤ
   turn x = turn_at (low_end K x.segment) (high_end K x.segment) r
 
-  level_self : AreLevel K r r
+  pub level_self : AreLevel K r r
   level_self = record { is = refl }
 
   line_turn : (x : Item K chains r) → turn_at (low_end K x.segment) (high_end K x.segment) x.at.place ≡ pos 0
@@ -124,16 +125,16 @@ module _ (K : ℤ) (chains : List MapChain) (r : Rational) (steep : IsSteep K ch
   west_item x t = let n = numbered K chains r x in west_spanned K r x.segment (steep.ends x.s x.segment n) (steep.first x.s x.segment n) (steep.last x.s x.segment n) x.spanned t
 
   -- the turn by any segment of a number
-  turn_same : (x : Item K chains r) (u : Segment) → IsNumbered chains x.s u → turn x ≡ turn_at (low_end K u) (high_end K u) r
+  pub turn_same : (x : Item K chains r) (u : Segment) → IsNumbered chains x.s u → turn x ≡ turn_at (low_end K u) (high_end K u) r
   turn_same x u is = go (one_segment chains x.s x.segment u (numbered K chains r x) is)
     where
       go : HaveSameEnds x.segment u → turn x ≡ turn_at (low_end K u) (high_end K u) r
       go e = rw (e.first, e.last) refl
 
-  east_of : (s : ℕ) (u : Segment) → IsNumbered chains s u → IsEast u r → IsSpanned K u r × (pos 0 <ℤ turn_at (low_end K u) (high_end K u) r)
+  pub east_of : (s : ℕ) (u : Segment) → IsNumbered chains s u → IsEast u r → IsSpanned K u r × (pos 0 <ℤ turn_at (low_end K u) (high_end K u) r)
   east_of s u is h = spanned_east K r u (steep.ends s u is) (steep.first s u is) (steep.last s u is) h
 
-  west_of : (s : ℕ) (u : Segment) → IsNumbered chains s u → IsWest u r → IsSpanned K u r × (turn_at (low_end K u) (high_end K u) r <ℤ pos 0)
+  pub west_of : (s : ℕ) (u : Segment) → IsNumbered chains s u → IsWest u r → IsSpanned K u r × (turn_at (low_end K u) (high_end K u) r <ℤ pos 0)
   west_of s u is h = spanned_west K r u (steep.ends s u is) (steep.first s u is) (steep.last s u is) h
 
   pub east_number : (x : Item K chains r) → IsEastHit chains r x.s → pos 0 <ℤ turn x
@@ -272,6 +273,22 @@ module _ (K : ℤ) (chains : List MapChain) (r : Rational) (steep : IsSteep K ch
     count side S none s =
         counted_by chains r S (number_of (S side)) (numbers K chains r s.back) (are_hits (IsEastHit chains r) s.back (east_list s.front s.back s.listed s.west s.east))
         (sym (balance_is K chains r steep S s.back (east_are_slanted S s.back s.east) ∙ total_is K chains r steep S clear none side s.back s.facing_east))
+
+    -- and by the hits of the ray to the west
+    pub west_count : (S : Side → Bool) (n : ℤ) (hits : List ℕ) → S Outside ≡ false → AreHits (segments_before chains (length chains)) (IsWestHit chains r) hits → n ≡ pos 0 -ℤ balance S (map (flanks_at chains) hits) → IsCountAt chains r S n
+    west_count S n hits none are e = go seen
+      where
+        go : (side : Side) × IsSeen side → IsCountAt chains r S n
+        go (side, s) =
+            let own : AreHits (segments_before chains (length chains)) (IsWestHit chains r) (numbers K chains r s.front) = are_hits (IsWestHit chains r) s.front (west_list s.front s.back s.listed s.west s.east) in
+            let one = one_balance chains (segments_before chains (length chains)) (IsWestHit chains r) S hits (numbers K chains r s.front) are own in
+            let front = balance_is K chains r steep S s.front (west_are_slanted S s.front s.west) in
+            let back = total_is K chains r steep S clear none side s.back s.facing_east in
+            let whole = total_is K chains r steep S clear none Outside (s.front ++ s.back) s.whole_list in
+            let zero : number_of (S Outside) ≡ pos 0 = ap number_of none in
+            let both = total-both K chains r steep S s.front s.back in
+            let is : number_of (S side) ≡ n = omega (arith, ints, e, one, front, back, whole, zero, both) in
+            subst (IsCountAt chains r S) is (count side S none s)
 
 -- ---- what lies there
 

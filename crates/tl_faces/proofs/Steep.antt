@@ -6,7 +6,7 @@ use Rattle.tl_geom.specs.declared.rational.Rational.{Rational}
 use Rattle.tl_geom.specs.declared.segment.Segment.{Segment}
 use Rattle.tl_geom.specs.Plane.{IsSame, whole}
 use Rattle.tl_geom.proofs.Polynomials.{num, ◌⊖◌, ◌⊗◌, same}
-use Rattle.tl_geom.proofs.Signs.{mono, cancel_lt, cancel_le, product_at_least}
+use Rattle.tl_geom.proofs.Signs.{mono, cancel_lt, cancel_le, product_at_least, zero_product}
 use Rattle.tl_county.specs.TheMap.{MapChain}
 use Rattle.tl_planar.proofs.Ends.{same_by_products}
 use Rattle.tl_slabs.specs.Heights.{height, height_of, AreNear, low_end, high_end, turn_at}
@@ -160,6 +160,44 @@ module _ (K : ℤ) (r : Rational) (a b : Point) (near : IsNearTo K r a) (near' :
             let x = level K r b near' e in
             let past = not_below (b.y -ℤ a.y) (r.d *ℤ b.x -ℤ r.x) (turn_at a b r) (rising (omega (arith, ints, low)) high) (turn_last a b r e) k.turn in
             omega (arith, ints, x, past)),
+      )
+
+  -- where there is no turn to r
+  no_step : a.y <ℤ b.y → (z : ℤ) → turn_at a b r ≡ (b.y -ℤ a.y) *ℤ z → turn_at a b r ≡ pos 0 → z ≡ pos 0
+  no_step up z e zero = zero_product (b.y -ℤ a.y) z (λ f. omega (arith, ints, f, up)) (sym e ∙ zero)
+
+  pub height_by_latitude : turn_at a b r ≡ pos 0 → (r.d *ℤ a.y) ≤ℤ r.y → r.y ≤ℤ (r.d *ℤ b.y) → a.y <ℤ b.y → ((r.d *ℤ height K a) ≤ℤ height_of K r) × (height_of K r ≤ℤ (r.d *ℤ height K b))
+  height_by_latitude zero low high up = (
+    by_lt_z (r.d *ℤ a.y) r.y (λ lt. let h = south K r a near lt in omega (arith, ints, h))
+        (λ le.
+        let e : r.d *ℤ a.y ≡ r.y = omega (arith, ints, le, low) in
+        let x = level K r a near e in
+        let none = no_step up (r.d *ℤ a.x -ℤ r.x) (turn_first a b r e) zero in
+        omega (arith, ints, x, none)),
+    by_lt_z r.y (r.d *ℤ b.y) (λ lt. let h = north K r b near' lt in omega (arith, ints, h))
+        (λ le.
+        let e : r.d *ℤ b.y ≡ r.y = omega (arith, ints, le, high) in
+        let x = level K r b near' e in
+        let none = no_step up (r.d *ℤ b.x -ℤ r.x) (turn_last a b r e) zero in
+        omega (arith, ints, x, none)),
+  )
+
+  pub latitude_by_height : turn_at a b r ≡ pos 0 → (r.d *ℤ height K a) <ℤ height_of K r → height_of K r <ℤ (r.d *ℤ height K b) → a.y <ℤ b.y → ((r.d *ℤ a.y) <ℤ r.y) × (r.y <ℤ (r.d *ℤ b.y))
+  latitude_by_height zero from to up =
+      let low : (r.d *ℤ a.y) ≤ℤ r.y = not_north K r a near (omega (arith, ints, from)) in
+      let high : r.y ≤ℤ (r.d *ℤ b.y) = not_south K r b near' (omega (arith, ints, to)) in (
+        by_lt_z (r.d *ℤ a.y) r.y (λ lt. lt)
+            (λ le. absurd (
+            let e : r.d *ℤ a.y ≡ r.y = omega (arith, ints, le, low) in
+            let x = level K r a near e in
+            let none = no_step up (r.d *ℤ a.x -ℤ r.x) (turn_first a b r e) zero in
+            omega (arith, ints, x, none, from))),
+        by_lt_z r.y (r.d *ℤ b.y) (λ lt. lt)
+            (λ le. absurd (
+            let e : r.d *ℤ b.y ≡ r.y = omega (arith, ints, le, high) in
+            let x = level K r b near' e in
+            let none = no_step up (r.d *ℤ b.x -ℤ r.x) (turn_last a b r e) zero in
+            omega (arith, ints, x, none, to))),
       )
 
 -- ---- of a segment

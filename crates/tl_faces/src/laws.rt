@@ -10,7 +10,7 @@ ghost use Rattle.tl_planar.specs.Planar.{IsPlanar};
 ghost use Rattle.tl_inside.specs.Inside.{IsCount};
 ghost use Rattle.tl_faces.specs.Rays.{IsCountAt};
 ghost use Rattle.tl_faces.specs.Facing.{FacesAgree};
-ghost use Rattle.tl_faces.specs.Truth.{HasOnePolygon};
+ghost use Rattle.tl_faces.specs.Truth.{LiesAt, HasOnePolygon, AreSidesTrue};
 
 /// The counts of rational points are those of whole points, where both speak of one point.
 pub fn counts_of_a_whole_point()
@@ -25,4 +25,14 @@ pub fn sides_have_one_count_at_a_place()
 /// Where chains are planar and faces agree, each place that is on no chain lies in one polygon, or outside of all.
 pub fn one_polygon()
     ensures { (chains : List MapChain) → IsPlanar chains → FacesAgree chains → HasOnePolygon chains }
+{}
+
+/// At no place lie two.
+pub fn no_two_polygons()
+    ensures { (chains : List MapChain) (q : Rational) (side other : Side) → LiesAt chains q side → LiesAt chains q other → side ≡ other }
+{}
+
+/// And then each side of each chain names what lies there.
+pub fn true_sides()
+    ensures { (chains : List MapChain) → IsPlanar chains → FacesAgree chains → AreSidesTrue chains }
 {}
