@@ -1,6 +1,6 @@
 -- Where faces agree, along a line the far side of each segment that meets it is the near side of the next, from the outside to the
 -- outside.
-use Rattle.std.proofs.Common.{◌≡◌, ◌⊎◌, inl, inr, ⊎_elim, ℕ, zero, suc, ◌+◌, ◌<◌, ℤ, pos, ◌-ℤ◌, ◌*ℤ◌, ◌<ℤ◌, ◌≤ℤ◌, Some, List, [], ◌∷◌, ◌++◌, length, refl, sym, ap, subst, ◌∙◌, arith}
+use Rattle.std.proofs.Common.{◌≡◌, ◌⊎◌, inl, inr, ⊎_elim, ℕ, ◌+◌, ℤ, pos, ◌-ℤ◌, ◌*ℤ◌, ◌≤ℤ◌, Some, List, [], ◌∷◌, length, refl, sym, subst, arith}
 use Rattle.std.specs.Prelude.{slice_get}
 use Rattle.std.proofs.lemmas.Int.{ints}
 use Rattle.tl_geom.specs.declared.rational.Rational.{Rational}
@@ -11,19 +11,18 @@ use Rattle.tl_county.specs.declared.sides.Side.{Side}
 use Rattle.tl_county.specs.declared.sides.Side.TheVariants.{Outside}
 use Rattle.tl_county.specs.TheMap.{MapChain}
 use Rattle.tl_county.specs.Segments.{segments_before}
-use Rattle.tl_index.specs.Hits.{times}
 use Rattle.tl_planar.specs.Planar.{IsOnSegment, IsOnChain}
 use Rattle.tl_planar.proofs.Numbering.{below_total}
 use Rattle.tl_slabs.specs.Neighbours.{IsNumbered}
 use Rattle.tl_slabs.proofs.Numbered.{one_segment, on_same}
-use Rattle.tl_faces.specs.Facing.{IsOff, IsStrictlyOn, IsStrictlyBetween, IsOnRay, IsClearBetween, IsClearFrom, FacesAgree, step_x, step_y}
+use Rattle.tl_faces.specs.Facing.{IsStrictlyOn, IsClearBetween, IsClearFrom, FacesAgree, step_x, step_y}
 use Rattle.tl_faces.proofs.Steep.{IsSpanned}
 use Rattle.tl_faces.proofs.Bounds.{IsSteep}
 use Rattle.tl_faces.proofs.Numbers.{le_lt, lt_le}
 use Rattle.tl_faces.proofs.Lines.{AreLevel, IsWestward, level_with, level_back}
 use Rattle.tl_faces.proofs.Ends as chain_ends
 use Rattle.tl_faces.proofs.Items.{Item, IsNoEnd, numbered, of_chain, no_end_of, spanned_by, one_longitude}
-use Rattle.tl_faces.proofs.Sorting.{Has, IsSorted, IsListed, IsFound, numbers, found}
+use Rattle.tl_faces.proofs.Sorting.{Has, IsSorted, IsListed, IsFound, found}
 use Rattle.tl_faces.proofs.Toward.{near_side, far_side, toward_east, toward_west, step_along, between_level, between_first, between_last, ray_level, ray_east, ray_west}
 
 module _ (K : ℤ) (chains : List MapChain) (r : Rational) (steep : IsSteep K chains r) (clear : IsNoEnd chains r) where

@@ -1,12 +1,12 @@
 -- A ray to the east, or to the west, crosses a segment exactly where its point is on the one side of it.
-use Rattle.std.proofs.Common.{◌≡◌, ◌⊎◌, inl, inr, ⊎_elim, ℤ, pos, ◌+ℤ◌, ◌-ℤ◌, ◌*ℤ◌, ◌<ℤ◌, ◌≤ℤ◌, ap, sym, subst, ◌∙◌, arith}
+use Rattle.std.proofs.Common.{◌≡◌, ◌⊎◌, inl, inr, ⊎_elim, ℤ, pos, ◌+ℤ◌, ◌-ℤ◌, ◌*ℤ◌, ◌<ℤ◌, ◌≤ℤ◌, ap, sym, ◌∙◌, arith}
 use Rattle.std.proofs.lemmas.Int.{ints}
 use Rattle.tl_geom.specs.declared.point.Point.{Point}
 use Rattle.tl_geom.specs.declared.rational.Rational.{Rational}
 use Rattle.tl_geom.specs.declared.segment.Segment.{Segment}
 use Rattle.tl_geom.specs.Plane.{cross}
 use Rattle.tl_geom.proofs.Polynomials.{num, ◌⊕◌, ◌⊖◌, ◌⊗◌, same, same_by_two}
-use Rattle.tl_geom.proofs.Signs.{mono, cancel_lt, product_above}
+use Rattle.tl_geom.proofs.Signs.{cancel_lt, product_above}
 use Rattle.tl_geom.proofs.Places.{place, place_on}
 use Rattle.tl_slabs.specs.Heights.{turn_at}
 use Rattle.tl_slabs.proofs.Lying.{turned}

@@ -1,5 +1,5 @@
 -- What chains may share that are planar is an end of a segment.
-use Rattle.std.proofs.Common.{◌≡◌, ◌⊎◌, inl, inr, ⊎_elim, ℕ, zero, suc, ◌+◌, ◌-◌, ◌<◌, ◌≤◌, ℤ, pos, ◌-ℤ◌, ◌<ℤ◌, Some, List, length, get_or, refl, sym, ap, subst, ◌∙◌, arith}
+use Rattle.std.proofs.Common.{◌≡◌, ◌⊎◌, inl, inr, ⊎_elim, ℕ, zero, suc, ◌+◌, ◌-◌, ◌<◌, ◌-ℤ◌, Some, List, length, get_or, refl, sym, ap, subst, ◌∙◌, arith}
 use Rattle.std.specs.Prelude.{slice_get}
 use Rattle.std.proofs.lemmas.Bool.{cases_order}
 use Rattle.std.proofs.lemmas.Int.{ints}
@@ -11,8 +11,8 @@ use Rattle.tl_geom.specs.Plane.{IsOn, IsSame, whole}
 use Rattle.tl_geom.proofs.Signs.{sign}
 use Rattle.tl_geom.proofs.Places.{point_same}
 use Rattle.tl_county.specs.TheMap.{MapChain}
-use Rattle.tl_county.specs.Segments.{segments_before, IsSegmentOf}
-use Rattle.tl_planar.specs.Planar.{IsOnSegment, IsVertex, IsChainEnd, MayShareWithin, IsPlanar}
+use Rattle.tl_county.specs.Segments.{segments_before}
+use Rattle.tl_planar.specs.Planar.{IsOnSegment, IsChainEnd, IsPlanar}
 use Rattle.tl_planar.specs.Meets.{IsSharedBy, IsAllowed}
 use Rattle.tl_planar.specs.Keeping.Apart.{one_found}
 use Rattle.tl_planar.proofs.Ends.{at_vertex}

@@ -7,23 +7,21 @@ use Rattle.tl_geom.specs.declared.rational.Rational.{Rational}
 use Rattle.tl_geom.specs.declared.segment.Segment.{Segment}
 use Rattle.tl_geom.specs.Plane.{IsOn, IsSame, whole}
 use Rattle.tl_geom.specs.Contact.{IsEnd}
-use Rattle.tl_geom.proofs.Polynomials.{num, ◌⊕◌, ◌⊖◌, ◌⊗◌, same, same_by_two}
+use Rattle.tl_geom.proofs.Polynomials.{num, ◌⊖◌, ◌⊗◌, same}
 use Rattle.tl_geom.proofs.Signs.{mono_lt, cancel, cancel_le, cancel_lt}
 use Rattle.tl_geom.proofs.Places as places
 use Rattle.tl_county.specs.TheMap.{MapChain}
 use Rattle.tl_county.specs.Segments.{segments_before}
 use Rattle.tl_planar.specs.Planar.{IsPlanar}
 use Rattle.tl_planar.proofs.Ends.{products_by_same}
-use Rattle.tl_planar.proofs.Numbering.{HaveSameEnds}
-use Rattle.tl_slabs.specs.Heights.{height, height_of, low_end, high_end, turn_at}
+use Rattle.tl_slabs.specs.Heights.{height, height_of, low_end, high_end}
 use Rattle.tl_slabs.specs.Neighbours.{IsNumbered}
 use Rattle.tl_slabs.proofs.Rising.{AreEndsOf, ends_of}
 use Rattle.tl_slabs.proofs.Lying.{heights_of}
-use Rattle.tl_slabs.proofs.Numbered.{one_segment, on_same}
 use Rattle.tl_faces.specs.Facing.{IsOfChain}
-use Rattle.tl_faces.proofs.Steep.{IsNearTo, IsSpanned, one_height}
+use Rattle.tl_faces.proofs.Steep.{IsSpanned, one_height}
 use Rattle.tl_faces.proofs.Bounds.{IsSteep}
-use Rattle.tl_faces.proofs.Lines.{AreLevel, IsWestward, IsMet, met, level_with, level_back, one_place, same_of_turn}
+use Rattle.tl_faces.proofs.Lines.{AreLevel, IsWestward, IsMet, level_with, one_place, same_of_turn}
 use Rattle.tl_faces.proofs.Ends.{IsSomeEnd, shared_end}
 
 -- a segment that meets the line of r, and where

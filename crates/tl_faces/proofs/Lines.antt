@@ -1,12 +1,12 @@
 -- Places of one height: how they lie along their line, and where segments meet it.
-use Rattle.std.proofs.Common.{◌≡◌, ◌⊎◌, inl, inr, ⊎_elim, ℤ, pos, ◌+ℤ◌, ◌-ℤ◌, ◌*ℤ◌, ◌<ℤ◌, ◌≤ℤ◌, ap, sym, subst, ◌∙◌, arith}
-use Rattle.std.proofs.lemmas.Int.{ints, by_lt_z}
+use Rattle.std.proofs.Common.{◌≡◌, ℤ, pos, ◌+ℤ◌, ◌-ℤ◌, ◌*ℤ◌, ◌<ℤ◌, ◌≤ℤ◌, ap, sym, ◌∙◌, arith}
+use Rattle.std.proofs.lemmas.Int.{ints}
 use Rattle.tl_geom.specs.declared.point.Point.{Point}
 use Rattle.tl_geom.specs.declared.rational.Rational.{Rational}
 use Rattle.tl_geom.specs.declared.segment.Segment.{Segment}
-use Rattle.tl_geom.specs.Plane.{IsOn, IsSame, whole, cross}
-use Rattle.tl_geom.proofs.Polynomials.{num, ◌⊕◌, ◌⊖◌, ◌⊗◌, same, same_by, same_by_two}
-use Rattle.tl_geom.proofs.Signs.{mono, cancel, cancel_le, product_above, product_at_least, times_zero}
+use Rattle.tl_geom.specs.Plane.{IsOn, IsSame, cross}
+use Rattle.tl_geom.proofs.Polynomials.{num, ◌⊕◌, ◌⊖◌, ◌⊗◌, same, same_by_two}
+use Rattle.tl_geom.proofs.Signs.{cancel, product_above, product_at_least, times_zero}
 use Rattle.tl_slabs.specs.Heights.{height, height_of, low_end, high_end, turn_at}
 use Rattle.tl_slabs.proofs.Order.{lean}
 use Rattle.tl_slabs.proofs.Rising.{AreEndsOf}

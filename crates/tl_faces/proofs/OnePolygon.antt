@@ -1,13 +1,11 @@
 -- A place on no chain lies in one polygon, or in the outside.
-use Rattle.std.proofs.Common.{◌≡◌, ◌⊎◌, inl, inr, ⊎_elim, ℕ, ◌+◌, ◌<◌, ◌≤◌, ℤ, pos, ◌-ℤ◌, ◌*ℤ◌, ◌<ℤ◌, ◌≤ℤ◌, Bool, true, false, if◌then◌else◌, Some, List, [], ◌∷◌, ◌++◌, length, map, refl, sym, ap, subst, ◌∙◌, arith}
-use Rattle.std.specs.Prelude.{slice_get}
+use Rattle.std.proofs.Common.{◌≡◌, ◌⊎◌, inl, inr, ⊎_elim, ℕ, ◌<◌, ℤ, pos, ◌-ℤ◌, ◌*ℤ◌, ◌<ℤ◌, ◌≤ℤ◌, Bool, true, false, List, [], ◌∷◌, ◌++◌, length, map, refl, sym, ap, subst, ◌∙◌, arith}
 use Rattle.std.proofs.lemmas.Bool.Decides.{nat_tests}
-use Rattle.std.proofs.lemmas.Int.{ints, by_lt_z}
+use Rattle.std.proofs.lemmas.Int.{ints}
 use Rattle.tl_geom.specs.declared.point.Point.{Point}
 use Rattle.tl_geom.specs.declared.rational.Rational.{Rational}
 use Rattle.tl_geom.specs.declared.segment.Segment.{Segment}
 use Rattle.tl_geom.specs.Plane.{IsOn, whole}
-use Rattle.tl_geom.specs.Contact.{IsEnd}
 use Rattle.tl_geom.proofs.Signs.{cancel_lt, sign}
 use Rattle.tl_geom.proofs.Places as places
 use Rattle.tl_county.specs.declared.sides.Side.{Side}
@@ -15,27 +13,26 @@ use Rattle.tl_county.specs.declared.sides.Side.TheVariants.{Outside, Polygon}
 use Rattle.tl_county.specs.TheMap.{MapChain}
 use Rattle.tl_county.specs.Segments.{segments_before}
 use Rattle.tl_index.specs.Hits.{times, AreHits}
-use Rattle.tl_planar.specs.Planar.{IsPlanar, IsOnChain}
+use Rattle.tl_planar.specs.Planar.{IsPlanar}
 use Rattle.tl_planar.proofs.Numbering.{below_total, HaveSameEnds}
 use Rattle.tl_inside.specs.Inside.{flanks_at, balance, is_polygon}
-use Rattle.tl_slabs.specs.Heights.{height, height_of, low_end, high_end, turn_at}
+use Rattle.tl_slabs.specs.Heights.{low_end, high_end, turn_at}
 use Rattle.tl_slabs.specs.Neighbours.{IsNumbered}
-use Rattle.tl_slabs.proofs.Rising.{AreEndsOf}
 use Rattle.tl_slabs.proofs.Lying.{heights_of, lies_on}
 use Rattle.tl_slabs.proofs.Numbered.{one_segment}
 use Rattle.tl_faces.specs.Rays.{IsCrossedAt, IsCountAt}
 use Rattle.tl_faces.specs.Facing.{IsOff, FacesAgree}
 use Rattle.tl_faces.specs.Truth.{LiesAt, HasOnePolygon}
 use Rattle.tl_faces.proofs.Numbers.{le_lt}
-use Rattle.tl_faces.proofs.Crossing.{IsEastUp, IsWestUp, IsEast, IsWest, east_of_crossed, crossed_of_east}
+use Rattle.tl_faces.proofs.Crossing.{IsEast, IsWest, east_of_crossed, crossed_of_east}
 use Rattle.tl_faces.proofs.Steep.{IsSpanned, spanned_east, spanned_west, east_spanned, west_spanned}
 use Rattle.tl_faces.proofs.Bounds.{IsSteep, some_steepness}
 use Rattle.tl_faces.proofs.Lines.{AreLevel, IsWestward, west_of_turn, east_of_turn, turn_of_west, turn_of_east}
 use Rattle.tl_faces.proofs.Hits.{one_balance}
 use Rattle.tl_faces.proofs.Items.{Item, IsNoEnd, numbered, ends_of_item}
-use Rattle.tl_faces.proofs.Sorting.{Has, IsSorted, IsListed, IsFound, numbers, has_front, has_back, times-both, no_times, found, all, spanned_same}
+use Rattle.tl_faces.proofs.Sorting.{Has, IsSorted, IsListed, numbers, times-both, no_times, all}
 use Rattle.tl_faces.proofs.Along.{AreFacing, facing}
-use Rattle.tl_faces.proofs.Sums.{number_of, total, total-both, total_is, facing_back, AreSlanted, balance_is}
+use Rattle.tl_faces.proofs.Sums.{number_of, total-both, total_is, facing_back, AreSlanted, balance_is}
 
 -- ---- hits of the ray to the east and of the ray to the west
 

@@ -1,5 +1,5 @@
 -- Near a place strictly within a segment the rays pass, of all other segments, what they pass at that place.
-use Rattle.std.proofs.Common.{◌≡◌, ◌⊎◌, inl, inr, ⊎_elim, ℕ, ◌+◌, ◌<◌, ℤ, pos, ◌+ℤ◌, ◌-ℤ◌, ◌*ℤ◌, ◌<ℤ◌, ◌≤ℤ◌, List, refl, sym, ap, subst, ◌∙◌, arith}
+use Rattle.std.proofs.Common.{◌≡◌, ◌⊎◌, inl, inr, ⊎_elim, ℕ, ◌+◌, ℤ, pos, ◌+ℤ◌, ◌-ℤ◌, ◌*ℤ◌, ◌<ℤ◌, ◌≤ℤ◌, List, subst, arith}
 use Rattle.std.proofs.lemmas.Int.{ints}
 use Rattle.tl_geom.specs.declared.point.Point.{Point}
 use Rattle.tl_geom.specs.declared.rational.Rational.{Rational}
@@ -7,15 +7,13 @@ use Rattle.tl_geom.specs.declared.segment.Segment.{Segment}
 use Rattle.tl_geom.specs.Plane.{IsOn}
 use Rattle.tl_county.specs.TheMap.{MapChain}
 use Rattle.tl_planar.specs.Planar.{IsPlanar}
-use Rattle.tl_planar.proofs.Numbering.{HaveSameEnds}
-use Rattle.tl_slabs.specs.Heights.{height, height_of, low_end, high_end, turn_at}
+use Rattle.tl_slabs.specs.Heights.{height, low_end, high_end, turn_at}
 use Rattle.tl_slabs.specs.Neighbours.{IsNumbered}
 use Rattle.tl_slabs.proofs.Rising.{AreEndsOf, ends_of, higher}
 use Rattle.tl_slabs.proofs.Lying.{lies_on}
-use Rattle.tl_slabs.proofs.Numbered.{one_segment}
 use Rattle.tl_faces.specs.Facing.{IsStrictlyOn, step_y}
 use Rattle.tl_faces.specs.Truth.{IsNearer}
-use Rattle.tl_faces.proofs.Crossing.{IsEastUp, IsWestUp, IsEast, IsWest}
+use Rattle.tl_faces.proofs.Crossing.{IsEast, IsWest}
 use Rattle.tl_faces.proofs.Steep.{IsNearTo, straight, height_by_latitude}
 use Rattle.tl_faces.proofs.Bounds.{IsBounded, AreBounded, IsSteep}
 use Rattle.tl_faces.proofs.Near as near_by

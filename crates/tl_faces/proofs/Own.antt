@@ -1,5 +1,5 @@
 -- Near a place strictly within a segment, on which side of it a place lies, and whether the rays pass it there.
-use Rattle.std.proofs.Common.{◌≡◌, ◌⊎◌, inl, inr, ⊎_elim, ℕ, ◌+◌, ◌<◌, ℤ, pos, ◌+ℤ◌, ◌-ℤ◌, ◌*ℤ◌, ◌<ℤ◌, ◌≤ℤ◌, List, refl, sym, ap, subst, ◌∙◌, arith}
+use Rattle.std.proofs.Common.{◌≡◌, ◌⊎◌, inl, inr, ⊎_elim, ℕ, ℤ, pos, ◌-ℤ◌, ◌*ℤ◌, ◌<ℤ◌, ◌≤ℤ◌, List, sym, ap, subst, ◌∙◌, arith}
 use Rattle.std.proofs.lemmas.Int.{ints, by_lt_z}
 use Rattle.tl_geom.specs.declared.point.Point.{Point}
 use Rattle.tl_geom.specs.declared.rational.Rational.{Rational}
@@ -11,15 +11,14 @@ use Rattle.tl_planar.proofs.Numbering.{HaveSameEnds}
 use Rattle.tl_slabs.specs.Heights.{height, height_of, AreNear, low_end, high_end, turn_at}
 use Rattle.tl_slabs.specs.Neighbours.{IsNumbered}
 use Rattle.tl_slabs.proofs.Rising.{AreEndsOf, ends_of, higher}
-use Rattle.tl_slabs.proofs.Lying.{heights_of}
 use Rattle.tl_slabs.proofs.Numbered.{one_segment}
-use Rattle.tl_faces.specs.Facing.{IsStrictlyOn, step_y}
+use Rattle.tl_faces.specs.Facing.{step_y}
 use Rattle.tl_faces.specs.Truth.{IsNearer}
 use Rattle.tl_faces.proofs.Crossing.{IsEastUp, IsWestUp, IsEast, IsWest}
 use Rattle.tl_faces.proofs.Steep.{IsNearTo, IsSpanned, not_north, not_south, latitude_by_height}
 use Rattle.tl_faces.proofs.Bounds.{IsSteep}
 use Rattle.tl_faces.proofs.Near.{north_stays, south_stays, not_north_stays, not_south_stays}
-use Rattle.tl_faces.proofs.OnePolygon.{IsEastHit, IsWestHit, east_slanted, west_slanted}
+use Rattle.tl_faces.proofs.OnePolygon.{IsEastHit, IsWestHit}
 use Rattle.tl_faces.proofs.Others.{widest_of, nearness, wide_enough}
 
 -- where the line of two points is level, the turn to a place by how much further north it is

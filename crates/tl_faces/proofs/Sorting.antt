@@ -1,5 +1,5 @@
 -- The segments that meet a line of a height, all of them, from west to east.
-use Rattle.std.proofs.Common.{◌≡◌, ◌⊎◌, inl, inr, ⊎_elim, ℕ, zero, suc, ◌+◌, ◌-◌, ◌<◌, ◌≤◌, ℤ, pos, ◌*ℤ◌, ◌<ℤ◌, ◌≤ℤ◌, cond, eqb, Some, List, [], ◌∷◌, ◌++◌, length, get_or, take, refl, sym, ap, subst, ◌∙◌, arith}
+use Rattle.std.proofs.Common.{◌≡◌, ◌⊎◌, inl, inr, ⊎_elim, ℕ, zero, suc, ◌+◌, ◌-◌, ◌<◌, ◌≤◌, ℤ, pos, ◌*ℤ◌, cond, eqb, Some, List, [], ◌∷◌, ◌++◌, length, get_or, take, refl, sym, ap, subst, ◌∙◌, arith}
 use Rattle.std.specs.Prelude.{slice_get}
 use Rattle.std.proofs.lemmas.Bool.{cases_lt}
 use Rattle.std.proofs.lemmas.Int.{ints, by_lt_z}
@@ -14,7 +14,7 @@ use Rattle.tl_index.specs.Hits.{times}
 use Rattle.tl_index.proofs.Times.{same_or, times-same, times-other}
 use Rattle.tl_planar.specs.Planar.{IsPlanar}
 use Rattle.tl_planar.specs.Keeping.Apart.{one_found}
-use Rattle.tl_planar.proofs.Numbering.{one_chain, one_place, below_total, HaveSameEnds}
+use Rattle.tl_planar.proofs.Numbering.{one_chain, one_place, HaveSameEnds}
 use Rattle.tl_slabs.specs.Heights.{height, height_of, low_end, high_end}
 use Rattle.tl_slabs.specs.Neighbours.{IsNumbered}
 use Rattle.tl_slabs.proofs.Numbered.{one_segment}
@@ -23,7 +23,7 @@ use Rattle.tl_faces.proofs.Bounds.{IsSteep}
 use Rattle.tl_faces.proofs.Numbers.{le_lt}
 use Rattle.tl_faces.proofs.Lines.{IsWestward, met}
 use Rattle.tl_faces.proofs.Ends.{point_or}
-use Rattle.tl_faces.proofs.Items.{Item, IsNoEnd, numbered, ends, IsWestOf, one_west}
+use Rattle.tl_faces.proofs.Items.{Item, IsNoEnd, ends, one_west}
 
 -- ---- the segment with a number, if its points differ
 

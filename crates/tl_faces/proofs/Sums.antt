@@ -1,5 +1,5 @@
 -- What a list of items counts, where facing sides agree along it.
-use Rattle.std.proofs.Common.{◌≡◌, ◌⊎◌, inl, inr, ⊎_elim, ℕ, ◌+◌, ℤ, pos, ◌+ℤ◌, ◌-ℤ◌, ◌<ℤ◌, Bool, true, false, if◌then◌else◌, List, [], ◌∷◌, ◌++◌, map, count_by, refl, sym, ap, subst, ◌∙◌, arith}
+use Rattle.std.proofs.Common.{◌≡◌, ◌⊎◌, inl, inr, ℕ, ◌+◌, ℤ, pos, ◌+ℤ◌, ◌-ℤ◌, ◌<ℤ◌, Bool, true, false, if◌then◌else◌, List, [], ◌∷◌, ◌++◌, map, count_by, refl, sym, ap, ◌∙◌, arith}
 use Rattle.std.proofs.lemmas.Int.{ints}
 use Rattle.std.proofs.lemmas.List.Sums.{sum_by-cons}
 use Rattle.tl_geom.specs.declared.rational.Rational.{Rational}
@@ -11,7 +11,7 @@ use Rattle.tl_inside.specs.Inside.{flanks_at, balance}
 use Rattle.tl_faces.proofs.Bounds.{IsSteep}
 use Rattle.tl_faces.proofs.Items.{Item, IsNoEnd}
 use Rattle.tl_faces.proofs.Sorting.{Has, numbers}
-use Rattle.tl_faces.proofs.Toward.{near_side, far_side, sides_of, flanks_are}
+use Rattle.tl_faces.proofs.Toward.{near_side, far_side, flanks_are}
 use Rattle.tl_faces.proofs.Along.{AreFacing}
 
 -- 1 where it is so, else 0

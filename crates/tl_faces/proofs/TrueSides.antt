@@ -1,5 +1,5 @@
 -- Each side of each segment names what lies there.
-use Rattle.std.proofs.Common.{◌≡◌, ◌⊎◌, inl, inr, ⊎_elim, ℕ, ◌+◌, ◌<◌, ℤ, pos, ◌+ℤ◌, ◌-ℤ◌, ◌*ℤ◌, ◌<ℤ◌, ◌≤ℤ◌, Bool, true, false, if◌then◌else◌, Some, List, [], ◌∷◌, ◌++◌, length, map, refl, sym, ap, subst, ◌∙◌, arith}
+use Rattle.std.proofs.Common.{◌≡◌, ◌⊎◌, inl, inr, ⊎_elim, ℕ, ◌+◌, ℤ, pos, ◌+ℤ◌, ◌-ℤ◌, ◌*ℤ◌, ◌<ℤ◌, ◌≤ℤ◌, Bool, true, false, if◌then◌else◌, Some, List, [], ◌∷◌, ◌++◌, length, refl, sym, ap, subst, ◌∙◌, arith}
 use Rattle.std.specs.Prelude.{int_lt, slice_get}
 use Rattle.std.proofs.lemmas.Int.{ints, by_lt_z}
 use Rattle.std.proofs.lemmas.Option.{slice_get_within}
@@ -12,12 +12,11 @@ use Rattle.tl_county.specs.declared.sides.Side.{Side}
 use Rattle.tl_county.specs.declared.sides.Side.TheVariants.{Outside}
 use Rattle.tl_county.specs.TheMap.{MapChain}
 use Rattle.tl_county.specs.Segments.{segments_before}
-use Rattle.tl_index.specs.Hits.{times, AreHits}
+use Rattle.tl_index.specs.Hits.{times}
 use Rattle.tl_index.proofs.Times.{same_or, times-same, times-other}
 use Rattle.tl_planar.specs.Planar.{IsPlanar}
 use Rattle.tl_planar.specs.Keeping.Apart.{one_found}
 use Rattle.tl_planar.proofs.Numbering.{below_total, one_chain, HaveSameEnds}
-use Rattle.tl_inside.specs.Inside.{flanks_at, balance}
 use Rattle.tl_slabs.specs.Heights.{height, low_end, high_end, turn_at}
 use Rattle.tl_slabs.specs.Neighbours.{IsNumbered}
 use Rattle.tl_slabs.proofs.Lying.{heights_of, turned}
@@ -26,7 +25,7 @@ use Rattle.tl_faces.specs.Rays.{IsCountAt}
 use Rattle.tl_faces.specs.Facing.{IsOfChain, IsOff, IsStrictlyOn, FacesAgree, step_y}
 use Rattle.tl_faces.specs.Truth.{LiesAt, IsNearer, IsTrueAbout, AreSidesTrue, side_of}
 use Rattle.tl_faces.proofs.Numbers.{le_lt, lt_le}
-use Rattle.tl_faces.proofs.Crossing.{IsEast, IsWest}
+use Rattle.tl_faces.proofs.Crossing.{IsEast}
 use Rattle.tl_faces.proofs.Bounds.{AreBounded, IsSteep, some_bound, some_steepness}
 use Rattle.tl_faces.proofs.Lines.{IsWestward}
 use Rattle.tl_faces.proofs.Ends as chain_ends
@@ -37,7 +36,7 @@ use Rattle.tl_faces.proofs.Along.{AreFacing, facing, item_of}
 use Rattle.tl_faces.proofs.Sums.{number_of, total, total-both, total_is, facing_back, AreSlanted, balance_is}
 use Rattle.tl_faces.proofs.Alone.{no_end_within}
 use Rattle.tl_faces.proofs.OnePolygon.{IsEastHit, IsWestHit, counted_by, east_slanted, west_slanted, turn, level_self, turn_east, turn_west, turn_same, AreWestward, AreEastward, east_item, west_item, east_number, west_number, east_of, west_of, IsListOf, are_hits, east_are_slanted, west_are_slanted, west_count, lies_by, no_end_off}
-use Rattle.tl_faces.proofs.Others.{nearness, wide_enough, widest_of, east_hit_from, east_hit_to, west_hit_from, west_hit_to}
+use Rattle.tl_faces.proofs.Others.{nearness, widest_of, east_hit_from, east_hit_to, west_hit_from, west_hit_to}
 use Rattle.tl_faces.proofs.Own.{east_of_west_side, no_east_of_east_side, west_of_east_side, no_west_of_west_side}
 
 -- ---- the list on the line of a place of a segment, parted by that segment

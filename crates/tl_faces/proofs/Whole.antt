@@ -1,18 +1,18 @@
 -- The counts of rational points, where they are whole, and that there is one of each.
-use Rattle.std.proofs.Common.{◌≡◌, ◌⊎◌, inl, inr, ⊎_elim, ◌↔◌, ℕ, ℤ, pos, ◌*ℤ◌, ◌<ℤ◌, ◌≤ℤ◌, Bool, List, length, map, sym, ap, subst, ◌∙◌, arith}
+use Rattle.std.proofs.Common.{◌≡◌, inl, inr, ⊎_elim, ◌↔◌, ℕ, ℤ, pos, ◌*ℤ◌, ◌<ℤ◌, Bool, List, length, sym, ◌∙◌, arith}
 use Rattle.std.proofs.lemmas.Int.{ints}
 use Rattle.tl_geom.specs.declared.point.Point.{Point}
 use Rattle.tl_geom.specs.declared.rational.Rational.{Rational}
 use Rattle.tl_geom.specs.declared.segment.Segment.{Segment}
 use Rattle.tl_geom.specs.Plane.{whole}
-use Rattle.tl_geom.specs.Ray.{IsParted, IsEast, Crosses}
+use Rattle.tl_geom.specs.Ray.{IsParted, Crosses}
 use Rattle.tl_geom.proofs.Polynomials.{num, ◌⊗◌, same}
 use Rattle.tl_county.specs.declared.sides.Side.{Side}
 use Rattle.tl_county.specs.TheMap.{MapChain}
 use Rattle.tl_county.specs.Segments.{segments_before}
 use Rattle.tl_index.specs.Hits.{AreHits}
-use Rattle.tl_inside.specs.Inside.{flanks_at, balance, IsCrossed, IsCount}
-use Rattle.tl_faces.specs.Rays.{IsPartedAt, IsEastOf, CrossesAt, IsCrossedAt, IsCountAt}
+use Rattle.tl_inside.specs.Inside.{IsCrossed, IsCount}
+use Rattle.tl_faces.specs.Rays.{IsPartedAt, CrossesAt, IsCrossedAt, IsCountAt}
 use Rattle.tl_faces.proofs.Hits.{one_balance}
 
 times_one : (z : ℤ) → z *ℤ pos 1 ≡ z
