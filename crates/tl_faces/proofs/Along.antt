@@ -11,7 +11,7 @@ use Rattle.tl_county.specs.declared.sides.Side.{Side}
 use Rattle.tl_county.specs.declared.sides.Side.TheVariants.{Outside}
 use Rattle.tl_county.specs.TheMap.{MapChain}
 use Rattle.tl_county.specs.Segments.{segments_before}
-use Rattle.tl_planar.specs.Planar.{IsOnSegment, IsOnChain}
+use Rattle.tl_planar.specs.Planar.{IsOnSegment, IsOnChain, IsPlanar}
 use Rattle.tl_planar.proofs.Numbering.{below_total}
 use Rattle.tl_slabs.specs.Neighbours.{IsNumbered}
 use Rattle.tl_slabs.proofs.Numbered.{one_segment, on_same}
@@ -22,7 +22,7 @@ use Rattle.tl_faces.proofs.Numbers.{le_lt, lt_le}
 use Rattle.tl_faces.proofs.Lines.{AreLevel, IsWestward, level_with, level_back}
 use Rattle.tl_faces.proofs.Ends as chain_ends
 use Rattle.tl_faces.proofs.Items.{Item, IsNoEnd, numbered, of_chain, no_end_of, spanned_by, one_longitude}
-use Rattle.tl_faces.proofs.Sorting.{Has, IsSorted, IsListed, IsFound, found}
+use Rattle.tl_faces.proofs.Sorting.{Has, IsSorted, IsListed, IsFound, found, all}
 use Rattle.tl_faces.proofs.Toward.{near_side, far_side, toward_east, toward_west, step_along, between_level, between_first, between_last, ray_level, ray_east, ray_west}
 
 module _ (K : ℤ) (chains : List MapChain) (r : Rational) (steep : IsSteep K chains r) (clear : IsNoEnd chains r) where
@@ -197,3 +197,20 @@ module _ (K : ℤ) (chains : List MapChain) (r : Rational) (steep : IsSteep K ch
             let e : q.x *ℤ x.at.place.d ≡ x.at.place.x *ℤ q.d = subst (λ (w : Item K chains r). q.x *ℤ w.at.place.d ≡ w.at.place.x *ℤ q.d) one k.2.same in
             inl (omega (arith, ints, e)))
             (λ later. inr (k.0, later, k.2)) k.1
+
+-- ---- lists along which facing sides agree
+
+-- all that meets the line, from west to east, and facing sides agree along it
+pub record IsFacedOn (K : ℤ) (chains : List MapChain) (r : Rational) (steep : IsSteep K chains r) (clear : IsNoEnd chains r) : Type 0 where
+  pub items : List (Item K chains r)
+  pub listed : IsListed K chains r (segments_before chains (length chains)) items
+  pub along : AreFacing K chains r steep clear Outside items
+
+-- there is such a list on each line that is steep enough
+abbrev pub AreFaced : List MapChain → Type 0
+AreFaced chains = (K : ℤ) (r : Rational) (steep : IsSteep K chains r) (clear : IsNoEnd chains r) → IsFacedOn K chains r steep clear
+
+pub by_faces : (chains : List MapChain) → IsPlanar chains → FacesAgree chains → AreFaced chains
+by_faces chains planar agree K r steep clear =
+    let list : (xs : List (Item K chains r)) × IsListed K chains r (segments_before chains (length chains)) xs = all K chains r steep clear planar in
+    record { items = list.0; listed = list.1; along = facing K chains r steep clear agree list.0 list.1 }

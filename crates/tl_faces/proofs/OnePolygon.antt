@@ -13,7 +13,6 @@ use Rattle.tl_county.specs.declared.sides.Side.TheVariants.{Outside, Polygon}
 use Rattle.tl_county.specs.TheMap.{MapChain}
 use Rattle.tl_county.specs.Segments.{segments_before}
 use Rattle.tl_index.specs.Hits.{times, AreHits}
-use Rattle.tl_planar.specs.Planar.{IsPlanar}
 use Rattle.tl_planar.proofs.Numbering.{below_total, HaveSameEnds}
 use Rattle.tl_inside.specs.Inside.{flanks_at, balance, is_polygon}
 use Rattle.tl_slabs.specs.Heights.{low_end, high_end, turn_at}
@@ -21,7 +20,7 @@ use Rattle.tl_slabs.specs.Neighbours.{IsNumbered}
 use Rattle.tl_slabs.proofs.Lying.{heights_of, lies_on}
 use Rattle.tl_slabs.proofs.Numbered.{one_segment}
 use Rattle.tl_faces.specs.Rays.{IsCrossedAt, IsCountAt}
-use Rattle.tl_faces.specs.Facing.{IsOff, FacesAgree}
+use Rattle.tl_faces.specs.Facing.{IsOff}
 use Rattle.tl_faces.specs.Truth.{LiesAt, HasOnePolygon}
 use Rattle.tl_faces.proofs.Numbers.{le_lt}
 use Rattle.tl_faces.proofs.Crossing.{IsEast, IsWest, east_of_crossed, crossed_of_east}
@@ -31,7 +30,7 @@ use Rattle.tl_faces.proofs.Lines.{AreLevel, IsWestward, west_of_turn, east_of_tu
 use Rattle.tl_faces.proofs.Hits.{one_balance}
 use Rattle.tl_faces.proofs.Items.{Item, IsNoEnd, numbered, ends_of_item}
 use Rattle.tl_faces.proofs.Sorting.{Has, IsSorted, IsListed, numbers, times-both, no_times, all}
-use Rattle.tl_faces.proofs.Along.{AreFacing, facing}
+use Rattle.tl_faces.proofs.Along.{AreFacing, IsFacedOn, AreFaced}
 use Rattle.tl_faces.proofs.Sums.{number_of, total-both, total_is, facing_back, AreSlanted, balance_is}
 
 -- ---- hits of the ray to the east and of the ray to the west
@@ -230,7 +229,7 @@ module _ (K : ℤ) (chains : List MapChain) (r : Rational) (steep : IsSteep K ch
       })
       (off x (inl refl))
 
-  module _ (planar : IsPlanar chains) (agree : FacesAgree chains) (off : IsOff chains r) where
+  module _ (faced : AreFaced chains) (off : IsOff chains r) where
     item_off : (y : Item K chains r) → (turn y <ℤ pos 0) ⊎ (pos 0 <ℤ turn y)
     item_off y = ⊎_elim (λ h. inl h)
         (⊎_elim
@@ -253,13 +252,13 @@ module _ (K : ℤ) (chains : List MapChain) (r : Rational) (steep : IsSteep K ch
 
     pub seen : (side : Side) × IsSeen side
     seen =
-        let list : (xs : List (Item K chains r)) × IsListed K chains r (segments_before chains (length chains)) xs = all K chains r steep clear planar in
-        by_list list.0 list.1 (parted list.0 list.1.sorted (λ y h. item_off y))
+        let on : IsFacedOn K chains r steep clear = faced K r steep clear in
+        by_list on.items on.listed on.along (parted on.items on.listed.sorted (λ y h. item_off y))
       where
-        by_list : (xs : List (Item K chains r)) → IsListed K chains r (segments_before chains (length chains)) xs → IsParted xs → (side : Side) × IsSeen side
-        by_list xs listed p =
+        by_list : (xs : List (Item K chains r)) → IsListed K chains r (segments_before chains (length chains)) xs → AreFacing K chains r steep clear Outside xs → IsParted xs → (side : Side) × IsSeen side
+        by_list xs listed facing p =
             let listed' : IsListed K chains r (segments_before chains (length chains)) (p.front ++ p.back) = subst (IsListed K chains r (segments_before chains (length chains))) p.are listed in
-            let along : AreFacing K chains r steep clear Outside (p.front ++ p.back) = facing K chains r steep clear agree (p.front ++ p.back) listed' in
+            let along : AreFacing K chains r steep clear Outside (p.front ++ p.back) = subst (AreFacing K chains r steep clear Outside) p.are facing in
             let none : Side → Bool = λ s. false in
             let behind : (side : Side) × AreFacing K chains r steep clear side p.back = facing_back K chains r steep none clear refl Outside p.front p.back along in (
               behind.0,
@@ -308,9 +307,9 @@ no_end_off chains q off s u is end =
     let on : IsOn u q = ⊎_elim (λ k. places.on_same u (whole u.a) q (places.same_sym q (whole u.a) k) (places.a_on u)) (λ k. places.on_same u (whole u.b) q (places.same_sym q (whole u.b) k) (places.b_on u)) end in
     off is.c is.joins.chain is.joins.is (is.k, record { segment = u; from = is.joins.from; to = is.joins.to; on = on })
 
-pub one_polygon : (chains : List MapChain) → IsPlanar chains → FacesAgree chains → HasOnePolygon chains
-one_polygon chains planar agree q off =
+pub one_polygon : (chains : List MapChain) → AreFaced chains → HasOnePolygon chains
+one_polygon chains faced q off =
     let k : (K : ℤ) × IsSteep K chains q = some_steepness chains q in
     let clear : IsNoEnd chains q = no_end_off chains q off in
-    let s : (side : Side) × IsSeen k.0 chains q k.1 clear planar agree off side = seen k.0 chains q k.1 clear planar agree off in
-    (s.0, lies_by chains q s.0 (λ S none. count k.0 chains q k.1 clear planar agree off s.0 S none s.1))
+    let s : (side : Side) × IsSeen k.0 chains q k.1 clear faced off side = seen k.0 chains q k.1 clear faced off in
+    (s.0, lies_by chains q s.0 (λ S none. count k.0 chains q k.1 clear faced off s.0 S none s.1))

@@ -32,7 +32,7 @@ use Rattle.tl_faces.proofs.Ends as chain_ends
 use Rattle.tl_faces.proofs.Items.{Item, IsNoEnd, numbered, ends_of_item, spanned_by, one_longitude}
 use Rattle.tl_faces.proofs.Sorting.{Has, IsSorted, IsListed, IsFound, numbers, times-both, no_times, all}
 use Rattle.tl_faces.proofs.Toward.{near_side, far_side}
-use Rattle.tl_faces.proofs.Along.{AreFacing, facing, item_of}
+use Rattle.tl_faces.proofs.Along.{AreFacing, IsFacedOn, AreFaced, item_of}
 use Rattle.tl_faces.proofs.Sums.{number_of, total, total-both, total_is, facing_back, AreSlanted, balance_is}
 use Rattle.tl_faces.proofs.Alone.{no_end_within}
 use Rattle.tl_faces.proofs.OnePolygon.{IsEastHit, IsWestHit, counted_by, east_slanted, west_slanted, turn, level_self, turn_east, turn_west, turn_same, AreWestward, AreEastward, east_item, west_item, east_number, west_number, east_of, west_of, IsListOf, are_hits, east_are_slanted, west_are_slanted, west_count, lies_by, no_end_off}
@@ -72,8 +72,8 @@ module _ (K : ℤ) (chains : List MapChain) (r : Rational) where
 
 -- ---- about a place strictly within the segment of an item
 
-module _ (chains : List MapChain) (planar : IsPlanar chains) (agree : FacesAgree chains) (n : ℕ) (bounded : AreBounded n chains) (K : ℤ) (r : Rational) (steep : IsSteep K chains r) (clear : IsNoEnd chains r)
-    (x : Item K chains r) (on : IsStrictlyOn x.segment r) (front back : List (Item K chains r)) (listed : IsListed K chains r (segments_before chains (length chains)) (front ++ (x ∷ back)))
+module _ (chains : List MapChain) (planar : IsPlanar chains) (faced : AreFaced chains) (n : ℕ) (bounded : AreBounded n chains) (K : ℤ) (r : Rational) (steep : IsSteep K chains r) (clear : IsNoEnd chains r)
+    (x : Item K chains r) (on : IsStrictlyOn x.segment r) (front back : List (Item K chains r)) (listed : IsListed K chains r (segments_before chains (length chains)) (front ++ (x ∷ back))) (along : AreFacing K chains r steep clear Outside (front ++ (x ∷ back)))
     (west : AreWestward K chains r steep clear front) (east : AreEastward K chains r steep clear back) where
   abbrev near_of : Side
   near_of = near_side K chains r steep x
@@ -97,9 +97,6 @@ module _ (chains : List MapChain) (planar : IsPlanar chains) (agree : FacesAgree
   -- ---- what the two parts count
 
   module _ (S : Side → Bool) (none : S Outside ≡ false) where
-    along : AreFacing K chains r steep clear Outside (front ++ (x ∷ back))
-    along = facing K chains r steep clear agree (front ++ (x ∷ back)) listed
-
     back_total : total K chains r steep S back ≡ number_of (S far_of)
     back_total =
         let behind : (side : Side) × AreFacing K chains r steep clear side (x ∷ back) = facing_back K chains r steep S clear none Outside front (x ∷ back) along in
@@ -220,7 +217,7 @@ module _ (chains : List MapChain) (planar : IsPlanar chains) (agree : FacesAgree
       by_west S side xs none are slanted is =
           let k : (L : ℤ) × IsSteep L chains q = some_steepness chains q in
           let balanced = balance_is K chains r steep S xs slanted in
-          west_count k.0 chains q k.1 (no_end_off chains q off) planar agree off S (number_of (S side)) (numbers K chains r xs) none (are_hits K chains r steep clear (IsWestHit chains q) xs are)
+          west_count k.0 chains q k.1 (no_end_off chains q off) faced off S (number_of (S side)) (numbers K chains r xs) none (are_hits K chains r steep clear (IsWestHit chains q) xs are)
           (omega (arith, ints, balanced, is))
 
       south_west : pos 0 <ℤ own_turn → (S : Side → Bool) → S Outside ≡ false → IsCountAt chains q S (number_of (S near_of))
@@ -273,7 +270,7 @@ module _ (chains : List MapChain) (planar : IsPlanar chains) (agree : FacesAgree
 
 -- ---- of any segment of a chain
 
-module _ (chains : List MapChain) (planar : IsPlanar chains) (agree : FacesAgree chains) (r : Rational) where
+module _ (chains : List MapChain) (planar : IsPlanar chains) (faced : AreFaced chains) (r : Rational) where
   same_about : (chain chain' : MapChain) (u w : Segment) (e : ℤ) → chain ≡ chain' → HaveSameEnds u w → IsTrueAbout chains chain u r e → IsTrueAbout chains chain' w r e
   same_about chain chain' u w e one same about = record {
     some = about.some;
@@ -291,7 +288,7 @@ module _ (chains : List MapChain) (planar : IsPlanar chains) (agree : FacesAgree
   }
 
   pub sides_are_true : (chain : MapChain) (u : Segment) → IsOfChain chains chain u → IsStrictlyOn u r → (e : ℤ) × IsTrueAbout chains chain u r e
-  sides_are_true chain u of on = (nearness r bound.0, by_split (split k.0 chains r x list.0 list.1.sorted found_x.has))
+  sides_are_true chain u of on = (nearness r bound.0, by_split (split k.0 chains r x list.items list.listed.sorted found_x.has))
     where
       s : ℕ
       s = segments_before chains of.c + of.k
@@ -308,11 +305,11 @@ module _ (chains : List MapChain) (planar : IsPlanar chains) (agree : FacesAgree
       clear : IsNoEnd chains r
       clear = no_end_within chains planar s u r is on
 
-      list : (xs : List (Item k.0 chains r)) × IsListed k.0 chains r (segments_before chains (length chains)) xs
-      list = all k.0 chains r k.1 clear planar
+      list : IsFacedOn k.0 chains r k.1 clear
+      list = faced k.0 r k.1 clear
 
-      found_x : IsFound k.0 chains r s list.0
-      found_x = item_of k.0 chains r k.1 clear list.0 list.1 s u is (spanned_by k.0 chains r k.1 clear s u is r on.on (level_self k.0 chains r k.1 clear))
+      found_x : IsFound k.0 chains r s list.items
+      found_x = item_of k.0 chains r k.1 clear list.items list.listed s u is (spanned_by k.0 chains r k.1 clear s u is r on.on (level_self k.0 chains r k.1 clear))
 
       x : Item k.0 chains r
       x = found_x.item
@@ -336,11 +333,11 @@ module _ (chains : List MapChain) (planar : IsPlanar chains) (agree : FacesAgree
       same_place : (y : Item k.0 chains r) → x.at.place.x *ℤ r.d ≡ r.x *ℤ x.at.place.d
       same_place y = one_longitude k.0 chains r k.1 clear x.s x.segment (numbered k.0 chains r x) x.at.place r x.at.on on_x.on x.at.level
 
-      by_split : IsSplit k.0 chains r x list.0 → IsTrueAbout chains chain u r (nearness r bound.0)
+      by_split : IsSplit k.0 chains r x list.items → IsTrueAbout chains chain u r (nearness r bound.0)
       by_split p =
           same_about x.chain chain x.segment u (nearness r bound.0) one (record { first = sym ends.first; last = sym ends.last })
-          (about chains planar agree bound.0 bound.1 k.0 r k.1 clear x on_x p.front p.back
-          (subst (IsListed k.0 chains r (segments_before chains (length chains))) p.are list.1)
+          (about chains planar faced bound.0 bound.1 k.0 r k.1 clear x on_x p.front p.back
+          (subst (IsListed k.0 chains r (segments_before chains (length chains))) p.are list.listed) (subst (AreFacing k.0 chains r k.1 clear Outside) p.are list.along)
           (λ y has. turn_east k.0 chains r k.1 clear y
           (let w = p.west y has in let t : Rational = x.at.place in let v : Rational = y.at.place in let e = same_place y in
           lt_le v.x v.d t.x t.d r.x r.d v.above_zero t.above_zero r.above_zero w (omega (arith, ints, e))))
@@ -348,5 +345,5 @@ module _ (chains : List MapChain) (planar : IsPlanar chains) (agree : FacesAgree
           (let w = p.east y has in let t : Rational = x.at.place in let v : Rational = y.at.place in let e = same_place y in
           le_lt r.x r.d t.x t.d v.x v.d r.above_zero t.above_zero v.above_zero (omega (arith, ints, e)) w)))
 
-pub true_sides : (chains : List MapChain) → IsPlanar chains → FacesAgree chains → AreSidesTrue chains
-true_sides chains planar agree chain u r of on = sides_are_true chains planar agree r chain u of on
+pub true_sides : (chains : List MapChain) → IsPlanar chains → AreFaced chains → AreSidesTrue chains
+true_sides chains planar faced chain u r of on = sides_are_true chains planar faced r chain u of on
