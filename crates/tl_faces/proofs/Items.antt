@@ -93,7 +93,7 @@ module _ (K : ℤ) (chains : List MapChain) (r : Rational) (steep : IsSteep K ch
   ends_of_item x = ends x.s x.segment (numbered K chains r x)
 
   -- what lies on a segment, at the height of r, is strictly between the ends, and so the segment meets the line
-  scaled : (hv hp hr pd rd : ℤ) → pos 0 <ℤ pd → pos 0 <ℤ rd → hp *ℤ rd ≡ hr *ℤ pd → (pd *ℤ hv) ≤ℤ hp → (rd *ℤ hv) ≤ℤ hr
+  pub scaled : (hv hp hr pd rd : ℤ) → pos 0 <ℤ pd → pos 0 <ℤ rd → hp *ℤ rd ≡ hr *ℤ pd → (pd *ℤ hv) ≤ℤ hp → (rd *ℤ hv) ≤ℤ hr
   scaled hv hp hr pd rd above above' e le =
       cancel_le pd (rd *ℤ hv) hr above
       (let m : (rd *ℤ (pd *ℤ hv)) ≤ℤ (rd *ℤ hp) = mono_le rd (pd *ℤ hv) hp above' le in
@@ -107,7 +107,7 @@ module _ (K : ℤ) (chains : List MapChain) (r : Rational) (steep : IsSteep K ch
           (λ lt. let m = mono_lt a b c h lt in omega (arith, ints, m))
           (λ ge. let e : b ≡ c = omega (arith, ints, le, ge) in let f : a *ℤ b ≡ a *ℤ c = ap (λ z. a *ℤ z) e in omega (arith, ints, f))
 
-  scaled_above : (hv hp hr pd rd : ℤ) → pos 0 <ℤ pd → pos 0 <ℤ rd → hp *ℤ rd ≡ hr *ℤ pd → hp ≤ℤ (pd *ℤ hv) → hr ≤ℤ (rd *ℤ hv)
+  pub scaled_above : (hv hp hr pd rd : ℤ) → pos 0 <ℤ pd → pos 0 <ℤ rd → hp *ℤ rd ≡ hr *ℤ pd → hp ≤ℤ (pd *ℤ hv) → hr ≤ℤ (rd *ℤ hv)
   scaled_above hv hp hr pd rd above above' e le =
       by_lt_z (rd *ℤ hv) hr
       (λ lt.

@@ -18,3 +18,5 @@ pub mod Others
 pub mod Own
 pub mod TrueSides
 pub mod Unique
+pub mod Slab
+pub mod FromSlabs

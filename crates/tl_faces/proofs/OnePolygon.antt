@@ -29,7 +29,7 @@ use Rattle.tl_faces.proofs.Bounds.{IsSteep, some_steepness}
 use Rattle.tl_faces.proofs.Lines.{AreLevel, IsWestward, west_of_turn, east_of_turn, turn_of_west, turn_of_east}
 use Rattle.tl_faces.proofs.Hits.{one_balance}
 use Rattle.tl_faces.proofs.Items.{Item, IsNoEnd, numbered, ends_of_item}
-use Rattle.tl_faces.proofs.Sorting.{Has, IsSorted, IsListed, numbers, times-both, no_times, all}
+use Rattle.tl_faces.proofs.Sorting.{Has, IsSorted, IsListed, numbers, times-both, no_times}
 use Rattle.tl_faces.proofs.Along.{AreFacing, IsFacedOn, AreFaced}
 use Rattle.tl_faces.proofs.Sums.{number_of, total-both, total_is, facing_back, AreSlanted, balance_is}
 

@@ -22,7 +22,7 @@ use Rattle.tl_slabs.specs.Neighbours.{IsNumbered}
 use Rattle.tl_slabs.proofs.Lying.{heights_of, turned}
 use Rattle.tl_slabs.proofs.Numbered.{one_segment, on_same}
 use Rattle.tl_faces.specs.Rays.{IsCountAt}
-use Rattle.tl_faces.specs.Facing.{IsOfChain, IsOff, IsStrictlyOn, FacesAgree, step_y}
+use Rattle.tl_faces.specs.Facing.{IsOfChain, IsOff, IsStrictlyOn, step_y}
 use Rattle.tl_faces.specs.Truth.{LiesAt, IsNearer, IsTrueAbout, AreSidesTrue, side_of}
 use Rattle.tl_faces.proofs.Numbers.{le_lt, lt_le}
 use Rattle.tl_faces.proofs.Crossing.{IsEast}
@@ -30,7 +30,7 @@ use Rattle.tl_faces.proofs.Bounds.{AreBounded, IsSteep, some_bound, some_steepne
 use Rattle.tl_faces.proofs.Lines.{IsWestward}
 use Rattle.tl_faces.proofs.Ends as chain_ends
 use Rattle.tl_faces.proofs.Items.{Item, IsNoEnd, numbered, ends_of_item, spanned_by, one_longitude}
-use Rattle.tl_faces.proofs.Sorting.{Has, IsSorted, IsListed, IsFound, numbers, times-both, no_times, all}
+use Rattle.tl_faces.proofs.Sorting.{Has, IsSorted, IsListed, IsFound, numbers, times-both, no_times}
 use Rattle.tl_faces.proofs.Toward.{near_side, far_side}
 use Rattle.tl_faces.proofs.Along.{AreFacing, IsFacedOn, AreFaced, item_of}
 use Rattle.tl_faces.proofs.Sums.{number_of, total, total-both, total_is, facing_back, AreSlanted, balance_is}

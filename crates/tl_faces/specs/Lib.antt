@@ -2,3 +2,4 @@
 pub mod Rays
 pub mod Facing
 pub mod Truth
+pub mod Lists

@@ -10,6 +10,7 @@ ghost use Rattle.tl_planar.specs.Planar.{IsPlanar};
 ghost use Rattle.tl_inside.specs.Inside.{IsCount};
 ghost use Rattle.tl_faces.specs.Rays.{IsCountAt};
 ghost use Rattle.tl_faces.specs.Facing.{FacesAgree};
+ghost use Rattle.tl_faces.specs.Lists.{AreSlabsFacing, AreAllNear};
 ghost use Rattle.tl_faces.specs.Truth.{LiesAt, HasOnePolygon, AreSidesTrue};
 
 /// The counts of rational points are those of whole points, where both speak of one point.
@@ -35,4 +36,15 @@ pub fn no_two_polygons()
 /// And then each side of each chain names what lies there.
 pub fn true_sides()
     ensures { (chains : List MapChain) → IsPlanar chains → FacesAgree chains → AreSidesTrue chains }
+{}
+
+/// The first of the two by what a sweep can look at: in each slab the segments that are active stand in a list of which each two
+/// neighbours are tested, and along it facing sides agree.
+pub fn one_polygon_by_slabs()
+    ensures { (K : ℤ) (chains : List MapChain) → AreAllNear K chains → IsPlanar chains → AreSlabsFacing K chains → HasOnePolygon chains }
+{}
+
+/// The second by that.
+pub fn true_sides_by_slabs()
+    ensures { (K : ℤ) (chains : List MapChain) → AreAllNear K chains → IsPlanar chains → AreSlabsFacing K chains → AreSidesTrue chains }
 {}
