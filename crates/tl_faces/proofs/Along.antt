@@ -21,16 +21,16 @@ use Rattle.tl_faces.proofs.Bounds.{IsSteep}
 use Rattle.tl_faces.proofs.Numbers.{le_lt, lt_le}
 use Rattle.tl_faces.proofs.Lines.{AreLevel, IsWestward, level_with, level_back}
 use Rattle.tl_faces.proofs.Ends as chain_ends
-use Rattle.tl_faces.proofs.Items.{Item, IsNoEnd, numbered, of_chain, no_end_of, spanned_by, one_longitude}
+use Rattle.tl_faces.proofs.Items.{Item, numbered, of_chain, no_end_of, spanned_by, one_longitude, IsLine}
 use Rattle.tl_faces.proofs.Sorting.{Has, IsSorted, IsListed, IsFound, found, all}
 use Rattle.tl_faces.proofs.Toward.{near_side, far_side, toward_east, toward_west, step_along, between_level, between_first, between_last, ray_level, ray_east, ray_west}
 
-module _ (K : ℤ) (chains : List MapChain) (r : Rational) (steep : IsSteep K chains r) (clear : IsNoEnd chains r) where
+module _ (K : ℤ) (chains : List MapChain) (r : Rational) (line : IsLine K chains r) where
   abbrev near_of : Item K chains r → Side
-  near_of x = near_side K chains r steep x
+  near_of x = near_side K chains r line x
 
   abbrev far_of : Item K chains r → Side
-  far_of x = far_side K chains r steep x
+  far_of x = far_side K chains r line x
 
   -- facing sides agree along a list that begins at one side and ends at the outside
   abbrev pub AreFacing : Side → List (Item K chains r) → Type 0
@@ -55,14 +55,14 @@ module _ (K : ℤ) (chains : List MapChain) (r : Rational) (steep : IsSteep K ch
         let o : IsOnSegment chain.points on.0 q = on.1 in
         let s : ℕ = segments_before chains c + on.0 in
         let number : IsNumbered chains s o.segment = chain_ends.numbered chains c chain is on.0 o.segment o.from o.to in
-        let spanned : IsSpanned K o.segment r = spanned_by K chains r steep clear s o.segment number q o.on level in
+        let spanned : IsSpanned K o.segment r = spanned_by K chains r line s o.segment number q o.on level in
         let f : IsFound K chains r s xs = item_of s o.segment number spanned in
         let y : Item K chains r = f.item in
         let own : IsNumbered chains s y.segment = subst (λ n. IsNumbered chains n y.segment) (sym f.is) (numbered K chains r y) in
         let here : IsOn y.segment q = on_same o.segment y.segment q (one_segment chains s o.segment y.segment number own) o.on in (
           y,
           f.has,
-          record { same = one_longitude K chains r steep clear s y.segment own q y.at.place here y.at.on (level_with K q y.at.place r level y.at.level) },
+          record { same = one_longitude K chains r line s y.segment own q y.at.place here y.at.on (level_with K q y.at.place r level y.at.level) },
         )
 
   -- ---- along the line
@@ -74,7 +74,7 @@ module _ (K : ℤ) (chains : List MapChain) (r : Rational) (steep : IsSteep K ch
       ((q.x *ℤ x.at.place.d) ≤ℤ (x.at.place.x *ℤ q.d)) ⊎ ((y : Item K chains r) × Has K chains r y rest × IsAt q y)
 
   strictly_on : (x : Item K chains r) → IsStrictlyOn x.segment x.at.place
-  strictly_on x = record { on = x.at.on; no_end = no_end_of K chains r steep clear x.s x.segment (numbered K chains r x) x.at.place x.at.level }
+  strictly_on x = record { on = x.at.on; no_end = no_end_of K chains r line x.s x.segment (numbered K chains r x) x.at.place x.at.level }
 
   times_one : (z : ℤ) → z *ℤ pos 1 ≡ z
   times_one z = same (num z ⊗ num (pos 1)) (num z) (omega arith)
@@ -87,12 +87,12 @@ module _ (K : ℤ) (chains : List MapChain) (r : Rational) (steep : IsSteep K ch
     unfolding Covers
     last_is x covers =
         agree.outward x.chain x.segment x.at.place K (pos 1) (far_of x) (of_chain K chains r x) (strictly_on x) free
-        (toward_east K chains r steep x K (pos 1) (times_one K) steep.above)
+        (toward_east K chains r line x K (pos 1) (times_one K) line.above)
       where
         free : IsClearFrom chains x.at.place K (pos 1)
         free t o c chain is on =
             let p : Rational = x.at.place in
-            let past : IsWestward p t = ray_east K p t K (pos 1) (times_one K) o steep.above in
+            let past : IsWestward p t = ray_east K p t K (pos 1) (times_one K) o line.above in
             let level : AreLevel K t r = level_with K t r p (ray_level K p t K (pos 1) (times_one K) o) (level_back K p r x.at.level) in
             ⊎_elim (λ le. omega (arith, ints, le, past)) (λ k. k.1) (covers c chain t is on level)
 
@@ -100,12 +100,12 @@ module _ (K : ℤ) (chains : List MapChain) (r : Rational) (steep : IsSteep K ch
         Outside ≡ near_of x
     first_is x least =
         sym (agree.outward x.chain x.segment x.at.place (pos 0 -ℤ K) (pos 0 -ℤ pos 1) (near_of x) (of_chain K chains r x) (strictly_on x) free
-        (toward_west K chains r steep x (pos 0 -ℤ K) (pos 0 -ℤ pos 1) (times_minus K) (let h = steep.above in omega (arith, ints, h))))
+        (toward_west K chains r line x (pos 0 -ℤ K) (pos 0 -ℤ pos 1) (times_minus K) (let h = line.above in omega (arith, ints, h))))
       where
         free : IsClearFrom chains x.at.place (pos 0 -ℤ K) (pos 0 -ℤ pos 1)
         free t o c chain is on =
             let p : Rational = x.at.place in
-            let past : IsWestward t p = ray_west K p t (pos 0 -ℤ K) (pos 0 -ℤ pos 1) (times_minus K) o (let h = steep.above in omega (arith, ints, h)) in
+            let past : IsWestward t p = ray_west K p t (pos 0 -ℤ K) (pos 0 -ℤ pos 1) (times_minus K) o (let h = line.above in omega (arith, ints, h)) in
             let level : AreLevel K t r = level_with K t r p (ray_level K p t (pos 0 -ℤ K) (pos 0 -ℤ pos 1) (times_minus K) o) (level_back K p r x.at.level) in
             let le = least c chain t is on level in
             omega (arith, ints, le, past)
@@ -115,8 +115,8 @@ module _ (K : ℤ) (chains : List MapChain) (r : Rational) (steep : IsSteep K ch
     unfolding Covers
     next_is x y rest west behind covers =
         agree.facing x.chain y.chain x.segment y.segment p q (far_of x) (near_of y) (of_chain K chains r x) (of_chain K chains r y) (strictly_on x) (strictly_on y) free
-        (toward_east K chains r steep x (step_x p q) (step_y p q) (step_along K p q level) (omega (arith, ints, west)))
-        (toward_west K chains r steep y (step_x q p) (step_y q p) (step_along K q p (level_back K p q level)) (omega (arith, ints, west)))
+        (toward_east K chains r line x (step_x p q) (step_y p q) (step_along K p q level) (omega (arith, ints, west)))
+        (toward_west K chains r line y (step_x q p) (step_y q p) (step_along K q p (level_back K p q level)) (omega (arith, ints, west)))
       where
         p : Rational
         p = x.at.place
@@ -201,16 +201,19 @@ module _ (K : ℤ) (chains : List MapChain) (r : Rational) (steep : IsSteep K ch
 -- ---- lists along which facing sides agree
 
 -- all that meets the line, from west to east, and facing sides agree along it
-pub record IsFacedOn (K : ℤ) (chains : List MapChain) (r : Rational) (steep : IsSteep K chains r) (clear : IsNoEnd chains r) : Type 0 where
+pub record IsFacedOn (K : ℤ) (chains : List MapChain) (r : Rational) (line : IsLine K chains r) : Type 0 where
   pub items : List (Item K chains r)
   pub listed : IsListed K chains r (segments_before chains (length chains)) items
-  pub along : AreFacing K chains r steep clear Outside items
+  pub along : AreFacing K chains r line Outside items
 
 -- there is such a list on each line that is steep enough
 abbrev pub AreFaced : List MapChain → Type 0
-AreFaced chains = (K : ℤ) (r : Rational) (steep : IsSteep K chains r) (clear : IsNoEnd chains r) → IsFacedOn K chains r steep clear
+AreFaced chains = (K : ℤ) (r : Rational) → IsSteep K chains r → (line : IsLine K chains r) → IsFacedOn K chains r line
+
+pub on_line : (chains : List MapChain) → IsPlanar chains → FacesAgree chains → (K : ℤ) (r : Rational) (line : IsLine K chains r) → IsFacedOn K chains r line
+on_line chains planar agree K r line =
+    let list : (xs : List (Item K chains r)) × IsListed K chains r (segments_before chains (length chains)) xs = all K chains r line planar in
+    record { items = list.0; listed = list.1; along = facing K chains r line agree list.0 list.1 }
 
 pub by_faces : (chains : List MapChain) → IsPlanar chains → FacesAgree chains → AreFaced chains
-by_faces chains planar agree K r steep clear =
-    let list : (xs : List (Item K chains r)) × IsListed K chains r (segments_before chains (length chains)) xs = all K chains r steep clear planar in
-    record { items = list.0; listed = list.1; along = facing K chains r steep clear agree list.0 list.1 }
+by_faces chains planar agree K r steep line = on_line chains planar agree K r line

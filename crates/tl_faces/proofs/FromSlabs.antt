@@ -26,7 +26,7 @@ use Rattle.tl_faces.proofs.Numbers.{le_lt}
 use Rattle.tl_faces.proofs.Steep.{IsSpanned}
 use Rattle.tl_faces.proofs.Bounds.{IsSteep}
 use Rattle.tl_faces.proofs.Lines.{IsWestward, met, level_with, turn_of_east}
-use Rattle.tl_faces.proofs.Items.{Item, IsNoEnd, numbered, ends, ends_of_item, one_west, scaled, scaled_above}
+use Rattle.tl_faces.proofs.Items.{Item, numbered, ends, ends_of_item, one_west, scaled, scaled_above, IsLine}
 use Rattle.tl_faces.proofs.Sorting.{IsSorted, numbers}
 use Rattle.tl_faces.proofs.Toward.{near_side, far_side}
 use Rattle.tl_faces.proofs.Along.{AreFacing, IsFacedOn, AreFaced}
@@ -36,14 +36,14 @@ active_in : (P : ℕ → Type 0) (s : ℕ) (xs : List ℕ) → All P xs → IsIn
 active_in P s [] all i = absurd i
 active_in P s (x ∷ xs) all i = ⊎_elim (λ e. subst P (sym e) (all_head P x xs all)) (λ later. active_in P s xs (all_tail P x xs all) later) i
 
-module _ (K : ℤ) (chains : List MapChain) (near : AreAllNear K chains) (planar : IsPlanar chains) (L : ℤ) (r : Rational) (steep : IsSteep L chains r) (clear : IsNoEnd chains r) (n : ℤ) (parts : IsParting K chains near r n) where
+module _ (K : ℤ) (chains : List MapChain) (near : AreAllNear K chains) (planar : IsPlanar chains) (L : ℤ) (r : Rational) (steep : IsSteep L chains r) (line : IsLine L chains r) (n : ℤ) (parts : IsParting K chains near r n) where
   -- ---- the item of an active segment
 
   item : (s : ℕ) → IsActive K n chains s → Item L chains r
   item s a =
       let is : IsNumbered chains s a.segment = a.is in
       let same : is.number.chain ≡ is.joins.chain = one_found is.number.chain is.joins.chain (slice_get chains is.c) is.number.is is.joins.is in
-      let spanned : IsSpanned L a.segment r = spanned_by_active K chains near L r steep clear n parts s a.segment is a.begun a.lasting in
+      let spanned : IsSpanned L a.segment r = spanned_by_active K chains near L r steep line n parts s a.segment is a.begun a.lasting in
       record {
         s = s;
         c = is.c;
@@ -56,7 +56,7 @@ module _ (K : ℤ) (chains : List MapChain) (near : AreAllNear K chains) (planar
         from = is.joins.from;
         to = is.joins.to;
         spanned = spanned;
-        at = met L a.segment r (ends L chains r steep clear s a.segment is) spanned;
+        at = met L a.segment r (ends L chains r line s a.segment is) spanned;
       }
 
   items : (list : List ℕ) → All (IsActive K n chains) list → List (Item L chains r)
@@ -71,10 +71,10 @@ module _ (K : ℤ) (chains : List MapChain) (near : AreAllNear K chains) (planar
   -- ---- neighbours that were tested stand from west to east
 
   low_same : (x : Item L chains r) → low_end K x.segment ≡ low_end L x.segment
-  low_same x = let m = numbered L chains r x in same_low K L x.segment (own_near K chains near L r steep clear n parts x.s x.segment m) (steep.ends x.s x.segment m)
+  low_same x = let m = numbered L chains r x in same_low K L x.segment (own_near K chains near L r steep line n parts x.s x.segment m) (steep.ends x.s x.segment m)
 
   high_same : (x : Item L chains r) → high_end K x.segment ≡ high_end L x.segment
-  high_same x = let m = numbered L chains r x in same_high K L x.segment (own_near K chains near L r steep clear n parts x.s x.segment m) (steep.ends x.s x.segment m)
+  high_same x = let m = numbered L chains r x in same_high K L x.segment (own_near K chains near L r steep line n parts x.s x.segment m) (steep.ends x.s x.segment m)
 
   -- the test by the one height is that by the other
   west_same : (x y : Item L chains r) → IsWestOf K x.segment y.segment → IsWestOf L x.segment y.segment
@@ -95,16 +95,16 @@ module _ (K : ℤ) (chains : List MapChain) (near : AreAllNear K chains) (planar
       let from = x.spanned.from in
       let to = x.spanned.to in
       record {
-        from = scaled L chains r steep clear (height L (low_end L x.segment)) (height_of L r) (height_of L y.at.place) r.d y.at.place.d r.above_zero y.at.place.above_zero (sym y.at.level.is) (omega (arith, ints, from));
-        to = scaled_above L chains r steep clear (height L (high_end L x.segment)) (height_of L r) (height_of L y.at.place) r.d y.at.place.d r.above_zero y.at.place.above_zero (sym y.at.level.is) (omega (arith, ints, to));
+        from = scaled L chains r line (height L (low_end L x.segment)) (height_of L r) (height_of L y.at.place) r.d y.at.place.d r.above_zero y.at.place.above_zero (sym y.at.level.is) (omega (arith, ints, from));
+        to = scaled_above L chains r line (height L (high_end L x.segment)) (height_of L r) (height_of L y.at.place) r.d y.at.place.d r.above_zero y.at.place.above_zero (sym y.at.level.is) (omega (arith, ints, to));
       }
 
   adjacent : (x y : Item L chains r) → ¬ (x.s ≡ y.s) → IsWestOf K x.segment y.segment → IsWestward x.at.place y.at.place
   adjacent x y ne west =
       let p : Rational = x.at.place in
       let m = numbered L chains r x in let m' = numbered L chains r y in
-      let ends_x = ends_of_item L chains r steep clear x in
-      let ends_y = ends_of_item L chains r steep clear y in
+      let ends_x = ends_of_item L chains r line x in
+      let ends_y = ends_of_item L chains r line y in
       let zero : turn_at (low_end L x.segment) (high_end L x.segment) p ≡ pos 0 = (heights_of L x.segment (low_end L x.segment) (high_end L x.segment) ends_x p x.at.on).0 in
       let own : IsNotEast L x.segment p = omega (arith, ints, zero) in
       let there : IsNotEast L y.segment p = not_east L x.segment y.segment (steep.ends x.s x.segment m) (steep.ends y.s y.segment m') (west_same x y west) p (spans x x) (spans y x) own in
@@ -113,7 +113,7 @@ module _ (K : ℤ) (chains : List MapChain) (near : AreAllNear K chains) (planar
       let turn = turn_of_east L steep.above (low_end L y.segment) (high_end L y.segment) ends_y.rising y.at.place p
       (heights_of L y.segment (low_end L y.segment) (high_end L y.segment) ends_y y.at.place y.at.on).0 (level_with L y.at.place p r y.at.level x.at.level) back in
       absurd (omega (arith, ints, turn, there)))
-      (one_west L chains r steep clear planar x y ne)
+      (one_west L chains r line planar x y ne)
 
   sorted_by : (x : Item L chains r) (y : Item L chains r) (ys : List (Item L chains r)) → IsWestward x.at.place y.at.place → IsSorted L chains r (y ∷ ys) → IsSorted L chains r (x ∷ (y ∷ ys))
   sorted_by x y ys west sorted = (
@@ -148,33 +148,33 @@ module _ (K : ℤ) (chains : List MapChain) (near : AreAllNear K chains) (planar
 
   -- ---- facing sides
 
-  near_is : (s : ℕ) (a : IsActive K n chains s) → west_side K a.is.joins.chain a.segment ≡ near_side L chains r steep (item s a)
+  near_is : (s : ℕ) (a : IsActive K n chains s) → west_side K a.is.joins.chain a.segment ≡ near_side L chains r line (item s a)
   unfolding item
-  near_is s a = ap (λ (t : Bool). if t then a.is.joins.chain.left else a.is.joins.chain.right) (same_rise K L a.segment (own_near K chains near L r steep clear n parts s a.segment a.is) (steep.ends s a.segment a.is))
+  near_is s a = ap (λ (t : Bool). if t then a.is.joins.chain.left else a.is.joins.chain.right) (same_rise K L a.segment (own_near K chains near L r steep line n parts s a.segment a.is) (steep.ends s a.segment a.is))
 
-  far_is : (s : ℕ) (a : IsActive K n chains s) → east_side K a.is.joins.chain a.segment ≡ far_side L chains r steep (item s a)
+  far_is : (s : ℕ) (a : IsActive K n chains s) → east_side K a.is.joins.chain a.segment ≡ far_side L chains r line (item s a)
   unfolding item
-  far_is s a = ap (λ (t : Bool). if t then a.is.joins.chain.right else a.is.joins.chain.left) (same_rise K L a.segment (own_near K chains near L r steep clear n parts s a.segment a.is) (steep.ends s a.segment a.is))
+  far_is s a = ap (λ (t : Bool). if t then a.is.joins.chain.right else a.is.joins.chain.left) (same_rise K L a.segment (own_near K chains near L r steep line n parts s a.segment a.is) (steep.ends s a.segment a.is))
 
-  facing_items : (list : List ℕ) (active : All (IsActive K n chains) list) (west : Side) → AreFacingFrom K chains west list → AreFacing L chains r steep clear west (items list active)
+  facing_items : (list : List ℕ) (active : All (IsActive K n chains) list) (west : Side) → AreFacingFrom K chains west list → AreFacing L chains r line west (items list active)
   unfolding items
   facing_items [] active west facing = facing
   facing_items (s ∷ list) active west facing =
       let a : IsActive K n chains s = all_head (IsActive K n chains) s list active in
       let here = facing a.segment a.is in (
         here.0 ∙ near_is s a,
-        facing_items list (all_tail (IsActive K n chains) s list active) (far_side L chains r steep (item s a)) (subst (λ side. AreFacingFrom K chains side list) (far_is s a) here.1),
+        facing_items list (all_tail (IsActive K n chains) s list active) (far_side L chains r line (item s a)) (subst (λ side. AreFacingFrom K chains side list) (far_is s a) here.1),
       )
 
   -- ---- the whole list
 
-  of_slab : (list : List ℕ) → IsListOf K n chains list → AreFacingFrom K chains Outside list → IsFacedOn L chains r steep clear
+  of_slab : (list : List ℕ) → IsListOf K n chains list → AreFacingFrom K chains Outside list → IsFacedOn L chains r line
   of_slab list of facing = record {
     items = items list of.active;
     listed = record {
       sorted = sorted_items list of.active of.tested at_most;
       below = λ y h. let m = numbered L chains r y in below_total chains y.s m.c m.k m.number;
-      once = λ s u lt is spanned. ap (times s) (numbers_are list of.active) ∙ of.once s (active_by K chains near L r steep clear n parts s u is spanned);
+      once = λ s u lt is spanned. ap (times s) (numbers_are list of.active) ∙ of.once s (active_by K chains near L r steep line n parts s u is spanned);
     };
     along = facing_items list of.active Outside facing;
   }
@@ -186,7 +186,7 @@ module _ (K : ℤ) (chains : List MapChain) (near : AreAllNear K chains) (planar
       ]
 
 pub by_slabs : (K : ℤ) (chains : List MapChain) → AreAllNear K chains → IsPlanar chains → AreSlabsFacing K chains → AreFaced chains
-by_slabs K chains near planar slabs L r steep clear =
+by_slabs K chains near planar slabs L r steep line =
     let parts : (n : ℤ) × IsParting K chains near r n = parting K chains near r in
     let list : (list : List ℕ) × IsListOf K parts.0 chains list × AreFacingFrom K chains Outside list = slabs parts.0 in
-    of_slab K chains near planar L r steep clear parts.0 parts.1 list.0 list.1 list.2
+    of_slab K chains near planar L r steep line parts.0 parts.1 list.0 list.1 list.2

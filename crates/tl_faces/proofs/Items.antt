@@ -14,7 +14,7 @@ use Rattle.tl_county.specs.TheMap.{MapChain}
 use Rattle.tl_county.specs.Segments.{segments_before}
 use Rattle.tl_planar.specs.Planar.{IsPlanar}
 use Rattle.tl_planar.proofs.Ends.{products_by_same}
-use Rattle.tl_slabs.specs.Heights.{height, height_of, low_end, high_end}
+use Rattle.tl_slabs.specs.Heights.{height, height_of, AreNear, low_end, high_end}
 use Rattle.tl_slabs.specs.Neighbours.{IsNumbered}
 use Rattle.tl_slabs.proofs.Rising.{AreEndsOf, ends_of}
 use Rattle.tl_slabs.proofs.Lying.{heights_of}
@@ -43,6 +43,23 @@ pub record Item (K : ℤ) (chains : List MapChain) (r : Rational) : Type 0 where
 abbrev pub IsNoEnd : List MapChain → Rational → Type 0
 IsNoEnd chains r = (s : ℕ) (u : Segment) → IsNumbered chains s u → ¬ IsEnd u r
 
+-- a line of the height of r on which no end of a segment lies
+pub record IsLine (K : ℤ) (chains : List MapChain) (r : Rational) : Type 0 where
+  pub above : pos 0 <ℤ K
+  pub ends : (s : ℕ) (u : Segment) → IsNumbered chains s u → AreNear K u.a u.b
+  pub off : (s : ℕ) (u : Segment) → IsNumbered chains s u → ¬ (r.d *ℤ height K u.a ≡ height_of K r) × ¬ (r.d *ℤ height K u.b ≡ height_of K r)
+
+-- a steep one through a place that is no end
+pub steep_line : (K : ℤ) (chains : List MapChain) (r : Rational) → IsSteep K chains r → IsNoEnd chains r → IsLine K chains r
+steep_line K chains r steep clear = record {
+  above = steep.above;
+  ends = steep.ends;
+  off = λ s u is. (
+    (λ e. clear s u is (inl (one_height K r u.a (steep.first s u is) e))),
+    (λ e. clear s u is (inr (one_height K r u.b (steep.last s u is) e))),
+  );
+}
+
 module _ (K : ℤ) (chains : List MapChain) (r : Rational) where
   pub numbered : (x : Item K chains r) → IsNumbered chains x.s x.segment
   numbered x = record {
@@ -70,11 +87,11 @@ point_level K r p v level here =
     (same (num p.d ⊗ (num r.d ⊗ num (height K v))) (num p.d ⊗ num (height K v) ⊗ num r.d) (omega arith)
     ∙ ap (λ z. z *ℤ r.d) (sym is) ∙ level.is ∙ same (num (height_of K r) ⊗ num p.d) (num p.d ⊗ num (height_of K r)) (omega arith))
 
-module _ (K : ℤ) (chains : List MapChain) (r : Rational) (steep : IsSteep K chains r) (clear : IsNoEnd chains r) where
+module _ (K : ℤ) (chains : List MapChain) (r : Rational) (line : IsLine K chains r) where
   end_height : (s : ℕ) (u : Segment) → IsNumbered chains s u → (v : Point) → (v ≡ u.a) ⊎ (v ≡ u.b) → ¬ (r.d *ℤ height K v ≡ height_of K r)
   end_height s u is v which e = ⊎_elim
-      (λ k. clear s u is (inl (one_height K r u.a (steep.first s u is) (subst (λ z. r.d *ℤ height K z ≡ height_of K r) k e))))
-      (λ k. clear s u is (inr (one_height K r u.b (steep.last s u is) (subst (λ z. r.d *ℤ height K z ≡ height_of K r) k e))))
+      (λ k. (line.off s u is).0 (subst (λ z. r.d *ℤ height K z ≡ height_of K r) k e))
+      (λ k. (line.off s u is).1 (subst (λ z. r.d *ℤ height K z ≡ height_of K r) k e))
       which
 
   no_end : (p : Rational) → AreLevel K p r → ¬ IsSomeEnd chains p
@@ -87,7 +104,7 @@ module _ (K : ℤ) (chains : List MapChain) (r : Rational) (steep : IsSteep K ch
   no_end_of s u is p level e = no_end p level (record { s = s; segment = u; is = is; end = e })
 
   pub ends : (s : ℕ) (u : Segment) → IsNumbered chains s u → AreEndsOf K u (low_end K u) (high_end K u)
-  ends s u is = ends_of K u (steep.ends s u is)
+  ends s u is = ends_of K u (line.ends s u is)
 
   pub ends_of_item : (x : Item K chains r) → AreEndsOf K x.segment (low_end K x.segment) (high_end K x.segment)
   ends_of_item x = ends x.s x.segment (numbered K chains r x)
@@ -136,7 +153,7 @@ module _ (K : ℤ) (chains : List MapChain) (r : Rational) (steep : IsSteep K ch
   pub one_longitude : (s : ℕ) (u : Segment) → IsNumbered chains s u → (p q : Rational) → IsOn u p → IsOn u q → AreLevel K p q → p.x *ℤ q.d ≡ q.x *ℤ p.d
   one_longitude s u is p q on on' level =
       let e : AreEndsOf K u (low_end K u) (high_end K u) = ends s u is in
-      same_of_turn K steep.above (low_end K u) (high_end K u) e.rising p q (heights_of K u (low_end K u) (high_end K u) e p on).0 level (heights_of K u (low_end K u) (high_end K u) e q on').0
+      same_of_turn K line.above (low_end K u) (high_end K u) e.rising p q (heights_of K u (low_end K u) (high_end K u) e p on).0 level (heights_of K u (low_end K u) (high_end K u) e q on').0
 
   -- ---- of two items one is west of the other
 
@@ -150,5 +167,5 @@ module _ (K : ℤ) (chains : List MapChain) (r : Rational) (steep : IsSteep K ch
       by_lt_z (p.x *ℤ q.d) (q.x *ℤ p.d) (λ lt. inl lt)
       (λ ge. by_lt_z (q.x *ℤ p.d) (p.x *ℤ q.d) (λ lt. inr lt)
       (λ le. absurd (
-      let here : IsSame p q = one_place K p q steep.above (level_with K p q r x.at.level y.at.level) (omega (arith, ints, ge, le)) in
+      let here : IsSame p q = one_place K p q line.above (level_with K p q r x.at.level y.at.level) (omega (arith, ints, ge, le)) in
       no_end q y.at.level (shared_end chains planar x.s y.s x.segment y.segment q ne (numbered K chains r x) (numbered K chains r y) (places.on_same x.segment p q here x.at.on) y.at.on))))

@@ -28,7 +28,7 @@ use Rattle.tl_faces.proofs.Steep.{IsSpanned, spanned_east, spanned_west, east_sp
 use Rattle.tl_faces.proofs.Bounds.{IsSteep, some_steepness}
 use Rattle.tl_faces.proofs.Lines.{AreLevel, IsWestward, west_of_turn, east_of_turn, turn_of_west, turn_of_east}
 use Rattle.tl_faces.proofs.Hits.{one_balance}
-use Rattle.tl_faces.proofs.Items.{Item, IsNoEnd, numbered, ends_of_item}
+use Rattle.tl_faces.proofs.Items.{Item, IsNoEnd, numbered, ends_of_item, IsLine, steep_line}
 use Rattle.tl_faces.proofs.Sorting.{Has, IsSorted, IsListed, numbers, times-both, no_times}
 use Rattle.tl_faces.proofs.Along.{AreFacing, IsFacedOn, AreFaced}
 use Rattle.tl_faces.proofs.Sums.{number_of, total-both, total_is, facing_back, AreSlanted, balance_is}
@@ -83,7 +83,7 @@ west_slanted u q = ⊎_elim
 
 -- ---- parts of a list
 
-module _ (K : ℤ) (chains : List MapChain) (r : Rational) (steep : IsSteep K chains r) (clear : IsNoEnd chains r) where
+module _ (K : ℤ) (chains : List MapChain) (r : Rational) (steep : IsSteep K chains r) (line : IsLine K chains r) where
   abbrev pub turn : Item K chains r → ℤ
   turn x = turn_at (low_end K x.segment) (high_end K x.segment) r
 
@@ -91,19 +91,19 @@ module _ (K : ℤ) (chains : List MapChain) (r : Rational) (steep : IsSteep K ch
   level_self = record { is = refl }
 
   line_turn : (x : Item K chains r) → turn_at (low_end K x.segment) (high_end K x.segment) x.at.place ≡ pos 0
-  line_turn x = (heights_of K x.segment (low_end K x.segment) (high_end K x.segment) (ends_of_item K chains r steep clear x) x.at.place x.at.on).0
+  line_turn x = (heights_of K x.segment (low_end K x.segment) (high_end K x.segment) (ends_of_item K chains r line x) x.at.place x.at.on).0
 
   pub turn_east : (x : Item K chains r) → IsWestward x.at.place r → turn x <ℤ pos 0
-  turn_east x west = let e = ends_of_item K chains r steep clear x in turn_of_east K steep.above (low_end K x.segment) (high_end K x.segment) e.rising x.at.place r (line_turn x) x.at.level west
+  turn_east x west = let e = ends_of_item K chains r line x in turn_of_east K steep.above (low_end K x.segment) (high_end K x.segment) e.rising x.at.place r (line_turn x) x.at.level west
 
   pub turn_west : (x : Item K chains r) → IsWestward r x.at.place → pos 0 <ℤ turn x
-  turn_west x west = let e = ends_of_item K chains r steep clear x in turn_of_west K steep.above (low_end K x.segment) (high_end K x.segment) e.rising x.at.place r (line_turn x) x.at.level west
+  turn_west x west = let e = ends_of_item K chains r line x in turn_of_west K steep.above (low_end K x.segment) (high_end K x.segment) e.rising x.at.place r (line_turn x) x.at.level west
 
   pub place_east : (x : Item K chains r) → turn x <ℤ pos 0 → IsWestward x.at.place r
-  place_east x t = let e = ends_of_item K chains r steep clear x in east_of_turn K steep.above (low_end K x.segment) (high_end K x.segment) e.rising x.at.place r (line_turn x) x.at.level t
+  place_east x t = let e = ends_of_item K chains r line x in east_of_turn K steep.above (low_end K x.segment) (high_end K x.segment) e.rising x.at.place r (line_turn x) x.at.level t
 
   pub place_west : (x : Item K chains r) → pos 0 <ℤ turn x → IsWestward r x.at.place
-  place_west x t = let e = ends_of_item K chains r steep clear x in west_of_turn K steep.above (low_end K x.segment) (high_end K x.segment) e.rising x.at.place r (line_turn x) x.at.level t
+  place_west x t = let e = ends_of_item K chains r line x in west_of_turn K steep.above (low_end K x.segment) (high_end K x.segment) e.rising x.at.place r (line_turn x) x.at.level t
 
   -- items to the west of r, and those to the east of it
   abbrev pub AreWestward : List (Item K chains r) → Type 0
@@ -189,10 +189,10 @@ module _ (K : ℤ) (chains : List MapChain) (r : Rational) (steep : IsSteep K ch
       hits = λ y has. record { segment = y.segment; is = numbered K chains r y; west = west_item y (west y has) };
     }
 
-  pub east_are_slanted : (S : Side → Bool) (xs : List (Item K chains r)) → AreEastward xs → AreSlanted K chains r steep S xs
+  pub east_are_slanted : (S : Side → Bool) (xs : List (Item K chains r)) → AreEastward xs → AreSlanted K chains r line S xs
   east_are_slanted S xs east y has = east_slanted y.segment r (east_item y (east y has))
 
-  pub west_are_slanted : (S : Side → Bool) (xs : List (Item K chains r)) → AreWestward xs → AreSlanted K chains r steep S xs
+  pub west_are_slanted : (S : Side → Bool) (xs : List (Item K chains r)) → AreWestward xs → AreSlanted K chains r line S xs
   west_are_slanted S xs west y has = west_slanted y.segment r (west_item y (west y has))
 
   -- ---- a place on no chain between the two parts of its list
@@ -235,7 +235,7 @@ module _ (K : ℤ) (chains : List MapChain) (r : Rational) (steep : IsSteep K ch
         (⊎_elim
         (λ zero.
         let from = y.spanned.from in let to = y.spanned.to in
-        let on : IsOn y.segment r = lies_on K y.segment (low_end K y.segment) (high_end K y.segment) (ends_of_item K chains r steep clear y) r zero (omega (arith, ints, from)) (omega (arith, ints, to)) in
+        let on : IsOn y.segment r = lies_on K y.segment (low_end K y.segment) (high_end K y.segment) (ends_of_item K chains r line y) r zero (omega (arith, ints, from)) (omega (arith, ints, to)) in
         absurd (off y.c y.chain y.is (y.k, record { segment = y.segment; from = y.from; to = y.to; on = on })))
         (λ h. inr h))
         (sign (turn y))
@@ -247,20 +247,20 @@ module _ (K : ℤ) (chains : List MapChain) (r : Rational) (steep : IsSteep K ch
       pub listed : IsListed K chains r (segments_before chains (length chains)) (front ++ back)
       pub west : AreWestward front
       pub east : AreEastward back
-      pub whole_list : AreFacing K chains r steep clear Outside (front ++ back)
-      pub facing_east : AreFacing K chains r steep clear side back
+      pub whole_list : AreFacing K chains r line Outside (front ++ back)
+      pub facing_east : AreFacing K chains r line side back
 
     pub seen : (side : Side) × IsSeen side
     seen =
-        let on : IsFacedOn K chains r steep clear = faced K r steep clear in
+        let on : IsFacedOn K chains r line = faced K r steep line in
         by_list on.items on.listed on.along (parted on.items on.listed.sorted (λ y h. item_off y))
       where
-        by_list : (xs : List (Item K chains r)) → IsListed K chains r (segments_before chains (length chains)) xs → AreFacing K chains r steep clear Outside xs → IsParted xs → (side : Side) × IsSeen side
+        by_list : (xs : List (Item K chains r)) → IsListed K chains r (segments_before chains (length chains)) xs → AreFacing K chains r line Outside xs → IsParted xs → (side : Side) × IsSeen side
         by_list xs listed facing p =
             let listed' : IsListed K chains r (segments_before chains (length chains)) (p.front ++ p.back) = subst (IsListed K chains r (segments_before chains (length chains))) p.are listed in
-            let along : AreFacing K chains r steep clear Outside (p.front ++ p.back) = subst (AreFacing K chains r steep clear Outside) p.are facing in
+            let along : AreFacing K chains r line Outside (p.front ++ p.back) = subst (AreFacing K chains r line Outside) p.are facing in
             let none : Side → Bool = λ s. false in
-            let behind : (side : Side) × AreFacing K chains r steep clear side p.back = facing_back K chains r steep none clear refl Outside p.front p.back along in (
+            let behind : (side : Side) × AreFacing K chains r line side p.back = facing_back K chains r line none refl Outside p.front p.back along in (
               behind.0,
               record { front = p.front; back = p.back; listed = listed'; west = p.west; east = p.east; whole_list = along; facing_east = behind.1 },
             )
@@ -268,7 +268,7 @@ module _ (K : ℤ) (chains : List MapChain) (r : Rational) (steep : IsSteep K ch
     pub count : (side : Side) (S : Side → Bool) → S Outside ≡ false → IsSeen side → IsCountAt chains r S (number_of (S side))
     count side S none s =
         counted_by chains r S (number_of (S side)) (numbers K chains r s.back) (are_hits (IsEastHit chains r) s.back (east_list s.front s.back s.listed s.west s.east))
-        (sym (balance_is K chains r steep S s.back (east_are_slanted S s.back s.east) ∙ total_is K chains r steep S clear none side s.back s.facing_east))
+        (sym (balance_is K chains r line S s.back (east_are_slanted S s.back s.east) ∙ total_is K chains r line S none side s.back s.facing_east))
 
     -- and by the hits of the ray to the west
     pub west_count : (S : Side → Bool) (n : ℤ) (hits : List ℕ) → S Outside ≡ false → AreHits (segments_before chains (length chains)) (IsWestHit chains r) hits → n ≡ pos 0 -ℤ balance S (map (flanks_at chains) hits) → IsCountAt chains r S n
@@ -278,11 +278,11 @@ module _ (K : ℤ) (chains : List MapChain) (r : Rational) (steep : IsSteep K ch
         go (side, s) =
             let own : AreHits (segments_before chains (length chains)) (IsWestHit chains r) (numbers K chains r s.front) = are_hits (IsWestHit chains r) s.front (west_list s.front s.back s.listed s.west s.east) in
             let one = one_balance chains (segments_before chains (length chains)) (IsWestHit chains r) S hits (numbers K chains r s.front) are own in
-            let front = balance_is K chains r steep S s.front (west_are_slanted S s.front s.west) in
-            let back = total_is K chains r steep S clear none side s.back s.facing_east in
-            let whole = total_is K chains r steep S clear none Outside (s.front ++ s.back) s.whole_list in
+            let front = balance_is K chains r line S s.front (west_are_slanted S s.front s.west) in
+            let back = total_is K chains r line S none side s.back s.facing_east in
+            let whole = total_is K chains r line S none Outside (s.front ++ s.back) s.whole_list in
             let zero : number_of (S Outside) ≡ pos 0 = ap number_of none in
-            let both = total-both K chains r steep S s.front s.back in
+            let both = total-both K chains r line S s.front s.back in
             let is : number_of (S side) ≡ n = omega (arith, ints, e, one, front, back, whole, zero, both) in
             subst (IsCountAt chains r S) is (count side S none s)
 
@@ -310,6 +310,6 @@ no_end_off chains q off s u is end =
 pub one_polygon : (chains : List MapChain) → AreFaced chains → HasOnePolygon chains
 one_polygon chains faced q off =
     let k : (K : ℤ) × IsSteep K chains q = some_steepness chains q in
-    let clear : IsNoEnd chains q = no_end_off chains q off in
-    let s : (side : Side) × IsSeen k.0 chains q k.1 clear faced off side = seen k.0 chains q k.1 clear faced off in
-    (s.0, lies_by chains q s.0 (λ S none. count k.0 chains q k.1 clear faced off s.0 S none s.1))
+    let line : IsLine k.0 chains q = steep_line k.0 chains q k.1 (no_end_off chains q off) in
+    let s : (side : Side) × IsSeen k.0 chains q k.1 line faced off side = seen k.0 chains q k.1 line faced off in
+    (s.0, lies_by chains q s.0 (λ S none. count k.0 chains q k.1 line faced off s.0 S none s.1))

@@ -18,7 +18,7 @@ use Rattle.tl_slabs.proofs.Rising.{AreEndsOf, ends_of, higher, higher_west}
 use Rattle.tl_faces.specs.Lists.{AreAllNear}
 use Rattle.tl_faces.proofs.Steep.{IsNearTo, IsSpanned, north, south, level, not_north, not_south, one_height}
 use Rattle.tl_faces.proofs.Bounds.{IsBounded, AreBounded, IsSteep, some_bound}
-use Rattle.tl_faces.proofs.Items.{IsNoEnd}
+use Rattle.tl_faces.proofs.Items.{IsLine}
 use Rattle.tl_faces.proofs.Toward.{is_lt, no_lt}
 
 -- a point comes before r: it is further south, or of one latitude and further east; or it comes behind r
@@ -233,7 +233,7 @@ same_low K L u near near' = ap (λ (t : Bool). if t then u.a else u.b) (same_ris
 pub same_high : (K L : ℤ) (u : Segment) → AreNear K u.a u.b → AreNear L u.a u.b → high_end K u ≡ high_end L u
 same_high K L u near near' = ap (λ (t : Bool). if t then u.b else u.a) (same_rise K L u near near')
 
-module _ (K : ℤ) (chains : List MapChain) (near : AreAllNear K chains) (L : ℤ) (r : Rational) (steep : IsSteep L chains r) (clear : IsNoEnd chains r) (n : ℤ) (parts : IsParting K chains near r n) (s : ℕ) (u : Segment) (is : IsNumbered chains s u) where
+module _ (K : ℤ) (chains : List MapChain) (near : AreAllNear K chains) (L : ℤ) (r : Rational) (steep : IsSteep L chains r) (line : IsLine L chains r) (n : ℤ) (parts : IsParting K chains near r n) (s : ℕ) (u : Segment) (is : IsNumbered chains s u) where
   first_of : IsPointOf chains is.c is.k u.a
   first_of = record { chain = is.joins.chain; is = is.joins.is; point = is.joins.from }
 
@@ -252,13 +252,13 @@ module _ (K : ℤ) (chains : List MapChain) (near : AreAllNear K chains) (L : �
     k : ℕ
     of : IsPointOf chains c k v
     close : IsNearTo L r v
-    off : ¬ IsSame r (whole v)
+    off : ¬ (r.d *ℤ height L v ≡ height_of L r)
 
   first_end : IsAnEnd u.a
-  first_end = record { c = is.c; k = is.k; of = first_of; close = steep.first s u is; off = λ e. clear s u is (inl e) }
+  first_end = record { c = is.c; k = is.k; of = first_of; close = steep.first s u is; off = (line.off s u is).0 }
 
   last_end : IsAnEnd u.b
-  last_end = record { c = is.c; k = is.k + 1; of = last_of; close = steep.last s u is; off = λ e. clear s u is (inr e) }
+  last_end = record { c = is.c; k = is.k + 1; of = last_of; close = steep.last s u is; off = (line.off s u is).1 }
 
   low_is : IsAnEnd (low_end L u)
   low_is = let e = ends in ⊎_elim (λ k. subst IsAnEnd (sym k.0) first_end) (λ k. subst IsAnEnd (sym k.0) last_end) e.are
@@ -270,7 +270,7 @@ module _ (K : ℤ) (chains : List MapChain) (near : AreAllNear K chains) (L : �
   before_behind v e =
       by_lt_z (r.d *ℤ height L v) (height_of L r) (λ lt. inl (before_by L r v e.close lt))
       (λ ge. by_lt_z (height_of L r) (r.d *ℤ height L v) (λ lt. inr (behind_by L r v e.close lt))
-      (λ le. absurd (e.off (one_height L r v e.close (omega (arith, ints, ge, le))))))
+      (λ le. absurd (e.off (omega (arith, ints, ge, le)))))
 
   pub active_by : IsSpanned L u r → IsActive K n chains s
   active_by spanned =

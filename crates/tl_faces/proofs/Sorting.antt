@@ -19,11 +19,10 @@ use Rattle.tl_slabs.specs.Heights.{height, height_of, low_end, high_end}
 use Rattle.tl_slabs.specs.Neighbours.{IsNumbered}
 use Rattle.tl_slabs.proofs.Numbered.{one_segment}
 use Rattle.tl_faces.proofs.Steep.{IsSpanned}
-use Rattle.tl_faces.proofs.Bounds.{IsSteep}
 use Rattle.tl_faces.proofs.Numbers.{le_lt}
 use Rattle.tl_faces.proofs.Lines.{IsWestward, met}
 use Rattle.tl_faces.proofs.Ends.{point_or}
-use Rattle.tl_faces.proofs.Items.{Item, IsNoEnd, ends, one_west}
+use Rattle.tl_faces.proofs.Items.{Item, ends, one_west, IsLine}
 
 -- ---- the segment with a number, if its points differ
 
@@ -173,7 +172,7 @@ module _ (K : ℤ) (chains : List MapChain) (r : Rational) where
     pub below : (y : Item K chains r) → Has y xs → y.s < n
     pub once : (s : ℕ) (u : Segment) → s < n → IsNumbered chains s u → IsSpanned K u r → times s (numbers xs) ≡ 1
 
-  module _ (steep : IsSteep K chains r) (clear : IsNoEnd chains r) (planar : IsPlanar chains) where
+  module _ (line : IsLine K chains r) (planar : IsPlanar chains) where
     -- a segment more that doesn't meet the line
     kept : (n : ℕ) (xs : List (Item K chains r)) → IsListed n xs → ((u : Segment) → IsNumbered chains n u → ¬ IsSpanned K u r) → IsListed (n + 1) xs
     kept n xs listed none = record {
@@ -189,7 +188,7 @@ module _ (K : ℤ) (chains : List MapChain) (r : Rational) where
     joined : (n : ℕ) (xs : List (Item K chains r)) → IsListed n xs → (z : Item K chains r) → z.s ≡ n → (new : List (Item K chains r)) × IsListed (n + 1) new
     joined n xs listed z at =
         let differ : (y : Item K chains r) → Has y xs → ¬ (z.s ≡ y.s) = λ y h e. let lt = listed.below y h in omega (arith, lt, at, e) in
-        go (inserted z xs listed.sorted (λ y h. one_west K chains r steep clear planar z y (differ y h)))
+        go (inserted z xs listed.sorted (λ y h. one_west K chains r line planar z y (differ y h)))
       where
         go : (new : List (Item K chains r)) × IsInserted z xs new → (new : List (Item K chains r)) × IsListed (n + 1) new
         go (new, more) = (
@@ -253,7 +252,7 @@ module _ (K : ℤ) (chains : List MapChain) (r : Rational) where
               from = first;
               to = last;
               spanned = spanned;
-              at = met K u r (ends K chains r steep clear n u is) spanned;
+              at = met K u r (ends K chains r line n u is) spanned;
             }) refl)
             (λ no. (xs, kept n xs listed (λ w is' spanned. no (spanned_same K w u r (one_segment chains n w u is' is) spanned))))
 

@@ -16,9 +16,8 @@ use Rattle.tl_slabs.specs.Heights.{height, height_of, AreNear}
 use Rattle.tl_slabs.proofs.Rising.{le_of, lt_of, one_higher, higher, near_back}
 use Rattle.tl_faces.specs.Facing.{IsSideToward, IsStrictlyBetween, IsOnRay, step_x, step_y}
 use Rattle.tl_faces.proofs.Numbers.{above_by, below_by}
-use Rattle.tl_faces.proofs.Bounds.{IsSteep}
 use Rattle.tl_faces.proofs.Lines.{AreLevel, IsWestward}
-use Rattle.tl_faces.proofs.Items.{Item, numbered}
+use Rattle.tl_faces.proofs.Items.{Item, numbered, IsLine}
 
 pub is_lt : (x y : ℤ) → x <ℤ y → int_lt x y ≡ true
 is_lt x y h = go (int_lt x y) h.lt
@@ -102,7 +101,7 @@ one_test left right s t u e f = ap (flanks_if left right) e ∙ alike u ∙ sym 
     alike true = refl
     alike false = refl
 
-module _ (K : ℤ) (chains : List MapChain) (r : Rational) (steep : IsSteep K chains r) where
+module _ (K : ℤ) (chains : List MapChain) (r : Rational) (line : IsLine K chains r) where
   abbrev rises : Item K chains r → Bool
   rises x = int_lt (height K x.segment.a) (height K x.segment.b)
 
@@ -119,22 +118,22 @@ module _ (K : ℤ) (chains : List MapChain) (r : Rational) (steep : IsSteep K ch
   falls x e = ⊎_elim
       (λ up. absurd (let le = le_of (height K x.segment.a) (height K x.segment.b) e in omega (arith, ints, le, up)))
       (λ down. down)
-      (one_higher K x.segment.a x.segment.b (steep.ends x.s x.segment (numbered K chains r x)) x.segment.different)
+      (one_higher K x.segment.a x.segment.b (line.ends x.s x.segment (numbered K chains r x)) x.segment.different)
 
   module _ (x : Item K chains r) (dx dy : ℤ) (along : K *ℤ dy ≡ dx) where
     pub toward_east : pos 0 <ℤ dx → IsSideToward x.chain x.segment dx dy (far_side x)
     toward_east east = go (rises x) refl
       where
         go : (t : Bool) → rises x ≡ t → IsSideToward x.chain x.segment dx dy (if t then x.chain.right else x.chain.left)
-        go true e = inr (east_up K steep.above x.segment.a x.segment.b dx dy along east (lt_of (height K x.segment.a) (height K x.segment.b) e), refl)
-        go false e = inl (east_down K steep.above x.segment.a x.segment.b dx dy along east (falls x e), refl)
+        go true e = inr (east_up K line.above x.segment.a x.segment.b dx dy along east (lt_of (height K x.segment.a) (height K x.segment.b) e), refl)
+        go false e = inl (east_down K line.above x.segment.a x.segment.b dx dy along east (falls x e), refl)
 
     pub toward_west : dx <ℤ pos 0 → IsSideToward x.chain x.segment dx dy (near_side x)
     toward_west west = go (rises x) refl
       where
         go : (t : Bool) → rises x ≡ t → IsSideToward x.chain x.segment dx dy (if t then x.chain.left else x.chain.right)
-        go true e = inl (west_up K steep.above x.segment.a x.segment.b dx dy along west (lt_of (height K x.segment.a) (height K x.segment.b) e), refl)
-        go false e = inr (west_down K steep.above x.segment.a x.segment.b dx dy along west (falls x e), refl)
+        go true e = inl (west_up K line.above x.segment.a x.segment.b dx dy along west (lt_of (height K x.segment.a) (height K x.segment.b) e), refl)
+        go false e = inr (west_down K line.above x.segment.a x.segment.b dx dy along west (falls x e), refl)
 
   -- of a segment that isn't level these are its flanks
   pub flanks_are : (x : Item K chains r) → (x.segment.a.y <ℤ x.segment.b.y) ⊎ (x.segment.b.y <ℤ x.segment.a.y) → flanks_at chains x.s ≡ sides_of x
@@ -146,7 +145,7 @@ module _ (K : ℤ) (chains : List MapChain) (r : Rational) (steep : IsSteep K ch
       (let h = higher K x.segment.b x.segment.a (near_back K x.segment.a x.segment.b near) down in omega (arith, ints, h)))) slanted
     where
       near : AreNear K x.segment.a x.segment.b
-      near = steep.ends x.s x.segment (numbered K chains r x)
+      near = line.ends x.s x.segment (numbered K chains r x)
 
 -- ---- steps along a line of one height
 

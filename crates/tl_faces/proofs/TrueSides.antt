@@ -29,7 +29,7 @@ use Rattle.tl_faces.proofs.Crossing.{IsEast}
 use Rattle.tl_faces.proofs.Bounds.{AreBounded, IsSteep, some_bound, some_steepness}
 use Rattle.tl_faces.proofs.Lines.{IsWestward}
 use Rattle.tl_faces.proofs.Ends as chain_ends
-use Rattle.tl_faces.proofs.Items.{Item, IsNoEnd, numbered, ends_of_item, spanned_by, one_longitude}
+use Rattle.tl_faces.proofs.Items.{Item, numbered, ends_of_item, spanned_by, one_longitude, IsLine, steep_line}
 use Rattle.tl_faces.proofs.Sorting.{Has, IsSorted, IsListed, IsFound, numbers, times-both, no_times}
 use Rattle.tl_faces.proofs.Toward.{near_side, far_side}
 use Rattle.tl_faces.proofs.Along.{AreFacing, IsFacedOn, AreFaced, item_of}
@@ -72,41 +72,41 @@ module _ (K : ℤ) (chains : List MapChain) (r : Rational) where
 
 -- ---- about a place strictly within the segment of an item
 
-module _ (chains : List MapChain) (planar : IsPlanar chains) (faced : AreFaced chains) (n : ℕ) (bounded : AreBounded n chains) (K : ℤ) (r : Rational) (steep : IsSteep K chains r) (clear : IsNoEnd chains r)
-    (x : Item K chains r) (on : IsStrictlyOn x.segment r) (front back : List (Item K chains r)) (listed : IsListed K chains r (segments_before chains (length chains)) (front ++ (x ∷ back))) (along : AreFacing K chains r steep clear Outside (front ++ (x ∷ back)))
-    (west : AreWestward K chains r steep clear front) (east : AreEastward K chains r steep clear back) where
+module _ (chains : List MapChain) (planar : IsPlanar chains) (faced : AreFaced chains) (n : ℕ) (bounded : AreBounded n chains) (K : ℤ) (r : Rational) (steep : IsSteep K chains r) (line : IsLine K chains r)
+    (x : Item K chains r) (on : IsStrictlyOn x.segment r) (front back : List (Item K chains r)) (listed : IsListed K chains r (segments_before chains (length chains)) (front ++ (x ∷ back))) (along : AreFacing K chains r line Outside (front ++ (x ∷ back)))
+    (west : AreWestward K chains r steep line front) (east : AreEastward K chains r steep line back) where
   abbrev near_of : Side
-  near_of = near_side K chains r steep x
+  near_of = near_side K chains r line x
 
   abbrev far_of : Side
-  far_of = far_side K chains r steep x
+  far_of = far_side K chains r line x
 
   own : IsNumbered chains x.s x.segment
   own = numbered K chains r x
 
-  no_turn : turn K chains r steep clear x ≡ pos 0
-  no_turn = (heights_of K x.segment (low_end K x.segment) (high_end K x.segment) (ends_of_item K chains r steep clear x) r on.on).0
+  no_turn : turn K chains r steep line x ≡ pos 0
+  no_turn = (heights_of K x.segment (low_end K x.segment) (high_end K x.segment) (ends_of_item K chains r line x) r on.on).0
 
   -- no other item has its number
-  other_number : (y : Item K chains r) → (turn K chains r steep clear y <ℤ pos 0) ⊎ (pos 0 <ℤ turn K chains r steep clear y) → ¬ (x.s ≡ y.s)
+  other_number : (y : Item K chains r) → (turn K chains r steep line y <ℤ pos 0) ⊎ (pos 0 <ℤ turn K chains r steep line y) → ¬ (x.s ≡ y.s)
   other_number y which e =
-      let same : turn K chains r steep clear y ≡ turn K chains r steep clear x = turn_same K chains r steep clear y x.segment (subst (λ k. IsNumbered chains k x.segment) e own) in
+      let same : turn K chains r steep line y ≡ turn K chains r steep line x = turn_same K chains r steep line y x.segment (subst (λ k. IsNumbered chains k x.segment) e own) in
       let zero = no_turn in
       ⊎_elim (λ h. omega (arith, ints, h, same, zero)) (λ h. omega (arith, ints, h, same, zero)) which
 
   -- ---- what the two parts count
 
   module _ (S : Side → Bool) (none : S Outside ≡ false) where
-    back_total : total K chains r steep S back ≡ number_of (S far_of)
+    back_total : total K chains r line S back ≡ number_of (S far_of)
     back_total =
-        let behind : (side : Side) × AreFacing K chains r steep clear side (x ∷ back) = facing_back K chains r steep S clear none Outside front (x ∷ back) along in
-        total_is K chains r steep S clear none far_of back behind.1.1
+        let behind : (side : Side) × AreFacing K chains r line side (x ∷ back) = facing_back K chains r line S none Outside front (x ∷ back) along in
+        total_is K chains r line S none far_of back behind.1.1
 
-    front_total : total K chains r steep S front ≡ pos 0 -ℤ number_of (S near_of)
+    front_total : total K chains r line S front ≡ pos 0 -ℤ number_of (S near_of)
     front_total =
-        let whole = total_is K chains r steep S clear none Outside (front ++ (x ∷ back)) along in
+        let whole = total_is K chains r line S none Outside (front ++ (x ∷ back)) along in
         let zero : number_of (S Outside) ≡ pos 0 = ap number_of none in
-        let both = total-both K chains r steep S front (x ∷ back) in
+        let both = total-both K chains r line S front (x ∷ back) in
         let last = back_total in
         omega (arith, ints, whole, zero, both, last)
 
@@ -114,7 +114,7 @@ module _ (chains : List MapChain) (planar : IsPlanar chains) (faced : AreFaced c
 
   module _ (hit : ℕ → Type 0) (part : List (Item K chains r)) (once : (t : ℕ) → ¬ (x.s ≡ t) → hit t → times t (numbers K chains r part) ≡ 1) (hits : (y : Item K chains r) → Has K chains r y part → hit y.s)
       (differ : (y : Item K chains r) → Has K chains r y part → ¬ (x.s ≡ y.s)) where
-    with_own : hit x.s → IsListOf K chains r steep clear hit (x ∷ part)
+    with_own : hit x.s → IsListOf K chains r steep line hit (x ∷ part)
     with_own own_hit = record {
       once = λ t h. same_or t x.s
           (λ e.
@@ -125,7 +125,7 @@ module _ (chains : List MapChain) (planar : IsPlanar chains) (faced : AreFaced c
       hits = λ y has. ⊎_elim (λ e. subst (λ (w : Item K chains r). hit w.s) (sym e) own_hit) (λ later. hits y later) has;
     }
 
-    without_own : ¬ hit x.s → IsListOf K chains r steep clear hit part
+    without_own : ¬ hit x.s → IsListOf K chains r steep line hit part
     without_own out = record {
       once = λ t h. once t (λ e. out (subst hit (sym e) h)) h;
       hits = hits;
@@ -148,25 +148,25 @@ module _ (chains : List MapChain) (planar : IsPlanar chains) (faced : AreFaced c
       east_once t ne h =
           let k : IsEastHit chains r t = east_hit_from chains planar n bounded K r steep x.s x.segment own on q near north t ne h in
           let lt = below_total chains t k.is.c k.is.k k.is.number in
-          let all_once = listed.once t k.segment lt k.is (east_of K chains r steep clear t k.segment k.is k.east).0 in
+          let all_once = listed.once t k.segment lt k.is (east_of K chains r steep line t k.segment k.is k.east).0 in
           let three = times_three t k.segment k.is ne all_once in
           let none : times t (numbers K chains r front) ≡ 0 = no_times K chains r t front (λ y has e.
           let less = west y has in
-          let more = east_number K chains r steep clear y (subst (IsEastHit chains r) e k) in
+          let more = east_number K chains r steep line y (subst (IsEastHit chains r) e k) in
           omega (arith, ints, less, more)) in
           omega (arith, three, none)
 
       east_hits : (y : Item K chains r) → Has K chains r y back → IsEastHit chains q y.s
       east_hits y has =
           east_hit_to chains planar n bounded K r steep x.s x.segment own on q near north y.s (other_number y (inr (east y has)))
-          (record { segment = y.segment; is = numbered K chains r y; east = east_item K chains r steep clear y (east y has) })
+          (record { segment = y.segment; is = numbered K chains r y; east = east_item K chains r steep line y (east y has) })
 
       differ : (y : Item K chains r) → Has K chains r y back → ¬ (x.s ≡ y.s)
       differ y has = other_number y (inr (east y has))
 
-      by_list : (S : Side → Bool) (side : Side) (xs : List (Item K chains r)) → IsListOf K chains r steep clear (IsEastHit chains q) xs → AreSlanted K chains r steep S xs → total K chains r steep S xs ≡ number_of (S side) → IsCountAt chains q S (number_of (S side))
+      by_list : (S : Side → Bool) (side : Side) (xs : List (Item K chains r)) → IsListOf K chains r steep line (IsEastHit chains q) xs → AreSlanted K chains r line S xs → total K chains r line S xs ≡ number_of (S side) → IsCountAt chains q S (number_of (S side))
       by_list S side xs are slanted is =
-          counted_by chains q S (number_of (S side)) (numbers K chains r xs) (are_hits K chains r steep clear (IsEastHit chains q) xs are) (sym (balance_is K chains r steep S xs slanted ∙ is))
+          counted_by chains q S (number_of (S side)) (numbers K chains r xs) (are_hits K chains r steep line (IsEastHit chains q) xs are) (sym (balance_is K chains r line S xs slanted ∙ is))
 
       north_west : pos 0 <ℤ own_turn → (S : Side → Bool) → S Outside ≡ false → IsCountAt chains q S (number_of (S near_of))
       north_west t S none =
@@ -175,10 +175,10 @@ module _ (chains : List MapChain) (planar : IsPlanar chains) (faced : AreFaced c
           by_list S near_of (x ∷ back) (with_own (IsEastHit chains q) back east_once east_hits differ h) (slanted h)
           (let last = back_total S none in omega (arith, ints, last))
         where
-          slanted : IsEastHit chains q x.s → AreSlanted K chains r steep S (x ∷ back)
+          slanted : IsEastHit chains q x.s → AreSlanted K chains r line S (x ∷ back)
           slanted h y has = ⊎_elim
               (λ e. subst (λ (w : Item K chains r). (w.segment.a.y <ℤ w.segment.b.y) ⊎ (w.segment.b.y <ℤ w.segment.a.y)) (sym e) (own_slanted (one_segment chains x.s h.segment x.segment h.is own) (east_slanted h.segment q h.east)))
-              (λ later. east_are_slanted K chains r steep clear S back east y later) has
+              (λ later. east_are_slanted K chains r steep line S back east y later) has
             where
               own_slanted : HaveSameEnds h.segment x.segment → (h.segment.a.y <ℤ h.segment.b.y) ⊎ (h.segment.b.y <ℤ h.segment.a.y) → (x.segment.a.y <ℤ x.segment.b.y) ⊎ (x.segment.b.y <ℤ x.segment.a.y)
               own_slanted e = subst (λ (z : Point). (z.y <ℤ h.segment.b.y) ⊎ (h.segment.b.y <ℤ z.y) → (x.segment.a.y <ℤ x.segment.b.y) ⊎ (x.segment.b.y <ℤ x.segment.a.y)) (sym e.first)
@@ -188,7 +188,7 @@ module _ (chains : List MapChain) (planar : IsPlanar chains) (faced : AreFaced c
       north_east t S none =
           by_list S far_of back
           (without_own (IsEastHit chains q) back east_once east_hits differ (no_east_of_east_side chains n K r steep x.s x.segment own x.spanned no_turn q near t))
-          (east_are_slanted K chains r steep clear S back east) (back_total S none)
+          (east_are_slanted K chains r steep line S back east) (back_total S none)
 
     -- ---- where it is south of r, by the ray to the west
 
@@ -197,34 +197,34 @@ module _ (chains : List MapChain) (planar : IsPlanar chains) (faced : AreFaced c
       west_once t ne h =
           let k : IsWestHit chains r t = west_hit_from chains planar n bounded K r steep x.s x.segment own on q near south t ne h in
           let lt = below_total chains t k.is.c k.is.k k.is.number in
-          let all_once = listed.once t k.segment lt k.is (west_of K chains r steep clear t k.segment k.is k.west).0 in
+          let all_once = listed.once t k.segment lt k.is (west_of K chains r steep line t k.segment k.is k.west).0 in
           let three = times_three t k.segment k.is ne all_once in
           let none : times t (numbers K chains r back) ≡ 0 = no_times K chains r t back (λ y has e.
           let more = east y has in
-          let less = west_number K chains r steep clear y (subst (IsWestHit chains r) e k) in
+          let less = west_number K chains r steep line y (subst (IsWestHit chains r) e k) in
           omega (arith, ints, less, more)) in
           omega (arith, three, none)
 
       west_hits : (y : Item K chains r) → Has K chains r y front → IsWestHit chains q y.s
       west_hits y has =
           west_hit_to chains planar n bounded K r steep x.s x.segment own on q near south y.s (other_number y (inl (west y has)))
-          (record { segment = y.segment; is = numbered K chains r y; west = west_item K chains r steep clear y (west y has) })
+          (record { segment = y.segment; is = numbered K chains r y; west = west_item K chains r steep line y (west y has) })
 
       west_differ : (y : Item K chains r) → Has K chains r y front → ¬ (x.s ≡ y.s)
       west_differ y has = other_number y (inl (west y has))
 
-      by_west : (S : Side → Bool) (side : Side) (xs : List (Item K chains r)) → S Outside ≡ false → IsListOf K chains r steep clear (IsWestHit chains q) xs → AreSlanted K chains r steep S xs → total K chains r steep S xs ≡ pos 0 -ℤ number_of (S side) → IsCountAt chains q S (number_of (S side))
+      by_west : (S : Side → Bool) (side : Side) (xs : List (Item K chains r)) → S Outside ≡ false → IsListOf K chains r steep line (IsWestHit chains q) xs → AreSlanted K chains r line S xs → total K chains r line S xs ≡ pos 0 -ℤ number_of (S side) → IsCountAt chains q S (number_of (S side))
       by_west S side xs none are slanted is =
           let k : (L : ℤ) × IsSteep L chains q = some_steepness chains q in
-          let balanced = balance_is K chains r steep S xs slanted in
-          west_count k.0 chains q k.1 (no_end_off chains q off) faced off S (number_of (S side)) (numbers K chains r xs) none (are_hits K chains r steep clear (IsWestHit chains q) xs are)
+          let balanced = balance_is K chains r line S xs slanted in
+          west_count k.0 chains q k.1 (steep_line k.0 chains q k.1 (no_end_off chains q off)) faced off S (number_of (S side)) (numbers K chains r xs) none (are_hits K chains r steep line (IsWestHit chains q) xs are)
           (omega (arith, ints, balanced, is))
 
       south_west : pos 0 <ℤ own_turn → (S : Side → Bool) → S Outside ≡ false → IsCountAt chains q S (number_of (S near_of))
       south_west t S none =
           by_west S near_of front none
           (without_own (IsWestHit chains q) front west_once west_hits west_differ (no_west_of_west_side chains n K r steep x.s x.segment own x.spanned no_turn q near t))
-          (west_are_slanted K chains r steep clear S front west) (front_total S none)
+          (west_are_slanted K chains r steep line S front west) (front_total S none)
 
       south_east : own_turn <ℤ pos 0 → (S : Side → Bool) → S Outside ≡ false → IsCountAt chains q S (number_of (S far_of))
       south_east t S none =
@@ -232,10 +232,10 @@ module _ (chains : List MapChain) (planar : IsPlanar chains) (faced : AreFaced c
           by_west S far_of (x ∷ front) none (with_own (IsWestHit chains q) front west_once west_hits west_differ h) (slanted h)
           (let first = front_total S none in omega (arith, ints, first))
         where
-          slanted : IsWestHit chains q x.s → AreSlanted K chains r steep S (x ∷ front)
+          slanted : IsWestHit chains q x.s → AreSlanted K chains r line S (x ∷ front)
           slanted h y has = ⊎_elim
               (λ e. subst (λ (w : Item K chains r). (w.segment.a.y <ℤ w.segment.b.y) ⊎ (w.segment.b.y <ℤ w.segment.a.y)) (sym e) (own_slanted (one_segment chains x.s h.segment x.segment h.is own) (west_slanted h.segment q h.west)))
-              (λ later. west_are_slanted K chains r steep clear S front west y later) has
+              (λ later. west_are_slanted K chains r steep line S front west y later) has
             where
               own_slanted : HaveSameEnds h.segment x.segment → (h.segment.a.y <ℤ h.segment.b.y) ⊎ (h.segment.b.y <ℤ h.segment.a.y) → (x.segment.a.y <ℤ x.segment.b.y) ⊎ (x.segment.b.y <ℤ x.segment.a.y)
               own_slanted e = subst (λ (z : Point). (z.y <ℤ h.segment.b.y) ⊎ (h.segment.b.y <ℤ z.y) → (x.segment.a.y <ℤ x.segment.b.y) ⊎ (x.segment.b.y <ℤ x.segment.a.y)) (sym e.first)
@@ -302,14 +302,14 @@ module _ (chains : List MapChain) (planar : IsPlanar chains) (faced : AreFaced c
       k : (K : ℤ) × IsSteep K chains r
       k = some_steepness chains r
 
-      clear : IsNoEnd chains r
-      clear = no_end_within chains planar s u r is on
+      line : IsLine k.0 chains r
+      line = steep_line k.0 chains r k.1 (no_end_within chains planar s u r is on)
 
-      list : IsFacedOn k.0 chains r k.1 clear
-      list = faced k.0 r k.1 clear
+      list : IsFacedOn k.0 chains r line
+      list = faced k.0 r k.1 line
 
       found_x : IsFound k.0 chains r s list.items
-      found_x = item_of k.0 chains r k.1 clear list.items list.listed s u is (spanned_by k.0 chains r k.1 clear s u is r on.on (level_self k.0 chains r k.1 clear))
+      found_x = item_of k.0 chains r line list.items list.listed s u is (spanned_by k.0 chains r line s u is r on.on (level_self k.0 chains r k.1 line))
 
       x : Item k.0 chains r
       x = found_x.item
@@ -331,17 +331,17 @@ module _ (chains : List MapChain) (planar : IsPlanar chains) (faced : AreFaced c
           one_found x.chain chain (slice_get chains of.c) (subst (λ m. slice_get chains m ≡ Some x.chain) c x.is) of.is
 
       same_place : (y : Item k.0 chains r) → x.at.place.x *ℤ r.d ≡ r.x *ℤ x.at.place.d
-      same_place y = one_longitude k.0 chains r k.1 clear x.s x.segment (numbered k.0 chains r x) x.at.place r x.at.on on_x.on x.at.level
+      same_place y = one_longitude k.0 chains r line x.s x.segment (numbered k.0 chains r x) x.at.place r x.at.on on_x.on x.at.level
 
       by_split : IsSplit k.0 chains r x list.items → IsTrueAbout chains chain u r (nearness r bound.0)
       by_split p =
           same_about x.chain chain x.segment u (nearness r bound.0) one (record { first = sym ends.first; last = sym ends.last })
-          (about chains planar faced bound.0 bound.1 k.0 r k.1 clear x on_x p.front p.back
-          (subst (IsListed k.0 chains r (segments_before chains (length chains))) p.are list.listed) (subst (AreFacing k.0 chains r k.1 clear Outside) p.are list.along)
-          (λ y has. turn_east k.0 chains r k.1 clear y
+          (about chains planar faced bound.0 bound.1 k.0 r k.1 line x on_x p.front p.back
+          (subst (IsListed k.0 chains r (segments_before chains (length chains))) p.are list.listed) (subst (AreFacing k.0 chains r line Outside) p.are list.along)
+          (λ y has. turn_east k.0 chains r k.1 line y
           (let w = p.west y has in let t : Rational = x.at.place in let v : Rational = y.at.place in let e = same_place y in
           lt_le v.x v.d t.x t.d r.x r.d v.above_zero t.above_zero r.above_zero w (omega (arith, ints, e))))
-          (λ y has. turn_west k.0 chains r k.1 clear y
+          (λ y has. turn_west k.0 chains r k.1 line y
           (let w = p.east y has in let t : Rational = x.at.place in let v : Rational = y.at.place in let e = same_place y in
           le_lt r.x r.d t.x t.d v.x v.d r.above_zero t.above_zero v.above_zero (omega (arith, ints, e)) w)))
 
