@@ -95,8 +95,8 @@ module _ (K : ℤ) (chains : List MapChain) (near : AreAllNear K chains) (planar
       let from = x.spanned.from in
       let to = x.spanned.to in
       record {
-        from = scaled L chains r line (height L (low_end L x.segment)) (height_of L r) (height_of L y.at.place) r.d y.at.place.d r.above_zero y.at.place.above_zero (sym y.at.level.is) (omega (arith, ints, from));
-        to = scaled_above L chains r line (height L (high_end L x.segment)) (height_of L r) (height_of L y.at.place) r.d y.at.place.d r.above_zero y.at.place.above_zero (sym y.at.level.is) (omega (arith, ints, to));
+        from = scaled (height L (low_end L x.segment)) (height_of L r) (height_of L y.at.place) r.d y.at.place.d r.above_zero y.at.place.above_zero (sym y.at.level.is) (omega (arith, ints, from));
+        to = scaled_above (height L (high_end L x.segment)) (height_of L r) (height_of L y.at.place) r.d y.at.place.d r.above_zero y.at.place.above_zero (sym y.at.level.is) (omega (arith, ints, to));
       }
 
   adjacent : (x y : Item L chains r) → ¬ (x.s ≡ y.s) → IsWestOf K x.segment y.segment → IsWestward x.at.place y.at.place

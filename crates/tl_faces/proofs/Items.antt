@@ -72,6 +72,34 @@ module _ (K : ℤ) (chains : List MapChain) (r : Rational) where
   pub of_chain : (x : Item K chains r) → IsOfChain chains x.chain x.segment
   of_chain x = record { c = x.c; k = x.k; is = x.is; from = x.from; to = x.to }
 
+-- ---- an order of heights, over another number
+
+pub scaled : (hv hp hr pd rd : ℤ) → pos 0 <ℤ pd → pos 0 <ℤ rd → hp *ℤ rd ≡ hr *ℤ pd → (pd *ℤ hv) ≤ℤ hp → (rd *ℤ hv) ≤ℤ hr
+scaled hv hp hr pd rd above above' e le =
+    cancel_le pd (rd *ℤ hv) hr above
+    (let m : (rd *ℤ (pd *ℤ hv)) ≤ℤ (rd *ℤ hp) = mono_le rd (pd *ℤ hv) hp above' le in
+    let one : pd *ℤ (rd *ℤ hv) ≡ rd *ℤ (pd *ℤ hv) = same (num pd ⊗ (num rd ⊗ num hv)) (num rd ⊗ (num pd ⊗ num hv)) (omega arith) in
+    let two : rd *ℤ hp ≡ hp *ℤ rd = same (num rd ⊗ num hp) (num hp ⊗ num rd) (omega arith) in
+    let three : pd *ℤ hr ≡ hr *ℤ pd = same (num pd ⊗ num hr) (num hr ⊗ num pd) (omega arith) in
+    omega (arith, ints, m, one, two, three, e))
+  where
+    mono_le : (a b c : ℤ) → pos 0 <ℤ a → b ≤ℤ c → (a *ℤ b) ≤ℤ (a *ℤ c)
+    mono_le a b c h le = by_lt_z b c
+        (λ lt. let m = mono_lt a b c h lt in omega (arith, ints, m))
+        (λ ge. let e : b ≡ c = omega (arith, ints, le, ge) in let f : a *ℤ b ≡ a *ℤ c = ap (λ z. a *ℤ z) e in omega (arith, ints, f))
+
+pub scaled_above : (hv hp hr pd rd : ℤ) → pos 0 <ℤ pd → pos 0 <ℤ rd → hp *ℤ rd ≡ hr *ℤ pd → hp ≤ℤ (pd *ℤ hv) → hr ≤ℤ (rd *ℤ hv)
+scaled_above hv hp hr pd rd above above' e le =
+    by_lt_z (rd *ℤ hv) hr
+    (λ lt.
+    let m : (pd *ℤ (rd *ℤ hv)) <ℤ (pd *ℤ hr) = mono_lt pd (rd *ℤ hv) hr above lt in
+    let one : pd *ℤ (rd *ℤ hv) ≡ rd *ℤ (pd *ℤ hv) = same (num pd ⊗ (num rd ⊗ num hv)) (num rd ⊗ (num pd ⊗ num hv)) (omega arith) in
+    let two : rd *ℤ hp ≡ hp *ℤ rd = same (num rd ⊗ num hp) (num hp ⊗ num rd) (omega arith) in
+    let three : pd *ℤ hr ≡ hr *ℤ pd = same (num pd ⊗ num hr) (num hr ⊗ num pd) (omega arith) in
+    let back : (pd *ℤ hv) <ℤ hp = cancel_lt rd (pd *ℤ hv) hp (omega (arith, ints, above')) (omega (arith, ints, m, one, two, three, e)) in
+    absurd (omega (arith, ints, back, le)))
+    (λ k. k)
+
 -- ---- no end of a segment lies on the line
 
 height_same : (K x y d vx vy : ℤ) → x ≡ vx *ℤ d → y ≡ vy *ℤ d → K *ℤ y -ℤ x ≡ d *ℤ (K *ℤ vy -ℤ vx)
@@ -79,7 +107,7 @@ height_same K x y d vx vy e f =
     ap (λ z. K *ℤ z -ℤ x) f ∙ ap (λ z. K *ℤ (vy *ℤ d) -ℤ z) e
     ∙ same (num K ⊗ (num vy ⊗ num d) ⊖ num vx ⊗ num d) (num d ⊗ (num K ⊗ num vy ⊖ num vx)) (omega arith)
 
-point_level : (K : ℤ) (r p : Rational) (v : Point) → AreLevel K p r → IsSame p (whole v) → r.d *ℤ height K v ≡ height_of K r
+pub point_level : (K : ℤ) (r p : Rational) (v : Point) → AreLevel K p r → IsSame p (whole v) → r.d *ℤ height K v ≡ height_of K r
 point_level K r p v level here =
     let at = products_by_same p v here in
     let is : height_of K p ≡ p.d *ℤ height K v = height_same K p.x p.y p.d v.x v.y at.0 at.1 in
@@ -110,32 +138,6 @@ module _ (K : ℤ) (chains : List MapChain) (r : Rational) (line : IsLine K chai
   ends_of_item x = ends x.s x.segment (numbered K chains r x)
 
   -- what lies on a segment, at the height of r, is strictly between the ends, and so the segment meets the line
-  pub scaled : (hv hp hr pd rd : ℤ) → pos 0 <ℤ pd → pos 0 <ℤ rd → hp *ℤ rd ≡ hr *ℤ pd → (pd *ℤ hv) ≤ℤ hp → (rd *ℤ hv) ≤ℤ hr
-  scaled hv hp hr pd rd above above' e le =
-      cancel_le pd (rd *ℤ hv) hr above
-      (let m : (rd *ℤ (pd *ℤ hv)) ≤ℤ (rd *ℤ hp) = mono_le rd (pd *ℤ hv) hp above' le in
-      let one : pd *ℤ (rd *ℤ hv) ≡ rd *ℤ (pd *ℤ hv) = same (num pd ⊗ (num rd ⊗ num hv)) (num rd ⊗ (num pd ⊗ num hv)) (omega arith) in
-      let two : rd *ℤ hp ≡ hp *ℤ rd = same (num rd ⊗ num hp) (num hp ⊗ num rd) (omega arith) in
-      let three : pd *ℤ hr ≡ hr *ℤ pd = same (num pd ⊗ num hr) (num hr ⊗ num pd) (omega arith) in
-      omega (arith, ints, m, one, two, three, e))
-    where
-      mono_le : (a b c : ℤ) → pos 0 <ℤ a → b ≤ℤ c → (a *ℤ b) ≤ℤ (a *ℤ c)
-      mono_le a b c h le = by_lt_z b c
-          (λ lt. let m = mono_lt a b c h lt in omega (arith, ints, m))
-          (λ ge. let e : b ≡ c = omega (arith, ints, le, ge) in let f : a *ℤ b ≡ a *ℤ c = ap (λ z. a *ℤ z) e in omega (arith, ints, f))
-
-  pub scaled_above : (hv hp hr pd rd : ℤ) → pos 0 <ℤ pd → pos 0 <ℤ rd → hp *ℤ rd ≡ hr *ℤ pd → hp ≤ℤ (pd *ℤ hv) → hr ≤ℤ (rd *ℤ hv)
-  scaled_above hv hp hr pd rd above above' e le =
-      by_lt_z (rd *ℤ hv) hr
-      (λ lt.
-      let m : (pd *ℤ (rd *ℤ hv)) <ℤ (pd *ℤ hr) = mono_lt pd (rd *ℤ hv) hr above lt in
-      let one : pd *ℤ (rd *ℤ hv) ≡ rd *ℤ (pd *ℤ hv) = same (num pd ⊗ (num rd ⊗ num hv)) (num rd ⊗ (num pd ⊗ num hv)) (omega arith) in
-      let two : rd *ℤ hp ≡ hp *ℤ rd = same (num rd ⊗ num hp) (num hp ⊗ num rd) (omega arith) in
-      let three : pd *ℤ hr ≡ hr *ℤ pd = same (num pd ⊗ num hr) (num hr ⊗ num pd) (omega arith) in
-      let back : (pd *ℤ hv) <ℤ hp = cancel_lt rd (pd *ℤ hv) hp (omega (arith, ints, above')) (omega (arith, ints, m, one, two, three, e)) in
-      absurd (omega (arith, ints, back, le)))
-      (λ k. k)
-
   pub spanned_by : (s : ℕ) (u : Segment) → IsNumbered chains s u → (p : Rational) → IsOn u p → AreLevel K p r → IsSpanned K u r
   spanned_by s u is p on level =
       let e : AreEndsOf K u (low_end K u) (high_end K u) = ends s u is in

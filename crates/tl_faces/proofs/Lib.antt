@@ -20,3 +20,4 @@ pub mod TrueSides
 pub mod Unique
 pub mod Slab
 pub mod FromSlabs
+pub mod Reversed
