@@ -21,3 +21,6 @@ pub mod Unique
 pub mod Slab
 pub mod FromSlabs
 pub mod Reversed
+pub mod Tests
+pub mod ToSlabs
+pub mod Flanks

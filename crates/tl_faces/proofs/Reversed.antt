@@ -1,6 +1,6 @@
 -- Of two segments of planar chains the one that is west of the other at one height is so at each height of both.
 use Rattle.std.proofs.Common.{◌≡◌, ◌⊎◌, inl, inr, ⊎_elim, ℕ, ℤ, pos, ◌+ℤ◌, ◌-ℤ◌, ◌*ℤ◌, ◌<ℤ◌, ◌≤ℤ◌, List, refl, sym, ap, ap₂, subst, ◌∙◌, arith}
-use Rattle.std.proofs.lemmas.Int.{ints, by_lt_z}
+use Rattle.std.proofs.lemmas.Int.{ints}
 use Rattle.tl_geom.specs.declared.point.Point.{Point}
 use Rattle.tl_geom.specs.declared.rational.Rational.{Rational}
 use Rattle.tl_geom.specs.declared.segment.Segment.{Segment}
@@ -10,12 +10,11 @@ use Rattle.tl_geom.proofs.Polynomials.{num, ◌⊕◌, ◌⊖◌, ◌⊗◌, sam
 use Rattle.tl_geom.proofs.Signs.{cancel, zero_product, product_above, times_zero, sign}
 use Rattle.tl_county.specs.TheMap.{MapChain}
 use Rattle.tl_planar.specs.Planar.{IsPlanar}
-use Rattle.tl_slabs.specs.Heights.{height, height_of, AreNear, low_end, high_end, turn_at}
+use Rattle.tl_slabs.specs.Heights.{height, height_of, low_end, high_end, turn_at}
 use Rattle.tl_slabs.specs.Neighbours.{IsNumbered}
 use Rattle.tl_slabs.proofs.Order.{lean}
 use Rattle.tl_slabs.proofs.Rising.{AreEndsOf}
 use Rattle.tl_slabs.proofs.Lying.{heights_of, lies_on}
-use Rattle.tl_faces.specs.Facing.{IsStrictlyOn}
 use Rattle.tl_faces.proofs.Numbers.{le_lt, lt_le}
 use Rattle.tl_faces.proofs.Steep.{IsSpanned}
 use Rattle.tl_faces.proofs.Lines.{AreLevel, IsMet, met}
@@ -241,8 +240,8 @@ module _ (K : ℤ) (above : pos 0 <ℤ K) (chains : List MapChain) (planar : IsP
           let is_level : r.d *ℤ height K v ≡ height_of K r = point_level K r p v level here in
           let from = spanned.from in let to = spanned.to in
           let low_or : (v ≡ a) ⊎ (v ≡ b) = ⊎_elim
-              (λ k. ⊎_elim (λ m. inl (k ∙ sym m.0)) (λ m. inr (k ∙ sym m.1)) ends.are)
-              (λ k. ⊎_elim (λ m. inr (k ∙ sym m.1)) (λ m. inl (k ∙ sym m.0)) ends.are) which in
+          (λ k. ⊎_elim (λ m. inl (k ∙ sym m.0)) (λ m. inr (k ∙ sym m.1)) ends.are)
+          (λ k. ⊎_elim (λ m. inr (k ∙ sym m.1)) (λ m. inl (k ∙ sym m.0)) ends.are) which in
           ⊎_elim
           (λ k. let one : r.d *ℤ height K v ≡ r.d *ℤ height K a = ap (λ z. r.d *ℤ height K z) k in omega (arith, ints, one, is_level, from))
           (λ k. let one : r.d *ℤ height K v ≡ r.d *ℤ height K b = ap (λ z. r.d *ℤ height K z) k in omega (arith, ints, one, is_level, to))

@@ -5,7 +5,6 @@ use Rattle.std.proofs.lemmas.Int.{ints, by_lt_z}
 use Rattle.tl_geom.specs.declared.point.Point.{Point}
 use Rattle.tl_geom.specs.declared.rational.Rational.{Rational}
 use Rattle.tl_geom.specs.declared.segment.Segment.{Segment}
-use Rattle.tl_geom.specs.Plane.{IsSame, whole}
 use Rattle.tl_geom.proofs.Polynomials.{num, ◌⊖◌, ◌⊗◌, same}
 use Rattle.tl_geom.proofs.Signs.{mono, cancel_lt, cancel_le}
 use Rattle.tl_geom.proofs.Places.{point_same}
@@ -16,7 +15,7 @@ use Rattle.tl_slabs.specs.Neighbours.{IsNumbered}
 use Rattle.tl_slabs.specs.Slabs.{IsActive, IsPointOf}
 use Rattle.tl_slabs.proofs.Rising.{AreEndsOf, ends_of, higher, higher_west}
 use Rattle.tl_faces.specs.Lists.{AreAllNear}
-use Rattle.tl_faces.proofs.Steep.{IsNearTo, IsSpanned, north, south, level, not_north, not_south, one_height}
+use Rattle.tl_faces.proofs.Steep.{IsNearTo, IsSpanned, north, south, level, not_north, not_south}
 use Rattle.tl_faces.proofs.Bounds.{IsBounded, AreBounded, IsSteep, some_bound}
 use Rattle.tl_faces.proofs.Items.{IsLine}
 use Rattle.tl_faces.proofs.Toward.{is_lt, no_lt}

@@ -1,16 +1,19 @@
 //! Laws of the definitions, each the contract of a function that does nothing.
 
-ghost use Rattle.std.specs.Prelude.{◌≡◌, ◌↔◌, ℤ, Bool, List};
+ghost use Rattle.std.specs.Prelude.{◌≡◌, ◌↔◌, ℕ, ℤ, pos, ◌<ℤ◌, Bool, List};
 ghost use Rattle.tl_geom.specs.declared.point.Point.{Point};
 ghost use Rattle.tl_geom.specs.declared.rational.Rational.{Rational};
+ghost use Rattle.tl_geom.specs.declared.segment.Segment.{Segment};
 ghost use Rattle.tl_geom.specs.Plane.{whole};
 ghost use Rattle.tl_county.specs.declared.sides.Side.{Side};
 ghost use Rattle.tl_county.specs.TheMap.{MapChain};
 ghost use Rattle.tl_planar.specs.Planar.{IsPlanar};
-ghost use Rattle.tl_inside.specs.Inside.{IsCount};
+ghost use Rattle.tl_inside.specs.Inside.{IsCount, flanks_at};
+ghost use Rattle.tl_slabs.specs.Heights.{AreNear};
+ghost use Rattle.tl_slabs.specs.Neighbours.{IsNumbered};
 ghost use Rattle.tl_faces.specs.Rays.{IsCountAt};
 ghost use Rattle.tl_faces.specs.Facing.{FacesAgree};
-ghost use Rattle.tl_faces.specs.Lists.{AreSlabsFacing, AreAllNear};
+ghost use Rattle.tl_faces.specs.Lists.{AreSlabsFacing, AreAllNear, RunsWest, sides_by_height, west_side, east_side};
 ghost use Rattle.tl_faces.specs.Truth.{LiesAt, HasOnePolygon, AreSidesTrue};
 
 /// The counts of rational points are those of whole points, where both speak of one point.
@@ -47,4 +50,17 @@ pub fn one_polygon_by_slabs()
 /// The second by that.
 pub fn true_sides_by_slabs()
     ensures { (K : ℤ) (chains : List MapChain) → AreAllNear K chains → IsPlanar chains → AreSlabsFacing K chains → AreSidesTrue chains }
+{}
+
+/// And where chains are planar and faces agree there are such lists.
+pub fn slabs_have_lists()
+    ensures { (K : ℤ) (chains : List MapChain) → pos 0 <ℤ K → AreAllNear K chains → IsPlanar chains → FacesAgree chains → AreSlabsFacing K chains }
+{}
+
+/// The sides of a segment by its height are its flanks, unless it runs level to the west: then they are the other way round.
+pub fn flanks_are_sides_by_height()
+    ensures flanks { (K : ℤ) (chains : List MapChain) (s : ℕ) (u : Segment) (n : IsNumbered chains s u) → AreNear K u.a u.b → ¬ RunsWest u →
+        flanks_at chains s ≡ sides_by_height K n.joins.chain u }
+    ensures level { (K : ℤ) (chains : List MapChain) (s : ℕ) (u : Segment) (n : IsNumbered chains s u) → AreNear K u.a u.b → RunsWest u →
+        ((flanks_at chains s).near ≡ east_side K n.joins.chain u) × ((flanks_at chains s).far ≡ west_side K n.joins.chain u) }
 {}
