@@ -24,3 +24,4 @@ pub mod Reversed
 pub mod Tests
 pub mod ToSlabs
 pub mod Flanks
+pub mod Located

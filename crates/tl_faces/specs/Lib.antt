@@ -3,3 +3,4 @@ pub mod Rays
 pub mod Facing
 pub mod Truth
 pub mod Lists
+pub mod Located

@@ -6,14 +6,17 @@ ghost use Rattle.tl_geom.specs.declared.rational.Rational.{Rational};
 ghost use Rattle.tl_geom.specs.declared.segment.Segment.{Segment};
 ghost use Rattle.tl_geom.specs.Plane.{whole};
 ghost use Rattle.tl_county.specs.declared.sides.Side.{Side};
-ghost use Rattle.tl_county.specs.TheMap.{MapChain};
+ghost use Rattle.tl_county.specs.TheMap.{TheMap, MapChain};
 ghost use Rattle.tl_planar.specs.Planar.{IsPlanar};
+ghost use Rattle.tl_inside.specs.declared.place.Place.{Place};
 ghost use Rattle.tl_inside.specs.Inside.{IsCount, flanks_at};
+ghost use Rattle.tl_inside.specs.Places.{IsPlaceOf};
 ghost use Rattle.tl_slabs.specs.Heights.{AreNear};
 ghost use Rattle.tl_slabs.specs.Neighbours.{IsNumbered};
 ghost use Rattle.tl_faces.specs.Rays.{IsCountAt};
 ghost use Rattle.tl_faces.specs.Facing.{FacesAgree};
 ghost use Rattle.tl_faces.specs.Lists.{AreSlabsFacing, AreAllNear, RunsWest, sides_by_height, west_side, east_side};
+ghost use Rattle.tl_faces.specs.Located.{ListsOneAtMost};
 ghost use Rattle.tl_faces.specs.Truth.{LiesAt, HasOnePolygon, AreSidesTrue};
 
 /// The counts of rational points are those of whole points, where both speak of one point.
@@ -34,6 +37,11 @@ pub fn one_polygon()
 /// At no place lie two.
 pub fn no_two_polygons()
     ensures { (chains : List MapChain) (q : Rational) (side other : Side) → LiesAt chains q side → LiesAt chains q other → side ≡ other }
+{}
+
+/// So there [`tl_inside::locate`] lists at most one polygon of a point that is on no chain, the one that the point is inside of.
+pub fn places_list_one_polygon_at_most()
+    ensures { (m : TheMap) (q : Point) (place : Place) → IsPlanar m.chains → FacesAgree m.chains → IsPlaceOf m q place → ListsOneAtMost m.chains q place }
 {}
 
 /// And then each side of each chain names what lies there.
