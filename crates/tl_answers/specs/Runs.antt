@@ -2,7 +2,7 @@
 --
 -- `wrote` says of a text that it was written to the output, `told` to the error output; `part` that a beginning of it was
 -- written to the output, and that a write failed; `made` and `begun` say so of the certificate that is made.
-use Rattle.std.specs.Prelude.{◌≡◌, ◌≢◌, ◌⊎◌, ℕ, List, Option, ⊤}
+use Rattle.std.specs.Prelude.{◌≡◌, ◌≢◌, ◌⊎◌, ℕ, List, Option}
 use Rattle.tl_plan.specs.declared.plan.Plan.{Plan}
 use Rattle.tl_answers.specs.declared.stop.TheConstants.{DONE, MAP_FAULT, CERT_FAULT, REFUSED, STOPPED}
 use Rattle.tl_answers.specs.Deciding.{IsExact}

@@ -2,7 +2,7 @@
 --
 -- `wrote` says of a text that it was written to the output, `told` to the error output; `part` that a beginning of it was
 -- written to the output, and that a write failed.
-use Rattle.std.specs.Prelude.{◌≡◌, ◌≢◌, ◌⊎◌, ℕ, List, [], Option, Result, Ok, Err, string_bytes}
+use Rattle.std.specs.Prelude.{◌≡◌, ◌≢◌, ◌⊎◌, ℕ, List, [], Result, Ok, Err, string_bytes}
 use Rattle.tl_plan.specs.declared.plan.PlanStop.{PlanStop}
 use Rattle.tl_plan.specs.declared.plan.PlanStop.TheVariants.{Usage, Help}
 use Rattle.tl_plan.specs.declared.plan.PlanStop.TheVariants as plan_stop

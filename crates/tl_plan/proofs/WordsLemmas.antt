@@ -27,9 +27,7 @@ use Rattle.tl_plan.specs.Commands.{command_line, convert_name, check_name, locat
 use Rattle.tl_plan.specs.CommandLine.{IsStopOf, IsUsage, StopsPlanning, Request, request_in, named_in}
 use Rattle.tl_plan.specs.CommandLine.{IsConversionOf, IsTaskOf, IsWhole, HasFiles, IsBudget, IsView, IsSwitch, AreChosen, AskForTask, AskForTold, AskForFaults}
 use Rattle.tl_plan.specs.Asked.{IsAuditTask}
-use Rattle.tl_plan.specs.declared.plan.Plan.{Plan}
 use Rattle.tl_plan.specs.declared.budget.Told.{Told}
-use Rattle.tl_plan.specs.declared.budget.Told.TheVariants.{One, All}
 use Rattle.tl_record.specs.declared.options.Options.{Options}
 use Rattle.tl_plan.specs.declared.plan.Plan.TheVariants.{Show, Landmarks, Locate, Convert, Check, Audit, Build}
 use Rattle.tl_plan.specs.declared.plan.View.{View}
