@@ -1,5 +1,5 @@
 -- What is answered to words that make a plan, and to those that make none; and over files of which nothing is known.
-use Rattle.std.proofs.Common.{◌≡◌, inl, inr, ℕ, Bool, true, List, Option, Result, Ok, Err, refl, sym, string_bytes, ◌∙◌}
+use Rattle.std.proofs.Common.{◌≡◌, inl, inr, ℕ, Bool, true, List, Result, Ok, Err, refl, sym, string_bytes, ◌∙◌}
 use Rattle.std.specs.Bool.{⊤}
 use Rattle.clap.specs.Walk.{Text}
 use Rattle.std.specs.Prelude.{OnOk, OnErr}
