@@ -1,6 +1,6 @@
 -- What is told of what was found.
-use Rattle.std.proofs.Common.{◌≡◌, ◌≢◌, ◌⊎◌, inl, inr, ℕ, Bool, true, false, List, [], ◌∷◌, ◌++◌, map, take, length, Some, None, Option, Result, Ok, Err, refl, sym, ap, subst, ◌∙◌, append-nil}
-use Rattle.std.specs.Prelude.{⊤, slice_get, Vec, IfOk}
+use Rattle.std.proofs.Common.{◌≡◌, inl, inr, ℕ, Bool, true, false, List, [], ◌∷◌, map, Some, None, Option, Result, Ok, Err, refl, sym, ap, subst, ◌∙◌}
+use Rattle.std.specs.Prelude.{slice_get, Vec, IfOk}
 use Rattle.std.specs.Global.{Global}
 use Rattle.std.specs.Option.{IfSome}
 use Rattle.std.proofs.lemmas.Option.{IfSome_then}
@@ -11,16 +11,14 @@ use Rattle.tl_record.specs.Lines.{raw_lines}
 use Rattle.tl_record.proofs.RefusalLemmas.{first_refusal as first_of_judged}
 use Rattle.tl_record.specs.Refusals.{refusals_of}
 use Rattle.tl_record.specs.Searching.{pair_of}
-use Rattle.tl_county.specs.TheMap.{TheMap, MapChain}
+use Rattle.tl_county.specs.TheMap.{MapChain}
 use Rattle.tl_files.specs.Files.{Under}
-use Rattle.tl_output.specs.Writing.{line_of}
 use Rattle.tl_plan.specs.declared.budget.Told.{Told}
 use Rattle.tl_plan.specs.declared.budget.Told.TheVariants.{One, All}
 use Rattle.tl_verdict.specs.declared.fault.MapFault.{MapFault}
 use Rattle.tl_verdict.specs.declared.stop.Stop.{Stop}
 use Rattle.tl_verdict.specs.declared.stop.Stop.TheVariants.{Record, Memory, Device, Budget}
 use Rattle.tl_verdict.specs.declared.verdict.Report.{Report}
-use Rattle.tl_verdict.specs.Messages.{map_fault_text}
 use Rattle.tl_verdict.specs.Records.{HaveMap}
 use Rattle.tl_verdict.specs.Sound.{IsSound}
 use Rattle.tl_verdict.proofs.OneMap.{weaker}
@@ -30,7 +28,7 @@ use Rattle.tl_listing.specs.declared.listing.ListingStop.{ListingStop}
 use Rattle.tl_listing.specs.declared.listing.ListingStop.TheVariants as listing_stop
 use Rattle.tl_listing.specs.Listings.{IsListingOf, TellsDevice}
 use Rattle.tl_record.specs.Failures.{one_more}
-use Rattle.tl_listing.specs.Texts.{listing_text, lines}
+use Rattle.tl_listing.specs.Texts.{listing_text}
 use Rattle.tl_all_faults.specs.declared.of_records.Findings.{Findings}
 use Rattle.tl_all_faults.specs.Findings.{AreFindingsOf}
 use Rattle.tl_all_faults.proofs.Listed.{sound_alone}
@@ -38,16 +36,15 @@ use Rattle.tl_record_lines.specs.SpokenOf.{chains_of}
 use Rattle.tl_record_lines.specs.Keeping.{held}
 use Rattle.tl_placing.specs.declared.again.Spoken.{Spoken}
 use Rattle.tl_placing.specs.Again.{AreSpoken}
-use Rattle.tl_placing.specs.Texts.{chosen}
 use Rattle.tl_fault_map.specs.Texts.{faults_text}
-use Rattle.tl_answers.specs.declared.stop.TheConstants.{DONE, MAP_FAULT, REFUSED, STOPPED, USAGE}
+use Rattle.tl_answers.specs.declared.stop.TheConstants.{DONE, MAP_FAULT, REFUSED, USAGE}
 use Rattle.tl_answers.specs.Running.{IsTold, IsAudited}
 use Rattle.tl_making.specs.Opening.{RefusesName, StopsOpening}
 use Rattle.tl_files.specs.declared.beginning.FileKind.TheVariants.{Collection}
 use Rattle.tl_export.specs.Files.{StopsFile}
 use Rattle.tl_lists.specs.Listings.{TellsListing}
-use Rattle.tl_lists.specs.Listed.{Lists, Answers, TellsText, TellsFaults, AreFaultsIn, IsMade, IsUnmade, featured, reads_again, told_text, plain_text}
-use Rattle.tl_lists.specs.Keeping.{MakesAny, IsPrepared, IsSoundOne, AreRefusalsIn, first_stop, most_of, told_by, Finds}
+use Rattle.tl_lists.specs.Listed.{Lists, TellsText, AreFaultsIn, IsMade, IsUnmade, featured, reads_again, told_text, plain_text}
+use Rattle.tl_lists.specs.Keeping.{MakesAny, IsSoundOne, AreRefusalsIn, first_stop, most_of, told_by, Finds}
 
 -- ---- a file that is made, or isn't
 
@@ -106,12 +103,8 @@ module _ (layout : Layout) (known : Option (List ℕ)) (names : List (List ℕ))
   pub stops_so : (stop : Stop) → StopsOpening failed stop → IsTold stop status said → out_same → IsUnmade before after made → IsIt
   stops_so (Record line cause) stops is same keeps = absurd stops
   stops_so Memory stops is same keeps = inr (inr (inr (inl (is.0, same, inl is.1)), keeps))
-  stops_so Device stops is same keeps = inr (inr (inr (inl (is.0, same, inr (is.1, inl stops))), keeps))
+  stops_so Device stops is same keeps = inr (inr (inr (inl (is.0, same, inr (is.1, stops))), keeps))
   stops_so Budget stops is same keeps = absurd stops
-
-  -- the files couldn't be read again
-  pub stops_again : reads_again places made ≡ true → IsTold Device status said → out_same → IsUnmade before after made → IsIt
-  stops_again again is same keeps = inr (inr (inr (inl (is.0, same, inr (is.1, inr again))), keeps))
 
   -- the file may not be made
   pub refuses_so : (name : List ℕ) → made ≡ Some name → status ≡ USAGE → RefusesName Collection before name names said → out_same → IsUnmade before after made → IsIt
@@ -146,28 +139,61 @@ module _ (layout : Layout) (known : Option (List ℕ)) (names : List (List ℕ))
   pub tells_first : (listing : Listing) (refusals : List Refusal) → told ≡ One → IfSome known (λ text. IsListingOf layout text listing) → AreRefusalsIn listing refusals
       → out_same → IsUnmade before after made → IsTold (first_stop refusals) status said → IsIt
   tells_first listing [] one are is same keeps tells = stops_so Memory tt tells same keeps
-  tells_first listing (refusal ∷ rest) one are is same keeps tells = inr (inr (inl (record {
-    one = one;
-    is = tells.0;
-    names = record { line = refusal.line; cause = refusal.cause; written = tells.1; first = first_of listing refusal rest are is };
-    same = same;
-  }), keeps))
+  tells_first listing (refusal ∷ rest) one are is same keeps tells = inr (inr (
+    inl (record {
+      one = one;
+      is = tells.0;
+      names = record { line = refusal.line; cause = refusal.cause; written = tells.1; first = first_of listing refusal rest are is };
+      same = same;
+    }),
+    keeps,
+  ))
 
   -- faults were told
   pub tells_faults : (found : Findings) (spoken : Spoken) (faults : List MapFault) (points_left : Bool) → IfSome known (λ text. AreFindingsOf layout text found) → AreFaultsIn found.listing faults points_left
       → (reads_again places made ≡ true → AreSpoken layout before names (chains_of found.map) (featured told faults) spoken)
       → IsMade before after made (faults_text names spoken.counts.items found.map (held spoken.lines) (featured told faults))
       → TellsText (told_text names (chains_of found.map) spoken places told faults points_left) status wrote said part err_same → IsIt
-  tells_faults found spoken faults points_left are listed speak stands (inl one) = inl (inr (inl (one.0, record {
-    found = found; spoken = spoken; faults = faults; points_left = points_left; are = are;
-    unsound = IfSome_then known are (λ text is. not_sound layout text found.listing faults points_left is.told listed);
-    listed = listed; speak = speak; written = one.1; kept = stands;
-  })), one.2)
-  tells_faults found spoken faults points_left are listed speak stands (inr cut) = inr (inl (cut.0, cut.1, (MAP_FAULT, inr (inl (refl, record {
-    found = found; spoken = spoken; faults = faults; points_left = points_left; are = are;
-    unsound = IfSome_then known are (λ text is. not_sound layout text found.listing faults points_left is.told listed);
-    listed = listed; speak = speak; written = cut.2; kept = stands;
-  })))))
+  tells_faults found spoken faults points_left are listed speak stands (inl one) = inl (
+    inr (inl (
+      one.0,
+      record {
+        found = found;
+        spoken = spoken;
+        faults = faults;
+        points_left = points_left;
+        are = are;
+        unsound = IfSome_then known are (λ text is. not_sound layout text found.listing faults points_left is.told listed);
+        listed = listed;
+        speak = speak;
+        written = one.1;
+        kept = stands;
+      },
+    )),
+    one.2,
+  )
+  tells_faults found spoken faults points_left are listed speak stands (inr cut) = inr (inl (
+    cut.0,
+    cut.1,
+    (
+      MAP_FAULT,
+      inr (inl (
+        refl,
+        record {
+          found = found;
+          spoken = spoken;
+          faults = faults;
+          points_left = points_left;
+          are = are;
+          unsound = IfSome_then known are (λ text is. not_sound layout text found.listing faults points_left is.told listed);
+          listed = listed;
+          speak = speak;
+          written = cut.2;
+          kept = stands;
+        },
+      )),
+    ),
+  ))
 
 -- what is said of files that fail, said more widely
 pub lists_for : (layout : Layout) (known : Option (List ℕ)) (names : List (List ℕ)) (told : Told) (places : Bool) (made : Option (List ℕ)) (status : ℕ) (before after : Under) (wrote said part : List ℕ → Type 0)
@@ -178,7 +204,7 @@ lists_for layout known names told places made status before after wrote said par
 lists_for layout known names told places made status before after wrote said part failed other out_same err_same wider (inr (inr (inl first, keeps))) = inr (inr (inl first, keeps))
 lists_for layout known names told places made status before after wrote said part failed other out_same err_same wider (inr (inr (inr (inr refuses), keeps))) = inr (inr (inr (inr refuses), keeps))
 lists_for layout known names told places made status before after wrote said part failed other out_same err_same wider (inr (inr (inr (inl stops), keeps))) =
-    inr (inr (inr (inl (stops.0, stops.1, elim stops.2 [ inl memory ↦ inl memory | inr device ↦ inr (device.0, elim device.1 [ inl fails ↦ inl (wider fails) | inr again ↦ inr again ]) ])), keeps))
+    inr (inr (inr (inl (stops.0, stops.1, elim stops.2 [ inl memory ↦ inl memory | inr device ↦ inr (device.0, wider device.1) ])), keeps))
 
 -- ---- what is printed of faults
 
@@ -208,11 +234,6 @@ no_features names spoken = refl
 
 -- ---- what is found
 
--- where it isn't so that nothing is asked for again, something is
-pub asked_again : (again : Bool) → (again ≡ false → ⊥) → again ≡ true
-asked_again true some = refl
-asked_again false some = absurd (some refl)
-
 pub finds_by : (layout : Layout) (known : Option (List ℕ)) (failed : Type 0) (old new : ℕ) (listed : Result Findings ListingStop) (told : Result Findings Stop) → told ≡ told_by listed
     → (new ≡ one_more old → failed) → IfOk listed (λ found. IfSome known (λ text. AreFindingsOf layout text found)) → TellsDevice old new listed → Finds layout known failed told
 finds_by layout known failed old new (Ok found) told is fails holds reads = rw is holds
@@ -227,3 +248,6 @@ sound_one (Faults list left) report is = absurd (cc is)
 
 pub refusals_in : (listing : Listing) (list : Vec Refusal Global) (refusals : List Refusal) → listing ≡ Refused list → list.items ≡ refusals → AreRefusalsIn listing refusals
 refusals_in listing list refusals is same = rw is same
+
+pub faults_in : (listing : Listing) (list : Vec MapFault Global) (faults : List MapFault) (points_left : Bool) → listing ≡ Faults list points_left → list.items ≡ faults → AreFaultsIn listing faults points_left
+faults_in listing list faults points_left is same = rw is (same, refl)

@@ -5,7 +5,7 @@
 -- is the name of the file of GeoJSON that is made of them, where one is. `before` and `after` say what stands under each name,
 -- where that is known; `wrote` says of a text that it was written to the output, `said` to the error output; `part` that a
 -- beginning of it was written to the output, and that a write failed; `failed` that a file failed.
-use Rattle.std.specs.Prelude.{◌≡◌, ◌⊎◌, ℕ, Bool, true, false, List, [], ◌++◌, length, take, Option, Some, None, IfSome, ⊤}
+use Rattle.std.specs.Prelude.{◌≡◌, ◌⊎◌, ℕ, Bool, true, false, List, [], ◌++◌, length, take, Option, Some, None, IfSome}
 use Rattle.tl_record.specs.declared.layout.Layout.{Layout}
 use Rattle.tl_county.specs.TheMap.{MapChain}
 use Rattle.tl_files.specs.Files.{Under, bytes_under}
@@ -28,7 +28,7 @@ use Rattle.tl_all_faults.specs.Findings.{AreFindingsOf}
 use Rattle.tl_record_lines.specs.SpokenOf.{chains_of}
 use Rattle.tl_record_lines.specs.Keeping.{held}
 use Rattle.tl_placing.specs.declared.again.Spoken.{Spoken}
-use Rattle.tl_placing.specs.Again.{AreSpoken}
+use Rattle.tl_placing.specs.Again.{AreSpoken, AgainFails}
 use Rattle.tl_placing.specs.Texts.{placed_text, chosen, end_text}
 use Rattle.tl_fault_map.specs.Texts.{faults_text}
 use Rattle.tl_answers.specs.declared.stop.TheConstants.{DONE, MAP_FAULT, REFUSED, STOPPED, USAGE}
@@ -114,10 +114,10 @@ pub record TellsFirst (layout : Layout) (known : Option (List ℕ)) (told : Told
   pub names : NamesRefusal layout known said
   pub same : out_same
 
--- it stopped before anything was told, for want of memory, or since a file failed, or can't be read again
-abbrev pub Stops : (again : Bool) → ℕ → (List ℕ → Type 0) → (failed out_same : Type 0) → Type 0
-Stops again status said failed out_same = (status ≡ STOPPED) × out_same
-    × (said (line_of (stop_text Memory)) ⊎ (said (line_of (stop_text Device)) × (failed ⊎ (again ≡ true))))
+-- it stopped before anything was told, for want of memory, or since a file failed
+abbrev pub Stops : ℕ → (List ℕ → Type 0) → (failed out_same : Type 0) → Type 0
+Stops status said failed out_same = (status ≡ STOPPED) × out_same
+    × (said (line_of (stop_text Memory)) ⊎ (said (line_of (stop_text Device)) × failed))
 
 -- the file may not be made
 abbrev pub Refuses : Under → List (List ℕ) → Option (List ℕ) → ℕ → (List ℕ → Type 0) → Type 0 → Type 0
@@ -130,7 +130,7 @@ Lists layout known names told places made status before after wrote said part fa
     (Answers layout known before after names told places made status wrote × err_same)
     ⊎ (((status ≡ STOPPED) × said (line_of (stop_text Device)) × ((n : ℕ) × Answers layout known before after names told places made n part))
     ⊎ ((TellsFirst layout known told status said out_same
-    ⊎ (Stops (reads_again places made) status said failed out_same ⊎ Refuses before names made status said out_same))
+    ⊎ (Stops status said failed out_same ⊎ Refuses before names made status said out_same))
     × IsUnmade before after made))
 
 -- it can't be told what stands under the name of the file that is made
@@ -138,6 +138,13 @@ abbrev pub IsUnknown : Under → Option (List ℕ) → Type 0
 IsUnknown before None = ⊥
 IsUnknown before (Some name) = bytes_under before name ≡ None
 
--- a file failed: it can't be told whether the new one may have its name, one that is read failed, or the new one did
-abbrev pub ListFails : {R D : Type 0} → (reads : R → ℕ) → (writes : D → ℕ) → (knows : Bool) → Under → Option (List ℕ) → List (List ℕ) → Type 0
-ListFails reads writes knows before made names = IsUnknown before made ⊎ (ReadsFail reads before names ⊎ NewFileFails writes knows)
+-- a file failed behind the first reading: one that is read again, where files are, or the new one
+abbrev pub TellingFails : {R D : Type 0} → (reads : R → ℕ) → (writes : D → ℕ) → (knows : Bool) → Under → Bool → Option (List ℕ) → List (List ℕ) → Type 0
+TellingFails reads writes knows before places made names =
+    NewFileFails writes knows ⊎ ((reads_again places made ≡ true) × AgainFails reads before names)
+
+-- a file failed: it can't be told whether the new one may have its name, one that is read failed, or one did behind the first
+-- reading
+abbrev pub ListFails : {R D : Type 0} → (reads : R → ℕ) → (writes : D → ℕ) → (knows : Bool) → Under → Bool → Option (List ℕ) → List (List ℕ) → Type 0
+ListFails reads writes knows before places made names =
+    IsUnknown before made ⊎ (ReadsFail reads before names ⊎ TellingFails reads writes knows before places made names)

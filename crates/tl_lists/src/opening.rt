@@ -38,8 +38,8 @@ pub fn open_and_list<F: FileSystem, W: Sink, E: Sink>(
         (map string_bytes names.now) told places (option_map string_bytes made.now) result
         (F.under files.old) (F.under files.new) (Writes W.contents W.failure_count out.old out.new)
         (TriesToWrite E.contents E.failure_count err.old err.new) (WritesSome W.contents W.failure_count out.old out.new)
-        (ListFails F.Reader.failure_count F.Draft.failure_count F.knows (F.under files.old) (option_map string_bytes made.now)
-        (map string_bytes names.now)) (out.new ≡ out.old) (err.new ≡ err.old) }
+        (ListFails F.Reader.failure_count F.Draft.failure_count F.knows (F.under files.old) places
+        (option_map string_bytes made.now) (map string_bytes names.now)) (out.new ≡ out.old) (err.new ≡ err.old) }
 {
     match room_of(&*files, made, names) {
         Ok(Room::Free) => match find_all(&*files, alloc, hasher, names, options) {

@@ -1,11 +1,11 @@
 //! The records that faults speak of, where they are asked for.
 
-ghost use Rattle.std.specs.Prelude.{◌≡◌, true, false, IfOk, IfErr, map, option_copied, string_bytes};
+ghost use Rattle.std.specs.Prelude.{◌≡◌, true, IfOk, IfErr, map, option_copied, string_bytes};
 ghost use Rattle.tl_record.specs.Layout.{layout_with};
 ghost use Rattle.tl_record_lines.specs.SpokenOf.{chains_of};
-ghost use Rattle.tl_placing.specs.Again.{AreSpoken};
+ghost use Rattle.tl_hint.specs.Again.{IfDevice};
+ghost use Rattle.tl_placing.specs.Again.{AreSpoken, AgainFails};
 ghost use Rattle.tl_lists.specs.Listed.{featured};
-ghost use Rattle.tl_hint.specs.declared.stop.HintStop.TheVariants as HintStop;
 
 use std::alloc::Global;
 use std::hash::RandomState;
@@ -17,7 +17,7 @@ use tl_plan::Told;
 use tl_record::Options;
 use tl_verdict::MapFault;
 
-/// The records that faults speak of, from files that are read again, where they are asked for.
+/// The records that faults speak of, from files that are read again, where they are asked for. A device fails only there.
 pub(crate) fn speak_of<F: FileSystem>(
     files: &F,
     alloc: Global,
@@ -30,7 +30,8 @@ pub(crate) fn speak_of<F: FileSystem>(
 ) -> Result<Spoken, HintStop>
     ensures spoken { IfOk result (λ spoken. again ≡ true → AreSpoken (layout_with options) (F.under files.now)
         (map string_bytes names.now) (chains_of (option_copied drawn.entry)) faults.now spoken) }
-    ensures stops { IfErr result (λ stop. again ≡ false → stop ≡ HintStop.Memory) }
+    ensures stops { IfErr result (IfDevice ((again ≡ true)
+        × AgainFails F.Reader.failure_count (F.under files.now) (map string_bytes names.now))) }
 {
     if again {
         read_again(files, alloc, hasher, names, options, drawn, faults)

@@ -13,7 +13,7 @@ ghost use Rattle.tl_placing.specs.Again.{AreSpoken};
 ghost use Rattle.tl_record_lines.specs.SpokenOf.{chains_of};
 ghost use Rattle.tl_answers.specs.Running.{TriesToWrite};
 ghost use Rattle.tl_export.specs.Files.{NewFileFails};
-ghost use Rattle.tl_lists.specs.Listed.{Lists, TellsText, AreFaultsIn, featured, reads_again, told_text};
+ghost use Rattle.tl_lists.specs.Listed.{Lists, TellingFails, TellsText, AreFaultsIn, featured, reads_again, told_text};
 ghost use Rattle.tl_lists.specs.Keeping.{IsPrepared, IsSoundOne, AreRefusalsIn, first_stop, most_of};
 
 use crate::collection::make_collection;
@@ -50,7 +50,8 @@ pub(crate) fn tell_found<F: FileSystem, W: Sink, E: Sink>(
         Lists (layout_with options) known (map string_bytes names.now) told places (option_map string_bytes made.now) result
         (F.under files.old) (F.under files.new) (Writes W.contents W.failure_count out.old out.new)
         (TriesToWrite E.contents E.failure_count err.old err.new) (WritesSome W.contents W.failure_count out.old out.new)
-        (NewFileFails F.Draft.failure_count F.knows) (out.new ≡ out.old) (err.new ≡ err.old) }
+        (TellingFails F.Reader.failure_count F.Draft.failure_count F.knows (F.under files.old) places
+        (option_map string_bytes made.now) (map string_bytes names.now)) (out.new ≡ out.old) (err.new ≡ err.old) }
 {
     match &found.listing {
         Listing::Sound(_) => tell_sound(files, alloc, hasher, made, names, found, out, err),
@@ -157,7 +158,8 @@ fn tell_faults<F: FileSystem, W: Sink, E: Sink>(
         Lists (layout_with options) known (map string_bytes names.now) told places (option_map string_bytes made.now) result
         (F.under files.old) (F.under files.new) (Writes W.contents W.failure_count out.old out.new)
         (TriesToWrite E.contents E.failure_count err.old err.new) (WritesSome W.contents W.failure_count out.old out.new)
-        (NewFileFails F.Draft.failure_count F.knows) (out.new ≡ out.old) (err.new ≡ err.old) }
+        (TellingFails F.Reader.failure_count F.Draft.failure_count F.knows (F.under files.old) places
+        (option_map string_bytes made.now) (map string_bytes names.now)) (out.new ≡ out.old) (err.new ≡ err.old) }
 {
     let drawn = found.map.as_ref();
     let again = reads_again(places, made);

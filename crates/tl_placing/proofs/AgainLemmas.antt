@@ -1,5 +1,5 @@
 -- Lines that are held are those of the text.
-use Rattle.std.proofs.Common.{◌≡◌, ℕ, zero, suc, Bool, List, [], ◌∷◌, ◌++◌, Option, None, Some, IfSome, IfOk, IsSomeAnd, length, Result, Ok, Err, Vec, Global, map, option_map, take, slice_get, refl, sym, ap, subst, ◌∙◌}
+use Rattle.std.proofs.Common.{◌≡◌, ℕ, zero, suc, Bool, List, [], ◌∷◌, ◌++◌, Option, None, Some, IfSome, length, take, slice_get, refl, ap, subst}
 use Rattle.tl_record.specs.declared.record.Record.{Record}
 use Rattle.tl_county.specs.TheMap.{MapChain}
 use Rattle.tl_verdict.specs.declared.fault.MapFault.{MapFault}
@@ -9,12 +9,11 @@ use Rattle.tl_output.specs.Writing.{line_of}
 use Rattle.tl_plan.specs.declared.budget.Told.{Told}
 use Rattle.tl_plan.specs.declared.budget.Told.TheVariants.{One, All}
 use Rattle.tl_record_lines.specs.declared.subject.Subject.{Subject}
-use Rattle.tl_record_lines.specs.declared.line.RecordLine.{RecordLine}
 use Rattle.tl_record_lines.specs.declared.lines.RecordLines.{RecordLines}
 use Rattle.tl_record_lines.specs.SpokenOf.{subjects_of, lines_about}
 use Rattle.tl_record_lines.specs.Keeping.{held}
 use Rattle.tl_record_lines.specs.Finding.{HoldsLines, HoldsAll}
-use Rattle.tl_placing.specs.Texts.{lines_for, fault_place, first_point, record_lines_text, spoken_text, placed_fault_text, placed_faults_text, placed_text, chosen, end_text}
+use Rattle.tl_placing.specs.Texts.{lines_for, fault_place, first_point, record_lines_text, placed_fault_text, placed_faults_text, placed_text, chosen, end_text}
 
 module _ (names : List (List ℕ)) (counts : List ℕ) (chains : List MapChain) (entries : List (ℕ × Record)) (kept : RecordLines) where
   -- the lines of a subject

@@ -1,6 +1,6 @@
 //! The records that faults speak of, from files that are read again.
 
-ghost use Rattle.std.specs.Prelude.{◌≡◌, ℕ, List, [], IfOk, IsSomeAnd, map, option_copied, string_bytes};
+ghost use Rattle.std.specs.Prelude.{◌≡◌, ℕ, List, [], IfOk, IfErr, IsSomeAnd, map, option_copied, string_bytes};
 ghost use Rattle.tl_record.specs.Layout.{layout_with};
 ghost use Rattle.tl_record.specs.Records.{records_of};
 ghost use Rattle.tl_text.specs.Joining.{joined};
@@ -9,7 +9,8 @@ ghost use Rattle.tl_record_lines.specs.declared.subject.Subject.{Subject};
 ghost use Rattle.tl_record_lines.specs.SpokenOf.{chains_of};
 ghost use Rattle.tl_record_lines.specs.Finding.{HoldsAll};
 ghost use Rattle.tl_record_lines.specs.Keeping.{held};
-ghost use Rattle.tl_placing.specs.Again.{AreSpoken};
+ghost use Rattle.tl_hint.specs.Again.{IfDevice};
+ghost use Rattle.tl_placing.specs.Again.{AreSpoken, AgainFails};
 
 use std::alloc::{AllocError, Global};
 use std::hash::RandomState;
@@ -57,8 +58,11 @@ pub fn read_again<F: FileSystem>(
 ) -> Result<Spoken, HintStop>
     // Where the bytes of all files are known: so many lines have these, and the records are all that the faults speak of, and
     // no other.
-    ensures { IfOk result (AreSpoken (layout_with options) (F.under files.now) (map string_bytes names.now)
+    ensures spoken { IfOk result (AreSpoken (layout_with options) (F.under files.now) (map string_bytes names.now)
         (chains_of (option_copied drawn.entry)) faults.now) }
+    // `Device` is answered where one of the files may not be opened, a read failed, or one has no end within 2^64 - 1 bytes, and
+    // nowhere else.
+    ensures stops { IfErr result (IfDevice (AgainFails F.Reader.failure_count (F.under files.now) (map string_bytes names.now))) }
 {
     let Some(counts) = count_all(files, alloc, names)? else {
         return Ok(Spoken::nothing(alloc, hasher)?);
@@ -79,9 +83,10 @@ fn lines_again<F: FileSystem>(
     drawn: Option<&Map>,
     faults: &[MapFault],
 ) -> Result<Option<RecordLines>, HintStop>
-    ensures { IfOk result (λ found. (texts : List (List ℕ)) → HaveTexts (F.under files.now) (map string_bytes names.now) texts
+    ensures found { IfOk result (λ found. (texts : List (List ℕ)) → HaveTexts (F.under files.now) (map string_bytes names.now) texts
         → IsSomeAnd found (HoldsAll (chains_of (option_copied drawn.entry)) faults.now
         (records_of (layout_with options) (joined texts)).entries)) }
+    ensures stops { IfErr result (IfDevice (AgainFails F.Reader.failure_count (F.under files.now) (map string_bytes names.now))) }
 {
     let Some(readers) = open_again(files, alloc, names)? else {
         return Ok(None);

@@ -30,7 +30,7 @@ DoesTask (task.Draw made view faults options files) status before after wrote to
 abbrev pub TaskFails : {R D : Type 0} → (reads : R → ℕ) → (writes : D → ℕ) → (knows : Bool) → Under → Task → Type 0
 TaskFails reads writes knows before (task.Plan plan progress) = ⊥
 TaskFails reads writes knows before (task.List asked places made progress options files) =
-    ListFails reads writes knows before (option_map string_bytes made) (map string_bytes files.items)
+    ListFails reads writes knows before places (option_map string_bytes made) (map string_bytes files.items)
 TaskFails reads writes knows before (task.Export made options files) =
     SomeFileFails reads writes knows before (string_bytes made) (map string_bytes files.items)
 TaskFails reads writes knows before (task.Draw made view faults options files) =

@@ -1,4 +1,4 @@
-use Rattle.std.proofs.Common.{inl, inr, refl, map, option_map, string_bytes}
+use Rattle.std.proofs.Common.{inl, inr, refl, option_map, string_bytes}
 use Rattle.tl_lists.proofs.ListLemmas.{lists_for, stops_so, opening_for, unchanged}
 use Rattle.tl_lists.proofs.opening.open_and_list.Goals as goal
 
