@@ -1,6 +1,6 @@
 #!/usr/bin/env python3
 """Runs the commands of the pages below as from the top of the repository, and compares what they print, each stream by
-itself: lines of refusals and stops belong to standard error, all others to standard output, and of `audit --all`, which
+itself: lines of refusals and stops, and of a file that isn't replaced, belong to standard error, all others to standard output, and of `audit --all`, which
 prints refusals as its answer, those of stops alone. Each page is played in a folder
 of its own, where the files that its commands make stay, with a `./tigertopo` that is the repository's and its `examples`."""
 
@@ -24,7 +24,7 @@ def steps(text):
 
 def streams_of(command, printed):
     """The lines that belong to standard output, and those that belong to standard error."""
-    is_error = re.compile(r"(stopped|error:) " if " --all " in command else r"(refused line|stopped|error:) ").match
+    is_error = re.compile(r"(stopped|error:|OUT) " if " --all " in command else r"(refused line|stopped|error:|OUT) ").match
     streams, before = ["", ""], 0
     for line in printed.splitlines(keepends=True):
         # What begins with two blanks belongs to the line before it.

@@ -11,7 +11,8 @@ whole certificate; with one that takes a single byte it has to answer as ever. I
 glibc, whose calls it stands before.
 
 Behind these, over the small maps alone: each file that can't be opened or read, each certificate that can't be made or
-written, and outputs that are full or that nobody reads.
+written, and outputs that are full or that nobody reads. And records that come through a pipe, which can't be read a second
+time for the lines that faults speak of.
 """
 
 import os
@@ -21,6 +22,8 @@ import tempfile
 from pathlib import Path
 
 import hints
+import judge
+import placed
 from memory import EXAMPLES, answer_over_a_file, library_of, standing
 from rows import PROGRAM
 from small_maps import MADE, write_all
@@ -36,6 +39,11 @@ RUNS = [
     ["audit", "--all", EXAMPLES / "faults" / "L2"],
     ["audit", "--all", EXAMPLES / "faults" / "M9"],
     ["audit", "--all", "--most", "3", EXAMPLES / "faults" / "town"],
+    ["audit", "--all", "--where", EXAMPLES / "faults" / "town"],
+    ["audit", "--all", "--where", EXAMPLES / "faults" / "L2"],
+    ["audit", "--geojson", MADE, EXAMPLES / "county"],
+    ["audit", "--geojson", MADE, EXAMPLES / "faults" / "M9"],
+    ["audit", "--all", "--where", "--geojson", MADE, EXAMPLES / "faults" / "town"],
     ["build", "--out", MADE, EXAMPLES / "county"],
     ["build", "--out", MADE, EXAMPLES / "faults" / "G1"],
     ["export", "--geojson", MADE, EXAMPLES / "county"],
@@ -168,8 +176,8 @@ def play_names(count, program, folder, runs):
             is_made = word == MADE
             if not is_made and not Path(folder, word).is_file():
                 continue
-            # Of a map with a fault no certificate is made.
-            wanted = usual if is_made and usual[0] else DEVICE
+            # Of a map with a fault no certificate is made; but of its faults a file is.
+            wanted = usual if is_made and usual[0] and words[0] != "audit" else DEVICE
             for name in UNWRITABLE if is_made else UNREADABLE:
                 asked = [*words[:place], name, *words[place + 1 :]]
                 answer, left = answer_to(program, folder, asked)
@@ -194,6 +202,40 @@ def play_streams(count, program, folder, runs):
     os.close(closed)
 
 
+def unread(feature):
+    """What is made of a fault whose records can't be read a second time."""
+    told = {**feature["properties"], "records": []}
+    if told["code"] in ("G3", "G4", "G5"):
+        # Where a polygon's point lies is told by its record.
+        return {**feature, "geometry": None, "properties": {**told, "at": None}}
+    return {**feature, "properties": told}
+
+
+def play_pipes(count, program, folder):
+    """Gives records through a pipe. The faults are told without the lines of their records."""
+    made = Path(folder, MADE)
+    for name in ("town", "G2", "M8", "L2"):
+        file = EXAMPLES / "faults" / name
+        text = file.read_bytes()
+        listed = answer_to(program, folder, ["audit", "--all", file])[0]
+        ask = {"cwd": folder, "input": text, "capture_output": True}
+        done = subprocess.run([program, "audit", "--all", "--where", "/dev/stdin"], **ask)
+        answer = (done.returncode, done.stdout, done.stderr)
+        count.count(answer == listed, f"{name} through a pipe: {answer}")
+        made.unlink(missing_ok=True)
+        done = subprocess.run([program, "audit", "--all", "--geojson", MADE, "/dev/stdin"], **ask)
+        answer = (done.returncode, done.stdout, done.stderr)
+        county = judge.County([text])
+        if county.records.refusals:
+            count.count(answer == listed and not made.exists(), f"{name} through a pipe: {answer}, or a file was made")
+            continue
+        told = [it for it in listed[1].decode().split("\n") if it.startswith("map fault ")]
+        features = county.drawn_faults([name], [text]).features(told)
+        wanted = [unread(it) if "code" in it["properties"] else it for it in features]
+        wrong = placed.wrong_collection(made.read_bytes() if made.exists() else b"", wanted)
+        count.count(answer == listed and not wrong, f"{name} through a pipe: {answer}: {wrong}")
+
+
 def play_all(program=PROGRAM):
     """How many failed calls were answered well, and how many weren't."""
     count = Count()
@@ -203,6 +245,7 @@ def play_all(program=PROGRAM):
         play_calls(count, lambda words, which, kind: answer_over_a_file([program, *words], library, which, kind, folder), RUNS + small)
         play_names(count, program, folder, small)
         play_streams(count, program, folder, small)
+        play_pipes(count, program, folder)
     return count.passed, count.failed
 
 

@@ -18,6 +18,7 @@ import tempfile
 from pathlib import Path
 
 import hints
+import placed
 from grids import KEY, POINT, SIDE, grid, report_of
 from layout import line_of
 from rows import PROGRAM, TOP, play, rows_of
@@ -196,6 +197,12 @@ def play_checks(plays):
     meet = f"tlid {CHAIN_LIMIT - 1} segment {CHAIN_LIMIT - 2} tlid {CHAIN_LIMIT} segment {CHAIN_LIMIT - 1} at {x} {y} 1"
     checked("two streets that meet", [plays.file("tree", head), touched], 1, f"map fault G1 Meet {meet}\n")
     plays.decide("two streets that meet", touched, 1, "", f"map fault G1 Meet {meet}\n")
+    # Each street has two lines.
+    at = " ".join(placed.degrees(it, 10) for it in (x, y))
+    lines = [f"  {touched} line {2 * k - 1}, type 1, tlid {k}, at {at}\n" for k in (CHAIN_LIMIT - 1, CHAIN_LIMIT)]
+    told = f"map fault G1 Meet {meet}\n{''.join(lines)}"
+    plays.play("two streets that meet, and where", ["--where", touched], 1, told, command="audit")
+    plays.play("two streets that meet, and where, by a list", ["--all", "--where", touched], 1, f"{told}faults=1\n", command="audit")
 
 
 def path_of(count):
@@ -262,6 +269,15 @@ def play_squares(plays):
     strayed = text.replace(POINT % (last, y, y), POINT % (last, -1, y))
     fault = f"map fault G4 PointOutside polygon A0001/{across**2}\n"
     plays.play("a point west of the most squares", [plays.file("strayed", strayed)], 1, fault, command="audit")
+    number = text[: text.index(POINT % (last, y, y))].count(b"\n") + 1
+    where = f"  strayed line {number}, type P, polygon A0001/{across**2}, at {placed.degrees(-1, 10)} {placed.degrees(y, 10)}\n"
+    plays.play("a point west of the most squares, and where", ["--where", "strayed"], 1, fault + where, command="audit")
+    plays.play("a point west of the most squares, as a file", ["--all", "--geojson", made.name, "strayed"], 1, f"{fault}faults=1\n", command="audit")
+    lines = placed.lines_of(["strayed"], [strayed])
+    wanted = [placed.Fault(fault.rstrip(), lines, None).feature]
+    wrong = placed.wrong_collection(made.read_bytes() if made.exists() else b"", wanted)
+    plays.count(not wrong, f"a point west of the most squares, as a file: {wrong}")
+    made.unlink(missing_ok=True)
 
 
 def play_places(plays):

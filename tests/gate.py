@@ -73,7 +73,7 @@ def main():
         ("failed reads and writes", devices.play_all),
         ("examples", examples.play_all),
         ("many counties", counties.play_all),
-        ("certificates made over files", made_files.play_all),
+        ("files made over others", made_files.play_all),
         ("pictures", drawn.play_all),
         ("manual page, completions and programs of the libraries", installed.play_all),
         ("progress", progress.play_all),

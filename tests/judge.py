@@ -1,7 +1,7 @@
 #!/usr/bin/env python3
 """A second opinion on a small county: every fault that is true of it, or that its map is sound.
 
-usage: judge.py audit [--all [--most N]] [--zero-cells] [--released] FILES..
+usage: judge.py audit [--all [--most N]] [--where] [--geojson OUT] [--zero-cells] [--released] FILES..
        judge.py check --cert CERT [--tests N] [--zero-cells] [--released] FILES..
        judge.py locate [--released] @X,Y FILES..
        judge.py show [--released] FILES..
@@ -16,7 +16,7 @@ lists is that set in its order, but for zero-cell ids at odds, of which it lists
 
 import re
 import sys
-from dataclasses import dataclass, field
+from dataclasses import dataclass, field, replace
 from fractions import Fraction
 from functools import cached_property
 from itertools import combinations
@@ -24,6 +24,7 @@ from pathlib import Path
 from typing import NamedTuple
 
 import certificates
+import placed
 
 # ---------------------------------------------------------------------------------------------------------------------
 # Lines and fields: docs/records.md.
@@ -947,11 +948,11 @@ class Opinion:
 @dataclass
 class Listing:
     """What `audit --all` prints of a county that has faults, or lines that are refused: all of them in their order, or
-    with `most` so many at most; whether polygons' points weren't looked at; and how many there are. The line of two
-    segments that meet where they may not may name any point that is true of them."""
+    with `most` so many at most; whether polygons' points weren't looked at; and how many there are, unless nothing is
+    counted. The line of two segments that meet where they may not may name any point that is true of them."""
 
     faults: list
-    counted: str
+    counted: str | None
     most: int | None = None
     points_left: bool = False
     the_map: Map | None = None
@@ -963,6 +964,8 @@ class Listing:
     @property
     def lines(self):
         printed = self.faults[: self.most]
+        if self.counted is None:
+            return printed
         count = f"{self.counted}={len(self.faults)}" + (f" printed={len(printed)}" if self.most is not None else "")
         return [*printed, *(["points not looked at"] if self.points_left else []), count]
 
@@ -989,6 +992,37 @@ class Listing:
         return line.split(" at ")[0] == wanted.split(" at ")[0] and is_true_meet(self.the_map, line)
 
 
+@dataclass
+class Placed:
+    """What is printed where the records are asked for that faults speak of: what is printed without them, and behind each
+    fault's line theirs."""
+
+    plain: Opinion | Listing
+    faults: placed.Faults
+
+    @property
+    def status(self):
+        return self.plain.status
+
+    def with_records(self, answer):
+        return "\n".join(self.faults.placed(answer.split("\n")))
+
+    @property
+    def answers(self):
+        return [self.with_records(it) for it in self.plain.answers]
+
+    @property
+    def outputs(self):
+        return [(status, self.with_records(out.decode("latin-1")).encode("latin-1"), err) for status, out, err in self.plain.outputs]
+
+    def allows(self, status, out, err):
+        """Whether the program's status and its two outputs may be so: without the lines of records it is what may be printed
+        without them, and they are those of the faults."""
+        told = out.decode("latin-1")
+        alone = "\n".join(line for line in told.split("\n") if not line.startswith("  "))
+        return self.plain.allows(status, alone.encode("latin-1"), err) and told == self.with_records(alone)
+
+
 def status_of(answer):
     return STATUSES.get(answer.split(" ")[0], 0)
 
@@ -997,6 +1031,7 @@ class County:
     """The texts of a county's files, and what is asked of them."""
 
     def __init__(self, texts, zero_cells=False, released=False):
+        self.released = released
         self.records = read(texts, zero_cells, released)
 
     @cached_property
@@ -1052,6 +1087,19 @@ class County:
         faults = self.meets + self.side_faults + listed_cell_faults(self.map) + points
         return Listing(faults, "faults", most, bool(self.side_faults), self.map) if faults else self.audit()
 
+    def audit_first(self):
+        """The first line of that list and no count, where more than a fault's line is asked for; a refused line as ever."""
+        listing = self.audit_all()
+        if self.records.refusals or isinstance(listing, Opinion):
+            return self.audit()
+        return replace(listing, faults=listing.faults[:1], counted=None, points_left=False)
+
+    def drawn_faults(self, names, texts):
+        """The faults with the lines of their records in files of these names and texts, and with the map, where there is one;
+        of lines that are refused there are none."""
+        names = [] if self.records.refusals else names
+        return placed.Faults(names, texts, self.released, None if self.faults else self.map)
+
     def build(self):
         """As `audit`, but for the word; the certificate that is made is looked at by `certificate_faults`."""
         return self.audit("built")
@@ -1100,9 +1148,9 @@ def asked(words, text_of):
     rest = [it for word in words[1:] for it in (word.split("=", 1) if word.startswith("--") else [word])]
     while rest:
         word = rest.pop(0)
-        if word in ("--cert", "--tests", "--out", "--most") and rest:
+        if word in ("--cert", "--tests", "--out", "--most", "--geojson") and rest:
             values[word] = rest.pop(0)
-        elif word in ("--zero-cells", "--released", "--all"):
+        elif word in ("--zero-cells", "--released", "--all", "--where"):
             switches.add(word)
         elif word != "--":
             names.append(word)
@@ -1112,13 +1160,16 @@ def asked(words, text_of):
     if (command == "check" and "--cert" not in values) or (command == "locate" and not point):
         return None
     is_all, most = "--all" in switches, values.get("--most")
-    if (is_all and command != "audit") or (most is not None and not (is_all and most.isdigit())):
+    is_more = is_all or "--where" in switches or "--geojson" in values
+    if (is_more and command != "audit") or (most is not None and not (is_all and most.isdigit())):
         return None
-    county = County([text_of(name) for name in names], "--zero-cells" in switches, "--released" in switches)
+    texts = [text_of(name) for name in names]
+    county = County(texts, "--zero-cells" in switches, "--released" in switches)
     if command == "check":
         return county.check(text_of(values["--cert"]), int(values["--tests"]) if "--tests" in values else None)
-    if is_all:
-        return county.audit_all(None if most is None else int(most))
+    if is_more:
+        told = county.audit_all(None if most is None else int(most)) if is_all else county.audit_first()
+        return Placed(told, county.drawn_faults(names, texts)) if "--where" in switches else told
     return county.locate(Point(*map(int, point.groups()))) if point else getattr(county, command)()
 
 

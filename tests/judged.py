@@ -4,7 +4,8 @@
 usage: judged.py [--seed SEED] [--cases N] [--only NUMBER] [--program PROGRAM]
 
 First the judge is judged: it has to agree with each row of tests/*.rows of which it can speak. Then each case is
-asked for by `audit`, and by `audit --all`, whose whole output has to be the judge's list. It is asked for by others
+asked for by `audit`, and by `audit --all`, whose whole output has to be the judge's list; with `--where`, whose lines of
+records tests/placed.py says, and with `--geojson`, whose file's features it says. It is asked for by others
 too: `build`, whose certificate has to be valid by the judge, `check` by that certificate, by one that tests/draw.py
 proposes and by both changed, with a budget of tests at times, `locate`, `show` and `landmarks`. No expected value
 comes from the program. A town that is drawn to be sound has to be so by the judge too.
@@ -17,6 +18,7 @@ import argparse
 import multiprocessing
 import os
 import random
+import re
 import subprocess
 import sys
 import tempfile
@@ -28,6 +30,7 @@ import certificates
 import draw
 import hints
 import judge
+import placed
 import rows
 
 PROGRAM = rows.PROGRAM
@@ -76,7 +79,7 @@ class Table:
     """A folder where a case is laid out and the program is asked of it."""
 
     def __init__(self, program, folder):
-        self.program, self.folder = str(program), Path(folder)
+        self.program, self.folder, self.printed = str(program), Path(folder), b""
 
     def lay(self, name, text):
         (self.folder / name).write_bytes(text)
@@ -84,6 +87,7 @@ class Table:
     def ask(self, *words):
         how = {"cwd": self.folder, "stdin": subprocess.DEVNULL, "capture_output": True, "close_fds": False}
         done = subprocess.run([self.program, *words], check=False, **how)
+        self.printed = done.stdout
         return done.returncode, done.stdout, hints.without(done.stderr, words, self.folder)
 
 
@@ -111,9 +115,17 @@ def complaints(table, case, chance):
 
     yield from wrong(county.audit(), "audit", *switches, *names)
     yield from wrong(county.audit_all(), "audit", "--all", *switches, *names)
+    listed = [it for it in table.printed.decode("latin-1").split("\n") if it.startswith("map fault ")]
     if chance.random() < 0.1:
         most = chance.choice((1, 2, 2, 5))
         yield from wrong(county.audit_all(most), "audit", "--all", "--most", str(most), *switches, *names)
+    parts = parts_of(chance, texts)
+    names_of_parts = [f"part{number}" for number in range(len(parts))]
+    for name, part in zip(names_of_parts, parts):
+        table.lay(name, part)
+    faults = county.drawn_faults(names_of_parts, parts)
+    if faults.are_clear:
+        yield from placed_complaints(table, chance, county, faults, listed, wrong, [*switches, *names_of_parts])
     if case.is_town and not county.report and len(texts) == 1:
         yield f"a town that was drawn to be sound isn't: {county.faults or county.map_faults}"
     made = table.folder / "made"
@@ -136,6 +148,38 @@ def complaints(table, case, chance):
     if chance.random() < 0.1:
         yield from wrong(others.show(), "show", *reading, *names)
         yield from wrong(others.landmarks(), "landmarks", *reading, *names)
+
+
+def parts_of(chance, texts):
+    """The texts, or at times a single one cut behind line feeds into up to four: as one text that is the same."""
+    if len(texts) > 1 or chance.random() < 0.6:
+        return texts
+    lines = re.findall(rb"[^\n]*\n|[^\n]+", texts[0])
+    cuts = sorted(chance.randrange(len(lines) + 1) for _ in range(chance.choice((1, 1, 2, 3))))
+    return [b"".join(lines[first:last]) for first, last in zip([0, *cuts], [*cuts, len(lines)])]
+
+
+def placed_complaints(table, chance, county, faults, listed, wrong, words):
+    """What is wrong with the lines of records behind faults, and with the file that is made of faults, where these are the lines
+    of the list: which point of two segments is told is open, and one is in all answers."""
+    is_all, most = chance.random() < 0.8, chance.choice((None, None, None, 0, 1, 3))
+    plain = county.audit_all(most) if is_all else county.audit_first()
+    told = ["--all", *([] if most is None else ["--most", str(most)])] if is_all else []
+    where = judge.Placed(plain, faults)
+    out = table.folder / "faults.geojson"
+    stood = out.read_bytes() if out.exists() else None
+    yield from wrong(where, "audit", "--where", *told, *words)
+    has_where = chance.random() < 0.3
+    asked = ["audit", *told, "--geojson", out.name, *["--where"] * has_where, *words]
+    yield from wrong(where if has_where else plain, *asked)
+    made = out.read_bytes() if out.exists() else None
+    if county.records.refusals:
+        if made != stood:
+            yield f"{' '.join(asked)}: a line is refused, and a file was made or changed"
+        return
+    complaint = placed.wrong_collection(made or b"", faults.features(listed if is_all else listed[:1]))
+    if complaint:
+        yield f"{' '.join(asked)}: {complaint}"
 
 
 def certificates_of(chance, town, built):

@@ -1,12 +1,13 @@
 #!/usr/bin/env python3
-"""Makes certificates where something stands in the way, and looks for a file of a user's that is lost or half written.
+"""Makes certificates and files of GeoJSON where something stands in the way, and looks for a file of a user's that is lost or
+half written.
 
 usage: made_files.py [PROGRAM]
 
-OUT is a file that is no certificate, one of the files that are read under that or another name, an old certificate, a
+OUT is a file that is none of the kind, one of the files that are read under that or another name, an old one of the kind, a
 link, a pipe, a device, a folder that isn't there; beside it lies what a killed run left, another run's file, or a file
 of somebody else's; the disk is full; and the program is killed at each of its writes. What stood under OUT has to stay
-until the new certificate is whole. It needs a C compiler, cc, and glibc, whose write it stands before.
+until the new file is whole. It needs a C compiler, cc, and glibc, whose write it stands before.
 """
 
 import fcntl
@@ -16,6 +17,7 @@ import signal
 import subprocess
 import sys
 import tempfile
+from dataclasses import dataclass
 from pathlib import Path
 
 import hints
@@ -23,8 +25,27 @@ from memory import EXAMPLES, library_of
 from rows import PROGRAM
 
 COUNTY = EXAMPLES / "county"
-OLD = b"TIGERCERT 2\nan old one\n"
-NO_CERTIFICATE = (64, b"", b"OUT stands and is no certificate\n")
+TOWN = EXAMPLES / "faults" / "town"
+
+
+@dataclass
+class Kind:
+    """A kind of file that is made: an old one, beginnings of one, and what is said where OUT is another file."""
+
+    old: bytes
+    beginnings: tuple
+    refusal: tuple
+
+
+CERTIFICATE = Kind(b"TIGERCERT 2\nan old one\n", (b"T", b"TIGERCERT "), (64, b"", b"OUT stands and is no certificate\n"))
+COLLECTION = Kind(
+    b'{"type":"FeatureCollection","name":"tigertopo"\nan old one\n',
+    (b"{", b'{"type":"FeatureCollection","name":"tigertopo"'),
+    (64, b"", b"OUT stands and is no GeoJSON of tigertopo\n"),
+)
+KINDS = {"build": CERTIFICATE, "convert": CERTIFICATE, "export": COLLECTION, "audit": COLLECTION}
+# What is no file of any kind.
+STRANGERS = (b"a", b"TIGERCERT", b'{"type":"FeatureCollection","features":[]}\n', b"a file that stands\n", COUNTY.read_bytes())
 IS_READ = (64, b"", b"OUT is one of the files that are read\n")
 DEVICE = (4, b"", b"stopped Device\n")
 KILL = r"""
@@ -57,6 +78,7 @@ class Play:
         self.passed = self.failed = 0
         (self.folder / "records").write_bytes(COUNTY.read_bytes())
         (self.folder / "cert").write_bytes((EXAMPLES / "county.CERT").read_bytes())
+        (self.folder / "town").write_bytes(TOWN.read_bytes())
         self.made = self.folder / "made"
         self.beside = self.folder / "made.unfinished"
         self.done, self.whole = {}, {}
@@ -65,7 +87,12 @@ class Play:
             self.made.unlink()
 
     def commands(self, out="made"):
-        return [("build", ["build", "--out", out, "records"]), ("convert", ["convert", "cert", out])]
+        return [
+            ("build", ["build", "--out", out, "records"]),
+            ("convert", ["convert", "cert", out]),
+            ("export", ["export", "--geojson", out, "records"]),
+            ("audit", ["audit", "--all", "--where", "--geojson", out, "town"]),
+        ]
 
     def ask(self, words, **more):
         ran = subprocess.run([self.program, *words], cwd=self.folder, capture_output=True, stdin=subprocess.DEVNULL, **more)
@@ -82,18 +109,20 @@ class Play:
                 path.unlink()
 
     def is_made(self, name, answer, path=None):
-        """The certificate stands whole, and nothing beside it."""
+        """The file stands whole, and nothing beside it."""
         return answer == self.done[name] and (path or self.made).read_bytes() == self.whole[name] and not self.beside.exists()
 
     def standing(self):
         """What stands under OUT."""
         for name, words in self.commands():
-            for text in (b"a", b"TIGERCERT", b"a file that stands\n", COUNTY.read_bytes()):
+            others = [it.old for it in (CERTIFICATE, COLLECTION) if it is not KINDS[name]]
+            for text in (*STRANGERS, *others):
                 self.made.write_bytes(text)
                 answer = self.ask(words)
-                is_well = answer == NO_CERTIFICATE and self.made.read_bytes() == text and not self.beside.exists()
+                is_well = answer == KINDS[name].refusal and self.made.read_bytes() == text and not self.beside.exists()
                 self.count(is_well, f"{name} over {text[:20]}: {answer}")
-            for text in (b"", OLD):
+            wholes = [self.whole[it] for it in self.whole if KINDS[it] is KINDS[name]]
+            for text in (b"", KINDS[name].old, *wholes):
                 self.made.write_bytes(text)
                 self.made.chmod(0o640)
                 answer = self.ask(words)
@@ -106,8 +135,9 @@ class Play:
         os.link(self.folder / "records", self.folder / "hard")
         os.symlink("records", self.folder / "soft")
         for out in ("records", "./records", str(self.folder / "records"), "hard", "soft"):
-            answer = self.ask(["build", "--out", out, "cert", "records"])
-            self.count(answer == IS_READ, f"build over {out}: {answer}")
+            for words in (["build", "--out"], ["export", "--geojson"], ["audit", "--geojson"], ["audit", "--all", "--geojson"]):
+                answer = self.ask([*words, out, "cert", "records"])
+                self.count(answer == IS_READ, f"{words[0]} over {out}: {answer}")
         for out in ("cert", "./cert"):
             answer = self.ask(["convert", "cert", out])
             self.count(answer == IS_READ, f"convert over {out}: {answer}")
@@ -119,7 +149,7 @@ class Play:
         """A link stays one, and what it leads to is replaced or made."""
         target = self.folder / "target"
         for name, words in self.commands():
-            for text in (OLD, None):
+            for text in (KINDS[name].old, None):
                 if text:
                     target.write_bytes(text)
                 os.symlink("target", self.made)
@@ -131,7 +161,7 @@ class Play:
             target.write_bytes(b"another's")
             os.symlink("target", self.made)
             answer = self.ask(words)
-            self.count(answer == NO_CERTIFICATE and target.read_bytes() == b"another's", f"{name} over a link to a file: {answer}")
+            self.count(answer == KINDS[name].refusal and target.read_bytes() == b"another's", f"{name} over a link to a file: {answer}")
             self.clear()
             target.unlink()
 
@@ -151,29 +181,30 @@ class Play:
     def beside_it(self):
         """What lies where the new file is written."""
         for name, words in self.commands():
-            for text in (b"", b"T", b"TIGERCERT ", self.whole[name][:99]):
-                self.made.write_bytes(OLD)
+            old = KINDS[name].old
+            for text in (b"", *KINDS[name].beginnings, self.whole[name][:99]):
+                self.made.write_bytes(old)
                 self.beside.write_bytes(text)
                 answer = self.ask(words)
                 self.count(self.is_made(name, answer), f"{name} beside {text[:20]}: {answer}")
             for text in (b"U", b"another's file\n"):
-                self.made.write_bytes(OLD)
+                self.made.write_bytes(old)
                 self.beside.write_bytes(text)
                 answer = self.ask(words)
-                stays = (self.made.read_bytes(), self.beside.read_bytes()) == (OLD, text)
+                stays = (self.made.read_bytes(), self.beside.read_bytes()) == (old, text)
                 self.count(answer == DEVICE and stays, f"{name} beside {text}: {answer}")
             self.beside.write_bytes(self.whole[name][:99])
             with open(self.beside, "rb") as held:
                 fcntl.flock(held, fcntl.LOCK_EX)
                 answer = self.ask(words)
-                stays = (self.made.read_bytes(), self.beside.read_bytes()) == (OLD, self.whole[name][:99])
+                stays = (self.made.read_bytes(), self.beside.read_bytes()) == (old, self.whole[name][:99])
                 self.count(answer == DEVICE and stays, f"{name} beside another run: {answer}")
             self.clear()
             stranger = self.folder / "stranger"
-            stranger.write_bytes(OLD)
+            stranger.write_bytes(old)
             os.symlink("stranger", self.beside)
             answer = self.ask(words)
-            self.count(answer == DEVICE and stranger.read_bytes() == OLD and not self.made.exists(), f"{name} beside a link: {answer}")
+            self.count(answer == DEVICE and stranger.read_bytes() == old and not self.made.exists(), f"{name} beside a link: {answer}")
             self.clear()
 
     def full_disk(self):
@@ -183,7 +214,7 @@ class Play:
             resource.setrlimit(resource.RLIMIT_FSIZE, (100, 100))
 
         for name, words in self.commands():
-            for text in (OLD, None):
+            for text in (KINDS[name].old, None):
                 if text:
                     self.made.write_bytes(text)
                 answer = self.ask(words, preexec_fn=small)
@@ -197,13 +228,13 @@ class Play:
             library = library_of(folder, KILL)
             for name, words in self.commands():
                 for which in range(1, 100):
-                    self.made.write_bytes(OLD)
+                    self.made.write_bytes(KINDS[name].old)
                     answer = self.ask(words, env={**os.environ, "LD_PRELOAD": library, "KILLED_WRITE": str(which)})
                     if answer[0] != -signal.SIGKILL:
                         break
                     left = self.made.read_bytes()
                     # The line that tells of it is written when it has taken its name.
-                    self.count(left in (OLD, self.whole[name]), f"{name} killed at write {which}: {left[:40]}")
+                    self.count(left in (KINDS[name].old, self.whole[name]), f"{name} killed at write {which}: {left[:40]}")
                     again = self.ask(words)
                     self.count(self.is_made(name, again), f"{name} after it was killed at write {which}: {again}")
                 self.count(which > 1, f"{name} was never killed")

@@ -22,11 +22,9 @@ from small_maps import MADE, write_all
 EXAMPLES = TOP / "examples"
 # What stands under the name of what is made before each run.
 STANDS = b"TIGERCERT 2\na file that stands\n"
-# And of what isn't a certificate.
-OTHERS_STAND = {
-    "export": b'{"type":"FeatureCollection","name":"tigertopo"\n',
-    "draw": b'<svg xmlns="http://www.w3.org/2000/svg" class="tigertopo"\n',
-}
+# And of what isn't a certificate: of GeoJSON, and of a picture.
+COLLECTION_STANDS = b'{"type":"FeatureCollection","name":"tigertopo"\n'
+PICTURE_STANDS = b'<svg xmlns="http://www.w3.org/2000/svg" class="tigertopo"\n'
 # What is said of words that are no use of a command, where memory was refused for a text that says why.
 NO_USE = (64, b"", b"error: the words are no use of a command\n")
 # What is asked beside what is asked of the small maps.
@@ -52,6 +50,18 @@ RUNS = [
     ["audit", "--all", "--zero-cells", EXAMPLES / "faults" / "G6"],
     ["audit", "--all", EXAMPLES / "faults" / "G2"],
     ["audit", "--most", "5", "a"],
+    ["audit", "--where", EXAMPLES / "faults" / "M9"],
+    ["audit", "--where", "--zero-cells", EXAMPLES / "faults" / "G6"],
+    ["audit", "--where", EXAMPLES / "north.RT1"],
+    ["audit", "--all", "--where", EXAMPLES / "faults" / "M12"],
+    ["audit", "--all", "--most", "3", "--where", EXAMPLES / "faults" / "town"],
+    ["audit", "--all", "--where", EXAMPLES / "faults" / "town"],
+    ["audit", "--geojson", MADE, EXAMPLES / "county"],
+    ["audit", "--geojson", MADE, EXAMPLES / "faults" / "G2"],
+    ["audit", "--all", "--geojson", MADE, EXAMPLES / "faults" / "town"],
+    ["audit", "--all", "--where", "--geojson", MADE, EXAMPLES / "faults" / "M10"],
+    ["audit", "--all", "--geojson", MADE, EXAMPLES / "faults" / "L2"],
+    ["audit", "--geojson", "a", "--most", "5", "a"],
     ["build", "--out", MADE, EXAMPLES / "county"],
     ["build", "--out", MADE, EXAMPLES / "north.RT1"],
     ["build", "--out", MADE, EXAMPLES / "faults" / "G1"],
@@ -139,7 +149,9 @@ def answer_of(words, library, which, asked="REFUSED_ALLOCATION", folder=None):
 
 def standing(words):
     """What stands under the name of what these words make, before."""
-    return OTHERS_STAND.get(words[0], STANDS) if words else STANDS
+    if "--geojson" in words:
+        return COLLECTION_STANDS
+    return PICTURE_STANDS if words[:1] == ["draw"] else STANDS
 
 
 def answer_over_a_file(words, library, which, asked, folder):

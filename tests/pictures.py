@@ -1,11 +1,12 @@
 #!/usr/bin/env python3
-"""Exports the counties below as GeoJSON, and reads the files with GDAL's `ogrinfo` and `ogr2ogr`, as those do who use them.
+"""Exports the counties below and their faults as GeoJSON, and reads the files with GDAL's `ogrinfo` and `ogr2ogr`, as those do
+who use them.
 
 usage: pictures.py [PROGRAM]
 
 Needs Debian's `gdal-bin`. Of each export the printed line is compared, and what GDAL finds in the file: how many features of each
 kind of geometry; that each ring ends where it began; and that the areas of rings, reckoned from their positions, add up to the
-area that is written beside them.
+area that is written beside them. Of faults, how many there are, where each lies, and in which lines their records stand.
 """
 
 import json
@@ -28,6 +29,18 @@ EXPORTS = [
     (["island"], "exported chains=2 polygons=2 rings=4\n", {"LineString": 2, "Point": 2, "MultiLineString": 2}),
     (["square.RT1", "square.RT2", "square.RTI", "square.RTP"], "exported chains=1 polygons=1 rings=2\n", {"LineString": 1, "Point": 1, "MultiLineString": 1}),
     (["faults/town"], "exported chains=13 polygons=5\n", {"LineString": 13, "Point": 5}),
+]
+
+# Faults: the switches, the file, the status, how many features of each kind of geometry, and where the points are, in millionths of
+# a degree, by the records of the file.
+FAULTS = [
+    (["--all"], "faults/town", 1, {"Point": 12, "LineString": 9},
+     [(20, 50), (40, 50), (60, 50), (70, 50), (80, 50), (30, 60), (120, 10), (205, 20), (220, 20), (220, 20), (16, 16), (16, 16)]),
+    (["--all", "--most", "1"], "faults/G5", 1, {"Point": 2}, [(16, 16), (16, 16)]),
+    ([], "faults/G2", 1, {"Point": 1, "LineString": 2}, [(10, 10)]),
+    (["--all", "--where", "--zero-cells"], "faults/G6", 1, {"Point": 1, "LineString": 1}, [(10, 10)]),
+    (["--all"], "faults/M3", 1, {None: 2}, []),
+    (["--all"], "county", 0, {}, []),
 ]
 
 
@@ -58,19 +71,45 @@ def wrong_boundary(feature):
 
 def wrong_file(path, kinds):
     """What is wrong with a file of which GDAL is to find so many features of each kind."""
+    return read_by_gdal(path, kinds)[1]
+
+
+def read_by_gdal(path, kinds, precision=6):
+    """The features that GDAL finds, and what is wrong where it is to find so many of each kind."""
     told = run("ogrinfo", "-ro", "-al", "-so", path)
     if told.returncode or told.stderr or f"Feature Count: {sum(kinds.values())}\n" not in told.stdout:
-        return f"ogrinfo: {told.stdout}{told.stderr}"
-    read = run("ogr2ogr", "-f", "GeoJSONSeq", "-lco", "COORDINATE_PRECISION=6", "/vsistdout/", path)
+        return [], f"ogrinfo: {told.stdout}{told.stderr}"
+    read = run("ogr2ogr", "-f", "GeoJSONSeq", "-lco", f"COORDINATE_PRECISION={precision}", "/vsistdout/", path)
     if read.returncode or read.stderr:
-        return f"ogr2ogr: {read.stderr}"
+        return [], f"ogr2ogr: {read.stderr}"
     features = [json.loads(line) for line in read.stdout.splitlines()]
-    found = Counter(feature["geometry"]["type"] for feature in features)
+    found = Counter(feature["geometry"] and feature["geometry"]["type"] for feature in features)
     if found != kinds:
-        return f"features: {dict(found)}"
+        return features, f"features: {dict(found)}"
     for feature in features:
-        if feature["geometry"]["type"] == "MultiLineString" and wrong_boundary(feature):
-            return f"{feature['properties']}: {wrong_boundary(feature)}"
+        if feature["geometry"] and feature["geometry"]["type"] == "MultiLineString" and wrong_boundary(feature):
+            return features, f"{feature['properties']}: {wrong_boundary(feature)}"
+    return features, None
+
+
+def wrong_faults(program, folder, switches, file, status, kinds, points):
+    """What is wrong with the file of these faults, as GDAL reads it."""
+    made, read = Path(folder) / "faults.geojson", TOP / "examples" / file
+    done = run(program, "audit", *switches, "--geojson", made, read)
+    if (done.returncode, done.stderr) != (status, ""):
+        return f"status {done.returncode}: {done.stdout}{done.stderr}"
+    features, wrong = read_by_gdal(made, kinds, 12)
+    if wrong:
+        return wrong
+    faults = [it for it in features if it["properties"].get("code")]
+    lie = [it["geometry"]["coordinates"] for it in faults if it["geometry"]]
+    if [tuple(round(Fraction(str(part)) * 1_000_000) for part in it) for it in lie] != points:
+        return f"points: {lie}"
+    # A record of each fault stands in a line of the file that has its type.
+    lines = read.read_text().splitlines()
+    records = [it for fault in faults for it in fault["properties"]["records"]]
+    if any(it["file"] != str(read) or lines[it["line"] - 1][:1] != it["type"] for it in records) or bool(records) != bool(faults):
+        return f"records: {records}"
     return None
 
 
@@ -99,6 +138,9 @@ def play_all(program=PROGRAM):
     for files, line, kinds in EXPORTS:
         with tempfile.TemporaryDirectory() as folder:
             wrong.append((" ".join(files), wrong_export(program, folder, files, line, kinds)))
+    for switches, file, *wanted in FAULTS:
+        with tempfile.TemporaryDirectory() as folder:
+            wrong.append((f"{' '.join(switches)} {file}", wrong_faults(program, folder, switches, file, *wanted)))
     with tempfile.TemporaryDirectory() as folder:
         wrong.append(("a stranger's file", wrong_refusal(program, folder)))
     for title, what in wrong:

@@ -18,7 +18,8 @@ A row begins with a line `== TITLE`. Then come its files:
 and then `run WORD ..`, words as a shell splits them, where `\\xNN` is a byte, run in a folder that holds the files alone;
 `status N`; and `out` and `err`, whose texts follow indented, and are empty where they are left out; `or` begins another
 output that is as good. What is said behind a refused line and behind `stopped Device` no row has: tests/hints.py tells it. Several `run` lines in one row share its files and its answer. Each stream is compared byte for
-byte. A run has to leave the files as they are and to make no other, but for those of a line `makes NAME ..`. A line
+byte. A run has to leave the files as they are and to make no other, but for those of a line `makes NAME ..`, and of a line
+`holds NAME`, behind which the lines that the file has to hold follow indented. A line
 `then WORD ..` has words that are run behind each run, in the same folder; what follows it is their answer.
 
 A line `decided WORD ..` has what stands behind `audit`, whose answer is the row's. The same is asked of `build`, which says
@@ -67,6 +68,7 @@ class Row:
         self.decided = []
         self.grids = []
         self.makes = set()
+        self.holds = {}
         self.then = None
 
     @property
@@ -197,8 +199,9 @@ def words_of(line):
 def end_texts(row):
     """An empty line before the next row belongs to no text."""
     while row:
-        for name, text in row.texts.items():
-            row.texts[name] = text.rstrip(b"\n") + b"\n" if text else b""
+        for texts in (row.texts, row.holds):
+            for name, text in texts.items():
+                texts[name] = text.rstrip(b"\n") + b"\n" if text else b""
         row.others = [text.rstrip(b"\n") + b"\n" for text in row.others]
         row = row.then
 
@@ -251,6 +254,10 @@ def rows_of(path):
                 row.grids = rest.split()
             elif word == "makes":
                 answer.makes = set(rest.split())
+            elif word == "holds":
+                answer.makes = answer.makes | {rest}
+                answer.holds[rest] = b""
+                into = (answer.holds, rest, plain)
             elif word == "then":
                 answer.then = Row(row.title)
                 answer = answer.then
@@ -300,6 +307,10 @@ def play_in(folder, program, row, words):
         return f"{row.title}: {shlex.join(words)}\n  wanted {row.wanted}\n  found  {found}"
     if files_of(folder, row.makes) != before or not all(Path(folder, name).is_file() for name in row.makes):
         return f"{row.title}: {shlex.join(words)}\n  another file was made or changed, or none"
+    for name, wanted in row.holds.items():
+        held = Path(folder, name).read_bytes()
+        if held != wanted:
+            return f"{row.title}: {shlex.join(words)}\n  {name} has to hold {wanted}\n  and holds {held}"
     return None
 
 

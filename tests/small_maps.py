@@ -30,6 +30,8 @@ def write_all(folder):
             ["locate", "@16,17", *records],
             ["audit", *records],
             ["audit", "--all", *records],
+            ["audit", "--all", "--where", *records],
+            ["audit", "--geojson", MADE, *records],
             ["build", "--out", MADE, *records],
             ["export", "--geojson", MADE, *records],
             ["draw", "--out", MADE, "--faults", *records],

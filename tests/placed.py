@@ -1,0 +1,216 @@
+"""Where the records stand that a fault speaks of, and where it lies: what `audit --where` prints behind a fault's line, and
+what `audit --geojson` makes of all of them.
+
+Written from docs/faults.md ("Where a fault lies") and the columns of docs/records.md alone. A fault is taken as its own line
+tells it; whether that is true, and which lines come in which order, tests/judge.py says. The lines of files are gone through
+once more here, each file by itself; none of them is refused.
+"""
+
+import json
+from dataclasses import dataclass
+from fractions import Fraction
+from functools import cached_property
+
+from layout import COLUMNS
+
+OPENING = '{"type":"FeatureCollection","name":"tigertopo","features":['
+# Of each fault that names chains the types of the records of these that it speaks of.
+OF_CHAIN = {
+    **{"M1": "1", "M2": "2", "M3": "2", "M4": "2", "M5": "1", "M6": "I", "M7": "I", "M9": "I", "M12": "12"},
+    **{"G1": "12", "G2": "I", "G3": "12", "G6": "I"},
+}
+# The faults that speak of the type P records of the polygons that they name.
+OF_POLYGON = ("M8", "G3", "G4", "G5")
+
+
+@dataclass(frozen=True)
+class Line:
+    """A record's line: its file and its number there, its type, and what it is of: a TLID, the bytes of a CENID with a
+    POLYID, a LAND; and of a type P record its point."""
+
+    file: str
+    number: int
+    kind: str
+    tlid: int | None = None
+    polygon: tuple | None = None
+    land: int | None = None
+    point: tuple | None = None
+
+    @property
+    def key(self):
+        """The polygon as it is printed."""
+        return self.polygon and f"{self.polygon[0].decode('latin-1').replace(' ', '_')}/{self.polygon[1]}"
+
+    @property
+    def told(self):
+        """The line's place, its type and what it is of."""
+        numbers = (("tlid", self.tlid), ("polygon", self.key), ("land", self.land))
+        of = " ".join(f"{word} {number}" for word, number in numbers if number is not None)
+        return f"  {self.file} line {self.number}, type {self.kind}, {of}"
+
+
+def line_of(file, number, raw, released):
+    """A line of a file, or None where it holds no record."""
+    kind = raw[:1].decode("latin-1")
+    columns = COLUMNS["released" if kind == "I" and released else kind] if kind in ("1", "2", "I", "P", "7", "8") else None
+    if columns is None:
+        return None
+
+    def field(name):
+        first, last = columns[name]
+        return raw[first - 1 : last].ljust(last - first + 1)
+
+    tlid = int(field("TLID")) if kind in ("1", "2", "I") else None
+    polygon = (field("CENID"), int(field("POLYID"))) if kind in ("P", "8") else None
+    land = int(field("LAND")) if kind in ("7", "8") else None
+    point = (int(field("POLYLONG")), int(field("POLYLAT"))) if kind == "P" else None
+    return Line(file, number, kind, tlid, polygon, land, point)
+
+
+def lines_of(names, texts, released=False):
+    """The lines of all records, in the order of the files."""
+    found = []
+    for name, text in zip(names, texts):
+        raw = text.split(b"\n")
+        raw = raw[:-1] if not raw[-1] else raw
+        found += [line_of(name, number, it.removesuffix(b"\r"), released) for number, it in enumerate(raw, 1)]
+    return [it for it in found if it is not None]
+
+
+def degrees(value, places):
+    """A coordinate in millionths of a degree in degrees with so many places, rounded to the nearest, half away from zero."""
+    units = (2 * abs(Fraction(value)) * 10 ** (places - 6) + 1) // 2
+    whole, part = divmod(units, 10**places)
+    return "-" * (value < 0 < units) + f"{whole}.{part:0{places}d}"
+
+
+class Fault:
+    """A fault as its line tells it: its code and its name, the TLIDs, polygons and LANDs that it names, each once, and where
+    it lies: a longitude and a latitude in millionths of a degree over a number, or None."""
+
+    def __init__(self, told, lines, the_map):
+        self.told = told.removeprefix("map fault ")
+        self.code, self.name, *words = self.told.split(" ")
+        self.tlids, self.keys, self.lands, self.at = [], [], [], None
+        self.lines, darts = lines, []
+        while words:
+            word = words.pop(0)
+            if word == "tlid":
+                self.tlids.append(int(words.pop(0)))
+            elif word in ("polygon", "other"):
+                self.keys.append(words.pop(0))
+            elif word == "land":
+                self.lands.append(int(words.pop(0)))
+            elif word == "darts":
+                darts = [int(words.pop(0)), int(words.pop(0))]
+            elif word == "at":
+                self.at = (int(words.pop(0)), int(words.pop(0)), int(words.pop(0)) if self.code == "G1" else 1)
+        self.tlids += [the_map.chains[dart // 2].tlid for dart in darts]
+        self.tlids = list(dict.fromkeys(self.tlids))
+        if self.code == "G6":
+            self.at = (*the_map.start(darts[0]), 1)
+        if self.code in ("G3", "G4", "G5"):
+            self.at = (*next(it.point for it in self.records), 1)
+
+    @cached_property
+    def records(self):
+        """The lines of the records that it speaks of."""
+        keys = self.keys if self.code in OF_POLYGON else []
+        found = [it for key in keys for it in self.lines if it.kind == "P" and it.key == key]
+        kinds = OF_CHAIN.get(self.code, "")
+        found += [it for tlid in self.tlids for it in self.lines if it.kind in kinds and it.tlid == tlid]
+        links = [it for it in self.lines if it.kind == "8" and it.land in self.lands]
+        if self.code == "M10":
+            found += links
+        if self.code == "M11":
+            found += [it for it in links if it.key in self.keys]
+        return found
+
+    def place(self, places):
+        """Its longitude and its latitude in degrees with so many places."""
+        x, y, scale = self.at
+        return [degrees(Fraction(it, scale), places) for it in (x, y)]
+
+    @property
+    def record_lines(self):
+        """The lines that stand behind its own."""
+        at = ", at " + " ".join(self.place(10)) if self.at else ""
+        return [it.told + at for it in self.records]
+
+    @property
+    def feature(self):
+        """What is made of it, where numbers with places are fractions."""
+        point = {"type": "Point", "coordinates": list(map(Fraction, self.place(12)))} if self.at else None
+        told = {
+            "code": self.code,
+            "name": self.name,
+            "fault": self.told,
+            "at": " ".join(map(str, self.at)) if self.at else None,
+            "tlids": self.tlids,
+            "polygons": self.keys,
+            "landmarks": self.lands,
+            "records": [{"file": it.file, "line": it.number, "type": it.kind} for it in self.records],
+        }
+        return {"type": "Feature", "geometry": point, "properties": told}
+
+
+class Faults:
+    """The faults of a county that its lines tell, with the lines of its files, and its map where there is one."""
+
+    def __init__(self, names, texts, released, the_map):
+        self.lines, self.the_map = lines_of(names, texts, released), the_map
+
+    @property
+    def are_clear(self):
+        """No two polygons are printed alike, as a blank and an underscore are: else a fault's line doesn't tell which is
+        meant."""
+        return len({it.polygon for it in self.lines}) == len({it.key for it in self.lines})
+
+    def placed(self, told):
+        """Lines that are printed, and behind each fault's those of the records that it speaks of."""
+        for line in told:
+            yield line
+            if line.startswith("map fault "):
+                yield from Fault(line, self.lines, self.the_map).record_lines
+
+    def features(self, told):
+        """The features of the faults that these lines tell, and behind them the chains that they name, by rising TLID."""
+        faults = [Fault(it, self.lines, self.the_map) for it in told]
+        named = {tlid for it in faults for tlid in it.tlids}
+        chains = [it for it in (self.the_map.chains if self.the_map else []) if it.tlid in named]
+        return [it.feature for it in faults] + list(map(chain_feature, chains))
+
+
+def chain_feature(chain):
+    """The line of a chain."""
+    points = [[Fraction(x, 10**6), Fraction(y, 10**6)] for x, y in chain.points]
+    sides = {name: None if side is None else str(side) for name, side in (("left", chain.left), ("right", chain.right))}
+    line = {"type": "LineString", "coordinates": points}
+    return {"type": "Feature", "geometry": line, "properties": {"tlid": chain.tlid, **sides}}
+
+
+def features_in(text):
+    """The features of a collection, each of which stands on a line of its own. A ValueError says that it isn't laid out so."""
+    first, *lines = text.split("\n")
+    if first != OPENING or lines[-2:] != ["]}", ""]:
+        raise ValueError(f"it begins with {first[:80]} and ends with {lines[-2:]}")
+    each = lines[:-2]
+    whole = json.loads(text, parse_float=Fraction)
+    if set(whole) != {"type", "name", "features"}:
+        raise ValueError(f"it has {list(whole)}")
+    alone = [json.loads(it.removesuffix(","), parse_float=Fraction) for it in each]
+    if alone != whole["features"] or any(not it.endswith("},") for it in each[:-1]):
+        raise ValueError("a feature doesn't stand on a line of its own")
+    return alone
+
+
+def wrong_collection(made, wanted):
+    """What is wrong with the bytes of a collection that has to have these features, or None."""
+    try:
+        found = features_in(made.decode())
+    except ValueError as error:
+        return f"no such collection: {error}"
+    for place, (one, other) in enumerate(zip(found, wanted)):
+        if one != other:
+            return f"feature {place} is {one}\n  and not {other}"
+    return None if len(found) == len(wanted) else f"{len(found)} features, and not {len(wanted)}"
