@@ -3,7 +3,7 @@
 use crate::keys::fixed_keys;
 use crate::maps::SQUARE;
 use std::alloc::{AllocError, Global};
-use tl_command::start::start;
+use tl_program::start::start;
 use tl_memory_files::FilesInMemory;
 use tl_record::MeterOut;
 

@@ -3,7 +3,7 @@
 
 use std::io::IsTerminal;
 use std::process::ExitCode;
-use tl_command::program::answer;
+use tl_program::program::answer;
 use tl_record::MeterOut;
 
 fn main(rt: HostRuntime) -> ExitCode {

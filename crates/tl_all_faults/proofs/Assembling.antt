@@ -25,7 +25,7 @@ use Rattle.tl_listing.specs.Listings.{IsListingOf}
 use Rattle.tl_all_faults.specs.Keeping.Reading.{Keeps, AreWhole, KeepsAll}
 use Rattle.tl_all_faults.specs.Keeping.OfMap.{IsListingOfMap}
 use Rattle.tl_all_faults.specs.declared.of_records.Findings.{Findings}
-use Rattle.tl_all_faults.specs.Findings.{IsMapIfAny, AreFindingsOf}
+use Rattle.tl_all_faults.specs.Findings.{AreFindingsOf}
 use Rattle.tl_all_faults.specs.Keeping.OfRecords.{IsListingOfRecords, AreFindingsOfRecords, IsListOf, AreTold, ListsRefusals}
 use Rattle.tl_drawn.specs.Faults.{IsTrueOf}
 use Rattle.tl_all_faults.proofs.Emptiness.{map_empty, none_held}

@@ -59,5 +59,4 @@ asks_nothing (plan.Locate point options files) known wrote no_show no_landmarks 
 asks_nothing (plan.Convert cert made) known wrote no_show no_landmarks no_locate = tt
 asks_nothing (plan.Check cert budget options files) known wrote no_show no_landmarks no_locate = tt
 asks_nothing (plan.Audit options files) known wrote no_show no_landmarks no_locate = tt
-asks_nothing (plan.AuditAll most options files) known wrote no_show no_landmarks no_locate = tt
 asks_nothing (plan.Build made options files) known wrote no_show no_landmarks no_locate = tt

@@ -6,6 +6,5 @@ pub mod CheckLemmas
 pub mod DecidingLemmas
 pub mod AnswerLemmas
 pub mod ConvertLemmas
-pub mod ListingLemmas
 pub mod UsageLemmas
 pub mod RunLemmas

@@ -3,7 +3,7 @@ use Rattle.std.proofs.Common.{◌≡◌, ◌≢◌, ◌⊎◌, inl, inr, ℕ, Li
 use Rattle.std.specs.Bool.{⊤}
 use Rattle.tl_record.specs.declared.options.Options.{Options}
 use Rattle.tl_plan.specs.declared.plan.Plan.{Plan}
-use Rattle.tl_plan.specs.declared.plan.Plan.TheVariants.{Show, Landmarks, Locate, Convert, Check, Audit, AuditAll, Build}
+use Rattle.tl_plan.specs.declared.plan.Plan.TheVariants.{Show, Landmarks, Locate, Convert, Check, Audit, Build}
 use Rattle.tl_record.specs.Layout.{layout_with}
 use Rattle.tl_answers.specs.Deciding.{IsExact}
 use Rattle.tl_answers.specs.Runs.{Runs}
@@ -94,22 +94,19 @@ IsOfRecords (Locate point options files) = ⊤
 IsOfRecords (Convert cert made) = ⊥
 IsOfRecords (Check cert budget options files) = ⊥
 IsOfRecords (Audit options files) = ⊥
-IsOfRecords (AuditAll most options files) = ⊥
 IsOfRecords (Build made options files) = ⊥
 
 pub of_records : (plan : Plan) → ((cert made : String Global) → plan ≡ Convert cert made → ⊥)
     → ((cert : String Global) (budget : ℕ) (options : Options) (files : Vec (String Global) Global) → plan ≡ Check cert budget options files → ⊥)
     → ((options : Options) (files : Vec (String Global) Global) → plan ≡ Audit options files → ⊥)
-    → ((most : Option ℕ) (options : Options) (files : Vec (String Global) Global) → plan ≡ AuditAll most options files → ⊥)
     → ((made : String Global) (options : Options) (files : Vec (String Global) Global) → plan ≡ Build made options files → ⊥) → IsOfRecords plan
-of_records (Show options files) no_convert no_check no_audit no_all no_build = tt
-of_records (Landmarks options files) no_convert no_check no_audit no_all no_build = tt
-of_records (Locate point options files) no_convert no_check no_audit no_all no_build = tt
-of_records (Convert cert made) no_convert no_check no_audit no_all no_build = absurd (no_convert cert made refl)
-of_records (Check cert budget options files) no_convert no_check no_audit no_all no_build = absurd (no_check cert budget options files refl)
-of_records (Audit options files) no_convert no_check no_audit no_all no_build = absurd (no_audit options files refl)
-of_records (AuditAll most options files) no_convert no_check no_audit no_all no_build = absurd (no_all most options files refl)
-of_records (Build made options files) no_convert no_check no_audit no_all no_build = absurd (no_build made options files refl)
+of_records (Show options files) no_convert no_check no_audit no_build = tt
+of_records (Landmarks options files) no_convert no_check no_audit no_build = tt
+of_records (Locate point options files) no_convert no_check no_audit no_build = tt
+of_records (Convert cert made) no_convert no_check no_audit no_build = absurd (no_convert cert made refl)
+of_records (Check cert budget options files) no_convert no_check no_audit no_build = absurd (no_check cert budget options files refl)
+of_records (Audit options files) no_convert no_check no_audit no_build = absurd (no_audit options files refl)
+of_records (Build made options files) no_convert no_check no_audit no_build = absurd (no_build made options files refl)
 
 pub answers_records : (plan : Plan) (known spelt : Option (List ℕ)) (making wrote : List ℕ → Type 0) → IsOfRecords plan → AnswersRecords plan known wrote → IsAnswered plan known spelt making wrote
 answers_records (Show options files) known spelt making wrote of is = is
@@ -118,7 +115,6 @@ answers_records (Locate point options files) known spelt making wrote of is = is
 answers_records (Convert cert made) known spelt making wrote of is = absurd of
 answers_records (Check cert budget options files) known spelt making wrote of is = absurd of
 answers_records (Audit options files) known spelt making wrote of is = absurd of
-answers_records (AuditAll most options files) known spelt making wrote of is = absurd of
 answers_records (Build made options files) known spelt making wrote of is = absurd of
 
 pub faults_records : (plan : Plan) (known spelt : Option (List ℕ)) (unread : Type 0) (wrote : List ℕ → Type 0) → IsOfRecords plan → NamesRecordFault (layout_of plan) known (LooksFor plan) wrote → FaultsMap plan known spelt unread wrote
@@ -128,19 +124,11 @@ faults_records (Locate point options files) known spelt unread wrote of is = is
 faults_records (Convert cert made) known spelt unread wrote of is = absurd of
 faults_records (Check cert budget options files) known spelt unread wrote of is = absurd of
 faults_records (Audit options files) known spelt unread wrote of is = absurd of
-faults_records (AuditAll most options files) known spelt unread wrote of is = absurd of
 faults_records (Build made options files) known spelt unread wrote of is = absurd of
 
-pub refuses_records : (plan : Plan) (known : Option (List ℕ)) (wrote told : List ℕ → Type 0) (out_same err_same : Type 0) → IsOfRecords plan → NamesRefusal (layout_of plan) known told → out_same
-    → TellsRefused plan known wrote told out_same err_same
-refuses_records (Show options files) known wrote told out_same err_same of is stays = (is, stays)
-refuses_records (Landmarks options files) known wrote told out_same err_same of is stays = (is, stays)
-refuses_records (Locate point options files) known wrote told out_same err_same of is stays = (is, stays)
-refuses_records (Convert cert made) known wrote told out_same err_same of is stays = absurd of
-refuses_records (Check cert budget options files) known wrote told out_same err_same of is stays = absurd of
-refuses_records (Audit options files) known wrote told out_same err_same of is stays = absurd of
-refuses_records (AuditAll most options files) known wrote told out_same err_same of is stays = absurd of
-refuses_records (Build made options files) known wrote told out_same err_same of is stays = absurd of
+pub refuses_records : (plan : Plan) (known : Option (List ℕ)) (told : List ℕ → Type 0) (out_same : Type 0) → NamesRefusal (layout_of plan) known told → out_same
+    → TellsRefused plan known told out_same
+refuses_records plan known told out_same is stays = (is, stays)
 
 pub exact_records : (plan : Plan) (known : Option (List ℕ)) (status : ℕ) → IsOfRecords plan → IsExact plan known status
 exact_records (Show options files) known status of = tt
@@ -149,7 +137,6 @@ exact_records (Locate point options files) known status of = tt
 exact_records (Convert cert made) known status of = absurd of
 exact_records (Check cert budget options files) known status of = absurd of
 exact_records (Audit options files) known status of = absurd of
-exact_records (AuditAll most options files) known status of = absurd of
 exact_records (Build made options files) known status of = absurd of
 
 pub reads_records : (plan : Plan) → IsOfRecords plan → ReadsNoRecords plan → ⊥
@@ -159,7 +146,6 @@ reads_records (Locate point options files) of none = none
 reads_records (Convert cert made) of none = of
 reads_records (Check cert budget options files) of none = of
 reads_records (Audit options files) of none = of
-reads_records (AuditAll most options files) of none = of
 reads_records (Build made options files) of none = of
 
 -- ---- a run
@@ -242,7 +228,7 @@ module _ {known spelt : Option (List ℕ)} {made begun wrote told part : List �
     cert_fault = cert_fault;
     refused = λ e. (refused e, out_stays e);
     stopped = λ e. elim (stopped e) [
-      | inl named ↦ inl (stop_as told _ _ _ _ out_same _ _ (λ failed. inl failed) (λ calm. (calm, made_calm)) (λ broken. elim broken [ inl so ↦ inl so | inr more ↦ inr (elim more [ inl so ↦ inl so | inr so ↦ inr (inl so) ]) ]) named)
+      | inl named ↦ inl (stop_as told _ _ _ _ out_same _ _ (λ failed. inl failed) (λ calm. (calm, made_calm)) (λ broken. broken) named)
       | inr spent ↦ inr (spent.0, (spent.1, made_calm), spent.2)
     ];
     err_stays = err_stays;
@@ -270,7 +256,7 @@ module _ {known spelt : Option (List ℕ)} {made begun wrote told part : List �
     cert_fault = fault;
     refused = λ e. absurd (no_refusal status is e);
     stopped = λ e. inl (stop_as told _ _ _ _ out_same _ _ (λ failed. elim failed [ inl r ↦ inl (inr r) | inr w ↦ inr w ]) (λ calm. ((read_calm, calm.0), calm.1))
-        (λ broken. elim broken [ inl so ↦ inl so | inr so ↦ inr (inr (inl so)) ]) (stopped e));
+        (λ broken. elim broken [ inl so ↦ inl so | inr so ↦ inr (inr so) ]) (stopped e));
     err_stays = rewrite_stays status err_same is err_stays;
     read_whole = λ going. read_calm;
     cert_whole = cert_whole;
@@ -294,7 +280,7 @@ module _ {known spelt : Option (List ℕ)} {made begun wrote told part : List �
     fault = λ e. faults_records plan known spelt cert_same wrote of (fault e);
     exactly = λ told. exact_records plan known status of;
     cert_fault = λ e. absurd (no_cert_fault status is e);
-    refused = λ e. refuses_records plan known wrote told out_same err_same of (refused e) (out_stays e);
+    refused = λ e. refuses_records plan known told out_same (refused e) (out_stays e);
     stopped = λ e. inl (stop_as told _ _ _ _ out_same _ _ (λ failed. inl (inl failed)) (λ calm. ((calm, cert_calm), made_calm))
         (λ broken. elim broken [ inl so ↦ inl (answers_records plan known spelt made part of so) | inr so ↦ inr (inl (faults_records plan known spelt cert_same part of so)) ]) (stopped e));
     err_stays = records_stay status err_same is err_stays;

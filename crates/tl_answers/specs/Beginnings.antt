@@ -7,7 +7,7 @@ use Rattle.tl_cert.specs.Beginnings.{IsTextOf}
 use Rattle.tl_record.specs.declared.layout.Layout.{Layout}
 use Rattle.tl_record.specs.Layout.{layout_with}
 use Rattle.tl_plan.specs.declared.plan.Plan.{Plan}
-use Rattle.tl_plan.specs.declared.plan.Plan.TheVariants.{Show, Landmarks, Locate, Convert, Check, Audit, AuditAll, Build}
+use Rattle.tl_plan.specs.declared.plan.Plan.TheVariants.{Show, Landmarks, Locate, Convert, Check, Audit, Build}
 use Rattle.tl_record.specs.Records.{records_of}
 use Rattle.tl_county.specs.TheMap.{TheMap}
 use Rattle.tl_drawn.specs.Reading.{IsReadFrom}
@@ -42,5 +42,4 @@ IsBegunBy (Locate point options files) known spelt begun = ⊥
 IsBegunBy (Convert cert made) known spelt begun = BeginsRewritten spelt begun
 IsBegunBy (Check cert budget options files) known spelt begun = ⊥
 IsBegunBy (Audit options files) known spelt begun = ⊥
-IsBegunBy (AuditAll most options files) known spelt begun = ⊥
 IsBegunBy (Build made options files) known spelt begun = OfMap (layout_with options) known (λ m. IsBegunOf m begun)

@@ -4,7 +4,7 @@ use Rattle.tl_record.specs.declared.layout.Layout.{Layout}
 use Rattle.tl_record.specs.Layout.{layout_with}
 use Rattle.tl_record.specs.Records.{records_of}
 use Rattle.tl_plan.specs.declared.plan.Plan.{Plan}
-use Rattle.tl_plan.specs.declared.plan.Plan.TheVariants.{Show, Landmarks, Locate, Convert, Check, Audit, AuditAll, Build}
+use Rattle.tl_plan.specs.declared.plan.Plan.TheVariants.{Show, Landmarks, Locate, Convert, Check, Audit, Build}
 use Rattle.tl_verdict.specs.Sound.{IsSound}
 use Rattle.tl_verdict.specs.Texts.{IsValidText}
 use Rattle.tl_verdict.specs.Records.{HaveMap}
@@ -22,7 +22,6 @@ IsExact (Locate point options files) known status = ⊤
 IsExact (Convert cert made) known status = ⊤
 IsExact (Check cert budget options files) known status = IsDoneWhereSound (layout_with options) known status
 IsExact (Audit options files) known status = IsDoneWhereSound (layout_with options) known status
-IsExact (AuditAll most options files) known status = IsDoneWhereSound (layout_with options) known status
 IsExact (Build made options files) known status = IsDoneWhereSound (layout_with options) known status
 
 -- the records of a text have a map that is sound, and the other text is that of a certificate that is valid for it

@@ -2,7 +2,6 @@
 pub mod Certificates
 pub mod Verdicts
 pub mod Places
-pub mod Listings
 pub mod Running
 pub mod Deciding
 pub mod Lines

@@ -25,7 +25,7 @@ use Rattle.tl_verdict.specs.declared.stop.Stop.TheVariants.{Record, Memory, Devi
 use Rattle.tl_verdict.specs.Stops.{stop_text}
 use Rattle.tl_answers.specs.declared.stop.TheConstants.{DONE, MAP_FAULT, CERT_FAULT, REFUSED, STOPPED}
 use Rattle.tl_plan.specs.declared.plan.Plan.{Plan}
-use Rattle.tl_plan.specs.declared.plan.Plan.TheVariants.{Show, Landmarks, Locate, Convert, Check, Audit, AuditAll, Build}
+use Rattle.tl_plan.specs.declared.plan.Plan.TheVariants.{Show, Landmarks, Locate, Convert, Check, Audit, Build}
 use Rattle.tl_cert.specs.Certificates.{TheCertificate, IsCertificate}
 use Rattle.tl_cert.specs.Text.{certificate_text}
 use Rattle.tl_cert.specs.Beginnings.{IsTextOf, IsRefused}
@@ -48,7 +48,6 @@ use Rattle.tl_verdict.specs.Messages.{map_fault_text, cert_fault_text}
 use Rattle.tl_answers.specs.Certificates.{converted_text}
 use Rattle.tl_answers.specs.Verdicts.{sound_text, built_text}
 use Rattle.tl_answers.specs.Places.{place_text}
-use Rattle.tl_answers.specs.Listings.{TellsFaults, TellsRefusals}
 
 -- no line of the text is refused, and the fault is true of its records
 abbrev pub HasFault : Layout → List ℕ → RecordFault → Type 0
@@ -159,7 +158,6 @@ layout_of (Locate point options files) = layout_with options
 layout_of (Convert cert made) = tiger_2006
 layout_of (Check cert budget options files) = layout_with options
 layout_of (Audit options files) = layout_with options
-layout_of (AuditAll most options files) = layout_with options
 layout_of (Build made options files) = layout_with options
 
 -- the plan's command leaves the certificate alone that is read
@@ -170,7 +168,6 @@ ReadsNoCertificate (Locate point options files) = ⊤
 ReadsNoCertificate (Convert cert made) = ⊥
 ReadsNoCertificate (Check cert budget options files) = ⊥
 ReadsNoCertificate (Audit options files) = ⊤
-ReadsNoCertificate (AuditAll most options files) = ⊤
 ReadsNoCertificate (Build made options files) = ⊤
 
 -- the plan's command leaves the certificate alone that is made
@@ -181,7 +178,6 @@ MakesNoCertificate (Locate point options files) = ⊤
 MakesNoCertificate (Convert cert made) = ⊥
 MakesNoCertificate (Check cert budget options files) = ⊤
 MakesNoCertificate (Audit options files) = ⊤
-MakesNoCertificate (AuditAll most options files) = ⊤
 MakesNoCertificate (Build made options files) = ⊥
 
 -- the plan's command leaves records alone
@@ -192,7 +188,6 @@ ReadsNoRecords (Locate point options files) = ⊥
 ReadsNoRecords (Convert cert made) = ⊤
 ReadsNoRecords (Check cert budget options files) = ⊥
 ReadsNoRecords (Audit options files) = ⊥
-ReadsNoRecords (AuditAll most options files) = ⊥
 ReadsNoRecords (Build made options files) = ⊥
 
 -- the answer of a plan whose command asks nothing of records but what they say was written
@@ -203,7 +198,6 @@ AnswersRecords (Locate point options files) records wrote = IsLocated (layout_wi
 AnswersRecords (Convert cert made) records wrote = ⊤
 AnswersRecords (Check cert budget options files) records wrote = ⊤
 AnswersRecords (Audit options files) records wrote = ⊤
-AnswersRecords (AuditAll most options files) records wrote = ⊤
 AnswersRecords (Build made options files) records wrote = ⊤
 
 -- what the plan asks for was written: `records` and `spelt` are the texts of the records and of the certificate, where they
@@ -215,7 +209,6 @@ IsAnswered (Locate point options files) records spelt made wrote = IsLocated (la
 IsAnswered (Convert from to) records spelt made wrote = IsConverted spelt made wrote
 IsAnswered (Check cert budget options files) records spelt made wrote = IsChecked (layout_with options) budget records spelt wrote
 IsAnswered (Audit options files) records spelt made wrote = IsAudited (layout_with options) records wrote
-IsAnswered (AuditAll most options files) records spelt made wrote = IsAudited (layout_with options) records wrote
 IsAnswered (Build to options files) records spelt made wrote = IsBuilt (layout_with options) records made wrote
 
 -- the faults of the records that the plan's command looks for: `show` those of the chains
@@ -226,7 +219,6 @@ LooksFor (Locate point options files) = λ fault. ⊤
 LooksFor (Convert cert made) = λ fault. ⊤
 LooksFor (Check cert budget options files) = λ fault. ⊤
 LooksFor (Audit options files) = λ fault. ⊤
-LooksFor (AuditAll most options files) = λ fault. ⊤
 LooksFor (Build made options files) = λ fault. ⊤
 
 -- the line of such a fault of the records was written, and it is true
@@ -256,7 +248,7 @@ pub record NamesMapFault (m : TheMap) (wrote : List ℕ → Type 0) : Type 0 whe
   pub written : wrote (line_of (map_fault_text fault))
   pub holds : IsTrueOfMap m fault
 
--- a fault was named that the plan's command looks for, or all of them were told
+-- a fault was named that the plan's command looks for
 abbrev pub FaultsMap : Plan → (known spelt : Option (List ℕ)) → Type 0 → (List ℕ → Type 0) → Type 0
 FaultsMap (Show options files) known spelt unread wrote = NamesRecordFault (layout_with options) known IsFaultOfChains wrote
 FaultsMap (Landmarks options files) known spelt unread wrote = NamesRecordFault (layout_with options) known (λ fault. ⊤) wrote
@@ -265,7 +257,6 @@ FaultsMap (Convert cert made) known spelt unread wrote = ⊥
 FaultsMap (Check cert budget options files) known spelt unread wrote =
     NamesFault (layout_with options) known unread (MayBeSearched (layout_with options) known spelt) wrote
 FaultsMap (Audit options files) known spelt unread wrote = NamesFault (layout_with options) known ⊤ ⊤ wrote
-FaultsMap (AuditAll most options files) known spelt unread wrote = TellsFaults most (layout_with options) known wrote
 FaultsMap (Build made options files) known spelt unread wrote = NamesFault (layout_with options) known ⊤ ⊤ wrote
 
 -- the line of the first refusal was written
@@ -275,18 +266,9 @@ pub record NamesRefusal (layout : Layout) (known : Option (List ℕ)) (wrote : L
   pub written : wrote (line_of (refusal_text line cause))
   pub first : IfSome known (λ text. IsFirstRefusal layout text line cause)
 
--- the plan's command tells all lines that are refused on the output, and they were written
-abbrev pub ListsRefusals : Plan → (known : Option (List ℕ)) → (List ℕ → Type 0) → Type 0
-ListsRefusals (AuditAll most options files) known wrote = TellsRefusals most (layout_with options) known wrote
-ListsRefusals plan known wrote = ⊥
-
--- lines of the records are refused: `told` says of a text that it was written to the error output, `wrote` to the output,
--- and the two behind them that each is as it was. The first refusal was told, and the output is as it was; or of a plan
--- that asks for all, all of them were written to the output, and the error output is as it was.
-abbrev pub TellsRefused : Plan → (known : Option (List ℕ)) → (wrote told : List ℕ → Type 0) → (out_same err_same : Type 0) → Type 0
-TellsRefused (AuditAll most options files) known wrote told out_same err_same =
-    TellsRefusals most (layout_with options) known wrote × err_same
-TellsRefused plan known wrote told out_same err_same = NamesRefusal (layout_of plan) known told × out_same
+-- a line of the records is refused: the first one was told to the error output, and the output is as it was
+abbrev pub TellsRefused : Plan → (known : Option (List ℕ)) → (told : List ℕ → Type 0) → (out_same : Type 0) → Type 0
+TellsRefused plan known told out_same = NamesRefusal (layout_of plan) known told × out_same
 
 -- the plan's command reads a certificate, and a fault of it was named: of a conversion, that no certificate has its text
 abbrev pub FaultsCertificate : Plan → Option (List ℕ) → Option (List ℕ) → (List ℕ → Type 0) → Type 0
@@ -296,7 +278,6 @@ FaultsCertificate (Locate point options files) records spelt wrote = ⊥
 FaultsCertificate (Convert cert made) records spelt wrote = NamesBadLine spelt wrote
 FaultsCertificate (Check cert budget options files) records spelt wrote = NamesCertFault (layout_with options) records spelt wrote
 FaultsCertificate (Audit options files) records spelt wrote = ⊥
-FaultsCertificate (AuditAll most options files) records spelt wrote = ⊥
 FaultsCertificate (Build made options files) records spelt wrote = ⊥
 
 -- a write of the output failed behind a beginning of what is true to write: `part` says of a text that a beginning of it was
@@ -304,7 +285,7 @@ FaultsCertificate (Build made options files) records spelt wrote = ⊥
 abbrev pub BreaksOff : Plan → (known spelt : Option (List ℕ)) → Type 0 → (made part : List ℕ → Type 0) → Type 0
 BreaksOff plan known spelt unread made part =
     IsAnswered plan known spelt made part
-    ⊎ (FaultsMap plan known spelt unread part ⊎ (FaultsCertificate plan known spelt part ⊎ ListsRefusals plan known part))
+    ⊎ (FaultsMap plan known spelt unread part ⊎ FaultsCertificate plan known spelt part)
 
 -- the line of a stop was written: of a want of memory, where no device failed (`well`) and the output is as it was (`same`);
 -- or of a device, where one failed and the output is as it was, or where a write of the output failed (`cut`)
@@ -327,7 +308,6 @@ SpendsBudget (Locate point options files) known spelt wrote = ⊥
 SpendsBudget (Convert cert made) known spelt wrote = ⊥
 SpendsBudget (Check cert budget options files) known spelt wrote = NamesBudget (layout_with options) budget known spelt wrote
 SpendsBudget (Audit options files) known spelt wrote = ⊥
-SpendsBudget (AuditAll most options files) known spelt wrote = ⊥
 SpendsBudget (Build made options files) known spelt wrote = ⊥
 
 -- why the plan's command stopped was written; of a budget too only where no device failed and the output is as it was

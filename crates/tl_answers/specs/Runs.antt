@@ -2,9 +2,8 @@
 --
 -- `wrote` says of a text that it was written to the output, `told` to the error output; `part` that a beginning of it was
 -- written to the output, and that a write failed; `made` and `begun` say so of the certificate that is made.
-use Rattle.std.specs.Prelude.{◌≡◌, ◌≢◌, ◌⊎◌, ℕ, List, Option, ⊤}
+use Rattle.std.specs.Prelude.{◌≡◌, ◌≢◌, ◌⊎◌, ℕ, List, Option}
 use Rattle.tl_plan.specs.declared.plan.Plan.{Plan}
-use Rattle.tl_plan.specs.declared.plan.Plan.TheVariants.{Show, Landmarks, Locate, Convert, Check, Audit, AuditAll, Build}
 use Rattle.tl_answers.specs.declared.stop.TheConstants.{DONE, MAP_FAULT, CERT_FAULT, REFUSED, STOPPED}
 use Rattle.tl_answers.specs.Deciding.{IsExact}
 use Rattle.tl_answers.specs.Beginnings.{IsBegunBy}
@@ -18,7 +17,7 @@ pub record Runs (plan : Plan) (status : ℕ) (known spelt : Option (List ℕ)) (
   pub fault : status ≡ MAP_FAULT → FaultsMap plan known spelt cert_same wrote
   pub exactly : (status ≡ DONE) ⊎ (status ≡ MAP_FAULT) → IsExact plan known status
   pub cert_fault : status ≡ CERT_FAULT → FaultsCertificate plan known spelt wrote
-  pub refused : status ≡ REFUSED → TellsRefused plan known wrote told out_same err_same
+  pub refused : status ≡ REFUSED → TellsRefused plan known told out_same
   pub stopped : status ≡ STOPPED → StopsRun plan known spelt told ((reads ⊎ cert_reads) ⊎ writes) ((read_well × cert_well) × made_well) out_same
       (BreaksOff plan known spelt cert_same made part)
   pub err_stays : (status ≡ DONE) ⊎ ((status ≡ MAP_FAULT) ⊎ (status ≡ CERT_FAULT)) → err_same
@@ -30,14 +29,3 @@ pub record Runs (plan : Plan) (status : ℕ) (known spelt : Option (List ℕ)) (
   pub unread : status ≡ REFUSED → cert_same
   pub unmade : (status ≡ MAP_FAULT) ⊎ ((status ≡ CERT_FAULT) ⊎ (status ≡ REFUSED)) → made_same
   pub begins : status ≡ STOPPED → made_same ⊎ IsBegunBy plan known spelt begun
-
--- the plan asks for no list of all that is wrong
-abbrev pub ListsNothing : Plan → Type 0
-ListsNothing (Show options files) = ⊤
-ListsNothing (Landmarks options files) = ⊤
-ListsNothing (Locate point options files) = ⊤
-ListsNothing (Convert cert made) = ⊤
-ListsNothing (Check cert budget options files) = ⊤
-ListsNothing (Audit options files) = ⊤
-ListsNothing (AuditAll most options files) = ⊥
-ListsNothing (Build made options files) = ⊤

@@ -1,8 +1,8 @@
--- How an answer is told, and with which status: a decision, all that is wrong, and what is wrong with words.
+-- How an answer is told, and with which status: a decision, and what is wrong with words.
 --
 -- `wrote` says of a text that it was written to the output, `told` to the error output; `part` that a beginning of it was
 -- written to the output, and that a write failed.
-use Rattle.std.specs.Prelude.{◌≡◌, ◌≢◌, ◌⊎◌, ℕ, List, [], Option, Result, Ok, Err, string_bytes}
+use Rattle.std.specs.Prelude.{◌≡◌, ◌≢◌, ◌⊎◌, ℕ, List, [], Result, Ok, Err, string_bytes}
 use Rattle.tl_plan.specs.declared.plan.PlanStop.{PlanStop}
 use Rattle.tl_plan.specs.declared.plan.PlanStop.TheVariants.{Usage, Help}
 use Rattle.tl_plan.specs.declared.plan.PlanStop.TheVariants as plan_stop
@@ -16,30 +16,12 @@ use Rattle.tl_answers.specs.declared.stop.TheConstants.{DONE, STOPPED, USAGE}
 use Rattle.tl_answers.specs.Lines.{IsLine}
 use Rattle.tl_answers.specs.Running.{IsTold}
 use Rattle.tl_answers.specs.Verdicts.{verdict_text, verdict_status}
-use Rattle.tl_answers.specs.Listings.{listing_status}
-use Rattle.tl_listing.specs.declared.listing.Listing.{Listing}
-use Rattle.tl_listing.specs.declared.listing.ListingStop.{ListingStop}
-use Rattle.tl_listing.specs.declared.listing.ListingStop.TheVariants as listing_stop
-use Rattle.tl_listing.specs.Texts.{listing_text as all_text}
 
 -- how the answer of a check is told
 abbrev pub TellsDecision : Result Verdict Stop → ℕ → (wrote told part : List ℕ → Type 0) → (out_same err_same : Type 0) → Type 0
 TellsDecision (Ok verdict) status wrote told part out_same err_same =
     IsLine status (verdict_status verdict) (line_of (verdict_text verdict)) wrote told part out_same err_same
 TellsDecision (Err stop) status wrote told part out_same err_same = IsTold stop status told × out_same
-
--- how a listing is told: it was written, or so many of its lines, with its own status; or the write failed, and a device was
--- told
-abbrev pub TellsListing : Option ℕ → Listing → ℕ → (wrote told part : List ℕ → Type 0) → (err_same : Type 0) → Type 0
-TellsListing most listing status wrote told part err_same =
-    ((status ≡ listing_status listing) × wrote (all_text most listing) × err_same)
-    ⊎ ((status ≡ STOPPED) × told (line_of (stop_text Device)) × part (all_text most listing))
-
--- how the answer is told where all that is wrong is asked for
-abbrev pub TellsAll : Option ℕ → Result Listing ListingStop → ℕ → (wrote told part : List ℕ → Type 0) → (out_same err_same : Type 0) → Type 0
-TellsAll most (Ok listing) status wrote told part out_same err_same = TellsListing most listing status wrote told part err_same
-TellsAll most (Err listing_stop.Memory) status wrote told part out_same err_same = IsTold Memory status told × out_same
-TellsAll most (Err listing_stop.Device) status wrote told part out_same err_same = IsTold Device status told × out_same
 
 -- how a text of help is said
 abbrev pub SaysHelp : List ℕ → ℕ → (wrote told part : List ℕ → Type 0) → Type 0 → Type 0

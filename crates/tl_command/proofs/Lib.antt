@@ -1,3 +1,2 @@
 -- Lemmas on the command.
-pub mod AllFaultsLemmas
 pub mod StartLemmas

@@ -1,5 +1,5 @@
--- What the program answers: to words that make a plan, and to those that make none; and over files of which nothing is known.
-use Rattle.std.proofs.Common.{◌≡◌, inl, inr, ℕ, Bool, true, List, Option, Result, Ok, Err, refl, sym, string_bytes, ◌∙◌}
+-- What is answered to words that make a plan, and to those that make none; and over files of which nothing is known.
+use Rattle.std.proofs.Common.{◌≡◌, inl, inr, ℕ, Bool, true, List, Result, Ok, Err, refl, sym, string_bytes, ◌∙◌}
 use Rattle.std.specs.Bool.{⊤}
 use Rattle.clap.specs.Walk.{Text}
 use Rattle.std.specs.Prelude.{OnOk, OnErr}
@@ -18,15 +18,10 @@ use Rattle.tl_plan.proofs.PlansLemmas.{All-plain_text}
 use Rattle.tl_answers.specs.declared.usage.TheConstants.{NO_USE}
 use Rattle.tl_answers.specs.declared.stop.TheConstants.{DONE, STOPPED, USAGE}
 use Rattle.tl_command.specs.Hinting.{HintsTask, HintsAfter}
-use Rattle.tl_command.specs.Tasks.{Starts, DoesTask, AnswersWords, unknown}
 use Rattle.tl_answers.specs.Telling.{TellsPlanStop}
 use Rattle.tl_answers.specs.Running.{NamesStop}
-use Rattle.tl_command.specs.Starting.{AnswersPlan, ShowsHelp, ShowsUsage, StopsSome}
+use Rattle.tl_command.specs.Starting.{AnswersPlan, AnswersPlans, IsNoPlan, ShowsHelp, ShowsUsage, StopsSome}
 use Rattle.tl_answers.proofs.ToldLemmas.{weaker_stop}
-use Rattle.tl_record.specs.declared.layout.Layout.{Layout}
-use Rattle.tl_plan.specs.declared.plan.View.{View}
-use Rattle.tl_export.specs.Exports.{SomeFileFails}
-use Rattle.tl_draw.specs.Drawing.{Draws, DrawFails}
 
 -- a stop, with nothing said of which file failed
 stops_any : (words : List Text) (before after : Under) (told part : List ℕ → Type 0) (of_files : Plan → Type 0) (same : Type 0) → StopsSome words before after told part of_files same
@@ -35,85 +30,36 @@ stops_any words before after told part of_files same (inl unplanned) = inl unpla
 stops_any words before after told part of_files same (inr planned) =
     inr (planned.0, planned.1, weaker_stop planned.0 (records_under before planned.0) (certificate_under before planned.0) told (of_files planned.0) ⊤ ⊤ ⊤ same _ (λ fails. tt) (λ calm. tt) planned.2)
 
--- the same of a stop of which less is said of the file that failed
-names_weaker : (told : List ℕ → Type 0) (failed other same cut : Type 0) → (failed → other) → NamesStop told failed ⊤ same cut → NamesStop told other ⊤ same cut
-names_weaker told failed other same cut weaker (inl memory) = inl memory
-names_weaker told failed other same cut weaker (inr device) = inr (device.0, elim device.1 [ inl one ↦ inl (weaker one.0, one.1) | inr broken ↦ inr broken ])
-
-task_any : (wanted : Task) (status : ℕ) (before after : Under) (wrote told part : List ℕ → Type 0) (of_files : List ℕ → List (List ℕ) → Type 0) (out_same err_same : Type 0)
-    → DoesTask wanted status before after wrote told part of_files out_same err_same
-    → DoesTask wanted status before after wrote told part (λ made read. ⊤) out_same err_same
-task_any (task.Plan plan progress) status before after wrote told part of_files out_same err_same does = absurd does
-task_any (task.Export made options files) status before after wrote told part of_files out_same err_same does = record {
-  is_status = does.is_status;
-  exported = does.exported;
-  fault = does.fault;
-  refused = does.refused;
-  usage = does.usage;
-  err_stays = does.err_stays;
-  out_stays = does.out_stays;
-  others = does.others;
-  unmade = does.unmade;
-  kept = does.kept;
-  stopped = λ e. names_weaker told _ ⊤ out_same _ (λ fails. tt) (does.stopped e);
-}
-task_any (task.Draw made view faults options files) status before after wrote told part of_files out_same err_same does = record {
-  is_status = does.is_status;
-  drawn = does.drawn;
-  fault = does.fault;
-  refused = does.refused;
-  usage = does.usage;
-  err_stays = does.err_stays;
-  others = does.others;
-  unmade = does.unmade;
-  stopped = λ e. names_weaker told _ ⊤ out_same _ (λ fails. tt) (does.stopped e);
+-- what is answered over files of which nothing is said that failed
+pub answers_plan_any : (words : List Text) (status : ℕ) (before after : Under) (wrote told part : List ℕ → Type 0) (of_plan : Plan → Type 0) (out_same err_same : Type 0)
+    → AnswersPlan words status before after wrote told part of_plan out_same err_same → AnswersPlan words status before after wrote told part (λ plan. ⊤) out_same err_same
+answers_plan_any words status before after wrote told part of_plan out_same err_same plan = record {
+  is_status = plan.is_status;
+  usage = plan.usage;
+  done = plan.done;
+  fault = plan.fault;
+  cert_fault = plan.cert_fault;
+  refused = plan.refused;
+  err_stays = plan.err_stays;
+  out_stays = plan.out_stays;
+  exactly = plan.exactly;
+  begun = plan.begun;
+  files = plan.files;
+  stopped = λ e. stops_any words before after told part of_plan out_same (plan.stopped e);
 }
 
--- where drawing fails, a file does
-draw_fails : {R D : Type 0} (reads : R → ℕ) (writes : D → ℕ) (knows : Bool) (before : Under) (made : List ℕ) (read : List (List ℕ))
-    → DrawFails reads writes knows before made read → SomeFileFails reads writes knows before made read
-draw_fails reads writes knows before made read (inl unknown_name) = inl (made, inr refl, unknown_name)
-draw_fails reads writes knows before made read (inr (inl (inl unread))) = inl (unread.0, inl unread.1, unread.2)
-draw_fails reads writes knows before made read (inr (inl (inr failed))) = inr (inl failed)
-draw_fails reads writes knows before made read (inr (inr unmade)) = inr (inr unmade)
+-- the same of a program that has plans alone, over files of which nothing is known
+pub plans_any : (words : List Text) (status : ℕ) (before after : Under) (wrote told part : List ℕ → Type 0) (of_plan : Plan → Type 0) (out_same err_same : Type 0)
+    → AnswersPlans words status before after wrote told part of_plan out_same err_same → AnswersPlans words status before after wrote told part (λ plan. ⊤) out_same err_same
+plans_any words status before after wrote told part of_plan out_same err_same (inl plan) = inl (answers_plan_any words status before after wrote told part of_plan out_same err_same plan)
+plans_any words status before after wrote told part of_plan out_same err_same (inr other) = inr other
 
--- what drawing answers, with what is said of files that fail for all tasks
-pub drawn_fails : {R D : Type 0} (reads : R → ℕ) (writes : D → ℕ) (knows : Bool) (layout : Layout) (known : Option (List ℕ)) (made : List ℕ) (view : Option View) (shows : Bool)
-    (read : List (List ℕ)) (status : ℕ) (before after : Under) (wrote told part : List ℕ → Type 0) (out_same err_same : Type 0)
-    → Draws layout known made view shows read status before after wrote told part (DrawFails reads writes knows before made read) out_same err_same
-    → Draws layout known made view shows read status before after wrote told part (SomeFileFails reads writes knows before made read) out_same err_same
-drawn_fails reads writes knows layout known made view shows read status before after wrote told part out_same err_same draws = record {
-  is_status = draws.is_status;
-  drawn = draws.drawn;
-  fault = draws.fault;
-  refused = draws.refused;
-  usage = draws.usage;
-  err_stays = draws.err_stays;
-  others = draws.others;
-  unmade = draws.unmade;
-  stopped = λ e. names_weaker told _ _ out_same _ (draw_fails reads writes knows before made read) (draws.stopped e);
-}
-
--- what is answered over files of which nothing is known
-pub answers_any : (words : List Text) (status : ℕ) (wrote told part : List ℕ → Type 0) (of_plan : Plan → Type 0) (of_files : List ℕ → List (List ℕ) → Type 0) (out_same err_same : Type 0)
-    → Starts words status unknown unknown wrote told part of_plan of_files out_same err_same → AnswersWords words status wrote told part out_same err_same
-answers_any words status wrote told part of_plan of_files out_same err_same (inl plan) =
-    inl (record {
-      is_status = plan.is_status;
-      usage = plan.usage;
-      done = plan.done;
-      fault = plan.fault;
-      cert_fault = plan.cert_fault;
-      refused = plan.refused;
-      err_stays = plan.err_stays;
-      out_stays = plan.out_stays;
-      exactly = plan.exactly;
-      begun = plan.begun;
-      files = plan.files;
-      stopped = λ e. stops_any words unknown unknown told part of_plan out_same (plan.stopped e);
-    })
-answers_any words status wrote told part of_plan of_files out_same err_same (inr other) =
-    inr (other.0, other.1, task_any other.0 status unknown unknown wrote told part of_files out_same err_same other.2)
+-- a task is none that it isn't one of
+pub no_plan : (wanted : Task) → ((plan : Plan) (progress : Bool) → wanted ≡ task.Plan plan progress → ⊥) → IsNoPlan wanted
+no_plan (task.Plan plan progress) other = absurd (other plan progress refl)
+no_plan (task.List told places made progress options files) other = tt
+no_plan (task.Export made options files) other = tt
+no_plan (task.Draw made view faults options files) other = tt
 
 -- what is said behind the answer, or why nothing is
 pub hints_of : {T S : Type 0} (words : List Text) (wanted : Task) (status : ℕ) (under : Under) (told : List ℕ → Type 0) (same : Type 0) (result : Result T S)

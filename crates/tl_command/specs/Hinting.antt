@@ -1,10 +1,11 @@
 -- What is said behind the answer to words, where a line is refused or a device failed.
-use Rattle.std.specs.Prelude.{◌≡◌, ◌⊎◌, ◌==◌, ℕ, Bool, true, false, List, [], ◌∷◌, ◌++◌, map, string_bytes, if◌then◌else◌}
+use Rattle.std.specs.Prelude.{◌⊎◌, ◌==◌, ℕ, Bool, true, false, List, [], ◌∷◌, ◌++◌, map, string_bytes, if◌then◌else◌}
 use Rattle.clap.specs.Walk.{Text}
 use Rattle.tl_record.specs.declared.options.Options.{Options}
 use Rattle.tl_record.specs.Layout.{layout_with}
 use Rattle.tl_plan.specs.declared.plan.Plan.{Plan}
-use Rattle.tl_plan.specs.declared.plan.Plan.TheVariants.{Show, Landmarks, Locate, Convert, Check, Audit, AuditAll, Build}
+use Rattle.tl_plan.specs.declared.plan.Plan.TheVariants.{Show, Landmarks, Locate, Convert, Check, Audit, Build}
+use Rattle.tl_plan.specs.declared.budget.Told.TheVariants.{All}
 use Rattle.tl_plan.specs.declared.plan.Task.{Task}
 use Rattle.tl_plan.specs.declared.plan.Task.TheVariants as task
 use Rattle.tl_plan.specs.CommandLine.{AskForTask, files_of}
@@ -24,18 +25,19 @@ plan_options (Locate point options files) = options
 plan_options (Convert cert made) = plain
 plan_options (Check cert budget options files) = options
 plan_options (Audit options files) = options
-plan_options (AuditAll most options files) = options
 plan_options (Build made options files) = options
 
 -- and a task
 abbrev pub options_for : Task → Options
 options_for (task.Plan plan progress) = plan_options plan
+options_for (task.List told places made progress options files) = options
 options_for (task.Export made options files) = options
 options_for (task.Draw made view faults options files) = options
 
 -- the names of the record files
 abbrev pub record_names : Task → List Text
 record_names (task.Plan plan progress) = files_of plan
+record_names (task.List told places made progress options files) = map string_bytes files.items
 record_names (task.Export made options files) = map string_bytes files.items
 record_names (task.Draw made view faults options files) = map string_bytes files.items
 
@@ -50,12 +52,8 @@ certificate_names (task.Plan plan progress) = plan_certificates plan
 certificate_names other = []
 
 -- does the task list all lines that are refused
-abbrev pub plan_lists : Plan → Bool
-plan_lists (AuditAll most options files) = true
-plan_lists other = false
-
 abbrev pub lists_refusals : Task → Bool
-lists_refusals (task.Plan plan progress) = plan_lists plan
+lists_refusals (task.List (All most) places made progress options files) = true
 lists_refusals other = false
 
 -- the names of the files of which something may be said: those of the records where a line is refused and all aren't listed, and

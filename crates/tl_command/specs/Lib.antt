@@ -1,4 +1,3 @@
 -- What the command's contracts cite.
 pub mod Starting
-pub mod Tasks
 pub mod Hinting

@@ -1,14 +1,16 @@
 -- What the program answers to its words.
-use Rattle.std.specs.Prelude.{◌≡◌, ◌≢◌, ◌⊎◌, ℕ, true, List, [], All, codes, ⊤}
+use Rattle.std.specs.Prelude.{◌≡◌, ◌≢◌, ◌⊎◌, ℕ, true, List, [], None, All, codes, ⊤}
 use Rattle.clap.specs.Faults.{fault_of}
 use Rattle.clap.specs.Walk.{Text}
 use Rattle.tl_plan.specs.declared.plan.Plan.{Plan}
+use Rattle.tl_plan.specs.declared.plan.Task.{Task}
+use Rattle.tl_plan.specs.declared.plan.Task.TheVariants as task
 use Rattle.tl_output.specs.Writing.{line_of}
 use Rattle.tl_verdict.specs.Stops.{stop_text}
 use Rattle.tl_verdict.specs.declared.stop.Stop.TheVariants.{Memory, Device}
 use Rattle.tl_answers.specs.declared.stop.TheConstants.{DONE, MAP_FAULT, CERT_FAULT, REFUSED, STOPPED, USAGE}
 use Rattle.tl_plan.specs.Commands.{command_line}
-use Rattle.tl_plan.specs.CommandLine.{AskFor, AreAUse, HasMistake, HasAnswer, may_be_use}
+use Rattle.tl_plan.specs.CommandLine.{AskFor, AskForTask, AreAUse, HasMistake, HasAnswer, may_be_use}
 use Rattle.tl_plan.specs.Plans.{escape}
 use Rattle.tl_files.specs.Files.{Under}
 use Rattle.tl_making.specs.Opening.{records_under, certificate_under, Stands, KeepsOthers, KeepsAll, RefusesOut}
@@ -34,10 +36,9 @@ abbrev pub FaultsText : List Text → Under → (List ℕ → Type 0) → Type 0
 FaultsText words before wrote = (plan : Plan) × AskFor words plan
     × FaultsCertificate plan (records_under before plan) (certificate_under before plan) wrote
 
--- the words ask for a plan, and the first refusal of its records was told, or where it asks for all, all of them were
-abbrev pub RefusesSome : List Text → Under → (wrote told : List ℕ → Type 0) → (out_same err_same : Type 0) → Type 0
-RefusesSome words before wrote told out_same err_same = (plan : Plan) × AskFor words plan
-    × TellsRefused plan (records_under before plan) wrote told out_same err_same
+-- the words ask for a plan, and the first refusal of its records was told
+abbrev pub RefusesSome : List Text → Under → (told : List ℕ → Type 0) → (out_same : Type 0) → Type 0
+RefusesSome words before told out_same = (plan : Plan) × AskFor words plan × TellsRefused plan (records_under before plan) told out_same
 
 -- the words wish for help or for the version, and a text without an escape was written, which isn't empty
 pub record ShowsHelp (words : List Text) (wrote : List ℕ → Type 0) : Type 0 where
@@ -102,7 +103,7 @@ pub record AnswersPlan (words : List Text) (status : ℕ) (before after : Under)
   -- the words ask for a plan, and the output or the error output grew by the line that its run writes
   pub fault : status ≡ MAP_FAULT → FaultsSome words before wrote
   pub cert_fault : status ≡ CERT_FAULT → FaultsText words before wrote
-  pub refused : status ≡ REFUSED → RefusesSome words before wrote told out_same err_same
+  pub refused : status ≡ REFUSED → RefusesSome words before told out_same
   pub stopped : status ≡ STOPPED → StopsSome words before after told part of_plan out_same
   -- the other stream stays as it was
   pub err_stays : (status ≡ DONE) ⊎ ((status ≡ MAP_FAULT) ⊎ (status ≡ CERT_FAULT)) → err_same
@@ -114,8 +115,31 @@ pub record AnswersPlan (words : List Text) (status : ℕ) (before after : Under)
   -- no name stands for other bytes than before but that of the certificate that is made
   pub files : KeepsSome words status before after
 
--- the words can't be read, or there are no keys for hashers: why was written, and the output is as it was
+-- the words can't be read, or there are no keys for hashers: why was written
+abbrev pub TellsUnread : ℕ → (told : List ℕ → Type 0) → Type 0
+TellsUnread status told =
+    ((status ≡ STOPPED) × (told (line_of (stop_text Memory)) ⊎ told (line_of (stop_text Device))))
+    ⊎ ((status ≡ USAGE) × told (line_of (codes "error: a word of the command line is no UTF-8 text")))
+
+-- the same, and the output is as it was
 abbrev pub StopsBefore : ℕ → (told : List ℕ → Type 0) → (out_same : Type 0) → Type 0
-StopsBefore status told out_same =
-    (((status ≡ STOPPED) × (told (line_of (stop_text Memory)) ⊎ told (line_of (stop_text Device))))
-    ⊎ ((status ≡ USAGE) × told (line_of (codes "error: a word of the command line is no UTF-8 text")))) × out_same
+StopsBefore status told out_same = TellsUnread status told × out_same
+
+-- nothing is known of what stands under any name, as of the system's files
+abbrev pub unknown : Under
+unknown name = None
+
+-- what is said of words that ask for more than the program has
+abbrev pub not_here : List ℕ
+not_here = line_of (codes "error: the program that has this isn't built: run `make`")
+
+-- a task that is no plan
+abbrev pub IsNoPlan : Task → Type 0
+IsNoPlan (task.Plan plan progress) = ⊥
+IsNoPlan other = ⊤
+
+-- what a program answers that has plans alone: the words ask for a plan or for none, or for a task that it hasn't
+abbrev pub AnswersPlans : List Text → ℕ → (before after : Under) → (wrote told part : List ℕ → Type 0) → (of_plan : Plan → Type 0) → (out_same err_same : Type 0) → Type 0
+AnswersPlans words status before after wrote told part of_plan out_same err_same =
+    AnswersPlan words status before after wrote told part of_plan out_same err_same
+    ⊎ ((wanted : Task) × AskForTask words wanted × IsNoPlan wanted × (status ≡ USAGE) × told not_here × (after ≡ before) × out_same)

@@ -1,21 +1,15 @@
-//! What helps who reads that a line is refused, or that a device failed: the outermost layer of the program.
+//! What helps who reads that a line is refused, or that a device failed.
 
 ghost use Rattle.std.specs.Prelude.{◌≡◌, ◌++◌, IfOk, OnOk, OnErr, map, string_bytes};
-ghost use Rattle.tl_output.specs.Writing.{Writes, WritesSome};
 ghost use Rattle.tl_answers.specs.Running.{TriesToWrite};
-ghost use Rattle.tl_making.specs.Opening.{FilesFail};
-ghost use Rattle.tl_export.specs.Exports.{SomeFileFails};
-ghost use Rattle.tl_command.specs.Tasks.{Starts};
 ghost use Rattle.tl_command.specs.Hinting.{HintsAfter, HintsTask, options_for, record_names, certificate_names, lists_refusals, hinted_names};
 
-use crate::start::start;
 use std::alloc::{AllocError, Global};
-use std::hash::RandomState;
 use std::slice;
 use tl_answers::stop::{REFUSED, STOPPED};
 use tl_files::FileSystem;
 use tl_hint::{HintStop, tell_hint};
-use tl_plan::{Plan, Task, words};
+use tl_plan::{Plan, Task, Told, words};
 use tl_record::{Options, Sink};
 
 // The columns where nothing is chosen.
@@ -24,32 +18,15 @@ const PLAIN: Options = Options {
     released: false,
 };
 
-/// Does what the words after the program's name ask as [`start`] does, and gives its status. Behind a refused line and behind
-/// a device that failed it says what helps to find them, of the files as they stand then.
-pub fn start_with_hint<F: FileSystem, W: Sink, E: Sink>(
-    files: &mut F,
+/// Says what helps behind this status of the words after the program's name: behind a refused line and behind a device that
+/// failed how to find them, of the files as they stand now.
+pub fn hint<F: FileSystem, E: Sink>(
+    files: &F,
     alloc: Global,
-    hasher: RandomState,
     words: &[String],
-    out: &mut W,
+    status: u8,
     err: &mut E,
-) -> u8
-    ensures { (told : E) × Starts (map string_bytes words.now) result (F.under files.old) (F.under files.new)
-        (Writes W.contents W.failure_count out.old out.new)
-        (TriesToWrite E.contents E.failure_count err.old told) (WritesSome W.contents W.failure_count out.old out.new)
-        (FilesFail F.Reader.failure_count F.Draft.failure_count F.knows (F.under files.old))
-        (SomeFileFails F.Reader.failure_count F.Draft.failure_count F.knows (F.under files.old))
-        (out.new ≡ out.old) (told ≡ err.old)
-        × HintsAfter (map string_bytes words.now) result (F.under files.new)
-        (TriesToWrite E.contents E.failure_count told err.new) (err.new ≡ told) }
-{
-    let status = start(files, alloc, hasher, words, out, err);
-    hint(&*files, alloc, words, status, err);
-    status
-}
-
-// Says what helps behind this status of a command.
-fn hint<F: FileSystem, E: Sink>(files: &F, alloc: Global, words: &[String], status: u8, err: &mut E)
+)
     ensures { HintsAfter (map string_bytes words.now) status (F.under files.now)
         (TriesToWrite E.contents E.failure_count err.old err.new) (err.new ≡ err.old) }
 {
@@ -109,8 +86,8 @@ fn is_listing(task: &Task) -> bool
     ensures { result ≡ lists_refusals task.now }
 {
     match task {
-        Task::Plan { plan, .. } => matches!(plan, Plan::AuditAll { .. }),
-        Task::Export { .. } | Task::Draw { .. } => false,
+        Task::List { told, .. } => matches!(told, Told::All(_)),
+        Task::Plan { .. } | Task::Export { .. } | Task::Draw { .. } => false,
     }
 }
 
@@ -120,6 +97,7 @@ fn names_of(task: &Task) -> &[String]
 {
     match task {
         Task::Plan { plan, .. } => plan.files(),
+        Task::List { files, .. } => files.as_slice(),
         Task::Export { files, .. } => files.as_slice(),
         Task::Draw { files, .. } => files.as_slice(),
     }
@@ -149,10 +127,10 @@ fn options_of(task: &Task) -> Options
             | Plan::Locate { options, .. }
             | Plan::Check { options, .. }
             | Plan::Audit { options, .. }
-            | Plan::AuditAll { options, .. }
             | Plan::Build { options, .. } => *options,
             Plan::Convert { .. } => PLAIN,
         },
-        Task::Export { options, .. } | Task::Draw { options, .. } => *options,
+        Task::List { options, .. } | Task::Export { options, .. } | Task::Draw { options, .. } =>
+            *options,
     }
 }

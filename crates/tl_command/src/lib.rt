@@ -1,15 +1,16 @@
-//! What the command `tigertopo` does, from its words to its status.
+//! What the command `tigertopo` does of the words that ask for a plan, from these to its status.
 //!
-//! The words ask for a task (`tl_plan`), which [`start`] does. Of a plan [`open`] opens the files that it names, and [`run`] does
-//! what it asks over any source of records; other tasks have crates of their own. What is answered is told by `tl_answers`,
-//! which says too why it can't be; certificates are made by `tl_making`. Behind a refused line and a device that failed
-//! [`hint`] says where to look. The program's `main` only collects the words.
+//! [`start::run_plan`] does the plan that the words ask for (`tl_plan`): [`open`] opens the files that it names, and [`run`] does
+//! what it asks over any source of records. What is answered is told by `tl_answers`, which says too why it can't be;
+//! certificates are made by `tl_making`. Behind a refused line and a device that failed [`hint`] says where to look. Other tasks
+//! have crates of their own, and `tl_program` does them all. The program that has plans alone ([`plans`]) is proved and built
+//! sooner.
 #![tactic(auto)]
 
 pub mod hint;
 pub mod laws;
-pub mod listing;
 pub mod open;
+pub mod plans;
 pub mod program;
 pub mod readers;
 pub mod run;

@@ -75,11 +75,8 @@ fn run_over<F: FileSystem, W: Sink, E: Sink>(
                 files, alloc, hasher, plan, readers, made, *options, out, err,
             )
         }
-        Plan::Show { .. }
-        | Plan::Landmarks { .. }
-        | Plan::Locate { .. }
-        | Plan::Audit { .. }
-        | Plan::AuditAll { .. } => run_plainly(&*files, alloc, hasher, plan, readers, out, err),
+        Plan::Show { .. } | Plan::Landmarks { .. } | Plan::Locate { .. } | Plan::Audit { .. } =>
+            run_plainly(&*files, alloc, hasher, plan, readers, out, err),
     }
 }
 

@@ -11,11 +11,11 @@ ghost use Rattle.tl_answers.specs.Runs.{Runs};
 ghost use Rattle.tl_answers.specs.Beginnings.{Begins};
 ghost use Rattle.tl_answers.specs.Beginnings.{IsBegunBy};
 
-use crate::run::run_by;
 use std::alloc::Global;
 use std::hash::RandomState;
 use tl_answers::stop::stopped;
 use tl_making::opening::{as_one_text, give_back, room_for_bytes};
+use tl_making::running::run_by;
 use tl_plan::Plan;
 use tl_record::{Sink, Source};
 use tl_verdict::Stop;
@@ -48,8 +48,7 @@ pub fn run_on_readers<F: Source + Drop, S: Source, C: Sink, W: Sink, E: Sink>(
         (Writes W.contents W.failure_count out.old out.new) }
     ensures refused { result ≡ REFUSED
         → TellsRefused plan.now (joined_bytes F.remaining false readers.old.items)
-        (Writes W.contents W.failure_count out.old out.new)
-        (TriesToWrite E.contents E.failure_count err.old err.new) (out.new ≡ out.old) (err.new ≡ err.old) }
+        (TriesToWrite E.contents E.failure_count err.old err.new) (out.new ≡ out.old) }
     // Of a device only where a read of one of the readers or of the certificate failed, or a write. The output is as it
     // was, unless a write of it failed: then it grew by a beginning of what is true to write.
     ensures stopped { result ≡ STOPPED

@@ -6,21 +6,17 @@ ghost use Rattle.tl_answers.specs.declared.stop.TheConstants.{DONE, MAP_FAULT, C
 ghost use Rattle.tl_answers.specs.Running.{IsAnswered, TriesToWrite, BreaksOff, StopsRun, FaultsMap, FaultsCertificate, TellsRefused};
 ghost use Rattle.tl_answers.specs.Running.{ReadsNoCertificate, MakesNoCertificate, ReadsNoRecords, IsRunStatus, FailsToRead, CountStays};
 ghost use Rattle.tl_answers.specs.Deciding.{IsExact};
-ghost use Rattle.tl_answers.specs.Runs.{Runs};
-ghost use Rattle.tl_answers.specs.Beginnings.{Begins};
-ghost use Rattle.tl_answers.specs.Beginnings.{IsBegunBy};
+ghost use Rattle.tl_answers.specs.Beginnings.{Begins, IsBegunBy};
 
-use crate::listing::audit_all;
 use std::alloc::Global;
 use std::hash::RandomState;
-use tl_making::running::run_without_listing;
+use tl_making::running::run_by;
 use tl_plan::Plan;
 use tl_record::{Sink, Source};
 
 /// Does what the plan asks and gives the program's exit status. Answers and faults go to `out`, refusals and stops to
-/// `err`, but for a list of all refusals that is asked for, which goes to `out`. `cert` is the certificate that is read,
-/// and `made` takes the one that is written; a command that has none leaves them alone, and one that reads no records
-/// leaves those alone.
+/// `err`. `cert` is the certificate that is read, and `made` takes the one that is written; a command that has none leaves
+/// them alone, and one that reads no records leaves those alone.
 pub fn run<R: Source, S: Source, C: Sink, W: Sink, E: Sink>(
     alloc: Global,
     hasher: RandomState,
@@ -37,8 +33,8 @@ pub fn run<R: Source, S: Source, C: Sink, W: Sink, E: Sink>(
     ensures answered { result ≡ DONE
         → IsAnswered plan.now (R.remaining records.old) (S.remaining cert.old)
         (Writes C.contents C.failure_count made.old made.new) (Writes W.contents W.failure_count out.old out.new) }
-    // The output grew by the line of a fault that is true of the records or of their map, or by all of them. Where the
-    // records have no map, nothing of the certificate was read.
+    // The output grew by the line of a fault that is true of the records or of their map. Where the records have no map,
+    // nothing of the certificate was read.
     ensures fault { result ≡ MAP_FAULT
         → FaultsMap plan.now (R.remaining records.old) (S.remaining cert.old) (cert.new ≡ cert.old)
         (Writes W.contents W.failure_count out.old out.new) }
@@ -49,15 +45,14 @@ pub fn run<R: Source, S: Source, C: Sink, W: Sink, E: Sink>(
     ensures cert_fault { result ≡ CERT_FAULT
         → FaultsCertificate plan.now (R.remaining records.old) (S.remaining cert.old)
         (Writes W.contents W.failure_count out.old out.new) }
-    // The line of the first refusal was written to `err`, or the write of it failed, and the output is as it was; or where
-    // all are asked for, the output grew by all of them, and `err` is as it was.
+    // The line of the first refusal was written to `err`, or the write of it failed, and the output is as it was.
     ensures refused { result ≡ REFUSED
-        → TellsRefused plan.now (R.remaining records.old) (Writes W.contents W.failure_count out.old out.new)
-        (TriesToWrite E.contents E.failure_count err.old err.new) (out.new ≡ out.old) (err.new ≡ err.old) }
+        → TellsRefused plan.now (R.remaining records.old) (TriesToWrite E.contents E.failure_count err.old err.new)
+        (out.new ≡ out.old) }
     // The line of a stop was, or the write of it failed; of a device only where a read or a write failed, of a want of
     // memory and of a spent budget only where none did, and of a budget only where more pairs of segments have rectangles
-    // that meet. The output is as it was, unless a write of it failed: then it grew by a beginning of an answer, of a
-    // fault's line, or of all that is wrong, which is true.
+    // that meet. The output is as it was, unless a write of it failed: then it grew by a beginning of an answer or of a
+    // fault's line, which is true.
     ensures stopped { result ≡ STOPPED
         → StopsRun plan.now (R.remaining records.old) (S.remaining cert.old)
         (TriesToWrite E.contents E.failure_count err.old err.new)
@@ -88,33 +83,4 @@ pub fn run<R: Source, S: Source, C: Sink, W: Sink, E: Sink>(
         ⊎ IsBegunBy plan.now (R.remaining records.old) (S.remaining cert.old) (Begins C.contents made.old made.new) }
 {
     run_by(alloc, hasher, plan, records, cert, made, out, err)
-}
-
-// The same, with what `run` promises as one clause: it has several ways out.
-pub(crate) fn run_by<R: Source, S: Source, C: Sink, W: Sink, E: Sink>(
-    alloc: Global,
-    hasher: RandomState,
-    plan: &Plan,
-    records: &mut R,
-    cert: &mut S,
-    made: &mut C,
-    out: &mut W,
-    err: &mut E,
-) -> u8
-    ensures { Runs plan.now result (R.remaining records.old) (S.remaining cert.old)
-        (Writes C.contents C.failure_count made.old made.new) (Begins C.contents made.old made.new)
-        (Writes W.contents W.failure_count out.old out.new) (TriesToWrite E.contents E.failure_count err.old err.new)
-        (WritesSome W.contents W.failure_count out.old out.new)
-        (FailsToRead R.failure_count records.old records.new) (FailsToRead S.failure_count cert.old cert.new)
-        (FailsToWrite C.failure_count made.old made.new)
-        (CountStays R.failure_count records.old records.new) (CountStays S.failure_count cert.old cert.new)
-        (CountStays C.failure_count made.old made.new)
-        (out.new ≡ out.old) (err.new ≡ err.old) (cert.new ≡ cert.old) (made.new ≡ made.old) (records.new ≡ records.old) }
-{
-    match plan {
-        Plan::AuditAll { most, options, .. } => audit_all(
-            alloc, hasher, records, *most, *options, out, err,
-        ),
-        _ => run_without_listing(alloc, hasher, plan, records, cert, made, out, err),
-    }
 }

@@ -1,101 +1,35 @@
-//! The program from its words to its status.
+//! Doing a plan, and showing how far reading is.
 
-ghost use Rattle.std.specs.Prelude.{◌≡◌, List, map, string_bytes};
-ghost use Rattle.clap.specs.Walk.{Text};
+ghost use Rattle.std.specs.Prelude.{◌≡◌};
 ghost use Rattle.tl_output.specs.Writing.{Writes, WritesSome};
-ghost use Rattle.tl_plan.specs.CommandLine.{AskForTask};
 ghost use Rattle.tl_answers.specs.Running.{TriesToWrite};
-ghost use Rattle.tl_making.specs.Opening.{FilesFail};
-ghost use Rattle.tl_export.specs.Exports.{SomeFileFails};
-ghost use Rattle.tl_command.specs.Tasks.{Starts};
+ghost use Rattle.tl_making.specs.Opening.{FilesFail, RunsOver};
 
 use crate::open::open_and_run;
 use std::alloc::Global;
 use std::hash::RandomState;
-use tl_answers::usage::tell_stop;
-use tl_draw::open_and_draw;
-use tl_export::open_and_export;
 use tl_files::FileSystem;
-use tl_plan::{Plan, Task, words};
+use tl_plan::Plan;
 use tl_record::Sink;
 
-/// Does what the words after the program's name ask, over these files, and gives the program's exit status.
-pub fn start<F: FileSystem, W: Sink, E: Sink>(
+/// Does what a plan asks as [`open_and_run`] does, and has it shown how far the reading of its files is where that is asked for.
+pub fn run_plan<F: FileSystem, W: Sink, E: Sink>(
     files: &mut F,
     alloc: Global,
     hasher: RandomState,
-    words: &[String],
+    plan: &Plan,
+    progress: bool,
     out: &mut W,
     err: &mut E,
 ) -> u8
-    ensures { Starts (map string_bytes words.now) result (F.under files.old) (F.under files.new)
+    ensures { RunsOver plan.now result (F.under files.old) (F.under files.new)
         (Writes W.contents W.failure_count out.old out.new)
         (TriesToWrite E.contents E.failure_count err.old err.new) (WritesSome W.contents W.failure_count out.old out.new)
-        (FilesFail F.Reader.failure_count F.Draft.failure_count F.knows (F.under files.old))
-        (SomeFileFails F.Reader.failure_count F.Draft.failure_count F.knows (F.under files.old))
+        (FilesFail F.Reader.failure_count F.Draft.failure_count F.knows (F.under files.old) plan.now)
         (out.new ≡ out.old) (err.new ≡ err.old) }
 {
-    match words::task(alloc, words) {
-        Ok(task) => perform(files, alloc, hasher, &task, out, err),
-        Err(stop) => tell_stop(&stop, out, err),
-    }
-}
-
-// Does the task, which these words ask for.
-fn perform<F: FileSystem, W: Sink, E: Sink>(
-    files: &mut F,
-    alloc: Global,
-    hasher: RandomState,
-    task: &Task,
-    out: &mut W,
-    err: &mut E,
-) -> u8
-    ensures { (words : List Text) → AskForTask words task.now →
-        Starts words result (F.under files.old) (F.under files.new)
-        (Writes W.contents W.failure_count out.old out.new)
-        (TriesToWrite E.contents E.failure_count err.old err.new) (WritesSome W.contents W.failure_count out.old out.new)
-        (FilesFail F.Reader.failure_count F.Draft.failure_count F.knows (F.under files.old))
-        (SomeFileFails F.Reader.failure_count F.Draft.failure_count F.knows (F.under files.old))
-        (out.new ≡ out.old) (err.new ≡ err.old) }
-{
-    match task {
-        Task::Plan { plan, progress } => {
-            watch(files, alloc, plan, *progress);
-            open_and_run(files, alloc, hasher, plan, out, err)
-        }
-        Task::Export {
-            made,
-            options,
-            files: names,
-        } => open_and_export(
-            files,
-            alloc,
-            hasher,
-            made,
-            *options,
-            names.as_slice(),
-            out,
-            err,
-        ),
-        Task::Draw {
-            made,
-            view,
-            faults,
-            options,
-            files: names,
-        } => open_and_draw(
-            files,
-            alloc,
-            hasher,
-            made,
-            *view,
-            *faults,
-            *options,
-            names.as_slice(),
-            out,
-            err,
-        ),
-    }
+    watch(files, alloc, plan, progress);
+    open_and_run(files, alloc, hasher, plan, out, err)
 }
 
 // Has it shown how far the reading of the plan's files is, where that is asked for. The certificate that is read comes last.

@@ -1,20 +1,18 @@
 -- What drawing a county answers.
-use Rattle.std.proofs.Common.{◌≡◌, ◌⊎◌, inl, inr, ℕ, Bool, true, false, List, [], ◌∷◌, ◌++◌, map, ap, Some, Option, Result, Ok, Err, refl, sym, subst, ◌∙◌, append-nil}
+use Rattle.std.proofs.Common.{◌≡◌, ◌⊎◌, inl, inr, ℕ, Bool, true, false, List, [], ◌∷◌, map, ap, Some, Option, Result, Ok, Err, refl, sym, subst, ◌∙◌, append-nil}
 use Rattle.std.specs.Prelude.{⊤, is_ok}
 use Rattle.std.specs.Io.KnownBytes.{Appends}
 use Rattle.tl_record.specs.declared.layout.Layout.{Layout}
-use Rattle.tl_county.specs.TheMap.{TheMap}
 use Rattle.std.specs.Option.{option_map}
 use Rattle.std.specs.Fmt.{option_append}
 use Rattle.tl_text.specs.Joining.{joined_bytes, closed}
-use Rattle.tl_files.specs.Files.{Under, bytes_under, beside}
+use Rattle.tl_files.specs.Files.{Under, bytes_under}
 use Rattle.tl_files.specs.declared.beginning.FileKind.TheVariants.{Picture as PictureKind}
 use Rattle.tl_output.specs.Writing.{Writes, FailsToWrite, CountsFailure, TriesToPassOn, PassesOn, line_of}
 use Rattle.tl_plan.specs.declared.plan.View.{View}
-use Rattle.tl_verdict.specs.declared.fault.MapFault.{MapFault}
 use Rattle.tl_verdict.specs.declared.stop.Stop.{Stop}
 use Rattle.tl_verdict.specs.declared.stop.Stop.TheVariants.{Record, Memory, Device, Budget}
-use Rattle.tl_answers.specs.declared.stop.TheConstants.{DONE, MAP_FAULT, REFUSED, STOPPED, USAGE}
+use Rattle.tl_answers.specs.declared.stop.TheConstants.{DONE, STOPPED, USAGE}
 use Rattle.tl_answers.specs.Running.{IsTold, NamesStop, NamesRecordFault}
 use Rattle.tl_answers.proofs.ToldLemmas.{line_stops}
 use Rattle.tl_making.specs.Opening.{RefusesName, StopsOpening}

@@ -1,10 +1,9 @@
 -- What a picture is drawn of.
-use Rattle.std.proofs.Common.{◌≡◌, ◌≢◌, ◌⊎◌, inl, inr, ℕ, Bool, true, false, List, [], ◌∷◌, map, Some, None, Option, Result, Ok, Err, refl, sym, ap, subst, ◌∙◌, arith}
+use Rattle.std.proofs.Common.{◌≡◌, ◌≢◌, inl, inr, ℕ, Bool, true, false, List, [], ◌∷◌, map, Some, None, Option, Result, Ok, Err, refl, sym, ap, subst, ◌∙◌, arith}
 use Rattle.std.specs.Prelude.{⊤, slice_get}
 use Rattle.std.specs.Option.{IfSome}
 use Rattle.tl_record.specs.declared.layout.Layout.{Layout}
 use Rattle.tl_record.specs.declared.refusal.Refusal.{Refusal}
-use Rattle.tl_record.specs.declared.stop.Cause.{Cause}
 use Rattle.tl_record.specs.Records.{Records as AllRecords, records_of, judgements}
 use Rattle.tl_record.specs.Lines.{raw_lines}
 use Rattle.tl_record.proofs.RefusalLemmas.{first_refusal as first_of_judged}
@@ -26,7 +25,7 @@ use Rattle.tl_verdict.specs.Records.{HaveMap}
 use Rattle.tl_verdict.proofs.OneMap.{same_map}
 use Rattle.tl_listing.specs.declared.listing.Listing.{Listing}
 use Rattle.tl_listing.specs.declared.listing.Listing.TheVariants.{Sound, Refused, Faults}
-use Rattle.tl_listing.specs.Listings.{IsListingOf, AreRecordFaults, AreFaults}
+use Rattle.tl_listing.specs.Listings.{IsListingOf, AreFaults}
 use Rattle.tl_listing.specs.MapFaults.{AreMapFaults}
 use Rattle.tl_all_faults.specs.declared.of_records.Findings.{Findings}
 use Rattle.tl_all_faults.specs.Findings.{AreFindingsOf, IsMapIfAny}

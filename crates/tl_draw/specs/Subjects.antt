@@ -3,10 +3,8 @@ use Rattle.std.specs.Prelude.{◌≡◌, ◌⊎◌, ℕ, Bool, true, false, List
 use Rattle.tl_record.specs.declared.layout.Layout.{Layout}
 use Rattle.tl_record.specs.Records.{records_of}
 use Rattle.tl_drawn.specs.Reading.{IsReadFrom}
-use Rattle.tl_drawn.specs.declared.fault.MapFault.{MapFault as RecordFault}
 use Rattle.tl_county.specs.TheMap.{TheMap}
 use Rattle.tl_verdict.specs.declared.fault.MapFault.{MapFault}
-use Rattle.tl_verdict.specs.declared.stop.Stop.{Stop}
 use Rattle.tl_verdict.specs.declared.stop.Stop.TheVariants.{Record, Memory, Device, Budget}
 use Rattle.tl_verdict.specs.Sound.{IsSound}
 use Rattle.tl_listing.specs.MapFaults.{AreMapFaults}

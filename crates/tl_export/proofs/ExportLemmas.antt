@@ -1,8 +1,7 @@
 -- What is answered of an export.
-use Rattle.std.proofs.Common.{◌≡◌, ◌≢◌, ◌⊎◌, inl, inr, ℕ, Bool, false, List, [], ◌∷◌, map, Option, Some, None, Result, Ok, Err, refl, sym, ap, ◌∙◌}
+use Rattle.std.proofs.Common.{◌≡◌, inl, inr, ℕ, Bool, false, List, [], ◌∷◌, map, Option, None, Result, Ok, Err, refl, sym, ap, ◌∙◌}
 use Rattle.std.specs.Prelude.{⊤}
-use Rattle.std.specs.Option.{IfSome, option_map}
-use Rattle.std.specs.Fmt.{option_append}
+use Rattle.std.specs.Option.{IfSome}
 use Rattle.tl_record.specs.declared.layout.Layout.{Layout}
 use Rattle.tl_record.specs.Records.{records_of}
 use Rattle.tl_county.specs.TheMap.{TheMap}
@@ -11,12 +10,11 @@ use Rattle.tl_drawn.specs.declared.fault.MapStop.TheVariants as map_stop
 use Rattle.tl_drawn.specs.Messages.{fault_text}
 use Rattle.tl_drawn.specs.Reading.{IsReadFrom}
 use Rattle.tl_files.specs.Files.{Under, bytes_under}
-use Rattle.tl_text.specs.Joining.{joined_bytes, closed}
+use Rattle.tl_text.specs.Joining.{joined_bytes}
 use Rattle.tl_output.specs.Writing.{line_of}
 use Rattle.tl_verdict.specs.declared.stop.Stop.{Stop}
 use Rattle.tl_verdict.specs.declared.stop.Stop.TheVariants.{Record, Memory, Device, Budget}
-use Rattle.tl_answers.specs.declared.stop.TheConstants.{DONE, MAP_FAULT, REFUSED, STOPPED, USAGE}
-use Rattle.tl_answers.specs.Running.{NamesRecordFault}
+use Rattle.tl_answers.specs.declared.stop.TheConstants.{USAGE}
 use Rattle.tl_answers.proofs.ToldLemmas.{line_stops}
 use Rattle.tl_files.specs.declared.beginning.FileKind.TheVariants.{Collection}
 use Rattle.tl_making.specs.Opening.{RefusesName, StopsOpening}
@@ -25,9 +23,8 @@ use Rattle.tl_export.specs.declared.exported.Exported.{Exported}
 use Rattle.tl_export.specs.declared.exporting.Exporting.{Exporting}
 use Rattle.tl_export.specs.declared.exporting.Exporting.TheVariants.{Made, Fault}
 use Rattle.tl_export.specs.Told.{exported_text}
-use Rattle.tl_export.specs.Files.{StandsUnder, KeepsBut, KeepsEach}
-use Rattle.tl_export.specs.Exports.{SomeFileFails, Exports, ExportsMap, DrawsMap, IsMadeOf, made_by, unexported_by}
-use Rattle.tl_export.specs.Answering.{TellsExport, IsExported, ExportsOver, records_of_files}
+use Rattle.tl_export.specs.Exports.{SomeFileFails, Exports, ExportsMap, DrawsMap, made_by, unexported_by}
+use Rattle.tl_export.specs.Answering.{TellsExport, ExportsOver, records_of_files}
 
 each_name : {A B C : Type 0} (f : B → C) (h : A → B) (xs : List A) → map (λ x. f (h x)) xs ≡ map f (map h xs)
 each_name f h [] = refl

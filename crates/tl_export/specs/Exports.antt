@@ -1,5 +1,5 @@
 -- What is exported of a map, and of records.
-use Rattle.std.specs.Prelude.{◌≡◌, ◌≢◌, ◌⊎◌, ℕ, Bool, false, Contains, List, Option, Some, None, IfSome, Result, Ok, Err, length, ⊤}
+use Rattle.std.specs.Prelude.{◌≡◌, ◌⊎◌, ℕ, Bool, Contains, List, Option, Some, None, IfSome, Result, Ok, Err, length, ⊤}
 use Rattle.tl_record.specs.declared.layout.Layout.{Layout}
 use Rattle.tl_county.specs.TheMap.{TheMap}
 use Rattle.tl_files.specs.Files.{Under, bytes_under}

@@ -1,5 +1,5 @@
 -- Files that are made of a text.
-use Rattle.std.specs.Prelude.{◌≡◌, ◌≢◌, ◌⊎◌, ℕ, Bool, false, List, Option, Some, IfSome, Result, Ok, Err, ⊤}
+use Rattle.std.specs.Prelude.{◌≡◌, ◌≢◌, ◌⊎◌, ℕ, Bool, false, List, Some, IfSome, Result, Ok, Err, ⊤}
 use Rattle.tl_files.specs.Files.{Under, beside}
 use Rattle.tl_verdict.specs.declared.stop.Stop.{Stop}
 use Rattle.tl_verdict.specs.declared.stop.Stop.TheVariants.{Record, Memory, Device, Budget}

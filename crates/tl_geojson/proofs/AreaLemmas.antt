@@ -1,5 +1,5 @@
 -- Sums over steps and darts.
-use Rattle.std.proofs.Common.{◌≡◌, ℕ, zero, suc, ◌+◌, ◌-◌, ◌*◌, ◌/◌, ◌%◌, ◌<◌, ◌≤◌, ◌^◌, Bool, true, false, inl, inr, List, [], ◌∷◌, length, get_or, set, Some, None, Option, slice_get, refl, sym, ap, ◌∙◌, arith, add-one, ℤ, pos, ◌+ℤ◌, unsigned_abs, reverse}
+use Rattle.std.proofs.Common.{◌≡◌, ℕ, zero, suc, ◌+◌, ◌-◌, ◌/◌, ◌%◌, ◌<◌, ◌≤◌, inl, inr, List, length, get_or, set, Some, None, Option, slice_get, refl, sym, ap, arith, add-one, ℤ, pos, ◌+ℤ◌, unsigned_abs}
 use Rattle.std.proofs.lemmas.Int.{ints}
 use Rattle.std.specs.Prelude.{◌==◌}
 use Rattle.std.proofs.Math.IntN.{+ℤ_idr}
@@ -10,10 +10,10 @@ use Rattle.tl_geom.specs.Plane.{cross}
 use Rattle.tl_county.specs.declared.sides.Side.{Side}
 use Rattle.tl_county.specs.declared.sides.Side.TheVariants.{Outside, Polygon}
 use Rattle.tl_county.specs.TheMap.{MapChain, IsChain}
-use Rattle.tl_county.specs.Darts.{dart_left, directed}
+use Rattle.tl_county.specs.Darts.{directed}
 use Rattle.tl_county.specs.Segments.{segments_before}
 use Rattle.tl_planar.proofs.Numbering.{before_later}
-use Rattle.tl_geojson.specs.Areas.{sum_below, step_cross_at, dart_points, share, area_below}
+use Rattle.tl_geojson.specs.Areas.{sum_below, step_cross_at, dart_points, share}
 
 pub abs_plus : (a b : ℤ) → unsigned_abs (a +ℤ b) ≤ unsigned_abs a + unsigned_abs b
 abs_plus a b = omega (arith, ints)

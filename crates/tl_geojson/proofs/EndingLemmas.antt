@@ -1,9 +1,9 @@
 -- What is answered at the end.
-use Rattle.std.proofs.Common.{◌≡◌, ℕ, Bool, true, false, List, [], ◌++◌, Option, Result, Ok, Err, sym, ap, subst, ◌∙◌, append-nil}
-use Rattle.std.specs.Prelude.{IfErr, IsErr}
+use Rattle.std.proofs.Common.{◌≡◌, ℕ, Bool, true, false, List, [], Option, Result, Ok, Err, sym, ap, subst, ◌∙◌, append-nil}
+use Rattle.std.specs.Prelude.{IfErr}
 use Rattle.std.specs.Io.KnownBytes.{Appends}
 use Rattle.tl_record.specs.Failures.{one_more}
-use Rattle.tl_output.specs.Writing.{PassesOn, PassesSome, TriesToPassOn, CountsFailure, Writes, WritesSome}
+use Rattle.tl_output.specs.Writing.{PassesSome}
 use Rattle.tl_output.proofs.WritingLemmas.{passes_both, passes_some_then, writes_some}
 use Rattle.tl_geojson.specs.declared.stop.PrintStop.{PrintStop}
 use Rattle.tl_geojson.specs.declared.stop.PrintStop.TheVariants.{Memory, Failed}

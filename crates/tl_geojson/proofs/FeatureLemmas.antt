@@ -1,5 +1,5 @@
 -- Features, one behind the other.
-use Rattle.std.proofs.Common.{◌≡◌, ℕ, suc, ◌+◌, ◌<◌, List, [], ◌∷◌, ◌++◌, length-append, refl, sym, ap, ◌∙◌, add-one, slice_get, length, Some, None, arith}
+use Rattle.std.proofs.Common.{◌≡◌, ℕ, suc, ◌+◌, List, [], ◌∷◌, ◌++◌, length-append, refl, sym, ap, ◌∙◌, add-one, slice_get, length, Some}
 use Rattle.tl_geojson.specs.Features.{lead, features_below}
 use Rattle.tl_geom.specs.declared.point.Point.{Point}
 use Rattle.tl_county.specs.declared.sides.Side.{Side}

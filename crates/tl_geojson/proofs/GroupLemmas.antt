@@ -1,14 +1,14 @@
 -- Items by their groups.
-use Rattle.std.proofs.Common.{◌≡◌, ◌≢◌, ◌⊎◌, inl, inr, ℕ, zero, suc, ◌+◌, ◌<◌, ◌≤◌, Bool, true, false, List, [], ◌∷◌, ◌++◌, length, drop, set, get_or, Some, None, Option, refl, sym, ap, subst, ◌∙◌, arith, append_assoc, append-nil, eqb, eqb→eq, drop-cons, add-one}
+use Rattle.std.proofs.Common.{◌≡◌, inl, inr, ℕ, suc, ◌+◌, ◌<◌, ◌≤◌, true, false, List, [], ◌∷◌, ◌++◌, length, drop, set, get_or, Some, None, Option, refl, sym, ap, subst, ◌∙◌, arith, append_assoc, append-nil, drop-cons}
 use Rattle.std.proofs.lemmas.List.{get_or-set_same, get_or-set_other, length-set}
 use Rattle.std.proofs.lemmas.Bool.Decides.{eqb_tells}
 use Rattle.std.proofs.lemmas.Bool.{cases_eq}
 use Rattle.std.proofs.lemmas.List.{length-drop}
-use Rattle.std.specs.Prelude.{codes, slice_index, ◌==◌, if◌then◌else◌}
+use Rattle.std.specs.Prelude.{codes, slice_index, if◌then◌else◌}
 use Rattle.tl_geojson.specs.Printed.{Printed}
 use Rattle.tl_geojson.specs.Printing.{Prints}
 use Rattle.std.specs.List.{flat_map}
-use Rattle.tl_geojson.specs.Groups.{is_group, places_from, places, GoesThrough}
+use Rattle.tl_geojson.specs.Groups.{is_group, places_from, GoesThrough}
 use Rattle.tl_geojson.specs.Features.{separated}
 use Rattle.tl_geojson.proofs.PrinterLemmas.{both, as_text, nothing}
 

@@ -1,10 +1,10 @@
 -- One text printed behind another.
-use Rattle.std.proofs.Common.{◌≡◌, ℕ, Bool, true, false, List, [], ◌++◌, Option, Some, None, Result, Ok, Err, refl, sym, ap, subst, ◌∙◌, append-nil}
+use Rattle.std.proofs.Common.{◌≡◌, ℕ, Bool, true, false, List, [], ◌++◌, Option, Some, None, refl, sym, ap, subst, ◌∙◌, append-nil}
 use Rattle.tl_record.specs.Failures.{one_more}
-use Rattle.tl_output.specs.Writing.{PassesOn, PassesSome, TriesToPassOn, CountsFailure}
-use Rattle.tl_output.proofs.WritingLemmas.{passes_both, passes_some_then, passes_some_more, passes_last, passes_err, counts_err}
+use Rattle.tl_output.specs.Writing.{PassesSome}
+use Rattle.tl_output.proofs.WritingLemmas.{passes_both, passes_some_then, passes_some_more}
 use Rattle.tl_geojson.specs.Printed.{Printed}
-use Rattle.tl_geojson.specs.Printing.{Goes, Prints, EndsAfter, Ends}
+use Rattle.tl_geojson.specs.Printing.{Goes, Prints}
 
 goes_both : (f g h : Bool) (a b c : Option (List ℕ)) (x y z : ℕ) (p q r s t : List ℕ) → Goes f g a b x y p q s → Goes g h b c y z q r t → Goes f h a c x z p r (s ++ t)
 goes_both false false false a b c x y z p q r s t one two = (passes_both _ _ _ _ _ _ _ _ one.0 two.0, two.1 ∙ one.1)

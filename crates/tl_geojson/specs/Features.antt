@@ -1,5 +1,5 @@
 -- The features of chains and of polygons' points, and collections of features.
-use Rattle.std.specs.Prelude.{ℕ, zero, suc, ◌+◌, List, [], ◌∷◌, ◌++◌, length, slice_get, slice_index_or, Option, Some, codes, decimal}
+use Rattle.std.specs.Prelude.{ℕ, zero, suc, ◌+◌, List, [], ◌∷◌, ◌++◌, slice_get, slice_index_or, Option, Some, codes, decimal}
 use Rattle.std.specs.Option.{option_map_or}
 use Rattle.tl_geom.specs.declared.point.Point.{Point}
 use Rattle.tl_county.specs.declared.polygons.Polygon.{Polygon}

@@ -32,8 +32,8 @@ pub fn print_chains<S: Sink>(map: &Map, printer: &mut Printer, out: &mut S)
     }
 }
 
-// Prints the chain of this number.
-fn print_chain<S: Sink>(map: &Map, number: u32, printer: &mut Printer, out: &mut S)
+/// Prints the chain of this number.
+pub fn print_chain<S: Sink>(map: &Map, number: u32, printer: &mut Printer, out: &mut S)
     requires { number < length map.now.chains }
     ensures { Prints S.contents S.failure_count out.old out.new printer.old printer.new (chain_feature map.now number) }
 {

@@ -18,6 +18,7 @@ mod strings;
 mod text;
 
 pub use county::{print_county, print_county_with};
+pub use features::{print_chain, print_lead};
 pub use positions::print_position;
 pub use printer::Printer;
 pub use stop::PrintStop;

@@ -1,20 +1,25 @@
 -- What is told behind a status.
-use Rattle.std.proofs.Common.{◌≡◌, ◌≢◌, ℕ, zero, suc, ◌+◌, ◌<◌, ◌≤◌, List, [], ◌∷◌, ◌++◌, Option, None, Some, IfSome, Result, Ok, Err, IfOk, map, option_map, length, drop, get_or, slice_get, refl, sym, ap, ◌∙◌, arith, append_assoc, append-nil, drop-cons, add-one}
-use Rattle.std.proofs.lemmas.List.{drop_all}
+use Rattle.std.proofs.Common.{◌≡◌, ℕ, zero, suc, ◌+◌, ◌<◌, ◌≤◌, List, [], ◌∷◌, ◌++◌, Option, None, Some, IfSome, Result, Ok, Err, IfOk, map, option_map, length, drop, get_or, slice_get, refl, sym, ap, subst, inl, inr, ◌^◌, Contains, ◌∙◌, arith, append_assoc, append-nil, drop-cons, add-one}
+use Rattle.std.proofs.lemmas.List.{drop_all, length-map, get_or-map}
 use Rattle.std.proofs.lemmas.Option.{slice_get-get_or, slice_get_past}
 use Rattle.tl_record.specs.declared.layout.Layout.{Layout}
 use Rattle.tl_record.specs.declared.stop.Cause.{Cause}
 use Rattle.tl_record.specs.declared.refusal.Refusal.{Refusal}
-use Rattle.tl_record.specs.Searching.{GivesRefusal}
+use Rattle.tl_record.specs.Searching.{GivesRefusal, CountsSkip}
+use Rattle.tl_record.specs.declared.refusal.RefusalStop.{RefusalStop}
+use Rattle.tl_record.specs.declared.refusal.RefusalStop.TheVariants.{Device, Endless}
 use Rattle.tl_record.specs.Refusals.{refusals_of}
 use Rattle.tl_where.specs.LinePlaces.{line_count, place_of}
 use Rattle.tl_where.specs.Finding.{Answers, IsCount}
-use Rattle.tl_text.specs.Joining.{joined}
-use Rattle.tl_files.specs.Files.{Under, bytes_under, trouble_of}
-use Rattle.tl_answers.specs.declared.stop.TheConstants.{REFUSED, STOPPED}
-use Rattle.tl_hint.specs.Hints.{refusal_hint, refusal_at, hint_at, hint_in}
+use Rattle.tl_files.specs.Files.{Under, bytes_under, trouble_of, OfDevice}
+use Rattle.tl_files.specs.declared.file_system.FileStop.{FileStop}
+use Rattle.tl_files.specs.declared.file_system.FileStop.TheVariants as file
+use Rattle.tl_hint.specs.Hints.{refusal_at, hint_at, hint_in}
 use Rattle.tl_hint.specs.Keeping.{IsFirstOf}
-use Rattle.tl_hint.specs.Telling.{HaveTexts, TellsRefusal, TellsWords, TellsTrouble, TellsHint}
+use Rattle.tl_hint.specs.declared.stop.HintStop.{HintStop}
+use Rattle.tl_hint.specs.declared.stop.HintStop.TheVariants as hint
+use Rattle.tl_hint.specs.Again.{IfDevice, SomeUnknown, CountFails, told_of}
+use Rattle.tl_hint.specs.Telling.{HaveTexts, TellsWords, TellsTrouble, TellsHint}
 
 -- what holds of a text that was made holds where it is written
 words_told : (P Q : List ℕ → Type 0) → ((t : List ℕ) → P t → Q t) → (name : List ℕ) (words : Option (List ℕ)) (A B : Type 0) → (A → B) → TellsWords name words P A → TellsWords name words Q B
@@ -74,6 +79,35 @@ named : {A : Type 0} (h : A → List ℕ) (names : List A) (i : ℕ) (name : A) 
 named h [] i name within is = absurd (omega arith)
 named h (first ∷ names) zero name within is = ap h (sym is)
 named h (first ∷ names) (suc i) name within is = named h names i name (omega arith) is
+
+-- ---- why files can't be read again
+
+-- what failed, told more widely
+pub device_for : (P Q : Type 0) (stop : HintStop) → (P → Q) → IfDevice P stop → IfDevice Q stop
+device_for P Q hint.Memory wider of = tt
+device_for P Q hint.Device wider of = wider of
+
+-- it is given up to count the lines of a text that has no end
+has_no_end : (known : Option (List ℕ)) → Answers known IsCount (Err Endless) → IfSome known (λ text. 2 ^ 64 ≤ length text + 1)
+has_no_end None given = tt
+has_no_end (Some text) given = given
+
+module _ {A : Type 0} (h : A → List ℕ) (under : Under) (names : List A) (i : ℕ) (name : A) (told : List ℕ) (within : i < length names) (is : name ≡ get_or names i name) (said : told ≡ h name) where
+  -- it is one of the names
+  among : Contains (map h names) (h name)
+  among = let long = length-map names h in (i, omega (arith, within, long), get_or-map h names i name (h name) within ∙ ap h (sym is))
+
+  -- the file of a name can't be opened again
+  pub unopened : (stop : FileStop) → OfDevice (bytes_under under told ≡ None) stop → IfDevice (SomeUnknown under (map h names)) (told_of stop)
+  unopened file.Memory may = tt
+  unopened file.Device may = (h name, among, ap (bytes_under under) (sym said) ∙ may)
+
+  -- its lines can't be counted
+  pub uncounted : {R : Type 0} (reads : R → ℕ) (old new : R) (known : Option (List ℕ)) (stop : RefusalStop) → known ≡ bytes_under under told → Answers known IsCount (Err stop)
+      → CountsSkip {T = ℕ} (reads old) (reads new) (Err stop) → CountFails reads under (map h names)
+  uncounted reads old new known Device is_text given counts = inr (inl (old, new, counts))
+  uncounted reads old new known Endless is_text given counts =
+      inr (inr (h name, among, subst (λ (text : Option (List ℕ)). IfSome text (λ t. 2 ^ 64 ≤ length t + 1)) (is_text ∙ ap (bytes_under under) said) (has_no_end known given)))
 
 -- ---- the first refused line
 

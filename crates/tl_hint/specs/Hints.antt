@@ -1,5 +1,5 @@
 -- What is said behind a refused line, and behind a device that failed: in which file, where in it, and why.
-use Rattle.std.specs.Prelude.{ℕ, ◌==◌, List, [], ◌∷◌, ◌++◌, Option, None, Some, codes, decimal, map, take, slice_get, slice_index, slice_index_or, if◌then◌else◌}
+use Rattle.std.specs.Prelude.{ℕ, List, [], ◌∷◌, ◌++◌, Option, None, Some, codes, decimal, map, take, slice_get, slice_index, slice_index_or}
 use Rattle.std.specs.Option.{option_map_or, option_and_then}
 use Rattle.tl_record.specs.declared.layout.Layout.{Layout}
 use Rattle.tl_record.specs.declared.stop.Field.{Field}

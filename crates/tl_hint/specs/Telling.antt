@@ -1,6 +1,6 @@
 -- What is told behind a status. `told` says of a text that it was written; nothing is claimed of names under which what stands
 -- isn't known.
-use Rattle.std.specs.Prelude.{◌≡◌, ◌≢◌, ◌⊎◌, ℕ, List, [], ◌∷◌, Option, None, Some, IfSome, map}
+use Rattle.std.specs.Prelude.{◌≡◌, ◌≢◌, ℕ, List, [], ◌∷◌, Option, None, Some, IfSome, map}
 use Rattle.tl_record.specs.declared.layout.Layout.{Layout}
 use Rattle.tl_record.specs.Refusals.{refusals_of}
 use Rattle.tl_output.specs.Writing.{line_of}

@@ -1,6 +1,6 @@
 //! The first refused line of files that are read again.
 
-ghost use Rattle.std.specs.Prelude.{◌≡◌, ℕ, List, Some, IfOk, IfSome, IfNone, map, option_map, string_bytes};
+ghost use Rattle.std.specs.Prelude.{◌≡◌, ℕ, List, Some, IfOk, IfErr, IfSome, IfNone, map, option_map, string_bytes};
 ghost use Rattle.tl_record.specs.Layout.{layout_with};
 ghost use Rattle.tl_record.specs.Refusals.{refusals_of};
 ghost use Rattle.tl_text.specs.Joining.{joined};
@@ -8,10 +8,11 @@ ghost use Rattle.tl_files.specs.Files.{bytes_under};
 ghost use Rattle.tl_where.specs.LinePlaces.{line_count};
 ghost use Rattle.tl_hint.specs.Telling.{HaveTexts};
 ghost use Rattle.tl_hint.specs.Keeping.{IsFirstOf};
+ghost use Rattle.tl_hint.specs.Again.{IfDevice, SomeUnknown, CountFails, told_of};
 
 use crate::stop::HintStop;
 use std::alloc::Global;
-use tl_files::FileSystem;
+use tl_files::{FileStop, FileSystem};
 use tl_record::{Options, RecordReader, Refusal};
 use tl_text::JoinedSources;
 use tl_where::count_lines;
@@ -37,7 +38,8 @@ pub fn first_refusal<F: FileSystem>(
     }
 }
 
-/// The files of these names, opened again, where each can be read from its beginning.
+/// The files of these names, opened again, where each can be read from its beginning. A device fails only where the bytes of
+/// none are known that stand under one of the names.
 pub fn open_again<F: FileSystem>(
     files: &F,
     alloc: Global,
@@ -47,26 +49,29 @@ pub fn open_again<F: FileSystem>(
         ≡ map (λ name. bytes_under (F.under files.now) (string_bytes name)) names.now)) }
     ensures passing { IfOk result (λ found. IfNone found ((texts : List (List ℕ)) →
         ¬ HaveTexts (F.under files.now) (map string_bytes names.now) texts)) }
+    ensures stops { IfErr result (IfDevice (SomeUnknown (F.under files.now) (map string_bytes names.now))) }
 {
     let mut readers = Vec::new(alloc);
     for name in names {
         match files.open_again(alloc, name.as_str()) {
             Ok(Some(file)) => readers.push(file)?,
             Ok(None) => return Ok(None),
-            Err(_) => return Err(HintStop::Device),
+            Err(stop) => return Err(stop_of(stop)),
         }
     }
     Ok(Some(readers))
 }
 
-/// How many lines each of the files of these names has, where each can be read again.
+/// How many lines each of the files of these names has, where each can be read again. A device fails only where one of them
+/// may not be opened, a read failed, or one has no end within 2^64 - 1 bytes.
 pub fn count_all<F: FileSystem>(
     files: &F,
     alloc: Global,
     names: &[String],
 ) -> Result<Option<Vec<u64>>, HintStop>
-    ensures { IfOk result (λ found. (texts : List (List ℕ)) → HaveTexts (F.under files.now) (map string_bytes names.now) texts
+    ensures counted { IfOk result (λ found. (texts : List (List ℕ)) → HaveTexts (F.under files.now) (map string_bytes names.now) texts
         → option_map (λ counts. counts.items) found ≡ Some (map line_count texts)) }
+    ensures stops { IfErr result (IfDevice (CountFails F.Reader.failure_count (F.under files.now) (map string_bytes names.now))) }
 {
     let mut counts = Vec::new(alloc);
     for name in names {
@@ -76,8 +81,18 @@ pub fn count_all<F: FileSystem>(
                 Err(_) => return Err(HintStop::Device),
             },
             Ok(None) => return Ok(None),
-            Err(_) => return Err(HintStop::Device),
+            Err(stop) => return Err(stop_of(stop)),
         }
     }
     Ok(Some(counts))
+}
+
+// Why a file can't be opened again.
+pub(crate) fn stop_of(stop: FileStop) -> HintStop
+    ensures { result ≡ told_of stop }
+{
+    match stop {
+        FileStop::Memory => HintStop::Memory,
+        FileStop::Device => HintStop::Device,
+    }
 }

@@ -10,7 +10,7 @@ ghost use Rattle.tl_where.specs.LinePlaces.{place_pair};
 ghost use Rattle.tl_hint.specs.Telling.{HaveTexts, TellsHint, TellsRefusal, TellsTrouble};
 ghost use Rattle.tl_hint.specs.Hints.{hint_at, hint_in, refusal_at, trouble_text};
 
-use crate::refusal::{count_all, first_refusal};
+use crate::refusal::{count_all, first_refusal, stop_of};
 use crate::shown::push_place;
 use crate::stop::HintStop;
 use std::alloc::{AllocError, Global};
@@ -163,7 +163,7 @@ fn line_at<F: FileSystem>(
     let mut file = match files.open_again(alloc, name.as_str()) {
         Ok(Some(file)) => file,
         Ok(None) => return Ok(text),
-        Err(_) => return Err(HintStop::Device),
+        Err(stop) => return Err(stop_of(stop)),
     };
     let mut buffer = LineBuffer::new();
     match find_line(&mut buffer, &mut file, number) {

@@ -42,8 +42,3 @@ listing_text most (Refused list) = lines told_refusal (printed most list.items) 
 listing_text most (Faults faults points_left) =
     lines map_fault_text (printed most faults.items)
     ++ (left_text points_left ++ count_line (codes "faults=") most (length faults.items))
-
--- the number of a shape pair, where there is one
-abbrev pub pair_text : Option ℕ → List ℕ
-pair_text None = []
-pair_text (Some pair) = decimal pair

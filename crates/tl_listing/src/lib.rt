@@ -8,10 +8,8 @@ mod faults;
 mod line;
 mod listing;
 mod print;
-mod refusals;
 
 pub use faults::fault_line;
 pub use line::{LINE_ROOM, push_key, push_number};
 pub use listing::{Listing, ListingStop};
 pub use print::{first_of, print_listing, text_of_end};
-pub use refusals::refusal_line;

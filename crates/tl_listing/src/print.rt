@@ -10,11 +10,11 @@ ghost use Rattle.tl_listing.specs.Texts.{lines, told_refusal, printed, printed_t
 use crate::faults::fault_line;
 use crate::line::{LINE_ROOM, push_number};
 use crate::listing::Listing;
-use crate::refusals::refusal_line;
 use arrayvec::ArrayString;
 use std::io;
 use tl_output::OutputBuffer;
 use tl_record::{Refusal, Sink};
+use tl_text::refusal_line;
 use tl_verdict::{MapFault, Report};
 
 /// Writes the line of a sound county, or a line for each fault or refusal and how many there are; where a number is

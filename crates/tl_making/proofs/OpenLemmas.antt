@@ -25,7 +25,7 @@ use Rattle.tl_verdict.specs.declared.fault.MapFault.{MapFault}
 use Rattle.tl_verdict.specs.declared.fault.MapFault.TheVariants.{Records, Meet, Side, PolygonPoint, Cell}
 use Rattle.tl_verdict.specs.Records.{LeavesUnread}
 use Rattle.tl_plan.specs.declared.plan.Plan.{Plan}
-use Rattle.tl_plan.specs.declared.plan.Plan.TheVariants.{Show, Landmarks, Locate, Convert, Check, Audit, AuditAll, Build}
+use Rattle.tl_plan.specs.declared.plan.Plan.TheVariants.{Show, Landmarks, Locate, Convert, Check, Audit, Build}
 use Rattle.tl_making.specs.declared.building.Making.{Making}
 use Rattle.tl_making.specs.declared.building.Making.TheVariants.{Made, Fault}
 use Rattle.tl_answers.specs.declared.convert.Converted.{Converted}
@@ -84,7 +84,6 @@ fault_read (Locate point options files) known spelt unread wrote is = is
 fault_read (Convert cert to) known spelt unread wrote is = is
 fault_read (Check cert budget options files) known spelt unread wrote is = fault_read_of (layout_with options) known unread (MayBeSearched (layout_with options) known spelt) wrote is
 fault_read (Audit options files) known spelt unread wrote is = is
-fault_read (AuditAll most options files) known spelt unread wrote is = is
 fault_read (Build to options files) known spelt unread wrote is = is
 
 fault_plain : (plan : Plan) (known spelt other : Option (List ℕ)) (unread : Type 0) (wrote : List ℕ → Type 0) → ReadsNoCertificate plan → FaultsMap plan known spelt unread wrote → FaultsMap plan known other ⊤ wrote
@@ -94,7 +93,6 @@ fault_plain (Locate point options files) known spelt other unread wrote reads is
 fault_plain (Convert cert to) known spelt other unread wrote reads is = is
 fault_plain (Check cert budget options files) known spelt other unread wrote reads is = absurd reads
 fault_plain (Audit options files) known spelt other unread wrote reads is = is
-fault_plain (AuditAll most options files) known spelt other unread wrote reads is = is
 fault_plain (Build to options files) known spelt other unread wrote reads is = is
 
 -- an answer in which no certificate has a part
@@ -106,7 +104,6 @@ answered_plain (Locate point options files) known spelt other made kept wrote re
 answered_plain (Convert cert to) known spelt other made kept wrote reads makes is = absurd reads
 answered_plain (Check cert budget options files) known spelt other made kept wrote reads makes is = absurd reads
 answered_plain (Audit options files) known spelt other made kept wrote reads makes is = is
-answered_plain (AuditAll most options files) known spelt other made kept wrote reads makes is = is
 answered_plain (Build to options files) known spelt other made kept wrote reads makes is = absurd makes
 
 cert_fault_plain : (plan : Plan) (known spelt other : Option (List ℕ)) (wrote : List ℕ → Type 0) → ReadsNoCertificate plan → FaultsCertificate plan known spelt wrote → FaultsCertificate plan known other wrote
@@ -116,7 +113,6 @@ cert_fault_plain (Locate point options files) known spelt other wrote reads is =
 cert_fault_plain (Convert cert to) known spelt other wrote reads is = absurd reads
 cert_fault_plain (Check cert budget options files) known spelt other wrote reads is = absurd reads
 cert_fault_plain (Audit options files) known spelt other wrote reads is = is
-cert_fault_plain (AuditAll most options files) known spelt other wrote reads is = is
 cert_fault_plain (Build to options files) known spelt other wrote reads is = is
 
 -- a beginning of what is true to write, in which no certificate has a part
@@ -124,8 +120,7 @@ breaks_plain : (plan : Plan) (known spelt other : Option (List ℕ)) (unread : T
     → BreaksOff plan known other ⊤ kept part
 breaks_plain plan known spelt other unread made kept part reads makes (inl answered) = inl (answered_plain plan known spelt other made kept part reads makes answered)
 breaks_plain plan known spelt other unread made kept part reads makes (inr (inl fault)) = inr (inl (fault_plain plan known spelt other unread part reads fault))
-breaks_plain plan known spelt other unread made kept part reads makes (inr (inr (inl fault))) = inr (inr (inl (cert_fault_plain plan known spelt other part reads fault)))
-breaks_plain plan known spelt other unread made kept part reads makes (inr (inr (inr refusals))) = inr (inr (inr refusals))
+breaks_plain plan known spelt other unread made kept part reads makes (inr (inr fault)) = inr (inr (cert_fault_plain plan known spelt other part reads fault))
 
 -- a stop, where less is said of a write that failed
 stop_read : (plan : Plan) (known spelt : Option (List ℕ)) (told : List ℕ → Type 0) (failed well same cut broken : Type 0) → (cut → broken) → StopsRun plan known spelt told failed well same cut
@@ -144,7 +139,6 @@ stop_plain (Locate point options files) known spelt other told failed well same 
 stop_plain (Convert cert to) known spelt other told failed well same cut reads (inr spent) = absurd spent.0
 stop_plain (Check cert budget options files) known spelt other told failed well same cut reads (inr spent) = absurd reads
 stop_plain (Audit options files) known spelt other told failed well same cut reads (inr spent) = absurd spent.0
-stop_plain (AuditAll most options files) known spelt other told failed well same cut reads (inr spent) = absurd spent.0
 stop_plain (Build to options files) known spelt other told failed well same cut reads (inr spent) = absurd spent.0
 
 no_usage : (status : ℕ) → IsRunStatus status → status ≢ USAGE
@@ -159,7 +153,7 @@ pub over_plain : (plan : Plan) (under : Under) (known spelt : Option (List ℕ))
     → ReadsNoCertificate plan → MakesNoCertificate plan → known ≡ records_under under plan
     → IsRunStatus status → (status ≡ DONE → IsAnswered plan known spelt made wrote) → (status ≡ MAP_FAULT → FaultsMap plan known spelt unread wrote)
     → ((status ≡ DONE) ⊎ (status ≡ MAP_FAULT) → IsExact plan known status)
-    → (status ≡ CERT_FAULT → FaultsCertificate plan known spelt wrote) → (status ≡ REFUSED → TellsRefused plan known wrote told out_same err_same)
+    → (status ≡ CERT_FAULT → FaultsCertificate plan known spelt wrote) → (status ≡ REFUSED → TellsRefused plan known told out_same)
     → (status ≡ STOPPED → StopsRun plan known spelt told failed ⊤ out_same (BreaksOff plan known spelt unread made part)) → ((status ≡ DONE) ⊎ ((status ≡ MAP_FAULT) ⊎ (status ≡ CERT_FAULT)) → err_same)
     → RunsOver plan status under under wrote told part failed out_same err_same
 over_plain plan under known spelt status unread made wrote told part failed out_same err_same reads makes same is answered fault exactly cert_fault refused stopped err_stays = record {
@@ -185,7 +179,7 @@ pub over_check : (plan : Plan) (name : List ℕ) (under : Under) (known spelt : 
     → IsCheckBy plan name → known ≡ records_under under plan → spelt ≡ bytes_under under name
     → IsRunStatus status → (status ≡ DONE → IsAnswered plan known spelt made wrote) → (status ≡ MAP_FAULT → FaultsMap plan known spelt unread wrote)
     → ((status ≡ DONE) ⊎ (status ≡ MAP_FAULT) → IsExact plan known status)
-    → (status ≡ CERT_FAULT → FaultsCertificate plan known spelt wrote) → (status ≡ REFUSED → TellsRefused plan known wrote told out_same err_same)
+    → (status ≡ CERT_FAULT → FaultsCertificate plan known spelt wrote) → (status ≡ REFUSED → TellsRefused plan known told out_same)
     → (status ≡ STOPPED → StopsRun plan known spelt told failed ⊤ out_same (BreaksOff plan known spelt unread made part)) → ((status ≡ DONE) ⊎ ((status ≡ MAP_FAULT) ⊎ (status ≡ CERT_FAULT)) → err_same)
     → RunsOver plan status under under wrote told part failed out_same err_same
 over_check (Check cert budget options files) name under known spelt status unread made wrote told part failed out_same err_same of is_known is_spelt is answered fault exactly cert_fault refused stopped err_stays =
@@ -200,7 +194,7 @@ over_check (Check cert budget options files) name under known spelt status unrea
       exactly = λ e. subst (λ (k : Option (List ℕ)). IsExact plan k status) is_known (exactly e);
       cert_fault = λ e. subst (λ (k : Option (List ℕ)). FaultsCertificate plan k (certificate_under under plan) wrote) is_known
           (subst (λ (s : Option (List ℕ)). FaultsCertificate plan known s wrote) text (cert_fault e));
-      refused = λ e. subst (λ (k : Option (List ℕ)). TellsRefused plan k wrote told out_same err_same) is_known (refused e);
+      refused = λ e. subst (λ (k : Option (List ℕ)). TellsRefused plan k told out_same) is_known (refused e);
       stopped = λ e. subst (λ (k : Option (List ℕ)). StopsRun plan k (certificate_under under plan) told failed ⊤ out_same (BreaksOff plan k (certificate_under under plan) ⊤ (Stands under plan) part)) is_known
           (subst (λ (s : Option (List ℕ)). StopsRun plan known s told failed ⊤ out_same (BreaksOff plan known s ⊤ (Stands under plan) part)) text
           (stop_read plan known spelt told failed ⊤ out_same (BreaksOff plan known spelt unread made part) (BreaksOff plan known spelt ⊤ (Stands under plan) part)
@@ -217,7 +211,6 @@ over_check (Landmarks options files) name under known spelt status unread made w
 over_check (Locate point options files) name under known spelt status unread made wrote told part failed out_same err_same of is_known is_spelt is answered fault exactly cert_fault refused stopped err_stays = absurd of
 over_check (Convert cert to) name under known spelt status unread made wrote told part failed out_same err_same of is_known is_spelt is answered fault exactly cert_fault refused stopped err_stays = absurd of
 over_check (Audit options files) name under known spelt status unread made wrote told part failed out_same err_same of is_known is_spelt is answered fault exactly cert_fault refused stopped err_stays = absurd of
-over_check (AuditAll most options files) name under known spelt status unread made wrote told part failed out_same err_same of is_known is_spelt is answered fault exactly cert_fault refused stopped err_stays = absurd of
 over_check (Build to options files) name under known spelt status unread made wrote told part failed out_same err_same of is_known is_spelt is answered fault exactly cert_fault refused stopped err_stays = absurd of
 
 -- no certificate is made of a check
@@ -228,7 +221,6 @@ check_makes_none (Landmarks options files) name of = absurd of
 check_makes_none (Locate point options files) name of = absurd of
 check_makes_none (Convert cert to) name of = absurd of
 check_makes_none (Audit options files) name of = absurd of
-check_makes_none (AuditAll most options files) name of = absurd of
 check_makes_none (Build to options files) name of = absurd of
 
 -- a count that is 0 didn't rise and stay
@@ -354,7 +346,6 @@ names_of_build (Locate point options files) name chosen of = absurd of
 names_of_build (Convert cert to) name chosen of = absurd of
 names_of_build (Check cert budget options files) name chosen of = absurd of
 names_of_build (Audit options files) name chosen of = absurd of
-names_of_build (AuditAll most options files) name chosen of = absurd of
 
 names_of_conversion : (plan : Plan) (from to : List ℕ) → IsConversionBy plan from to → (made_by plan ≡ Some to) × (names_read plan ≡ from ∷ [])
 names_of_conversion (Convert cert target) from to of = (ap Some of.1, ap (λ n. n ∷ []) of.0)
@@ -363,7 +354,6 @@ names_of_conversion (Landmarks options files) from to of = absurd of
 names_of_conversion (Locate point options files) from to of = absurd of
 names_of_conversion (Check cert budget options files) from to of = absurd of
 names_of_conversion (Audit options files) from to of = absurd of
-names_of_conversion (AuditAll most options files) from to of = absurd of
 names_of_conversion (Build made options files) from to of = absurd of
 
 pub made_by_build : (plan : Plan) (name : List ℕ) (options : Options) → IsBuildOf plan name options → made_by plan ≡ Some name
@@ -376,7 +366,6 @@ made_by_conversion (Landmarks options files) to of = absurd of
 made_by_conversion (Locate point options files) to of = absurd of
 made_by_conversion (Check cert budget options files) to of = absurd of
 made_by_conversion (Audit options files) to of = absurd of
-made_by_conversion (AuditAll most options files) to of = absurd of
 made_by_conversion (Build made options files) to of = absurd of
 
 pub read_by_check : (plan : Plan) (name : List ℕ) → IsCheckBy plan name → read_by plan ≡ Some name
@@ -386,7 +375,6 @@ read_by_check (Landmarks options files) name of = absurd of
 read_by_check (Locate point options files) name of = absurd of
 read_by_check (Convert cert made) name of = absurd of
 read_by_check (Audit options files) name of = absurd of
-read_by_check (AuditAll most options files) name of = absurd of
 read_by_check (Build made options files) name of = absurd of
 
 pub names_by_conversion : (plan : Plan) (from to : List ℕ) → IsConversionBy plan from to → (read_by plan ≡ Some from) × (made_by plan ≡ Some to)
@@ -396,7 +384,6 @@ names_by_conversion (Landmarks options files) from to of = absurd of
 names_by_conversion (Locate point options files) from to of = absurd of
 names_by_conversion (Check cert budget options files) from to of = absurd of
 names_by_conversion (Audit options files) from to of = absurd of
-names_by_conversion (AuditAll most options files) from to of = absurd of
 names_by_conversion (Build made options files) from to of = absurd of
 
 -- a build, and a conversion, whose certificate may not take its name
@@ -541,7 +528,6 @@ over_build (Locate point options files) name chosen before after known made begu
 over_build (Convert cert to) name chosen before after known made begun wrote told part same failed out_same err_same any making status weaker of is_known makes tells others kept unkept = absurd of
 over_build (Check cert budget options files) name chosen before after known made begun wrote told part same failed out_same err_same any making status weaker of is_known makes tells others kept unkept = absurd of
 over_build (Audit options files) name chosen before after known made begun wrote told part same failed out_same err_same any making status weaker of is_known makes tells others kept unkept = absurd of
-over_build (AuditAll most options files) name chosen before after known made begun wrote told part same failed out_same err_same any making status weaker of is_known makes tells others kept unkept = absurd of
 
 -- ---- a certificate that is written in version 2
 
@@ -597,7 +583,7 @@ over_conversion (Convert cert target) to before after spelt made begun wrote tol
       cert_fault = λ e. (converted_fault text made begun wrote told part same failed out_same err_same answer status rewrites tells e).0;
       refused = λ e. absurd ((no_fault status statuses).1 e);
       stopped = λ e. inl (converted_stopped text made begun wrote told part same failed out_same err_same any ⊤ (BreaksOff plan (records_under before plan) text ⊤ (Stands after plan) part) answer status 0 0 weaker (λ reads written. tt)
-          (λ whole is. inl (converted_stands text made (Stands after plan) part (kept whole) is)) (λ is. inr (inr (inl is)))
+          (λ whole is. inl (converted_stands text made (Stands after plan) part (kept whole) is)) (λ is. inr (inr is))
           (stays_unless cert_stop.Device 0 0 answer refl) rewrites tells e);
       usage = λ e. absurd (no_usage status (cert_status status statuses) e);
       err_stays = λ any. elim any [
@@ -614,5 +600,4 @@ over_conversion (Landmarks options files) to before after spelt made begun wrote
 over_conversion (Locate point options files) to before after spelt made begun wrote told part same failed out_same err_same any answer status weaker of is_known rewrites tells others kept unkept = absurd of
 over_conversion (Check cert budget options files) to before after spelt made begun wrote told part same failed out_same err_same any answer status weaker of is_known rewrites tells others kept unkept = absurd of
 over_conversion (Audit options files) to before after spelt made begun wrote told part same failed out_same err_same any answer status weaker of is_known rewrites tells others kept unkept = absurd of
-over_conversion (AuditAll most options files) to before after spelt made begun wrote told part same failed out_same err_same any answer status weaker of is_known rewrites tells others kept unkept = absurd of
 over_conversion (Build made_name options files) to before after spelt made begun wrote told part same failed out_same err_same any answer status weaker of is_known rewrites tells others kept unkept = absurd of

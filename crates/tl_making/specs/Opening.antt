@@ -8,7 +8,7 @@ use Rattle.tl_files.specs.declared.beginning.FileKind.TheVariants.{Certificate, 
 use Rattle.tl_files.specs.declared.file_system.Room.TheVariants.{Taken, IsRead}
 use Rattle.tl_text.specs.Joining.{joined_bytes, failures_of}
 use Rattle.tl_plan.specs.declared.plan.Plan.{Plan}
-use Rattle.tl_plan.specs.declared.plan.Plan.TheVariants.{Show, Landmarks, Locate, Convert, Check, Audit, AuditAll, Build}
+use Rattle.tl_plan.specs.declared.plan.Plan.TheVariants.{Show, Landmarks, Locate, Convert, Check, Audit, Build}
 use Rattle.tl_plan.specs.CommandLine.{files_of}
 use Rattle.tl_output.specs.Writing.{FailsToWrite, line_of}
 use Rattle.tl_answers.specs.declared.stop.TheConstants.{DONE, MAP_FAULT, CERT_FAULT, REFUSED, STOPPED, USAGE}
@@ -29,7 +29,6 @@ read_by (Locate point options files) = None
 read_by (Convert cert made) = Some (string_bytes cert)
 read_by (Check cert budget options files) = Some (string_bytes cert)
 read_by (Audit options files) = None
-read_by (AuditAll most options files) = None
 read_by (Build made options files) = None
 
 -- the name of the certificate that is made
@@ -40,7 +39,6 @@ made_by (Locate point options files) = None
 made_by (Convert cert made) = Some (string_bytes made)
 made_by (Check cert budget options files) = None
 made_by (Audit options files) = None
-made_by (AuditAll most options files) = None
 made_by (Build made options files) = Some (string_bytes made)
 
 -- the text of the plan's records: of its files, each opened once and in their order, as one text
@@ -137,7 +135,7 @@ pub record RunsOver (plan : Plan) (status : ℕ) (before after : Under) (wrote t
   pub fault : status ≡ MAP_FAULT → FaultsMap plan (records_under before plan) (certificate_under before plan) ⊤ wrote
   pub exactly : (status ≡ DONE) ⊎ (status ≡ MAP_FAULT) → IsExact plan (records_under before plan) status
   pub cert_fault : status ≡ CERT_FAULT → FaultsCertificate plan (records_under before plan) (certificate_under before plan) wrote
-  pub refused : status ≡ REFUSED → TellsRefused plan (records_under before plan) wrote told out_same err_same
+  pub refused : status ≡ REFUSED → TellsRefused plan (records_under before plan) told out_same
   pub stopped : status ≡ STOPPED → StopsRun plan (records_under before plan) (certificate_under before plan) told failed ⊤ out_same
       (BreaksOff plan (records_under before plan) (certificate_under before plan) ⊤ (Stands after plan) part)
   pub usage : status ≡ USAGE → RefusesOut before plan told

@@ -1,11 +1,10 @@
-//! Doing what a plan asks, but for lists of all that is wrong.
+//! Doing what a plan asks.
 
 ghost use Rattle.std.specs.Prelude.{◌≡◌};
 ghost use Rattle.tl_output.specs.Writing.{Writes, WritesSome, FailsToWrite};
 ghost use Rattle.tl_answers.specs.Running.{TriesToWrite, FailsToRead, CountStays};
 ghost use Rattle.tl_answers.specs.Runs.{Runs};
 ghost use Rattle.tl_answers.specs.Beginnings.{Begins};
-ghost use Rattle.tl_answers.specs.Runs.{ListsNothing};
 
 use crate::auditing::audit;
 use crate::building::build;
@@ -17,9 +16,9 @@ use tl_answers::records::run_on_records;
 use tl_plan::Plan;
 use tl_record::{Sink, Source};
 
-/// Does what the plan asks, which is no list of all that is wrong, and gives the program's exit status. What each stream is
-/// for, and what is left alone, is as `run` of `tl_command` says it: what that promises is one clause here.
-pub fn run_without_listing<R: Source, S: Source, C: Sink, W: Sink, E: Sink>(
+/// Does what the plan asks, and gives the program's exit status. What each stream is for, and what is left alone, is as `run` of
+/// `tl_command` says it: what that promises is one clause here, since it has several ways out.
+pub fn run_by<R: Source, S: Source, C: Sink, W: Sink, E: Sink>(
     alloc: Global,
     hasher: RandomState,
     plan: &Plan,
@@ -29,7 +28,6 @@ pub fn run_without_listing<R: Source, S: Source, C: Sink, W: Sink, E: Sink>(
     out: &mut W,
     err: &mut E,
 ) -> u8
-    requires { ListsNothing plan.now }
     ensures { Runs plan.now result (R.remaining records.old) (S.remaining cert.old)
         (Writes C.contents C.failure_count made.old made.new) (Begins C.contents made.old made.new)
         (Writes W.contents W.failure_count out.old out.new) (TriesToWrite E.contents E.failure_count err.old err.new)

@@ -1,20 +1,19 @@
 -- Lines that are held are those of the text.
-use Rattle.std.proofs.Common.{◌≡◌, ℕ, zero, suc, Bool, List, [], ◌∷◌, ◌++◌, Option, None, Some, IfSome, IfOk, IsSomeAnd, length, Result, Ok, Err, Vec, Global, map, option_map, take, slice_get, refl, sym, ap, subst, ◌∙◌}
+use Rattle.std.proofs.Common.{◌≡◌, ℕ, zero, suc, Bool, List, [], ◌∷◌, ◌++◌, Option, None, Some, IfSome, length, take, slice_get, refl, ap, subst}
 use Rattle.tl_record.specs.declared.record.Record.{Record}
 use Rattle.tl_county.specs.TheMap.{MapChain}
 use Rattle.tl_verdict.specs.declared.fault.MapFault.{MapFault}
 use Rattle.tl_verdict.specs.declared.fault.MapFault.TheVariants.{Records, Meet, Side, PolygonPoint, Cell}
 use Rattle.tl_verdict.specs.Messages.{map_fault_text}
 use Rattle.tl_output.specs.Writing.{line_of}
-use Rattle.tl_placing.specs.declared.told.Told.{Told}
-use Rattle.tl_placing.specs.declared.told.Told.TheVariants.{One, All}
+use Rattle.tl_plan.specs.declared.budget.Told.{Told}
+use Rattle.tl_plan.specs.declared.budget.Told.TheVariants.{One, All}
 use Rattle.tl_record_lines.specs.declared.subject.Subject.{Subject}
-use Rattle.tl_record_lines.specs.declared.line.RecordLine.{RecordLine}
 use Rattle.tl_record_lines.specs.declared.lines.RecordLines.{RecordLines}
 use Rattle.tl_record_lines.specs.SpokenOf.{subjects_of, lines_about}
 use Rattle.tl_record_lines.specs.Keeping.{held}
 use Rattle.tl_record_lines.specs.Finding.{HoldsLines, HoldsAll}
-use Rattle.tl_placing.specs.Texts.{lines_for, fault_place, first_point, record_lines_text, spoken_text, placed_fault_text, placed_faults_text, placed_text, chosen, end_text}
+use Rattle.tl_placing.specs.Texts.{lines_for, fault_place, first_point, record_lines_text, placed_fault_text, placed_faults_text, placed_text, chosen, end_text}
 
 module _ (names : List (List ℕ)) (counts : List ℕ) (chains : List MapChain) (entries : List (ℕ × Record)) (kept : RecordLines) where
   -- the lines of a subject
@@ -65,11 +64,3 @@ module _ (names : List (List ℕ)) (counts : List ℕ) (chains : List MapChain) 
 pub of_known : (known : Option (List ℕ)) (text : List ℕ) (P : List ℕ → Type 0) → known ≡ Some text → IfSome known P → P text
 of_known None text P is holds = absurd (let wrong = is in cc)
 of_known (Some other) text P is holds = let same : other ≡ text = let all = is in cc in subst P same holds
-
--- the text that was put together, of counts that are those of the texts
-pub same_whole : (names : List (List ℕ)) (counts right : List ℕ) (chains : List MapChain) (entries : List (ℕ × Record)) (kept : RecordLines) (told : Told) (faults : List MapFault) (points_left : Bool) (made : List ℕ)
-    → Some counts ≡ Some right → HoldsAll chains faults entries kept → made ≡ placed_text names counts chains (held kept) told faults points_left
-    → Some made ≡ Some (placed_text names right chains (lines_about entries) told faults points_left)
-same_whole names counts right chains entries kept told faults points_left made are holds is =
-    let same : counts ≡ right = let all = are in cc in
-    ap (λ (l : List ℕ). Some l) (is ∙ ap (λ (l : List ℕ). placed_text names l chains (held kept) told faults points_left) same ∙ same_text names right chains entries kept told faults points_left holds)

@@ -1,3 +1,3 @@
 -- What the contracts of faults with their places cite.
 pub mod Texts
-pub mod Telling
+pub mod Again

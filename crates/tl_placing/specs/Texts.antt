@@ -17,8 +17,8 @@ use Rattle.tl_where.specs.Degrees.{degrees_text, is_in_reach}
 use Rattle.tl_record_lines.specs.declared.line.RecordLine.{RecordLine}
 use Rattle.tl_record_lines.specs.declared.subject.Subject.{Subject}
 use Rattle.tl_record_lines.specs.SpokenOf.{subjects_of, subjects_of_point}
-use Rattle.tl_placing.specs.declared.told.Told.{Told}
-use Rattle.tl_placing.specs.declared.told.Told.TheVariants.{One, All}
+use Rattle.tl_plan.specs.declared.budget.Told.{Told}
+use Rattle.tl_plan.specs.declared.budget.Told.TheVariants.{One, All}
 use Rattle.tl_listing.specs.Texts.{printed, left_text, count_line}
 
 -- the type of a record, and what it is of

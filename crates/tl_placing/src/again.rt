@@ -1,18 +1,18 @@
-//! Faults with their records, from files that are read again.
+//! The records that faults speak of, from files that are read again.
 
-ghost use Rattle.std.specs.Prelude.{◌≡◌, ℕ, List, Some, IfOk, IsSomeAnd, map, option_map, option_copied, string_bytes};
+ghost use Rattle.std.specs.Prelude.{◌≡◌, ℕ, List, [], IfOk, IfErr, IsSomeAnd, map, option_copied, string_bytes};
 ghost use Rattle.tl_record.specs.Layout.{layout_with};
 ghost use Rattle.tl_record.specs.Records.{records_of};
 ghost use Rattle.tl_text.specs.Joining.{joined};
-ghost use Rattle.tl_where.specs.LinePlaces.{line_count};
 ghost use Rattle.tl_hint.specs.Telling.{HaveTexts};
-ghost use Rattle.tl_record_lines.specs.SpokenOf.{chains_of, lines_about};
+ghost use Rattle.tl_record_lines.specs.declared.subject.Subject.{Subject};
+ghost use Rattle.tl_record_lines.specs.SpokenOf.{chains_of};
 ghost use Rattle.tl_record_lines.specs.Finding.{HoldsAll};
-ghost use Rattle.tl_placing.specs.Texts.{placed_text};
+ghost use Rattle.tl_record_lines.specs.Keeping.{held};
+ghost use Rattle.tl_hint.specs.Again.{IfDevice};
+ghost use Rattle.tl_placing.specs.Again.{AreSpoken, AgainFails};
 
-use crate::text::placed_text;
-use crate::told::Told;
-use std::alloc::Global;
+use std::alloc::{AllocError, Global};
 use std::hash::RandomState;
 use tl_county::Map;
 use tl_files::FileSystem;
@@ -22,44 +22,54 @@ use tl_record_lines::{LinesStop, RecordLines, record_lines};
 use tl_text::JoinedSources;
 use tl_verdict::MapFault;
 
-/// Reads the files of these names again, and puts together what is printed of faults that were found in them, with the
-/// records that they speak of. `None` says that one of the files can't be read again, as a pipe can't.
-pub fn place_again<F: FileSystem>(
+/// What faults speak of, in files.
+#[derive(Drop)]
+pub struct Spoken {
+    /// How many lines each file has; none where they weren't read again.
+    pub counts: Vec<u64>,
+    /// The records that the faults speak of, with their lines.
+    pub lines: RecordLines,
+}
+
+impl Spoken {
+    /// Nothing: no file and no record.
+    pub fn nothing(alloc: Global, hasher: RandomState) -> Result<Spoken, AllocError>
+        ensures counts { IfOk result (λ spoken. spoken.counts.items ≡ []) }
+        ensures lines { IfOk result (λ spoken. (s : Subject) → held spoken.lines s ≡ []) }
+    {
+        let lines = RecordLines::none(alloc, hasher)?;
+        Ok(Spoken {
+            counts: Vec::new(alloc),
+            lines,
+        })
+    }
+}
+
+/// Reads the files of these names again for the records that faults speak of, which were found in them. Where one of the files
+/// can't be read again, as a pipe can't, there are none. Chains of darts are those of the map, where the records have one.
+pub fn read_again<F: FileSystem>(
     files: &F,
     alloc: Global,
     hasher: RandomState,
     names: &[String],
     options: Options,
     drawn: Option<&Map>,
-    told: Told,
     faults: &[MapFault],
-    points_left: bool,
-) -> Result<Option<Vec<u8>>, HintStop>
-    // Where the bytes of all files are known: the text is had, and its lines are those of all records that the faults speak
-    // of, and of no other.
-    ensures { IfOk result (λ found. (texts : List (List ℕ)) → HaveTexts (F.under files.now) (map string_bytes names.now) texts
-        → option_map (λ text. text.items) found ≡ Some (placed_text (map string_bytes names.now) (map line_count texts)
-        (chains_of (option_copied drawn.entry)) (lines_about (records_of (layout_with options) (joined texts)).entries)
-        told faults.now points_left)) }
+) -> Result<Spoken, HintStop>
+    // Where the bytes of all files are known: so many lines have these, and the records are all that the faults speak of, and
+    // no other.
+    ensures spoken { IfOk result (AreSpoken (layout_with options) (F.under files.now) (map string_bytes names.now)
+        (chains_of (option_copied drawn.entry)) faults.now) }
+    // `Device` is answered where one of the files may not be opened, a read failed, or one has no end within 2^64 - 1 bytes, and
+    // nowhere else.
+    ensures stops { IfErr result (IfDevice (AgainFails F.Reader.failure_count (F.under files.now) (map string_bytes names.now))) }
 {
     let Some(counts) = count_all(files, alloc, names)? else {
-        return Ok(None);
+        return Ok(Spoken::nothing(alloc, hasher)?);
     };
     match lines_again(files, alloc, hasher, names, options, drawn, faults)? {
-        Some(lines) => {
-            let text = placed_text(
-                alloc,
-                names,
-                counts.as_slice(),
-                drawn,
-                &lines,
-                told,
-                faults,
-                points_left,
-            )?;
-            Ok(Some(text))
-        }
-        None => Ok(None),
+        Some(lines) => Ok(Spoken { counts, lines }),
+        None => Ok(Spoken::nothing(alloc, hasher)?),
     }
 }
 
@@ -73,9 +83,10 @@ fn lines_again<F: FileSystem>(
     drawn: Option<&Map>,
     faults: &[MapFault],
 ) -> Result<Option<RecordLines>, HintStop>
-    ensures { IfOk result (λ found. (texts : List (List ℕ)) → HaveTexts (F.under files.now) (map string_bytes names.now) texts
+    ensures found { IfOk result (λ found. (texts : List (List ℕ)) → HaveTexts (F.under files.now) (map string_bytes names.now) texts
         → IsSomeAnd found (HoldsAll (chains_of (option_copied drawn.entry)) faults.now
         (records_of (layout_with options) (joined texts)).entries)) }
+    ensures stops { IfErr result (IfDevice (AgainFails F.Reader.failure_count (F.under files.now) (map string_bytes names.now))) }
 {
     let Some(readers) = open_again(files, alloc, names)? else {
         return Ok(None);

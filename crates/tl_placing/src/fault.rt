@@ -31,7 +31,7 @@ pub fn fault_place(map: Option<&Map>, lines: &RecordLines, fault: &MapFault) -> 
 }
 
 /// The lines about a subject, where there is one.
-pub(crate) fn lines_for<'a>(lines: &'a RecordLines, subject: &Option<Subject>) -> &'a [RecordLine]
+pub fn lines_for<'a>(lines: &'a RecordLines, subject: &Option<Subject>) -> &'a [RecordLine]
     ensures { result.now ≡ lines_for (held lines.now) subject.now }
 {
     match subject {

@@ -1,17 +1,14 @@
 //! Faults with the records that they speak of: each in its file and line, and where it lies on the map.
 //!
-//! [`placed_text`] puts together what is printed of a county's faults and the lines of their records.
+//! [`read_again`] reads a county's files once more for the records that faults speak of, and [`placed_text`] puts together what is
+//! printed of the faults and the lines of these.
 #![tactic(auto)]
 
 mod again;
 mod fault;
 mod line;
-mod tell;
 mod text;
-mod told;
 
-pub use again::place_again;
-pub use fault::fault_place;
-pub use tell::tell_placed;
+pub use again::{Spoken, read_again};
+pub use fault::{fault_place, lines_for};
 pub use text::{placed_text, push_faults};
-pub use told::Told;

@@ -7,10 +7,10 @@ ghost use Rattle.tl_placing.specs.Texts.{placed_fault_text, placed_faults_text, 
 
 use crate::fault::{fault_place, lines_for};
 use crate::line::push_record_lines;
-use crate::told::Told;
 use std::alloc::{AllocError, Global};
 use tl_county::Map;
 use tl_listing::{fault_line, first_of, text_of_end};
+use tl_plan::Told;
 use tl_record_lines::{RecordLines, subjects_of};
 use tl_verdict::MapFault;
 

@@ -26,12 +26,10 @@ use Rattle.tl_plan.specs.Points.{Spells}
 use Rattle.tl_plan.specs.Commands.{command_line, convert_name, check_name, locate_name, show_name, landmarks_name, audit_name, build_name, export_name, draw_name}
 use Rattle.tl_plan.specs.CommandLine.{IsStopOf, IsUsage, StopsPlanning, Request, request_in, named_in}
 use Rattle.tl_plan.specs.CommandLine.{IsConversionOf, IsTaskOf, IsWhole, HasFiles, IsBudget, IsView, IsSwitch, AreChosen, AskForTask, AskForTold, AskForFaults}
-use Rattle.tl_plan.specs.Asked.{IsAuditPlan}
-use Rattle.tl_plan.specs.declared.plan.Plan.{Plan}
+use Rattle.tl_plan.specs.Asked.{IsAuditTask}
 use Rattle.tl_plan.specs.declared.budget.Told.{Told}
-use Rattle.tl_plan.specs.declared.budget.Told.TheVariants.{One, All}
 use Rattle.tl_record.specs.declared.options.Options.{Options}
-use Rattle.tl_plan.specs.declared.plan.Plan.TheVariants.{Show, Landmarks, Locate, Convert, Check, Audit, AuditAll, Build}
+use Rattle.tl_plan.specs.declared.plan.Plan.TheVariants.{Show, Landmarks, Locate, Convert, Check, Audit, Build}
 use Rattle.tl_plan.specs.declared.plan.View.{View}
 use Rattle.tl_plan.specs.declared.plan.Task.{Task}
 use Rattle.tl_plan.specs.declared.plan.Task.TheVariants as task
@@ -299,33 +297,48 @@ seen_the_same view at center wide width e f seen =
 pub unseen_the_same : (view : Option View) (at center wide width : Option Text) → at ≡ center → wide ≡ width → ¬ IsView at wide view → ¬ IsView center width view
 unseen_the_same view at center wide width e f unseen seen = unseen (seen_the_same view center at width wide (sym e) (sym f) seen)
 
--- an audit is a plan
-pub audit_planned : (given : Request) (told : Told) (options : Options) (files : List Text) (plan : Plan) (watched : Bool) → given.command ≡ audit_name
-    → AskForTold given.all given.most told → AreChosen given.released given.zero_cells options → given.files ≡ Some files
-    → 0 < length files → IsSwitch given.progress watched → IsAuditPlan told options files plan
-    → IsTaskOf (Some given) (Some (task.Plan plan watched))
-audit_planned given One options files (Audit chosen names) watched named asked are files_are some shown is = (
-  rw (is.0, is.1) (record { given = given; same = refl; named = named; asked = asked; chosen = are; are = files_are; some_file = some }),
-  (given, refl, shown),
-)
-audit_planned given (All most) options files (AuditAll number chosen names) watched named asked are files_are some shown is = (
-  rw (is.0, is.1, is.2) (record { given = given; same = refl; named = named; asked = asked; chosen = are; are = files_are; some_file = some }),
-  (given, refl, shown),
-)
-audit_planned given One options files (AuditAll number chosen names) watched named asked are files_are some shown is = absurd is
-audit_planned given (All most) options files (Audit chosen names) watched named asked are files_are some shown is = absurd is
-audit_planned given One options files (Show chosen names) watched named asked are files_are some shown is = absurd is
-audit_planned given One options files (Landmarks chosen names) watched named asked are files_are some shown is = absurd is
-audit_planned given One options files (Locate point chosen names) watched named asked are files_are some shown is = absurd is
-audit_planned given One options files (Convert cert made) watched named asked are files_are some shown is = absurd is
-audit_planned given One options files (Check cert budget chosen names) watched named asked are files_are some shown is = absurd is
-audit_planned given One options files (Build made chosen names) watched named asked are files_are some shown is = absurd is
-audit_planned given (All most) options files (Show chosen names) watched named asked are files_are some shown is = absurd is
-audit_planned given (All most) options files (Landmarks chosen names) watched named asked are files_are some shown is = absurd is
-audit_planned given (All most) options files (Locate point chosen names) watched named asked are files_are some shown is = absurd is
-audit_planned given (All most) options files (Convert cert made) watched named asked are files_are some shown is = absurd is
-audit_planned given (All most) options files (Check cert budget chosen names) watched named asked are files_are some shown is = absurd is
-audit_planned given (All most) options files (Build made chosen names) watched named asked are files_are some shown is = absurd is
+-- an audit is a plan, or a task of its own
+pub audit_asked : (given : Request) (told : Told) (places : Bool) (made : Option Text) (progress : Bool) (options : Options) (files : List Text) (wanted : Task)
+    → given.command ≡ audit_name → AskForTold given.all given.most told → IsSwitch given.places places → given.geojson ≡ made
+    → AreChosen given.released given.zero_cells options → given.files ≡ Some files → 0 < length files → IsSwitch given.progress progress
+    → IsAuditTask told places made progress options files wanted → IsTaskOf (Some given) (Some wanted)
+audit_asked given told places made progress options files (task.Plan (Audit chosen names) shown) named asked placed geojson are files_are some watched is =
+    rw (is.1.columns, is.1.read, is.1.watched) (
+      record {
+        given = given;
+        same = refl;
+        named = named;
+        asked = subst (λ (t : Told). AskForTold given.all given.most t) is.0.one asked;
+        placed = subst (λ (b : Bool). IsSwitch given.places b) is.0.no_places placed;
+        made = geojson ∙ is.0.no_file;
+        chosen = are;
+        are = files_are;
+        some_file = some;
+      },
+      (given, refl, watched),
+    )
+audit_asked given told places made progress options files (task.List asks with_places to shown chosen names) named asked placed geojson are files_are some watched is =
+    rw (is.1.columns, is.1.read, is.1.watched) (record {
+      given = given;
+      same = refl;
+      named = named;
+      asked = subst (λ (t : Told). AskForTold given.all given.most t) (sym is.0.0) asked;
+      placed = subst (λ (b : Bool). IsSwitch given.places b) (sym is.0.1) placed;
+      to = geojson ∙ sym is.0.2;
+      more = is.0.3;
+      watched = watched;
+      chosen = are;
+      are = files_are;
+      some_file = some;
+    })
+audit_asked given told places made progress options files (task.Plan (Show chosen names) shown) named asked placed geojson are files_are some watched is = absurd is
+audit_asked given told places made progress options files (task.Plan (Landmarks chosen names) shown) named asked placed geojson are files_are some watched is = absurd is
+audit_asked given told places made progress options files (task.Plan (Locate point chosen names) shown) named asked placed geojson are files_are some watched is = absurd is
+audit_asked given told places made progress options files (task.Plan (Convert cert to) shown) named asked placed geojson are files_are some watched is = absurd is
+audit_asked given told places made progress options files (task.Plan (Check cert budget chosen names) shown) named asked placed geojson are files_are some watched is = absurd is
+audit_asked given told places made progress options files (task.Plan (Build to chosen names) shown) named asked placed geojson are files_are some watched is = absurd is
+audit_asked given told places made progress options files (task.Export to chosen names) named asked placed geojson are files_are some watched is = absurd is
+audit_asked given told places made progress options files (task.Draw to view faults chosen names) named asked placed geojson are files_are some watched is = absurd is
 
 -- words that clap takes, and that name a task
 pub one_task : (words : List Text) (found : Option (Text × List Row)) (made : Task) → found ≡ subcommand_of command_line words

@@ -20,7 +20,7 @@ use Rattle.tl_plan.specs.declared.plan.View.{View}
 use Rattle.tl_plan.specs.declared.plan.Task.{Task}
 use Rattle.tl_plan.specs.declared.plan.Task.TheVariants as task
 use Rattle.tl_record.specs.declared.options.Options.{Options}
-use Rattle.tl_plan.specs.declared.plan.Plan.TheVariants.{Show, Landmarks, Locate, Convert, Check, Audit, AuditAll, Build}
+use Rattle.tl_plan.specs.declared.plan.Plan.TheVariants.{Show, Landmarks, Locate, Convert, Check, Audit, Build}
 use Rattle.tl_plan.specs.declared.plan.PlanStop.{PlanStop}
 use Rattle.tl_plan.specs.declared.plan.PlanStop.TheVariants.{Usage, Help, Memory}
 use Rattle.tl_plan.specs.Commands.{command_line, show_name, landmarks_name, locate_name, convert_name, check_name}
@@ -29,8 +29,8 @@ use Rattle.tl_plan.specs.Points.{Spells}
 
 -- a command; what was given for its FILES, if anything was, and the values of its --released, its --zero-cells and its --all,
 -- each of which is the word true where the switch is given; and what was given for its @X,Y, its CERT or --cert, its OUT or
--- --out, its --tests, and its --most; its --progress and its --faults, which are switches; its --geojson, its --at and its
--- --width
+-- --out, its --tests, and its --most; its --progress, its --faults and its --where, which are switches; its --geojson, its --at
+-- and its --width
 pub record Request : Type 0 where
   pub command : Text
   pub files : Option (List Text)
@@ -44,6 +44,7 @@ pub record Request : Type 0 where
   pub most : Option Text
   pub progress : Option Text
   pub faults : Option Text
+  pub places : Option Text
   pub geojson : Option Text
   pub center : Option Text
   pub width : Option Text
@@ -63,6 +64,7 @@ request_in found = record {
   most = first_of (codes "most") found.1;
   progress = first_of (codes "progress") found.1;
   faults = first_of (codes "faults") found.1;
+  places = first_of (codes "where") found.1;
   geojson = first_of (codes "geojson") found.1;
   center = first_of (codes "at") found.1;
   width = first_of (codes "width") found.1;
@@ -83,7 +85,6 @@ command_of (Locate point options files) = locate_name
 command_of (Convert cert made) = convert_name
 command_of (Check cert budget options files) = check_name
 command_of (Audit options files) = audit_name
-command_of (AuditAll most options files) = audit_name
 command_of (Build made options files) = build_name
 
 -- the names of the plan's files, in their order
@@ -94,7 +95,6 @@ files_of (Locate point options files) = map string_bytes files.items
 files_of (Convert cert made) = []
 files_of (Check cert budget options files) = map string_bytes files.items
 files_of (Audit options files) = map string_bytes files.items
-files_of (AuditAll most options files) = map string_bytes files.items
 files_of (Build made options files) = map string_bytes files.items
 
 -- the values of the two switches say what is chosen of the columns
@@ -187,13 +187,35 @@ pub record AsksToCheck (request : Option Request) (cert : Text) (budget : ℕ) (
 abbrev pub IsSwitch : Option Text → Bool → Type 0
 IsSwitch given on = IsTrue on ↔ (given ≡ Some (codes "true"))
 
--- the request names an audit of these files, word for word and in their order, with these switches; `faults` says
--- which faults are asked for, by what was given for --all and for --most
-pub record AsksToAudit (request : Option Request) (faults : (all most : Option Text) → Type 0) (options : Options) (files : List Text) : Type 0 where
+-- the request names an audit of these files, word for word and in their order, with these switches, for one fault and nothing
+-- else: by what was given for --all and for --most, for --where and for --geojson
+pub record AsksToAudit (request : Option Request) (options : Options) (files : List Text) : Type 0 where
   pub given : Request
   pub same : request ≡ Some given
   pub named : given.command ≡ audit_name
-  pub asked : faults given.all given.most
+  pub asked : AskForOne given.all given.most
+  pub placed : IsSwitch given.places false
+  pub made : given.geojson ≡ None
+  pub chosen : AreChosen given.released given.zero_cells options
+  pub are : given.files ≡ Some files
+  pub some_file : 0 < length files
+
+-- more than one fault, or more than its line, or a file of it
+abbrev pub IsMore : Told → (places : Bool) → (made : Option Text) → Type 0
+IsMore One false None = ⊥
+IsMore told places made = ⊤
+
+-- the request names an audit of these files, word for word and in their order, with these switches, that tells so many faults, with
+-- their records or without, and makes this file, word for word, or none; and it is more than one fault's line that is asked for
+pub record AsksToList (request : Option Request) (told : Told) (places : Bool) (made : Option Text) (progress : Bool) (options : Options) (files : List Text) : Type 0 where
+  pub given : Request
+  pub same : request ≡ Some given
+  pub named : given.command ≡ audit_name
+  pub asked : AskForTold given.all given.most told
+  pub placed : IsSwitch given.places places
+  pub to : given.geojson ≡ made
+  pub more : IsMore told places made
+  pub watched : IsSwitch given.progress progress
   pub chosen : AreChosen given.released given.zero_cells options
   pub are : given.files ≡ Some files
   pub some_file : 0 < length files
@@ -262,9 +284,7 @@ IsFor request (Locate point options files) = AsksToLocate request point options 
 IsFor request (Convert cert made) = AsksToConvert request (string_bytes cert) (string_bytes made)
 IsFor request (Check cert budget options files) =
     AsksToCheck request (string_bytes cert) budget options (map string_bytes files.items)
-IsFor request (Audit options files) = AsksToAudit request AskForOne options (map string_bytes files.items)
-IsFor request (AuditAll most options files) =
-    AsksToAudit request (λ all given. AskForAll all given most) options (map string_bytes files.items)
+IsFor request (Audit options files) = AsksToAudit request options (map string_bytes files.items)
 IsFor request (Build made options files) = AsksToBuild request (string_bytes made) options (map string_bytes files.items)
 
 -- the request names a command of the program that wants files alone, and some file
@@ -366,6 +386,8 @@ IsWatched request plan watched = (given : Request) × (request ≡ Some given) �
 -- the request is one for the task
 abbrev pub IsForTask : Option Request → Task → Type 0
 IsForTask request (task.Plan plan progress) = IsFor request plan × IsWatched request plan progress
+IsForTask request (task.List told places made progress options files) =
+    AsksToList request told places (option_map string_bytes made) progress options (map string_bytes files.items)
 IsForTask request (task.Export made options files) = AsksToExport request (string_bytes made) options (map string_bytes files.items)
 IsForTask request (task.Draw made view faults options files) =
     AsksToDraw request (string_bytes made) view faults options (map string_bytes files.items)

@@ -36,7 +36,11 @@ named_argument id = record (new_rule id) { long = Some id; value_names = 1; requ
 abbrev pub all_argument : Rule
 all_argument = switch (codes "all")
 
--- --most N, --tests N, --at @X,Y and --width W: one word
+-- --where: behind each fault stand the records that it speaks of
+abbrev pub where_argument : Rule
+where_argument = switch (codes "where")
+
+-- --most N, --tests N, --at @X,Y, --width W, and --geojson OUT of an audit: one word
 abbrev pub value_argument : Text → Rule
 value_argument id = record (new_rule id) { long = Some id; value_names = 1 }
 
@@ -81,12 +85,14 @@ conversion_app = with_rule (with_rule (new_app convert_name) (name_argument (cod
 abbrev pub on_a_map : App → App
 on_a_map app = with_rule (with_rule (with_rule app zero_cells_argument) released_argument) files_argument
 
--- audit [--all] [--most N] [--progress] [--zero-cells] [--released] FILES..
+-- audit [--all] [--most N] [--where] [--geojson OUT] [--progress] [--zero-cells] [--released] FILES..
 abbrev pub audit_name : Text
 audit_name = codes "audit"
 
 abbrev pub audit_app : App
-audit_app = on_a_map (with_rule (with_rule (with_rule (new_app audit_name) all_argument) most_argument) progress_argument)
+audit_app =
+    on_a_map (with_rule (with_rule (with_rule (with_rule (with_rule (new_app audit_name) all_argument) most_argument) where_argument)
+    (value_argument (codes "geojson"))) progress_argument)
 
 -- build --out CERT [--progress] [--zero-cells] [--released] FILES..
 abbrev pub build_name : Text

@@ -14,14 +14,15 @@ ghost use Rattle.tl_plan.specs.declared.command_line.Named.{Named};
 use crate::help::{
     ABOUT, ALL, AT, AUDIT_ABOUT, AUDIT_EXAMPLE, BUILD_ABOUT, BUILD_EXAMPLE, CHECK_ABOUT,
     CHECK_EXAMPLE, CONVERT_ABOUT, CONVERT_EXAMPLE, DRAW_ABOUT, DRAW_EXAMPLE, EXAMPLES,
-    EXPORT_ABOUT, EXPORT_EXAMPLE, FAULTS, LANDMARKS_ABOUT, LANDMARKS_EXAMPLE, LOCATE_ABOUT,
-    LOCATE_EXAMPLE, MOST, PROGRESS, RELEASED, SHOW_ABOUT, SHOW_EXAMPLE, TESTS, WIDTH, ZERO_CELLS,
+    EXPORT_ABOUT, EXPORT_EXAMPLE, FAULTS, FAULTS_COLLECTION, LANDMARKS_ABOUT, LANDMARKS_EXAMPLE,
+    LOCATE_ABOUT, LOCATE_EXAMPLE, MOST, PROGRESS, RELEASED, SHOW_ABOUT, SHOW_EXAMPLE, TESTS, WHERE,
+    WIDTH, ZERO_CELLS,
 };
 use clap::{Arg, ArgAction, Command};
 use std::alloc::{AllocError, Global};
 
 // The version, and the line of the kit that the program is proved with.
-const VERSION: &str = "0.1.0, proved with rattle-kit-13b logic dac8208d650f15bf";
+const VERSION: &str = "0.1.0, proved with rattle-kit-13f logic dac8208d650f15bf";
 
 /// A command of the program.
 pub enum Named {
@@ -62,6 +63,10 @@ enum Argument {
     Out,
     // --progress
     Progress,
+    // --where
+    Where,
+    // --geojson OUT, of an audit
+    FaultsOption,
     // --geojson OUT
     CollectionOption,
     // --out OUT
@@ -173,6 +178,8 @@ fn arguments_of<'a>(named: &Named) -> &'a [Argument]
         Named::Audit => &[
             Argument::All,
             Argument::Most,
+            Argument::Where,
+            Argument::FaultsOption,
             Argument::Progress,
             Argument::ZeroCells,
             Argument::Released,
@@ -259,6 +266,8 @@ fn told<'a>(alloc: Global, argument: &Argument) -> Arg<'a>
         Argument::Cert => name_argument(alloc, "cert", "CERT", "The certificate that is read"),
         Argument::Out => name_argument(alloc, "out", "OUT", "The certificate that is made"),
         Argument::Progress => switch(alloc, "progress", PROGRESS),
+        Argument::Where => switch(alloc, "where", WHERE),
+        Argument::FaultsOption => option(alloc, "geojson", "OUT", FAULTS_COLLECTION),
         Argument::CollectionOption => {
             needed_option(alloc, "geojson", "OUT", "The file of GeoJSON that is made")
         }

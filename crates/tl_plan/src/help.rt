@@ -9,6 +9,7 @@ Examples:
   tigertopo locate @-78762000,39652000 A.RT*  tells where a point lies
   tigertopo audit TGR24001.RT*                decides whether the map is sound
   tigertopo audit --all --most 20 A.RT*       tells the first 20 faults, and how many there are
+  tigertopo audit --where TGR24001.RT*        tells in which lines of which files a fault's records stand
   tigertopo build --out A.CERT TGR24001.RT*   makes a certificate of a sound map
   tigertopo check --cert A.CERT TGR24001.RT*  decides by a certificate whether the map is sound
   tigertopo convert OLD.CERT NEW.CERT         writes a certificate anew in version 2
@@ -68,9 +69,17 @@ line is `faults=K` or `refused=K`. Where a record is refused no fault is looked 
 a fault their map isn't looked at, and where sides don't agree `points not looked at` says that the
 polygons' points weren't. With --most N the last line is `faults=K printed=P`.
 
+With --where each fault has a line behind it for each record that it speaks of, behind two blanks: the
+file, the line, the record's type, the TLID, polygon or landmark, and where the fault lies, in degrees.
+With --geojson OUT the faults that are told are made a collection of features of RFC 7946, with --all
+all of them: each where it lies, with its code, what it is about and its records, and then the chains
+that they name. Of a sound map the collection is empty. OUT is written as OUT.unfinished and takes its
+name when it is whole. A file that this program hasn't made, or that is one of FILES, is not replaced.
+
 Examples:
   tigertopo audit TGR24001.RT*
-  tigertopo audit --all TGR24001.RT*";
+  tigertopo audit --all --where TGR24001.RT*
+  tigertopo audit --all --geojson TGR24001.geojson TGR24001.RT*";
 
 pub const BUILD_ABOUT: &str = "Makes a certificate of a sound map, in version 2";
 
@@ -130,6 +139,10 @@ Examples:
 
 pub const PROGRESS: &str =
     "Shows how far reading is, once a second, where the error output is a terminal";
+
+pub const WHERE: &str = "Tells behind each fault in which lines of which files its records stand";
+
+pub const FAULTS_COLLECTION: &str = "The file of GeoJSON that is made of the faults";
 
 pub const AT: &str = "The middle of what is drawn, in millionths of a degree; needs --width";
 

@@ -11,4 +11,5 @@ mod refusal;
 mod view;
 pub mod words;
 
+pub use budget::Told;
 pub use plan::{Plan, PlanStop, Task, View};

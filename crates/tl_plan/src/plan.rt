@@ -3,6 +3,7 @@
 ghost use Rattle.std.specs.Prelude.{◌≡◌};
 ghost use Rattle.tl_plan.specs.declared.plan.PlanStop.TheVariants.{Memory};
 
+use crate::budget::Told;
 use std::alloc::AllocError;
 use tl_geom::Point;
 use tl_record::Options;
@@ -45,12 +46,6 @@ pub enum Plan {
         options: Options,
         files: Vec<String>,
     },
-    /// To tell all that is wrong with the map: each fault, or each line that is refused, or the first `most` of them.
-    AuditAll {
-        most: Option<u64>,
-        options: Options,
-        files: Vec<String>,
-    },
     /// To make a certificate of this name, in version 2, where the map is sound.
     Build {
         made: String,
@@ -75,6 +70,17 @@ pub enum Task {
     Plan {
         plan: Plan,
         progress: bool,
+    },
+    /// To tell what is wrong with the map otherwise than a plan does: all of it, or with the records that each fault speaks of
+    /// where `places` asks for them, or with a file of GeoJSON of this name that is made of the faults. Where `progress` is
+    /// asked for, how far it is is shown while files are read.
+    List {
+        told: Told,
+        places: bool,
+        made: Option<String>,
+        progress: bool,
+        options: Options,
+        files: Vec<String>,
     },
     /// To make a file of GeoJSON of this name, of the map.
     Export {
@@ -107,7 +113,6 @@ impl Plan {
             Plan::Convert { .. } => &[],
             Plan::Check { files, .. } => files.as_slice(),
             Plan::Audit { files, .. } => files.as_slice(),
-            Plan::AuditAll { files, .. } => files.as_slice(),
             Plan::Build { files, .. } => files.as_slice(),
         }
     }

@@ -12,7 +12,7 @@ ghost use Rattle.clap.specs.Matches.{found_of};
 ghost use Rattle.tl_plan.specs.Commands.{command_line, show_name, landmarks_name, audit_name, build_name, check_name, locate_name, export_name, draw_name};
 ghost use Rattle.tl_plan.specs.CommandLine.{request_in, named_in};
 ghost use Rattle.tl_plan.specs.CommandLine.{AreChosen, AskForTask, AskForFaults, AskForTold, StopsPlanning, IsSwitch, IsTaskOf, IsConversionOf};
-ghost use Rattle.tl_plan.specs.Asked.{IsAuditPlan};
+ghost use Rattle.tl_plan.specs.Asked.{IsAuditTask};
 ghost use Rattle.tl_plan.specs.Plans.{ShowsNoEscape};
 
 use crate::budget::{Told, budget_of, told_by};
@@ -212,17 +212,33 @@ fn locate_of(alloc: Global, command: &ArgMatches<'_>) -> Result<Option<Task>, Al
 fn audit_of(alloc: Global, command: &ArgMatches<'_>) -> Result<Option<Task>, AllocError>
     ensures { IfOk result (IsTaskOf (Some (request_in (audit_name, rows_of (found_of command.now))))) }
 {
-    let Some(faults) = told_of(command) else {
+    let Some(told) = told_of(command) else {
         return Ok(None);
     };
     let files = files_of(alloc, command)?;
     if files.is_empty() {
         return Ok(None);
     }
-    Ok(Some(Task::Plan {
-        plan: audit_plan(faults, options_with_zero_cells(command), files),
-        progress: switch_of(command, "progress"),
-    }))
+    let made = collection_of(alloc, command)?;
+    Ok(Some(audit_task(
+        told,
+        switch_of(command, "where"),
+        made,
+        switch_of(command, "progress"),
+        options_with_zero_cells(command),
+        files,
+    )))
+}
+
+// The name that the command's words give for a file of GeoJSON, where they give one.
+fn collection_of(alloc: Global, command: &ArgMatches<'_>) -> Result<Option<String>, AllocError>
+    ensures { IfOk result (λ made. option_map string_bytes made
+        ≡ first_of (codes "geojson") (rows_of (found_of command.now))) }
+{
+    match command.get_str("geojson") {
+        Some(name) => Ok(Some(String::from_str(alloc, name)?)),
+        None => Ok(None),
+    }
 }
 
 // How many faults the command's words ask for, by --all and --most. A number without --all asks for none, and so does one that
@@ -237,14 +253,27 @@ fn told_of(command: &ArgMatches<'_>) -> Option<Told>
     told_by(command.get_str("all"), command.get_str("most"))
 }
 
-// The plan of an audit that tells so many faults.
-fn audit_plan(faults: Told, options: Options, files: Vec<String>) -> Plan
-    ensures { IsAuditPlan faults options (map string_bytes files.items) result }
+// The task of an audit that tells so many faults: a plan, where it is one alone and nothing else is asked for.
+fn audit_task(
+    told: Told,
+    places: bool,
+    made: Option<String>,
+    progress: bool,
+    options: Options,
+    files: Vec<String>,
+) -> Task
+    ensures { IsAuditTask told places (option_map string_bytes made) progress options (map string_bytes files.items) result }
 {
-    match faults {
-        Told::One => Plan::Audit { options, files },
-        Told::All(most) => Plan::AuditAll {
-            most,
+    match (told, places, made) {
+        (Told::One, false, None) => Task::Plan {
+            plan: Plan::Audit { options, files },
+            progress,
+        },
+        (told, places, made) => Task::List {
+            told,
+            places,
+            made,
+            progress,
             options,
             files,
         },

@@ -17,7 +17,7 @@ use Rattle.tl_record_lines.specs.declared.subject.Subject.TheVariants as subject
 use Rattle.tl_record_lines.specs.contracts.subject.SubjectPartialEq.TheImpl.{eq-value}
 use Rattle.tl_record_lines.specs.declared.line.RecordLine.{RecordLine}
 use Rattle.tl_record_lines.specs.declared.lines.RecordLines.{RecordLines}
-use Rattle.tl_record_lines.specs.SpokenOf.{Subjects, is_about, line_of}
+use Rattle.tl_record_lines.specs.SpokenOf.{Subjects, is_about}
 use Rattle.tl_record_lines.specs.Keeping.{held, Grows, Notes}
 use Rattle.tl_record_lines.specs.Naming.{subjects_naming, same_subject, is_subject}
 

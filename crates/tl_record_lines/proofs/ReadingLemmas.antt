@@ -1,11 +1,10 @@
 -- How lines are kept while a text is read.
-use Rattle.std.proofs.Common.{◌≡◌, ◌⊎◌, ℕ, zero, suc, ◌+◌, ◌<◌, ◌≤◌, Bool, true, false, not, nat_lt, List, [], ◌∷◌, ◌++◌, Option, None, Some, IfSome, Result, Ok, Err, IfOk, length, get_or, slice_get, refl, sym, ap, subst, ◌∙◌, arith, append_assoc, append-nil, inl, inr, if◌then◌else◌, cond, Vec, Global, Contains, option_map}
+use Rattle.std.proofs.Common.{◌≡◌, ◌⊎◌, ℕ, zero, suc, ◌+◌, ◌<◌, ◌≤◌, Bool, true, nat_lt, List, [], ◌∷◌, ◌++◌, Option, None, Some, IfSome, Result, Ok, Err, IfOk, length, get_or, slice_get, refl, sym, ap, subst, ◌∙◌, arith, append_assoc, append-nil, inl, inr, if◌then◌else◌, Vec, Global, Contains, option_map}
 use Rattle.std.specs.Prelude.{is_some, position}
 use Rattle.std.specs.List.{position_or_len}
 use Rattle.std.specs.Option.{option_map_or}
 use Rattle.std.proofs.lemmas.Bool.{cases_Bool, lt-ltb, ltb-true, ltb-false}
 use Rattle.std.proofs.lemmas.Option.{slice_get-get_or, slice_get_within}
-use Rattle.indexmap.specs.IndexSet.{insert_key}
 use Rattle.tl_record.specs.declared.record.Record.{Record}
 use Rattle.tl_record.specs.declared.layout.Layout.{Layout}
 use Rattle.tl_record.specs.declared.stop.Cause.{Cause}
@@ -22,7 +21,7 @@ use Rattle.tl_record_lines.specs.declared.lines.RecordLines.{RecordLines}
 use Rattle.tl_record_lines.specs.SpokenOf.{Subjects, is_about, line_of, lines_about, subjects_of}
 use Rattle.tl_record_lines.specs.Naming.{same_subject}
 use Rattle.tl_record_lines.specs.Keeping.{held, is_wanted, Notes}
-use Rattle.tl_record_lines.specs.Wanting.{HasSubjects, HasFirst, HasAll}
+use Rattle.tl_record_lines.specs.Wanting.{HasFirst, HasAll}
 use Rattle.tl_record_lines.specs.Finding.{HoldsLines, HoldsAll}
 use Rattle.tl_record_lines.specs.Reading.{KeptSoFar, KeptAll}
 use Rattle.tl_record_lines.proofs.LinesLemmas.{at_number, subject_refl}

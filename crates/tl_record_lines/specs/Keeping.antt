@@ -1,15 +1,12 @@
 -- How lines are kept while the text is read.
-use Rattle.std.specs.Prelude.{◌≡◌, ℕ, ◌==◌, ◌&&◌, Bool, true, false, List, [], ◌∷◌, ◌++◌, Option, None, Some, IfSome, is_some, slice_get, if◌then◌else◌}
+use Rattle.std.specs.Prelude.{◌≡◌, ℕ, Bool, true, List, [], ◌∷◌, ◌++◌, Option, is_some, slice_get, if◌then◌else◌}
 use Rattle.std.specs.Option.{option_map_or}
 use Rattle.indexmap.specs.IndexSet.{index_of}
 use Rattle.tl_record.specs.declared.record.Record.{Record}
-use Rattle.tl_record.specs.declared.record.Record.TheVariants.{Chain, Shape, Sides, PolyPoint, Landmark, AreaLink}
-use Rattle.tl_drawn.specs.MapOf.{same_key}
 use Rattle.tl_record_lines.specs.declared.subject.Subject.{Subject}
-use Rattle.tl_record_lines.specs.declared.subject.Subject.TheVariants as subject
 use Rattle.tl_record_lines.specs.declared.line.RecordLine.{RecordLine}
 use Rattle.tl_record_lines.specs.declared.lines.RecordLines.{RecordLines}
-use Rattle.tl_record_lines.specs.SpokenOf.{Subjects, is_about, line_of}
+use Rattle.tl_record_lines.specs.SpokenOf.{is_about, line_of}
 use Rattle.tl_record_lines.specs.Naming.{same_subject, is_subject}
 
 -- the lines that are kept of a subject

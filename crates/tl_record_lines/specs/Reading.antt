@@ -1,5 +1,5 @@
 -- How lines are kept while a text is read.
-use Rattle.std.specs.Prelude.{◌≡◌, ⊤, true, List, ◌++◌, Option, None, Some}
+use Rattle.std.specs.Prelude.{◌≡◌, ⊤, true, ◌++◌, Option, None, Some}
 use Rattle.tl_record.specs.Records.{Records}
 use Rattle.tl_record_lines.specs.declared.subject.Subject.{Subject}
 use Rattle.tl_record_lines.specs.declared.lines.RecordLines.{RecordLines}

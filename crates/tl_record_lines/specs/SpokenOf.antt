@@ -1,7 +1,7 @@
 -- Which records a fault speaks of.
-use Rattle.std.specs.Prelude.{◌≡◌, ◌⊎◌, ℕ, ◌==◌, ◌&&◌, Bool, true, false, List, [], ◌∷◌, ◌++◌, Option, None, Some, option_map, if◌then◌else◌}
+use Rattle.std.specs.Prelude.{◌≡◌, ◌⊎◌, ℕ, ◌==◌, ◌&&◌, Bool, false, List, [], ◌∷◌, ◌++◌, Option, None, Some, option_map, if◌then◌else◌}
 use Rattle.tl_record.specs.declared.record.Record.{Record}
-use Rattle.tl_record.specs.declared.record.Record.TheVariants.{Chain, Shape, Sides, PolyPoint, Landmark, AreaLink}
+use Rattle.tl_record.specs.declared.record.Record.TheVariants.{Chain, Shape, Sides, PolyPoint, AreaLink}
 use Rattle.tl_county.specs.TheMap.{TheMap, MapChain}
 use Rattle.tl_county.specs.Darts.{chain_of}
 use Rattle.tl_drawn.specs.MapOf.{same_key}

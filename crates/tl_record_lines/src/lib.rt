@@ -16,4 +16,4 @@ pub use line::RecordLine;
 pub use lines::RecordLines;
 pub use read::record_lines;
 pub use stop::LinesStop;
-pub use subject::{Subject, Subjects, subjects_of};
+pub use subject::{Subject, Subjects, subjects_of, tlid_of};

@@ -40,6 +40,13 @@ impl RecordLines {
         Ok(RecordLines { subjects, lines })
     }
 
+    /// No line of any subject.
+    pub fn none(alloc: Global, hasher: RandomState) -> Result<RecordLines, AllocError>
+        ensures { IfOk result (λ lines. (s : SubjectOf) → held lines s ≡ []) }
+    {
+        RecordLines::new(alloc, IndexSet::with_hasher(alloc, hasher))
+    }
+
     /// The records that a subject names, in the order of the text. Of a subject that no fault speaks of there are none.
     pub fn about(&self, subject: &Subject) -> &[RecordLine]
         ensures { result.now ≡ held self.now subject.now }

@@ -121,8 +121,8 @@ fn sides_of(tlid: Option<u64>) -> Option<Subject>
     }
 }
 
-// The TLID of a dart's chain.
-fn tlid_of(map: Option<&Map>, dart: u32) -> Option<u64>
+/// The TLID of a dart's chain.
+pub fn tlid_of(map: Option<&Map>, dart: u32) -> Option<u64>
     ensures { result ≡ tlid_of (chains_of (option_copied map.entry)) dart }
 {
     match map {

@@ -1,5 +1,5 @@
 -- What is drawn of chains, told by what is still to come.
-use Rattle.std.proofs.Common.{◌≡◌, ℕ, zero, suc, ◌+◌, ◌<◌, ◌≤◌, List, [], ◌∷◌, length, get_or, drop, Some, refl, sym, ap, subst, ◌∙◌, arith}
+use Rattle.std.proofs.Common.{◌≡◌, ℕ, suc, ◌+◌, ◌<◌, ◌≤◌, List, [], ◌∷◌, length, get_or, drop, Some, refl, sym, ap, subst, ◌∙◌, arith}
 use Rattle.std.specs.Int.{from_bool}
 use Rattle.std.specs.Prelude.{Bool, true, false, if◌then◌else◌, cond, not, ◌==◌, nat_le, slice_get, fold, Option, None, is_some, MatchOption}
 use Rattle.std.proofs.lemmas.List.{drop_more, at_drop_more, at_drop_all}

@@ -1,5 +1,5 @@
 -- How a map is drawn: how much of it is left out, and what is marked.
-use Rattle.std.specs.Prelude.{ℕ, ◌+◌, ◌*◌, ◌==◌, nat_le, Bool, true, false, ◌&&◌, if◌then◌else◌, List, [], ◌∷◌, length, sum_by, count_by, ℤ, pos, negsuc, int_le, Option, Some, None, slice_get}
+use Rattle.std.specs.Prelude.{ℕ, ◌==◌, nat_le, Bool, false, ◌&&◌, if◌then◌else◌, List, [], ◌∷◌, length, sum_by, count_by, ℤ, pos, negsuc, int_le, Option, Some, None}
 use Rattle.std.specs.Int.{int_div_euclid}
 use Rattle.std.specs.Option.{option_map_or}
 use Rattle.std.specs.Prelude.{nat_eq}

@@ -2,3 +2,4 @@
 pub mod Joining
 pub mod Printing
 pub mod Places
+pub mod Refusals

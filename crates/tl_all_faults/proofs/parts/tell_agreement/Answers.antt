@@ -1,6 +1,4 @@
-use Rattle.std.proofs.Common.{◌≡◌, ◌++◌, ap, map, sym, subst, ◌∙◌}
 use Rattle.std.proofs.lemmas.Result.{err_from_is_err_and}
-use Rattle.tl_all_faults.proofs.OfMap.{agreement_of}
 use Rattle.tl_all_faults.proofs.parts.tell_agreement.Goals as goal
 
 pub returns-in_err-sides : goal.returns-in_err-sides

@@ -1,5 +1,4 @@
-use Rattle.std.proofs.Common.{◌≡◌, ◌≤◌, ◌*◌, ◌^◌, ℕ, subst, arith, length, unsigned_abs}
-use Rattle.tl_geojson.specs.Areas.{area_below}
+use Rattle.std.proofs.Common.{◌≡◌, ◌*◌, arith, length}
 use Rattle.tl_geojson.proofs.areas.doubled_areas.Goals as goal
 
 pub returns : goal.returns

@@ -1,6 +1,5 @@
-use Rattle.std.proofs.Common.{refl}
 use Rattle.tl_geojson.specs.Rings.{county_text_with}
-use Rattle.tl_geojson.proofs.PrinterLemmas.{both, as_text}
+use Rattle.tl_geojson.proofs.PrinterLemmas.{both}
 use Rattle.tl_geojson.proofs.EndingLemmas.{ends_text}
 use Rattle.tl_geojson.proofs.county.print_county_with.Goals as goal
 

@@ -1,4 +1,4 @@
-use Rattle.std.proofs.Common.{sym, ap, ◌+◌, ◌∙◌, arith}
+use Rattle.std.proofs.Common.{arith}
 use Rattle.tl_geojson.specs.Features.{polygon_feature}
 use Rattle.tl_geojson.proofs.PrinterLemmas.{both, as_text}
 use Rattle.tl_geojson.proofs.FeatureLemmas.{one_feature_more}

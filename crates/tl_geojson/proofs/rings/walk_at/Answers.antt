@@ -1,7 +1,4 @@
-use Rattle.std.proofs.Common.{◌≡◌, ◌<◌, ◌*◌, ℕ, ◌∙◌, sym, ap, subst, arith, length, map, Vec, Global}
-use Rattle.std.proofs.lemmas.List.{length-map}
-use Rattle.std.specs.Prelude.{slice_index}
-use Rattle.tl_sides.specs.Lists.{list_at}
+use Rattle.std.proofs.Common.{ℕ, ◌∙◌, sym, ap, arith, map, Vec, Global}
 use Rattle.tl_geojson.proofs.RingLemmas.{list_of_walk, some_in_walk, darts_in_walk, many_lists}
 use Rattle.tl_geojson.proofs.rings.walk_at.Goals as goal
 

@@ -1,5 +1,4 @@
-use Rattle.std.proofs.Common.{List, Option, ℕ, codes, ◌∙◌}
-use Rattle.clap.specs.Walk.{rows_of, first_of}
+use Rattle.std.proofs.Common.{codes, ◌∙◌}
 use Rattle.clap.specs.Matches.{found_of}
 use Rattle.clap.proofs.WalkLemmas.{first_value-rows}
 use Rattle.tl_plan.proofs.WordsLemmas.{told_the_same}

@@ -1,4 +1,4 @@
-use Rattle.std.proofs.Common.{sym, ◌∙◌, subst, List, Contains}
+use Rattle.std.proofs.Common.{sym, ◌∙◌}
 use Rattle.tl_record_lines.proofs.LinesLemmas.{inserted}
 use Rattle.tl_record_lines.proofs.wanted.want.Goals as goal
 

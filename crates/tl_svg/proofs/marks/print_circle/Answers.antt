@@ -1,4 +1,4 @@
-use Rattle.std.proofs.Common.{◌≡◌, ◌∙◌, ap, codes, drop, refl}
+use Rattle.std.proofs.Common.{◌∙◌, ap, codes, refl}
 use Rattle.std.specs.Prelude.{flat_map}
 use Rattle.std.proofs.lemmas.Result.{err_from_is_err_and}
 use Rattle.tl_verdict.specs.Messages.{map_fault_text}

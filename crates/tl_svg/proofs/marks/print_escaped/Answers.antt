@@ -1,7 +1,7 @@
 use Rattle.std.proofs.Common.{◌∙◌}
 use Rattle.std.proofs.lemmas.Result.{err_from_is_err_and}
-use Rattle.tl_svg.specs.Texts.{escaped_byte, fault_text}
-use Rattle.tl_svg.proofs.PassingLemmas.{passing_more, passing_lost, passing_all, flat_next, flat_end}
+use Rattle.tl_svg.specs.Texts.{escaped_byte}
+use Rattle.tl_svg.proofs.PassingLemmas.{passing_more, passing_lost, flat_next}
 use Rattle.tl_svg.proofs.marks.print_escaped.Goals as goal
 
 pub loop-byte-preserved : goal.loop-byte-preserved

@@ -2,7 +2,7 @@ use Rattle.std.proofs.Common.{codes, refl}
 use Rattle.std.specs.Prelude.{flat_map}
 use Rattle.std.proofs.lemmas.Result.{err_from_is_err_and}
 use Rattle.tl_svg.specs.Pictures.{drawn}
-use Rattle.tl_svg.specs.Texts.{nodes_part, drawing_text, ends_text, polygon_text}
+use Rattle.tl_svg.specs.Texts.{nodes_part, ends_text}
 use Rattle.tl_svg.proofs.PassingLemmas.{lost_first, lost_second, three_pieces}
 use Rattle.tl_svg.proofs.print.print_nodes_part.Goals as goal
 

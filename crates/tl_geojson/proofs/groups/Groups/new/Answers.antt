@@ -1,4 +1,4 @@
-use Rattle.std.proofs.Common.{◌≡◌, ◌+◌, ◌-◌, arith, sym, subst, ap, ◌∙◌, get_or, None, Some}
+use Rattle.std.proofs.Common.{◌≡◌, ◌+◌, ◌-◌, arith, subst}
 use Rattle.tl_geojson.proofs.GroupLemmas.{IsLinkedFrom, link_some}
 use Rattle.tl_geojson.proofs.groups.Groups.new.Goals as goal
 

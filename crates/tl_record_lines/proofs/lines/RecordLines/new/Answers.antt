@@ -1,4 +1,3 @@
-use Rattle.std.proofs.Common.{arith, ◌∙◌}
 use Rattle.tl_record_lines.proofs.ReadingLemmas.{numbered, holds_none}
 use Rattle.tl_record_lines.proofs.lines.RecordLines.new.Goals as goal
 

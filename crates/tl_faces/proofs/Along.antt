@@ -1,0 +1,219 @@
+-- Where faces agree, along a line the far side of each segment that meets it is the near side of the next, from the outside to the
+-- outside.
+use Rattle.std.proofs.Common.{◌≡◌, ◌⊎◌, inl, inr, ⊎_elim, ℕ, ◌+◌, ℤ, pos, ◌-ℤ◌, ◌*ℤ◌, ◌≤ℤ◌, Some, List, [], ◌∷◌, length, refl, sym, subst, arith}
+use Rattle.std.specs.Prelude.{slice_get}
+use Rattle.std.proofs.lemmas.Int.{ints}
+use Rattle.tl_geom.specs.declared.rational.Rational.{Rational}
+use Rattle.tl_geom.specs.declared.segment.Segment.{Segment}
+use Rattle.tl_geom.specs.Plane.{IsOn}
+use Rattle.tl_geom.proofs.Polynomials.{num, ◌⊖◌, ◌⊗◌, same}
+use Rattle.tl_county.specs.declared.sides.Side.{Side}
+use Rattle.tl_county.specs.declared.sides.Side.TheVariants.{Outside}
+use Rattle.tl_county.specs.TheMap.{MapChain}
+use Rattle.tl_county.specs.Segments.{segments_before}
+use Rattle.tl_planar.specs.Planar.{IsOnSegment, IsOnChain, IsPlanar}
+use Rattle.tl_planar.proofs.Numbering.{below_total}
+use Rattle.tl_slabs.specs.Neighbours.{IsNumbered}
+use Rattle.tl_slabs.proofs.Numbered.{one_segment, on_same}
+use Rattle.tl_faces.specs.Facing.{IsStrictlyOn, IsClearBetween, IsClearFrom, FacesAgree, step_x, step_y}
+use Rattle.tl_faces.proofs.Steep.{IsSpanned}
+use Rattle.tl_faces.proofs.Bounds.{IsSteep}
+use Rattle.tl_faces.proofs.Numbers.{le_lt, lt_le}
+use Rattle.tl_faces.proofs.Lines.{AreLevel, IsWestward, level_with, level_back}
+use Rattle.tl_faces.proofs.Ends as chain_ends
+use Rattle.tl_faces.proofs.Items.{Item, numbered, of_chain, no_end_of, spanned_by, one_longitude, IsLine}
+use Rattle.tl_faces.proofs.Sorting.{Has, IsSorted, IsListed, IsFound, found, all}
+use Rattle.tl_faces.proofs.Toward.{near_side, far_side, toward_east, toward_west, step_along, between_level, between_first, between_last, ray_level, ray_east, ray_west}
+
+module _ (K : ℤ) (chains : List MapChain) (r : Rational) (line : IsLine K chains r) where
+  abbrev near_of : Item K chains r → Side
+  near_of x = near_side K chains r line x
+
+  abbrev far_of : Item K chains r → Side
+  far_of x = far_side K chains r line x
+
+  -- facing sides agree along a list that begins at one side and ends at the outside
+  abbrev pub AreFacing : Side → List (Item K chains r) → Type 0
+  AreFacing west [] = west ≡ Outside
+  AreFacing west (x ∷ xs) = (west ≡ near_of x) × AreFacing (far_of x) xs
+
+  -- ---- what lies on the line is one of its items
+
+  -- the item that has a place
+  pub record IsAt (q : Rational) (y : Item K chains r) : Type 0 where
+    pub same : q.x *ℤ y.at.place.d ≡ y.at.place.x *ℤ q.d
+
+  module _ (xs : List (Item K chains r)) (listed : IsListed K chains r (segments_before chains (length chains)) xs) where
+    pub item_of : (s : ℕ) (u : Segment) → IsNumbered chains s u → IsSpanned K u r → IsFound K chains r s xs
+    item_of s u is spanned =
+        let below = below_total chains s is.c is.k is.number in
+        let once = listed.once s u below is spanned in
+        found K chains r s xs (omega (arith, once))
+
+    item_at : (c : ℕ) (chain : MapChain) (q : Rational) → slice_get chains c ≡ Some chain → IsOnChain chain.points q → AreLevel K q r → (y : Item K chains r) × Has K chains r y xs × IsAt q y
+    item_at c chain q is on level =
+        let o : IsOnSegment chain.points on.0 q = on.1 in
+        let s : ℕ = segments_before chains c + on.0 in
+        let number : IsNumbered chains s o.segment = chain_ends.numbered chains c chain is on.0 o.segment o.from o.to in
+        let spanned : IsSpanned K o.segment r = spanned_by K chains r line s o.segment number q o.on level in
+        let f : IsFound K chains r s xs = item_of s o.segment number spanned in
+        let y : Item K chains r = f.item in
+        let own : IsNumbered chains s y.segment = subst (λ n. IsNumbered chains n y.segment) (sym f.is) (numbered K chains r y) in
+        let here : IsOn y.segment q = on_same o.segment y.segment q (one_segment chains s o.segment y.segment number own) o.on in (
+          y,
+          f.has,
+          record { same = one_longitude K chains r line s y.segment own q y.at.place here y.at.on (level_with K q y.at.place r level y.at.level) },
+        )
+
+  -- ---- along the line
+
+  -- each place of a chain on the line isn't east of x, or is that of one of these
+  Covers : Item K chains r → List (Item K chains r) → Type 0
+  Covers x rest =
+      (c : ℕ) (chain : MapChain) (q : Rational) → slice_get chains c ≡ Some chain → IsOnChain chain.points q → AreLevel K q r →
+      ((q.x *ℤ x.at.place.d) ≤ℤ (x.at.place.x *ℤ q.d)) ⊎ ((y : Item K chains r) × Has K chains r y rest × IsAt q y)
+
+  strictly_on : (x : Item K chains r) → IsStrictlyOn x.segment x.at.place
+  strictly_on x = record { on = x.at.on; no_end = no_end_of K chains r line x.s x.segment (numbered K chains r x) x.at.place x.at.level }
+
+  times_one : (z : ℤ) → z *ℤ pos 1 ≡ z
+  times_one z = same (num z ⊗ num (pos 1)) (num z) (omega arith)
+
+  times_minus : (z : ℤ) → z *ℤ (pos 0 -ℤ pos 1) ≡ pos 0 -ℤ z
+  times_minus z = same (num z ⊗ (num (pos 0) ⊖ num (pos 1))) (num (pos 0) ⊖ num z) (omega arith)
+
+  module _ (agree : FacesAgree chains) where
+    last_is : (x : Item K chains r) → Covers x [] → far_of x ≡ Outside
+    unfolding Covers
+    last_is x covers =
+        agree.outward x.chain x.segment x.at.place K (pos 1) (far_of x) (of_chain K chains r x) (strictly_on x) free
+        (toward_east K chains r line x K (pos 1) (times_one K) line.above)
+      where
+        free : IsClearFrom chains x.at.place K (pos 1)
+        free t o c chain is on =
+            let p : Rational = x.at.place in
+            let past : IsWestward p t = ray_east K p t K (pos 1) (times_one K) o line.above in
+            let level : AreLevel K t r = level_with K t r p (ray_level K p t K (pos 1) (times_one K) o) (level_back K p r x.at.level) in
+            ⊎_elim (λ le. omega (arith, ints, le, past)) (λ k. k.1) (covers c chain t is on level)
+
+    first_is : (x : Item K chains r) → ((c : ℕ) (chain : MapChain) (q : Rational) → slice_get chains c ≡ Some chain → IsOnChain chain.points q → AreLevel K q r → (x.at.place.x *ℤ q.d) ≤ℤ (q.x *ℤ x.at.place.d)) →
+        Outside ≡ near_of x
+    first_is x least =
+        sym (agree.outward x.chain x.segment x.at.place (pos 0 -ℤ K) (pos 0 -ℤ pos 1) (near_of x) (of_chain K chains r x) (strictly_on x) free
+        (toward_west K chains r line x (pos 0 -ℤ K) (pos 0 -ℤ pos 1) (times_minus K) (let h = line.above in omega (arith, ints, h))))
+      where
+        free : IsClearFrom chains x.at.place (pos 0 -ℤ K) (pos 0 -ℤ pos 1)
+        free t o c chain is on =
+            let p : Rational = x.at.place in
+            let past : IsWestward t p = ray_west K p t (pos 0 -ℤ K) (pos 0 -ℤ pos 1) (times_minus K) o (let h = line.above in omega (arith, ints, h)) in
+            let level : AreLevel K t r = level_with K t r p (ray_level K p t (pos 0 -ℤ K) (pos 0 -ℤ pos 1) (times_minus K) o) (level_back K p r x.at.level) in
+            let le = least c chain t is on level in
+            omega (arith, ints, le, past)
+
+    next_is : (x y : Item K chains r) (rest : List (Item K chains r)) → IsWestward x.at.place y.at.place → ((z : Item K chains r) → Has K chains r z rest → IsWestward y.at.place z.at.place) →
+        Covers x (y ∷ rest) → far_of x ≡ near_of y
+    unfolding Covers
+    next_is x y rest west behind covers =
+        agree.facing x.chain y.chain x.segment y.segment p q (far_of x) (near_of y) (of_chain K chains r x) (of_chain K chains r y) (strictly_on x) (strictly_on y) free
+        (toward_east K chains r line x (step_x p q) (step_y p q) (step_along K p q level) (omega (arith, ints, west)))
+        (toward_west K chains r line y (step_x q p) (step_y q p) (step_along K q p (level_back K p q level)) (omega (arith, ints, west)))
+      where
+        p : Rational
+        p = x.at.place
+
+        q : Rational
+        q = y.at.place
+
+        level : AreLevel K p q
+        level = level_with K p q r x.at.level y.at.level
+
+        free : IsClearBetween chains p q
+        free t b c chain is on =
+            let first : IsWestward p t = between_first K p q t level west b in
+            let last : IsWestward t q = between_last K p q t level west b in
+            let here : AreLevel K t r = level_with K t r p (between_level K p q t level west b) (level_back K p r x.at.level) in
+            ⊎_elim (λ le. omega (arith, ints, le, first))
+            (λ k.
+            let z : Item K chains r = k.0 in
+            let e : t.x *ℤ z.at.place.d ≡ z.at.place.x *ℤ t.d = k.2.same in
+            ⊎_elim
+            (λ one.
+            let f : t.x *ℤ q.d ≡ q.x *ℤ t.d = subst (λ (w : Item K chains r). t.x *ℤ w.at.place.d ≡ w.at.place.x *ℤ t.d) one e in
+            omega (arith, ints, f, last))
+            (λ later.
+            let beyond : IsWestward q z.at.place = behind z later in
+            let past : IsWestward t z.at.place = le_lt t.x t.d q.x q.d z.at.place.x z.at.place.d t.above_zero q.above_zero z.at.place.above_zero (omega (arith, ints, last)) beyond in
+            omega (arith, ints, past, e))
+            k.1)
+            (covers c chain t is on here)
+
+    covers_next : (x y : Item K chains r) (rest : List (Item K chains r)) → IsWestward x.at.place y.at.place → Covers x (y ∷ rest) → Covers y rest
+    unfolding Covers
+    covers_next x y rest west covers c chain t is on level =
+        let p : Rational = x.at.place in let q : Rational = y.at.place in
+        ⊎_elim
+        (λ le. inl (let lt : IsWestward t q = le_lt t.x t.d p.x p.d q.x q.d t.above_zero p.above_zero q.above_zero le west in omega (arith, ints, lt)))
+        (λ k. ⊎_elim
+        (λ one.
+        let e : t.x *ℤ q.d ≡ q.x *ℤ t.d = subst (λ (w : Item K chains r). t.x *ℤ w.at.place.d ≡ w.at.place.x *ℤ t.d) one k.2.same in
+        inl (omega (arith, ints, e)))
+        (λ later. inr (k.0, later, k.2))
+        k.1)
+        (covers c chain t is on level)
+
+    from_item : (x : Item K chains r) (rest : List (Item K chains r)) → IsSorted K chains r (x ∷ rest) → Covers x rest → AreFacing (far_of x) rest
+    from_item x [] sorted covers = last_is x covers
+    from_item x (y ∷ rest) sorted covers =
+        let west : IsWestward x.at.place y.at.place = sorted.0 y (inl refl) in
+        (next_is x y rest west sorted.1.0 covers, from_item y rest sorted.1 (covers_next x y rest west covers))
+
+    -- along the whole line
+    pub facing : (xs : List (Item K chains r)) → IsListed K chains r (segments_before chains (length chains)) xs → AreFacing Outside xs
+    unfolding Covers
+    facing [] listed = refl
+    facing (x ∷ xs) listed = (first_is x least, from_item x xs listed.sorted covers)
+      where
+        least : (c : ℕ) (chain : MapChain) (q : Rational) → slice_get chains c ≡ Some chain → IsOnChain chain.points q → AreLevel K q r → (x.at.place.x *ℤ q.d) ≤ℤ (q.x *ℤ x.at.place.d)
+        least c chain q is on level =
+            let k = item_at (x ∷ xs) listed c chain q is on level in
+            let p : Rational = x.at.place in
+            ⊎_elim
+            (λ one. let e : q.x *ℤ p.d ≡ p.x *ℤ q.d = subst (λ (w : Item K chains r). q.x *ℤ w.at.place.d ≡ w.at.place.x *ℤ q.d) one k.2.same in omega (arith, ints, e))
+            (λ later.
+            let z : Rational = k.0.at.place in
+            let e : q.x *ℤ z.d ≡ z.x *ℤ q.d = k.2.same in
+            let west : IsWestward p z = listed.sorted.0 k.0 later in
+            let past : IsWestward p q = lt_same p z q west (sym e) in
+            omega (arith, ints, past)) k.1
+          where
+            lt_same : (p z q : Rational) → IsWestward p z → z.x *ℤ q.d ≡ q.x *ℤ z.d → IsWestward p q
+            lt_same p z q west e = lt_le p.x p.d z.x z.d q.x q.d p.above_zero z.above_zero q.above_zero west (omega (arith, ints, e))
+
+        covers : Covers x xs
+        covers c chain q is on level =
+            let k = item_at (x ∷ xs) listed c chain q is on level in
+            ⊎_elim
+            (λ one.
+            let e : q.x *ℤ x.at.place.d ≡ x.at.place.x *ℤ q.d = subst (λ (w : Item K chains r). q.x *ℤ w.at.place.d ≡ w.at.place.x *ℤ q.d) one k.2.same in
+            inl (omega (arith, ints, e)))
+            (λ later. inr (k.0, later, k.2)) k.1
+
+-- ---- lists along which facing sides agree
+
+-- all that meets the line, from west to east, and facing sides agree along it
+pub record IsFacedOn (K : ℤ) (chains : List MapChain) (r : Rational) (line : IsLine K chains r) : Type 0 where
+  pub items : List (Item K chains r)
+  pub listed : IsListed K chains r (segments_before chains (length chains)) items
+  pub along : AreFacing K chains r line Outside items
+
+-- there is such a list on each line that is steep enough
+abbrev pub AreFaced : List MapChain → Type 0
+AreFaced chains = (K : ℤ) (r : Rational) → IsSteep K chains r → (line : IsLine K chains r) → IsFacedOn K chains r line
+
+pub on_line : (chains : List MapChain) → IsPlanar chains → FacesAgree chains → (K : ℤ) (r : Rational) (line : IsLine K chains r) → IsFacedOn K chains r line
+on_line chains planar agree K r line =
+    let list : (xs : List (Item K chains r)) × IsListed K chains r (segments_before chains (length chains)) xs = all K chains r line planar in
+    record { items = list.0; listed = list.1; along = facing K chains r line agree list.0 list.1 }
+
+pub by_faces : (chains : List MapChain) → IsPlanar chains → FacesAgree chains → AreFaced chains
+by_faces chains planar agree K r steep line = on_line chains planar agree K r line

@@ -1,0 +1,192 @@
+-- Where facing sides agree along the list of each slab, they do so along each line that is steep enough.
+use Rattle.std.proofs.Common.{◌≡◌, ◌⊎◌, inl, inr, ⊎_elim, ℕ, ◌+◌, ◌≤◌, ℤ, pos, ◌≤ℤ◌, Bool, if◌then◌else◌, List, [], ◌∷◌, refl, sym, ap, subst, ◌∙◌, arith}
+use Rattle.std.specs.Prelude.{slice_get, All}
+use Rattle.std.proofs.lemmas.Bool.{cases_lt}
+use Rattle.std.proofs.lemmas.Int.{ints}
+use Rattle.std.proofs.lemmas.Option.{slice_get_within}
+use Rattle.tl_geom.specs.declared.point.Point.{Point}
+use Rattle.tl_geom.specs.declared.rational.Rational.{Rational}
+use Rattle.tl_geom.specs.Plane.{turn_of}
+use Rattle.tl_county.specs.declared.sides.Side.{Side}
+use Rattle.tl_county.specs.declared.sides.Side.TheVariants.{Outside}
+use Rattle.tl_county.specs.TheMap.{MapChain}
+use Rattle.tl_index.specs.Hits.{times}
+use Rattle.tl_index.proofs.Times.{times-same, same_or, times-other}
+use Rattle.tl_planar.specs.Planar.{IsPlanar}
+use Rattle.tl_planar.specs.Keeping.Apart.{one_found}
+use Rattle.tl_planar.proofs.Numbering.{below_total}
+use Rattle.tl_slabs.specs.Heights.{height, height_of, low_end, high_end, turn_at, Spans, IsNotEast}
+use Rattle.tl_slabs.specs.Neighbours.{IsNumbered, IsWestOf, AreTested, EachTwo}
+use Rattle.tl_slabs.specs.Slabs.{IsActive, IsListOf}
+use Rattle.tl_slabs.proofs.Lying.{heights_of}
+use Rattle.tl_slabs.proofs.Transport.{not_east}
+use Rattle.tl_slabs.proofs.Walking.{IsIn, in_by_times, all_head, all_tail}
+use Rattle.tl_faces.specs.Lists.{west_side, east_side, AreFacingFrom, AreSlabsFacing, AreAllNear}
+use Rattle.tl_faces.proofs.Numbers.{le_lt}
+use Rattle.tl_faces.proofs.Steep.{IsSpanned}
+use Rattle.tl_faces.proofs.Bounds.{IsSteep}
+use Rattle.tl_faces.proofs.Lines.{IsWestward, met, level_with, turn_of_east}
+use Rattle.tl_faces.proofs.Items.{Item, numbered, ends, ends_of_item, one_west, scaled, scaled_above, IsLine}
+use Rattle.tl_faces.proofs.Sorting.{IsSorted, numbers}
+use Rattle.tl_faces.proofs.Toward.{near_side, far_side}
+use Rattle.tl_faces.proofs.Along.{AreFacing, IsFacedOn, AreFaced}
+use Rattle.tl_faces.proofs.Slab.{IsParting, parting, same_rise, same_low, same_high, own_near, active_by, spanned_by_active}
+
+active_in : (P : ℕ → Type 0) (s : ℕ) (xs : List ℕ) → All P xs → IsIn s xs → P s
+active_in P s [] all i = absurd i
+active_in P s (x ∷ xs) all i = ⊎_elim (λ e. subst P (sym e) (all_head P x xs all)) (λ later. active_in P s xs (all_tail P x xs all) later) i
+
+module _ (K : ℤ) (chains : List MapChain) (near : AreAllNear K chains) (planar : IsPlanar chains) (L : ℤ) (r : Rational) (steep : IsSteep L chains r) (line : IsLine L chains r) (n : ℤ) (parts : IsParting K chains near r n) where
+  -- ---- the item of an active segment
+
+  item : (s : ℕ) → IsActive K n chains s → Item L chains r
+  item s a =
+      let is : IsNumbered chains s a.segment = a.is in
+      let same : is.number.chain ≡ is.joins.chain = one_found is.number.chain is.joins.chain (slice_get chains is.c) is.number.is is.joins.is in
+      let spanned : IsSpanned L a.segment r = spanned_by_active K chains near L r steep line n parts s a.segment is a.begun a.lasting in
+      record {
+        s = s;
+        c = is.c;
+        k = is.k;
+        chain = is.joins.chain;
+        segment = a.segment;
+        is = is.joins.is;
+        inside = slice_get_within is.joins.chain.points (is.k + 1) a.segment.b is.joins.to;
+        number = is.number.number;
+        from = is.joins.from;
+        to = is.joins.to;
+        spanned = spanned;
+        at = met L a.segment r (ends L chains r line s a.segment is) spanned;
+      }
+
+  items : (list : List ℕ) → All (IsActive K n chains) list → List (Item L chains r)
+  items [] active = []
+  items (s ∷ list) active = item s (all_head (IsActive K n chains) s list active) ∷ items list (all_tail (IsActive K n chains) s list active)
+
+  numbers_are : (list : List ℕ) (active : All (IsActive K n chains) list) → numbers L chains r (items list active) ≡ list
+  unfolding item items
+  numbers_are [] active = refl
+  numbers_are (s ∷ list) active = ap (λ l. s ∷ l) (numbers_are list (all_tail (IsActive K n chains) s list active))
+
+  -- ---- neighbours that were tested stand from west to east
+
+  low_same : (x : Item L chains r) → low_end K x.segment ≡ low_end L x.segment
+  low_same x = let m = numbered L chains r x in same_low K L x.segment (own_near K chains near L r steep line n parts x.s x.segment m) (steep.ends x.s x.segment m)
+
+  high_same : (x : Item L chains r) → high_end K x.segment ≡ high_end L x.segment
+  high_same x = let m = numbered L chains r x in same_high K L x.segment (own_near K chains near L r steep line n parts x.s x.segment m) (steep.ends x.s x.segment m)
+
+  -- the test by the one height is that by the other
+  west_same : (x y : Item L chains r) → IsWestOf K x.segment y.segment → IsWestOf L x.segment y.segment
+  west_same x y west = record {
+    below = by (low_end K x.segment) (low_end L x.segment) (low_end K y.segment) (low_end L y.segment) (low_end K x.segment) (low_end L x.segment) (low_end K y.segment) (low_end L y.segment)
+        (high_end K x.segment) (high_end L x.segment) (high_end K y.segment) (high_end L y.segment) (low_same x) (low_same y) (low_same x) (low_same y) (high_same x) (high_same y) west.below;
+    above = by (high_end K x.segment) (high_end L x.segment) (high_end K y.segment) (high_end L y.segment) (low_end K x.segment) (low_end L x.segment) (low_end K y.segment) (low_end L y.segment)
+        (high_end K x.segment) (high_end L x.segment) (high_end K y.segment) (high_end L y.segment) (high_same x) (high_same y) (low_same x) (low_same y) (high_same x) (high_same y) west.above;
+  }
+    where
+      by : (p p' q q' a a' b b' c c' d d' : Point) → p ≡ p' → q ≡ q' → a ≡ a' → b ≡ b' → c ≡ c' → d ≡ d' → (pos 0 ≤ℤ turn_of b d p) ⊎ (turn_of a c q ≤ℤ pos 0) → (pos 0 ≤ℤ turn_of b' d' p') ⊎ (turn_of a' c' q' ≤ℤ pos 0)
+      by p p' q q' a a' b b' c c' d d' ep eq ea eb ec ed = ⊎_elim
+          (λ h. inl (subst (λ z. pos 0 ≤ℤ z) (λ i. turn_of (eb i) (ed i) (ep i)) h))
+          (λ h. inr (subst (λ z. z ≤ℤ pos 0) (λ i. turn_of (ea i) (ec i) (eq i)) h))
+
+  spans : (x y : Item L chains r) → Spans L x.segment y.at.place
+  spans x y =
+      let from = x.spanned.from in
+      let to = x.spanned.to in
+      record {
+        from = scaled (height L (low_end L x.segment)) (height_of L r) (height_of L y.at.place) r.d y.at.place.d r.above_zero y.at.place.above_zero (sym y.at.level.is) (omega (arith, ints, from));
+        to = scaled_above (height L (high_end L x.segment)) (height_of L r) (height_of L y.at.place) r.d y.at.place.d r.above_zero y.at.place.above_zero (sym y.at.level.is) (omega (arith, ints, to));
+      }
+
+  adjacent : (x y : Item L chains r) → ¬ (x.s ≡ y.s) → IsWestOf K x.segment y.segment → IsWestward x.at.place y.at.place
+  adjacent x y ne west =
+      let p : Rational = x.at.place in
+      let m = numbered L chains r x in let m' = numbered L chains r y in
+      let ends_x = ends_of_item L chains r line x in
+      let ends_y = ends_of_item L chains r line y in
+      let zero : turn_at (low_end L x.segment) (high_end L x.segment) p ≡ pos 0 = (heights_of L x.segment (low_end L x.segment) (high_end L x.segment) ends_x p x.at.on).0 in
+      let own : IsNotEast L x.segment p = omega (arith, ints, zero) in
+      let there : IsNotEast L y.segment p = not_east L x.segment y.segment (steep.ends x.s x.segment m) (steep.ends y.s y.segment m') (west_same x y west) p (spans x x) (spans y x) own in
+      ⊎_elim (λ lt. lt)
+      (λ back.
+      let turn = turn_of_east L steep.above (low_end L y.segment) (high_end L y.segment) ends_y.rising y.at.place p
+      (heights_of L y.segment (low_end L y.segment) (high_end L y.segment) ends_y y.at.place y.at.on).0 (level_with L y.at.place p r y.at.level x.at.level) back in
+      absurd (omega (arith, ints, turn, there)))
+      (one_west L chains r line planar x y ne)
+
+  sorted_by : (x : Item L chains r) (y : Item L chains r) (ys : List (Item L chains r)) → IsWestward x.at.place y.at.place → IsSorted L chains r (y ∷ ys) → IsSorted L chains r (x ∷ (y ∷ ys))
+  sorted_by x y ys west sorted = (
+    (λ z h. ⊎_elim (λ e. subst (λ (w : Item L chains r). IsWestward x.at.place w.at.place) (sym e) west)
+        (λ later.
+        let p : Rational = x.at.place in let q : Rational = y.at.place in let t : Rational = z.at.place in
+        le_lt p.x p.d q.x q.d t.x t.d p.above_zero q.above_zero t.above_zero (omega (arith, ints, west)) (sorted.0 z later)) h),
+    sorted,
+  )
+
+  sorted_items : (list : List ℕ) (active : All (IsActive K n chains) list) → EachTwo (AreTested K chains) list → ((s : ℕ) → times s list ≤ 1) → IsSorted L chains r (items list active)
+  unfolding item items
+  sorted_items [] active tested once = tt
+  sorted_items (s ∷ []) active tested once = ((λ y h. absurd h), tt)
+  sorted_items (s ∷ (t ∷ list)) active tested once =
+      let rest_active : All (IsActive K n chains) (t ∷ list) = all_tail (IsActive K n chains) s (t ∷ list) active in
+      let first : IsActive K n chains s = all_head (IsActive K n chains) s (t ∷ list) active in
+      let second : IsActive K n chains t = all_head (IsActive K n chains) t list rest_active in
+      let fewer : (i : ℕ) → times i (t ∷ list) ≤ 1 = λ i. fewer_behind i s (t ∷ list) (once i) in
+      sorted_by (item s first) (item t second) (items list (all_tail (IsActive K n chains) t list rest_active))
+      (adjacent (item s first) (item t second) (λ e. twice s t list e (once s)) (tested.0.west first.segment second.segment first.is second.is))
+      (sorted_items (t ∷ list) rest_active tested.1 fewer)
+    where
+      fewer_behind : (i s : ℕ) (xs : List ℕ) → times i (s ∷ xs) ≤ 1 → times i xs ≤ 1
+      fewer_behind i s xs h = same_or i s (λ e. let one = times-same i s xs e in omega (arith, h, one)) (λ ne. let same = times-other i s xs ne in omega (arith, h, same))
+
+      twice : (s t : ℕ) (xs : List ℕ) → s ≡ t → times s (s ∷ (t ∷ xs)) ≤ 1 → ⊥
+      twice s t xs e h =
+          let one = times-same s s (t ∷ xs) refl in
+          let two = times-same s t xs e in
+          omega (arith, h, one, two)
+
+  -- ---- facing sides
+
+  near_is : (s : ℕ) (a : IsActive K n chains s) → west_side K a.is.joins.chain a.segment ≡ near_side L chains r line (item s a)
+  unfolding item
+  near_is s a = ap (λ (t : Bool). if t then a.is.joins.chain.left else a.is.joins.chain.right) (same_rise K L a.segment (own_near K chains near L r steep line n parts s a.segment a.is) (steep.ends s a.segment a.is))
+
+  far_is : (s : ℕ) (a : IsActive K n chains s) → east_side K a.is.joins.chain a.segment ≡ far_side L chains r line (item s a)
+  unfolding item
+  far_is s a = ap (λ (t : Bool). if t then a.is.joins.chain.right else a.is.joins.chain.left) (same_rise K L a.segment (own_near K chains near L r steep line n parts s a.segment a.is) (steep.ends s a.segment a.is))
+
+  facing_items : (list : List ℕ) (active : All (IsActive K n chains) list) (west : Side) → AreFacingFrom K chains west list → AreFacing L chains r line west (items list active)
+  unfolding items
+  facing_items [] active west facing = facing
+  facing_items (s ∷ list) active west facing =
+      let a : IsActive K n chains s = all_head (IsActive K n chains) s list active in
+      let here = facing a.segment a.is in (
+        here.0 ∙ near_is s a,
+        facing_items list (all_tail (IsActive K n chains) s list active) (far_side L chains r line (item s a)) (subst (λ side. AreFacingFrom K chains side list) (far_is s a) here.1),
+      )
+
+  -- ---- the whole list
+
+  of_slab : (list : List ℕ) → IsListOf K n chains list → AreFacingFrom K chains Outside list → IsFacedOn L chains r line
+  of_slab list of facing = record {
+    items = items list of.active;
+    listed = record {
+      sorted = sorted_items list of.active of.tested at_most;
+      below = λ y h. let m = numbered L chains r y in below_total chains y.s m.c m.k m.number;
+      once = λ s u lt is spanned. ap (times s) (numbers_are list of.active) ∙ of.once s (active_by K chains near L r steep line n parts s u is spanned);
+    };
+    along = facing_items list of.active Outside facing;
+  }
+    where
+      at_most : (s : ℕ) → times s list ≤ 1
+      at_most s = elim (cases_lt 0 (times s list)) [
+        | inl some ↦ let one = of.once s (active_in (IsActive K n chains) s list of.active (in_by_times s list some)) in omega (arith, one)
+        | inr none ↦ omega (arith, none)
+      ]
+
+pub by_slabs : (K : ℤ) (chains : List MapChain) → AreAllNear K chains → IsPlanar chains → AreSlabsFacing K chains → AreFaced chains
+by_slabs K chains near planar slabs L r steep line =
+    let parts : (n : ℤ) × IsParting K chains near r n = parting K chains near r in
+    let list : (list : List ℕ) × IsListOf K parts.0 chains list × AreFacingFrom K chains Outside list = slabs parts.0 in
+    of_slab K chains near planar L r steep line parts.0 parts.1 list.0 list.1 list.2

@@ -1,0 +1,6 @@
+-- What the laws cite.
+pub mod Rays
+pub mod Facing
+pub mod Truth
+pub mod Lists
+pub mod Located

@@ -1,0 +1,10 @@
+//! Theorems, and no code: the law of faces. Where chains are planar and the sides that face one another agree, each place that is
+//! on no chain lies in one polygon or outside of all, and each side of each chain names what lies there.
+//!
+//! [`laws`] states it of the definitions in `specs`, which speak of rational points: what lies about a point (`specs/Rays`), which
+//! segments face one another and when their sides agree (`specs/Facing`), and when a side is true (`specs/Truth`). A sweep can
+//! look at lists of the segments that are active at a height, along which facing sides agree (`specs/Lists`): they serve as well,
+//! and where faces agree there are such lists.
+#![tactic(auto)]
+
+pub mod laws;

@@ -1,0 +1,4 @@
+-- Lemmas on what is printed of faults.
+pub mod WordLemmas
+pub mod ListLemmas
+pub mod ChainLemmas

@@ -1,0 +1,6 @@
+-- What the contracts of a map of faults cite.
+pub mod Named
+pub mod Words
+pub mod Places
+pub mod Records
+pub mod Texts

@@ -1,0 +1,2 @@
+-- Lemmas on lists.
+pub mod ListLemmas

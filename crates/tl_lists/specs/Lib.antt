@@ -1,0 +1,4 @@
+-- What the contracts of lists cite.
+pub mod Listings
+pub mod Listed
+pub mod Keeping

@@ -1,0 +1,51 @@
+//! The records that faults speak of, where they are asked for.
+
+ghost use Rattle.std.specs.Prelude.{◌≡◌, true, IfOk, IfErr, map, option_copied, string_bytes};
+ghost use Rattle.tl_record.specs.Layout.{layout_with};
+ghost use Rattle.tl_record_lines.specs.SpokenOf.{chains_of};
+ghost use Rattle.tl_hint.specs.Again.{IfDevice};
+ghost use Rattle.tl_placing.specs.Again.{AreSpoken, AgainFails};
+ghost use Rattle.tl_lists.specs.Listed.{featured};
+
+use std::alloc::Global;
+use std::hash::RandomState;
+use tl_county::Map;
+use tl_files::FileSystem;
+use tl_hint::HintStop;
+use tl_placing::{Spoken, read_again};
+use tl_plan::Told;
+use tl_record::Options;
+use tl_verdict::MapFault;
+
+/// The records that faults speak of, from files that are read again, where they are asked for. A device fails only there.
+pub(crate) fn speak_of<F: FileSystem>(
+    files: &F,
+    alloc: Global,
+    hasher: RandomState,
+    names: &[String],
+    options: Options,
+    drawn: Option<&Map>,
+    again: bool,
+    faults: &[MapFault],
+) -> Result<Spoken, HintStop>
+    ensures spoken { IfOk result (λ spoken. again ≡ true → AreSpoken (layout_with options) (F.under files.now)
+        (map string_bytes names.now) (chains_of (option_copied drawn.entry)) faults.now spoken) }
+    ensures stops { IfErr result (IfDevice ((again ≡ true)
+        × AgainFails F.Reader.failure_count (F.under files.now) (map string_bytes names.now))) }
+{
+    if again {
+        read_again(files, alloc, hasher, names, options, drawn, faults)
+    } else {
+        Ok(Spoken::nothing(alloc, hasher)?)
+    }
+}
+
+/// The faults that a file is made of: the first, or all.
+pub(crate) fn featured(told: Told, faults: &[MapFault]) -> &[MapFault]
+    ensures { result.now ≡ featured told faults.now }
+{
+    match told {
+        Told::One if !faults.is_empty() => &faults[..1],
+        _ => faults,
+    }
+}

@@ -1,0 +1,2 @@
+-- Lemmas on the program.
+pub mod TaskLemmas

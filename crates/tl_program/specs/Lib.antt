@@ -1,0 +1,2 @@
+-- What the program's contracts cite.
+pub mod Tasks
