@@ -1,5 +1,6 @@
 #!/usr/bin/env python3
-"""Measures `tigertopo audit --all` of counties with faults that were planted, beside `audit` of the sound ones.
+"""Measures `tigertopo audit --all` of counties with faults that were planted, beside `audit` of the sound ones, and what it
+takes to tell their records (`--where`) and to make a file of them (`--geojson`).
 
 usage: faulty.py [--counties N,N,..] [--faults N] [--pairs N] [--runs N]
 
@@ -111,9 +112,18 @@ def county_rows(chains, faults, runs):
                f"{times[1] / times[0]:.2f}", f"{peak_of(sound):.1f}", f"{peak_of(listed):.1f}")
 
 
+def placed_rows(chains, faults, runs):
+    made = str(BENCH / "out" / "faults.geojson")
+    for kind, name in KINDS.items():
+        files = faulty_files(chains, kind, faults)
+        commands = [[PROGRAM, "audit", "--all", *more, *files] for more in ([], ["--where"], ["--where", "--geojson", made])]
+        times = medians([(words, 1) for words in commands], runs)
+        yield (f"{chains:,}", name, *(f"{time:.1f}" for time in times), *(f"{peak_of(words):.1f}" for words in commands))
+
+
 def pair_rows(count, runs):
     files = crossing_files(count)
-    for most in ([], ["--most", "20"]):
+    for most in ([], ["--most", "20"], ["--where"]):
         listed = [PROGRAM, "audit", "--all", *most, *files]
         yield f"{count:,}", f"`{' '.join(['--all', *most])}`", last_line(listed), f"{medians(((listed, 1),), runs)[0]:.1f}", f"{peak_of(listed):.1f}"
 
@@ -128,6 +138,9 @@ def main():
     print_table(
         ("Chains", "Planted", "Listed", "`audit` of the sound county, ms", "`audit --all`, ms", "times", "peak MB", "`--all`, peak MB"),
         (row for chains in numbers(words.counties) for row in county_rows(chains, words.faults, words.runs)))
+    print_table(
+        ("Chains", "Planted", "`--all`, ms", "`--where`, ms", "and `--geojson`, ms", "peak MB", "`--where`, peak MB", "and `--geojson`, peak MB"),
+        (row for chains in numbers(words.counties) for row in placed_rows(chains, words.faults, words.runs)))
     print_table(("Segments that all cross", "Command", "Listed", "ms", "peak MB"), pair_rows(words.pairs, words.runs))
 
 
