@@ -3,8 +3,8 @@
 use crate::keys::fixed_keys;
 use crate::maps::SQUARE;
 use std::alloc::{AllocError, Global};
-use tl_program::start::start;
 use tl_memory_files::FilesInMemory;
+use tl_program::start::start;
 use tl_record::MeterOut;
 
 /// Words, and the status and the output that they come to, and the error output.

@@ -26,7 +26,8 @@ pub fn counts_of_a_whole_point()
 
 /// Any sides have one count at a rational point.
 pub fn sides_have_one_count_at_a_place()
-    ensures { (chains : List MapChain) (q : Rational) (S : Side → Bool) (m n : ℤ) → IsCountAt chains q S m → IsCountAt chains q S n → m ≡ n }
+    ensures { (chains : List MapChain) (q : Rational) (S : Side → Bool) (m n : ℤ) → IsCountAt chains q S m →
+        IsCountAt chains q S n → m ≡ n }
 {}
 
 /// Where chains are planar and faces agree, each place that is on no chain lies in one polygon, or outside of all.
@@ -67,8 +68,8 @@ pub fn slabs_have_lists()
 
 /// The sides of a segment by its height are its flanks, unless it runs level to the west: then they are the other way round.
 pub fn flanks_are_sides_by_height()
-    ensures flanks { (K : ℤ) (chains : List MapChain) (s : ℕ) (u : Segment) (n : IsNumbered chains s u) → AreNear K u.a u.b → ¬ RunsWest u →
-        flanks_at chains s ≡ sides_by_height K n.joins.chain u }
+    ensures flanks { (K : ℤ) (chains : List MapChain) (s : ℕ) (u : Segment) (n : IsNumbered chains s u) → AreNear K u.a u.b →
+        ¬ RunsWest u → flanks_at chains s ≡ sides_by_height K n.joins.chain u }
     ensures level { (K : ℤ) (chains : List MapChain) (s : ℕ) (u : Segment) (n : IsNumbered chains s u) → AreNear K u.a u.b → RunsWest u →
         ((flanks_at chains s).near ≡ east_side K n.joins.chain u) × ((flanks_at chains s).far ≡ west_side K n.joins.chain u) }
 {}

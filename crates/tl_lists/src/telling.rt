@@ -112,7 +112,8 @@ fn tell_refused<W: Sink, E: Sink>(
     out: &mut W,
     err: &mut E,
 ) -> u8
-    ensures { (layout : Layout) (known : Option (List ℕ)) (names : List (List ℕ)) (places : Bool) (made : Option (List ℕ)) (under : List ℕ → Option (Option (List ℕ))) →
+    ensures { (layout : Layout) (known : Option (List ℕ)) (names : List (List ℕ)) (places : Bool) (made : Option (List ℕ))
+        (under : List ℕ → Option (Option (List ℕ))) →
         IfSome known (λ text. AreFindingsOf layout text found.now) → AreRefusalsIn found.now.listing list.now →
         Lists layout known names told places made result under under (Writes W.contents W.failure_count out.old out.new)
         (TriesToWrite E.contents E.failure_count err.old err.new) (WritesSome W.contents W.failure_count out.old out.new)
@@ -254,7 +255,8 @@ fn tell_prepared<W: Sink, E: Sink>(
     out: &mut W,
     err: &mut E,
 ) -> u8
-    ensures { (names : List (List ℕ)) (chains : List MapChain) (spoken : Spoken) (places : Bool) (faults : List MapFault) (points_left : Bool) →
+    ensures { (names : List (List ℕ)) (chains : List MapChain) (spoken : Spoken) (places : Bool) (faults : List MapFault)
+        (points_left : Bool) →
         AreFaultsIn listing.now faults points_left → IsPrepared names chains spoken places told faults points_left text.now →
         TellsText (told_text names chains spoken places told faults points_left) result
         (Writes W.contents W.failure_count out.old out.new) (TriesToWrite E.contents E.failure_count err.old err.new)
