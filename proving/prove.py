@@ -67,29 +67,30 @@ class Progress:
         self.share = {it: known.get(it, UNKNOWN_SHARE) for it in names}
         self.left = dict(self.share)
         self.processors = processors
-        self.running = []
+        self.running = {}
         self.begun = time.monotonic()
         self.lock = threading.Lock()
         self.is_terminal = sys.stderr.isatty()
 
     def begins(self, name):
         with self.lock:
-            self.running.append(name)
+            self.running[name] = time.monotonic()
             if self.is_terminal:
                 self.show("")
 
     def ends(self, name):
         with self.lock:
-            self.running.remove(name)
-            del self.left[name]
+            del self.running[name], self.left[name]
             self.show(f"{name} proved, ")
 
     def minutes_left(self):
-        """The shares that are left, at the speed of those that are done; before any is, with two processors at work."""
-        left = sum(self.left.values())
+        """The shares that are left, at the speed of those that are done; of one at work a second is taken as done for each second
+        since it began. Before anything is done two processors are taken to be at work."""
+        now = time.monotonic()
+        at_work = sum(min(now - begun, self.left[name]) for name, begun in self.running.items())
+        left = sum(self.left.values()) - at_work
         done = sum(self.share.values()) - left
-        elapsed = time.monotonic() - self.begun
-        speed = done / elapsed if done else min(2, self.processors)
+        speed = done / (now - self.begun) if done > 1 else min(2, self.processors)
         return max(1, round(left / speed / 60))
 
     def show(self, news):
