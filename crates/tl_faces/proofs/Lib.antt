@@ -25,3 +25,4 @@ pub mod Tests
 pub mod ToSlabs
 pub mod Flanks
 pub mod Located
+pub mod Straight
