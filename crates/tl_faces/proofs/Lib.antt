@@ -26,3 +26,5 @@ pub mod ToSlabs
 pub mod Flanks
 pub mod Located
 pub mod Straight
+pub mod Outside
+pub mod ToFaces

@@ -120,7 +120,7 @@ some_west chains faced p off =
       are_hits k.0 chains p k.1 line (IsWestHit chains p) s.1.front (west_list k.0 chains p k.1 line s.1.front s.1.back s.1.listed s.1.west s.1.east),
     )
 
-west_counted : (chains : List MapChain) → AreFaced chains → (p : Rational) → IsOff chains p → (S : Side → Bool) (n : ℤ) (hits : List ℕ) → S Outside ≡ false →
+pub west_counted : (chains : List MapChain) → AreFaced chains → (p : Rational) → IsOff chains p → (S : Side → Bool) (n : ℤ) (hits : List ℕ) → S Outside ≡ false →
     AreHits (segments_before chains (length chains)) (IsWestHit chains p) hits → n ≡ pos 0 -ℤ balance S (map (flanks_at chains) hits) → IsCountAt chains p S n
 west_counted chains faced p off S n hits none are e =
     let k : (K : ℤ) × IsSteep K chains p = some_steepness chains p in

@@ -66,6 +66,11 @@ pub fn slabs_have_lists()
     ensures { (K : ℤ) (chains : List MapChain) → pos 0 <ℤ K → AreAllNear K chains → IsPlanar chains → FacesAgree chains → AreSlabsFacing K chains }
 {}
 
+/// So such lists show that faces agree: what a sweep can look at is all of it.
+pub fn faces_agree_by_slabs()
+    ensures { (K : ℤ) (chains : List MapChain) → AreAllNear K chains → IsPlanar chains → AreSlabsFacing K chains → FacesAgree chains }
+{}
+
 /// The sides of a segment by its height are its flanks, unless it runs level to the west: then they are the other way round.
 pub fn flanks_are_sides_by_height()
     ensures flanks { (K : ℤ) (chains : List MapChain) (s : ℕ) (u : Segment) (n : IsNumbered chains s u) → AreNear K u.a u.b →
