@@ -1,5 +1,5 @@
 -- What lies at the places of a straight line that meets no chain is one side.
-use Rattle.std.proofs.Common.{◌≡◌, ◌⊎◌, inl, inr, ⊎_elim, ℕ, zero, suc, ◌+◌, ℤ, pos, ◌+ℤ◌, ◌-ℤ◌, ◌*ℤ◌, ◌<ℤ◌, ◌≤ℤ◌, Bool, false, List, length, map, refl, sym, ◌∙◌, arith}
+use Rattle.std.proofs.Common.{◌≡◌, ◌⊎◌, inl, inr, ⊎_elim, ℕ, zero, suc, ◌+◌, ℤ, pos, ◌+ℤ◌, ◌-ℤ◌, ◌*ℤ◌, ◌<ℤ◌, ◌≤ℤ◌, Bool, false, List, length, map, refl, ◌∙◌, arith}
 use Rattle.std.proofs.lemmas.Int.{ints, by_lt_z}
 use Rattle.tl_geom.specs.declared.point.Point.{Point}
 use Rattle.tl_geom.specs.declared.rational.Rational.{Rational}
@@ -20,7 +20,7 @@ use Rattle.tl_slabs.proofs.Lying.{lies_on}
 use Rattle.tl_faces.specs.Rays.{IsCountAt}
 use Rattle.tl_faces.specs.Facing.{IsOff}
 use Rattle.tl_faces.specs.Truth.{LiesAt}
-use Rattle.tl_faces.proofs.Crossing.{IsEastUp, IsWestUp, IsEast, IsWest}
+use Rattle.tl_faces.proofs.Crossing.{IsEastUp, IsWestUp}
 use Rattle.tl_faces.proofs.Steep.{IsNearTo, height_by_latitude}
 use Rattle.tl_faces.proofs.Bounds.{IsSteep, IsFar, far, some_steepness}
 use Rattle.tl_faces.proofs.Items.{IsLine, steep_line}
@@ -260,16 +260,16 @@ module _ (chains : List MapChain) (P : Rational → Type 0) (clear : (r : Ration
   module _ (faced : AreFaced chains) where
     by_ceiling : (p q : Rational) → P p → P q → HaveOneCeiling p q → IsAlike p q
     by_ceiling p q at at' one = alike_by p q (λ S n none k.
-      let hits : (list : List ℕ) × AreHits (segments_before chains (length chains)) (IsWestHit chains p) list = some_west chains faced p (clear p at) in
-      let own : IsCountAt chains p S (pos 0 -ℤ balance S (map (flanks_at chains) hits.0)) =
-      west_counted chains faced p (clear p at) S (pos 0 -ℤ balance S (map (flanks_at chains) hits.0)) hits.0 none hits.1 refl in
-      west_counted chains faced q (clear q at') S n hits.0 none
-      (record {
-        once = λ i lt h. hits.1.once i lt (west_passed q p at' at (record { to = one.back; back = one.to }) i h);
-        others = λ i no. hits.1.others i (λ h. no (west_passed p q at at' one i h));
-        known = hits.1.known;
-      })
-      (one_count chains p S n (pos 0 -ℤ balance S (map (flanks_at chains) hits.0)) k own))
+        let hits : (list : List ℕ) × AreHits (segments_before chains (length chains)) (IsWestHit chains p) list = some_west chains faced p (clear p at) in
+        let own : IsCountAt chains p S (pos 0 -ℤ balance S (map (flanks_at chains) hits.0)) =
+        west_counted chains faced p (clear p at) S (pos 0 -ℤ balance S (map (flanks_at chains) hits.0)) hits.0 none hits.1 refl in
+        west_counted chains faced q (clear q at') S n hits.0 none
+        (record {
+          once = λ i lt h. hits.1.once i lt (west_passed q p at' at (record { to = one.back; back = one.to }) i h);
+          others = λ i no. hits.1.others i (λ h. no (west_passed p q at at' one i h));
+          known = hits.1.known;
+        })
+        (one_count chains p S n (pos 0 -ℤ balance S (map (flanks_at chains) hits.0)) k own))
 
     -- ---- between a whole latitude and the next
 

@@ -1,7 +1,6 @@
 -- Where facing sides agree along lines, faces agree: what lies near the one end of a straight line that meets no chain lies near the other.
-use Rattle.std.proofs.Common.{◌≡◌, ◌⊎◌, inl, inr, ⊎_elim, ℕ, ◌+◌, ℤ, pos, ◌+ℤ◌, ◌-ℤ◌, ◌*ℤ◌, ◌<ℤ◌, ◌≤ℤ◌, Bool, List, [], length, refl, sym, ap, ap₂, subst, ◌∙◌, arith}
-use Rattle.std.proofs.lemmas.Int.{ints, by_lt_z}
-use Rattle.tl_geom.specs.declared.point.Point.{Point}
+use Rattle.std.proofs.Common.{◌≡◌, inl, inr, ⊎_elim, ℕ, ◌+◌, ℤ, pos, ◌+ℤ◌, ◌-ℤ◌, ◌*ℤ◌, ◌<ℤ◌, ◌≤ℤ◌, List, refl, sym, ap, ap₂, subst, ◌∙◌, arith}
+use Rattle.std.proofs.lemmas.Int.{ints}
 use Rattle.tl_geom.specs.declared.rational.Rational.{Rational}
 use Rattle.tl_geom.specs.declared.segment.Segment.{Segment}
 use Rattle.tl_geom.specs.Plane.{cross}
@@ -10,13 +9,10 @@ use Rattle.tl_geom.proofs.Signs.{mono, product_above, product_at_least, above_of
 use Rattle.tl_county.specs.declared.sides.Side.{Side}
 use Rattle.tl_county.specs.declared.sides.Side.TheVariants.{Outside}
 use Rattle.tl_county.specs.TheMap.{MapChain}
-use Rattle.tl_county.specs.Segments.{segments_before}
-use Rattle.tl_index.specs.Hits.{AreHits}
 use Rattle.tl_planar.specs.Planar.{IsPlanar}
-use Rattle.tl_inside.specs.Inside.{is_polygon}
-use Rattle.tl_faces.specs.Facing.{IsOfChain, IsOff, IsStrictlyOn, IsStrictlyBetween, IsClearBetween, IsClearFrom, IsSideToward, FacesAgree, step_x, step_y}
+use Rattle.tl_faces.specs.Facing.{IsOfChain, IsOff, IsStrictlyOn, IsClearBetween, IsClearFrom, IsSideToward, FacesAgree, step_x, step_y}
 use Rattle.tl_faces.specs.Truth.{LiesAt, IsNearer, IsTrueAbout, AreSidesTrue, side_of}
-use Rattle.tl_faces.proofs.Bounds.{IsBounded, AreBounded, IsFar, far, some_bound}
+use Rattle.tl_faces.proofs.Bounds.{AreBounded, IsFar, far, some_bound}
 use Rattle.tl_faces.proofs.Along.{AreFaced}
 use Rattle.tl_faces.proofs.TrueSides.{true_sides}
 use Rattle.tl_faces.proofs.Unique.{unique}
