@@ -1,6 +1,6 @@
 -- Where faces agree, along a line the far side of each segment that meets it is the near side of the next, from the outside to the
 -- outside.
-use Rattle.std.proofs.Common.{◌≡◌, ◌⊎◌, inl, inr, ⊎_elim, ℕ, ◌+◌, ℤ, pos, ◌-ℤ◌, ◌*ℤ◌, ◌≤ℤ◌, Some, List, [], ◌∷◌, length, refl, sym, subst, arith}
+use Rattle.std.proofs.Common.{◌≡◌, ◌⊎◌, inl, inr, ⊎_elim, ℕ, ◌+◌, ℤ, pos, ◌-ℤ◌, ◌*ℤ◌, ◌≤ℤ◌, Some, List, [], ◌∷◌, ◌++◌, length, append_assoc, refl, sym, subst, arith}
 use Rattle.std.specs.Prelude.{slice_get}
 use Rattle.std.proofs.lemmas.Int.{ints}
 use Rattle.tl_geom.specs.declared.rational.Rational.{Rational}
@@ -15,14 +15,14 @@ use Rattle.tl_planar.specs.Planar.{IsOnSegment, IsOnChain, IsPlanar}
 use Rattle.tl_planar.proofs.Numbering.{below_total}
 use Rattle.tl_slabs.specs.Neighbours.{IsNumbered}
 use Rattle.tl_slabs.proofs.Numbered.{one_segment, on_same}
-use Rattle.tl_faces.specs.Facing.{IsStrictlyOn, IsClearBetween, IsClearFrom, FacesAgree, step_x, step_y}
+use Rattle.tl_faces.specs.Facing.{IsStrictlyOn, IsClearBetween, IsClearFrom, IsSideToward, FacesAgree, step_x, step_y}
 use Rattle.tl_faces.proofs.Steep.{IsSpanned}
 use Rattle.tl_faces.proofs.Bounds.{IsSteep}
 use Rattle.tl_faces.proofs.Numbers.{le_lt, lt_le}
 use Rattle.tl_faces.proofs.Lines.{AreLevel, IsWestward, level_with, level_back}
 use Rattle.tl_faces.proofs.Ends as chain_ends
 use Rattle.tl_faces.proofs.Items.{Item, numbered, of_chain, no_end_of, spanned_by, one_longitude, IsLine}
-use Rattle.tl_faces.proofs.Sorting.{Has, IsSorted, IsListed, IsFound, found, all}
+use Rattle.tl_faces.proofs.Sorting.{Has, IsSorted, IsListed, IsFound, has_or, sorted_back, sorted_front, found, all}
 use Rattle.tl_faces.proofs.Toward.{near_side, far_side, toward_east, toward_west, step_along, between_level, between_first, between_last, ray_level, ray_east, ray_west}
 
 module _ (K : ℤ) (chains : List MapChain) (r : Rational) (line : IsLine K chains r) where
@@ -73,7 +73,7 @@ module _ (K : ℤ) (chains : List MapChain) (r : Rational) (line : IsLine K chai
       (c : ℕ) (chain : MapChain) (q : Rational) → slice_get chains c ≡ Some chain → IsOnChain chain.points q → AreLevel K q r →
       ((q.x *ℤ x.at.place.d) ≤ℤ (x.at.place.x *ℤ q.d)) ⊎ ((y : Item K chains r) × Has K chains r y rest × IsAt q y)
 
-  strictly_on : (x : Item K chains r) → IsStrictlyOn x.segment x.at.place
+  pub strictly_on : (x : Item K chains r) → IsStrictlyOn x.segment x.at.place
   strictly_on x = record { on = x.at.on; no_end = no_end_of K chains r line x.s x.segment (numbered K chains r x) x.at.place x.at.level }
 
   times_one : (z : ℤ) → z *ℤ pos 1 ≡ z
@@ -82,121 +82,144 @@ module _ (K : ℤ) (chains : List MapChain) (r : Rational) (line : IsLine K chai
   times_minus : (z : ℤ) → z *ℤ (pos 0 -ℤ pos 1) ≡ pos 0 -ℤ z
   times_minus z = same (num z ⊗ (num (pos 0) ⊖ num (pos 1))) (num (pos 0) ⊖ num z) (omega arith)
 
-  module _ (agree : FacesAgree chains) where
-    last_is : (x : Item K chains r) → Covers x [] → far_of x ≡ Outside
-    unfolding Covers
-    last_is x covers =
-        agree.outward x.chain x.segment x.at.place K (pos 1) (far_of x) (of_chain K chains r x) (strictly_on x) free
-        (toward_east K chains r line x K (pos 1) (times_one K) line.above)
-      where
-        free : IsClearFrom chains x.at.place K (pos 1)
-        free t o c chain is on =
-            let p : Rational = x.at.place in
-            let past : IsWestward p t = ray_east K p t K (pos 1) (times_one K) o line.above in
-            let level : AreLevel K t r = level_with K t r p (ray_level K p t K (pos 1) (times_one K) o) (level_back K p r x.at.level) in
-            ⊎_elim (λ le. omega (arith, ints, le, past)) (λ k. k.1) (covers c chain t is on level)
+  -- each place of a chain on the line is at x or east of it
+  IsFirst : Item K chains r → Type 0
+  IsFirst x =
+      (c : ℕ) (chain : MapChain) (q : Rational) → slice_get chains c ≡ Some chain → IsOnChain chain.points q → AreLevel K q r →
+      (x.at.place.x *ℤ q.d) ≤ℤ (q.x *ℤ x.at.place.d)
 
-    first_is : (x : Item K chains r) → ((c : ℕ) (chain : MapChain) (q : Rational) → slice_get chains c ≡ Some chain → IsOnChain chain.points q → AreLevel K q r → (x.at.place.x *ℤ q.d) ≤ℤ (q.x *ℤ x.at.place.d)) →
-        Outside ≡ near_of x
-    first_is x least =
-        sym (agree.outward x.chain x.segment x.at.place (pos 0 -ℤ K) (pos 0 -ℤ pos 1) (near_of x) (of_chain K chains r x) (strictly_on x) free
-        (toward_west K chains r line x (pos 0 -ℤ K) (pos 0 -ℤ pos 1) (times_minus K) (let h = line.above in omega (arith, ints, h))))
-      where
-        free : IsClearFrom chains x.at.place (pos 0 -ℤ K) (pos 0 -ℤ pos 1)
-        free t o c chain is on =
-            let p : Rational = x.at.place in
-            let past : IsWestward t p = ray_west K p t (pos 0 -ℤ K) (pos 0 -ℤ pos 1) (times_minus K) o (let h = line.above in omega (arith, ints, h)) in
-            let level : AreLevel K t r = level_with K t r p (ray_level K p t (pos 0 -ℤ K) (pos 0 -ℤ pos 1) (times_minus K) o) (level_back K p r x.at.level) in
-            let le = least c chain t is on level in
-            omega (arith, ints, le, past)
+  clear_east : (x : Item K chains r) → Covers x [] → IsClearFrom chains x.at.place K (pos 1)
+  unfolding Covers
+  clear_east x covers t o c chain is on =
+      let p : Rational = x.at.place in
+      let past : IsWestward p t = ray_east K p t K (pos 1) (times_one K) o line.above in
+      let level : AreLevel K t r = level_with K t r p (ray_level K p t K (pos 1) (times_one K) o) (level_back K p r x.at.level) in
+      ⊎_elim (λ le. omega (arith, ints, le, past)) (λ k. k.1) (covers c chain t is on level)
 
-    next_is : (x y : Item K chains r) (rest : List (Item K chains r)) → IsWestward x.at.place y.at.place → ((z : Item K chains r) → Has K chains r z rest → IsWestward y.at.place z.at.place) →
-        Covers x (y ∷ rest) → far_of x ≡ near_of y
-    unfolding Covers
-    next_is x y rest west behind covers =
-        agree.facing x.chain y.chain x.segment y.segment p q (far_of x) (near_of y) (of_chain K chains r x) (of_chain K chains r y) (strictly_on x) (strictly_on y) free
-        (toward_east K chains r line x (step_x p q) (step_y p q) (step_along K p q level) (omega (arith, ints, west)))
-        (toward_west K chains r line y (step_x q p) (step_y q p) (step_along K q p (level_back K p q level)) (omega (arith, ints, west)))
-      where
-        p : Rational
-        p = x.at.place
+  clear_west : (x : Item K chains r) → IsFirst x → IsClearFrom chains x.at.place (pos 0 -ℤ K) (pos 0 -ℤ pos 1)
+  unfolding IsFirst
+  clear_west x first t o c chain is on =
+      let p : Rational = x.at.place in
+      let past : IsWestward t p = ray_west K p t (pos 0 -ℤ K) (pos 0 -ℤ pos 1) (times_minus K) o (let h = line.above in omega (arith, ints, h)) in
+      let level : AreLevel K t r = level_with K t r p (ray_level K p t (pos 0 -ℤ K) (pos 0 -ℤ pos 1) (times_minus K) o) (level_back K p r x.at.level) in
+      let le = first c chain t is on level in
+      omega (arith, ints, le, past)
 
-        q : Rational
-        q = y.at.place
+  clear_next : (x y : Item K chains r) (rest : List (Item K chains r)) → IsSorted K chains r (x ∷ (y ∷ rest)) → Covers x (y ∷ rest) →
+      IsClearBetween chains x.at.place y.at.place
+  unfolding Covers
+  clear_next x y rest sorted covers t b c chain is on =
+      let p : Rational = x.at.place in let q : Rational = y.at.place in
+      let west : IsWestward p q = sorted.0 y (inl refl) in
+      let level : AreLevel K p q = level_with K p q r x.at.level y.at.level in
+      let first : IsWestward p t = between_first K p q t level west b in
+      let last : IsWestward t q = between_last K p q t level west b in
+      let here : AreLevel K t r = level_with K t r p (between_level K p q t level west b) (level_back K p r x.at.level) in
+      ⊎_elim (λ le. omega (arith, ints, le, first))
+      (λ k.
+      let z : Item K chains r = k.0 in
+      let e : t.x *ℤ z.at.place.d ≡ z.at.place.x *ℤ t.d = k.2.same in
+      ⊎_elim
+      (λ one.
+      let f : t.x *ℤ q.d ≡ q.x *ℤ t.d = subst (λ (w : Item K chains r). t.x *ℤ w.at.place.d ≡ w.at.place.x *ℤ t.d) one e in
+      omega (arith, ints, f, last))
+      (λ later.
+      let beyond : IsWestward q z.at.place = sorted.1.0 z later in
+      let v : Rational = z.at.place in
+      let past : IsWestward t v = le_lt t.x t.d q.x q.d v.x v.d t.above_zero q.above_zero v.above_zero (omega (arith, ints, last)) beyond in
+      omega (arith, ints, past, e))
+      k.1)
+      (covers c chain t is on here)
 
-        level : AreLevel K p q
-        level = level_with K p q r x.at.level y.at.level
+  -- ---- of the items of a list of all
 
-        free : IsClearBetween chains p q
-        free t b c chain is on =
-            let first : IsWestward p t = between_first K p q t level west b in
-            let last : IsWestward t q = between_last K p q t level west b in
-            let here : AreLevel K t r = level_with K t r p (between_level K p q t level west b) (level_back K p r x.at.level) in
-            ⊎_elim (λ le. omega (arith, ints, le, first))
-            (λ k.
-            let z : Item K chains r = k.0 in
-            let e : t.x *ℤ z.at.place.d ≡ z.at.place.x *ℤ t.d = k.2.same in
-            ⊎_elim
-            (λ one.
-            let f : t.x *ℤ q.d ≡ q.x *ℤ t.d = subst (λ (w : Item K chains r). t.x *ℤ w.at.place.d ≡ w.at.place.x *ℤ t.d) one e in
-            omega (arith, ints, f, last))
-            (λ later.
-            let beyond : IsWestward q z.at.place = behind z later in
-            let past : IsWestward t z.at.place = le_lt t.x t.d q.x q.d z.at.place.x z.at.place.d t.above_zero q.above_zero z.at.place.above_zero (omega (arith, ints, last)) beyond in
-            omega (arith, ints, past, e))
-            k.1)
-            (covers c chain t is on here)
+  at_west : (q : Rational) (y x : Item K chains r) → IsAt q y → IsWestward y.at.place x.at.place → IsWestward q x.at.place
+  at_west q y x at west =
+      let p : Rational = y.at.place in let t : Rational = x.at.place in let e = at.same in
+      le_lt q.x q.d p.x p.d t.x t.d q.above_zero p.above_zero t.above_zero (omega (arith, ints, e)) west
 
-    covers_next : (x y : Item K chains r) (rest : List (Item K chains r)) → IsWestward x.at.place y.at.place → Covers x (y ∷ rest) → Covers y rest
-    unfolding Covers
-    covers_next x y rest west covers c chain t is on level =
+  at_east : (q : Rational) (y x : Item K chains r) → IsAt q y → IsWestward x.at.place y.at.place → IsWestward x.at.place q
+  at_east q y x at west =
+      let p : Rational = y.at.place in let t : Rational = x.at.place in let e = at.same in
+      lt_le t.x t.d p.x p.d q.x q.d t.above_zero p.above_zero q.above_zero west (omega (arith, ints, e))
+
+  at_itself : (q : Rational) (y x : Item K chains r) → y ≡ x → IsAt q y → q.x *ℤ x.at.place.d ≡ x.at.place.x *ℤ q.d
+  at_itself q y x one at = subst (λ (w : Item K chains r). q.x *ℤ w.at.place.d ≡ w.at.place.x *ℤ q.d) one at.same
+
+  abbrev IsAll : List (Item K chains r) → Type 0
+  IsAll xs = IsListed K chains r (segments_before chains (length chains)) xs
+
+  covered : (front : List (Item K chains r)) (x : Item K chains r) (rest : List (Item K chains r)) → IsAll (front ++ (x ∷ rest)) → Covers x rest
+  unfolding Covers
+  covered front x rest listed c chain q is on level =
+      let k = item_at (front ++ (x ∷ rest)) listed c chain q is on level in
+      ⊎_elim
+      (λ before. inl (let lt = at_west q k.0 x k.2 (sorted_front K chains r front (x ∷ rest) listed.sorted k.0 x before (inl refl)) in omega (arith, ints, lt)))
+      (λ h. ⊎_elim (λ one. inl (let e = at_itself q k.0 x one k.2 in omega (arith, ints, e))) (λ later. inr (k.0, later, k.2)) h)
+      (has_or K chains r k.0 front (x ∷ rest) k.1)
+
+  first_of_all : (x : Item K chains r) (rest : List (Item K chains r)) → IsAll (x ∷ rest) → IsFirst x
+  unfolding IsFirst
+  first_of_all x rest listed c chain q is on level =
+      let k = item_at (x ∷ rest) listed c chain q is on level in
+      ⊎_elim (λ one. let e = at_itself q k.0 x one k.2 in omega (arith, ints, e))
+      (λ later. let lt = at_east q k.0 x k.2 (listed.sorted.0 k.0 later) in omega (arith, ints, lt)) k.1
+
+  -- nothing lies between two that follow one another, west of the first and east of the last
+  pub clear_between : (front : List (Item K chains r)) (x y : Item K chains r) (back : List (Item K chains r)) → IsAll (front ++ (x ∷ (y ∷ back))) →
+      IsClearBetween chains x.at.place y.at.place
+  clear_between front x y back listed =
+      clear_next x y back (sorted_back K chains r front (x ∷ (y ∷ back)) listed.sorted) (covered front x (y ∷ back) listed)
+
+  pub clear_to_west : (x : Item K chains r) (back : List (Item K chains r)) → IsAll (x ∷ back) → IsClearFrom chains x.at.place (pos 0 -ℤ K) (pos 0 -ℤ pos 1)
+  clear_to_west x back listed = clear_west x (first_of_all x back listed)
+
+  pub clear_to_east : (front : List (Item K chains r)) (x : Item K chains r) → IsAll (front ++ (x ∷ [])) → IsClearFrom chains x.at.place K (pos 1)
+  clear_to_east front x listed = clear_east x (covered front x [] listed)
+
+  -- ---- and the sides toward those lines
+
+  module _ (x y : Item K chains r) (west : IsWestward x.at.place y.at.place) where
+    level : AreLevel K x.at.place y.at.place
+    level = level_with K x.at.place y.at.place r x.at.level y.at.level
+
+    pub side_to_next : IsSideToward x.chain x.segment (step_x x.at.place y.at.place) (step_y x.at.place y.at.place) (far_of x)
+    side_to_next =
         let p : Rational = x.at.place in let q : Rational = y.at.place in
-        ⊎_elim
-        (λ le. inl (let lt : IsWestward t q = le_lt t.x t.d p.x p.d q.x q.d t.above_zero p.above_zero q.above_zero le west in omega (arith, ints, lt)))
-        (λ k. ⊎_elim
-        (λ one.
-        let e : t.x *ℤ q.d ≡ q.x *ℤ t.d = subst (λ (w : Item K chains r). t.x *ℤ w.at.place.d ≡ w.at.place.x *ℤ t.d) one k.2.same in
-        inl (omega (arith, ints, e)))
-        (λ later. inr (k.0, later, k.2))
-        k.1)
-        (covers c chain t is on level)
+        toward_east K chains r line x (step_x p q) (step_y p q) (step_along K p q level) (omega (arith, ints, west))
 
-    from_item : (x : Item K chains r) (rest : List (Item K chains r)) → IsSorted K chains r (x ∷ rest) → Covers x rest → AreFacing (far_of x) rest
-    from_item x [] sorted covers = last_is x covers
-    from_item x (y ∷ rest) sorted covers =
-        let west : IsWestward x.at.place y.at.place = sorted.0 y (inl refl) in
-        (next_is x y rest west sorted.1.0 covers, from_item y rest sorted.1 (covers_next x y rest west covers))
+    pub side_to_last : IsSideToward y.chain y.segment (step_x y.at.place x.at.place) (step_y y.at.place x.at.place) (near_of y)
+    side_to_last =
+        let p : Rational = x.at.place in let q : Rational = y.at.place in
+        toward_west K chains r line y (step_x q p) (step_y q p) (step_along K q p (level_back K p q level)) (omega (arith, ints, west))
+
+  pub side_to_east : (x : Item K chains r) → IsSideToward x.chain x.segment K (pos 1) (far_of x)
+  side_to_east x = toward_east K chains r line x K (pos 1) (times_one K) line.above
+
+  pub side_to_west : (x : Item K chains r) → IsSideToward x.chain x.segment (pos 0 -ℤ K) (pos 0 -ℤ pos 1) (near_of x)
+  side_to_west x = toward_west K chains r line x (pos 0 -ℤ K) (pos 0 -ℤ pos 1) (times_minus K) (let h = line.above in omega (arith, ints, h))
+
+  -- ---- so where faces agree
+
+  module _ (agree : FacesAgree chains) where
+    from_item : (front : List (Item K chains r)) (x : Item K chains r) (rest : List (Item K chains r)) → IsAll (front ++ (x ∷ rest)) → AreFacing (far_of x) rest
+    from_item front x [] listed =
+        agree.outward x.chain x.segment x.at.place K (pos 1) (far_of x) (of_chain K chains r x) (strictly_on x) (clear_to_east front x listed) (side_to_east x)
+    from_item front x (y ∷ rest) listed =
+        let west : IsWestward x.at.place y.at.place = (sorted_back K chains r front (x ∷ (y ∷ rest)) listed.sorted).0 y (inl refl) in (
+          agree.facing x.chain y.chain x.segment y.segment x.at.place y.at.place (far_of x) (near_of y) (of_chain K chains r x) (of_chain K chains r y)
+              (strictly_on x) (strictly_on y) (clear_between front x y rest listed) (side_to_next x y west) (side_to_last x y west),
+          from_item (front ++ (x ∷ [])) y rest (subst IsAll (sym (append_assoc front (x ∷ []) (y ∷ rest))) listed),
+        )
 
     -- along the whole line
-    pub facing : (xs : List (Item K chains r)) → IsListed K chains r (segments_before chains (length chains)) xs → AreFacing Outside xs
-    unfolding Covers
+    pub facing : (xs : List (Item K chains r)) → IsAll xs → AreFacing Outside xs
     facing [] listed = refl
-    facing (x ∷ xs) listed = (first_is x least, from_item x xs listed.sorted covers)
-      where
-        least : (c : ℕ) (chain : MapChain) (q : Rational) → slice_get chains c ≡ Some chain → IsOnChain chain.points q → AreLevel K q r → (x.at.place.x *ℤ q.d) ≤ℤ (q.x *ℤ x.at.place.d)
-        least c chain q is on level =
-            let k = item_at (x ∷ xs) listed c chain q is on level in
-            let p : Rational = x.at.place in
-            ⊎_elim
-            (λ one. let e : q.x *ℤ p.d ≡ p.x *ℤ q.d = subst (λ (w : Item K chains r). q.x *ℤ w.at.place.d ≡ w.at.place.x *ℤ q.d) one k.2.same in omega (arith, ints, e))
-            (λ later.
-            let z : Rational = k.0.at.place in
-            let e : q.x *ℤ z.d ≡ z.x *ℤ q.d = k.2.same in
-            let west : IsWestward p z = listed.sorted.0 k.0 later in
-            let past : IsWestward p q = lt_same p z q west (sym e) in
-            omega (arith, ints, past)) k.1
-          where
-            lt_same : (p z q : Rational) → IsWestward p z → z.x *ℤ q.d ≡ q.x *ℤ z.d → IsWestward p q
-            lt_same p z q west e = lt_le p.x p.d z.x z.d q.x q.d p.above_zero z.above_zero q.above_zero west (omega (arith, ints, e))
-
-        covers : Covers x xs
-        covers c chain q is on level =
-            let k = item_at (x ∷ xs) listed c chain q is on level in
-            ⊎_elim
-            (λ one.
-            let e : q.x *ℤ x.at.place.d ≡ x.at.place.x *ℤ q.d = subst (λ (w : Item K chains r). q.x *ℤ w.at.place.d ≡ w.at.place.x *ℤ q.d) one k.2.same in
-            inl (omega (arith, ints, e)))
-            (λ later. inr (k.0, later, k.2)) k.1
+    facing (x ∷ xs) listed = (
+      sym (agree.outward x.chain x.segment x.at.place (pos 0 -ℤ K) (pos 0 -ℤ pos 1) (near_of x) (of_chain K chains r x) (strictly_on x)
+          (clear_to_west x xs listed) (side_to_west x)),
+      from_item [] x xs listed,
+    )
 
 -- ---- lists along which facing sides agree
 

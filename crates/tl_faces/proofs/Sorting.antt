@@ -94,6 +94,17 @@ module _ (K : ℤ) (chains : List MapChain) (r : Rational) where
   sorted_back [] ys s = s
   sorted_back (x ∷ xs) ys s = sorted_back xs ys s.1
 
+  pub has_or : (y : Item K chains r) (xs ys : List (Item K chains r)) → Has y (xs ++ ys) → Has y xs ⊎ Has y ys
+  has_or y [] ys h = inr h
+  has_or y (x ∷ xs) ys h = ⊎_elim (λ e. inl (inl e)) (λ later. ⊎_elim (λ k. inl (inr k)) (λ k. inr k) (has_or y xs ys later)) h
+
+  -- what stands in the front of a list is west of what stands behind it
+  pub sorted_front : (xs ys : List (Item K chains r)) → IsSorted (xs ++ ys) → (y z : Item K chains r) → Has y xs → Has z ys → IsWestward y.at.place z.at.place
+  sorted_front [] ys s y z h k = absurd h
+  sorted_front (x ∷ xs) ys s y z h k = ⊎_elim
+      (λ e. subst (λ (w : Item K chains r). IsWestward w.at.place z.at.place) (sym e) (s.0 z (has_back z xs ys k)))
+      (λ later. sorted_front xs ys s.1 y z later k) h
+
   times-cons : (i x : ℕ) (xs : List ℕ) → times i (x ∷ xs) ≡ cond (eqb i x) 1 0 + times i xs
   times-cons i x xs = refl
 
