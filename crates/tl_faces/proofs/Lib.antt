@@ -22,6 +22,7 @@ pub mod Slab
 pub mod FromSlabs
 pub mod Reversed
 pub mod Tests
+pub mod Within
 pub mod ToSlabs
 pub mod Flanks
 pub mod Located

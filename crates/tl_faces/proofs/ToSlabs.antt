@@ -22,6 +22,7 @@ use Rattle.tl_slabs.proofs.Lying.{heights_of}
 use Rattle.tl_slabs.proofs.Numbered.{one_segment, on_same}
 use Rattle.tl_faces.specs.Facing.{FacesAgree}
 use Rattle.tl_faces.specs.Lists.{west_side, east_side, AreFacingFrom, AreSlabsFacing, AreAllNear}
+use Rattle.tl_faces.specs.Disagreements.{IsInSlab}
 use Rattle.tl_faces.proofs.Steep.{IsSpanned}
 use Rattle.tl_faces.proofs.Lines.{IsWestward, level_with, turn_of_west}
 use Rattle.tl_faces.proofs.Items.{Item, IsLine, numbered, ends, one_longitude}
@@ -29,6 +30,7 @@ use Rattle.tl_faces.proofs.Sorting.{IsSorted, numbers, spanned_same}
 use Rattle.tl_faces.proofs.Toward.{near_side, far_side}
 use Rattle.tl_faces.proofs.Along.{AreFacing, IsFacedOn, on_line}
 use Rattle.tl_faces.proofs.Tests.{is_west, are_free}
+use Rattle.tl_faces.proofs.Within.{line, spanned_of, begun_of, all_active}
 
 -- the sides of a segment of a chain from one point to another
 abbrev west_of : ℤ → MapChain → (a b : Point) → Side
@@ -46,40 +48,18 @@ module _ (K : ℤ) (above : pos 0 <ℤ K) (chains : List MapChain) (near : AreAl
   unfolding middle
   height_there = same (num K ⊗ num (pos 0) ⊖ (num (pos 0) ⊖ (num n ⊕ num n ⊕ num (pos 1)))) (num n ⊕ num n ⊕ num (pos 1)) (omega arith)
 
-  twice : (h : ℤ) → middle.d *ℤ h ≡ h +ℤ h
+  inside : IsInSlab K n middle
   unfolding middle
-  twice h = same (num (pos 2) ⊗ num h) (num h ⊕ num h) (omega arith)
-
-  own_near : (s : ℕ) (u : Segment) → IsNumbered chains s u → AreNear K u.a u.b
-  own_near s u is = near is.c is.k is.c (is.k + 1) u.a u.b
-      (record { chain = is.joins.chain; is = is.joins.is; point = is.joins.from }) (record { chain = is.joins.chain; is = is.joins.is; point = is.joins.to })
-
-  no_height : (h : ℤ) → ¬ (middle.d *ℤ h ≡ height_of K middle)
-  no_height h e = let two = twice h in let is = height_there in odd h n (sym two ∙ e ∙ is)
+  inside =
+      let is = height_there in
+      let low = twice n in let high = twice (n +ℤ pos 1) in
+      record { above = omega (arith, ints, is, low); below = omega (arith, ints, is, high) }
     where
-      odd : (h n : ℤ) → h +ℤ h ≡ n +ℤ n +ℤ pos 1 → ⊥
-      odd h n e = omega (arith, ints, e)
+      twice : (h : ℤ) → pos 2 *ℤ h ≡ h +ℤ h
+      twice h = same (num (pos 2) ⊗ num h) (num h ⊕ num h) (omega arith)
 
-  line : IsLine K chains middle
-  line = record { above = above; ends = own_near; off = λ s u is. (no_height (height K u.a), no_height (height K u.b)) }
-
-  spanned_of : (u : Segment) → height K (low_end K u) ≤ℤ n → n <ℤ height K (high_end K u) → IsSpanned K u middle
-  spanned_of u begun lasting =
-      let low = twice (height K (low_end K u)) in let high = twice (height K (high_end K u)) in let is = height_there in
-      record { from = omega (arith, ints, low, is, begun); to = omega (arith, ints, high, is, lasting) }
-
-  begun_of : (u : Segment) → IsSpanned K u middle → (height K (low_end K u) ≤ℤ n) × (n <ℤ height K (high_end K u))
-  begun_of u s =
-      let low = twice (height K (low_end K u)) in let high = twice (height K (high_end K u)) in let is = height_there in
-      let from = s.from in let to = s.to in
-      (omega (arith, ints, low, is, from), omega (arith, ints, high, is, to))
-
-  active : (x : Item K chains middle) → IsActive K n chains x.s
-  active x = let b = begun_of x.segment x.spanned in record { segment = x.segment; is = numbered K chains middle x; begun = b.0; lasting = b.1 }
-
-  all_active : (xs : List (Item K chains middle)) → All (IsActive K n chains) (numbers K chains middle xs)
-  all_active [] = All-nil (IsActive K n chains)
-  all_active (x ∷ xs) = All-cons (IsActive K n chains) x.s (numbers K chains middle xs) (active x) (all_active xs)
+  on_middle : IsLine K chains middle
+  on_middle = line K above chains near n middle inside
 
   -- ---- neighbours pass the tests
 
@@ -103,7 +83,7 @@ module _ (K : ℤ) (above : pos 0 <ℤ K) (chains : List MapChain) (near : AreAl
     on_w = on_same y.segment w y.at.place same_w y.at.on
 
     ends_w : AreEndsOf K w (low_end K w) (high_end K w)
-    ends_w = ends K chains middle line y.s w is'
+    ends_w = ends K chains middle on_middle y.s w is'
 
     turned : pos 0 <ℤ turn_at (low_end K w) (high_end K w) x.at.place
     turned =
@@ -113,13 +93,13 @@ module _ (K : ℤ) (above : pos 0 <ℤ K) (chains : List MapChain) (near : AreAl
 
     west_there : IsWestOf K u w
     west_there =
-        let b = begun_of u spanned_u in let b' = begun_of w spanned_w in
-        is_west K above chains planar x.s y.s u w ne is is' (ends K chains middle line x.s u is) ends_w n b.0 b.1 b'.0 b'.1 middle x.at.place spanned_u spanned_w on_u x.at.level turned
+        let b = begun_of K above chains near n middle inside u spanned_u in let b' = begun_of K above chains near n middle inside w spanned_w in
+        is_west K above chains planar x.s y.s u w ne is is' (ends K chains middle on_middle x.s u is) ends_w n b.0 b.1 b'.0 b'.1 middle x.at.place spanned_u spanned_w on_u x.at.level turned
 
     free_there : AreApartOrAtEnds u w
     free_there =
-        let b = begun_of u spanned_u in let b' = begun_of w spanned_w in
-        are_free K above chains planar x.s y.s u w ne is is' (ends K chains middle line x.s u is) ends_w n b.0 b.1 b'.0 b'.1 middle x.at.place spanned_u spanned_w on_u x.at.level turned
+        let b = begun_of K above chains near n middle inside u spanned_u in let b' = begun_of K above chains near n middle inside w spanned_w in
+        are_free K above chains planar x.s y.s u w ne is is' (ends K chains middle on_middle x.s u is) ends_w n b.0 b.1 b'.0 b'.1 middle x.at.place spanned_u spanned_w on_u x.at.level turned
 
   -- items at two places of the line have two numbers
   differ : (x y : Item K chains middle) → IsWestward x.at.place y.at.place → ¬ (x.s ≡ y.s)
@@ -127,7 +107,7 @@ module _ (K : ℤ) (above : pos 0 <ℤ K) (chains : List MapChain) (near : AreAl
       let own : IsNumbered chains x.s y.segment = subst (λ m. IsNumbered chains m y.segment) (sym e) (numbered K chains middle y) in
       let both : HaveSameEnds x.segment y.segment = one_segment chains x.s x.segment y.segment (numbered K chains middle x) own in
       let here : IsOn y.segment x.at.place = on_same x.segment y.segment x.at.place both x.at.on in
-      let one = one_longitude K chains middle line x.s y.segment own x.at.place y.at.place here y.at.on (level_with K x.at.place y.at.place middle x.at.level y.at.level) in
+      let one = one_longitude K chains middle on_middle x.s y.segment own x.at.place y.at.place here y.at.on (level_with K x.at.place y.at.place middle x.at.level y.at.level) in
       omega (arith, ints, one, west)
 
   all_tested : (xs : List (Item K chains middle)) → IsSorted K chains middle xs → EachTwo (AreTested K chains) (numbers K chains middle xs)
@@ -147,34 +127,34 @@ module _ (K : ℤ) (above : pos 0 <ℤ K) (chains : List MapChain) (near : AreAl
       let c : x.c ≡ m.c = one_chain chains x.s x.c x.k m.c m.k (record { chain = x.chain; is = x.is; place = x.inside; number = x.number }) m.number in
       one_found x.chain m.joins.chain (slice_get chains m.c) (subst (λ k. slice_get chains k ≡ Some x.chain) c x.is) m.joins.is
 
-  near_is : (x : Item K chains middle) (u : Segment) (m : IsNumbered chains x.s u) → near_side K chains middle line x ≡ west_side K m.joins.chain u
+  near_is : (x : Item K chains middle) (u : Segment) (m : IsNumbered chains x.s u) → near_side K chains middle on_middle x ≡ west_side K m.joins.chain u
   near_is x u m =
       let e : HaveSameEnds x.segment u = one_segment chains x.s x.segment u (numbered K chains middle x) m in
       (λ i. west_of K (chain_is x u m i) (e.first i) (e.last i))
 
-  far_is : (x : Item K chains middle) (u : Segment) (m : IsNumbered chains x.s u) → far_side K chains middle line x ≡ east_side K m.joins.chain u
+  far_is : (x : Item K chains middle) (u : Segment) (m : IsNumbered chains x.s u) → far_side K chains middle on_middle x ≡ east_side K m.joins.chain u
   far_is x u m =
       let e : HaveSameEnds x.segment u = one_segment chains x.s x.segment u (numbered K chains middle x) m in
       (λ i. east_of K (chain_is x u m i) (e.first i) (e.last i))
 
-  facing_numbers : (west : Side) (xs : List (Item K chains middle)) → AreFacing K chains middle line west xs → AreFacingFrom K chains west (numbers K chains middle xs)
+  facing_numbers : (west : Side) (xs : List (Item K chains middle)) → AreFacing K chains middle on_middle west xs → AreFacingFrom K chains west (numbers K chains middle xs)
   facing_numbers west [] facing = facing
   facing_numbers west (x ∷ xs) facing = λ u m. (
     facing.0 ∙ near_is x u m,
-    subst (λ side. AreFacingFrom K chains side (numbers K chains middle xs)) (far_is x u m) (facing_numbers (far_side K chains middle line x) xs facing.1),
+    subst (λ side. AreFacingFrom K chains side (numbers K chains middle xs)) (far_is x u m) (facing_numbers (far_side K chains middle on_middle x) xs facing.1),
   )
 
   -- ---- the list
 
   listed : (list : List ℕ) × IsListOf K n chains list × AreFacingFrom K chains Outside list
-  listed = go (on_line chains planar agree K middle line)
+  listed = go (on_line chains planar agree K middle on_middle)
     where
-      go : IsFacedOn K chains middle line → (list : List ℕ) × IsListOf K n chains list × AreFacingFrom K chains Outside list
+      go : IsFacedOn K chains middle on_middle → (list : List ℕ) × IsListOf K n chains list × AreFacingFrom K chains Outside list
       go f = (
         numbers K chains middle f.items,
         record {
-          active = all_active f.items;
-          once = λ s a. f.listed.once s a.segment (below_total chains s a.is.c a.is.k a.is.number) a.is (spanned_of a.segment a.begun a.lasting);
+          active = all_active K above chains near n middle inside f.items;
+          once = λ s a. f.listed.once s a.segment (below_total chains s a.is.c a.is.k a.is.number) a.is (spanned_of K above chains near n middle inside a.segment a.begun a.lasting);
           tested = all_tested f.items f.listed.sorted;
         },
         facing_numbers Outside f.items f.along,

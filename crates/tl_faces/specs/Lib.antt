@@ -4,3 +4,4 @@ pub mod Facing
 pub mod Truth
 pub mod Lists
 pub mod Located
+pub mod Disagreements

@@ -1,0 +1,52 @@
+-- Faces that disagree: places from which two segments face one another, or one faces the outside, and what is named there.
+use Rattle.std.specs.Prelude.{◌≡◌, ◌≢◌, ℤ, pos, ◌+ℤ◌, ◌-ℤ◌, ◌*ℤ◌, ◌<ℤ◌, List}
+use Rattle.tl_geom.specs.declared.rational.Rational.{Rational}
+use Rattle.tl_geom.specs.declared.segment.Segment.{Segment}
+use Rattle.tl_county.specs.declared.sides.Side.{Side}
+use Rattle.tl_county.specs.declared.sides.Side.TheVariants.{Outside}
+use Rattle.tl_county.specs.TheMap.{MapChain}
+use Rattle.tl_slabs.specs.Heights.{height, height_of, low_end, high_end}
+use Rattle.tl_faces.specs.Facing.{IsOfChain, IsStrictlyOn, IsClearBetween, IsClearFrom, IsSideToward, step_x, step_y}
+
+-- two segments face one another, from points strictly within them with nothing between, and name different sides there
+pub record IsFaceDisagreement (chains : List MapChain) (one other : MapChain) (u w : Segment) (p q : Rational) (side opposite : Side) : Type 0 where
+  pub first : IsOfChain chains one u
+  pub last : IsOfChain chains other w
+  pub on_first : IsStrictlyOn u p
+  pub on_last : IsStrictlyOn w q
+  pub clear : IsClearBetween chains p q
+  pub from_first : IsSideToward one u (step_x p q) (step_y p q) side
+  pub from_last : IsSideToward other w (step_x q p) (step_y q p) opposite
+  pub differ : side ≢ opposite
+
+-- nothing lies on the ray in the direction (x, y) from a point strictly within a segment, and it doesn't name the outside there
+pub record IsOutwardDisagreement (chains : List MapChain) (chain : MapChain) (u : Segment) (p : Rational) (x y : ℤ) (side : Side) : Type 0 where
+  pub of : IsOfChain chains chain u
+  pub on : IsStrictlyOn u p
+  pub clear : IsClearFrom chains p x y
+  pub from : IsSideToward chain u x y side
+  pub differs : side ≢ Outside
+
+-- ---- places strictly within a slab
+
+-- the height of the rational point is above n, and below the next
+pub record IsInSlab (K n : ℤ) (p : Rational) : Type 0 where
+  pub above : (p.d *ℤ n) <ℤ height_of K p
+  pub below : height_of K p <ℤ (p.d *ℤ (n +ℤ pos 1))
+
+-- two rational points have one height
+abbrev pub HaveOneHeight : ℤ → (p q : Rational) → Type 0
+HaveOneHeight K p q = height_of K p *ℤ q.d ≡ height_of K q *ℤ p.d
+
+-- how far a segment rises, and how far it has risen midway between height n and the next, both twice
+abbrev pub twice_rise : ℤ → Segment → ℤ
+twice_rise K u = pos 2 *ℤ (height K (high_end K u) -ℤ height K (low_end K u))
+
+abbrev pub twice_risen : (K n : ℤ) → Segment → ℤ
+twice_risen K n u = pos 2 *ℤ n +ℤ pos 1 -ℤ pos 2 *ℤ height K (low_end K u)
+
+-- the segment's place midway between height n and the next: so many parts of the way from its low end to its high end
+pub record IsMidway (K n : ℤ) (u : Segment) (p : Rational) : Type 0 where
+  pub d : p.d ≡ twice_rise K u
+  pub x : p.x ≡ p.d *ℤ (low_end K u).x +ℤ twice_risen K n u *ℤ ((high_end K u).x -ℤ (low_end K u).x)
+  pub y : p.y ≡ p.d *ℤ (low_end K u).y +ℤ twice_risen K n u *ℤ ((high_end K u).y -ℤ (low_end K u).y)
