@@ -30,6 +30,7 @@ use Rattle.tl_faces.proofs.Items.{Item, numbered, ends, ends_of_item, one_west, 
 use Rattle.tl_faces.proofs.Sorting.{IsSorted, numbers}
 use Rattle.tl_faces.proofs.Toward.{near_side, far_side}
 use Rattle.tl_faces.proofs.Along.{AreFacing, IsFacedOn, AreFaced}
+use Rattle.tl_faces.proofs.Tested.{sorted_items}
 use Rattle.tl_faces.proofs.Slab.{IsParting, parting, same_rise, same_low, same_high, own_near, active_by, spanned_by_active}
 
 active_in : (P : ℕ → Type 0) (s : ℕ) (xs : List ℕ) → All P xs → IsIn s xs → P s
@@ -90,62 +91,6 @@ module _ (K : ℤ) (chains : List MapChain) (near : AreAllNear K chains) (planar
           (λ h. inl (subst (λ z. pos 0 ≤ℤ z) (λ i. turn_of (eb i) (ed i) (ep i)) h))
           (λ h. inr (subst (λ z. z ≤ℤ pos 0) (λ i. turn_of (ea i) (ec i) (eq i)) h))
 
-  spans : (x y : Item L chains r) → Spans L x.segment y.at.place
-  spans x y =
-      let from = x.spanned.from in
-      let to = x.spanned.to in
-      record {
-        from = scaled (height L (low_end L x.segment)) (height_of L r) (height_of L y.at.place) r.d y.at.place.d r.above_zero y.at.place.above_zero (sym y.at.level.is) (omega (arith, ints, from));
-        to = scaled_above (height L (high_end L x.segment)) (height_of L r) (height_of L y.at.place) r.d y.at.place.d r.above_zero y.at.place.above_zero (sym y.at.level.is) (omega (arith, ints, to));
-      }
-
-  adjacent : (x y : Item L chains r) → ¬ (x.s ≡ y.s) → IsWestOf K x.segment y.segment → IsWestward x.at.place y.at.place
-  adjacent x y ne west =
-      let p : Rational = x.at.place in
-      let m = numbered L chains r x in let m' = numbered L chains r y in
-      let ends_x = ends_of_item L chains r line x in
-      let ends_y = ends_of_item L chains r line y in
-      let zero : turn_at (low_end L x.segment) (high_end L x.segment) p ≡ pos 0 = (heights_of L x.segment (low_end L x.segment) (high_end L x.segment) ends_x p x.at.on).0 in
-      let own : IsNotEast L x.segment p = omega (arith, ints, zero) in
-      let there : IsNotEast L y.segment p = not_east L x.segment y.segment (steep.ends x.s x.segment m) (steep.ends y.s y.segment m') (west_same x y west) p (spans x x) (spans y x) own in
-      ⊎_elim (λ lt. lt)
-      (λ back.
-      let turn = turn_of_east L steep.above (low_end L y.segment) (high_end L y.segment) ends_y.rising y.at.place p
-      (heights_of L y.segment (low_end L y.segment) (high_end L y.segment) ends_y y.at.place y.at.on).0 (level_with L y.at.place p r y.at.level x.at.level) back in
-      absurd (omega (arith, ints, turn, there)))
-      (one_west L chains r line planar x y ne)
-
-  sorted_by : (x : Item L chains r) (y : Item L chains r) (ys : List (Item L chains r)) → IsWestward x.at.place y.at.place → IsSorted L chains r (y ∷ ys) → IsSorted L chains r (x ∷ (y ∷ ys))
-  sorted_by x y ys west sorted = (
-    (λ z h. ⊎_elim (λ e. subst (λ (w : Item L chains r). IsWestward x.at.place w.at.place) (sym e) west)
-        (λ later.
-        let p : Rational = x.at.place in let q : Rational = y.at.place in let t : Rational = z.at.place in
-        le_lt p.x p.d q.x q.d t.x t.d p.above_zero q.above_zero t.above_zero (omega (arith, ints, west)) (sorted.0 z later)) h),
-    sorted,
-  )
-
-  sorted_items : (list : List ℕ) (active : All (IsActive K n chains) list) → EachTwo (AreTested K chains) list → ((s : ℕ) → times s list ≤ 1) → IsSorted L chains r (items list active)
-  unfolding item items
-  sorted_items [] active tested once = tt
-  sorted_items (s ∷ []) active tested once = ((λ y h. absurd h), tt)
-  sorted_items (s ∷ (t ∷ list)) active tested once =
-      let rest_active : All (IsActive K n chains) (t ∷ list) = all_tail (IsActive K n chains) s (t ∷ list) active in
-      let first : IsActive K n chains s = all_head (IsActive K n chains) s (t ∷ list) active in
-      let second : IsActive K n chains t = all_head (IsActive K n chains) t list rest_active in
-      let fewer : (i : ℕ) → times i (t ∷ list) ≤ 1 = λ i. fewer_behind i s (t ∷ list) (once i) in
-      sorted_by (item s first) (item t second) (items list (all_tail (IsActive K n chains) t list rest_active))
-      (adjacent (item s first) (item t second) (λ e. twice s t list e (once s)) (tested.0.west first.segment second.segment first.is second.is))
-      (sorted_items (t ∷ list) rest_active tested.1 fewer)
-    where
-      fewer_behind : (i s : ℕ) (xs : List ℕ) → times i (s ∷ xs) ≤ 1 → times i xs ≤ 1
-      fewer_behind i s xs h = same_or i s (λ e. let one = times-same i s xs e in omega (arith, h, one)) (λ ne. let same = times-other i s xs ne in omega (arith, h, same))
-
-      twice : (s t : ℕ) (xs : List ℕ) → s ≡ t → times s (s ∷ (t ∷ xs)) ≤ 1 → ⊥
-      twice s t xs e h =
-          let one = times-same s s (t ∷ xs) refl in
-          let two = times-same s t xs e in
-          omega (arith, h, one, two)
-
   -- ---- facing sides
 
   near_is : (s : ℕ) (a : IsActive K n chains s) → west_side K a.is.joins.chain a.segment ≡ near_side L chains r line (item s a)
@@ -172,7 +117,9 @@ module _ (K : ℤ) (chains : List MapChain) (near : AreAllNear K chains) (planar
   of_slab list of facing = record {
     items = items list of.active;
     listed = record {
-      sorted = sorted_items list of.active of.tested at_most;
+      sorted = sorted_items L chains planar r line K west_same (items list of.active)
+          (subst (EachTwo (AreTested K chains)) (sym (numbers_are list of.active)) of.tested)
+          (λ s. subst (λ l. times s l ≤ 1) (sym (numbers_are list of.active)) (at_most s));
       below = λ y h. let m = numbered L chains r y in below_total chains y.s m.c m.k m.number;
       once = λ s u lt is spanned. ap (times s) (numbers_are list of.active) ∙ of.once s (active_by K chains near L r steep line n parts s u is spanned);
     };

@@ -19,6 +19,7 @@ pub mod Own
 pub mod TrueSides
 pub mod Unique
 pub mod Slab
+pub mod Tested
 pub mod FromSlabs
 pub mod Reversed
 pub mod Tests
