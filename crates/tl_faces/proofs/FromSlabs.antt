@@ -1,9 +1,7 @@
 -- Where facing sides agree along the list of each slab, they do so along each line that is steep enough.
-use Rattle.std.proofs.Common.{◌≡◌, ◌⊎◌, inl, inr, ⊎_elim, ℕ, ◌+◌, ◌≤◌, ℤ, pos, ◌≤ℤ◌, Bool, if◌then◌else◌, List, [], ◌∷◌, refl, sym, ap, subst, ◌∙◌, arith}
-use Rattle.std.specs.Prelude.{slice_get, All}
+use Rattle.std.proofs.Common.{◌≡◌, ◌⊎◌, inl, inr, ⊎_elim, ℕ, ◌≤◌, ℤ, pos, ◌≤ℤ◌, Bool, if◌then◌else◌, List, [], ◌∷◌, refl, sym, ap, subst, ◌∙◌, arith}
+use Rattle.std.specs.Prelude.{All}
 use Rattle.std.proofs.lemmas.Bool.{cases_lt}
-use Rattle.std.proofs.lemmas.Int.{ints}
-use Rattle.std.proofs.lemmas.Option.{slice_get_within}
 use Rattle.tl_geom.specs.declared.point.Point.{Point}
 use Rattle.tl_geom.specs.declared.rational.Rational.{Rational}
 use Rattle.tl_geom.specs.Plane.{turn_of}
@@ -11,26 +9,21 @@ use Rattle.tl_county.specs.declared.sides.Side.{Side}
 use Rattle.tl_county.specs.declared.sides.Side.TheVariants.{Outside}
 use Rattle.tl_county.specs.TheMap.{MapChain}
 use Rattle.tl_index.specs.Hits.{times}
-use Rattle.tl_index.proofs.Times.{times-same, same_or, times-other}
 use Rattle.tl_planar.specs.Planar.{IsPlanar}
-use Rattle.tl_planar.specs.Keeping.Apart.{one_found}
 use Rattle.tl_planar.proofs.Numbering.{below_total}
-use Rattle.tl_slabs.specs.Heights.{height, height_of, low_end, high_end, turn_at, Spans, IsNotEast}
-use Rattle.tl_slabs.specs.Neighbours.{IsNumbered, IsWestOf, AreTested, EachTwo}
+use Rattle.tl_slabs.specs.Heights.{low_end, high_end}
+use Rattle.tl_slabs.specs.Neighbours.{IsWestOf, AreTested, EachTwo}
 use Rattle.tl_slabs.specs.Slabs.{IsActive, IsListOf}
-use Rattle.tl_slabs.proofs.Lying.{heights_of}
-use Rattle.tl_slabs.proofs.Transport.{not_east}
 use Rattle.tl_slabs.proofs.Walking.{IsIn, in_by_times, all_head, all_tail}
 use Rattle.tl_faces.specs.Lists.{west_side, east_side, AreFacingFrom, AreSlabsFacing, AreAllNear}
-use Rattle.tl_faces.proofs.Numbers.{le_lt}
 use Rattle.tl_faces.proofs.Steep.{IsSpanned}
 use Rattle.tl_faces.proofs.Bounds.{IsSteep}
-use Rattle.tl_faces.proofs.Lines.{IsWestward, met, level_with, turn_of_east}
-use Rattle.tl_faces.proofs.Items.{Item, numbered, ends, ends_of_item, one_west, scaled, scaled_above, IsLine}
-use Rattle.tl_faces.proofs.Sorting.{IsSorted, numbers}
+use Rattle.tl_faces.proofs.Lines.{met}
+use Rattle.tl_faces.proofs.Items.{Item, item_with, numbered, ends, IsLine}
+use Rattle.tl_faces.proofs.Sorting.{numbers}
 use Rattle.tl_faces.proofs.Toward.{near_side, far_side}
 use Rattle.tl_faces.proofs.Along.{AreFacing, IsFacedOn, AreFaced}
-use Rattle.tl_faces.proofs.Tested.{sorted_items}
+use Rattle.tl_faces.proofs.Tested.{sorted_items, items_of, numbers_of}
 use Rattle.tl_faces.proofs.Slab.{IsParting, parting, same_rise, same_low, same_high, own_near, active_by, spanned_by_active}
 
 active_in : (P : ℕ → Type 0) (s : ℕ) (xs : List ℕ) → All P xs → IsIn s xs → P s
@@ -42,32 +35,18 @@ module _ (K : ℤ) (chains : List MapChain) (near : AreAllNear K chains) (planar
 
   item : (s : ℕ) → IsActive K n chains s → Item L chains r
   item s a =
-      let is : IsNumbered chains s a.segment = a.is in
-      let same : is.number.chain ≡ is.joins.chain = one_found is.number.chain is.joins.chain (slice_get chains is.c) is.number.is is.joins.is in
-      let spanned : IsSpanned L a.segment r = spanned_by_active K chains near L r steep line n parts s a.segment is a.begun a.lasting in
-      record {
-        s = s;
-        c = is.c;
-        k = is.k;
-        chain = is.joins.chain;
-        segment = a.segment;
-        is = is.joins.is;
-        inside = slice_get_within is.joins.chain.points (is.k + 1) a.segment.b is.joins.to;
-        number = is.number.number;
-        from = is.joins.from;
-        to = is.joins.to;
-        spanned = spanned;
-        at = met L a.segment r (ends L chains r line s a.segment is) spanned;
-      }
+      let spanned : IsSpanned L a.segment r = spanned_by_active K chains near L r steep line n parts s a.segment a.is a.begun a.lasting in
+      item_with L chains r s a.segment a.is spanned (met L a.segment r (ends L chains r line s a.segment a.is) spanned)
 
-  items : (list : List ℕ) → All (IsActive K n chains) list → List (Item L chains r)
-  items [] active = []
-  items (s ∷ list) active = item s (all_head (IsActive K n chains) s list active) ∷ items list (all_tail (IsActive K n chains) s list active)
+  item_number : (s : ℕ) (a : IsActive K n chains s) → (item s a).s ≡ s
+  unfolding item
+  item_number s a = refl
+
+  abbrev items : (list : List ℕ) → All (IsActive K n chains) list → List (Item L chains r)
+  items list active = items_of L chains r (IsActive K n chains) item list active
 
   numbers_are : (list : List ℕ) (active : All (IsActive K n chains) list) → numbers L chains r (items list active) ≡ list
-  unfolding item items
-  numbers_are [] active = refl
-  numbers_are (s ∷ list) active = ap (λ l. s ∷ l) (numbers_are list (all_tail (IsActive K n chains) s list active))
+  numbers_are list active = numbers_of L chains r (IsActive K n chains) item item_number list active
 
   -- ---- neighbours that were tested stand from west to east
 
@@ -102,7 +81,6 @@ module _ (K : ℤ) (chains : List MapChain) (near : AreAllNear K chains) (planar
   far_is s a = ap (λ (t : Bool). if t then a.is.joins.chain.right else a.is.joins.chain.left) (same_rise K L a.segment (own_near K chains near L r steep line n parts s a.segment a.is) (steep.ends s a.segment a.is))
 
   facing_items : (list : List ℕ) (active : All (IsActive K n chains) list) (west : Side) → AreFacingFrom K chains west list → AreFacing L chains r line west (items list active)
-  unfolding items
   facing_items [] active west facing = facing
   facing_items (s ∷ list) active west facing =
       let a : IsActive K n chains s = all_head (IsActive K n chains) s list active in

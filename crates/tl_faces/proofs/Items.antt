@@ -2,6 +2,7 @@
 use Rattle.std.proofs.Common.{◌≡◌, ◌⊎◌, inl, inr, ⊎_elim, ℕ, ◌+◌, ◌<◌, ℤ, pos, ◌-ℤ◌, ◌*ℤ◌, ◌<ℤ◌, ◌≤ℤ◌, Some, List, length, refl, sym, ap, subst, ◌∙◌, arith}
 use Rattle.std.specs.Prelude.{slice_get}
 use Rattle.std.proofs.lemmas.Int.{ints, by_lt_z}
+use Rattle.std.proofs.lemmas.Option.{slice_get_within}
 use Rattle.tl_geom.specs.declared.point.Point.{Point}
 use Rattle.tl_geom.specs.declared.rational.Rational.{Rational}
 use Rattle.tl_geom.specs.declared.segment.Segment.{Segment}
@@ -61,6 +62,23 @@ steep_line K chains r steep clear = record {
 }
 
 module _ (K : ℤ) (chains : List MapChain) (r : Rational) where
+  -- the item of the segment with a number
+  abbrev pub item_with : (s : ℕ) (u : Segment) → IsNumbered chains s u → IsSpanned K u r → IsMet K u r → Item K chains r
+  item_with s u is spanned at = record {
+    s = s;
+    c = is.c;
+    k = is.k;
+    chain = is.joins.chain;
+    segment = u;
+    is = is.joins.is;
+    inside = slice_get_within is.joins.chain.points (is.k + 1) u.b is.joins.to;
+    number = is.number.number;
+    from = is.joins.from;
+    to = is.joins.to;
+    spanned = spanned;
+    at = at;
+  }
+
   pub numbered : (x : Item K chains r) → IsNumbered chains x.s x.segment
   numbered x = record {
     c = x.c;

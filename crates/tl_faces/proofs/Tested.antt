@@ -1,5 +1,6 @@
 -- Items whose segments are tested neighbours stand along their line from west to east.
-use Rattle.std.proofs.Common.{◌≡◌, ⊎_elim, ℕ, ◌≤◌, ℤ, pos, ◌≤ℤ◌, List, [], ◌∷◌, refl, sym, subst, arith}
+use Rattle.std.proofs.Common.{◌≡◌, ⊎_elim, ℕ, ◌≤◌, ℤ, pos, List, [], ◌∷◌, refl, sym, subst, ap₂, arith}
+use Rattle.std.specs.Prelude.{All}
 use Rattle.std.proofs.lemmas.Int.{ints}
 use Rattle.tl_geom.specs.declared.rational.Rational.{Rational}
 use Rattle.tl_county.specs.TheMap.{MapChain}
@@ -10,10 +11,24 @@ use Rattle.tl_slabs.specs.Heights.{height, height_of, low_end, high_end, turn_at
 use Rattle.tl_slabs.specs.Neighbours.{IsWestOf, AreTested, EachTwo}
 use Rattle.tl_slabs.proofs.Lying.{heights_of}
 use Rattle.tl_slabs.proofs.Transport.{not_east}
+use Rattle.tl_slabs.proofs.Walking.{all_head, all_tail}
 use Rattle.tl_faces.proofs.Numbers.{le_lt}
 use Rattle.tl_faces.proofs.Lines.{IsWestward, level_with, turn_of_east}
 use Rattle.tl_faces.proofs.Items.{Item, numbered, ends_of_item, one_west, scaled, scaled_above, IsLine}
 use Rattle.tl_faces.proofs.Sorting.{IsSorted, numbers}
+
+-- ---- the items of a list of numbers
+
+module _ (L : ℤ) (chains : List MapChain) (r : Rational) (P : ℕ → Type 0) (item : (s : ℕ) → P s → Item L chains r) where
+  abbrev pub items_of : (list : List ℕ) → All P list → List (Item L chains r)
+  items_of [] all = []
+  items_of (s ∷ list) all = item s (all_head P s list all) ∷ items_of list (all_tail P s list all)
+
+  pub numbers_of : ((s : ℕ) (a : P s) → (item s a).s ≡ s) → (list : List ℕ) (all : All P list) → numbers L chains r (items_of list all) ≡ list
+  numbers_of same [] all = refl
+  numbers_of same (s ∷ list) all = ap₂ (λ i l. i ∷ l) (same s (all_head P s list all)) (numbers_of same list (all_tail P s list all))
+
+-- ---- their order
 
 module _ (L : ℤ) (chains : List MapChain) (planar : IsPlanar chains) (r : Rational) (line : IsLine L chains r) where
   spans : (x y : Item L chains r) → Spans L x.segment y.at.place

@@ -1,8 +1,7 @@
 -- On planar chains whose faces agree each slab has a list of which neighbours are tested, and facing sides agree along it.
-use Rattle.std.proofs.Common.{◌≡◌, inl, ℕ, ◌+◌, ℤ, pos, ◌+ℤ◌, ◌-ℤ◌, ◌*ℤ◌, ◌<ℤ◌, ◌≤ℤ◌, if◌then◌else◌, Some, List, [], ◌∷◌, refl, sym, subst, ◌∙◌, arith}
-use Rattle.std.specs.Prelude.{int_lt, slice_get, All}
+use Rattle.std.proofs.Common.{◌≡◌, inl, ℕ, ℤ, pos, ◌+ℤ◌, ◌-ℤ◌, ◌*ℤ◌, ◌<ℤ◌, if◌then◌else◌, Some, List, [], ◌∷◌, refl, sym, subst, ◌∙◌, arith}
+use Rattle.std.specs.Prelude.{int_lt, slice_get}
 use Rattle.std.proofs.lemmas.Int.{ints}
-use Rattle.std.proofs.lemmas.List.Elements.{All-nil, All-cons}
 use Rattle.tl_geom.specs.declared.point.Point.{Point}
 use Rattle.tl_geom.specs.declared.rational.Rational.{Rational}
 use Rattle.tl_geom.specs.declared.segment.Segment.{Segment}
@@ -14,9 +13,9 @@ use Rattle.tl_county.specs.TheMap.{MapChain}
 use Rattle.tl_planar.specs.Planar.{IsPlanar}
 use Rattle.tl_planar.specs.Keeping.Apart.{one_found}
 use Rattle.tl_planar.proofs.Numbering.{below_total, one_chain, HaveSameEnds}
-use Rattle.tl_slabs.specs.Heights.{height, height_of, AreNear, low_end, high_end, turn_at}
+use Rattle.tl_slabs.specs.Heights.{height, height_of, low_end, high_end, turn_at}
 use Rattle.tl_slabs.specs.Neighbours.{IsNumbered, IsWestOf, AreTested, EachTwo, AreApartOrAtEnds}
-use Rattle.tl_slabs.specs.Slabs.{IsActive, IsListOf}
+use Rattle.tl_slabs.specs.Slabs.{IsListOf}
 use Rattle.tl_slabs.proofs.Rising.{AreEndsOf}
 use Rattle.tl_slabs.proofs.Lying.{heights_of}
 use Rattle.tl_slabs.proofs.Numbered.{one_segment, on_same}

@@ -5,7 +5,7 @@ use Rattle.std.proofs.lemmas.Int.{ints, by_lt_z}
 use Rattle.std.proofs.lemmas.List.Elements.{All-nil, All-cons}
 use Rattle.tl_geom.specs.declared.rational.Rational.{Rational}
 use Rattle.tl_geom.specs.declared.segment.Segment.{Segment}
-use Rattle.tl_geom.proofs.Signs.{mono, cancel_lt}
+use Rattle.tl_geom.proofs.Signs.{mono}
 use Rattle.tl_county.specs.TheMap.{MapChain}
 use Rattle.tl_slabs.specs.Heights.{height, height_of, AreNear, low_end, high_end}
 use Rattle.tl_slabs.specs.Neighbours.{IsNumbered}
