@@ -23,12 +23,8 @@ use Rattle.tl_faces.proofs.Items.{Item, item_with, numbered, ends, IsLine}
 use Rattle.tl_faces.proofs.Sorting.{numbers}
 use Rattle.tl_faces.proofs.Toward.{near_side, far_side}
 use Rattle.tl_faces.proofs.Along.{AreFacing, IsFacedOn, AreFaced}
-use Rattle.tl_faces.proofs.Tested.{sorted_items, items_of, numbers_of}
+use Rattle.tl_faces.proofs.Tested.{sorted_items, items_of, numbers_of, at_most_once}
 use Rattle.tl_faces.proofs.Slab.{IsParting, parting, same_rise, same_low, same_high, own_near, active_by, spanned_by_active}
-
-active_in : (P : ℕ → Type 0) (s : ℕ) (xs : List ℕ) → All P xs → IsIn s xs → P s
-active_in P s [] all i = absurd i
-active_in P s (x ∷ xs) all i = ⊎_elim (λ e. subst P (sym e) (all_head P x xs all)) (λ later. active_in P s xs (all_tail P x xs all) later) i
 
 module _ (K : ℤ) (chains : List MapChain) (near : AreAllNear K chains) (planar : IsPlanar chains) (L : ℤ) (r : Rational) (steep : IsSteep L chains r) (line : IsLine L chains r) (n : ℤ) (parts : IsParting K chains near r n) where
   -- ---- the item of an active segment
@@ -97,18 +93,12 @@ module _ (K : ℤ) (chains : List MapChain) (near : AreAllNear K chains) (planar
     listed = record {
       sorted = sorted_items L chains planar r line K west_same (items list of.active)
           (subst (EachTwo (AreTested K chains)) (sym (numbers_are list of.active)) of.tested)
-          (λ s. subst (λ l. times s l ≤ 1) (sym (numbers_are list of.active)) (at_most s));
+          (λ s. subst (λ l. times s l ≤ 1) (sym (numbers_are list of.active)) (at_most_once K n chains list of s));
       below = λ y h. let m = numbered L chains r y in below_total chains y.s m.c m.k m.number;
       once = λ s u lt is spanned. ap (times s) (numbers_are list of.active) ∙ of.once s (active_by K chains near L r steep line n parts s u is spanned);
     };
     along = facing_items list of.active Outside facing;
   }
-    where
-      at_most : (s : ℕ) → times s list ≤ 1
-      at_most s = elim (cases_lt 0 (times s list)) [
-        | inl some ↦ let one = of.once s (active_in (IsActive K n chains) s list of.active (in_by_times s list some)) in omega (arith, one)
-        | inr none ↦ omega (arith, none)
-      ]
 
 pub by_slabs : (K : ℤ) (chains : List MapChain) → AreAllNear K chains → IsPlanar chains → AreSlabsFacing K chains → AreFaced chains
 by_slabs K chains near planar slabs L r steep line =

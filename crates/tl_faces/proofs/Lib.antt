@@ -25,6 +25,7 @@ pub mod Reversed
 pub mod Tests
 pub mod Within
 pub mod ToSlabs
+pub mod Neighbours
 pub mod Flanks
 pub mod Located
 pub mod Straight

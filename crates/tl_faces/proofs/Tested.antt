@@ -1,6 +1,7 @@
 -- Items whose segments are tested neighbours stand along their line from west to east.
-use Rattle.std.proofs.Common.{◌≡◌, ⊎_elim, ℕ, ◌≤◌, ℤ, pos, List, [], ◌∷◌, refl, sym, subst, ap₂, arith}
+use Rattle.std.proofs.Common.{◌≡◌, inl, inr, ⊎_elim, ℕ, ◌≤◌, ℤ, pos, List, [], ◌∷◌, refl, sym, subst, ap₂, arith}
 use Rattle.std.specs.Prelude.{All}
+use Rattle.std.proofs.lemmas.Bool.{cases_lt}
 use Rattle.std.proofs.lemmas.Int.{ints}
 use Rattle.tl_geom.specs.declared.rational.Rational.{Rational}
 use Rattle.tl_county.specs.TheMap.{MapChain}
@@ -9,13 +10,26 @@ use Rattle.tl_index.proofs.Times.{times-same, same_or, times-other}
 use Rattle.tl_planar.specs.Planar.{IsPlanar}
 use Rattle.tl_slabs.specs.Heights.{height, height_of, low_end, high_end, turn_at, Spans, IsNotEast}
 use Rattle.tl_slabs.specs.Neighbours.{IsWestOf, AreTested, EachTwo}
+use Rattle.tl_slabs.specs.Slabs.{IsActive, IsListOf}
 use Rattle.tl_slabs.proofs.Lying.{heights_of}
 use Rattle.tl_slabs.proofs.Transport.{not_east}
-use Rattle.tl_slabs.proofs.Walking.{all_head, all_tail}
+use Rattle.tl_slabs.proofs.Walking.{IsIn, in_by_times, all_head, all_tail}
 use Rattle.tl_faces.proofs.Numbers.{le_lt}
 use Rattle.tl_faces.proofs.Lines.{IsWestward, level_with, turn_of_east}
 use Rattle.tl_faces.proofs.Items.{Item, numbered, ends_of_item, one_west, scaled, scaled_above, IsLine}
 use Rattle.tl_faces.proofs.Sorting.{IsSorted, numbers}
+
+-- ---- the list of a slab holds no number twice
+
+active_in : (P : ℕ → Type 0) (s : ℕ) (xs : List ℕ) → All P xs → IsIn s xs → P s
+active_in P s [] all i = absurd i
+active_in P s (x ∷ xs) all i = ⊎_elim (λ e. subst P (sym e) (all_head P x xs all)) (λ later. active_in P s xs (all_tail P x xs all) later) i
+
+pub at_most_once : (K n : ℤ) (chains : List MapChain) (list : List ℕ) → IsListOf K n chains list → (s : ℕ) → times s list ≤ 1
+at_most_once K n chains list of s = elim (cases_lt 0 (times s list)) [
+  | inl some ↦ let one = of.once s (active_in (IsActive K n chains) s list of.active (in_by_times s list some)) in omega (arith, one)
+  | inr none ↦ omega (arith, none)
+]
 
 -- ---- the items of a list of numbers
 
