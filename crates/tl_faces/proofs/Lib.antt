@@ -26,6 +26,7 @@ pub mod Tests
 pub mod Within
 pub mod ToSlabs
 pub mod Neighbours
+pub mod Midway
 pub mod Flanks
 pub mod Located
 pub mod Straight

@@ -91,12 +91,12 @@ one_place K p q above level e = record { x = e; y = cancel K (p.y *ℤ q.d) (q.y
 
 -- ---- where a segment meets the line of a height between those of its ends
 
-straight_by : (ux uy ax ay n d : ℤ) → cross ux uy (d *ℤ ax +ℤ n *ℤ ux -ℤ d *ℤ ax) (d *ℤ ay +ℤ n *ℤ uy -ℤ d *ℤ ay) ≡ pos 0
+pub straight_by : (ux uy ax ay n d : ℤ) → cross ux uy (d *ℤ ax +ℤ n *ℤ ux -ℤ d *ℤ ax) (d *ℤ ay +ℤ n *ℤ uy -ℤ d *ℤ ay) ≡ pos 0
 straight_by ux uy ax ay n d =
     let u = num ux in let v = num uy in let m = num d in let k = num n in
     same (u ⊗ (m ⊗ num ay ⊕ k ⊗ v ⊖ m ⊗ num ay) ⊖ v ⊗ (m ⊗ num ax ⊕ k ⊗ u ⊖ m ⊗ num ax)) (num (pos 0)) (omega arith)
 
-height_by : (K ax ay bx by n d : ℤ) → K *ℤ (d *ℤ ay +ℤ n *ℤ (by -ℤ ay)) -ℤ (d *ℤ ax +ℤ n *ℤ (bx -ℤ ax)) ≡ d *ℤ (K *ℤ ay -ℤ ax) +ℤ n *ℤ ((K *ℤ by -ℤ bx) -ℤ (K *ℤ ay -ℤ ax))
+pub height_by : (K ax ay bx by n d : ℤ) → K *ℤ (d *ℤ ay +ℤ n *ℤ (by -ℤ ay)) -ℤ (d *ℤ ax +ℤ n *ℤ (bx -ℤ ax)) ≡ d *ℤ (K *ℤ ay -ℤ ax) +ℤ n *ℤ ((K *ℤ by -ℤ bx) -ℤ (K *ℤ ay -ℤ ax))
 height_by K ax ay bx by n d =
     let k = num K in let a = num ax in let b = num ay in let c = num bx in let e = num by in let m = num n in let f = num d in
     same (k ⊗ (f ⊗ b ⊕ m ⊗ (e ⊖ b)) ⊖ (f ⊗ a ⊕ m ⊗ (c ⊖ a))) (f ⊗ (k ⊗ b ⊖ a) ⊕ m ⊗ ((k ⊗ e ⊖ c) ⊖ (k ⊗ b ⊖ a))) (omega arith)

@@ -30,11 +30,11 @@ use Rattle.tl_faces.proofs.Within.{line, spanned_of, begun_of}
 
 -- ---- parts of lists
 
-all_front : (P : ℕ → Type 0) (xs ys : List ℕ) → All P (xs ++ ys) → All P xs
+pub all_front : (P : ℕ → Type 0) (xs ys : List ℕ) → All P (xs ++ ys) → All P xs
 all_front P [] ys all = All-nil P
 all_front P (x ∷ xs) ys all = All-cons P x xs (all_head P x (xs ++ ys) all) (all_front P xs ys (all_tail P x (xs ++ ys) all))
 
-all_back : (P : ℕ → Type 0) (xs ys : List ℕ) → All P (xs ++ ys) → All P ys
+pub all_back : (P : ℕ → Type 0) (xs ys : List ℕ) → All P (xs ++ ys) → All P ys
 all_back P [] ys all = all
 all_back P (x ∷ xs) ys all = all_back P xs ys (all_tail P x (xs ++ ys) all)
 

@@ -1,21 +1,24 @@
 //! Laws of the definitions, each the contract of a function that does nothing.
 
-ghost use Rattle.std.specs.Prelude.{◌≡◌, ◌↔◌, ℕ, ℤ, pos, ◌<ℤ◌, Bool, List};
+ghost use Rattle.std.specs.Prelude.{◌≡◌, ◌≢◌, ◌↔◌, ℕ, ℤ, pos, ◌-ℤ◌, ◌<ℤ◌, ◌≤ℤ◌, Bool, List, [], ◌∷◌, ◌++◌};
 ghost use Rattle.tl_geom.specs.declared.point.Point.{Point};
 ghost use Rattle.tl_geom.specs.declared.rational.Rational.{Rational};
 ghost use Rattle.tl_geom.specs.declared.segment.Segment.{Segment};
-ghost use Rattle.tl_geom.specs.Plane.{whole};
+ghost use Rattle.tl_geom.specs.Plane.{IsOn, whole};
 ghost use Rattle.tl_county.specs.declared.sides.Side.{Side};
+ghost use Rattle.tl_county.specs.declared.sides.Side.TheVariants.{Outside};
 ghost use Rattle.tl_county.specs.TheMap.{TheMap, MapChain};
 ghost use Rattle.tl_planar.specs.Planar.{IsPlanar};
 ghost use Rattle.tl_inside.specs.declared.place.Place.{Place};
 ghost use Rattle.tl_inside.specs.Inside.{IsCount, flanks_at};
 ghost use Rattle.tl_inside.specs.Places.{IsPlaceOf};
-ghost use Rattle.tl_slabs.specs.Heights.{AreNear};
+ghost use Rattle.tl_slabs.specs.Heights.{height, AreNear, low_end, high_end};
 ghost use Rattle.tl_slabs.specs.Neighbours.{IsNumbered};
+ghost use Rattle.tl_slabs.specs.Slabs.{IsListOf};
 ghost use Rattle.tl_faces.specs.Rays.{IsCountAt};
 ghost use Rattle.tl_faces.specs.Facing.{FacesAgree};
 ghost use Rattle.tl_faces.specs.Lists.{AreSlabsFacing, AreAllNear, RunsWest, sides_by_height, west_side, east_side};
+ghost use Rattle.tl_faces.specs.Disagreements.{IsFaceDisagreement, IsOutwardDisagreement, IsInSlab, IsMidway, HaveOneHeight};
 ghost use Rattle.tl_faces.specs.Located.{ListsOneAtMost};
 ghost use Rattle.tl_faces.specs.Truth.{LiesAt, HasOnePolygon, AreSidesTrue};
 
@@ -42,7 +45,8 @@ pub fn no_two_polygons()
 
 /// So there [`tl_inside::locate`] lists at most one polygon of a point that is on no chain, the one that the point is inside of.
 pub fn places_list_one_polygon_at_most()
-    ensures { (m : TheMap) (q : Point) (place : Place) → IsPlanar m.chains → FacesAgree m.chains → IsPlaceOf m q place → ListsOneAtMost m.chains q place }
+    ensures { (m : TheMap) (q : Point) (place : Place) → IsPlanar m.chains → FacesAgree m.chains → IsPlaceOf m q place →
+        ListsOneAtMost m.chains q place }
 {}
 
 /// And then each side of each chain names what lies there.
@@ -63,12 +67,65 @@ pub fn true_sides_by_slabs()
 
 /// And where chains are planar and faces agree there are such lists.
 pub fn slabs_have_lists()
-    ensures { (K : ℤ) (chains : List MapChain) → pos 0 <ℤ K → AreAllNear K chains → IsPlanar chains → FacesAgree chains → AreSlabsFacing K chains }
+    ensures { (K : ℤ) (chains : List MapChain) → pos 0 <ℤ K → AreAllNear K chains → IsPlanar chains → FacesAgree chains →
+        AreSlabsFacing K chains }
 {}
 
 /// So such lists show that faces agree: what a sweep can look at is all of it.
 pub fn faces_agree_by_slabs()
     ensures { (K : ℤ) (chains : List MapChain) → AreAllNear K chains → IsPlanar chains → AreSlabsFacing K chains → FacesAgree chains }
+{}
+
+/// Two neighbours of a slab's list face one another, from any places of one height within the slab, as from those midway. So where
+/// the east side of the first isn't the west side of the next, faces disagree there.
+pub fn neighbours_face()
+    ensures at_one_height { (K n : ℤ) (chains : List MapChain) (front back : List ℕ) (s t : ℕ) (u w : Segment) (first : IsNumbered chains s u)
+        (next : IsNumbered chains t w) (p q : Rational) → AreAllNear K chains → IsPlanar chains → IsListOf K n chains (front ++ (s ∷ (t ∷ back))) →
+        IsOn u p → IsOn w q → IsInSlab K n p → HaveOneHeight K p q → east_side K first.joins.chain u ≢ west_side K next.joins.chain w →
+        IsFaceDisagreement chains first.joins.chain next.joins.chain u w p q (east_side K first.joins.chain u) (west_side K next.joins.chain w) }
+    ensures midway { (K n : ℤ) (chains : List MapChain) (front back : List ℕ) (s t : ℕ) (u w : Segment) (first : IsNumbered chains s u)
+        (next : IsNumbered chains t w) (p q : Rational) → AreAllNear K chains → IsPlanar chains → IsListOf K n chains (front ++ (s ∷ (t ∷ back))) →
+        IsMidway K n u p → IsMidway K n w q → east_side K first.joins.chain u ≢ west_side K next.joins.chain w →
+        IsFaceDisagreement chains first.joins.chain next.joins.chain u w p q (east_side K first.joins.chain u) (west_side K next.joins.chain w) }
+{}
+
+/// The first segment of a slab's list faces the outside to the west, along the lines of one height.
+pub fn first_faces_outward()
+    ensures within { (K n : ℤ) (chains : List MapChain) (back : List ℕ) (s : ℕ) (u : Segment) (is : IsNumbered chains s u) (p : Rational) →
+        AreAllNear K chains → IsPlanar chains → IsListOf K n chains (s ∷ back) → IsOn u p → IsInSlab K n p → west_side K is.joins.chain u ≢ Outside →
+        IsOutwardDisagreement chains is.joins.chain u p (pos 0 -ℤ K) (pos 0 -ℤ pos 1) (west_side K is.joins.chain u) }
+    ensures midway { (K n : ℤ) (chains : List MapChain) (back : List ℕ) (s : ℕ) (u : Segment) (is : IsNumbered chains s u) (p : Rational) →
+        AreAllNear K chains → IsPlanar chains → IsListOf K n chains (s ∷ back) → IsMidway K n u p → west_side K is.joins.chain u ≢ Outside →
+        IsOutwardDisagreement chains is.joins.chain u p (pos 0 -ℤ K) (pos 0 -ℤ pos 1) (west_side K is.joins.chain u) }
+{}
+
+/// The last faces it to the east.
+pub fn last_faces_outward()
+    ensures within { (K n : ℤ) (chains : List MapChain) (front : List ℕ) (s : ℕ) (u : Segment) (is : IsNumbered chains s u) (p : Rational) →
+        AreAllNear K chains → IsPlanar chains → IsListOf K n chains (front ++ (s ∷ [])) → IsOn u p → IsInSlab K n p →
+        east_side K is.joins.chain u ≢ Outside → IsOutwardDisagreement chains is.joins.chain u p K (pos 1) (east_side K is.joins.chain u) }
+    ensures midway { (K n : ℤ) (chains : List MapChain) (front : List ℕ) (s : ℕ) (u : Segment) (is : IsNumbered chains s u) (p : Rational) →
+        AreAllNear K chains → IsPlanar chains → IsListOf K n chains (front ++ (s ∷ [])) → IsMidway K n u p →
+        east_side K is.joins.chain u ≢ Outside → IsOutwardDisagreement chains is.joins.chain u p K (pos 1) (east_side K is.joins.chain u) }
+{}
+
+/// Each segment that isn't a point has a place midway between any two heights. Where it is active it lies on it, strictly within the
+/// slab, and two such places have one height.
+pub fn segments_have_places_midway()
+    ensures found { (K n : ℤ) (u : Segment) → AreNear K u.a u.b → (p : Rational) × IsMidway K n u p }
+    ensures on { (K n : ℤ) (u : Segment) (p : Rational) → AreNear K u.a u.b → height K (low_end K u) ≤ℤ n → n <ℤ height K (high_end K u) →
+        IsMidway K n u p → IsOn u p }
+    ensures within { (K n : ℤ) (u : Segment) (p : Rational) → AreNear K u.a u.b → IsMidway K n u p → IsInSlab K n p }
+    ensures level { (K n : ℤ) (u w : Segment) (p q : Rational) → AreNear K u.a u.b → AreNear K w.a w.b → IsMidway K n u p → IsMidway K n w q →
+        HaveOneHeight K p q }
+{}
+
+/// Where faces disagree anywhere, they don't agree.
+pub fn disagreements_contradict()
+    ensures face { (chains : List MapChain) (one other : MapChain) (u w : Segment) (p q : Rational) (side opposite : Side) →
+        IsFaceDisagreement chains one other u w p q side opposite → ¬ FacesAgree chains }
+    ensures outward { (chains : List MapChain) (chain : MapChain) (u : Segment) (p : Rational) (x y : ℤ) (side : Side) →
+        IsOutwardDisagreement chains chain u p x y side → ¬ FacesAgree chains }
 {}
 
 /// The sides of a segment by its height are its flanks, unless it runs level to the west: then they are the other way round.
