@@ -1,7 +1,6 @@
 -- Where facing sides agree along the list of each slab, they do so along each line that is steep enough.
-use Rattle.std.proofs.Common.{◌≡◌, ◌⊎◌, inl, inr, ⊎_elim, ℕ, ◌≤◌, ℤ, pos, ◌≤ℤ◌, Bool, if◌then◌else◌, List, [], ◌∷◌, refl, sym, ap, subst, ◌∙◌, arith}
+use Rattle.std.proofs.Common.{◌≡◌, ◌⊎◌, inl, inr, ⊎_elim, ℕ, ◌≤◌, ℤ, pos, ◌≤ℤ◌, Bool, if◌then◌else◌, List, [], ◌∷◌, refl, sym, ap, subst, ◌∙◌}
 use Rattle.std.specs.Prelude.{All}
-use Rattle.std.proofs.lemmas.Bool.{cases_lt}
 use Rattle.tl_geom.specs.declared.point.Point.{Point}
 use Rattle.tl_geom.specs.declared.rational.Rational.{Rational}
 use Rattle.tl_geom.specs.Plane.{turn_of}
@@ -14,7 +13,7 @@ use Rattle.tl_planar.proofs.Numbering.{below_total}
 use Rattle.tl_slabs.specs.Heights.{low_end, high_end}
 use Rattle.tl_slabs.specs.Neighbours.{IsWestOf, AreTested, EachTwo}
 use Rattle.tl_slabs.specs.Slabs.{IsActive, IsListOf}
-use Rattle.tl_slabs.proofs.Walking.{IsIn, in_by_times, all_head, all_tail}
+use Rattle.tl_slabs.proofs.Walking.{all_head, all_tail}
 use Rattle.tl_faces.specs.Lists.{west_side, east_side, AreFacingFrom, AreSlabsFacing, AreAllNear}
 use Rattle.tl_faces.proofs.Steep.{IsSpanned}
 use Rattle.tl_faces.proofs.Bounds.{IsSteep}
