@@ -29,6 +29,7 @@ pub mod Neighbours
 pub mod Midway
 pub mod Flanks
 pub mod Located
+pub mod Means
 pub mod Straight
 pub mod Outside
 pub mod ToFaces

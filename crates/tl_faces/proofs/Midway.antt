@@ -90,12 +90,14 @@ module _ (K n : ℤ) (u : Segment) (near : AreNear K u.a u.b) where
     lies_there begun lasting =
         let in_slab = inside in let d : pos 0 <ℤ p.d = p.above_zero in
         let from : (p.d *ℤ height K low) ≤ℤ (p.d *ℤ n) = mono p.d (height K low) n (omega (arith, ints, d)) begun in
-        let to : (p.d *ℤ (n +ℤ pos 1)) ≤ℤ (p.d *ℤ height K high) = mono p.d (n +ℤ pos 1) (height K high) (omega (arith, ints, d)) (omega (arith, ints, lasting)) in
+        let to : (p.d *ℤ (n +ℤ pos 1)) ≤ℤ (p.d *ℤ height K high) =
+        mono p.d (n +ℤ pos 1) (height K high) (omega (arith, ints, d)) (omega (arith, ints, lasting)) in
         let more = in_slab.above in let less = in_slab.below in
         lies_on K u low high ends p straight (omega (arith, ints, from, more)) (omega (arith, ints, to, less))
 
 -- two such places have one height
-pub one_height : (K n : ℤ) (u w : Segment) → AreNear K u.a u.b → AreNear K w.a w.b → (p q : Rational) → IsMidway K n u p → IsMidway K n w q → HaveOneHeight K p q
+pub one_height : (K n : ℤ) (u w : Segment) → AreNear K u.a u.b → AreNear K w.a w.b → (p q : Rational) → IsMidway K n u p → IsMidway K n w q →
+    HaveOneHeight K p q
 one_height K n u w near near' p q m m' =
     ap₂ (λ h d. h *ℤ d) (height_is K n u near p m) m'.d
     ∙ exchanged (height K (high_end K u) -ℤ height K (low_end K u)) (height K (high_end K w) -ℤ height K (low_end K w))
@@ -123,7 +125,8 @@ module _ (K n : ℤ) (chains : List MapChain) (near : AreAllNear K chains) (plan
     in_slab : IsInSlab K n p
     in_slab = inside K n u (own_near s u is) p m
 
-    pub neighbours_midway : (t : ℕ) (w : Segment) (is' : IsNumbered chains t w) (q : Rational) → IsMidway K n w q → IsListOf K n chains (front ++ (s ∷ (t ∷ back))) →
+    pub neighbours_midway : (t : ℕ) (w : Segment) (is' : IsNumbered chains t w) (q : Rational) → IsMidway K n w q →
+        IsListOf K n chains (front ++ (s ∷ (t ∷ back))) →
         east_side K is.joins.chain u ≢ west_side K is'.joins.chain w →
         IsFaceDisagreement chains is.joins.chain is'.joins.chain u w p q (east_side K is.joins.chain u) (west_side K is'.joins.chain w)
     neighbours_midway t w is' q m' of differ =

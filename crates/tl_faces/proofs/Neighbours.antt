@@ -45,7 +45,8 @@ numbers-both K chains r (x ∷ xs) ys = ap (λ l. x.s ∷ l) (numbers-both K cha
 
 -- ---- on a line within the slab
 
-module _ (K : ℤ) (above : pos 0 <ℤ K) (chains : List MapChain) (near : AreAllNear K chains) (planar : IsPlanar chains) (n : ℤ) (r : Rational) (inside : IsInSlab K n r) where
+module _ (K : ℤ) (above : pos 0 <ℤ K) (chains : List MapChain) (near : AreAllNear K chains) (planar : IsPlanar chains)
+    (n : ℤ) (r : Rational) (inside : IsInSlab K n r) where
   abbrev on_line : IsLine K chains r
   on_line = line K above chains near n r inside
 
@@ -69,7 +70,8 @@ module _ (K : ℤ) (above : pos 0 <ℤ K) (chains : List MapChain) (near : AreAl
   item_there s u is p on level = item_with K chains r s u is (spanned_by K chains r on_line s u is p on level) (record { place = p; on = on; level = level })
 
   -- items whose numbers are the slab's list are all that meet the line
-  listed : (list : List ℕ) → IsListOf K n chains list → (xs : List (Item K chains r)) → numbers K chains r xs ≡ list → IsListed K chains r (segments_before chains (length chains)) xs
+  listed : (list : List ℕ) → IsListOf K n chains list → (xs : List (Item K chains r)) → numbers K chains r xs ≡ list →
+      IsListed K chains r (segments_before chains (length chains)) xs
   listed list of xs are = record {
     sorted = sorted_items K chains planar r on_line K (λ x y west. west) xs (subst (EachTwo (AreTested K chains)) (sym are) of.tested)
         (λ s. subst (λ l. times s l ≤ 1) (sym are) (at_most_once K n chains list of s));
@@ -84,7 +86,8 @@ module _ (K : ℤ) (above : pos 0 <ℤ K) (chains : List MapChain) (near : AreAl
     x = item_there s u is p on level
 
     -- two neighbours
-    module _ (t : ℕ) (w : Segment) (is' : IsNumbered chains t w) (q : Rational) (on' : IsOn w q) (level' : AreLevel K q r) (of : IsListOf K n chains (front ++ (s ∷ (t ∷ back)))) where
+    module _ (t : ℕ) (w : Segment) (is' : IsNumbered chains t w) (q : Rational) (on' : IsOn w q) (level' : AreLevel K q r)
+        (of : IsListOf K n chains (front ++ (s ∷ (t ∷ back)))) where
       abbrev y : Item K chains r
       y = item_there t w is' q on' level'
 
@@ -92,11 +95,13 @@ module _ (K : ℤ) (above : pos 0 <ℤ K) (chains : List MapChain) (near : AreAl
       before = all_front (IsActive K n chains) front (s ∷ (t ∷ back)) of.active
 
       behind : All (IsActive K n chains) back
-      behind = all_tail (IsActive K n chains) t back (all_tail (IsActive K n chains) s (t ∷ back) (all_back (IsActive K n chains) front (s ∷ (t ∷ back)) of.active))
+      behind = all_tail (IsActive K n chains) t back (all_tail (IsActive K n chains) s (t ∷ back)
+          (all_back (IsActive K n chains) front (s ∷ (t ∷ back)) of.active))
 
       all_items : IsListed K chains r (segments_before chains (length chains)) (items front before ++ (x ∷ (y ∷ items back behind)))
       all_items = listed (front ++ (s ∷ (t ∷ back))) of (items front before ++ (x ∷ (y ∷ items back behind)))
-          (numbers-both K chains r (items front before) (x ∷ (y ∷ items back behind)) ∙ ap₂ (λ l m. l ++ (s ∷ (t ∷ m))) (items_are front before) (items_are back behind))
+          (numbers-both K chains r (items front before) (x ∷ (y ∷ items back behind))
+          ∙ ap₂ (λ l m. l ++ (s ∷ (t ∷ m))) (items_are front before) (items_are back behind))
 
       west : IsWestward p q
       west = (sorted_back K chains r (items front before) (x ∷ (y ∷ items back behind)) all_items.sorted).0 y (inl refl)
@@ -154,15 +159,16 @@ above_zero K chains near s u is =
     let own : AreNear K u.a u.a = near is.c is.k is.c is.k u.a u.a first first in
     let west = own.west in omega (arith, ints, west)
 
-module _ (K n : ℤ) (chains : List MapChain) (near : AreAllNear K chains) (planar : IsPlanar chains) (front back : List ℕ) (s : ℕ) (u : Segment) (is : IsNumbered chains s u)
-    (p : Rational) (on : IsOn u p) (inside : IsInSlab K n p) where
+module _ (K n : ℤ) (chains : List MapChain) (near : AreAllNear K chains) (planar : IsPlanar chains) (front back : List ℕ)
+    (s : ℕ) (u : Segment) (is : IsNumbered chains s u) (p : Rational) (on : IsOn u p) (inside : IsInSlab K n p) where
   above : pos 0 <ℤ K
   above = above_zero K chains near s u is
 
   itself : AreLevel K p p
   itself = record { is = refl }
 
-  pub neighbours : (t : ℕ) (w : Segment) (is' : IsNumbered chains t w) (q : Rational) → IsOn w q → HaveOneHeight K p q → IsListOf K n chains (front ++ (s ∷ (t ∷ back))) →
+  pub neighbours : (t : ℕ) (w : Segment) (is' : IsNumbered chains t w) (q : Rational) → IsOn w q → HaveOneHeight K p q →
+      IsListOf K n chains (front ++ (s ∷ (t ∷ back))) →
       east_side K is.joins.chain u ≢ west_side K is'.joins.chain w →
       IsFaceDisagreement chains is.joins.chain is'.joins.chain u w p q (east_side K is.joins.chain u) (west_side K is'.joins.chain w)
   neighbours t w is' q on' level of differ =

@@ -307,6 +307,25 @@ no_end_off chains q off s u is end =
     let on : IsOn u q = ⊎_elim (λ k. places.on_same u (whole u.a) q (places.same_sym q (whole u.a) k) (places.a_on u)) (λ k. places.on_same u (whole u.b) q (places.same_sym q (whole u.b) k) (places.b_on u)) end in
     off is.c is.joins.chain is.joins.is (is.k, record { segment = u; from = is.joins.from; to = is.joins.to; on = on })
 
+-- ---- counts by the ray to the west, at a place on no chain
+
+pub some_west : (chains : List MapChain) → AreFaced chains → (p : Rational) → IsOff chains p →
+    (list : List ℕ) × AreHits (segments_before chains (length chains)) (IsWestHit chains p) list
+some_west chains faced p off =
+    let k : (K : ℤ) × IsSteep K chains p = some_steepness chains p in
+    let line : IsLine k.0 chains p = steep_line k.0 chains p k.1 (no_end_off chains p off) in
+    let s : (side : Side) × IsSeen k.0 chains p k.1 line faced off side = seen k.0 chains p k.1 line faced off in (
+      numbers k.0 chains p s.1.front,
+      are_hits k.0 chains p k.1 line (IsWestHit chains p) s.1.front (west_list k.0 chains p k.1 line s.1.front s.1.back s.1.listed s.1.west s.1.east),
+    )
+
+pub west_counted : (chains : List MapChain) → AreFaced chains → (p : Rational) → IsOff chains p → (S : Side → Bool) (n : ℤ) (hits : List ℕ) →
+    S Outside ≡ false → AreHits (segments_before chains (length chains)) (IsWestHit chains p) hits → n ≡ pos 0 -ℤ balance S (map (flanks_at chains) hits) →
+    IsCountAt chains p S n
+west_counted chains faced p off S n hits none are e =
+    let k : (K : ℤ) × IsSteep K chains p = some_steepness chains p in
+    west_count k.0 chains p k.1 (steep_line k.0 chains p k.1 (no_end_off chains p off)) faced off S n hits none are e
+
 pub one_polygon : (chains : List MapChain) → AreFaced chains → HasOnePolygon chains
 one_polygon chains faced q off =
     let k : (K : ℤ) × IsSteep K chains q = some_steepness chains q in

@@ -17,8 +17,7 @@ use Rattle.tl_faces.specs.Truth.{LiesAt}
 use Rattle.tl_faces.proofs.Crossing.{IsEastUp, IsWestUp}
 use Rattle.tl_faces.proofs.Bounds.{IsBounded, AreBounded}
 use Rattle.tl_faces.proofs.Along.{AreFaced}
-use Rattle.tl_faces.proofs.OnePolygon.{IsEastHit, IsWestHit, counted_by}
-use Rattle.tl_faces.proofs.Straight.{west_counted}
+use Rattle.tl_faces.proofs.OnePolygon.{IsEastHit, IsWestHit, counted_by, west_counted}
 
 spread : (d a b : ℤ) → d *ℤ (b -ℤ a) ≡ d *ℤ b -ℤ d *ℤ a
 spread d a b = same (num d ⊗ (num b ⊖ num a)) (num d ⊗ num b ⊖ num d ⊗ num a) (omega arith)
@@ -58,7 +57,9 @@ module _ (chains : List MapChain) (b : ℕ) (bounded : AreBounded b chains) (q :
   at_most v h = mono q.d v (pos b) some_d h
 
   at_least : (v : ℤ) → (pos 0 -ℤ pos b) ≤ℤ v → (pos 0 -ℤ q.d *ℤ pos b) ≤ℤ (q.d *ℤ v)
-  at_least v h = let m : (q.d *ℤ (pos 0 -ℤ pos b)) ≤ℤ (q.d *ℤ v) = mono q.d (pos 0 -ℤ pos b) v some_d h in let e = last_turned q.d (pos b) in omega (arith, ints, m, e)
+  at_least v h =
+      let m : (q.d *ℤ (pos 0 -ℤ pos b)) ≤ℤ (q.d *ℤ v) = mono q.d (pos 0 -ℤ pos b) v some_d h in
+      let e = last_turned q.d (pos b) in omega (arith, ints, m, e)
 
   -- q is far out: north, south or east of all, or west of all
   abbrev pub IsFarOut : Type 0
@@ -88,7 +89,8 @@ module _ (chains : List MapChain) (b : ℕ) (bounded : AreBounded b chains) (q :
       let x = spread q.d v.x w.x in let y = spread q.d v.y w.y in
       let x' = last_turned q.d (w.x -ℤ v.x) in
       let up : v.y <ℤ w.y = cancel_lt q.d v.y w.y some_d (omega (arith, ints, low, high)) in
-      let past = past_ends (pos 0 -ℤ (w.x -ℤ v.x)) (w.y -ℤ v.y) (pos 0 -ℤ (q.x -ℤ q.d *ℤ v.x)) (q.y -ℤ q.d *ℤ v.y) q.d (omega (arith, ints, up)) (omega (arith, ints, a, west))
+      let past = past_ends (pos 0 -ℤ (w.x -ℤ v.x)) (w.y -ℤ v.y) (pos 0 -ℤ (q.x -ℤ q.d *ℤ v.x)) (q.y -ℤ q.d *ℤ v.y) q.d
+      (omega (arith, ints, up)) (omega (arith, ints, a, west))
       (omega (arith, ints, x, x', c, west)) (omega (arith, ints, low)) (omega (arith, ints, y, high)) in
       let e = first_turned (w.x -ℤ v.x) (q.y -ℤ q.d *ℤ v.y) in
       let f = last_turned (w.y -ℤ v.y) (q.x -ℤ q.d *ℤ v.x) in

@@ -1,12 +1,13 @@
 -- What lies at the places of a straight line that meets no chain is one side.
-use Rattle.std.proofs.Common.{◌≡◌, ◌⊎◌, inl, inr, ⊎_elim, ℕ, zero, suc, ◌+◌, ℤ, pos, ◌+ℤ◌, ◌-ℤ◌, ◌*ℤ◌, ◌<ℤ◌, ◌≤ℤ◌, Bool, false, List, length, map, refl, ◌∙◌, arith}
+use Rattle.std.proofs.Common.{◌≡◌, ◌⊎◌, inl, inr, ⊎_elim, ℕ, zero, suc, ◌+◌, ℤ, pos, ◌+ℤ◌, ◌-ℤ◌, ◌*ℤ◌, ◌<ℤ◌, ◌≤ℤ◌, refl, ◌∙◌, arith}
+use Rattle.std.proofs.Common.{Bool, false, List, length, map}
 use Rattle.std.proofs.lemmas.Int.{ints, by_lt_z}
 use Rattle.tl_geom.specs.declared.point.Point.{Point}
 use Rattle.tl_geom.specs.declared.rational.Rational.{Rational}
 use Rattle.tl_geom.specs.declared.segment.Segment.{Segment}
 use Rattle.tl_geom.specs.Plane.{IsOn}
 use Rattle.tl_geom.proofs.Polynomials.{num, ◌⊕◌, ◌⊖◌, ◌⊗◌, same}
-use Rattle.tl_geom.proofs.Signs.{mono, mono_lt, cancel_lt, product_above, sign}
+use Rattle.tl_geom.proofs.Signs.{mono, mono_lt, cancel_lt, sign}
 use Rattle.tl_county.specs.declared.sides.Side.{Side}
 use Rattle.tl_county.specs.declared.sides.Side.TheVariants.{Outside, Polygon}
 use Rattle.tl_county.specs.TheMap.{MapChain}
@@ -20,70 +21,13 @@ use Rattle.tl_slabs.proofs.Lying.{lies_on}
 use Rattle.tl_faces.specs.Rays.{IsCountAt}
 use Rattle.tl_faces.specs.Facing.{IsOff}
 use Rattle.tl_faces.specs.Truth.{LiesAt}
+use Rattle.tl_faces.proofs.Means.{mean, mean_turn, mean_north, mean_south, mean_past, mean_before}
 use Rattle.tl_faces.proofs.Crossing.{IsEastUp, IsWestUp}
 use Rattle.tl_faces.proofs.Steep.{IsNearTo, height_by_latitude}
 use Rattle.tl_faces.proofs.Bounds.{IsSteep, IsFar, far, some_steepness}
-use Rattle.tl_faces.proofs.Items.{IsLine, steep_line}
-use Rattle.tl_faces.proofs.Sorting.{numbers}
 use Rattle.tl_faces.proofs.Along.{AreFaced}
 use Rattle.tl_faces.proofs.Whole.{one_count}
-use Rattle.tl_faces.proofs.OnePolygon.{IsEastHit, IsWestHit, east_hit, crossed_hit, are_hits, west_list, west_count, IsSeen, seen, no_end_off}
-
--- ---- the mean of two places, by weights above 0
-
-pub mean_above : (m n : ℤ) → pos 0 <ℤ m → pos 0 <ℤ n → (p q : Rational) → pos 0 <ℤ (m *ℤ p.d +ℤ n *ℤ q.d)
-mean_above m n some_m some_n p q =
-    let one = product_above m p.d some_m p.above_zero in
-    let other = product_above n q.d some_n q.above_zero in
-    omega (arith, ints, one, other)
-
-abbrev pub mean : (m n : ℤ) → pos 0 <ℤ m → pos 0 <ℤ n → (p q : Rational) → Rational
-mean m n some_m some_n p q = record {
-  x = m *ℤ p.x +ℤ n *ℤ q.x;
-  y = m *ℤ p.y +ℤ n *ℤ q.y;
-  d = m *ℤ p.d +ℤ n *ℤ q.d;
-  above_zero = mean_above m n some_m some_n p q;
-}
-
-mean_turn : (u v ax ay m n x y d X Y D : ℤ) → u *ℤ ((m *ℤ y +ℤ n *ℤ Y) -ℤ (m *ℤ d +ℤ n *ℤ D) *ℤ ay) -ℤ v *ℤ ((m *ℤ x +ℤ n *ℤ X) -ℤ (m *ℤ d +ℤ n *ℤ D) *ℤ ax) ≡
-    m *ℤ (u *ℤ (y -ℤ d *ℤ ay) -ℤ v *ℤ (x -ℤ d *ℤ ax)) +ℤ n *ℤ (u *ℤ (Y -ℤ D *ℤ ay) -ℤ v *ℤ (X -ℤ D *ℤ ax))
-mean_turn u v ax ay m n x y d X Y D =
-    let U = num u in let V = num v in let M = num m in let N = num n in let a = num ax in let b = num ay in
-    let p = num d in let q = num D in
-    same (U ⊗ ((M ⊗ num y ⊕ N ⊗ num Y) ⊖ (M ⊗ p ⊕ N ⊗ q) ⊗ b) ⊖ V ⊗ ((M ⊗ num x ⊕ N ⊗ num X) ⊖ (M ⊗ p ⊕ N ⊗ q) ⊗ a))
-    (M ⊗ (U ⊗ (num y ⊖ p ⊗ b) ⊖ V ⊗ (num x ⊖ p ⊗ a)) ⊕ N ⊗ (U ⊗ (num Y ⊖ q ⊗ b) ⊖ V ⊗ (num X ⊖ q ⊗ a))) (omega arith)
-
-mean_times : (m n d D v : ℤ) → (m *ℤ d +ℤ n *ℤ D) *ℤ v ≡ m *ℤ (d *ℤ v) +ℤ n *ℤ (D *ℤ v)
-mean_times m n d D v = same ((num m ⊗ num d ⊕ num n ⊗ num D) ⊗ num v) (num m ⊗ (num d ⊗ num v) ⊕ num n ⊗ (num D ⊗ num v)) (omega arith)
-
--- its latitude is between theirs
-module _ (m n : ℤ) (some_m : pos 0 <ℤ m) (some_n : pos 0 <ℤ n) (p q : Rational) (v : ℤ) where
-  abbrev middle : Rational
-  middle = mean m n some_m some_n p q
-
-  pub mean_north : (p.d *ℤ v) ≤ℤ p.y → (q.d *ℤ v) ≤ℤ q.y → (middle.d *ℤ v) ≤ℤ middle.y
-  mean_north one other =
-      let a : (m *ℤ (p.d *ℤ v)) ≤ℤ (m *ℤ p.y) = mono m (p.d *ℤ v) p.y (omega (arith, ints, some_m)) one in
-      let b : (n *ℤ (q.d *ℤ v)) ≤ℤ (n *ℤ q.y) = mono n (q.d *ℤ v) q.y (omega (arith, ints, some_n)) other in
-      let e = mean_times m n p.d q.d v in omega (arith, ints, a, b, e)
-
-  pub mean_south : p.y ≤ℤ (p.d *ℤ v) → q.y ≤ℤ (q.d *ℤ v) → middle.y ≤ℤ (middle.d *ℤ v)
-  mean_south one other =
-      let a : (m *ℤ p.y) ≤ℤ (m *ℤ (p.d *ℤ v)) = mono m p.y (p.d *ℤ v) (omega (arith, ints, some_m)) one in
-      let b : (n *ℤ q.y) ≤ℤ (n *ℤ (q.d *ℤ v)) = mono n q.y (q.d *ℤ v) (omega (arith, ints, some_n)) other in
-      let e = mean_times m n p.d q.d v in omega (arith, ints, a, b, e)
-
-  pub mean_past : (p.d *ℤ v) <ℤ p.y → (q.d *ℤ v) ≤ℤ q.y → (middle.d *ℤ v) <ℤ middle.y
-  mean_past one other =
-      let a : (m *ℤ (p.d *ℤ v)) <ℤ (m *ℤ p.y) = mono_lt m (p.d *ℤ v) p.y some_m one in
-      let b : (n *ℤ (q.d *ℤ v)) ≤ℤ (n *ℤ q.y) = mono n (q.d *ℤ v) q.y (omega (arith, ints, some_n)) other in
-      let e = mean_times m n p.d q.d v in omega (arith, ints, a, b, e)
-
-  pub mean_before : p.y ≤ℤ (p.d *ℤ v) → q.y <ℤ (q.d *ℤ v) → middle.y <ℤ (middle.d *ℤ v)
-  mean_before one other =
-      let a : (m *ℤ p.y) ≤ℤ (m *ℤ (p.d *ℤ v)) = mono m p.y (p.d *ℤ v) (omega (arith, ints, some_m)) one in
-      let b : (n *ℤ q.y) <ℤ (n *ℤ (q.d *ℤ v)) = mono_lt n q.y (q.d *ℤ v) some_n other in
-      let e = mean_times m n p.d q.d v in omega (arith, ints, a, b, e)
+use Rattle.tl_faces.proofs.OnePolygon.{some_west, west_counted, IsEastHit, IsWestHit, east_hit, crossed_hit}
 
 -- ---- places whose latitudes are alike
 
@@ -103,28 +47,12 @@ rises q a b low high strict =
     cancel_lt q.d a b (omega (arith, ints, d)) (⊎_elim (λ h. omega (arith, ints, h, high)) (λ h. omega (arith, ints, h, low)) strict)
 
 -- where there is no turn to a place and its latitude is between those of a segment's ends, it lies on the segment
-on_by_latitude : (K : ℤ) (r : Rational) (u : Segment) (a b : Point) → ((a ≡ u.a) × (b ≡ u.b)) ⊎ ((a ≡ u.b) × (b ≡ u.a)) → AreNear K a b → IsNearTo K r a → IsNearTo K r b →
+on_by_latitude : (K : ℤ) (r : Rational) (u : Segment) (a b : Point) → ((a ≡ u.a) × (b ≡ u.b)) ⊎ ((a ≡ u.b) × (b ≡ u.a)) →
+    AreNear K a b → IsNearTo K r a → IsNearTo K r b →
     a.y <ℤ b.y → (r.d *ℤ a.y) ≤ℤ r.y → r.y ≤ℤ (r.d *ℤ b.y) → turn_at a b r ≡ pos 0 → IsOn u r
 on_by_latitude K r u a b are near near_a near_b up low high none =
     let heights = height_by_latitude K r a b near_a near_b none low high up in
     lies_on K u a b (record { are = are; rising = higher K a b near up }) r none heights.0 heights.1
-
--- ---- counts by the ray to the west
-
-some_west : (chains : List MapChain) → AreFaced chains → (p : Rational) → IsOff chains p → (list : List ℕ) × AreHits (segments_before chains (length chains)) (IsWestHit chains p) list
-some_west chains faced p off =
-    let k : (K : ℤ) × IsSteep K chains p = some_steepness chains p in
-    let line : IsLine k.0 chains p = steep_line k.0 chains p k.1 (no_end_off chains p off) in
-    let s : (side : Side) × IsSeen k.0 chains p k.1 line faced off side = seen k.0 chains p k.1 line faced off in (
-      numbers k.0 chains p s.1.front,
-      are_hits k.0 chains p k.1 line (IsWestHit chains p) s.1.front (west_list k.0 chains p k.1 line s.1.front s.1.back s.1.listed s.1.west s.1.east),
-    )
-
-pub west_counted : (chains : List MapChain) → AreFaced chains → (p : Rational) → IsOff chains p → (S : Side → Bool) (n : ℤ) (hits : List ℕ) → S Outside ≡ false →
-    AreHits (segments_before chains (length chains)) (IsWestHit chains p) hits → n ≡ pos 0 -ℤ balance S (map (flanks_at chains) hits) → IsCountAt chains p S n
-west_counted chains faced p off S n hits none are e =
-    let k : (K : ℤ) × IsSteep K chains p = some_steepness chains p in
-    west_count k.0 chains p k.1 (steep_line k.0 chains p k.1 (no_end_off chains p off)) faced off S n hits none are e
 
 -- places on no chain, and with each two of them all their means
 module _ (chains : List MapChain) (P : Rational → Type 0) (clear : (r : Rational) → P r → IsOff chains r)
@@ -151,7 +79,9 @@ module _ (chains : List MapChain) (P : Rational → Type 0) (clear : (r : Ration
   last_ends s w is = record {
     is = is;
     are = inr ((λ i. w.b), λ i. w.a);
-    near = λ r. let k : (K : ℤ) × IsSteep K chains r = some_steepness chains r in (k.0, k.1, near_back k.0 w.a w.b (k.1.ends s w is), k.1.last s w is, k.1.first s w is);
+    near = λ r.
+        let k : (K : ℤ) × IsSteep K chains r = some_steepness chains r in
+        (k.0, k.1, near_back k.0 w.a w.b (k.1.ends s w is), k.1.last s w is, k.1.first s w is);
   }
 
   -- the latitude of a place is between those of the ends
@@ -244,7 +174,10 @@ module _ (chains : List MapChain) (P : Rational → Type 0) (clear : (r : Ration
 
   alike_by : (p q : Rational) → ((S : Side → Bool) (n : ℤ) → S Outside ≡ false → IsCountAt chains p S n → IsCountAt chains q S n) → IsAlike p q
   alike_by p q same_counts Outside lies = λ i. same_counts (is_polygon i) (pos 0) refl (lies i)
-  alike_by p q same_counts (Polygon i) lies = (same_counts (is_polygon i) (pos 1) refl lies.0, λ other ne. same_counts (is_polygon other) (pos 0) refl (lies.1 other ne))
+  alike_by p q same_counts (Polygon i) lies = (
+    same_counts (is_polygon i) (pos 1) refl lies.0,
+    λ other ne. same_counts (is_polygon other) (pos 0) refl (lies.1 other ne),
+  )
 
   by_floor : (p q : Rational) → P p → P q → HaveOneFloor p q → IsAlike p q
   by_floor p q at at' one = alike_by p q (λ S n none k. record {
@@ -273,38 +206,40 @@ module _ (chains : List MapChain) (P : Rational → Type 0) (clear : (r : Ration
 
     -- ---- between a whole latitude and the next
 
-    -- the latitude of a place is k or more, and k + 1 or less
+    -- the latitude of a place is k or more, k or less, below k, or above it
     abbrev IsFrom : ℤ → Rational → Type 0
     IsFrom k r = (r.d *ℤ k) ≤ℤ r.y
 
     abbrev IsUpTo : ℤ → Rational → Type 0
     IsUpTo k r = r.y ≤ℤ (r.d *ℤ k)
 
-    alike_in_floor : (k : ℤ) (p q : Rational) → P p → P q → IsFrom k p → p.y <ℤ (p.d *ℤ (k +ℤ pos 1)) → IsFrom k q → q.y <ℤ (q.d *ℤ (k +ℤ pos 1)) → IsAlike p q
-    alike_in_floor k p q at at' low high low' high' = by_floor p q at at' (record { to = λ v h. passed p q low' high v h; back = λ v h. passed q p low high' v h })
-      where
-        passed : (p q : Rational) → IsFrom k q → p.y <ℤ (p.d *ℤ (k +ℤ pos 1)) → (v : ℤ) → (p.d *ℤ v) ≤ℤ p.y → (q.d *ℤ v) ≤ℤ q.y
-        passed p q low high v h =
-            let d : pos 0 <ℤ p.d = p.above_zero in let e : pos 0 <ℤ q.d = q.above_zero in
-            let under : v <ℤ (k +ℤ pos 1) = cancel_lt p.d v (k +ℤ pos 1) (omega (arith, ints, d)) (omega (arith, ints, h, high)) in
-            let less : (q.d *ℤ v) ≤ℤ (q.d *ℤ k) = mono q.d v k (omega (arith, ints, e)) (omega (arith, ints, under)) in
-            omega (arith, ints, less, low)
-
-    alike_in_ceiling : (k : ℤ) (p q : Rational) → P p → P q → (p.d *ℤ k) <ℤ p.y → IsUpTo (k +ℤ pos 1) p → (q.d *ℤ k) <ℤ q.y → IsUpTo (k +ℤ pos 1) q → IsAlike p q
-    alike_in_ceiling k p q at at' low high low' high' = by_ceiling p q at at' (record { to = λ v h. passed p q low' high v h; back = λ v h. passed q p low high' v h })
-      where
-        passed : (p q : Rational) → (q.d *ℤ k) <ℤ q.y → IsUpTo (k +ℤ pos 1) p → (v : ℤ) → (p.d *ℤ v) <ℤ p.y → (q.d *ℤ v) <ℤ q.y
-        passed p q low high v h =
-            let d : pos 0 <ℤ p.d = p.above_zero in let e : pos 0 <ℤ q.d = q.above_zero in
-            let under : v <ℤ (k +ℤ pos 1) = cancel_lt p.d v (k +ℤ pos 1) (omega (arith, ints, d)) (omega (arith, ints, h, high)) in
-            let less : (q.d *ℤ v) ≤ℤ (q.d *ℤ k) = mono q.d v k (omega (arith, ints, e)) (omega (arith, ints, under)) in
-            omega (arith, ints, less, low)
-
     abbrev IsUnder : ℤ → Rational → Type 0
     IsUnder k r = r.y <ℤ (r.d *ℤ k)
 
     abbrev IsOver : ℤ → Rational → Type 0
     IsOver k r = (r.d *ℤ k) <ℤ r.y
+
+    alike_in_floor : (k : ℤ) (p q : Rational) → P p → P q → IsFrom k p → IsUnder (k +ℤ pos 1) p → IsFrom k q → IsUnder (k +ℤ pos 1) q → IsAlike p q
+    alike_in_floor k p q at at' low high low' high' =
+        by_floor p q at at' (record { to = λ v h. passed p q low' high v h; back = λ v h. passed q p low high' v h })
+      where
+        passed : (p q : Rational) → IsFrom k q → IsUnder (k +ℤ pos 1) p → (v : ℤ) → (p.d *ℤ v) ≤ℤ p.y → (q.d *ℤ v) ≤ℤ q.y
+        passed p q low high v h =
+            let d : pos 0 <ℤ p.d = p.above_zero in let e : pos 0 <ℤ q.d = q.above_zero in
+            let under : v <ℤ (k +ℤ pos 1) = cancel_lt p.d v (k +ℤ pos 1) (omega (arith, ints, d)) (omega (arith, ints, h, high)) in
+            let less : (q.d *ℤ v) ≤ℤ (q.d *ℤ k) = mono q.d v k (omega (arith, ints, e)) (omega (arith, ints, under)) in
+            omega (arith, ints, less, low)
+
+    alike_in_ceiling : (k : ℤ) (p q : Rational) → P p → P q → IsOver k p → IsUpTo (k +ℤ pos 1) p → IsOver k q → IsUpTo (k +ℤ pos 1) q → IsAlike p q
+    alike_in_ceiling k p q at at' low high low' high' =
+        by_ceiling p q at at' (record { to = λ v h. passed p q low' high v h; back = λ v h. passed q p low high' v h })
+      where
+        passed : (p q : Rational) → IsOver k q → IsUpTo (k +ℤ pos 1) p → (v : ℤ) → (p.d *ℤ v) <ℤ p.y → (q.d *ℤ v) <ℤ q.y
+        passed p q low high v h =
+            let d : pos 0 <ℤ p.d = p.above_zero in let e : pos 0 <ℤ q.d = q.above_zero in
+            let under : v <ℤ (k +ℤ pos 1) = cancel_lt p.d v (k +ℤ pos 1) (omega (arith, ints, d)) (omega (arith, ints, h, high)) in
+            let less : (q.d *ℤ v) ≤ℤ (q.d *ℤ k) = mono q.d v k (omega (arith, ints, e)) (omega (arith, ints, under)) in
+            omega (arith, ints, less, low)
 
     -- by a place midway
     through : (k : ℤ) (p q : Rational) → P p → P q → IsFrom k p → IsUnder (k +ℤ pos 1) p → IsOver k q → IsUpTo (k +ℤ pos 1) q → IsAlike p q × IsAlike q p
@@ -368,7 +303,8 @@ module _ (chains : List MapChain) (P : Rational → Type 0) (clear : (r : Ration
             let M = num Y ⊖ num D ⊗ num v in let N = num d ⊗ num v ⊖ num y in
             same (M ⊗ num y ⊕ N ⊗ num Y) ((M ⊗ num d ⊕ N ⊗ num D) ⊗ num v) (omega arith)
 
-    alike_within : (n : ℕ) (k top : ℤ) → top ≤ℤ (k +ℤ pos 1 +ℤ pos n) → (p q : Rational) → P p → P q → IsFrom k p → IsFrom k q → IsUpTo top p → IsUpTo top q → IsAlike p q
+    alike_within : (n : ℕ) (k top : ℤ) → top ≤ℤ (k +ℤ pos 1 +ℤ pos n) → (p q : Rational) → P p → P q → IsFrom k p → IsFrom k q →
+        IsUpTo top p → IsUpTo top q → IsAlike p q
     alike_within zero k top le p q at at' low low' high high' = alike_near k p q at at' low low' (lower p high) (lower q high')
       where
         lower : (r : Rational) → IsUpTo top r → IsUpTo (k +ℤ pos 1) r
@@ -377,7 +313,8 @@ module _ (chains : List MapChain) (P : Rational → Type 0) (clear : (r : Ration
             let more : (r.d *ℤ top) ≤ℤ (r.d *ℤ (k +ℤ pos 1)) = mono r.d top (k +ℤ pos 1) (omega (arith, ints, d)) (omega (arith, ints, le)) in
             omega (arith, ints, h, more)
     alike_within (suc n) k top le p q at at' low low' high high' =
-        let further : (p q : Rational) → P p → P q → IsFrom v p → IsFrom v q → IsUpTo top p → IsUpTo top q → IsAlike p q = alike_within n v top (omega (arith, ints, le)) in
+        let further : (p q : Rational) → P p → P q → IsFrom v p → IsFrom v q → IsUpTo top p → IsUpTo top q → IsAlike p q =
+        alike_within n v top (omega (arith, ints, le)) in
         by_lt_z p.y (p.d *ℤ v)
         (λ under. by_lt_z (q.d *ℤ v) q.y
         (λ over.
@@ -440,7 +377,8 @@ module _ (chains : List MapChain) (P : Rational → Type 0) (clear : (r : Ration
         from : (r : Rational) → (pos 0 -ℤ pos n) ≤ℤ r.y → IsFrom (pos 0 -ℤ pos n) r
         from r h =
             let w = wide r in
-            let e : r.d *ℤ (pos 0 -ℤ pos n) ≡ pos 0 -ℤ r.d *ℤ pos n = same (num r.d ⊗ (num (pos 0) ⊖ num (pos n))) (num (pos 0) ⊖ num r.d ⊗ num (pos n)) (omega arith) in
+            let e : r.d *ℤ (pos 0 -ℤ pos n) ≡ pos 0 -ℤ r.d *ℤ pos n =
+            same (num r.d ⊗ (num (pos 0) ⊖ num (pos n))) (num (pos 0) ⊖ num r.d ⊗ num (pos n)) (omega arith) in
             omega (arith, ints, w, e, h)
 
         to : (r : Rational) → r.y ≤ℤ pos n → IsUpTo (pos n) r

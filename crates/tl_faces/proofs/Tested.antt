@@ -50,8 +50,10 @@ module _ (L : ℤ) (chains : List MapChain) (planar : IsPlanar chains) (r : Rati
       let from = x.spanned.from in
       let to = x.spanned.to in
       record {
-        from = scaled (height L (low_end L x.segment)) (height_of L r) (height_of L y.at.place) r.d y.at.place.d r.above_zero y.at.place.above_zero (sym y.at.level.is) (omega (arith, ints, from));
-        to = scaled_above (height L (high_end L x.segment)) (height_of L r) (height_of L y.at.place) r.d y.at.place.d r.above_zero y.at.place.above_zero (sym y.at.level.is) (omega (arith, ints, to));
+        from = scaled (height L (low_end L x.segment)) (height_of L r) (height_of L y.at.place) r.d y.at.place.d r.above_zero y.at.place.above_zero
+            (sym y.at.level.is) (omega (arith, ints, from));
+        to = scaled_above (height L (high_end L x.segment)) (height_of L r) (height_of L y.at.place) r.d y.at.place.d r.above_zero y.at.place.above_zero
+            (sym y.at.level.is) (omega (arith, ints, to));
       }
 
   adjacent : (x y : Item L chains r) → ¬ (x.s ≡ y.s) → IsWestOf L x.segment y.segment → IsWestward x.at.place y.at.place
@@ -60,17 +62,21 @@ module _ (L : ℤ) (chains : List MapChain) (planar : IsPlanar chains) (r : Rati
       let m = numbered L chains r x in let m' = numbered L chains r y in
       let ends_x = ends_of_item L chains r line x in
       let ends_y = ends_of_item L chains r line y in
-      let zero : turn_at (low_end L x.segment) (high_end L x.segment) p ≡ pos 0 = (heights_of L x.segment (low_end L x.segment) (high_end L x.segment) ends_x p x.at.on).0 in
+      let zero : turn_at (low_end L x.segment) (high_end L x.segment) p ≡ pos 0 =
+      (heights_of L x.segment (low_end L x.segment) (high_end L x.segment) ends_x p x.at.on).0 in
       let own : IsNotEast L x.segment p = omega (arith, ints, zero) in
-      let there : IsNotEast L y.segment p = not_east L x.segment y.segment (line.ends x.s x.segment m) (line.ends y.s y.segment m') west p (spans x x) (spans y x) own in
+      let there : IsNotEast L y.segment p =
+      not_east L x.segment y.segment (line.ends x.s x.segment m) (line.ends y.s y.segment m') west p (spans x x) (spans y x) own in
       ⊎_elim (λ lt. lt)
       (λ back.
       let turn = turn_of_east L line.above (low_end L y.segment) (high_end L y.segment) ends_y.rising y.at.place p
-      (heights_of L y.segment (low_end L y.segment) (high_end L y.segment) ends_y y.at.place y.at.on).0 (level_with L y.at.place p r y.at.level x.at.level) back in
+      (heights_of L y.segment (low_end L y.segment) (high_end L y.segment) ends_y y.at.place y.at.on).0
+      (level_with L y.at.place p r y.at.level x.at.level) back in
       absurd (omega (arith, ints, turn, there)))
       (one_west L chains r line planar x y ne)
 
-  sorted_by : (x : Item L chains r) (y : Item L chains r) (ys : List (Item L chains r)) → IsWestward x.at.place y.at.place → IsSorted L chains r (y ∷ ys) → IsSorted L chains r (x ∷ (y ∷ ys))
+  sorted_by : (x : Item L chains r) (y : Item L chains r) (ys : List (Item L chains r)) → IsWestward x.at.place y.at.place →
+      IsSorted L chains r (y ∷ ys) → IsSorted L chains r (x ∷ (y ∷ ys))
   sorted_by x y ys west sorted = (
     (λ z h. ⊎_elim (λ e. subst (λ (w : Item L chains r). IsWestward x.at.place w.at.place) (sym e) west)
         (λ later.
@@ -81,7 +87,8 @@ module _ (L : ℤ) (chains : List MapChain) (planar : IsPlanar chains) (r : Rati
 
   -- where tests by the one number K are tests by L
   pub sorted_items : (K : ℤ) → ((x y : Item L chains r) → IsWestOf K x.segment y.segment → IsWestOf L x.segment y.segment) →
-      (xs : List (Item L chains r)) → EachTwo (AreTested K chains) (numbers L chains r xs) → ((s : ℕ) → times s (numbers L chains r xs) ≤ 1) → IsSorted L chains r xs
+      (xs : List (Item L chains r)) → EachTwo (AreTested K chains) (numbers L chains r xs) →
+      ((s : ℕ) → times s (numbers L chains r xs) ≤ 1) → IsSorted L chains r xs
   sorted_items K by [] tested once = tt
   sorted_items K by (x ∷ []) tested once = ((λ y h. absurd h), tt)
   sorted_items K by (x ∷ (y ∷ xs)) tested once =

@@ -16,7 +16,8 @@ use Rattle.tl_faces.proofs.Bounds.{AreBounded, IsFar, far, some_bound}
 use Rattle.tl_faces.proofs.Along.{AreFaced}
 use Rattle.tl_faces.proofs.TrueSides.{true_sides}
 use Rattle.tl_faces.proofs.Unique.{unique}
-use Rattle.tl_faces.proofs.Straight.{mean, alike}
+use Rattle.tl_faces.proofs.Means.{mean}
+use Rattle.tl_faces.proofs.Straight.{alike}
 use Rattle.tl_faces.proofs.Outside.{outside, outside_west}
 
 -- ---- the straight line from a place
@@ -26,7 +27,8 @@ weighed : (m n u v w t p q x y : ℤ) → x ≡ u *ℤ p +ℤ v *ℤ q → y ≡
 weighed m n u v w t p q x y e f =
     ap₂ (λ a b. m *ℤ a +ℤ n *ℤ b) e f
     ∙ (let M = num m in let N = num n in
-    same (M ⊗ (num u ⊗ num p ⊕ num v ⊗ num q) ⊕ N ⊗ (num w ⊗ num p ⊕ num t ⊗ num q)) ((M ⊗ num u ⊕ N ⊗ num w) ⊗ num p ⊕ (M ⊗ num v ⊕ N ⊗ num t) ⊗ num q) (omega arith))
+    same (M ⊗ (num u ⊗ num p ⊕ num v ⊗ num q) ⊕ N ⊗ (num w ⊗ num p ⊕ num t ⊗ num q))
+    ((M ⊗ num u ⊕ N ⊗ num w) ⊗ num p ⊕ (M ⊗ num v ⊕ N ⊗ num t) ⊗ num q) (omega arith))
 
 both_above : (m n u w : ℤ) → pos 0 <ℤ m → pos 0 <ℤ n → pos 0 <ℤ u → pos 0 <ℤ w → pos 0 <ℤ (m *ℤ u +ℤ n *ℤ w)
 both_above m n u w a b c d = let one = product_above m u a c in let other = product_above n w b d in omega (arith, ints, one, other)
@@ -48,7 +50,8 @@ times_minus y z = same (num y ⊗ (num (pos 0) ⊖ num z)) (num (pos 0) ⊖ num 
 exchanged : (y z : ℤ) → y *ℤ z ≡ z *ℤ y
 exchanged y z = same (num y ⊗ num z) (num z ⊗ num y) (omega arith)
 
-turn_ahead : (u v ax ay px py pd x y d m : ℤ) → pd *ℤ (u *ℤ ((m *ℤ py +ℤ pos 1 *ℤ y) -ℤ (m *ℤ pd +ℤ pos 1 *ℤ d) *ℤ ay) -ℤ v *ℤ ((m *ℤ px +ℤ pos 1 *ℤ x) -ℤ (m *ℤ pd +ℤ pos 1 *ℤ d) *ℤ ax)) ≡
+turn_ahead : (u v ax ay px py pd x y d m : ℤ) →
+    pd *ℤ (u *ℤ ((m *ℤ py +ℤ pos 1 *ℤ y) -ℤ (m *ℤ pd +ℤ pos 1 *ℤ d) *ℤ ay) -ℤ v *ℤ ((m *ℤ px +ℤ pos 1 *ℤ x) -ℤ (m *ℤ pd +ℤ pos 1 *ℤ d) *ℤ ax)) ≡
     (m *ℤ pd +ℤ pos 1 *ℤ d) *ℤ (u *ℤ (py -ℤ pd *ℤ ay) -ℤ v *ℤ (px -ℤ pd *ℤ ax)) +ℤ (u *ℤ (y *ℤ pd -ℤ py *ℤ d) -ℤ v *ℤ (x *ℤ pd -ℤ px *ℤ d))
 turn_ahead u v ax ay px py pd x y d m =
     let U = num u in let V = num v in let a = num ax in let b = num ay in let M = num m in let p = num pd in let e = num d in let one = num (pos 1) in
@@ -126,7 +129,8 @@ module _ (p : Rational) (x y d : ℤ) (at_least : pos 0 ≤ℤ d) where
         let same_g = one_times g in let other = one_times (pos 0 -ℤ g) in
         within (pos 0 -ℤ z) (pos 0 -ℤ g) (omega (arith, ints, is, same_g, other)) (omega (arith, ints, le))
 
-    is_near : (pos 0 -ℤ pos b) ≤ℤ step_east → step_east ≤ℤ pos b → (pos 0 -ℤ pos b) ≤ℤ step_north → step_north ≤ℤ pos b → IsNearer e p (ahead m (pos 1) some_m one)
+    is_near : (pos 0 -ℤ pos b) ≤ℤ step_east → step_east ≤ℤ pos b → (pos 0 -ℤ pos b) ≤ℤ step_north → step_north ≤ℤ pos b →
+        IsNearer e p (ahead m (pos 1) some_m one)
     is_near west east south north = record {
       west = within_below (step_x p (ahead m (pos 1) some_m one)) step_east (step_of p.x p.d x d m (pos 1)) west;
       east = within (step_x p (ahead m (pos 1) some_m one)) step_east (step_of p.x p.d x d m (pos 1)) east;
@@ -139,7 +143,8 @@ module _ (p : Rational) (x y d : ℤ) (at_least : pos 0 ≤ℤ d) where
     side_is : p.d *ℤ side_of u (ahead m (pos 1) some_m one) ≡ cross (u.b.x -ℤ u.a.x) (u.b.y -ℤ u.a.y) step_east step_north
     side_is =
         let all = turn_ahead (u.b.x -ℤ u.a.x) (u.b.y -ℤ u.a.y) u.a.x u.a.y p.x p.y p.d x y d m in
-        let none : (m *ℤ p.d +ℤ pos 1 *ℤ d) *ℤ side_of u p ≡ pos 0 = ap (λ z. (m *ℤ p.d +ℤ pos 1 *ℤ d) *ℤ z) on.on.straight ∙ times_zero (m *ℤ p.d +ℤ pos 1 *ℤ d) in
+        let none : (m *ℤ p.d +ℤ pos 1 *ℤ d) *ℤ side_of u p ≡ pos 0 =
+        ap (λ z. (m *ℤ p.d +ℤ pos 1 *ℤ d) *ℤ z) on.on.straight ∙ times_zero (m *ℤ p.d +ℤ pos 1 *ℤ d) in
         omega (arith, ints, all, none)
 
     left_of : pos 0 <ℤ cross (u.b.x -ℤ u.a.x) (u.b.y -ℤ u.a.y) step_east step_north → pos 0 <ℤ side_of u (ahead m (pos 1) some_m one)
@@ -159,7 +164,8 @@ module _ (p : Rational) (x y d : ℤ) (at_least : pos 0 ≤ℤ d) where
     pub on_line : IsAhead place
     pub lies : LiesAt chains place side
 
-  module _ (chains : List MapChain) (true_there : AreSidesTrue chains) (clear : (r : Rational) → IsAhead r → IsOff chains r) (chain : MapChain) (u : Segment) (of : IsOfChain chains chain u) (on : IsStrictlyOn u p) where
+  module _ (chains : List MapChain) (true_there : AreSidesTrue chains) (clear : (r : Rational) → IsAhead r → IsOff chains r)
+      (chain : MapChain) (u : Segment) (of : IsOfChain chains chain u) (on : IsStrictlyOn u p) where
     pub seen : (side : Side) → IsSideToward chain u step_east step_north side → IsSeen chains side
     seen side toward = by_about (true_there chain u p of on)
       where
@@ -210,7 +216,8 @@ module _ (chains : List MapChain) (planar : IsPlanar chains) (faced : AreFaced c
       IsStrictlyOn u p → IsStrictlyOn w q → IsClearBetween chains p q →
       IsSideToward one u (step_x p q) (step_y p q) side → IsSideToward other w (step_x q p) (step_y q p) opposite → side ≡ opposite
   facing one other u w p q side opposite of of' on on' free toward toward' =
-      by_seen (seen p q.x q.y q.d some_q chains true_there clear one u of on side toward) (seen q p.x p.y p.d some_p chains true_there (λ r a. clear r (turned r a)) other w of' on' opposite toward')
+      by_seen (seen p q.x q.y q.d some_q chains true_there clear one u of on side toward)
+      (seen q p.x p.y p.d some_p chains true_there (λ r a. clear r (turned r a)) other w of' on' opposite toward')
     where
       true_there : AreSidesTrue chains
       true_there = true_sides chains planar faced
@@ -237,7 +244,15 @@ module _ (chains : List MapChain) (planar : IsPlanar chains) (faced : AreFaced c
       turned : (r : Rational) → IsAhead q p.x p.y p.d some_p r → On r
       turned r a =
           let x = a.at_x in let y = a.at_y in let d = a.at_d in
-          record { m = a.n; n = a.m; some_m = a.some_n; some_n = a.some_m; at_x = omega (arith, ints, x); at_y = omega (arith, ints, y); at_d = omega (arith, ints, d) }
+          record {
+            m = a.n;
+            n = a.m;
+            some_m = a.some_n;
+            some_n = a.some_m;
+            at_x = omega (arith, ints, x);
+            at_y = omega (arith, ints, y);
+            at_d = omega (arith, ints, d);
+          }
 
       by_seen : IsSeen p q.x q.y q.d some_q chains side → IsSeen q p.x p.y p.d some_p chains opposite → side ≡ opposite
       by_seen a b =
@@ -284,7 +299,8 @@ module _ (chains : List MapChain) (planar : IsPlanar chains) (faced : AreFaced c
         where
           times_d : (v w x y px py d : ℤ) → v *ℤ (y *ℤ d -ℤ py *ℤ pos 0) -ℤ w *ℤ (x *ℤ d -ℤ px *ℤ pos 0) ≡ d *ℤ (v *ℤ y -ℤ w *ℤ x)
           times_d v w x y px py d =
-              same (num v ⊗ (num y ⊗ num d ⊖ num py ⊗ num (pos 0)) ⊖ num w ⊗ (num x ⊗ num d ⊖ num px ⊗ num (pos 0))) (num d ⊗ (num v ⊗ num y ⊖ num w ⊗ num x)) (omega arith)
+              same (num v ⊗ (num y ⊗ num d ⊖ num py ⊗ num (pos 0)) ⊖ num w ⊗ (num x ⊗ num d ⊖ num px ⊗ num (pos 0)))
+              (num d ⊗ (num v ⊗ num y ⊖ num w ⊗ num x)) (omega arith)
 
       -- a place far out
       bound : (b : ℕ) × AreBounded b chains
@@ -338,7 +354,8 @@ module _ (chains : List MapChain) (planar : IsPlanar chains) (faced : AreFaced c
           no_direction : IsSideToward chain u x y side → y ≡ pos 0 → x ≡ pos 0 → ⊥
           no_direction toward level still =
               let e : cross (u.b.x -ℤ u.a.x) (u.b.y -ℤ u.a.y) x y ≡ pos 0 =
-              ap₂ (λ a b. (u.b.x -ℤ u.a.x) *ℤ b -ℤ (u.b.y -ℤ u.a.y) *ℤ a) still level ∙ same ((num u.b.x ⊖ num u.a.x) ⊗ num (pos 0) ⊖ (num u.b.y ⊖ num u.a.y) ⊗ num (pos 0)) (num (pos 0)) (omega arith) in
+              ap₂ (λ a b. (u.b.x -ℤ u.a.x) *ℤ b -ℤ (u.b.y -ℤ u.a.y) *ℤ a) still level
+              ∙ same ((num u.b.x ⊖ num u.a.x) ⊗ num (pos 0) ⊖ (num u.b.y ⊖ num u.a.y) ⊗ num (pos 0)) (num (pos 0)) (omega arith) in
               ⊎_elim (λ k. let h = k.0 in omega (arith, ints, h, e)) (λ k. let h = k.0 in omega (arith, ints, h, e)) toward
 
       by_seen : IsSeen p x y (pos 0) none chains side → side ≡ Outside

@@ -29,7 +29,9 @@ module _ (K : ℤ) (above : pos 0 <ℤ K) (chains : List MapChain) (near : AreAl
   under h le = let m : (r.d *ℤ h) ≤ℤ (r.d *ℤ n) = mono r.d h n some_d le in let a = inside.above in omega (arith, ints, m, a)
 
   over : (h : ℤ) → n <ℤ h → height_of K r <ℤ (r.d *ℤ h)
-  over h lt = let m : (r.d *ℤ (n +ℤ pos 1)) ≤ℤ (r.d *ℤ h) = mono r.d (n +ℤ pos 1) h some_d (omega (arith, ints, lt)) in let b = inside.below in omega (arith, ints, m, b)
+  over h lt =
+      let m : (r.d *ℤ (n +ℤ pos 1)) ≤ℤ (r.d *ℤ h) = mono r.d (n +ℤ pos 1) h some_d (omega (arith, ints, lt)) in
+      let b = inside.below in omega (arith, ints, m, b)
 
   no_height : (h : ℤ) → ¬ (r.d *ℤ h ≡ height_of K r)
   no_height h e = by_lt_z n h (λ lt. let o = over h lt in omega (arith, ints, o, e)) (λ le. let u = under h le in omega (arith, ints, u, e))

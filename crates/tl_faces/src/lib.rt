@@ -4,7 +4,8 @@
 //! [`laws`] states it of the definitions in `specs`, which speak of rational points: what lies about a point (`specs/Rays`), which
 //! segments face one another and when their sides agree (`specs/Facing`), and when a side is true (`specs/Truth`). A sweep can
 //! look at lists of the segments that are active at a height, along which facing sides agree (`specs/Lists`): they serve as well,
-//! and where faces agree there are such lists.
+//! and there are such lists exactly where faces agree. Where in such a list two neighbours don't agree, or its first or last segment
+//! doesn't face the outside, those are faces that disagree, from places that can be told (`specs/Disagreements`).
 #![tactic(auto)]
 
 pub mod laws;
