@@ -109,8 +109,8 @@ pub fn last_faces_outward()
         east_side K is.joins.chain u ≢ Outside → IsOutwardDisagreement chains is.joins.chain u p K (pos 1) (east_side K is.joins.chain u) }
 {}
 
-/// Each segment that isn't a point has a place midway between any two heights. Where it is active it lies on it, strictly within the
-/// slab, and two such places have one height.
+/// The line of each segment has a place midway between any height and the next, strictly within the slab. It lies on the segment where
+/// that is active there, and two such places have one height.
 pub fn segments_have_places_midway()
     ensures found { (K n : ℤ) (u : Segment) → AreNear K u.a u.b → (p : Rational) × IsMidway K n u p }
     ensures on { (K n : ℤ) (u : Segment) (p : Rational) → AreNear K u.a u.b → height K (low_end K u) ≤ℤ n → n <ℤ height K (high_end K u) →
@@ -120,7 +120,7 @@ pub fn segments_have_places_midway()
         HaveOneHeight K p q }
 {}
 
-/// Where faces disagree anywhere, they don't agree.
+/// Where there is one such disagreement, faces don't agree.
 pub fn disagreements_contradict()
     ensures face { (chains : List MapChain) (one other : MapChain) (u w : Segment) (p q : Rational) (side opposite : Side) →
         IsFaceDisagreement chains one other u w p q side opposite → ¬ FacesAgree chains }
