@@ -1,5 +1,6 @@
 # make                     proves and builds the program
 # make check               the merge gate: every proof, must-fail edit, test and stored run, from nothing
+# make wrong-bodies        tries the edits that the gate leaves out, those of crates that serve the proofs above them
 # make rows                plays the rows of tests/ over the program, and over `bench`
 # make certificates        builds and converts certificates, and compares with a plain reader
 # make judge               plays drawn counties over the program, and judges each answer by a second opinion
@@ -24,13 +25,16 @@
 PREFIX = /usr/local
 PROGRAM = crates/tigertopo/out/tigertopo
 
-.PHONY: build check rows certificates judge full-size limits memory devices examples counties bench speed pictures pages install uninstall
+.PHONY: build check wrong-bodies rows certificates judge full-size limits memory devices examples counties bench speed pictures pages install uninstall
 
 build:
 	python3 proving/prove.py
 
 check:
 	.ci/run
+
+wrong-bodies:
+	python3 tests/wrong_bodies.py
 
 examples: build
 	python3 examples/run.py
