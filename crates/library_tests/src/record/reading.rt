@@ -1,6 +1,6 @@
 //! What a reader gives of the records of a square, however the bytes come, and behind a read that fails.
 
-use crate::pieces::Pieces;
+use crate::record::pieces::Pieces;
 use std::io::ErrorKind;
 use tl_geom::Point;
 use tl_record::{

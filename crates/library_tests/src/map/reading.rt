@@ -1,6 +1,6 @@
 //! Chains and maps from reads that give one byte, and from those that fail.
 
-use crate::keys::keys_of;
+use crate::map::keys::keys_of;
 use std::alloc::Global;
 use std::io;
 use std::io::{ErrorKind, Read};

@@ -2,7 +2,7 @@
 ghost use Rattle.std.specs.Prelude.{◌<◌, ◌^◌, length};
 ghost use Rattle.tl_index.specs.Preorder.{IsPreorder};
 
-use crate::items::{Counting, Pin, rect};
+use crate::tree::items::{Counting, Pin, rect};
 use arrayvec::ArrayVec;
 use std::alloc::{AllocError, Global};
 use tl_geom::{Point, Rect};

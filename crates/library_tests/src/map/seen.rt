@@ -1,6 +1,6 @@
 //! What a map says of its chains, polygons, landmarks, nodes, segments and darts.
 
-use crate::keys::keys_of;
+use crate::map::keys::keys_of;
 use std::alloc::Global;
 use tl_geom::Point;
 use tl_map::{Map, Side, read_map_with};

@@ -1,7 +1,7 @@
 //! What is written of certificates.
 
-use crate::examples::{SQUARE, SQUARE_2, THREE_CHILDREN};
-use crate::reading::source_of;
+use crate::cert::examples::{SQUARE, SQUARE_2, THREE_CHILDREN};
+use crate::cert::reading::source_of;
 use std::alloc::Global;
 use std::io;
 use std::io::{ErrorKind, Write};

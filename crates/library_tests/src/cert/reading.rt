@@ -1,6 +1,6 @@
 //! What is read of certificates' texts.
 
-use crate::examples::SQUARE;
+use crate::cert::examples::SQUARE;
 use std::alloc::Global;
 use std::io;
 use std::io::{ErrorKind, Read};

@@ -1,6 +1,6 @@
 //! What the output passes on, however little is taken at a write, and behind a write that fails.
 
-use crate::pieces::Few;
+use crate::record::pieces::Few;
 use std::alloc::Global;
 use std::io::ErrorKind;
 use tl_output::{OutputBuffer, print_line, write_all};

@@ -1,6 +1,6 @@
 //! Packed trees: how many nodes they have, and how deep they are.
 
-use crate::items::{Counting, rect};
+use crate::tree::items::{Counting, rect};
 use std::alloc::{AllocError, Global};
 use tl_pack::pack;
 use tl_tree::{FlatTree, TreeNode};

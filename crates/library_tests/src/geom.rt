@@ -1,0 +1,3 @@
+//! Worked examples of exact geometry, with answers from outside.
+
+mod examples;
