@@ -5,3 +5,4 @@ pub mod Truth
 pub mod Lists
 pub mod Located
 pub mod Disagreements
+pub mod Odd

@@ -1,11 +1,15 @@
-//! Theorems, and no code: the law of faces. Where chains are planar and the sides that face one another agree, each place that is
+//! Theorems, and next to no code: the law of faces. Where chains are planar and the sides that face one another agree, each place that is
 //! on no chain lies in one polygon or outside of all, and each side of each chain names what lies there.
 //!
 //! [`laws`] states it of the definitions in `specs`, which speak of rational points: what lies about a point (`specs/Rays`), which
 //! segments face one another and when their sides agree (`specs/Facing`), and when a side is true (`specs/Truth`). A sweep can
 //! look at lists of the segments that are active at a height, along which facing sides agree (`specs/Lists`): they serve as well,
 //! and there are such lists exactly where faces agree. Where in such a list two neighbours don't agree, or its first or last segment
-//! doesn't face the outside, those are faces that disagree, from places that can be told (`specs/Disagreements`).
+//! doesn't face the outside, those are faces that disagree, from places that can be told (`specs/Disagreements`). [`OddGap`] says
+//! where there is such a gap in a list (`specs/Odd`).
 #![tactic(auto)]
 
 pub mod laws;
+mod odd;
+
+pub use odd::OddGap;
