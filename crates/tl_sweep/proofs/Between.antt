@@ -1,12 +1,13 @@
 -- What the ray to the east crosses of a point between two neighbours of the list at its height: all that stands east of it.
-use Rattle.std.proofs.Common.{◌≡◌, ◌⊎◌, inl, inr, ⊎_elim, ℕ, ◌+◌, ◌<◌, ℤ, pos, ◌+ℤ◌, ◌*ℤ◌, ◌<ℤ◌, ◌≤ℤ◌, Bool, true, false, if◌then◌else◌, List, [], ◌∷◌, ◌++◌, length, get_or, refl, sym, ap, subst, ◌∙◌, arith}
+use Rattle.std.proofs.Common.{◌≡◌, ◌⊎◌, inl, inr, ⊎_elim, ℕ, ◌+◌, ◌<◌, ℤ, pos, ◌+ℤ◌, ◌-ℤ◌, ◌*ℤ◌, ◌<ℤ◌, ◌≤ℤ◌, Bool, true, false, if◌then◌else◌, List, [], ◌∷◌, ◌++◌, length, get_or, refl, sym, ap, subst, ◌∙◌, arith}
 use Rattle.std.proofs.lemmas.Bool.Decides.{nat_tests}
-use Rattle.std.proofs.lemmas.Int.{ints}
+use Rattle.std.proofs.lemmas.Int.{ints, by_lt_z}
 use Rattle.std.proofs.lemmas.Option.{slice_get_within}
 use Rattle.tl_geom.specs.declared.point.Point.{Point}
 use Rattle.tl_geom.specs.declared.segment.Segment.{Segment}
-use Rattle.tl_geom.specs.Plane.{IsOn, whole}
-use Rattle.tl_geom.proofs.Polynomials.{num, ◌⊗◌, same}
+use Rattle.tl_geom.specs.Plane.{IsOn, whole, turn_of}
+use Rattle.tl_geom.proofs.Polynomials.{num, ◌⊕◌, ◌⊖◌, ◌⊗◌, same}
+use Rattle.tl_geom.proofs.Signs.{product_at_least, times_zero}
 use Rattle.tl_county.specs.declared.sides.Side.{Side}
 use Rattle.tl_county.specs.declared.sides.Side.TheVariants.{Outside, Polygon}
 use Rattle.tl_county.specs.TheMap.{TheMap, MapChain}
@@ -23,7 +24,9 @@ use Rattle.tl_slabs.specs.Neighbours.{IsNumbered, IsWide, AreTested, EachTwo, Is
 use Rattle.tl_slabs.specs.Slabs.{IsActive}
 use Rattle.tl_sweep.specs.Beside.{IsNoVertex, IsEastOf, IsWestOfIt, IsEastOfLast, IsWestOfFirst, IsBetween, AreFacing, seen_side}
 use Rattle.tl_slabs.proofs.Order.{turn_whole}
-use Rattle.tl_slabs.proofs.Rising.{AreEndsOf, ends_of, one_higher}
+use Rattle.tl_slabs.proofs.Rising.{AreEndsOf, ends_of, one_higher, higher, higher_west}
+use Rattle.tl_faces.specs.Lists.{RunsWest}
+use Rattle.tl_faces.proofs.Toward.{is_lt}
 use Rattle.tl_slabs.proofs.Lying.{heights_of}
 use Rattle.tl_slabs.proofs.Transport.{strictly_west, strictly_east}
 use Rattle.tl_slabs.proofs.Numbered.{one_segment}
@@ -37,11 +40,11 @@ no_times : (s : ℕ) (xs : List ℕ) → ¬ IsIn s xs → times s xs ≡ 0
 no_times s [] out = refl
 no_times s (x ∷ xs) out = same_or s x (λ e. absurd (out (inl e))) (λ ne. times-other s x xs ne ∙ no_times s xs (λ i. out (inr i)))
 
-in_front : (s : ℕ) (xs ys : List ℕ) → IsIn s xs → IsIn s (xs ++ ys)
+pub in_front : (s : ℕ) (xs ys : List ℕ) → IsIn s xs → IsIn s (xs ++ ys)
 in_front s [] ys i = absurd i
 in_front s (x ∷ xs) ys i = ⊎_elim (λ e. inl e) (λ later. inr (in_front s xs ys later)) i
 
-in_back : (s : ℕ) (xs ys : List ℕ) → IsIn s ys → IsIn s (xs ++ ys)
+pub in_back : (s : ℕ) (xs ys : List ℕ) → IsIn s ys → IsIn s (xs ++ ys)
 in_back s [] ys i = i
 in_back s (x ∷ xs) ys i = inr (in_back s xs ys i)
 
@@ -49,7 +52,7 @@ in_either : (s : ℕ) (xs ys : List ℕ) → IsIn s (xs ++ ys) → IsIn s xs ⊎
 in_either s [] ys i = inr i
 in_either s (x ∷ xs) ys i = ⊎_elim (λ e. inl (inl e)) (λ later. ⊎_elim (λ k. inl (inr k)) (λ k. inr k) (in_either s xs ys later)) i
 
-in_all : (P : ℕ → Type 0) (s : ℕ) (xs : List ℕ) → ((k d : ℕ) → k < length xs → P (get_or xs k d)) → IsIn s xs → P s
+pub in_all : (P : ℕ → Type 0) (s : ℕ) (xs : List ℕ) → ((k d : ℕ) → k < length xs → P (get_or xs k d)) → IsIn s xs → P s
 in_all P s [] all i = absurd i
 in_all P s (x ∷ xs) all i = ⊎_elim (λ e. subst P (sym e) (all_head P x xs all)) (λ later. in_all P s xs (all_tail P x xs all) later) i
 
@@ -60,6 +63,17 @@ times_one z = same (num (pos 1) ⊗ num z) (num z) (omega arith)
 
 pub turn_same : (K : ℤ) (q : Point) (u w : Segment) → HaveSameEnds u w → turn_to K u q ≡ turn_to K w q
 turn_same K q u w e = rw (e.first, e.last) refl
+
+-- by a step that runs level to the west, what lies no further south lies on no left side
+no_turn : (a b q : Point) → a.y ≡ b.y → b.x <ℤ a.x → a.y ≤ℤ q.y → ¬ (pos 0 <ℤ turn_of a b q)
+no_turn a b q level west north turned =
+    let product : pos 0 ≤ℤ ((a.x -ℤ b.x) *ℤ (q.y -ℤ a.y)) = product_at_least (a.x -ℤ b.x) (q.y -ℤ a.y) (omega (arith, ints, west)) (omega (arith, ints, north)) in
+    let none : a.y -ℤ b.y ≡ pos 0 = omega (arith, ints, level) in
+    let sum : turn_of a b q +ℤ (a.x -ℤ b.x) *ℤ (q.y -ℤ a.y) ≡ (q.x -ℤ a.x) *ℤ (a.y -ℤ b.y) =
+    same ((num b.x ⊖ num a.x) ⊗ (num q.y ⊖ num a.y) ⊖ (num b.y ⊖ num a.y) ⊗ (num q.x ⊖ num a.x) ⊕ (num a.x ⊖ num b.x) ⊗ (num q.y ⊖ num a.y))
+    ((num q.x ⊖ num a.x) ⊗ (num a.y ⊖ num b.y)) (omega arith) in
+    let zero : (q.x -ℤ a.x) *ℤ (a.y -ℤ b.y) ≡ pos 0 = ap (λ z. (q.x -ℤ a.x) *ℤ z) none ∙ times_zero (q.x -ℤ a.x) in
+    omega (arith, ints, product, sum, zero, turned)
 
 module _ (K : ℤ) (chains : List MapChain) (wide : IsWide K chains) (q : Point) (clear : IsNoVertex K chains q) where
   spans : (s : ℕ) (a : IsActive K (height K q) chains s) → Spans K a.segment (whole q)
@@ -156,6 +170,21 @@ module _ (K : ℤ) (chains : List MapChain) (wide : IsWide K chains) (q : Point)
 
     one_part : (s : ℕ) → IsActive K (height K q) chains s → IsIn s front ⊎ IsIn s back
     one_part s a = in_either s front back (in_by_times s (front ++ back) (let once = between.listed.once s a in omega (arith, once)))
+
+    pub active_behind : (t : ℕ) → IsIn t back → IsActive K (height K q) chains t
+    active_behind t i = active_in t (in_back t front back i)
+
+    -- none of those behind it runs level to the west
+    pub not_west : (t : ℕ) (i : IsIn t back) (a : IsActive K (height K q) chains t) → ¬ RunsWest a.segment
+    not_west t i a runs =
+        let rises = higher_west K a.segment.a a.segment.b (near_of t a) runs.level runs.west in
+        let test = is_lt (height K a.segment.a) (height K a.segment.b) rises in
+        let low : low_end K a.segment ≡ a.segment.a = ap (λ (b : Bool). if b then a.segment.a else a.segment.b) test in
+        let high : high_end K a.segment ≡ a.segment.b = ap (λ (b : Bool). if b then a.segment.b else a.segment.a) test in
+        let begun : height K a.segment.a ≤ℤ height K q = subst (λ (p : Point). height K p ≤ℤ height K q) low a.begun in
+        let north : a.segment.a.y ≤ℤ q.y = by_lt_z q.y a.segment.a.y (λ south. absurd (let h = higher K q a.segment.a (clear.near_first t a.segment a.is) south in omega (arith, ints, h, begun))) (λ le. le) in
+        let turned : pos 0 <ℤ turn_of a.segment.a a.segment.b q = subst (λ (p : Point). pos 0 <ℤ turn_of p a.segment.b q) low (subst (λ (p : Point). pos 0 <ℤ turn_of (low_end K a.segment) p q) high (west_in t i a.segment a.is)) in
+        no_turn a.segment.a a.segment.b q runs.level runs.west north turned
 
     pub off_chains : IsOffChains chains q
     off_chains c held =

@@ -1,6 +1,8 @@
 -- Where facing sides differ along lists that are joined, and along one of which a part goes and another comes.
 use Rattle.std.proofs.Common.{◌≡◌, ℕ, ◌+◌, true, false, Option, Some, None, List, [], ◌∷◌, ◌++◌, append_assoc, refl, sym, ap, subst, ◌∙◌, arith}
 use Rattle.std.proofs.lemmas.Bool.Decides.{nat_tests}
+use Rattle.std.specs.Prelude.{slice_get}
+use Rattle.tl_planar.specs.Keeping.Apart.{one_found}
 use Rattle.tl_county.specs.declared.sides.Side.{Side}
 use Rattle.tl_county.specs.declared.sides.Side.TheVariants.{Outside, Polygon}
 use Rattle.tl_county.specs.TheMap.{MapChain}
@@ -28,7 +30,7 @@ two_sides (Polygon p) (Polygon q) ne = go p q (λ e. ne (ap Polygon e))
     go : (p q : ℕ) → ¬ (p ≡ q) → are_one (Polygon p) (Polygon q) ≡ false
     go p q ne = grind (arith, nat_tests)
 
-none_is : (a b : Side) → gap a b ≡ 0 → a ≡ b
+pub none_is : (a b : Side) → gap a b ≡ 0 → a ≡ b
 none_is Outside Outside e = refl
 none_is Outside (Polygon q) e = absurd (omega (arith, e))
 none_is (Polygon p) Outside e = absurd (omega (arith, e))
@@ -85,6 +87,16 @@ module _ (chains : List MapChain) where
       number d None = d
       number d (Some n) = n
   far_of_last west (x ∷ (y ∷ xs)) s e = far_of_last (flanks_at chains x).far (y ∷ xs) s (sym (last_more x y xs) ∙ e)
+
+  -- ---- the side of the first
+
+  pub near_of_first : (ys : List ℕ) (s : ℕ) → slice_get ys 0 ≡ Some s → seen_side chains ys ≡ (flanks_at chains s).near
+  near_of_first [] s e = absurd (cc)
+  near_of_first (y ∷ ys) s e = ap (λ n. (flanks_at chains n).near) (one_found y s (Some y) refl e)
+
+  pub none_behind : (ys : List ℕ) → slice_get ys 0 ≡ None → seen_side chains ys ≡ Outside
+  none_behind [] e = refl
+  none_behind (y ∷ ys) e = absurd (cc)
 
   -- ---- none
 

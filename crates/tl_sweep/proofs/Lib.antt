@@ -5,7 +5,9 @@ pub mod Found
 pub mod Pushing
 pub mod Slab
 pub mod Gone
+pub mod Raised
 pub mod Gaps
+pub mod Odd
 pub mod Spotting
 pub mod Answered
 pub mod Unmarked

@@ -9,19 +9,22 @@ use Rattle.tl_geom.specs.Plane.{turn_of}
 use Rattle.tl_county.specs.declared.sides.Side.TheVariants.{Polygon}
 use Rattle.tl_county.specs.TheMap.{TheMap, MapChain}
 use Rattle.tl_inside.specs.Placed.{IsPlacedIn}
+use Rattle.tl_inside.specs.Inside.{flanks_at}
 use Rattle.tl_index.specs.Hits.{times}
+use Rattle.tl_slabs.proofs.Walking.{IsIn}
 use Rattle.tl_line.specs.declared.events.Event.{Event}
-use Rattle.tl_sweep.specs.Beside.{IsNoVertex, IsEastOf, IsWestOfIt, IsEastOfLast, IsWestOfFirst, seen_side}
+use Rattle.tl_sweep.specs.Beside.{IsNoVertex, IsEastOf, IsWestOfIt, IsEastOfLast, IsWestOfFirst, IsBetween, seen_side}
 use Rattle.tl_line.proofs.Wide.{near_by_range, wide_by_range}
 use Rattle.tl_slabs.specs.Heights.{height, widest, low_end, high_end, turn_to}
-use Rattle.tl_slabs.specs.Neighbours.{IsNumbered}
+use Rattle.tl_slabs.specs.Neighbours.{IsNumbered, IsWide}
 use Rattle.tl_slabs.specs.Slabs.{IsListOf}
-use Rattle.tl_sweep.specs.Keeping.Facing.{gaps_of}
+use Rattle.tl_sweep.specs.Keeping.Facing.{gaps_of, raised}
 use Rattle.tl_line.specs.Lined.{last_of}
 use Rattle.tl_line.specs.Events.{begins_at, ends_at, AreEvents, AreRising}
 use Rattle.tl_line.specs.Ranges.{IsInRange, AreInRange}
 use Rattle.tl_sweep.specs.Keeping.Swept.{IsSwept}
-use Rattle.tl_sweep.proofs.Between.{placed, turn_same}
+use Rattle.tl_sweep.proofs.Between.{placed, turn_same, active_behind, not_west}
+use Rattle.tl_sweep.proofs.Raised.{same_flanks, same_facing, same_seen}
 use Rattle.tl_sweep.proofs.Found.{no_event, found}
 use Rattle.tl_sweep.proofs.Gaps.{facing_behind}
 use Rattle.tl_line.proofs.Lining.{last_more}
@@ -112,15 +115,28 @@ pub spotted : (m : TheMap) (events : List Event) (from : ℕ) (list front back :
     IsSwept m.chains events from list → h ≡ height widest q +ℤ pos 2147483647 →
     ((d : Event) → 0 < from → from ≤ length events → (get_or events (from - 1) d).height <ℤ h) →
     ((d : Event) → from < length events → h <ℤ (get_or events from d).height) →
-    list ≡ front ++ back → 0 ≡ gaps_of m.chains list → IsEastOfLast widest m.chains q front → IsWestOfFirst widest m.chains q back → seen_side m.chains back ≡ Polygon p → IsPlacedIn m q p
+    list ≡ front ++ back → 0 ≡ gaps_of (raised m.chains) list → IsEastOfLast widest m.chains q front → IsWestOfFirst widest m.chains q back → seen_side (raised m.chains) back ≡ Polygon p → IsPlacedIn m q p
 spotted m events from list front back q h p are rising ranges range swept at below above parted facing east west sees =
-    placed widest m q front back p (wide_by_range m.chains ranges)
-    (no_vertex m.chains events are rising from swept.within h below above q at list swept.counted ranges range)
-    (record { listed = subst (IsListOf widest (height widest q) m.chains) parted slab; east = east; west = west })
-    (facing_behind m.chains front back (ap (gaps_of m.chains) (sym parted) ∙ sym facing)) sees
+    placed widest m q front back p wide clear between
+    (same_facing m.chains back same (facing_behind (raised m.chains) front back (ap (gaps_of (raised m.chains)) (sym parted) ∙ sym facing)))
+    (sym (same_seen m.chains back same) ∙ sees)
   where
     slab : IsListOf widest (height widest q) m.chains list
     slab =
         list_of_slab m.chains events are from list swept.counted (height widest q)
         (λ k lt within. let under = before m.chains events are rising from swept.within h below above k lt in omega (arith, ints, under, at))
         (λ k d le lt. let over = after m.chains events are rising from swept.within h below above k d le lt in omega (arith, ints, over, at)) swept.tested
+
+    wide : IsWide widest m.chains
+    wide = wide_by_range m.chains ranges
+
+    clear : IsNoVertex widest m.chains q
+    clear = no_vertex m.chains events are rising from swept.within h below above q at list swept.counted ranges range
+
+    between : IsBetween widest m.chains q front back
+    between = record { listed = subst (IsListOf widest (height widest q) m.chains) parted slab; east = east; west = west }
+
+    same : (s : ℕ) → IsIn s back → flanks_at (raised m.chains) s ≡ flanks_at m.chains s
+    same s i =
+        let a = active_behind widest m.chains wide q clear front back between s i in
+        same_flanks m.chains s a.segment a.is (wide s a.segment a.is) (not_west widest m.chains wide q clear front back between s i a)

@@ -2,5 +2,6 @@
 pub mod Vertices
 pub mod Swept
 pub mod Facing
+pub mod Sided
 pub mod Spotted
 pub mod Told

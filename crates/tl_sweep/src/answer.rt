@@ -11,9 +11,13 @@ ghost use Rattle.tl_slabs.specs.Neighbours.{IsWide};
 ghost use Rattle.tl_slabs.specs.Slabs.{AreVerticesTested};
 ghost use Rattle.tl_line.specs.Events.{joined, AreEvents, AreRising, AreMet};
 ghost use Rattle.tl_line.specs.Ranges.{AreInRange};
+ghost use Rattle.tl_faces.specs.Facing.{FacesAgree};
+ghost use Rattle.tl_faces.specs.Odd.{IsOddGap};
+ghost use Rattle.tl_sweep.specs.Keeping.Sided.{AreTrueFaces};
 ghost use Rattle.tl_sweep.specs.Keeping.Spotted.{AreMarks, AreTrueMarks};
 ghost use Rattle.tl_sweep.specs.Keeping.Told.{IsTrueAnswer};
 
+use crate::faces::Faces;
 use crate::meets::are_vertices_tested;
 use crate::spots::{Spots, list_unmarked};
 use crate::suspects::{find_meet, find_meet_at_vertex};
@@ -21,6 +25,7 @@ use crate::sweeping::sweep_list;
 use std::alloc::{AllocError, Global};
 use tl_county::Map;
 use tl_crossings::look_at_chains;
+use tl_faces::OddGap;
 use tl_line::Events;
 use tl_planar::Meet;
 
@@ -45,7 +50,8 @@ pub fn sweep(alloc: Global, map: &Map) -> Result<Swept, AllocError>
 {
     let mut marks = Vec::new(alloc);
     look_at_chains(map);
-    sweep_ends(alloc, map, &mut marks)
+    let mut faces = Faces::Unknown;
+    sweep_ends(alloc, map, &mut marks, &mut faces)
 }
 
 /// Sweeps as [`sweep`] does, and lists polygons in the place of those that were listed, by their numbers: the point of each
@@ -62,24 +68,52 @@ pub fn sweep_for_points(
     ensures others { IfOk result (λ answer. (p : ℕ) (polygon : Polygon) → slice_get map.now.polygons p ≡ Some polygon →
         Contains suspects.new.items p ⊎ IsPlacedIn map.now polygon.point p) }
 {
+    let answer = sweep_for_faces(alloc, map, suspects)?;
+    Ok(answer.0)
+}
+
+/// Sweeps as [`sweep_for_points`] does, and tells whether faces agree.
+pub fn sweep_for_faces(
+    alloc: Global,
+    map: &Map,
+    suspects: &mut Vec<u32>,
+) -> Result<(Swept, Faces), AllocError>
+    ensures placed { IfOk result (λ answer. answer.0 ≡ Swept.Placed → IsPlanar map.now.chains × ArePlaced map.now) }
+    ensures planar { IfOk result (λ answer. answer.0 ≡ Swept.Planar → IsPlanar map.now.chains) }
+    ensures meet { IfOk result (λ answer. (meet : Meet) → answer.0 ≡ Swept.Meet meet → IsTrueMeet map.now.chains meet) }
+    ensures known { IfOk result (λ answer. All (λ p. p < length map.now.polygons) suspects.new.items) }
+    ensures others { IfOk result (λ answer. (p : ℕ) (polygon : Polygon) → slice_get map.now.polygons p ≡ Some polygon →
+        Contains suspects.new.items p ⊎ IsPlacedIn map.now polygon.point p) }
+    ensures agree { IfOk result (λ answer. answer.1 ≡ Faces.Agree → IsPlanar map.now.chains × FacesAgree map.now.chains) }
+    ensures odd { IfOk result (λ answer. (gap : OddGap) → answer.1 ≡ Faces.Odd gap →
+        IsPlanar map.now.chains × IsOddGap widest map.now.chains gap) }
+{
     let mut marks = Vec::new(alloc);
+    let mut faces = Faces::Unknown;
     look_at_chains(map);
-    let swept = sweep_ends(alloc, map, &mut marks)?;
+    let swept = sweep_ends(alloc, map, &mut marks, &mut faces)?;
     list_unmarked(map, &marks, suspects)?;
-    Ok(swept)
+    Ok((swept, faces))
 }
 
 /// The same by the ends of all segments. Where the chains are found to be planar, the polygons are marked whose points were
 /// found to be placed.
-fn sweep_ends(alloc: Global, map: &Map, marks: &mut Vec<bool>) -> Result<Swept, AllocError>
+fn sweep_ends(
+    alloc: Global,
+    map: &Map,
+    marks: &mut Vec<bool>,
+    faces: &mut Faces,
+) -> Result<Swept, AllocError>
     requires proper { AreProper map.now.chains }
     requires none { marks.old.items ≡ [] }
+    requires unknown { faces.old ≡ Faces.Unknown }
     ensures answer { IfOk result (IsTrueAnswer map.now) }
     ensures marks { IfOk result (λ answer. AreTrueMarks map.now marks.new.items) }
+    ensures faces { IfOk result (λ answer. AreTrueFaces map.now.chains faces.new) }
 {
     let mut events = Events::new(alloc, map)?;
     events.sort(alloc)?;
-    sweep_events(alloc, map, &events, marks)
+    sweep_events(alloc, map, &events, marks, faces)
 }
 
 /// The same by all ends, which are sorted.
@@ -88,6 +122,7 @@ fn sweep_events(
     map: &Map,
     events: &Events,
     marks: &mut Vec<bool>,
+    faces: &mut Faces,
 ) -> Result<Swept, AllocError>
     requires events { AreEvents map.now.chains (joined events.now) }
     requires met { All (AreMet map.now.chains) events.now }
@@ -95,14 +130,16 @@ fn sweep_events(
     requires ranges { AreInRange map.now.chains }
     requires proper { AreProper map.now.chains }
     requires none { marks.old.items ≡ [] }
+    requires unknown { faces.old ≡ Faces.Unknown }
     ensures answer { IfOk result (IsTrueAnswer map.now) }
     ensures marks { IfOk result (λ answer. AreTrueMarks map.now marks.new.items) }
+    ensures faces { IfOk result (λ answer. AreTrueFaces map.now.chains faces.new) }
 {
     if !are_vertices_tested(map, events) {
         return Ok(told(map, find_meet_at_vertex(map, events)));
     }
     let mut suspects = Vec::new(alloc);
-    sweep_tested(alloc, map, events, &mut suspects, marks)
+    sweep_tested(alloc, map, events, &mut suspects, marks, faces)
 }
 
 /// The same where vertices are tested, with a list for the segments at which the sweep ends.
@@ -112,22 +149,28 @@ fn sweep_tested(
     events: &Events,
     suspects: &mut Vec<u32>,
     marks: &mut Vec<bool>,
+    faces: &mut Faces,
 ) -> Result<Swept, AllocError>
     requires events { AreEvents map.now.chains (joined events.now) }
     requires rising { AreRising (joined events.now) }
     requires wide { IsWide widest map.now.chains }
     requires ranges { AreInRange map.now.chains }
     requires vertices { AreVerticesTested map.now.chains }
+    requires proper { AreProper map.now.chains }
     requires none { marks.old.items ≡ [] }
+    requires unknown { faces.old ≡ Faces.Unknown }
     ensures answer { IfOk result (IsTrueAnswer map.now) }
     ensures marks { IfOk result (λ answer. AreTrueMarks map.now marks.new.items) }
+    ensures faces { IfOk result (λ answer. AreTrueFaces map.now.chains faces.new) }
 {
     let mut spots = Spots::new(alloc, map)?;
-    if !sweep_list(alloc, map, events, &mut spots, suspects)? {
+    let mut told_of_slabs = Faces::Unknown;
+    if !sweep_list(alloc, map, events, &mut spots, suspects, &mut told_of_slabs)? {
         return Ok(told(map, find_meet(map, suspects)));
     }
     let answer = planar(map, &spots);
     *marks = spots.into_marks();
+    *faces = told_of_slabs;
     Ok(answer)
 }
 

@@ -1,25 +1,36 @@
 //! How often facing sides differ along the list of active segments.
-ghost use Rattle.std.specs.Prelude.{◌≡◌, ◌+◌, ◌<◌, ◌∷◌, [], ℕ, Option, Some, List, IsTrue, length};
+ghost use Rattle.std.specs.Prelude.{◌≡◌, ◌+◌, ◌<◌, ◌∷◌, [], ℕ, Option, Some, List, IsTrue, length, int_lt, slice_get};
 ghost use Rattle.tl_county.specs.declared.sides.Side.{Side};
 ghost use Rattle.tl_county.specs.declared.sides.Side.TheVariants.{Outside};
 ghost use Rattle.tl_county.specs.Segments.{segments_before};
 ghost use Rattle.tl_inside.specs.declared.flanks.Flanks.{Flanks};
 ghost use Rattle.tl_inside.specs.Inside.{flanks_at};
+ghost use Rattle.tl_line.specs.Lined.{last_of};
+ghost use Rattle.tl_slabs.specs.Heights.{height as height_by, widest};
 ghost use Rattle.tl_sweep.specs.Beside.{seen_side};
-ghost use Rattle.tl_sweep.specs.Keeping.Facing.{gap as gap_of, gaps_between, last_far};
+ghost use Rattle.tl_sweep.specs.Keeping.Facing.{gap as gap_of, gaps_between, last_far, raised};
 
 use tl_county::{Map, Side};
 use tl_inside::Flanks;
-use tl_line::Line;
+use tl_geom::Point;
+use tl_line::{Line, height};
 
-/// The sides of a segment: the near side, which a point west of it sees, and the far side.
+/// Whether one point is lower than another.
+#[inline]
+fn rises(a: Point, b: Point) -> bool
+    ensures { result ≡ int_lt (height_by widest a) (height_by widest b) }
+{
+    height(a) < height(b)
+}
+
+/// The sides of a segment by its height: the near side, to the west along lines of one height, and the far side.
 fn flanks_of(map: &Map, s: u32) -> Flanks
     requires known { s < segments_before map.now.chains (length map.now.chains) }
-    ensures { result ≡ flanks_at map.now.chains s }
+    ensures { result ≡ flanks_at (raised map.now.chains) s }
 {
     let segment = map.segment(s);
     let chain = map.chain(map.segment_chain(s));
-    if segment.a().y < segment.b().y {
+    if rises(segment.a(), segment.b()) {
         Flanks {
             near: chain.left,
             far: chain.right,
@@ -34,7 +45,7 @@ fn flanks_of(map: &Map, s: u32) -> Flanks
 
 /// The sides of the segment with this number, if there is one.
 fn find_flanks(map: &Map, s: u32) -> Option<Flanks>
-    ensures { (flanks : Flanks) → result ≡ Some flanks → flanks ≡ flanks_at map.now.chains s }
+    ensures { (flanks : Flanks) → result ≡ Some flanks → flanks ≡ flanks_at (raised map.now.chains) s }
 {
     if s >= map.segments() {
         return None;
@@ -43,35 +54,49 @@ fn find_flanks(map: &Map, s: u32) -> Option<Flanks>
 }
 
 /// 1 where sides that face each other differ, else 0.
-fn gap(west: Side, east: Side) -> u64
+pub fn gap(west: Side, east: Side) -> u64
     ensures { result ≡ gap_of west east }
 {
     if west == east { 0 } else { 1 }
 }
 
-/// What lies east of the segment before the place, or of none.
-pub fn far_side(map: &Map, line: &Line) -> Option<Side>
-    ensures { (side : Side) → result ≡ Some side → side ≡ last_far map.now.chains Outside line.now.front }
+/// What lies east of a segment, or of none.
+pub fn far_of(map: &Map, s: Option<u32>) -> Option<Side>
+    ensures { (side : Side) (front : List ℕ) → result ≡ Some side → s ≡ last_of front → side ≡ last_far (raised map.now.chains) Outside front }
 {
-    match line.previous() {
+    match s {
         Some(s) => Some(find_flanks(map, s)?.far),
         None => Some(Side::Outside),
     }
 }
 
-/// What lies west of the segment behind the place, or of none.
-pub fn near_side(map: &Map, line: &Line) -> Option<Side>
-    ensures { (side : Side) → result ≡ Some side → side ≡ seen_side map.now.chains line.now.back }
+/// What lies west of a segment, or of none.
+pub fn near_of(map: &Map, s: Option<u32>) -> Option<Side>
+    ensures { (side : Side) (back : List ℕ) → result ≡ Some side → s ≡ slice_get back 0 → side ≡ seen_side (raised map.now.chains) back }
 {
-    match line.next() {
+    match s {
         Some(s) => Some(find_flanks(map, s)?.near),
         None => Some(Side::Outside),
     }
 }
 
+/// What lies east of the segment before the place, or of none.
+pub fn far_side(map: &Map, line: &Line) -> Option<Side>
+    ensures { (side : Side) → result ≡ Some side → side ≡ last_far (raised map.now.chains) Outside line.now.front }
+{
+    far_of(map, line.previous())
+}
+
+/// What lies west of the segment behind the place, or of none.
+pub fn near_side(map: &Map, line: &Line) -> Option<Side>
+    ensures { (side : Side) → result ≡ Some side → side ≡ seen_side (raised map.now.chains) line.now.back }
+{
+    near_of(map, line.next())
+}
+
 /// How often facing sides differ along these segments between one side and another.
 fn count_gaps(map: &Map, west: Side, list: &[u32], east: Side) -> Option<u64>
-    ensures { (n : ℕ) → result ≡ Some n → n ≡ gaps_between map.now.chains west list.now east }
+    ensures { (n : ℕ) → result ≡ Some n → n ≡ gaps_between (raised map.now.chains) west list.now east }
 {
     let mut before = west;
     let mut count = 0u64;
@@ -88,7 +113,7 @@ fn count_gaps(map: &Map, west: Side, list: &[u32], east: Side) -> Option<u64>
 fn go_one_way(map: &Map, s: u32, t: u32) -> bool
     requires known { s < segments_before map.now.chains (length map.now.chains) }
     requires known_other { t < segments_before map.now.chains (length map.now.chains) }
-    ensures { IsTrue result → flanks_at map.now.chains s ≡ flanks_at map.now.chains t }
+    ensures { IsTrue result → flanks_at (raised map.now.chains) s ≡ flanks_at (raised map.now.chains) t }
 {
     let c = map.segment_chain(s);
     if map.segment_chain(t) != c {
@@ -97,17 +122,17 @@ fn go_one_way(map: &Map, s: u32, t: u32) -> bool
     // that the chain has sides
     let _chain = map.chain(c);
     let (one, other) = (map.segment(s), map.segment(t));
-    if one.a().y < one.b().y {
-        other.a().y < other.b().y
+    if rises(one.a(), one.b()) {
+        rises(other.a(), other.b())
     } else {
-        other.a().y >= other.b().y
+        !rises(other.a(), other.b())
     }
 }
 
 /// Whether two segments have the same sides.
 pub fn are_alike(map: &Map, out: u32, s: u32) -> bool
     ensures { IsTrue result → (west east : Side) →
-        gaps_between map.now.chains west (out ∷ []) east ≡ gaps_between map.now.chains west (s ∷ []) east }
+        gaps_between (raised map.now.chains) west (out ∷ []) east ≡ gaps_between (raised map.now.chains) west (s ∷ []) east }
 {
     let count = map.segments();
     if out < count && s < count && go_one_way(map, out, s) {
@@ -131,7 +156,7 @@ pub fn recount(
     count: Option<u64>,
 ) -> Option<u64>
     ensures { (n : ℕ) → result ≡ Some n → (old : ℕ) × (w : Side) × (e : Side) × (count ≡ Some old) × (west ≡ Some w) × (east ≡ Some e) ×
-        (n + gaps_between map.now.chains w outs.now e ≡ old + gaps_between map.now.chains w ins.now e) }
+        (n + gaps_between (raised map.now.chains) w outs.now e ≡ old + gaps_between (raised map.now.chains) w ins.now e) }
 {
     let (west, east) = (west?, east?);
     let gone = count_gaps(map, west, outs, east)?;

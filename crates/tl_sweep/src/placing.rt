@@ -4,7 +4,7 @@ ghost use Rattle.tl_county.specs.declared.sides.Side.TheVariants.{Polygon};
 ghost use Rattle.tl_line.specs.declared.events.Event.{Event};
 ghost use Rattle.tl_sweep.specs.Beside.{IsEastOf, IsWestOfIt, IsEastOfLast, IsWestOfFirst, seen_side};
 ghost use Rattle.tl_slabs.specs.Heights.{widest};
-ghost use Rattle.tl_sweep.specs.Keeping.Facing.{IsCounted};
+ghost use Rattle.tl_sweep.specs.Keeping.Facing.{IsCounted, raised};
 ghost use Rattle.tl_line.specs.Lined.{list_of};
 ghost use Rattle.tl_line.specs.Events.{before, joined, AreEvents, AreRising};
 ghost use Rattle.tl_line.specs.Ranges.{AreInRange};
@@ -71,7 +71,7 @@ fn is_between(events: &Events, from: usize, h: i64) -> bool
 fn sees(map: &Map, line: &Line, p: Point, polygon: u32) -> bool
     ensures east { IsTrue result → IsEastOfLast widest map.now.chains p line.now.front }
     ensures west { IsTrue result → IsWestOfFirst widest map.now.chains p line.now.back }
-    ensures sees { IsTrue result → seen_side map.now.chains line.now.back ≡ Polygon polygon }
+    ensures sees { IsTrue result → seen_side (raised map.now.chains) line.now.back ≡ Polygon polygon }
 {
     if !is_east_of(map, line.previous(), p) {
         return false;

@@ -1,9 +1,11 @@
--- The places along a list where facing sides differ.
-use Rattle.std.specs.Prelude.{◌≡◌, ℕ, ◌+◌, ◌==◌, Bool, true, false, if◌then◌else◌, Option, Some, List, [], ◌∷◌}
+-- The places along a list where facing sides differ, and the sides of segments by their heights.
+use Rattle.std.specs.Prelude.{◌≡◌, ℕ, ◌+◌, ◌==◌, Bool, true, false, if◌then◌else◌, Option, Some, List, [], ◌∷◌, map}
+use Rattle.tl_geom.specs.declared.point.Point.{Point}
 use Rattle.tl_county.specs.declared.sides.Side.{Side}
 use Rattle.tl_county.specs.declared.sides.Side.TheVariants.{Outside, Polygon}
 use Rattle.tl_county.specs.TheMap.{MapChain}
 use Rattle.tl_inside.specs.Inside.{flanks_at}
+use Rattle.tl_slabs.specs.Heights.{height, widest}
 
 -- two sides are one
 abbrev pub are_one : (west east : Side) → Bool
@@ -30,6 +32,23 @@ abbrev pub last_far : List MapChain → Side → List ℕ → Side
 last_far chains west [] = west
 last_far chains west (s ∷ rest) = last_far chains (flanks_at chains s).far rest
 
--- if there is a count, it is that of the list
+-- the chains with heights in the place of latitudes: there the flanks of a segment are its sides by height
+abbrev pub raised_point : Point → Point
+raised_point p = record { x = p.x; y = height widest p }
+
+abbrev pub raised_chain : MapChain → MapChain
+raised_chain c = record {
+  tlid = c.tlid;
+  points = map raised_point c.points;
+  left = c.left;
+  right = c.right;
+  start_cell = c.start_cell;
+  end_cell = c.end_cell;
+}
+
+abbrev pub raised : List MapChain → List MapChain
+raised chains = map raised_chain chains
+
+-- if there is a count, it is that of the list, by the sides by height
 abbrev pub IsCounted : List MapChain → Option ℕ → List ℕ → Type 0
-IsCounted chains count list = (n : ℕ) → count ≡ Some n → n ≡ gaps_of chains list
+IsCounted chains count list = (n : ℕ) → count ≡ Some n → n ≡ gaps_of (raised chains) list

@@ -2,6 +2,7 @@ use Rattle.std.proofs.Common.{◌≡◌, false, true, slice_index_or, subst}
 use Rattle.std.proofs.lemmas.Result.{err_from_is_err_and}
 use Rattle.tl_slabs.specs.Heights.{widest}
 use Rattle.tl_slabs.proofs.Planarity.{planar}
+use Rattle.tl_sweep.proofs.Answered.{true_faces}
 use Rattle.tl_sweep.proofs.answer.sweep_tested.Goals as goal
 
 pub planar-answer-requires-clause-planar : goal.planar-answer-requires-clause-planar
@@ -33,3 +34,8 @@ returns-in_err-sweep_list-clause-marks c = let p = err_from_is_err_and c.from_re
 
 pub returns-clause-marks : goal.returns-clause-marks
 returns-clause-marks c = λ p marked. (c.in_ok-sweep_list.ensures.marks c.if-not-branch.false).placed p (subst (λ l. slice_index_or l p false ≡ true) c.into_marks.ensures marked)
+
+pub returns-clause-faces : goal.returns-clause-faces
+returns-clause-faces c =
+    true_faces c.args.map.now.chains c.requires.proper c.requires.ranges (c.in_ok-sweep_list.ensures.slabs c.if-not-branch.false) c.requires.vertices
+    c.sweep_list.new.faces (c.in_ok-sweep_list.ensures.faces c.if-not-branch.false)

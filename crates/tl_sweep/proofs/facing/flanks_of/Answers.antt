@@ -1,19 +1,16 @@
-use Rattle.std.proofs.Common.{◌<ℤ◌, ◌≤ℤ◌, arith}
-use Rattle.std.proofs.lemmas.Int.{ints}
-use Rattle.tl_inside.proofs.Sides.{upward, downward}
+use Rattle.std.proofs.Common.{sym, ◌∙◌}
 use Rattle.tl_line.proofs.Listing.{own}
+use Rattle.tl_sweep.proofs.Raised.{rising, falling}
 use Rattle.tl_sweep.proofs.facing.flanks_of.Goals as goal
 
-pub returns-then-a-b : goal.returns-then-a-b
-returns-then-a-b c =
+pub returns-then-rises : goal.returns-then-rises
+returns-then-rises c =
     let is = own c.args.map.now.chains c.args.s c.segment-segment.result c.segment-segment.ensures in
-    let up : c.a.result.y <ℤ c.b.result.y = omega (arith, ints, c.if-a-b.true) in
-    upward c.args.map.now.chains c.args.s is.c is.k c.segment_chain.result c.segment_chain.ensures.0 c.chain-chain.result.tlid c.segment-segment.result c.chain-chain.result.points.now c.chain-chain.result.left c.chain-chain.result.right c.a.result c.b.result
-    is.number is.joins c.segment_chain.ensures.1 c.chain-chain.ensures.chain c.a.ensures c.b.ensures up
+    rising c.args.map.now.chains c.args.s is.c is.k c.segment_chain.result c.segment_chain.ensures.0 c.chain-chain.result.tlid c.segment-segment.result c.chain-chain.result.points.now c.chain-chain.result.left c.chain-chain.result.right c.a.result c.b.result
+    is.number is.joins c.segment_chain.ensures.1 c.chain-chain.ensures.chain c.a.ensures c.b.ensures (sym c.rises.ensures ∙ c.if-rises.true)
 
-pub returns-else-a-b : goal.returns-else-a-b
-returns-else-a-b c =
+pub returns-else-rises : goal.returns-else-rises
+returns-else-rises c =
     let is = own c.args.map.now.chains c.args.s c.segment-segment.result c.segment-segment.ensures in
-    let down : c.b.result.y ≤ℤ c.a.result.y = omega (arith, ints, c.if-a-b.false) in
-    downward c.args.map.now.chains c.args.s is.c is.k c.segment_chain.result c.segment_chain.ensures.0 c.chain-chain.result.tlid c.segment-segment.result c.chain-chain.result.points.now c.chain-chain.result.left c.chain-chain.result.right c.a.result c.b.result
-    is.number is.joins c.segment_chain.ensures.1 c.chain-chain.ensures.chain c.a.ensures c.b.ensures down
+    falling c.args.map.now.chains c.args.s is.c is.k c.segment_chain.result c.segment_chain.ensures.0 c.chain-chain.result.tlid c.segment-segment.result c.chain-chain.result.points.now c.chain-chain.result.left c.chain-chain.result.right c.a.result c.b.result
+    is.number is.joins c.segment_chain.ensures.1 c.chain-chain.ensures.chain c.a.ensures c.b.ensures (sym c.rises.ensures ∙ c.if-rises.false)

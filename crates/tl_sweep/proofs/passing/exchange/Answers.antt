@@ -1,10 +1,11 @@
-use Rattle.std.proofs.Common.{◌≡◌, ◌+◌, ◌++◌, refl, ap, sym, ◌∙◌}
+use Rattle.std.proofs.Common.{◌≡◌, ◌+◌, ◌++◌, refl, ap, sym, subst, ◌∙◌}
 use Rattle.std.proofs.lemmas.Result.{err_from_is_err_and}
 use Rattle.tl_county.specs.declared.sides.Side.TheVariants.{Outside}
 use Rattle.tl_slabs.specs.Heights.{widest}
 use Rattle.tl_slabs.specs.Neighbours.{AreTested}
 use Rattle.tl_sweep.specs.Beside.{seen_side}
-use Rattle.tl_sweep.specs.Keeping.Facing.{gaps_between, last_far}
+use Rattle.tl_sweep.specs.Keeping.Facing.{gaps_between, last_far, raised}
+use Rattle.tl_sweep.specs.Keeping.Sided.{IsOddAlong}
 use Rattle.tl_line.specs.Lined.{list_of}
 use Rattle.tl_sweep.proofs.Gaps.{in_stead}
 use Rattle.tl_line.proofs.Lining.{moved, before_tested}
@@ -27,17 +28,30 @@ returns-clause-tested c = λ h two.
 
 pub returns-clause-counted : goal.returns-clause-counted
 returns-clause-counted c = λ h counted n is.
-    let chains = c.args.map.now.chains in
+    let chains = raised c.args.map.now.chains in
     let front = c.args.line.now.front in
     let back = c.shift.new.line.back in
     let told = c.recount.ensures n is in
-    let west : told.1 ≡ last_far c.args.map.now.chains Outside c.args.line.now.front = c.far_side-west.ensures told.1 told.4 in
-    let east : told.2 ≡ seen_side c.args.map.now.chains c.shift.new.line.back = c.near_side-east.ensures told.2 told.5 in
-    let between : (list : _) → gaps_between c.args.map.now.chains told.1 list told.2 ≡ gaps_between c.args.map.now.chains (last_far c.args.map.now.chains Outside c.args.line.now.front) list (seen_side c.args.map.now.chains c.shift.new.line.back) =
+    let west : told.1 ≡ last_far (raised c.args.map.now.chains) Outside c.args.line.now.front = c.far_side-west.ensures told.1 told.4 in
+    let east : told.2 ≡ seen_side (raised c.args.map.now.chains) c.shift.new.line.back = c.near_side-east.ensures told.2 told.5 in
+    let between : (list : _) → gaps_between (raised c.args.map.now.chains) told.1 list told.2 ≡ gaps_between (raised c.args.map.now.chains) (last_far (raised c.args.map.now.chains) Outside c.args.line.now.front) list (seen_side (raised c.args.map.now.chains) c.shift.new.line.back) =
     λ list. rw (west, east) refl in
     in_stead chains front c.args.outs.now c.args.ins.now back (list_of c.args.line.now) (list_of c.shift.new.line) n told.0
     (ap (λ b. front ++ b) (c.in_ok-shift.ensures.back c.if-not-branch.false)) (ap (λ f. f ++ back) (c.in_ok-shift.ensures.front c.if-not-branch.false))
     (counted told.0 told.3) (sym (ap (λ g. n + g) (between c.args.outs.now)) ∙ told.6 ∙ ap (λ g. told.0 + g) (between c.args.ins.now))
+
+pub returns-clause-odd : goal.returns-clause-odd
+returns-clause-odd c = λ h none gap is.
+    let front = c.args.line.now.front in
+    let back = c.shift.new.line.back in
+    subst (λ f. IsOddAlong c.args.map.now.chains c.args.p (f ++ back) gap) (sym (c.in_ok-shift.ensures.front c.if-not-branch.false))
+    (c.note_odd.ensures front back gap c.previous-front.ensures c.next.ensures is)
+
+pub returns-then-not-branch-clause-odd : goal.returns-then-not-branch-clause-odd
+returns-then-not-branch-clause-odd c = λ h. never h
+
+pub returns-in_err-shift-clause-odd : goal.returns-in_err-shift-clause-odd
+returns-in_err-shift-clause-odd c = let p = err_from_is_err_and c.from_residual.result c.from_residual.ensures.1 in rw p.1 tt
 
 pub returns-then-not-branch-clause-moved : goal.returns-then-not-branch-clause-moved
 returns-then-not-branch-clause-moved c = λ h. never h

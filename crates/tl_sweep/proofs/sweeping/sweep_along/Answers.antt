@@ -1,20 +1,21 @@
-use Rattle.std.proofs.Common.{refl, ap, sym, subst, ◌∙◌}
+use Rattle.std.proofs.Common.{refl, ap, sym, subst, ◌∙◌, arith}
 use Rattle.std.proofs.lemmas.Result.{err_from_is_err_and}
 use Rattle.tl_planar.specs.Keeping.Apart.{one_found}
-use Rattle.tl_sweep.specs.Keeping.Facing.{IsCounted, gaps_of}
+use Rattle.tl_sweep.specs.Keeping.Facing.{IsCounted, gaps_of, raised}
 use Rattle.tl_line.specs.Lined.{list_of}
 use Rattle.tl_line.specs.Events.{before, joined}
 use Rattle.tl_sweep.specs.Keeping.Swept.{IsSwept}
-use Rattle.tl_sweep.proofs.Slab.{begins}
-use Rattle.tl_sweep.proofs.Gone.{gone_on}
+use Rattle.tl_sweep.proofs.Slab.{begins, facing_begins, faces_end}
+use Rattle.tl_sweep.proofs.Gone.{gone_on, faces_on, all_before}
 use Rattle.tl_line.proofs.Tests.{never}
 use Rattle.tl_sweep.proofs.sweeping.sweep_along.Goals as goal
 
 pub loop-from-init : goal.loop-from-init
 loop-from-init c = record {
   swept = begins c.args.map.now.chains (joined c.args.events.now) (list_of c.args.line.now) c.requires.events c.requires.empty;
-  counted = λ n e. sym (one_found 0 n _ refl e) ∙ sym (ap (gaps_of c.args.map.now.chains) c.requires.empty);
+  counted = λ n e. sym (one_found 0 n _ refl e) ∙ sym (ap (gaps_of (raised c.args.map.now.chains)) c.requires.empty);
   marks = c.requires.marks;
+  faces = facing_begins c.args.map.now.chains (joined c.args.events.now) c.requires.events;
 }
 
 pub loop-from-preserved : goal.loop-from-preserved
@@ -25,12 +26,17 @@ loop-from-preserved c =
     let swept : IsSwept chains (joined c.args.events.now) (before c.loop-from.from c.args.events.now) (list_of c.look.new.line) =
     subst (IsSwept chains (joined events) (before c.loop-from.from events)) stays c.loop-from.invariant.swept in
     let to = c.in_ok-to.ensures in
+    let moved = c.in_ok-step.ensures.moved c.if-not-branch.false in
+    let tested = c.in_ok-step.ensures.tested c.if-not-branch.false swept.tested in
+    let counted : IsCounted chains c.step.new.gaps (list_of c.step.new.line) = c.in_ok-step.ensures.counted c.if-not-branch.false (subst (IsCounted chains c.loop-from.gaps) stays c.loop-from.invariant.counted) in
     record {
-      swept =
-          gone_on chains events c.loop-from.from c.in_ok-to.to (list_of c.look.new.line) (list_of c.step.new.line) _ _ c.requires.events c.requires.rising swept to
-          (c.in_ok-step.ensures.moved c.if-not-branch.false) (c.in_ok-step.ensures.tested c.if-not-branch.false swept.tested);
-      counted = c.in_ok-step.ensures.counted c.if-not-branch.false (subst (IsCounted chains c.loop-from.gaps) stays c.loop-from.invariant.counted);
+      swept = gone_on chains events c.loop-from.from c.in_ok-to.to (list_of c.look.new.line) (list_of c.step.new.line) _ _ c.requires.events c.requires.rising swept to moved tested;
+      counted = counted;
       marks = c.in_ok-look.ensures.marks;
+      faces =
+          faces_on chains events c.loop-from.from c.in_ok-to.to (list_of c.look.new.line) (list_of c.step.new.line) _ _ c.requires.events c.requires.rising swept to moved tested
+          c.point-p.result c.point-p.ensures c.step.new.gaps counted c.step.new.odd (c.in_ok-step.ensures.odd c.if-not-branch.false refl) c.loop-from.faces c.loop-from.invariant.faces
+          c.faces_after.result c.faces_after.ensures.agree c.faces_after.ensures.odd;
     }
 
 pub look-requires-clause-events : goal.look-requires-clause-events
@@ -56,6 +62,14 @@ returns-then-not-branch-clause-slabs c = λ h. never h
 
 pub returns-then-not-branch-clause-marks : goal.returns-then-not-branch-clause-marks
 returns-then-not-branch-clause-marks c = λ h. never h
+
+pub returns-then-not-branch-clause-faces : goal.returns-then-not-branch-clause-faces
+returns-then-not-branch-clause-faces c = λ h. never h
+
+pub returns-clause-faces : goal.returns-clause-faces
+returns-clause-faces c = λ h.
+    faces_end c.args.map.now.chains (joined c.args.events.now) (before c.loop-from.from c.args.events.now) c.loop-from.faces
+    (all_before c.args.events.now c.loop-from.from (let all = c.loop-from-test.false in let len = c.len.ensures in omega (arith, all, len))) c.loop-from.invariant.faces
 
 pub returns-clause-marks : goal.returns-clause-marks
 returns-clause-marks c = λ h. c.loop-from.invariant.marks
@@ -83,3 +97,15 @@ returns-in_err-list_suspects-clause-slabs c = let p = err_from_is_err_and c.from
 
 pub returns-in_err-list_suspects-clause-marks : goal.returns-in_err-list_suspects-clause-marks
 returns-in_err-list_suspects-clause-marks c = let p = err_from_is_err_and c.from_residual-in_err-list_suspects.result c.from_residual-in_err-list_suspects.ensures.1 in rw p.1 tt
+
+pub returns-in_err-look-clause-faces : goal.returns-in_err-look-clause-faces
+returns-in_err-look-clause-faces c = let p = err_from_is_err_and c.from_residual.result c.from_residual.ensures.1 in rw p.1 tt
+
+pub returns-in_err-to-clause-faces : goal.returns-in_err-to-clause-faces
+returns-in_err-to-clause-faces c = let p = err_from_is_err_and c.from_residual-in_err-to.result c.from_residual-in_err-to.ensures.1 in rw p.1 tt
+
+pub returns-in_err-step-clause-faces : goal.returns-in_err-step-clause-faces
+returns-in_err-step-clause-faces c = let p = err_from_is_err_and c.from_residual-in_err-step.result c.from_residual-in_err-step.ensures.1 in rw p.1 tt
+
+pub returns-in_err-list_suspects-clause-faces : goal.returns-in_err-list_suspects-clause-faces
+returns-in_err-list_suspects-clause-faces c = let p = err_from_is_err_and c.from_residual-in_err-list_suspects.result c.from_residual-in_err-list_suspects.ensures.1 in rw p.1 tt
