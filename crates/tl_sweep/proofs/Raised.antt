@@ -1,5 +1,5 @@
 -- The sides of segments by their heights: the flanks of segments of raised chains.
-use Rattle.std.proofs.Common.{◌≡◌, inl, inr, ℕ, zero, suc, ◌+◌, ◌-◌, ◌<◌, Bool, true, false, if◌then◌else◌, Option, Some, List, [], ◌∷◌, length, map, take, refl, sym, ap, subst, ◌∙◌, arith}
+use Rattle.std.proofs.Common.{◌≡◌, inl, inr, ℕ, zero, suc, ◌+◌, ◌-◌, Bool, true, false, if◌then◌else◌, Some, List, [], ◌∷◌, length, map, take, refl, sym, ap, subst, ◌∙◌, arith}
 use Rattle.std.specs.Prelude.{int_lt, slice_get, option_map}
 use Rattle.std.proofs.lemmas.List.{length-map}
 use Rattle.std.proofs.lemmas.List.Sums.{sum_by-cons}
@@ -21,7 +21,7 @@ use Rattle.tl_faces.specs.Lists.{sides_by_height, RunsWest, AreFacingFrom}
 use Rattle.tl_faces.proofs.Flanks.{are_sides}
 use Rattle.tl_slabs.proofs.Walking.{IsIn}
 use Rattle.tl_sweep.specs.Beside.{AreFacing, seen_side}
-use Rattle.tl_sweep.specs.Keeping.Facing.{raised, raised_chain, raised_point, gap, gaps_between}
+use Rattle.tl_sweep.specs.Keeping.Facing.{raised, raised_chain, raised_point, gaps_between}
 use Rattle.tl_sweep.proofs.Gaps.{none_is}
 
 same_before : (chains : List MapChain) (c : ℕ) → segments_before (raised chains) c ≡ segments_before chains c

@@ -5,7 +5,6 @@ use Rattle.tl_county.specs.declared.sides.Side.TheVariants.{Outside}
 use Rattle.tl_county.specs.TheMap.{MapChain}
 use Rattle.tl_planar.specs.Planar.{IsPlanar}
 use Rattle.tl_line.specs.declared.events.Event.{Event}
-use Rattle.tl_line.specs.Lined.{last_of}
 use Rattle.tl_slabs.specs.Heights.{height, widest}
 use Rattle.tl_slabs.specs.Slabs.{IsListOf}
 use Rattle.tl_faces.specs.declared.odd.OddGap.{OddGap}
