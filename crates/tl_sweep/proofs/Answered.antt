@@ -60,10 +60,12 @@ module _ (chains : List MapChain) (proper : AreProper chains) (ranges : AreInRan
   segment_at c k chain is p at lt =
       let here : get_or chain.points k p ≡ p = one_found (get_or chain.points k p) p (slice_get chain.points k) (slice_get-get_or chain.points k p (slice_get_within chain.points k p at)) at in
       let there : slice_get chain.points (k + 1) ≡ Some (get_or chain.points (k + 1) p) = slice_get-get_or chain.points (k + 1) p lt in
-      let differ : ¬ (p ≡ get_or chain.points (k + 1) p) = λ e. (proper c chain is).distinct k p lt (here ∙ e) in
-      (record { a = p; b = get_or chain.points (k + 1) p; different = differ },
-      record { c = c; k = k; number = record { chain = chain; is = is; place = lt; number = refl }; joins = record { chain = chain; is = is; from = at; to = there } },
-      refl, there)
+      let differ : ¬ (p ≡ get_or chain.points (k + 1) p) = λ e. (proper c chain is).distinct k p lt (here ∙ e) in (
+        record { a = p; b = get_or chain.points (k + 1) p; different = differ },
+        record { c = c; k = k; number = record { chain = chain; is = is; place = lt; number = refl }; joins = record { chain = chain; is = is; from = at; to = there } },
+        refl,
+        there,
+      )
 
   in_range : (c k : ℕ) (p : Point) → IsPointOf chains c k p → IsInRange p
   in_range c k p one =

@@ -144,5 +144,9 @@ fn odd_where(gap: OddGap, is_known: bool) -> Faces
     ensures agree { ¬ (result ≡ Faces.Agree) }
     ensures odd { (other : OddGap) → result ≡ Faces.Odd other → (gap ≡ other) × (is_known ≡ true) }
 {
-    if is_known { Faces::Odd(gap) } else { Faces::Unknown }
+    if is_known {
+        Faces::Odd(gap)
+    } else {
+        Faces::Unknown
+    }
 }

@@ -11,8 +11,8 @@ ghost use Rattle.tl_sweep.specs.Beside.{seen_side};
 ghost use Rattle.tl_sweep.specs.Keeping.Facing.{gap as gap_of, gaps_between, last_far, raised};
 
 use tl_county::{Map, Side};
-use tl_inside::Flanks;
 use tl_geom::Point;
+use tl_inside::Flanks;
 use tl_line::{Line, height};
 
 /// Whether one point is lower than another.

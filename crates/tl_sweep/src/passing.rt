@@ -7,8 +7,8 @@ ghost use Rattle.tl_line.specs.Lined.{list_of};
 ghost use Rattle.tl_sweep.specs.Keeping.Facing.{IsCounted};
 ghost use Rattle.tl_sweep.specs.Keeping.Sided.{IsOddAlong};
 
-use crate::facing::{are_alike, far_side, near_side, recount};
 use crate::faces::note_odd;
+use crate::facing::{are_alike, far_side, near_side, recount};
 use std::alloc::AllocError;
 use tl_county::Map;
 use tl_faces::OddGap;
