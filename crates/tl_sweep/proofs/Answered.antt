@@ -49,7 +49,8 @@ says_meet map (Err error) is = tt
 pub says_agree : (map : TheMap) (faces : Faces) → AreTrueFaces map.chains faces → faces ≡ Agree → IsPlanar map.chains × FacesAgree map.chains
 says_agree map faces is e = subst (AreTrueFaces map.chains) e is
 
-pub says_odd : (map : TheMap) (faces : Faces) → AreTrueFaces map.chains faces → (gap : OddGap) → faces ≡ Odd gap → IsPlanar map.chains × IsOddGap widest map.chains gap
+pub says_odd : (map : TheMap) (faces : Faces) → AreTrueFaces map.chains faces → (gap : OddGap) → faces ≡ Odd gap →
+    IsPlanar map.chains × IsOddGap widest map.chains gap
 says_odd map faces is gap e = subst (AreTrueFaces map.chains) e is
 
 -- ---- the points of chains, which are ends of segments
@@ -58,11 +59,17 @@ module _ (chains : List MapChain) (proper : AreProper chains) (ranges : AreInRan
   segment_at : (c k : ℕ) (chain : MapChain) → slice_get chains c ≡ Some chain → (p : Point) → slice_get chain.points k ≡ Some p → k + 1 < length chain.points →
       (u : Segment) × IsNumbered chains (segments_before chains c + k) u × (u.a ≡ p) × (slice_get chain.points (k + 1) ≡ Some u.b)
   segment_at c k chain is p at lt =
-      let here : get_or chain.points k p ≡ p = one_found (get_or chain.points k p) p (slice_get chain.points k) (slice_get-get_or chain.points k p (slice_get_within chain.points k p at)) at in
+      let here : get_or chain.points k p ≡ p =
+      one_found (get_or chain.points k p) p (slice_get chain.points k) (slice_get-get_or chain.points k p (slice_get_within chain.points k p at)) at in
       let there : slice_get chain.points (k + 1) ≡ Some (get_or chain.points (k + 1) p) = slice_get-get_or chain.points (k + 1) p lt in
       let differ : ¬ (p ≡ get_or chain.points (k + 1) p) = λ e. (proper c chain is).distinct k p lt (here ∙ e) in (
         record { a = p; b = get_or chain.points (k + 1) p; different = differ },
-        record { c = c; k = k; number = record { chain = chain; is = is; place = lt; number = refl }; joins = record { chain = chain; is = is; from = at; to = there } },
+        record {
+          c = c;
+          k = k;
+          number = record { chain = chain; is = is; place = lt; number = refl };
+          joins = record { chain = chain; is = is; from = at; to = there };
+        },
         refl,
         there,
       )
@@ -73,12 +80,17 @@ module _ (chains : List MapChain) (proper : AreProper chains) (ranges : AreInRan
       let within = slice_get_within one.chain.points k p one.point in
       elim (cases_lt (k + 1) (length one.chain.points)) [
         | inl more ↦
-            let u : (u : Segment) × IsNumbered chains (segments_before chains c + k) u × (u.a ≡ p) × (slice_get one.chain.points (k + 1) ≡ Some u.b) = segment_at c k one.chain one.is p one.point more in
+            let u : (u : Segment) × IsNumbered chains (segments_before chains c + k) u × (u.a ≡ p) × (slice_get one.chain.points (k + 1) ≡ Some u.b) =
+            segment_at c k one.chain one.is p one.point more in
             subst IsInRange u.2 (ranges (segments_before chains c + k) u.0 u.1).0
         | inr last ↦
             let before : k - 1 + 1 ≡ k = omega (arith, last, several) in
-            let u : (u : Segment) × IsNumbered chains (segments_before chains c + (k - 1)) u × (u.a ≡ get_or one.chain.points (k - 1) p) × (slice_get one.chain.points (k - 1 + 1) ≡ Some u.b) = segment_at c (k - 1) one.chain one.is (get_or one.chain.points (k - 1) p) (slice_get-get_or one.chain.points (k - 1) p (omega (arith, within, last, several))) (omega (arith, within, last, several)) in
-            subst IsInRange (one_found u.0.b p (slice_get one.chain.points (k - 1 + 1)) u.3 (ap (slice_get one.chain.points) before ∙ one.point)) (ranges (segments_before chains c + (k - 1)) u.0 u.1).1
+            let u : (u : Segment) × IsNumbered chains (segments_before chains c + (k - 1)) u ×
+            (u.a ≡ get_or one.chain.points (k - 1) p) × (slice_get one.chain.points (k - 1 + 1) ≡ Some u.b) =
+            segment_at c (k - 1) one.chain one.is (get_or one.chain.points (k - 1) p)
+            (slice_get-get_or one.chain.points (k - 1) p (omega (arith, within, last, several))) (omega (arith, within, last, several)) in
+            subst IsInRange (one_found u.0.b p (slice_get one.chain.points (k - 1 + 1)) u.3 (ap (slice_get one.chain.points) before ∙ one.point))
+            (ranges (segments_before chains c + (k - 1)) u.0 u.1).1
       ]
 
   all_near : AreAllNear widest chains

@@ -67,7 +67,8 @@ turn_same K q u w e = rw (e.first, e.last) refl
 -- by a step that runs level to the west, what lies no further south lies on no left side
 no_turn : (a b q : Point) → a.y ≡ b.y → b.x <ℤ a.x → a.y ≤ℤ q.y → ¬ (pos 0 <ℤ turn_of a b q)
 no_turn a b q level west north turned =
-    let product : pos 0 ≤ℤ ((a.x -ℤ b.x) *ℤ (q.y -ℤ a.y)) = product_at_least (a.x -ℤ b.x) (q.y -ℤ a.y) (omega (arith, ints, west)) (omega (arith, ints, north)) in
+    let product : pos 0 ≤ℤ ((a.x -ℤ b.x) *ℤ (q.y -ℤ a.y)) =
+    product_at_least (a.x -ℤ b.x) (q.y -ℤ a.y) (omega (arith, ints, west)) (omega (arith, ints, north)) in
     let none : a.y -ℤ b.y ≡ pos 0 = omega (arith, ints, level) in
     let sum : turn_of a b q +ℤ (a.x -ℤ b.x) *ℤ (q.y -ℤ a.y) ≡ (q.x -ℤ a.x) *ℤ (a.y -ℤ b.y) =
     same ((num b.x ⊖ num a.x) ⊗ (num q.y ⊖ num a.y) ⊖ (num b.y ⊖ num a.y) ⊗ (num q.x ⊖ num a.x) ⊕ (num a.x ⊖ num b.x) ⊗ (num q.y ⊖ num a.y))
@@ -182,8 +183,12 @@ module _ (K : ℤ) (chains : List MapChain) (wide : IsWide K chains) (q : Point)
         let low : low_end K a.segment ≡ a.segment.a = ap (λ (b : Bool). if b then a.segment.a else a.segment.b) test in
         let high : high_end K a.segment ≡ a.segment.b = ap (λ (b : Bool). if b then a.segment.b else a.segment.a) test in
         let begun : height K a.segment.a ≤ℤ height K q = subst (λ (p : Point). height K p ≤ℤ height K q) low a.begun in
-        let north : a.segment.a.y ≤ℤ q.y = by_lt_z q.y a.segment.a.y (λ south. absurd (let h = higher K q a.segment.a (clear.near_first t a.segment a.is) south in omega (arith, ints, h, begun))) (λ le. le) in
-        let turned : pos 0 <ℤ turn_of a.segment.a a.segment.b q = subst (λ (p : Point). pos 0 <ℤ turn_of p a.segment.b q) low (subst (λ (p : Point). pos 0 <ℤ turn_of (low_end K a.segment) p q) high (west_in t i a.segment a.is)) in
+        let north : a.segment.a.y ≤ℤ q.y =
+        by_lt_z q.y a.segment.a.y
+        (λ south. absurd (let h = higher K q a.segment.a (clear.near_first t a.segment a.is) south in omega (arith, ints, h, begun))) (λ le. le) in
+        let turned : pos 0 <ℤ turn_of a.segment.a a.segment.b q =
+        subst (λ (p : Point). pos 0 <ℤ turn_of p a.segment.b q) low
+        (subst (λ (p : Point). pos 0 <ℤ turn_of (low_end K a.segment) p q) high (west_in t i a.segment a.is)) in
         no_turn a.segment.a a.segment.b q runs.level runs.west north turned
 
     pub off_chains : IsOffChains chains q

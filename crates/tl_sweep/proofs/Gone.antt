@@ -32,24 +32,32 @@ every (e ∷ events) (suc n) all = ap (λ l. e ∷ l) (every events n (omega (ar
 pub all_before : (events : List (List Event)) (from : ℕ) → length events ≤ from → length (joined events) ≤ before from events
 all_before events from all = let same : before from events ≡ length (joined events) = ap (λ l. length (joined l)) (every events from all) in omega (arith, same)
 
-module _ (chains : List MapChain) (events : List (List Event)) (from to : ℕ) (list next outs ins : List ℕ) (are : AreEvents chains (joined events)) (rising : AreRising (joined events)) (swept : IsSwept chains (joined events) (before from events) list)
-    (gathered : AreGathered events from to outs ins) (moved : (s : ℕ) → times s next + times s outs ≡ times s list + times s ins) (tested : EachTwo (AreTested widest chains) next) where
+module _ (chains : List MapChain) (events : List (List Event)) (from to : ℕ) (list next outs ins : List ℕ) (are : AreEvents chains (joined events))
+    (rising : AreRising (joined events)) (swept : IsSwept chains (joined events) (before from events) list)
+    (gathered : AreGathered events from to outs ins) (moved : (s : ℕ) → times s next + times s outs ≡ times s list + times s ins)
+    (tested : EachTwo (AreTested widest chains) next) where
   le : from ≤ to
   le = let past = gathered.past in omega (arith, past)
 
   past : before from events < before to events
   past = before_past from to events le gathered.some
 
-  level : (k : ℕ) (d : Event) → before from events ≤ k → k < before to events → (get_or (joined events) k d).height ≡ (get_or (joined events) (before from events) d).height
-  level k d low high = level_there from to events gathered.height le gathered.level k d low high ∙ sym (level_there from to events gathered.height le gathered.level (before from events) d (omega arith) past)
+  level : (k : ℕ) (d : Event) → before from events ≤ k → k < before to events →
+      (get_or (joined events) k d).height ≡ (get_or (joined events) (before from events) d).height
+  level k d low high = level_there from to events gathered.height le gathered.level k d low high
+      ∙ sym (level_there from to events gathered.height le gathered.level (before from events) d (omega arith) past)
 
-  sums : (s : ℕ) → times s next + count_by (ends_at s) (take (before to events - before from events) (drop (before from events) (joined events))) ≡ times s list + count_by (begins_at s) (take (before to events - before from events) (drop (before from events) (joined events)))
+  -- the events there
+  abbrev group : List Event
+  group = take (before to events - before from events) (drop (before from events) (joined events))
+
+  sums : (s : ℕ) → times s next + count_by (ends_at s) group ≡ times s list + count_by (begins_at s) group
   sums s =
       let off = gathered.off s in
       let on = gathered.on s in
       let part = part_is from to events le in
-      let off' : count_by (ends_at s) (take (before to events - before from events) (drop (before from events) (joined events))) ≡ count_by (ends_at s) (between from to events) = ap (count_by (ends_at s)) part in
-      let on' : count_by (begins_at s) (take (before to events - before from events) (drop (before from events) (joined events))) ≡ count_by (begins_at s) (between from to events) = ap (count_by (begins_at s)) part in
+      let off' : count_by (ends_at s) group ≡ count_by (ends_at s) (between from to events) = ap (count_by (ends_at s)) part in
+      let on' : count_by (begins_at s) group ≡ count_by (begins_at s) (between from to events) = ap (count_by (begins_at s)) part in
       let all = moved s in
       omega (arith, off, on, off', on', all)
 
@@ -57,7 +65,9 @@ module _ (chains : List MapChain) (events : List (List Event)) (from to : ℕ) (
   gone_on = goes_on chains (joined events) (before from events) (before to events) list next are rising swept past (before_within to events) level sums tested
 
   -- and what is told of faces
-  module _ (p : Point) (here : (e : List Event) → AreAt p (get_or events from e)) (gaps : Option ℕ) (counted : IsCounted chains gaps next) (odd : Option OddGap) (noted : (gap : OddGap) → odd ≡ Some gap → IsOddAlong chains p next gap) (old : Faces) (told : AreFacesBelow chains (joined events) (before from events) old) where
+  module _ (p : Point) (here : (e : List Event) → AreAt p (get_or events from e)) (gaps : Option ℕ) (counted : IsCounted chains gaps next)
+      (odd : Option OddGap) (noted : (gap : OddGap) → odd ≡ Some gap → IsOddAlong chains p next gap) (old : Faces)
+      (told : AreFacesBelow chains (joined events) (before from events) old) where
     at : (get_or (joined events) (before from events) no_event).height ≡ height widest p +ℤ pos 2147483647
     at = let past = gathered.past in let within = gathered.within in first_behind from events p no_event (omega (arith, past, within)) here
 
@@ -70,11 +80,14 @@ module _ (chains : List MapChain) (events : List (List Event)) (from to : ℕ) (
     odd_one gap is below =
         let along : IsOddAlong chains p next gap = noted gap is in
         odd_gap chains p next gap
-        (listed_at chains (joined events) (before from events) (before to events) list next are rising swept past (before_within to events) level sums tested p at
+        (listed_at chains (joined events) (before from events) (before to events) list next are rising swept past
+        (before_within to events) level sums tested p at
         (subst (λ z. IsBelowNext z (joined events) (before to events)) along.here below)) along
 
     pub faces_on : (new : Faces) → (new ≡ Agree → (old ≡ Agree) × (gaps ≡ Some 0)) →
-        ((gap : OddGap) → new ≡ Odd gap → (old ≡ Odd gap) ⊎ ((odd ≡ Some gap) × IsBelowNext gap.at (joined events) (before to events))) → AreFacesBelow chains (joined events) (before to events) new
+        ((gap : OddGap) → new ≡ Odd gap → (old ≡ Odd gap) ⊎ ((odd ≡ Some gap) × IsBelowNext gap.at (joined events) (before to events))) →
+        AreFacesBelow chains (joined events) (before to events) new
     faces_on Agree agree odd' = agreed (agree refl)
-    faces_on (Odd gap) agree odd' = ⊎_elim (λ e. subst (AreFacesBelow chains (joined events) (before from events)) e told) (λ k. odd_one gap k.0 k.1) (odd' gap refl)
+    faces_on (Odd gap) agree odd' =
+        ⊎_elim (λ e. subst (AreFacesBelow chains (joined events) (before from events)) e told) (λ k. odd_one gap k.0 k.1) (odd' gap refl)
     faces_on Unknown agree odd' = tt

@@ -34,29 +34,34 @@ first_is (x ∷ xs) = refl
 
 pub parted : (west ins east : List ℕ) (k : ℕ) → (west ++ take k ins) ++ (drop k ins ++ east) ≡ (west ++ ins) ++ east
 parted west ins east k =
-    append_assoc west (take k ins) (drop k ins ++ east) ∙ ap (λ l. west ++ l) (sym (append_assoc (take k ins) (drop k ins) east) ∙ ap (λ l. l ++ east) (take-append-drop k ins))
+    append_assoc west (take k ins) (drop k ins ++ east)
+    ∙ ap (λ l. west ++ l) (sym (append_assoc (take k ins) (drop k ins) east) ∙ ap (λ l. l ++ east) (take-append-drop k ins))
     ∙ sym (append_assoc west ins east)
 
 -- ---- what is named there
 
 module _ (chains : List MapChain) (n : ℤ) where
-  named_last : (west : Side) (s : ℕ) (rest : List ℕ) → ((t : ℕ) → IsIn t (s ∷ rest) → IsActive widest n chains t) → IsNamedWest widest chains (last_number (s ∷ rest)) (last_far (raised chains) west (s ∷ rest))
+  named_last : (west : Side) (s : ℕ) (rest : List ℕ) → ((t : ℕ) → IsIn t (s ∷ rest) → IsActive widest n chains t) →
+      IsNamedWest widest chains (last_number (s ∷ rest)) (last_far (raised chains) west (s ∷ rest))
   named_last west s [] active =
       let a = active s (inl refl) in
       record { segment = a.segment; is = a.is; names = ap (λ (f : Flanks). f.far) (sides_are chains s a.segment a.is) }
   named_last west s (t ∷ rest) active = named_last (flanks_at (raised chains) s).far t rest (λ k i. active k (inr i))
 
-  pub named_west : (front : List ℕ) → ((t : ℕ) → IsIn t front → IsActive widest n chains t) → IsNamedWest widest chains (last_number front) (last_far (raised chains) Outside front)
+  pub named_west : (front : List ℕ) → ((t : ℕ) → IsIn t front → IsActive widest n chains t) →
+      IsNamedWest widest chains (last_number front) (last_far (raised chains) Outside front)
   named_west [] active = refl
   named_west (s ∷ rest) active = named_last Outside s rest active
 
-  pub named_east : (back : List ℕ) → ((t : ℕ) → IsIn t back → IsActive widest n chains t) → IsNamedEast widest chains (first_number back) (seen_side (raised chains) back)
+  pub named_east : (back : List ℕ) → ((t : ℕ) → IsIn t back → IsActive widest n chains t) →
+      IsNamedEast widest chains (first_number back) (seen_side (raised chains) back)
   named_east [] active = refl
   named_east (s ∷ rest) active =
       let a = active s (inl refl) in
       record { segment = a.segment; is = a.is; names = ap (λ (f : Flanks). f.near) (sides_are chains s a.segment a.is) }
 
-pub odd_gap : (chains : List MapChain) (p : Point) (list : List ℕ) (gap : OddGap) → IsListOf widest (height widest p) chains list → IsOddAlong chains p list gap → IsOddGap widest chains gap
+pub odd_gap : (chains : List MapChain) (p : Point) (list : List ℕ) (gap : OddGap) → IsListOf widest (height widest p) chains list →
+    IsOddAlong chains p list gap → IsOddGap widest chains gap
 odd_gap chains p list gap listed along = record {
   front = along.front;
   back = along.back;

@@ -38,7 +38,8 @@ raised_number : (chains : List MapChain) (s c k : ℕ) → IsSegmentOf chains s 
 raised_number chains s c k n = record {
   chain = raised_chain n.chain;
   is = slice_get-map raised_chain chains c ∙ ap (option_map raised_chain) n.is;
-  place = let lt = n.place in let long : length (map raised_point n.chain.points) ≡ length n.chain.points = length-map n.chain.points raised_point in omega (arith, lt, long);
+  place = let lt = n.place in let long : length (map raised_point n.chain.points) ≡ length n.chain.points =
+      length-map n.chain.points raised_point in omega (arith, lt, long);
   number = n.number ∙ ap (λ b. b + k) (sym (same_before chains c));
 }
 
@@ -49,7 +50,8 @@ alike : (left right : Side) (t : Bool) → flanks_if left right t ≡ record { n
 alike left right true = refl
 alike left right false = refl
 
-by_heights : (chains : List MapChain) (s c k : ℕ) (p q : Point) (number : IsSegmentOf chains s c k) → slice_get number.chain.points k ≡ Some p → slice_get number.chain.points (k + 1) ≡ Some q →
+by_heights : (chains : List MapChain) (s c k : ℕ) (p q : Point) (number : IsSegmentOf chains s c k) → slice_get number.chain.points k ≡ Some p →
+    slice_get number.chain.points (k + 1) ≡ Some q →
     flanks_at (raised chains) s ≡ flanks_if number.chain.left number.chain.right (int_lt (height widest p) (height widest q))
 unfolding raised_number
 by_heights chains s c k p q number e f =
@@ -59,13 +61,18 @@ by_heights chains s c k p q number e f =
 
 -- ---- what is told of a segment and of the chain that it is one of
 
-module _ (chains : List MapChain) (s c k d j tlid : ℕ) (segment : Segment) (points : List Point) (left right : Side) (first last : Point) (number : IsSegmentOf chains s c k) (joins : Joins chains c k segment) (of : IsSegmentOf chains s d j) (told : IsChain (slice_get chains d) tlid points left right) (a : first ≡ segment.a) (b : last ≡ segment.b) where
+module _ (chains : List MapChain) (s c k d j tlid : ℕ) (segment : Segment) (points : List Point) (left right : Side) (first last : Point)
+    (number : IsSegmentOf chains s c k) (joins : Joins chains c k segment) (of : IsSegmentOf chains s d j)
+    (told : IsChain (slice_get chains d) tlid points left right) (a : first ≡ segment.a) (b : last ≡ segment.b) where
   by_chain : flanks_at (raised chains) s ≡ flanks_if left right (int_lt (height widest first) (height widest last))
   by_chain =
       let one : number.chain ≡ joins.chain = one_found number.chain joins.chain (slice_get chains c) number.is joins.is in
-      let other : number.chain ≡ told.chain = one_found number.chain told.chain (slice_get chains c) number.is (ap (λ n. slice_get chains n) (one_chain chains s c k d j number of) ∙ told.is) in
-      by_heights chains s c k segment.a segment.b number (ap (λ (z : MapChain). slice_get z.points k) one ∙ joins.from) (ap (λ (z : MapChain). slice_get z.points (k + 1)) one ∙ joins.to)
-      ∙ (λ i. flanks_if ((ap (λ (z : MapChain). z.left) other ∙ sym told.left_is) i) ((ap (λ (z : MapChain). z.right) other ∙ sym told.right_is) i) (int_lt (height widest (sym a i)) (height widest (sym b i))))
+      let other : number.chain ≡ told.chain =
+      one_found number.chain told.chain (slice_get chains c) number.is (ap (λ n. slice_get chains n) (one_chain chains s c k d j number of) ∙ told.is) in
+      by_heights chains s c k segment.a segment.b number (ap (λ (z : MapChain). slice_get z.points k) one ∙ joins.from)
+      (ap (λ (z : MapChain). slice_get z.points (k + 1)) one ∙ joins.to)
+      ∙ (λ i. flanks_if ((ap (λ (z : MapChain). z.left) other ∙ sym told.left_is) i) ((ap (λ (z : MapChain). z.right) other ∙ sym told.right_is) i)
+      (int_lt (height widest (sym a i)) (height widest (sym b i))))
 
   pub rising : int_lt (height widest first) (height widest last) ≡ true → record { near = left; far = right } ≡ flanks_at (raised chains) s
   rising up = sym (by_chain ∙ ap (flanks_if left right) up)
@@ -75,22 +82,26 @@ module _ (chains : List MapChain) (s c k d j tlid : ℕ) (segment : Segment) (po
 
 -- ---- a segment by its number
 
-pub sides_are : (chains : List MapChain) (s : ℕ) (u : Segment) (n : IsNumbered chains s u) → flanks_at (raised chains) s ≡ sides_by_height widest n.joins.chain u
+pub sides_are : (chains : List MapChain) (s : ℕ) (u : Segment) (n : IsNumbered chains s u) →
+    flanks_at (raised chains) s ≡ sides_by_height widest n.joins.chain u
 sides_are chains s u n =
     let same : n.joins.chain ≡ n.number.chain = one_found n.joins.chain n.number.chain (slice_get chains n.c) n.joins.is n.number.is in
     by_heights chains s n.c n.k u.a u.b n.number
-    (subst (λ (z : MapChain). slice_get z.points n.k ≡ Some u.a) same n.joins.from) (subst (λ (z : MapChain). slice_get z.points (n.k + 1) ≡ Some u.b) same n.joins.to)
+    (subst (λ (z : MapChain). slice_get z.points n.k ≡ Some u.a) same n.joins.from)
+    (subst (λ (z : MapChain). slice_get z.points (n.k + 1) ≡ Some u.b) same n.joins.to)
     ∙ ap (λ (z : MapChain). flanks_if z.left z.right (int_lt (height widest u.a) (height widest u.b))) (sym same)
     ∙ alike n.joins.chain.left n.joins.chain.right (int_lt (height widest u.a) (height widest u.b))
 
-pub same_flanks : (chains : List MapChain) (s : ℕ) (u : Segment) → IsNumbered chains s u → AreNear widest u.a u.b → ¬ RunsWest u → flanks_at (raised chains) s ≡ flanks_at chains s
+pub same_flanks : (chains : List MapChain) (s : ℕ) (u : Segment) → IsNumbered chains s u → AreNear widest u.a u.b → ¬ RunsWest u →
+    flanks_at (raised chains) s ≡ flanks_at chains s
 same_flanks chains s u n near not_west = sides_are chains s u n ∙ sym (are_sides widest chains s u n near not_west)
 
 -- ---- lists
 
 module _ (chains : List MapChain) where
   -- where the sides by height are the flanks
-  pub same_facing : (list : List ℕ) → ((s : ℕ) → IsIn s list → flanks_at (raised chains) s ≡ flanks_at chains s) → AreFacing (raised chains) list → AreFacing chains list
+  pub same_facing : (list : List ℕ) → ((s : ℕ) → IsIn s list → flanks_at (raised chains) s ≡ flanks_at chains s) → AreFacing (raised chains) list →
+      AreFacing chains list
   same_facing [] same facing = tt
   same_facing (s ∷ []) same facing = ap (λ (f : Flanks). f.far) (sym (same s (inl refl))) ∙ facing
   same_facing (s ∷ (t ∷ rest)) same facing = (
@@ -98,7 +109,8 @@ module _ (chains : List MapChain) where
     same_facing (t ∷ rest) (λ n i. same n (inr i)) facing.1,
   )
 
-  pub same_seen : (list : List ℕ) → ((s : ℕ) → IsIn s list → flanks_at (raised chains) s ≡ flanks_at chains s) → seen_side (raised chains) list ≡ seen_side chains list
+  pub same_seen : (list : List ℕ) → ((s : ℕ) → IsIn s list → flanks_at (raised chains) s ≡ flanks_at chains s) →
+      seen_side (raised chains) list ≡ seen_side chains list
   same_seen [] same = refl
   same_seen (s ∷ rest) same = ap (λ (f : Flanks). f.near) (same s (inl refl))
 
@@ -107,5 +119,6 @@ module _ (chains : List MapChain) where
   facing_from west [] e = none_is west Outside e
   facing_from west (s ∷ rest) e = λ u n. (
     none_is west (flanks_at (raised chains) s).near (omega (arith, e)) ∙ ap (λ (f : Flanks). f.near) (sides_are chains s u n),
-    subst (λ side. AreFacingFrom widest chains side rest) (ap (λ (f : Flanks). f.far) (sides_are chains s u n)) (facing_from (flanks_at (raised chains) s).far rest (omega (arith, e))),
+    subst (λ side. AreFacingFrom widest chains side rest) (ap (λ (f : Flanks). f.far) (sides_are chains s u n))
+        (facing_from (flanks_at (raised chains) s).far rest (omega (arith, e))),
   )

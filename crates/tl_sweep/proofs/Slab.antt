@@ -174,25 +174,31 @@ begins chains events list are e = subst (IsSwept chains events 0) (sym e) (recor
   slabs = λ n above. ([], list_of_slab chains events are 0 [] (λ s. refl) n (λ k lt. absurd (omega (arith, lt))) above tt);
 })
 
-module _ (chains : List MapChain) (events : List Event) (from to : ℕ) (list next : List ℕ) (are : AreEvents chains events) (rising : AreRising events) (swept : IsSwept chains events from list) (past : from < to) (within : to ≤ length events)
+module _ (chains : List MapChain) (events : List Event) (from to : ℕ) (list next : List ℕ) (are : AreEvents chains events) (rising : AreRising events)
+    (swept : IsSwept chains events from list) (past : from < to) (within : to ≤ length events)
     (level : (k : ℕ) (d : Event) → from ≤ k → k < to → (get_or events k d).height ≡ (get_or events from d).height)
-    (moved : (s : ℕ) → times s next + count_by (ends_at s) (take (to - from) (drop from events)) ≡ times s list + count_by (begins_at s) (take (to - from) (drop from events)))
+    (moved : (s : ℕ) → times s next + count_by (ends_at s) (take (to - from) (drop from events)) ≡ times s list + count_by (begins_at s)
+    (take (to - from) (drop from events)))
     (tested : EachTwo (AreTested widest chains) next) where
   part : (f : Event → Bool) → count_by f (take to events) ≡ count_by f (take from events) + count_by f (take (to - from) (drop from events))
   part f =
       let is : from + (to - from) ≡ to = omega (arith, past) in
-      let split : take to events ≡ take from events ++ take (to - from) (drop from events) = ap (λ n. take n events) (sym is) ∙ take-add from (to - from) events in
+      let split : take to events ≡ take from events ++ take (to - from) (drop from events) = ap (λ n. take n events) (sym is)
+      ∙ take-add from (to - from) events in
       ap (count_by f) split ∙ sum_by-append (λ (x : Event). bit (f x)) (take from events) (take (to - from) (drop from events))
 
   sums : (s : ℕ) → times s next + count_by (ends_at s) (take to events) ≡ count_by (begins_at s) (take to events)
   sums s =
-      let off : count_by (ends_at s) (take to events) ≡ count_by (ends_at s) (take from events) + count_by (ends_at s) (take (to - from) (drop from events)) = part (ends_at s) in
-      let on : count_by (begins_at s) (take to events) ≡ count_by (begins_at s) (take from events) + count_by (begins_at s) (take (to - from) (drop from events)) = part (begins_at s) in
+      let off : count_by (ends_at s) (take to events) ≡ count_by (ends_at s) (take from events) + count_by (ends_at s)
+      (take (to - from) (drop from events)) = part (ends_at s) in
+      let on : count_by (begins_at s) (take to events) ≡ count_by (begins_at s) (take from events) + count_by (begins_at s)
+      (take (to - from) (drop from events)) = part (begins_at s) in
       let before = swept.counted s in
       let now = moved s in
       omega (arith, off, on, before, now)
 
-  lower : (k : ℕ) → k < to → k < length events → (n : ℤ) → (get_or events from no_event).height ≤ℤ (n +ℤ pos 2147483647) → (get_or events k no_event).height ≤ℤ (n +ℤ pos 2147483647)
+  lower : (k : ℕ) → k < to → k < length events → (n : ℤ) → (get_or events from no_event).height ≤ℤ (n +ℤ pos 2147483647) →
+      (get_or events k no_event).height ≤ℤ (n +ℤ pos 2147483647)
   lower k lt here n reached = elim (cases_lt k from) [
     | inl before ↦ let up = rising k from no_event (omega (arith, before)) (omega (arith, past, within)) in omega (arith, ints, up, reached)
     | inr after ↦ let same = level k no_event after lt in omega (arith, ints, same, reached)
@@ -225,7 +231,8 @@ module _ (chains : List MapChain) (events : List Event) (from to : ℕ) (list ne
       (λ under. before n (earlier n under))
       (λ reached. (next, next_list n above reached, facing))
 
-  pub listed_at : (p : Point) → (get_or events from no_event).height ≡ height widest p +ℤ pos 2147483647 → IsBelowNext p events to → IsListOf widest (height widest p) chains next
+  pub listed_at : (p : Point) → (get_or events from no_event).height ≡ height widest p +ℤ pos 2147483647 → IsBelowNext p events to →
+      IsListOf widest (height widest p) chains next
   listed_at p here below =
       next_list (height widest p)
       (λ k d le lt. let up = rising to k d le lt in let over = below d (omega (arith, le, lt)) in omega (arith, ints, up, over))
@@ -239,7 +246,8 @@ ends chains events from list swept all n = swept.slabs n (λ k d le lt. absurd (
 pub facing_begins : (chains : List MapChain) (events : List Event) → AreEvents chains events → AreFacingBelow chains events 0
 facing_begins chains events are n above = ([], list_of_slab chains events are 0 [] (λ s. refl) n (λ k lt. absurd (omega (arith, lt))) above tt, refl)
 
-pub faces_end : (chains : List MapChain) (events : List Event) (from : ℕ) (faces : Faces) → length events ≤ from → AreFacesBelow chains events from faces → AreFacesOfSlabs chains faces
+pub faces_end : (chains : List MapChain) (events : List Event) (from : ℕ) (faces : Faces) → length events ≤ from → AreFacesBelow chains events from faces →
+    AreFacesOfSlabs chains faces
 faces_end chains events from Agree all told = λ n. told n (λ k d le lt. absurd (omega (arith, all, le, lt)))
 faces_end chains events from (Odd gap) all told = told
 faces_end chains events from Unknown all told = tt

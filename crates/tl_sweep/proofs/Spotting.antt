@@ -115,7 +115,8 @@ pub spotted : (m : TheMap) (events : List Event) (from : ℕ) (list front back :
     IsSwept m.chains events from list → h ≡ height widest q +ℤ pos 2147483647 →
     ((d : Event) → 0 < from → from ≤ length events → (get_or events (from - 1) d).height <ℤ h) →
     ((d : Event) → from < length events → h <ℤ (get_or events from d).height) →
-    list ≡ front ++ back → 0 ≡ gaps_of (raised m.chains) list → IsEastOfLast widest m.chains q front → IsWestOfFirst widest m.chains q back → seen_side (raised m.chains) back ≡ Polygon p → IsPlacedIn m q p
+    list ≡ front ++ back → 0 ≡ gaps_of (raised m.chains) list → IsEastOfLast widest m.chains q front → IsWestOfFirst widest m.chains q back →
+    seen_side (raised m.chains) back ≡ Polygon p → IsPlacedIn m q p
 spotted m events from list front back q h p are rising ranges range swept at below above parted facing east west sees =
     placed widest m q front back p wide clear between
     (same_facing m.chains back same (facing_behind (raised m.chains) front back (ap (gaps_of (raised m.chains)) (sym parted) ∙ sym facing)))

@@ -17,7 +17,8 @@ returns c = λ front back odd west east is.
     let chains = c.args.map.now.chains in
     let far : c.in_ok-far.far ≡ last_far (raised chains) Outside front = c.in_ok-far.ensures _ front refl west in
     let near : c.in_ok-near.near ≡ seen_side (raised chains) back = c.in_ok-near.ensures _ back refl east in
-    let differ : c.in_ok-far.far ≢ c.in_ok-near.near = λ e. (let none = no_gap c.in_ok-far.far c.in_ok-near.near e in absurd (omega (arith, none, c.gap.ensures, c.if-gap-eq0.false))) in
+    let differ : c.in_ok-far.far ≢ c.in_ok-near.near =
+    λ e. (let none = no_gap c.in_ok-far.far c.in_ok-near.near e in absurd (omega (arith, none, c.gap.ensures, c.if-gap-eq0.false))) in
     subst (IsOddAlong chains c.args.p _) (one_found _ odd _ refl is) (record {
       front = front;
       back = back;

@@ -16,10 +16,14 @@ returns-then-rises c = λ h.
     let other = own chains c.args.t c.segment-other.result c.segment-other.ensures in
     let same : c.segment_chain-c.result ≡ c.segment_chain.result = omega (arith, c.if-segment_chain-c.false) in
     let chain = c.chain-chain.result in
-    sym (rising chains c.args.s one.c one.k c.segment_chain-c.result c.segment_chain-c.ensures.0 chain.tlid c.segment-one.result chain.points.now chain.left chain.right c.a.result c.b.result
+    sym (rising chains c.args.s one.c one.k c.segment_chain-c.result c.segment_chain-c.ensures.0 chain.tlid c.segment-one.result chain.points.now
+    chain.left chain.right c.a.result c.b.result
     one.number one.joins c.segment_chain-c.ensures.1 c.chain-chain.ensures.chain c.a.ensures c.b.ensures (sym c.rises.ensures ∙ c.if-rises.true))
-    ∙ rising chains c.args.t other.c other.k c.segment_chain.result c.segment_chain.ensures.0 chain.tlid c.segment-other.result chain.points.now chain.left chain.right c.a-then-rises.result c.b-then-rises.result
-    other.number other.joins c.segment_chain.ensures.1 (subst (λ n. IsChain (slice_get chains n) chain.tlid chain.points.now chain.left chain.right) same c.chain-chain.ensures.chain) c.a-then-rises.ensures c.b-then-rises.ensures (sym c.rises-then-rises.ensures ∙ h)
+    ∙ rising chains c.args.t other.c other.k c.segment_chain.result c.segment_chain.ensures.0 chain.tlid c.segment-other.result chain.points.now chain.left
+    chain.right c.a-then-rises.result c.b-then-rises.result
+    other.number other.joins c.segment_chain.ensures.1
+    (subst (λ n. IsChain (slice_get chains n) chain.tlid chain.points.now chain.left chain.right) same c.chain-chain.ensures.chain) c.a-then-rises.ensures
+    c.b-then-rises.ensures (sym c.rises-then-rises.ensures ∙ h)
 
 pub returns-else-rises : goal.returns-else-rises
 returns-else-rises c = λ h.
@@ -28,7 +32,11 @@ returns-else-rises c = λ h.
     let other = own chains c.args.t c.segment-other.result c.segment-other.ensures in
     let same : c.segment_chain-c.result ≡ c.segment_chain.result = omega (arith, c.if-segment_chain-c.false) in
     let chain = c.chain-chain.result in
-    sym (falling chains c.args.s one.c one.k c.segment_chain-c.result c.segment_chain-c.ensures.0 chain.tlid c.segment-one.result chain.points.now chain.left chain.right c.a.result c.b.result
+    sym (falling chains c.args.s one.c one.k c.segment_chain-c.result c.segment_chain-c.ensures.0 chain.tlid c.segment-one.result chain.points.now
+    chain.left chain.right c.a.result c.b.result
     one.number one.joins c.segment_chain-c.ensures.1 c.chain-chain.ensures.chain c.a.ensures c.b.ensures (sym c.rises.ensures ∙ c.if-rises.false))
-    ∙ falling chains c.args.t other.c other.k c.segment_chain.result c.segment_chain.ensures.0 chain.tlid c.segment-other.result chain.points.now chain.left chain.right c.a-else-rises.result c.b-else-rises.result
-    other.number other.joins c.segment_chain.ensures.1 (subst (λ n. IsChain (slice_get chains n) chain.tlid chain.points.now chain.left chain.right) same c.chain-chain.ensures.chain) c.a-else-rises.ensures c.b-else-rises.ensures (sym c.rises-else-rises.ensures ∙ is_not _ h)
+    ∙ falling chains c.args.t other.c other.k c.segment_chain.result c.segment_chain.ensures.0 chain.tlid c.segment-other.result chain.points.now
+    chain.left chain.right c.a-else-rises.result c.b-else-rises.result
+    other.number other.joins c.segment_chain.ensures.1
+    (subst (λ n. IsChain (slice_get chains n) chain.tlid chain.points.now chain.left chain.right) same c.chain-chain.ensures.chain) c.a-else-rises.ensures
+    c.b-else-rises.ensures (sym c.rises-else-rises.ensures ∙ is_not _ h)

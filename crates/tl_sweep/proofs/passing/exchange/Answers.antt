@@ -34,7 +34,9 @@ returns-clause-counted c = λ h counted n is.
     let told = c.recount.ensures n is in
     let west : told.1 ≡ last_far (raised c.args.map.now.chains) Outside c.args.line.now.front = c.far_side-west.ensures told.1 told.4 in
     let east : told.2 ≡ seen_side (raised c.args.map.now.chains) c.shift.new.line.back = c.near_side-east.ensures told.2 told.5 in
-    let between : (list : _) → gaps_between (raised c.args.map.now.chains) told.1 list told.2 ≡ gaps_between (raised c.args.map.now.chains) (last_far (raised c.args.map.now.chains) Outside c.args.line.now.front) list (seen_side (raised c.args.map.now.chains) c.shift.new.line.back) =
+    let between : (list : _) →
+    gaps_between (raised c.args.map.now.chains) told.1 list told.2 ≡ gaps_between (raised c.args.map.now.chains)
+    (last_far (raised c.args.map.now.chains) Outside c.args.line.now.front) list (seen_side (raised c.args.map.now.chains) c.shift.new.line.back) =
     λ list. rw (west, east) refl in
     in_stead chains front c.args.outs.now c.args.ins.now back (list_of c.args.line.now) (list_of c.shift.new.line) n told.0
     (ap (λ b. front ++ b) (c.in_ok-shift.ensures.back c.if-not-branch.false)) (ap (λ f. f ++ back) (c.in_ok-shift.ensures.front c.if-not-branch.false))

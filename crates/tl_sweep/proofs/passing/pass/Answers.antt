@@ -63,7 +63,8 @@ returns-then-are_alike-clause-counted c =
     let one' : length ins ≡ 1 = omega (arith, c.if-ins-eq1.true) in
     let alike : (west east : Side) → gaps_between chains west outs east ≡ gaps_between chains west ins east =
     λ west east. ap (λ l. gaps_between chains west l east) (single outs one) ∙ c.are_alike.ensures c.if-are_alike.true west east ∙ ap (λ l. gaps_between chains west l east) (sym (single ins one')) in
-    ok_more c.bend.result _ (λ done. IsTrue done → IsCounted c.args.map.now.chains gaps (list_of c.args.line.now) → IsCounted c.args.map.now.chains gaps (list_of new))
+    ok_more c.bend.result _
+    (λ done. IsTrue done → IsCounted c.args.map.now.chains gaps (list_of c.args.line.now) → IsCounted c.args.map.now.chains gaps (list_of new))
     (λ done is h counted n count.
     in_stead chains here.front outs ins new.back (list_of c.args.line.now) (list_of new) n n
     (before outs ins one one' (list_of c.args.line.now) here new refl (is h).back (is h).front)
@@ -72,7 +73,9 @@ returns-then-are_alike-clause-counted c =
 
 pub returns-then-are_alike-clause-odd : goal.returns-then-are_alike-clause-odd
 returns-then-are_alike-clause-odd c =
-    ok_more c.bend.result _ (λ done. IsTrue done → c.args.odd.now ≡ None → (gap : OddGap) → c.args.odd.now ≡ Some gap → IsOddAlong c.args.map.now.chains c.args.p (list_of c.bend.new.line) gap)
+    ok_more c.bend.result _
+    (λ done. IsTrue done → c.args.odd.now ≡ None → (gap : OddGap) → c.args.odd.now ≡ Some gap →
+    IsOddAlong c.args.map.now.chains c.args.p (list_of c.bend.new.line) gap)
     (λ done is h none gap some. absurd (nothing _ gap none some)) c.bend.ensures
   where
     nothing : (o : Option OddGap) (gap : OddGap) → o ≡ None → o ≡ Some gap → ⊥

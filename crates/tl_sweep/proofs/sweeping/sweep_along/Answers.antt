@@ -28,14 +28,18 @@ loop-from-preserved c =
     let to = c.in_ok-to.ensures in
     let moved = c.in_ok-step.ensures.moved c.if-not-branch.false in
     let tested = c.in_ok-step.ensures.tested c.if-not-branch.false swept.tested in
-    let counted : IsCounted chains c.step.new.gaps (list_of c.step.new.line) = c.in_ok-step.ensures.counted c.if-not-branch.false (subst (IsCounted chains c.loop-from.gaps) stays c.loop-from.invariant.counted) in
+    let counted : IsCounted chains c.step.new.gaps (list_of c.step.new.line) =
+    c.in_ok-step.ensures.counted c.if-not-branch.false (subst (IsCounted chains c.loop-from.gaps) stays c.loop-from.invariant.counted) in
     record {
-      swept = gone_on chains events c.loop-from.from c.in_ok-to.to (list_of c.look.new.line) (list_of c.step.new.line) _ _ c.requires.events c.requires.rising swept to moved tested;
+      swept = gone_on chains events c.loop-from.from c.in_ok-to.to (list_of c.look.new.line)
+          (list_of c.step.new.line) _ _ c.requires.events c.requires.rising swept to moved tested;
       counted = counted;
       marks = c.in_ok-look.ensures.marks;
       faces =
-          faces_on chains events c.loop-from.from c.in_ok-to.to (list_of c.look.new.line) (list_of c.step.new.line) _ _ c.requires.events c.requires.rising swept to moved tested
-          c.point-p.result c.point-p.ensures c.step.new.gaps counted c.step.new.odd (c.in_ok-step.ensures.odd c.if-not-branch.false refl) c.loop-from.faces c.loop-from.invariant.faces
+          faces_on chains events c.loop-from.from c.in_ok-to.to (list_of c.look.new.line)
+          (list_of c.step.new.line) _ _ c.requires.events c.requires.rising swept to moved tested
+          c.point-p.result c.point-p.ensures c.step.new.gaps counted c.step.new.odd
+          (c.in_ok-step.ensures.odd c.if-not-branch.false refl) c.loop-from.faces c.loop-from.invariant.faces
           c.faces_after.result c.faces_after.ensures.agree c.faces_after.ensures.odd;
     }
 
@@ -69,7 +73,8 @@ returns-then-not-branch-clause-faces c = λ h. never h
 pub returns-clause-faces : goal.returns-clause-faces
 returns-clause-faces c = λ h.
     faces_end c.args.map.now.chains (joined c.args.events.now) (before c.loop-from.from c.args.events.now) c.loop-from.faces
-    (all_before c.args.events.now c.loop-from.from (let all = c.loop-from-test.false in let len = c.len.ensures in omega (arith, all, len))) c.loop-from.invariant.faces
+    (all_before c.args.events.now c.loop-from.from
+    (let all = c.loop-from-test.false in let len = c.len.ensures in omega (arith, all, len))) c.loop-from.invariant.faces
 
 pub returns-clause-marks : goal.returns-clause-marks
 returns-clause-marks c = λ h. c.loop-from.invariant.marks
@@ -108,4 +113,5 @@ pub returns-in_err-step-clause-faces : goal.returns-in_err-step-clause-faces
 returns-in_err-step-clause-faces c = let p = err_from_is_err_and c.from_residual-in_err-step.result c.from_residual-in_err-step.ensures.1 in rw p.1 tt
 
 pub returns-in_err-list_suspects-clause-faces : goal.returns-in_err-list_suspects-clause-faces
-returns-in_err-list_suspects-clause-faces c = let p = err_from_is_err_and c.from_residual-in_err-list_suspects.result c.from_residual-in_err-list_suspects.ensures.1 in rw p.1 tt
+returns-in_err-list_suspects-clause-faces c = let p =
+    err_from_is_err_and c.from_residual-in_err-list_suspects.result c.from_residual-in_err-list_suspects.ensures.1 in rw p.1 tt
