@@ -56,7 +56,7 @@ fn odd_between(map: &Map, p: Point, west: Option<u32>, east: Option<u32>) -> Opt
     Some(OddGap { at: p, west, east })
 }
 
-/// Of the gaps before, between and behind the segments that came in at a vertex the first where sides differ.
+/// Of the gaps before, between and behind the segments that came in at a vertex, the first where sides differ.
 fn find_odd(
     map: &Map,
     p: Point,
@@ -91,8 +91,8 @@ fn odd_at(
     odd_between(map, p, west_of(front, ins, k), east_of(ins, k, back))
 }
 
-/// Where sides have come to differ at a vertex, by how often they differed before it and how often they do behind it, the first
-/// gap of those about the segments that came in.
+/// The first gap about the segments that came in at a vertex where sides differ, if there are such since then: by how often sides
+/// differed before it, and how often they do behind it.
 pub fn note_odd(
     map: &Map,
     p: Point,
@@ -118,7 +118,8 @@ fn is_below(p: Point, events: &Events, place: usize) -> bool
     place >= events.len() || height(p) < height(events.point(place))
 }
 
-/// What is told of faces after a vertex, where it was told before it: that they agree only where they do along the new list.
+/// What is told of faces behind a vertex, by what was told before it: that they agree where sides differ nowhere along the new
+/// list either, else the gap that was noted, where the list is known to be that of the slab above its point.
 pub fn faces_after(
     events: &Events,
     place: usize,
@@ -139,7 +140,7 @@ pub fn faces_after(
     }
 }
 
-/// That a gap is odd, if so it is known to be.
+/// That sides differ at a gap, where its list is known to be the one of its slab, else nothing.
 fn odd_where(gap: OddGap, is_known: bool) -> Faces
     ensures agree { ¬ (result ≡ Faces.Agree) }
     ensures odd { (other : OddGap) → result ≡ Faces.Odd other → (gap ≡ other) × (is_known ≡ true) }

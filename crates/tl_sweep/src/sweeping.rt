@@ -73,7 +73,7 @@ fn pass_vertex(
 }
 
 /// Sweeps over all events from the lowest to the highest, and looks at the points of polygons on the way. Where a test fails
-/// it ends, answers no, and lists the segments there.
+/// it ends, answers no, and lists the segments there. What it tells of faces is so where it answers yes.
 pub fn sweep_list(
     alloc: Global,
     map: &Map,
