@@ -120,7 +120,7 @@ fn is_below(p: Point, events: &Events, place: usize) -> bool
 
 /// What is told of faces behind a vertex, by what was told before it: that they agree where sides differ nowhere along the new
 /// list either, else the gap that was noted, where the list is known to be that of the slab above its point.
-pub fn faces_after(
+fn faces_after(
     events: &Events,
     place: usize,
     faces: Faces,
@@ -138,6 +138,25 @@ pub fn faces_after(
         Some(gap) => odd_where(gap, is_below(gap.at, events, place)),
         None => Faces::Unknown,
     }
+}
+
+/// Changes what is told of faces so. Mostly sides differ nowhere, and nothing is to change.
+#[inline]
+pub fn tell_after(
+    events: &Events,
+    place: usize,
+    faces: &mut Faces,
+    gaps: Option<u64>,
+    odd: &Option<OddGap>,
+)
+    ensures agree { faces.new ≡ Faces.Agree → (faces.old ≡ Faces.Agree) × (gaps ≡ Some 0) }
+    ensures odd { (gap : OddGap) → faces.new ≡ Faces.Odd gap → (faces.old ≡ Faces.Odd gap) ⊎
+        ((odd.now ≡ Some gap) × IsBelowNext gap.at (joined events.now) (events_before place events.now)) }
+{
+    if gaps == Some(0) {
+        return;
+    }
+    *faces = faces_after(events, place, *faces, gaps, *odd);
 }
 
 /// That sides differ at a gap, where its list is known to be the one of its slab, else nothing.

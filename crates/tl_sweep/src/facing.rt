@@ -13,14 +13,14 @@ ghost use Rattle.tl_sweep.specs.Keeping.Facing.{gap as gap_of, gaps_between, las
 use tl_county::{Map, Side};
 use tl_geom::Point;
 use tl_inside::Flanks;
-use tl_line::{Line, height};
+use tl_line::Line;
 
 /// Whether one point is lower than another.
 #[inline]
 fn rises(a: Point, b: Point) -> bool
     ensures { result ≡ int_lt (height_by widest a) (height_by widest b) }
 {
-    height(a) < height(b)
+    if a.y == b.y { b.x < a.x } else { a.y < b.y }
 }
 
 /// The sides of a segment by its height: the near side, to the west along lines of one height, and the far side.
@@ -78,13 +78,6 @@ pub fn near_of(map: &Map, s: Option<u32>) -> Option<Side>
         Some(s) => Some(find_flanks(map, s)?.near),
         None => Some(Side::Outside),
     }
-}
-
-/// What lies east of the segment before the place, or of none.
-pub fn far_side(map: &Map, line: &Line) -> Option<Side>
-    ensures { (side : Side) → result ≡ Some side → side ≡ last_far (raised map.now.chains) Outside line.now.front }
-{
-    far_of(map, line.previous())
 }
 
 /// What lies west of the segment behind the place, or of none.

@@ -8,7 +8,7 @@ ghost use Rattle.tl_sweep.specs.Keeping.Facing.{IsCounted};
 ghost use Rattle.tl_sweep.specs.Keeping.Sided.{IsOddAlong};
 
 use crate::faces::note_odd;
-use crate::facing::{are_alike, far_side, near_side, recount};
+use crate::facing::{are_alike, far_of, near_of, recount};
 use std::alloc::AllocError;
 use tl_county::Map;
 use tl_faces::OddGap;
@@ -37,14 +37,15 @@ fn exchange(
         IsOddAlong map.now.chains p (list_of line.new) gap) }
 {
     let front = line.previous();
-    let west = far_side(map, line);
+    let west = far_of(map, front);
     if !shift(map, line, outs, ins)? {
         return Ok(false);
     }
-    let east = near_side(map, line);
+    let back = line.next();
+    let east = near_of(map, back);
     let was = *gaps;
     *gaps = recount(map, west, outs, ins, east, was);
-    *odd = note_odd(map, p, front, ins, line.next(), was, *gaps);
+    *odd = note_odd(map, p, front, ins, back, was, *gaps);
     Ok(closes(map, line))
 }
 

@@ -11,7 +11,7 @@ ghost use Rattle.tl_sweep.specs.Keeping.Facing.{IsCounted};
 ghost use Rattle.tl_sweep.specs.Keeping.Sided.{IsOddAlong, AreFacesOfSlabs};
 ghost use Rattle.tl_sweep.specs.Keeping.Spotted.{AreMarks};
 
-use crate::faces::{Faces, faces_after};
+use crate::faces::{Faces, tell_after};
 use crate::passing::pass;
 use crate::spots::Spots;
 use crate::suspects::list_suspects;
@@ -142,7 +142,7 @@ fn sweep_along(
             list_suspects(line, outs, ins, suspects)?;
             return Ok(false);
         }
-        *faces = faces_after(events, to, *faces, gaps, odd);
+        tell_after(events, to, faces, gaps, &odd);
         from = to;
     }
     Ok(true)

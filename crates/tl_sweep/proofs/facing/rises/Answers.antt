@@ -1,13 +1,19 @@
-use Rattle.std.proofs.Common.{◌≡◌, pos, to_z, of_z, w64, ◌∙◌, arith}
+use Rattle.std.proofs.Common.{to_z, of_z, w32, arith}
 use Rattle.std.proofs.lemmas.Int.{ints}
-use Rattle.tl_slabs.specs.Heights.{height, widest}
-use Rattle.tl_line.proofs.Tests.{lower_moved}
+use Rattle.tl_line.proofs.Wide.{near_by_range}
+use Rattle.tl_sweep.proofs.Raised.{by_longitude, by_latitude}
 use Rattle.tl_sweep.proofs.facing.rises.Goals as goal
 
-pub returns : goal.returns
-returns c =
-    let fits = c.height.type_inv in
-    let fits' = c.height-2.type_inv in
-    let one : to_z w64 (of_z w64 c.height.result) ≡ c.height.result = omega (arith, ints, fits) in
-    let other : to_z w64 (of_z w64 c.height-2.result) ≡ c.height-2.result = omega (arith, ints, fits') in
-    lower_moved (height widest c.args.a) (height widest c.args.b) _ _ (pos 2147483647) (one ∙ c.height.ensures) (other ∙ c.height-2.ensures)
+pub returns-then-a-b : goal.returns-then-a-b
+returns-then-a-b c =
+    by_longitude c.args.a c.args.b (to_z w32 (of_z w32 c.args.b.x)) (to_z w32 (of_z w32 c.args.a.x)) (omega (arith, ints)) (omega (arith, ints))
+    (near_by_range c.args.a c.args.b (record { west = omega (arith, ints); east = omega (arith, ints) })
+    (record { west = omega (arith, ints); east = omega (arith, ints) }))
+    (omega (arith, ints, c.if-a-b.true))
+
+pub returns-else-a-b : goal.returns-else-a-b
+returns-else-a-b c =
+    by_latitude c.args.a c.args.b (to_z w32 (of_z w32 c.args.a.y)) (to_z w32 (of_z w32 c.args.b.y)) (omega (arith, ints)) (omega (arith, ints))
+    (near_by_range c.args.a c.args.b (record { west = omega (arith, ints); east = omega (arith, ints) })
+    (record { west = omega (arith, ints); east = omega (arith, ints) }))
+    (omega (arith, ints, c.if-a-b.false))

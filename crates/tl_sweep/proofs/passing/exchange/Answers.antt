@@ -32,8 +32,10 @@ returns-clause-counted c = λ h counted n is.
     let front = c.args.line.now.front in
     let back = c.shift.new.line.back in
     let told = c.recount.ensures n is in
-    let west : told.1 ≡ last_far (raised c.args.map.now.chains) Outside c.args.line.now.front = c.far_side-west.ensures told.1 told.4 in
-    let east : told.2 ≡ seen_side (raised c.args.map.now.chains) c.shift.new.line.back = c.near_side-east.ensures told.2 told.5 in
+    let west : told.1 ≡ last_far (raised c.args.map.now.chains) Outside c.args.line.now.front =
+    c.far_of-west.ensures told.1 c.args.line.now.front told.4 c.previous-front.ensures in
+    let east : told.2 ≡ seen_side (raised c.args.map.now.chains) c.shift.new.line.back =
+    c.near_of-east.ensures told.2 c.shift.new.line.back told.5 c.next-back.ensures in
     let between : (list : _) →
     gaps_between (raised c.args.map.now.chains) told.1 list told.2 ≡ gaps_between (raised c.args.map.now.chains)
     (last_far (raised c.args.map.now.chains) Outside c.args.line.now.front) list (seen_side (raised c.args.map.now.chains) c.shift.new.line.back) =
@@ -47,7 +49,7 @@ returns-clause-odd c = λ h none gap is.
     let front = c.args.line.now.front in
     let back = c.shift.new.line.back in
     subst (λ f. IsOddAlong c.args.map.now.chains c.args.p (f ++ back) gap) (sym (c.in_ok-shift.ensures.front c.if-not-branch.false))
-    (c.note_odd.ensures front back gap c.previous-front.ensures c.next.ensures is)
+    (c.note_odd.ensures front back gap c.previous-front.ensures c.next-back.ensures is)
 
 pub returns-then-not-branch-clause-odd : goal.returns-then-not-branch-clause-odd
 returns-then-not-branch-clause-odd c = λ h. never h

@@ -40,7 +40,7 @@ loop-from-preserved c =
           (list_of c.step.new.line) _ _ c.requires.events c.requires.rising swept to moved tested
           c.point-p.result c.point-p.ensures c.step.new.gaps counted c.step.new.odd
           (c.in_ok-step.ensures.odd c.if-not-branch.false refl) c.loop-from.faces c.loop-from.invariant.faces
-          c.faces_after.result c.faces_after.ensures.agree c.faces_after.ensures.odd;
+          c.tell_after.new.faces c.tell_after.ensures.agree c.tell_after.ensures.odd;
     }
 
 pub look-requires-clause-events : goal.look-requires-clause-events
