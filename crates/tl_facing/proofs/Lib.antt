@@ -1,0 +1,3 @@
+pub mod Ranges
+pub mod Told
+pub mod Places

@@ -1,0 +1,49 @@
+-- When a map has faces that disagree, as a fault tells.
+use Rattle.std.specs.Prelude.{◌≡◌, ℤ, Option, None, List, option_map, slice_get}
+use Rattle.tl_geom.specs.declared.segment.Segment.{Segment}
+use Rattle.tl_key.specs.declared.key.PolyKey.{PolyKey}
+use Rattle.tl_county.specs.declared.polygons.Polygon.{Polygon}
+use Rattle.tl_county.specs.declared.sides.Side.{Side}
+use Rattle.tl_county.specs.declared.sides.Side.TheVariants as side
+use Rattle.tl_county.specs.TheMap.{TheMap, MapChain}
+use Rattle.tl_faces.specs.Disagreements.{IsFaceDisagreement, IsOutwardDisagreement}
+use Rattle.tl_facing.specs.declared.fault.NamedFace.{NamedFace}
+use Rattle.tl_facing.specs.declared.fault.FaceFault.{FaceFault}
+use Rattle.tl_facing.specs.declared.fault.FaceFault.TheVariants.{Facing, Outward}
+
+-- the key of the polygon on a side; the outside has none, nor has a number that is of no polygon
+abbrev pub side_key : List Polygon → Side → Option PolyKey
+side_key polygons side.Outside = None
+side_key polygons (side.Polygon p) = option_map (λ (polygon : Polygon). polygon.key) (slice_get polygons p)
+
+-- the chain and the side have this TLID and this key
+pub record IsNamed (m : TheMap) (chain : MapChain) (side : Side) (face : NamedFace) : Type 0 where
+  pub tlid : face.tlid ≡ chain.tlid
+  pub polygon : face.polygon ≡ side_key m.polygons side
+
+-- two segments face one another from the places of the faces, and name different sides there, those of the faces
+pub record IsTrueFacing (m : TheMap) (first last : NamedFace) : Type 0 where
+  pub one : MapChain
+  pub other : MapChain
+  pub u : Segment
+  pub w : Segment
+  pub side : Side
+  pub opposite : Side
+  pub disagree : IsFaceDisagreement m.chains one other u w first.at last.at side opposite
+  pub named_first : IsNamed m one side first
+  pub named_last : IsNamed m other opposite last
+
+-- in some direction nothing lies on the ray from the place of the face, and the segment there names the face's side, not the outside
+pub record IsTrueOutward (m : TheMap) (face : NamedFace) : Type 0 where
+  pub chain : MapChain
+  pub u : Segment
+  pub x : ℤ
+  pub y : ℤ
+  pub side : Side
+  pub disagree : IsOutwardDisagreement m.chains chain u face.at x y side
+  pub named : IsNamed m chain side face
+
+-- the fault is true of the map
+abbrev pub IsTrueFaceFault : TheMap → FaceFault → Type 0
+IsTrueFaceFault m (Facing first last) = IsTrueFacing m first last
+IsTrueFaceFault m (Outward face) = IsTrueOutward m face

@@ -1,0 +1,15 @@
+//! Faces that disagree: two segments that face one another and name different sides there, or one that faces the outside and names a
+//! polygon.
+//!
+//! A gap of a slab's list whose facing sides differ, as `tl_faces` has it ([`tl_faces::OddGap`]), stands between numbers of segments.
+//! [`face_fault`] tells of it what can be looked up on the map: chains by their TLID, polygons by their keys, and from each segment
+//! a place at which it faces the other. `specs/Truth` says when that is true of a map.
+#![tactic(auto)]
+
+mod fault;
+mod find;
+mod midway;
+mod near;
+
+pub use fault::{FaceFault, NamedFace};
+pub use find::face_fault;
