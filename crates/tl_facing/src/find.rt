@@ -66,7 +66,7 @@ fn east_face(map: &Map, s: u32, at: Point) -> NamedFace
 }
 
 /// The first side where the segment's end is higher than its start, else the second.
-fn by_height(segment: Segment, rising: Side, falling: Side) -> Side
+pub fn by_height(segment: Segment, rising: Side, falling: Side) -> Side
     ensures { result ≡ (if int_lt (height widest (end_a segment)) (height widest (end_b segment)) then rising else falling) }
 {
     if rises(segment) { rising } else { falling }

@@ -4,12 +4,17 @@
 //! A gap of a slab's list whose facing sides differ, as `tl_faces` has it ([`tl_faces::OddGap`]), stands between numbers of segments.
 //! [`face_fault`] tells of it what can be looked up on the map: chains by their TLID, polygons by their keys, and from each segment
 //! a place at which it faces the other. `specs/Truth` says when that is true of a map.
+//! [`find_odd_gap`] looks for such a gap slab by slab, and where it finds none, faces agree.
 #![tactic(auto)]
 
 mod fault;
 mod find;
+mod gaps;
 mod midway;
 mod near;
+mod order;
+mod slab;
 
 pub use fault::{FaceFault, NamedFace};
 pub use find::face_fault;
+pub use gaps::find_odd_gap;

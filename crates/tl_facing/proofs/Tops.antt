@@ -1,0 +1,182 @@
+-- The highest end of a segment that isn't above a height: in the slab above that height stands what stands in the slab above this end.
+use Rattle.std.proofs.Common.{◌≡◌, ◌⊎◌, inl, inr, ⊎_elim, ℕ, zero, suc, ◌+◌, ◌<◌, ◌≤◌, ℤ, ◌<ℤ◌, ◌≤ℤ◌, List, [], length, refl, sym, ap, subst, ◌∙◌, arith}
+use Rattle.std.proofs.lemmas.Bool.{cases_order}
+use Rattle.std.proofs.lemmas.Int.{ints, by_lt_z}
+use Rattle.std.proofs.lemmas.List.Elements.{All-nil}
+use Rattle.tl_geom.specs.declared.point.Point.{Point}
+use Rattle.tl_geom.specs.declared.segment.Segment.{Segment}
+use Rattle.tl_county.specs.TheMap.{MapChain}
+use Rattle.tl_county.specs.Segments.{segments_before}
+use Rattle.tl_planar.specs.Planar.{IsPlanar}
+use Rattle.tl_planar.proofs.Numbering.{below_total, HaveSameEnds}
+use Rattle.tl_slabs.specs.Heights.{height, low_end, high_end}
+use Rattle.tl_slabs.specs.Neighbours.{IsNumbered}
+use Rattle.tl_slabs.specs.Slabs.{IsActive}
+use Rattle.tl_slabs.proofs.Rising.{AreEndsOf, ends_of}
+use Rattle.tl_slabs.proofs.Numbered.{one_segment}
+use Rattle.tl_faces.specs.Facing.{FacesAgree}
+use Rattle.tl_faces.specs.Lists.{AreAllNear}
+use Rattle.tl_faces.proofs.FromSlabs.{by_slabs}
+use Rattle.tl_faces.proofs.ToFaces as faces
+use Rattle.tl_facing.specs.Keeping.Slabs.{IsSlabFacing, AreEndsFacing, AreFirstFacing}
+use Rattle.tl_facing.proofs.Beside.{own_near}
+
+module _ (K n : ℤ) (chains : List MapChain) where
+  -- a height of these has a list along which facing sides agree, it is n at most, and each other one is no higher or above n; or all
+  -- are above n
+  record IsHighest (P : ℤ → Type 0) (h : ℤ) : Type 0 where
+    facing : IsSlabFacing K h chains
+    under : h ≤ℤ n
+    others : (z : ℤ) → P z → (z ≤ℤ h) ⊎ (n <ℤ z)
+
+  abbrev HasHighest : (ℤ → Type 0) → Type 0
+  HasHighest P = ((z : ℤ) → P z → n <ℤ z) ⊎ ((h : ℤ) × IsHighest P h)
+
+  weaker : (P Q : ℤ → Type 0) → ((z : ℤ) → Q z → P z) → HasHighest P → HasHighest Q
+  weaker P Q f = ⊎_elim (λ all. inl (λ z q. all z (f z q)))
+      (λ t. inr (t.0, record { facing = t.1.facing; under = t.1.under; others = λ z q. t.1.others z (f z q) }))
+
+  -- one more height
+  added : (P : ℤ → Type 0) (v : ℤ) → IsSlabFacing K v chains → HasHighest P → HasHighest (λ z. P z ⊎ (z ≡ v))
+  added P v facing has =
+      by_lt_z n v
+      (λ over. ⊎_elim
+      (λ all. inl (λ z q. ⊎_elim (λ p. all z p) (λ (e : z ≡ v). omega (arith, ints, e, over)) q))
+      (λ t. inr (t.0, record { facing = t.1.facing; under = t.1.under; others = λ z q. ⊎_elim (λ p. t.1.others z p) (λ (e : z ≡ v). inr (omega (arith, ints, e, over))) q }))
+      has)
+      (λ le. ⊎_elim
+      (λ all. inr (v, record { facing = facing; under = le; others = λ z q. ⊎_elim (λ p. inr (all z p)) (λ (e : z ≡ v). inl (omega (arith, ints, e))) q }))
+      (λ t. by_lt_z t.0 v
+      (λ more. inr (
+        v,
+        record {
+          facing = facing;
+          under = le;
+          others = λ z q. ⊎_elim (λ p. ⊎_elim (λ (k : z ≤ℤ t.0). inl (omega (arith, ints, k, more))) (λ k. inr k) (t.1.others z p)) (λ (e : z ≡ v). inl (omega (arith, ints, e))) q;
+        },
+      ))
+      (λ less. inr (
+        t.0,
+        record {
+          facing = t.1.facing;
+          under = t.1.under;
+          others = λ z q. ⊎_elim (λ p. t.1.others z p) (λ (e : z ≡ v). inl (omega (arith, ints, e, less))) q;
+        },
+      )))
+      has)
+
+  -- the height of an end of one of the first of the segments
+  record IsEndHeight (count : ℕ) (z : ℤ) : Type 0 where
+    s : ℕ
+    segment : Segment
+    is : IsNumbered chains s segment
+    below : s < count
+    at : (z ≡ height K segment.a) ⊎ (z ≡ height K segment.b)
+
+  highest : (count : ℕ) → AreFirstFacing K chains count → HasHighest (IsEndHeight count)
+  highest zero facing = inl (λ z e. absurd (let lt = e.below in omega (arith, lt)))
+  highest (suc count) facing =
+      let rest : HasHighest (IsEndHeight count) = highest count (λ s lt. facing s (omega (arith, lt))) in
+      let own : AreEndsFacing K chains count = facing count (omega arith) in
+      let one : HasHighest (λ z. IsEndHeight count z ⊎ (z ≡ height K own.segment.a)) = added (IsEndHeight count) (height K own.segment.a) own.first rest in
+      let both : HasHighest (λ z. (IsEndHeight count z ⊎ (z ≡ height K own.segment.a)) ⊎ (z ≡ height K own.segment.b)) =
+      added (λ z. IsEndHeight count z ⊎ (z ≡ height K own.segment.a)) (height K own.segment.b) own.last one in
+      weaker (λ z. (IsEndHeight count z ⊎ (z ≡ height K own.segment.a)) ⊎ (z ≡ height K own.segment.b)) (IsEndHeight (suc count))
+      (λ z e. ⊎_elim
+      (λ (same : e.s ≡ count).
+      let ends : HaveSameEnds e.segment own.segment = one_segment chains count e.segment own.segment (subst (λ m. IsNumbered chains m e.segment) same e.is) own.is in
+      ⊎_elim (λ k. inl (inr (k ∙ ap (height K) ends.first))) (λ k. inr (k ∙ ap (height K) ends.last)) e.at)
+      (λ w. ⊎_elim (λ less. inl (inl (record { s = e.s; segment = e.segment; is = e.is; below = less; at = e.at })))
+      (λ more. absurd (let lt = e.below in omega (arith, lt, more))) w)
+      (cases_order e.s count))
+      both
+
+  -- ---- the list of the slab
+
+  module _ (near : AreAllNear K chains) where
+    ends : (s : ℕ) (u : Segment) → IsNumbered chains s u → AreEndsOf K u (low_end K u) (high_end K u)
+    ends s u is = ends_of K u (own_near K chains near s u is)
+
+    -- of all ends
+    abbrev P : ℤ → Type 0
+    P = IsEndHeight (segments_before chains (length chains))
+
+    low : (s : ℕ) (u : Segment) → IsNumbered chains s u → P (height K (low_end K u))
+    low s u is = record {
+      s = s;
+      segment = u;
+      is = is;
+      below = below_total chains s is.c is.k is.number;
+      at = ⊎_elim (λ k. inl (ap (height K) k.0)) (λ k. inr (ap (height K) k.0)) (ends s u is).are;
+    }
+
+    high : (s : ℕ) (u : Segment) → IsNumbered chains s u → P (height K (high_end K u))
+    high s u is = record {
+      s = s;
+      segment = u;
+      is = is;
+      below = below_total chains s is.c is.k is.number;
+      at = ⊎_elim (λ k. inr (ap (height K) k.1)) (λ k. inl (ap (height K) k.1)) (ends s u is).are;
+    }
+
+    none_active : ((z : ℤ) → P z → n <ℤ z) → IsSlabFacing K n chains
+    none_active all = (
+      [],
+      record {
+        active = All-nil (IsActive K n chains);
+        once = λ s a. absurd (let h = all (height K (low_end K a.segment)) (low s a.segment a.is) in let b = a.begun in omega (arith, ints, h, b));
+        tested = tt;
+      },
+      refl,
+    )
+
+    module _ (h : ℤ) (top : IsHighest P h) where
+      up : (s : ℕ) → IsActive K h chains s → IsActive K n chains s
+      up s a =
+          let under = top.under in let begun = a.begun in let lasting = a.lasting in
+          record {
+            segment = a.segment;
+            is = a.is;
+            begun = omega (arith, ints, under, begun);
+            lasting = ⊎_elim (λ k. absurd (omega (arith, ints, k, lasting))) (λ k. k) (top.others (height K (high_end K a.segment)) (high s a.segment a.is));
+          }
+
+      down : (s : ℕ) → IsActive K n chains s → IsActive K h chains s
+      down s a =
+          let under = top.under in let begun = a.begun in let lasting = a.lasting in
+          record {
+            segment = a.segment;
+            is = a.is;
+            begun = ⊎_elim (λ k. k) (λ k. absurd (omega (arith, ints, k, begun))) (top.others (height K (low_end K a.segment)) (low s a.segment a.is));
+            lasting = omega (arith, ints, under, lasting);
+          }
+
+      same_list : IsSlabFacing K n chains
+      same_list =
+          let old = top.facing in (
+            old.0,
+            record { active = λ k d lt. up _ (old.1.active k d lt); once = λ s a. old.1.once s (down s a); tested = old.1.tested },
+            old.2,
+          )
+
+    slab : AreFirstFacing K chains (segments_before chains (length chains)) → IsSlabFacing K n chains
+    slab facing = ⊎_elim (λ all. none_active all) (λ t. same_list t.0 t.1) (highest (segments_before chains (length chains)) facing)
+
+pub agree : (K : ℤ) (chains : List MapChain) → AreAllNear K chains → IsPlanar chains → (count : ℕ) → segments_before chains (length chains) ≤ count →
+    AreFirstFacing K chains count → FacesAgree chains
+agree K chains near planar count le facing =
+    faces.agree chains planar (by_slabs K chains near planar (λ n. slab K n chains near (λ s lt. facing s (omega (arith, lt, le)))))
+
+-- the slabs above the ends of one more segment
+pub one_more : (K : ℤ) (chains : List MapChain) (s : ℕ) → AreFirstFacing K chains s → (u : Segment) → IsNumbered chains s u → (p q : Point) →
+    p ≡ u.a → q ≡ u.b → IsSlabFacing K (height K p) chains → IsSlabFacing K (height K q) chains → AreFirstFacing K chains (s + 1)
+one_more K chains s so_far u is p q e f first last t lt =
+    ⊎_elim
+    (λ (same : t ≡ s). subst (AreEndsFacing K chains) (sym same) (record {
+      segment = u;
+      is = is;
+      first = subst (λ z. IsSlabFacing K (height K z) chains) e first;
+      last = subst (λ z. IsSlabFacing K (height K z) chains) f last;
+    }))
+    (λ w. ⊎_elim (λ less. so_far t less) (λ more. absurd (omega (arith, lt, more))) w)
+    (cases_order t s)

@@ -1,0 +1,50 @@
+//! Which of two segments is west of the other, and which are active above a height.
+ghost use Rattle.std.specs.Prelude.{◌≡◌, ◌≢◌, ◌↔◌, ◌⊎◌, ◌≤ℤ◌, ◌<ℤ◌, pos, false, IsTrue};
+ghost use Rattle.tl_geom.specs.Plane.{turn_of};
+ghost use Rattle.tl_planar.specs.Planar.{IsPlanar};
+ghost use Rattle.tl_slabs.specs.Heights.{height as height_by, widest, low_end, high_end};
+ghost use Rattle.tl_slabs.specs.Neighbours.{IsWestOf, AreTested};
+ghost use Rattle.tl_slabs.specs.Slabs.{IsActive};
+ghost use Rattle.tl_faces.specs.Lists.{AreAllNear};
+ghost use Rattle.tl_facing.specs.Keeping.Slabs.{IsBegun};
+
+use tl_county::Map;
+use tl_geom::{Point, Segment, turn};
+use tl_line::{ends, height};
+
+/// Whether a segment begins at the height of a point or below, and ends above it.
+pub fn is_begun(segment: Segment, at: Point) -> bool
+    ensures { IsTrue result ↔ IsBegun widest (height_by widest at) segment }
+{
+    let (low, high) = ends(segment);
+    height(low) <= height(at) && height(at) < height(high)
+}
+
+/// Whether segment `s` is west of segment `t`. If it isn't, `t` is west of it.
+pub fn is_before(map: &Map, at: Point, s: u32, t: u32) -> bool
+    requires planar { IsPlanar map.now.chains }
+    requires near { AreAllNear widest map.now.chains }
+    requires first { IsActive widest (height_by widest at) map.now.chains s }
+    requires second { IsActive widest (height_by widest at) map.now.chains t }
+    requires differ { s ≢ t }
+    ensures west { IsTrue result → AreTested widest map.now.chains s t }
+    ensures east { result ≡ false → AreTested widest map.now.chains t s }
+{
+    is_west_of(map.segment(s), map.segment(t))
+}
+
+/// Whether `u` is west of `w`, by two turns.
+fn is_west_of(u: Segment, w: Segment) -> bool
+    ensures { IsTrue result ↔ IsWestOf widest u w }
+{
+    let (a, b) = ends(u);
+    let (c, e) = ends(w);
+    is_in_order(a, b, a, c, e, c) && is_in_order(a, b, b, c, e, e)
+}
+
+/// Whether `p` isn't east of the line from `c` to `e`, or `q` isn't west of that from `a` to `b`.
+fn is_in_order(a: Point, b: Point, p: Point, c: Point, e: Point, q: Point) -> bool
+    ensures { IsTrue result ↔ ((pos 0 ≤ℤ turn_of c e p) ⊎ (turn_of a b q ≤ℤ pos 0)) }
+{
+    turn(c, e, p).is_ge() || turn(a, b, q).is_le()
+}
