@@ -61,7 +61,8 @@ module _ (K : ℤ) (above : pos 0 <ℤ K) (chains : List MapChain) (near : AreAl
       let b = begun_of K above chains near n r within u x.spanned in
       let b' = begun_of K above chains near n r within w y.spanned in
       let turned : pos 0 <ℤ turn_at (low_end K w) (high_end K w) x.at.place =
-      turn_of_west K above (low_end K w) (high_end K w) ends_w.rising y.at.place x.at.place (heights_of K w (low_end K w) (high_end K w) ends_w y.at.place y.at.on).0
+      turn_of_west K above (low_end K w) (high_end K w) ends_w.rising y.at.place x.at.place
+      (heights_of K w (low_end K w) (high_end K w) ends_w y.at.place y.at.on).0
       (level_with K y.at.place x.at.place r y.at.level x.at.level) west in
       tested K chains x.s y.s u w is is'
       (is_west K above chains planar x.s y.s u w ne is is' ends_u ends_w n b.0 b.1 b'.0 b'.1 r x.at.place x.spanned y.spanned x.at.on x.at.level turned)

@@ -30,7 +30,8 @@ pub one_chain_more : (chains : List MapChain) (i : ℕ) (chain : MapChain) → s
     AreChainsInRange chains i → AreChainsInRange chains (i + 1)
 one_chain_more chains i chain is here so_far c other lt e =
     ⊎_elim
-    (λ (same : c ≡ i). subst (λ (x : MapChain). ArePointsInRange x.points) (one_found chain other (slice_get chains i) is (subst (λ n. slice_get chains n ≡ Some other) same e)) here)
+    (λ (same : c ≡ i). subst (λ (x : MapChain). ArePointsInRange x.points)
+    (one_found chain other (slice_get chains i) is (subst (λ n. slice_get chains n ≡ Some other) same e)) here)
     (λ w. ⊎_elim (λ less. so_far c other less e) (λ more. absurd (omega (arith, more, lt))) w)
     (cases_order c i)
 
@@ -45,7 +46,8 @@ near_ends : (u : Segment) (t : Bool) → IsInRange (if t then u.a else u.b) → 
 near_ends u true r r' = near_by_range u.a u.b r r'
 near_ends u false r r' = near_by_range u.a u.b r' r
 
-pub rising : (u : Segment) (low high : Point) → low ≡ low_end widest u → high ≡ high_end widest u → IsInRange low → IsInRange high → height widest low <ℤ height widest high
+pub rising : (u : Segment) (low high : Point) → low ≡ low_end widest u → high ≡ high_end widest u → IsInRange low → IsInRange high →
+    height widest low <ℤ height widest high
 rising u low high e f r r' =
     let near : AreNear widest u.a u.b = near_ends u (int_lt (height widest u.a) (height widest u.b)) (subst IsInRange e r) (subst IsInRange f r') in
     rw (e, f) (ends_of widest u near).rising

@@ -65,7 +65,8 @@ module _ (chains : List MapChain) (s : ℕ) (u w : Segment) (is : IsNumbered cha
 
 module _ (m : TheMap) (n : ℤ) (s : ℕ) (u : Segment) (is : IsNumbered m.chains s u) (d j : ℕ) (number : IsSegmentOf m.chains s d j)
     (tlid : ℕ) (points : List Point) (left right : Side) (read : IsChain (slice_get m.chains d) tlid points left right)
-    (face : NamedFace) (midway : IsMidway widest n u face.at) (tlid_is : face.tlid ≡ tlid) (side : Side) (polygon_is : face.polygon ≡ side_key m.polygons side) where
+    (face : NamedFace) (midway : IsMidway widest n u face.at) (tlid_is : face.tlid ≡ tlid) (side : Side)
+    (polygon_is : face.polygon ≡ side_key m.polygons side) where
   read_is : read.chain ≡ is.joins.chain
   read_is =
       one_found read.chain is.joins.chain (slice_get m.chains d) read.is

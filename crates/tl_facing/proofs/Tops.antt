@@ -42,7 +42,14 @@ module _ (K n : ℤ) (chains : List MapChain) where
       by_lt_z n v
       (λ over. ⊎_elim
       (λ all. inl (λ z q. ⊎_elim (λ p. all z p) (λ (e : z ≡ v). omega (arith, ints, e, over)) q))
-      (λ t. inr (t.0, record { facing = t.1.facing; under = t.1.under; others = λ z q. ⊎_elim (λ p. t.1.others z p) (λ (e : z ≡ v). inr (omega (arith, ints, e, over))) q }))
+      (λ t. inr (
+        t.0,
+        record {
+          facing = t.1.facing;
+          under = t.1.under;
+          others = λ z q. ⊎_elim (λ p. t.1.others z p) (λ (e : z ≡ v). inr (omega (arith, ints, e, over))) q;
+        },
+      ))
       has)
       (λ le. ⊎_elim
       (λ all. inr (v, record { facing = facing; under = le; others = λ z q. ⊎_elim (λ p. inr (all z p)) (λ (e : z ≡ v). inl (omega (arith, ints, e))) q }))
@@ -52,7 +59,9 @@ module _ (K n : ℤ) (chains : List MapChain) where
         record {
           facing = facing;
           under = le;
-          others = λ z q. ⊎_elim (λ p. ⊎_elim (λ (k : z ≤ℤ t.0). inl (omega (arith, ints, k, more))) (λ k. inr k) (t.1.others z p)) (λ (e : z ≡ v). inl (omega (arith, ints, e))) q;
+          others = λ z q. ⊎_elim
+              (λ p. ⊎_elim (λ (k : z ≤ℤ t.0). inl (omega (arith, ints, k, more))) (λ k. inr k) (t.1.others z p))
+              (λ (e : z ≡ v). inl (omega (arith, ints, e))) q;
         },
       ))
       (λ less. inr (
@@ -84,7 +93,8 @@ module _ (K n : ℤ) (chains : List MapChain) where
       weaker (λ z. (IsEndHeight count z ⊎ (z ≡ height K own.segment.a)) ⊎ (z ≡ height K own.segment.b)) (IsEndHeight (suc count))
       (λ z e. ⊎_elim
       (λ (same : e.s ≡ count).
-      let ends : HaveSameEnds e.segment own.segment = one_segment chains count e.segment own.segment (subst (λ m. IsNumbered chains m e.segment) same e.is) own.is in
+      let ends : HaveSameEnds e.segment own.segment =
+      one_segment chains count e.segment own.segment (subst (λ m. IsNumbered chains m e.segment) same e.is) own.is in
       ⊎_elim (λ k. inl (inr (k ∙ ap (height K) ends.first))) (λ k. inr (k ∙ ap (height K) ends.last)) e.at)
       (λ w. ⊎_elim (λ less. inl (inl (record { s = e.s; segment = e.segment; is = e.is; below = less; at = e.at })))
       (λ more. absurd (let lt = e.below in omega (arith, lt, more))) w)

@@ -1,5 +1,6 @@
 -- What tests of turns and of heights say, both ways.
-use Rattle.std.proofs.Common.{◌≡◌, ◌⊎◌, inl, inr, ⊎_elim, ℕ, Bool, true, false, IsTrue, ◌↔◌, Ordering, ℤ, pos, ◌+ℤ◌, ◌<ℤ◌, ◌≤ℤ◌, List, refl, sym, subst, ◌∙◌, arith}
+use Rattle.std.proofs.Common.{◌≡◌, ◌⊎◌, inl, inr, ⊎_elim, ℕ, Bool, true, false, IsTrue, ◌↔◌}
+use Rattle.std.proofs.Common.{Ordering, ℤ, pos, ◌+ℤ◌, ◌<ℤ◌, ◌≤ℤ◌, List, refl, sym, subst, ◌∙◌, arith}
 use Rattle.std.proofs.lemmas.Int.{ints}
 use Rattle.std.proofs.lemmas.Cmp.{int_ranked}
 use Rattle.std.specs.declared.cmp.Ordering.TheVariants.{Less, Equal, Greater}
@@ -72,7 +73,10 @@ lt_of x y e = omega (arith, ints, e)
 pub begun_by : (K n : ℤ) (u : Segment) (low high : Point) → low ≡ low_end K u → high ≡ high_end K u → height K low ≤ℤ n → (m h k : ℤ) → h ≡ n +ℤ m →
     k ≡ height K high +ℤ m → IsTrue (lt_z h k) ↔ IsBegun K n u
 begun_by K n u low high e f from m h k at top = (
-  λ t. record { begun = subst (λ p. height K p ≤ℤ n) e from; lasting = subst (λ p. n <ℤ height K p) f (let less = lt_of h k t in omega (arith, ints, less, at, top)) },
+  λ t. record {
+    begun = subst (λ p. height K p ≤ℤ n) e from;
+    lasting = subst (λ p. n <ℤ height K p) f (let less = lt_of h k t in omega (arith, ints, less, at, top));
+  },
   λ b. lt_true h k (let less : n <ℤ height K high = subst (λ p. n <ℤ height K p) (sym f) b.lasting in omega (arith, ints, less, at, top)),
 )
 

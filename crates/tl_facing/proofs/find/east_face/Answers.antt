@@ -6,6 +6,7 @@ use Rattle.tl_facing.proofs.find.east_face.Goals as goal
 
 pub returns : goal.returns
 returns c =
-    east_read c.args.map.now (height widest c.args.at) c.args.s c.segment-segment.result (own c.args.map.now.chains c.args.s c.segment-segment.result c.segment-segment.ensures)
-    c.segment_chain.result c.segment_chain.ensures.0 c.segment_chain.ensures.1 _ _ _ _ c.chain-chain.ensures.chain _ c.midway.ensures refl c.by_height-side.result
-    c.key_of.ensures c.by_height-side.ensures
+    east_read c.args.map.now (height widest c.args.at) c.args.s c.segment-segment.result
+    (own c.args.map.now.chains c.args.s c.segment-segment.result c.segment-segment.ensures)
+    c.segment_chain.result c.segment_chain.ensures.0 c.segment_chain.ensures.1 _ _ _ _ c.chain-chain.ensures.chain _ c.midway.ensures refl
+    c.by_height-side.result c.key_of.ensures c.by_height-side.ensures

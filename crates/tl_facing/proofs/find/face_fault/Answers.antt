@@ -15,8 +15,8 @@ west_face-requires-in-None-Some c = record { known = east_known c.args.map.now c
 
 pub returns-in-Some-Some : goal.returns-in-Some-Some
 returns-in-Some-Some c =
-    facing c.args.map.now c.args.gap c.requires.odd c.requires.planar c.look_at_points.ensures _ _ c.in-Some-Some.is-0 c.in-Some-Some.is-1 _ _ c.east_face.ensures
-    c.west_face.ensures
+    facing c.args.map.now c.args.gap c.requires.odd c.requires.planar c.look_at_points.ensures _ _ c.in-Some-Some.is-0 c.in-Some-Some.is-1 _ _
+    c.east_face.ensures c.west_face.ensures
 
 pub returns-in-Some-None : goal.returns-in-Some-None
 returns-in-Some-None c =

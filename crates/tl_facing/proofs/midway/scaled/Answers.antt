@@ -26,7 +26,8 @@ returns-clause-value c = back c.args.a c.args.b c.requires.first c.requires.seco
 
 pub returns-clause-bound : goal.returns-clause-bound
 returns-clause-bound c =
-    subst (λ z. unsigned_abs z < 2 ^ 99) (sym (back c.args.a c.args.b c.requires.first c.requires.second)) (bounded c.args.a c.args.b c.requires.first c.requires.second)
+    subst (λ z. unsigned_abs z < 2 ^ 99) (sym (back c.args.a c.args.b c.requires.first c.requires.second))
+    (bounded c.args.a c.args.b c.requires.first c.requires.second)
 
 pub overflow_mul-result : goal.overflow_mul-result
 overflow_mul-result c = fits c.args.a c.args.b c.requires.first c.requires.second
