@@ -1,7 +1,7 @@
 //! Places of segments midway between a height and the next.
 ghost use Rattle.std.specs.Prelude.{◌≡◌, ◌<◌, ◌^◌, ◌-ℤ◌, ◌+ℤ◌, ◌*ℤ◌, ◌<ℤ◌, pos, unsigned_abs};
 ghost use Rattle.tl_slabs.specs.Heights.{height as height_by, widest, low_end, high_end};
-ghost use Rattle.tl_faces.specs.Disagreements.{IsMidway, twice_rise, twice_risen};
+ghost use Rattle.tl_faces.specs.Disagreements.{IsMidway};
 
 use tl_geom::{Point, Rational, Segment};
 use tl_line::{ends, height};

@@ -1,8 +1,8 @@
 //! Which of two segments is west of the other, and which are active above a height.
-ghost use Rattle.std.specs.Prelude.{◌≡◌, ◌≢◌, ◌↔◌, ◌⊎◌, ◌≤ℤ◌, ◌<ℤ◌, pos, false, IsTrue};
+ghost use Rattle.std.specs.Prelude.{◌≡◌, ◌≢◌, ◌↔◌, ◌⊎◌, ◌≤ℤ◌, pos, false, IsTrue};
 ghost use Rattle.tl_geom.specs.Plane.{turn_of};
 ghost use Rattle.tl_planar.specs.Planar.{IsPlanar};
-ghost use Rattle.tl_slabs.specs.Heights.{height as height_by, widest, low_end, high_end};
+ghost use Rattle.tl_slabs.specs.Heights.{height as height_by, widest};
 ghost use Rattle.tl_slabs.specs.Neighbours.{IsWestOf, AreTested};
 ghost use Rattle.tl_slabs.specs.Slabs.{IsActive};
 ghost use Rattle.tl_faces.specs.Lists.{AreAllNear};
