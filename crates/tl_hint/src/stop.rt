@@ -4,8 +4,6 @@ ghost use Rattle.std.specs.Prelude.{◌≡◌};
 ghost use Rattle.tl_hint.specs.declared.stop.HintStop.TheVariants.{Memory, Device};
 
 use std::alloc::{AllocError, AllocFailed};
-use tl_files::FileStop;
-use tl_record::RefusalStop;
 
 /// Why a hint can't be made.
 #[derive(Clone, Copy, Debug, PartialEq, Eq)]

@@ -51,10 +51,10 @@ fn first_point(lines: &[RecordLine]) -> Option<Rational>
 }
 
 // The point of a polygon's record.
-fn point_of(record: &Record) -> Option<Rational>
-    ensures { result ≡ point_of record.now }
+fn point_of(polygon: &Record) -> Option<Rational>
+    ensures { result ≡ point_of polygon.now }
 {
-    match record {
+    match polygon {
         Record::PolyPoint { point, .. } => Some(Rational::from(*point)),
         _ => None,
     }

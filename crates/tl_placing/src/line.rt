@@ -104,11 +104,11 @@ fn push_count(text: &mut Vec<u8>, word: &[u8], number: u64) -> Result<(), AllocE
 }
 
 // The type of a record, and what it is of.
-fn record_words(record: &Record) -> ArrayString<LINE_ROOM>
-    ensures { result.bytes ≡ record_text record.now }
+fn record_words(held: &Record) -> ArrayString<LINE_ROOM>
+    ensures { result.bytes ≡ record_text held.now }
 {
     let mut words = ArrayString::new();
-    match *record {
+    match *held {
         Record::Chain { tlid, .. } => push_number(&mut words, ", type 1, tlid ", tlid),
         Record::Shape { tlid, .. } => push_number(&mut words, ", type 2, tlid ", tlid),
         Record::Sides { tlid, .. } => push_number(&mut words, ", type I, tlid ", tlid),

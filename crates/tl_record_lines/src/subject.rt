@@ -132,10 +132,10 @@ pub fn tlid_of(map: Option<&Map>, dart: u32) -> Option<u64>
 }
 
 // The subjects that name a record, if one does.
-pub(crate) fn subjects_naming(record: &Record) -> Subjects
-    ensures { result ≡ subjects_naming record.now }
+pub(crate) fn subjects_naming(named: &Record) -> Subjects
+    ensures { result ≡ subjects_naming named.now }
 {
-    match *record {
+    match *named {
         Record::Chain { tlid, .. } => (Some(Subject::Chain(tlid)), Some(Subject::Drawn(tlid))),
         Record::Shape { tlid, .. } => (Some(Subject::Shape(tlid)), Some(Subject::Drawn(tlid))),
         Record::Sides { tlid, .. } => (Some(Subject::Sides(tlid)), None),
