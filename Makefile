@@ -48,6 +48,7 @@ certificates: build
 
 judge: build
 	python3 tests/judged.py
+	python3 tests/faced.py
 
 full-size: build
 	python3 tests/full_size.py

@@ -45,6 +45,7 @@ def main():
     import counties
     import devices
     import drawn
+    import faced
     import full_size
     import installed
     import judged
@@ -74,6 +75,7 @@ def main():
         ("failed reads and writes", devices.play_all),
         ("examples", examples.play_all),
         ("many counties", counties.play_all),
+        ("faces of maps", faced.play_all),
         ("files made over others", made_files.play_all),
         ("pictures", drawn.play_all),
         ("manual page, completions and programs of the libraries", installed.play_all),
