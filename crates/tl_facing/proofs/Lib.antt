@@ -6,3 +6,4 @@ pub mod Tops
 pub mod Stepping
 pub mod Growing
 pub mod Turns
+pub mod Contradicts

@@ -1,5 +1,5 @@
 //! The search for a gap of a slab's list whose facing sides differ.
-ghost use Rattle.std.specs.Prelude.{◌≡◌, ◌↔◌, ◌<◌, None, Some, All, IfOk, IsTrue, MatchOption, length};
+ghost use Rattle.std.specs.Prelude.{◌≡◌, ◌↔◌, ◌<◌, None, Some, IfOk, IsTrue, MatchOption, length};
 ghost use Rattle.tl_county.specs.declared.sides.Side.TheVariants.{Outside};
 ghost use Rattle.tl_county.specs.Segments.{segments_before};
 ghost use Rattle.tl_planar.specs.Planar.{IsPlanar};

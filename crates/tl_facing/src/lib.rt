@@ -4,17 +4,22 @@
 //! A gap of a slab's list whose facing sides differ, as `tl_faces` has it ([`tl_faces::OddGap`]), stands between numbers of segments.
 //! [`face_fault`] tells of it what can be looked up on the map: chains by their TLID, polygons by their keys, and from each segment
 //! a place at which it faces the other. `specs/Truth` says when that is true of a map.
-//! [`find_odd_gap`] looks for such a gap slab by slab, and where it finds none, faces agree.
+//! [`find_odd_gap`] looks for such a gap slab by slab, and where it finds none, faces agree. [`find_face_fault`] decides by a sweep
+//! (`tl_sweep`), which is faster, and goes slab by slab only where the sweep says nothing of faces. [`laws`] says that each fault that is
+//! true of a map denies that its faces agree.
 #![tactic(auto)]
 
+mod decide;
 mod fault;
 mod find;
 mod gaps;
+pub mod laws;
 mod midway;
 mod near;
 mod order;
 mod slab;
 
+pub use decide::{face_fault_of, find_face_fault};
 pub use fault::{FaceFault, NamedFace};
 pub use find::face_fault;
 pub use gaps::find_odd_gap;
