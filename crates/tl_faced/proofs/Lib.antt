@@ -1,0 +1,3 @@
+pub mod Faced
+pub mod OfMap
+pub mod OfRecords

@@ -1,0 +1,4 @@
+-- What the contracts cite.
+pub mod Verdicts
+pub mod Reads
+pub mod Keeping
