@@ -1,3 +1,4 @@
 pub mod Faced
 pub mod OfMap
 pub mod OfRecords
+pub mod Deciding

@@ -60,6 +60,13 @@ UnlessMeet (Ok (verdict.CertFault fault)) P = P
 UnlessMeet (Ok (verdict.FaceFault fault)) P = P
 UnlessMeet (Err stop) P = ⊤
 
+-- the verdict is that the map is sound and its faces agree
+abbrev pub SaysSound : FacesVerdict → Type 0
+SaysSound (verdict.Sound report) = ⊤
+SaysSound (verdict.MapFault fault) = ⊥
+SaysSound (verdict.CertFault fault) = ⊥
+SaysSound (verdict.FaceFault fault) = ⊥
+
 -- so that is true if the answer is that the map is sound and its faces agree, and isn't if the answer is a fault of the map or of faces
 abbrev pub Decides : FacesAnswer → Type 0 → Type 0
 Decides (Ok (verdict.Sound report)) P = P

@@ -4,9 +4,11 @@
 //! two polygons that overlap, or a polygon that has no end. So [`check_cert_and_faces`] asks for that of each map that is found to be sound
 //! (`tl_facing`), and [`check_and_faces`] of the map of a county's records. Where the answer is [`FacesVerdict::Sound`], each place that is
 //! on no chain lies in one polygon or outside of all, and each side of each chain names what lies there. Where it is
-//! [`FacesVerdict::FaceFault`], faces that disagree are all that is wrong with the map.
+//! [`FacesVerdict::FaceFault`], faces that disagree are all that is wrong with the map. Beside a valid certificate each answer but a stop
+//! is one of these, or a fault of the map ([`laws`]).
 #![tactic(auto)]
 
+pub mod laws;
 mod of_map;
 mod of_records;
 mod verdict;
