@@ -1,7 +1,7 @@
 //! Decisions in which faces take part: whether a map is sound, and sides that face one another agree.
 //!
 //! `tl_check` decides whether a map is sound, by a certificate that nobody need trust. A sound map can still have faces that disagree:
-//! two polygons that overlap, or a polygon that has no end. So [`check_cert_and_faces`] asks for that of each map that is found to be sound
+//! a street off by itself may name a polygon that lies elsewhere. So [`check_cert_and_faces`] asks for that of each map that is found to be sound
 //! (`tl_facing`), and [`check_and_faces`] of the map of a county's records. Where the answer is [`FacesVerdict::Sound`], each place that is
 //! on no chain lies in one polygon or outside of all, and each side of each chain names what lies there. Where it is
 //! [`FacesVerdict::FaceFault`], faces that disagree are all that is wrong with the map. Beside a valid certificate each answer but a stop
