@@ -3,7 +3,7 @@
 
 An edit in a crate's `must-fail` turns what a contract promises to a user, or to who calls the libraries: the gate tries it.
 One in `wrong-bodies` turns a body of a crate whose contracts serve the proofs of the crates above it. Where a contract there
-let it through, one of those proofs would be open. Behind a gate on the same machine nothing is proved again but what the
+lets it through, it breaks no promise above. Behind a gate on the same machine nothing is proved again but what the
 edits need.
 
 usage: wrong_bodies.py [CRATE..]     with no CRATE, each crate that has such edits
