@@ -30,6 +30,7 @@ plan_options (Build made options files) = options
 -- and a task
 abbrev pub options_for : Task → Options
 options_for (task.Plan plan progress) = plan_options plan
+options_for (task.Faces plan progress) = plan_options plan
 options_for (task.List told places made progress options files) = options
 options_for (task.Export made options files) = options
 options_for (task.Draw made view faults options files) = options
@@ -37,6 +38,7 @@ options_for (task.Draw made view faults options files) = options
 -- the names of the record files
 abbrev pub record_names : Task → List Text
 record_names (task.Plan plan progress) = files_of plan
+record_names (task.Faces plan progress) = files_of plan
 record_names (task.List told places made progress options files) = map string_bytes files.items
 record_names (task.Export made options files) = map string_bytes files.items
 record_names (task.Draw made view faults options files) = map string_bytes files.items
@@ -49,6 +51,7 @@ plan_certificates other = []
 
 abbrev pub certificate_names : Task → List Text
 certificate_names (task.Plan plan progress) = plan_certificates plan
+certificate_names (task.Faces plan progress) = plan_certificates plan
 certificate_names other = []
 
 -- does the task list all lines that are refused

@@ -87,7 +87,7 @@ fn is_listing(task: &Task) -> bool
 {
     match task {
         Task::List { told, .. } => matches!(told, Told::All(_)),
-        Task::Plan { .. } | Task::Export { .. } | Task::Draw { .. } => false,
+        Task::Plan { .. } | Task::Faces { .. } | Task::Export { .. } | Task::Draw { .. } => false,
     }
 }
 
@@ -96,7 +96,7 @@ fn names_of(task: &Task) -> &[String]
     ensures { map string_bytes result.now ≡ record_names task.now }
 {
     match task {
-        Task::Plan { plan, .. } => plan.files(),
+        Task::Plan { plan, .. } | Task::Faces { plan, .. } => plan.files(),
         Task::List { files, .. } => files.as_slice(),
         Task::Export { files, .. } => files.as_slice(),
         Task::Draw { files, .. } => files.as_slice(),
@@ -108,7 +108,7 @@ fn certificates_of(task: &Task) -> &[String]
     ensures { map string_bytes result.now ≡ certificate_names task.now }
 {
     match task {
-        Task::Plan { plan, .. } => match plan {
+        Task::Plan { plan, .. } | Task::Faces { plan, .. } => match plan {
             Plan::Check { cert, .. } | Plan::Convert { cert, .. } => slice::from_ref(cert),
             _ => &[],
         },
@@ -121,7 +121,7 @@ fn options_of(task: &Task) -> Options
     ensures { result ≡ options_for task.now }
 {
     match task {
-        Task::Plan { plan, .. } => match plan {
+        Task::Plan { plan, .. } | Task::Faces { plan, .. } => match plan {
             Plan::Show { options, .. }
             | Plan::Landmarks { options, .. }
             | Plan::Locate { options, .. }

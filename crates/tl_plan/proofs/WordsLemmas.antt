@@ -1,7 +1,7 @@
 -- What words make a plan, and why others don't.
 use Rattle.std.proofs.Common.{◌≡◌, ◌≢◌, ◌⊎◌, ℕ, ◌<◌, inl, inr, true, false, length, List, [], Option, Some, None, refl, sym}
 use Rattle.std.proofs.Common.{ap, subst, ◌∙◌, map, option_map, unwrap_or, codes, arith, Global, Bor}
-use Rattle.std.specs.Prelude.{String, string_bytes, nat_eq, is_some, MatchOption, Bool}
+use Rattle.std.specs.Prelude.{String, Vec, string_bytes, nat_eq, is_some, MatchOption, Bool}
 use Rattle.std.specs.Cmp.Lexicographic.{pointwise}
 use Rattle.std.proofs.lemmas.Cmp.{nat_list_eq_equiv}
 use Rattle.std.proofs.lemmas.List.{length-map}
@@ -25,11 +25,14 @@ use Rattle.tl_geom.specs.declared.point.Point.{Point}
 use Rattle.tl_plan.specs.Points.{Spells}
 use Rattle.tl_plan.specs.Commands.{command_line, convert_name, check_name, locate_name, show_name, landmarks_name, audit_name, build_name, export_name, draw_name}
 use Rattle.tl_plan.specs.CommandLine.{IsStopOf, IsUsage, StopsPlanning, Request, request_in, named_in}
-use Rattle.tl_plan.specs.CommandLine.{IsConversionOf, IsTaskOf, IsWhole, HasFiles, IsBudget, IsView, IsSwitch, AreChosen, AskForTask, AskForTold, AskForFaults}
-use Rattle.tl_plan.specs.Asked.{IsAuditTask}
+use Rattle.tl_plan.specs.CommandLine.{IsConversionOf, IsTaskOf, IsWhole, HasFiles, IsBudget, IsView, IsSwitch, IsMore, AreChosen, AsksOneLine, AskForTask, AskForTold, AskForFaults}
+use Rattle.tl_plan.specs.CommandLine.{IsFor, IsForTask, IsWatched, IsFaced, DecidesMap}
+use Rattle.tl_plan.specs.Asked.{IsAuditTask, decision}
 use Rattle.tl_plan.specs.declared.budget.Told.{Told}
+use Rattle.tl_plan.specs.declared.budget.Told.TheVariants.{One, All}
+use Rattle.tl_plan.specs.declared.plan.Plan.{Plan}
 use Rattle.tl_record.specs.declared.options.Options.{Options}
-use Rattle.tl_plan.specs.declared.plan.Plan.TheVariants.{Show, Landmarks, Locate, Convert, Check, Audit, Build}
+use Rattle.tl_plan.specs.declared.plan.Plan.TheVariants.{Convert, Audit}
 use Rattle.tl_plan.specs.declared.plan.View.{View}
 use Rattle.tl_plan.specs.declared.plan.Task.{Task}
 use Rattle.tl_plan.specs.declared.plan.Task.TheVariants as task
@@ -154,6 +157,7 @@ pub conversion_task : (found : Option (Text × List Row)) (rows : List Row) (mad
 conversion_task found rows (Some (task.Plan (Convert from to) progress)) named has is = (
   record { given = request_in (convert_name, rows); same = ap named_in (both_found found convert_name rows named has); named = refl; from = is.0; to = is.1 },
   is.2,
+  refl,
 )
 conversion_task found rows (Some other) named has is = absurd is
 conversion_task found rows None named has is = λ whole.
@@ -216,7 +220,8 @@ no_locate given named lacks (inr (inr (inr (inr (inr (inr (inr drawn))))))) = on
 
 -- an audit asks for no faults that may be asked for, or lacks a file
 pub no_audit : (given : Request) → given.command ≡ audit_name
-    → ((files : List Text) → AskForFaults given.all given.most → given.files ≡ Some files → 0 < length files → ⊥)
+    → ((files : List Text) → AskForFaults given.all given.most → (IsSwitch given.faces true → AsksOneLine given) → given.files ≡ Some files
+    → 0 < length files → ⊥)
     → IsWhole (Some given) → ⊥
 no_audit given named lacks (inl files) = no_listing given audit_name named refl refl files
 no_audit given named lacks (inr (inl both)) = one_command given both.2.given audit_name convert_name refl named both.2.same both.2.named
@@ -227,6 +232,7 @@ no_audit given named lacks (inr (inr (inr (inr (inr (inl audit)))))) =
     let e = is_request _ _ audit.same in
     lacks audit.files
     (subst (λ (r : Request). AskForFaults r.all r.most) (sym e) audit.asked)
+    (subst (λ (r : Request). IsSwitch r.faces true → AsksOneLine r) (sym e) audit.faced)
     (ap (λ r. r.files) e ∙ audit.are) audit.some_file
 no_audit given named lacks (inr (inr (inr (inr (inr (inr (inl exported))))))) = one_command given exported.given audit_name export_name refl named exported.same exported.named
 no_audit given named lacks (inr (inr (inr (inr (inr (inr (inr drawn))))))) = one_command given drawn.given audit_name draw_name refl named drawn.same drawn.named
@@ -297,48 +303,59 @@ seen_the_same view at center wide width e f seen =
 pub unseen_the_same : (view : Option View) (at center wide width : Option Text) → at ≡ center → wide ≡ width → ¬ IsView at wide view → ¬ IsView center width view
 unseen_the_same view at center wide width e f unseen seen = unseen (seen_the_same view center at width wide (sym e) (sym f) seen)
 
--- an audit is a plan, or a task of its own
-pub audit_asked : (given : Request) (told : Told) (places : Bool) (made : Option Text) (progress : Bool) (options : Options) (files : List Text) (wanted : Task)
-    → given.command ≡ audit_name → AskForTold given.all given.most told → IsSwitch given.places places → given.geojson ≡ made
-    → AreChosen given.released given.zero_cells options → given.files ≡ Some files → 0 < length files → IsSwitch given.progress progress
-    → IsAuditTask told places made progress options files wanted → IsTaskOf (Some given) (Some wanted)
-audit_asked given told places made progress options files (task.Plan (Audit chosen names) shown) named asked placed geojson are files_are some watched is =
-    rw (is.1.columns, is.1.read, is.1.watched) (
-      record {
-        given = given;
-        same = refl;
-        named = named;
-        asked = subst (λ (t : Told). AskForTold given.all given.most t) is.0.one asked;
-        placed = subst (λ (b : Bool). IsSwitch given.places b) is.0.no_places placed;
-        made = geojson ∙ is.0.no_file;
-        chosen = are;
-        are = files_are;
-        some_file = some;
-      },
-      (given, refl, watched),
-    )
-audit_asked given told places made progress options files (task.List asks with_places to shown chosen names) named asked placed geojson are files_are some watched is =
-    rw (is.1.columns, is.1.read, is.1.watched) (record {
+-- a task that decides as a plan does
+pub decided : (request : Option Request) (plan : Plan) (faces progress : Bool) (made : Task) → made ≡ decision plan faces progress
+    → DecidesMap plan → IsFor request plan → IsWatched request plan progress → IsFaced request plan faces → IsForTask request made
+decided request plan true progress made same decides asked watched faced = rw same (decides, asked, watched, faced)
+decided request plan false progress made same decides asked watched faced = rw same (asked, watched, faced)
+
+-- more than one fault's line is no one fault's line
+more_than_line : (given : Request) (told : Told) (places : Bool) (made : Option Text) → IsMore told places made → AskForTold given.all given.most told
+    → IsSwitch given.places places → given.geojson ≡ made → AsksOneLine given → ⊥
+more_than_line given (All number) places made more asked placed geojson line = line.asked.one asked.each
+more_than_line given One true made more asked placed geojson line = absurd (cc (line.placed.1 (placed.0 refl)))
+more_than_line given One false (Some name) more asked placed geojson line = cc (line.made, geojson)
+more_than_line given One false None more asked placed geojson line = absurd more
+
+-- an audit is a task to decide, or one of its own, or none
+pub audit_asked : (given : Request) (told : Told) (places : Bool) (made : Option (String Global)) (faces progress : Bool) (options : Options)
+    (files : Vec (String Global) Global) (wanted : Option Task) → given.command ≡ audit_name → AskForTold given.all given.most told
+    → IsSwitch given.places places → given.geojson ≡ option_map string_bytes made → IsSwitch given.faces faces
+    → AreChosen given.released given.zero_cells options → given.files ≡ Some (map string_bytes files.items)
+    → 0 < length (map string_bytes files.items) → IsSwitch given.progress progress
+    → IsAuditTask told places made faces progress options files wanted → IsTaskOf (Some given) wanted
+audit_asked given told places made faces progress options files wanted named asked placed geojson faced are files_are some watched (inl is) =
+    rw is.1 (decided (Some given) (Audit options files) faces progress (decision (Audit options files) faces progress) refl tt (record {
       given = given;
       same = refl;
       named = named;
-      asked = subst (λ (t : Told). AskForTold given.all given.most t) (sym is.0.0) asked;
-      placed = subst (λ (b : Bool). IsSwitch given.places b) (sym is.0.1) placed;
-      to = geojson ∙ sym is.0.2;
-      more = is.0.3;
+      alone = record {
+        asked = subst (λ (t : Told). AskForTold given.all given.most t) is.0.one asked;
+        placed = subst (λ (b : Bool). IsSwitch given.places b) is.0.no_places placed;
+        made = geojson ∙ ap (option_map string_bytes) is.0.no_file;
+      };
+      chosen = are;
+      are = files_are;
+      some_file = some;
+    }) (given, refl, watched) (given, refl, faced))
+audit_asked given told places made false progress options files wanted named asked placed geojson faced are files_are some watched (inr is) =
+    rw is.1 (record {
+      given = given;
+      same = refl;
+      named = named;
+      asked = asked;
+      placed = placed;
+      to = geojson;
+      more = is.0;
+      plain = faced;
       watched = watched;
       chosen = are;
       are = files_are;
       some_file = some;
     })
-audit_asked given told places made progress options files (task.Plan (Show chosen names) shown) named asked placed geojson are files_are some watched is = absurd is
-audit_asked given told places made progress options files (task.Plan (Landmarks chosen names) shown) named asked placed geojson are files_are some watched is = absurd is
-audit_asked given told places made progress options files (task.Plan (Locate point chosen names) shown) named asked placed geojson are files_are some watched is = absurd is
-audit_asked given told places made progress options files (task.Plan (Convert cert to) shown) named asked placed geojson are files_are some watched is = absurd is
-audit_asked given told places made progress options files (task.Plan (Check cert budget chosen names) shown) named asked placed geojson are files_are some watched is = absurd is
-audit_asked given told places made progress options files (task.Plan (Build to chosen names) shown) named asked placed geojson are files_are some watched is = absurd is
-audit_asked given told places made progress options files (task.Export to chosen names) named asked placed geojson are files_are some watched is = absurd is
-audit_asked given told places made progress options files (task.Draw to view faults chosen names) named asked placed geojson are files_are some watched is = absurd is
+audit_asked given told places made true progress options files wanted named asked placed geojson faced are files_are some watched (inr is) =
+    rw is.1 (no_audit given named
+    (λ names asks line have many. more_than_line given told places (option_map string_bytes made) is.0 asked placed geojson (line faced)))
 
 -- words that clap takes, and that name a task
 pub one_task : (words : List Text) (found : Option (Text × List Row)) (made : Task) → found ≡ subcommand_of command_line words

@@ -29,8 +29,8 @@ use Rattle.tl_plan.specs.Points.{Spells}
 
 -- a command; what was given for its FILES, if anything was, and the values of its --released, its --zero-cells and its --all,
 -- each of which is the word true where the switch is given; and what was given for its @X,Y, its CERT or --cert, its OUT or
--- --out, its --tests, and its --most; its --progress, its --faults and its --where, which are switches; its --geojson, its --at
--- and its --width
+-- --out, its --tests, and its --most; its --progress, its --faults, its --where and its --faces, which are switches; its
+-- --geojson, its --at and its --width
 pub record Request : Type 0 where
   pub command : Text
   pub files : Option (List Text)
@@ -45,6 +45,7 @@ pub record Request : Type 0 where
   pub progress : Option Text
   pub faults : Option Text
   pub places : Option Text
+  pub faces : Option Text
   pub geojson : Option Text
   pub center : Option Text
   pub width : Option Text
@@ -65,6 +66,7 @@ request_in found = record {
   progress = first_of (codes "progress") found.1;
   faults = first_of (codes "faults") found.1;
   places = first_of (codes "where") found.1;
+  faces = first_of (codes "faces") found.1;
   geojson = first_of (codes "geojson") found.1;
   center = first_of (codes "at") found.1;
   width = first_of (codes "width") found.1;
@@ -187,15 +189,19 @@ pub record AsksToCheck (request : Option Request) (cert : Text) (budget : ℕ) (
 abbrev pub IsSwitch : Option Text → Bool → Type 0
 IsSwitch given on = IsTrue on ↔ (given ≡ Some (codes "true"))
 
--- the request names an audit of these files, word for word and in their order, with these switches, for one fault and nothing
--- else: by what was given for --all and for --most, for --where and for --geojson
+-- what was given for --all and for --most, for --where and for --geojson asks for one fault's line and nothing else
+pub record AsksOneLine (given : Request) : Type 0 where
+  pub asked : AskForOne given.all given.most
+  pub placed : IsSwitch given.places false
+  pub made : given.geojson ≡ None
+
+-- the request names an audit of these files, word for word and in their order, with these switches, for one fault's line and
+-- nothing else
 pub record AsksToAudit (request : Option Request) (options : Options) (files : List Text) : Type 0 where
   pub given : Request
   pub same : request ≡ Some given
   pub named : given.command ≡ audit_name
-  pub asked : AskForOne given.all given.most
-  pub placed : IsSwitch given.places false
-  pub made : given.geojson ≡ None
+  pub alone : AsksOneLine given
   pub chosen : AreChosen given.released given.zero_cells options
   pub are : given.files ≡ Some files
   pub some_file : 0 < length files
@@ -206,7 +212,8 @@ IsMore One false None = ⊥
 IsMore told places made = ⊤
 
 -- the request names an audit of these files, word for word and in their order, with these switches, that tells so many faults, with
--- their records or without, and makes this file, word for word, or none; and it is more than one fault's line that is asked for
+-- their records or without, and makes this file, word for word, or none; it is more than one fault's line that is asked for, and
+-- faces aren't
 pub record AsksToList (request : Option Request) (told : Told) (places : Bool) (made : Option Text) (progress : Bool) (options : Options) (files : List Text) : Type 0 where
   pub given : Request
   pub same : request ≡ Some given
@@ -215,6 +222,7 @@ pub record AsksToList (request : Option Request) (told : Told) (places : Bool) (
   pub placed : IsSwitch given.places places
   pub to : given.geojson ≡ made
   pub more : IsMore told places made
+  pub plain : IsSwitch given.faces false
   pub watched : IsSwitch given.progress progress
   pub chosen : AreChosen given.released given.zero_cells options
   pub are : given.files ≡ Some files
@@ -296,13 +304,15 @@ pub record HasFiles (request : Option Request) : Type 0 where
   pub are : given.files ≡ Some files
   pub some_file : 0 < length files
 
--- the request names an audit of some file, for one fault or for all, with no number but where it asks for all
+-- the request names an audit of some file, for one fault or for all, with no number but where it asks for all, and for one
+-- fault's line and nothing else where it asks for faces
 pub record IsAudit (request : Option Request) : Type 0 where
   pub given : Request
   pub files : List Text
   pub same : request ≡ Some given
   pub named : given.command ≡ audit_name
   pub asked : AskForFaults given.all given.most
+  pub faced : IsSwitch given.faces true → AsksOneLine given
   pub are : given.files ≡ Some files
   pub some_file : 0 < length files
 
@@ -383,9 +393,26 @@ IsWatched request (Locate point options files) watched = watched ≡ false
 IsWatched request (Convert cert made) watched = watched ≡ false
 IsWatched request plan watched = (given : Request) × (request ≡ Some given) × IsSwitch given.progress watched
 
+-- the plan decides whether a map is sound
+abbrev pub DecidesMap : Plan → Type 0
+DecidesMap (Check cert budget options files) = ⊤
+DecidesMap (Audit options files) = ⊤
+DecidesMap (Build made options files) = ⊤
+DecidesMap other = ⊥
+
+-- faces are asked for where the command has a switch for that and it is given
+abbrev pub IsFaced : Option Request → Plan → Bool → Type 0
+IsFaced request (Show options files) faced = faced ≡ false
+IsFaced request (Landmarks options files) faced = faced ≡ false
+IsFaced request (Locate point options files) faced = faced ≡ false
+IsFaced request (Convert cert made) faced = faced ≡ false
+IsFaced request plan faced = (given : Request) × (request ≡ Some given) × IsSwitch given.faces faced
+
 -- the request is one for the task
 abbrev pub IsForTask : Option Request → Task → Type 0
-IsForTask request (task.Plan plan progress) = IsFor request plan × IsWatched request plan progress
+IsForTask request (task.Plan plan progress) = IsFor request plan × IsWatched request plan progress × IsFaced request plan false
+IsForTask request (task.Faces plan progress) =
+    DecidesMap plan × IsFor request plan × IsWatched request plan progress × IsFaced request plan true
 IsForTask request (task.List told places made progress options files) =
     AsksToList request told places (option_map string_bytes made) progress options (map string_bytes files.items)
 IsForTask request (task.Export made options files) = AsksToExport request (string_bytes made) options (map string_bytes files.items)
@@ -405,10 +432,11 @@ IsConversionOf cert out (Some other) = ⊥
 IsConversionOf cert out None = (from to : Text) → cert ≡ Some from → out ≡ Some to → ⊥
 
 -- the words ask for the plan: clap has no error for them, of any kind, and the command that they name, with what they give
--- for its arguments, is one for the plan
+-- for its arguments, is one for the plan, and doesn't ask for faces
 pub record AskFor (words : List Text) (plan : Plan) : Type 0 where
   pub taken : fault_of command_line words ≡ []
   pub asked : IsFor (named_command words) plan
+  pub plain : IsFaced (named_command words) plan false
 
 -- the words ask for the task
 pub record AskForTask (words : List Text) (wanted : Task) : Type 0 where
@@ -461,8 +489,8 @@ abbrev pub HasAnswer : Kinds → Type 0
 HasAnswer kinds = (kind : ErrorKind) × IsAmong kind kinds × IsAnswer kind
 
 -- Why the words make no plan: they are no use of a command, and either a mistake, a wish for help or for the version, or
--- taken by clap, as those with a number or a point that isn't spelt as one, or with --most and no --all; or memory was refused, and the
--- first of them doesn't show that they are no use of a command.
+-- taken by clap, as those with a number or a point that isn't spelt as one, with --most and no --all, or with --faces and --all; or
+-- memory was refused, and the first of them doesn't show that they are no use of a command.
 abbrev pub StopsPlanning : List Text → PlanStop → Type 0
 StopsPlanning words (Usage text) = (¬ AreAUse words) × (HasMistake (fault_of command_line words) ⊎ (fault_of command_line words ≡ []))
 StopsPlanning words (Help text) = (¬ AreAUse words) × HasAnswer (fault_of command_line words)

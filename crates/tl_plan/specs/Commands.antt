@@ -40,6 +40,10 @@ all_argument = switch (codes "all")
 abbrev pub where_argument : Rule
 where_argument = switch (codes "where")
 
+-- --faces: faces have to agree too
+abbrev pub faces_argument : Rule
+faces_argument = switch (codes "faces")
+
 -- --most N, --tests N, --at @X,Y, --width W, and --geojson OUT of an audit: one word
 abbrev pub value_argument : Text → Rule
 value_argument id = record (new_rule id) { long = Some id; value_names = 1 }
@@ -85,29 +89,30 @@ conversion_app = with_rule (with_rule (new_app convert_name) (name_argument (cod
 abbrev pub on_a_map : App → App
 on_a_map app = with_rule (with_rule (with_rule app zero_cells_argument) released_argument) files_argument
 
--- audit [--all] [--most N] [--where] [--geojson OUT] [--progress] [--zero-cells] [--released] FILES..
+-- audit [--all] [--most N] [--where] [--geojson OUT] [--faces] [--progress] [--zero-cells] [--released] FILES..
 abbrev pub audit_name : Text
 audit_name = codes "audit"
 
 abbrev pub audit_app : App
 audit_app =
-    on_a_map (with_rule (with_rule (with_rule (with_rule (with_rule (new_app audit_name) all_argument) most_argument) where_argument)
-    (value_argument (codes "geojson"))) progress_argument)
+    on_a_map (with_rule (with_rule (with_rule (with_rule (with_rule (with_rule (new_app audit_name) all_argument) most_argument) where_argument)
+    (value_argument (codes "geojson"))) faces_argument) progress_argument)
 
--- build --out CERT [--progress] [--zero-cells] [--released] FILES..
+-- build --out CERT [--faces] [--progress] [--zero-cells] [--released] FILES..
 abbrev pub build_name : Text
 build_name = codes "build"
 
 abbrev pub build_app : App
-build_app = on_a_map (with_rule (with_rule (new_app build_name) (named_argument (codes "out"))) progress_argument)
+build_app = on_a_map (with_rule (with_rule (with_rule (new_app build_name) (named_argument (codes "out"))) faces_argument) progress_argument)
 
--- check --cert CERT [--tests N] [--progress] [--zero-cells] [--released] FILES..
+-- check --cert CERT [--tests N] [--faces] [--progress] [--zero-cells] [--released] FILES..
 abbrev pub check_name : Text
 check_name = codes "check"
 
 abbrev pub check_app : App
 check_app =
-    on_a_map (with_rule (with_rule (with_rule (new_app check_name) (named_argument (codes "cert"))) tests_argument) progress_argument)
+    on_a_map (with_rule (with_rule (with_rule (with_rule (new_app check_name) (named_argument (codes "cert"))) tests_argument) faces_argument)
+    progress_argument)
 
 -- locate [--released] @X,Y FILES..
 abbrev pub locate_name : Text

@@ -14,7 +14,7 @@ ghost use Rattle.tl_plan.specs.declared.command_line.Named.{Named};
 use crate::help::{
     ABOUT, ALL, AT, AUDIT_ABOUT, AUDIT_EXAMPLE, BUILD_ABOUT, BUILD_EXAMPLE, CHECK_ABOUT,
     CHECK_EXAMPLE, CONVERT_ABOUT, CONVERT_EXAMPLE, DRAW_ABOUT, DRAW_EXAMPLE, EXAMPLES,
-    EXPORT_ABOUT, EXPORT_EXAMPLE, FAULTS, FAULTS_COLLECTION, LANDMARKS_ABOUT, LANDMARKS_EXAMPLE,
+    EXPORT_ABOUT, EXPORT_EXAMPLE, FACES, FACES_OF_AUDIT, FAULTS, FAULTS_COLLECTION, LANDMARKS_ABOUT, LANDMARKS_EXAMPLE,
     LOCATE_ABOUT, LOCATE_EXAMPLE, MOST, PROGRESS, RELEASED, SHOW_ABOUT, SHOW_EXAMPLE, TESTS, WHERE,
     WIDTH, ZERO_CELLS,
 };
@@ -65,6 +65,10 @@ enum Argument {
     Progress,
     // --where
     Where,
+    // --faces, of an audit
+    FacesOfAudit,
+    // --faces
+    Faces,
     // --geojson OUT, of an audit
     FaultsOption,
     // --geojson OUT
@@ -180,6 +184,7 @@ fn arguments_of<'a>(named: &Named) -> &'a [Argument]
             Argument::Most,
             Argument::Where,
             Argument::FaultsOption,
+            Argument::FacesOfAudit,
             Argument::Progress,
             Argument::ZeroCells,
             Argument::Released,
@@ -187,6 +192,7 @@ fn arguments_of<'a>(named: &Named) -> &'a [Argument]
         ],
         Named::Build => &[
             Argument::OutOption,
+            Argument::Faces,
             Argument::Progress,
             Argument::ZeroCells,
             Argument::Released,
@@ -195,6 +201,7 @@ fn arguments_of<'a>(named: &Named) -> &'a [Argument]
         Named::Check => &[
             Argument::CertOption,
             Argument::Tests,
+            Argument::Faces,
             Argument::Progress,
             Argument::ZeroCells,
             Argument::Released,
@@ -267,6 +274,8 @@ fn told<'a>(alloc: Global, argument: &Argument) -> Arg<'a>
         Argument::Out => name_argument(alloc, "out", "OUT", "The certificate that is made"),
         Argument::Progress => switch(alloc, "progress", PROGRESS),
         Argument::Where => switch(alloc, "where", WHERE),
+        Argument::FacesOfAudit => switch(alloc, "faces", FACES_OF_AUDIT),
+        Argument::Faces => switch(alloc, "faces", FACES),
         Argument::FaultsOption => option(alloc, "geojson", "OUT", FAULTS_COLLECTION),
         Argument::CollectionOption => {
             needed_option(alloc, "geojson", "OUT", "The file of GeoJSON that is made")

@@ -10,6 +10,7 @@ Examples:
   tigertopo audit TGR24001.RT*                decides whether the map is sound
   tigertopo audit --all --most 20 A.RT*       tells the first 20 faults, and how many there are
   tigertopo audit --where TGR24001.RT*        tells in which lines of which files a fault's records stand
+  tigertopo audit --faces TGR24001.RT*        decides too whether sides that face one another agree
   tigertopo build --out A.CERT TGR24001.RT*   makes a certificate of a sound map
   tigertopo check --cert A.CERT TGR24001.RT*  decides by a certificate whether the map is sound
   tigertopo convert OLD.CERT NEW.CERT         writes a certificate anew in version 2
@@ -76,8 +77,14 @@ all of them: each where it lies, with its code, what it is about and its records
 that they name. Of a sound map the collection is empty. OUT is written as OUT.unfinished and takes its
 name when it is whole. A file that this program hasn't made, or that is one of FILES, is not replaced.
 
+With --faces the map has to be such, too, that each place on no chain lies in exactly one polygon or
+outside of all, and each side of each chain names what lies there. Else the line is `map fault G7
+FaceDisagree ..`, with the TLIDs of two chains that face one another, or of one with nothing beyond it,
+the polygons that their sides name, and of each a point: X and Y over one denominator.
+
 Examples:
   tigertopo audit TGR24001.RT*
+  tigertopo audit --faces TGR24001.RT*
   tigertopo audit --all --where TGR24001.RT*
   tigertopo audit --all --geojson TGR24001.geojson TGR24001.RT*";
 
@@ -89,8 +96,13 @@ is `map fault` with a code, a name and what it is about, and no file is made or 
 written as CERT.unfinished and takes its name when it is whole, so an old one stays till then. A file
 that is no certificate, or is one of FILES, is not replaced.
 
-Example:
-  tigertopo build --out TGR24001.CERT TGR24001.RT*";
+With --faces each place on no chain has to lie in exactly one polygon or outside of all, too, and each
+side of each chain to name what lies there. Else the line is `map fault G7 FaceDisagree ..`, as `audit`
+has it, and no certificate is made.
+
+Examples:
+  tigertopo build --out TGR24001.CERT TGR24001.RT*
+  tigertopo build --faces --out TGR24001.CERT TGR24001.RT*";
 
 pub const CHECK_ABOUT: &str = "Decides by a certificate whether the map is sound";
 
@@ -99,8 +111,13 @@ Of a sound map the line is `sound chains=C segments=S nodes=N polygons=P landmar
 is `map fault` or `certificate fault` with a code, a name and what it is about. Nobody has to trust
 CERT: where it isn't right for the map, that is a fault of the certificate.
 
-Example:
-  tigertopo check --cert TGR24001.CERT TGR24001.RT*";
+With --faces each place on no chain has to lie in exactly one polygon or outside of all, too, and each
+side of each chain to name what lies there. Else the line is `map fault G7 FaceDisagree ..`, as `audit`
+has it.
+
+Examples:
+  tigertopo check --cert TGR24001.CERT TGR24001.RT*
+  tigertopo check --faces --cert TGR24001.CERT TGR24001.RT*";
 
 pub const CONVERT_ABOUT: &str = "Reads a certificate and writes it in version 2";
 
@@ -143,6 +160,11 @@ pub const PROGRESS: &str =
 pub const WHERE: &str = "Tells behind each fault in which lines of which files its records stand";
 
 pub const FAULTS_COLLECTION: &str = "The file of GeoJSON that is made of the faults";
+
+pub const FACES_OF_AUDIT: &str =
+    "Asks too that sides that face one another name one polygon; not with --all, --where or --geojson";
+
+pub const FACES: &str = "Asks too that sides that face one another name one polygon";
 
 pub const AT: &str = "The middle of what is drawn, in millionths of a degree; needs --width";
 

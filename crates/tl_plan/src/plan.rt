@@ -71,6 +71,12 @@ pub enum Task {
         plan: Plan,
         progress: bool,
     },
+    /// To decide as this plan does, which is an audit, a check or a build, where faces have to agree too: sides that face one
+    /// another. Where `progress` is asked for, how far it is is shown while files are read.
+    Faces {
+        plan: Plan,
+        progress: bool,
+    },
     /// To tell what is wrong with the map otherwise than a plan does: all of it, or with the records that each fault speaks of
     /// where `places` asks for them, or with a file of GeoJSON of this name that is made of the faults. Where `progress` is
     /// asked for, how far it is is shown while files are read.

@@ -19,6 +19,10 @@ const SPELLING: &str =
 // What is said of a number of faults where there is no --all.
 const NO_ALL: &str = "the argument '--most <N>' needs '--all'";
 
+// What is said of faces where more than one fault's line is asked for.
+const FACES_ALONE: &str =
+    "the argument '--faces' cannot be used with '--all', '--most <N>', '--where' or '--geojson <OUT>'";
+
 // What is said of one part of a view where the other isn't given.
 const NO_WIDTH: &str = "the argument '--at <@X,Y>' needs '--width <W>'";
 
@@ -113,6 +117,9 @@ fn usage_of(
             point,
             POINT_SPELLING,
         );
+    }
+    if word_of(matches, "audit", "faces") == Some("true") {
+        return told_by(alloc, &Named::Audit, "tigertopo audit", FACES_ALONE);
     }
     if let Some(most) = word_of(matches, "audit", "most") {
         return misused_most(alloc, matches, most);

@@ -12,7 +12,7 @@ ghost use Rattle.clap.specs.Matches.{found_of};
 ghost use Rattle.tl_plan.specs.Commands.{command_line, show_name, landmarks_name, audit_name, build_name, check_name, locate_name, export_name, draw_name};
 ghost use Rattle.tl_plan.specs.CommandLine.{request_in, named_in};
 ghost use Rattle.tl_plan.specs.CommandLine.{AreChosen, AskForTask, AskForFaults, AskForTold, StopsPlanning, IsSwitch, IsTaskOf, IsConversionOf};
-ghost use Rattle.tl_plan.specs.Asked.{IsAuditTask};
+ghost use Rattle.tl_plan.specs.Asked.{IsAuditTask, decision};
 ghost use Rattle.tl_plan.specs.Plans.{ShowsNoEscape};
 
 use crate::budget::{Told, budget_of, told_by};
@@ -208,7 +208,8 @@ fn locate_of(alloc: Global, command: &ArgMatches<'_>) -> Result<Option<Task>, Al
     }))
 }
 
-// The audit that the command's words name, where they name a file, and a number of faults only beside --all.
+// The audit that the command's words name, where they name a file, a number of faults only beside --all, and faces only where
+// one fault's line is asked for.
 fn audit_of(alloc: Global, command: &ArgMatches<'_>) -> Result<Option<Task>, AllocError>
     ensures { IfOk result (IsTaskOf (Some (request_in (audit_name, rows_of (found_of command.now))))) }
 {
@@ -220,14 +221,15 @@ fn audit_of(alloc: Global, command: &ArgMatches<'_>) -> Result<Option<Task>, All
         return Ok(None);
     }
     let made = collection_of(alloc, command)?;
-    Ok(Some(audit_task(
+    Ok(audit_task(
         told,
         switch_of(command, "where"),
         made,
+        switch_of(command, "faces"),
         switch_of(command, "progress"),
         options_with_zero_cells(command),
         files,
-    )))
+    ))
 }
 
 // The name that the command's words give for a file of GeoJSON, where they give one.
@@ -253,30 +255,45 @@ fn told_of(command: &ArgMatches<'_>) -> Option<Told>
     told_by(command.get_str("all"), command.get_str("most"))
 }
 
-// The task of an audit that tells so many faults: a plan, where it is one alone and nothing else is asked for.
+// The task of an audit that tells so many faults: to decide, where it is one alone and nothing else is asked for. Of faces no
+// list is made.
 fn audit_task(
     told: Told,
     places: bool,
     made: Option<String>,
+    faces: bool,
     progress: bool,
     options: Options,
     files: Vec<String>,
-) -> Task
-    ensures { IsAuditTask told places (option_map string_bytes made) progress options (map string_bytes files.items) result }
+) -> Option<Task>
+    ensures { IsAuditTask told places made faces progress options files result }
 {
     match (told, places, made) {
-        (Told::One, false, None) => Task::Plan {
-            plan: Plan::Audit { options, files },
-            progress,
-        },
-        (told, places, made) => Task::List {
-            told,
-            places,
-            made,
-            progress,
-            options,
-            files,
-        },
+        (Told::One, false, None) => Some(deciding(Plan::Audit { options, files }, faces, progress)),
+        (told, places, made) => {
+            if faces {
+                return None;
+            }
+            Some(Task::List {
+                told,
+                places,
+                made,
+                progress,
+                options,
+                files,
+            })
+        }
+    }
+}
+
+// The task to decide as this plan does, where faces have to agree too, or not.
+fn deciding(plan: Plan, faces: bool, progress: bool) -> Task
+    ensures { result ≡ decision plan faces progress }
+{
+    if faces {
+        Task::Faces { plan, progress }
+    } else {
+        Task::Plan { plan, progress }
     }
 }
 
@@ -332,14 +349,16 @@ fn build_of(alloc: Global, command: &ArgMatches<'_>) -> Result<Option<Task>, All
     if files.is_empty() {
         return Ok(None);
     }
-    Ok(Some(Task::Plan {
-        plan: Plan::Build {
-            made: String::from_str(alloc, name)?,
-            options: options_with_zero_cells(command),
-            files,
-        },
-        progress: switch_of(command, "progress"),
-    }))
+    let plan = Plan::Build {
+        made: String::from_str(alloc, name)?,
+        options: options_with_zero_cells(command),
+        files,
+    };
+    Ok(Some(deciding(
+        plan,
+        switch_of(command, "faces"),
+        switch_of(command, "progress"),
+    )))
 }
 
 // The check that the command's words name, where their number of tests is spelt as one.
@@ -356,15 +375,17 @@ fn check_of(alloc: Global, command: &ArgMatches<'_>) -> Result<Option<Task>, All
     if files.is_empty() {
         return Ok(None);
     }
-    Ok(Some(Task::Plan {
-        plan: Plan::Check {
-            cert: String::from_str(alloc, cert)?,
-            budget,
-            options: options_with_zero_cells(command),
-            files,
-        },
-        progress: switch_of(command, "progress"),
-    }))
+    let plan = Plan::Check {
+        cert: String::from_str(alloc, cert)?,
+        budget,
+        options: options_with_zero_cells(command),
+        files,
+    };
+    Ok(Some(deciding(
+        plan,
+        switch_of(command, "faces"),
+        switch_of(command, "progress"),
+    )))
 }
 
 // The names that were given for the command's FILES.

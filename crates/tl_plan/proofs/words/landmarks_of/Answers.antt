@@ -20,6 +20,7 @@ returns c =
         some_file = files.1;
       },
       refl,
+      refl,
     )
 
 pub returns-then-is_empty : goal.returns-then-is_empty
