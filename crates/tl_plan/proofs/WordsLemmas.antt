@@ -1,7 +1,7 @@
 -- What words make a plan, and why others don't.
 use Rattle.std.proofs.Common.{◌≡◌, ◌≢◌, ◌⊎◌, ℕ, ◌<◌, inl, inr, true, false, length, List, [], Option, Some, None, refl, sym}
-use Rattle.std.proofs.Common.{ap, subst, ◌∙◌, map, option_map, unwrap_or, codes, arith, Global, Bor}
-use Rattle.std.specs.Prelude.{String, Vec, string_bytes, nat_eq, is_some, MatchOption, Bool}
+use Rattle.std.proofs.Common.{ap, subst, ◌∙◌, map, option_map, unwrap_or, codes, arith, Global, Bor, Result, Ok, Err}
+use Rattle.std.specs.Prelude.{String, Vec, string_bytes, nat_eq, is_some, IfOk, MatchOption, Bool}
 use Rattle.std.specs.Cmp.Lexicographic.{pointwise}
 use Rattle.std.proofs.lemmas.Cmp.{nat_list_eq_equiv}
 use Rattle.std.proofs.lemmas.List.{length-map}
@@ -151,24 +151,50 @@ no_conversion given named lacks (inr (inr (inr (inr (inr (inr (inl exported)))))
 no_conversion given named lacks (inr (inr (inr (inr (inr (inr (inr drawn))))))) = one_command given drawn.given convert_name draw_name refl named drawn.same drawn.named
 
 -- what a conversion's arguments make of the request
-pub conversion_task : (found : Option (Text × List Row)) (rows : List Row) (made : Option Task)
-    → option_map (λ p. p.0) found ≡ Some convert_name → option_map (λ p. p.1) found ≡ Some rows
-    → IsConversionOf (first_of (codes "cert") rows) (first_of (codes "out") rows) made → IsTaskOf (named_in found) made
-conversion_task found rows (Some (task.Plan (Convert from to) progress)) named has is = (
-  record { given = request_in (convert_name, rows); same = ap named_in (both_found found convert_name rows named has); named = refl; from = is.0; to = is.1 },
-  is.2,
-  refl,
-)
-conversion_task found rows (Some other) named has is = absurd is
-conversion_task found rows None named has is = λ whole.
-    let same = ap named_in (both_found found convert_name rows named has) in
-    no_conversion (request_in (convert_name, rows)) refl is (subst IsWhole same whole)
+conversion_task : (rows : List Row) (made : Option Task) → IsConversionOf (first_of (codes "cert") rows) (first_of (codes "out") rows) made
+    → IsTaskOf (Some (request_in (convert_name, rows))) made
+conversion_task rows (Some (task.Plan (Convert from to) progress)) is =
+    (record { given = request_in (convert_name, rows); same = refl; named = refl; from = is.0; to = is.1 }, is.2, refl)
+conversion_task rows (Some other) is = absurd is
+conversion_task rows None is = no_conversion (request_in (convert_name, rows)) refl is
 
 -- the task of the command that was found
 pub found_task : (found : Option (Text × List Row)) (name : Text) (rows : List Row) (made : Option Task)
     → option_map (λ p. p.0) found ≡ Some name → option_map (λ p. p.1) found ≡ Some rows
     → IsTaskOf (Some (request_in (name, rows))) made → IsTaskOf (named_in found) made
 found_task found name rows made named has is = subst (λ request. IsTaskOf request made) (sym (ap named_in (both_found found name rows named has))) is
+
+-- the task of a command whose name is known
+pub task_under : {E : Type 0} (name known : Text) (rows : List Row) (result : Result (Option Task) E) → name ≡ known
+    → IfOk result (IsTaskOf (Some (request_in (known, rows)))) → IfOk result (IsTaskOf (Some (request_in (name, rows))))
+task_under name known rows result same is = subst (λ (n : Text). IfOk result (IsTaskOf (Some (request_in (n, rows))))) (sym same) is
+
+pub conversion_under : {E : Type 0} (name : Text) (rows : List Row) (result : Result (Option Task) E) → name ≡ convert_name
+    → IfOk result (IsConversionOf (first_of (codes "cert") rows) (first_of (codes "out") rows)) → IfOk result (IsTaskOf (Some (request_in (name, rows))))
+conversion_under name rows (Ok made) same is = subst (λ (n : Text). IsTaskOf (Some (request_in (n, rows))) made) (sym same) (conversion_task rows made is)
+conversion_under name rows (Err error) same is = tt
+
+-- a request for another command than those of the program
+another : (given request : Request) (name : Text) → given.command ≢ name → Some given ≡ Some request → request.command ≡ name → ⊥
+another given request name other same named = other (ap (λ r. r.command) (is_request given request same) ∙ named)
+
+pub no_other : (given : Request) → given.command ≢ show_name → given.command ≢ landmarks_name → given.command ≢ locate_name
+    → given.command ≢ audit_name → given.command ≢ build_name → given.command ≢ check_name → given.command ≢ convert_name
+    → given.command ≢ export_name → given.command ≢ draw_name → IsWhole (Some given) → ⊥
+no_other given show landmarks locate audit build check convert exports draw = go
+  where
+    go : IsWhole (Some given) → ⊥
+    go (inl files) = elim files.named [
+      | inl named ↦ another given files.given show_name show files.same named
+      | inr named ↦ another given files.given landmarks_name landmarks files.same named
+    ]
+    go (inr (inl both)) = another given both.2.given convert_name convert both.2.same both.2.named
+    go (inr (inr (inl it))) = another given it.given check_name check it.same it.named
+    go (inr (inr (inr (inl it)))) = another given it.given build_name build it.same it.named
+    go (inr (inr (inr (inr (inl it))))) = another given it.given locate_name locate it.same it.named
+    go (inr (inr (inr (inr (inr (inl it)))))) = another given it.given audit_name audit it.same it.named
+    go (inr (inr (inr (inr (inr (inr (inl it))))))) = another given it.given export_name exports it.same it.named
+    go (inr (inr (inr (inr (inr (inr (inr it))))))) = another given it.given draw_name draw it.same it.named
 
 -- a check lacks its certificate, or a number of tests that is spelt as one, or a file
 pub no_check : (given : Request) → given.command ≡ check_name

@@ -14,9 +14,9 @@ ghost use Rattle.tl_plan.specs.declared.command_line.Named.{Named};
 use crate::help::{
     ABOUT, ALL, AT, AUDIT_ABOUT, AUDIT_EXAMPLE, BUILD_ABOUT, BUILD_EXAMPLE, CHECK_ABOUT,
     CHECK_EXAMPLE, CONVERT_ABOUT, CONVERT_EXAMPLE, DRAW_ABOUT, DRAW_EXAMPLE, EXAMPLES,
-    EXPORT_ABOUT, EXPORT_EXAMPLE, FACES, FACES_OF_AUDIT, FAULTS, FAULTS_COLLECTION, LANDMARKS_ABOUT, LANDMARKS_EXAMPLE,
-    LOCATE_ABOUT, LOCATE_EXAMPLE, MOST, PROGRESS, RELEASED, SHOW_ABOUT, SHOW_EXAMPLE, TESTS, WHERE,
-    WIDTH, ZERO_CELLS,
+    EXPORT_ABOUT, EXPORT_EXAMPLE, FACES, FACES_OF_AUDIT, FAULTS, FAULTS_COLLECTION,
+    LANDMARKS_ABOUT, LANDMARKS_EXAMPLE, LOCATE_ABOUT, LOCATE_EXAMPLE, MOST, PROGRESS, RELEASED,
+    SHOW_ABOUT, SHOW_EXAMPLE, TESTS, WHERE, WIDTH, ZERO_CELLS,
 };
 use clap::{Arg, ArgAction, Command};
 use std::alloc::{AllocError, Global};
@@ -147,27 +147,62 @@ fn program<'a>(alloc: Global) -> Result<Command<'a>, AllocError>
 pub fn subcommand<'a>(alloc: Global, named: &Named) -> Result<Command<'a>, AllocError>
     ensures { IfOk result (λ command. told_of command ≡ named_told named.now) }
 {
-    let (name, about, example) = words_of(named);
     match args_of(alloc, arguments_of(named)) {
-        Ok(args) => command_with(alloc, name, about, example, args),
+        Ok(args) => command_with(
+            alloc,
+            word_of(named),
+            about_of(named),
+            example_of(named),
+            args,
+        ),
         Err(error) => Err(error),
     }
 }
 
-// The command's name, what is said of it, and an example of it.
-fn words_of<'a>(named: &Named) -> (&'a str, &'a str, &'a str)
-    ensures { result.0.now ≡ name_of named.now }
+// The command's name.
+fn word_of<'a>(named: &Named) -> &'a str
+    ensures { result.now ≡ name_of named.now }
 {
     match named {
-        Named::Show => ("show", SHOW_ABOUT, SHOW_EXAMPLE),
-        Named::Landmarks => ("landmarks", LANDMARKS_ABOUT, LANDMARKS_EXAMPLE),
-        Named::Locate => ("locate", LOCATE_ABOUT, LOCATE_EXAMPLE),
-        Named::Audit => ("audit", AUDIT_ABOUT, AUDIT_EXAMPLE),
-        Named::Build => ("build", BUILD_ABOUT, BUILD_EXAMPLE),
-        Named::Check => ("check", CHECK_ABOUT, CHECK_EXAMPLE),
-        Named::Convert => ("convert", CONVERT_ABOUT, CONVERT_EXAMPLE),
-        Named::Export => ("export", EXPORT_ABOUT, EXPORT_EXAMPLE),
-        Named::Draw => ("draw", DRAW_ABOUT, DRAW_EXAMPLE),
+        Named::Show => "show",
+        Named::Landmarks => "landmarks",
+        Named::Locate => "locate",
+        Named::Audit => "audit",
+        Named::Build => "build",
+        Named::Check => "check",
+        Named::Convert => "convert",
+        Named::Export => "export",
+        Named::Draw => "draw",
+    }
+}
+
+// What is said of the command in a line.
+fn about_of<'a>(named: &Named) -> &'a str {
+    match named {
+        Named::Show => SHOW_ABOUT,
+        Named::Landmarks => LANDMARKS_ABOUT,
+        Named::Locate => LOCATE_ABOUT,
+        Named::Audit => AUDIT_ABOUT,
+        Named::Build => BUILD_ABOUT,
+        Named::Check => CHECK_ABOUT,
+        Named::Convert => CONVERT_ABOUT,
+        Named::Export => EXPORT_ABOUT,
+        Named::Draw => DRAW_ABOUT,
+    }
+}
+
+// What is said of it behind its options, and examples of it.
+fn example_of<'a>(named: &Named) -> &'a str {
+    match named {
+        Named::Show => SHOW_EXAMPLE,
+        Named::Landmarks => LANDMARKS_EXAMPLE,
+        Named::Locate => LOCATE_EXAMPLE,
+        Named::Audit => AUDIT_EXAMPLE,
+        Named::Build => BUILD_EXAMPLE,
+        Named::Check => CHECK_EXAMPLE,
+        Named::Convert => CONVERT_EXAMPLE,
+        Named::Export => EXPORT_EXAMPLE,
+        Named::Draw => DRAW_EXAMPLE,
     }
 }
 

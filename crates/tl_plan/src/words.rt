@@ -100,34 +100,32 @@ fn stop_by<S: AsStr>(alloc: Global, error: &Error, words: &[S]) -> PlanStop
 fn task_of(alloc: Global, matches: &ArgMatches<'_>) -> Result<Option<Task>, AllocError>
     ensures { IfOk result (IsTaskOf (named_in (subcommand_rows_of matches.now))) }
 {
-    if let Some(show) = matches.subcommand_matches("show") {
-        return show_of(alloc, show);
+    match matches.subcommand() {
+        Some((name, command)) => task_named(alloc, name, command),
+        None => Ok(None),
     }
-    if let Some(landmarks) = matches.subcommand_matches("landmarks") {
-        return landmarks_of(alloc, landmarks);
+}
+
+// The task of the command of this name, where that is one of the program's.
+fn task_named(
+    alloc: Global,
+    name: &str,
+    command: &ArgMatches<'_>,
+) -> Result<Option<Task>, AllocError>
+    ensures { IfOk result (IsTaskOf (Some (request_in (name.now, rows_of (found_of command.now))))) }
+{
+    match name {
+        "show" => show_of(alloc, command),
+        "landmarks" => landmarks_of(alloc, command),
+        "locate" => locate_of(alloc, command),
+        "audit" => audit_of(alloc, command),
+        "build" => build_of(alloc, command),
+        "check" => check_of(alloc, command),
+        "convert" => conversion_of(alloc, command),
+        "export" => export_of(alloc, command),
+        "draw" => drawing_of(alloc, command),
+        _ => Ok(None),
     }
-    if let Some(locate) = matches.subcommand_matches("locate") {
-        return locate_of(alloc, locate);
-    }
-    if let Some(audit) = matches.subcommand_matches("audit") {
-        return audit_of(alloc, audit);
-    }
-    if let Some(build) = matches.subcommand_matches("build") {
-        return build_of(alloc, build);
-    }
-    if let Some(check) = matches.subcommand_matches("check") {
-        return check_of(alloc, check);
-    }
-    if let Some(convert) = matches.subcommand_matches("convert") {
-        return conversion_of(alloc, convert);
-    }
-    if let Some(export) = matches.subcommand_matches("export") {
-        return export_of(alloc, export);
-    }
-    if let Some(draw) = matches.subcommand_matches("draw") {
-        return drawing_of(alloc, draw);
-    }
-    Ok(None)
 }
 
 // The listing of chains that the command's words name, where they name a file.
