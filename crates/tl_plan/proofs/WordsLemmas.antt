@@ -6,13 +6,7 @@ use Rattle.std.specs.Cmp.Lexicographic.{pointwise}
 use Rattle.std.proofs.lemmas.Cmp.{nat_list_eq_equiv}
 use Rattle.std.proofs.lemmas.List.{length-map}
 use Rattle.clap.specs.Walk.{Text, Row, first_of}
-use Rattle.clap.specs.Simple.{is_simple, subcommand_of, subcommand_rows, subcommand_rows_of}
-use Rattle.clap.specs.Matches.{subcommand_name_of}
-use Rattle.clap.specs.declared.parser.matches.ArgMatches.{ArgMatches}
-use Rattle.clap.specs.declared.parser.matches.SubCommand.{SubCommand}
-use Rattle.clap.specs.declared.parser.matches.ArgMatches.TheViews.{out-ArgMatches, out-SubCommand}
-use Rattle.std.specs.Box.{box_value}
-use Rattle.std.specs.Prelude.{Box}
+use Rattle.clap.specs.Simple.{is_simple, subcommand_of}
 use Rattle.clap.specs.Takes.{takes}
 use Rattle.clap.specs.Faults.{fault_of, is_simple_and_free}
 use Rattle.clap.specs.Kinds.{Kinds, IsAmong}
@@ -59,13 +53,6 @@ stops_for words kind (Usage text) told is passes kinds =
 stops_for words kind (Help text) told is passes kinds = (λ use_of. is.0 (passes use_of.taken), (kind, among _ kind is.0 kinds, is.1))
 stops_for words kind Memory told is passes kinds = absurd (told refl)
 
--- the name of the command that was found
-pub name_found : (m : ArgMatches) → option_map (λ p. p.0) (subcommand_rows_of m) ≡ subcommand_name_of m
-name_found m = go (out-ArgMatches m).subcommand where
-  go : (o : Option (Box SubCommand Global)) → option_map (λ p. p.0) (subcommand_rows o) ≡ option_map (λ b. (out-SubCommand (box_value b)).name.now) o
-  go None = refl
-  go (Some b) = refl
-
 -- the texts that were given, or none
 pub given_texts : (o : Option (Bor (List (Bor Text)))) (given : Option (List Text)) (none : Bor (List (Bor Text)))
     → option_map (λ s. map (λ v. v.now) s.now) o ≡ given → none.now ≡ [] → map (λ v. v.now) (unwrap_or o none).now ≡ unwrap_or given []
@@ -103,14 +90,6 @@ none_given (Some v) given same is = absurd (cc is)
 -- what was given is one text
 pub same_given : (given : Option Text) (one two : Text) → given ≡ Some one → given ≡ Some two → one ≡ two
 same_given given one two first second = cc (first, second)
-
--- the command that was found, with its rows
-both_found : (found : Option (Text × List Row)) (name : Text) (rows : List Row) → option_map (λ p. p.0) found ≡ Some name → option_map (λ p. p.1) found ≡ Some rows → found ≡ Some (name, rows)
-both_found None name rows named has = absurd (no_name name named)
-  where
-    no_name : (name : Text) → option_map (λ (p : Text × List Row). p.0) None ≡ Some name → ⊥
-    no_name name e = cc
-both_found (Some (n, r)) name rows named has = cc (named, has)
 
 -- requests that are the same
 is_request : (r s : Request) → Some r ≡ Some s → r ≡ s
@@ -157,12 +136,6 @@ conversion_task rows (Some (task.Plan (Convert from to) progress)) is =
     (record { given = request_in (convert_name, rows); same = refl; named = refl; from = is.0; to = is.1 }, is.2, refl)
 conversion_task rows (Some other) is = absurd is
 conversion_task rows None is = no_conversion (request_in (convert_name, rows)) refl is
-
--- the task of the command that was found
-pub found_task : (found : Option (Text × List Row)) (name : Text) (rows : List Row) (made : Option Task)
-    → option_map (λ p. p.0) found ≡ Some name → option_map (λ p. p.1) found ≡ Some rows
-    → IsTaskOf (Some (request_in (name, rows))) made → IsTaskOf (named_in found) made
-found_task found name rows made named has is = subst (λ request. IsTaskOf request made) (sym (ap named_in (both_found found name rows named has))) is
 
 -- the task of a command whose name is known
 pub task_under : {E : Type 0} (name known : Text) (rows : List Row) (result : Result (Option Task) E) → name ≡ known
