@@ -19,7 +19,8 @@ use Rattle.tl_geom.specs.declared.point.Point.{Point}
 use Rattle.tl_plan.specs.Points.{Spells}
 use Rattle.tl_plan.specs.Commands.{command_line, convert_name, check_name, locate_name, show_name, landmarks_name, audit_name, build_name, export_name, draw_name}
 use Rattle.tl_plan.specs.CommandLine.{IsStopOf, IsUsage, StopsPlanning, Request, request_in, named_in}
-use Rattle.tl_plan.specs.CommandLine.{IsConversionOf, IsTaskOf, IsWhole, HasFiles, IsBudget, IsView, IsSwitch, IsMore, AreChosen, AsksOneLine, AskForTask, AskForTold, AskForFaults}
+use Rattle.tl_plan.specs.CommandLine.{IsConversionOf, IsTaskOf, IsWhole, HasFiles, IsBudget, IsView, IsSwitch}
+use Rattle.tl_plan.specs.CommandLine.{IsMore, AreChosen, AsksOneLine, AskForTask, AskForTold, AskForFaults}
 use Rattle.tl_plan.specs.CommandLine.{IsFor, IsForTask, IsWatched, IsFaced, DecidesMap}
 use Rattle.tl_plan.specs.Asked.{IsAuditTask, decision}
 use Rattle.tl_plan.specs.declared.budget.Told.{Told}

@@ -8,7 +8,8 @@ use Rattle.clap.specs.declared.builder.command.Command.TheViews.{out-Command}
 use Rattle.tl_plan.specs.declared.command_line.Named.{Named}
 use Rattle.tl_plan.specs.declared.command_line.Named.TheVariants.{Show, Landmarks, Locate, Audit, Build, Check, Convert, Export, Draw}
 use Rattle.tl_plan.specs.declared.command_line.Argument.{Argument}
-use Rattle.tl_plan.specs.declared.command_line.Argument.TheVariants.{All, Most, Progress, Where, FacesOfAudit, Faces, FaultsOption, ZeroCells, Released, Files, Point, CertOption, OutOption, Tests, Cert, Out, CollectionOption, PictureOption, At, Width, Faults}
+use Rattle.tl_plan.specs.declared.command_line.Argument.TheVariants.{All, Most, Progress, Where, FacesOfAudit, Faces, FaultsOption, ZeroCells, Released, Files, Point}
+use Rattle.tl_plan.specs.declared.command_line.Argument.TheVariants.{CertOption, OutOption, Tests, Cert, Out, CollectionOption, PictureOption, At, Width, Faults}
 use Rattle.tl_plan.specs.Commands.{all_argument, most_argument, zero_cells_argument, released_argument, files_argument}
 use Rattle.tl_plan.specs.Commands.{progress_argument, where_argument, faces_argument, faults_argument, value_argument}
 use Rattle.tl_plan.specs.Commands.{name_argument, named_argument, tests_argument}

@@ -1,4 +1,5 @@
-use Rattle.tl_plan.specs.declared.command_line.Argument.TheVariants.{All, Most, ZeroCells, Released, Files, Point, CertOption, OutOption, Tests, Cert, Out, Progress, FacesOfAudit, Faces, CollectionOption, PictureOption, At, Width, Faults}
+use Rattle.tl_plan.specs.declared.command_line.Argument.TheVariants.{All, Most, ZeroCells, Released, Files, Point, CertOption, OutOption, Tests, Cert}
+use Rattle.tl_plan.specs.declared.command_line.Argument.TheVariants.{Out, Progress, FacesOfAudit, Faces, CollectionOption, PictureOption, At, Width, Faults}
 use Rattle.tl_plan.proofs.CommandsLemmas.{arg_told}
 use Rattle.tl_plan.proofs.command_line.told.Goals as goal
 
@@ -39,7 +40,9 @@ pub returns-in-Progress : goal.returns-in-Progress
 returns-in-Progress c = rw c.in-Progress.is (arg_told c.switch-in-Progress.result Progress c.switch-in-Progress.ensures.rule c.switch-in-Progress.ensures.local)
 
 pub returns-in-FacesOfAudit : goal.returns-in-FacesOfAudit
-returns-in-FacesOfAudit c = rw c.in-FacesOfAudit.is (arg_told c.switch-in-FacesOfAudit.result FacesOfAudit c.switch-in-FacesOfAudit.ensures.rule c.switch-in-FacesOfAudit.ensures.local)
+returns-in-FacesOfAudit c =
+    rw c.in-FacesOfAudit.is
+    (arg_told c.switch-in-FacesOfAudit.result FacesOfAudit c.switch-in-FacesOfAudit.ensures.rule c.switch-in-FacesOfAudit.ensures.local)
 
 pub returns-in-Faces : goal.returns-in-Faces
 returns-in-Faces c = rw c.in-Faces.is (arg_told c.switch-in-Faces.result Faces c.switch-in-Faces.ensures.rule c.switch-in-Faces.ensures.local)

@@ -9,7 +9,8 @@ pub returns-in-show : goal.returns-in-show
 returns-in-show c = task_under c.args.name.now show_name (rows_of (found_of c.args.command.now)) c.show_of.result c.in-show.is c.show_of.ensures
 
 pub returns-in-landmarks : goal.returns-in-landmarks
-returns-in-landmarks c = task_under c.args.name.now landmarks_name (rows_of (found_of c.args.command.now)) c.landmarks_of.result c.in-landmarks.is c.landmarks_of.ensures
+returns-in-landmarks c =
+    task_under c.args.name.now landmarks_name (rows_of (found_of c.args.command.now)) c.landmarks_of.result c.in-landmarks.is c.landmarks_of.ensures
 
 pub returns-in-locate : goal.returns-in-locate
 returns-in-locate c = task_under c.args.name.now locate_name (rows_of (found_of c.args.command.now)) c.locate_of.result c.in-locate.is c.locate_of.ensures
