@@ -1,7 +1,5 @@
 //! Landmarks as a map keeps them.
 
-use indexmap::IndexMap;
-use std::hash::RandomState;
 use tl_geom::Point;
 
 /// Where the polygons of a landmark stand among those of all landmarks.
@@ -11,10 +9,10 @@ pub struct LandmarkRow {
     pub count: usize,
 }
 
-/// Landmarks by their LANDs, and beside each, in `rows`, which polygons of one list are linked to it.
+/// The LANDs of landmarks with their points, and beside each, in `rows`, which polygons of one list are linked to it.
 #[derive(Drop)]
 pub struct LinkedLandmarks {
-    pub points: IndexMap<u64, Option<Point>, RandomState>,
+    pub points: Vec<(u64, Option<Point>)>,
     pub rows: Vec<LandmarkRow>,
     pub linked: Vec<u32>,
 }

@@ -14,9 +14,7 @@ use crate::nodes::{Nodes, number_nodes};
 use crate::polygons::Polygon;
 use crate::segments::number_segments;
 use crate::sides::Side;
-use indexmap::IndexMap;
 use std::alloc::{AllocError, Global};
-use std::hash::RandomState;
 use std::marker::Model;
 use tl_geom::{Direction, Point, Segment};
 
@@ -27,7 +25,7 @@ pub struct Map {
     chains: Chains,
     sides: SidesOfChains,
     polygons: Vec<Polygon>,
-    landmarks: IndexMap<u64, Option<Point>, RandomState>,
+    landmarks: Vec<(u64, Option<Point>)>,
     rows: Vec<LandmarkRow>,
     linked: Vec<u32>,
     /// The chain of each segment.
@@ -69,19 +67,19 @@ impl Model for Map {
     ghost view = { λ m. record {
       chains = sided m.chains.chains m.sides;
       polygons = m.polygons.items;
-      landmarks = landmarks_in m.linked.items m.landmarks.entries m.rows.items;
+      landmarks = landmarks_in m.linked.items m.landmarks.items m.rows.items;
       skipped = m.chains.skipped;
     } };
 
     ghost invariant = { λ m. (length m.sides ≡ length m.chains.chains)
         × (length m.polygons.items ≤ most_polygons)
-        × (length m.landmarks.entries ≤ most_landmarks)
+        × (length m.landmarks.items ≤ most_landmarks)
         × All (IsRow m.linked.items) m.rows.items
         × All (λ (c : CompleteChain). IsProper c.points) m.chains.chains
         × AreNumberedSegments m.chains.chains m.segment_chains.items
         × AreNumberedNodes m.chains.chains m.nodes
         × All (HasPolygonsOf (length m.polygons.items) m.linked.items) m.rows.items
-        × (length m.rows.items ≡ length m.landmarks.entries)
+        × (length m.rows.items ≡ length m.landmarks.items)
         × (length m.segment_chains.items ≤ most_segments) };
 }
 
@@ -124,15 +122,15 @@ impl Map {
     ) -> Result<Map, AllocError>
         requires paired { length sides ≡ length chains.chains }
         requires polygons { length polygons.items ≤ most_polygons }
-        requires landmarks { length landmarks.points.entries ≤ most_landmarks }
-        requires beside { length landmarks.rows.items ≡ length landmarks.points.entries }
+        requires landmarks { length landmarks.points.items ≤ most_landmarks }
+        requires beside { length landmarks.rows.items ≡ length landmarks.points.items }
         requires within { All (IsRow landmarks.linked.items) landmarks.rows.items }
         requires proper { All (λ (c : CompleteChain). IsProper c.points) chains.chains }
         requires linked { All (HasPolygonsOf (length polygons.items) landmarks.linked.items) landmarks.rows.items }
         ensures { IfOk result (λ m. m ≡ record {
           chains = sided chains.chains sides;
           polygons = polygons.items;
-          landmarks = landmarks_in landmarks.linked.items landmarks.points.entries landmarks.rows.items;
+          landmarks = landmarks_in landmarks.linked.items landmarks.points.items landmarks.rows.items;
           skipped = chains.skipped;
         }) }
     {
@@ -230,13 +228,11 @@ impl Map {
         ensures polygons { ArePolygonsOf (length self.now.polygons) result.polygons.now }
     {
         let row = self.rows[l as usize];
-        match self.landmarks.get_index(l as usize) {
-            Some((land, point)) => Landmark {
-                land: *land,
-                point: *point,
-                polygons: &self.linked[row.first..row.first + row.count],
-            },
-            None => unreachable!(),
+        let (land, point) = self.landmarks[l as usize];
+        Landmark {
+            land,
+            point,
+            polygons: &self.linked[row.first..row.first + row.count],
         }
     }
 

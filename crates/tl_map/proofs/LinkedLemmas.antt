@@ -1,4 +1,4 @@
-use Rattle.std.proofs.Common.{◌≡◌, ℕ, suc, ◌+◌, ◌<◌, eqb, inl, inr, Option, Some, List, [], ◌∷◌, length, map, filter, get_or, All, refl, ap, ◌∙◌, arith}
+use Rattle.std.proofs.Common.{◌≡◌, ℕ, zero, suc, ◌+◌, ◌<◌, eqb, inl, inr, Option, Some, List, [], ◌∷◌, length, map, filter, take, get_or, ◌++◌, All, refl, ap, ◌∙◌, arith}
 use Rattle.std.specs.Prelude.{slice_get, nat_eq}
 use Rattle.std.proofs.lemmas.List.{length-map}
 use Rattle.std.proofs.lemmas.Bool.{cases_eq, eq-eqb, ne_eqb}
@@ -60,16 +60,17 @@ links_inside ks ns links old new count same all sorted =
     All-permutation (λ m. m.polygon < count) old new sorted.moved (λ k d lt. let x : LinkEntry = record { key = record { cenid = []; polyid = 0 }; land = 0 } in let h = slice_get_within ks (get_or old k d).polygon _ (all.0.each k x d lt).known in omega (arith, h, same))
 
 -- the landmarks with their links
-pub linked_all : (ks : List PolyKey) (entries : List LandmarkEntry) (links : List LinkEntry) (old new : List Link) (l : LinkedLandmarks) → ListsLandmarks entries l.points → Numbers (keys l.points) (index_of nat_eq l.points) → AreAllLinks ks (keys l.points) links old → AreByLandmark old new → AreRows new (length l.points.entries) l.linked.items l.rows.items → AreLinked ks entries links l
-linked_all ks entries links old new l lists numbers all sorted rows = record {
-  are = rw (← lists.firsts_are) (listed_is ks (keys l.points) _ links old new l.linked.items l.points.entries l.rows.items 0 numbers all sorted rows.count (λ k d lt. let none : 0 + k ≡ k = omega arith in rw none (rows.are k d lt)) (λ j n h. let none : 0 + j ≡ j = omega arith in rw none h));
-  beside = rows.count;
+pub linked_all : (ks : List PolyKey) (entries : List LandmarkEntry) (links : List LinkEntry) (old new : List Link) (f : IndexMap ℕ (Option Point) RandomState) (l : LinkedLandmarks) → l.points.items ≡ f.entries → ListsLandmarks entries f → Numbers (keys f) (index_of nat_eq f)
+    → AreAllLinks ks (keys f) links old → AreByLandmark old new → AreRows new (length f.entries) l.linked.items l.rows.items → AreLinked ks entries links l
+linked_all ks entries links old new f l same lists numbers all sorted rows = record {
+  are = rw (same, ← lists.firsts_are) (listed_is ks (keys f) _ links old new l.linked.items f.entries l.rows.items 0 numbers all sorted rows.count (λ k d lt. let none : 0 + k ≡ k = omega arith in rw none (rows.are k d lt)) (λ j n h. let none : 0 + j ≡ j = omega arith in rw none h));
+  beside = rw same rows.count;
   within = rows.within;
   known = λ k d lt.
       let m : Link = record { landmark = 0; polygon = 0 } in
       let this = all.0.each k d m (omega (arith, all.1)) in
-      (lists.no_other (get_or links k d).land (contained (keys l.points) (get_or old k m).landmark _ this.landmark), contained ks (get_or old k m).polygon _ this.known);
-  few = omega (arith, lists.few, ap length lists.firsts_are, length-map l.points.entries first_of);
+      (lists.no_other (get_or links k d).land (contained (keys f) (get_or old k m).landmark _ this.landmark), contained ks (get_or old k m).polygon _ this.known);
+  few = omega (arith, lists.few, ap length lists.firsts_are, length-map f.entries first_of);
 }
 
 -- what stops the links
@@ -87,3 +88,11 @@ stops_linking ks entries f links stop lists why = elim why [
     ],
   )
 ]
+
+-- a beginning of a list, with one element more
+pub take_more : {X : Type 0} (xs : List X) (i : ℕ) (x : X) → i < length xs → take (i + 1) xs ≡ take i xs ++ get_or xs i x ∷ []
+take_more [] i x lt = absurd (omega arith)
+take_more (y ∷ ys) zero x lt = refl
+take_more (y ∷ ys) (suc i) x lt =
+    let n : suc i + 1 ≡ suc (i + 1) = omega arith in
+    rw n (ap (λ zs. y ∷ zs) (take_more ys i x (omega arith)))

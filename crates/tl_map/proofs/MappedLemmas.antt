@@ -164,7 +164,7 @@ stops_linked rs polygons entries links stop p e l why = elim why [
 ]
 
 -- the map is that of the records
-pub mapped_all : (rs : List Record) (skipped : ℕ) (chains : ChainList) (areas : AreaRecords) (new : List SidesEntry) (sides : List ChainSides) (found : PolyKey → Option ℕ) (l : LinkedLandmarks) → AreBuilt rs skipped chains → KeepsAreas rs areas → ArePaired (tlids chains.chains) areas.sides new → Numbers (keys areas.polygons.items) found → All (NamesKnown (keys areas.polygons.items)) new → sides ≡ map (sided_by (keys areas.polygons.items)) new → length areas.polygons.items ≤ most_polygons → AreLinked (keys areas.polygons.items) areas.landmarks.items areas.links.items l → AreMapped rs skipped (record { chains = sided chains.chains sides; polygons = areas.polygons.items; landmarks = rows_in l.linked.items l.points.entries l.rows.items; skipped = chains.skipped })
+pub mapped_all : (rs : List Record) (skipped : ℕ) (chains : ChainList) (areas : AreaRecords) (new : List SidesEntry) (sides : List ChainSides) (found : PolyKey → Option ℕ) (l : LinkedLandmarks) → AreBuilt rs skipped chains → KeepsAreas rs areas → ArePaired (tlids chains.chains) areas.sides new → Numbers (keys areas.polygons.items) found → All (NamesKnown (keys areas.polygons.items)) new → sides ≡ map (sided_by (keys areas.polygons.items)) new → length areas.polygons.items ≤ most_polygons → AreLinked (keys areas.polygons.items) areas.landmarks.items areas.links.items l → AreMapped rs skipped (record { chains = sided chains.chains sides; polygons = areas.polygons.items; landmarks = rows_in l.linked.items l.points.items l.rows.items; skipped = chains.skipped })
 mapped_all rs skipped chains areas new sides found l built keeps paired numbers known are few linked =
     let paired_in : ArePaired (tlids chains.chains) (sides_in rs) new = rw keeps.sides at paired in
     let numbers_in : Numbers (keys (polygons_in rs)) found = rw keeps.polygons at numbers in
@@ -202,6 +202,6 @@ as_many rs skipped chains old new sides ks built paired are =
     omega (arith, ap length are, length-map new (sided_by ks), ap length paired.same, length-map new (λ (s : SidesEntry). s.tlid), length-map chains.chains (λ (c : CompleteChain). c.tlid))
 
 -- no more landmarks than the limit
-pub few_rows : (ks : List PolyKey) (entries : List LandmarkEntry) (links : List LinkEntry) (l : LinkedLandmarks) → AreLinked ks entries links l → length l.points.entries ≤ most_landmarks
+pub few_rows : (ks : List PolyKey) (entries : List LandmarkEntry) (links : List LinkEntry) (l : LinkedLandmarks) → AreLinked ks entries links l → length l.points.items ≤ most_landmarks
 few_rows ks entries links l linked =
-    omega (arith, ap length linked.are, length-landmarks_in l.linked.items l.points.entries l.rows.items linked.beside, length-map (firsts (λ (e : LandmarkEntry). e.land) entries) (landmark_from ks links), linked.few)
+    omega (arith, ap length linked.are, length-landmarks_in l.linked.items l.points.items l.rows.items linked.beside, length-map (firsts (λ (e : LandmarkEntry). e.land) entries) (landmark_from ks links), linked.few)

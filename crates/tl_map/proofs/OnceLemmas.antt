@@ -71,7 +71,7 @@ rows_once ks entries links l linked k d lt =
     let known : All (λ (x : LinkEntry). Contains ks x.key) links = λ i e within. (linked.known i e within).1 in
     let all : All (λ (m : MapLandmark). ArePolygonsOf (length ks) m.polygons) (map (landmark_from ks links) (firsts (λ (e : LandmarkEntry). e.land) entries)) =
     All-map (λ (m : MapLandmark). ArePolygonsOf (length ks) m.polygons) (landmark_from ks links) (firsts (λ (e : LandmarkEntry). e.land) entries) (λ i e within. linked_once ks links _ known) in
-    let here = All-map (ArePolygonsOf (length ks)) (λ (m : MapLandmark). m.polygons) (landmarks_in l.linked.items l.points.entries l.rows.items) (rw (← linked.are) at all) in
-    let rows : All (ArePolygonsOf (length ks)) (map (polygons_at l.linked.items) l.rows.items) = rw (polygons_of l.linked.items l.points.entries l.rows.items linked.beside) at here in
+    let here = All-map (ArePolygonsOf (length ks)) (λ (m : MapLandmark). m.polygons) (landmarks_in l.linked.items l.points.items l.rows.items) (rw (← linked.are) at all) in
+    let rows : All (ArePolygonsOf (length ks)) (map (polygons_at l.linked.items) l.rows.items) = rw (polygons_of l.linked.items l.points.items l.rows.items linked.beside) at here in
     let within : k < length (map (polygons_at l.linked.items) l.rows.items) = let h = length-map l.rows.items (polygons_at l.linked.items) in omega arith in
     rw (get_or-map (polygons_at l.linked.items) l.rows.items k d [] lt) at (rows k [] within)

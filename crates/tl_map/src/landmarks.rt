@@ -42,6 +42,24 @@ pub fn first_landmarks(
     Ok(firsts)
 }
 
+/// The LANDs of an index with their points, in its order.
+fn points_of(
+    alloc: Global,
+    firsts: &IndexMap<u64, Option<Point>, RandomState>,
+) -> Result<Vec<(u64, Option<Point>)>, AllocError>
+    ensures { IfOk result (λ points. points.items ≡ firsts.now.entries) }
+{
+    let count = firsts.len();
+    let mut points = Vec::with_capacity(alloc, count)?;
+    for number in 0..count {
+        match firsts.get_index(number) {
+            Some((land, point)) => points.push((*land, *point))?,
+            None => unreachable!(),
+        }
+    }
+    Ok(points)
+}
+
 /// A polygon that is linked to a landmark, both by number.
 #[derive(Clone, Copy)]
 pub struct Link {
@@ -228,8 +246,9 @@ pub fn build_landmarks(
     ensures { MatchResult result (AreLinked (keys index.now) entries.now links.now)
         (StopsLinking (keys index.now) entries.now links.now) }
 {
-    let points = first_landmarks(alloc, hasher, entries)?;
-    let (rows, linked) = link_landmarks(alloc, index, &points, links)?;
+    let firsts = first_landmarks(alloc, hasher, entries)?;
+    let (rows, linked) = link_landmarks(alloc, index, &firsts, links)?;
+    let points = points_of(alloc, &firsts)?;
     Ok(LinkedLandmarks {
         points,
         rows,

@@ -103,8 +103,8 @@ landmark_from ks links e = record { land = e.land; point = e.point; polygons = l
 
 -- the landmarks of the records with the polygons of the links, each of which names one of both
 pub record AreLinked (ks : List PolyKey) (entries : List LandmarkEntry) (links : List LinkEntry) (l : LinkedLandmarks) : Type 0 where
-  pub are : landmarks_in l.linked.items l.points.entries l.rows.items ≡ map (landmark_from ks links) (firsts (λ e. e.land) entries)
-  pub beside : length l.rows.items ≡ length l.points.entries
+  pub are : landmarks_in l.linked.items l.points.items l.rows.items ≡ map (landmark_from ks links) (firsts (λ e. e.land) entries)
+  pub beside : length l.rows.items ≡ length l.points.items
   pub within : All (IsRow l.linked.items) l.rows.items
   pub known : All (λ link. Contains (lands entries) link.land × Contains ks link.key) links
   pub few : length (firsts (λ (e : LandmarkEntry). e.land) entries) ≤ most_landmarks

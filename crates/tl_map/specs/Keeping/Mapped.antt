@@ -45,7 +45,7 @@ pub record IsLinkedMap (c : ChainList) (sides : List ChainSides) (index : IndexM
   pub is : m ≡ record {
     chains = sided c.chains sides;
     polygons = map polygon_in index.entries;
-    landmarks = landmarks_in landmarks.linked.items landmarks.points.entries landmarks.rows.items;
+    landmarks = landmarks_in landmarks.linked.items landmarks.points.items landmarks.rows.items;
     skipped = c.skipped;
   }
 

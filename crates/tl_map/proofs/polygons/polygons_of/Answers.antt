@@ -1,7 +1,6 @@
-use Rattle.std.proofs.Common.{◌≡◌, ◌∙◌, None, Some, ◌++◌, ◌∷◌, [], pos, length, map, take, sym, ap, arith}
-use Rattle.std.proofs.lemmas.List.{map_more, take_all}
+use Rattle.std.proofs.Common.{◌∙◌, ◌++◌, ◌∷◌, [], pos, map, take, sym, ap, arith}
+use Rattle.std.proofs.lemmas.List.{map_more}
 use Rattle.std.proofs.lemmas.Option.{slice_get-get_or, get_or_from_slice_get}
-use Rattle.std.proofs.lemmas.Result.{err_from_is_err_and}
 use Rattle.tl_geom.specs.declared.point.Point.{Point}
 use Rattle.tl_key.specs.declared.key.PolyKey.{PolyKey}
 use Rattle.tl_county.specs.Rows.{polygon_in}
