@@ -1,5 +1,5 @@
 -- What the clauses of answers to maps read off what these say.
-use Rattle.std.proofs.Common.{◌≡◌, ◌↔◌, ℕ, List, Option, Some, None, Result, Ok, Err, refl, subst}
+use Rattle.std.proofs.Common.{◌≡◌, ◌↔◌, ℕ, List, Option, Some, None, Result, Ok, Err, subst}
 use Rattle.std.specs.Prelude.{IfOk, IfErr, MatchOption}
 use Rattle.tl_county.specs.TheMap.{TheMap}
 use Rattle.tl_planar.specs.Planar.{IsPlanar}
@@ -17,10 +17,9 @@ use Rattle.tl_verdict.proofs.Denials.{not_sound}
 use Rattle.tl_propose.proofs.Soundness.{sound_by}
 use Rattle.tl_build.specs.declared.answer.Audit.TheVariants as audit
 use Rattle.tl_build.specs.declared.answer.Built.TheVariants as built
-use Rattle.tl_build.specs.Auditing.{Auditing, IfSound, OnSound, IfFaulty, SaysSound}
+use Rattle.tl_build.specs.Auditing.{Auditing, IfSound, OnSound, IfFaulty, SaysSound, IsMemoryStop}
 use Rattle.tl_build.specs.Building.{Building, IfCert, OnCert, IfFault, HasCert}
 use Rattle.tl_build.specs.Keeping.Deciding.{Audits, Builds, IsBuilt}
-use Rattle.tl_build.specs.Keeping.Judging.{IsMapStop}
 
 -- where nothing was found to be at odds
 pub none_found : (m : TheMap) (found : Option MapFault) → found ≡ None → MatchOption found (SidesAgree m.chains × CellsAgree m.chains) (IsTrueOfMap m) → SidesAgree m.chains × CellsAgree m.chains
@@ -56,7 +55,7 @@ module _ (m : TheMap) where
   exactly (Ok (audit.Fault fault)) says = ((λ said. absurd said), (λ sound. absurd (not_sound m fault says sound)))
   exactly (Err stop) says = tt
 
-  pub stops : (answer : Auditing) → Audits m answer → IfErr answer IsMapStop
+  pub stops : (answer : Auditing) → Audits m answer → IfErr answer IsMemoryStop
   stops (Ok told) says = tt
   stops (Err stop) says = says
 

@@ -31,6 +31,12 @@ abbrev pub SaysSound : Audit → Type 0
 SaysSound (Sound report) = ⊤
 SaysSound (Fault fault) = ⊥
 
+-- the stop is that memory was refused
+abbrev pub IsMemoryStop : AuditStop → Type 0
+IsMemoryStop (Record line cause) = ⊥
+IsMemoryStop Memory = ⊤
+IsMemoryStop Device = ⊥
+
 -- why records aren't decided: this line is the first that is refused, memory was refused, or a read failed
 abbrev pub MayStopAudit : Records → AuditStop → Type 0
 MayStopAudit all (Record line cause) = all.refusal ≡ Some (line, cause)

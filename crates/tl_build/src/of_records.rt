@@ -9,26 +9,21 @@ ghost use Rattle.tl_sides.specs.Sides.{SidesAgree};
 ghost use Rattle.tl_inside.specs.Placed.{ArePlaced};
 ghost use Rattle.tl_cells.specs.Cells.{CellsAgree};
 ghost use Rattle.tl_verdict.specs.Sound.{AreClosed, IsSound};
-ghost use Rattle.tl_verdict.specs.Truth.{IsTrueOfMap};
 ghost use Rattle.tl_verdict.specs.Verdicts.{IsReport};
 ghost use Rattle.tl_verdict.specs.Records.{HaveMap, IsTrueOfRecords};
 ghost use Rattle.tl_build.specs.Auditing.{IfSound, OnSound, IfFaulty, SaysSound, MayStopAudit, TellsDevice};
-ghost use Rattle.tl_build.specs.Keeping.Judging.{refusal_of, IsMapStop};
-ghost use Rattle.tl_build.specs.Keeping.Deciding.{Audits};
-ghost use Rattle.tl_propose.specs.Keeping.Proposed.{IsProposal};
+ghost use Rattle.tl_build.specs.Keeping.Judging.{refusal_of};
+ghost use Rattle.tl_build.specs.Keeping.Deciding.{Audits, AuditsRead};
 
 use crate::answer::Audit;
-use crate::judge::judge;
-use crate::planar::audit_planar;
-use crate::stop::{AuditStop, BuildStop};
+use crate::of_swept::decide_swept;
+use crate::stop::AuditStop;
 use std::alloc::Global;
 use std::hash::RandomState;
-use tl_cert::Certificate;
 use tl_county::Map;
 use tl_map::{MapStop, read_map_with};
-use tl_propose::propose;
 use tl_record::{Options, Source};
-use tl_sweep::{Swept, sweep};
+use tl_sweep::sweep;
 use tl_verdict::MapFault;
 
 // Neither choice of columns.
@@ -108,59 +103,27 @@ pub fn audit_with<R: Source>(
         MayStopAudit (records_of (layout_with options) text) stop)) }
     ensures failures { TellsDevice (R.failure_count records.old) (R.failure_count records.new) result }
 {
-    match read_map_with(alloc, hasher, records, options) {
-        Ok(map) => audit_map(alloc, &map),
+    let read = read_map_with(alloc, hasher, records, options);
+    audit_read(alloc, read)
+}
+
+/// Decides whether the map is sound that was read of records, or tells why there is none.
+fn audit_read(alloc: Global, read: Result<Map, MapStop>) -> Result<Audit, AuditStop>
+    ensures { AuditsRead read result }
+{
+    match read {
+        Ok(map) => decide(alloc, &map),
         Err(stop) => refused(stop),
     }
 }
 
-/// Decides whether the map of records is sound.
-fn audit_map(alloc: Global, map: &Map) -> Result<Audit, AuditStop>
-    ensures planar { OnSound result (IsPlanar map.now.chains) }
-    ensures sides { OnSound result (SidesAgree map.now.chains) }
-    ensures closed { OnSound result (AreClosed map.now) }
-    ensures points { OnSound result (ArePlaced map.now) }
-    ensures cells { OnSound result (CellsAgree map.now.chains) }
-    ensures report { IfSound result (IsReport map.now) }
-    ensures fault { IfFaulty result (IsTrueOfMap map.now) }
-    ensures exactly { IfOk result (λ answer. SaysSound answer ↔ IsSound map.now) }
-    ensures stops { IfErr result IsMapStop }
-{
-    decide(alloc, map)
-}
-
-/// Decides whether a map is sound: by a sweep, and where that says nothing of it by a search.
+/// Decides whether a map is sound, by what a sweep says of it.
 fn decide(alloc: Global, map: &Map) -> Result<Audit, AuditStop>
     ensures { Audits map.now result }
 {
     match sweep(alloc, map) {
-        Ok(Swept::Placed) => audit_planar(alloc, map, true),
-        Ok(Swept::Planar) => audit_planar(alloc, map, false),
-        Ok(Swept::Meet(meet)) => Ok(Audit::Fault(MapFault::Meet(meet))),
-        Ok(Swept::Unknown) => audit_by_search(alloc, map),
+        Ok(swept) => decide_swept(alloc, map, swept),
         Err(_) => Err(AuditStop::Memory),
-    }
-}
-
-/// Decides whether a map is sound by a search.
-fn audit_by_search(alloc: Global, map: &Map) -> Result<Audit, AuditStop>
-    ensures { Audits map.now result }
-{
-    match propose(alloc, map) {
-        Ok(cert) => audit_by(alloc, map, &cert),
-        Err(_) => Err(AuditStop::Memory),
-    }
-}
-
-/// Decides whether a map is sound by the certificate that is proposed for it.
-fn audit_by(alloc: Global, map: &Map, cert: &Certificate) -> Result<Audit, AuditStop>
-    requires proposed { IsProposal map.now cert.now }
-    ensures { Audits map.now result }
-{
-    match judge(alloc, map, cert) {
-        Ok(Ok(report)) => Ok(Audit::Sound(report)),
-        Ok(Err(fault)) => Ok(Audit::Fault(fault)),
-        Err(BuildStop::Memory) => Err(AuditStop::Memory),
     }
 }
 

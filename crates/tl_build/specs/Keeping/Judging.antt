@@ -12,7 +12,6 @@ use Rattle.tl_verdict.specs.Valid.{IsValid}
 use Rattle.tl_verdict.specs.Truth.{IsTrueOfMap}
 use Rattle.tl_verdict.specs.Verdicts.{IsReport}
 use Rattle.tl_build.specs.declared.stop.BuildStop.{BuildStop}
-use Rattle.tl_build.specs.declared.stop.AuditStop.{AuditStop}
 use Rattle.tl_build.specs.declared.stop.AuditStop.TheVariants as stop
 use Rattle.tl_build.specs.declared.answer.Audit.TheVariants as audit
 use Rattle.tl_build.specs.Auditing.{Auditing}
@@ -22,12 +21,6 @@ abbrev pub Judges : TheMap → TheCertificate → Result (Result Report MapFault
 Judges m cert (Ok (Ok report)) = IsSound m × IsValid m cert × IsReport m report
 Judges m cert (Ok (Err fault)) = IsTrueOfMap m fault
 Judges m cert (Err stop) = ⊤
-
--- a stop of a map in memory
-abbrev pub IsMapStop : AuditStop → Type 0
-IsMapStop (stop.Record line cause) = ⊥
-IsMapStop stop.Memory = ⊤
-IsMapStop stop.Device = ⊥
 
 -- the answer where the records have no map
 abbrev pub refusal_of : MapStop → Auditing
