@@ -1,4 +1,5 @@
 pub mod Faced
 pub mod OfMap
 pub mod OfRecords
+pub mod Audited
 pub mod Deciding

@@ -1,2 +1,3 @@
 -- What is kept on the way. No public contract cites a file of this folder.
 pub mod Faced
+pub mod Audited
