@@ -1,12 +1,9 @@
 -- What drawing a county answers.
-use Rattle.std.proofs.Common.{◌≡◌, ◌⊎◌, inl, inr, ℕ, Bool, true, false, List, [], ◌∷◌, map, ap, Some, Option, Result, Ok, Err, refl, sym, subst, ◌∙◌, append-nil}
+use Rattle.std.proofs.Common.{◌≡◌, ◌⊎◌, inl, inr, ℕ, Bool, true, false, List, [], ap, Some, Option, Result, Ok, Err, refl, sym, subst, ◌∙◌, append-nil}
 use Rattle.std.specs.Prelude.{⊤, is_ok}
 use Rattle.std.specs.Io.KnownBytes.{Appends}
 use Rattle.tl_record.specs.declared.layout.Layout.{Layout}
-use Rattle.std.specs.Option.{option_map}
-use Rattle.std.specs.Fmt.{option_append}
-use Rattle.tl_text.specs.Joining.{joined_bytes, closed}
-use Rattle.tl_files.specs.Files.{Under, bytes_under}
+use Rattle.tl_files.specs.Files.{Under}
 use Rattle.tl_files.specs.declared.beginning.FileKind.TheVariants.{Picture as PictureKind}
 use Rattle.tl_output.specs.Writing.{Writes, FailsToWrite, CountsFailure, TriesToPassOn, PassesOn, line_of}
 use Rattle.tl_plan.specs.declared.plan.View.{View}
@@ -16,12 +13,13 @@ use Rattle.tl_answers.specs.declared.stop.TheConstants.{DONE, STOPPED, USAGE}
 use Rattle.tl_answers.specs.Running.{IsTold, NamesStop, NamesRecordFault}
 use Rattle.tl_answers.proofs.ToldLemmas.{line_stops}
 use Rattle.tl_making.specs.Opening.{RefusesName, StopsOpening}
+use Rattle.tl_making.specs.Files.{StandsUnder, KeepsBut, KeepsEach}
 use Rattle.tl_svg.specs.Texts.{picture_text}
 use Rattle.tl_draw.specs.declared.subject.Subject.{Subject}
 use Rattle.tl_draw.specs.declared.subject.Unread.{Unread}
 use Rattle.tl_draw.specs.declared.subject.Unread.TheVariants.{Fault, Stopped}
 use Rattle.tl_draw.specs.Subjects.{IsReadSubject}
-use Rattle.tl_draw.specs.Drawing.{Draws, IsDrawn, StandsUnder, KeepsOthers, KeepsAll, TellsUnread, TellsDrawn, TellsWritten, drawn_text, shown_count, picture_by}
+use Rattle.tl_draw.specs.Drawing.{Draws, IsDrawn, TellsUnread, TellsDrawn, TellsWritten, drawn_text, shown_count, picture_by}
 use Rattle.tl_svg.specs.Pictures.{chain_count, fault_count}
 use Rattle.tl_answers.specs.Lines.{IsLine}
 use Rattle.tl_svg.specs.declared.picture.Picture.{Picture}
@@ -33,7 +31,7 @@ module _ (layout : Layout) (known : Option (List ℕ)) (made : List ℕ) (view :
 
   -- it stopped, and each name is as it was
   stopped_so : status ≡ STOPPED → NamesStop told failed ⊤ out_same (IsDrawn layout known view shows (StandsUnder after made) part ⊎ NamesRecordFault layout known (λ fault. ⊤) part)
-      → KeepsAll before after made → IsIt
+      → KeepsEach before after made → IsIt
   stopped_so is names keeps = record {
     is_status = inr (inr (inl is));
     drawn = λ e. absurd (cc (sym is ∙ e));
@@ -47,14 +45,14 @@ module _ (layout : Layout) (known : Option (List ℕ)) (made : List ℕ) (view :
   }
 
   -- why it stopped was told
-  pub draws_stopped : (stop : Stop) → StopsOpening failed stop → IsTold stop status told → out_same → KeepsAll before after made → IsIt
+  pub draws_stopped : (stop : Stop) → StopsOpening failed stop → IsTold stop status told → out_same → KeepsEach before after made → IsIt
   draws_stopped (Record line cause) stops is same keeps = absurd stops
   draws_stopped Memory stops is same keeps = stopped_so is.0 (inl (is.1, tt, same)) keeps
   draws_stopped Device stops is same keeps = stopped_so is.0 (inr (is.1, inl (stops, same))) keeps
   draws_stopped Budget stops is same keeps = absurd stops
 
   -- the name was refused
-  pub draws_refused : status ≡ USAGE → RefusesName PictureKind before made read told → out_same → KeepsAll before after made → IsIt
+  pub draws_refused : status ≡ USAGE → RefusesName PictureKind before made read told → out_same → KeepsEach before after made → IsIt
   draws_refused is refuses same keeps = record {
     is_status = inr (inr (inr is));
     drawn = λ e. absurd (cc (sym is ∙ e));
@@ -68,7 +66,7 @@ module _ (layout : Layout) (known : Option (List ℕ)) (made : List ℕ) (view :
   }
 
   -- there is no map, and it was told why
-  pub draws_unread : (unread : Unread) → IsReadSubject layout known shows failed (Err unread) → TellsUnread unread status wrote told part out_same err_same → KeepsAll before after made → IsIt
+  pub draws_unread : (unread : Unread) → IsReadSubject layout known shows failed (Err unread) → TellsUnread unread status wrote told part out_same err_same → KeepsEach before after made → IsIt
   draws_unread (Fault fault) holds (inl is) keeps = record {
     is_status = inl (inr is.0);
     drawn = λ e. absurd (cc (sym is.0 ∙ e));
@@ -99,7 +97,7 @@ module _ (layout : Layout) (known : Option (List ℕ)) (made : List ℕ) (view :
 
   -- the picture stands, and it was told
   pub draws_told : (subject : Subject) → IsReadSubject layout known shows ⊥ (Ok subject) → StandsUnder after made (picture_text subject.map (picture_by view subject.map) subject.faults.items)
-      → KeepsOthers before after made → TellsDrawn (picture_by view subject.map) shows subject status wrote told part out_same err_same → IsIt
+      → KeepsBut before after made → TellsDrawn (picture_by view subject.map) shows subject status wrote told part out_same err_same → IsIt
   draws_told subject right stands others (inl is) = record {
     is_status = inl (inl is.0);
     drawn = λ e. record { map = subject.map; faults = subject.faults.items; drawn = right; kept = stands; written = is.1 };
@@ -126,7 +124,7 @@ module _ (layout : Layout) (known : Option (List ℕ)) (made : List ℕ) (view :
 
   -- the picture was written whole and stands, or it wasn't
   pub draws_written : (whole : Bool) (subject : Subject) (picture : Picture) → picture ≡ picture_by view subject.map → IsReadSubject layout known shows ⊥ (Ok subject)
-      → (whole ≡ true → StandsUnder after made (picture_text subject.map picture subject.faults.items)) → KeepsOthers before after made → (whole ≡ false → KeepsAll before after made)
+      → (whole ≡ true → StandsUnder after made (picture_text subject.map picture subject.faults.items)) → KeepsBut before after made → (whole ≡ false → KeepsEach before after made)
       → (whole ≡ false → failed) → TellsWritten whole picture shows subject status wrote told part out_same err_same → IsIt
   draws_written true subject picture is right stands others keeps fails tells =
       draws_told subject right (subst (λ p. StandsUnder after made (picture_text subject.map p subject.faults.items)) is (stands refl)) others
@@ -163,22 +161,6 @@ written_whole contents failures old new text (Err error) is passes counts = absu
 pub written_not : {S T E : Type 0} (failures : S → ℕ) (old new : S) (r : Result T E) → is_ok r ≡ false → CountsFailure (failures old) (failures new) r → FailsToWrite failures old new
 written_not failures old new (Ok done) is counts = absurd (cc)
 written_not failures old new (Err error) is counts = counts
-
--- ---- the joined text
-
-joined_of : {A : Type 0} (f : A → Option (List ℕ)) (before : Bool) (xs : List A) → joined_bytes f before xs ≡ joined_bytes (λ (o : Option (List ℕ)). o) before (map f xs)
-joined_of f before [] = refl
-joined_of f before (x ∷ xs) = ap (λ rest. option_append (option_map (closed before) (f x)) rest) (joined_of f false xs)
-
-joined_names : {A B : Type 0} (f : B → Option (List ℕ)) (h : A → B) (before : Bool) (xs : List A) → joined_bytes (λ x. f (h x)) before xs ≡ joined_bytes f before (map h xs)
-joined_names f h before [] = refl
-joined_names f h before (x ∷ xs) = ap (λ rest. option_append (option_map (closed before) (f (h x))) rest) (joined_names f h false xs)
-
--- readers of the files of these names give their joined text
-pub joined_under : {A B : Type 0} (f : A → Option (List ℕ)) (h : B → List ℕ) (under : Under) (readers : List A) (names : List B) → map f readers ≡ map (λ name. bytes_under under (h name)) names
-    → joined_bytes f false readers ≡ joined_bytes (bytes_under under) false (map h names)
-joined_under f h under readers names same =
-    joined_of f false readers ∙ ap (joined_bytes (λ (o : Option (List ℕ)). o) false) same ∙ sym (joined_of (λ name. bytes_under under (h name)) false names) ∙ joined_names (bytes_under under) h false names
 
 -- ---- what is told of a picture
 

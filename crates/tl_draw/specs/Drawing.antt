@@ -1,15 +1,14 @@
 -- What drawing a county answers, over the files of a file system. `before` and `after` say what stands under each name, where
 -- that is known; `wrote` and `told` say of a text that it was written to the output and to the error output; `part` that a
 -- beginning of it was written to the output, and that a write failed; `failed` that a file failed.
-use Rattle.std.specs.Prelude.{◌≡◌, ◌≢◌, ◌⊎◌, ℕ, Bool, true, false, List, ◌++◌, Option, Some, None, IfSome, Contains, codes, decimal, ⊤}
+use Rattle.std.specs.Prelude.{◌≡◌, ◌≢◌, ◌⊎◌, ℕ, Bool, true, false, List, ◌++◌, Option, Some, None, IfSome, codes, decimal, ⊤}
 use Rattle.tl_record.specs.declared.layout.Layout.{Layout}
 use Rattle.tl_record.specs.Records.{records_of}
 use Rattle.tl_drawn.specs.Reading.{IsReadFrom}
 use Rattle.tl_county.specs.TheMap.{TheMap}
 use Rattle.tl_verdict.specs.declared.fault.MapFault.{MapFault}
 use Rattle.tl_verdict.specs.declared.stop.Stop.TheVariants.{Device}
-use Rattle.tl_files.specs.Files.{Under, bytes_under, beside}
-use Rattle.tl_text.specs.Joining.{failures_of}
+use Rattle.tl_files.specs.Files.{Under, bytes_under}
 use Rattle.tl_files.specs.declared.beginning.FileKind.TheVariants.{Picture as PictureKind}
 use Rattle.tl_output.specs.Writing.{line_of}
 use Rattle.tl_plan.specs.declared.plan.View.{View}
@@ -17,7 +16,8 @@ use Rattle.tl_answers.specs.declared.stop.TheConstants.{DONE, MAP_FAULT, REFUSED
 use Rattle.tl_answers.specs.Running.{NamesRecordFault, NamesRefusal, NamesStop, IsTold}
 use Rattle.tl_answers.specs.Lines.{IsLine}
 use Rattle.tl_drawn.specs.Messages.{fault_text}
-use Rattle.tl_making.specs.Opening.{RefusesName, SomeRead, SomeWrite}
+use Rattle.tl_making.specs.Opening.{RefusesName}
+use Rattle.tl_making.specs.Files.{ReadsFail, StandsUnder, KeepsBut, KeepsEach, NewFileFails}
 use Rattle.tl_svg.specs.declared.frame.Frame.{Frame}
 use Rattle.tl_svg.specs.declared.picture.Picture.{Picture}
 use Rattle.tl_svg.specs.Frames.{fitted, frame_at}
@@ -59,18 +59,6 @@ pub record IsDrawn (layout : Layout) (known : Option (List ℕ)) (view : Option 
   pub kept : stands (picture_text map (picture_by view map) faults)
   pub written : wrote (drawn_line (picture_by view map) shows map faults)
 
--- a file of this text stands under a name
-abbrev pub StandsUnder : Under → List ℕ → List ℕ → Type 0
-StandsUnder after name text = IfSome (after name) (λ file. file ≡ Some text)
-
--- each name but this one, and that of one that isn't whole yet, is as it was
-abbrev pub KeepsOthers : Under → Under → List ℕ → Type 0
-KeepsOthers before after made = (name : List ℕ) → name ≢ made → name ≢ beside made → after name ≡ before name
-
--- so is this one, too
-abbrev pub KeepsAll : Under → Under → List ℕ → Type 0
-KeepsAll before after made = (name : List ℕ) → name ≢ beside made → after name ≡ before name
-
 -- what drawing into a file of this name answers
 pub record Draws (layout : Layout) (known : Option (List ℕ)) (made : List ℕ) (view : Option View) (shows : Bool) (read : List (List ℕ)) (status : ℕ) (before after : Under) (wrote told part : List ℕ → Type 0) (failed out_same err_same : Type 0) : Type 0 where
   pub is_status : ((status ≡ DONE) ⊎ (status ≡ MAP_FAULT)) ⊎ ((status ≡ REFUSED) ⊎ ((status ≡ STOPPED) ⊎ (status ≡ USAGE)))
@@ -81,20 +69,12 @@ pub record Draws (layout : Layout) (known : Option (List ℕ)) (made : List ℕ)
       (IsDrawn layout known view shows (StandsUnder after made) part ⊎ NamesRecordFault layout known (λ fault. ⊤) part)
   pub usage : status ≡ USAGE → RefusesName PictureKind before made read told × out_same
   pub err_stays : (status ≡ DONE) ⊎ (status ≡ MAP_FAULT) → err_same
-  pub others : KeepsOthers before after made
-  pub unmade : (status ≢ DONE) → KeepsAll before after made ⊎ ((status ≡ STOPPED) × IsDrawn layout known view shows (StandsUnder after made) (λ line. ⊤))
+  pub others : KeepsBut before after made
+  pub unmade : (status ≢ DONE) → KeepsEach before after made ⊎ ((status ≡ STOPPED) × IsDrawn layout known view shows (StandsUnder after made) (λ line. ⊤))
 
--- one of the files that are read has no bytes that are known, so that it may be that it can't be opened, or a read failed
-abbrev pub ReadsFail : {R : Type 0} → (reads : R → ℕ) → Under → List (List ℕ) → Type 0
-ReadsFail reads before read = ((name : List ℕ) × Contains read name × (bytes_under before name ≡ None)) ⊎ SomeRead (failures_of reads)
-
--- the new file can't be made, or a write of it failed
-abbrev pub MakesFail : {D : Type 0} → (writes : D → ℕ) → (knows : Bool) → Type 0
-MakesFail writes knows = (knows ≡ false) ⊎ SomeWrite writes
-
--- one of these failed, or it can't be told what stands under the name
+-- a file that is read failed or the new one, or it can't be told what stands under the name
 abbrev pub DrawFails : {R D : Type 0} → (reads : R → ℕ) → (writes : D → ℕ) → (knows : Bool) → Under → List ℕ → List (List ℕ) → Type 0
-DrawFails reads writes knows before made read = (bytes_under before made ≡ None) ⊎ (ReadsFail reads before read ⊎ MakesFail writes knows)
+DrawFails reads writes knows before made read = (bytes_under before made ≡ None) ⊎ (ReadsFail reads before read ⊎ NewFileFails writes knows)
 
 -- how it is told why nothing is drawn
 abbrev pub TellsUnread : Unread → ℕ → (wrote told part : List ℕ → Type 0) → (out_same err_same : Type 0) → Type 0

@@ -9,7 +9,8 @@ ghost use Rattle.tl_files.specs.Files.{bytes_under};
 ghost use Rattle.tl_answers.specs.Running.{TriesToWrite};
 ghost use Rattle.tl_svg.specs.Texts.{picture_text};
 ghost use Rattle.tl_draw.specs.Subjects.{IsReadSubject};
-ghost use Rattle.tl_draw.specs.Drawing.{Draws, TellsUnread, TellsDrawn, TellsWritten, picture_by, ReadsFail, DrawFails};
+ghost use Rattle.tl_draw.specs.Drawing.{Draws, TellsUnread, TellsDrawn, TellsWritten, picture_by, DrawFails};
+ghost use Rattle.tl_making.specs.Files.{ReadsFail};
 
 use crate::subject::{Subject, Unread, read_subject};
 use crate::telling::{DrawnChains, DrawnFaults};

@@ -1,5 +1,5 @@
 -- What is answered of an export.
-use Rattle.std.proofs.Common.{◌≡◌, inl, inr, ℕ, Bool, false, List, [], ◌∷◌, map, Option, None, Result, Ok, Err, refl, sym, ap, ◌∙◌}
+use Rattle.std.proofs.Common.{◌≡◌, inl, inr, ℕ, Bool, List, Option, None, Result, Ok, Err, refl, sym, ◌∙◌}
 use Rattle.std.specs.Prelude.{⊤}
 use Rattle.std.specs.Option.{IfSome}
 use Rattle.tl_record.specs.declared.layout.Layout.{Layout}
@@ -10,7 +10,6 @@ use Rattle.tl_drawn.specs.declared.fault.MapStop.TheVariants as map_stop
 use Rattle.tl_drawn.specs.Messages.{fault_text}
 use Rattle.tl_drawn.specs.Reading.{IsReadFrom}
 use Rattle.tl_files.specs.Files.{Under, bytes_under}
-use Rattle.tl_text.specs.Joining.{joined_bytes}
 use Rattle.tl_output.specs.Writing.{line_of}
 use Rattle.tl_verdict.specs.declared.stop.Stop.{Stop}
 use Rattle.tl_verdict.specs.declared.stop.Stop.TheVariants.{Record, Memory, Device, Budget}
@@ -18,22 +17,13 @@ use Rattle.tl_answers.specs.declared.stop.TheConstants.{USAGE}
 use Rattle.tl_answers.proofs.ToldLemmas.{line_stops}
 use Rattle.tl_files.specs.declared.beginning.FileKind.TheVariants.{Collection}
 use Rattle.tl_making.specs.Opening.{RefusesName, StopsOpening}
-use Rattle.tl_making.proofs.OpenLemmas.{joined_same}
 use Rattle.tl_export.specs.declared.exported.Exported.{Exported}
 use Rattle.tl_export.specs.declared.exporting.Exporting.{Exporting}
 use Rattle.tl_export.specs.declared.exporting.Exporting.TheVariants.{Made, Fault}
 use Rattle.tl_export.specs.Told.{exported_text}
-use Rattle.tl_export.specs.Exports.{SomeFileFails, Exports, ExportsMap, DrawsMap, made_by, unexported_by}
+use Rattle.tl_making.specs.Files.{DrawsMap}
+use Rattle.tl_export.specs.Exports.{SomeFileFails, Exports, ExportsMap, made_by, unexported_by}
 use Rattle.tl_export.specs.Answering.{TellsExport, ExportsOver, records_of_files}
-
-each_name : {A B C : Type 0} (f : B → C) (h : A → B) (xs : List A) → map (λ x. f (h x)) xs ≡ map f (map h xs)
-each_name f h [] = refl
-each_name f h (x ∷ xs) = ap (λ rest. f (h x) ∷ rest) (each_name f h xs)
-
--- readers that give the bytes that stand under names give the joined text of these
-pub joined_under : {A B : Type 0} (f : A → Option (List ℕ)) (under : Under) (h : B → List ℕ) (xs : List A) (ys : List B) → map f xs ≡ map (λ y. bytes_under under (h y)) ys
-    → joined_bytes f false xs ≡ joined_bytes (bytes_under under) false (map h ys)
-joined_under f under h xs ys same = joined_same f (bytes_under under) false xs (map h ys) (same ∙ each_name (bytes_under under) h ys)
 
 -- what is exported of the records' map
 pub exports_of_map : (layout : Layout) (known : Option (List ℕ)) (before after : Under) (name : List ℕ) (file_failed failed : Type 0) (m : TheMap) (result : Result Exported Stop) → (file_failed → failed)

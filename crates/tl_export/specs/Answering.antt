@@ -19,7 +19,7 @@ use Rattle.tl_export.specs.declared.exported.Exported.{Exported}
 use Rattle.tl_export.specs.declared.exporting.Exporting.{Exporting}
 use Rattle.tl_export.specs.declared.exporting.Exporting.TheVariants.{Made, Fault}
 use Rattle.tl_export.specs.Told.{exported_text}
-use Rattle.tl_export.specs.Files.{StandsUnder, KeepsBut, KeepsEach}
+use Rattle.tl_making.specs.Files.{StandsUnder, KeepsBut, KeepsEach}
 use Rattle.tl_export.specs.Exports.{IsMadeOf}
 
 -- how what comes of it is told

@@ -4,10 +4,8 @@ use Rattle.tl_record.specs.declared.layout.Layout.{Layout}
 use Rattle.tl_county.specs.TheMap.{TheMap}
 use Rattle.tl_files.specs.Files.{Under, bytes_under}
 use Rattle.tl_text.specs.Joining.{failures_of}
-use Rattle.tl_record.specs.Records.{records_of}
 use Rattle.tl_drawn.specs.declared.fault.MapStop.{MapStop}
 use Rattle.tl_drawn.specs.declared.fault.MapStop.TheVariants as map_stop
-use Rattle.tl_drawn.specs.Reading.{IsReadFrom}
 use Rattle.tl_sides.specs.Walks.{AreWalks}
 use Rattle.tl_verdict.specs.Sound.{IsSound}
 use Rattle.tl_verdict.specs.declared.stop.Stop.{Stop}
@@ -19,7 +17,7 @@ use Rattle.tl_geojson.specs.Rings.{county_text, county_text_with}
 use Rattle.tl_export.specs.declared.exported.Exported.{Exported}
 use Rattle.tl_export.specs.declared.exporting.Exporting.{Exporting}
 use Rattle.tl_export.specs.declared.exporting.Exporting.TheVariants.{Made, Fault}
-use Rattle.tl_export.specs.Files.{StandsUnder, KeepsBut, KeepsEach, NewFileFails, StopsFile}
+use Rattle.tl_making.specs.Files.{StandsUnder, KeepsBut, KeepsEach, NewFileFails, StopsFile}
 
 -- the text of a map that isn't sound: its chains and its polygons' points
 pub record IsPlain (m : TheMap) (exported : Exported) (text : List ℕ) : Type 0 where
@@ -62,14 +60,6 @@ StopsExport layout known failed Budget = ⊥
 abbrev pub ExportsMap : TheMap → (before after : Under) → List ℕ → Type 0 → Result Exported Stop → Type 0
 ExportsMap m before after name failed (Ok exported) = KeepsBut before after name × IsMadeOf m exported (StandsUnder after name)
 ExportsMap m before after name failed (Err stop) = KeepsEach before after name × StopsFile failed stop
-
--- the map of records, or why there is none
-abbrev pub DrawsMap : Layout → Option (List ℕ) → Type 0 → Result TheMap MapStop → Type 0
-DrawsMap layout known failed (Ok m) = IfSome known (λ text. IsReadFrom (records_of layout text) m)
-DrawsMap layout known failed (Err map_stop.Device) = failed
-DrawsMap layout known failed (Err map_stop.Memory) = ⊤
-DrawsMap layout known failed (Err (map_stop.Refused line cause)) = IfSome known (λ text. IsFirstRefusal layout text line cause)
-DrawsMap layout known failed (Err (map_stop.Fault fault)) = IfSome known (λ text. HasFault layout text fault)
 
 -- what comes of it where a map was exported
 abbrev pub made_by : Result Exported Stop → Result Exporting Stop

@@ -2,13 +2,12 @@
 
 ghost use Rattle.std.specs.Prelude.{◌≡◌, ◌<◌, ◌^◌, false, length, map as map_list, string_bytes};
 ghost use Rattle.tl_record.specs.Layout.{layout_with};
-ghost use Rattle.tl_text.specs.Joining.{joined_bytes, failures_of};
+ghost use Rattle.tl_text.specs.Joining.{joined_bytes};
 ghost use Rattle.tl_files.specs.Files.{bytes_under};
 ghost use Rattle.tl_verdict.specs.Sound.{IsSound};
 ghost use Rattle.tl_sides.specs.Walks.{AreWalks};
-ghost use Rattle.tl_answers.specs.Running.{FailsToRead};
-ghost use Rattle.tl_export.specs.Exports.{Exports, ExportsMap, SomeFileFails, DrawsMap, made_by, unexported_by};
-ghost use Rattle.tl_export.specs.Files.{NewFileFails};
+ghost use Rattle.tl_export.specs.Exports.{Exports, ExportsMap, SomeFileFails, made_by, unexported_by};
+ghost use Rattle.tl_making.specs.Files.{NewFileFails};
 
 use crate::exported::Exported;
 use crate::exporting::Exporting;
@@ -19,9 +18,10 @@ use tl_build::{BuildStop, Built, build};
 use tl_county::Map;
 use tl_files::{FileKind, FileSystem};
 use tl_geojson::{CountyText, CountyTextWith};
-use tl_making::opening::{as_one_text, give_back, open_all, room_for_bytes};
-use tl_map::{MapStop, read_map_with};
-use tl_record::{Options, Source};
+use tl_making::county::read_county;
+use tl_making::opening::open_all;
+use tl_map::MapStop;
+use tl_record::Options;
 use tl_verdict::Stop;
 
 /// Exports the map of the records in the files of these names, as GeoJSON under the name `made`. Where it stops, or the records
@@ -48,25 +48,6 @@ pub fn export<F: FileSystem>(
         Ok(map) => made_of(export_map(files, alloc, made, &map)),
         Err(stop) => unexported(stop),
     }
-}
-
-// The map of the records that these readers give, read one after the other as one text.
-fn read_county<R: Source + Drop>(
-    alloc: Global,
-    hasher: RandomState,
-    readers: &mut Vec<R>,
-    options: Options,
-) -> Result<Map, MapStop>
-    ensures { DrawsMap (layout_with options) (joined_bytes R.remaining false readers.old.items)
-        (FailsToRead (failures_of R.failure_count) readers.old.items readers.new.items) result }
-{
-    let Ok(room) = room_for_bytes(alloc) else {
-        return Err(MapStop::Memory);
-    };
-    let mut records = as_one_text(alloc, readers, room);
-    let read = read_map_with(alloc, hasher, &mut records, options);
-    give_back(records, readers);
-    read
 }
 
 // What comes of it where a map was exported, or wasn't.

@@ -1,7 +1,8 @@
 //! Files that are made of a text, whole or not at all.
 
 ghost use Rattle.std.specs.Prelude.{◌≡◌, string_bytes};
-ghost use Rattle.tl_export.specs.Files.{MakesFile, NewFileFails, stop_told};
+ghost use Rattle.tl_making.specs.Files.{MakesFile, NewFileFails};
+ghost use Rattle.tl_export.specs.Files.{stop_told};
 
 use std::alloc::Global;
 use tl_files::{FileKind, FileSystem};

@@ -41,7 +41,7 @@ use Rattle.tl_answers.specs.declared.stop.TheConstants.{DONE, MAP_FAULT, REFUSED
 use Rattle.tl_answers.specs.Running.{IsTold, IsAudited}
 use Rattle.tl_making.specs.Opening.{RefusesName, StopsOpening}
 use Rattle.tl_files.specs.declared.beginning.FileKind.TheVariants.{Collection}
-use Rattle.tl_export.specs.Files.{StopsFile}
+use Rattle.tl_making.specs.Files.{StopsFile}
 use Rattle.tl_lists.specs.Listings.{TellsListing}
 use Rattle.tl_lists.specs.Listed.{Lists, TellsText, AreFaultsIn, IsMade, IsUnmade, featured, reads_again, told_text, plain_text}
 use Rattle.tl_lists.specs.Keeping.{MakesAny, IsSoundOne, AreRefusalsIn, first_stop, most_of, told_by, Finds}

@@ -20,7 +20,7 @@ use Rattle.tl_listing.specs.declared.listing.ListingStop.TheVariants as listing_
 use Rattle.tl_all_faults.specs.declared.of_records.Findings.{Findings}
 use Rattle.tl_all_faults.specs.Findings.{AreFindingsOf}
 use Rattle.tl_making.specs.Opening.{StopsOpening}
-use Rattle.tl_export.specs.Files.{MakesFile}
+use Rattle.tl_making.specs.Files.{MakesFile}
 use Rattle.tl_placing.specs.declared.again.Spoken.{Spoken}
 use Rattle.tl_lists.specs.Listed.{told_text}
 

@@ -34,8 +34,7 @@ use Rattle.tl_fault_map.specs.Texts.{faults_text}
 use Rattle.tl_answers.specs.declared.stop.TheConstants.{DONE, MAP_FAULT, REFUSED, STOPPED, USAGE}
 use Rattle.tl_answers.specs.Running.{IsAudited, NamesRefusal}
 use Rattle.tl_making.specs.Opening.{RefusesName}
-use Rattle.tl_draw.specs.Drawing.{ReadsFail}
-use Rattle.tl_export.specs.Files.{StandsUnder, KeepsBut, KeepsEach, NewFileFails}
+use Rattle.tl_making.specs.Files.{ReadsFail, StandsUnder, KeepsBut, KeepsEach, NewFileFails}
 use Rattle.tl_lists.specs.Listings.{TellsRefusals}
 
 -- what is printed of faults without their records: the first line, or all, or so many from the front, and where all are told,

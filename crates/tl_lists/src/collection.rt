@@ -1,7 +1,7 @@
 //! The file of GeoJSON.
 
 ghost use Rattle.std.specs.Prelude.{◌≡◌, IfOk, IfErr, map, option_map, string_bytes};
-ghost use Rattle.tl_export.specs.Files.{NewFileFails};
+ghost use Rattle.tl_making.specs.Files.{NewFileFails};
 ghost use Rattle.tl_fault_map.specs.Texts.{faults_text};
 ghost use Rattle.std.specs.Prelude.{option_copied};
 ghost use Rattle.tl_record_lines.specs.Keeping.{held};

@@ -4,7 +4,7 @@ ghost use Rattle.std.specs.Prelude.{◌≡◌, false, map, string_bytes};
 ghost use Rattle.tl_record.specs.Layout.{layout_with};
 ghost use Rattle.tl_text.specs.Joining.{joined_bytes};
 ghost use Rattle.tl_files.specs.Files.{bytes_under};
-ghost use Rattle.tl_draw.specs.Drawing.{ReadsFail};
+ghost use Rattle.tl_making.specs.Files.{ReadsFail};
 ghost use Rattle.tl_lists.specs.Keeping.{Finds, told_by};
 
 use std::alloc::Global;

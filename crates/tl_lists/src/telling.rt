@@ -12,7 +12,7 @@ ghost use Rattle.tl_placing.specs.declared.again.Spoken.{Spoken};
 ghost use Rattle.tl_placing.specs.Again.{AreSpoken};
 ghost use Rattle.tl_record_lines.specs.SpokenOf.{chains_of};
 ghost use Rattle.tl_answers.specs.Running.{TriesToWrite};
-ghost use Rattle.tl_export.specs.Files.{NewFileFails};
+ghost use Rattle.tl_making.specs.Files.{NewFileFails};
 ghost use Rattle.tl_lists.specs.Listed.{Lists, TellingFails, TellsText, AreFaultsIn, featured, reads_again, told_text};
 ghost use Rattle.tl_lists.specs.Keeping.{IsPrepared, IsSoundOne, AreRefusalsIn, first_stop, most_of};
 

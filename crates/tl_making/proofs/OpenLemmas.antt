@@ -55,14 +55,20 @@ joined_names f h before [] = refl
 joined_names f h before (x ∷ xs) = ap (λ rest. option_append (option_map (closed before) (f (h x))) rest) (joined_names f h false xs)
 
 -- readers that give the bytes that stand under names give the joined text of the names
-pub joined_same : {A B : Type 0} (f : A → Option (List ℕ)) (g : B → Option (List ℕ)) (before : Bool) (xs : List A) (ys : List B) → map f xs ≡ map g ys → joined_bytes f before xs ≡ joined_bytes g before ys
+joined_same : {A B : Type 0} (f : A → Option (List ℕ)) (g : B → Option (List ℕ)) (before : Bool) (xs : List A) (ys : List B) → map f xs ≡ map g ys → joined_bytes f before xs ≡ joined_bytes g before ys
 joined_same f g before xs ys same = joined_of f before xs ∙ ap (joined_bytes (λ (o : Option (List ℕ)). o) before) same ∙ sym (joined_of g before ys)
+
+-- readers of the files of these names give their joined text
+pub joined_under : {A B : Type 0} (f : A → Option (List ℕ)) (h : B → List ℕ) (under : Under) (readers : List A) (names : List B) → map f readers ≡ map (λ name. bytes_under under (h name)) names
+    → joined_bytes f false readers ≡ joined_bytes (bytes_under under) false (map h names)
+joined_under f h under readers names same =
+    joined_same f (λ name. bytes_under under (h name)) false readers names same ∙ joined_names (bytes_under under) h false names
 
 -- readers of the files of these names give the plan's records
 pub records_are : {A B : Type 0} (f : A → Option (List ℕ)) (h : B → List ℕ) (plan : Plan) (under : Under) (readers : List A) (names : List B) → map f readers ≡ map (λ name. bytes_under under (h name)) names
     → map h names ≡ files_of plan → joined_bytes f false readers ≡ records_under under plan
 records_are f h plan under readers names same files =
-    joined_same f (λ name. bytes_under under (h name)) false readers names same ∙ joined_names (bytes_under under) h false names ∙ ap (joined_bytes (bytes_under under) false) files
+    joined_under f h under readers names same ∙ ap (joined_bytes (bytes_under under) false) files
 
 -- ---- a run that makes no file
 

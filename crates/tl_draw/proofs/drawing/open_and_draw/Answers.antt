@@ -2,7 +2,8 @@ use Rattle.std.proofs.Common.{inl, inr, refl, map, false, string_bytes}
 use Rattle.tl_record.specs.Layout.{layout_with}
 use Rattle.tl_text.specs.Joining.{joined_bytes}
 use Rattle.tl_files.specs.Files.{bytes_under}
-use Rattle.tl_draw.specs.Drawing.{ReadsFail, DrawFails}
+use Rattle.tl_draw.specs.Drawing.{DrawFails}
+use Rattle.tl_making.specs.Files.{ReadsFail}
 use Rattle.tl_draw.proofs.DrawLemmas.{draws_stopped, draws_refused, draws_unread, opening_for, unread_for}
 use Rattle.tl_draw.proofs.drawing.open_and_draw.Goals as goal
 

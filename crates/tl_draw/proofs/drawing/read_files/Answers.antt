@@ -1,7 +1,7 @@
 use Rattle.std.proofs.Common.{inr, ap, string_bytes, ◌∙◌}
 use Rattle.tl_record.specs.Failures.{one_more}
 use Rattle.tl_record.specs.Layout.{layout_with}
-use Rattle.tl_draw.proofs.DrawLemmas.{joined_under}
+use Rattle.tl_making.proofs.OpenLemmas.{joined_under}
 use Rattle.tl_draw.proofs.SubjectLemmas.{subject_for}
 use Rattle.tl_draw.proofs.drawing.read_files.Goals as goal
 

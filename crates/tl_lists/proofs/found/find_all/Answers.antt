@@ -1,7 +1,7 @@
 use Rattle.std.proofs.Common.{inr, ap, string_bytes, ◌∙◌}
 use Rattle.tl_record.specs.Failures.{one_more}
 use Rattle.tl_record.specs.Layout.{layout_with}
-use Rattle.tl_draw.proofs.DrawLemmas.{joined_under}
+use Rattle.tl_making.proofs.OpenLemmas.{joined_under}
 use Rattle.tl_lists.proofs.ListLemmas.{finds_by}
 use Rattle.tl_lists.proofs.found.find_all.Goals as goal
 
