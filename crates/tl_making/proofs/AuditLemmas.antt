@@ -31,7 +31,7 @@ use Rattle.tl_making.specs.Keeping.{TellsAudit}
 use Rattle.tl_answers.proofs.ToldLemmas.{line_stops, stopped_not_done, stopped_not_fault, stopped_not_refused}
 
 -- the claims of a sound map
-sound_with : (all : Records) (report : Report) → HaveMap all (λ m. IsPlanar m.chains) → HaveMap all (λ m. SidesAgree m.chains)
+pub sound_with : (all : Records) (report : Report) → HaveMap all (λ m. IsPlanar m.chains) → HaveMap all (λ m. SidesAgree m.chains)
     → HaveMap all AreClosed → HaveMap all ArePlaced → HaveMap all (λ m. CellsAgree m.chains) → HaveMap all (λ m. IsReport m report)
     → HaveMap all (IsSoundWith report)
 sound_with all report planar sides closed points cells reported =

@@ -14,7 +14,7 @@ use Rattle.tl_verdict.specs.declared.verdict.Report.{Report}
 use Rattle.tl_verdict.specs.declared.verdict.Verdict.TheVariants as verdict
 use Rattle.tl_verdict.specs.Sound.{IsSound}
 use Rattle.tl_verdict.specs.Valid.{IsValid}
-use Rattle.tl_verdict.specs.Verdicts.{AreNumbers}
+use Rattle.tl_verdict.specs.Verdicts.{IsReport, AreNumbers}
 use Rattle.tl_verdict.specs.Messages.{map_fault_text}
 use Rattle.tl_check.proofs.Recorded.{map_fault}
 use Rattle.tl_answers.specs.Verdicts.{built_text}
@@ -33,25 +33,26 @@ use Rattle.tl_answers.specs.Beginnings.{IsBegunOf, OfMap}
 use Rattle.tl_making.proofs.AuditLemmas.{names_fault_alone}
 use Rattle.tl_answers.proofs.ToldLemmas.{line_stops}
 
+-- the report of a map, where the certificate has its walks
+pub report_of : (m : TheMap) (c : TheCertificate) (report : Report) → IsValid m c → AreNumbers m (length c.walks) report → IsReport m report
+report_of m c report valid numbers = record {
+  chains = numbers.chains;
+  segments = numbers.segments;
+  nodes = numbers.nodes;
+  polygons = numbers.polygons;
+  landmarks = numbers.landmarks;
+  walks = c.walks;
+  rings = valid.walks;
+  counted = numbers.rings_are;
+}
+
 -- what was written of a sound map
 pub made_of : (m : TheMap) (made : List ℕ → Type 0) (c : TheCertificate) (report : Report) → IsTextOf c (certificate_text c) → IsSound m → IsValid m c → c.version ≡ 2
     → AreNumbers m (length c.walks) report → made (certificate_text c) → IsMadeOf m report made
 made_of m made c report text sound valid version numbers kept = record {
   certificate = c;
   is = text.certificate;
-  decided = record {
-    sound = sound;
-    reported = record {
-      chains = numbers.chains;
-      segments = numbers.segments;
-      nodes = numbers.nodes;
-      polygons = numbers.polygons;
-      landmarks = numbers.landmarks;
-      walks = c.walks;
-      rings = valid.walks;
-      counted = numbers.rings_are;
-    };
-  };
+  decided = record { sound = sound; reported = report_of m c report valid numbers };
   valid = valid;
   version = version;
   kept = kept;

@@ -151,8 +151,8 @@ pub fn is_made(making: &Result<Making, Stop>) -> bool
     }
 }
 
-// How many walks the certificate has.
-fn rings_of(certificate: &Certificate) -> u32
+/// How many walks the certificate has.
+pub fn rings_of(certificate: &Certificate) -> u32
     ensures { result ≡ length certificate.now.walks }
 {
     certificate.walks().len() as u32

@@ -1,0 +1,3 @@
+-- What the contracts cite.
+pub mod Outcomes
+pub mod Keeping
