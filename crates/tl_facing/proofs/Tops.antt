@@ -1,4 +1,5 @@
--- The highest end of a segment that isn't above a height: in the slab above that height stands what stands in the slab above this end.
+-- The highest end of a segment that isn't above a height: in the slab above that height stands what stands in the slab above this end. So
+-- what holds of the slabs above the ends of all segments, by what stands there, holds of all slabs.
 use Rattle.std.proofs.Common.{◌≡◌, ◌⊎◌, inl, inr, ⊎_elim, ℕ, zero, suc, ◌+◌, ◌<◌, ◌≤◌, ℤ, ◌<ℤ◌, ◌≤ℤ◌, List, [], length, refl, sym, ap, subst, ◌∙◌, arith}
 use Rattle.std.proofs.lemmas.Bool.{cases_order}
 use Rattle.std.proofs.lemmas.Int.{ints, by_lt_z}
@@ -21,11 +22,21 @@ use Rattle.tl_faces.proofs.ToFaces as faces
 use Rattle.tl_facing.specs.Keeping.Slabs.{IsSlabFacing, AreEndsFacing, AreFirstFacing}
 use Rattle.tl_facing.proofs.Beside.{own_near}
 
-module _ (K n : ℤ) (chains : List MapChain) where
-  -- a height of these has a list along which facing sides agree, it is n at most, and each other one is no higher or above n; or all
-  -- are above n
+-- something holds of the slabs above both ends of a segment
+pub record HoldsAbove (K : ℤ) (chains : List MapChain) (Holds : ℤ → Type 0) (s : ℕ) : Type 0 where
+  pub segment : Segment
+  pub is : IsNumbered chains s segment
+  pub first : Holds (height K segment.a)
+  pub last : Holds (height K segment.b)
+
+-- so it does of those of the first segments
+abbrev pub HoldsAboveFirst : ℤ → List MapChain → (ℤ → Type 0) → ℕ → Type 0
+HoldsAboveFirst K chains Holds count = (s : ℕ) → s < count → HoldsAbove K chains Holds s
+
+module _ (K n : ℤ) (chains : List MapChain) (Holds : ℤ → Type 0) where
+  -- it holds of a height of these, that is n at most, and each other one is no higher or above n; or all are above n
   record IsHighest (P : ℤ → Type 0) (h : ℤ) : Type 0 where
-    facing : IsSlabFacing K h chains
+    holds : Holds h
     under : h ≤ℤ n
     others : (z : ℤ) → P z → (z ≤ℤ h) ⊎ (n <ℤ z)
 
@@ -34,30 +45,30 @@ module _ (K n : ℤ) (chains : List MapChain) where
 
   weaker : (P Q : ℤ → Type 0) → ((z : ℤ) → Q z → P z) → HasHighest P → HasHighest Q
   weaker P Q f = ⊎_elim (λ all. inl (λ z q. all z (f z q)))
-      (λ t. inr (t.0, record { facing = t.1.facing; under = t.1.under; others = λ z q. t.1.others z (f z q) }))
+      (λ t. inr (t.0, record { holds = t.1.holds; under = t.1.under; others = λ z q. t.1.others z (f z q) }))
 
   -- one more height
-  added : (P : ℤ → Type 0) (v : ℤ) → IsSlabFacing K v chains → HasHighest P → HasHighest (λ z. P z ⊎ (z ≡ v))
-  added P v facing has =
+  added : (P : ℤ → Type 0) (v : ℤ) → Holds v → HasHighest P → HasHighest (λ z. P z ⊎ (z ≡ v))
+  added P v here has =
       by_lt_z n v
       (λ over. ⊎_elim
       (λ all. inl (λ z q. ⊎_elim (λ p. all z p) (λ (e : z ≡ v). omega (arith, ints, e, over)) q))
       (λ t. inr (
         t.0,
         record {
-          facing = t.1.facing;
+          holds = t.1.holds;
           under = t.1.under;
           others = λ z q. ⊎_elim (λ p. t.1.others z p) (λ (e : z ≡ v). inr (omega (arith, ints, e, over))) q;
         },
       ))
       has)
       (λ le. ⊎_elim
-      (λ all. inr (v, record { facing = facing; under = le; others = λ z q. ⊎_elim (λ p. inr (all z p)) (λ (e : z ≡ v). inl (omega (arith, ints, e))) q }))
+      (λ all. inr (v, record { holds = here; under = le; others = λ z q. ⊎_elim (λ p. inr (all z p)) (λ (e : z ≡ v). inl (omega (arith, ints, e))) q }))
       (λ t. by_lt_z t.0 v
       (λ more. inr (
         v,
         record {
-          facing = facing;
+          holds = here;
           under = le;
           others = λ z q. ⊎_elim
               (λ p. ⊎_elim (λ (k : z ≤ℤ t.0). inl (omega (arith, ints, k, more))) (λ k. inr k) (t.1.others z p))
@@ -67,7 +78,7 @@ module _ (K n : ℤ) (chains : List MapChain) where
       (λ less. inr (
         t.0,
         record {
-          facing = t.1.facing;
+          holds = t.1.holds;
           under = t.1.under;
           others = λ z q. ⊎_elim (λ p. t.1.others z p) (λ (e : z ≡ v). inl (omega (arith, ints, e, less))) q;
         },
@@ -82,11 +93,11 @@ module _ (K n : ℤ) (chains : List MapChain) where
     below : s < count
     at : (z ≡ height K segment.a) ⊎ (z ≡ height K segment.b)
 
-  highest : (count : ℕ) → AreFirstFacing K chains count → HasHighest (IsEndHeight count)
-  highest zero facing = inl (λ z e. absurd (let lt = e.below in omega (arith, lt)))
-  highest (suc count) facing =
-      let rest : HasHighest (IsEndHeight count) = highest count (λ s lt. facing s (omega (arith, lt))) in
-      let own : AreEndsFacing K chains count = facing count (omega arith) in
+  highest : (count : ℕ) → HoldsAboveFirst K chains Holds count → HasHighest (IsEndHeight count)
+  highest zero holds = inl (λ z e. absurd (let lt = e.below in omega (arith, lt)))
+  highest (suc count) holds =
+      let rest : HasHighest (IsEndHeight count) = highest count (λ s lt. holds s (omega (arith, lt))) in
+      let own : HoldsAbove K chains Holds count = holds count (omega arith) in
       let one : HasHighest (λ z. IsEndHeight count z ⊎ (z ≡ height K own.segment.a)) = added (IsEndHeight count) (height K own.segment.a) own.first rest in
       let both : HasHighest (λ z. (IsEndHeight count z ⊎ (z ≡ height K own.segment.a)) ⊎ (z ≡ height K own.segment.b)) =
       added (λ z. IsEndHeight count z ⊎ (z ≡ height K own.segment.a)) (height K own.segment.b) own.last one in
@@ -129,16 +140,8 @@ module _ (K n : ℤ) (chains : List MapChain) where
       at = ⊎_elim (λ k. inr (ap (height K) k.1)) (λ k. inl (ap (height K) k.1)) (ends s u is).are;
     }
 
-    none_active : ((z : ℤ) → P z → n <ℤ z) → IsSlabFacing K n chains
-    none_active all = (
-      [],
-      record {
-        active = All-nil (IsActive K n chains);
-        once = λ s a. absurd (let h = all (height K (low_end K a.segment)) (low s a.segment a.is) in let b = a.begun in omega (arith, ints, h, b));
-        tested = tt;
-      },
-      refl,
-    )
+    none_active : ((z : ℤ) → P z → n <ℤ z) → (s : ℕ) → ¬ IsActive K n chains s
+    none_active all s a = let h = all (height K (low_end K a.segment)) (low s a.segment a.is) in let b = a.begun in omega (arith, ints, h, b)
 
     module _ (h : ℤ) (top : IsHighest P h) where
       up : (s : ℕ) → IsActive K h chains s → IsActive K n chains s
@@ -161,21 +164,34 @@ module _ (K n : ℤ) (chains : List MapChain) where
             lasting = omega (arith, ints, under, lasting);
           }
 
-      same_list : IsSlabFacing K n chains
-      same_list =
-          let old = top.facing in (
-            old.0,
-            record { active = λ k d lt. up _ (old.1.active k d lt); once = λ s a. old.1.once s (down s a); tested = old.1.tested },
-            old.2,
-          )
+    module _ (none : ((s : ℕ) → ¬ IsActive K n chains s) → Holds n)
+        (same : (h : ℤ) → h ≤ℤ n → ((s : ℕ) → IsActive K h chains s → IsActive K n chains s) → ((s : ℕ) → IsActive K n chains s → IsActive K h chains s) →
+        Holds h → Holds n) where
+      pub holds_above : HoldsAboveFirst K chains Holds (segments_before chains (length chains)) → Holds n
+      holds_above holds =
+          ⊎_elim (λ all. none (none_active all)) (λ t. same t.0 t.1.under (up t.0 t.1) (down t.0 t.1) t.1.holds)
+          (highest (segments_before chains (length chains)) holds)
 
-    slab : AreFirstFacing K chains (segments_before chains (length chains)) → IsSlabFacing K n chains
-    slab facing = ⊎_elim (λ all. none_active all) (λ t. same_list t.0 t.1) (highest (segments_before chains (length chains)) facing)
+-- ---- facing sides agree
+
+module _ (K n : ℤ) (chains : List MapChain) where
+  none_facing : ((s : ℕ) → ¬ IsActive K n chains s) → IsSlabFacing K n chains
+  none_facing none = ([], record { active = All-nil (IsActive K n chains); once = λ s a. absurd (none s a); tested = tt }, refl)
+
+  same_facing : (h : ℤ) → h ≤ℤ n → ((s : ℕ) → IsActive K h chains s → IsActive K n chains s) → ((s : ℕ) → IsActive K n chains s → IsActive K h chains s) →
+      IsSlabFacing K h chains → IsSlabFacing K n chains
+  same_facing h le up down old = (
+    old.0,
+    record { active = λ k d lt. up _ (old.1.active k d lt); once = λ s a. old.1.once s (down s a); tested = old.1.tested },
+    old.2,
+  )
 
 pub agree : (K : ℤ) (chains : List MapChain) → AreAllNear K chains → IsPlanar chains → (count : ℕ) → segments_before chains (length chains) ≤ count →
     AreFirstFacing K chains count → FacesAgree chains
 agree K chains near planar count le facing =
-    faces.agree chains planar (by_slabs K chains near planar (λ n. slab K n chains near (λ s lt. facing s (omega (arith, lt, le)))))
+    faces.agree chains planar (by_slabs K chains near planar (λ n.
+    holds_above K n chains (λ h. IsSlabFacing K h chains) near (none_facing K n chains) (same_facing K n chains)
+    (λ s lt. let f = facing s (omega (arith, lt, le)) in record { segment = f.segment; is = f.is; first = f.first; last = f.last })))
 
 -- the slabs above the ends of one more segment
 pub one_more : (K : ℤ) (chains : List MapChain) (s : ℕ) → AreFirstFacing K chains s → (u : Segment) → IsNumbered chains s u → (p q : Point) →

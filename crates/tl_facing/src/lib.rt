@@ -21,5 +21,7 @@ mod slab;
 
 pub use decide::{face_fault_of, find_face_fault};
 pub use fault::{FaceFault, NamedFace};
-pub use find::face_fault;
+pub use find::{by_height, face_fault};
 pub use gaps::find_odd_gap;
+pub use near::look_at_points;
+pub use slab::list_slab;

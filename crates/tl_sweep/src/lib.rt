@@ -21,3 +21,4 @@ mod sweeping;
 
 pub use answer::{Swept, sweep, sweep_for_faces, sweep_for_points};
 pub use faces::Faces;
+pub use meets::are_vertices_tested;

@@ -1,0 +1,7 @@
+pub mod Named
+pub mod Splits
+pub mod Whole
+pub mod Unique
+pub mod Under
+pub mod Agreeing
+pub mod Keeping

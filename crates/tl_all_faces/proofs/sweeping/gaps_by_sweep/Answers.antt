@@ -1,0 +1,14 @@
+use Rattle.std.proofs.Common.{length}
+use Rattle.std.proofs.lemmas.List.Sorted.{All-permutation}
+use Rattle.tl_county.specs.Segments.{segments_before}
+use Rattle.tl_line.specs.Events.{AreMet}
+use Rattle.tl_line.proofs.Joining.{joined_moved}
+use Rattle.tl_all_faces.proofs.sweeping.gaps_by_sweep.Goals as goal
+
+pub gaps_by_events-requires-clause-events : goal.gaps_by_events-requires-clause-events
+gaps_by_events-requires-clause-events c =
+    joined_moved c.args.map.now.chains (segments_before c.args.map.now.chains (length c.args.map.now.chains)) _ _ c.in_ok-sort.ensures
+    c.in_ok-events.ensures.events
+
+pub gaps_by_events-requires-clause-met : goal.gaps_by_events-requires-clause-met
+gaps_by_events-requires-clause-met c = All-permutation (AreMet c.args.map.now.chains) _ _ c.in_ok-sort.ensures c.in_ok-events.ensures.met

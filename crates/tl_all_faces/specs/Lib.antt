@@ -1,0 +1,4 @@
+-- What the contracts cite.
+pub mod Gaps
+pub mod Faults
+pub mod Keeping
