@@ -2,12 +2,13 @@
 //! every one that faces the outside and names a polygon.
 //!
 //! [`all_odd_gaps`] lists each gap between two neighbours of a slab's list whose facing sides differ ([`tl_faces::OddGap`]), each two
-//! segments once: `specs/Gaps` says of which list that is so. [`all_face_faults`] tells of each of them what `tl_facing` tells of one,
-//! and tells nothing exactly where faces agree. Both want chains that are planar.
+//! segments once, at the lowest such gap between them: `specs/Gaps` says of which list that is so. [`all_face_faults`] tells of each of
+//! them what `tl_facing` tells of one, and tells nothing exactly where faces agree. Both want chains that are planar.
 //!
-//! A sweep from south to north keeps the list of active segments (`tl_line`), and at each vertex looks at the gaps about the segments
-//! that begin there alone: each other gap of the new list stood in the list before. Where one of the tests of the sweep fails, on which
-//! no contract of `tl_line` has a say, the lists of all slabs are made anew one by one (`tl_facing::list_slab`), which takes longer.
+//! A sweep from south to north keeps the list of active segments (`tl_line`), and at each vertex looks at the gaps before, between and
+//! behind the segments that begin there: each other gap of the new list stood in the list before. The contracts of `tl_line` don't say
+//! that the tests of the sweep hold. Where one fails, the lists of all slabs are made anew one by one (`tl_facing::list_slab`), which
+//! takes longer.
 #![tactic(auto)]
 
 mod faults;

@@ -6,7 +6,8 @@
 //! a place at which it faces the other. `specs/Truth` says when that is true of a map.
 //! [`find_odd_gap`] looks for such a gap slab by slab, and where it finds none, faces agree. [`find_face_fault`] decides by a sweep
 //! (`tl_sweep`), which is faster, and goes slab by slab only where the sweep says nothing of faces. [`laws`] says that each fault that is
-//! true of a map denies that its faces agree.
+//! true of a map denies that its faces agree. What lists all such gaps (`tl_all_faces`) asks [`list_slab`], [`by_height`] and
+//! [`look_at_points`] too.
 #![tactic(auto)]
 
 mod decide;

@@ -5,7 +5,8 @@
 //! was found is trusted: `tl_slabs` says what follows from the tests alone. So [`sweep`] answers [`Swept::Planar`] only where the
 //! chains are planar. Where a test fails it names two segments that meet where they may not, or says nothing of the map. [`sweep_for_faces`] tells as well
 //! whether the sides that face one another agree. A point
-//! between two neighbours lies in the polygon that the side of its eastern neighbour names, as [`laws`] say.
+//! between two neighbours lies in the polygon that the side of its eastern neighbour names, as [`laws`] say. Another sweep
+//! (`tl_all_faces`) asks [`are_vertices_tested`] as well, whether its events rise.
 #![tactic(auto)]
 
 mod answer;
