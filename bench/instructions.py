@@ -17,6 +17,8 @@ import sys
 from run import PROGRAM, numbers, print_table, records_of
 
 COMMANDS = [["show"], ["landmarks"], ["locate", "@-78762000,39652000"], ["audit"]]
+# What a program beside isn't asked.
+ALONE = [["audit", "--faces"]]
 
 
 def counted(words):
@@ -30,10 +32,13 @@ def counted(words):
 
 def rows(chains, beside):
     records = records_of(chains, "county")
-    for command in COMMANDS:
+    for command in COMMANDS + ALONE:
         count, printed = counted([PROGRAM, *command, records])
-        row = [f"{chains:,}", f"`{command[0]}`", f"{count / 1e6:.1f}", f"{count / chains:.0f}"]
-        if beside:
+        name = " ".join(it for it in command if it[0] != "@")
+        row = [f"{chains:,}", f"`{name}`", f"{count / 1e6:.1f}", f"{count / chains:.0f}"]
+        if beside and command in ALONE:
+            row += ["-", "-"]
+        elif beside:
             other, also = counted([beside, *command, records])
             if also != printed:
                 sys.exit(f"{beside} prints something else for {command[0]}")

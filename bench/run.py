@@ -155,6 +155,7 @@ def decided_rows(chains, kind, runs):
     programs = {
         "show": [PROGRAM, "show", *files],
         "audit": [PROGRAM, "audit", *files],
+        "audit --faces": [PROGRAM, "audit", "--faces", *files],
         "build": [PROGRAM, "build", "--out", built, *files],
         "check": [PROGRAM, "check", "--cert", built, *files],
         "locate": [PROGRAM, "locate", "@-76699000,39201000", *files],

@@ -1,18 +1,27 @@
 #!/usr/bin/env python3
-"""Plays worked maps, whose answers were found by hand, and drawn ones over tests/faces.py, which says whether their faces agree.
+"""Plays worked maps, whose answers were found by hand, and drawn ones over tests/faces.py, which says whether their faces agree,
+and over the program with `--faces`.
 
 usage: faced.py [--cases N]
 
 Where faces agree, each place that is on no chain has to lie in the one polygon that is named there, or in none where that is the
-outside: so it is proved (`tl_faces`), and so it is reckoned here by the counts of a second opinion.
+outside: so it is proved (`tl_faces`), and so it is reckoned here by the counts of a second opinion. `audit --faces` has to answer
+what `audit` does, unless the map is sound and its faces disagree: then a fault that is true by its definition, which is looked at
+here line by line. `check --faces` by a certificate that `build` made has to agree, and `build --faces` makes that certificate where
+faces agree, and none where they don't.
 """
 
 import random
+import re
 import sys
+import tempfile
+from fractions import Fraction
+from pathlib import Path
 
 import draw
 import faces
 import judge
+import judged
 import layout
 
 CASES = 600
@@ -88,27 +97,136 @@ def complaint_of(county):
     return None if not found.agree() or faces.have_one_polygon(found) else "faces agree, and a place has not the one polygon that is named there"
 
 
-def play_worked():
+# Lines of one height run in this direction and in the opposite one.
+LEVEL = (2**32, 1)
+FACE = r"tlid (\d+) (?:polygon (\S+)|outside) at (-?\d+) (-?\d+) (\d+)"
+FAULT = re.compile(rf"map fault G7 FaceDisagree {FACE} (?:{FACE}|outside)\n")
+
+
+def cross(a, b):
+    return a[0] * b[1] - a[1] * b[0]
+
+
+def way(a, b):
+    return b[0] - a[0], b[1] - a[1]
+
+
+def ends_of(segment):
+    return (segment.start.x, segment.start.y), (segment.end.x, segment.end.y)
+
+
+def is_within(segment, p):
+    """Whether the point is strictly within the segment."""
+    a, b = ends_of(segment)
+    along = way(a, p)[0] * way(a, b)[0] + way(a, p)[1] * way(a, b)[1]
+    return cross(way(a, b), way(a, p)) == 0 and 0 < along < way(a, b)[0] ** 2 + way(a, b)[1] ** 2
+
+
+def is_met(segment, p, d, most):
+    """Whether the segment has a point of the line that leads from p in the direction d, p left out: up to p + d, that left out, or
+    with no end."""
+    a, b = ends_of(segment)
+    turn = cross(d, way(a, b))
+    if turn:
+        t, u = Fraction(cross(way(p, a), way(a, b)), turn), Fraction(cross(way(p, a), d), turn)
+        return 0 < t and (most is None or t < most) and 0 <= u <= 1
+    if cross(way(p, a), d):
+        return False
+    places = [Fraction(way(p, it)[0] * d[0] + way(p, it)[1] * d[1], d[0] ** 2 + d[1] ** 2) for it in (a, b)]
+    return 0 < max(places) and (most is None or min(places) < most)
+
+
+def sides_toward(the_map, tlid, p, d):
+    """What the segments of the chain that the point is strictly within name in the direction."""
+    found = []
+    for it in the_map.segments:
+        chain = the_map.chains[it.chain]
+        if chain.tlid == tlid and is_within(it, p):
+            turn = cross(way(*ends_of(it)), d)
+            found += [chain.left] * (turn > 0) + [chain.right] * (turn < 0)
+    return found
+
+
+def shown(side):
+    return None if side is None else str(side)
+
+
+def is_true_fault(the_map, line):
+    """Whether the line is that of faces that disagree on the map."""
+    told = FAULT.fullmatch(line)
+    if not told:
+        return False
+    parts = told.groups()
+    tlid, key, p = int(parts[0]), parts[1], (Fraction(int(parts[2]), int(parts[4])), Fraction(int(parts[3]), int(parts[4])))
+    if parts[5] is None:
+        directions = [LEVEL, (-LEVEL[0], -LEVEL[1])]
+        return key is not None and any(
+            key in map(shown, sides_toward(the_map, tlid, p, d)) and not any(is_met(it, p, d, None) for it in the_map.segments)
+            for d in directions
+        )
+    other, opposite, q = int(parts[5]), parts[6], (Fraction(int(parts[7]), int(parts[9])), Fraction(int(parts[8]), int(parts[9])))
+    d, back = way(p, q), way(q, p)
+    return (
+        key != opposite
+        and key in map(shown, sides_toward(the_map, tlid, p, d))
+        and opposite in map(shown, sides_toward(the_map, other, q, back))
+        and not any(is_met(it, p, d, 1) for it in the_map.segments)
+    )
+
+
+def answers_complaint(table, text, switches, county):
+    """What the program answers otherwise than it has to, or None. Of a map whose faces disagree each answer is a true fault."""
+    table.lay("records", text)
+    for name in ("plain", "faced"):
+        (table.folder / name).unlink(missing_ok=True)
+    words = [*switches, "records"]
+    plain = table.ask("audit", *words)
+    agree = plain[0] != 0 or faces.Faces(county.map).agree()
+
+    def is_well(answer, wanted):
+        if agree:
+            return answer == wanted
+        return answer[0] == 1 and not answer[2] and is_true_fault(county.map, answer[1].decode())
+
+    asked = [("audit", table.ask("audit", "--faces", *words), plain)]
+    built = table.ask("build", "--out", "plain", *words)
+    asked.append(("build", table.ask("build", "--faces", "--out", "faced", *words), built))
+    if plain[0] == 0:
+        checked = table.ask("check", "--cert", "plain", *words)
+        asked.append(("check", table.ask("check", "--faces", "--cert", "plain", *words), checked))
+    for command, answer, wanted in asked:
+        if not is_well(answer, wanted):
+            return f"{command} --faces: {answer}, where faces {'agree' if agree else 'disagree'}"
+    made = [table.folder / name for name in ("plain", "faced")]
+    if made[1].exists() != (plain[0] == 0 and agree):
+        return "build --faces: a certificate was made and faces disagree, or none was and they agree"
+    if made[1].exists() and made[0].read_bytes() != made[1].read_bytes():
+        return "build --faces: the certificate isn't that of build"
+    return None
+
+
+def play_worked(table):
     well = ill = 0
     for title, lines, agree in WORKED:
         county = county_of(lines)
         found = faces.Faces(county.map)
         complaint = complaint_of(county) or county.faults or county.meets or (found.agree() != agree and "faces were said by hand to do otherwise")
+        complaint = complaint or answers_complaint(table, b"".join(map(layout.line_of, lines)), [], county)
         if complaint:
             print(f"faced: {title}: {complaint}")
         well, ill = well + (not complaint), ill + bool(complaint)
     return well, ill
 
 
-def play_drawn(cases):
-    """Maps that are drawn, where their chains are planar."""
+def play_drawn(table, cases):
+    """Maps that are drawn: of those whose chains are planar the faces, and of all what the program answers."""
     well = ill = 0
     for number in range(cases):
         case = draw.case_of(random.Random(f"faces {number}"))
-        county = judge.County([b"".join(case.lines)], "--zero-cells" in case.switches, "--released" in case.switches)
-        if county.faults or county.meets:
-            continue
-        complaint = complaint_of(county)
+        text = b"".join(case.lines)
+        county = judge.County([text], "--zero-cells" in case.switches, "--released" in case.switches)
+        complaint = None if county.faults or county.meets else complaint_of(county)
+        complaint = complaint or answers_complaint(table, text, case.switches, county)
         if complaint:
             print(f"faced: drawn {number}: {complaint}")
         well, ill = well + (not complaint), ill + bool(complaint)
@@ -117,7 +235,9 @@ def play_drawn(cases):
 
 def play_all(cases=CASES):
     """How many maps are as they have to be, and how many aren't."""
-    counts = [play_worked(), play_drawn(cases)]
+    with tempfile.TemporaryDirectory() as folder:
+        table = judged.Table(judged.PROGRAM, Path(folder))
+        counts = [play_worked(table), play_drawn(table, cases)]
     return sum(well for well, _ in counts), sum(ill for _, ill in counts)
 
 

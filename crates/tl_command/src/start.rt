@@ -28,12 +28,12 @@ pub fn run_plan<F: FileSystem, W: Sink, E: Sink>(
         (FilesFail F.Reader.failure_count F.Draft.failure_count F.knows (F.under files.old) plan.now)
         (out.new ≡ out.old) (err.new ≡ err.old) }
 {
-    watch(files, alloc, plan, progress);
+    watch_plan(files, alloc, plan, progress);
     open_and_run(files, alloc, hasher, plan, out, err)
 }
 
-// Has it shown how far the reading of the plan's files is, where that is asked for. The certificate that is read comes last.
-fn watch<F: FileSystem>(files: &mut F, alloc: Global, plan: &Plan, progress: bool)
+/// Has it shown how far the reading of the plan's files is, where that is asked for. The certificate that is read comes last.
+pub fn watch_plan<F: FileSystem>(files: &mut F, alloc: Global, plan: &Plan, progress: bool)
     ensures { F.under files.new ≡ F.under files.old }
 {
     if !progress {

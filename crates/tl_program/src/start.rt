@@ -7,15 +7,16 @@ ghost use Rattle.tl_plan.specs.CommandLine.{AskForTask};
 ghost use Rattle.tl_answers.specs.Running.{TriesToWrite};
 ghost use Rattle.tl_making.specs.Opening.{FilesFail};
 ghost use Rattle.tl_command.specs.Hinting.{HintsAfter};
-ghost use Rattle.tl_program.specs.Tasks.{Starts, TaskFails};
+ghost use Rattle.tl_program.specs.Tasks.{Starts, TaskFails, MayBeAsked};
 
 use std::alloc::Global;
 use std::hash::RandomState;
 use tl_answers::usage::tell_stop;
 use tl_command::hint::hint;
-use tl_command::start::run_plan;
+use tl_command::start::{run_plan, watch_plan};
 use tl_draw::open_and_draw;
 use tl_export::open_and_export;
+use tl_faced_answers::open_and_decide;
 use tl_files::FileSystem;
 use tl_lists::open_and_list;
 use tl_plan::{Task, words};
@@ -67,7 +68,7 @@ pub fn start<F: FileSystem, W: Sink, E: Sink>(
     }
 }
 
-// Does the task, which these words ask for.
+// Does the task, which some words ask for.
 fn perform<F: FileSystem, W: Sink, E: Sink>(
     files: &mut F,
     alloc: Global,
@@ -76,6 +77,7 @@ fn perform<F: FileSystem, W: Sink, E: Sink>(
     out: &mut W,
     err: &mut E,
 ) -> u8
+    requires { MayBeAsked task.now }
     ensures { (words : List Text) → AskForTask words task.now →
         Starts words result (F.under files.old) (F.under files.new)
         (Writes W.contents W.failure_count out.old out.new)
@@ -86,6 +88,10 @@ fn perform<F: FileSystem, W: Sink, E: Sink>(
 {
     match task {
         Task::Plan { plan, progress } => run_plan(files, alloc, hasher, plan, *progress, out, err),
+        Task::Faces { plan, progress } => {
+            watch_plan(files, alloc, plan, *progress);
+            open_and_decide(files, alloc, hasher, plan, out, err)
+        }
         Task::List {
             told,
             places,
