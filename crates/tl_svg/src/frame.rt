@@ -2,7 +2,8 @@
 
 ghost use Rattle.std.specs.Prelude.{◌≡◌, ◌<◌, ◌^◌, pos, ◌+ℤ◌, ◌-ℤ◌, ◌&&◌, int_le, unsigned_abs};
 ghost use Rattle.std.specs.Int.{int_min, int_max};
-ghost use Rattle.tl_svg.specs.Frames.{side, tenths, spot_of, pixels, first_tenth, last_tenth, is_across, is_seen, is_near, widened, around_points, around_chains, no_points, frame_about, fitted, frame_at};
+ghost use Rattle.tl_svg.specs.Frames.{side, tenths, spot_of, pixels, first_tenth, last_tenth, is_across, is_seen, is_near};
+ghost use Rattle.tl_svg.specs.Frames.{widened, around_points, around_chains, no_points, frame_about, fitted, frame_at};
 
 use tl_county::Map;
 use tl_geom::{Point, Rect};

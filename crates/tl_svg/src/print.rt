@@ -4,7 +4,8 @@ ghost use Rattle.std.specs.Prelude.{◌++◌, [], codes, flat_map};
 ghost use Rattle.tl_output.specs.Writing.{CountsFailure, TriesToPassOn};
 ghost use Rattle.tl_svg.specs.Strokes.{strokes_left};
 ghost use Rattle.tl_svg.specs.Pictures.{drawn};
-ghost use Rattle.tl_svg.specs.Texts.{stroke_text, drawing_text, size_text, style_text, chains_part, nodes_part, points_part, marks_part, faults_part, picture_text};
+ghost use Rattle.tl_svg.specs.Texts.{stroke_text, drawing_text, size_text, style_text, picture_text};
+ghost use Rattle.tl_svg.specs.Texts.{chains_part, nodes_part, points_part, marks_part, faults_part};
 
 use crate::chains::walk_along;
 use crate::frame::Frame;
@@ -20,7 +21,10 @@ use tl_verdict::MapFault;
 
 // How each part is drawn.
 const STYLE: &[u8] =
-    b"<style>path,circle{fill:none;vector-effect:non-scaling-stroke;stroke-linecap:round;stroke-linejoin:round}.chains{stroke:#333;stroke-width:1}.nodes{stroke:#000;stroke-width:3.2}.points{stroke:#07c;stroke-width:4}circle{stroke:#d00;stroke-width:2;fill:#d00;fill-opacity:.2}</style>\n<rect x=\"-100\" y=\"-100\" width=\"100%\" height=\"100%\" fill=\"#fff\"/>\n";
+    b"<style>path,circle{fill:none;vector-effect:non-scaling-stroke;stroke-linecap:round;stroke-linejoin:round}\
+.chains{stroke:#333;stroke-width:1}.nodes{stroke:#000;stroke-width:3.2}.points{stroke:#07c;stroke-width:4}\
+circle{stroke:#d00;stroke-width:2;fill:#d00;fill-opacity:.2}</style>\n\
+<rect x=\"-100\" y=\"-100\" width=\"100%\" height=\"100%\" fill=\"#fff\"/>\n";
 
 /// Writes the picture of a map with these faults. An error says that a write failed: the sink took some of it, from the
 /// front.
