@@ -20,7 +20,7 @@ use Rattle.tl_plan.specs.Points.{Spells}
 use Rattle.tl_plan.specs.Commands.{command_line, convert_name, check_name, locate_name, show_name, landmarks_name, audit_name, build_name, export_name, draw_name}
 use Rattle.tl_plan.specs.CommandLine.{IsStopOf, IsUsage, StopsPlanning, Request, request_in, named_in}
 use Rattle.tl_plan.specs.CommandLine.{IsConversionOf, IsTaskOf, IsWhole, HasFiles, IsBudget, IsView, IsSwitch}
-use Rattle.tl_plan.specs.CommandLine.{IsMore, AreChosen, AsksOneLine, AskForTask, AskForTold, AskForFaults}
+use Rattle.tl_plan.specs.CommandLine.{AreChosen, AsksLinesAlone, AskForTask, AskForTold, AskForFaults}
 use Rattle.tl_plan.specs.CommandLine.{IsFor, IsForTask, IsWatched, IsFaced, DecidesMap}
 use Rattle.tl_plan.specs.Asked.{IsAuditTask, decision}
 use Rattle.tl_plan.specs.declared.budget.Told.{Told}
@@ -220,7 +220,7 @@ no_locate given named lacks (inr (inr (inr (inr (inr (inr (inr drawn))))))) = on
 
 -- an audit asks for no faults that may be asked for, or lacks a file
 pub no_audit : (given : Request) → given.command ≡ audit_name
-    → ((files : List Text) → AskForFaults given.all given.most → (IsSwitch given.faces true → AsksOneLine given) → given.files ≡ Some files
+    → ((files : List Text) → AskForFaults given.all given.most → (IsSwitch given.faces true → AsksLinesAlone given) → given.files ≡ Some files
     → 0 < length files → ⊥)
     → IsWhole (Some given) → ⊥
 no_audit given named lacks (inl files) = no_listing given audit_name named refl refl files
@@ -232,7 +232,7 @@ no_audit given named lacks (inr (inr (inr (inr (inr (inl audit)))))) =
     let e = is_request _ _ audit.same in
     lacks audit.files
     (subst (λ (r : Request). AskForFaults r.all r.most) (sym e) audit.asked)
-    (subst (λ (r : Request). IsSwitch r.faces true → AsksOneLine r) (sym e) audit.faced)
+    (subst (λ (r : Request). IsSwitch r.faces true → AsksLinesAlone r) (sym e) audit.faced)
     (ap (λ r. r.files) e ∙ audit.are) audit.some_file
 no_audit given named lacks (inr (inr (inr (inr (inr (inr (inl exported))))))) = one_command given exported.given audit_name export_name refl named exported.same exported.named
 no_audit given named lacks (inr (inr (inr (inr (inr (inr (inr drawn))))))) = one_command given drawn.given audit_name draw_name refl named drawn.same drawn.named
@@ -309,13 +309,12 @@ pub decided : (request : Option Request) (plan : Plan) (faces progress : Bool) (
 decided request plan true progress made same decides asked watched faced = rw same (decides, asked, watched, faced)
 decided request plan false progress made same decides asked watched faced = rw same (asked, watched, faced)
 
--- more than one fault's line is no one fault's line
-more_than_line : (given : Request) (told : Told) (places : Bool) (made : Option Text) → IsMore told places made → AskForTold given.all given.most told
-    → IsSwitch given.places places → given.geojson ≡ made → AsksOneLine given → ⊥
-more_than_line given (All number) places made more asked placed geojson line = line.asked.one asked.each
-more_than_line given One true made more asked placed geojson line = absurd (cc (line.placed.1 (placed.0 refl)))
-more_than_line given One false (Some name) more asked placed geojson line = cc (line.made, geojson)
-more_than_line given One false None more asked placed geojson line = absurd more
+-- places, or a file that is made, are more than lines alone
+no_places_alone : (given : Request) → IsSwitch given.places true → AsksLinesAlone given → ⊥
+no_places_alone given placed line = absurd (cc (line.placed.1 (placed.0 refl)))
+
+no_file_alone : (given : Request) (name : String Global) → given.geojson ≡ Some (string_bytes name) → AsksLinesAlone given → ⊥
+no_file_alone given name geojson line = cc (line.made, geojson)
 
 -- an audit is a task to decide, or one of its own, or none
 pub audit_asked : (given : Request) (told : Told) (places : Bool) (made : Option (String Global)) (faces progress : Bool) (options : Options)
@@ -353,9 +352,29 @@ audit_asked given told places made false progress options files wanted named ask
       are = files_are;
       some_file = some;
     })
-audit_asked given told places made true progress options files wanted named asked placed geojson faced are files_are some watched (inr is) =
-    rw is.1 (no_audit given named
-    (λ names asks line have many. more_than_line given told places (option_map string_bytes made) is.0 asked placed geojson (line faced)))
+audit_asked given (All most) false None true progress options files wanted named asked placed geojson faced are files_are some watched (inr is) =
+    rw is.1 (record {
+      given = given;
+      same = refl;
+      named = named;
+      asked = asked;
+      placed = placed;
+      no_file = geojson;
+      faced = faced;
+      watched = watched;
+      chosen = are;
+      are = files_are;
+      some_file = some;
+    })
+audit_asked given One false None true progress options files wanted named asked placed geojson faced are files_are some watched (inr is) = absurd is.0
+audit_asked given One true made true progress options files wanted named asked placed geojson faced are files_are some watched (inr is) =
+    rw is.1 (no_audit given named (λ names asks line have many. no_places_alone given placed (line faced)))
+audit_asked given (All most) true made true progress options files wanted named asked placed geojson faced are files_are some watched (inr is) =
+    rw is.1 (no_audit given named (λ names asks line have many. no_places_alone given placed (line faced)))
+audit_asked given One false (Some name) true progress options files wanted named asked placed geojson faced are files_are some watched (inr is) =
+    rw is.1 (no_audit given named (λ names asks line have many. no_file_alone given name geojson (line faced)))
+audit_asked given (All most) false (Some name) true progress options files wanted named asked placed geojson faced are files_are some watched (inr is) =
+    rw is.1 (no_audit given named (λ names asks line have many. no_file_alone given name geojson (line faced)))
 
 -- words that clap takes, and that name a task
 pub one_task : (words : List Text) (found : Option (Text × List Row)) (made : Task) → found ≡ subcommand_of command_line words

@@ -1,9 +1,9 @@
 -- Kept on the way: the task of a plan that decides, and that of an audit. No public contract cites this file.
-use Rattle.std.specs.Prelude.{◌≡◌, ◌⊎◌, Bool, true, false, Option, Some, None, String, Vec, option_map, string_bytes, if◌then◌else◌}
+use Rattle.std.specs.Prelude.{◌≡◌, ◌⊎◌, Bool, true, false, Option, Some, None, String, Vec, option_map, string_bytes}
 use Rattle.std.specs.Global.{Global}
 use Rattle.tl_record.specs.declared.options.Options.{Options}
 use Rattle.tl_plan.specs.declared.budget.Told.{Told}
-use Rattle.tl_plan.specs.declared.budget.Told.TheVariants.{One}
+use Rattle.tl_plan.specs.declared.budget.Told.TheVariants.{One, All}
 use Rattle.tl_plan.specs.declared.plan.Plan.{Plan}
 use Rattle.tl_plan.specs.declared.plan.Plan.TheVariants.{Audit}
 use Rattle.tl_plan.specs.declared.plan.Task.{Task}
@@ -21,10 +21,17 @@ pub record IsPlain (told : Told) (places : Bool) (made : Option (String Global))
   pub no_places : places ≡ false
   pub no_file : made ≡ None
 
+-- the task of a list of so many faults, with their places or without, with a file that is made or with none, and with faces or
+-- without; none where more than lines is asked for beside faces
+abbrev pub listing_task : Told → Bool → Option (String Global) → (faces progress : Bool) → Options → Vec (String Global) Global → Option Task
+listing_task told places made false progress options files = Some (task.List told places made progress options files)
+listing_task (All most) false None true progress options files = Some (task.ListFaces most progress options files)
+listing_task told places made true progress options files = None
+
 -- the task is that of an audit that tells so many faults, with their places or without, with a file that is made or with none, and
--- with faces or without: to decide, or a list, or none, where more is asked for beside faces
+-- with faces or without: to decide, or a list, or none
 abbrev pub IsAuditTask : Told → Bool → Option (String Global) → (faces progress : Bool) → Options → Vec (String Global) Global → Option Task → Type 0
 IsAuditTask told places made faces progress options files wanted =
     (IsPlain told places made × (wanted ≡ Some (decision (Audit options files) faces progress)))
     ⊎ (IsMore told places (option_map string_bytes made)
-    × (wanted ≡ (if faces then None else Some (task.List told places made progress options files))))
+    × (wanted ≡ listing_task told places made faces progress options files))

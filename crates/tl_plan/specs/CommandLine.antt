@@ -206,6 +206,11 @@ pub record AsksToAudit (request : Option Request) (options : Options) (files : L
   pub are : given.files ≡ Some files
   pub some_file : 0 < length files
 
+-- what was given for --where and for --geojson asks for lines of faults alone: neither for their records nor for a file of them
+pub record AsksLinesAlone (given : Request) : Type 0 where
+  pub placed : IsSwitch given.places false
+  pub made : given.geojson ≡ None
+
 -- more than one fault, or more than its line, or a file of it
 abbrev pub IsMore : Told → (places : Bool) → (made : Option Text) → Type 0
 IsMore One false None = ⊥
@@ -223,6 +228,21 @@ pub record AsksToList (request : Option Request) (told : Told) (places : Bool) (
   pub to : given.geojson ≡ made
   pub more : IsMore told places made
   pub plain : IsSwitch given.faces false
+  pub watched : IsSwitch given.progress progress
+  pub chosen : AreChosen given.released given.zero_cells options
+  pub are : given.files ≡ Some files
+  pub some_file : 0 < length files
+
+-- the request names an audit of these files, word for word and in their order, with these switches, that tells so many of all faults
+-- and asks for faces, with neither the records of faults nor a file of them
+pub record AsksToListFaces (request : Option Request) (most : Option ℕ) (progress : Bool) (options : Options) (files : List Text) : Type 0 where
+  pub given : Request
+  pub same : request ≡ Some given
+  pub named : given.command ≡ audit_name
+  pub asked : AskForAll given.all given.most most
+  pub placed : IsSwitch given.places false
+  pub no_file : given.geojson ≡ None
+  pub faced : IsSwitch given.faces true
   pub watched : IsSwitch given.progress progress
   pub chosen : AreChosen given.released given.zero_cells options
   pub are : given.files ≡ Some files
@@ -304,15 +324,15 @@ pub record HasFiles (request : Option Request) : Type 0 where
   pub are : given.files ≡ Some files
   pub some_file : 0 < length files
 
--- the request names an audit of some file, for one fault or for all, with no number but where it asks for all, and for one
--- fault's line and nothing else where it asks for faces
+-- the request names an audit of some file, for one fault or for all, with no number but where it asks for all, and for lines of
+-- faults alone where it asks for faces
 pub record IsAudit (request : Option Request) : Type 0 where
   pub given : Request
   pub files : List Text
   pub same : request ≡ Some given
   pub named : given.command ≡ audit_name
   pub asked : AskForFaults given.all given.most
-  pub faced : IsSwitch given.faces true → AsksOneLine given
+  pub faced : IsSwitch given.faces true → AsksLinesAlone given
   pub are : given.files ≡ Some files
   pub some_file : 0 < length files
 
@@ -415,6 +435,7 @@ IsForTask request (task.Faces plan progress) =
     DecidesMap plan × IsFor request plan × IsWatched request plan progress × IsFaced request plan true
 IsForTask request (task.List told places made progress options files) =
     AsksToList request told places (option_map string_bytes made) progress options (map string_bytes files.items)
+IsForTask request (task.ListFaces most progress options files) = AsksToListFaces request most progress options (map string_bytes files.items)
 IsForTask request (task.Export made options files) = AsksToExport request (string_bytes made) options (map string_bytes files.items)
 IsForTask request (task.Draw made view faults options files) =
     AsksToDraw request (string_bytes made) view faults options (map string_bytes files.items)
@@ -489,7 +510,7 @@ abbrev pub HasAnswer : Kinds → Type 0
 HasAnswer kinds = (kind : ErrorKind) × IsAmong kind kinds × IsAnswer kind
 
 -- Why the words make no plan: they are no use of a command, and either a mistake, a wish for help or for the version, or
--- taken by clap, as those with a number or a point that isn't spelt as one, with --most and no --all, or with --faces and --all; or
+-- taken by clap, as those with a number or a point that isn't spelt as one, with --most and no --all, or with --faces and --where; or
 -- memory was refused, and the first of them doesn't show that they are no use of a command.
 abbrev pub StopsPlanning : List Text → PlanStop → Type 0
 StopsPlanning words (Usage text) = (¬ AreAUse words) × (HasMistake (fault_of command_line words) ⊎ (fault_of command_line words ≡ []))

@@ -80,11 +80,14 @@ name when it is whole. A file that this program hasn't made, or that is one of F
 With --faces the map has to be such, too, that each place on no chain lies in exactly one polygon or
 outside of all, and each side of each chain names what lies there. Else the line is `map fault G7
 FaceDisagree ..`, with the TLIDs of two chains that face one another, or of one with nothing beyond it,
-the polygons that their sides name, and of each a point: X and Y over one denominator.
+the polygons that their sides name, and of each a point: X and Y over one denominator. With --all too,
+where nothing else is wrong, each two segments that face one another along a line of one height and differ
+have their line, once.
 
 Examples:
   tigertopo audit TGR24001.RT*
   tigertopo audit --faces TGR24001.RT*
+  tigertopo audit --all --faces TGR24001.RT*
   tigertopo audit --all --where TGR24001.RT*
   tigertopo audit --all --geojson TGR24001.geojson TGR24001.RT*";
 
@@ -162,7 +165,7 @@ pub const WHERE: &str = "Tells behind each fault in which lines of which files i
 pub const FAULTS_COLLECTION: &str = "The file of GeoJSON that is made of the faults";
 
 pub const FACES_OF_AUDIT: &str =
-    "Asks too that sides that face one another name one polygon; not with --all, --where or --geojson";
+    "Asks too that sides that face one another name one polygon; not with --where or --geojson";
 
 pub const FACES: &str = "Asks too that sides that face one another name one polygon";
 

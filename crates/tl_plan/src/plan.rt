@@ -88,6 +88,15 @@ pub enum Task {
         options: Options,
         files: Vec<String>,
     },
+    /// To tell all faults, or so many from the front, where faces have to agree too: where nothing else is wrong with the map, each
+    /// two segments that face one another along a line of one height and name different sides. Where `progress` is asked for, how
+    /// far it is is shown while files are read.
+    ListFaces {
+        most: Option<u64>,
+        progress: bool,
+        options: Options,
+        files: Vec<String>,
+    },
     /// To make a file of GeoJSON of this name, of the map.
     Export {
         made: String,

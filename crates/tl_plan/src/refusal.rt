@@ -19,9 +19,9 @@ const SPELLING: &str =
 // What is said of a number of faults where there is no --all.
 const NO_ALL: &str = "the argument '--most <N>' needs '--all'";
 
-// What is said of faces where more than one fault's line is asked for.
+// What is said of faces where more than lines of faults is asked for.
 const FACES_ALONE: &str =
-    "the argument '--faces' cannot be used with '--all', '--most <N>', '--where' or '--geojson <OUT>'";
+    "the argument '--faces' cannot be used with '--where' or '--geojson <OUT>'";
 
 // What is said of one part of a view where the other isn't given.
 const NO_WIDTH: &str = "the argument '--at <@X,Y>' needs '--width <W>'";
@@ -118,7 +118,7 @@ fn usage_of(
             POINT_SPELLING,
         );
     }
-    if word_of(matches, "audit", "faces") == Some("true") {
+    if asks_more_of_faces(matches) {
         return told_by(alloc, &Named::Audit, "tigertopo audit", FACES_ALONE);
     }
     if let Some(most) = word_of(matches, "audit", "most") {
@@ -133,6 +133,15 @@ fn usage_of(
         (None, Some(_)) => told_by(alloc, &Named::Draw, "tigertopo draw", NO_CENTER),
         (None, None) => plain_usage(alloc, command),
     }
+}
+
+// Whether an audit asks for faces, and for the records of faults or a file of them.
+fn asks_more_of_faces(matches: &ArgMatches<'_>) -> bool {
+    if word_of(matches, "audit", "faces") != Some("true") {
+        return false;
+    }
+    word_of(matches, "audit", "where") == Some("true")
+        || word_of(matches, "audit", "geojson").is_some()
 }
 
 // What is wrong with the words of a view: one of them isn't spelt as it has to be.

@@ -12,7 +12,7 @@ ghost use Rattle.clap.specs.Matches.{found_of};
 ghost use Rattle.tl_plan.specs.Commands.{command_line, show_name, landmarks_name, audit_name, build_name, check_name, locate_name, export_name, draw_name};
 ghost use Rattle.tl_plan.specs.CommandLine.{request_in, named_in};
 ghost use Rattle.tl_plan.specs.CommandLine.{AreChosen, AskForTask, AskForFaults, AskForTold, StopsPlanning, IsSwitch, IsTaskOf, IsConversionOf};
-ghost use Rattle.tl_plan.specs.Asked.{IsAuditTask, decision};
+ghost use Rattle.tl_plan.specs.Asked.{IsAuditTask, decision, listing_task};
 ghost use Rattle.tl_plan.specs.Plans.{ShowsNoEscape};
 
 use crate::budget::{Told, budget_of, told_by};
@@ -207,7 +207,7 @@ fn locate_of(alloc: Global, command: &ArgMatches<'_>) -> Result<Option<Task>, Al
 }
 
 // The audit that the command's words name, where they name a file, a number of faults only beside --all, and faces only where
-// one fault's line is asked for.
+// lines of faults alone are asked for.
 fn audit_of(alloc: Global, command: &ArgMatches<'_>) -> Result<Option<Task>, AllocError>
     ensures { IfOk result (IsTaskOf (Some (request_in (audit_name, rows_of (found_of command.now))))) }
 {
@@ -253,8 +253,7 @@ fn told_of(command: &ArgMatches<'_>) -> Option<Told>
     told_by(command.get_str("all"), command.get_str("most"))
 }
 
-// The task of an audit that tells so many faults: to decide, where it is one alone and nothing else is asked for. Of faces no
-// list is made.
+// The task of an audit that tells so many faults: to decide, where it is one alone and nothing else is asked for.
 fn audit_task(
     told: Told,
     places: bool,
@@ -268,19 +267,40 @@ fn audit_task(
 {
     match (told, places, made) {
         (Told::One, false, None) => Some(deciding(Plan::Audit { options, files }, faces, progress)),
-        (told, places, made) => {
-            if faces {
-                return None;
-            }
-            Some(Task::List {
-                told,
-                places,
-                made,
-                progress,
-                options,
-                files,
-            })
-        }
+        (told, places, made) => listing(told, places, made, faces, progress, options, files),
+    }
+}
+
+// The task of a list of so many faults. Of faces that disagree lines alone are told.
+fn listing(
+    told: Told,
+    places: bool,
+    made: Option<String>,
+    faces: bool,
+    progress: bool,
+    options: Options,
+    files: Vec<String>,
+) -> Option<Task>
+    ensures { result ≡ listing_task told places made faces progress options files }
+{
+    if !faces {
+        return Some(Task::List {
+            told,
+            places,
+            made,
+            progress,
+            options,
+            files,
+        });
+    }
+    match (told, places, made) {
+        (Told::All(most), false, None) => Some(Task::ListFaces {
+            most,
+            progress,
+            options,
+            files,
+        }),
+        _ => None,
     }
 }
 
