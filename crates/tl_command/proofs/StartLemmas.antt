@@ -59,6 +59,7 @@ pub no_plan : (wanted : Task) → ((plan : Plan) (progress : Bool) → wanted �
 no_plan (task.Plan plan progress) other = absurd (other plan progress refl)
 no_plan (task.Faces plan progress) other = tt
 no_plan (task.List told places made progress options files) other = tt
+no_plan (task.ListFaces most progress options files) other = tt
 no_plan (task.Export made options files) other = tt
 no_plan (task.Draw made view faults options files) other = tt
 

@@ -32,6 +32,7 @@ abbrev pub options_for : Task → Options
 options_for (task.Plan plan progress) = plan_options plan
 options_for (task.Faces plan progress) = plan_options plan
 options_for (task.List told places made progress options files) = options
+options_for (task.ListFaces most progress options files) = options
 options_for (task.Export made options files) = options
 options_for (task.Draw made view faults options files) = options
 
@@ -40,6 +41,7 @@ abbrev pub record_names : Task → List Text
 record_names (task.Plan plan progress) = files_of plan
 record_names (task.Faces plan progress) = files_of plan
 record_names (task.List told places made progress options files) = map string_bytes files.items
+record_names (task.ListFaces most progress options files) = map string_bytes files.items
 record_names (task.Export made options files) = map string_bytes files.items
 record_names (task.Draw made view faults options files) = map string_bytes files.items
 
@@ -57,6 +59,7 @@ certificate_names other = []
 -- does the task list all lines that are refused
 abbrev pub lists_refusals : Task → Bool
 lists_refusals (task.List (All most) places made progress options files) = true
+lists_refusals (task.ListFaces most progress options files) = true
 lists_refusals other = false
 
 -- the names of the files of which something may be said: those of the records where a line is refused and all aren't listed, and

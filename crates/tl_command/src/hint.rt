@@ -87,6 +87,7 @@ fn is_listing(task: &Task) -> bool
 {
     match task {
         Task::List { told, .. } => matches!(told, Told::All(_)),
+        Task::ListFaces { .. } => true,
         Task::Plan { .. } | Task::Faces { .. } | Task::Export { .. } | Task::Draw { .. } => false,
     }
 }
@@ -98,6 +99,7 @@ fn names_of(task: &Task) -> &[String]
     match task {
         Task::Plan { plan, .. } | Task::Faces { plan, .. } => plan.files(),
         Task::List { files, .. } => files.as_slice(),
+        Task::ListFaces { files, .. } => files.as_slice(),
         Task::Export { files, .. } => files.as_slice(),
         Task::Draw { files, .. } => files.as_slice(),
     }
@@ -130,7 +132,9 @@ fn options_of(task: &Task) -> Options
             | Plan::Build { options, .. } => *options,
             Plan::Convert { .. } => PLAIN,
         },
-        Task::List { options, .. } | Task::Export { options, .. } | Task::Draw { options, .. } =>
-            *options,
+        Task::List { options, .. }
+        | Task::ListFaces { options, .. }
+        | Task::Export { options, .. }
+        | Task::Draw { options, .. } => *options,
     }
 }

@@ -44,7 +44,8 @@ use Rattle.tl_files.specs.declared.beginning.FileKind.TheVariants.{Collection}
 use Rattle.tl_making.specs.Files.{StopsFile}
 use Rattle.tl_lists.specs.Listings.{TellsListing}
 use Rattle.tl_lists.specs.Listed.{Lists, TellsText, AreFaultsIn, IsMade, IsUnmade, featured, reads_again, told_text, plain_text}
-use Rattle.tl_lists.specs.Keeping.{MakesAny, IsSoundOne, AreRefusalsIn, first_stop, most_of, told_by, Finds}
+use Rattle.tl_lists.specs.Found.{told_by, Finds}
+use Rattle.tl_lists.specs.Keeping.{MakesAny, IsSoundOne, AreRefusalsIn, first_stop, most_of}
 
 -- ---- a file that is made, or isn't
 

@@ -1,7 +1,6 @@
--- Kept on the way: what is found in files, and what is prepared before it is told. No public contract cites this file.
-use Rattle.std.specs.Prelude.{◌≡◌, ℕ, Bool, false, List, [], ◌∷◌, Option, Some, None, IfSome, Result, Ok, Err, Vec, ⊤}
+-- Kept on the way: what is prepared before it is told. No public contract cites this file.
+use Rattle.std.specs.Prelude.{◌≡◌, ℕ, Bool, false, List, [], ◌∷◌, Option, Some, None, Result, Ok, Err, Vec, ⊤}
 use Rattle.std.specs.Global.{Global}
-use Rattle.tl_record.specs.declared.layout.Layout.{Layout}
 use Rattle.tl_county.specs.TheMap.{MapChain}
 use Rattle.tl_files.specs.Files.{Under, IsRoom}
 use Rattle.tl_files.specs.declared.beginning.FileKind.TheVariants.{Collection}
@@ -12,14 +11,9 @@ use Rattle.tl_plan.specs.declared.budget.Told.TheVariants.{One, All}
 use Rattle.tl_verdict.specs.declared.fault.MapFault.{MapFault}
 use Rattle.tl_record.specs.declared.refusal.Refusal.{Refusal}
 use Rattle.tl_verdict.specs.declared.stop.Stop.{Stop}
-use Rattle.tl_verdict.specs.declared.stop.Stop.TheVariants.{Record, Memory, Device}
+use Rattle.tl_verdict.specs.declared.stop.Stop.TheVariants.{Record, Memory}
 use Rattle.tl_listing.specs.declared.listing.Listing.{Listing}
 use Rattle.tl_listing.specs.declared.listing.Listing.TheVariants.{Sound, Refused, Faults}
-use Rattle.tl_listing.specs.declared.listing.ListingStop.{ListingStop}
-use Rattle.tl_listing.specs.declared.listing.ListingStop.TheVariants as listing_stop
-use Rattle.tl_all_faults.specs.declared.of_records.Findings.{Findings}
-use Rattle.tl_all_faults.specs.Findings.{AreFindingsOf}
-use Rattle.tl_making.specs.Opening.{StopsOpening}
 use Rattle.tl_making.specs.Files.{MakesFile}
 use Rattle.tl_placing.specs.declared.again.Spoken.{Spoken}
 use Rattle.tl_lists.specs.Listed.{told_text}
@@ -28,11 +22,6 @@ use Rattle.tl_lists.specs.Listed.{told_text}
 abbrev pub IsRoomFor : Under → Option (List ℕ) → List (List ℕ) → Room → Type 0
 IsRoomFor before None names room = room ≡ Free
 IsRoomFor before (Some name) names room = IsRoom before name names Collection room
-
--- what is found in a text
-abbrev pub Finds : Layout → Option (List ℕ) → Type 0 → Result Findings Stop → Type 0
-Finds layout known failed (Ok found) = IfSome known (λ text. AreFindingsOf layout text found)
-Finds layout known failed (Err stop) = StopsOpening failed stop
 
 -- a file of the text was made where one is asked for
 abbrev pub MakesAny : {T : Type 0} → (before after : Under) → Option (List ℕ) → Type 0 → List ℕ → Result T Stop → Type 0
@@ -44,12 +33,6 @@ MakesAny before after (Some name) failed text result = MakesFile before after na
 abbrev pub IsPrepared : List (List ℕ) → List MapChain → Spoken → Bool → Told → List MapFault → Bool → Option (Vec ℕ Global) → Type 0
 IsPrepared names chains spoken places told faults points_left (Some text) = text.items ≡ told_text names chains spoken places told faults points_left
 IsPrepared names chains spoken places told faults points_left None = (places ≡ false) × ((most : Option ℕ) × (told ≡ All most))
-
--- what is told of a list that was made
-abbrev pub told_by : Result Findings ListingStop → Result Findings Stop
-told_by (Ok found) = Ok found
-told_by (Err listing_stop.Memory) = Err Memory
-told_by (Err listing_stop.Device) = Err Device
 
 -- a listing of a sound map
 abbrev pub IsSoundOne : Listing → Type 0

@@ -1,4 +1,5 @@
 -- What the contracts of lists cite.
 pub mod Listings
+pub mod Found
 pub mod Listed
 pub mod Keeping

@@ -5,7 +5,7 @@ ghost use Rattle.tl_record.specs.Layout.{layout_with};
 ghost use Rattle.tl_text.specs.Joining.{joined_bytes};
 ghost use Rattle.tl_files.specs.Files.{bytes_under};
 ghost use Rattle.tl_making.specs.Files.{ReadsFail};
-ghost use Rattle.tl_lists.specs.Keeping.{Finds, told_by};
+ghost use Rattle.tl_lists.specs.Found.{Finds, told_by};
 
 use std::alloc::Global;
 use std::hash::RandomState;
@@ -16,8 +16,9 @@ use tl_making::opening::{as_one_text, give_back, open_all, room_for_bytes};
 use tl_record::Options;
 use tl_verdict::Stop;
 
-/// Opens the files of these names, and lists all that is wrong with their text.
-pub(crate) fn find_all<F: FileSystem>(
+/// Opens the files of these names, and lists all that is wrong with their text; with the map of its records, where they have one.
+/// It stops where memory was refused, or where a file can't be opened or read.
+pub fn find_all<F: FileSystem>(
     files: &F,
     alloc: Global,
     hasher: RandomState,

@@ -12,8 +12,8 @@ use tl_output::write_all;
 use tl_record::Sink;
 use tl_verdict::Stop;
 
-/// Writes a listing, or the first `most` of it, and gives its status.
-pub(crate) fn tell_listing<W: Sink, E: Sink>(
+/// Writes a listing, or the first `most` of it, and gives its status; where the write fails, that of a stop.
+pub fn tell_listing<W: Sink, E: Sink>(
     listing: &Listing,
     most: Option<u64>,
     out: &mut W,

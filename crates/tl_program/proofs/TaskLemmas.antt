@@ -8,6 +8,7 @@ use Rattle.tl_plan.specs.declared.plan.Task.{Task}
 use Rattle.tl_plan.specs.declared.plan.Task.TheVariants as task
 use Rattle.tl_answers.specs.Running.{NamesStop}
 use Rattle.tl_lists.proofs.ListLemmas.{lists_for}
+use Rattle.tl_face_lists.proofs.Listed.{lists_faces_for}
 use Rattle.tl_command.specs.Starting.{unknown}
 use Rattle.tl_command.proofs.StartLemmas.{answers_plan_any}
 use Rattle.tl_plan.specs.CommandLine.{AskForTask}
@@ -39,6 +40,7 @@ pub may_be_asked : (words : List Text) (wanted : Task) → AskForTask words want
 may_be_asked words (task.Plan plan progress) asks = tt
 may_be_asked words (task.Faces plan progress) asks = asks.asked.0
 may_be_asked words (task.List asked places made progress options files) asks = tt
+may_be_asked words (task.ListFaces most progress options files) asks = tt
 may_be_asked words (task.Export made options files) asks = tt
 may_be_asked words (task.Draw made view faults options files) asks = tt
 
@@ -49,6 +51,8 @@ task_any (task.Faces plan progress) status before after wrote told part failed o
     faces_any plan status before after wrote told part failed out_same err_same does
 task_any (task.List asked places made progress options files) status before after wrote told part failed out_same err_same does =
     lists_for _ _ _ asked places _ status before after wrote told part failed ⊤ out_same err_same (λ fails. tt) does
+task_any (task.ListFaces most progress options files) status before after wrote told part failed out_same err_same does =
+    (lists_faces_for _ _ most status wrote told part failed ⊤ out_same err_same (λ fails. tt) does.0, does.1)
 task_any (task.Export made options files) status before after wrote told part failed out_same err_same does = record {
   is_status = does.is_status;
   exported = does.exported;

@@ -1,5 +1,5 @@
 -- What the program answers to words, whatever they ask for.
-use Rattle.std.specs.Prelude.{◌⊎◌, ℕ, Bool, false, List, map, option_map, string_bytes, ⊤}
+use Rattle.std.specs.Prelude.{◌≡◌, ◌⊎◌, ℕ, Bool, false, List, map, option_map, string_bytes, ⊤}
 use Rattle.clap.specs.Walk.{Text}
 use Rattle.tl_record.specs.Layout.{layout_with}
 use Rattle.tl_plan.specs.declared.plan.Plan.{Plan}
@@ -9,8 +9,10 @@ use Rattle.tl_plan.specs.CommandLine.{AskForTask, DecidesMap}
 use Rattle.tl_files.specs.Files.{Under, bytes_under}
 use Rattle.tl_text.specs.Joining.{joined_bytes}
 use Rattle.tl_making.specs.Opening.{FilesFail}
+use Rattle.tl_making.specs.Files.{ReadsFail}
 use Rattle.tl_faced_answers.specs.Outcomes.{AnswersFaces}
 use Rattle.tl_lists.specs.Listed.{Lists, ListFails}
+use Rattle.tl_face_lists.specs.Listed.{ListsFaces}
 use Rattle.tl_export.specs.Exports.{SomeFileFails}
 use Rattle.tl_export.specs.Answering.{ExportsOver}
 use Rattle.tl_draw.specs.Drawing.{Draws, DrawFails}
@@ -24,6 +26,9 @@ DoesTask (task.Faces plan progress) status before after wrote told part failed o
 DoesTask (task.List asked places made progress options files) status before after wrote told part failed out_same err_same =
     Lists (layout_with options) (joined_bytes (bytes_under before) false (map string_bytes files.items)) (map string_bytes files.items)
     asked places (option_map string_bytes made) status before after wrote told part failed out_same err_same
+DoesTask (task.ListFaces most progress options files) status before after wrote told part failed out_same err_same =
+    ListsFaces (layout_with options) (joined_bytes (bytes_under before) false (map string_bytes files.items)) most status wrote told part failed out_same err_same
+    × (after ≡ before)
 DoesTask (task.Export made options files) status before after wrote told part failed out_same err_same =
     ExportsOver (layout_with options) (string_bytes made) (map string_bytes files.items) status before after wrote told part failed out_same err_same
 DoesTask (task.Draw made view faults options files) status before after wrote told part failed out_same err_same =
@@ -36,6 +41,7 @@ TaskFails reads writes knows before (task.Plan plan progress) = ⊥
 TaskFails reads writes knows before (task.Faces plan progress) = FilesFail reads writes knows before plan
 TaskFails reads writes knows before (task.List asked places made progress options files) =
     ListFails reads writes knows before places (option_map string_bytes made) (map string_bytes files.items)
+TaskFails reads writes knows before (task.ListFaces most progress options files) = ReadsFail reads before (map string_bytes files.items)
 TaskFails reads writes knows before (task.Export made options files) =
     SomeFileFails reads writes knows before (string_bytes made) (map string_bytes files.items)
 TaskFails reads writes knows before (task.Draw made view faults options files) =

@@ -16,6 +16,7 @@ use tl_command::hint::hint;
 use tl_command::start::{run_plan, watch_plan};
 use tl_draw::open_and_draw;
 use tl_export::open_and_export;
+use tl_face_lists::open_and_list_faces;
 use tl_faced_answers::open_and_decide;
 use tl_files::FileSystem;
 use tl_lists::open_and_list;
@@ -108,6 +109,24 @@ fn perform<F: FileSystem, W: Sink, E: Sink>(
                 *told,
                 *places,
                 made,
+                *options,
+                names.as_slice(),
+                out,
+                err,
+            )
+        }
+        Task::ListFaces {
+            most,
+            progress,
+            options,
+            files: names,
+        } => {
+            watch(files, alloc, names.as_slice(), *progress);
+            open_and_list_faces(
+                &*files,
+                alloc,
+                hasher,
+                *most,
                 *options,
                 names.as_slice(),
                 out,

@@ -17,6 +17,12 @@ returns-in-List g c = λ words asks.
     let under = c.watch.ensures in
     inr (c.args.task.now, asks, rw c.in-List.is (rw (under, names) at (c.open_and_list.ensures)))
 
+pub returns-in-ListFaces : goal.returns-in-ListFaces
+returns-in-ListFaces g c = λ words asks.
+    let names = c.as_slice-in-ListFaces.ensures.value in
+    let under = c.watch-in-ListFaces.ensures in
+    inr (c.args.task.now, asks, rw c.in-ListFaces.is ((rw (under, names) at (c.open_and_list_faces.ensures)), under))
+
 pub returns-in-Export : goal.returns-in-Export
 returns-in-Export g c = λ words asks.
     let same = c.as_slice-in-Export.ensures.value in

@@ -1,0 +1,3 @@
+-- Lemmas on lists with faces.
+pub mod Listed
+pub mod Printed

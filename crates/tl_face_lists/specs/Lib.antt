@@ -1,0 +1,3 @@
+-- What the contracts of lists with faces cite.
+pub mod Listed
+pub mod Keeping
