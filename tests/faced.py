@@ -8,7 +8,8 @@ Where faces agree, each place that is on no chain has to lie in the one polygon 
 outside: so it is proved (`tl_faces`), and so it is reckoned here by the counts of a second opinion. `audit --faces` has to answer
 what `audit` does, unless the map is sound and its faces disagree: then a fault that is true by its definition, which is looked at
 here line by line. `check --faces` by a certificate that `build` made has to agree, and `build --faces` makes that certificate where
-faces agree, and none where they don't.
+faces agree, and none where they don't. `audit --all --faces` has to answer what `audit --all` does, unless the map is sound and its
+faces disagree: then each two segments that differ along a line of one height, which are reckoned here height by height.
 """
 
 import random
@@ -94,6 +95,8 @@ def county_of(lines):
 def complaint_of(county):
     """What the map's faces belie, or None."""
     found = faces.Faces(county.map)
+    if found.agree() == bool(odd_gaps(county.map)):
+        return "faces agree and differ along a line of one height, or disagree and don't"
     return None if not found.agree() or faces.have_one_polygon(found) else "faces agree, and a place has not the one polygon that is named there"
 
 
@@ -174,6 +177,83 @@ def is_true_fault(the_map, line):
     )
 
 
+def height(p):
+    """The height of a point: lines of one height run along LEVEL."""
+    return cross(LEVEL, p)
+
+
+def point_at(segment, rise):
+    """The segment's point of a height."""
+    a, b = ends_of(segment)
+    part = Fraction(rise - height(a), height(b) - height(a))
+    return a[0] + part * way(a, b)[0], a[1] + part * way(a, b)[1]
+
+
+def side_toward(the_map, segment, d):
+    """What the segment names in the direction, or the outside where there is none."""
+    if segment is None:
+        return None
+    chain = the_map.chains[segment.chain]
+    return shown(chain.left if cross(way(*ends_of(segment)), d) > 0 else chain.right)
+
+
+def odd_gaps(the_map):
+    """Each two neighbours along a line of one height that name different sides there, or one and the outside, by their numbers from
+    west to east, where the outside has the number -1; with the lowest height that has them and no vertex."""
+    segments = the_map.segments
+    heights = sorted({height(end) for it in segments for end in ends_of(it)})
+    found = {}
+    for low, high in zip(heights, heights[1:]):
+        rise = low + Fraction(1, 2)
+        active = [number for number, it in enumerate(segments) if min(map(height, ends_of(it))) <= low and high <= max(map(height, ends_of(it)))]
+        active.sort(key=lambda number: point_at(segments[number], rise)[0])
+        row = [-1, *active, -1]
+        for west, east in zip(row, row[1:]):
+            one, other = (None if it < 0 else segments[it] for it in (west, east))
+            if side_toward(the_map, one, LEVEL) != side_toward(the_map, other, (-LEVEL[0], -LEVEL[1])):
+                found.setdefault((west, east), rise)
+    return found
+
+
+def faces_of(the_map, gap, rise):
+    """What a line tells of such a gap: of each segment the TLID, what it names, and its place."""
+    directions = (LEVEL, (-LEVEL[0], -LEVEL[1]))
+    told = []
+    for number, d in zip(gap, directions):
+        if number >= 0:
+            it = the_map.segments[number]
+            told.append((the_map.chains[it.chain].tlid, side_toward(the_map, it, d), point_at(it, rise)))
+    return told
+
+
+def faces_told(line):
+    """What a line tells of faces that disagree, or None."""
+    told = FAULT.fullmatch(line)
+    if not told:
+        return None
+    parts = told.groups()
+    faces_in = [parts[:5], parts[5:]] if parts[5] else [parts[:5]]
+    return [(int(tlid), key, (Fraction(int(x), int(d)), Fraction(int(y), int(d)))) for tlid, key, x, y, d in faces_in]
+
+
+def is_whole_list(the_map, text):
+    """Whether the text tells all faces of the map that disagree along lines of one height, each two segments once, and how many."""
+    *lines, last = text.splitlines(keepends=True)
+    gaps = sorted(odd_gaps(the_map).items())
+    wanted = [faces_of(the_map, gap, rise) for gap, rise in gaps]
+    return [faces_told(line) for line in lines] == wanted and last == f"faults={len(wanted)}\n"
+
+
+def list_complaint(table, words, the_map, agree):
+    """What `audit --all --faces` answers otherwise than it has to, or None."""
+    answer = table.ask("audit", "--all", "--faces", *words)
+    if agree:
+        return None if answer == table.ask("audit", "--all", *words) else f"audit --all --faces: {answer}, and not the list"
+    if answer[0] == 1 and not answer[2] and is_whole_list(the_map, answer[1].decode()):
+        return None
+    return f"audit --all --faces: {answer}, and not all faces that disagree"
+
+
 def answers_complaint(table, text, switches, county):
     """What the program answers otherwise than it has to, or None. Of a map whose faces disagree each answer is a true fault."""
     table.lay("records", text)
@@ -202,7 +282,7 @@ def answers_complaint(table, text, switches, county):
         return "build --faces: a certificate was made and faces disagree, or none was and they agree"
     if made[1].exists() and made[0].read_bytes() != made[1].read_bytes():
         return "build --faces: the certificate isn't that of build"
-    return None
+    return list_complaint(table, words, county.map, agree)
 
 
 def play_worked(table):
