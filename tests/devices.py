@@ -41,6 +41,8 @@ RUNS = [
     ["audit", "--all", EXAMPLES / "faults" / "L2"],
     ["audit", "--all", EXAMPLES / "faults" / "M9"],
     ["audit", "--all", "--most", "3", EXAMPLES / "faults" / "town"],
+    ["audit", "--all", "--faces", EXAMPLES / "county"],
+    ["audit", "--all", "--faces", EXAMPLES / "faults" / "G7"],
     ["audit", "--all", "--where", EXAMPLES / "faults" / "town"],
     ["audit", "--all", "--where", EXAMPLES / "faults" / "L2"],
     ["audit", "--geojson", MADE, EXAMPLES / "county"],
