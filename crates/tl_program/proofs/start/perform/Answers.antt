@@ -19,7 +19,7 @@ returns-in-List g c = λ words asks.
 
 pub returns-in-ListFaces : goal.returns-in-ListFaces
 returns-in-ListFaces g c = λ words asks.
-    let names = c.as_slice-in-ListFaces.ensures.value in
+    let names = c.as_slice-in-ListFaces-2.ensures.value in
     let under = c.watch-in-ListFaces.ensures in
     inr (c.args.task.now, asks, rw c.in-ListFaces.is ((rw (under, names) at (c.open_and_list_faces.ensures)), under))
 
