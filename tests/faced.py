@@ -244,12 +244,12 @@ def is_whole_list(the_map, text):
     return [faces_told(line) for line in lines] == wanted and last == f"faults={len(wanted)}\n"
 
 
-def list_complaint(table, words, the_map, agree):
+def list_complaint(table, words, county, agree):
     """What `audit --all --faces` answers otherwise than it has to, or None."""
     answer = table.ask("audit", "--all", "--faces", *words)
     if agree:
         return None if answer == table.ask("audit", "--all", *words) else f"audit --all --faces: {answer}, and not the list"
-    if answer[0] == 1 and not answer[2] and is_whole_list(the_map, answer[1].decode()):
+    if answer[0] == 1 and not answer[2] and is_whole_list(county.map, answer[1].decode()):
         return None
     return f"audit --all --faces: {answer}, and not all faces that disagree"
 
@@ -282,7 +282,7 @@ def answers_complaint(table, text, switches, county):
         return "build --faces: a certificate was made and faces disagree, or none was and they agree"
     if made[1].exists() and made[0].read_bytes() != made[1].read_bytes():
         return "build --faces: the certificate isn't that of build"
-    return list_complaint(table, words, county.map, agree)
+    return list_complaint(table, words, county, agree)
 
 
 def play_worked(table):
