@@ -1,6 +1,7 @@
 -- Where no gap is told, faces agree, and where one is told they don't.
 use Rattle.std.proofs.Common.{◌≡◌, ◌≢◌, ⊎_elim, ℕ, List, [], ◌∷◌, ◌++◌, length, append_assoc, refl, sym, ap, subst, ◌∙◌, arith, ◌↔◌}
 use Rattle.std.specs.Prelude.{All}
+use Rattle.std.specs.List.{AllZip}
 use Rattle.std.proofs.lemmas.Bool.{cases_eq}
 use Rattle.std.proofs.lemmas.List.Elements.{All-head}
 use Rattle.tl_county.specs.declared.sides.Side.{Side}
@@ -16,7 +17,7 @@ use Rattle.tl_faces.specs.declared.odd.OddGap.{OddGap}
 use Rattle.tl_faces.proofs.FromSlabs.{by_slabs}
 use Rattle.tl_faces.proofs.ToFaces as faces
 use Rattle.tl_facing.specs.declared.fault.FaceFault.{FaceFault}
-use Rattle.tl_facing.specs.Truth.{IsTrueFaceFault}
+use Rattle.tl_facing.specs.Truth.{IsTrueFaceFault, IsOfGap}
 use Rattle.tl_facing.proofs.Contradicts.{denied}
 use Rattle.tl_all_faces.specs.Gaps.{AreAtOdds}
 use Rattle.tl_all_faces.specs.Keeping.Told.{AreAllTold, AreFaultsOf}
@@ -65,10 +66,14 @@ module _ (chains : List MapChain) where
 pub agreed : (m : TheMap) (gaps : List OddGap) (faults : List FaceFault) → IsPlanar m.chains → AreAllTold m.chains gaps → AreFaultsOf m gaps faults →
     (faults ≡ []) ↔ FacesAgree m.chains
 agreed m gaps faults planar told of = (
-  (λ e. let none : length faults ≡ 0 = ap length e in let many = of.many in none_told m.chains planar gaps told (omega (arith, none, many))),
+  (λ e. none_told m.chains planar gaps told (no_gap gaps (subst (λ l. AllZip (IsOfGap widest m) gaps l) e of.each))),
   (λ agree. no_fault faults of.true_ones agree),
 )
   where
+    no_gap : (gaps : List OddGap) → AllZip (IsOfGap widest m) gaps [] → length gaps ≡ 0
+    no_gap [] each = refl
+    no_gap (gap ∷ gaps) each = absurd each
+
     no_fault : (faults : List FaceFault) → All (IsTrueFaceFault m) faults → FacesAgree m.chains → faults ≡ []
     no_fault [] all agree = refl
     no_fault (fault ∷ faults) all agree = absurd (denied m fault (All-head (IsTrueFaceFault m) fault faults all) agree)

@@ -28,8 +28,8 @@ use Rattle.tl_making.specs.Opening.{StopsOpening}
 use Rattle.tl_lists.specs.Listings.{listing_status}
 use Rattle.tl_faced_answers.specs.Outcomes.{IsWhole}
 
--- these are all faces of the map that disagree: each is true of it, and they are as many as the gaps of slabs' lists whose facing sides
--- differ, each two segments once
+-- these are all faces of the map that disagree: each is true of it, and they are of all gaps of slabs' lists whose facing sides differ,
+-- one of each in their order, each two segments once
 pub record HasAllFaces (m : TheMap) (faults : List FaceFault) : Type 0 where
   pub true_ones : All (IsTrueFaceFault m) faults
   pub all : AreOfAllGaps widest m faults

@@ -21,8 +21,8 @@ use Rattle.tl_faces.specs.Odd.{IsOddGap, NamesWest, NamesEast, IsNamedWest, IsNa
 use Rattle.tl_faces.specs.declared.odd.OddGap.{OddGap}
 use Rattle.tl_faces.proofs.Midway.{neighbours_midway, first_midway, last_midway}
 use Rattle.tl_facing.specs.declared.fault.NamedFace.{NamedFace}
-use Rattle.tl_facing.specs.Truth.{side_key, IsNamed, IsTrueFacing, IsTrueOutward}
-use Rattle.tl_facing.specs.Keeping.Faces.{IsWestFace, IsEastFace}
+use Rattle.tl_facing.specs.declared.fault.FaceFault.TheVariants.{Facing, Outward}
+use Rattle.tl_facing.specs.Truth.{side_key, IsNamed, IsTrueFacing, IsTrueOutward, IsWestFace, IsEastFace, IsBetween, IsOfGap}
 
 -- ---- the ends of lists
 
@@ -84,7 +84,7 @@ module _ (m : TheMap) (n : ℤ) (s : ℕ) (u : Segment) (is : IsNumbered m.chain
   right_is : right ≡ is.joins.chain.right
   right_is = read.right_is ∙ ap (λ (c : MapChain). c.right) read_is
 
-  pub west_read : side ≡ (if int_lt (height widest u.a) (height widest u.b) then left else right) → IsWestFace m n s face
+  pub west_read : side ≡ (if int_lt (height widest u.a) (height widest u.b) then left else right) → IsWestFace widest m n s face
   west_read e = record {
     segment = u;
     is = is;
@@ -92,13 +92,34 @@ module _ (m : TheMap) (n : ℤ) (s : ℕ) (u : Segment) (is : IsNumbered m.chain
     named = named (west_side widest is.joins.chain u) (e ∙ (λ i. if int_lt (height widest u.a) (height widest u.b) then left_is i else right_is i));
   }
 
-  pub east_read : side ≡ (if int_lt (height widest u.a) (height widest u.b) then right else left) → IsEastFace m n s face
+  pub east_read : side ≡ (if int_lt (height widest u.a) (height widest u.b) then right else left) → IsEastFace widest m n s face
   east_read e = record {
     segment = u;
     is = is;
     midway = midway;
     named = named (east_side widest is.joins.chain u) (e ∙ (λ i. if int_lt (height widest u.a) (height widest u.b) then right_is i else left_is i));
   }
+
+-- ---- a fault of a gap
+
+module _ (m : TheMap) (gap : OddGap) where
+  pub of_two : (s t : ℕ) → gap.west ≡ Some s → gap.east ≡ Some t → (first last : NamedFace) → IsEastFace widest m (height widest gap.at) s first →
+      IsWestFace widest m (height widest gap.at) t last → IsOfGap widest m gap (Facing first last)
+  of_two s t e f first last one other =
+      subst (λ o. IsBetween widest m (height widest gap.at) o gap.east (Facing first last)) (sym e)
+      (subst (λ o. IsBetween widest m (height widest gap.at) (Some s) o (Facing first last)) (sym f) (one, other))
+
+  pub of_western : (s : ℕ) → gap.west ≡ Some s → gap.east ≡ None → (face : NamedFace) → IsEastFace widest m (height widest gap.at) s face →
+      IsOfGap widest m gap (Outward face)
+  of_western s e f face one =
+      subst (λ o. IsBetween widest m (height widest gap.at) o gap.east (Outward face)) (sym e)
+      (subst (λ o. IsBetween widest m (height widest gap.at) (Some s) o (Outward face)) (sym f) one)
+
+  pub of_eastern : (t : ℕ) → gap.west ≡ None → gap.east ≡ Some t → (face : NamedFace) → IsWestFace widest m (height widest gap.at) t face →
+      IsOfGap widest m gap (Outward face)
+  of_eastern t e f face one =
+      subst (λ o. IsBetween widest m (height widest gap.at) o gap.east (Outward face)) (sym e)
+      (subst (λ o. IsBetween widest m (height widest gap.at) None o (Outward face)) (sym f) one)
 
 -- ---- an odd gap
 
@@ -138,7 +159,7 @@ module _ (m : TheMap) (gap : OddGap) (odd : IsOddGap widest m.chains gap) where
   some_side e f = odd.differ (west_outside e ∙ sym (east_outside f))
 
   module _ (planar : IsPlanar m.chains) (near : AreAllNear widest m.chains) where
-    pub facing : (s t : ℕ) → gap.west ≡ Some s → gap.east ≡ Some t → (first last : NamedFace) → IsEastFace m n s first → IsWestFace m n t last →
+    pub facing : (s t : ℕ) → gap.west ≡ Some s → gap.east ≡ Some t → (first last : NamedFace) → IsEastFace widest m n s first → IsWestFace widest m n t last →
         IsTrueFacing m first last
     facing s t e f first last one other =
         let front = last_split odd.front s (sym odd.is_west ∙ e) in
@@ -161,7 +182,7 @@ module _ (m : TheMap) (gap : OddGap) (odd : IsOddGap widest m.chains gap) where
           named_last = other.named;
         }
 
-    pub eastward : (s : ℕ) → gap.west ≡ Some s → gap.east ≡ None → (face : NamedFace) → IsEastFace m n s face → IsTrueOutward m face
+    pub eastward : (s : ℕ) → gap.west ≡ Some s → gap.east ≡ None → (face : NamedFace) → IsEastFace widest m n s face → IsTrueOutward m face
     eastward s e f face one =
         let front = last_split odd.front s (sym odd.is_west ∙ e) in
         let none : odd.back ≡ [] = first_none odd.back (sym odd.is_east ∙ f) in
@@ -179,7 +200,7 @@ module _ (m : TheMap) (gap : OddGap) (odd : IsOddGap widest m.chains gap) where
           named = one.named;
         }
 
-    pub westward : (t : ℕ) → gap.west ≡ None → gap.east ≡ Some t → (face : NamedFace) → IsWestFace m n t face → IsTrueOutward m face
+    pub westward : (t : ℕ) → gap.west ≡ None → gap.east ≡ Some t → (face : NamedFace) → IsWestFace widest m n t face → IsTrueOutward m face
     westward t e f face one =
         let none : odd.front ≡ [] = last_none odd.front (sym odd.is_west ∙ e) in
         let back = first_split odd.back t (sym odd.is_east ∙ f) in

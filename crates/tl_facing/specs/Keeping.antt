@@ -1,4 +1,3 @@
 -- What the code keeps on its way. No public contract cites a file of this folder.
-pub mod Faces
 pub mod Ranges
 pub mod Slabs

@@ -1,12 +1,16 @@
 -- When a map has faces that disagree, as a fault tells.
-use Rattle.std.specs.Prelude.{◌≡◌, ℤ, Option, None, List, option_map, slice_get}
+use Rattle.std.specs.Prelude.{◌≡◌, ℕ, ℤ, Option, None, Some, List, option_map, slice_get}
 use Rattle.tl_geom.specs.declared.segment.Segment.{Segment}
 use Rattle.tl_key.specs.declared.key.PolyKey.{PolyKey}
 use Rattle.tl_county.specs.declared.polygons.Polygon.{Polygon}
 use Rattle.tl_county.specs.declared.sides.Side.{Side}
 use Rattle.tl_county.specs.declared.sides.Side.TheVariants as side
 use Rattle.tl_county.specs.TheMap.{TheMap, MapChain}
-use Rattle.tl_faces.specs.Disagreements.{IsFaceDisagreement, IsOutwardDisagreement}
+use Rattle.tl_slabs.specs.Heights.{height}
+use Rattle.tl_slabs.specs.Neighbours.{IsNumbered}
+use Rattle.tl_faces.specs.Lists.{west_side, east_side}
+use Rattle.tl_faces.specs.Disagreements.{IsMidway, IsFaceDisagreement, IsOutwardDisagreement}
+use Rattle.tl_faces.specs.declared.odd.OddGap.{OddGap}
 use Rattle.tl_facing.specs.declared.fault.NamedFace.{NamedFace}
 use Rattle.tl_facing.specs.declared.fault.FaceFault.{FaceFault}
 use Rattle.tl_facing.specs.declared.fault.FaceFault.TheVariants.{Facing, Outward}
@@ -47,3 +51,32 @@ pub record IsTrueOutward (m : TheMap) (face : NamedFace) : Type 0 where
 abbrev pub IsTrueFaceFault : TheMap → FaceFault → Type 0
 IsTrueFaceFault m (Facing first last) = IsTrueFacing m first last
 IsTrueFaceFault m (Outward face) = IsTrueOutward m face
+
+-- the face is what segment s names to the west, from its place midway above height n
+pub record IsWestFace (K : ℤ) (m : TheMap) (n : ℤ) (s : ℕ) (face : NamedFace) : Type 0 where
+  pub segment : Segment
+  pub is : IsNumbered m.chains s segment
+  pub midway : IsMidway K n segment face.at
+  pub named : IsNamed m is.joins.chain (west_side K is.joins.chain segment) face
+
+-- the face is what segment s names to the east, from there
+pub record IsEastFace (K : ℤ) (m : TheMap) (n : ℤ) (s : ℕ) (face : NamedFace) : Type 0 where
+  pub segment : Segment
+  pub is : IsNumbered m.chains s segment
+  pub midway : IsMidway K n segment face.at
+  pub named : IsNamed m is.joins.chain (east_side K is.joins.chain segment) face
+
+-- the fault is of what stands west and east of a gap above height n: of two segments what each names toward the other, of one alone
+-- what it names toward the gap
+abbrev pub IsBetween : ℤ → TheMap → ℤ → (west east : Option ℕ) → FaceFault → Type 0
+IsBetween K m n (Some s) (Some t) (Facing first last) = IsEastFace K m n s first × IsWestFace K m n t last
+IsBetween K m n (Some s) (Some t) (Outward face) = ⊥
+IsBetween K m n (Some s) None (Facing first last) = ⊥
+IsBetween K m n (Some s) None (Outward face) = IsEastFace K m n s face
+IsBetween K m n None (Some t) (Facing first last) = ⊥
+IsBetween K m n None (Some t) (Outward face) = IsWestFace K m n t face
+IsBetween K m n None None fault = ⊥
+
+-- the fault is of this gap
+abbrev pub IsOfGap : ℤ → TheMap → OddGap → FaceFault → Type 0
+IsOfGap K m gap fault = IsBetween K m (height K gap.at) gap.west gap.east fault

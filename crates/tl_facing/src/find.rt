@@ -5,8 +5,7 @@ ghost use Rattle.tl_county.specs.Segments.{segments_before};
 ghost use Rattle.tl_planar.specs.Planar.{IsPlanar};
 ghost use Rattle.tl_slabs.specs.Heights.{height, widest};
 ghost use Rattle.tl_faces.specs.Odd.{IsOddGap};
-ghost use Rattle.tl_facing.specs.Truth.{side_key, IsTrueFaceFault};
-ghost use Rattle.tl_facing.specs.Keeping.Faces.{IsWestFace, IsEastFace};
+ghost use Rattle.tl_facing.specs.Truth.{side_key, IsTrueFaceFault, IsWestFace, IsEastFace, IsOfGap};
 
 use crate::fault::{FaceFault, NamedFace};
 use crate::midway::midway;
@@ -17,11 +16,12 @@ use tl_geom::{Point, Segment};
 use tl_key::PolyKey;
 use tl_line::height as height_of;
 
-/// The faces that disagree at a gap of a slab's list whose facing sides differ.
+/// The faces that disagree at a gap of a slab's list whose facing sides differ: what the segments on both sides of it name toward it.
 pub fn face_fault(map: &Map, gap: OddGap) -> FaceFault
     requires planar { IsPlanar map.now.chains }
     requires odd { IsOddGap widest map.now.chains gap }
-    ensures { IsTrueFaceFault map.now result }
+    ensures true_one { IsTrueFaceFault map.now result }
+    ensures gap { IsOfGap widest map.now gap result }
 {
     look_at_points(map);
     match (gap.west, gap.east) {
@@ -38,7 +38,7 @@ pub fn face_fault(map: &Map, gap: OddGap) -> FaceFault
 /// What a segment names to the west, from its place midway above the height of a point.
 fn west_face(map: &Map, s: u32, at: Point) -> NamedFace
     requires known { s < segments_before map.now.chains (length map.now.chains) }
-    ensures { IsWestFace map.now (height widest at) s result }
+    ensures { IsWestFace widest map.now (height widest at) s result }
 {
     let segment = map.segment(s);
     let chain = map.chain(map.segment_chain(s));
@@ -53,7 +53,7 @@ fn west_face(map: &Map, s: u32, at: Point) -> NamedFace
 /// What it names to the east, from there.
 fn east_face(map: &Map, s: u32, at: Point) -> NamedFace
     requires known { s < segments_before map.now.chains (length map.now.chains) }
-    ensures { IsEastFace map.now (height widest at) s result }
+    ensures { IsEastFace widest map.now (height widest at) s result }
 {
     let segment = map.segment(s);
     let chain = map.chain(map.segment_chain(s));

@@ -1,5 +1,6 @@
 -- What is told of slabs.
-use Rattle.std.specs.Prelude.{◌≡◌, ℕ, ◌<◌, ℤ, pos, ◌+ℤ◌, ◌<ℤ◌, ◌≤ℤ◌, List, length, slice_index_or, All}
+use Rattle.std.specs.Prelude.{ℕ, ◌<◌, ℤ, pos, ◌+ℤ◌, ◌<ℤ◌, ◌≤ℤ◌, List, length, slice_index_or, All}
+use Rattle.std.specs.List.{AllZip}
 use Rattle.tl_geom.specs.declared.point.Point.{Point}
 use Rattle.tl_geom.specs.declared.segment.Segment.{Segment}
 use Rattle.tl_county.specs.TheMap.{TheMap, MapChain}
@@ -10,7 +11,7 @@ use Rattle.tl_slabs.specs.Slabs.{IsListOf, AreSlabsTested}
 use Rattle.tl_faces.specs.declared.odd.OddGap.{OddGap}
 use Rattle.tl_faces.specs.Lists.{AreAllNear}
 use Rattle.tl_faces.specs.Odd.{IsOddGap}
-use Rattle.tl_facing.specs.Truth.{IsTrueFaceFault}
+use Rattle.tl_facing.specs.Truth.{IsTrueFaceFault, IsOfGap}
 use Rattle.tl_facing.specs.declared.fault.FaceFault.{FaceFault}
 use Rattle.tl_sweep.specs.Keeping.Swept.{AreAbove, IsSwept}
 use Rattle.tl_all_faces.specs.Gaps.{AreAllOddGaps}
@@ -67,7 +68,7 @@ pub record AreAllTold (chains : List MapChain) (gaps : List OddGap) : Type 0 whe
   pub near : AreAllNear widest chains
   pub lists : AreSlabsTested widest chains
 
--- as many faults as gaps, each of which is true
+-- the faults are of the gaps, place by place, and each is true
 pub record AreFaultsOf (m : TheMap) (gaps : List OddGap) (faults : List FaceFault) : Type 0 where
-  pub many : length faults ≡ length gaps
+  pub each : AllZip (IsOfGap widest m) gaps faults
   pub true_ones : All (IsTrueFaceFault m) faults

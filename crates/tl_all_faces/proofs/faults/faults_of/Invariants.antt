@@ -1,10 +1,12 @@
-use Rattle.std.proofs.Common.{◌≡◌, length, All}
-use Rattle.tl_facing.specs.Truth.{IsTrueFaceFault}
+use Rattle.std.proofs.Common.{take, All}
+use Rattle.std.specs.List.{AllZip}
+use Rattle.tl_slabs.specs.Heights.{widest}
+use Rattle.tl_facing.specs.Truth.{IsTrueFaceFault, IsOfGap}
 use Rattle.tl_all_faces.proofs.faults.faults_of.Given as goal
 
 -- those of the gaps so far
 abbrev pub invariant-loop-k : goal.invariant-loop-k
 invariant-loop-k l = record {
-  many : length l.faults.items ≡ l.k;
+  each : AllZip (IsOfGap widest l.map) (take l.k l.gaps) l.faults.items;
   true_ones : All (IsTrueFaceFault l.map) l.faults.items;
 }
