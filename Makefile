@@ -15,6 +15,7 @@
 #                          these, searches in trees, and certificates written and read, and counts instructions where
 #                          valgrind is there; with BESIDE=PROGRAM it counts and times that program's too; and lists
 #                          of every fault
+# make ways                counts the sweeps of each command, where valgrind is there: one of a map, that says all that is asked
 # make speed               prints the tables of docs/speed.md, which are the rows of 100,000 chains among these
 # make pictures            reads what `export` and `draw` make by GDAL and by a browser, where they are there
 # make pages               looks at the manual page and the completions, which are made of the program's help, and at what
@@ -25,7 +26,7 @@
 PREFIX = /usr/local
 PROGRAM = crates/tigertopo/out/tigertopo
 
-.PHONY: build check wrong-bodies rows certificates judge full-size limits memory devices examples counties bench speed pictures pages install uninstall
+.PHONY: build check wrong-bodies rows certificates judge full-size limits memory devices examples counties bench ways speed pictures pages install uninstall
 
 build:
 	python3 proving/prove.py
@@ -73,6 +74,9 @@ bench: build
 	python3 bench/instructions.py $(if $(BESIDE),--beside $(BESIDE))
 	python3 bench/beside.py $(if $(BESIDE),--beside $(BESIDE))
 	python3 bench/faulty.py
+
+ways: build
+	python3 bench/ways.py
 
 speed: build
 	python3 proving/prove.py bench

@@ -14,7 +14,7 @@ from rows import TOP, play, rows_of
 
 PROGRAM = TOP / "crates" / "tigertopo_core" / "out" / "tigertopo_core"
 LACKING = b"error: the program that has this isn't built: run `make`\n"
-MORE = ("--all", "--where", "--geojson", "--faces")
+MORE = ("--all", "--where", "--geojson")
 HELP = ("--help", "-h")
 
 

@@ -9,9 +9,11 @@ outside: so it is proved (`tl_faces`), and so it is reckoned here by the counts 
 what `audit` does, unless the map is sound and its faces disagree: then a fault that is true by its definition, which is looked at
 here line by line. `check --faces` by a certificate that `build` made has to agree, and `build --faces` makes that certificate where
 faces agree, and none where they don't. `audit --all --faces` has to answer what `audit --all` does, unless the map is sound and its
-faces disagree: then each two segments that differ along a line of one height, which are reckoned here height by height.
+faces disagree: then each two segments that differ along a line of one height, which are reckoned here height by height; no two lines
+are equal, places are in lowest terms, and the faults that `audit`, `build` and `check` name are among them.
 """
 
+import math
 import random
 import re
 import sys
@@ -24,6 +26,7 @@ import faces
 import judge
 import judged
 import layout
+import placed
 
 CASES = 600
 
@@ -103,7 +106,8 @@ def complaint_of(county):
 # Lines of one height run in this direction and in the opposite one.
 LEVEL = (2**32, 1)
 FACE = r"tlid (\d+) (?:polygon (\S+)|outside) at (-?\d+) (-?\d+) (\d+)"
-FAULT = re.compile(rf"map fault G7 FaceDisagree {FACE} (?:{FACE}|outside)\n")
+FAULT = re.compile(rf"map fault G7 FaceDisagree {FACE} (?:{FACE}|outside (west|east))\n")
+WAYS = {"east": LEVEL, "west": (-LEVEL[0], -LEVEL[1])}
 
 
 def cross(a, b):
@@ -162,11 +166,8 @@ def is_true_fault(the_map, line):
     parts = told.groups()
     tlid, key, p = int(parts[0]), parts[1], (Fraction(int(parts[2]), int(parts[4])), Fraction(int(parts[3]), int(parts[4])))
     if parts[5] is None:
-        directions = [LEVEL, (-LEVEL[0], -LEVEL[1])]
-        return key is not None and any(
-            key in map(shown, sides_toward(the_map, tlid, p, d)) and not any(is_met(it, p, d, None) for it in the_map.segments)
-            for d in directions
-        )
+        d = WAYS[parts[10]]
+        return key is not None and key in map(shown, sides_toward(the_map, tlid, p, d)) and not any(is_met(it, p, d, None) for it in the_map.segments)
     other, opposite, q = int(parts[5]), parts[6], (Fraction(int(parts[7]), int(parts[9])), Fraction(int(parts[8]), int(parts[9])))
     d, back = way(p, q), way(q, p)
     return (
@@ -216,14 +217,19 @@ def odd_gaps(the_map):
 
 
 def faces_of(the_map, gap, rise):
-    """What a line tells of such a gap: of each segment the TLID, what it names, and its place."""
-    directions = (LEVEL, (-LEVEL[0], -LEVEL[1]))
+    """What a line tells of such a gap: of each segment the TLID, what it names, and its place; and the way to the outside, if it is
+    there."""
     told = []
-    for number, d in zip(gap, directions):
+    for number, way_on in zip(gap, ("east", "west")):
         if number >= 0:
             it = the_map.segments[number]
-            told.append((the_map.chains[it.chain].tlid, side_toward(the_map, it, d), point_at(it, rise)))
-    return told
+            told.append((the_map.chains[it.chain].tlid, side_toward(the_map, it, WAYS[way_on]), point_at(it, rise)))
+    return told, "west" if gap[0] < 0 else "east" if gap[1] < 0 else None
+
+
+def is_lowest(x, y, d):
+    """Whether a place is written in lowest terms."""
+    return int(d) > 0 and math.gcd(int(x), int(y), int(d)) == 1
 
 
 def faces_told(line):
@@ -232,8 +238,10 @@ def faces_told(line):
     if not told:
         return None
     parts = told.groups()
-    faces_in = [parts[:5], parts[5:]] if parts[5] else [parts[:5]]
-    return [(int(tlid), key, (Fraction(int(x), int(d)), Fraction(int(y), int(d)))) for tlid, key, x, y, d in faces_in]
+    faces_in = [parts[:5], parts[5:10]] if parts[5] else [parts[:5]]
+    if not all(is_lowest(x, y, d) for _, _, x, y, d in faces_in):
+        return None
+    return [(int(tlid), key, (Fraction(int(x), int(d)), Fraction(int(y), int(d)))) for tlid, key, x, y, d in faces_in], parts[10]
 
 
 def is_whole_list(the_map, text):
@@ -241,17 +249,42 @@ def is_whole_list(the_map, text):
     *lines, last = text.splitlines(keepends=True)
     gaps = sorted(odd_gaps(the_map).items())
     wanted = [faces_of(the_map, gap, rise) for gap, rise in gaps]
-    return [faces_told(line) for line in lines] == wanted and last == f"faults={len(wanted)}\n"
+    return [faces_told(line) for line in lines] == wanted and len(set(lines)) == len(lines) and last == f"faults={len(wanted)}\n"
 
 
-def list_complaint(table, words, county, agree):
-    """What `audit --all --faces` answers otherwise than it has to, or None."""
+def list_complaint(table, words, county, agree, named):
+    """What `audit --all --faces` answers otherwise than it has to, or None; these faults were named."""
     answer = table.ask("audit", "--all", "--faces", *words)
     if agree:
         return None if answer == table.ask("audit", "--all", *words) else f"audit --all --faces: {answer}, and not the list"
-    if answer[0] == 1 and not answer[2] and is_whole_list(county.map, answer[1].decode()):
+    lines = answer[1].splitlines(keepends=True)
+    if any(line not in lines for line in named):
+        return f"audit --all --faces: {answer}, and not {named}"
+    if answer[0] != 1 or answer[2] or not is_whole_list(county.map, answer[1].decode()):
+        return f"audit --all --faces: {answer}, and not all faces that disagree"
+    return shown_complaint(table, words, county, answer[1].decode().splitlines())
+
+
+def shown_complaint(table, words, county, told):
+    """What is wrong with the records behind the faults of a list, the file that is made of them, and the picture, or None."""
+    switches, names = [it for it in words if it.startswith("-")], [it for it in words if not it.startswith("-")]
+    texts = [(table.folder / name).read_bytes() for name in names]
+    faults = placed.Faults(names, texts, "--released" in switches, county.map)
+    if not faults.are_clear:
         return None
-    return f"audit --all --faces: {answer}, and not all faces that disagree"
+    wanted = "".join(line + "\n" for line in faults.placed(told)).encode()
+    made = table.folder / "faults.geojson"
+    made.unlink(missing_ok=True)
+    answer = table.ask("audit", "--all", "--where", "--geojson", "faults.geojson", "--faces", *words)
+    if answer != (1, wanted, b""):
+        return f"audit --all --where --geojson --faces: {answer}, and not {wanted}"
+    complaint = placed.wrong_collection(made.read_bytes(), faults.features(told[:-1]))
+    if complaint:
+        return f"audit --all --geojson --faces: {complaint}"
+    (table.folder / "picture.svg").unlink(missing_ok=True)
+    answer = table.ask("draw", "--faults", "--faces", "--out", "picture.svg", *words)
+    wanted = f"drawn chains={len(county.map.chains)} faults={len(told) - 1}\n".encode()
+    return None if answer == (0, wanted, b"") else f"draw --faults --faces: {answer}, and not {wanted}"
 
 
 def answers_complaint(table, text, switches, county):
@@ -282,7 +315,7 @@ def answers_complaint(table, text, switches, county):
         return "build --faces: a certificate was made and faces disagree, or none was and they agree"
     if made[1].exists() and made[0].read_bytes() != made[1].read_bytes():
         return "build --faces: the certificate isn't that of build"
-    return list_complaint(table, words, county, agree)
+    return list_complaint(table, words, county, agree, [answer[1] for _, answer, _ in asked])
 
 
 def play_worked(table):

@@ -17,6 +17,7 @@ import sys
 import tempfile
 from pathlib import Path
 
+import full_lists
 import hints
 import placed
 from grids import KEY, POINT, SIDE, grid, report_of
@@ -95,6 +96,19 @@ class Plays:
         well = (done.returncode, digest(done.stdout), told) == wanted
         self.count(well, f"{title}: status {done.returncode}, {done.stdout[-200:]} {done.stderr[-200:]}")
 
+    def ends(self, title, words, status, lines, tail, command="audit"):
+        """What `audit` prints, line by line: these lines, or so many where their number is given, or any where there is `None`; and then the
+        tail."""
+        done = subprocess.run([self.program, command, *words], cwd=self.folder, capture_output=True)
+        told = done.stdout.decode()
+        body = told.removesuffix(tail)
+        if isinstance(lines, int):
+            well = body.count("\n") == lines
+        else:
+            well = lines is None or body == "".join(f"{it}\n" for it in lines)
+        well = well and told.endswith(tail) and done.returncode == status and not done.stderr
+        self.count(well, f"{title}: status {done.returncode}, {told[:200]} .. {told[-200:]} {done.stderr[-200:]}")
+
     def count(self, well, wrong):
         self.passed, self.failed = self.passed + well, self.failed + (not well)
         if not well:
@@ -102,15 +116,17 @@ class Plays:
 
     def decide(self, title, name, status, numbers, fault=""):
         """What `audit` and `build` answer to the records: the numbers of a sound map, which `check` answers to what is built,
-        or a fault, and no file is made."""
+        or a fault, and no file is made. Its faces agree, where it has no other fault."""
         made = Path(self.folder, "made")
         answer = lambda word: fault or f"{word} {numbers}\n"
         self.play(f"{title}, by audit", [name], status, answer("sound"), command="audit")
+        self.play(f"{title}, with faces", ["--faces", name], status, answer("sound"), command="audit")
         self.play(f"{title}, by build", ["--out", made.name, name], status, answer("built"), command="build")
         if fault:
             self.count(not made.exists(), f"{title}: a file was made")
         else:
             self.play(f"{title}, as built", ["--cert", made.name, name], status, answer("sound"), command="check")
+            self.play(f"{title}, as built, with faces", ["--cert", made.name, "--faces", name], status, answer("sound"), command="check")
             made.unlink(missing_ok=True)
 
 
@@ -152,8 +168,10 @@ def play_all(program=PROGRAM, measures=False):
         play_checks(plays)
         play_path(plays)
         play_squares(plays)
+        play_faces(plays)
         play_places(plays)
         play_trees(plays)
+        full_lists.play_all(plays)
     return plays.passed, plays.failed
 
 
@@ -278,6 +296,25 @@ def play_squares(plays):
     wrong = placed.wrong_collection(made.read_bytes() if made.exists() else b"", wanted)
     plays.count(not wrong, f"a point west of the most squares, as a file: {wrong}")
     made.unlink(missing_ok=True)
+
+
+def play_faces(plays):
+    """Answers to a town, and north of it as many streets as the limit of chains leaves room for, each of which names the town on both
+    sides. No line of one height meets two of these: each faces the outside to the west and to the east, from the place midway above
+    the height of its eastern end."""
+    streets, rects = single_streets(CHAIN_LIMIT - 1)
+    named = line_of("sides 7 A0001/1 A0001/1").replace(b"%10d" % 7, b"%10s")
+    of_street = lambda k, rect: chain(k + 2, rect[:2], rect[2:])[0].encode() + named % (b"%d" % (k + 2))
+    town = ["chain 1 0,-100 0,-100", "shape 1 1 10,-100 10,-90 0,-90", "sides 1 A0001/1 -", "point A0001/1 5,-95"]
+    misnamed = plays.file("misnamed", b"".join(map(line_of, town)) + b"".join(of_street(k, it) for k, it in enumerate(rects)))
+    audited = lambda title, words, status, out: plays.play(title, [*words, misnamed], status, out, command="audit")
+    count = len(streets)
+    numbers = f"chains={CHAIN_LIMIT} segments={count + 4} nodes={2 * count + 1} polygons=1 landmarks=0 rings={count + 2}"
+    audited("streets that name a town", [], 0, f"sound {numbers}\n")
+    x, y = rects[0][:2]
+    first = f"map fault G7 FaceDisagree tlid 2 polygon A0001/1 at {2 * x + 3} {2 * y} 2 outside west\n"
+    audited("streets that name a town, with faces", ["--all", "--most", "1", "--faces"], 1, f"{first}faults={2 * count} printed=1\n")
+    audited("the same, not printed", ["--all", "--most", "0", "--faces"], 1, f"faults={2 * count} printed=0\n")
 
 
 def play_places(plays):

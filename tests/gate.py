@@ -11,7 +11,7 @@ from concurrent.futures import ThreadPoolExecutor
 from pathlib import Path
 
 TOP = Path(__file__).resolve().parent.parent
-sys.path += [str(TOP / "tests"), str(TOP / "examples"), str(TOP / "proving")]
+sys.path += [str(TOP / "tests"), str(TOP / "examples"), str(TOP / "proving"), str(TOP / "bench")]
 
 # More memory than any task of `rt ci` has been seen to take, in bytes.
 LANE = 5_000_000_000
@@ -56,6 +56,7 @@ def main():
     import rows
     import run as examples
     import times
+    import ways
 
     def timed(part):
         name, play = part
@@ -86,6 +87,9 @@ def main():
     # Debian's gdal-bin isn't everywhere.
     if not pictures.missing():
         parts.append(("files of GeoJSON", pictures.play_all))
+    # So is valgrind.
+    if not ways.missing():
+        parts.append(("sweeps of each command", ways.play_all))
     begun = time.monotonic()
     with times.Watch() as watch:
         counts = [timed(proofs)]

@@ -17,7 +17,7 @@ OPENING = '{"type":"FeatureCollection","name":"tigertopo","features":['
 # Of each fault that names chains the types of the records of these that it speaks of.
 OF_CHAIN = {
     **{"M1": "1", "M2": "2", "M3": "2", "M4": "2", "M5": "1", "M6": "I", "M7": "I", "M9": "I", "M12": "12"},
-    **{"G1": "12", "G2": "I", "G3": "12", "G6": "I"},
+    **{"G1": "12", "G2": "I", "G3": "12", "G6": "I", "G7": "I"},
 }
 # The faults that speak of the type P records of the polygons that they name.
 OF_POLYGON = ("M8", "G3", "G4", "G5")
@@ -104,7 +104,8 @@ class Fault:
             elif word == "darts":
                 darts = [int(words.pop(0)), int(words.pop(0))]
             elif word == "at":
-                self.at = (int(words.pop(0)), int(words.pop(0)), int(words.pop(0)) if self.code == "G1" else 1)
+                at = (int(words.pop(0)), int(words.pop(0)), int(words.pop(0)) if self.code in ("G1", "G7") else 1)
+                self.at = self.at or at
         self.tlids += [the_map.chains[dart // 2].tlid for dart in darts]
         self.tlids = list(dict.fromkeys(self.tlids))
         if self.code == "G6":

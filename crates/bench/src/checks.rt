@@ -2,10 +2,10 @@
 
 use crate::answer::Answer;
 use crate::certificates::certificate_of;
+use crate::failure::Failure;
 use crate::files::open;
 use crate::sides;
-use crate::steps::{now, tell};
-use crate::stop::Stop;
+use crate::steps::{now, say_taken};
 use std::hash::RandomState;
 use tl_build::{Built, build};
 use tl_cert::Certificate;
@@ -13,87 +13,87 @@ use tl_check::{Verdict, check_map};
 use tl_county::Map;
 use tl_map::read_map;
 use tl_planar::{Meeting, Segments, first_meet};
-use tl_sweep::Swept;
+use tl_sweep::{Gaps, Swept};
 use tl_tree::FlatTree;
 
 /// Reads the map of the records.
-fn map_of(rt: &HostRuntime, name: &str) -> Result<Map, Stop> {
+fn map_of(rt: &HostRuntime, name: &str) -> Result<Map, Failure> {
     let Ok(hasher) = RandomState::new(rt) else {
-        return Err(Stop::Records);
+        return Err(Failure::Records);
     };
     let mut source = open(rt, name)?;
     let begun = now(rt);
     let read = read_map(rt.alloc(), hasher, &mut source);
-    tell(rt, "records read", begun);
+    say_taken(rt, "records read", begun);
     match read {
         Ok(map) => Ok(map),
-        Err(_) => Err(Stop::Records),
+        Err(_) => Err(Failure::Records),
     }
 }
 
 /// Builds a certificate of the map.
-fn build_certificate(rt: &HostRuntime, map: &Map) -> Result<Certificate, Stop> {
+fn build_certificate(rt: &HostRuntime, map: &Map) -> Result<Certificate, Failure> {
     let begun = now(rt);
     let built = build(rt.alloc(), map);
-    tell(rt, "built", begun);
+    say_taken(rt, "built", begun);
     match built {
         Ok(Built::Cert(certificate)) => Ok(certificate),
-        Ok(Built::Fault(_)) => Err(Stop::Unsound),
-        Err(_) => Err(Stop::Memory),
+        Ok(Built::Fault(_)) => Err(Failure::Unsound),
+        Err(_) => Err(Failure::Memory),
     }
 }
 
 /// Searches with a certificate's tree.
-fn search_with(rt: &HostRuntime, map: &Map, certificate: &Certificate) -> Result<(), Stop> {
+fn search_with(rt: &HostRuntime, map: &Map, certificate: &Certificate) -> Result<(), Failure> {
     let begun = now(rt);
     let Ok(tree) = FlatTree::from_nodes(rt.alloc(), certificate.tree()) else {
-        return Err(Stop::Memory);
+        return Err(Failure::Memory);
     };
     let fault = tree.check(rt.alloc(), &Segments::new(map));
-    tell(rt, "tree checked", begun);
+    say_taken(rt, "tree checked", begun);
     match fault {
         Ok(None) => {}
-        Ok(Some(_)) => return Err(Stop::Tree),
-        Err(_) => return Err(Stop::Memory),
+        Ok(Some(_)) => return Err(Failure::Tree),
+        Err(_) => return Err(Failure::Memory),
     }
     let begun = now(rt);
     let found = first_meet(map, &tree, u64::MAX);
-    tell(rt, "conflicts searched", begun);
+    say_taken(rt, "conflicts searched", begun);
     match found {
         Meeting::Clear => Ok(()),
-        _ => Err(Stop::Unsound),
+        _ => Err(Failure::Unsound),
     }
 }
 
 /// Takes a certificate's rounds and walks.
-fn take_sides(rt: &HostRuntime, map: &Map, certificate: &Certificate) -> Result<(), Stop> {
+fn take_sides(rt: &HostRuntime, map: &Map, certificate: &Certificate) -> Result<(), Failure> {
     let begun = now(rt);
     let taken = sides::take(rt.alloc(), map, certificate);
-    tell(rt, "rounds and walks taken", begun);
+    say_taken(rt, "rounds and walks taken", begun);
     taken
 }
 
 /// Checks the map by a certificate.
-fn check_whole(rt: &HostRuntime, map: &Map, certificate: &Certificate) -> Result<Answer, Stop> {
+fn check_whole(rt: &HostRuntime, map: &Map, certificate: &Certificate) -> Result<Answer, Failure> {
     let begun = now(rt);
     let verdict = check_map(rt.alloc(), map, certificate, u64::MAX);
-    tell(rt, "all checked", begun);
+    say_taken(rt, "all checked", begun);
     match verdict {
         Ok(Verdict::Sound(report)) => Ok(Answer::Sound(report)),
-        Ok(_) => Err(Stop::Unsound),
-        Err(_) => Err(Stop::Memory),
+        Ok(_) => Err(Failure::Unsound),
+        Err(_) => Err(Failure::Memory),
     }
 }
 
 /// Does the parts of a check, and then the whole.
-fn check_by(rt: &HostRuntime, map: &Map, certificate: &Certificate) -> Result<Answer, Stop> {
+fn check_by(rt: &HostRuntime, map: &Map, certificate: &Certificate) -> Result<Answer, Failure> {
     search_with(rt, map, certificate)?;
     take_sides(rt, map, certificate)?;
     check_whole(rt, map, certificate)
 }
 
 /// Does so by the certificate in a file, or by one that is built.
-fn check_read(rt: &HostRuntime, map: &Map, name: Option<&str>) -> Result<Answer, Stop> {
+fn check_read(rt: &HostRuntime, map: &Map, name: Option<&str>) -> Result<Answer, Failure> {
     let certificate = match name {
         Some(name) => certificate_of(rt, name),
         None => build_certificate(rt, map),
@@ -105,16 +105,23 @@ fn check_read(rt: &HostRuntime, map: &Map, name: Option<&str>) -> Result<Answer,
 }
 
 /// Sweeps over a map.
-fn sweep_map(rt: &HostRuntime, map: &Map) -> Result<Answer, Stop> {
+fn sweep_map(rt: &HostRuntime, map: &Map) -> Result<Answer, Failure> {
     let begun = now(rt);
-    let swept = tl_sweep::sweep(rt.alloc(), map);
-    tell(rt, "swept", begun);
+    let swept = tl_sweep::sweep(rt.alloc(), map, Gaps::First);
+    say_taken(rt, "swept", begun);
     match swept {
-        Ok(Swept::Placed) => Ok(Answer::Swept("placed")),
-        Ok(Swept::Planar) => Ok(Answer::Swept("planar")),
-        Ok(Swept::Meet(_)) => Ok(Answer::Swept("meet")),
-        Ok(Swept::Unknown) => Ok(Answer::Swept("unknown")),
-        Err(_) => Err(Stop::Memory),
+        Ok(report) => Ok(Answer::Swept(word_of(report.swept))),
+        Err(_) => Err(Failure::Memory),
+    }
+}
+
+/// What a sweep says, in a word.
+fn word_of(swept: Swept) -> &'static str {
+    match swept {
+        Swept::Placed => "placed",
+        Swept::Planar => "planar",
+        Swept::Meet(_) => "meet",
+        Swept::Unknown => "unknown",
     }
 }
 
@@ -128,7 +135,7 @@ pub enum Work<'a> {
 }
 
 /// Does this with a map.
-fn measure_map(rt: &HostRuntime, map: &Map, work: Work) -> Result<Answer, Stop> {
+fn measure_map(rt: &HostRuntime, map: &Map, work: Work) -> Result<Answer, Failure> {
     match work {
         Work::Check(name) => check_read(rt, map, name),
         Work::Sweep => sweep_map(rt, map),
@@ -136,7 +143,7 @@ fn measure_map(rt: &HostRuntime, map: &Map, work: Work) -> Result<Answer, Stop> 
 }
 
 /// Does this with the records' map.
-pub fn measure(rt: &HostRuntime, records: &str, work: Work) -> Result<Answer, Stop> {
+pub fn measure(rt: &HostRuntime, records: &str, work: Work) -> Result<Answer, Failure> {
     match map_of(rt, records) {
         Ok(map) => measure_map(rt, &map, work),
         Err(stop) => Err(stop),

@@ -1,6 +1,6 @@
 //! Files to read.
 
-use crate::stop::Stop;
+use crate::failure::Failure;
 use std::fs::File;
 use std::io::BufReader;
 use tl_record::Meter;
@@ -12,12 +12,12 @@ const INPUT_BUFFER: usize = 32_768;
 pub type Input = Meter<BufReader<File>>;
 
 /// Opens a file.
-pub fn open(rt: &HostRuntime, name: &str) -> Result<Input, Stop> {
+pub fn open(rt: &HostRuntime, name: &str) -> Result<Input, Failure> {
     let Ok(file) = File::open(rt, name) else {
-        return Err(Stop::File);
+        return Err(Failure::File);
     };
     match BufReader::with_capacity(rt.alloc(), INPUT_BUFFER, file) {
         Ok(reader) => Ok(Meter::new(reader)),
-        Err(_) => Err(Stop::Memory),
+        Err(_) => Err(Failure::Memory),
     }
 }

@@ -19,47 +19,47 @@ mod answer;
 mod certificates;
 mod checks;
 mod county;
+mod failure;
 mod files;
 mod made;
 mod records;
 mod sides;
 mod steps;
-mod stop;
 mod streets;
 mod trees;
 
 use crate::answer::Answer;
 use crate::checks::Work;
-use crate::stop::Stop;
+use crate::failure::Failure;
 use std::env;
 use std::process::ExitCode;
 
 /// The words behind the program's name.
-fn words_of(rt: &HostRuntime) -> Result<Vec<String>, Stop> {
+fn words_of(rt: &HostRuntime) -> Result<Vec<String>, Failure> {
     let Ok(words) = env::args(rt) else {
-        return Err(Stop::Words);
+        return Err(Failure::Words);
     };
     match words.skip(1).collect::<Vec<String>>(rt.alloc()) {
         Ok(words) => Ok(words),
-        Err(_) => Err(Stop::Memory),
+        Err(_) => Err(Failure::Memory),
     }
 }
 
 /// The number that a word spells.
-fn number(word: &str) -> Result<u32, Stop> {
+fn number(word: &str) -> Result<u32, Failure> {
     match word.parse() {
         Ok(number) => Ok(number),
-        Err(_) => Err(Stop::Usage),
+        Err(_) => Err(Failure::Usage),
     }
 }
 
 /// Does what a command asks of one word.
-fn answer_of_one(rt: &HostRuntime, command: &str, word: &str) -> Result<Answer, Stop> {
+fn answer_of_one(rt: &HostRuntime, command: &str, word: &str) -> Result<Answer, Failure> {
     match command {
         "tree" => trees::search(rt, number(word)?),
         "check" => checks::measure(rt, word, Work::Check(None)),
         "sweep" => checks::measure(rt, word, Work::Sweep),
-        _ => Err(Stop::Usage),
+        _ => Err(Failure::Usage),
     }
 }
 
@@ -69,15 +69,15 @@ fn answer_of_two(
     command: &str,
     first: &str,
     second: &str,
-) -> Result<Answer, Stop> {
+) -> Result<Answer, Failure> {
     match command {
         "check" => checks::measure(rt, first, Work::Check(Some(second))),
         "cert" => match first {
             "read" => certificates::read(rt, second),
             "parts" => certificates::count(rt, second),
-            _ => Err(Stop::Usage),
+            _ => Err(Failure::Usage),
         },
-        _ => Err(Stop::Usage),
+        _ => Err(Failure::Usage),
     }
 }
 
@@ -88,15 +88,15 @@ fn answer_of_three(
     first: &str,
     second: &str,
     third: &str,
-) -> Result<Answer, Stop> {
+) -> Result<Answer, Failure> {
     if command != "cert" || first != "make" {
-        return Err(Stop::Usage);
+        return Err(Failure::Usage);
     }
     certificates::make(rt, number(second)?, third)
 }
 
 /// Does what a command asks of the words behind it.
-fn answer_of(rt: &HostRuntime, command: &str, words: &[String]) -> Result<Answer, Stop> {
+fn answer_of(rt: &HostRuntime, command: &str, words: &[String]) -> Result<Answer, Failure> {
     if command == "records" {
         return records::count(rt, words);
     }
@@ -110,20 +110,20 @@ fn answer_of(rt: &HostRuntime, command: &str, words: &[String]) -> Result<Answer
             second.as_str(),
             third.as_str(),
         ),
-        _ => Err(Stop::Usage),
+        _ => Err(Failure::Usage),
     }
 }
 
 /// Does what the words ask.
-fn run(rt: &HostRuntime, words: &[String]) -> Result<Answer, Stop> {
+fn run(rt: &HostRuntime, words: &[String]) -> Result<Answer, Failure> {
     match words {
         [command, others @ ..] => answer_of(rt, command.as_str(), others),
-        [] => Err(Stop::Usage),
+        [] => Err(Failure::Usage),
     }
 }
 
 /// What the words of the command line ask for, done.
-fn run_words(rt: &HostRuntime) -> Result<Answer, Stop> {
+fn run_words(rt: &HostRuntime) -> Result<Answer, Failure> {
     match words_of(rt) {
         Ok(words) => run(rt, words.as_slice()),
         Err(stop) => Err(stop),
@@ -131,7 +131,7 @@ fn run_words(rt: &HostRuntime) -> Result<Answer, Stop> {
 }
 
 /// Prints what was found, or why nothing was, and gives whether all went well.
-fn tell(rt: &HostRuntime, ended: Result<Answer, Stop>) -> bool {
+fn print_ended(rt: &HostRuntime, ended: Result<Answer, Failure>) -> bool {
     match ended {
         Ok(answer) => println!(rt; "{answer}").is_ok(),
         Err(stop) => {
@@ -142,7 +142,7 @@ fn tell(rt: &HostRuntime, ended: Result<Answer, Stop>) -> bool {
 }
 
 fn main(rt: HostRuntime) -> ExitCode {
-    if tell(&rt, run_words(&rt)) {
+    if print_ended(&rt, run_words(&rt)) {
         ExitCode::SUCCESS
     } else {
         ExitCode::FAILURE

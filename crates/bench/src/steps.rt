@@ -8,7 +8,7 @@ pub fn now(rt: &HostRuntime) -> Option<Instant> {
 }
 
 /// Tells on the error output how long a step took that began then. Where the clock or that output fails, nothing is told.
-pub fn tell(rt: &HostRuntime, step: &str, begun: Option<Instant>) {
+pub fn say_taken(rt: &HostRuntime, step: &str, begun: Option<Instant>) {
     let Some(begun) = begun else {
         return;
     };

@@ -5,7 +5,7 @@ use crate::maps::{DEAD_END, DEAD_END_CERT, map_of};
 use std::alloc::Global;
 use std::io;
 use std::io::{ErrorKind, Read};
-use tl_build::{Audit, AuditStop, audit};
+use tl_build::{Audit, audit};
 use tl_check::{Stop, Verdict, check, check_cert};
 use tl_county::Map;
 use tl_record::{FailAt, Meter};
@@ -46,14 +46,15 @@ fn is_checked(alloc: Global, of_records: u64, of_cert: u64) -> Option<bool> {
 /// Whether an audit does.
 fn is_audited(alloc: Global, others: u64) -> Option<bool> {
     match audit(alloc, fixed_keys().ok()?, &mut failing(DEAD_END, others)) {
-        Err(AuditStop::Device) => None,
+        Err(Stop::Device) => None,
         audited => Some(matches!(audited, Ok(Audit::Sound(_)))),
     }
 }
 
 /// Whether a check of a map by the dead end's certificate does.
 fn is_checked_by(alloc: Global, map: &Map, others: u64) -> Option<bool> {
-    match check_cert(alloc, map, &mut failing(DEAD_END_CERT, others), u64::MAX) {
+    let mut cert = failing(DEAD_END_CERT, others);
+    match check_cert(alloc, map, &mut cert, u64::MAX, false) {
         Err(Stop::Device) => None,
         verdict => Some(matches!(verdict, Ok(Verdict::Sound(_)))),
     }

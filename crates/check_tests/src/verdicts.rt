@@ -16,5 +16,11 @@ pub fn is_decided_in_memory(alloc: Global, map: &Map, cert: &str, wanted: Verdic
 
 /// Whether this is decided of a map by the text of a certificate.
 pub fn is_decided(alloc: Global, map: &Map, cert: &str, wanted: Verdict) -> bool {
-    check_cert(alloc, map, &mut Meter::new(cert.as_bytes()), u64::MAX) == Ok(wanted)
+    check_cert(
+        alloc,
+        map,
+        &mut Meter::new(cert.as_bytes()),
+        u64::MAX,
+        false,
+    ) == Ok(wanted)
 }

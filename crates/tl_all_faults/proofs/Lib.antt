@@ -1,6 +1,7 @@
 mod Lists
 mod Emptiness
 mod Truth
+mod Faced
 mod Told
 mod OfMap
 mod Gathering

@@ -1,9 +1,11 @@
 -- A text has one listing, but for the points at which segments meet.
-use Rattle.std.proofs.Common.{◌≡◌, ◌≢◌, inl, inr, ℕ, suc, Bool, true, false, List, [], ◌∷◌, ◌++◌, map}
-use Rattle.std.proofs.Common.{refl, sym, ap, subst, ◌∙◌, arith}
+use Rattle.std.proofs.Common.{◌≡◌, ◌≢◌, inl, inr, ℕ, suc, ◌≤ℤ◌, Bool, true, false, List, [], ◌∷◌, ◌++◌, map}
+use Rattle.std.proofs.Common.{refl, sym, ap, ap₂, subst, ◌∙◌, arith}
 use Rattle.std.specs.List.{All, Any, Contains}
 use Rattle.std.proofs.lemmas.List.Elements.{All-contains}
-use Rattle.tl_record.specs.declared.layout.Layout.{Layout}
+use Rattle.std.proofs.lemmas.Int.{ints}
+use Rattle.tl_record.specs.declared.options.Options.{Options}
+use Rattle.tl_record.specs.Layout.{layout_with}
 use Rattle.tl_record.specs.declared.stop.Cause.{Cause}
 use Rattle.tl_record.specs.declared.refusal.Refusal.{Refusal}
 use Rattle.tl_record.specs.Records.{Records, records_of}
@@ -25,18 +27,29 @@ use Rattle.tl_misplaced.specs.AllMisplaced.{AreAllMisplaced}
 use Rattle.tl_verdict.specs.declared.fault.MapFault.{MapFault}
 use Rattle.tl_verdict.specs.declared.fault.MapFault.TheVariants as fault
 use Rattle.tl_verdict.specs.declared.verdict.Report.{Report}
-use Rattle.tl_verdict.specs.Sound.{IsSound}
+use Rattle.tl_verdict.specs.Sound.{IsSoundFor}
 use Rattle.tl_verdict.specs.Verdicts.{IsReport}
 use Rattle.tl_verdict.specs.Records.{HaveMap}
 use Rattle.tl_verdict.proofs.OneMap.{both}
 use Rattle.tl_listing.specs.declared.listing.Listing.{Listing}
 use Rattle.tl_listing.specs.declared.listing.Listing.TheVariants.{Sound, Refused, Faults}
-use Rattle.tl_listing.specs.MapFaults.{side_fault, ArePointsTold, AreMapFaults}
+use Rattle.tl_listing.specs.MapFaults.{side_fault, ArePointsTold, AreMapFaults, AreFaceFaults, AreFaultsFor}
 use Rattle.tl_listing.specs.Listings.{AreFaults, IsListingOf}
 use Rattle.tl_all_faults.specs.Alike.{IsSameFault, AreSameFaults, HaveSameNumbers, AreAlike}
 use Rattle.tl_all_faults.proofs.OneOrder.{AreOne, AreInOne, one_order}
 use Rattle.tl_all_faults.proofs.Listed.{none_is_refused, sound_alone, no_map}
 use Rattle.tl_all_faults.proofs.Emptiness.{map_empty}
+use Rattle.tl_all_faults.proofs.Told.{unsound}
+use Rattle.tl_slabs.specs.Heights.{height, widest}
+use Rattle.tl_faces.specs.declared.odd.OddGap.{OddGap}
+use Rattle.tl_faces.specs.declared.fault.FaceFault.{FaceFault}
+use Rattle.tl_faces.specs.Odd.{IsOddGap, IsLowestOddGap}
+use Rattle.tl_faces.specs.Faults.{IsOfGap}
+use Rattle.tl_sweep.specs.Gaps.{order_of, AreAllOddGaps}
+use Rattle.tl_sweep.proofs.Keeping.{one_by_order}
+use Rattle.tl_sweep.proofs.Lowest.{at_odds as odd_sides, all_lowest}
+use Rattle.tl_facing.proofs.Exact.{one_fault}
+use Rattle.std.specs.List.{AllZip}
 
 -- ---- lists of the same faults
 
@@ -46,6 +59,7 @@ itself (fault.Meet meet) = (refl, refl)
 itself (fault.Side node first next) = refl
 itself (fault.PolygonPoint misplaced) = refl
 itself (fault.Cell odds) = refl
+itself (fault.Face f) = refl
 
 themselves : (faults : List MapFault) → AreSameFaults faults faults
 themselves [] = tt
@@ -165,23 +179,85 @@ module _ (m : TheMap) where
         in
         (rw (a.are, b.are) told, points.1)
 
+-- ---- lists of faces that disagree
+
+module _ (m : TheMap) where
+  gaps_in_one : (a b : List OddGap) → AreAllOddGaps widest m.chains a → AreAllOddGaps widest m.chains b
+      → AreInOne (λ g. order_of g.west) (λ g. order_of g.east) a b
+  gaps_in_one a b all others =
+      one_order (λ g. order_of g.west) (λ g. order_of g.east) a b all.in_order others.in_order (named a b all others) (named b a others all)
+    where
+      named : (a b : List OddGap) → AreAllOddGaps widest m.chains a → AreAllOddGaps widest m.chains b → (x : OddGap) → Contains a x
+          → Any (AreOne (λ g. order_of g.west) (λ g. order_of g.east) x) b
+      named a b all others x held =
+          let odd : IsOddGap widest m.chains x = All-contains (IsOddGap widest m.chains) a x all.true_ones held in
+          let found = others.complete (height widest x.at) odd.front odd.back odd.listed (odd_sides widest m.chains x odd) in (
+            found.0,
+            found.1,
+            found.2,
+            found.3,
+            record {
+              first_is = ap order_of odd.is_west ∙ ap order_of (sym found.4.0);
+              second_is = ap order_of odd.is_east ∙ ap order_of (sym found.4.1);
+            },
+          )
+
+  -- of the same two segments there is one lowest gap, and of that one fault
+  one_gap : (x y : OddGap) (f g : FaceFault) → IsLowestOddGap widest m.chains x → IsLowestOddGap widest m.chains y
+      → AreOne (λ g. order_of g.west) (λ g. order_of g.east) x y → IsOfGap widest m x f → IsOfGap widest m y g → f ≡ g
+  one_gap x y f g low low' one of of' =
+      let west : x.west ≡ y.west = one_by_order x.west y.west one.first_is in
+      let east : x.east ≡ y.east = one_by_order x.east y.east one.second_is in
+      let up : height widest x.at ≤ℤ height widest y.at = low.lowest y low'.is (sym west) (sym east) in
+      let down : height widest y.at ≤ℤ height widest x.at = low'.lowest x low.is west east in
+      one_fault m x y f g (omega (arith, ints, up, down)) west east of of'
+
+  one_each : (xs ys : List OddGap) (f g : List FaceFault) → All (IsLowestOddGap widest m.chains) xs → All (IsLowestOddGap widest m.chains) ys
+      → AreInOne (λ g. order_of g.west) (λ g. order_of g.east) xs ys → AllZip (IsOfGap widest m) xs f → AllZip (IsOfGap widest m) ys g → f ≡ g
+  one_each [] [] [] [] low low' one each other = refl
+  one_each [] [] [] (y ∷ g) low low' one each other = absurd other
+  one_each [] [] (x ∷ f) g low low' one each other = absurd each
+  one_each [] (y ∷ ys) f g low low' one each other = absurd one
+  one_each (x ∷ xs) [] f g low low' one each other = absurd one
+  one_each (x ∷ xs) (y ∷ ys) [] g low low' one each other = absurd each
+  one_each (x ∷ xs) (y ∷ ys) (a ∷ f) [] low low' one each other = absurd other
+  one_each (x ∷ xs) (y ∷ ys) (a ∷ f) (b ∷ g) low low' one each other =
+      ap₂ (λ h t. h ∷ t) (one_gap x y a b (low 0 x (omega arith)) (low' 0 y (omega arith)) one.0 each.0 other.0)
+      (one_each xs ys f g (λ k d lt. low (suc k) d (omega (arith, lt))) (λ k d lt. low' (suc k) d (omega (arith, lt))) one.1 each.1 other.1)
+
+  same_faces : (f g : List MapFault) → AreFaceFaults m f → AreFaceFaults m g → AreSameFaults f g
+  same_faces f g a b =
+      one_list_same f g
+      (a.are
+      ∙ ap (map fault.Face)
+      (one_each a.all.gaps b.all.gaps a.told b.told (all_lowest widest m.chains a.all.gaps a.all.are) (all_lowest widest m.chains b.all.gaps b.all.are)
+      (gaps_in_one a.all.gaps b.all.gaps a.all.are b.all.are) a.all.each b.all.each)
+      ∙ sym b.are)
+
 -- ---- listings
 
 -- what is wrong with polygons' points has one list
 abbrev pub OnePoints : Type 0
 OnePoints = (m : TheMap) (a b : List Misplaced) → AreAllMisplaced m a → AreAllMisplaced m b → a ≡ b
 
-same_faults : OnePoints → (all : Records) (f g : List MapFault) (l r : Bool) → f ≢ [] → g ≢ [] → AreFaults all f l → AreFaults all g r
-    → AreSameFaults f g × (l ≡ r)
-same_faults one_points all f g l r some_f some_g (inl a) (inl b) = (
+same_for : OnePoints → (faces : Bool) (m : TheMap) (f g : List MapFault) (l r : Bool) → f ≢ [] → g ≢ [] → AreFaultsFor faces m f l
+    → AreFaultsFor faces m g r → AreSameFaults f g × (l ≡ r)
+same_for one_points faces m f g l r some_f some_g (inl a) (inl b) = same_of_map m (one_points m) f g l r a b
+same_for one_points faces m f g l r some_f some_g (inl a) (inr b) = absurd (unsound faces m f l some_f a b.1.1.sound)
+same_for one_points faces m f g l r some_f some_g (inr a) (inl b) = absurd (unsound faces m g r some_g b a.1.1.sound)
+same_for one_points faces m f g l r some_f some_g (inr a) (inr b) = (same_faces m f g a.1.1 b.1.1, a.1.0 ∙ sym b.1.0)
+
+same_faults : OnePoints → (faces : Bool) (all : Records) (f g : List MapFault) (l r : Bool) → f ≢ [] → g ≢ [] → AreFaults faces all f l
+    → AreFaults faces all g r → AreSameFaults f g × (l ≡ r)
+same_faults one_points faces all f g l r some_f some_g (inl a) (inl b) = (
   one_list_same f g (a.0.are ∙ ap (map fault.Records) (one_list (records_in all) a.0.told b.0.told a.0.are_all b.0.are_all) ∙ sym b.0.are),
   a.1 ∙ sym b.1,
 )
-same_faults one_points all f g l r some_f some_g (inl a) (inr have) = absurd (no_map all f l _ some_f a.0 have)
-same_faults one_points all f g l r some_f some_g (inr have) (inl b) = absurd (no_map all g r _ some_g b.0 have)
-same_faults one_points all f g l r some_f some_g (inr have) (inr other) =
-    let one = both all (λ m. AreMapFaults m f l) (λ m. AreMapFaults m g r) have other in
-    same_of_map one.map (one_points one.map) f g l r one.so.0 one.so.1
+same_faults one_points faces all f g l r some_f some_g (inl a) (inr have) = absurd (no_map faces all f l _ some_f a.0 have)
+same_faults one_points faces all f g l r some_f some_g (inr have) (inl b) = absurd (no_map faces all g r _ some_g b.0 have)
+same_faults one_points faces all f g l r some_f some_g (inr have) (inr other) =
+    let one = both all (λ m. AreFaultsFor faces m f l) (λ m. AreFaultsFor faces m g r) have other in
+    same_for one_points faces one.map f g l r some_f some_g one.so.0 one.so.1
 
 same_refusals : (a b : List Refusal) → map pair_of a ≡ map pair_of b → a ≡ b
 same_refusals [] [] same = refl
@@ -194,10 +270,10 @@ same_refusals (x ∷ a) (y ∷ b) same =
     let rest : a ≡ b = same_refusals a b cc in
     λ i. record { line = line i; cause = cause i } ∷ rest i
 
-same_numbers : (all : Records) (a b : Report) → HaveMap all (λ m. IsSound m × IsReport m a) → HaveMap all (λ m. IsSound m × IsReport m b)
-    → HaveSameNumbers a b
-same_numbers all a b one other =
-    let same = both all (λ m. IsSound m × IsReport m a) (λ m. IsSound m × IsReport m b) one other in
+same_numbers : (faces : Bool) (all : Records) (a b : Report) → HaveMap all (λ m. IsSoundFor faces m × IsReport m a)
+    → HaveMap all (λ m. IsSoundFor faces m × IsReport m b) → HaveSameNumbers a b
+same_numbers faces all a b one other =
+    let same = both all (λ m. IsSoundFor faces m × IsReport m a) (λ m. IsSoundFor faces m × IsReport m b) one other in
     let p : IsReport same.map a = same.so.0.1 in
     let q : IsReport same.map b = same.so.1.1 in
     record {
@@ -207,20 +283,20 @@ same_numbers all a b one other =
       landmarks = p.landmarks ∙ sym q.landmarks;
     }
 
-pub alike : OnePoints → (layout : Layout) (text : List ℕ) (a b : Listing) → IsListingOf layout text a → IsListingOf layout text b → AreAlike a b
-alike one_points layout text (Sound report) (Sound other) is too = same_numbers (records_of layout text) report other is too
-alike one_points layout text (Sound report) (Refused others) is too =
-    (sound_alone layout text (Refused others) too).1 ((sound_alone layout text (Sound report) is).0 tt)
-alike one_points layout text (Sound report) (Faults others left) is too =
-    (sound_alone layout text (Faults others left) too).1 ((sound_alone layout text (Sound report) is).0 tt)
-alike one_points layout text (Refused list) (Sound other) is too =
-    (sound_alone layout text (Refused list) is).1 ((sound_alone layout text (Sound other) too).0 tt)
-alike one_points layout text (Refused list) (Refused others) is too = same_refusals list.items others.items (is.1 ∙ sym too.1)
-alike one_points layout text (Refused list) (Faults others left) is too =
-    absurd (is.0 (map_empty pair_of list.items (none_is_refused layout text _ is.1 too.1)))
-alike one_points layout text (Faults faults left) (Sound other) is too =
-    (sound_alone layout text (Faults faults left) is).1 ((sound_alone layout text (Sound other) too).0 tt)
-alike one_points layout text (Faults faults left) (Refused others) is too =
-    absurd (too.0 (map_empty pair_of others.items (none_is_refused layout text _ too.1 is.1)))
-alike one_points layout text (Faults faults left) (Faults others right) is too =
-    same_faults one_points (records_of layout text) faults.items others.items left right is.0 too.0 is.2 too.2
+pub alike : OnePoints → (options : Options) (text : List ℕ) (a b : Listing) → IsListingOf options text a → IsListingOf options text b → AreAlike a b
+alike one_points options text (Sound report) (Sound other) is too = same_numbers options.faces (records_of (layout_with options) text) report other is too
+alike one_points options text (Sound report) (Refused others) is too =
+    (sound_alone options text (Refused others) too).1 ((sound_alone options text (Sound report) is).0 tt)
+alike one_points options text (Sound report) (Faults others left) is too =
+    (sound_alone options text (Faults others left) too).1 ((sound_alone options text (Sound report) is).0 tt)
+alike one_points options text (Refused list) (Sound other) is too =
+    (sound_alone options text (Refused list) is).1 ((sound_alone options text (Sound other) too).0 tt)
+alike one_points options text (Refused list) (Refused others) is too = same_refusals list.items others.items (is.1 ∙ sym too.1)
+alike one_points options text (Refused list) (Faults others left) is too =
+    absurd (is.0 (map_empty pair_of list.items (none_is_refused (layout_with options) text _ is.1 too.1)))
+alike one_points options text (Faults faults left) (Sound other) is too =
+    (sound_alone options text (Faults faults left) is).1 ((sound_alone options text (Sound other) too).0 tt)
+alike one_points options text (Faults faults left) (Refused others) is too =
+    absurd (too.0 (map_empty pair_of others.items (none_is_refused (layout_with options) text _ too.1 is.1)))
+alike one_points options text (Faults faults left) (Faults others right) is too =
+    same_faults one_points options.faces (records_of (layout_with options) text) faults.items others.items left right is.0 too.0 is.2 too.2

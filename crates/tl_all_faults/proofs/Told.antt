@@ -1,5 +1,5 @@
 -- Each fault that is true of a map is told by the list of all.
-use Rattle.std.proofs.Common.{◌≡◌, ◌≢◌, ℕ, inl, inr, Bool, true, false, Some, List, [], ◌++◌, map, refl, subst}
+use Rattle.std.proofs.Common.{◌≡◌, ◌≢◌, ℕ, inl, inr, Bool, true, false, Some, List, [], ◌++◌, map, refl, sym, subst}
 use Rattle.std.specs.List.{Contains}
 use Rattle.std.proofs.lemmas.List.Elements.{Contains-append_left, Contains-append_right}
 use Rattle.tl_geom.specs.declared.point.Point.{Point}
@@ -13,11 +13,16 @@ use Rattle.tl_disagreements.proofs.Emptiness.{cells_agree}
 use Rattle.tl_verdict.specs.declared.fault.MapFault.{MapFault}
 use Rattle.tl_verdict.specs.declared.fault.MapFault.TheVariants as fault
 use Rattle.tl_verdict.specs.Truth.{IsTrueOfMap}
-use Rattle.tl_listing.specs.MapFaults.{side_fault, ArePointsTold, AreMapFaults}
+use Rattle.tl_verdict.specs.Sound.{IsSound}
+use Rattle.tl_verdict.proofs.Denials.{not_sound_alone}
+use Rattle.tl_faces.specs.declared.fault.FaceFault.{FaceFault}
+use Rattle.tl_faces.specs.Faults.{IsTrueFaceFault}
+use Rattle.tl_facing.proofs.Exact.{told as of_all_gaps}
+use Rattle.tl_listing.specs.MapFaults.{side_fault, ArePointsTold, AreMapFaults, AreFaceFaults, AreFaultsFor}
 use Rattle.tl_all_faults.specs.Telling.{IsMeetOf, IsOfSides, IsOfCells, IsTold}
 use Rattle.tl_all_faults.proofs.Emptiness.{odds_deny}
 use Rattle.tl_all_faults.proofs.Lists.{held_map, named_by, some_first}
-use Rattle.tl_all_faults.proofs.Truth.{start_is}
+use Rattle.tl_all_faults.proofs.Truth.{start_is, each_is_true}
 
 module _ (m : TheMap) (faults : List MapFault) (points_left : Bool) (all : AreMapFaults m faults points_left) where
   among_meets : (f : MapFault) → Contains (map fault.Meet all.meets) f → Contains faults f
@@ -39,11 +44,11 @@ module _ (m : TheMap) (faults : List MapFault) (points_left : Bool) (all : AreMa
       → d.next ≡ next → side_fault m.chains d ≡ fault.Side node first next
   side_told node first next d at one other = rw (one, other, start_is m.chains first node at) refl
 
-  some_cell : (cells : List CellsAtOdds) → AreAllCellsAtOdds m.chains cells → (odds : CellsAtOdds) → IsTrueOfMap m (fault.Cell odds) → cells ≢ []
+  some_cell : (cells : List CellsAtOdds) → AreAllCellsAtOdds m.chains cells → (odds : CellsAtOdds) → IsTrueOfMap false m (fault.Cell odds) → cells ≢ []
   some_cell cells told odds true_one =
       λ none. odds_deny m.chains odds.first odds.second odds.first_id odds.second_id true_one (cells_agree m.chains (rw none at told))
 
-  point_told : (left : Bool) → ArePointsTold m all.sides left all.points → (misplaced : Misplaced) → IsTrueOfMap m (fault.PolygonPoint misplaced)
+  point_told : (left : Bool) → ArePointsTold m all.sides left all.points → (misplaced : Misplaced) → IsTrueOfMap false m (fault.PolygonPoint misplaced)
       → IsTold faults left (fault.PolygonPoint misplaced)
   point_told false told misplaced true_one =
       inl (among_points (fault.PolygonPoint misplaced) (held_map fault.PolygonPoint all.points misplaced (told.1.every misplaced true_one)))
@@ -51,7 +56,7 @@ module _ (m : TheMap) (faults : List MapFault) (points_left : Bool) (all : AreMa
       let some = some_first all.sides told.0 in
       inr (refl, named_by IsOfSides faults (side_fault m.chains some.0) (among_sides _ (held_map (side_fault m.chains) all.sides some.0 some.1)) tt)
 
-  pub told : (f : MapFault) → IsTrueOfMap m f → IsTold faults points_left f
+  pub told : (f : MapFault) → IsTrueOfMap false m f → IsTold faults points_left f
   told (fault.Records of_records) true_one = absurd true_one
   told (fault.Meet meet) true_one =
       let named = all.all_meets.complete meet.s meet.t meet.at true_one.ordered true_one.told.meet in
@@ -64,3 +69,31 @@ module _ (m : TheMap) (faults : List MapFault) (points_left : Bool) (all : AreMa
   told (fault.Cell odds) true_one =
       let some = some_first all.cells (some_cell all.cells all.all_cells odds true_one) in
       named_by IsOfCells faults (fault.Cell some.0) (among_cells _ (held_map fault.Cell all.cells some.0 some.1)) tt
+  told (fault.Face of_faces) true_one = absurd (cc)
+
+-- ---- where faces may be asked for
+
+module _ (faces : Bool) (m : TheMap) (faults : List MapFault) (points_left : Bool) (some : faults ≢ []) where
+  -- where faults are told that aren't of faces, the map isn't sound
+  pub unsound : AreMapFaults m faults points_left → ¬ IsSound m
+  unsound all =
+      let first = some_first faults some in
+      not_sound_alone m first.0 (subst (IsTrueOfMap false m) first.1.2 (each_is_true m faults points_left all first.1.0 first.0 first.1.1))
+
+  face_told : AreFaceFaults m faults → (f : FaceFault) → IsTrueFaceFault m f → IsTold faults points_left (fault.Face f)
+  face_told all f true_one =
+      subst (λ (fs : List MapFault). Contains fs (fault.Face f)) (sym all.are) (held_map fault.Face all.told f (of_all_gaps m all.told all.all f true_one))
+
+  pub told_for : AreFaultsFor faces m faults points_left → (f : MapFault) → IsTrueOfMap faces m f → IsTold faults points_left f
+  told_for (inl all) (fault.Records f) true_one = absurd true_one
+  told_for (inl all) (fault.Meet meet) true_one = told m faults points_left all (fault.Meet meet) true_one
+  told_for (inl all) (fault.Side node first next) true_one = told m faults points_left all (fault.Side node first next) true_one
+  told_for (inl all) (fault.PolygonPoint misplaced) true_one = told m faults points_left all (fault.PolygonPoint misplaced) true_one
+  told_for (inl all) (fault.Cell odds) true_one = told m faults points_left all (fault.Cell odds) true_one
+  told_for (inl all) (fault.Face f) true_one = absurd (unsound all true_one.1.0)
+  told_for (inr of_faces) (fault.Records f) true_one = absurd true_one
+  told_for (inr of_faces) (fault.Meet meet) true_one = absurd (not_sound_alone m (fault.Meet meet) true_one of_faces.1.1.sound)
+  told_for (inr of_faces) (fault.Side node first next) true_one = absurd (not_sound_alone m (fault.Side node first next) true_one of_faces.1.1.sound)
+  told_for (inr of_faces) (fault.PolygonPoint misplaced) true_one = absurd (not_sound_alone m (fault.PolygonPoint misplaced) true_one of_faces.1.1.sound)
+  told_for (inr of_faces) (fault.Cell odds) true_one = absurd (not_sound_alone m (fault.Cell odds) true_one of_faces.1.1.sound)
+  told_for (inr of_faces) (fault.Face f) true_one = face_told of_faces.1.1 f true_one.1.1.0

@@ -7,7 +7,7 @@ use Rattle.tl_listing.specs.declared.listing.Listing.{Listing}
 use Rattle.tl_listing.specs.declared.listing.Listing.TheVariants.{Sound, Refused, Faults}
 use Rattle.tl_all_faults.specs.Telling.{IsMeetOf}
 
--- both are meets of the same segments, or one fault
+-- both are meets of the same segments, or they are one fault
 abbrev pub IsSameFault : MapFault → MapFault → Type 0
 IsSameFault (Meet meet) other = IsMeetOf meet.s meet.t other
 IsSameFault fault other = fault ≡ other

@@ -1,6 +1,7 @@
 -- All that is wrong with a county, beside the map of its records.
 use Rattle.std.specs.Prelude.{ℕ, List, Option, Some, None, ⊤}
-use Rattle.tl_record.specs.declared.layout.Layout.{Layout}
+use Rattle.tl_record.specs.declared.options.Options.{Options}
+use Rattle.tl_record.specs.Layout.{layout_with}
 use Rattle.tl_record.specs.Records.{Records, records_of}
 use Rattle.tl_drawn.specs.Reading.{IsReadFrom}
 use Rattle.tl_county.specs.TheMap.{TheMap}
@@ -14,6 +15,6 @@ IsMapIfAny all (Some m) = IsReadFrom all m
 IsMapIfAny all None = ¬ HaveMap all (λ m. ⊤)
 
 -- what is listed of a text, and the map of its records
-pub record AreFindingsOf (layout : Layout) (text : List ℕ) (listed : Findings) : Type 0 where
-  pub told : IsListingOf layout text listed.listing
-  pub drawn : IsMapIfAny (records_of layout text) listed.map
+pub record AreFindingsOf (options : Options) (text : List ℕ) (listed : Findings) : Type 0 where
+  pub told : IsListingOf options text listed.listing
+  pub drawn : IsMapIfAny (records_of (layout_with options) text) listed.map

@@ -2,7 +2,7 @@
 use Rattle.std.specs.Prelude.{◌≡◌, ◌⊎◌, ℕ, ⊤, Bool, true, List}
 use Rattle.std.specs.List.{All, Any, Contains}
 use Rattle.tl_verdict.specs.declared.fault.MapFault.{MapFault}
-use Rattle.tl_verdict.specs.declared.fault.MapFault.TheVariants.{Records, Meet, Side, PolygonPoint, Cell}
+use Rattle.tl_verdict.specs.declared.fault.MapFault.TheVariants.{Records, Meet, Side, PolygonPoint, Cell, Face}
 use Rattle.tl_listing.specs.declared.listing.Listing.{Listing}
 use Rattle.tl_listing.specs.declared.listing.Listing.TheVariants as listing
 
@@ -13,6 +13,7 @@ IsMeetOf s t (Meet meet) = (meet.s ≡ s) × (meet.t ≡ t)
 IsMeetOf s t (Side node first next) = ⊥
 IsMeetOf s t (PolygonPoint fault) = ⊥
 IsMeetOf s t (Cell odds) = ⊥
+IsMeetOf s t (Face fault) = ⊥
 
 -- the fault is of sides
 abbrev pub IsOfSides : MapFault → Type 0
@@ -21,6 +22,7 @@ IsOfSides (Meet meet) = ⊥
 IsOfSides (Side node first next) = ⊤
 IsOfSides (PolygonPoint fault) = ⊥
 IsOfSides (Cell odds) = ⊥
+IsOfSides (Face fault) = ⊥
 
 -- the fault is of zero-cell ids
 abbrev pub IsOfCells : MapFault → Type 0
@@ -29,6 +31,7 @@ IsOfCells (Meet meet) = ⊥
 IsOfCells (Side node first next) = ⊥
 IsOfCells (PolygonPoint fault) = ⊥
 IsOfCells (Cell odds) = ⊤
+IsOfCells (Face fault) = ⊥
 
 -- The fault stands in the list. Of two segments that meet, it stands there with some point; of zero-cell ids at odds some
 -- pair stands there; and what is wrong with a polygon's point stands there unless points are left and sides disagree.
@@ -38,6 +41,7 @@ IsTold faults points_left (Meet meet) = Any (IsMeetOf meet.s meet.t) faults
 IsTold faults points_left (Side node first next) = Contains faults (Side node first next)
 IsTold faults points_left (PolygonPoint fault) = Contains faults (PolygonPoint fault) ⊎ ((points_left ≡ true) × Any IsOfSides faults)
 IsTold faults points_left (Cell odds) = Any IsOfCells faults
+IsTold faults points_left (Face fault) = Contains faults (Face fault)
 
 -- faults are listed, and the fault is told by them
 abbrev pub Tells : Listing → MapFault → Type 0

@@ -1,10 +1,11 @@
 //! Laws of the definitions, each the contract of a function that does nothing.
 
 ghost use Rattle.std.specs.Prelude.{◌↔◌, ℕ, List};
-ghost use Rattle.tl_record.specs.declared.layout.Layout.{Layout};
+ghost use Rattle.tl_record.specs.declared.options.Options.{Options};
+ghost use Rattle.tl_record.specs.Layout.{layout_with};
 ghost use Rattle.tl_record.specs.Records.{records_of};
 ghost use Rattle.tl_verdict.specs.declared.fault.MapFault.{MapFault};
-ghost use Rattle.tl_verdict.specs.Sound.{IsSound};
+ghost use Rattle.tl_verdict.specs.Sound.{IsSoundFor};
 ghost use Rattle.tl_verdict.specs.Records.{HaveMap, IsTrueOfRecords};
 ghost use Rattle.tl_listing.specs.declared.listing.Listing.{Listing};
 ghost use Rattle.tl_listing.specs.Listings.{IsListingOf};
@@ -13,28 +14,29 @@ ghost use Rattle.tl_all_faults.specs.Alike.{AreAlike};
 
 use tl_misplaced::laws::a_map_has_one_list_of_all_misplaced;
 
-/// A listing says that the map is sound exactly where the records have a map that is sound.
+/// A listing says that the map is sound exactly where the records have a map that keeps what is asked of it.
 pub fn a_sound_map_alone_is_listed_as_sound()
-    ensures { (layout : Layout) (text : List ℕ) (listing : Listing) → IsListingOf layout text listing →
-        SaysSound listing ↔ HaveMap (records_of layout text) IsSound }
+    ensures { (options : Options) (text : List ℕ) (listing : Listing) → IsListingOf options text listing →
+        SaysSound listing ↔ HaveMap (records_of (layout_with options) text) (IsSoundFor options.faces) }
 {}
 
 /// Each fault that is listed is true.
 pub fn each_fault_that_is_listed_is_true()
-    ensures { (layout : Layout) (text : List ℕ) (listing : Listing) → IsListingOf layout text listing →
-        EachFault listing (IsTrueOfRecords (records_of layout text)) }
+    ensures { (options : Options) (text : List ℕ) (listing : Listing) → IsListingOf options text listing →
+        EachFault listing (IsTrueOfRecords options.faces (records_of (layout_with options) text)) }
 {}
 
-/// Each fault that is true is told by the list, so that which `tl_build` names of several is among them.
+/// Each fault that is true is told by the list, so that which `tl_build` names of several is among them: itself, but for the point at which
+/// two segments meet, the pair of zero-cell ids, and a polygon's point where points are left.
 pub fn each_fault_that_is_true_is_told()
-    ensures { (layout : Layout) (text : List ℕ) (listing : Listing) (fault : MapFault) →
-        IsListingOf layout text listing → IsTrueOfRecords (records_of layout text) fault → Tells listing fault }
+    ensures { (options : Options) (text : List ℕ) (listing : Listing) (fault : MapFault) →
+        IsListingOf options text listing → IsTrueOfRecords options.faces (records_of (layout_with options) text) fault → Tells listing fault }
 {}
 
 /// A text has one listing, but for the points at which segments meet, and the nodes and rings of a sound map.
 pub fn a_text_has_one_listing()
-    ensures { (layout : Layout) (text : List ℕ) (listing other : Listing) → IsListingOf layout text listing →
-        IsListingOf layout text other → AreAlike listing other }
+    ensures { (options : Options) (text : List ℕ) (listing other : Listing) → IsListingOf options text listing →
+        IsListingOf options text other → AreAlike listing other }
 {
     a_map_has_one_list_of_all_misplaced();
 }

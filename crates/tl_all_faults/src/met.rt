@@ -10,11 +10,10 @@ ghost use Rattle.tl_meets.specs.Meets.{AreAllMeets};
 ghost use Rattle.tl_misplaced.specs.Suspects.{AreSuspects};
 ghost use Rattle.tl_all_faults.specs.Keeping.OfMap.{IsListingOfMap, AddsPoints, AddsRest};
 
-use crate::parts::{tell_agreement, tell_misplaced};
-use crate::tell::tell_meets;
+use crate::parts::{push_disagreements, push_misplaced};
+use crate::tell::push_meets;
 use std::alloc::Global;
 use tl_county::Map;
-use tl_crossings::look_at_chains;
 use tl_disagreements::laws::sides_agree_where_no_disagreement_is_listed;
 use tl_index::{BoxIndex, Memory};
 use tl_listing::Listing;
@@ -39,9 +38,9 @@ pub fn list_met<X: BoxIndex>(
     ensures { IfOk result (IsListingOfMap map.now) }
 {
     let mut faults = Vec::new(alloc);
-    tell_meets(&mut faults, &meets)?;
+    push_meets(&mut faults, &meets)?;
     drop(meets);
-    let points_left = tell_rest(alloc, index, map, suspects, &mut faults)?;
+    let points_left = push_rest(alloc, index, map, suspects, &mut faults)?;
     Ok(Listing::Faults {
         faults,
         points_left,
@@ -49,7 +48,7 @@ pub fn list_met<X: BoxIndex>(
 }
 
 /// Appends what else is wrong, and gives whether polygons' points are left.
-fn tell_rest<X: BoxIndex>(
+fn push_rest<X: BoxIndex>(
     alloc: Global,
     index: &X,
     map: &Map,
@@ -61,18 +60,18 @@ fn tell_rest<X: BoxIndex>(
     requires suspects { AreSuspects map.now suspects.items }
     ensures { IfOk result (λ left. AddsRest map.now left faults.old.items faults.new.items) }
 {
-    let left = tell_agreement(alloc, map, faults)?;
+    let left = push_disagreements(alloc, map, faults)?;
     if left {
         return Ok(true);
     }
     // So sides agree.
     sides_agree_where_no_disagreement_is_listed();
-    tell_points(alloc, index, map, suspects, faults)?;
+    push_points_by_rings(alloc, index, map, suspects, faults)?;
     Ok(false)
 }
 
 /// Appends what is wrong with where polygons' points lie, where sides agree.
-fn tell_points<X: BoxIndex>(
+fn push_points_by_rings<X: BoxIndex>(
     alloc: Global,
     index: &X,
     map: &Map,
@@ -86,8 +85,8 @@ fn tell_points<X: BoxIndex>(
     ensures { OnOk result (AddsPoints map.now false faults.old.items faults.new.items) }
 {
     match suspects_by_rings(alloc, index, map)? {
-        Some(fewer) => tell_misplaced(alloc, index, map, fewer, faults),
-        None => tell_misplaced(alloc, index, map, suspects, faults),
+        Some(fewer) => push_misplaced(alloc, index, map, fewer, faults),
+        None => push_misplaced(alloc, index, map, suspects, faults),
     }
 }
 
@@ -104,7 +103,7 @@ fn suspects_by_rings<X: BoxIndex>(
     ensures { IfOk result (λ found. IfSome found (λ suspects. AreSuspects map.now suspects.items)) }
 {
     // that each chain has two points or more
-    look_at_chains(map);
+    map.has_proper_chains();
     match propose_walks_apart(alloc, map) {
         Ok(Some(walks)) => suspects_by_walks(alloc, index, map, &walks),
         Ok(None) => Ok(None),

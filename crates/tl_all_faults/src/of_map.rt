@@ -1,37 +1,129 @@
 //! All faults of a map, or that it is sound.
 
-ghost use Rattle.std.specs.Prelude.{◌≡◌, [], IfOk, length};
+ghost use Rattle.std.specs.Prelude.{◌≡◌, [], IfOk, length, true, IfSome};
 ghost use Rattle.tl_county.specs.Segments.{segments_before};
 ghost use Rattle.tl_planar.specs.Planar.{IsPlanar};
 ghost use Rattle.tl_planar.specs.Rectangles.{segment_rect};
+ghost use Rattle.tl_inside.specs.Placed.{ArePlaced};
+ghost use Rattle.tl_slabs.specs.Heights.{widest};
+ghost use Rattle.tl_sweep.specs.Gaps.{AreAllOddGaps};
 ghost use Rattle.tl_misplaced.specs.Suspects.{AreSuspects};
-ghost use Rattle.tl_all_faults.specs.Keeping.OfMap.{IsListingOfMap};
+ghost use Rattle.tl_verdict.specs.Sound.{IsSound};
+ghost use Rattle.tl_verdict.specs.Verdicts.{IsReport};
+ghost use Rattle.tl_all_faults.specs.Keeping.OfMap.{IsListingOfMap, IsListingFor};
 
 use crate::met::list_met;
 use crate::planar::list_planar;
+use crate::tell::push_faces;
 use std::alloc::Global;
 use tl_county::Map;
+use tl_faces::OddGap;
+use tl_facing::all_face_faults;
 use tl_index::{BoxIndex, Memory, TreeStop};
 use tl_listing::Listing;
 use tl_meets::all_meets;
 use tl_meets::laws::planar_where_no_meet_is_listed;
 use tl_pack::pack;
 use tl_planar::Segments;
-use tl_sweep::{Swept, sweep_for_points};
+use tl_sweep::{Gaps, SweepReport, Swept, sweep};
 use tl_tree::FlatTree;
+use tl_verdict::Report;
 
 /// All faults of a map, or its report where it is sound: by a sweep, and where that doesn't tell that the chains are
-/// planar, by a search for all their meets. Of polygons' points those are looked at that the sweep doesn't know to be placed.
-/// An error says that memory was refused.
-pub fn list_map(alloc: Global, map: &Map) -> Result<Listing, Memory>
+/// planar, by a search for all their meets. Of polygons' points those are looked at that the sweep doesn't know to be placed. Where
+/// `faces` are asked for, those that disagree are listed of a map that is sound otherwise. An error says that memory was refused.
+pub fn list_map(alloc: Global, map: &Map, faces: bool) -> Result<Listing, Memory>
+    ensures { IfOk result (IsListingFor faces map.now) }
+{
+    let Ok(report) = sweep(alloc, map, gaps_for(faces)) else {
+        return Err(Memory);
+    };
+    let SweepReport {
+        swept,
+        suspects,
+        gaps,
+    } = report;
+    list_for(alloc, map, swept, suspects, faces, gaps)
+}
+
+/// Which gaps are told: all, where faces are asked for.
+fn gaps_for(faces: bool) -> Gaps
+    ensures { faces ≡ true → result ≡ Gaps.All }
+{
+    if faces { Gaps::All } else { Gaps::First }
+}
+
+/// The same by what the sweep says.
+fn list_for(
+    alloc: Global,
+    map: &Map,
+    swept: Swept,
+    suspects: Vec<u32>,
+    faces: bool,
+    gaps: Option<Vec<OddGap>>,
+) -> Result<Listing, Memory>
+    requires placed { swept ≡ Swept.Placed → IsPlanar map.now.chains × ArePlaced map.now }
+    requires planar { swept ≡ Swept.Planar → IsPlanar map.now.chains }
+    requires suspects { AreSuspects map.now suspects.items }
+    requires all { faces ≡ true → IfSome gaps (λ found. AreAllOddGaps widest map.now.chains found.items) }
+    ensures { IfOk result (IsListingFor faces map.now) }
+{
+    match list_swept(alloc, map, swept, suspects)? {
+        Listing::Sound(report) => list_faces(alloc, map, report, faces, gaps),
+        Listing::Refused(_) => unreachable!(),
+        Listing::Faults {
+            faults,
+            points_left,
+        } => Ok(Listing::Faults {
+            faults,
+            points_left,
+        }),
+    }
+}
+
+/// All faces that disagree of a map that is sound, where they are asked for, or its report.
+fn list_faces(
+    alloc: Global,
+    map: &Map,
+    report: Report,
+    faces: bool,
+    gaps: Option<Vec<OddGap>>,
+) -> Result<Listing, Memory>
+    requires sound { IsSound map.now }
+    requires report { IsReport map.now report }
+    requires all { faces ≡ true → IfSome gaps (λ found. AreAllOddGaps widest map.now.chains found.items) }
+    ensures { IfOk result (IsListingFor faces map.now) }
+{
+    if !faces {
+        return Ok(Listing::Sound(report));
+    }
+    let Ok(disagreeing) = all_face_faults(alloc, map, gaps) else {
+        return Err(Memory);
+    };
+    if disagreeing.is_empty() {
+        return Ok(Listing::Sound(report));
+    }
+    // so that a fault of faces denies that they are true
+    map.has_proper_chains();
+    let mut faults = Vec::new(alloc);
+    push_faces(&mut faults, &disagreeing)?;
+    Ok(Listing::Faults {
+        faults,
+        points_left: false,
+    })
+}
+
+/// All faults but those of faces of a map of which a sweep has said this, or its report where it is sound.
+fn list_swept(alloc: Global, map: &Map, swept: Swept, suspects: Vec<u32>) -> Result<Listing, Memory>
+    requires placed { swept ≡ Swept.Placed → IsPlanar map.now.chains × ArePlaced map.now }
+    requires planar { swept ≡ Swept.Planar → IsPlanar map.now.chains }
+    requires suspects { AreSuspects map.now suspects.items }
     ensures { IfOk result (IsListingOfMap map.now) }
 {
-    let mut suspects = Vec::new(alloc);
-    match sweep_for_points(alloc, map, &mut suspects) {
-        Ok(Swept::Placed) => list_planar(alloc, map, Vec::new(alloc)),
-        Ok(Swept::Planar) => list_planar(alloc, map, suspects),
-        Ok(Swept::Meet(_) | Swept::Unknown) => list_by_search(alloc, map, suspects),
-        Err(_) => Err(Memory),
+    match swept {
+        Swept::Placed => list_planar(alloc, map, Vec::new(alloc)),
+        Swept::Planar => list_planar(alloc, map, suspects),
+        Swept::Meet(_) | Swept::Unknown => list_by_search(alloc, map, suspects),
     }
 }
 

@@ -1,29 +1,30 @@
 //! All that is wrong with the text of a county.
 
-ghost use Rattle.std.specs.Prelude.{◌≡◌, List, true, None, Some, IfOk, IfErr, IfSome};
-ghost use Rattle.tl_record.specs.Layout.{layout_with};
+ghost use Rattle.std.specs.Prelude.{◌≡◌, List, true, None, Some, IfOk, IfErr, IfSome, ⊤};
 ghost use Rattle.tl_record.specs.Records.{Records as AllRecords};
 ghost use Rattle.tl_record.specs.Reader.{source_of, standing_of, refusals_to_come};
 ghost use Rattle.tl_record.specs.Searching.{goes_on};
 ghost use Rattle.tl_record.specs.declared.record.Record.{Record};
 ghost use Rattle.tl_record_faults.specs.Kept.{KeepsRecords};
-ghost use Rattle.tl_listing.specs.Listings.{IsListingOf, TellsDevice};
+ghost use Rattle.tl_listing.specs.Listings.{IsListingOf};
+ghost use Rattle.tl_output.specs.Stops.{StopsFor, TellsDevice};
 ghost use Rattle.tl_all_faults.specs.Findings.{AreFindingsOf};
 ghost use Rattle.tl_all_faults.specs.Keeping.Reading.{Keeps, AreWhole};
-ghost use Rattle.tl_all_faults.specs.Keeping.OfMap.{IsListingOfMap};
+ghost use Rattle.tl_all_faults.specs.Keeping.OfMap.{IsListingFor};
 ghost use Rattle.tl_all_faults.specs.Keeping.OfRecords.{AreFindingsOfRecords, AreTold, ListsRefusals};
 
 use crate::of_map::list_map;
 use crate::reading::{BothKept, read_all};
-use crate::tell::tell_records;
+use crate::tell::push_records;
 use std::alloc::Global;
 use std::hash::RandomState;
 use tl_county::Map;
-use tl_listing::{Listing, ListingStop};
+use tl_listing::Listing;
 use tl_map::MapStop;
+use tl_output::Stop;
 use tl_record::{Options, RecordReader, Source};
 use tl_record_faults::{KeptRecords, all_record_faults};
-use tl_refusals::{ListStop, list_refusals};
+use tl_refusals::list_refusals;
 
 /// All that is wrong with a county, and the map that its records draw.
 #[derive(Drop)]
@@ -35,7 +36,9 @@ pub struct Findings {
 }
 
 /// Lists all that is wrong with a county, from the text of its record files, with the columns that the options choose of
-/// type I, or says that its map is sound.
+/// type I, or says that its map is sound. Where they ask for faces, those that disagree are listed of a map with which nothing else is
+/// wrong: each two segments that face one another along a line of one height and name different sides, and each that faces the outside
+/// and names a polygon.
 ///
 /// The records are read once. Each of two segments that meet stands in the list with one point at which they do.
 pub fn list_faults<R: Source>(
@@ -43,11 +46,13 @@ pub fn list_faults<R: Source>(
     hasher: RandomState,
     records: &mut R,
     options: Options,
-) -> Result<Listing, ListingStop>
+) -> Result<Listing, Stop>
     // Where the bytes are known: all lines that are refused; or where none is, all faults of the records; or where there
     // is none, all faults of their map; or where there is none, the map's numbers.
     ensures listing { IfOk result (λ listing. IfSome (R.remaining records.old)
-        (λ text. IsListingOf (layout_with options) text listing)) }
+        (λ text. IsListingOf options text listing)) }
+    // It stops where memory was refused, or a read failed.
+    ensures stops { IfErr result (StopsFor ⊤) }
     // `Device` is answered where a read failed in this call, and nowhere else.
     ensures failures { TellsDevice (R.failure_count records.old) (R.failure_count records.new) result }
 {
@@ -62,41 +67,38 @@ pub fn list_with_map<R: Source>(
     hasher: RandomState,
     records: &mut R,
     options: Options,
-) -> Result<Findings, ListingStop>
+) -> Result<Findings, Stop>
     // The listing is that of `list_faults`, and the map is that of the text's records; there is none exactly where a line is
     // refused or the records have a fault.
     ensures listed { IfOk result (λ listed. IfSome (R.remaining records.old)
-        (λ text. AreFindingsOf (layout_with options) text listed)) }
+        (λ text. AreFindingsOf options text listed)) }
+    // It stops where memory was refused, or a read failed.
+    ensures stops { IfErr result (StopsFor ⊤) }
     // `Device` is answered where a read failed in this call, and nowhere else.
     ensures failures { TellsDevice (R.failure_count records.old) (R.failure_count records.new) result }
 {
     let mut reader = RecordReader::with(records, options);
     match read_all(alloc, &mut reader)? {
-        Some(both) => list_kept(alloc, hasher, both, reader.skipped()),
+        Some(both) => list_kept(alloc, hasher, both, reader.skipped(), options.faces),
         None => list_refused(alloc, &mut reader),
     }
 }
 
 /// All lines that are refused, where a reader stopped at one.
-fn list_refused<R: Source>(
-    alloc: Global,
-    reader: &mut RecordReader<R>,
-) -> Result<Findings, ListingStop>
+fn list_refused<R: Source>(alloc: Global, reader: &mut RecordReader<R>) -> Result<Findings, Stop>
     requires { goes_on (standing_of reader.old) ≡ true }
     ensures listed { IfOk result (λ listed. IfSome (refusals_to_come R.remaining reader.old)
         (ListsRefusals listed.listing) × (listed.map ≡ None)) }
+    ensures stops { IfErr result (StopsFor ⊤) }
     ensures failures { TellsDevice (R.failure_count (source_of reader.old))
         (R.failure_count (source_of reader.new)) result }
     ensures same_reference { R.reference (source_of reader.new) ≡ R.reference (source_of reader.old) }
 {
-    match list_refusals(alloc, reader) {
-        Ok(list) => Ok(Findings {
-            listing: Listing::Refused(list),
-            map: None,
-        }),
-        Err(ListStop::Device) => Err(ListingStop::Device),
-        Err(ListStop::Endless | ListStop::Memory) => Err(ListingStop::Memory),
-    }
+    let list = list_refusals(alloc, reader)?;
+    Ok(Findings {
+        listing: Listing::Refused(list),
+        map: None,
+    })
 }
 
 /// All faults of records that are kept, so many of whose text's lines were passed over, or all of their map. The map is drawn
@@ -106,35 +108,36 @@ fn list_kept(
     hasher: RandomState,
     both: BothKept,
     skipped: u64,
-) -> Result<Findings, ListingStop>
+    faces: bool,
+) -> Result<Findings, Stop>
     requires { (rs : List Record) × Keeps rs both }
     ensures listed { (all : AllRecords) (rs : List Record) → AreWhole all skipped rs → Keeps rs both →
-        IfOk result (AreFindingsOfRecords all) }
-    ensures stops { IfErr result (λ stop. stop ≡ ListingStop.Memory) }
+        IfOk result (AreFindingsOfRecords faces all) }
+    ensures stops { IfErr result (λ stop. stop ≡ Stop.Memory) }
 {
     let BothKept { collected, kept } = both;
     match collected.build(alloc, hasher, skipped) {
         Ok(map) => {
             drop(kept);
-            list_drawn(alloc, map)
+            list_drawn(alloc, map, faces)
         }
         Err(MapStop::Fault(_)) => list_told(alloc, kept),
-        Err(MapStop::Memory) => Err(ListingStop::Memory),
+        Err(MapStop::Memory) => Err(Stop::Memory),
         // All records are read.
         Err(MapStop::Device | MapStop::Refused { .. }) => unreachable!(),
     }
 }
 
 /// All faults of records that have one, as those of a county.
-fn list_told(alloc: Global, kept: KeptRecords) -> Result<Findings, ListingStop>
+fn list_told(alloc: Global, kept: KeptRecords) -> Result<Findings, Stop>
     ensures listed { (rs : List Record) → KeepsRecords rs kept → IfOk result (AreTold rs) }
-    ensures stops { IfErr result (λ stop. stop ≡ ListingStop.Memory) }
+    ensures stops { IfErr result (λ stop. stop ≡ Stop.Memory) }
 {
     let mut faults = Vec::new(alloc);
     let Ok(told) = all_record_faults(alloc, kept) else {
-        return Err(ListingStop::Memory);
+        return Err(Stop::Memory);
     };
-    match tell_records(&mut faults, &told) {
+    match push_records(&mut faults, &told) {
         Ok(()) => Ok(Findings {
             listing: Listing::Faults {
                 faults,
@@ -142,20 +145,20 @@ fn list_told(alloc: Global, kept: KeptRecords) -> Result<Findings, ListingStop>
             },
             map: None,
         }),
-        Err(_) => Err(ListingStop::Memory),
+        Err(_) => Err(Stop::Memory),
     }
 }
 
 /// All faults of a map, or its report.
-fn list_drawn(alloc: Global, map: Map) -> Result<Findings, ListingStop>
-    ensures listed { IfOk result (λ listed. (listed.map ≡ Some map) × IsListingOfMap map listed.listing) }
-    ensures stops { IfErr result (λ stop. stop ≡ ListingStop.Memory) }
+fn list_drawn(alloc: Global, map: Map, faces: bool) -> Result<Findings, Stop>
+    ensures listed { IfOk result (λ listed. (listed.map ≡ Some map) × IsListingFor faces map listed.listing) }
+    ensures stops { IfErr result (λ stop. stop ≡ Stop.Memory) }
 {
-    match list_map(alloc, &map) {
+    match list_map(alloc, &map, faces) {
         Ok(listing) => Ok(Findings {
             listing,
             map: Some(map),
         }),
-        Err(_) => Err(ListingStop::Memory),
+        Err(_) => Err(Stop::Memory),
     }
 }

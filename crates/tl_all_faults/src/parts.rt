@@ -6,7 +6,7 @@ ghost use Rattle.tl_planar.specs.Rectangles.{segment_rect};
 ghost use Rattle.tl_misplaced.specs.Suspects.{AreSuspects};
 ghost use Rattle.tl_all_faults.specs.Keeping.OfMap.{AddsAgreement, AddsCells, AddsPoints};
 
-use crate::tell::{tell_cells, tell_points, tell_sides};
+use crate::tell::{push_cells, push_points, push_sides};
 use std::alloc::Global;
 use tl_county::Map;
 use tl_disagreements::{all_cells_at_odds, all_disagreements};
@@ -15,28 +15,32 @@ use tl_misplaced::all_misplaced_among;
 use tl_verdict::MapFault;
 
 /// Appends sides that disagree, and behind them zero-cell ids that are at odds. Gives whether sides disagree.
-pub fn tell_agreement(alloc: Global, map: &Map, faults: &mut Vec<MapFault>) -> Result<bool, Memory>
+pub fn push_disagreements(
+    alloc: Global,
+    map: &Map,
+    faults: &mut Vec<MapFault>,
+) -> Result<bool, Memory>
     ensures { IfOk result (λ differ. AddsAgreement map.now differ faults.old.items faults.new.items) }
 {
     let sides = all_disagreements(alloc, map)?;
     let differ = !sides.is_empty();
-    tell_sides(faults, map, &sides)?;
+    push_sides(faults, map, &sides)?;
     drop(sides);
-    tell_all_cells(alloc, map, faults)?;
+    push_all_cells(alloc, map, faults)?;
     Ok(differ)
 }
 
 /// Appends zero-cell ids that are at odds.
-pub fn tell_all_cells(alloc: Global, map: &Map, faults: &mut Vec<MapFault>) -> Result<(), Memory>
+pub fn push_all_cells(alloc: Global, map: &Map, faults: &mut Vec<MapFault>) -> Result<(), Memory>
     ensures { OnOk result (AddsCells map.now faults.old.items faults.new.items) }
 {
     let cells = all_cells_at_odds(alloc, map)?;
-    tell_cells(faults, &cells)
+    push_cells(faults, &cells)
 }
 
 /// Appends what is wrong with where polygons' points lie, by an index that fits the map's segments, where the points of all
 /// polygons but these are known to lie where they have to.
-pub fn tell_misplaced<X: BoxIndex>(
+pub fn push_misplaced<X: BoxIndex>(
     alloc: Global,
     index: &X,
     map: &Map,
@@ -49,5 +53,5 @@ pub fn tell_misplaced<X: BoxIndex>(
     ensures { OnOk result (AddsPoints map.now false faults.old.items faults.new.items) }
 {
     let points = all_misplaced_among(alloc, index, map, &mut suspects)?;
-    tell_points(faults, &points)
+    push_points(faults, &points)
 }

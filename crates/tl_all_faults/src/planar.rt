@@ -5,10 +5,9 @@ ghost use Rattle.tl_planar.specs.Planar.{IsPlanar};
 ghost use Rattle.tl_misplaced.specs.Suspects.{AreSuspects};
 ghost use Rattle.tl_all_faults.specs.Keeping.OfMap.{IsListingOfMap, IsFaulty, HasRings, AddsPoints};
 
-use crate::parts::{tell_agreement, tell_all_cells, tell_misplaced};
+use crate::parts::{push_all_cells, push_disagreements, push_misplaced};
 use std::alloc::Global;
 use tl_county::Map;
-use tl_crossings::look_at_chains;
 use tl_disagreements::laws::cells_agree_where_no_pair_is_listed;
 use tl_index::{Memory, TreeStop};
 use tl_listing::Listing;
@@ -38,7 +37,7 @@ fn count_rings(alloc: Global, map: &Map) -> Result<Option<u32>, Memory>
     ensures { IfOk result (λ found. MatchOption found (IsFaulty map.now) (HasRings map.now)) }
 {
     // that each chain has two points or more
-    look_at_chains(map);
+    map.has_proper_chains();
     let Ok(walks) = propose_walks(alloc, map) else {
         return Err(Memory);
     };
@@ -56,8 +55,8 @@ fn list_differing(alloc: Global, map: &Map, suspects: Vec<u32>) -> Result<Listin
     ensures { IfOk result (IsListingOfMap map.now) }
 {
     let mut faults = Vec::new(alloc);
-    let points_left = tell_agreement(alloc, map, &mut faults)?;
-    tell_unless_left(alloc, map, points_left, suspects, &mut faults)?;
+    let points_left = push_disagreements(alloc, map, &mut faults)?;
+    push_unless_left(alloc, map, points_left, suspects, &mut faults)?;
     Ok(Listing::Faults {
         faults,
         points_left,
@@ -77,8 +76,8 @@ fn list_agreeing(
     ensures { IfOk result (IsListingOfMap map.now) }
 {
     let mut faults = Vec::new(alloc);
-    tell_all_cells(alloc, map, &mut faults)?;
-    tell_suspects(alloc, map, suspects, &mut faults)?;
+    push_all_cells(alloc, map, &mut faults)?;
+    push_suspects(alloc, map, suspects, &mut faults)?;
     // So the map is sound where nothing is told.
     cells_agree_where_no_pair_is_listed();
     placed_where_no_fault_is_listed();
@@ -92,7 +91,7 @@ fn list_agreeing(
 }
 
 /// Appends what is wrong with where polygons' points lie, unless they are left.
-fn tell_unless_left(
+fn push_unless_left(
     alloc: Global,
     map: &Map,
     left: bool,
@@ -105,11 +104,11 @@ fn tell_unless_left(
     if left {
         return Ok(());
     }
-    tell_suspects(alloc, map, suspects, faults)
+    push_suspects(alloc, map, suspects, faults)
 }
 
 /// Appends what is wrong with where polygons' points lie.
-fn tell_suspects(
+fn push_suspects(
     alloc: Global,
     map: &Map,
     suspects: Vec<u32>,
@@ -121,11 +120,11 @@ fn tell_suspects(
     if suspects.is_empty() {
         return Ok(());
     }
-    tell_by_new_tree(alloc, map, suspects, faults)
+    push_by_new_tree(alloc, map, suspects, faults)
 }
 
 /// Appends what is wrong with where polygons' points lie, by a tree that is made for it.
-fn tell_by_new_tree(
+fn push_by_new_tree(
     alloc: Global,
     map: &Map,
     suspects: Vec<u32>,
@@ -138,7 +137,7 @@ fn tell_by_new_tree(
         return Err(Memory);
     };
     match FlatTree::from_nodes(alloc, &nodes) {
-        Ok(tree) => tell_misplaced(alloc, &tree, map, suspects, faults),
+        Ok(tree) => push_misplaced(alloc, &tree, map, suspects, faults),
         Err(TreeStop::Memory) => Err(Memory),
         // A tree that is packed is never so deep.
         Err(TreeStop::TooDeep) => unreachable!(),

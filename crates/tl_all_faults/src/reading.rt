@@ -1,14 +1,14 @@
 //! Reads records once, for what tells their faults and for what draws their map.
 
-ghost use Rattle.std.specs.Prelude.{◌≡◌, IfOk};
+ghost use Rattle.std.specs.Prelude.{◌≡◌, ⊤, IfOk, IfErr};
 ghost use Rattle.tl_record.specs.declared.reader.Standing.TheVariants.{Reading};
 ghost use Rattle.tl_record.specs.Reader.{source_of, standing_of};
-ghost use Rattle.tl_listing.specs.Listings.{TellsDevice};
+ghost use Rattle.tl_output.specs.Stops.{StopsFor, TellsDevice};
 ghost use Rattle.tl_all_faults.specs.Keeping.Reading.{MayRead};
 
 use std::alloc::{AllocError, Global};
-use tl_listing::ListingStop;
 use tl_map::CollectedRecords;
+use tl_output::Stop;
 use tl_record::{NO_RECORD, ReadStop, Record, RecordReader, Source};
 use tl_record_faults::KeptRecords;
 
@@ -47,9 +47,10 @@ impl BothKept {
 pub fn read_all<R: Source>(
     alloc: Global,
     reader: &mut RecordReader<R>,
-) -> Result<Option<BothKept>, ListingStop>
+) -> Result<Option<BothKept>, Stop>
     requires { standing_of reader.old ≡ Reading }
     ensures read { IfOk result (MayRead R.remaining reader.old reader.new) }
+    ensures stops { IfErr result (StopsFor ⊤) }
     ensures failures { TellsDevice (R.failure_count (source_of reader.old))
         (R.failure_count (source_of reader.new)) result }
     ensures same_reference { R.reference (source_of reader.new) ≡ R.reference (source_of reader.old) }
@@ -60,11 +61,11 @@ pub fn read_all<R: Source>(
         match reader.read_next(&mut next) {
             Ok(Some(_)) => match both.add(&next) {
                 Ok(()) => {}
-                Err(_) => return Err(ListingStop::Memory),
+                Err(_) => return Err(Stop::Memory),
             },
             Ok(None) => return Ok(Some(both)),
             Err(ReadStop::Refused { .. }) => return Ok(None),
-            Err(ReadStop::Device) => return Err(ListingStop::Device),
+            Err(ReadStop::Device) => return Err(Stop::Device),
         }
     }
 }

@@ -6,6 +6,7 @@ ghost use Rattle.tl_listing.specs.MapFaults.{side_fault};
 
 use tl_cells::CellsAtOdds;
 use tl_county::Map;
+use tl_faces::FaceFault;
 use tl_index::Memory;
 use tl_inside::Misplaced;
 use tl_planar::Meet;
@@ -23,7 +24,10 @@ fn append(faults: &mut Vec<MapFault>, fault: MapFault) -> Result<(), Memory>
 }
 
 /// Appends faults of records.
-pub fn tell_records(faults: &mut Vec<MapFault>, told: &[tl_drawn::MapFault]) -> Result<(), Memory>
+pub fn push_records(
+    faults: &mut Vec<MapFault>,
+    told: &[tl_drawn::RecordFault],
+) -> Result<(), Memory>
     ensures { OnOk result (faults.new.items ≡ faults.old.items ++ map MapFault.Records told.now) }
 {
     for fault in told {
@@ -33,7 +37,7 @@ pub fn tell_records(faults: &mut Vec<MapFault>, told: &[tl_drawn::MapFault]) -> 
 }
 
 /// Appends meets.
-pub fn tell_meets(faults: &mut Vec<MapFault>, meets: &[Meet]) -> Result<(), Memory>
+pub fn push_meets(faults: &mut Vec<MapFault>, meets: &[Meet]) -> Result<(), Memory>
     ensures { OnOk result (faults.new.items ≡ faults.old.items ++ map MapFault.Meet meets.now) }
 {
     for meet in meets {
@@ -43,7 +47,7 @@ pub fn tell_meets(faults: &mut Vec<MapFault>, meets: &[Meet]) -> Result<(), Memo
 }
 
 /// Appends sides that disagree, each with its node.
-pub fn tell_sides(
+pub fn push_sides(
     faults: &mut Vec<MapFault>,
     county: &Map,
     sides: &[Disagreement],
@@ -65,7 +69,7 @@ pub fn tell_sides(
 }
 
 /// Appends zero-cell ids that are at odds.
-pub fn tell_cells(faults: &mut Vec<MapFault>, cells: &[CellsAtOdds]) -> Result<(), Memory>
+pub fn push_cells(faults: &mut Vec<MapFault>, cells: &[CellsAtOdds]) -> Result<(), Memory>
     ensures { OnOk result (faults.new.items ≡ faults.old.items ++ map MapFault.Cell cells.now) }
 {
     for odds in cells {
@@ -75,11 +79,21 @@ pub fn tell_cells(faults: &mut Vec<MapFault>, cells: &[CellsAtOdds]) -> Result<(
 }
 
 /// Appends what is wrong with where polygons' points lie.
-pub fn tell_points(faults: &mut Vec<MapFault>, points: &[Misplaced]) -> Result<(), Memory>
+pub fn push_points(faults: &mut Vec<MapFault>, points: &[Misplaced]) -> Result<(), Memory>
     ensures { OnOk result (faults.new.items ≡ faults.old.items ++ map MapFault.PolygonPoint points.now) }
 {
     for misplaced in points {
         append(faults, MapFault::PolygonPoint(*misplaced))?;
+    }
+    Ok(())
+}
+
+/// Appends faces that disagree.
+pub fn push_faces(faults: &mut Vec<MapFault>, faces: &[FaceFault]) -> Result<(), Memory>
+    ensures { OnOk result (faults.new.items ≡ faults.old.items ++ map MapFault.Face faces.now) }
+{
+    for fault in faces {
+        append(faults, MapFault::Face(*fault))?;
     }
     Ok(())
 }

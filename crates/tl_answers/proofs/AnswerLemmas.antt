@@ -8,7 +8,7 @@ use Rattle.tl_record.specs.declared.options.Options.{Options}
 use Rattle.tl_record.specs.Records.{records_of}
 use Rattle.tl_geom.specs.declared.point.Point.{Point}
 use Rattle.tl_county.specs.TheMap.{TheMap}
-use Rattle.tl_drawn.specs.declared.fault.MapFault.{MapFault}
+use Rattle.tl_drawn.specs.declared.fault.RecordFault.{RecordFault}
 use Rattle.tl_drawn.specs.declared.fault.MapStop.{MapStop}
 use Rattle.tl_drawn.specs.declared.fault.MapStop.TheVariants.{Device, Memory, Refused, Fault}
 use Rattle.tl_drawn.specs.Reading.{IfFault, IsReadFrom, StopsReading, TellsDevice}
@@ -21,7 +21,7 @@ use Rattle.tl_answers.specs.Places.{StopsTelling}
 use Rattle.tl_answers.specs.Running.{AnswersRecords}
 
 -- records that were read, of which it was told
-pub answered_of : {T : Type 0} (layout : Layout) (known : Option (List ℕ)) (old new : ℕ) (same whole part full cut : Type 0) (looks_for : MapFault → Type 0) (r : Result T MapStop) → new ≡ old → (whole → full) → (part → cut)
+pub answered_of : {T : Type 0} (layout : Layout) (known : Option (List ℕ)) (old new : ℕ) (same whole part full cut : Type 0) (looks_for : RecordFault → Type 0) (r : Result T MapStop) → new ≡ old → (whole → full) → (part → cut)
     → OnOk r whole → IfErr r (StopsTelling same part) → Answered layout known old new same full cut looks_for r
 answered_of layout known old new same whole part full cut looks_for (Ok done) stays fills cuts told stops = record { answered = fills told; stops = tt; sought = tt; reads = stays }
 answered_of layout known old new same whole part full cut looks_for (Err Device) stays fills cuts told stops = record { answered = tt; stops = inr (cuts stops); sought = tt; reads = λ differs. stays }
@@ -30,7 +30,7 @@ answered_of layout known old new same whole part full cut looks_for (Err (Refuse
 answered_of layout known old new same whole part full cut looks_for (Err (Fault fault)) stays fills cuts told stops = absurd stops
 
 -- records that weren't
-pub unanswered : {T : Type 0} (layout : Layout) (known : Option (List ℕ)) (old new : ℕ) (same full cut : Type 0) (looks_for : MapFault → Type 0) (stop : MapStop) → IfSome known (λ text. StopsReading (records_of layout text) stop)
+pub unanswered : {T : Type 0} (layout : Layout) (known : Option (List ℕ)) (old new : ℕ) (same full cut : Type 0) (looks_for : RecordFault → Type 0) (stop : MapStop) → IfSome known (λ text. StopsReading (records_of layout text) stop)
     → IfFault looks_for stop → TellsDevice {T = ℕ} old new (Err stop) → same → Answered {T = T} layout known old new same full cut looks_for (Err stop)
 unanswered layout known old new same full cut looks_for Device stops sought reads stays = record { answered = tt; stops = inl (reads, stays); sought = tt; reads = λ differs. absurd (differs refl) }
 unanswered layout known old new same full cut looks_for Memory stops sought reads stays = record { answered = tt; stops = stays; sought = tt; reads = λ differs. reads }

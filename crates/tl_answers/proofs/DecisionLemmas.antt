@@ -4,20 +4,20 @@ use Rattle.std.specs.Bool.{⊤}
 use Rattle.tl_record.specs.Messages.{refusal_text}
 use Rattle.tl_record.specs.declared.stop.Cause.{Cause}
 use Rattle.tl_output.specs.Writing.{line_of}
-use Rattle.tl_drawn.specs.declared.fault.MapFault.{MapFault as RecordFault}
+use Rattle.tl_drawn.specs.declared.fault.RecordFault.{RecordFault}
 use Rattle.tl_drawn.specs.declared.fault.MapStop.{MapStop}
 use Rattle.tl_drawn.specs.declared.fault.MapStop.TheVariants as map_stop
 use Rattle.tl_drawn.specs.Messages.{fault_text}
 use Rattle.tl_verdict.specs.declared.verdict.Verdict.{Verdict}
 use Rattle.tl_verdict.specs.declared.verdict.Verdict.TheVariants as verdict
-use Rattle.tl_verdict.specs.declared.stop.Stop.{Stop}
-use Rattle.tl_verdict.specs.declared.stop.Stop.TheVariants.{Memory, Device}
+use Rattle.tl_output.specs.declared.stop.Stop.{Stop}
+use Rattle.tl_output.specs.declared.stop.Stop.TheVariants.{Memory, Device}
 use Rattle.tl_verdict.specs.Records.{TellsEither}
 use Rattle.tl_answers.specs.declared.stop.TheConstants.{DONE, MAP_FAULT, CERT_FAULT, REFUSED, STOPPED}
 use Rattle.tl_answers.specs.Verdicts.{verdict_text, verdict_status}
 use Rattle.tl_answers.specs.Telling.{TellsDecision}
 use Rattle.tl_answers.specs.Keeping.{TellsAnswer}
-use Rattle.tl_verdict.specs.Stops.{stop_text}
+use Rattle.tl_output.specs.Stops.{stop_text}
 use Rattle.tl_answers.specs.Running.{IsRunStatus, IsTold, NamesStop, StaysUnless}
 use Rattle.tl_answers.proofs.ToldLemmas.{stop_runs, no_answer, check_whole, stopped_not_done, stopped_not_fault, stopped_not_refused}
 

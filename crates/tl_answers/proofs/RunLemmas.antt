@@ -11,7 +11,7 @@ use Rattle.tl_answers.specs.Beginnings.{OfMap, IsBegunOf}
 use Rattle.tl_answers.specs.Beginnings.{BeginsRewritten}
 use Rattle.tl_answers.specs.declared.stop.TheConstants.{DONE, MAP_FAULT, CERT_FAULT, REFUSED, STOPPED}
 use Rattle.tl_answers.specs.Running.{IsRunStatus, AnswersRecords, IsAnswered, NamesRecordFault, FaultsMap, TellsRefused, LooksFor, ReadsNoRecords, layout_of, IsAudited, IsBuilt, IsChecked, IsConverted, NamesFault, NamesCertFault, NamesBadLine, NamesRefusal, NamesStop, NamesBudget, MayBeSearched, IsTold}
-use Rattle.tl_verdict.specs.declared.stop.Stop.TheVariants.{Memory}
+use Rattle.tl_output.specs.declared.stop.Stop.TheVariants.{Memory}
 use Rattle.tl_answers.proofs.DecidingLemmas.{audit_decides, build_decides, check_decides}
 use Rattle.tl_answers.proofs.ToldLemmas.{weaker_stop}
 
@@ -158,16 +158,16 @@ stop_as told failed other well calm same cut broken fails stays breaks (inr devi
 
 module _ {known spelt : Option (List ℕ)} {made begun wrote told part : List ℕ → Type 0} {reads cert_reads writes read_well cert_well made_well out_same err_same cert_same made_same records_same : Type 0} where
   pub runs_audit : (options : Options) (files : Vec (String Global) Global) (status : ℕ) → cert_well → made_well → cert_same → made_same → IsRecordStatus status
-      → (status ≡ DONE → IsAudited (layout_with options) known wrote) → (status ≡ MAP_FAULT → NamesFault (layout_with options) known ⊤ ⊤ wrote)
+      → (status ≡ DONE → IsAudited options known wrote) → (status ≡ MAP_FAULT → NamesFault options known ⊤ ⊤ wrote)
       → (status ≡ REFUSED → NamesRefusal (layout_with options) known told)
-      → (status ≡ STOPPED → NamesStop told reads read_well out_same (IsAudited (layout_with options) known part ⊎ NamesFault (layout_with options) known ⊤ ⊤ part))
+      → (status ≡ STOPPED → NamesStop told reads read_well out_same (IsAudited options known part ⊎ NamesFault options known ⊤ ⊤ part))
       → ((status ≡ DONE) ⊎ (status ≡ MAP_FAULT) → err_same) → (status ≡ REFUSED → out_same) → (status ≢ STOPPED → read_well)
       → Runs (Audit options files) status known spelt made begun wrote told part reads cert_reads writes read_well cert_well made_well out_same err_same cert_same made_same records_same
   runs_audit options files status cert_calm made_calm cert_stays made_stays is answered fault refused stopped err_stays out_stays read_whole = record {
     is_status = records_run status is;
     answered = answered;
     fault = fault;
-    exactly = audit_decides (layout_with options) known ⊤ ⊤ wrote status answered fault;
+    exactly = audit_decides options known ⊤ ⊤ wrote status answered fault;
     cert_fault = λ e. absurd (no_cert_fault status is e);
     refused = λ e. (refused e, out_stays e);
     stopped = λ e. inl (stop_as told _ _ _ _ out_same _ _ (λ failed. inl (inl failed)) (λ calm. ((calm, cert_calm), made_calm)) (λ broken. elim broken [ inl so ↦ inl so | inr so ↦ inr (inl so) ]) (stopped e));
@@ -183,9 +183,9 @@ module _ {known spelt : Option (List ℕ)} {made begun wrote told part : List �
   }
 
   pub runs_build : (to : String Global) (options : Options) (files : Vec (String Global) Global) (status : ℕ) → cert_well → cert_same → IsRecordStatus status
-      → (status ≡ DONE → IsBuilt (layout_with options) known made wrote) → (status ≡ MAP_FAULT → NamesFault (layout_with options) known ⊤ ⊤ wrote)
+      → (status ≡ DONE → IsBuilt options known made wrote) → (status ≡ MAP_FAULT → NamesFault options known ⊤ ⊤ wrote)
       → (status ≡ REFUSED → NamesRefusal (layout_with options) known told)
-      → (status ≡ STOPPED → NamesStop told (reads ⊎ writes) (read_well × made_well) out_same (IsBuilt (layout_with options) known made part ⊎ NamesFault (layout_with options) known ⊤ ⊤ part))
+      → (status ≡ STOPPED → NamesStop told (reads ⊎ writes) (read_well × made_well) out_same (IsBuilt options known made part ⊎ NamesFault options known ⊤ ⊤ part))
       → ((status ≡ DONE) ⊎ (status ≡ MAP_FAULT) → err_same) → (status ≡ REFUSED → out_same) → ((status ≡ MAP_FAULT) ⊎ (status ≡ REFUSED) → made_same)
       → (status ≡ STOPPED → made_same ⊎ OfMap (layout_with options) known (λ m. IsBegunOf m begun)) → (status ≢ STOPPED → read_well)
       → Runs (Build to options files) status known spelt made begun wrote told part reads cert_reads writes read_well cert_well made_well out_same err_same cert_same made_same records_same
@@ -193,7 +193,7 @@ module _ {known spelt : Option (List ℕ)} {made begun wrote told part : List �
     is_status = records_run status is;
     answered = answered;
     fault = fault;
-    exactly = build_decides (layout_with options) known ⊤ ⊤ made wrote status answered fault;
+    exactly = build_decides options known ⊤ ⊤ made wrote status answered fault;
     cert_fault = λ e. absurd (no_cert_fault status is e);
     refused = λ e. (refused e, out_stays e);
     stopped = λ e. inl (stop_as told _ _ _ _ out_same _ _ (λ failed. elim failed [ inl r ↦ inl (inl r) | inr w ↦ inr w ]) (λ calm. ((calm.0, cert_calm), calm.1))
@@ -210,12 +210,12 @@ module _ {known spelt : Option (List ℕ)} {made begun wrote told part : List �
   }
 
   pub runs_check : (by : String Global) (budget : ℕ) (options : Options) (files : Vec (String Global) Global) (status : ℕ) → made_well → made_same → IsRunStatus status
-      → (status ≡ DONE → IsChecked (layout_with options) budget known spelt wrote)
-      → (status ≡ MAP_FAULT → NamesFault (layout_with options) known cert_same (MayBeSearched (layout_with options) known spelt) wrote)
+      → (status ≡ DONE → IsChecked options budget known spelt wrote)
+      → (status ≡ MAP_FAULT → NamesFault options known cert_same (MayBeSearched (layout_with options) known spelt) wrote)
       → (status ≡ CERT_FAULT → NamesCertFault (layout_with options) known spelt wrote) → (status ≡ REFUSED → NamesRefusal (layout_with options) known told)
       → (status ≡ STOPPED → NamesStop told (reads ⊎ cert_reads) (read_well × cert_well) out_same
-      (IsChecked (layout_with options) budget known spelt part
-      ⊎ (NamesFault (layout_with options) known cert_same (MayBeSearched (layout_with options) known spelt) part ⊎ NamesCertFault (layout_with options) known spelt part))
+      (IsChecked options budget known spelt part
+      ⊎ (NamesFault options known cert_same (MayBeSearched (layout_with options) known spelt) part ⊎ NamesCertFault (layout_with options) known spelt part))
       ⊎ (NamesBudget (layout_with options) budget known spelt told × (read_well × cert_well) × out_same))
       → ((status ≡ DONE) ⊎ ((status ≡ MAP_FAULT) ⊎ (status ≡ CERT_FAULT)) → err_same) → (status ≡ REFUSED → out_same) → (status ≡ REFUSED → cert_same)
       → (status ≢ STOPPED → read_well) → (status ≢ STOPPED → cert_well)
@@ -224,7 +224,7 @@ module _ {known spelt : Option (List ℕ)} {made begun wrote told part : List �
     is_status = is;
     answered = answered;
     fault = fault;
-    exactly = check_decides (layout_with options) budget known spelt cert_same (MayBeSearched (layout_with options) known spelt) wrote status answered fault;
+    exactly = check_decides options budget known spelt cert_same (MayBeSearched (layout_with options) known spelt) wrote status answered fault;
     cert_fault = cert_fault;
     refused = λ e. (refused e, out_stays e);
     stopped = λ e. elim (stopped e) [

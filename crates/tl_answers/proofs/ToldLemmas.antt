@@ -8,8 +8,8 @@ use Rattle.std.specs.Option.{IfSome}
 use Rattle.tl_record.specs.Failures.{one_more}
 use Rattle.tl_record.specs.declared.layout.Layout.{Layout}
 use Rattle.tl_record.specs.Records.{records_of}
-use Rattle.tl_verdict.specs.declared.stop.Stop.{Stop}
-use Rattle.tl_verdict.specs.declared.stop.Stop.TheVariants.{Record, Memory, Device, Budget}
+use Rattle.tl_output.specs.declared.stop.Stop.{Stop}
+use Rattle.tl_output.specs.declared.stop.Stop.TheVariants.{Record, Memory, Device, Budget}
 use Rattle.tl_verdict.specs.Records.{MayStopOn, TellsEither, LeavesUnread}
 use Rattle.tl_verdict.specs.Verdicts.{OnSearched}
 use Rattle.tl_plan.specs.declared.plan.Plan.{Plan}

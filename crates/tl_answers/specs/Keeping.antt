@@ -8,28 +8,30 @@ use Rattle.tl_record.specs.Failures.{one_more}
 use Rattle.tl_record.specs.declared.layout.Layout.{Layout}
 use Rattle.tl_county.specs.TheMap.{TheMap}
 use Rattle.tl_text.specs.Printing.{listing_text}
-use Rattle.tl_drawn.specs.declared.fault.MapFault.{MapFault as RecordFault}
+use Rattle.tl_drawn.specs.declared.fault.RecordFault.{RecordFault}
 use Rattle.tl_drawn.specs.declared.fault.MapStop.{MapStop}
 use Rattle.tl_drawn.specs.Reading.{IfFault}
 use Rattle.tl_drawn.specs.declared.fault.MapStop.TheVariants as map_stop
 use Rattle.tl_verdict.specs.declared.verdict.Verdict.{Verdict}
 use Rattle.tl_verdict.specs.declared.verdict.Verdict.TheVariants as verdict
-use Rattle.tl_verdict.specs.declared.stop.Stop.{Stop}
-use Rattle.tl_verdict.specs.declared.stop.Stop.TheVariants.{Record, Memory, Device}
+use Rattle.tl_output.specs.declared.stop.Stop.{Stop}
 use Rattle.tl_answers.specs.declared.stop.TheConstants.{DONE}
 use Rattle.tl_answers.specs.declared.asking.Asked.{Asked}
 use Rattle.tl_answers.specs.declared.asking.Asked.TheVariants.{Landmarks, Place}
-use Rattle.tl_verdict.specs.declared.fault.MapFault.TheVariants.{Records}
+use Rattle.tl_verdict.specs.declared.fault.MapFault.{MapFault}
+use Rattle.tl_verdict.specs.Stops.{unmapped}
 use Rattle.tl_answers.specs.Places.{TellsPlace}
 use Rattle.tl_answers.specs.Running.{IsListed, IsLocated, StopsAnswer, StaysUnless}
 use Rattle.tl_answers.specs.Telling.{TellsDecision}
 
+-- the decision of a fault of the map, or why there is none
+abbrev pub fault_decision : Result MapFault Stop → Result Verdict Stop
+fault_decision (Ok fault) = Ok (verdict.MapFault fault)
+fault_decision (Err stop) = Err stop
+
 -- the decision that records come to that have no answer
 abbrev pub stop_decision : MapStop → Result Verdict Stop
-stop_decision (map_stop.Fault fault) = Ok (verdict.MapFault (Records fault))
-stop_decision (map_stop.Refused line cause) = Err (Record line cause)
-stop_decision map_stop.Memory = Err Memory
-stop_decision map_stop.Device = Err Device
+stop_decision stop = fault_decision (unmapped stop)
 
 -- how it is told why records have no answer; of an answer, which is written already, nothing is
 abbrev pub TellsAnswer : {A : Type 0} → Result A MapStop → ℕ → (wrote told part : List ℕ → Type 0) → (out_same err_same : Type 0) → Type 0

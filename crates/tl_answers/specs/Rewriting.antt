@@ -12,7 +12,7 @@ use Rattle.tl_cert.specs.Beginnings.{IsTextOf, IsRefused}
 use Rattle.tl_verdict.specs.declared.fault.CertFault.TheVariants as cert_fault
 use Rattle.tl_verdict.specs.Messages.{cert_fault_text}
 use Rattle.tl_answers.specs.declared.convert.Converted.{Converted}
-use Rattle.tl_verdict.specs.declared.stop.Stop.TheVariants.{Memory, Device}
+use Rattle.tl_output.specs.declared.stop.Stop.TheVariants.{Memory, Device}
 use Rattle.tl_answers.specs.declared.stop.TheConstants.{DONE, CERT_FAULT}
 use Rattle.tl_answers.specs.Certificates.{counts_text}
 use Rattle.tl_answers.specs.Running.{IsTold}

@@ -1,16 +1,17 @@
 -- What a run may answer: for each exit status, what was written and what is true of the records.
 --
--- `layout` is the column table that the records are read by; `known` is the text of the record files, where it is known, and
+-- `layout` is the column table that the records are read by, and `options` what is asked of them; `known` is the text of the record files, where it is known, and
 -- `spelt` that of the certificate; `wrote` says of a text that it was written.
-use Rattle.std.specs.Prelude.{◌≡◌, ◌≢◌, ◌⊎◌, ◌≤◌, ℕ, List, Option, None, Some, IfSome, Result, Ok, Err, ⊤}
+use Rattle.std.specs.Prelude.{◌≡◌, ◌≢◌, ◌⊎◌, ◌≤◌, ℕ, List, Option, None, Some, IfSome, Result, Ok, Err, ⊤, Bool}
 use Rattle.tl_record.specs.declared.stop.Cause.{Cause}
 use Rattle.tl_record.specs.Failures.{one_more}
 use Rattle.tl_record.specs.declared.layout.Layout.{Layout}
+use Rattle.tl_record.specs.declared.options.Options.{Options}
 use Rattle.tl_record.specs.Layout.{tiger_2006, layout_with}
 use Rattle.tl_record.specs.Messages.{refusal_text}
 use Rattle.tl_record.specs.Records.{records_of}
 use Rattle.tl_geom.specs.declared.point.Point.{Point}
-use Rattle.tl_drawn.specs.declared.fault.MapFault.{MapFault as RecordFault}
+use Rattle.tl_drawn.specs.declared.fault.RecordFault.{RecordFault}
 use Rattle.tl_drawn.specs.declared.fault.MapStop.{MapStop}
 use Rattle.tl_drawn.specs.declared.fault.MapStop.TheVariants as map_stop
 use Rattle.tl_county.specs.Chains.{ChainList}
@@ -20,9 +21,9 @@ use Rattle.tl_county.specs.TheMap.{TheMap}
 use Rattle.tl_drawn.specs.Reading.{AreReadFrom, IsReadFrom, records_in}
 use Rattle.tl_text.specs.Printing.{shown_text, listing_text}
 use Rattle.tl_output.specs.Writing.{Writes, WritesSome, line_of}
-use Rattle.tl_verdict.specs.declared.stop.Stop.{Stop}
-use Rattle.tl_verdict.specs.declared.stop.Stop.TheVariants.{Record, Memory, Device, Budget}
-use Rattle.tl_verdict.specs.Stops.{stop_text}
+use Rattle.tl_output.specs.declared.stop.Stop.{Stop}
+use Rattle.tl_output.specs.declared.stop.Stop.TheVariants.{Record, Memory, Device, Budget}
+use Rattle.tl_output.specs.Stops.{stop_text}
 use Rattle.tl_answers.specs.declared.stop.TheConstants.{DONE, MAP_FAULT, CERT_FAULT, REFUSED, STOPPED}
 use Rattle.tl_plan.specs.declared.plan.Plan.{Plan}
 use Rattle.tl_plan.specs.declared.plan.Plan.TheVariants.{Show, Landmarks, Locate, Convert, Check, Audit, Build}
@@ -37,7 +38,7 @@ use Rattle.tl_verdict.specs.declared.fault.CertFault.{CertFault}
 use Rattle.tl_verdict.specs.declared.fault.CertFault.TheVariants as cert_fault
 use Rattle.tl_verdict.specs.declared.verdict.Report.{Report}
 use Rattle.tl_verdict.specs.declared.verdict.Verdict.TheVariants as verdict
-use Rattle.tl_verdict.specs.Sound.{IsSound}
+use Rattle.tl_verdict.specs.Sound.{IsSoundFor}
 use Rattle.tl_verdict.specs.Valid.{IsValid}
 use Rattle.tl_verdict.specs.Verdicts.{IsReport, OnSearched}
 use Rattle.tl_verdict.specs.Texts.{IsValidText, IsTrueOfText, TextAllowsSearch}
@@ -95,48 +96,48 @@ pub record NamesBadLine (known : Option (List ℕ)) (wrote : List ℕ → Type 0
   pub written : wrote (line_of (cert_fault_text (cert_fault.Text line)))
   pub holds : IfSome known (λ text. IsRefused text line)
 
--- the map is sound, at most as many pairs of its segments as the budget have rectangles that meet, the report is its report,
+-- the map keeps what is asked of it, at most as many pairs of its segments as the budget have rectangles that meet, the report is its report,
 -- and the certificate's text, where it is known, is that of a certificate that is valid for it
-pub record IsDecided (report : Report) (budget : ℕ) (spelt : Option (List ℕ)) (m : TheMap) : Type 0 where
-  pub sound : IsSound m
+pub record IsDecided (faces : Bool) (report : Report) (budget : ℕ) (spelt : Option (List ℕ)) (m : TheMap) : Type 0 where
+  pub sound : IsSoundFor faces m
   pub within : meeting_segments m.chains ≤ budget
   pub reported : IsReport m report
   pub valid : IfSome spelt (λ text. IsValidText m text)
 
--- the line of a sound map was written, and the map of the records is sound: no line is refused and they have one
-pub record IsChecked (layout : Layout) (budget : ℕ) (known spelt : Option (List ℕ)) (wrote : List ℕ → Type 0) : Type 0 where
+-- the line of a sound map was written, and the map of the records keeps what the options ask: no line is refused and they have one
+pub record IsChecked (options : Options) (budget : ℕ) (known spelt : Option (List ℕ)) (wrote : List ℕ → Type 0) : Type 0 where
   pub report : Report
   pub written : wrote (line_of (sound_text report))
-  pub decided : IfSome known (λ text. HaveMap (records_of layout text) (IsDecided report budget spelt))
+  pub decided : IfSome known (λ text. HaveMap (records_of (layout_with options) text) (IsDecided options.faces report budget spelt))
 
--- the map is sound, and the report is its report
-pub record IsSoundWith (report : Report) (m : TheMap) : Type 0 where
-  pub sound : IsSound m
+-- the map keeps what is asked of it, and the report is its report
+pub record IsSoundWith (faces : Bool) (report : Report) (m : TheMap) : Type 0 where
+  pub sound : IsSoundFor faces m
   pub reported : IsReport m report
 
--- the line of a sound map was written, and the map of the records is sound: no line is refused and they have one
-pub record IsAudited (layout : Layout) (known : Option (List ℕ)) (wrote : List ℕ → Type 0) : Type 0 where
+-- the line of a sound map was written, and the map of the records keeps what the options ask: no line is refused and they have one
+pub record IsAudited (options : Options) (known : Option (List ℕ)) (wrote : List ℕ → Type 0) : Type 0 where
   pub report : Report
   pub written : wrote (line_of (sound_text report))
-  pub decided : IfSome known (λ text. HaveMap (records_of layout text) (IsSoundWith report))
+  pub decided : IfSome known (λ text. HaveMap (records_of (layout_with options) text) (IsSoundWith options.faces report))
 
 -- the line of a certificate that was made was written, and the text of the certificate, of which `made` says that it was
--- written; it is of version 2 and valid for the map, which is sound
-pub record IsBuiltOf (m : TheMap) (made wrote : List ℕ → Type 0) : Type 0 where
+-- written; it is of version 2 and valid for the map, which keeps what is asked of it
+pub record IsBuiltOf (faces : Bool) (m : TheMap) (made wrote : List ℕ → Type 0) : Type 0 where
   pub certificate : TheCertificate
   pub is : IsCertificate certificate
   pub report : Report
-  pub decided : IsSoundWith report m
+  pub decided : IsSoundWith faces report m
   pub valid : IsValid m certificate
   pub version : certificate.version ≡ 2
   pub kept : made (certificate_text certificate)
   pub written : wrote (line_of (built_text report))
 
 -- they were written of the map of the records, where no line is refused and no fault is true
-pub record IsBuilt (layout : Layout) (known : Option (List ℕ)) (made wrote : List ℕ → Type 0) : Type 0 where
+pub record IsBuilt (options : Options) (known : Option (List ℕ)) (made wrote : List ℕ → Type 0) : Type 0 where
   pub map : TheMap
-  pub built : IsBuiltOf map made wrote
-  pub drawn : IfSome known (λ text. IsReadFrom (records_of layout text) map)
+  pub built : IsBuiltOf options.faces map made wrote
+  pub drawn : IfSome known (λ text. IsReadFrom (records_of (layout_with options) text) map)
 
 -- the line of a fault of a certificate was written; the records have a map, and it is true of the certificate's text beside it;
 -- and where it is one of rounds or of walks, or a search may be made by the text, the map's chains are planar
@@ -207,9 +208,9 @@ IsAnswered (Show options files) records spelt made wrote = IsShown (layout_with 
 IsAnswered (Landmarks options files) records spelt made wrote = IsListed (layout_with options) records wrote
 IsAnswered (Locate point options files) records spelt made wrote = IsLocated (layout_with options) point records wrote
 IsAnswered (Convert from to) records spelt made wrote = IsConverted spelt made wrote
-IsAnswered (Check cert budget options files) records spelt made wrote = IsChecked (layout_with options) budget records spelt wrote
-IsAnswered (Audit options files) records spelt made wrote = IsAudited (layout_with options) records wrote
-IsAnswered (Build to options files) records spelt made wrote = IsBuilt (layout_with options) records made wrote
+IsAnswered (Check cert budget options files) records spelt made wrote = IsChecked options budget records spelt wrote
+IsAnswered (Audit options files) records spelt made wrote = IsAudited options records wrote
+IsAnswered (Build to options files) records spelt made wrote = IsBuilt options records made wrote
 
 -- the faults of the records that the plan's command looks for: `show` those of the chains
 abbrev pub LooksFor : Plan → RecordFault → Type 0
@@ -235,18 +236,18 @@ MayBeSearched layout known spelt = IfSome known (λ text. HaveMap (records_of la
 
 -- the line of a fault of the records or of their map was written, and it is true; where the records have no map, `unread`,
 -- which says that nothing of the certificate was read, and else `searched`, which says that a search may be made by it
-pub record NamesFault (layout : Layout) (known : Option (List ℕ)) (unread searched : Type 0) (wrote : List ℕ → Type 0) : Type 0 where
+pub record NamesFault (options : Options) (known : Option (List ℕ)) (unread searched : Type 0) (wrote : List ℕ → Type 0) : Type 0 where
   pub fault : MapFault
   pub written : wrote (line_of (map_fault_text fault))
-  pub holds : IfSome known (λ text. IsTrueOfRecords (records_of layout text) fault)
+  pub holds : IfSome known (λ text. IsTrueOfRecords options.faces (records_of (layout_with options) text) fault)
   pub alone : LeavesUnread (Ok (verdict.MapFault fault)) unread
   pub behind : OnSearched (Ok (verdict.MapFault fault)) searched
 
 -- the line of a fault of the map was written, and it is true
-pub record NamesMapFault (m : TheMap) (wrote : List ℕ → Type 0) : Type 0 where
+pub record NamesMapFault (faces : Bool) (m : TheMap) (wrote : List ℕ → Type 0) : Type 0 where
   pub fault : MapFault
   pub written : wrote (line_of (map_fault_text fault))
-  pub holds : IsTrueOfMap m fault
+  pub holds : IsTrueOfMap faces m fault
 
 -- a fault was named that the plan's command looks for
 abbrev pub FaultsMap : Plan → (known spelt : Option (List ℕ)) → Type 0 → (List ℕ → Type 0) → Type 0
@@ -255,9 +256,9 @@ FaultsMap (Landmarks options files) known spelt unread wrote = NamesRecordFault 
 FaultsMap (Locate point options files) known spelt unread wrote = NamesRecordFault (layout_with options) known (λ fault. ⊤) wrote
 FaultsMap (Convert cert made) known spelt unread wrote = ⊥
 FaultsMap (Check cert budget options files) known spelt unread wrote =
-    NamesFault (layout_with options) known unread (MayBeSearched (layout_with options) known spelt) wrote
-FaultsMap (Audit options files) known spelt unread wrote = NamesFault (layout_with options) known ⊤ ⊤ wrote
-FaultsMap (Build made options files) known spelt unread wrote = NamesFault (layout_with options) known ⊤ ⊤ wrote
+    NamesFault options known unread (MayBeSearched (layout_with options) known spelt) wrote
+FaultsMap (Audit options files) known spelt unread wrote = NamesFault options known ⊤ ⊤ wrote
+FaultsMap (Build made options files) known spelt unread wrote = NamesFault options known ⊤ ⊤ wrote
 
 -- the line of the first refusal was written
 pub record NamesRefusal (layout : Layout) (known : Option (List ℕ)) (wrote : List ℕ → Type 0) : Type 0 where

@@ -6,12 +6,12 @@ use Rattle.std.specs.Prelude.{◌≡◌, ◌≢◌, ◌⊎◌, ℕ, List, [], Re
 use Rattle.tl_plan.specs.declared.plan.PlanStop.{PlanStop}
 use Rattle.tl_plan.specs.declared.plan.PlanStop.TheVariants.{Usage, Help}
 use Rattle.tl_plan.specs.declared.plan.PlanStop.TheVariants as plan_stop
-use Rattle.tl_verdict.specs.Stops.{stop_text}
+use Rattle.tl_output.specs.Stops.{stop_text}
 use Rattle.tl_answers.specs.declared.usage.TheConstants.{NO_USE}
 use Rattle.tl_output.specs.Writing.{line_of}
 use Rattle.tl_verdict.specs.declared.verdict.Verdict.{Verdict}
-use Rattle.tl_verdict.specs.declared.stop.Stop.{Stop}
-use Rattle.tl_verdict.specs.declared.stop.Stop.TheVariants.{Memory, Device}
+use Rattle.tl_output.specs.declared.stop.Stop.{Stop}
+use Rattle.tl_output.specs.declared.stop.Stop.TheVariants.{Memory, Device}
 use Rattle.tl_answers.specs.declared.stop.TheConstants.{DONE, STOPPED, USAGE}
 use Rattle.tl_answers.specs.Lines.{IsLine}
 use Rattle.tl_answers.specs.Running.{IsTold}

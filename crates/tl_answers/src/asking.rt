@@ -6,8 +6,8 @@ ghost use Rattle.tl_output.specs.Writing.{Writes, WritesSome};
 ghost use Rattle.tl_answers.specs.Keeping.{Answered, IsAnswerTo, IsToldOf};
 ghost use Rattle.tl_answers.specs.Places.{StopsTelling};
 
-use crate::locating::tell_on;
-use crate::records::tell_landmarks;
+use crate::locating::write_place_in;
+use crate::records::write_landmarks;
 use std::alloc::Global;
 use std::hash::RandomState;
 use tl_county::Map;
@@ -41,19 +41,19 @@ pub fn answer_of_map<R: Source, W: Sink>(
         (λ fault. ⊤) result }
 {
     match read_map_with(alloc, hasher, records, options) {
-        Ok(map) => tell_of_map(alloc, &map, asked, out),
+        Ok(map) => write_asked(alloc, &map, asked, out),
         Err(stop) => Err(stop),
     }
 }
 
 // Writes what is asked of a map.
-fn tell_of_map<W: Sink>(alloc: Global, map: &Map, asked: Asked, out: &mut W) -> Result<(), MapStop>
+fn write_asked<W: Sink>(alloc: Global, map: &Map, asked: Asked, out: &mut W) -> Result<(), MapStop>
     ensures told { OnOk result (IsToldOf asked map.now (Writes W.contents W.failure_count out.old out.new)) }
     ensures stops { IfErr result (StopsTelling (out.new ≡ out.old)
         (IsToldOf asked map.now (WritesSome W.contents W.failure_count out.old out.new))) }
 {
     match asked {
-        Asked::Landmarks => tell_landmarks(map, out),
-        Asked::Place(point) => tell_on(alloc, map, point, out),
+        Asked::Landmarks => write_landmarks(map, out),
+        Asked::Place(point) => write_place_in(alloc, map, point, out),
     }
 }

@@ -8,12 +8,13 @@ ghost use Rattle.tl_answers.specs.Beginnings.{Begins, BeginsRewritten};
 ghost use Rattle.tl_answers.specs.Rewriting.{Rewrites, KeepsText, TellsConverted};
 
 use crate::stop::{CERT_FAULT, DONE, stopped};
-use crate::tell::tell_line;
+use crate::tell::write_line;
 use std::alloc::Global;
 use std::fmt;
 use tl_cert::{CertStop, Certificate, read_cert, write_cert};
+use tl_output::Stop;
 use tl_record::{Sink, Source};
-use tl_verdict::{CertFault, Stop};
+use tl_verdict::CertFault;
 
 /// What was converted: how many nodes, rounds and walks the certificate has.
 #[derive(Clone, Copy)]
@@ -68,7 +69,7 @@ pub fn convert<S: Source, C: Sink, W: Sink, E: Sink>(
     ensures read_whole { result ≢ STOPPED → S.failure_count cert.new ≡ S.failure_count cert.old }
 {
     let converted = rewrite(alloc, cert, made);
-    tell_converted(&converted, out, err)
+    write_converted(&converted, out, err)
 }
 
 /// Reads a certificate, and writes it to `made` in version 2.
@@ -104,7 +105,7 @@ fn keep<C: Sink>(certificate: &Certificate, made: &mut C) -> Result<Converted, C
 }
 
 /// Tells what was converted, and gives the program's exit status.
-pub fn tell_converted<W: Sink, E: Sink>(
+pub fn write_converted<W: Sink, E: Sink>(
     converted: &Result<Converted, CertStop>,
     out: &mut W,
     err: &mut E,
@@ -114,8 +115,8 @@ pub fn tell_converted<W: Sink, E: Sink>(
         (out.new ≡ out.old) (err.new ≡ err.old) }
 {
     match *converted {
-        Ok(counts) => tell_line(&counts, DONE, out, err),
-        Err(CertStop::Text { line }) => tell_line(&CertFault::Text { line }, CERT_FAULT, out, err),
+        Ok(counts) => write_line(&counts, DONE, out, err),
+        Err(CertStop::Text { line }) => write_line(&CertFault::Text { line }, CERT_FAULT, out, err),
         Err(CertStop::Memory) => stopped(&Stop::Memory, err),
         Err(CertStop::Device) => stopped(&Stop::Device, err),
     }

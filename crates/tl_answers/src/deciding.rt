@@ -10,12 +10,13 @@ ghost use Rattle.tl_answers.specs.Telling.{TellsDecision};
 
 use crate::reports::SoundMap;
 use crate::stop::{CERT_FAULT, DONE, MAP_FAULT, stopped};
-use crate::tell::tell_line;
+use crate::tell::write_line;
 use std::alloc::Global;
 use std::hash::RandomState;
 use tl_check::check_with;
+use tl_output::Stop;
 use tl_record::{Options, Sink, Source};
-use tl_verdict::{Stop, Verdict};
+use tl_verdict::Verdict;
 
 /// Decides by a certificate whether the map of the records is sound, and gives the program's exit status. Where a line is
 /// refused or the records have no map, nothing of the certificate is read.
@@ -30,9 +31,9 @@ pub fn decide<R: Source, S: Source, W: Sink, E: Sink>(
     err: &mut E,
 ) -> u8
     ensures status { IsRunStatus result }
-    ensures checked { result ≡ DONE → IsChecked (layout_with options) budget (R.remaining records.old) (S.remaining cert.old)
+    ensures checked { result ≡ DONE → IsChecked options budget (R.remaining records.old) (S.remaining cert.old)
         (Writes W.contents W.failure_count out.old out.new) }
-    ensures map_fault { result ≡ MAP_FAULT → NamesFault (layout_with options) (R.remaining records.old)
+    ensures map_fault { result ≡ MAP_FAULT → NamesFault options (R.remaining records.old)
         (cert.new ≡ cert.old) (MayBeSearched (layout_with options) (R.remaining records.old) (S.remaining cert.old))
         (Writes W.contents W.failure_count out.old out.new) }
     ensures cert_fault { result ≡ CERT_FAULT → NamesCertFault (layout_with options) (R.remaining records.old)
@@ -44,8 +45,8 @@ pub fn decide<R: Source, S: Source, W: Sink, E: Sink>(
         (FailsToRead R.failure_count records.old records.new ⊎ FailsToRead S.failure_count cert.old cert.new)
         (CountStays R.failure_count records.old records.new × CountStays S.failure_count cert.old cert.new)
         (out.new ≡ out.old)
-        (IsChecked (layout_with options) budget (R.remaining records.old) (S.remaining cert.old) (WritesSome W.contents W.failure_count out.old out.new)
-        ⊎ (NamesFault (layout_with options) (R.remaining records.old)
+        (IsChecked options budget (R.remaining records.old) (S.remaining cert.old) (WritesSome W.contents W.failure_count out.old out.new)
+        ⊎ (NamesFault options (R.remaining records.old)
         (cert.new ≡ cert.old) (MayBeSearched (layout_with options) (R.remaining records.old) (S.remaining cert.old))
         (WritesSome W.contents W.failure_count out.old out.new)
         ⊎ NamesCertFault (layout_with options) (R.remaining records.old) (S.remaining cert.old) (WritesSome W.contents W.failure_count out.old out.new)))
@@ -60,12 +61,12 @@ pub fn decide<R: Source, S: Source, W: Sink, E: Sink>(
     ensures cert_whole { result ≢ STOPPED → S.failure_count cert.new ≡ S.failure_count cert.old }
 {
     let decision = check_with(alloc, hasher, records, cert, budget, options);
-    tell_decision(decision, out, err)
+    write_decision(decision, out, err)
 }
 
 /// Tells a decision: the numbers of a sound map, which fault the map or the certificate has, or why there is none; and
 /// gives the program's exit status.
-pub fn tell_decision<W: Sink, E: Sink>(
+pub fn write_decision<W: Sink, E: Sink>(
     decision: Result<Verdict, Stop>,
     out: &mut W,
     err: &mut E,
@@ -75,9 +76,9 @@ pub fn tell_decision<W: Sink, E: Sink>(
         (out.new ≡ out.old) (err.new ≡ err.old) }
 {
     match decision {
-        Ok(Verdict::Sound(report)) => tell_line(&SoundMap(report), DONE, out, err),
-        Ok(Verdict::MapFault(fault)) => tell_line(&fault, MAP_FAULT, out, err),
-        Ok(Verdict::CertFault(fault)) => tell_line(&fault, CERT_FAULT, out, err),
+        Ok(Verdict::Sound(report)) => write_line(&SoundMap(report), DONE, out, err),
+        Ok(Verdict::MapFault(fault)) => write_line(&fault, MAP_FAULT, out, err),
+        Ok(Verdict::CertFault(fault)) => write_line(&fault, CERT_FAULT, out, err),
         Err(stop) => stopped(&stop, err),
     }
 }

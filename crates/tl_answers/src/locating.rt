@@ -22,7 +22,7 @@ use tl_text::{print_inside, print_on_chain};
 use tl_tree::PlainList;
 
 /// Writes where a point lies in the map of the records, by a pass over all segments.
-pub fn tell_place<R: Source, W: Sink>(
+pub fn write_place<R: Source, W: Sink>(
     alloc: Global,
     hasher: RandomState,
     point: Point,
@@ -42,7 +42,7 @@ pub fn tell_place<R: Source, W: Sink>(
 }
 
 /// Writes where a point lies in a map.
-pub(crate) fn tell_on<W: Sink>(
+pub(crate) fn write_place_in<W: Sink>(
     alloc: Global,
     map: &Map,
     point: Point,

@@ -12,18 +12,18 @@ ghost use Rattle.tl_answers.specs.Places.{StopsTelling};
 ghost use Rattle.tl_answers.specs.Keeping.{Answered, TellsAnswer, stop_decision};
 
 use crate::asking::{Asked, answer_of_map};
-use crate::deciding::tell_decision;
+use crate::deciding::write_decision;
 use crate::stop::DONE;
 use std::alloc::Global;
 use std::hash::RandomState;
 use std::io;
 use tl_county::{Chains, Map};
 use tl_map::{MapStop, read_chains_with};
-use tl_output::OutputBuffer;
+use tl_output::{OutputBuffer, Stop};
 use tl_plan::Plan;
 use tl_record::{Options, Sink, Source};
 use tl_text::{print_chains, print_landmarks};
-use tl_verdict::{MapFault, Stop, Verdict};
+use tl_verdict::{Verdict, fault_of_records};
 
 /// Does what the plan asks of records alone, and gives the program's exit status. A plan that asks for more than that has
 /// nothing answered.
@@ -53,18 +53,18 @@ pub fn run_on_records<R: Source, W: Sink, E: Sink>(
     ensures read_whole { result ≢ STOPPED → R.failure_count records.new ≡ R.failure_count records.old }
 {
     let answered = answer(alloc, hasher, plan, records, out);
-    tell_answer(answered, out, err)
+    write_unanswered(answered, out, err)
 }
 
 // Tells why records have no answer. Of an answer, which is written already, it tells nothing.
-fn tell_answer<W: Sink, E: Sink>(answered: Result<(), MapStop>, out: &mut W, err: &mut E) -> u8
+fn write_unanswered<W: Sink, E: Sink>(answered: Result<(), MapStop>, out: &mut W, err: &mut E) -> u8
     ensures { TellsAnswer answered result (Writes W.contents W.failure_count out.old out.new)
         (TriesToWrite E.contents E.failure_count err.old err.new) (WritesSome W.contents W.failure_count out.old out.new)
         (out.new ≡ out.old) (err.new ≡ err.old) }
 {
     match answered {
         Ok(()) => DONE,
-        Err(stop) => tell_decision(decision_by(stop), out, err),
+        Err(stop) => write_decision(decision_by(stop), out, err),
     }
 }
 
@@ -72,11 +72,9 @@ fn tell_answer<W: Sink, E: Sink>(answered: Result<(), MapStop>, out: &mut W, err
 fn decision_by(stop: MapStop) -> Result<Verdict, Stop>
     ensures { result ≡ stop_decision stop }
 {
-    match stop {
-        MapStop::Fault(fault) => Ok(Verdict::MapFault(MapFault::Records(fault))),
-        MapStop::Refused { line, cause } => Err(Stop::Record { line, cause }),
-        MapStop::Memory => Err(Stop::Memory),
-        MapStop::Device => Err(Stop::Device),
+    match fault_of_records(stop) {
+        Ok(fault) => Ok(Verdict::MapFault(fault)),
+        Err(stop) => Err(stop),
     }
 }
 
@@ -131,12 +129,12 @@ fn show<R: Source, W: Sink>(
         IsFaultOfChains result }
 {
     match read_chains_with(alloc, records, options) {
-        Ok(chains) => tell_chains(&chains, out),
+        Ok(chains) => write_chains(&chains, out),
         Err(stop) => Err(stop),
     }
 }
 
-fn tell_chains<W: Sink>(chains: &Chains, out: &mut W) -> Result<(), MapStop>
+fn write_chains<W: Sink>(chains: &Chains, out: &mut W) -> Result<(), MapStop>
     ensures told { OnOk result (Writes W.contents W.failure_count out.old out.new (shown_text chains.now)) }
     ensures stops { IfErr result (StopsTelling (out.new ≡ out.old)
         (WritesSome W.contents W.failure_count out.old out.new (shown_text chains.now))) }
@@ -148,7 +146,7 @@ fn tell_chains<W: Sink>(chains: &Chains, out: &mut W) -> Result<(), MapStop>
 }
 
 /// Writes a map's landmarks with their polygons.
-pub(crate) fn tell_landmarks<W: Sink>(map: &Map, out: &mut W) -> Result<(), MapStop>
+pub(crate) fn write_landmarks<W: Sink>(map: &Map, out: &mut W) -> Result<(), MapStop>
     ensures told { OnOk result (Writes W.contents W.failure_count out.old out.new (listing_text map.now)) }
     ensures stops { IfErr result (StopsTelling (out.new ≡ out.old)
         (WritesSome W.contents W.failure_count out.old out.new (listing_text map.now))) }

@@ -6,10 +6,9 @@ ghost use Rattle.tl_output.specs.Writing.{line_of};
 ghost use Rattle.tl_answers.specs.declared.stop.TheConstants.{REFUSED, STOPPED};
 ghost use Rattle.tl_answers.specs.Running.{IsTold, TriesToWrite};
 
-use tl_output::write_all;
+use tl_output::{Stop, write_all};
 use tl_record::{Cause, Sink};
 use tl_text::refusal_line;
-use tl_verdict::Stop;
 
 /// The status of a command that is done, and of help.
 pub const DONE: u8 = 0;

@@ -7,13 +7,12 @@ ghost use Rattle.tl_answers.specs.Running.{TriesToWrite};
 
 use crate::stop::stopped;
 use std::fmt::Display;
-use tl_output::{LineStop, print_line};
+use tl_output::print_line;
 use tl_record::Sink;
-use tl_verdict::Stop;
 
 /// Writes the value's line to `out` and gives this status. Where that can't be written, the command is stopped: for a
-/// device where the write failed behind a beginning of the line, and for want of memory where the line has no room.
-pub fn tell_line<D: Display, W: Sink, E: Sink>(
+/// device where the write failed behind a beginning of the line, and for want of memory where there is no line.
+pub fn write_line<D: Display, W: Sink, E: Sink>(
     value: &D,
     status: u8,
     out: &mut W,
@@ -25,8 +24,6 @@ pub fn tell_line<D: Display, W: Sink, E: Sink>(
 {
     match print_line(value, out) {
         Ok(()) => status,
-        Err(LineStop::Failed) => stopped(&Stop::Device, err),
-        Err(LineStop::NoRoom) => stopped(&Stop::Memory, err),
-        Err(LineStop::NoText) => stopped(&Stop::Memory, err),
+        Err(stop) => stopped(&stop, err),
     }
 }

@@ -7,17 +7,16 @@ ghost use Rattle.tl_answers.specs.Telling.{TellsPlanStop, SaysHelp};
 ghost use Rattle.tl_answers.specs.Running.{TriesToWrite};
 
 use crate::stop::{DONE, USAGE, stopped};
-use tl_output::write_all;
+use tl_output::{Stop, write_all};
 use tl_plan::PlanStop;
 use tl_record::Sink;
-use tl_verdict::Stop;
 
 /// What is said of words that are no use of a command, where memory was refused for a text that says why.
 pub const NO_USE: &str = "error: the words are no use of a command\n";
 
 /// Tells why words make no plan: what is wrong with them on `err`, or the help that they wish for on `out`; and gives the
 /// program's exit status.
-pub fn tell_stop<W: Sink, E: Sink>(stop: &PlanStop, out: &mut W, err: &mut E) -> u8
+pub fn say_stop<W: Sink, E: Sink>(stop: &PlanStop, out: &mut W, err: &mut E) -> u8
     ensures { TellsPlanStop stop.now result (Writes W.contents W.failure_count out.old out.new)
         (TriesToWrite E.contents E.failure_count err.old err.new) (WritesSome W.contents W.failure_count out.old out.new)
         (out.new ≡ out.old) (err.new ≡ err.old) }
@@ -44,8 +43,8 @@ pub fn tell_stop<W: Sink, E: Sink>(stop: &PlanStop, out: &mut W, err: &mut E) ->
     }
 }
 
-// Says what is wrong with the words. Where that can't be written, the status alone is left to tell it.
-fn say_usage<E: Sink>(text: &str, err: &mut E) -> u8
+/// Says what is wrong with the words, and gives the exit status of that. Where it can't be written, the status alone is left to tell it.
+pub fn say_usage<E: Sink>(text: &str, err: &mut E) -> u8
     ensures status { result ≡ USAGE }
     ensures said { TriesToWrite E.contents E.failure_count err.old err.new text.now }
 {

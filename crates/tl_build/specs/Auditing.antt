@@ -1,16 +1,15 @@
 -- What an audit of records says, by its kinds.
 use Rattle.std.specs.Prelude.{◌≡◌, ℕ, Some, Result, Ok, Err, ⊤}
-use Rattle.tl_record.specs.Failures.{one_more}
 use Rattle.tl_record.specs.Records.{Records}
 use Rattle.tl_verdict.specs.declared.fault.MapFault.{MapFault}
 use Rattle.tl_verdict.specs.declared.verdict.Report.{Report}
+use Rattle.tl_output.specs.declared.stop.Stop.{Stop}
+use Rattle.tl_output.specs.declared.stop.Stop.TheVariants.{Record, Memory, Device, Budget}
 use Rattle.tl_build.specs.declared.answer.Audit.{Audit}
 use Rattle.tl_build.specs.declared.answer.Audit.TheVariants.{Sound, Fault}
-use Rattle.tl_build.specs.declared.stop.AuditStop.{AuditStop}
-use Rattle.tl_build.specs.declared.stop.AuditStop.TheVariants.{Record, Memory, Device}
 
 abbrev pub Auditing : Type 0
-Auditing = Result Audit AuditStop
+Auditing = Result Audit Stop
 
 -- if the answer is that the map is sound, the report is so
 abbrev pub IfSound : Auditing → (Report → Type 0) → Type 0
@@ -32,18 +31,22 @@ SaysSound (Sound report) = ⊤
 SaysSound (Fault fault) = ⊥
 
 -- the stop is that memory was refused
-abbrev pub IsMemoryStop : AuditStop → Type 0
+abbrev pub IsMemoryStop : Stop → Type 0
 IsMemoryStop (Record line cause) = ⊥
 IsMemoryStop Memory = ⊤
 IsMemoryStop Device = ⊥
+IsMemoryStop Budget = ⊥
+
+-- the stop isn't for a spent budget: an audit has none
+abbrev pub IsNotBudget : Stop → Type 0
+IsNotBudget (Record line cause) = ⊤
+IsNotBudget Memory = ⊤
+IsNotBudget Device = ⊤
+IsNotBudget Budget = ⊥
 
 -- why records aren't decided: this line is the first that is refused, memory was refused, or a read failed
-abbrev pub MayStopAudit : Records → AuditStop → Type 0
+abbrev pub MayStopAudit : Records → Stop → Type 0
 MayStopAudit all (Record line cause) = all.refusal ≡ Some (line, cause)
 MayStopAudit all Memory = ⊤
 MayStopAudit all Device = ⊤
-
--- `Device` is answered where a read failed, and nowhere else; the count of failures goes from old to new
-abbrev pub TellsDevice : ℕ → ℕ → Auditing → Type 0
-TellsDevice old new (Err Device) = new ≡ one_more old
-TellsDevice old new other = new ≡ old
+MayStopAudit all Budget = ⊥

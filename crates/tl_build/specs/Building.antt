@@ -4,10 +4,10 @@ use Rattle.tl_cert.specs.Certificates.{TheCertificate}
 use Rattle.tl_verdict.specs.declared.fault.MapFault.{MapFault}
 use Rattle.tl_build.specs.declared.answer.Built.{Built}
 use Rattle.tl_build.specs.declared.answer.Built.TheVariants.{Cert, Fault}
-use Rattle.tl_build.specs.declared.stop.BuildStop.{BuildStop}
+use Rattle.tl_output.specs.declared.stop.Stop.{Stop}
 
 abbrev pub Building : Type 0
-Building = Result Built BuildStop
+Building = Result Built Stop
 
 -- if a certificate was built, it is so
 abbrev pub IfCert : Building → (TheCertificate → Type 0) → Type 0

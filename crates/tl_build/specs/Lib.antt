@@ -2,4 +2,3 @@
 pub mod Building
 pub mod Auditing
 pub mod Keeping
-pub mod Stops

@@ -3,31 +3,26 @@
 ghost use Rattle.tl_propose.specs.Keeping.Proposed.{IsProposal};
 ghost use Rattle.tl_build.specs.Keeping.Judging.{Judges};
 
-use crate::stop::BuildStop;
 use std::alloc::Global;
 use tl_cert::Certificate;
 use tl_check::check_map;
 use tl_county::Map;
-use tl_crossings::look_at_chains;
-use tl_verdict::{MapFault, Report, Stop, Verdict};
+use tl_output::Stop;
+use tl_verdict::{MapFault, Report, Verdict};
 
 /// Decides whether a map is sound, by the certificate that is proposed for it: its report, or a fault of it.
-pub fn judge(
-    alloc: Global,
-    map: &Map,
-    cert: &Certificate,
-) -> Result<Result<Report, MapFault>, BuildStop>
+pub fn judge(alloc: Global, map: &Map, cert: &Certificate) -> Result<Result<Report, MapFault>, Stop>
     requires proposed { IsProposal map.now cert.now }
     ensures { Judges map.now cert.now result }
 {
-    look_at_chains(map);
+    map.has_proper_chains();
     // that there are fewer than 2^32 segments, and so fewer pairs of them than the budget
     let _segments = map.segments();
     match check_map(alloc, map, cert, u64::MAX) {
         Ok(Verdict::Sound(report)) => Ok(Ok(report)),
         Ok(Verdict::MapFault(fault)) => Ok(Err(fault)),
         Ok(Verdict::CertFault(_)) => unreachable!(),
-        Err(Stop::Memory) => Err(BuildStop::Memory),
+        Err(Stop::Memory) => Err(Stop::Memory),
         Err(Stop::Budget) => unreachable!(),
         Err(Stop::Record { .. } | Stop::Device) => unreachable!(),
     }

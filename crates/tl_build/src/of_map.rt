@@ -1,43 +1,42 @@
 //! A certificate of a map, made with none given.
 
-ghost use Rattle.std.specs.Prelude.{◌≡◌, ◌≤◌, ◌↔◌, IfOk};
+ghost use Rattle.std.specs.Prelude.{◌≡◌, ◌≤◌, ◌↔◌, IfOk, IfErr, false, All, IfSome, []};
 ghost use Rattle.tl_index.specs.Trees.{depth, tree_of};
 ghost use Rattle.tl_pack.specs.Packed.{IsEvenlySplit};
 ghost use Rattle.tl_planar.specs.Planar.{IsPlanar};
-ghost use Rattle.tl_sides.specs.Sides.{SidesAgree};
+ghost use Rattle.tl_planar.specs.declared.meet.Meet.{Meet};
+ghost use Rattle.tl_planar.specs.Searching.{IsTrueMeet};
 ghost use Rattle.tl_inside.specs.Placed.{ArePlaced};
-ghost use Rattle.tl_cells.specs.Cells.{CellsAgree};
-ghost use Rattle.tl_verdict.specs.Sound.{AreClosed, IsSound};
+ghost use Rattle.tl_slabs.specs.Heights.{widest};
+ghost use Rattle.tl_faces.specs.Facing.{FacesAgree};
+ghost use Rattle.tl_faces.specs.Odd.{IsLowestOddGap};
+ghost use Rattle.tl_verdict.specs.Sound.{IsSound, IsSoundFor};
 ghost use Rattle.tl_verdict.specs.Valid.{IsValid};
 ghost use Rattle.tl_verdict.specs.Truth.{IsTrueOfMap};
 ghost use Rattle.tl_build.specs.Building.{IfCert, OnCert, IfFault, HasCert};
-ghost use Rattle.tl_build.specs.Keeping.Deciding.{Builds};
+ghost use Rattle.tl_build.specs.Auditing.{IsMemoryStop};
+ghost use Rattle.tl_build.specs.Keeping.Deciding.{Builds, BuildsFor, IsBuilt};
 
 use crate::answer::Built;
+use crate::faces::find_face_fault;
 use crate::judge::judge;
 use crate::planar::build_planar;
-use crate::stop::BuildStop;
 use std::alloc::Global;
+use tl_cert::Certificate;
 use tl_county::Map;
+use tl_faces::OddGap;
+use tl_output::Stop;
 use tl_propose::propose;
-use tl_sweep::{Swept, sweep};
+use tl_sweep::{Gaps, SweepReport, Swept, sweep};
 use tl_verdict::MapFault;
 
 /// Makes a certificate of version 2 of a map that is sound, or names a fault of one that isn't. Which of several faults is
 /// named, and which valid certificate is made, is open.
 ///
-/// [`BuildStop::Memory`] comes where memory was refused.
-pub fn build(alloc: Global, map: &Map) -> Result<Built, BuildStop>
-    // No rational point lies on two chains but an end of both, and no chain meets itself but at its ends.
-    ensures planar { OnCert result (IsPlanar map.now.chains) }
-    // Neighbouring chains about each node name one polygon between them.
-    ensures sides { OnCert result (SidesAgree map.now.chains) }
-    // The boundary of each polygon, and that of the outside, is closed rings.
-    ensures closed { OnCert result (AreClosed map.now) }
-    // Each polygon's point is on no chain, inside its own rings, and clear of every other polygon.
-    ensures points { OnCert result (ArePlaced map.now) }
-    // Zero-cell ids agree, where they were read: two darts that have ids have one id exactly where they start at one point.
-    ensures cells { OnCert result (CellsAgree map.now.chains) }
+/// [`Stop::Memory`] comes where memory was refused, and no other stop does.
+pub fn build(alloc: Global, map: &Map) -> Result<Built, Stop>
+    // The map is sound.
+    ensures sound { OnCert result (IsSound map.now) }
     // The certificate is valid for the map, and of version 2.
     ensures valid { IfCert result (IsValid map.now) }
     ensures version { IfCert result (λ cert. cert.version ≡ 2) }
@@ -46,34 +45,120 @@ pub fn build(alloc: Global, map: &Map) -> Result<Built, BuildStop>
     // It is split evenly: of more than eight segments an inner node has the lesser of 8 and an eighth, rounded up,
     // children, whose numbers of segments differ by at most one, and of eight or fewer there is a leaf.
     ensures split { IfCert result (λ cert. IsEvenlySplit (tree_of cert.tree)) }
-    // Each fault is true.
-    ensures fault { IfFault result (IsTrueOfMap map.now) }
-    // If it isn't stopped, a certificate is made exactly where the map is sound, and a fault is named where it isn't.
+    // Each fault is true, and none is of faces.
+    ensures fault { IfFault result (IsTrueOfMap false map.now) }
+    // If it isn't stopped, a certificate is made exactly where the map is sound, and a fault is named where not.
     ensures exactly { IfOk result (λ built. HasCert built ↔ IsSound map.now) }
+    // It stops for memory alone.
+    ensures stops { IfErr result IsMemoryStop }
 {
-    decide(alloc, map)
+    build_with(alloc, map, false)
 }
 
-/// Makes a certificate or names a fault: by a sweep, and where that says nothing of the map by a search.
-fn decide(alloc: Global, map: &Map) -> Result<Built, BuildStop>
+/// Makes a certificate as [`build`] does, and where `faces` are asked for, only of a map whose faces agree. One sweep tells of faces
+/// too. They are asked for only of a map that is sound otherwise.
+pub fn build_with(alloc: Global, map: &Map, faces: bool) -> Result<Built, Stop>
+    // The map is sound, and keeps what is asked of its faces.
+    ensures sound { OnCert result (IsSoundFor faces map.now) }
+    // The certificate is valid for the map, and of version 2.
+    ensures valid { IfCert result (IsValid map.now) }
+    ensures version { IfCert result (λ cert. cert.version ≡ 2) }
+    // Its tree has at most 8 levels, which hold the 8 ^ 8 segments that a map can have.
+    ensures shallow { IfCert result (λ cert. depth (tree_of cert.tree) ≤ 8) }
+    // It is split evenly: of more than eight segments an inner node has the lesser of 8 and an eighth, rounded up,
+    // children, whose numbers of segments differ by at most one, and of eight or fewer there is a leaf.
+    ensures split { IfCert result (λ cert. IsEvenlySplit (tree_of cert.tree)) }
+    // Each fault is true; one of faces comes only where they are asked for, and nothing else is wrong with the map.
+    ensures fault { IfFault result (IsTrueOfMap faces map.now) }
+    // If it isn't stopped, a certificate is made exactly where the map keeps what is asked of it, and a fault is named where not.
+    ensures exactly { IfOk result (λ built. HasCert built ↔ IsSoundFor faces map.now) }
+    // It stops for memory alone.
+    ensures stops { IfErr result IsMemoryStop }
+{
+    decide(alloc, map, faces)
+}
+
+/// The same, with one clause for all that the answer says: by a sweep.
+fn decide(alloc: Global, map: &Map, asked: bool) -> Result<Built, Stop>
+    ensures { BuildsFor asked map.now result }
+{
+    let Ok(report) = sweep(alloc, map, Gaps::First) else {
+        return Err(Stop::Memory);
+    };
+    let SweepReport {
+        swept,
+        suspects: _suspects,
+        gaps,
+    } = report;
+    decide_by(alloc, map, asked, swept, gaps)
+}
+
+/// The same by what the sweep says.
+fn decide_by(
+    alloc: Global,
+    map: &Map,
+    asked: bool,
+    swept: Swept,
+    gaps: Option<Vec<OddGap>>,
+) -> Result<Built, Stop>
+    requires placed { swept ≡ Swept.Placed → IsPlanar map.now.chains × ArePlaced map.now }
+    requires planar { swept ≡ Swept.Planar → IsPlanar map.now.chains }
+    requires meet { (meet : Meet) → swept ≡ Swept.Meet meet → IsTrueMeet map.now.chains meet }
+    requires odd { IfSome gaps (λ found. All (IsLowestOddGap widest map.now.chains) found.items) }
+    requires agree { IfSome gaps (λ found. found.items ≡ [] → FacesAgree map.now.chains) }
+    ensures { BuildsFor asked map.now result }
+{
+    match build_swept(alloc, map, swept) {
+        Ok(Built::Cert(cert)) => ask_for_faces(alloc, map, asked, cert, gaps),
+        Ok(Built::Fault(fault)) => Ok(Built::Fault(fault)),
+        Err(stop) => Err(stop),
+    }
+}
+
+/// The answer where the map is sound, by what a sweep says of its faces.
+fn ask_for_faces(
+    alloc: Global,
+    map: &Map,
+    asked: bool,
+    cert: Certificate,
+    gaps: Option<Vec<OddGap>>,
+) -> Result<Built, Stop>
+    requires sound { IsSound map.now }
+    requires built { IsBuilt map.now cert }
+    requires odd { IfSome gaps (λ found. All (IsLowestOddGap widest map.now.chains) found.items) }
+    requires agree { IfSome gaps (λ found. found.items ≡ [] → FacesAgree map.now.chains) }
+    ensures { BuildsFor asked map.now result }
+{
+    match find_face_fault(alloc, map, asked, gaps) {
+        Ok(Some(fault)) => Ok(Built::Fault(fault)),
+        Ok(None) => Ok(Built::Cert(cert)),
+        Err(stop) => Err(stop),
+    }
+}
+
+/// Makes a certificate or names a fault without faces, of a map of which a sweep has said this, and where it says nothing of the
+/// map by a search.
+fn build_swept(alloc: Global, map: &Map, swept: Swept) -> Result<Built, Stop>
+    requires placed { swept ≡ Swept.Placed → IsPlanar map.now.chains × ArePlaced map.now }
+    requires planar { swept ≡ Swept.Planar → IsPlanar map.now.chains }
+    requires meet { (meet : Meet) → swept ≡ Swept.Meet meet → IsTrueMeet map.now.chains meet }
     ensures { Builds map.now result }
 {
-    match sweep(alloc, map) {
-        Ok(Swept::Placed) => build_planar(alloc, map, true),
-        Ok(Swept::Planar) => build_planar(alloc, map, false),
-        Ok(Swept::Meet(meet)) => Ok(Built::Fault(MapFault::Meet(meet))),
-        Ok(Swept::Unknown) => build_by_search(alloc, map),
-        Err(_) => Err(BuildStop::Memory),
+    match swept {
+        Swept::Placed => build_planar(alloc, map, true),
+        Swept::Planar => build_planar(alloc, map, false),
+        Swept::Meet(meet) => Ok(Built::Fault(MapFault::Meet(meet))),
+        Swept::Unknown => build_by_search(alloc, map),
     }
 }
 
 /// Makes a certificate or names a fault by a search.
-fn build_by_search(alloc: Global, map: &Map) -> Result<Built, BuildStop>
+fn build_by_search(alloc: Global, map: &Map) -> Result<Built, Stop>
     ensures { Builds map.now result }
 {
     let cert = match propose(alloc, map) {
         Ok(cert) => cert,
-        Err(_) => return Err(BuildStop::Memory),
+        Err(_) => return Err(Stop::Memory),
     };
     match judge(alloc, map, &cert) {
         Ok(Ok(_)) => Ok(Built::Cert(cert)),

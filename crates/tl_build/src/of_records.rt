@@ -1,140 +1,172 @@
 //! The decision of records with no certificate given.
 
-ghost use Rattle.std.specs.Prelude.{◌≡◌, ◌↔◌, IfOk, IfErr};
+ghost use Rattle.std.specs.Prelude.{◌≡◌, ◌↔◌, IfOk, IfErr, false, All, IfSome, []};
 ghost use Rattle.std.specs.Option.{IfSome};
 ghost use Rattle.tl_record.specs.Layout.{tiger_2006, layout_with};
 ghost use Rattle.tl_record.specs.Records.{records_of};
 ghost use Rattle.tl_planar.specs.Planar.{IsPlanar};
-ghost use Rattle.tl_sides.specs.Sides.{SidesAgree};
+ghost use Rattle.tl_planar.specs.declared.meet.Meet.{Meet};
+ghost use Rattle.tl_planar.specs.Searching.{IsTrueMeet};
 ghost use Rattle.tl_inside.specs.Placed.{ArePlaced};
-ghost use Rattle.tl_cells.specs.Cells.{CellsAgree};
-ghost use Rattle.tl_verdict.specs.Sound.{AreClosed, IsSound};
+ghost use Rattle.tl_slabs.specs.Heights.{widest};
+ghost use Rattle.tl_faces.specs.Facing.{FacesAgree};
+ghost use Rattle.tl_faces.specs.Odd.{IsLowestOddGap};
+ghost use Rattle.tl_verdict.specs.Sound.{IsSound, IsSoundFor};
 ghost use Rattle.tl_verdict.specs.Verdicts.{IsReport};
 ghost use Rattle.tl_verdict.specs.Records.{HaveMap, IsTrueOfRecords};
-ghost use Rattle.tl_build.specs.Auditing.{IfSound, OnSound, IfFaulty, SaysSound, MayStopAudit, TellsDevice};
+ghost use Rattle.tl_build.specs.Auditing.{IfSound, OnSound, IfFaulty, SaysSound, IsNotBudget, MayStopAudit};
+ghost use Rattle.tl_output.specs.Stops.{TellsDevice};
 ghost use Rattle.tl_build.specs.Keeping.Judging.{refusal_of};
-ghost use Rattle.tl_build.specs.Keeping.Deciding.{Audits, AuditsRead};
+ghost use Rattle.tl_build.specs.Keeping.Deciding.{AuditsFor, AuditsRead};
 
 use crate::answer::Audit;
+use crate::faces::find_face_fault;
 use crate::of_swept::decide_swept;
-use crate::stop::AuditStop;
 use std::alloc::Global;
 use std::hash::RandomState;
 use tl_county::Map;
+use tl_faces::OddGap;
 use tl_map::{MapStop, read_map_with};
-use tl_record::{Options, Source};
-use tl_sweep::sweep;
-use tl_verdict::MapFault;
-
-// Neither choice of columns.
-const PLAIN: Options = Options {
-    zero_cells: false,
-    released: false,
-};
+use tl_output::Stop;
+use tl_record::{Options, PLAIN, Source};
+use tl_sweep::{Gaps, SweepReport, Swept, sweep};
+use tl_verdict::{Report, fault_of_records};
 
 /// Decides whether the map of a county is sound, from the text of its record files alone. Which of several faults is named
 /// is open.
 ///
-/// The records are read whole first. [`AuditStop::Memory`] comes where memory was refused.
-pub fn audit<R: Source>(
-    alloc: Global,
-    hasher: RandomState,
-    records: &mut R,
-) -> Result<Audit, AuditStop>
-    // No rational point lies on two chains but an end of both, and no chain meets itself but at its ends.
-    ensures planar { OnSound result (IfSome (R.remaining records.old) (λ text.
-        HaveMap (records_of tiger_2006 text) (λ m. IsPlanar m.chains))) }
-    // Neighbouring chains about each node name one polygon between them.
-    ensures sides { OnSound result (IfSome (R.remaining records.old) (λ text.
-        HaveMap (records_of tiger_2006 text) (λ m. SidesAgree m.chains))) }
-    // The boundary of each polygon, and that of the outside, is closed rings.
-    ensures closed { OnSound result (IfSome (R.remaining records.old) (λ text.
-        HaveMap (records_of tiger_2006 text) AreClosed)) }
-    // Each polygon's point is on no chain, inside its own rings, and clear of every other polygon.
-    ensures points { OnSound result (IfSome (R.remaining records.old) (λ text.
-        HaveMap (records_of tiger_2006 text) ArePlaced)) }
-    // Zero-cell ids agree, none of which is read.
-    ensures cells { OnSound result (IfSome (R.remaining records.old) (λ text.
-        HaveMap (records_of tiger_2006 text) (λ m. CellsAgree m.chains))) }
+/// The records are read whole first. [`Stop::Memory`] comes where memory was refused, and [`Stop::Budget`] never.
+pub fn audit<R: Source>(alloc: Global, hasher: RandomState, records: &mut R) -> Result<Audit, Stop>
+    // The map is sound.
+    ensures sound { OnSound result (IfSome (R.remaining records.old) (λ text.
+        HaveMap (records_of tiger_2006 text) IsSound)) }
     // The report has the map's numbers.
     ensures report { IfSound result (λ report. IfSome (R.remaining records.old) (λ text.
         HaveMap (records_of tiger_2006 text) (λ m. IsReport m report))) }
-    // Each fault is true.
+    // Each fault is true, and none is of faces.
     ensures fault { IfFaulty result (λ fault. IfSome (R.remaining records.old) (λ text.
-        IsTrueOfRecords (records_of tiger_2006 text) fault)) }
+        IsTrueOfRecords false (records_of tiger_2006 text) fault)) }
     // If it isn't stopped, it answers `Sound` exactly where the records have a map that is sound, and a fault where not.
     ensures exactly { IfOk result (λ answer. IfSome (R.remaining records.old) (λ text.
         SaysSound answer ↔ HaveMap (records_of tiger_2006 text) IsSound)) }
     // It stops at the first line that is refused.
     ensures stops { IfErr result (λ stop. IfSome (R.remaining records.old) (λ text.
         MayStopAudit (records_of tiger_2006 text) stop)) }
+    // It has no budget to spend.
+    ensures budget { IfErr result IsNotBudget }
     // `Device` is answered where a read failed in this call, and nowhere else.
     ensures failures { TellsDevice (R.failure_count records.old) (R.failure_count records.new) result }
 {
     audit_with(alloc, hasher, records, PLAIN)
 }
 
-/// Decides whether the map of a county is sound as [`audit`] does, with the columns that the options choose of type I.
-/// Where zero-cell ids are read, they have to agree in a sound map.
+/// Decides whether the map of a county is sound as [`audit`] does, with the columns that the options choose of type I, and where
+/// they ask for faces, whether these agree: by one sweep, which tells of faces too. They are asked for only of a map that is sound
+/// otherwise.
 pub fn audit_with<R: Source>(
     alloc: Global,
     hasher: RandomState,
     records: &mut R,
     options: Options,
-) -> Result<Audit, AuditStop>
-    ensures planar { OnSound result (IfSome (R.remaining records.old) (λ text.
-        HaveMap (records_of (layout_with options) text) (λ m. IsPlanar m.chains))) }
-    ensures sides { OnSound result (IfSome (R.remaining records.old) (λ text.
-        HaveMap (records_of (layout_with options) text) (λ m. SidesAgree m.chains))) }
-    ensures closed { OnSound result (IfSome (R.remaining records.old) (λ text.
-        HaveMap (records_of (layout_with options) text) AreClosed)) }
-    ensures points { OnSound result (IfSome (R.remaining records.old) (λ text.
-        HaveMap (records_of (layout_with options) text) ArePlaced)) }
-    // Zero-cell ids agree, where they are read: two darts that have ids have one id exactly where they start at one point.
-    ensures cells { OnSound result (IfSome (R.remaining records.old) (λ text.
-        HaveMap (records_of (layout_with options) text) (λ m. CellsAgree m.chains))) }
+) -> Result<Audit, Stop>
+    // The map is sound, with zero-cell ids that agree where they are read, and keeps what is asked of its faces.
+    ensures sound { OnSound result (IfSome (R.remaining records.old) (λ text.
+        HaveMap (records_of (layout_with options) text) (IsSoundFor options.faces))) }
+    // The report has the map's numbers.
     ensures report { IfSound result (λ report. IfSome (R.remaining records.old) (λ text.
         HaveMap (records_of (layout_with options) text) (λ m. IsReport m report))) }
+    // Each fault is true; one of faces comes only where they are asked for, and nothing else is wrong with the map.
     ensures fault { IfFaulty result (λ fault. IfSome (R.remaining records.old) (λ text.
-        IsTrueOfRecords (records_of (layout_with options) text) fault)) }
+        IsTrueOfRecords options.faces (records_of (layout_with options) text) fault)) }
+    // If it isn't stopped, it answers `Sound` exactly where the records have such a map, and a fault where not.
     ensures exactly { IfOk result (λ answer. IfSome (R.remaining records.old) (λ text.
-        SaysSound answer ↔ HaveMap (records_of (layout_with options) text) IsSound)) }
+        SaysSound answer ↔ HaveMap (records_of (layout_with options) text) (IsSoundFor options.faces))) }
+    // It stops at the first line that is refused.
     ensures stops { IfErr result (λ stop. IfSome (R.remaining records.old) (λ text.
         MayStopAudit (records_of (layout_with options) text) stop)) }
+    // It has no budget to spend.
+    ensures budget { IfErr result IsNotBudget }
+    // `Device` is answered where a read failed in this call, and nowhere else.
     ensures failures { TellsDevice (R.failure_count records.old) (R.failure_count records.new) result }
 {
     let read = read_map_with(alloc, hasher, records, options);
-    audit_read(alloc, read)
+    audit_read(alloc, read, options.faces)
 }
 
-/// Decides whether the map is sound that was read of records, or tells why there is none.
-fn audit_read(alloc: Global, read: Result<Map, MapStop>) -> Result<Audit, AuditStop>
-    ensures { AuditsRead read result }
+/// Decides of the map that was read of records, or tells why there is none.
+fn audit_read(alloc: Global, read: Result<Map, MapStop>, asked: bool) -> Result<Audit, Stop>
+    ensures { AuditsRead asked read result }
 {
     match read {
-        Ok(map) => decide(alloc, &map),
+        Ok(map) => decide(alloc, &map, asked),
         Err(stop) => refused(stop),
     }
 }
 
-/// Decides whether a map is sound, by what a sweep says of it.
-fn decide(alloc: Global, map: &Map) -> Result<Audit, AuditStop>
-    ensures { Audits map.now result }
+/// Decides whether a map is sound, and where faces are asked for, whether they agree, by what a sweep says of it.
+pub fn decide(alloc: Global, map: &Map, asked: bool) -> Result<Audit, Stop>
+    ensures { AuditsFor asked map.now result }
 {
-    match sweep(alloc, map) {
-        Ok(swept) => decide_swept(alloc, map, swept),
-        Err(_) => Err(AuditStop::Memory),
+    let Ok(report) = sweep(alloc, map, Gaps::First) else {
+        return Err(Stop::Memory);
+    };
+    let SweepReport {
+        swept,
+        suspects: _suspects,
+        gaps,
+    } = report;
+    decide_by(alloc, map, asked, swept, gaps)
+}
+
+/// The same by what the sweep says.
+fn decide_by(
+    alloc: Global,
+    map: &Map,
+    asked: bool,
+    swept: Swept,
+    gaps: Option<Vec<OddGap>>,
+) -> Result<Audit, Stop>
+    requires placed { swept ≡ Swept.Placed → IsPlanar map.now.chains × ArePlaced map.now }
+    requires planar { swept ≡ Swept.Planar → IsPlanar map.now.chains }
+    requires meet { (meet : Meet) → swept ≡ Swept.Meet meet → IsTrueMeet map.now.chains meet }
+    requires odd { IfSome gaps (λ found. All (IsLowestOddGap widest map.now.chains) found.items) }
+    requires agree { IfSome gaps (λ found. found.items ≡ [] → FacesAgree map.now.chains) }
+    ensures { AuditsFor asked map.now result }
+{
+    match decide_swept(alloc, map, swept) {
+        Ok(Audit::Sound(report)) => ask_for_faces(alloc, map, asked, report, gaps),
+        Ok(Audit::Fault(fault)) => Ok(Audit::Fault(fault)),
+        Err(stop) => Err(stop),
+    }
+}
+
+/// The answer where the map is sound, by what a sweep says of its faces.
+fn ask_for_faces(
+    alloc: Global,
+    map: &Map,
+    asked: bool,
+    report: Report,
+    gaps: Option<Vec<OddGap>>,
+) -> Result<Audit, Stop>
+    requires sound { IsSound map.now }
+    requires report { IsReport map.now report }
+    requires odd { IfSome gaps (λ found. All (IsLowestOddGap widest map.now.chains) found.items) }
+    requires agree { IfSome gaps (λ found. found.items ≡ [] → FacesAgree map.now.chains) }
+    ensures { AuditsFor asked map.now result }
+{
+    match find_face_fault(alloc, map, asked, gaps) {
+        Ok(Some(fault)) => Ok(Audit::Fault(fault)),
+        Ok(None) => Ok(Audit::Sound(report)),
+        Err(stop) => Err(stop),
     }
 }
 
 /// The answer where the records have no map.
-fn refused(stop: MapStop) -> Result<Audit, AuditStop>
+fn refused(stop: MapStop) -> Result<Audit, Stop>
     ensures { result ≡ refusal_of stop }
 {
-    match stop {
-        MapStop::Refused { line, cause } => Err(AuditStop::Record { line, cause }),
-        MapStop::Device => Err(AuditStop::Device),
-        MapStop::Memory => Err(AuditStop::Memory),
-        MapStop::Fault(fault) => Ok(Audit::Fault(MapFault::Records(fault))),
+    match fault_of_records(stop) {
+        Ok(fault) => Ok(Audit::Fault(fault)),
+        Err(stop) => Err(stop),
     }
 }

@@ -1,6 +1,6 @@
 //! The decision of maps whose chains are planar, with no certificate given.
 
-ghost use Rattle.std.specs.Prelude.{◌<◌, ◌^◌, length, IfOk, IsTrue, MatchOption};
+ghost use Rattle.std.specs.Prelude.{◌<◌, ◌^◌, length, IfOk, IsTrue, MatchOption, false};
 ghost use Rattle.tl_planar.specs.Planar.{IsPlanar};
 ghost use Rattle.tl_sides.specs.Sides.{SidesAgree};
 ghost use Rattle.tl_sides.specs.Walks.{AreWalks};
@@ -14,38 +14,32 @@ ghost use Rattle.tl_propose.specs.Keeping.Lists.{lists_in};
 ghost use Rattle.tl_propose.specs.Keeping.Proposed.{IsProposal};
 
 use crate::answer::{Audit, Built};
-use crate::stop::{AuditStop, BuildStop};
 use std::alloc::Global;
 use tl_cells::find_cells_at_odds;
 use tl_cert::Certificate;
 use tl_county::Map;
-use tl_crossings::look_at_chains;
 use tl_index::Memory;
+use tl_output::Stop;
 use tl_propose::{
     find_misplaced_beside, find_misplaced_by, find_sides_at_odds, propose, propose_walks,
 };
 use tl_verdict::{MapFault, report};
 
 /// Decides whether a map is sound whose chains are planar, and whose polygons' points may be known to be placed.
-pub fn audit_planar(alloc: Global, map: &Map, placed: bool) -> Result<Audit, AuditStop>
+pub fn audit_planar(alloc: Global, map: &Map, placed: bool) -> Result<Audit, Stop>
     requires planar { IsPlanar map.now.chains }
     requires placed { IsTrue placed → ArePlaced map.now }
     ensures { Audits map.now result }
 {
-    look_at_chains(map);
+    map.has_proper_chains();
     match propose_walks(alloc, map) {
         Ok(walks) => audit_walks(alloc, map, &walks, placed),
-        Err(_) => Err(AuditStop::Memory),
+        Err(_) => Err(Stop::Memory),
     }
 }
 
 /// The same by the map's walks.
-fn audit_walks(
-    alloc: Global,
-    map: &Map,
-    walks: &[Vec<u32>],
-    placed: bool,
-) -> Result<Audit, AuditStop>
+fn audit_walks(alloc: Global, map: &Map, walks: &[Vec<u32>], placed: bool) -> Result<Audit, Stop>
     requires planar { IsPlanar map.now.chains }
     requires proper { AreProper map.now.chains }
     requires walks { AreWalks map.now.chains (lists_in walks.now) }
@@ -56,7 +50,7 @@ fn audit_walks(
     match find_fault(alloc, map, walks, placed) {
         Ok(None) => Ok(Audit::Sound(report(map, walks.len() as u32))),
         Ok(Some(fault)) => Ok(Audit::Fault(fault)),
-        Err(_) => Err(AuditStop::Memory),
+        Err(_) => Err(Stop::Memory),
     }
 }
 
@@ -72,7 +66,7 @@ fn find_fault(
     requires walks { AreWalks map.now.chains (lists_in walks.now) }
     requires few { length walks.now < 2 ^ 32 }
     requires placed { IsTrue placed → ArePlaced map.now }
-    ensures { IfOk result (λ found. MatchOption found (IsSound map.now) (IsTrueOfMap map.now)) }
+    ensures { IfOk result (λ found. MatchOption found (IsSound map.now) (IsTrueOfMap false map.now)) }
 {
     match find_at_odds(alloc, map, walks)? {
         Some(fault) => Ok(Some(fault)),
@@ -91,7 +85,7 @@ fn find_at_odds(alloc: Global, map: &Map, walks: &[Vec<u32>]) -> Result<Option<M
     requires planar { IsPlanar map.now.chains }
     requires proper { AreProper map.now.chains }
     requires walks { AreWalks map.now.chains (lists_in walks.now) }
-    ensures { IfOk result (λ found. MatchOption found (SidesAgree map.now.chains × CellsAgree map.now.chains) (IsTrueOfMap map.now)) }
+    ensures { IfOk result (λ found. MatchOption found (SidesAgree map.now.chains × CellsAgree map.now.chains) (IsTrueOfMap false map.now)) }
 {
     match find_cells_at_odds(alloc, map) {
         Ok(Some(odds)) => Ok(Some(MapFault::Cell(odds))),
@@ -102,20 +96,20 @@ fn find_at_odds(alloc: Global, map: &Map, walks: &[Vec<u32>]) -> Result<Option<M
 
 /// Makes a certificate of a map whose chains are planar, and whose polygons' points may be known to be placed, or names a
 /// fault of it.
-pub fn build_planar(alloc: Global, map: &Map, placed: bool) -> Result<Built, BuildStop>
+pub fn build_planar(alloc: Global, map: &Map, placed: bool) -> Result<Built, Stop>
     requires planar { IsPlanar map.now.chains }
     requires placed { IsTrue placed → ArePlaced map.now }
     ensures { Builds map.now result }
 {
-    look_at_chains(map);
+    map.has_proper_chains();
     let cert = match propose(alloc, map) {
         Ok(cert) => cert,
-        Err(_) => return Err(BuildStop::Memory),
+        Err(_) => return Err(Stop::Memory),
     };
     match find_fault_beside(alloc, map, &cert, placed) {
         Ok(None) => Ok(Built::Cert(cert)),
         Ok(Some(fault)) => Ok(Built::Fault(fault)),
-        Err(_) => Err(BuildStop::Memory),
+        Err(_) => Err(Stop::Memory),
     }
 }
 
@@ -130,7 +124,7 @@ fn find_fault_beside(
     requires proper { AreProper map.now.chains }
     requires proposed { IsProposal map.now cert.now }
     requires placed { IsTrue placed → ArePlaced map.now }
-    ensures { IfOk result (λ found. MatchOption found (IsSound map.now) (IsTrueOfMap map.now)) }
+    ensures { IfOk result (λ found. MatchOption found (IsSound map.now) (IsTrueOfMap false map.now)) }
 {
     match find_at_odds(alloc, map, cert.walks())? {
         Some(fault) => Ok(Some(fault)),

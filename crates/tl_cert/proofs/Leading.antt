@@ -1,7 +1,7 @@
 -- Certificates whose counts and trees begin one text have one, counts and tree.
 use Rattle.std.proofs.Common.{◌≡◌, ℕ, ◌⊎◌, inl, inr, List, [], ◌∷◌, ◌++◌, refl, sym, ◌∙◌, append_assoc, append-nil}
 use Rattle.tl_record.specs.Lines.{line_feed, joined_lines, HoldNoLineFeed}
-use Rattle.tl_cert.specs.declared.place.Place.TheVariants.{Treed}
+use Rattle.tl_cert.specs.declared.place.NextPart.TheVariants.{Treed}
 use Rattle.tl_cert.specs.Certificates.{TheCertificate, IsCertificate}
 use Rattle.tl_cert.specs.Given.{given_lines}
 use Rattle.tl_cert.specs.Keeping.Steps.{start, tree}

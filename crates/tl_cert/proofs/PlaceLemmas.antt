@@ -9,8 +9,8 @@ use Rattle.tl_record.specs.Lines.{joined_lines}
 use Rattle.tl_index.specs.declared.node.TreeNode.{TreeNode}
 use Rattle.tl_index.specs.declared.node.TreeNode.TheVariants.{Inner, Leaf}
 use Rattle.tl_cert.specs.declared.certificate.Counts.{Counts}
-use Rattle.tl_cert.specs.declared.place.Place.{Place}
-use Rattle.tl_cert.specs.declared.place.Place.TheVariants.{Start, Counted, Treed, Rounds, Walks}
+use Rattle.tl_cert.specs.declared.place.NextPart.{NextPart}
+use Rattle.tl_cert.specs.declared.place.NextPart.TheVariants.{Start, Counted, Treed, Rounds, Walks}
 use Rattle.tl_cert.specs.declared.place.CertPart.{CertPart}
 use Rattle.tl_cert.specs.declared.place.CertPart.TheVariants as part
 use Rattle.tl_cert.specs.declared.stop.CertStop.{CertStop}
@@ -131,7 +131,7 @@ add_walk left darts are c given =
     )
 
 -- the numbers of rounds and of walks
-abbrev pub Passes : Place → Place → List ℕ → Type 0
+abbrev pub Passes : NextPart → NextPart → List ℕ → Type 0
 Passes place next line = (c : TheCertificate) → AreGiven place c → AreGiven next c × (given_lines next c ≡ given_lines place c ++ line ∷ [])
 
 pub pass_rounds : (version m : ℕ) → IsNumber m → Passes (Treed version) (Rounds m) (numbered_line (codes "N") m)
@@ -169,14 +169,14 @@ ends_behind (Some text) (Some rest) line lines bytes is =
     bytes ∙ ap (λ (b : List ℕ). (line ++ 10 ∷ []) ++ b) is ∙ append_assoc line (10 ∷ []) (joined_lines lines)
 
 -- a walk may come where a round may
-pub walk_for_round : (given : CertPart) (next : Place) → IsWalk given next → IsRoundOrWalk given next
+pub walk_for_round : (given : CertPart) (next : NextPart) → IsWalk given next → IsRoundOrWalk given next
 walk_for_round (part.Counts counts version) next h = h
 walk_for_round (part.Tree nodes) next h = h
 walk_for_round (part.Round darts) next h = absurd h
 walk_for_round (part.Walk darts) next h = h
 
-pub passed : {R : Type 0} (remaining : R → Option (List ℕ)) (place next : Place) (line : List ℕ) (old mid new : LineState R) (answer : Result (Option (CertPart × Place)) CertStop)
-    → Passes place next line → parts_left next ≤ parts_left place → ((given : CertPart) (then : Place) → LeadsTo next given then → LeadsTo place given then) → MayEnd place
+pub passed : {R : Type 0} (remaining : R → Option (List ℕ)) (place next : NextPart) (line : List ℕ) (old mid new : LineState R) (answer : Result (Option (CertPart × NextPart)) CertStop)
+    → Passes place next line → parts_left next ≤ parts_left place → ((given : CertPart) (then : NextPart) → LeadsTo next given then → LeadsTo place given then) → MayEnd place
     → Steps (state_at place) line (state_at next) → TakesLines remaining old mid (line ∷ []) → ReadsPart remaining next mid new answer
     → stage (state_at next) ≡ stage (state_at place) → ReadsPart remaining place old new answer
 passed remaining place next line old mid new (Ok (Some (given, then))) passes fewer leads ends step takes reads same = (
@@ -205,7 +205,7 @@ passed remaining place next line old mid new (Err Memory) passes fewer leads end
 passed remaining place next line old mid new (Err Device) passes fewer leads ends step takes reads same = tt
 
 -- a stop while a part is read
-pub stops_part : {R T : Type 0} (remaining : R → Option (List ℕ)) (fits : T → Type 0) (lines : T → List (List ℕ)) (place : Place) (old new end : LineState R) (stop : CertStop)
+pub stops_part : {R T : Type 0} (remaining : R → Option (List ℕ)) (fits : T → Type 0) (lines : T → List (List ℕ)) (place : NextPart) (old new end : LineState R) (stop : CertStop)
     → Reads {T = T} remaining fits lines (state_at place) old new (Err stop) → ReadsPart remaining place old end (Err stop)
 stops_part remaining fits lines place old new end (Text number) reads = reads
 stops_part remaining fits lines place old new end Memory reads = tt
@@ -309,7 +309,7 @@ end_missing remaining old new end stop reads =
     (line_missing {V = Unit {0}} {T = ℕ} remaining (λ v. end_line) (λ v. Unit {0}) (λ n. Unit {0}) (λ n. []) (walks 0 0) (walks 0 0) [] old old new new stop (no_line (walks 0 0)) (takes_none remaining old)
     (λ l u step. (tt, tt, (leads (walks 0 0) u l step).0)) (λ e. cc e) reads refl)
 
-pub number_missing : {R : Type 0} (remaining : R → Option (List ℕ)) (letter : ℕ) (place : Place) (old new end : LineState R) (stop : CertStop)
+pub number_missing : {R : Type 0} (remaining : R → Option (List ℕ)) (letter : ℕ) (place : NextPart) (old new end : LineState R) (stop : CertStop)
     → ((l : List ℕ) (u : State) → Steps (state_at place) l u → Tells letter (λ n. IsNumber n × (0 ≤ n)) l) → (state_at place ≡ ended → ⊥)
     → ReadsLine {V = ℕ} remaining (numbered_line (letter ∷ [])) (λ n. IsNumber n × (0 ≤ n)) old new (Err stop) → ReadsPart remaining place old end (Err stop)
 number_missing remaining letter place old new end stop allowed goes reads =
@@ -318,7 +318,7 @@ number_missing remaining letter place old new end stop allowed goes reads =
     (no_line (state_at place)) (takes_none remaining old) allowed goes reads refl)
 
 -- the nodes of a tree
-pub tree_read : {R : Type 0} (remaining : R → Option (List ℕ)) (place : Place) (version : ℕ) (nodes : Vec TreeNode Global) (old new : LineState R) → place ≡ Counted version → FitsPlace place (taken old)
+pub tree_read : {R : Type 0} (remaining : R → Option (List ℕ)) (place : NextPart) (version : ℕ) (nodes : Vec TreeNode Global) (old new : LineState R) → place ≡ Counted version → FitsPlace place (taken old)
     → IsTree version nodes.items → TakesLines remaining old new (tree_lines version nodes.items) → ReadsPart remaining place old new (Ok (Some (part.Tree nodes, Treed version)))
 tree_read remaining place version nodes old new is fits are takes =
     let before : FitsPlace (Counted version) (taken old) = subst (λ p. FitsPlace p (taken old)) is fits in

@@ -3,8 +3,8 @@ use Rattle.std.proofs.Common.{◌≡◌, ℕ, ◌+◌, List, [], ◌∷◌, ◌+
 use Rattle.std.specs.Option.{IfSome}
 use Rattle.std.specs.Io.KnownBytes.{Consumes, IsAtEnd}
 use Rattle.tl_record.specs.Lines.{joined_lines}
-use Rattle.tl_cert.specs.declared.place.Place.{Place}
-use Rattle.tl_cert.specs.declared.place.Place.TheVariants.{Start, Counted, Treed, Rounds, Walks}
+use Rattle.tl_cert.specs.declared.place.NextPart.{NextPart}
+use Rattle.tl_cert.specs.declared.place.NextPart.TheVariants.{Start, Counted, Treed, Rounds, Walks}
 use Rattle.tl_cert.specs.declared.place.CertPart.{CertPart}
 use Rattle.tl_cert.specs.declared.reader.CertReader.{CertReader}
 use Rattle.tl_cert.specs.declared.reader.Standing.{Standing}
@@ -42,7 +42,7 @@ counts_run c is =
     (first_line (headed c.version) (counted c.version) (counted c.version) (counts_line c.counts) [] (at_counts c.version c.counts is.1.counts) (no_line (counted c.version)))
 
 -- the lines of the parts that were given lead to their place
-pub given_runs : (place : Place) (c : TheCertificate) → AreGiven place c → Runs start (given_lines place c) (state_at place)
+pub given_runs : (place : NextPart) (c : TheCertificate) → AreGiven place c → Runs start (given_lines place c) (state_at place)
 given_runs Start c given = no_line start
 given_runs (Counted version) c given =
     subst (λ v. Runs start (given_lines (Counted version) c) (counted v)) given.1 (counts_run c given.0)
@@ -60,7 +60,7 @@ given_runs (Walks left) c given =
     (first_line (rounds 0 0) (walks n 0) (walks left 0) (numbered_line (codes "W") n) (all_darts_lines (codes "K") c.walks) (at_walks n given.1)
     (walks_run left c.walks given.0.0.walks.each given.0.1.walks))
 
-goes_on : (left after : Option (List ℕ)) (place next : Place) (c d : TheCertificate) (lines : List (List ℕ)) → Consumes left after (joined_lines lines)
+goes_on : (left after : Option (List ℕ)) (place next : NextPart) (c d : TheCertificate) (lines : List (List ℕ)) → Consumes left after (joined_lines lines)
     → given_lines next d ≡ given_lines place c ++ lines → GoesOn left after place next c d
 goes_on None after place next c d lines bytes adds = tt
 goes_on (Some text) None place next c d lines bytes adds = bytes
@@ -69,7 +69,7 @@ goes_on (Some text) (Some rest) place next c d lines bytes adds =
     ap (λ (b : List ℕ). front ++ b) bytes ∙ sym (append_assoc front (joined_lines lines) rest)
     ∙ ap (λ (b : List ℕ). b ++ rest) (sym (joined-append (given_lines place c) lines) ∙ ap joined_lines (sym adds))
 
-pub given_part : {R : Type 0} (remaining : R → Option (List ℕ)) (place next : Place) (given : CertPart) (old new : LineState R) → ReadsPart remaining place old new (Ok (Some (given, next)))
+pub given_part : {R : Type 0} (remaining : R → Option (List ℕ)) (place next : NextPart) (given : CertPart) (old new : LineState R) → ReadsPart remaining place old new (Ok (Some (given, next)))
     → (c : TheCertificate) → IsBehind (taken old) place c → IsBehind (taken new) next (with_part c given) × GoesOn (untaken remaining old) (untaken remaining new) place next c (with_part c given)
 given_part remaining place next given old new reads c behind =
     let adds = reads.2 c behind.given in (
@@ -77,7 +77,7 @@ given_part remaining place next given old new reads c behind =
       goes_on (untaken remaining old) (untaken remaining new) place next c (with_part c given) reads.0 reads.1.bytes adds.1,
     )
 
-ends_at : (left : Option (List ℕ)) (place : Place) (c : TheCertificate) (lines : List (List ℕ)) → IfSome left (λ text. text ≡ joined_lines lines)
+ends_at : (left : Option (List ℕ)) (place : NextPart) (c : TheCertificate) (lines : List (List ℕ)) → IfSome left (λ text. text ≡ joined_lines lines)
     → IsCertificate c → certificate_lines c ≡ given_lines place c ++ lines → IfSome left (λ text. IsTextOf c (whole place c text))
 ends_at None place c lines is made all = tt
 ends_at (Some text) place c lines is made all = record {
@@ -85,7 +85,7 @@ ends_at (Some text) place c lines is made all = record {
   spelt = ap (λ (b : List ℕ). joined_lines (given_lines place c) ++ b) is ∙ sym (joined-append (given_lines place c) lines) ∙ ap joined_lines (sym all);
 }
 
-pub given_end : {R : Type 0} (remaining : R → Option (List ℕ)) (place : Place) (old new : LineState R) → ReadsPart remaining place old new (Ok None)
+pub given_end : {R : Type 0} (remaining : R → Option (List ℕ)) (place : NextPart) (old new : LineState R) → ReadsPart remaining place old new (Ok None)
     → IsAtEnd (remaining new.source) × ((c : TheCertificate) → IsBehind (taken old) place c → IsCertificate c × IfSome (untaken remaining old) (λ text. IsTextOf c (whole place c text))) × MayEnd place
 given_end remaining place old new reads = (
   reads.3,
@@ -94,7 +94,7 @@ given_end remaining place old new reads = (
 )
 
 -- lines that stand where the text is refused within a part
-breaks_off : (place : Place) (lines : List (List ℕ)) (t : State) (rest text : List ℕ) → Runs start lines t → stage t ≡ stage (state_at place) → IsStuck t rest
+breaks_off : (place : NextPart) (lines : List (List ℕ)) (t : State) (rest text : List ℕ) → Runs start lines t → stage t ≡ stage (state_at place) → IsStuck t rest
     → joined_lines lines ++ rest ≡ text → BreaksOff place text
 breaks_off Start lines t rest text run within stuck same = λ c other is begins.
     stuck_before start t (counted c.version) lines (given_lines (Counted c.version) c) rest other run stuck (counts_run c is) (omega (arith, within)) (same ∙ begins)
@@ -104,7 +104,7 @@ breaks_off (Treed version) lines t rest text run within stuck same = tt
 breaks_off (Rounds left) lines t rest text run within stuck same = tt
 breaks_off (Walks left) lines t rest text run within stuck same = tt
 
-refused_at : (left : Option (List ℕ)) (place : Place) (c : TheCertificate) (before line : ℕ) → AreGiven place c → before ≡ length (given_lines place c)
+refused_at : (left : Option (List ℕ)) (place : NextPart) (c : TheCertificate) (before line : ℕ) → AreGiven place c → before ≡ length (given_lines place c)
     → IfSome left (λ text. IsStuckAfter (state_at place) before text line) → IfSome left (λ text. IsRefused (whole place c text) line × BreaksOff place (whole place c text))
 refused_at None place c before line given counts stuck = tt
 refused_at (Some text) place c before line given counts stuck =
@@ -119,17 +119,17 @@ refused_at (Some text) place c before line given counts stuck =
       breaks_off place all stuck.state stuck.rest (whole place c text) runs stuck.within stuck.stuck same,
     )
 
-pub given_stop : {R : Type 0} (remaining : R → Option (List ℕ)) (place : Place) (old new : CertReader R) (mid : LineState R) (stop : CertStop) → ReadsPart remaining place (state_of old) mid (Err stop)
+pub given_stop : {R : Type 0} (remaining : R → Option (List ℕ)) (place : NextPart) (old new : CertReader R) (mid : LineState R) (stop : CertStop) → ReadsPart remaining place (state_of old) mid (Err stop)
     → GivesAt remaining place old new (Err stop)
 given_stop remaining place old new mid (Text line) reads = λ c behind. refused_at (untaken remaining (state_of old)) place c (taken (state_of old)) line behind.given behind.counted reads
 given_stop remaining place old new mid Memory reads = tt
 given_stop remaining place old new mid Device reads = tt
 
 -- where the reader still reads
-pub at_place : {R : Type 0} (remaining : R → Option (List ℕ)) (old new : CertReader R) (answer : Result (Option CertPart) CertStop) (standing : Standing) (place : Place)
+pub at_place : {R : Type 0} (remaining : R → Option (List ℕ)) (old new : CertReader R) (answer : Result (Option CertPart) CertStop) (standing : Standing) (place : NextPart)
     → standing ≡ Reading place → GivesAt remaining place old new answer → Gives remaining old new answer standing
 at_place remaining old new answer standing place is gives = subst (Gives remaining old new answer) (sym is) gives
 
-pub stop_at_place : {R : Type 0} (remaining : R → Option (List ℕ)) (old new : CertReader R) (mid : LineState R) (stop : CertStop) (standing : Standing) (place : Place)
+pub stop_at_place : {R : Type 0} (remaining : R → Option (List ℕ)) (old new : CertReader R) (mid : LineState R) (stop : CertStop) (standing : Standing) (place : NextPart)
     → standing ≡ Reading place → ReadsPart remaining place (state_of old) mid (Err stop) → Gives remaining old new (Err stop) standing
 stop_at_place remaining old new mid stop standing place is reads = at_place remaining old new (Err stop) standing place is (given_stop remaining place old new mid stop reads)

@@ -1,7 +1,7 @@
 -- The parts that were given before a place, and their lines.
 use Rattle.std.specs.Prelude.{◌≡◌, ℕ, ◌+◌, ◌^◌, List, [], ◌∷◌, ◌++◌, length, ⊤}
-use Rattle.tl_cert.specs.declared.place.Place.{Place}
-use Rattle.tl_cert.specs.declared.place.Place.TheVariants.{Start, Counted, Treed, Rounds, Walks}
+use Rattle.tl_cert.specs.declared.place.NextPart.{NextPart}
+use Rattle.tl_cert.specs.declared.place.NextPart.TheVariants.{Start, Counted, Treed, Rounds, Walks}
 use Rattle.tl_cert.specs.declared.place.CertPart.{CertPart}
 use Rattle.tl_cert.specs.declared.place.CertPart.TheVariants as part
 use Rattle.tl_cert.specs.Certificates.{TheCertificate, IsCertificate, IsNumber}
@@ -15,7 +15,7 @@ with_part c (part.Round darts) = record c { rounds = c.rounds ++ darts.items ∷
 with_part c (part.Walk darts) = record c { walks = c.walks ++ darts.items ∷ [] }
 
 -- the parts that were given before this place, as a certificate where all others are missing
-abbrev pub AreGiven : Place → TheCertificate → Type 0
+abbrev pub AreGiven : NextPart → TheCertificate → Type 0
 AreGiven Start c = (c.tree ≡ []) × (c.rounds ≡ []) × (c.walks ≡ [])
 AreGiven (Counted version) c = IsCertificate c × (c.version ≡ version) × (c.tree ≡ []) × (c.rounds ≡ []) × (c.walks ≡ [])
 AreGiven (Treed version) c = IsCertificate c × (c.version ≡ version) × (c.rounds ≡ []) × (c.walks ≡ [])
@@ -23,7 +23,7 @@ AreGiven (Rounds left) c = IsCertificate c × IsNumber (length c.rounds + left) 
 AreGiven (Walks left) c = IsCertificate c × IsNumber (length c.walks + left)
 
 -- their lines: the numbers of rounds and of walks count those that are still to come
-abbrev pub given_lines : Place → TheCertificate → List (List ℕ)
+abbrev pub given_lines : NextPart → TheCertificate → List (List ℕ)
 given_lines Start c = []
 given_lines (Counted version) c = head_line c.version ∷ counts_line c.counts ∷ []
 given_lines (Treed version) c = head_line c.version ∷ counts_line c.counts ∷ tree_lines c.version c.tree
@@ -34,21 +34,21 @@ given_lines (Walks left) c =
     ++ walks_lines (length c.walks + left) c.walks
 
 -- a round that leads on to rounds, or a walk
-abbrev pub IsRoundOrWalk : CertPart → Place → Type 0
+abbrev pub IsRoundOrWalk : CertPart → NextPart → Type 0
 IsRoundOrWalk (part.Counts counts version) next = ⊥
 IsRoundOrWalk (part.Tree nodes) next = ⊥
 IsRoundOrWalk (part.Round darts) next = (left : ℕ) × (next ≡ Rounds left)
 IsRoundOrWalk (part.Walk darts) next = (left : ℕ) × (next ≡ Walks left)
 
 -- a walk that leads on to walks
-abbrev pub IsWalk : CertPart → Place → Type 0
+abbrev pub IsWalk : CertPart → NextPart → Type 0
 IsWalk (part.Counts counts version) next = ⊥
 IsWalk (part.Tree nodes) next = ⊥
 IsWalk (part.Round darts) next = ⊥
 IsWalk (part.Walk darts) next = (left : ℕ) × (next ≡ Walks left)
 
 -- which part comes at a place, and the place behind it
-abbrev pub LeadsTo : Place → CertPart → Place → Type 0
+abbrev pub LeadsTo : NextPart → CertPart → NextPart → Type 0
 LeadsTo Start (part.Counts counts version) next = next ≡ Counted version
 LeadsTo Start other next = ⊥
 LeadsTo (Counted version) (part.Tree nodes) next = next ≡ Treed version
@@ -58,7 +58,7 @@ LeadsTo (Rounds left) given next = IsRoundOrWalk given next
 LeadsTo (Walks left) given next = IsWalk given next
 
 -- the end comes behind the tree
-abbrev pub MayEnd : Place → Type 0
+abbrev pub MayEnd : NextPart → Type 0
 MayEnd Start = ⊥
 MayEnd (Counted version) = ⊥
 MayEnd (Treed version) = ⊤
@@ -66,7 +66,7 @@ MayEnd (Rounds left) = ⊤
 MayEnd (Walks left) = ⊤
 
 -- at most how many parts still come, and the end
-abbrev pub parts_left : Place → ℕ
+abbrev pub parts_left : NextPart → ℕ
 parts_left Start = 2 ^ 34 + 2
 parts_left (Counted version) = 2 ^ 34 + 1
 parts_left (Treed version) = 2 ^ 34

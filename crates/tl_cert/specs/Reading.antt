@@ -7,8 +7,8 @@ use Rattle.tl_record.specs.Failures.{one_more}
 use Rattle.tl_cert.specs.declared.reader.CertReader.{CertReader}
 use Rattle.tl_cert.specs.declared.reader.Standing.{Standing}
 use Rattle.tl_cert.specs.declared.reader.Standing.TheVariants.{Reading, Ended, Stopped}
-use Rattle.tl_cert.specs.declared.place.Place.{Place}
-use Rattle.tl_cert.specs.declared.place.Place.TheVariants.{Start, Counted, Treed, Rounds, Walks}
+use Rattle.tl_cert.specs.declared.place.NextPart.{NextPart}
+use Rattle.tl_cert.specs.declared.place.NextPart.TheVariants.{Start, Counted, Treed, Rounds, Walks}
 use Rattle.tl_cert.specs.declared.place.CertPart.{CertPart}
 use Rattle.tl_cert.specs.declared.stop.CertStop.{CertStop}
 use Rattle.tl_cert.specs.declared.stop.CertStop.TheVariants.{Text, Memory, Device}
@@ -31,25 +31,25 @@ abbrev pub unread : {R : Type 0} → (R → Option (List ℕ)) → CertReader R 
 unread remaining reader = prepend_known reader.lines.buffer (remaining (source_of reader))
 
 -- the parts of c were given, and their lines are those that were taken
-pub record IsBehind (lines : ℕ) (place : Place) (c : TheCertificate) : Type 0 where
+pub record IsBehind (lines : ℕ) (place : NextPart) (c : TheCertificate) : Type 0 where
   pub given : AreGiven place c
   pub counted : lines ≡ length (given_lines place c)
 
 -- the text of the parts that were given, and what follows it
-abbrev pub whole : Place → TheCertificate → List ℕ → List ℕ
+abbrev pub whole : NextPart → TheCertificate → List ℕ → List ℕ
 whole place c rest = joined_lines (given_lines place c) ++ rest
 
 abbrev pub Answer : Type 0
 Answer = Result (Option CertPart) CertStop
 
 -- a reader goes on at this place with a part more, which is what was read of a known text
-abbrev pub GoesOn : Option (List ℕ) → Option (List ℕ) → Place → Place → TheCertificate → TheCertificate → Type 0
+abbrev pub GoesOn : Option (List ℕ) → Option (List ℕ) → NextPart → NextPart → TheCertificate → TheCertificate → Type 0
 GoesOn None new place next c d = ⊤
 GoesOn (Some text) None place next c d = ⊥
 GoesOn (Some text) (Some rest) place next c d = whole place c text ≡ whole next d rest
 
 -- where a text is refused: where no certificate's counts begin it, or no certificate's counts and tree; elsewhere behind them
-abbrev pub BreaksOff : Place → List ℕ → Type 0
+abbrev pub BreaksOff : NextPart → List ℕ → Type 0
 BreaksOff Start text = (c : TheCertificate) (rest : List ℕ) → IsCertificate c → ¬ (text ≡ whole (Counted c.version) c rest)
 BreaksOff (Counted version) text = (c : TheCertificate) (rest : List ℕ) → IsCertificate c → ¬ (text ≡ whole (Treed c.version) c rest)
 BreaksOff (Treed version) text = ⊤
@@ -59,9 +59,9 @@ BreaksOff (Walks left) text = ⊤
 -- What an answer says, whatever parts c were given before: it is a part more, and the text behind it is what is left; or
 -- the end, of the source too, and the whole text is that of c; or no certificate has the whole text, this is the line, and
 -- the counts and the tree are what was given, or the text breaks off in the one that comes.
-abbrev pub GivesAt : {R : Type 0} → (R → Option (List ℕ)) → Place → CertReader R → CertReader R → Answer → Type 0
+abbrev pub GivesAt : {R : Type 0} → (R → Option (List ℕ)) → NextPart → CertReader R → CertReader R → Answer → Type 0
 GivesAt remaining place old new (Ok (Some given)) =
-    (next : Place) × (standing_of new ≡ Reading next) × (parts_left next < parts_left place)
+    (next : NextPart) × (standing_of new ≡ Reading next) × (parts_left next < parts_left place)
     × ((c : TheCertificate) → IsBehind (lines_of old) place c
     → IsBehind (lines_of new) next (with_part c given) × GoesOn (unread remaining old) (unread remaining new) place next c (with_part c given))
     × LeadsTo place given next
@@ -81,7 +81,7 @@ Gives remaining old new answer (Stopped stop) = (answer ≡ Err stop) × (new �
 
 -- after a part the reader reads on; after the end or a stop, that is the answer from then on
 abbrev pub Settles : Standing → Answer → Type 0
-Settles standing (Ok (Some given)) = (next : Place) × (standing ≡ Reading next)
+Settles standing (Ok (Some given)) = (next : NextPart) × (standing ≡ Reading next)
 Settles standing (Ok None) = standing ≡ Ended
 Settles standing (Err stop) = standing ≡ Stopped stop
 

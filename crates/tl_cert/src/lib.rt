@@ -26,7 +26,7 @@ mod stop;
 mod write;
 
 pub use certificate::{Certificate, Counts};
-pub use place::{CertPart, Place};
+pub use place::{CertPart, NextPart};
 pub use read::read_cert;
 pub use reader::{CertReader, Standing};
 pub use stop::{CertStop, WriteStop};

@@ -7,20 +7,20 @@ ghost use Rattle.tl_cert.specs.Keeping.Places.{ReadsPart, FitsPlace};
 use crate::line_kind::{EndLine, Numbered};
 use crate::lines::Lines;
 use crate::parts::{DartLists, read_counts, read_darts, read_tree};
-use crate::place::{CertPart, Place};
+use crate::place::{CertPart, NextPart};
 use crate::stop::CertStop;
 use std::alloc::Global;
 use tl_record::Source;
 
 /// A part with the place behind it, or none at the end.
-type Next = Option<(CertPart, Place)>;
+type Next = Option<(CertPart, NextPart)>;
 
 /// The part at this place, and the place behind it; or `None` at the end.
 pub fn read_part<R: Source>(
     alloc: Global,
     lines: &mut Lines,
     source: &mut R,
-    place: Place,
+    place: NextPart,
 ) -> Result<Next, CertStop>
     requires { FitsPlace place lines.old.lines }
     ensures reads { ReadsPart R.remaining place (at lines.old source.old) (at lines.new source.new) result }
@@ -28,18 +28,18 @@ pub fn read_part<R: Source>(
     ensures same_reference { R.reference source.new ≡ R.reference source.old }
 {
     match place {
-        Place::Start => match read_counts(lines, source) {
+        NextPart::Start => match read_counts(lines, source) {
             Ok((counts, version)) => Ok(Some((
                 CertPart::Counts(counts, version),
-                Place::Counted(version),
+                NextPart::Counted(version),
             ))),
             Err(stop) => Err(stop),
         },
-        Place::Counted(version) => match read_tree(alloc, lines, source, version) {
-            Ok(nodes) => Ok(Some((CertPart::Tree(nodes), Place::Treed(version)))),
+        NextPart::Counted(version) => match read_tree(alloc, lines, source, version) {
+            Ok(nodes) => Ok(Some((CertPart::Tree(nodes), NextPart::Treed(version)))),
             Err(stop) => Err(stop),
         },
-        Place::Treed(_) => match lines.read(
+        NextPart::Treed(_) => match lines.read(
             source,
             &Numbered {
                 letter: b'N',
@@ -49,8 +49,8 @@ pub fn read_part<R: Source>(
             Ok(rounds) => read_round(alloc, lines, source, rounds),
             Err(stop) => Err(stop),
         },
-        Place::Rounds(left) => read_round(alloc, lines, source, left),
-        Place::Walks(left) => read_walk(alloc, lines, source, left),
+        NextPart::Rounds(left) => read_round(alloc, lines, source, left),
+        NextPart::Walks(left) => read_walk(alloc, lines, source, left),
     }
 }
 
@@ -62,14 +62,14 @@ fn read_round<R: Source>(
     source: &mut R,
     left: u32,
 ) -> Result<Next, CertStop>
-    requires { FitsPlace (Place.Rounds left) lines.old.lines }
-    ensures reads { ReadsPart R.remaining (Place.Rounds left) (at lines.old source.old) (at lines.new source.new) result }
+    requires { FitsPlace (NextPart.Rounds left) lines.old.lines }
+    ensures reads { ReadsPart R.remaining (NextPart.Rounds left) (at lines.old source.old) (at lines.new source.new) result }
     ensures failures { TellsRead (R.failure_count source.old) (R.failure_count source.new) result }
     ensures same_reference { R.reference source.new ≡ R.reference source.old }
 {
     if left > 0 {
         return match read_darts(alloc, lines, source, DartLists::Rounds) {
-            Ok(darts) => Ok(Some((CertPart::Round(darts), Place::Rounds(left - 1)))),
+            Ok(darts) => Ok(Some((CertPart::Round(darts), NextPart::Rounds(left - 1)))),
             Err(stop) => Err(stop),
         };
     }
@@ -93,14 +93,14 @@ fn read_walk<R: Source>(
     source: &mut R,
     left: u32,
 ) -> Result<Next, CertStop>
-    requires { FitsPlace (Place.Walks left) lines.old.lines }
-    ensures reads { ReadsPart R.remaining (Place.Walks left) (at lines.old source.old) (at lines.new source.new) result }
+    requires { FitsPlace (NextPart.Walks left) lines.old.lines }
+    ensures reads { ReadsPart R.remaining (NextPart.Walks left) (at lines.old source.old) (at lines.new source.new) result }
     ensures failures { TellsRead (R.failure_count source.old) (R.failure_count source.new) result }
     ensures same_reference { R.reference source.new ≡ R.reference source.old }
 {
     if left > 0 {
         return match read_darts(alloc, lines, source, DartLists::Walks) {
-            Ok(darts) => Ok(Some((CertPart::Walk(darts), Place::Walks(left - 1)))),
+            Ok(darts) => Ok(Some((CertPart::Walk(darts), NextPart::Walks(left - 1)))),
             Err(stop) => Err(stop),
         };
     }

@@ -18,7 +18,7 @@ pub enum CertPart {
 
 /// Which part comes next.
 #[derive(Clone, Copy)]
-pub enum Place {
+pub enum NextPart {
     /// The head and the counts.
     Start,
     /// The tree, in this version.

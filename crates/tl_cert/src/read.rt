@@ -3,7 +3,7 @@
 ghost use Rattle.std.specs.Prelude.{◌≡◌, IfOk, IfErr, IfSome};
 ghost use Rattle.std.specs.Io.KnownBytes.{IsAtEnd};
 ghost use Rattle.tl_cert.specs.declared.reader.Standing.TheVariants.{Reading};
-ghost use Rattle.tl_cert.specs.declared.place.Place.TheVariants.{Start};
+ghost use Rattle.tl_cert.specs.declared.place.NextPart.TheVariants.{Start};
 ghost use Rattle.tl_cert.specs.Certificates.{IsCertificate};
 ghost use Rattle.tl_cert.specs.Beginnings.{IsTextOf};
 ghost use Rattle.tl_cert.specs.Reading.{source_of, lines_of, standing_of, unread, StopsReading, TellsDevice};

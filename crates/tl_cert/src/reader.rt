@@ -5,7 +5,7 @@ ghost use Rattle.tl_cert.specs.Keeping.Places.{FitsStanding, FitsStanding-prop};
 
 use crate::lines::Lines;
 use crate::next::read_part;
-use crate::place::{CertPart, Place};
+use crate::place::{CertPart, NextPart};
 use crate::stop::CertStop;
 use std::alloc::Global;
 use tl_record::Source;
@@ -14,7 +14,7 @@ use tl_record::Source;
 #[derive(Clone, Copy)]
 pub enum Standing {
     /// It reads the part at this place when it is asked.
-    Reading(Place),
+    Reading(NextPart),
     /// It has given all parts.
     Ended,
     /// It stopped, and answers this from then on.
@@ -43,12 +43,12 @@ impl<R: Source> CertReader<R> {
         ensures source { source_of result ≡ source }
         ensures bytes { unread R.remaining result ≡ R.remaining source }
         ensures lines { lines_of result ≡ 0 }
-        ensures standing { standing_of result ≡ Standing.Reading Place.Start }
+        ensures standing { standing_of result ≡ Standing.Reading NextPart.Start }
     {
         CertReader {
             source,
             lines: Lines::new(),
-            standing: Standing::Reading(Place::Start),
+            standing: Standing::Reading(NextPart::Start),
             alloc,
         }
     }

@@ -1,16 +1,12 @@
 -- What the clauses of an answer by a certificate's text read off what it decides.
-use Rattle.std.proofs.Common.{ℕ, List, Option, Ok, Err}
+use Rattle.std.proofs.Common.{ℕ, List, Option, Ok, Err, false}
 use Rattle.std.specs.Prelude.{IfErr}
 use Rattle.std.specs.Option.{IfSome}
 use Rattle.tl_county.specs.TheMap.{TheMap}
-use Rattle.tl_planar.specs.Planar.{IsPlanar}
-use Rattle.tl_sides.specs.Sides.{SidesAgree}
-use Rattle.tl_inside.specs.Placed.{ArePlaced}
-use Rattle.tl_cells.specs.Cells.{CellsAgree}
 use Rattle.tl_verdict.specs.declared.verdict.Report.{Report}
 use Rattle.tl_verdict.specs.declared.verdict.Verdict.TheVariants as verdict
-use Rattle.tl_verdict.specs.declared.stop.Stop.TheVariants.{Record, Memory, Device, Budget}
-use Rattle.tl_verdict.specs.Sound.{AreClosed}
+use Rattle.tl_output.specs.declared.stop.Stop.TheVariants.{Record, Memory, Device, Budget}
+use Rattle.tl_verdict.specs.Sound.{IsSound}
 use Rattle.tl_verdict.specs.Truth.{IsTrueOfMap}
 use Rattle.tl_verdict.specs.Texts.{IsTrueOfText, IsValidText, MayStopReading}
 use Rattle.tl_verdict.specs.Verdicts.{Answer, OnSound, IfSound, IfMapFault, IfCertFault, IsReport}
@@ -23,20 +19,8 @@ module _ (m : TheMap) (budget : ℕ) (text : Option (List ℕ)) where
   on_sound P leads (Ok (verdict.CertFault fault)) says = tt
   on_sound P leads (Err why) says = tt
 
-  pub planar : (answer : Answer) → Decides m budget text answer → OnSound answer (IsPlanar m.chains)
-  planar = on_sound (IsPlanar m.chains) (λ r is. is.planar)
-
-  pub sides : (answer : Answer) → Decides m budget text answer → OnSound answer (SidesAgree m.chains)
-  sides = on_sound (SidesAgree m.chains) (λ r is. is.sides)
-
-  pub closed : (answer : Answer) → Decides m budget text answer → OnSound answer (AreClosed m)
-  closed = on_sound (AreClosed m) (λ r is. is.closed)
-
-  pub points : (answer : Answer) → Decides m budget text answer → OnSound answer (ArePlaced m)
-  points = on_sound (ArePlaced m) (λ r is. is.points)
-
-  pub cells : (answer : Answer) → Decides m budget text answer → OnSound answer (CellsAgree m.chains)
-  cells = on_sound (CellsAgree m.chains) (λ r is. is.cells)
+  pub is_sound : (answer : Answer) → Decides m budget text answer → OnSound answer (IsSound m)
+  is_sound = on_sound (IsSound m) (λ r is. record { planar = is.planar; sides = is.sides; closed = is.closed; points = is.points; cells = is.cells })
 
   pub valid : (answer : Answer) → Decides m budget text answer → OnSound answer (IfSome text (IsValidText m))
   valid = on_sound (IfSome text (IsValidText m)) (λ r is. is.valid)
@@ -47,7 +31,7 @@ module _ (m : TheMap) (budget : ℕ) (text : Option (List ℕ)) where
   reported (Ok (verdict.CertFault fault)) says = tt
   reported (Err why) says = tt
 
-  pub map_fault : (answer : Answer) → Decides m budget text answer → IfMapFault answer (IsTrueOfMap m)
+  pub map_fault : (answer : Answer) → Decides m budget text answer → IfMapFault answer (IsTrueOfMap false m)
   map_fault (Ok (verdict.Sound report)) says = tt
   map_fault (Ok (verdict.MapFault fault)) says = says
   map_fault (Ok (verdict.CertFault fault)) says = tt

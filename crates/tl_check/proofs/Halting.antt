@@ -1,12 +1,9 @@
 -- What the clauses of an answer read off what it says.
-use Rattle.std.proofs.Common.{◌≡◌, ℕ, ◌≤◌, List, Result, Ok, Err, sym, subst}
+use Rattle.std.proofs.Common.{◌≡◌, ℕ, ◌≤◌, List, Result, Ok, Err, sym, subst, false}
 use Rattle.std.specs.Prelude.{IfErr}
 use Rattle.tl_county.specs.TheMap.{TheMap}
 use Rattle.tl_planar.specs.Planar.{IsPlanar}
 use Rattle.tl_planar.specs.Searching.{meeting_segments}
-use Rattle.tl_sides.specs.Sides.{SidesAgree}
-use Rattle.tl_inside.specs.Placed.{ArePlaced}
-use Rattle.tl_cells.specs.Cells.{CellsAgree}
 use Rattle.tl_index.specs.declared.node.TreeNode.{TreeNode}
 use Rattle.tl_cert.specs.Certificates.{TheCertificate}
 use Rattle.tl_cert.specs.declared.certificate.Counts.{Counts}
@@ -14,11 +11,11 @@ use Rattle.tl_check.specs.declared.state.State.{State}
 use Rattle.tl_check.specs.declared.state.Halt.{Halt}
 use Rattle.tl_check.specs.declared.state.Halt.TheVariants as halt
 use Rattle.tl_verdict.specs.declared.fault.MapFault.{MapFault}
-use Rattle.tl_verdict.specs.declared.fault.MapFault.TheVariants.{Records, Meet, Side, PolygonPoint, Cell}
+use Rattle.tl_verdict.specs.declared.fault.MapFault.TheVariants.{Records, Meet, Side, PolygonPoint, Cell, Face}
 use Rattle.tl_verdict.specs.declared.verdict.Report.{Report}
 use Rattle.tl_verdict.specs.declared.verdict.Verdict.TheVariants as verdict
-use Rattle.tl_verdict.specs.declared.stop.Stop.TheVariants.{Record, Memory, Device, Budget}
-use Rattle.tl_verdict.specs.Sound.{AreClosed}
+use Rattle.tl_output.specs.declared.stop.Stop.TheVariants.{Record, Memory, Device, Budget}
+use Rattle.tl_verdict.specs.Sound.{IsSound}
 use Rattle.tl_verdict.specs.Valid.{AreCounts, IsTree, AllowsSearch, IsValid}
 use Rattle.tl_verdict.specs.Truth.{IsTrueOfMap, IsTrueOfCert, IsOfDarts}
 use Rattle.tl_verdict.specs.Verdicts.{Answer, OnSound, IfSound, IfMapFault, IfCertFault, OnSearched, IsReport, MayStop}
@@ -40,12 +37,13 @@ ended m c budget halt.Memory may allows = tt
 ended m c budget halt.Budget may allows = absurd may
 
 -- what is concluded of a certificate in memory
-searched_true : (m : TheMap) (fault : MapFault) (P : Type 0) → IsTrueOfMap m fault → OnSearched (Ok (verdict.MapFault fault)) P → P
+searched_true : (m : TheMap) (fault : MapFault) (P : Type 0) → IsTrueOfMap false m fault → OnSearched (Ok (verdict.MapFault fault)) P → P
 searched_true m (Records fault) P true so = absurd true
 searched_true m (Meet meet) P true so = so
 searched_true m (Side node first next) P true so = so
 searched_true m (PolygonPoint fault) P true so = so
 searched_true m (Cell odds) P true so = so
+searched_true m (Face fault) P true so = absurd (cc)
 
 pub concluded_shows : (m : TheMap) (c : TheCertificate) (budget : ℕ) (s : State) (answer : Answer) → Holds m c s → IsSearched m budget s → IsBehindSearch m s → IsConcluded m s answer → Shows m c budget answer
 concluded_shows m c budget s (Ok (verdict.Sound report)) held searched behind so =
@@ -106,20 +104,14 @@ module _ (m : TheMap) (c : TheCertificate) (budget : ℕ) where
   on_sound P leads (Ok (verdict.CertFault fault)) shows = tt
   on_sound P leads (Err why) shows = tt
 
-  pub planar : (answer : Answer) → Shows m c budget answer → OnSound answer (IsPlanar m.chains)
-  planar = on_sound (IsPlanar m.chains) (λ r is. is.shown.planar)
-
-  pub sides : (answer : Answer) → Shows m c budget answer → OnSound answer (SidesAgree m.chains)
-  sides = on_sound (SidesAgree m.chains) (λ r is. is.shown.sides)
-
-  pub closed : (answer : Answer) → Shows m c budget answer → OnSound answer (AreClosed m)
-  closed = on_sound (AreClosed m) (λ r is. are_closed m c is.rings is.shown)
-
-  pub points : (answer : Answer) → Shows m c budget answer → OnSound answer (ArePlaced m)
-  points = on_sound (ArePlaced m) (λ r is. is.shown.points)
-
-  pub cells : (answer : Answer) → Shows m c budget answer → OnSound answer (CellsAgree m.chains)
-  cells = on_sound (CellsAgree m.chains) (λ r is. is.shown.cells)
+  pub is_sound : (answer : Answer) → Shows m c budget answer → OnSound answer (IsSound m)
+  is_sound = on_sound (IsSound m) (λ r is. record {
+    planar = is.shown.planar;
+    sides = is.shown.sides;
+    closed = are_closed m c is.rings is.shown;
+    points = is.shown.points;
+    cells = is.shown.cells;
+  })
 
   pub valid : (answer : Answer) → Shows m c budget answer → OnSound answer (IsValid m c)
   valid = on_sound (IsValid m c) (λ r is. is.shown.valid)
@@ -133,7 +125,7 @@ module _ (m : TheMap) (c : TheCertificate) (budget : ℕ) where
   reported (Ok (verdict.CertFault fault)) shows = tt
   reported (Err why) shows = tt
 
-  pub map_fault : (answer : Answer) → Shows m c budget answer → IfMapFault answer (IsTrueOfMap m)
+  pub map_fault : (answer : Answer) → Shows m c budget answer → IfMapFault answer (IsTrueOfMap false m)
   map_fault (Ok (verdict.Sound report)) shows = tt
   map_fault (Ok (verdict.MapFault fault)) shows = shows.0
   map_fault (Ok (verdict.CertFault fault)) shows = tt

@@ -12,3 +12,4 @@ pub mod Stopping
 pub mod Rounding
 pub mod Deciding
 pub mod Reading
+pub mod Facing

@@ -7,7 +7,7 @@ use Rattle.tl_county.specs.TheMap.{TheMap}
 use Rattle.tl_planar.specs.Planar.{IsPlanar}
 use Rattle.tl_drawn.specs.declared.fault.MapStop.{MapStop}
 use Rattle.tl_drawn.specs.declared.fault.MapStop.TheVariants as map
-use Rattle.tl_cert.specs.declared.place.Place.TheVariants.{Start, Counted, Treed}
+use Rattle.tl_cert.specs.declared.place.NextPart.TheVariants.{Start, Counted, Treed}
 use Rattle.tl_cert.specs.declared.reader.CertReader.{CertReader}
 use Rattle.tl_cert.specs.declared.stop.CertStop.{CertStop}
 use Rattle.tl_cert.specs.declared.stop.CertStop.TheVariants as cert
@@ -19,7 +19,7 @@ use Rattle.tl_cert.proofs.Completing.{joined-append}
 use Rattle.tl_cert.proofs.CollectLemmas.{gives_here, breaks_all}
 use Rattle.tl_cert.proofs.Leading.{one_beginning}
 use Rattle.tl_verdict.specs.declared.fault.MapFault.{MapFault}
-use Rattle.tl_verdict.specs.declared.fault.MapFault.TheVariants.{Records, Meet, Side, PolygonPoint, Cell}
+use Rattle.tl_verdict.specs.declared.fault.MapFault.TheVariants.{Records, Meet, Side, PolygonPoint, Cell, Face}
 use Rattle.tl_verdict.specs.declared.verdict.Verdict.TheVariants as verdict
 use Rattle.tl_check.specs.declared.state.Halt.{Halt}
 use Rattle.tl_check.specs.declared.state.Halt.TheVariants as halt
@@ -41,6 +41,7 @@ fault_meets (Meet meet) P p = tt
 fault_meets (Side node first next) P p = p
 fault_meets (PolygonPoint fault) P p = p
 fault_meets (Cell odds) P p = p
+fault_meets (Face fault) P p = p
 
 pub meets_so : (answer : Answer) (P : Type 0) → P → UnlessMeet answer P
 meets_so (Ok (verdict.Sound report)) P p = p
@@ -55,6 +56,7 @@ fault_leads (Meet meet) P Q p so = tt
 fault_leads (Side node first next) P Q p so = so p
 fault_leads (PolygonPoint fault) P Q p so = so p
 fault_leads (Cell odds) P Q p so = so p
+fault_leads (Face fault) P Q p so = so p
 
 pub meets_leads : (answer : Answer) (P Q : Type 0) → UnlessMeet answer P → (P → Q) → UnlessMeet answer Q
 meets_leads (Ok (verdict.Sound report)) P Q p so = so p
@@ -69,6 +71,7 @@ met_fault (Meet meet) P p = tt
 met_fault (Side node first next) P p = p
 met_fault (PolygonPoint fault) P p = p
 met_fault (Cell odds) P p = p
+met_fault (Face fault) P p = p
 
 pub met_so : (why : Halt) (P : Type 0) → P → UnlessMet why P
 met_so (halt.Fault fault) P p = met_fault fault P p
@@ -81,6 +84,7 @@ halted_fault (Meet meet) P Q p so = tt
 halted_fault (Side node first next) P Q p so = so p
 halted_fault (PolygonPoint fault) P Q p so = so p
 halted_fault (Cell odds) P Q p so = so p
+halted_fault (Face fault) P Q p so = so p
 
 pub halted_meets : (why : Halt) (P Q : Type 0) → UnlessMet why P → (P → Q) → UnlessMeet (answer_of why) Q
 halted_meets (halt.Fault fault) P Q p so = halted_fault fault P Q p so

@@ -1,5 +1,5 @@
 -- What an answer says of the map of records it says of the records.
-use Rattle.std.proofs.Common.{◌≡◌, ℕ, List, Option, Ok, Err, inl, inr, refl}
+use Rattle.std.proofs.Common.{◌≡◌, ℕ, Bool, List, Option, Ok, Err, inl, inr, refl}
 use Rattle.std.specs.Prelude.{IfErr}
 use Rattle.std.specs.Option.{IfSome}
 use Rattle.std.proofs.lemmas.Option.{IfSome_then}
@@ -10,26 +10,40 @@ use Rattle.tl_county.specs.TheMap.{TheMap}
 use Rattle.tl_planar.specs.Planar.{IsPlanar}
 use Rattle.tl_drawn.specs.Reading.{IsReadFrom, StopsReading, TellsDevice as TellsReading}
 use Rattle.tl_verdict.specs.declared.fault.MapFault.{MapFault}
-use Rattle.tl_verdict.specs.declared.fault.MapFault.TheVariants.{Records, Meet, Side, PolygonPoint, Cell}
+use Rattle.tl_verdict.specs.declared.fault.MapFault.TheVariants.{Records, Meet, Side, PolygonPoint, Cell, Face}
 use Rattle.tl_verdict.specs.declared.verdict.Report.{Report}
 use Rattle.tl_verdict.specs.declared.verdict.Verdict.TheVariants as verdict
 use Rattle.tl_verdict.specs.declared.fault.CertFault.{CertFault}
-use Rattle.tl_verdict.specs.declared.stop.Stop.{Stop}
-use Rattle.tl_verdict.specs.declared.stop.Stop.TheVariants as stop
+use Rattle.tl_output.specs.declared.stop.Stop.{Stop}
+use Rattle.tl_output.specs.declared.stop.Stop.TheVariants as stop
 use Rattle.tl_verdict.specs.Truth.{IsTrueOfMap, IsOfDarts}
-use Rattle.tl_verdict.specs.Verdicts.{Answer, OnSound, IfSound, IfMapFault, IfCertFault, UnlessMeet, OnSearched}
-use Rattle.tl_verdict.specs.Texts.{MayStopReading, TellsDevice}
+use Rattle.tl_verdict.specs.Verdicts.{Answer, OnSound, OnSoundButFaces, IfSound, IfMapFault, IfCertFault, UnlessMeet, OnSearched}
+use Rattle.tl_verdict.specs.Texts.{MayStopReading}
+use Rattle.tl_output.specs.Stops.{TellsDevice}
 use Rattle.tl_verdict.specs.Records.{HaveMap, IsTrueOfRecords, MayStopOn, TellsEither, LeavesUnread}
 use Rattle.tl_check.specs.Keeping.Answers.{refusal_of}
 use Rattle.tl_check.proofs.Searched.{searched_so}
 use Rattle.tl_check.proofs.Meeting.{meets_leads}
 
-true_of_records : (all : AllRecords) (m : TheMap) (f : MapFault) → IsReadFrom all m → IsTrueOfMap m f → IsTrueOfRecords all f
-true_of_records all m (Records fault) is true = absurd true
-true_of_records all m (Meet meet) is true = record { map = m; is_read = is; so = true }
-true_of_records all m (Side node first next) is true = record { map = m; is_read = is; so = true }
-true_of_records all m (PolygonPoint fault) is true = record { map = m; is_read = is; so = true }
-true_of_records all m (Cell odds) is true = record { map = m; is_read = is; so = true }
+true_of_records : (faces : Bool) (all : AllRecords) (m : TheMap) (f : MapFault) → IsReadFrom all m → IsTrueOfMap faces m f → IsTrueOfRecords faces all f
+true_of_records faces all m (Records fault) is true = absurd true
+true_of_records faces all m (Meet meet) is true = record { map = m; is_read = is; so = true }
+true_of_records faces all m (Side node first next) is true = record { map = m; is_read = is; so = true }
+true_of_records faces all m (PolygonPoint fault) is true = record { map = m; is_read = is; so = true }
+true_of_records faces all m (Cell odds) is true = record { map = m; is_read = is; so = true }
+true_of_records faces all m (Face fault) is true = record { map = m; is_read = is; so = true }
+
+-- what is so of another thing
+pub but_faces_so : (answer : Answer) (P Q : Type 0) → OnSoundButFaces answer P → (P → Q) → OnSoundButFaces answer Q
+but_faces_so (Ok (verdict.Sound report)) P Q p so = so p
+but_faces_so (Ok (verdict.CertFault fault)) P Q p so = tt
+but_faces_so (Ok (verdict.MapFault (Records fault))) P Q p so = tt
+but_faces_so (Ok (verdict.MapFault (Meet meet))) P Q p so = tt
+but_faces_so (Ok (verdict.MapFault (Side node first next))) P Q p so = tt
+but_faces_so (Ok (verdict.MapFault (PolygonPoint fault))) P Q p so = tt
+but_faces_so (Ok (verdict.MapFault (Cell odds))) P Q p so = tt
+but_faces_so (Ok (verdict.MapFault (Face fault))) P Q p so = so p
+but_faces_so (Err why) P Q p so = tt
 
 -- an answer to the map of the records
 module _ (of : List ℕ → AllRecords) (text : Option (List ℕ)) (m : TheMap) (is : IfSome text (λ t. IsReadFrom (of t) m)) where
@@ -39,11 +53,13 @@ module _ (of : List ℕ → AllRecords) (text : Option (List ℕ)) (m : TheMap) 
   on_sound P (Ok (verdict.CertFault fault)) so = tt
   on_sound P (Err why) so = tt
 
-  pub on_sound_text : (spelt : Option (List ℕ)) (P : TheMap → List ℕ → Type 0) (answer : Answer) → OnSound answer (IfSome spelt (P m)) → OnSound answer (IfSome text (λ t. IfSome spelt (λ s. HaveMap (of t) (λ n. P n s))))
-  on_sound_text spelt P (Ok (verdict.Sound report)) so = IfSome_then text is (λ t read. IfSome_then spelt so (λ s holds. record { map = m; is_read = read; so = holds }))
-  on_sound_text spelt P (Ok (verdict.MapFault fault)) so = tt
-  on_sound_text spelt P (Ok (verdict.CertFault fault)) so = tt
-  on_sound_text spelt P (Err why) so = tt
+  pub but_faces : (P : TheMap → Type 0) (answer : Answer) → OnSoundButFaces answer (P m) → OnSoundButFaces answer (IfSome text (λ t. HaveMap (of t) P))
+  but_faces P answer so = but_faces_so answer (P m) (IfSome text (λ t. HaveMap (of t) P)) so (λ p. IfSome_then text is (λ t read. record { map = m; is_read = read; so = p }))
+
+  pub but_faces_text : (spelt : Option (List ℕ)) (P : TheMap → List ℕ → Type 0) (answer : Answer) → OnSoundButFaces answer (IfSome spelt (P m))
+      → OnSoundButFaces answer (IfSome text (λ t. IfSome spelt (λ s. HaveMap (of t) (λ n. P n s))))
+  but_faces_text spelt P answer so = but_faces_so answer (IfSome spelt (P m)) (IfSome text (λ t. IfSome spelt (λ s. HaveMap (of t) (λ n. P n s)))) so
+      (λ p. IfSome_then text is (λ t read. IfSome_then spelt p (λ s holds. record { map = m; is_read = read; so = holds })))
 
   pub if_sound : (P : TheMap → Report → Type 0) (answer : Answer) → IfSound answer (P m) → IfSound answer (λ r. IfSome text (λ t. HaveMap (of t) (λ n. P n r)))
   if_sound P (Ok (verdict.Sound report)) so = IfSome_then text is (λ t read. record { map = m; is_read = read; so = so })
@@ -51,11 +67,11 @@ module _ (of : List ℕ → AllRecords) (text : Option (List ℕ)) (m : TheMap) 
   if_sound P (Ok (verdict.CertFault fault)) so = tt
   if_sound P (Err why) so = tt
 
-  pub map_fault : (answer : Answer) → IfMapFault answer (IsTrueOfMap m) → IfMapFault answer (λ f. IfSome text (λ t. IsTrueOfRecords (of t) f))
-  map_fault (Ok (verdict.MapFault f)) true = IfSome_then text is (λ t read. true_of_records (of t) m f read true)
-  map_fault (Ok (verdict.Sound report)) true = tt
-  map_fault (Ok (verdict.CertFault f)) true = tt
-  map_fault (Err why) true = tt
+  pub map_fault : (faces : Bool) (answer : Answer) → IfMapFault answer (IsTrueOfMap faces m) → IfMapFault answer (λ f. IfSome text (λ t. IsTrueOfRecords faces (of t) f))
+  map_fault faces (Ok (verdict.MapFault f)) true = IfSome_then text is (λ t read. true_of_records faces (of t) m f read true)
+  map_fault faces (Ok (verdict.Sound report)) true = tt
+  map_fault faces (Ok (verdict.CertFault f)) true = tt
+  map_fault faces (Err why) true = tt
 
   pub cert_fault : (P : TheMap → CertFault → Type 0) (answer : Answer) → IfCertFault answer (P m) → IfCertFault answer (λ f. IfSome text (λ t. HaveMap (of t) (λ n. P n f)))
   cert_fault P (Ok (verdict.CertFault f)) true = IfSome_then text is (λ t read. record { map = m; is_read = read; so = true })
@@ -86,18 +102,19 @@ module _ (of : List ℕ → AllRecords) (text : Option (List ℕ)) (m : TheMap) 
   stops budget (Err why) may = stop_on budget why may
 
 -- an answer to a map leaves nothing unread
-pub unread : (m : TheMap) (budget : ℕ) (P : Type 0) (answer : Answer) → IfMapFault answer (IsTrueOfMap m) → IfErr answer (MayStopReading m budget) → LeavesUnread answer P
-unread m budget P (Ok (verdict.Sound report)) true may = tt
-unread m budget P (Ok (verdict.CertFault f)) true may = tt
-unread m budget P (Ok (verdict.MapFault (Records fault))) true may = absurd true
-unread m budget P (Ok (verdict.MapFault (Meet meet))) true may = tt
-unread m budget P (Ok (verdict.MapFault (Side node first next))) true may = tt
-unread m budget P (Ok (verdict.MapFault (PolygonPoint fault))) true may = tt
-unread m budget P (Ok (verdict.MapFault (Cell odds))) true may = tt
-unread m budget P (Err (stop.Record line cause)) true may = absurd may
-unread m budget P (Err stop.Memory) true may = tt
-unread m budget P (Err stop.Device) true may = tt
-unread m budget P (Err stop.Budget) true may = tt
+pub unread : (faces : Bool) (m : TheMap) (budget : ℕ) (P : Type 0) (answer : Answer) → IfMapFault answer (IsTrueOfMap faces m) → IfErr answer (MayStopReading m budget) → LeavesUnread answer P
+unread faces m budget P (Ok (verdict.Sound report)) true may = tt
+unread faces m budget P (Ok (verdict.CertFault f)) true may = tt
+unread faces m budget P (Ok (verdict.MapFault (Records fault))) true may = absurd true
+unread faces m budget P (Ok (verdict.MapFault (Meet meet))) true may = tt
+unread faces m budget P (Ok (verdict.MapFault (Side node first next))) true may = tt
+unread faces m budget P (Ok (verdict.MapFault (PolygonPoint fault))) true may = tt
+unread faces m budget P (Ok (verdict.MapFault (Cell odds))) true may = tt
+unread faces m budget P (Ok (verdict.MapFault (Face fault))) true may = tt
+unread faces m budget P (Err (stop.Record line cause)) true may = absurd may
+unread faces m budget P (Err stop.Memory) true may = tt
+unread faces m budget P (Err stop.Device) true may = tt
+unread faces m budget P (Err stop.Budget) true may = tt
 
 -- where reading the records counted no failure, one of the certificate's alone is told
 pub tells_either : (old new cert_old cert_new : ℕ) (answer : Answer) → new ≡ old → TellsDevice cert_old cert_new answer → TellsEither old new cert_old cert_new answer
@@ -114,6 +131,12 @@ refused_sound map.Device P = tt
 refused_sound map.Memory P = tt
 refused_sound (map.Fault fault) P = tt
 
+pub refused_but_faces : (why : MapStop) (P : Type 0) → OnSoundButFaces (refusal_of why) P
+refused_but_faces (map.Refused line cause) P = tt
+refused_but_faces map.Device P = tt
+refused_but_faces map.Memory P = tt
+refused_but_faces (map.Fault fault) P = tt
+
 pub refused_cert : (why : MapStop) (P : CertFault → Type 0) → IfCertFault (refusal_of why) P
 refused_cert (map.Refused line cause) P = tt
 refused_cert map.Device P = tt
@@ -126,11 +149,11 @@ refused_searched map.Device P = tt
 refused_searched map.Memory P = tt
 refused_searched (map.Fault fault) P = tt
 
-pub refused_fault : (of : List ℕ → AllRecords) (text : Option (List ℕ)) (why : MapStop) → IfSome text (λ t. StopsReading (of t) why) → IfMapFault (refusal_of why) (λ f. IfSome text (λ t. IsTrueOfRecords (of t) f))
-refused_fault of text (map.Refused line cause) stops = tt
-refused_fault of text map.Device stops = tt
-refused_fault of text map.Memory stops = tt
-refused_fault of text (map.Fault fault) stops = stops
+pub refused_fault : (faces : Bool) (of : List ℕ → AllRecords) (text : Option (List ℕ)) (why : MapStop) → IfSome text (λ t. StopsReading (of t) why) → IfMapFault (refusal_of why) (λ f. IfSome text (λ t. IsTrueOfRecords faces (of t) f))
+refused_fault faces of text (map.Refused line cause) stops = tt
+refused_fault faces of text map.Device stops = tt
+refused_fault faces of text map.Memory stops = tt
+refused_fault faces of text (map.Fault fault) stops = stops
 
 pub refused_stops : (of : List ℕ → AllRecords) (text : Option (List ℕ)) (budget : ℕ) (why : MapStop) → IfSome text (λ t. StopsReading (of t) why) → IfErr (refusal_of why) (λ s. IfSome text (λ t. MayStopOn (of t) budget s))
 refused_stops of text budget (map.Refused line cause) stops = stops

@@ -2,7 +2,7 @@
 use Rattle.std.proofs.Common.{ℕ, List, Option, None, Some, Ok, Err}
 use Rattle.std.specs.Option.{IfSome}
 use Rattle.tl_county.specs.TheMap.{TheMap}
-use Rattle.tl_cert.specs.declared.place.Place.TheVariants.{Treed}
+use Rattle.tl_cert.specs.declared.place.NextPart.TheVariants.{Treed}
 use Rattle.tl_cert.specs.declared.reader.CertReader.{CertReader}
 use Rattle.tl_cert.specs.declared.stop.CertStop.{CertStop}
 use Rattle.tl_cert.specs.declared.stop.CertStop.TheVariants as cert
@@ -10,9 +10,9 @@ use Rattle.tl_cert.specs.Certificates.{TheCertificate, IsCertificate}
 use Rattle.tl_cert.specs.Reading.{unread}
 use Rattle.tl_cert.specs.Keeping.Collecting.{Collects, Follows}
 use Rattle.tl_verdict.specs.declared.fault.MapFault.{MapFault}
-use Rattle.tl_verdict.specs.declared.fault.MapFault.TheVariants.{Records, Meet, Side, PolygonPoint, Cell}
+use Rattle.tl_verdict.specs.declared.fault.MapFault.TheVariants.{Records, Meet, Side, PolygonPoint, Cell, Face}
 use Rattle.tl_verdict.specs.declared.verdict.Verdict.TheVariants as verdict
-use Rattle.tl_verdict.specs.declared.stop.Stop.TheVariants.{Record, Memory, Device, Budget}
+use Rattle.tl_output.specs.declared.stop.Stop.TheVariants.{Record, Memory, Device, Budget}
 use Rattle.tl_check.specs.declared.state.Halt.{Halt}
 use Rattle.tl_check.specs.declared.state.Halt.TheVariants as halt
 use Rattle.tl_verdict.specs.Valid.{AllowsSearch}
@@ -55,6 +55,7 @@ fault_searched (Meet meet) P p = p
 fault_searched (Side node first next) P p = p
 fault_searched (PolygonPoint fault) P p = p
 fault_searched (Cell odds) P p = p
+fault_searched (Face fault) P p = tt
 
 pub halted_searched : (why : Halt) (P Q : Type 0) → UnlessMemory why Q → (Q → P) → OnSearched (answer_of why) P
 halted_searched (halt.Fault fault) P Q q so = fault_searched fault P (so q)
@@ -75,6 +76,7 @@ searched_so (Ok (verdict.MapFault (Meet meet))) P Q p so = so p
 searched_so (Ok (verdict.MapFault (Side node first next))) P Q p so = so p
 searched_so (Ok (verdict.MapFault (PolygonPoint fault))) P Q p so = so p
 searched_so (Ok (verdict.MapFault (Cell odds))) P Q p so = so p
+searched_so (Ok (verdict.MapFault (Face fault))) P Q p so = tt
 searched_so (Err (Record line cause)) P Q p so = tt
 searched_so (Err Memory) P Q p so = tt
 searched_so (Err Device) P Q p so = tt

@@ -3,12 +3,12 @@ use Rattle.std.proofs.Common.{◌≡◌, ℕ, List, Option, Err, ap, ◌∙◌}
 use Rattle.tl_record.specs.Failures.{one_more}
 use Rattle.tl_county.specs.TheMap.{TheMap}
 use Rattle.tl_cert.specs.Certificates.{TheCertificate}
-use Rattle.tl_cert.specs.declared.place.Place.{Place}
+use Rattle.tl_cert.specs.declared.place.NextPart.{NextPart}
 use Rattle.tl_cert.specs.declared.reader.Standing.TheVariants.{Reading}
 use Rattle.tl_cert.specs.declared.stop.CertStop.{CertStop}
 use Rattle.tl_cert.specs.declared.stop.CertStop.TheVariants as stop
 use Rattle.tl_cert.specs.Reading.{TellsFailure}
-use Rattle.tl_verdict.specs.Texts.{TellsDevice}
+use Rattle.tl_output.specs.Stops.{TellsDevice}
 use Rattle.tl_check.specs.declared.state.Halt.{Halt}
 use Rattle.tl_check.specs.declared.state.Halt.TheVariants as halt
 use Rattle.tl_check.specs.Keeping.Answers.{answer_of, stop_of}
@@ -16,7 +16,7 @@ use Rattle.tl_check.specs.Keeping.Parts.{MayHalt, MayEnd}
 use Rattle.tl_check.specs.Keeping.Streams.{Decides, Concludes}
 
 -- a stop, where no read had failed before
-pub stopped_tells : (why : CertStop) (place : Place) (first old new : ℕ) → TellsFailure (Reading place) old new (Err why) → old ≡ first → TellsDevice first new (stop_of why)
+pub stopped_tells : (why : CertStop) (place : NextPart) (first old new : ℕ) → TellsFailure (Reading place) old new (Err why) → old ≡ first → TellsDevice first new (stop_of why)
 stopped_tells (stop.Text line) place first old new tells is = tells ∙ is
 stopped_tells stop.Memory place first old new tells is = tells ∙ is
 stopped_tells stop.Device place first old new tells is = tells ∙ ap one_more is

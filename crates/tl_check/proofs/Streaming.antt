@@ -6,8 +6,8 @@ use Rattle.tl_county.specs.TheMap.{TheMap}
 use Rattle.tl_index.specs.declared.node.TreeNode.{TreeNode}
 use Rattle.tl_index.specs.Preorder.{IsPreorder}
 use Rattle.tl_cert.specs.declared.certificate.Counts.{Counts}
-use Rattle.tl_cert.specs.declared.place.Place.{Place}
-use Rattle.tl_cert.specs.declared.place.Place.TheVariants.{Start, Counted, Treed, Rounds, Walks}
+use Rattle.tl_cert.specs.declared.place.NextPart.{NextPart}
+use Rattle.tl_cert.specs.declared.place.NextPart.TheVariants.{Start, Counted, Treed, Rounds, Walks}
 use Rattle.tl_cert.specs.declared.place.CertPart.{CertPart}
 use Rattle.tl_cert.specs.declared.place.CertPart.TheVariants as part
 use Rattle.tl_cert.specs.declared.reader.CertReader.{CertReader}
@@ -24,12 +24,13 @@ use Rattle.tl_sides.proofs.ListLemmas.{length-and, list-last}
 use Rattle.tl_verdict.specs.declared.fault.CertFault.{CertFault}
 use Rattle.tl_verdict.specs.declared.fault.CertFault.TheVariants as fault
 use Rattle.tl_verdict.specs.declared.verdict.Verdict.TheVariants as verdict
-use Rattle.tl_verdict.specs.declared.stop.Stop.TheVariants.{Record, Memory, Device, Budget}
+use Rattle.tl_output.specs.declared.stop.Stop.TheVariants.{Record, Memory, Device, Budget}
 use Rattle.tl_check.specs.declared.state.State.{State}
 use Rattle.tl_check.specs.declared.state.State.TheVariants as state
 use Rattle.tl_verdict.specs.Valid.{AreCounts}
 use Rattle.tl_verdict.specs.Truth.{IsTrueOfCert}
-use Rattle.tl_verdict.specs.Texts.{IsTrueOfText, TellsDevice}
+use Rattle.tl_verdict.specs.Texts.{IsTrueOfText}
+use Rattle.tl_output.specs.Stops.{TellsDevice}
 use Rattle.tl_verdict.specs.Verdicts.{Answer}
 use Rattle.tl_check.specs.Keeping.Answers.{stop_of}
 use Rattle.tl_check.specs.Keeping.Parts.{Holds, TakesRounds, with_round, with_walk}
@@ -39,7 +40,7 @@ use Rattle.tl_check.proofs.Shown.{are_closed, is_report}
 
 module _ {R : Type 0} (remaining : R → Option (List ℕ)) (m : TheMap) (budget : ℕ) (first : CertReader R) where
   -- a stop
-  pub stop_decides : (place : Place) (old new : CertReader R) (c : TheCertificate) (s : CertStop) → Collects remaining place first old c → Gives remaining old new (Err s) (standing_of old) → Decides m budget (unread remaining first) (stop_of s)
+  pub stop_decides : (place : NextPart) (old new : CertReader R) (c : TheCertificate) (s : CertStop) → Collects remaining place first old c → Gives remaining old new (Err s) (standing_of old) → Decides m budget (unread remaining first) (stop_of s)
   stop_decides place old new c (stop.Text line) so gives = stops_all remaining place first old new c (stop.Text line) so (gives_here remaining old new (Err (stop.Text line)) place so.standing gives)
   stop_decides place old new c stop.Memory so gives = tt
   stop_decides place old new c stop.Device so gives = tt
@@ -114,7 +115,7 @@ module _ {R : Type 0} (remaining : R → Option (List ℕ)) (m : TheMap) (budget
       c : TheCertificate
       c = with_round st.cert darts.items
 
-      made : (next : Place) (left : ℕ) → next ≡ Rounds left → Collects remaining next first now c → IsRoundRead now st.cert darts.items
+      made : (next : NextPart) (left : ℕ) → next ≡ Rounds left → Collects remaining next first now c → IsRoundRead now st.cert darts.items
       made next left e so =
           let here : Collects remaining (Rounds left) first now c = subst (λ p. Collects remaining p first now c) e so in
           record {
@@ -123,7 +124,7 @@ module _ {R : Type 0} (remaining : R → Option (List ℕ)) (m : TheMap) (budget
             some = has_some c.rounds (length st.cert.rounds) darts.items here.behind.given.0.0.rounds (list-last st.cert.rounds darts.items (length st.cert.rounds) refl) (let l = length-and st.cert.rounds darts.items in omega (arith, l));
           }
 
-      go : (place : Place) → Collects remaining place first old st.cert → Suits place s → GivesAt remaining place old now (Ok (Some (part.Round darts))) → IsRoundRead now st.cert darts.items × TakesRounds s
+      go : (place : NextPart) → Collects remaining place first old st.cert → Suits place s → GivesAt remaining place old now (Ok (Some (part.Round darts))) → IsRoundRead now st.cert darts.items × TakesRounds s
       go Start so suits at = absurd suits
       go (Counted version) so suits at = absurd suits
       go (Treed version) so suits at = (made at.0 at.4.0 at.4.1 (collects_more remaining (Treed version) first old now st.cert c (part.Round darts) so at refl), suits)
@@ -141,7 +142,7 @@ module _ {R : Type 0} (remaining : R → Option (List ℕ)) (m : TheMap) (budget
       c : TheCertificate
       c = with_walk st.cert darts.items
 
-      made : (next : Place) (left : ℕ) → next ≡ Walks left → Collects remaining next first now c → IsWalkRead now st.cert darts.items
+      made : (next : NextPart) (left : ℕ) → next ≡ Walks left → Collects remaining next first now c → IsWalkRead now st.cert darts.items
       made next left e so =
           let here : Collects remaining (Walks left) first now c = subst (λ p. Collects remaining p first now c) e so in
           record {
@@ -150,7 +151,7 @@ module _ {R : Type 0} (remaining : R → Option (List ℕ)) (m : TheMap) (budget
             some = has_some c.walks (length st.cert.walks) darts.items here.behind.given.0.0.walks (list-last st.cert.walks darts.items (length st.cert.walks) refl) (let l = length-and st.cert.walks darts.items in omega (arith, l));
           }
 
-      go : (place : Place) → Collects remaining place first old st.cert → Suits place s → GivesAt remaining place old now (Ok (Some (part.Walk darts))) → IsWalkRead now st.cert darts.items
+      go : (place : NextPart) → Collects remaining place first old st.cert → Suits place s → GivesAt remaining place old now (Ok (Some (part.Walk darts))) → IsWalkRead now st.cert darts.items
       go Start so suits at = absurd suits
       go (Counted version) so suits at = absurd suits
       go (Treed version) so suits at = made at.0 at.4.0 at.4.1 (collects_more remaining (Treed version) first old now st.cert c (part.Walk darts) so at refl)
@@ -159,7 +160,7 @@ module _ {R : Type 0} (remaining : R → Option (List ℕ)) (m : TheMap) (budget
 
   -- one of them
   pub record IsPartRead (now : CertReader R) (c : TheCertificate) (given : CertPart) : Type 0 where
-    pub place : Place
+    pub place : NextPart
     pub collects : Collects remaining place first now (with_part c given)
     pub suits : (s : State) → TakesBehind given s → Suits place s
     pub counts : (with_part c given).counts ≡ c.counts
@@ -168,7 +169,7 @@ module _ {R : Type 0} (remaining : R → Option (List ℕ)) (m : TheMap) (budget
   pub part_read : (old now : CertReader R) (s : State) (given : CertPart) (st : Stands remaining m first old s) → Gives remaining old now (Ok (Some given)) (standing_of old) → IsPartRead now st.cert given × MayCome given s
   part_read old now s (part.Counts counts v) st gives = go st.place st.suits (gives_here remaining old now (Ok (Some (part.Counts counts v))) st.place st.collects.standing gives)
     where
-      go : {P : Type 0} (place : Place) → Suits place s → GivesAt remaining place old now (Ok (Some (part.Counts counts v))) → P
+      go : {P : Type 0} (place : NextPart) → Suits place s → GivesAt remaining place old now (Ok (Some (part.Counts counts v))) → P
       go Start suits at = absurd suits
       go (Counted version) suits at = absurd suits
       go (Treed version) suits at = absurd at.4
@@ -176,7 +177,7 @@ module _ {R : Type 0} (remaining : R → Option (List ℕ)) (m : TheMap) (budget
       go (Walks left) suits at = absurd at.4
   part_read old now s (part.Tree nodes) st gives = go st.place st.suits (gives_here remaining old now (Ok (Some (part.Tree nodes))) st.place st.collects.standing gives)
     where
-      go : {P : Type 0} (place : Place) → Suits place s → GivesAt remaining place old now (Ok (Some (part.Tree nodes))) → P
+      go : {P : Type 0} (place : NextPart) → Suits place s → GivesAt remaining place old now (Ok (Some (part.Tree nodes))) → P
       go Start suits at = absurd suits
       go (Counted version) suits at = absurd suits
       go (Treed version) suits at = absurd at.4
@@ -236,7 +237,7 @@ pub gives_as : {R : Type 0} (remaining : R → Option (List ℕ)) (old new : Cer
 gives_as remaining old new found some given e f gives = subst (λ a. Gives remaining old new (Ok a) (standing_of old)) (e ∙ ap Some f) gives
 
 -- behind a part fewer are left
-pub fewer_left : {R : Type 0} (remaining : R → Option (List ℕ)) (place : Place) (old new : CertReader R) (given : CertPart) → standing_of old ≡ Reading place → Gives remaining old new (Ok (Some given)) (standing_of old) → left_of (standing_of new) < left_of (standing_of old)
+pub fewer_left : {R : Type 0} (remaining : R → Option (List ℕ)) (place : NextPart) (old new : CertReader R) (given : CertPart) → standing_of old ≡ Reading place → Gives remaining old new (Ok (Some given)) (standing_of old) → left_of (standing_of new) < left_of (standing_of old)
 fewer_left remaining place old new given is gives =
     let at = gives_here remaining old new (Ok (Some given)) place is gives in
     subst (λ s. left_of (standing_of new) < left_of s) (sym is) (subst (λ s. left_of s < parts_left place) (sym at.1) at.2)

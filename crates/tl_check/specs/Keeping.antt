@@ -3,3 +3,4 @@ pub mod Parts
 pub mod Answers
 pub mod Streams
 pub mod Read
+pub mod Faces

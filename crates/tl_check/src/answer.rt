@@ -1,11 +1,13 @@
 //! Answers.
 
 ghost use Rattle.std.specs.Prelude.{◌≡◌};
-ghost use Rattle.tl_check.specs.Keeping.Answers.{answer_of, stop_of};
+ghost use Rattle.tl_check.specs.Keeping.Answers.{answer_of, stop_of, refusal_of};
 
 use crate::state::Halt;
 use tl_cert::CertStop;
-use tl_verdict::{CertFault, Stop, Verdict};
+use tl_drawn::MapStop;
+use tl_output::Stop;
+use tl_verdict::{Verdict, fault_of_records, fault_of_text};
 
 /// The answer where no further part is looked at.
 pub fn answer(halt: Halt) -> Result<Verdict, Stop>
@@ -22,9 +24,18 @@ pub fn answer(halt: Halt) -> Result<Verdict, Stop>
 pub fn stopped(stop: CertStop) -> Result<Verdict, Stop>
     ensures { result ≡ stop_of stop }
 {
-    match stop {
-        CertStop::Text { line } => Ok(Verdict::CertFault(CertFault::Text { line })),
-        CertStop::Memory => Err(Stop::Memory),
-        CertStop::Device => Err(Stop::Device),
+    match fault_of_text(stop) {
+        Ok(fault) => Ok(Verdict::CertFault(fault)),
+        Err(stop) => Err(stop),
+    }
+}
+
+/// The answer where the records have no map.
+pub fn refused(stop: MapStop) -> Result<Verdict, Stop>
+    ensures { result ≡ refusal_of stop }
+{
+    match fault_of_records(stop) {
+        Ok(fault) => Ok(Verdict::MapFault(fault)),
+        Err(stop) => Err(stop),
     }
 }

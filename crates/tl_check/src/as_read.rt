@@ -1,27 +1,27 @@
 //! The check of a map by a certificate that is checked as its parts come.
 
-ghost use Rattle.std.specs.Prelude.{◌≡◌, ◌<◌, ◌≤◌, ◌^◌, length, IfOk, IfErr};
+ghost use Rattle.std.specs.Prelude.{◌≡◌, ◌<◌, ◌≤◌, ◌^◌, length, IfOk, IfErr, false};
 ghost use Rattle.std.specs.Option.{IfSome};
 ghost use Rattle.tl_index.specs.Preorder.{IsPreorder};
 ghost use Rattle.tl_planar.specs.Planar.{IsPlanar};
 ghost use Rattle.tl_planar.specs.Searching.{meeting_segments};
-ghost use Rattle.tl_sides.specs.Sides.{SidesAgree};
-ghost use Rattle.tl_inside.specs.Placed.{ArePlaced};
-ghost use Rattle.tl_cells.specs.Cells.{CellsAgree};
 ghost use Rattle.tl_cert.specs.declared.reader.Standing.TheVariants.{Reading};
-ghost use Rattle.tl_cert.specs.declared.place.Place.TheVariants.{Start};
+ghost use Rattle.tl_cert.specs.declared.place.NextPart.TheVariants.{Start};
 ghost use Rattle.tl_cert.specs.Certificates.{TheCertificate};
 ghost use Rattle.tl_cert.specs.Reading.{source_of, lines_of, standing_of};
-ghost use Rattle.tl_verdict.specs.Sound.{AreClosed};
+ghost use Rattle.tl_verdict.specs.Sound.{IsSoundFor};
 ghost use Rattle.tl_verdict.specs.Valid.{AreCounts, IsTree};
 ghost use Rattle.tl_verdict.specs.Truth.{IsTrueOfMap, IsOfDarts};
-ghost use Rattle.tl_verdict.specs.Verdicts.{OnSound, IfSound, IfMapFault, IfCertFault, UnlessMeet, OnSearched, IsReport};
-ghost use Rattle.tl_verdict.specs.Texts.{IsTrueOfText, IsValidText, TextAllowsSearch, MayStopReading, TellsDevice};
+ghost use Rattle.tl_verdict.specs.Verdicts.{OnSound, OnSoundButFaces, IfSound, IfMapFault, IfCertFault, UnlessMeet, OnSearched, IsReport};
+ghost use Rattle.tl_verdict.specs.Texts.{IsTrueOfText, IsValidText, TextAllowsSearch, MayStopReading};
+ghost use Rattle.tl_output.specs.Stops.{TellsDevice};
 ghost use Rattle.tl_check.specs.Keeping.Parts.{Holds, LeadsBehindTree};
+ghost use Rattle.tl_check.specs.Keeping.Read.{IsOfSpelt, IsOfText};
 ghost use Rattle.tl_check.specs.Keeping.Streams.{IsBehindTree, IsAnswer, MayCome, LeadsBy};
 
 use crate::answer::{answer, stopped};
 use crate::counts::are_counts;
+use crate::faces::with_faces;
 use crate::rounds::{end_rounds, take_round};
 use crate::state::{Halt, State};
 use crate::tree::take_tree;
@@ -30,35 +30,30 @@ use std::alloc::Global;
 use tl_cert::{CertPart, CertReader, Counts};
 use tl_county::Map;
 use tl_index::TreeNode;
+use tl_output::Stop;
 use tl_record::Source;
-use tl_verdict::{CertFault, Stop, Verdict};
+use tl_verdict::{CertFault, Verdict};
 
 /// Decides whether a map is sound, by the text of a certificate of it, read to its end unless segments meet that may not
-/// or a stop comes first. Of the certificate its tree is kept, and its walks as they come.
+/// or a stop comes first; and where `faces` are asked for, whether they agree, if nothing else is wrong with the map. Of the
+/// certificate its tree is kept, and its walks as they come.
 pub fn check_cert<S: Source>(
     alloc: Global,
     map: &Map,
     cert: &mut S,
     budget: u64,
+    faces: bool,
 ) -> Result<Verdict, Stop>
-    // No rational point lies on two chains but an end of both, and no chain meets itself but at its ends.
-    ensures planar { OnSound result (IsPlanar map.now.chains) }
-    // Neighbouring chains about each node name one polygon between them.
-    ensures sides { OnSound result (SidesAgree map.now.chains) }
-    // The boundary of each polygon, and that of the outside, is closed rings.
-    ensures closed { OnSound result (AreClosed map.now) }
-    // Each polygon's point is on no chain, inside its own rings, and clear of every other polygon.
-    ensures points { OnSound result (ArePlaced map.now) }
-    // Zero-cell ids agree, where they were read: two darts that have ids have one id exactly where they start at one point.
-    ensures cells { OnSound result (CellsAgree map.now.chains) }
+    // The map is sound, and keeps what is asked of its faces.
+    ensures sound { OnSound result (IsSoundFor faces map.now) }
     // The text is that of a certificate that is valid for the map.
-    ensures valid { OnSound result (IfSome (S.remaining cert.old) (IsValidText map.now)) }
+    ensures valid { OnSoundButFaces result (IfSome (S.remaining cert.old) (IsValidText map.now)) }
     // At most as many pairs of segments as the budget have rectangles that meet.
-    ensures within { OnSound result (meeting_segments map.now.chains ≤ budget) }
+    ensures within { OnSoundButFaces result (meeting_segments map.now.chains ≤ budget) }
     // The report has the map's numbers.
     ensures report { IfSound result (IsReport map.now) }
-    // Each fault is true.
-    ensures map_fault { IfMapFault result (IsTrueOfMap map.now) }
+    // Each fault is true; one of faces comes only where they are asked for, and nothing else is wrong with the map.
+    ensures map_fault { IfMapFault result (IsTrueOfMap faces map.now) }
     ensures cert_fault { IfCertFault result (λ fault.
         IfSome (S.remaining cert.old) (λ text. IsTrueOfText map.now text fault)) }
     // One of rounds or of walks comes only where the chains are planar.
@@ -72,6 +67,33 @@ pub fn check_cert<S: Source>(
     // It stops where memory was refused, a read failed, or more than the budget had to be tested.
     ensures stops { IfErr result (MayStopReading map.now budget) }
     // `Device` is answered where a read failed in this call, and nowhere else.
+    ensures failures { TellsDevice (S.failure_count cert.old) (S.failure_count cert.new) result }
+{
+    decide(alloc, map, cert, budget, faces)
+}
+
+/// The same, with one clause for all that the answer says.
+pub fn decide<S: Source>(
+    alloc: Global,
+    map: &Map,
+    cert: &mut S,
+    budget: u64,
+    faces: bool,
+) -> Result<Verdict, Stop>
+    ensures { IsOfText map.now faces budget (S.remaining cert.old) (S.failure_count cert.old) (S.failure_count cert.new) result }
+{
+    let decided = check_text(alloc, map, cert, budget);
+    with_faces(alloc, map, faces, decided)
+}
+
+/// The same without faces.
+fn check_text<S: Source>(
+    alloc: Global,
+    map: &Map,
+    cert: &mut S,
+    budget: u64,
+) -> Result<Verdict, Stop>
+    ensures decides { IsOfSpelt map.now false budget (S.remaining cert.old) result }
     ensures failures { TellsDevice (S.failure_count cert.old) (S.failure_count cert.new) result }
 {
     let mut reader = CertReader::new(alloc, cert);

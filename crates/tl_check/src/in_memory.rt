@@ -1,49 +1,41 @@
 //! The check of a map and a certificate in memory.
 
-ghost use Rattle.std.specs.Prelude.{◌≤◌, IfErr};
+ghost use Rattle.std.specs.Prelude.{◌≤◌, IfErr, false};
 ghost use Rattle.tl_planar.specs.Planar.{IsPlanar};
 ghost use Rattle.tl_planar.specs.Searching.{meeting_segments};
-ghost use Rattle.tl_sides.specs.Sides.{SidesAgree};
-ghost use Rattle.tl_inside.specs.Placed.{ArePlaced};
-ghost use Rattle.tl_cells.specs.Cells.{CellsAgree};
-ghost use Rattle.tl_verdict.specs.Sound.{AreClosed};
+ghost use Rattle.tl_verdict.specs.Sound.{IsSound, IsSoundFor};
 ghost use Rattle.tl_verdict.specs.Valid.{AllowsSearch, IsValid};
 ghost use Rattle.tl_verdict.specs.Truth.{IsTrueOfMap, IsTrueOfCert, IsOfDarts};
+ghost use Rattle.tl_check.specs.Keeping.Read.{IsOfCert};
 ghost use Rattle.tl_check.specs.Keeping.Streams.{Shows};
-ghost use Rattle.tl_verdict.specs.Verdicts.{OnSound, IfSound, IfMapFault, IfCertFault, UnlessMeet, OnSearched, IsReport, MayStop};
+ghost use Rattle.tl_verdict.specs.Verdicts.{OnSound, OnSoundButFaces, IfSound, IfMapFault, IfCertFault, UnlessMeet, OnSearched, IsReport, MayStop};
 
 use crate::answer::answer;
 use crate::as_read::take_counted;
+use crate::faces::with_faces;
 use crate::rounds::{end_rounds, take_round};
 use crate::walks::{conclude, take_walk};
 use std::alloc::Global;
 use tl_cert::Certificate;
 use tl_county::Map;
-use tl_verdict::{Stop, Verdict};
+use tl_output::Stop;
+use tl_verdict::Verdict;
 
 /// Decides whether a map is sound, by a certificate of it. `budget` is how many pairs of segments may be tested whose
 /// rectangles meet.
 ///
 /// [`Stop::Memory`] and [`Stop::Budget`] are the only stops.
 pub fn check_map(alloc: Global, map: &Map, cert: &Certificate, budget: u64) -> Result<Verdict, Stop>
-    // No rational point lies on two chains but an end of both, and no chain meets itself but at its ends.
-    ensures planar { OnSound result (IsPlanar map.now.chains) }
-    // Neighbouring chains about each node name one polygon between them.
-    ensures sides { OnSound result (SidesAgree map.now.chains) }
-    // The boundary of each polygon, and that of the outside, is closed rings.
-    ensures closed { OnSound result (AreClosed map.now) }
-    // Each polygon's point is on no chain, inside its own rings, and clear of every other polygon.
-    ensures points { OnSound result (ArePlaced map.now) }
-    // Zero-cell ids agree, where they were read: two darts that have ids have one id exactly where they start at one point.
-    ensures cells { OnSound result (CellsAgree map.now.chains) }
+    // The map is sound.
+    ensures sound { OnSound result (IsSound map.now) }
     // The certificate is valid for the map.
-    ensures valid { OnSound result (IsValid map.now cert.now) }
+    ensures valid { OnSoundButFaces result (IsValid map.now cert.now) }
     // At most as many pairs of segments as the budget have rectangles that meet.
-    ensures within { OnSound result (meeting_segments map.now.chains ≤ budget) }
+    ensures within { OnSoundButFaces result (meeting_segments map.now.chains ≤ budget) }
     // The report has the map's numbers.
     ensures report { IfSound result (IsReport map.now) }
-    // Each fault is true.
-    ensures map_fault { IfMapFault result (IsTrueOfMap map.now) }
+    // Each fault is true, and none is of faces.
+    ensures map_fault { IfMapFault result (IsTrueOfMap false map.now) }
     ensures cert_fault { IfCertFault result (IsTrueOfCert map.now cert.now) }
     // One of rounds or of walks comes only where the chains are planar.
     ensures behind { IfCertFault result (λ fault. IsOfDarts fault → IsPlanar map.now.chains) }
@@ -55,7 +47,46 @@ pub fn check_map(alloc: Global, map: &Map, cert: &Certificate, budget: u64) -> R
     // It stops where memory was refused, or more than the budget had to be tested.
     ensures stops { IfErr result (MayStop map.now budget) }
 {
-    check_whole(alloc, map, cert, budget)
+    check_map_with(alloc, map, cert, budget, false)
+}
+
+/// Decides as [`check_map`] does whether a map is sound, and where `faces` are asked for, whether they agree. They are looked at
+/// only where nothing else is wrong with the map.
+pub fn check_map_with(
+    alloc: Global,
+    map: &Map,
+    cert: &Certificate,
+    budget: u64,
+    faces: bool,
+) -> Result<Verdict, Stop>
+    // The map is sound, and keeps what is asked of its faces.
+    ensures sound { OnSound result (IsSoundFor faces map.now) }
+    ensures valid { OnSoundButFaces result (IsValid map.now cert.now) }
+    ensures within { OnSoundButFaces result (meeting_segments map.now.chains ≤ budget) }
+    ensures report { IfSound result (IsReport map.now) }
+    // Each fault is true; one of faces comes only where they are asked for, and nothing else is wrong with the map.
+    ensures map_fault { IfMapFault result (IsTrueOfMap faces map.now) }
+    ensures cert_fault { IfCertFault result (IsTrueOfCert map.now cert.now) }
+    ensures behind { IfCertFault result (λ fault. IsOfDarts fault → IsPlanar map.now.chains) }
+    ensures meets { UnlessMeet result (AllowsSearch map.now cert.now → IsPlanar map.now.chains) }
+    ensures searched { OnSearched result (AllowsSearch map.now cert.now) }
+    ensures stops { IfErr result (MayStop map.now budget) }
+{
+    decide(alloc, map, cert, budget, faces)
+}
+
+// The same, with one clause for all that the answer says.
+fn decide(
+    alloc: Global,
+    map: &Map,
+    cert: &Certificate,
+    budget: u64,
+    faces: bool,
+) -> Result<Verdict, Stop>
+    ensures { IsOfCert map.now faces budget cert.now result }
+{
+    let decided = check_whole(alloc, map, cert, budget);
+    with_faces(alloc, map, faces, decided)
 }
 
 // The answer, with one clause for what it says by its kind.

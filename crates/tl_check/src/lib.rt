@@ -2,13 +2,14 @@
 //!
 //! [`check_map`] answers that a map is sound only where it is: its chains are planar, its sides agree, the boundary of each
 //! polygon and that of the outside is closed rings, and the points of polygons lie inside their own rings alone
-//! (`specs/Sound`). Each fault that it names is true
-//! (`specs/Truth`), of the map or of the certificate.
+//! (`tl_verdict/specs/Sound`). Each fault that it names is true (`tl_verdict/specs/Truth`), of the map or of the certificate.
+//! [`check_map_with`] asks for faces too, where they are wanted, of a map that is sound otherwise.
 #![tactic(auto)]
 
 mod answer;
 mod as_read;
 mod counts;
+mod faces;
 mod in_memory;
 mod of_records;
 mod points;
@@ -18,6 +19,7 @@ mod tree;
 mod walks;
 
 pub use as_read::check_cert;
-pub use in_memory::check_map;
+pub use in_memory::{check_map, check_map_with};
 pub use of_records::{check, check_with};
-pub use tl_verdict::{CertFault, MapFault, Report, Stop, Verdict, laws, report};
+pub use tl_output::Stop;
+pub use tl_verdict::{CertFault, MapFault, Report, Verdict, laws, report};

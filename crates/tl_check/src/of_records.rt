@@ -1,35 +1,27 @@
 //! The check of records by the text of a certificate.
 
-ghost use Rattle.std.specs.Prelude.{◌≡◌, ◌≤◌, IfErr};
+ghost use Rattle.std.specs.Prelude.{◌≡◌, ◌≤◌, IfErr, false};
 ghost use Rattle.std.specs.Option.{IfSome};
 ghost use Rattle.tl_record.specs.Layout.{tiger_2006, layout_with};
 ghost use Rattle.tl_record.specs.Records.{records_of};
 ghost use Rattle.tl_planar.specs.Planar.{IsPlanar};
 ghost use Rattle.tl_planar.specs.Searching.{meeting_segments};
-ghost use Rattle.tl_sides.specs.Sides.{SidesAgree};
-ghost use Rattle.tl_inside.specs.Placed.{ArePlaced};
-ghost use Rattle.tl_cells.specs.Cells.{CellsAgree};
-ghost use Rattle.tl_verdict.specs.Sound.{AreClosed};
+ghost use Rattle.tl_verdict.specs.Sound.{IsSound, IsSoundFor};
 ghost use Rattle.tl_verdict.specs.Truth.{IsOfDarts};
-ghost use Rattle.tl_verdict.specs.Verdicts.{OnSound, IfSound, IfMapFault, IfCertFault, UnlessMeet, OnSearched, IsReport};
+ghost use Rattle.tl_verdict.specs.Verdicts.{OnSound, OnSoundButFaces, IfSound, IfMapFault, IfCertFault, UnlessMeet, OnSearched, IsReport};
 ghost use Rattle.tl_verdict.specs.Texts.{IsTrueOfText, IsValidText, TextAllowsSearch};
 ghost use Rattle.tl_verdict.specs.Records.{HaveMap, IsTrueOfRecords, MayStopOn, TellsEither, LeavesUnread};
-ghost use Rattle.tl_check.specs.Keeping.Answers.{refusal_of};
 ghost use Rattle.tl_check.specs.Keeping.Read.{IsOfRead};
 
-use crate::as_read::check_cert;
+use crate::answer::refused;
+use crate::as_read::decide;
 use std::alloc::Global;
 use std::hash::RandomState;
 use tl_county::Map;
 use tl_map::{MapStop, read_map_with};
-use tl_record::{Options, Source};
-use tl_verdict::{MapFault, Stop, Verdict};
-
-// Neither choice of columns.
-const PLAIN: Options = Options {
-    zero_cells: false,
-    released: false,
-};
+use tl_output::Stop;
+use tl_record::{Options, PLAIN, Source};
+use tl_verdict::Verdict;
 
 /// Decides whether the map of a county is sound, from the text of its record files and the text of a certificate.
 ///
@@ -42,33 +34,21 @@ pub fn check<R: Source, S: Source>(
     cert: &mut S,
     budget: u64,
 ) -> Result<Verdict, Stop>
-    // No rational point lies on two chains but an end of both, and no chain meets itself but at its ends.
-    ensures planar { OnSound result (IfSome (R.remaining records.old) (λ text.
-        HaveMap (records_of tiger_2006 text) (λ m. IsPlanar m.chains))) }
-    // Neighbouring chains about each node name one polygon between them.
-    ensures sides { OnSound result (IfSome (R.remaining records.old) (λ text.
-        HaveMap (records_of tiger_2006 text) (λ m. SidesAgree m.chains))) }
-    // The boundary of each polygon, and that of the outside, is closed rings.
-    ensures closed { OnSound result (IfSome (R.remaining records.old) (λ text.
-        HaveMap (records_of tiger_2006 text) AreClosed)) }
-    // Each polygon's point is on no chain, inside its own rings, and clear of every other polygon.
-    ensures points { OnSound result (IfSome (R.remaining records.old) (λ text.
-        HaveMap (records_of tiger_2006 text) ArePlaced)) }
-    // Zero-cell ids agree, none of which is read.
-    ensures cells { OnSound result (IfSome (R.remaining records.old) (λ text.
-        HaveMap (records_of tiger_2006 text) (λ m. CellsAgree m.chains))) }
+    // The map is sound.
+    ensures sound { OnSound result (IfSome (R.remaining records.old) (λ text.
+        HaveMap (records_of tiger_2006 text) IsSound)) }
     // The certificate's text is that of a certificate that is valid for the map.
-    ensures valid { OnSound result (IfSome (R.remaining records.old) (λ text. IfSome (S.remaining cert.old) (λ spelt.
+    ensures valid { OnSoundButFaces result (IfSome (R.remaining records.old) (λ text. IfSome (S.remaining cert.old) (λ spelt.
         HaveMap (records_of tiger_2006 text) (λ m. IsValidText m spelt)))) }
     // At most as many pairs of segments as the budget have rectangles that meet.
-    ensures within { OnSound result (IfSome (R.remaining records.old) (λ text.
+    ensures within { OnSoundButFaces result (IfSome (R.remaining records.old) (λ text.
         HaveMap (records_of tiger_2006 text) (λ m. meeting_segments m.chains ≤ budget))) }
     // The report has the map's numbers.
     ensures report { IfSound result (λ report. IfSome (R.remaining records.old) (λ text.
         HaveMap (records_of tiger_2006 text) (λ m. IsReport m report))) }
-    // Each fault is true.
+    // Each fault is true, and none is of faces.
     ensures map_fault { IfMapFault result (λ fault. IfSome (R.remaining records.old) (λ text.
-        IsTrueOfRecords (records_of tiger_2006 text) fault)) }
+        IsTrueOfRecords false (records_of tiger_2006 text) fault)) }
     ensures cert_fault { IfCertFault result (λ fault. IfSome (R.remaining records.old) (λ text.
         HaveMap (records_of tiger_2006 text) (λ m.
         IfSome (S.remaining cert.old) (λ spelt. IsTrueOfText m spelt fault)))) }
@@ -96,8 +76,8 @@ pub fn check<R: Source, S: Source>(
     check_with(alloc, hasher, records, cert, budget, PLAIN)
 }
 
-/// Decides whether the map of a county is sound as [`check`] does, with the columns that the options choose of type I.
-/// Where zero-cell ids are read, they have to agree in a sound map.
+/// Decides whether the map of a county is sound as [`check`] does, with the columns that the options choose of type I, and where
+/// they ask for faces, whether these agree.
 pub fn check_with<R: Source, S: Source>(
     alloc: Global,
     hasher: RandomState,
@@ -106,68 +86,61 @@ pub fn check_with<R: Source, S: Source>(
     budget: u64,
     options: Options,
 ) -> Result<Verdict, Stop>
-    ensures planar { OnSound result (IfSome (R.remaining records.old) (λ text.
-        HaveMap (records_of (layout_with options) text) (λ m. IsPlanar m.chains))) }
-    ensures sides { OnSound result (IfSome (R.remaining records.old) (λ text.
-        HaveMap (records_of (layout_with options) text) (λ m. SidesAgree m.chains))) }
-    ensures closed { OnSound result (IfSome (R.remaining records.old) (λ text.
-        HaveMap (records_of (layout_with options) text) AreClosed)) }
-    ensures points { OnSound result (IfSome (R.remaining records.old) (λ text.
-        HaveMap (records_of (layout_with options) text) ArePlaced)) }
-    // Zero-cell ids agree, where they are read: two darts that have ids have one id exactly where they start at one point.
-    ensures cells { OnSound result (IfSome (R.remaining records.old) (λ text.
-        HaveMap (records_of (layout_with options) text) (λ m. CellsAgree m.chains))) }
-    ensures valid { OnSound result (IfSome (R.remaining records.old) (λ text. IfSome (S.remaining cert.old) (λ spelt.
+    // The map is sound, with zero-cell ids that agree where they are read, and keeps what is asked of its faces.
+    ensures sound { OnSound result (IfSome (R.remaining records.old) (λ text.
+        HaveMap (records_of (layout_with options) text) (IsSoundFor options.faces))) }
+    // The certificate's text is that of a certificate that is valid for the map.
+    ensures valid { OnSoundButFaces result (IfSome (R.remaining records.old) (λ text. IfSome (S.remaining cert.old) (λ spelt.
         HaveMap (records_of (layout_with options) text) (λ m. IsValidText m spelt)))) }
-    ensures within { OnSound result (IfSome (R.remaining records.old) (λ text.
+    // At most as many pairs of segments as the budget have rectangles that meet.
+    ensures within { OnSoundButFaces result (IfSome (R.remaining records.old) (λ text.
         HaveMap (records_of (layout_with options) text) (λ m. meeting_segments m.chains ≤ budget))) }
+    // The report has the map's numbers.
     ensures report { IfSound result (λ report. IfSome (R.remaining records.old) (λ text.
         HaveMap (records_of (layout_with options) text) (λ m. IsReport m report))) }
+    // Each fault is true; one of faces comes only where they are asked for, and nothing else is wrong with the map.
     ensures map_fault { IfMapFault result (λ fault. IfSome (R.remaining records.old) (λ text.
-        IsTrueOfRecords (records_of (layout_with options) text) fault)) }
+        IsTrueOfRecords options.faces (records_of (layout_with options) text) fault)) }
     ensures cert_fault { IfCertFault result (λ fault. IfSome (R.remaining records.old) (λ text.
         HaveMap (records_of (layout_with options) text) (λ m.
         IfSome (S.remaining cert.old) (λ spelt. IsTrueOfText m spelt fault)))) }
+    // One of rounds or of walks comes only where the map's chains are planar.
     ensures behind { IfCertFault result (λ fault. IsOfDarts fault → IfSome (R.remaining records.old) (λ text.
         HaveMap (records_of (layout_with options) text) (λ m. IsPlanar m.chains))) }
+    // Where a search may be made by the certificate's text, and two segments of the map meet where they may not, the answer is
+    // such a meet, or a stop: never a fault of the certificate, though its text may break off behind its tree.
     ensures meets { UnlessMeet result (IfSome (R.remaining records.old) (λ text.
         HaveMap (records_of (layout_with options) text) (λ m.
         IfSome (S.remaining cert.old) (λ spelt. TextAllowsSearch m spelt → IsPlanar m.chains)))) }
+    // A fault of the map comes only where a search may be made by the certificate's text, and so does a stop for the budget.
     ensures searched { OnSearched result (IfSome (R.remaining records.old) (λ text.
         HaveMap (records_of (layout_with options) text) (λ m. IfSome (S.remaining cert.old) (TextAllowsSearch m)))) }
+    // It stops at the first line that is refused, where memory was refused, a read failed, or more than the budget had to
+    // be tested.
     ensures stops { IfErr result (λ stop. IfSome (R.remaining records.old) (λ text.
         MayStopOn (records_of (layout_with options) text) budget stop)) }
+    // Where a line is refused or the records have no map, nothing of the certificate is read.
     ensures unread { LeavesUnread result (cert.new ≡ cert.old) }
+    // `Device` is answered where a read failed in this call, and nowhere else.
     ensures failures { TellsEither (R.failure_count records.old) (R.failure_count records.new)
         (S.failure_count cert.old) (S.failure_count cert.new) result }
 {
     let read = read_map_with(alloc, hasher, records, options);
-    check_read(alloc, read, cert, budget)
+    check_read(alloc, read, cert, budget, options.faces)
 }
 
-/// Decides whether the map that was read of records is sound, or tells why there is none.
+/// Decides of the map that was read of records, or tells why there is none.
 fn check_read<S: Source>(
     alloc: Global,
     read: Result<Map, MapStop>,
     cert: &mut S,
     budget: u64,
+    faces: bool,
 ) -> Result<Verdict, Stop>
-    ensures { IsOfRead S.remaining S.failure_count read budget cert.old cert.new result }
+    ensures { IsOfRead S.remaining S.failure_count read faces budget cert.old cert.new result }
 {
     match read {
-        Ok(map) => check_cert(alloc, &map, cert, budget),
+        Ok(map) => decide(alloc, &map, cert, budget, faces),
         Err(stop) => refused(stop),
-    }
-}
-
-/// The answer where the records have no map.
-fn refused(stop: MapStop) -> Result<Verdict, Stop>
-    ensures { result ≡ refusal_of stop }
-{
-    match stop {
-        MapStop::Refused { line, cause } => Err(Stop::Record { line, cause }),
-        MapStop::Device => Err(Stop::Device),
-        MapStop::Memory => Err(Stop::Memory),
-        MapStop::Fault(fault) => Ok(Verdict::MapFault(MapFault::Records(fault))),
     }
 }

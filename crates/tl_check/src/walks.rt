@@ -13,8 +13,9 @@ use crate::state::{Halt, State};
 use std::alloc::Global;
 use tl_county::Map;
 use tl_index::TreeNode;
+use tl_output::Stop;
 use tl_rings::Rings;
-use tl_verdict::{CertFault, Stop, Verdict, report};
+use tl_verdict::{CertFault, Verdict, report};
 
 /// Takes one walk more, and keeps it.
 pub fn take_walk<'a>(map: &Map, state: State<'a>, walk: &[u32]) -> Result<State<'a>, Halt>

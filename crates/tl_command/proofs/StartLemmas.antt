@@ -57,9 +57,7 @@ plans_any words status before after wrote told part of_plan out_same err_same (i
 -- a task is none that it isn't one of
 pub no_plan : (wanted : Task) → ((plan : Plan) (progress : Bool) → wanted ≡ task.Plan plan progress → ⊥) → IsNoPlan wanted
 no_plan (task.Plan plan progress) other = absurd (other plan progress refl)
-no_plan (task.Faces plan progress) other = tt
 no_plan (task.List told places made progress options files) other = tt
-no_plan (task.ListFaces most progress options files) other = tt
 no_plan (task.Export made options files) other = tt
 no_plan (task.Draw made view faults options files) other = tt
 

@@ -15,7 +15,7 @@ use Rattle.tl_hint.specs.Telling.{TellsHint}
 
 -- the columns where nothing is chosen
 abbrev pub plain : Options
-plain = record { zero_cells = false; released = false }
+plain = record { zero_cells = false; released = false; faces = false }
 
 -- the columns that a plan chooses
 abbrev pub plan_options : Plan → Options
@@ -30,18 +30,14 @@ plan_options (Build made options files) = options
 -- and a task
 abbrev pub options_for : Task → Options
 options_for (task.Plan plan progress) = plan_options plan
-options_for (task.Faces plan progress) = plan_options plan
 options_for (task.List told places made progress options files) = options
-options_for (task.ListFaces most progress options files) = options
 options_for (task.Export made options files) = options
 options_for (task.Draw made view faults options files) = options
 
 -- the names of the record files
 abbrev pub record_names : Task → List Text
 record_names (task.Plan plan progress) = files_of plan
-record_names (task.Faces plan progress) = files_of plan
 record_names (task.List told places made progress options files) = map string_bytes files.items
-record_names (task.ListFaces most progress options files) = map string_bytes files.items
 record_names (task.Export made options files) = map string_bytes files.items
 record_names (task.Draw made view faults options files) = map string_bytes files.items
 
@@ -53,13 +49,11 @@ plan_certificates other = []
 
 abbrev pub certificate_names : Task → List Text
 certificate_names (task.Plan plan progress) = plan_certificates plan
-certificate_names (task.Faces plan progress) = plan_certificates plan
 certificate_names other = []
 
 -- does the task list all lines that are refused
 abbrev pub lists_refusals : Task → Bool
 lists_refusals (task.List (All most) places made progress options files) = true
-lists_refusals (task.ListFaces most progress options files) = true
 lists_refusals other = false
 
 -- the names of the files of which something may be said: those of the records where a line is refused and all aren't listed, and

@@ -1,13 +1,16 @@
 -- What the program answers to its words.
-use Rattle.std.specs.Prelude.{◌≡◌, ◌≢◌, ◌⊎◌, ℕ, true, List, [], None, All, codes, ⊤}
+use Rattle.std.specs.Prelude.{◌≡◌, ◌≢◌, ◌⊎◌, ℕ, true, List, [], None, All, codes, string_bytes, ⊤}
 use Rattle.clap.specs.Faults.{fault_of}
 use Rattle.clap.specs.Walk.{Text}
 use Rattle.tl_plan.specs.declared.plan.Plan.{Plan}
+use Rattle.tl_plan.specs.declared.plan.PlanStop.{PlanStop}
+use Rattle.tl_plan.specs.declared.plan.PlanStop.TheVariants.{Usage, Help}
+use Rattle.tl_plan.specs.declared.plan.PlanStop.TheVariants as plan_stop
 use Rattle.tl_plan.specs.declared.plan.Task.{Task}
 use Rattle.tl_plan.specs.declared.plan.Task.TheVariants as task
 use Rattle.tl_output.specs.Writing.{line_of}
-use Rattle.tl_verdict.specs.Stops.{stop_text}
-use Rattle.tl_verdict.specs.declared.stop.Stop.TheVariants.{Memory, Device}
+use Rattle.tl_output.specs.Stops.{stop_text}
+use Rattle.tl_output.specs.declared.stop.Stop.TheVariants.{Memory, Device}
 use Rattle.tl_answers.specs.declared.stop.TheConstants.{DONE, MAP_FAULT, CERT_FAULT, REFUSED, STOPPED, USAGE}
 use Rattle.tl_plan.specs.Commands.{command_line}
 use Rattle.tl_plan.specs.CommandLine.{AskFor, AskForTask, AreAUse, HasMistake, HasAnswer, may_be_use}
@@ -114,6 +117,12 @@ pub record AnswersPlan (words : List Text) (status : ℕ) (before after : Under)
   pub begun : status ≡ STOPPED → BeginsSome words before after
   -- no name stands for other bytes than before but that of the certificate that is made
   pub files : KeepsSome words status before after
+
+-- why the words of the command line can't be read
+abbrev pub IsUnread : PlanStop → Type 0
+IsUnread (Usage text) = string_bytes text ≡ line_of (codes "error: a word of the command line is no UTF-8 text")
+IsUnread (Help text) = ⊥
+IsUnread plan_stop.Memory = ⊤
 
 -- the words can't be read, or there are no keys for hashers: why was written
 abbrev pub TellsUnread : ℕ → (told : List ℕ → Type 0) → Type 0

@@ -8,15 +8,10 @@ use std::alloc::{AllocError, Global};
 use std::slice;
 use tl_answers::stop::{REFUSED, STOPPED};
 use tl_files::FileSystem;
-use tl_hint::{HintStop, tell_hint};
+use tl_hint::say_hint;
+use tl_output::Stop;
 use tl_plan::{Plan, Task, Told, words};
-use tl_record::{Options, Sink};
-
-// The columns where nothing is chosen.
-const PLAIN: Options = Options {
-    zero_cells: false,
-    released: false,
-};
+use tl_record::{Options, PLAIN, Sink};
 
 /// Says what helps behind this status of the words after the program's name: behind a refused line and behind a device that
 /// failed how to find them, of the files as they stand now.
@@ -45,13 +40,13 @@ fn hint_of<F: FileSystem, E: Sink>(
     task: &Task,
     status: u8,
     err: &mut E,
-) -> Result<(), HintStop>
+) -> Result<(), Stop>
     ensures hint { OnOk result (HintsTask task.now status (F.under files.now)
         (TriesToWrite E.contents E.failure_count err.old err.new)) }
     ensures stop { OnErr result (err.new ≡ err.old) }
 {
     let names = names_for(alloc, task, status)?;
-    tell_hint(files, alloc, &names, options_of(task), status, err)
+    say_hint(files, alloc, &names, options_of(task), status, err)
 }
 
 // The names of the files of which something may be said: of the records where a line of them is refused that isn't among those
@@ -87,8 +82,7 @@ fn is_listing(task: &Task) -> bool
 {
     match task {
         Task::List { told, .. } => matches!(told, Told::All(_)),
-        Task::ListFaces { .. } => true,
-        Task::Plan { .. } | Task::Faces { .. } | Task::Export { .. } | Task::Draw { .. } => false,
+        Task::Plan { .. } | Task::Export { .. } | Task::Draw { .. } => false,
     }
 }
 
@@ -97,9 +91,8 @@ fn names_of(task: &Task) -> &[String]
     ensures { map string_bytes result.now ≡ record_names task.now }
 {
     match task {
-        Task::Plan { plan, .. } | Task::Faces { plan, .. } => plan.files(),
+        Task::Plan { plan, .. } => plan.files(),
         Task::List { files, .. } => files.as_slice(),
-        Task::ListFaces { files, .. } => files.as_slice(),
         Task::Export { files, .. } => files.as_slice(),
         Task::Draw { files, .. } => files.as_slice(),
     }
@@ -110,7 +103,7 @@ fn certificates_of(task: &Task) -> &[String]
     ensures { map string_bytes result.now ≡ certificate_names task.now }
 {
     match task {
-        Task::Plan { plan, .. } | Task::Faces { plan, .. } => match plan {
+        Task::Plan { plan, .. } => match plan {
             Plan::Check { cert, .. } | Plan::Convert { cert, .. } => slice::from_ref(cert),
             _ => &[],
         },
@@ -123,7 +116,7 @@ fn options_of(task: &Task) -> Options
     ensures { result ≡ options_for task.now }
 {
     match task {
-        Task::Plan { plan, .. } | Task::Faces { plan, .. } => match plan {
+        Task::Plan { plan, .. } => match plan {
             Plan::Show { options, .. }
             | Plan::Landmarks { options, .. }
             | Plan::Locate { options, .. }
@@ -132,9 +125,7 @@ fn options_of(task: &Task) -> Options
             | Plan::Build { options, .. } => *options,
             Plan::Convert { .. } => PLAIN,
         },
-        Task::List { options, .. }
-        | Task::ListFaces { options, .. }
-        | Task::Export { options, .. }
-        | Task::Draw { options, .. } => *options,
+        Task::List { options, .. } | Task::Export { options, .. } | Task::Draw { options, .. } =>
+            *options,
     }
 }

@@ -11,7 +11,7 @@ ghost use Rattle.tl_command.specs.Starting.{AnswersPlans, StopsBefore, not_here,
 ghost use Rattle.tl_command.specs.Hinting.{HintsAfter};
 
 use crate::hint::hint;
-use crate::program::{tell_unread, words_of};
+use crate::program::{say_unread, words_of};
 use crate::start::run_plan;
 use std::alloc::{Alloc, Global};
 use std::fs::File;
@@ -21,12 +21,11 @@ use std::random::RandomSource;
 use std::rt::{Env, Files};
 use std::time::Clock;
 use tl_answers::stop::{USAGE, stopped};
-use tl_answers::usage::tell_stop;
+use tl_answers::usage::say_stop;
 use tl_files::{FileSystem, SystemFiles};
-use tl_output::write_all;
+use tl_output::{Stop, write_all};
 use tl_plan::{Task, words};
 use tl_record::Sink;
-use tl_verdict::Stop;
 
 /// Does what the words of the command line ask, where that is a plan, and gives the program's exit status. Which words these
 /// are no contract knows. `is_seen` says whether the error output is a terminal, on which it may be shown how far reading is.
@@ -44,7 +43,7 @@ pub fn answer_plans<
 {
     match words_of(rt, alloc) {
         Ok(words) => plans_over_system(rt, alloc, is_seen, words.as_slice(), out, err),
-        Err(unread) => tell_unread(unread, err),
+        Err(unread) => say_unread(&unread, err),
     }
 }
 
@@ -114,7 +113,7 @@ fn plans_alone<F: FileSystem, W: Sink, E: Sink>(
 {
     match words::task(alloc, words) {
         Ok(task) => perform(files, alloc, hasher, &task, out, err),
-        Err(stop) => tell_stop(&stop, out, err),
+        Err(stop) => say_stop(&stop, out, err),
     }
 }
 

@@ -16,9 +16,9 @@ use std::hash::RandomState;
 use tl_answers::stop::stopped;
 use tl_making::opening::{as_one_text, give_back, room_for_bytes};
 use tl_making::running::run_by;
+use tl_output::Stop;
 use tl_plan::Plan;
 use tl_record::{Sink, Source};
-use tl_verdict::Stop;
 
 /// Does what the plan asks over these readers, which are read one after the other as one text, and gives the program's
 /// exit status. Where the bytes of each reader are known, so is that text, and all that [`run`](crate::run::run)

@@ -6,3 +6,4 @@ pub mod NumberLemmas
 pub mod SegmentLemmas
 pub mod NodeLemmas
 pub mod NumberingLemmas
+pub mod ScanLemmas

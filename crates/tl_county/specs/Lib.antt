@@ -2,6 +2,7 @@ pub mod Limits
 pub mod Chains
 pub mod TheMap
 pub mod Landmarks
+pub mod Sides
 pub mod Darts
 pub mod Nodes
 pub mod Segments

@@ -6,6 +6,7 @@
 #![tactic(auto)]
 
 mod chains;
+mod darts;
 mod freeing;
 mod kept;
 mod landmarks;
@@ -15,10 +16,12 @@ mod map;
 mod nodes;
 mod polygons;
 mod presort;
+mod runs;
 mod segments;
 mod sides;
 
 pub use chains::{ChainRow, Chains};
+pub use darts::reverse_dart;
 pub use freeing::release;
 pub use kept::SidesOfChains;
 pub use landmarks::{LandmarkRow, LinkedLandmarks};
@@ -26,4 +29,5 @@ pub use limits::{CHAIN_LIMIT, LANDMARK_LIMIT, POLYGON_LIMIT, SEGMENT_LIMIT};
 pub use map::{Chain, Landmark, Map};
 pub use polygons::Polygon;
 pub use presort::{Ranked, presort_by_rank};
+pub use runs::{Keyed, first_not_below, run_end};
 pub use sides::{ChainSides, Side};

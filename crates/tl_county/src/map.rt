@@ -61,6 +61,7 @@ impl Model for Map {
     ghost use Rattle.tl_county.specs.Chains.{CompleteChain, IsProper};
     ghost use Rattle.tl_county.specs.Rows.{IsRow, HasPolygonsOf, landmarks_in};
     ghost use Rattle.tl_county.specs.Rows.{sided};
+    ghost use Rattle.tl_county.specs.Sides.{AreSidesAmong};
     ghost use Rattle.tl_county.specs.Keeping.Numbered.{AreNumberedSegments};
     ghost use Rattle.tl_county.specs.Keeping.Noded.{AreNumberedNodes};
 
@@ -80,7 +81,8 @@ impl Model for Map {
         × AreNumberedNodes m.chains.chains m.nodes
         × All (HasPolygonsOf (length m.polygons.items) m.linked.items) m.rows.items
         × (length m.rows.items ≡ length m.landmarks.items)
-        × (length m.segment_chains.items ≤ most_segments) };
+        × (length m.segment_chains.items ≤ most_segments)
+        × All (AreSidesAmong (length m.polygons.items)) m.sides };
 }
 
 /// Numbers the nodes and the segments of the chains.
@@ -104,10 +106,12 @@ impl Map {
     ghost use Rattle.tl_county.specs.Chains.{CompleteChain, IsProper};
     ghost use Rattle.tl_county.specs.Rows.{IsRow, HasPolygonsOf, landmarks_in};
     ghost use Rattle.tl_county.specs.Rows.{sided};
+    ghost use Rattle.tl_county.specs.Sides.{AreSidesAmong};
     ghost use Rattle.tl_county.specs.Keeping.Noded.{AreNumberedNodes};
     ghost use Rattle.tl_county.specs.Nodes.{AreNodes};
     ghost use Rattle.tl_county.specs.Landmarks.{ArePolygonsOf};
-    ghost use Rattle.tl_county.specs.TheMap.{MapLandmark};
+    ghost use Rattle.tl_county.specs.Sides.{IsSideAmong, HasSidesAmong};
+    ghost use Rattle.tl_county.specs.TheMap.{MapChain, MapLandmark};
     ghost use Rattle.tl_geom.specs.declared.point.Point.{Point};
     ghost use Rattle.std.specs.Prelude.{List};
 
@@ -127,6 +131,7 @@ impl Map {
         requires within { All (IsRow landmarks.linked.items) landmarks.rows.items }
         requires proper { All (λ (c : CompleteChain). IsProper c.points) chains.chains }
         requires linked { All (HasPolygonsOf (length polygons.items) landmarks.linked.items) landmarks.rows.items }
+        requires among { All (AreSidesAmong (length polygons.items)) sides }
         ensures { IfOk result (λ m. m ≡ record {
           chains = sided chains.chains sides;
           polygons = polygons.items;
@@ -181,6 +186,22 @@ impl Map {
         self.polygons.len() as u32
     }
 
+    /// Each side of each chain is the outside or a polygon of the map. This does nothing: its contract is all.
+    pub fn names_its_polygons(&self)
+        ensures { All (HasSidesAmong (length self.now.polygons)) self.now.chains }
+    {
+        // What the map's parts keep is known where one of them is looked at.
+        let _polygons = self.polygons.len();
+    }
+
+    /// Each chain has two points or more, where neighbours differ. This does nothing: its contract is all.
+    pub fn has_proper_chains(&self)
+        ensures { (c : ℕ) (chain : MapChain) → slice_get self.now.chains c ≡ Some chain → IsProper chain.points }
+    {
+        // What the map's parts keep is known where one of them is looked at.
+        let _polygons = self.polygons.len();
+    }
+
     /// How many landmarks there are.
     pub fn landmarks(&self) -> u32
         ensures count { result ≡ length self.now.landmarks }
@@ -202,6 +223,9 @@ impl Map {
         requires { c < length self.now.chains }
         ensures chain { IsChain (slice_get self.now.chains c) result.tlid result.points.now result.left result.right }
         ensures points { IsProper result.points.now }
+        // Each of both sides is the outside or a polygon of the map.
+        ensures left { IsSideAmong (length self.now.polygons) result.left }
+        ensures right { IsSideAmong (length self.now.polygons) result.right }
     {
         let sides = self.sides.get(c as usize);
         Chain {
@@ -299,7 +323,8 @@ impl Map {
     /// What lies on the left of a dart.
     pub fn dart_left(&self, d: u32) -> Side
         requires { d < 2 * length self.now.chains }
-        ensures { dart_left_of self.now.chains d ≡ Some result }
+        ensures left { dart_left_of self.now.chains d ≡ Some result }
+        ensures among { IsSideAmong (length self.now.polygons) result }
     {
         let chain = self.chain(d / 2);
         if d % 2 == 0 { chain.left } else { chain.right }

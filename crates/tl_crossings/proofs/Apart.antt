@@ -20,7 +20,7 @@ use Rattle.tl_sides.proofs.Headings.{dart_within, heads_alike}
 use Rattle.tl_crossings.specs.Headings.{AreProper, HeadApart, IsOnFirst, FirstsOverlap}
 use Rattle.tl_crossings.proofs.Darts.{AreFirst, IsDart, dart_of}
 use Rattle.tl_crossings.proofs.OneWay.{ShareTwo, share_two}
-use Rattle.tl_crossings.proofs.Turns.{joined}
+use Rattle.tl_sides.proofs.Turns.{joined}
 
 -- two places that are one vertex are one
 one_vertex : (points : List Point) (k : ℕ) (r q : Rational) → IsVertex points k r → IsVertex points k q → IsSame r q

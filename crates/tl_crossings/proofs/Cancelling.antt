@@ -2,13 +2,14 @@
 use Rattle.std.proofs.Common.{◌≡◌, inl, inr, ℕ, ◌<◌, ℤ, pos, Bool, List, sym, subst, ◌∙◌, arith}
 use Rattle.std.proofs.lemmas.Bool.{cases_lt}
 use Rattle.std.proofs.lemmas.Int.{ints}
+use Rattle.tl_geom.specs.declared.point.Point.{Point}
 use Rattle.tl_county.specs.declared.sides.Side.{Side}
 use Rattle.tl_county.specs.TheMap.{MapChain}
 use Rattle.tl_county.specs.Darts.{dart_start}
 use Rattle.tl_sides.specs.Sides.{dart_count, IsNext, SidesAgree}
 use Rattle.tl_sides.proofs.Headings.{dart_within}
 use Rattle.tl_inside.specs.Inside.{balance}
-use Rattle.tl_crossings.specs.Heights.{crossed_at}
+use Rattle.tl_crossings.specs.Heights.{is_above, crossed_at}
 use Rattle.tl_crossings.specs.Headings.{AreProper, HeadApart}
 use Rattle.tl_crossings.proofs.Sums.{sum_same, sum_permuted}
 use Rattle.tl_crossings.proofs.Nexts.{next_of, one_next}
@@ -35,23 +36,26 @@ module _ (chains : List MapChain) (proper : AreProper chains) (apart : HeadApart
       let m : IsNext chains e (next e) = is_next e less in
       one_next chains apart d e (next d) n (subst (IsNext chains e) (sym same) m)
 
-  module _ (y : ℤ) (S : Side → Bool) where
-    step : (d : ℕ) → d < dart_count chains → left_weight y S chains d ≡ right_weight y S chains (next d)
+  -- by any weight of points
+  module _ (has : Point → Bool) (S : Side → Bool) where
+    step : (d : ℕ) → d < dart_count chains → left_weight has S chains d ≡ right_weight has S chains (next d)
     unfolding left_weight right_weight
     step d lt =
         let n : IsNext chains d (next d) = is_next d lt in
         let start : dart_start chains d ≡ dart_start chains (next d) = n.a_starts ∙ sym n.b_starts in
-        (λ i. weight_of y S (start i) (agree d (next d) n i))
+        (λ i. weight_of has S (start i) (agree d (next d) n i))
 
-    pub as_much : left_ends y S chains ≡ right_ends y S chains
+    pub as_much : left_ends has S chains ≡ right_ends has S chains
     as_much =
-        sym (left_sum y S chains)
-        ∙ sum_same (left_weight y S chains) (λ d. right_weight y S chains (next d)) (dart_count chains) step
-        ∙ sum_permuted (dart_count chains) next below one (right_weight y S chains)
-        ∙ right_sum y S chains
+        sym (left_sum has S chains)
+        ∙ sum_same (left_weight has S chains) (λ d. right_weight has S chains (next d)) (dart_count chains) step
+        ∙ sum_permuted (dart_count chains) next below one (right_weight has S chains)
+        ∙ right_sum has S chains
 
+  -- so at a height
+  module _ (y : ℤ) (S : Side → Bool) where
     pub near_is_far : near_count y S (crossed_at y chains) ≡ far_count y S (crossed_at y chains)
-    near_is_far = let both = telescoped y S chains in let ends = as_much in omega (arith, both, ends)
+    near_is_far = let both = telescoped y S chains in let ends = as_much (is_above y) S in omega (arith, both, ends)
 
     pub cancelled : balance S (crossed_at y chains) ≡ pos 0
     unfolding near_count far_count

@@ -1,5 +1,5 @@
 -- What counts at the ends of all chains is what counts at the starts of all darts.
-use Rattle.std.proofs.Common.{◌≡◌, ℕ, ◌+◌, ◌-◌, ◌*◌, ◌/◌, ◌%◌, ◌<◌, ℤ, Bool, true, false, cond, Option, Some, None, List, [], ◌∷◌, length, get_or, reverse, refl, sym, ap, ◌∙◌, arith}
+use Rattle.std.proofs.Common.{◌≡◌, ℕ, ◌+◌, ◌-◌, ◌*◌, ◌/◌, ◌%◌, ◌<◌, Bool, true, false, cond, Option, Some, None, List, [], ◌∷◌, length, get_or, reverse, refl, sym, ap, ◌∙◌, arith}
 use Rattle.std.specs.Prelude.{slice_get}
 use Rattle.std.specs.Option.{option_map, option_and_then}
 use Rattle.std.proofs.lemmas.Bool.{eq-eqb}
@@ -56,12 +56,28 @@ module _ (chains : List MapChain) (c : ℕ) (chain : MapChain) (is : slice_get c
       back : 2 * c + 1 - 1 ≡ 2 * c
       back = omega arith
 
+-- ---- the last point
+
+last_at : (p : Point) (points : List Point) (d : Point) → get_or (p ∷ points) (length points) d ≡ last_of p points
+unfolding last_of
+last_at p [] d = refl
+last_at p (q ∷ points) d = last_at q points d
+
+pub last_is : (p : Point) (points : List Point) → slice_get (reverse (p ∷ points)) 0 ≡ Some (last_of p points)
+last_is p points =
+    let long = length-reverse (p ∷ points) in
+    slice_get-get_or (reverse (p ∷ points)) 0 p (omega (arith, long))
+    ∙ ap Some (get_or-reverse (p ∷ points) 0 p (omega arith) ∙ ap (λ k. get_or (p ∷ points) k p) place ∙ last_at p points p)
+  where
+    place : length (p ∷ points) - 1 - 0 ≡ length points
+    place = omega arith
+
 -- ---- the sums
 
-module _ (y : ℤ) (S : Side → Bool) where
+module _ (has : Point → Bool) (S : Side → Bool) where
   -- what a side counts at a point, if there are both
   unfoldable pub weight_of : Option Point → Option Side → ℕ
-  weight_of (Some p) (Some s) = weight y S p s
+  weight_of (Some p) (Some s) = weight has S p s
   weight_of (Some p) None = 0
   weight_of None s = 0
 
@@ -71,56 +87,49 @@ module _ (y : ℤ) (S : Side → Bool) where
   unfoldable pub right_weight : List MapChain → ℕ → ℕ
   right_weight chains d = weight_of (dart_start chains d) (dart_right chains d)
 
-  last_at : (p : Point) (points : List Point) (d : Point) → get_or (p ∷ points) (length points) d ≡ last_of y S p points
-  unfolding last_of
-  last_at p [] d = refl
-  last_at p (q ∷ points) d = last_at q points d
-
-  pub last_is : (p : Point) (points : List Point) → slice_get (reverse (p ∷ points)) 0 ≡ Some (last_of y S p points)
-  last_is p points =
-      let long = length-reverse (p ∷ points) in
-      slice_get-get_or (reverse (p ∷ points)) 0 p (omega (arith, long))
-      ∙ ap Some (get_or-reverse (p ∷ points) 0 p (omega arith) ∙ ap (λ k. get_or (p ∷ points) k p) place ∙ last_at p points p)
-    where
-      place : length (p ∷ points) - 1 - 0 ≡ length points
-      place = omega arith
-
-  ends_are : (points : List Point) (first last : Side) → weight_of (slice_get points 0) (Some first) + weight_of (slice_get (reverse points) 0) (Some last) ≡ ends y S points first last
+  ends_are : (points : List Point) (first last : Side) →
+      weight_of (slice_get points 0) (Some first) + weight_of (slice_get (reverse points) 0) (Some last) ≡ ends has S points first last
   unfolding weight_of ends
   ends_are [] first last = refl
-  ends_are (p ∷ points) first last = ap (λ o. weight y S p first + weight_of o (Some last)) (last_is p points)
+  ends_are (p ∷ points) first last = ap (λ o. weight has S p first + weight_of o (Some last)) (last_is p points)
 
-  left_pair : (chains : List MapChain) (c : ℕ) (chain : MapChain) → slice_get chains c ≡ Some chain → left_weight chains (2 * c) + left_weight chains (2 * c + 1) ≡ ends y S chain.points chain.left chain.right
+  left_pair : (chains : List MapChain) (c : ℕ) (chain : MapChain) → slice_get chains c ≡ Some chain →
+      left_weight chains (2 * c) + left_weight chains (2 * c + 1) ≡ ends has S chain.points chain.left chain.right
   unfolding left_weight
   left_pair chains c chain is =
-      (λ i. weight_of (first_start chains c chain is i) (first_left chains c chain is i) + weight_of (last_start chains c chain is i) (last_left chains c chain is i))
+      (λ i. weight_of (first_start chains c chain is i) (first_left chains c chain is i)
+      + weight_of (last_start chains c chain is i) (last_left chains c chain is i))
       ∙ ends_are chain.points chain.left chain.right
 
-  right_pair : (chains : List MapChain) (c : ℕ) (chain : MapChain) → slice_get chains c ≡ Some chain → right_weight chains (2 * c) + right_weight chains (2 * c + 1) ≡ ends y S chain.points chain.right chain.left
+  right_pair : (chains : List MapChain) (c : ℕ) (chain : MapChain) → slice_get chains c ≡ Some chain →
+      right_weight chains (2 * c) + right_weight chains (2 * c + 1) ≡ ends has S chain.points chain.right chain.left
   unfolding right_weight
   right_pair chains c chain is =
-      (λ i. weight_of (first_start chains c chain is i) (first_right chains c chain is i) + weight_of (last_start chains c chain is i) (last_right chains c chain is i))
+      (λ i. weight_of (first_start chains c chain is i) (first_right chains c chain is i)
+      + weight_of (last_start chains c chain is i) (last_right chains c chain is i))
       ∙ ends_are chain.points chain.right chain.left
 
   of_left : Option MapChain → ℕ
   of_left None = 0
-  of_left (Some c) = ends y S c.points c.left c.right
+  of_left (Some c) = ends has S c.points c.left c.right
 
   of_right : Option MapChain → ℕ
   of_right None = 0
-  of_right (Some c) = ends y S c.points c.right c.left
+  of_right (Some c) = ends has S c.points c.right c.left
 
-  left_list : (chains : List MapChain) → sum_below (λ c. of_left (slice_get chains c)) (length chains) ≡ left_ends y S chains
+  left_list : (chains : List MapChain) → sum_below (λ c. of_left (slice_get chains c)) (length chains) ≡ left_ends has S chains
   unfolding of_left left_ends
   left_list [] = sum_below-none (λ c. of_left (slice_get [] c))
-  left_list (c ∷ chains) = sum_first (λ k. of_left (slice_get (c ∷ chains) k)) (length chains) ∙ ap (λ n. ends y S c.points c.left c.right + n) (left_list chains)
+  left_list (c ∷ chains) =
+      sum_first (λ k. of_left (slice_get (c ∷ chains) k)) (length chains) ∙ ap (λ n. ends has S c.points c.left c.right + n) (left_list chains)
 
-  right_list : (chains : List MapChain) → sum_below (λ c. of_right (slice_get chains c)) (length chains) ≡ right_ends y S chains
+  right_list : (chains : List MapChain) → sum_below (λ c. of_right (slice_get chains c)) (length chains) ≡ right_ends has S chains
   unfolding of_right right_ends
   right_list [] = sum_below-none (λ c. of_right (slice_get [] c))
-  right_list (c ∷ chains) = sum_first (λ k. of_right (slice_get (c ∷ chains) k)) (length chains) ∙ ap (λ n. ends y S c.points c.right c.left + n) (right_list chains)
+  right_list (c ∷ chains) =
+      sum_first (λ k. of_right (slice_get (c ∷ chains) k)) (length chains) ∙ ap (λ n. ends has S c.points c.right c.left + n) (right_list chains)
 
-  pub left_sum : (chains : List MapChain) → sum_below (left_weight chains) (dart_count chains) ≡ left_ends y S chains
+  pub left_sum : (chains : List MapChain) → sum_below (left_weight chains) (dart_count chains) ≡ left_ends has S chains
   unfolding of_left
   left_sum chains =
       sum_pairs (left_weight chains) (length chains)
@@ -132,7 +141,7 @@ module _ (y : ℤ) (S : Side → Bool) where
           let is : slice_get chains c ≡ Some (get_or chains c no_chain) = slice_get-get_or chains c no_chain lt in
           left_pair chains c (get_or chains c no_chain) is ∙ ap of_left (sym is)
 
-  pub right_sum : (chains : List MapChain) → sum_below (right_weight chains) (dart_count chains) ≡ right_ends y S chains
+  pub right_sum : (chains : List MapChain) → sum_below (right_weight chains) (dart_count chains) ≡ right_ends has S chains
   unfolding of_right
   right_sum chains =
       sum_pairs (right_weight chains) (length chains)

@@ -1,5 +1,4 @@
 pub mod Sums
-pub mod Turns
 pub mod Darts
 pub mod Nexts
 pub mod Rounds
@@ -19,6 +18,8 @@ pub mod Boxes
 pub mod Telling
 pub mod Thrice
 pub mod Across
+pub mod Signed
+pub mod Gaining
 pub mod Weighed
 pub mod Adding
 pub mod Winding

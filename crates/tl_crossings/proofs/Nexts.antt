@@ -13,7 +13,7 @@ use Rattle.tl_sides.specs.Sides.{dart_count, IsNext}
 use Rattle.tl_sides.proofs.Headings.{dart_within, heads_alike}
 use Rattle.tl_crossings.specs.Headings.{AreProper, HeadApart}
 use Rattle.tl_crossings.proofs.Darts.{IsDart, dart_of}
-use Rattle.tl_crossings.proofs.Turns.{is_within, not_within, within_longer, within_alike, one_within}
+use Rattle.tl_sides.proofs.Turns.{is_within, not_within, within_longer, within_alike, one_within}
 
 one_point : (p q : Point) → (p ≡ q) ⊎ (p ≢ q)
 one_point p q =

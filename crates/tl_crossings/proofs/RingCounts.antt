@@ -21,7 +21,8 @@ use Rattle.tl_crossings.specs.Rings.{crossings, dart_crossings, winding, has_lef
 use Rattle.tl_crossings.proofs.Darts.{no_chain}
 use Rattle.tl_crossings.proofs.Ends.{even_along, odd_against, half, first_left, last_left}
 use Rattle.tl_crossings.proofs.Rays.{east_list}
-use Rattle.tl_crossings.proofs.Weighed.{weigh, chain_weight, chains_weight, balance_is}
+use Rattle.tl_crossings.proofs.Signed.{weigh}
+use Rattle.tl_crossings.proofs.Weighed.{chain_weight, chains_weight, balance_is}
 use Rattle.tl_crossings.proofs.Adding.{add_below, add_below-none, add_same, add_first, add_pairs, total_below, total_concat}
 use Rattle.tl_crossings.proofs.Winding.{winds_about_none}
 use Rattle.tl_crossings.proofs.OneLeft.{dart_adds, counts_whole}

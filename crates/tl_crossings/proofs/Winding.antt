@@ -5,7 +5,6 @@ use Rattle.std.proofs.lemmas.Int.{ints}
 use Rattle.tl_geom.specs.declared.point.Point.{Point}
 use Rattle.tl_geom.specs.declared.rect.Rect.{Rect}
 use Rattle.tl_geom.specs.Rectangle.{Holds}
-use Rattle.tl_county.specs.declared.sides.Side.{Side}
 use Rattle.tl_county.specs.TheMap.{MapChain}
 use Rattle.tl_county.specs.Darts.{chain_of, is_along, dart_start, dart_end}
 use Rattle.tl_sides.specs.Sides.{IsRing}
@@ -48,9 +47,10 @@ module _ (q : Point) where
   IsEastward p = q.x <ℤ p.x
 
   abbrev final : Point → List Point → Point
-  final a points = last_of q.y (λ (s : Side). false) a points
+  final a points = last_of a points
 
-  gains_from : (a : Point) (points : List Point) → IsEastward a → All IsEastward points → crossings_from q a points ≡ height_of q (Some (final a points)) -ℤ height_of q (Some a)
+  gains_from : (a : Point) (points : List Point) → IsEastward a → All IsEastward points →
+      crossings_from q a points ≡ height_of q (Some (final a points)) -ℤ height_of q (Some a)
   unfolding last_of
   gains_from a [] p all = omega (arith, ints)
   gains_from a (b ∷ points) p all =
@@ -60,11 +60,12 @@ module _ (q : Point) where
       omega (arith, ints, here, rest)
 
   -- a chain that is east of q adds what is above its height at the end less what is at the start
-  gains_along : (points : List Point) → All IsEastward points → crossings q points ≡ height_of q (slice_get (reverse points) 0) -ℤ height_of q (slice_get points 0)
+  gains_along : (points : List Point) → All IsEastward points →
+      crossings q points ≡ height_of q (slice_get (reverse points) 0) -ℤ height_of q (slice_get points 0)
   gains_along [] all = refl
   gains_along (a ∷ points) all =
       gains_from a points (all 0 a (omega arith)) (rest_of q IsEastward a points all)
-      ∙ ap (λ o. height_of q o -ℤ height_of q (Some a)) (sym (last_is q.y (λ (s : Side). false) a points))
+      ∙ ap (λ o. height_of q o -ℤ height_of q (Some a)) (sym (last_is a points))
 
 -- ---- a dart
 

@@ -3,10 +3,7 @@
 //! And where sides agree, a count at a point is what those rings add whose rectangles hold the point.
 //!
 //! [`laws`] states it of the definitions of `tl_inside` and of those in `specs`, of any chains that are proper, as those
-//! of a map are ([`look_at_chains`]).
+//! of a map are (`Map::has_proper_chains` of `tl_county`).
 #![tactic(auto)]
 
 pub mod laws;
-mod proper;
-
-pub use proper::look_at_chains;

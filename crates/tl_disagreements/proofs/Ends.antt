@@ -1,8 +1,9 @@
 -- Where groups end, and which is the next one.
 use Rattle.std.proofs.Common.{◌≡◌, ◌≢◌, inl, inr, ℕ, ◌+◌, ◌<◌, List, length, set, refl, sym, ◌∙◌, get_or-set_same, get_or-set_other, length-set, arith}
 use Rattle.std.proofs.lemmas.Bool.{cases_lt, cases_eq}
-use Rattle.tl_disagreements.specs.declared.headed.HeadedDart.{HeadedDart}
-use Rattle.tl_disagreements.specs.Keeping.Around.{headed_at, AreOneGroup, AreSorted}
+use Rattle.tl_sides.specs.declared.headed.HeadedDart.{HeadedDart}
+use Rattle.tl_sides.specs.Headed.{AreSorted, HeadTogether}
+use Rattle.tl_disagreements.specs.Keeping.Around.{headed_at}
 use Rattle.tl_disagreements.specs.Keeping.Grouped.{IsEndOf, AreEnds, IsFirstOf, HaveBegun, IsNextPlace, AreNexts}
 use Rattle.tl_disagreements.proofs.Places.{group_itself, group_back, group_joined, nodes_rise}
 
@@ -16,7 +17,7 @@ end_of_all darts place e = record {
 }
 
 -- the next place is of the same group
-pub end_on : (darts : List HeadedDart) (place end : ℕ) → place + 1 < length darts → AreOneGroup (headed_at darts place) (headed_at darts (place + 1)) → IsEndOf darts (place + 1) end → IsEndOf darts place end
+pub end_on : (darts : List HeadedDart) (place end : ℕ) → place + 1 < length darts → HeadTogether (headed_at darts place) (headed_at darts (place + 1)) → IsEndOf darts (place + 1) end → IsEndOf darts place end
 end_on darts place end within one e =
     let far = e.behind within in
     record {
@@ -30,7 +31,7 @@ end_on darts place end within one e =
     }
 
 -- it is of another, or there is none
-pub end_here : (darts : List HeadedDart) (place : ℕ) → place < length darts → (place + 1 < length darts → ¬ AreOneGroup (headed_at darts place) (headed_at darts (place + 1))) → IsEndOf darts place (place + 1)
+pub end_here : (darts : List HeadedDart) (place : ℕ) → place < length darts → (place + 1 < length darts → ¬ HeadTogether (headed_at darts place) (headed_at darts (place + 1))) → IsEndOf darts place (place + 1)
 end_here darts place within other = record {
   behind = λ lt. omega arith;
   within = omega (arith, within);

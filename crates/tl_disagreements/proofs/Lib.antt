@@ -1,4 +1,3 @@
-mod SortLemmas
 mod Sorting
 mod Places
 mod Ends

@@ -8,9 +8,10 @@ use Rattle.tl_geom.proofs.Within.{below_trans, below_between, below_around, alik
 use Rattle.tl_county.specs.TheMap.{MapChain}
 use Rattle.tl_sides.specs.Sides.{IsNext}
 use Rattle.tl_sides.proofs.Headings.{never_one, nothing_within, heads_alike}
-use Rattle.tl_crossings.proofs.Turns.{order, joined}
-use Rattle.tl_disagreements.specs.declared.headed.HeadedDart.{HeadedDart}
-use Rattle.tl_disagreements.specs.Keeping.Around.{headed_at, AreOneGroup, AreAround}
+use Rattle.tl_sides.proofs.Turns.{order, joined}
+use Rattle.tl_sides.specs.declared.headed.HeadedDart.{HeadedDart}
+use Rattle.tl_sides.specs.Headed.{HeadTogether}
+use Rattle.tl_disagreements.specs.Keeping.Around.{headed_at, AreAround}
 use Rattle.tl_disagreements.specs.Keeping.Grouped.{IsBehind, IsAround, IsNextPlace}
 use Rattle.tl_disagreements.proofs.Places.{none_falls, group_between, group_back, group_joined, beside, one_start, headed}
 
@@ -59,7 +60,7 @@ module _ (chains : List MapChain) (darts : List HeadedDart) (around : AreAround 
 
   module _ (q : ℕ) (at_q : q < length darts) where
     -- a dart of the next group is next
-    none_within : (v : Direction) (k : ℕ) → k < length darts → node k ≡ node p → IsOneDirection v (way k) → AreOneGroup (headed_at darts f) (headed_at darts q) → ¬ IsWithin (way p) (way q) v
+    none_within : (v : Direction) (k : ℕ) → k < length darts → node k ≡ node p → IsOneDirection v (way k) → HeadTogether (headed_at darts f) (headed_at darts q) → ¬ IsWithin (way p) (way q) v
     none_within v k within at_k alike g inside = elim next.how [
       | inl b ↦
           let up = heads_on b in
@@ -86,7 +87,7 @@ module _ (chains : List MapChain) (darts : List HeadedDart) (around : AreAround 
       ]
     ]
 
-    pub is_next : AreOneGroup (headed_at darts f) (headed_at darts q) → IsNext chains (headed_at darts p).dart (headed_at darts q).dart
+    pub is_next : HeadTogether (headed_at darts f) (headed_at darts q) → IsNext chains (headed_at darts p).dart (headed_at darts q).dart
     is_next g =
         let here = headed chains darts around p at_p in
         let there = headed chains darts around q at_q in
@@ -151,7 +152,7 @@ module _ (chains : List MapChain) (darts : List HeadedDart) (around : AreAround 
     pub place : ℕ
     pub within : place < length darts
     pub is : (headed_at darts place).dart ≡ b
-    pub one : AreOneGroup (headed_at darts f) (headed_at darts place)
+    pub one : HeadTogether (headed_at darts f) (headed_at darts place)
 
   pub in_group : (b : ℕ) → IsNext chains (headed_at darts p).dart b → IsInGroup b
   in_group b n =
@@ -168,7 +169,7 @@ module _ (chains : List MapChain) (darts : List HeadedDart) (around : AreAround 
       }
 
   -- the next group begins at its place
-  pub not_earlier : (q : ℕ) → q < f → ¬ AreOneGroup (headed_at darts f) (headed_at darts q)
+  pub not_earlier : (q : ℕ) → q < f → ¬ HeadTogether (headed_at darts f) (headed_at darts q)
   not_earlier q lt g = elim next.how [
     | inr a ↦ a.first q lt (sym g.node ∙ next.node)
     | inl b ↦ elim (cases_lt q p) [

@@ -6,9 +6,10 @@ use Rattle.std.proofs.lemmas.List.{get_or_default, get_or-map, length-map, lengt
 use Rattle.tl_county.specs.TheMap.{MapChain}
 use Rattle.tl_sides.specs.Sides.{IsNext, dart_count}
 use Rattle.tl_geom.proofs.Order.{one_back}
-use Rattle.tl_disagreements.specs.declared.headed.HeadedDart.{HeadedDart}
+use Rattle.tl_sides.specs.declared.headed.HeadedDart.{HeadedDart}
 use Rattle.tl_disagreements.specs.declared.groups.Groups.{Groups}
-use Rattle.tl_disagreements.specs.Keeping.Around.{nowhere, headed_at, AreOneGroup, AreAround}
+use Rattle.tl_sides.specs.Headed.{HeadTogether}
+use Rattle.tl_disagreements.specs.Keeping.Around.{nowhere, headed_at, AreAround}
 use Rattle.tl_disagreements.specs.Keeping.Grouped.{IsEndOf, IsNextPlace, AreGrouped, numbers_of, AreNextTo}
 use Rattle.tl_disagreements.proofs.Places.{group_between, group_back, group_joined}
 use Rattle.tl_disagreements.proofs.Nexts.{is_next, in_group, not_earlier}
@@ -36,7 +37,7 @@ module _ (chains : List MapChain) (darts : List HeadedDart) (around : AreAround 
       let second = ends.one (f + j) (omega arith) (omega (arith, within)) in
       let s = headed_at darts (f + i) in
       let t = headed_at darts (f + j) in
-      let g : AreOneGroup s t = group_joined s (headed_at darts f) t (group_back (headed_at darts f) s first) second in
+      let g : HeadTogether s t = group_joined s (headed_at darts f) t (group_back (headed_at darts f) s first) second in
       elim (cases_lt s.dart t.dart) [
         | inl less ↦ less
         | inr not ↦ elim (cases_lt t.dart s.dart) [

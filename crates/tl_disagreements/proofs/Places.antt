@@ -11,9 +11,10 @@ use Rattle.tl_county.specs.TheMap.{MapChain}
 use Rattle.tl_county.specs.Darts.{dart_start, Heads}
 use Rattle.tl_county.proofs.NodeLemmas.{one_number}
 use Rattle.tl_sides.proofs.Headings.{dart_within, heads_alike, never_both}
-use Rattle.tl_crossings.proofs.Turns.{order, joined}
-use Rattle.tl_disagreements.specs.declared.headed.HeadedDart.{HeadedDart}
-use Rattle.tl_disagreements.specs.Keeping.Around.{nowhere, headed_at, AreOneGroup, AreSorted, IsHeaded, AreAround}
+use Rattle.tl_sides.proofs.Turns.{order, joined}
+use Rattle.tl_sides.specs.declared.headed.HeadedDart.{HeadedDart}
+use Rattle.tl_sides.specs.Headed.{AreSorted, IsHeaded, HeadTogether}
+use Rattle.tl_disagreements.specs.Keeping.Around.{nowhere, headed_at, AreAround}
 
 -- what is read at a place
 pub at_place : (darts : List HeadedDart) (k : ℕ) (s : HeadedDart) → k < length darts → s ≡ get_or darts k s → s ≡ headed_at darts k
@@ -26,13 +27,13 @@ one_itself u = elim (order u u) [
   | inr (inr below) ↦ absurd (never_both u u below below)
 ]
 
-pub group_itself : (s : HeadedDart) → AreOneGroup s s
+pub group_itself : (s : HeadedDart) → HeadTogether s s
 group_itself s = record { node = λ i. s.node; one = one_itself s.heading }
 
-pub group_back : (s t : HeadedDart) → AreOneGroup s t → AreOneGroup t s
+pub group_back : (s t : HeadedDart) → HeadTogether s t → HeadTogether t s
 group_back s t g = record { node = sym g.node; one = one_back s.heading t.heading g.one }
 
-pub group_joined : (s t u : HeadedDart) → AreOneGroup s t → AreOneGroup t u → AreOneGroup s u
+pub group_joined : (s t u : HeadedDart) → HeadTogether s t → HeadTogether t u → HeadTogether s u
 group_joined s t u g h = record { node = g.node ∙ h.node; one = joined s.heading t.heading u.heading g.one h.one }
 
 module _ (darts : List HeadedDart) (sorted : AreSorted darts) where
@@ -55,7 +56,7 @@ module _ (darts : List HeadedDart) (sorted : AreSorted darts) where
   ]
 
   -- what stands between two of a group is of it
-  pub group_between : (i j k : ℕ) → i ≤ j → j ≤ k → k < length darts → AreOneGroup (headed_at darts i) (headed_at darts k) → AreOneGroup (headed_at darts i) (headed_at darts j)
+  pub group_between : (i j k : ℕ) → i ≤ j → j ≤ k → k < length darts → HeadTogether (headed_at darts i) (headed_at darts k) → HeadTogether (headed_at darts i) (headed_at darts j)
   group_between i j k low high within g =
       let up = nodes_rise i j low (omega (arith, high, within)) in
       let on = nodes_rise j k high within in

@@ -9,7 +9,7 @@ use Rattle.tl_county.specs.Darts.{dart_left, reverse_dart, is_along}
 use Rattle.tl_sides.specs.Sides.{IsNext, dart_count}
 use Rattle.tl_sides.specs.declared.fault.Disagreement.{Disagreement}
 use Rattle.tl_sides.proofs.Headings.{dart_within}
-use Rattle.tl_disagreements.specs.declared.headed.HeadedDart.{HeadedDart}
+use Rattle.tl_sides.specs.declared.headed.HeadedDart.{HeadedDart}
 use Rattle.tl_disagreements.specs.Disagreements.{HaveSidesAtOdds, AreAllDisagreements}
 use Rattle.tl_disagreements.specs.Keeping.Telling.{AreDisagreementsBefore}
 use Rattle.tl_disagreements.specs.Keeping.Grouped.{numbers_of}

@@ -27,13 +27,13 @@ pub fn all_cells_at_odds(alloc: Global, map: &Map) -> Result<Vec<CellsAtOdds>, M
         return Err(Memory);
     };
     sort_by_id(&mut starts);
-    let mut found = tell_all(alloc, map, &starts, &firsts)?;
+    let mut found = find_pairs(alloc, map, &starts, &firsts)?;
     sort_pairs(&mut found);
     Ok(found)
 }
 
 /// The pairs of all darts that have ids, these by their ids, in an order that is left open.
-fn tell_all(
+fn find_pairs(
     alloc: Global,
     map: &Map,
     starts: &[CellStart],
@@ -56,8 +56,8 @@ fn tell_all(
             continue;
         }
         seen[start.node as usize] = Some(start.id);
-        tell_id(start, head, &mut found)?;
-        tell_start(start, firsts[start.node as usize], &mut found)?;
+        push_by_id(start, head, &mut found)?;
+        push_by_start(start, firsts[start.node as usize], &mut found)?;
     }
     Ok(found)
 }
@@ -79,7 +79,7 @@ fn head_at(starts: &[CellStart], place: usize, head: u32) -> u32
 }
 
 /// Appends the pair of a dart with the first that has its id, unless it is that one.
-fn tell_id(start: CellStart, head: u32, found: &mut Vec<CellsAtOdds>) -> Result<(), Memory>
+fn push_by_id(start: CellStart, head: u32, found: &mut Vec<CellsAtOdds>) -> Result<(), Memory>
     ensures { OnOk result (found.new.items ≡ found.old.items ++ id_odds start head) }
 {
     if head == start.dart {
@@ -99,7 +99,7 @@ fn tell_id(start: CellStart, head: u32, found: &mut Vec<CellsAtOdds>) -> Result<
 }
 
 /// Appends the pair of a dart with the first at its start that has an id, unless that one has the same id.
-fn tell_start(
+fn push_by_start(
     start: CellStart,
     first: Option<CellStart>,
     found: &mut Vec<CellsAtOdds>,

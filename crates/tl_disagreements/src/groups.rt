@@ -1,16 +1,15 @@
 //! The groups of darts that head in one direction about one node, and which group is the next one.
 
-ghost use Rattle.std.specs.Prelude.{◌≡◌, ◌+◌, ◌<◌, ◌≤◌, ◌↔◌, ◌^◌, IsTrue, IfOk, length, map};
+ghost use Rattle.std.specs.Prelude.{◌≡◌, ◌+◌, ◌<◌, ◌≤◌, ◌^◌, IfOk, length, map};
 ghost use Rattle.tl_sides.specs.Sides.{dart_count};
-ghost use Rattle.tl_disagreements.specs.Keeping.Around.{AreOneGroup, AreSorted, AreAround};
+ghost use Rattle.tl_sides.specs.Headed.{AreSorted};
+ghost use Rattle.tl_disagreements.specs.Keeping.Around.{AreAround};
 ghost use Rattle.tl_disagreements.specs.Keeping.Grouped.{IsEndOf, AreEnds, IsFirstOf, HaveBegun};
 ghost use Rattle.tl_disagreements.specs.Keeping.Grouped.{IsNextPlace, AreNexts, AreGrouped, AreNextTo};
 
-use crate::headed::{HeadedDart, sort_darts};
 use std::alloc::{AllocError, Global};
-use std::cmp::Ordering;
 use tl_county::Map;
-use tl_geom::round_cmp;
+use tl_sides::{HeadedDart, head_together, sort_darts};
 
 /// The darts of a map, those of each group together, with the place where the group of each place ends, and the first
 /// place of the group that is next after that of each dart.
@@ -75,18 +74,11 @@ fn end_at(darts: &[HeadedDart], place: usize, end: usize) -> usize
     requires behind { IsEndOf darts.now (place + 1) end }
     ensures { IsEndOf darts.now place result }
 {
-    if place + 1 < darts.len() && is_one_group(&darts[place], &darts[place + 1]) {
+    if place + 1 < darts.len() && head_together(&darts[place], &darts[place + 1]) {
         end
     } else {
         place + 1
     }
-}
-
-/// Whether two darts head in one direction about one node.
-fn is_one_group(one: &HeadedDart, other: &HeadedDart) -> bool
-    ensures { IsTrue result ↔ AreOneGroup one.now other.now }
-{
-    one.node == other.node && round_cmp(one.heading, other.heading) == Ordering::Equal
 }
 
 /// The first place of the group that is next after that of each dart.

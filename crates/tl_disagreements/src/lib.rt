@@ -4,7 +4,6 @@
 
 mod cells;
 mod groups;
-mod headed;
 pub mod laws;
 mod sides;
 mod starts;

@@ -1,6 +1,6 @@
 //! All places where sides disagree.
 
-ghost use Rattle.std.specs.Prelude.{◌≢◌, ◌<◌, ◌+◌, zero, IfOk, IsTrue, IsFalse, OnOk};
+ghost use Rattle.std.specs.Prelude.{◌<◌, ◌+◌, zero, IfOk, OnOk};
 ghost use Rattle.tl_county.specs.Darts.{dart_left};
 ghost use Rattle.tl_sides.specs.Sides.{dart_count};
 ghost use Rattle.tl_disagreements.specs.Disagreements.{AreAllDisagreements};
@@ -8,11 +8,10 @@ ghost use Rattle.tl_disagreements.specs.Keeping.Grouped.{AreNextTo};
 ghost use Rattle.tl_disagreements.specs.Keeping.Telling.{AreDisagreementsBefore};
 
 use crate::groups::Groups;
-use crate::headed::HeadedDart;
 use std::alloc::Global;
-use tl_county::{Map, Side};
+use tl_county::{Map, reverse_dart};
 use tl_index::Memory;
-use tl_sides::Disagreement;
+use tl_sides::{Disagreement, HeadedDart};
 
 /// All pairs of darts, the second next after the first about their node, where what is on the left of the first isn't
 /// what is on the right of the second: by rising number of the first, and of one first by rising number of the next. An
@@ -29,13 +28,13 @@ pub fn all_disagreements(alloc: Global, map: &Map) -> Result<Vec<Disagreement>, 
     };
     let mut found = Vec::new(alloc);
     for dart in 0..map.darts() {
-        tell_next(map, dart, groups.next_after(map, dart), &mut found)?;
+        push_next(map, dart, groups.next_after(map, dart), &mut found)?;
     }
     Ok(found)
 }
 
 /// Appends the pairs of a dart and those that are next after it where sides disagree.
-fn tell_next(
+fn push_next(
     map: &Map,
     dart: u32,
     next: &[HeadedDart],
@@ -49,7 +48,7 @@ fn tell_next(
     let left = map.dart_left(dart);
     for place in 0..next.len() {
         let other = next[place].dart;
-        if is_one_side(left, map.dart_left(reverse(other))) {
+        if left.is(map.dart_left(reverse_dart(other))) {
             continue;
         }
         if found
@@ -63,22 +62,4 @@ fn tell_next(
         }
     }
     Ok(())
-}
-
-ghost use Rattle.std.specs.Prelude.{◌≡◌};
-ghost use Rattle.tl_county.specs.Darts.{reverse_dart};
-
-/// The reverse of a dart: the other dart of its chain.
-fn reverse(dart: u32) -> u32
-    ensures { result ≡ reverse_dart dart }
-{
-    if dart % 2 == 0 { dart + 1 } else { dart - 1 }
-}
-
-/// Whether two sides are one.
-fn is_one_side(a: Side, b: Side) -> bool
-    ensures same { IsTrue result → a ≡ b }
-    ensures other { IsFalse result → a ≢ b }
-{
-    a == b
 }

@@ -2,35 +2,38 @@
 use Rattle.std.proofs.Common.{◌≡◌, ◌⊎◌, inl, inr, ℕ, Bool, true, false, List, [], ap, Some, Option, Result, Ok, Err, refl, sym, subst, ◌∙◌, append-nil}
 use Rattle.std.specs.Prelude.{⊤, is_ok}
 use Rattle.std.specs.Io.KnownBytes.{Appends}
-use Rattle.tl_record.specs.declared.layout.Layout.{Layout}
+use Rattle.tl_record.specs.declared.options.Options.{Options}
+use Rattle.tl_record.specs.Layout.{layout_with}
 use Rattle.tl_files.specs.Files.{Under}
 use Rattle.tl_files.specs.declared.beginning.FileKind.TheVariants.{Picture as PictureKind}
 use Rattle.tl_output.specs.Writing.{Writes, FailsToWrite, CountsFailure, TriesToPassOn, PassesOn, line_of}
 use Rattle.tl_plan.specs.declared.plan.View.{View}
-use Rattle.tl_verdict.specs.declared.stop.Stop.{Stop}
-use Rattle.tl_verdict.specs.declared.stop.Stop.TheVariants.{Record, Memory, Device, Budget}
+use Rattle.tl_output.specs.declared.stop.Stop.{Stop}
+use Rattle.tl_output.specs.declared.stop.Stop.TheVariants.{Record, Memory, Device, Budget}
+use Rattle.tl_verdict.specs.Stops.{unmapped}
 use Rattle.tl_answers.specs.declared.stop.TheConstants.{DONE, STOPPED, USAGE}
 use Rattle.tl_answers.specs.Running.{IsTold, NamesStop, NamesRecordFault}
 use Rattle.tl_answers.proofs.ToldLemmas.{line_stops}
-use Rattle.tl_making.specs.Opening.{RefusesName, StopsOpening}
+use Rattle.tl_making.specs.Opening.{RefusesName}
+use Rattle.tl_output.specs.Stops.{StopsFor}
 use Rattle.tl_making.specs.Files.{StandsUnder, KeepsBut, KeepsEach}
 use Rattle.tl_svg.specs.Texts.{picture_text}
 use Rattle.tl_draw.specs.declared.subject.Subject.{Subject}
-use Rattle.tl_draw.specs.declared.subject.Unread.{Unread}
-use Rattle.tl_draw.specs.declared.subject.Unread.TheVariants.{Fault, Stopped}
+use Rattle.tl_drawn.specs.declared.fault.MapStop.{MapStop}
+use Rattle.tl_drawn.specs.declared.fault.MapStop.TheVariants as unread
 use Rattle.tl_draw.specs.Subjects.{IsReadSubject}
 use Rattle.tl_draw.specs.Drawing.{Draws, IsDrawn, TellsUnread, TellsDrawn, TellsWritten, drawn_text, shown_count, picture_by}
 use Rattle.tl_svg.specs.Pictures.{chain_count, fault_count}
 use Rattle.tl_answers.specs.Lines.{IsLine}
 use Rattle.tl_svg.specs.declared.picture.Picture.{Picture}
 
-module _ (layout : Layout) (known : Option (List ℕ)) (made : List ℕ) (view : Option View) (shows : Bool) (read : List (List ℕ)) (status : ℕ) (before after : Under) (wrote told part : List ℕ → Type 0)
+module _ (options : Options) (known : Option (List ℕ)) (made : List ℕ) (view : Option View) (shows : Bool) (read : List (List ℕ)) (status : ℕ) (before after : Under) (wrote told part : List ℕ → Type 0)
     (failed out_same err_same : Type 0) where
   abbrev IsIt : Type 0
-  IsIt = Draws layout known made view shows read status before after wrote told part failed out_same err_same
+  IsIt = Draws options known made view shows read status before after wrote told part failed out_same err_same
 
   -- it stopped, and each name is as it was
-  stopped_so : status ≡ STOPPED → NamesStop told failed ⊤ out_same (IsDrawn layout known view shows (StandsUnder after made) part ⊎ NamesRecordFault layout known (λ fault. ⊤) part)
+  stopped_so : status ≡ STOPPED → NamesStop told failed ⊤ out_same (IsDrawn options known view shows (StandsUnder after made) part ⊎ NamesRecordFault (layout_with options) known (λ fault. ⊤) part)
       → KeepsEach before after made → IsIt
   stopped_so is names keeps = record {
     is_status = inr (inr (inl is));
@@ -45,7 +48,7 @@ module _ (layout : Layout) (known : Option (List ℕ)) (made : List ℕ) (view :
   }
 
   -- why it stopped was told
-  pub draws_stopped : (stop : Stop) → StopsOpening failed stop → IsTold stop status told → out_same → KeepsEach before after made → IsIt
+  pub draws_stopped : (stop : Stop) → StopsFor failed stop → IsTold stop status told → out_same → KeepsEach before after made → IsIt
   draws_stopped (Record line cause) stops is same keeps = absurd stops
   draws_stopped Memory stops is same keeps = stopped_so is.0 (inl (is.1, tt, same)) keeps
   draws_stopped Device stops is same keeps = stopped_so is.0 (inr (is.1, inl (stops, same))) keeps
@@ -66,8 +69,8 @@ module _ (layout : Layout) (known : Option (List ℕ)) (made : List ℕ) (view :
   }
 
   -- there is no map, and it was told why
-  pub draws_unread : (unread : Unread) → IsReadSubject layout known shows failed (Err unread) → TellsUnread unread status wrote told part out_same err_same → KeepsEach before after made → IsIt
-  draws_unread (Fault fault) holds (inl is) keeps = record {
+  pub draws_unread : (stop : MapStop) → IsReadSubject options known shows failed (Err stop) → TellsUnread (unmapped stop) status wrote told part out_same err_same → KeepsEach before after made → IsIt
+  draws_unread (unread.Fault fault) holds (inl is) keeps = record {
     is_status = inl (inr is.0);
     drawn = λ e. absurd (cc (sym is.0 ∙ e));
     fault = λ e. record { fault = fault; written = is.1; is = tt; holds = holds };
@@ -78,9 +81,9 @@ module _ (layout : Layout) (known : Option (List ℕ)) (made : List ℕ) (view :
     others = λ name other differs. keeps name differs;
     unmade = λ e. inl keeps;
   }
-  draws_unread (Fault fault) holds (inr is) keeps =
+  draws_unread (unread.Fault fault) holds (inr is) keeps =
       stopped_so is.0 (line_stops told failed ⊤ out_same _ _ tt (λ more. inr (record { fault = fault; written = more; is = tt; holds = holds })) is.1) keeps
-  draws_unread (Stopped (Record line cause)) first is keeps = record {
+  draws_unread (unread.Refused line cause) first is keeps = record {
     is_status = inr (inl is.0.0);
     drawn = λ e. absurd (cc (sym is.0.0 ∙ e));
     fault = λ e. absurd (cc (sym is.0.0 ∙ e));
@@ -91,12 +94,11 @@ module _ (layout : Layout) (known : Option (List ℕ)) (made : List ℕ) (view :
     others = λ name other differs. keeps name differs;
     unmade = λ e. inl keeps;
   }
-  draws_unread (Stopped Memory) read_so is keeps = stopped_so is.0.0 (inl (is.0.1, tt, is.1)) keeps
-  draws_unread (Stopped Device) fails is keeps = stopped_so is.0.0 (inr (is.0.1, inl (fails, is.1))) keeps
-  draws_unread (Stopped Budget) never is keeps = absurd never
+  draws_unread unread.Memory read_so is keeps = stopped_so is.0.0 (inl (is.0.1, tt, is.1)) keeps
+  draws_unread unread.Device fails is keeps = stopped_so is.0.0 (inr (is.0.1, inl (fails, is.1))) keeps
 
   -- the picture stands, and it was told
-  pub draws_told : (subject : Subject) → IsReadSubject layout known shows ⊥ (Ok subject) → StandsUnder after made (picture_text subject.map (picture_by view subject.map) subject.faults.items)
+  pub draws_told : (subject : Subject) → IsReadSubject options known shows ⊥ (Ok subject) → StandsUnder after made (picture_text subject.map (picture_by view subject.map) subject.faults.items)
       → KeepsBut before after made → TellsDrawn (picture_by view subject.map) shows subject status wrote told part out_same err_same → IsIt
   draws_told subject right stands others (inl is) = record {
     is_status = inl (inl is.0);
@@ -123,7 +125,7 @@ module _ (layout : Layout) (known : Option (List ℕ)) (made : List ℕ) (view :
   }
 
   -- the picture was written whole and stands, or it wasn't
-  pub draws_written : (whole : Bool) (subject : Subject) (picture : Picture) → picture ≡ picture_by view subject.map → IsReadSubject layout known shows ⊥ (Ok subject)
+  pub draws_written : (whole : Bool) (subject : Subject) (picture : Picture) → picture ≡ picture_by view subject.map → IsReadSubject options known shows ⊥ (Ok subject)
       → (whole ≡ true → StandsUnder after made (picture_text subject.map picture subject.faults.items)) → KeepsBut before after made → (whole ≡ false → KeepsEach before after made)
       → (whole ≡ false → failed) → TellsWritten whole picture shows subject status wrote told part out_same err_same → IsIt
   draws_written true subject picture is right stands others keeps fails tells =
@@ -131,20 +133,12 @@ module _ (layout : Layout) (known : Option (List ℕ)) (made : List ℕ) (view :
       (subst (λ p. TellsDrawn p shows subject status wrote told part out_same err_same) is tells)
   draws_written false subject picture is right stands others keeps fails tells = draws_stopped Device (fails refl) tells.0 tells.1 (keeps refl)
 
--- what a stop says of what failed, said more widely
-pub opening_for : (failed other : Type 0) (stop : Stop) → (failed → other) → StopsOpening failed stop → StopsOpening other stop
-opening_for failed other (Record line cause) wider stops = stops
-opening_for failed other Memory wider stops = stops
-opening_for failed other Device wider stops = wider stops
-opening_for failed other Budget wider stops = stops
-
-pub unread_for : (layout : Layout) (known : Option (List ℕ)) (shows : Bool) (failed other : Type 0) (unread : Unread) → (failed → other) → IsReadSubject layout known shows failed (Err unread)
-    → IsReadSubject layout known shows other (Err unread)
-unread_for layout known shows failed other (Fault fault) wider is = is
-unread_for layout known shows failed other (Stopped (Record line cause)) wider is = is
-unread_for layout known shows failed other (Stopped Memory) wider is = is
-unread_for layout known shows failed other (Stopped Device) wider is = wider is
-unread_for layout known shows failed other (Stopped Budget) wider is = is
+pub unread_for : (options : Options) (known : Option (List ℕ)) (shows : Bool) (failed other : Type 0) (stop : MapStop) → (failed → other) → IsReadSubject options known shows failed (Err stop)
+    → IsReadSubject options known shows other (Err stop)
+unread_for options known shows failed other (unread.Fault fault) wider is = is
+unread_for options known shows failed other (unread.Refused line cause) wider is = is
+unread_for options known shows failed other unread.Memory wider is = is
+unread_for options known shows failed other unread.Device wider is = wider is
 
 -- ---- the picture in its file
 

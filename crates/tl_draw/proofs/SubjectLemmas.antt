@@ -3,6 +3,8 @@ use Rattle.std.proofs.Common.{◌≡◌, ◌≢◌, inl, inr, ℕ, Bool, true, f
 use Rattle.std.specs.Prelude.{⊤, slice_get}
 use Rattle.std.specs.Option.{IfSome}
 use Rattle.tl_record.specs.declared.layout.Layout.{Layout}
+use Rattle.tl_record.specs.declared.options.Options.{Options}
+use Rattle.tl_record.specs.Layout.{layout_with}
 use Rattle.tl_record.specs.declared.refusal.Refusal.{Refusal}
 use Rattle.tl_record.specs.Records.{Records as AllRecords, records_of, judgements}
 use Rattle.tl_record.specs.Lines.{raw_lines}
@@ -12,28 +14,25 @@ use Rattle.tl_record.specs.Searching.{pair_of}
 use Rattle.tl_record.specs.Failures.{one_more}
 use Rattle.tl_drawn.specs.Reading.{IsReadFrom, StopsReading, TellsDevice, records_in}
 use Rattle.tl_drawn.specs.Faults.{IsTrueOf}
-use Rattle.tl_drawn.specs.declared.fault.MapFault.{MapFault as RecordFault}
+use Rattle.tl_drawn.specs.declared.fault.RecordFault.{RecordFault}
 use Rattle.tl_drawn.specs.declared.fault.MapStop.{MapStop}
 use Rattle.tl_drawn.specs.declared.fault.MapStop.TheVariants as map_stop
 use Rattle.tl_county.specs.TheMap.{TheMap}
 use Rattle.tl_record_faults.specs.AllFaults.{AreAllFaults}
 use Rattle.tl_verdict.specs.declared.fault.MapFault.{MapFault}
 use Rattle.tl_verdict.specs.declared.fault.MapFault.TheVariants as fault
-use Rattle.tl_verdict.specs.declared.stop.Stop.TheVariants.{Record, Memory, Device, Budget}
-use Rattle.tl_verdict.specs.Sound.{IsSound}
+use Rattle.tl_verdict.specs.Sound.{IsSoundFor}
 use Rattle.tl_verdict.specs.Records.{HaveMap}
 use Rattle.tl_verdict.proofs.OneMap.{same_map}
 use Rattle.tl_listing.specs.declared.listing.Listing.{Listing}
 use Rattle.tl_listing.specs.declared.listing.Listing.TheVariants.{Sound, Refused, Faults}
 use Rattle.tl_listing.specs.Listings.{IsListingOf, AreFaults}
-use Rattle.tl_listing.specs.MapFaults.{AreMapFaults}
+use Rattle.tl_listing.specs.MapFaults.{AreFaultsFor}
 use Rattle.tl_all_faults.specs.declared.of_records.Findings.{Findings}
 use Rattle.tl_all_faults.specs.Findings.{AreFindingsOf, IsMapIfAny}
 use Rattle.tl_draw.specs.declared.subject.Subject.{Subject}
-use Rattle.tl_draw.specs.declared.subject.Unread.{Unread}
-use Rattle.tl_draw.specs.declared.subject.Unread.TheVariants.{Fault, Stopped}
 use Rattle.tl_draw.specs.Subjects.{AreFaultsOf, AreToShow, IsReadSubject}
-use Rattle.tl_draw.specs.Keeping.{unread_of, listed_faults, first_refused, fault_alone, first_fault, first_listed}
+use Rattle.tl_draw.specs.Keeping.{listed_faults, first_refused, fault_alone, first_fault, first_listed}
 
 first_is : (layout : Layout) (text : List ℕ) → slice_get (refusals_of layout text) 0 ≡ (records_of layout text).refusal
 first_is layout text = first_of_judged (judgements layout 0 (raw_lines text))
@@ -53,92 +52,92 @@ no_told : (all : AllRecords) (faults : List MapFault) (told : List RecordFault) 
 no_told all faults [] some are all_told none = some are
 no_told all faults (f ∷ rest) some are all_told none = none f (all_told.each 0 f (omega arith))
 
-shown_faults : (all : AllRecords) (m : TheMap) (faults : List MapFault) (left : Bool) → IsReadFrom all m → faults ≢ [] → AreFaults all faults left → AreFaultsOf m faults
-shown_faults all m faults left is some (inl records) = absurd (no_told all faults records.0.told some records.0.are records.0.are_all is.no_fault)
-shown_faults all m faults left is some (inr have) = inr (left, subst (λ n. AreMapFaults n faults left) (same_map all have.map m have.is_read is) have.so)
+shown_faults : (faces : Bool) (all : AllRecords) (m : TheMap) (faults : List MapFault) (left : Bool) → IsReadFrom all m → faults ≢ [] → AreFaults faces all faults left → AreFaultsOf faces m faults
+shown_faults faces all m faults left is some (inl records) = absurd (no_told all faults records.0.told some records.0.are records.0.are_all is.no_fault)
+shown_faults faces all m faults left is some (inr have) = inr (left, subst (λ n. AreFaultsFor faces n faults left) (same_map all have.map m have.is_read is) have.so)
 
 -- what is listed of records that have a map is all faults of it
-shown_findings : (layout : Layout) (text : List ℕ) (listing : Listing) (m : TheMap) → IsListingOf layout text listing → IsReadFrom (records_of layout text) m → AreFaultsOf m (listed_faults listing)
-shown_findings layout text (Sound report) m have is = inl (refl, subst IsSound (same_map (records_of layout text) have.map m have.is_read is) have.so.0)
-shown_findings layout text (Refused list) m lists is = absurd (no_refused layout text list.items lists.0 lists.1 is.no_refusal)
-shown_findings layout text (Faults faults left) m lists is = shown_faults (records_of layout text) m faults.items left is lists.0 lists.2
+shown_findings : (options : Options) (text : List ℕ) (listing : Listing) (m : TheMap) → IsListingOf options text listing → IsReadFrom (records_of (layout_with options) text) m → AreFaultsOf options.faces m (listed_faults listing)
+shown_findings options text (Sound report) m have is = inl (refl, subst (IsSoundFor options.faces) (same_map (records_of (layout_with options) text) have.map m have.is_read is) have.so.0)
+shown_findings options text (Refused list) m lists is = absurd (no_refused (layout_with options) text list.items lists.0 lists.1 is.no_refusal)
+shown_findings options text (Faults faults left) m lists is = shown_faults options.faces (records_of (layout_with options) text) m faults.items left is lists.0 lists.2
 
 -- ---- where there is none
 
-first_refusal : (layout : Layout) (text : List ℕ) (items : List Refusal) → items ≢ [] → map pair_of items ≡ refusals_of layout text → IsReadSubject layout (Some text) true ⊥ (Err (first_refused items))
-first_refusal layout text [] some lists = absurd (some refl)
-first_refusal layout text (refusal ∷ rest) some lists = sym (ap (λ rs. slice_get rs 0) lists ∙ first_is layout text)
+first_refusal : (options : Options) (text : List ℕ) (items : List Refusal) → items ≢ [] → map pair_of items ≡ refusals_of (layout_with options) text → IsReadSubject options (Some text) true ⊥ (Err (first_refused items))
+first_refusal options text [] some lists = absurd (some refl)
+first_refusal options text (refusal ∷ rest) some lists = sym (ap (λ rs. slice_get rs 0) lists ∙ first_is (layout_with options) text)
 
-first_told : (layout : Layout) (text : List ℕ) (faults : List MapFault) (told : List RecordFault) → faults ≢ [] → faults ≡ map fault.Records told → AreAllFaults (records_in (records_of layout text)) told
-    → (records_of layout text).refusal ≡ None → IsReadSubject layout (Some text) true ⊥ (Err (first_fault faults))
-first_told layout text faults [] some are all_told none = absurd (some are)
-first_told layout text faults (f ∷ rest) some are all_told none =
-    subst (λ fs. IsReadSubject layout (Some text) true ⊥ (Err (first_fault fs))) (sym are) (none, all_told.each 0 f (omega arith))
+first_told : (options : Options) (text : List ℕ) (faults : List MapFault) (told : List RecordFault) → faults ≢ [] → faults ≡ map fault.Records told → AreAllFaults (records_in (records_of (layout_with options) text)) told
+    → (records_of (layout_with options) text).refusal ≡ None → IsReadSubject options (Some text) true ⊥ (Err (first_fault faults))
+first_told options text faults [] some are all_told none = absurd (some are)
+first_told options text faults (f ∷ rest) some are all_told none =
+    subst (λ fs. IsReadSubject options (Some text) true ⊥ (Err (first_fault fs))) (sym are) (none, all_told.each 0 f (omega arith))
 
-first_findings : (layout : Layout) (text : List ℕ) (listing : Listing) → IsListingOf layout text listing → ¬ HaveMap (records_of layout text) (λ m. ⊤)
-    → IsReadSubject layout (Some text) true ⊥ (Err (first_listed listing))
-first_findings layout text (Sound report) have none = absurd (none (record { map = have.map; is_read = have.is_read; so = tt }))
-first_findings layout text (Refused list) lists none = first_refusal layout text list.items lists.0 lists.1
-first_findings layout text (Faults faults left) lists none = elim lists.2 [
-  | inl records ↦ first_told layout text faults.items records.0.told lists.0 records.0.are records.0.are_all lists.1
+first_findings : (options : Options) (text : List ℕ) (listing : Listing) → IsListingOf options text listing → ¬ HaveMap (records_of (layout_with options) text) (λ m. ⊤)
+    → IsReadSubject options (Some text) true ⊥ (Err (first_listed listing))
+first_findings options text (Sound report) have none = absurd (none (record { map = have.map; is_read = have.is_read; so = tt }))
+first_findings options text (Refused list) lists none = first_refusal options text list.items lists.0 lists.1
+first_findings options text (Faults faults left) lists none = elim lists.2 [
+  | inl records ↦ first_told options text faults.items records.0.told lists.0 records.0.are records.0.are_all lists.1
   | inr have ↦ absurd (none (record { map = have.map; is_read = have.is_read; so = tt }))
 ]
 
 -- of a text that isn't known nothing is said
-unknown_refused : (layout : Layout) (items : List Refusal) → IsReadSubject layout None true ⊥ (Err (first_refused items))
-unknown_refused layout [] = tt
-unknown_refused layout (refusal ∷ rest) = tt
+unknown_refused : (options : Options) (items : List Refusal) → IsReadSubject options None true ⊥ (Err (first_refused items))
+unknown_refused options [] = tt
+unknown_refused options (refusal ∷ rest) = tt
 
-unknown_fault : (layout : Layout) (f : MapFault) → IsReadSubject layout None true ⊥ (Err (fault_alone f))
-unknown_fault layout (fault.Records f) = tt
-unknown_fault layout (fault.Meet meet) = tt
-unknown_fault layout (fault.Side node first next) = tt
-unknown_fault layout (fault.PolygonPoint misplaced) = tt
-unknown_fault layout (fault.Cell odds) = tt
+unknown_fault : (options : Options) (f : MapFault) → IsReadSubject options None true ⊥ (Err (fault_alone f))
+unknown_fault options (fault.Records f) = tt
+unknown_fault options (fault.Meet meet) = tt
+unknown_fault options (fault.Side node first next) = tt
+unknown_fault options (fault.PolygonPoint misplaced) = tt
+unknown_fault options (fault.Cell odds) = tt
+unknown_fault options (fault.Face f) = tt
 
-unknown_faults : (layout : Layout) (faults : List MapFault) → IsReadSubject layout None true ⊥ (Err (first_fault faults))
-unknown_faults layout [] = tt
-unknown_faults layout (f ∷ rest) = unknown_fault layout f
+unknown_faults : (options : Options) (faults : List MapFault) → IsReadSubject options None true ⊥ (Err (first_fault faults))
+unknown_faults options [] = tt
+unknown_faults options (f ∷ rest) = unknown_fault options f
 
-unknown_first : (layout : Layout) (listing : Listing) → IsReadSubject layout None true ⊥ (Err (first_listed listing))
-unknown_first layout (Sound report) = tt
-unknown_first layout (Refused list) = unknown_refused layout list.items
-unknown_first layout (Faults faults left) = unknown_faults layout faults.items
+unknown_first : (options : Options) (listing : Listing) → IsReadSubject options None true ⊥ (Err (first_listed listing))
+unknown_first options (Sound report) = tt
+unknown_first options (Refused list) = unknown_refused options list.items
+unknown_first options (Faults faults left) = unknown_faults options faults.items
 
 -- ---- what is answered
 
-pub subject_found : (layout : Layout) (known : Option (List ℕ)) (found : Findings) (m : TheMap) (faults : List MapFault) → IfSome known (λ text. AreFindingsOf layout text found) → found.map ≡ Some m
-    → faults ≡ listed_faults found.listing → IfSome known (λ text. IsReadFrom (records_of layout text) m × AreToShow true m faults)
-subject_found layout None found m faults is there same = tt
-subject_found layout (Some text) found m faults is there same =
-    let drawn = subst (IsMapIfAny (records_of layout text)) there is.drawn in
-    (drawn, subst (AreFaultsOf m) (sym same) (shown_findings layout text found.listing m is.told drawn))
+pub subject_found : (options : Options) (known : Option (List ℕ)) (found : Findings) (m : TheMap) (faults : List MapFault) → IfSome known (λ text. AreFindingsOf options text found) → found.map ≡ Some m
+    → faults ≡ listed_faults found.listing → IfSome known (λ text. IsReadFrom (records_of (layout_with options) text) m × AreToShow options.faces true m faults)
+subject_found options None found m faults is there same = tt
+subject_found options (Some text) found m faults is there same =
+    let drawn = subst (IsMapIfAny (records_of (layout_with options) text)) there is.drawn in
+    (drawn, subst (AreFaultsOf options.faces m) (sym same) (shown_findings options text found.listing m is.told drawn))
 
-pub subject_missing : (layout : Layout) (known : Option (List ℕ)) (found : Findings) (unread : Unread) → IfSome known (λ text. AreFindingsOf layout text found) → found.map ≡ None
-    → unread ≡ first_listed found.listing → IsReadSubject layout known true ⊥ (Err unread)
-subject_missing layout None found unread is none same = subst (λ u. IsReadSubject layout None true ⊥ (Err u)) (sym same) (unknown_first layout found.listing)
-subject_missing layout (Some text) found unread is none same =
-    subst (λ u. IsReadSubject layout (Some text) true ⊥ (Err u)) (sym same) (first_findings layout text found.listing is.told (subst (IsMapIfAny (records_of layout text)) none is.drawn))
+pub subject_missing : (options : Options) (known : Option (List ℕ)) (found : Findings) (unread : MapStop) → IfSome known (λ text. AreFindingsOf options text found) → found.map ≡ None
+    → unread ≡ first_listed found.listing → IsReadSubject options known true ⊥ (Err unread)
+subject_missing options None found unread is none same = subst (λ u. IsReadSubject options None true ⊥ (Err u)) (sym same) (unknown_first options found.listing)
+subject_missing options (Some text) found unread is none same =
+    subst (λ u. IsReadSubject options (Some text) true ⊥ (Err u)) (sym same) (first_findings options text found.listing is.told (subst (IsMapIfAny (records_of (layout_with options) text)) none is.drawn))
 
 -- the map alone
-pub plain_subject : (layout : Layout) (known : Option (List ℕ)) (m : TheMap) (faults : List MapFault) → IfSome known (λ text. IsReadFrom (records_of layout text) m) → faults ≡ []
-    → IfSome known (λ text. IsReadFrom (records_of layout text) m × AreToShow false m faults)
-plain_subject layout None m faults is none = tt
-plain_subject layout (Some text) m faults is none = (is, none)
+pub plain_subject : (options : Options) (known : Option (List ℕ)) (m : TheMap) (faults : List MapFault) → IfSome known (λ text. IsReadFrom (records_of (layout_with options) text) m) → faults ≡ []
+    → IfSome known (λ text. IsReadFrom (records_of (layout_with options) text) m × AreToShow options.faces false m faults)
+plain_subject options None m faults is none = tt
+plain_subject options (Some text) m faults is none = (is, none)
 
-pub stop_subject : (layout : Layout) (known : Option (List ℕ)) (shows : Bool) (failed : Type 0) (stop : MapStop) (old new : ℕ) → IfSome known (λ text. StopsReading (records_of layout text) stop)
-    → TellsDevice {T = ℕ} old new (Err stop) → (new ≡ one_more old → failed) → IsReadSubject layout known shows failed (Err (unread_of stop))
-stop_subject layout known shows failed (map_stop.Fault f) old new stops reads fails = stops
-stop_subject layout known shows failed (map_stop.Refused line cause) old new stops reads fails = stops
-stop_subject layout known shows failed map_stop.Memory old new stops reads fails = tt
-stop_subject layout known shows failed map_stop.Device old new stops reads fails = fails reads
+pub stop_subject : (options : Options) (known : Option (List ℕ)) (shows : Bool) (failed : Type 0) (stop : MapStop) (old new : ℕ) → IfSome known (λ text. StopsReading (records_of (layout_with options) text) stop)
+    → TellsDevice {T = ℕ} old new (Err stop) → (new ≡ one_more old → failed) → IsReadSubject options known shows failed (Err stop)
+stop_subject options known shows failed (map_stop.Fault f) old new stops reads fails = stops
+stop_subject options known shows failed (map_stop.Refused line cause) old new stops reads fails = stops
+stop_subject options known shows failed map_stop.Memory old new stops reads fails = tt
+stop_subject options known shows failed map_stop.Device old new stops reads fails = fails reads
 
 -- the same, where what may have failed is told otherwise
-pub subject_for : (layout : Layout) (known : Option (List ℕ)) (shows : Bool) (failed other : Type 0) (r : Result Subject Unread) → (failed → other) → IsReadSubject layout known shows failed r
-    → IsReadSubject layout known shows other r
-subject_for layout known shows failed other (Ok subject) wider is = is
-subject_for layout known shows failed other (Err (Fault f)) wider is = is
-subject_for layout known shows failed other (Err (Stopped (Record line cause))) wider is = is
-subject_for layout known shows failed other (Err (Stopped Memory)) wider is = is
-subject_for layout known shows failed other (Err (Stopped Device)) wider is = wider is
-subject_for layout known shows failed other (Err (Stopped Budget)) wider is = is
+pub subject_for : (options : Options) (known : Option (List ℕ)) (shows : Bool) (failed other : Type 0) (r : Result Subject MapStop) → (failed → other) → IsReadSubject options known shows failed r
+    → IsReadSubject options known shows other r
+subject_for options known shows failed other (Ok subject) wider is = is
+subject_for options known shows failed other (Err (map_stop.Fault f)) wider is = is
+subject_for options known shows failed other (Err (map_stop.Refused line cause)) wider is = is
+subject_for options known shows failed other (Err map_stop.Memory) wider is = is
+subject_for options known shows failed other (Err map_stop.Device) wider is = wider is

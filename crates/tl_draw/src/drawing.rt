@@ -1,31 +1,33 @@
 //! Pictures that are made over files: each takes its name when it is whole.
 
 ghost use Rattle.std.specs.Prelude.{◌≡◌, ℕ, List, Option, true, false, map, string_bytes, Ok, Err};
-ghost use Rattle.tl_record.specs.declared.layout.Layout.{Layout};
-ghost use Rattle.tl_record.specs.Layout.{layout_with};
+ghost use Rattle.tl_record.specs.declared.options.Options.{Options};
 ghost use Rattle.tl_text.specs.Joining.{joined_bytes};
 ghost use Rattle.tl_output.specs.Writing.{Writes, WritesSome, FailsToWrite};
 ghost use Rattle.tl_files.specs.Files.{bytes_under};
 ghost use Rattle.tl_answers.specs.Running.{TriesToWrite};
+ghost use Rattle.tl_verdict.specs.Stops.{unmapped};
 ghost use Rattle.tl_svg.specs.Texts.{picture_text};
 ghost use Rattle.tl_draw.specs.Subjects.{IsReadSubject};
 ghost use Rattle.tl_draw.specs.Drawing.{Draws, TellsUnread, TellsDrawn, TellsWritten, picture_by, DrawFails};
 ghost use Rattle.tl_making.specs.Files.{ReadsFail};
 
-use crate::subject::{Subject, Unread, read_subject};
+use crate::subject::{Subject, read_subject};
 use crate::telling::{DrawnChains, DrawnFaults};
 use std::alloc::Global;
 use std::hash::RandomState;
 use tl_answers::stop::{DONE, MAP_FAULT, stopped};
-use tl_answers::tell::tell_line;
+use tl_answers::tell::write_line;
 use tl_county::Map;
 use tl_files::{FileKind, FileSystem, Room};
 use tl_making::new_file::{IS_READ, room_for, say_refusal, settle, taken_line};
-use tl_making::opening::{as_one_text, give_back, open_all, room_for_bytes, stop_of};
+use tl_making::opening::{as_one_text, give_back, open_all, room_for_bytes};
+use tl_map::MapStop;
+use tl_output::Stop;
 use tl_plan::View;
 use tl_record::{Options, Sink};
 use tl_svg::{Frame, Picture, chain_count, fault_count, picture_of, print_picture};
-use tl_verdict::{MapFault, Stop};
+use tl_verdict::fault_of_records;
 
 /// Draws the map of the records of these files, fitted to it or the place that is given, into a new file of the name `made`,
 /// and tells how much the picture shows; gives the program's exit status. The file takes its name when it is whole.
@@ -41,7 +43,7 @@ pub fn open_and_draw<F: FileSystem, W: Sink, E: Sink>(
     out: &mut W,
     err: &mut E,
 ) -> u8
-    ensures { Draws (layout_with options) (joined_bytes (bytes_under (F.under files.old)) false (map string_bytes names.now))
+    ensures { Draws options (joined_bytes (bytes_under (F.under files.old)) false (map string_bytes names.now))
         (string_bytes made.now) view shows_faults (map string_bytes names.now) result
         (F.under files.old) (F.under files.new) (Writes W.contents W.failure_count out.old out.new)
         (TriesToWrite E.contents E.failure_count err.old err.new) (WritesSome W.contents W.failure_count out.old out.new)
@@ -61,7 +63,7 @@ pub fn open_and_draw<F: FileSystem, W: Sink, E: Sink>(
                     out,
                     err,
                 ),
-                Err(unread) => tell_unread(unread, out, err),
+                Err(unread) => write_unread(unread, out, err),
             }
         }
         Ok(Room::Taken) => say_refusal(taken_line(FileKind::Picture), err),
@@ -78,16 +80,18 @@ fn read_files<F: FileSystem>(
     names: &[String],
     shows_faults: bool,
     options: Options,
-) -> Result<Subject, Unread>
-    ensures { IsReadSubject (layout_with options) (joined_bytes (bytes_under (F.under files.now)) false (map string_bytes names.now))
+) -> Result<Subject, MapStop>
+    ensures { IsReadSubject options (joined_bytes (bytes_under (F.under files.now)) false (map string_bytes names.now))
         shows_faults (ReadsFail F.Reader.failure_count (F.under files.now) (map string_bytes names.now)) result }
 {
     let Ok(room) = room_for_bytes(alloc) else {
-        return Err(Unread::Stopped(Stop::Memory));
+        return Err(MapStop::Memory);
     };
     let mut readers = match open_all(files, alloc, names) {
         Ok(readers) => readers,
-        Err(stop) => return Err(Unread::Stopped(stop)),
+        Err(Stop::Device) => return Err(MapStop::Device),
+        // Else memory was refused.
+        Err(_) => return Err(MapStop::Memory),
     };
     let mut records = as_one_text(alloc, &mut readers, room);
     let subject = read_subject(alloc, hasher, &mut records, shows_faults, options);
@@ -96,14 +100,14 @@ fn read_files<F: FileSystem>(
 }
 
 // Tells why nothing is drawn.
-fn tell_unread<W: Sink, E: Sink>(unread: Unread, out: &mut W, err: &mut E) -> u8
-    ensures { TellsUnread unread result (Writes W.contents W.failure_count out.old out.new)
+fn write_unread<W: Sink, E: Sink>(unread: MapStop, out: &mut W, err: &mut E) -> u8
+    ensures { TellsUnread (unmapped unread) result (Writes W.contents W.failure_count out.old out.new)
         (TriesToWrite E.contents E.failure_count err.old err.new) (WritesSome W.contents W.failure_count out.old out.new)
         (out.new ≡ out.old) (err.new ≡ err.old) }
 {
-    match unread {
-        Unread::Fault(fault) => tell_line(&MapFault::Records(fault), MAP_FAULT, out, err),
-        Unread::Stopped(stop) => stopped(&stop, err),
+    match fault_of_records(unread) {
+        Ok(fault) => write_line(&fault, MAP_FAULT, out, err),
+        Err(stop) => stopped(&stop, err),
     }
 }
 
@@ -118,9 +122,9 @@ fn draw_into<F: FileSystem, W: Sink, E: Sink>(
     out: &mut W,
     err: &mut E,
 ) -> u8
-    ensures { (layout : Layout) (known : Option (List ℕ)) (read : List (List ℕ)) →
-        IsReadSubject layout known shows_faults ⊥ (Ok subject.now) →
-        Draws layout known (string_bytes made.now) view shows_faults read result
+    ensures { (options : Options) (known : Option (List ℕ)) (read : List (List ℕ)) →
+        IsReadSubject options known shows_faults ⊥ (Ok subject.now) →
+        Draws options known (string_bytes made.now) view shows_faults read result
         (F.under files.old) (F.under files.new) (Writes W.contents W.failure_count out.old out.new)
         (TriesToWrite E.contents E.failure_count err.old err.new) (WritesSome W.contents W.failure_count out.old out.new)
         (DrawFails F.Reader.failure_count F.Draft.failure_count F.knows (F.under files.old) (string_bytes made.now) read)
@@ -128,18 +132,18 @@ fn draw_into<F: FileSystem, W: Sink, E: Sink>(
 {
     let mut draft = match files.draft(alloc, made.as_str(), FileKind::Picture) {
         Ok(draft) => draft,
-        Err(stop) => return stopped(&stop_of(stop), err),
+        Err(stop) => return stopped(&stop, err),
     };
     let picture = picture_by(view, &subject.map);
     let is_whole = write_picture(picture, subject, &mut draft);
     match settle(files, alloc, draft, made, is_whole) {
         Some(stop) => stopped(&stop, err),
-        None => tell_written(is_whole, picture, shows_faults, subject, out, err),
+        None => write_outcome(is_whole, picture, shows_faults, subject, out, err),
     }
 }
 
 // Tells how much a picture shows, or that it wasn't written whole.
-fn tell_written<W: Sink, E: Sink>(
+fn write_outcome<W: Sink, E: Sink>(
     is_whole: bool,
     picture: Picture,
     shows_faults: bool,
@@ -152,7 +156,7 @@ fn tell_written<W: Sink, E: Sink>(
         (out.new ≡ out.old) (err.new ≡ err.old) }
 {
     if is_whole {
-        tell_drawn(picture, shows_faults, subject, out, err)
+        write_drawn(picture, shows_faults, subject, out, err)
     } else {
         stopped(&Stop::Device, err)
     }
@@ -179,7 +183,7 @@ fn picture_by(view: Option<View>, map: &Map) -> Picture
 }
 
 // Tells how much a picture shows.
-fn tell_drawn<W: Sink, E: Sink>(
+fn write_drawn<W: Sink, E: Sink>(
     picture: Picture,
     shows_faults: bool,
     subject: &Subject,
@@ -193,8 +197,8 @@ fn tell_drawn<W: Sink, E: Sink>(
     let chains = chain_count(picture, &subject.map);
     if shows_faults {
         let faults = fault_count(picture.frame, &subject.map, subject.faults.as_slice());
-        tell_line(&DrawnFaults { chains, faults }, DONE, out, err)
+        write_line(&DrawnFaults { chains, faults }, DONE, out, err)
     } else {
-        tell_line(&DrawnChains { chains }, DONE, out, err)
+        write_line(&DrawnChains { chains }, DONE, out, err)
     }
 }

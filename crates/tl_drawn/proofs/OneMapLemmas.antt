@@ -5,7 +5,7 @@ use Rattle.std.proofs.lemmas.List.Sums.{sum_by-cons}
 use Rattle.tl_record.specs.declared.record.Record.{Record}
 use Rattle.tl_record.specs.declared.record.Record.TheVariants.{Chain}
 use Rattle.tl_drawn.specs.declared.entry.SidesEntry.{SidesEntry}
-use Rattle.tl_drawn.specs.declared.fault.MapFault.TheVariants.{DuplicateChain, DuplicateSides}
+use Rattle.tl_drawn.specs.declared.fault.RecordFault.TheVariants.{DuplicateChain, DuplicateSides}
 use Rattle.tl_drawn.specs.ChainsOf.{is_chain, IsDrawn, AreChainsOf}
 use Rattle.tl_county.specs.Chains.{CompleteChain, tlids}
 use Rattle.tl_drawn.specs.MapOf.{sides_in, without_sides, IsSided, IsMapOf}

@@ -6,8 +6,8 @@ use Rattle.tl_record.specs.declared.record.Record.{Record}
 use Rattle.tl_record.specs.declared.record.Record.TheVariants.{Chain}
 use Rattle.tl_drawn.specs.declared.fault.Limited.{Limited}
 use Rattle.tl_drawn.specs.declared.fault.Limited.TheVariants.{Chains, Segments, Polygons, Landmarks}
-use Rattle.tl_drawn.specs.declared.fault.MapFault.{MapFault}
-use Rattle.tl_drawn.specs.declared.fault.MapFault.TheVariants.{DuplicateChain, ShapeWithoutChain, ShapeSequence, ShapeGap, ChainWithoutSides, SidesWithoutChain, DuplicateSides, DuplicatePolygon, SideWithoutPolygon, LinkWithoutLandmark, LinkWithoutPolygon, DegenerateChain, TooMany}
+use Rattle.tl_drawn.specs.declared.fault.RecordFault.{RecordFault}
+use Rattle.tl_drawn.specs.declared.fault.RecordFault.TheVariants.{DuplicateChain, ShapeWithoutChain, ShapeSequence, ShapeGap, ChainWithoutSides, SidesWithoutChain, DuplicateSides, DuplicatePolygon, SideWithoutPolygon, LinkWithoutLandmark, LinkWithoutPolygon, DegenerateChain, TooMany}
 use Rattle.tl_drawn.specs.ChainsOf.{is_chain, is_shape_at, shape_count, pairs_of, has_gap, points_between, segments_of, chain_count}
 use Rattle.tl_drawn.specs.declared.entry.SidesEntry.{SidesEntry}
 use Rattle.tl_drawn.specs.MapOf.{sides_in, polygons_in, landmarks_in, links_in, keys, first_landmarks}
@@ -79,7 +79,7 @@ IsTooMany rs Polygons = most_polygons < length (polygons_in rs)
 IsTooMany rs Landmarks = most_landmarks < length (first_landmarks rs)
 
 -- the fault is true of the records
-abbrev pub IsTrueOf : List Record → MapFault → Type 0
+abbrev pub IsTrueOf : List Record → RecordFault → Type 0
 IsTrueOf rs (DuplicateChain t) = IsRepeated rs t
 IsTrueOf rs (ShapeWithoutChain t) = IsStray rs t
 IsTrueOf rs (ShapeSequence t) = ¬ IsNumbered rs t
@@ -102,7 +102,7 @@ IsOfChains Polygons = ⊥
 IsOfChains Landmarks = ⊥
 
 -- the fault is one of the chains: of records of the types 1 and 2 alone, or of the number of chains or of segments
-abbrev pub IsFaultOfChains : MapFault → Type 0
+abbrev pub IsFaultOfChains : RecordFault → Type 0
 IsFaultOfChains (DuplicateChain t) = ⊤
 IsFaultOfChains (ShapeWithoutChain t) = ⊤
 IsFaultOfChains (ShapeSequence t) = ⊤
@@ -129,4 +129,4 @@ pub record HaveNoChainFault (rs : List Record) : Type 0 where
 
 -- no fault is true of the records
 abbrev pub HaveNoFault : List Record → Type 0
-HaveNoFault rs = (fault : MapFault) → ¬ IsTrueOf rs fault
+HaveNoFault rs = (fault : RecordFault) → ¬ IsTrueOf rs fault

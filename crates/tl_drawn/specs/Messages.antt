@@ -4,8 +4,8 @@ use Rattle.tl_record.specs.Messages.{refusal_text}
 use Rattle.tl_key.specs.KeyText.{key_text}
 use Rattle.tl_drawn.specs.declared.fault.Limited.{Limited}
 use Rattle.tl_drawn.specs.declared.fault.Limited.TheVariants.{Chains, Segments, Polygons, Landmarks}
-use Rattle.tl_drawn.specs.declared.fault.MapFault.{MapFault}
-use Rattle.tl_drawn.specs.declared.fault.MapFault.TheVariants.{DuplicateChain, ShapeWithoutChain, ShapeSequence, ShapeGap, ChainWithoutSides, SidesWithoutChain, DuplicateSides, DuplicatePolygon, SideWithoutPolygon, LinkWithoutLandmark, LinkWithoutPolygon, DegenerateChain, TooMany}
+use Rattle.tl_drawn.specs.declared.fault.RecordFault.{RecordFault}
+use Rattle.tl_drawn.specs.declared.fault.RecordFault.TheVariants.{DuplicateChain, ShapeWithoutChain, ShapeSequence, ShapeGap, ChainWithoutSides, SidesWithoutChain, DuplicateSides, DuplicatePolygon, SideWithoutPolygon, LinkWithoutLandmark, LinkWithoutPolygon, DegenerateChain, TooMany}
 use Rattle.tl_drawn.specs.declared.fault.MapStop.{MapStop}
 use Rattle.tl_drawn.specs.declared.fault.MapStop.TheVariants.{Refused, Device, Memory, Fault}
 
@@ -17,7 +17,7 @@ limited_text Polygons = codes "polygons"
 limited_text Landmarks = codes "landmarks"
 
 -- the code and the name of a fault
-abbrev pub fault_name : MapFault → List ℕ
+abbrev pub fault_name : RecordFault → List ℕ
 fault_name (DuplicateChain t) = codes "M1 DuplicateChain"
 fault_name (ShapeWithoutChain t) = codes "M2 ShapeWithoutChain"
 fault_name (ShapeSequence t) = codes "M3 ShapeSequence"
@@ -33,7 +33,7 @@ fault_name (DegenerateChain t) = codes "M12 DegenerateChain"
 fault_name (TooMany what) = codes "M13 TooMany"
 
 -- what a fault is about
-abbrev pub subject_text : MapFault → List ℕ
+abbrev pub subject_text : RecordFault → List ℕ
 subject_text (DuplicateChain t) = codes " tlid " ++ decimal t
 subject_text (ShapeWithoutChain t) = codes " tlid " ++ decimal t
 subject_text (ShapeSequence t) = codes " tlid " ++ decimal t
@@ -49,7 +49,7 @@ subject_text (DegenerateChain t) = codes " tlid " ++ decimal t
 subject_text (TooMany what) = codes " " ++ limited_text what
 
 -- the line of a fault: its code and its name, and what it is about
-abbrev pub fault_text : MapFault → List ℕ
+abbrev pub fault_text : RecordFault → List ℕ
 fault_text fault = codes "map fault " ++ fault_name fault ++ subject_text fault
 
 -- why no map is handed out

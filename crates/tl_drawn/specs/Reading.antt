@@ -5,7 +5,7 @@ use Rattle.tl_record.specs.declared.stop.ReadStop.{ReadStop}
 use Rattle.tl_record.specs.declared.stop.ReadStop.TheVariants as read
 use Rattle.tl_record.specs.Failures.{one_more}
 use Rattle.tl_record.specs.Records.{Records}
-use Rattle.tl_drawn.specs.declared.fault.MapFault.{MapFault}
+use Rattle.tl_drawn.specs.declared.fault.RecordFault.{RecordFault}
 use Rattle.tl_drawn.specs.declared.fault.MapStop.{MapStop}
 use Rattle.tl_drawn.specs.declared.fault.MapStop.TheVariants.{Refused, Device, Memory, Fault}
 use Rattle.tl_county.specs.Chains.{ChainList}
@@ -41,7 +41,7 @@ StopsReading all (Refused line cause) = all.refusal ≡ Some (line, cause)
 StopsReading all (Fault fault) = (all.refusal ≡ None) × IsTrueOf (records_in all) fault
 
 -- where a fault is why there is no map, it is such a fault
-abbrev pub IfFault : (MapFault → Type 0) → MapStop → Type 0
+abbrev pub IfFault : (RecordFault → Type 0) → MapStop → Type 0
 IfFault P Device = ⊤
 IfFault P Memory = ⊤
 IfFault P (Refused line cause) = ⊤

@@ -1,6 +1,6 @@
 //! Records as they are kept until all of them are read.
 
-use tl_county::Ranked;
+use tl_county::{Keyed, Ranked};
 use tl_geom::Point;
 use tl_record::PolyKey;
 
@@ -15,6 +15,15 @@ pub struct ChainEntry {
 impl Ranked for ChainEntry {
     /// By TLID.
     fn rank(&self) -> u64 {
+        self.tlid
+    }
+}
+
+impl Keyed for ChainEntry {
+    ghost key_of = { λ chain. chain.tlid };
+
+    /// Its TLID.
+    fn key(&self) -> u64 {
         self.tlid
     }
 }
@@ -46,6 +55,15 @@ impl Ranked for ShapeEntry {
         self.tlid
             .wrapping_mul(1000)
             .wrapping_add(u64::from(self.rtsq))
+    }
+}
+
+impl Keyed for ShapeEntry {
+    ghost key_of = { λ shape. shape.tlid };
+
+    /// Its TLID.
+    fn key(&self) -> u64 {
+        self.tlid
     }
 }
 

@@ -35,7 +35,7 @@ impl fmt::Display for Limited {
 
 /// A fault of the records: no line is refused, and yet they have no map.
 #[derive(Clone, Copy, PartialEq, Eq)]
-pub enum MapFault {
+pub enum RecordFault {
     /// M1: two type 1 records have the TLID.
     DuplicateChain { tlid: u64 },
     /// M2: a type 2 record has the TLID, and no type 1 record has.
@@ -64,7 +64,7 @@ pub enum MapFault {
     TooMany(Limited),
 }
 
-impl MapFault {
+impl RecordFault {
     ghost use Rattle.std.specs.Prelude.{◌≡◌};
     ghost use Rattle.tl_drawn.specs.Messages.{fault_name, subject_text};
     ghost use Rattle.tl_drawn.specs.Subjects.{text_of};
@@ -74,19 +74,19 @@ impl MapFault {
         ensures { result.now ≡ fault_name self.now }
     {
         match self {
-            MapFault::DuplicateChain { .. } => "M1 DuplicateChain",
-            MapFault::ShapeWithoutChain { .. } => "M2 ShapeWithoutChain",
-            MapFault::ShapeSequence { .. } => "M3 ShapeSequence",
-            MapFault::ShapeGap { .. } => "M4 ShapeGap",
-            MapFault::ChainWithoutSides { .. } => "M5 ChainWithoutSides",
-            MapFault::SidesWithoutChain { .. } => "M6 SidesWithoutChain",
-            MapFault::DuplicateSides { .. } => "M7 DuplicateSides",
-            MapFault::DuplicatePolygon { .. } => "M8 DuplicatePolygon",
-            MapFault::SideWithoutPolygon { .. } => "M9 SideWithoutPolygon",
-            MapFault::LinkWithoutLandmark { .. } => "M10 LinkWithoutLandmark",
-            MapFault::LinkWithoutPolygon { .. } => "M11 LinkWithoutPolygon",
-            MapFault::DegenerateChain { .. } => "M12 DegenerateChain",
-            MapFault::TooMany(_) => "M13 TooMany",
+            RecordFault::DuplicateChain { .. } => "M1 DuplicateChain",
+            RecordFault::ShapeWithoutChain { .. } => "M2 ShapeWithoutChain",
+            RecordFault::ShapeSequence { .. } => "M3 ShapeSequence",
+            RecordFault::ShapeGap { .. } => "M4 ShapeGap",
+            RecordFault::ChainWithoutSides { .. } => "M5 ChainWithoutSides",
+            RecordFault::SidesWithoutChain { .. } => "M6 SidesWithoutChain",
+            RecordFault::DuplicateSides { .. } => "M7 DuplicateSides",
+            RecordFault::DuplicatePolygon { .. } => "M8 DuplicatePolygon",
+            RecordFault::SideWithoutPolygon { .. } => "M9 SideWithoutPolygon",
+            RecordFault::LinkWithoutLandmark { .. } => "M10 LinkWithoutLandmark",
+            RecordFault::LinkWithoutPolygon { .. } => "M11 LinkWithoutPolygon",
+            RecordFault::DegenerateChain { .. } => "M12 DegenerateChain",
+            RecordFault::TooMany(_) => "M13 TooMany",
         }
     }
 
@@ -95,28 +95,28 @@ impl MapFault {
         ensures { text_of result ≡ subject_text self.now }
     {
         match self {
-            MapFault::DuplicateChain { tlid }
-            | MapFault::ShapeWithoutChain { tlid }
-            | MapFault::ShapeSequence { tlid }
-            | MapFault::ShapeGap { tlid }
-            | MapFault::ChainWithoutSides { tlid }
-            | MapFault::SidesWithoutChain { tlid }
-            | MapFault::DuplicateSides { tlid }
-            | MapFault::DegenerateChain { tlid } => Subject::Tlid(*tlid),
-            MapFault::DuplicatePolygon { polygon } => Subject::Polygon(*polygon),
-            MapFault::SideWithoutPolygon { tlid, polygon } => {
+            RecordFault::DuplicateChain { tlid }
+            | RecordFault::ShapeWithoutChain { tlid }
+            | RecordFault::ShapeSequence { tlid }
+            | RecordFault::ShapeGap { tlid }
+            | RecordFault::ChainWithoutSides { tlid }
+            | RecordFault::SidesWithoutChain { tlid }
+            | RecordFault::DuplicateSides { tlid }
+            | RecordFault::DegenerateChain { tlid } => Subject::Tlid(*tlid),
+            RecordFault::DuplicatePolygon { polygon } => Subject::Polygon(*polygon),
+            RecordFault::SideWithoutPolygon { tlid, polygon } => {
                 Subject::TlidAndPolygon(*tlid, *polygon)
             }
-            MapFault::LinkWithoutLandmark { land } => Subject::Land(*land),
-            MapFault::LinkWithoutPolygon { polygon, land } => {
+            RecordFault::LinkWithoutLandmark { land } => Subject::Land(*land),
+            RecordFault::LinkWithoutPolygon { polygon, land } => {
                 Subject::PolygonAndLand(*polygon, *land)
             }
-            MapFault::TooMany(what) => Subject::What(*what),
+            RecordFault::TooMany(what) => Subject::What(*what),
         }
     }
 }
 
-impl fmt::Display for MapFault {
+impl fmt::Display for RecordFault {
     ghost use Rattle.std.specs.Prelude.{Some};
     ghost use Rattle.tl_drawn.specs.Messages.{fault_text};
 
@@ -164,7 +164,7 @@ impl fmt::Display for Subject {
 }
 
 /// As it is printed.
-impl fmt::Debug for MapFault {
+impl fmt::Debug for RecordFault {
     fn fmt<W: fmt::Write>(&self, f: &mut fmt::Formatter<W>) -> fmt::Result {
         fmt::Display::fmt(self, f)
     }
@@ -180,7 +180,7 @@ pub enum MapStop {
     /// Memory was refused.
     Memory,
     /// No line is refused, and the records have this fault.
-    Fault(MapFault),
+    Fault(RecordFault),
 }
 
 impl fmt::Display for MapStop {

@@ -9,4 +9,4 @@ mod fault;
 pub mod laws;
 
 pub use entry::{ChainEntry, Fill, LandmarkEntry, LinkEntry, ShapeEntry, SidesEntry};
-pub use fault::{Limited, MapFault, MapStop};
+pub use fault::{Limited, MapStop, RecordFault};

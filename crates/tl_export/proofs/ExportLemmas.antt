@@ -1,5 +1,5 @@
 -- What is answered of an export.
-use Rattle.std.proofs.Common.{◌≡◌, inl, inr, ℕ, Bool, List, Option, None, Result, Ok, Err, refl, sym, ◌∙◌}
+use Rattle.std.proofs.Common.{◌≡◌, inl, inr, ℕ, Bool, List, Option, None, Result, Ok, Err, refl, sym, subst, ◌∙◌}
 use Rattle.std.specs.Prelude.{⊤}
 use Rattle.std.specs.Option.{IfSome}
 use Rattle.tl_record.specs.declared.layout.Layout.{Layout}
@@ -7,16 +7,18 @@ use Rattle.tl_record.specs.Records.{records_of}
 use Rattle.tl_county.specs.TheMap.{TheMap}
 use Rattle.tl_drawn.specs.declared.fault.MapStop.{MapStop}
 use Rattle.tl_drawn.specs.declared.fault.MapStop.TheVariants as map_stop
-use Rattle.tl_drawn.specs.Messages.{fault_text}
 use Rattle.tl_drawn.specs.Reading.{IsReadFrom}
 use Rattle.tl_files.specs.Files.{Under, bytes_under}
 use Rattle.tl_output.specs.Writing.{line_of}
-use Rattle.tl_verdict.specs.declared.stop.Stop.{Stop}
-use Rattle.tl_verdict.specs.declared.stop.Stop.TheVariants.{Record, Memory, Device, Budget}
+use Rattle.tl_verdict.specs.Messages.{map_fault_text}
+use Rattle.tl_verdict.specs.Stops.{unmapped}
+use Rattle.tl_output.specs.declared.stop.Stop.{Stop}
+use Rattle.tl_output.specs.declared.stop.Stop.TheVariants.{Record, Memory, Device, Budget}
 use Rattle.tl_answers.specs.declared.stop.TheConstants.{USAGE}
 use Rattle.tl_answers.proofs.ToldLemmas.{line_stops}
 use Rattle.tl_files.specs.declared.beginning.FileKind.TheVariants.{Collection}
-use Rattle.tl_making.specs.Opening.{RefusesName, StopsOpening}
+use Rattle.tl_making.specs.Opening.{RefusesName}
+use Rattle.tl_output.specs.Stops.{StopsFor}
 use Rattle.tl_export.specs.declared.exported.Exported.{Exported}
 use Rattle.tl_export.specs.declared.exporting.Exporting.{Exporting}
 use Rattle.tl_export.specs.declared.exporting.Exporting.TheVariants.{Made, Fault}
@@ -36,8 +38,8 @@ exports_of_map layout known before after name file_failed failed m (Err Budget) 
 
 -- records that have no map
 pub exports_none : (layout : Layout) (known : Option (List ℕ)) (before : Under) (name : List ℕ) (read_failed failed : Type 0) (stop : MapStop) → (read_failed → failed) → DrawsMap layout known read_failed (Err stop)
-    → Exports layout known before before name failed (unexported_by stop)
-exports_none layout known before name read_failed failed (map_stop.Fault fault) weaker draws = ((λ other b. refl), draws)
+    → Exports layout known before before name failed (unexported_by (unmapped stop))
+exports_none layout known before name read_failed failed (map_stop.Fault fault) weaker draws = ((λ other b. refl), (fault, refl, draws))
 exports_none layout known before name read_failed failed (map_stop.Refused line cause) weaker draws = ((λ other b. refl), draws)
 exports_none layout known before name read_failed failed map_stop.Memory weaker draws = ((λ other b. refl), tt)
 exports_none layout known before name read_failed failed map_stop.Device weaker draws = ((λ other b. refl), weaker draws)
@@ -75,7 +77,7 @@ over_export layout name read before after wrote told part failed out_same err_sa
 over_export layout name read before after wrote told part failed out_same err_same (Ok (Fault fault)) status exports (inl is) = record {
   is_status = inr (inl (is.0));
   exported = λ d. absurd (cc (sym (is.0) ∙ d));
-  fault = λ d. record { fault = fault; written = is.1; is = tt; holds = exports.1 };
+  fault = λ d. record { fault = exports.1.0; written = subst (λ f. wrote (line_of (map_fault_text f))) exports.1.1 is.1; is = tt; holds = exports.1.2 };
   refused = λ d. absurd (cc (sym (is.0) ∙ d));
   stopped = λ d. absurd (cc (sym (is.0) ∙ d));
   usage = λ d. absurd (cc (sym (is.0) ∙ d));
@@ -90,7 +92,8 @@ over_export layout name read before after wrote told part failed out_same err_sa
   exported = λ d. absurd (cc (sym (is.0) ∙ d));
   fault = λ d. absurd (cc (sym (is.0) ∙ d));
   refused = λ d. absurd (cc (sym (is.0) ∙ d));
-  stopped = λ d. line_stops told failed ⊤ out_same (part (line_of (fault_text fault))) _ tt (λ cut. inr (record { fault = fault; written = cut; is = tt; holds = exports.1 })) is.1;
+  stopped = λ d. line_stops told failed ⊤ out_same (part (line_of (map_fault_text fault))) _ tt
+      (λ cut. inr (record { fault = exports.1.0; written = subst (λ f. part (line_of (map_fault_text f))) exports.1.1 cut; is = tt; holds = exports.1.2 })) is.1;
   usage = λ d. absurd (cc (sym (is.0) ∙ d));
   err_stays = λ any. absurd (elim any [ inl d ↦ cc (sym (is.0) ∙ d) | inr d ↦ cc (sym (is.0) ∙ d) ]);
   out_stays = λ any. absurd (elim any [ inl d ↦ cc (sym (is.0) ∙ d) | inr d ↦ cc (sym (is.0) ∙ d) ]);
@@ -158,7 +161,7 @@ over_refusal layout name read before wrote told part failed out_same err_same st
 
 -- a name of which it can't be told whether a file may have it
 pub stops_asking : {R D : Type 0} (layout : Layout) (known : Option (List ℕ)) (reads : R → ℕ) (writes : D → ℕ) (knows : Bool) (before : Under) (name : List ℕ) (read : List (List ℕ)) (stop : Stop)
-    → StopsOpening (bytes_under before name ≡ None) stop → Exports layout known before before name (SomeFileFails reads writes knows before name read) (Err stop)
+    → StopsFor (bytes_under before name ≡ None) stop → Exports layout known before before name (SomeFileFails reads writes knows before name read) (Err stop)
 stops_asking layout known reads writes knows before name read (Record line cause) stops = absurd stops
 stops_asking layout known reads writes knows before name read Memory stops = ((λ other b. refl), tt)
 stops_asking layout known reads writes knows before name read Device stops = ((λ other b. refl), inl (name, inr refl, stops))

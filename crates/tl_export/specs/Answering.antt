@@ -8,8 +8,8 @@ use Rattle.tl_files.specs.Files.{Under, bytes_under}
 use Rattle.tl_files.specs.declared.beginning.FileKind.TheVariants.{Collection}
 use Rattle.tl_text.specs.Joining.{joined_bytes}
 use Rattle.tl_output.specs.Writing.{line_of}
-use Rattle.tl_drawn.specs.Messages.{fault_text}
-use Rattle.tl_verdict.specs.declared.stop.Stop.{Stop}
+use Rattle.tl_verdict.specs.Messages.{map_fault_text}
+use Rattle.tl_output.specs.declared.stop.Stop.{Stop}
 use Rattle.tl_answers.specs.declared.stop.TheConstants.{DONE, MAP_FAULT, REFUSED, STOPPED, USAGE}
 use Rattle.tl_answers.specs.Beginnings.{OfMap}
 use Rattle.tl_answers.specs.Lines.{IsLine}
@@ -25,7 +25,7 @@ use Rattle.tl_export.specs.Exports.{IsMadeOf}
 -- how what comes of it is told
 abbrev pub TellsExport : Result Exporting Stop → ℕ → (wrote told part : List ℕ → Type 0) → (out_same err_same : Type 0) → Type 0
 TellsExport (Ok (Made exported)) status wrote told part out_same err_same = IsLine status DONE (line_of (exported_text exported)) wrote told part out_same err_same
-TellsExport (Ok (Fault fault)) status wrote told part out_same err_same = IsLine status MAP_FAULT (line_of (fault_text fault)) wrote told part out_same err_same
+TellsExport (Ok (Fault fault)) status wrote told part out_same err_same = IsLine status MAP_FAULT (line_of (map_fault_text fault)) wrote told part out_same err_same
 TellsExport (Err stop) status wrote told part out_same err_same = IsTold stop status told × out_same
 
 -- the export of the records' map stands under the name, and its line was written

@@ -4,12 +4,13 @@ use Rattle.tl_record.specs.declared.layout.Layout.{Layout}
 use Rattle.tl_county.specs.TheMap.{TheMap}
 use Rattle.tl_files.specs.Files.{Under, bytes_under}
 use Rattle.tl_text.specs.Joining.{failures_of}
-use Rattle.tl_drawn.specs.declared.fault.MapStop.{MapStop}
-use Rattle.tl_drawn.specs.declared.fault.MapStop.TheVariants as map_stop
+use Rattle.tl_drawn.specs.declared.fault.RecordFault.{RecordFault}
 use Rattle.tl_sides.specs.Walks.{AreWalks}
 use Rattle.tl_verdict.specs.Sound.{IsSound}
-use Rattle.tl_verdict.specs.declared.stop.Stop.{Stop}
-use Rattle.tl_verdict.specs.declared.stop.Stop.TheVariants.{Record, Memory, Device, Budget}
+use Rattle.tl_verdict.specs.declared.fault.MapFault.{MapFault}
+use Rattle.tl_verdict.specs.declared.fault.MapFault.TheVariants.{Records}
+use Rattle.tl_output.specs.declared.stop.Stop.{Stop}
+use Rattle.tl_output.specs.declared.stop.Stop.TheVariants.{Record, Memory, Device, Budget}
 use Rattle.tl_answers.specs.Beginnings.{OfMap}
 use Rattle.tl_answers.specs.Running.{HasFault, IsFirstRefusal}
 use Rattle.tl_making.specs.Opening.{SomeRead}
@@ -17,7 +18,8 @@ use Rattle.tl_geojson.specs.Rings.{county_text, county_text_with}
 use Rattle.tl_export.specs.declared.exported.Exported.{Exported}
 use Rattle.tl_export.specs.declared.exporting.Exporting.{Exporting}
 use Rattle.tl_export.specs.declared.exporting.Exporting.TheVariants.{Made, Fault}
-use Rattle.tl_making.specs.Files.{StandsUnder, KeepsBut, KeepsEach, NewFileFails, StopsFile}
+use Rattle.tl_making.specs.Files.{StandsUnder, KeepsBut, KeepsEach, NewFileFails}
+use Rattle.tl_output.specs.Stops.{StopsFor}
 
 -- the text of a map that isn't sound: its chains and its polygons' points
 pub record IsPlain (m : TheMap) (exported : Exported) (text : List ℕ) : Type 0 where
@@ -59,7 +61,7 @@ StopsExport layout known failed Budget = ⊥
 -- what exporting a map answers: its export stands under the name, or each name is as it was
 abbrev pub ExportsMap : TheMap → (before after : Under) → List ℕ → Type 0 → Result Exported Stop → Type 0
 ExportsMap m before after name failed (Ok exported) = KeepsBut before after name × IsMadeOf m exported (StandsUnder after name)
-ExportsMap m before after name failed (Err stop) = KeepsEach before after name × StopsFile failed stop
+ExportsMap m before after name failed (Err stop) = KeepsEach before after name × StopsFor failed stop
 
 -- what comes of it where a map was exported
 abbrev pub made_by : Result Exported Stop → Result Exporting Stop
@@ -67,16 +69,18 @@ made_by (Ok exported) = Ok (Made exported)
 made_by (Err stop) = Err stop
 
 -- and where the records have none
-abbrev pub unexported_by : MapStop → Result Exporting Stop
-unexported_by (map_stop.Fault fault) = Ok (Fault fault)
-unexported_by (map_stop.Refused line cause) = Err (Record line cause)
-unexported_by map_stop.Memory = Err Memory
-unexported_by map_stop.Device = Err Device
+abbrev pub unexported_by : Result MapFault Stop → Result Exporting Stop
+unexported_by (Ok fault) = Ok (Fault fault)
+unexported_by (Err stop) = Err stop
+
+-- the fault is one of the records, and true
+abbrev pub IsOfRecords : Layout → Option (List ℕ) → MapFault → Type 0
+IsOfRecords layout known fault = (of_records : RecordFault) × (fault ≡ Records of_records) × IfSome known (λ text. HasFault layout text of_records)
 
 -- what exporting records answers: the export of their map stands under the name; or a fault of theirs, or why there is neither,
 -- and each name is as it was
 abbrev pub Exports : Layout → Option (List ℕ) → (before after : Under) → List ℕ → Type 0 → Result Exporting Stop → Type 0
 Exports layout known before after name failed (Ok (Made exported)) =
     KeepsBut before after name × OfMap layout known (λ m. IsMadeOf m exported (StandsUnder after name))
-Exports layout known before after name failed (Ok (Fault fault)) = KeepsEach before after name × IfSome known (λ text. HasFault layout text fault)
+Exports layout known before after name failed (Ok (Fault fault)) = KeepsEach before after name × IsOfRecords layout known fault
 Exports layout known before after name failed (Err stop) = KeepsEach before after name × StopsExport layout known failed stop

@@ -5,6 +5,7 @@ ghost use Rattle.tl_record.specs.Layout.{layout_with};
 ghost use Rattle.tl_text.specs.Joining.{joined_bytes};
 ghost use Rattle.tl_files.specs.Files.{bytes_under};
 ghost use Rattle.tl_verdict.specs.Sound.{IsSound};
+ghost use Rattle.tl_verdict.specs.Stops.{unmapped};
 ghost use Rattle.tl_sides.specs.Walks.{AreWalks};
 ghost use Rattle.tl_export.specs.Exports.{Exports, ExportsMap, SomeFileFails, made_by, unexported_by};
 ghost use Rattle.tl_making.specs.Files.{NewFileFails};
@@ -14,15 +15,16 @@ use crate::exporting::Exporting;
 use crate::text_file::make_text_file;
 use std::alloc::Global;
 use std::hash::RandomState;
-use tl_build::{BuildStop, Built, build};
+use tl_build::find_walks;
 use tl_county::Map;
 use tl_files::{FileKind, FileSystem};
 use tl_geojson::{CountyText, CountyTextWith};
 use tl_making::county::read_county;
 use tl_making::opening::open_all;
 use tl_map::MapStop;
+use tl_output::Stop;
 use tl_record::Options;
-use tl_verdict::Stop;
+use tl_verdict::fault_of_records;
 
 /// Exports the map of the records in the files of these names, as GeoJSON under the name `made`. Where it stops, or the records
 /// have a fault, what stood under the name stays.
@@ -62,13 +64,11 @@ fn made_of(exported: Result<Exported, Stop>) -> Result<Exporting, Stop>
 
 // What comes of it where the records have no map.
 fn unexported(stop: MapStop) -> Result<Exporting, Stop>
-    ensures { result ≡ unexported_by stop }
+    ensures { result ≡ unexported_by (unmapped stop) }
 {
-    match stop {
-        MapStop::Fault(fault) => Ok(Exporting::Fault(fault)),
-        MapStop::Refused { line, cause } => Err(Stop::Record { line, cause }),
-        MapStop::Memory => Err(Stop::Memory),
-        MapStop::Device => Err(Stop::Device),
+    match fault_of_records(stop) {
+        Ok(fault) => Ok(Exporting::Fault(fault)),
+        Err(stop) => Err(stop),
     }
 }
 
@@ -82,10 +82,10 @@ fn export_map<F: FileSystem>(
     ensures { ExportsMap map.now (F.under files.old) (F.under files.new) (string_bytes made.now)
         (NewFileFails F.Draft.failure_count F.knows) result }
 {
-    match build(alloc, map) {
-        Ok(Built::Cert(certificate)) => export_sound(files, alloc, made, map, certificate.walks()),
-        Ok(Built::Fault(_)) => export_faulty(files, alloc, made, map),
-        Err(BuildStop::Memory) => Err(Stop::Memory),
+    match find_walks(alloc, map) {
+        Ok(Some(walks)) => export_sound(files, alloc, made, map, &walks),
+        Ok(None) => export_faulty(files, alloc, made, map),
+        Err(_) => Err(Stop::Memory),
     }
 }
 

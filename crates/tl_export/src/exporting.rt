@@ -1,7 +1,7 @@
 //! What comes of exporting records.
 
 use crate::exported::Exported;
-use tl_drawn::MapFault;
+use tl_verdict::MapFault;
 
 /// What comes of exporting the map of records.
 #[derive(Clone, Copy)]

@@ -12,11 +12,11 @@ use crate::exporting::Exporting;
 use std::alloc::Global;
 use std::hash::RandomState;
 use tl_answers::stop::{DONE, MAP_FAULT, stopped};
-use tl_answers::tell::tell_line;
+use tl_answers::tell::write_line;
 use tl_files::{FileKind, FileSystem, Room};
 use tl_making::new_file::{IS_READ, room_for, say_refusal, taken_line};
+use tl_output::Stop;
 use tl_record::{Options, Sink};
-use tl_verdict::Stop;
 
 /// Exports the map of the records in the files of these names as GeoJSON, to a file of the name `made` where one may be made, and
 /// gives the program's exit status. The map need not be sound: of one that isn't there are no boundaries. The file takes its name
@@ -40,7 +40,7 @@ pub fn open_and_export<F: FileSystem, W: Sink, E: Sink>(
     match room_for(&*files, made, names, FileKind::Collection) {
         Ok(Room::Free) => {
             let exporting = export(files, alloc, hasher, made, options, names);
-            tell_export(&exporting, out, err)
+            write_export(&exporting, out, err)
         }
         Ok(Room::Taken) => say_refusal(taken_line(FileKind::Collection), err),
         Ok(Room::IsRead) => say_refusal(IS_READ, err),
@@ -49,7 +49,7 @@ pub fn open_and_export<F: FileSystem, W: Sink, E: Sink>(
 }
 
 // Tells what came of exporting records, and gives the program's exit status.
-fn tell_export<W: Sink, E: Sink>(
+fn write_export<W: Sink, E: Sink>(
     exporting: &Result<Exporting, Stop>,
     out: &mut W,
     err: &mut E,
@@ -59,8 +59,8 @@ fn tell_export<W: Sink, E: Sink>(
         (out.new ≡ out.old) (err.new ≡ err.old) }
 {
     match *exporting {
-        Ok(Exporting::Made(exported)) => tell_line(&exported, DONE, out, err),
-        Ok(Exporting::Fault(fault)) => tell_line(&fault, MAP_FAULT, out, err),
+        Ok(Exporting::Made(exported)) => write_line(&exported, DONE, out, err),
+        Ok(Exporting::Fault(fault)) => write_line(&fault, MAP_FAULT, out, err),
         Err(stop) => stopped(&stop, err),
     }
 }

@@ -1,15 +1,13 @@
 //! Files that are made of a text, whole or not at all.
 
-ghost use Rattle.std.specs.Prelude.{◌≡◌, string_bytes};
+ghost use Rattle.std.specs.Prelude.{string_bytes};
 ghost use Rattle.tl_making.specs.Files.{MakesFile, NewFileFails};
-ghost use Rattle.tl_export.specs.Files.{stop_told};
 
 use std::alloc::Global;
 use tl_files::{FileKind, FileSystem};
-use tl_geojson::{PrintStop, Text};
+use tl_geojson::Text;
 use tl_making::new_file::settle;
-use tl_making::opening::stop_of;
-use tl_verdict::Stop;
+use tl_output::Stop;
 
 /// Makes a file of a text, which takes its name when it is whole. Whether it may have that is asked before, by `room_for` of
 /// `tl_making`. Where it stops, what stood under the name stays.
@@ -26,22 +24,11 @@ pub fn make_text_file<F: FileSystem, T: Text>(
 {
     let mut draft = match files.draft(alloc, name.as_str(), kind) {
         Ok(draft) => draft,
-        Err(stop) => return Err(stop_of(stop)),
+        Err(stop) => return Err(stop),
     };
     let printed = text.print(alloc, &mut draft);
     match settle(files, alloc, draft, name, printed.is_ok()) {
         Some(stop) => Err(stop),
-        None => told(printed),
-    }
-}
-
-// What is told of a text that was printed or wasn't.
-fn told(printed: Result<(), PrintStop>) -> Result<(), Stop>
-    ensures { result ≡ stop_told printed }
-{
-    match printed {
-        Ok(()) => Ok(()),
-        Err(PrintStop::Memory) => Err(Stop::Memory),
-        Err(PrintStop::Failed) => Err(Stop::Device),
+        None => printed,
     }
 }

@@ -38,7 +38,7 @@ pub all_back : (P : ℕ → Type 0) (xs ys : List ℕ) → All P (xs ++ ys) → 
 all_back P [] ys all = all
 all_back P (x ∷ xs) ys all = all_back P xs ys (all_tail P x (xs ++ ys) all)
 
-numbers-both : (K : ℤ) (chains : List MapChain) (r : Rational) (xs ys : List (Item K chains r)) →
+pub numbers-both : (K : ℤ) (chains : List MapChain) (r : Rational) (xs ys : List (Item K chains r)) →
     numbers K chains r (xs ++ ys) ≡ numbers K chains r xs ++ numbers K chains r ys
 numbers-both K chains r [] ys = refl
 numbers-both K chains r (x ∷ xs) ys = ap (λ l. x.s ∷ l) (numbers-both K chains r xs ys)
@@ -47,10 +47,10 @@ numbers-both K chains r (x ∷ xs) ys = ap (λ l. x.s ∷ l) (numbers-both K cha
 
 module _ (K : ℤ) (above : pos 0 <ℤ K) (chains : List MapChain) (near : AreAllNear K chains) (planar : IsPlanar chains)
     (n : ℤ) (r : Rational) (inside : IsInSlab K n r) where
-  abbrev on_line : IsLine K chains r
+  abbrev pub on_line : IsLine K chains r
   on_line = line K above chains near n r inside
 
-  item : (s : ℕ) → IsActive K n chains s → Item K chains r
+  pub item : (s : ℕ) → IsActive K n chains s → Item K chains r
   item s a =
       let spanned : IsSpanned K a.segment r = spanned_of K above chains near n r inside a.segment a.begun a.lasting in
       item_with K chains r s a.segment a.is spanned (met K a.segment r (ends K chains r on_line s a.segment a.is) spanned)
@@ -59,10 +59,10 @@ module _ (K : ℤ) (above : pos 0 <ℤ K) (chains : List MapChain) (near : AreAl
   unfolding item
   item_number s a = refl
 
-  abbrev items : (list : List ℕ) → All (IsActive K n chains) list → List (Item K chains r)
+  abbrev pub items : (list : List ℕ) → All (IsActive K n chains) list → List (Item K chains r)
   items list all = items_of K chains r (IsActive K n chains) item list all
 
-  items_are : (list : List ℕ) (all : All (IsActive K n chains) list) → numbers K chains r (items list all) ≡ list
+  pub items_are : (list : List ℕ) (all : All (IsActive K n chains) list) → numbers K chains r (items list all) ≡ list
   items_are list all = numbers_of K chains r (IsActive K n chains) item item_number list all
 
   -- the item of a segment at a place of the line
@@ -70,7 +70,7 @@ module _ (K : ℤ) (above : pos 0 <ℤ K) (chains : List MapChain) (near : AreAl
   item_there s u is p on level = item_with K chains r s u is (spanned_by K chains r on_line s u is p on level) (record { place = p; on = on; level = level })
 
   -- items whose numbers are the slab's list are all that meet the line
-  listed : (list : List ℕ) → IsListOf K n chains list → (xs : List (Item K chains r)) → numbers K chains r xs ≡ list →
+  pub listed : (list : List ℕ) → IsListOf K n chains list → (xs : List (Item K chains r)) → numbers K chains r xs ≡ list →
       IsListed K chains r (segments_before chains (length chains)) xs
   listed list of xs are = record {
     sorted = sorted_items K chains planar r on_line K (λ x y west. west) xs (subst (EachTwo (AreTested K chains)) (sym are) of.tested)
@@ -153,7 +153,7 @@ module _ (K : ℤ) (above : pos 0 <ℤ K) (chains : List MapChain) (near : AreAl
 -- ---- at places of the segments within the slab
 
 -- K is above 0 where there is a segment
-above_zero : (K : ℤ) (chains : List MapChain) → AreAllNear K chains → (s : ℕ) (u : Segment) → IsNumbered chains s u → pos 0 <ℤ K
+pub above_zero : (K : ℤ) (chains : List MapChain) → AreAllNear K chains → (s : ℕ) (u : Segment) → IsNumbered chains s u → pos 0 <ℤ K
 above_zero K chains near s u is =
     let first : IsPointOf chains is.c is.k u.a = record { chain = is.joins.chain; is = is.joins.is; point = is.joins.from } in
     let own : AreNear K u.a u.a = near is.c is.k is.c is.k u.a u.a first first in

@@ -133,6 +133,36 @@ module _ (K : ℤ) (chains : List MapChain) (r : Rational) where
       let rest : IsFound i xs = found i xs (let less = times-other i x.s (numbers xs) ne in omega (arith, h, less)) in
       record { item = rest.item; has = inr rest.has; is = rest.is })
 
+  -- ---- the list parted by one of its items
+
+  pub record IsSplit (x : Item K chains r) (xs : List (Item K chains r)) : Type 0 where
+    pub front : List (Item K chains r)
+    pub back : List (Item K chains r)
+    pub are : xs ≡ front ++ (x ∷ back)
+    pub west : (y : Item K chains r) → Has y front → IsWestward y.at.place x.at.place
+    pub east : (y : Item K chains r) → Has y back → IsWestward x.at.place y.at.place
+
+  pub split : (x : Item K chains r) (xs : List (Item K chains r)) → IsSorted xs → Has x xs → IsSplit x xs
+  split x [] sorted has = absurd has
+  split x (z ∷ xs) sorted has = ⊎_elim
+      (λ e. record {
+        front = [];
+        back = xs;
+        are = ap (λ w. w ∷ xs) (sym e);
+        west = λ y h. absurd h;
+        east = λ y h. subst (λ (w : Item K chains r). IsWestward w.at.place y.at.place) (sym e) (sorted.0 y h);
+      })
+      (λ later.
+      let rest : IsSplit x xs = split x xs sorted.1 later in
+      record {
+        front = z ∷ rest.front;
+        back = rest.back;
+        are = ap (λ l. z ∷ l) rest.are;
+        west = λ y h. ⊎_elim (λ e. subst (λ (w : Item K chains r). IsWestward w.at.place x.at.place) (sym e) (sorted.0 x later)) (λ k. rest.west y k) h;
+        east = rest.east;
+      })
+      has
+
   -- ---- one item more
 
   west_by : (x y z : Item K chains r) → IsWestward x.at.place y.at.place → IsWestward y.at.place z.at.place → IsWestward x.at.place z.at.place

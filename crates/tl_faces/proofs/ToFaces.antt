@@ -211,7 +211,12 @@ module _ (p : Rational) (x y d : ℤ) (at_least : pos 0 ≤ℤ d) where
 
 -- ---- two segments that face one another
 
-module _ (chains : List MapChain) (planar : IsPlanar chains) (faced : AreFaced chains) where
+-- where sides are true, what lies at the places of a straight line that meets no chain is one side, and far to the west lies the outside
+module _ (chains : List MapChain) (true_there : AreSidesTrue chains)
+    (alike_along : (P : Rational → Type 0) → ((r : Rational) → P r → IsOff chains r) →
+    ((m n : ℤ) (some_m : pos 0 <ℤ m) (some_n : pos 0 <ℤ n) (p q : Rational) → P p → P q → P (mean m n some_m some_n p q)) →
+    (p q : Rational) → P p → P q → (side : Side) → LiesAt chains p side → LiesAt chains q side)
+    (far_west : (b : ℕ) → AreBounded b chains → (q : Rational) → IsOff chains q → q.x <ℤ (pos 0 -ℤ q.d *ℤ pos b) → LiesAt chains q Outside) where
   facing : (one other : MapChain) (u w : Segment) (p q : Rational) (side opposite : Side) → IsOfChain chains one u → IsOfChain chains other w →
       IsStrictlyOn u p → IsStrictlyOn w q → IsClearBetween chains p q →
       IsSideToward one u (step_x p q) (step_y p q) side → IsSideToward other w (step_x q p) (step_y q p) opposite → side ≡ opposite
@@ -219,9 +224,6 @@ module _ (chains : List MapChain) (planar : IsPlanar chains) (faced : AreFaced c
       by_seen (seen p q.x q.y q.d some_q chains true_there clear one u of on side toward)
       (seen q p.x p.y p.d some_p chains true_there (λ r a. clear r (turned r a)) other w of' on' opposite toward')
     where
-      true_there : AreSidesTrue chains
-      true_there = true_sides chains planar faced
-
       some_p : pos 0 ≤ℤ p.d
       some_p = let h : pos 0 <ℤ p.d = p.above_zero in omega (arith, ints, h)
 
@@ -257,14 +259,14 @@ module _ (chains : List MapChain) (planar : IsPlanar chains) (faced : AreFaced c
       by_seen : IsSeen p q.x q.y q.d some_q chains side → IsSeen q p.x p.y p.d some_p chains opposite → side ≡ opposite
       by_seen a b =
           unique chains b.place side opposite
-          (alike chains On clear (means p q.x q.y q.d some_q) faced a.place b.place a.on_line (turned b.place b.on_line) side a.lies) b.lies
+          (alike_along On clear (means p q.x q.y q.d some_q) a.place b.place a.on_line (turned b.place b.on_line) side a.lies) b.lies
 
   -- ---- and one that faces the outside
 
   outward : (chain : MapChain) (u : Segment) (p : Rational) (x y : ℤ) (side : Side) → IsOfChain chains chain u →
       IsStrictlyOn u p → IsClearFrom chains p x y → IsSideToward chain u x y side → side ≡ Outside
   outward chain u p x y side of on free toward =
-      by_seen (seen p x y (pos 0) none chains (true_sides chains planar faced) clear chain u of on side (stretched toward))
+      by_seen (seen p x y (pos 0) none chains true_there clear chain u of on side (stretched toward))
     where
       none : pos 0 ≤ℤ pos 0
       none = omega (arith, ints)
@@ -343,7 +345,7 @@ module _ (chains : List MapChain) (planar : IsPlanar chains) (faced : AreFaced c
           (λ h. let m = less y h in outside chains bound.0 bound.1 r (inl (inr (omega (arith, ints, m, ey, same_parts, north, some)))))
           (⊎_elim
           (λ level. ⊎_elim
-          (λ h. let m = less x h in outside_west chains bound.0 bound.1 r faced (clear r at) (omega (arith, ints, m, ex, same_parts, east, some)))
+          (λ h. let m = less x h in far_west bound.0 bound.1 r (clear r at) (omega (arith, ints, m, ex, same_parts, east, some)))
           (⊎_elim
           (λ still. absurd (no_direction toward level still))
           (λ h. let m = more x h in outside chains bound.0 bound.1 r (inr (omega (arith, ints, m, ex, same_parts, west, some)))))
@@ -364,8 +366,16 @@ module _ (chains : List MapChain) (planar : IsPlanar chains) (faced : AreFaced c
           let at : On r = is_ahead p x y (pos 0) none (pos 1) n some_m some_n in
           let ex = one_times p.x in let ey = one_times p.y in let ed = one_times p.d in let z = times_zero n in
           unique chains r side Outside
-          (alike chains On clear (means p x y (pos 0) none) faced a.place r a.on_line at side a.lies)
+          (alike_along On clear (means p x y (pos 0) none) a.place r a.on_line at side a.lies)
           (by_place r at (omega (arith, ints, ex)) (omega (arith, ints, ey)) (omega (arith, ints, ed, z)))
 
-  pub agree : FacesAgree chains
-  agree = record { facing = facing; outward = outward }
+  pub agree_by : FacesAgree chains
+  agree_by = record { facing = facing; outward = outward }
+
+-- ---- so where facing sides agree along lines
+
+pub agree : (chains : List MapChain) → IsPlanar chains → AreFaced chains → FacesAgree chains
+agree chains planar faced =
+    agree_by chains (true_sides chains planar faced)
+    (λ P clear means p q at at' side lies. alike chains P clear means faced p q at at' side lies)
+    (λ b bounded q off far. outside_west chains b bounded q faced off (omega (arith, ints, far)))

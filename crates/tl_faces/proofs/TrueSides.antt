@@ -1,5 +1,5 @@
 -- Each side of each segment names what lies there.
-use Rattle.std.proofs.Common.{◌≡◌, ◌⊎◌, inl, inr, ⊎_elim, ℕ, ◌+◌, ℤ, pos, ◌+ℤ◌, ◌-ℤ◌, ◌*ℤ◌, ◌<ℤ◌, ◌≤ℤ◌, Bool, true, false, if◌then◌else◌, Some, List, [], ◌∷◌, ◌++◌, length, refl, sym, ap, subst, ◌∙◌, arith}
+use Rattle.std.proofs.Common.{◌≡◌, ◌⊎◌, inl, inr, ⊎_elim, ℕ, ◌+◌, ℤ, pos, ◌+ℤ◌, ◌-ℤ◌, ◌*ℤ◌, ◌<ℤ◌, ◌≤ℤ◌, Bool, true, false, if◌then◌else◌, Some, List, ◌∷◌, ◌++◌, length, refl, sym, ap, subst, ◌∙◌, arith}
 use Rattle.std.specs.Prelude.{int_lt, slice_get}
 use Rattle.std.proofs.lemmas.Int.{ints, by_lt_z}
 use Rattle.std.proofs.lemmas.Option.{slice_get_within}
@@ -27,10 +27,9 @@ use Rattle.tl_faces.specs.Truth.{LiesAt, IsNearer, IsTrueAbout, AreSidesTrue, si
 use Rattle.tl_faces.proofs.Numbers.{le_lt, lt_le}
 use Rattle.tl_faces.proofs.Crossing.{IsEast}
 use Rattle.tl_faces.proofs.Bounds.{AreBounded, IsSteep, some_bound, some_steepness}
-use Rattle.tl_faces.proofs.Lines.{IsWestward}
 use Rattle.tl_faces.proofs.Ends as chain_ends
 use Rattle.tl_faces.proofs.Items.{Item, numbered, ends_of_item, spanned_by, one_longitude, IsLine, steep_line}
-use Rattle.tl_faces.proofs.Sorting.{Has, IsSorted, IsListed, IsFound, numbers, times-both, no_times}
+use Rattle.tl_faces.proofs.Sorting.{Has, IsListed, IsFound, IsSplit, split, numbers, times-both, no_times}
 use Rattle.tl_faces.proofs.Toward.{near_side, far_side}
 use Rattle.tl_faces.proofs.Along.{AreFacing, IsFacedOn, AreFaced, item_of}
 use Rattle.tl_faces.proofs.Sums.{number_of, total, total-both, total_is, facing_back, AreSlanted, balance_is}
@@ -38,37 +37,6 @@ use Rattle.tl_faces.proofs.Alone.{no_end_within}
 use Rattle.tl_faces.proofs.OnePolygon.{IsEastHit, IsWestHit, counted_by, east_slanted, west_slanted, turn, level_self, turn_east, turn_west, turn_same, AreWestward, AreEastward, east_item, west_item, east_number, west_number, east_of, west_of, IsListOf, are_hits, east_are_slanted, west_are_slanted, west_count, lies_by, no_end_off}
 use Rattle.tl_faces.proofs.Others.{nearness, widest_of, east_hit_from, east_hit_to, west_hit_from, west_hit_to}
 use Rattle.tl_faces.proofs.Own.{east_of_west_side, no_east_of_east_side, west_of_east_side, no_west_of_west_side}
-
--- ---- the list on the line of a place of a segment, parted by that segment
-
-module _ (K : ℤ) (chains : List MapChain) (r : Rational) where
-  record IsSplit (x : Item K chains r) (xs : List (Item K chains r)) : Type 0 where
-    front : List (Item K chains r)
-    back : List (Item K chains r)
-    are : xs ≡ front ++ (x ∷ back)
-    west : (y : Item K chains r) → Has K chains r y front → IsWestward y.at.place x.at.place
-    east : (y : Item K chains r) → Has K chains r y back → IsWestward x.at.place y.at.place
-
-  split : (x : Item K chains r) (xs : List (Item K chains r)) → IsSorted K chains r xs → Has K chains r x xs → IsSplit x xs
-  split x [] sorted has = absurd has
-  split x (z ∷ xs) sorted has = ⊎_elim
-      (λ e. record {
-        front = [];
-        back = xs;
-        are = ap (λ w. w ∷ xs) (sym e);
-        west = λ y h. absurd h;
-        east = λ y h. subst (λ (w : Item K chains r). IsWestward w.at.place y.at.place) (sym e) (sorted.0 y h);
-      })
-      (λ later.
-      let rest : IsSplit x xs = split x xs sorted.1 later in
-      record {
-        front = z ∷ rest.front;
-        back = rest.back;
-        are = ap (λ l. z ∷ l) rest.are;
-        west = λ y h. ⊎_elim (λ e. subst (λ (w : Item K chains r). IsWestward w.at.place x.at.place) (sym e) (sorted.0 x later)) (λ k. rest.west y k) h;
-        east = rest.east;
-      })
-      has
 
 -- ---- about a place strictly within the segment of an item
 

@@ -1,8 +1,11 @@
 -- What the laws cite.
 pub mod Rays
 pub mod Facing
+pub mod Clear
 pub mod Truth
 pub mod Lists
 pub mod Located
 pub mod Disagreements
 pub mod Odd
+pub mod Faults
+pub mod FaultTexts

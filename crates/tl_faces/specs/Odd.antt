@@ -1,5 +1,5 @@
--- Gaps of a slab's list whose facing sides differ.
-use Rattle.std.specs.Prelude.{◌≡◌, ◌≢◌, ℕ, ℤ, Option, None, Some, List, [], ◌∷◌, ◌++◌}
+-- Gaps of a slab's list whose facing sides differ, and the lowest of them between two segments.
+use Rattle.std.specs.Prelude.{◌≡◌, ◌≢◌, ℕ, ℤ, ◌≤ℤ◌, Option, None, Some, List, [], ◌∷◌, ◌++◌}
 use Rattle.tl_geom.specs.declared.segment.Segment.{Segment}
 use Rattle.tl_county.specs.declared.sides.Side.{Side}
 use Rattle.tl_county.specs.declared.sides.Side.TheVariants.{Outside}
@@ -53,3 +53,9 @@ pub record IsOddGap (K : ℤ) (chains : List MapChain) (odd : OddGap) : Type 0 w
   pub named_west : IsNamedWest K chains odd.west west
   pub named_east : IsNamedEast K chains odd.east east
   pub differ : west ≢ east
+
+-- it is such a gap, and none between the same two is lower
+pub record IsLowestOddGap (K : ℤ) (chains : List MapChain) (odd : OddGap) : Type 0 where
+  pub is : IsOddGap K chains odd
+  pub lowest : (other : OddGap) → IsOddGap K chains other → other.west ≡ odd.west → other.east ≡ odd.east →
+      height K odd.at ≤ℤ height K other.at

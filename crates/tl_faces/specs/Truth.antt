@@ -41,3 +41,8 @@ pub record IsTrueAbout (chains : List MapChain) (chain : MapChain) (u : Segment)
 abbrev pub AreSidesTrue : List MapChain → Type 0
 AreSidesTrue chains =
     (chain : MapChain) (u : Segment) (r : Rational) → IsOfChain chains chain u → IsStrictlyOn u r → (e : ℤ) × IsTrueAbout chains chain u r e
+
+-- faces are true: at each place that is on no chain lies one polygon, or the outside, and sides are true
+pub record AreFacesTrue (chains : List MapChain) : Type 0 where
+  pub one_polygon : HasOnePolygon chains
+  pub true_sides : AreSidesTrue chains

@@ -4,11 +4,13 @@ ghost use Rattle.std.specs.Prelude.{◌≡◌, ◌≢◌, ◌↔◌, ℕ, ℤ, p
 ghost use Rattle.tl_geom.specs.declared.point.Point.{Point};
 ghost use Rattle.tl_geom.specs.declared.rational.Rational.{Rational};
 ghost use Rattle.tl_geom.specs.declared.segment.Segment.{Segment};
-ghost use Rattle.tl_geom.specs.Plane.{IsOn, whole};
+ghost use Rattle.tl_geom.specs.Plane.{IsOn, IsSame, whole};
 ghost use Rattle.tl_county.specs.declared.sides.Side.{Side};
 ghost use Rattle.tl_county.specs.declared.sides.Side.TheVariants.{Outside};
 ghost use Rattle.tl_county.specs.TheMap.{TheMap, MapChain};
 ghost use Rattle.tl_planar.specs.Planar.{IsPlanar};
+ghost use Rattle.tl_sides.specs.Sides.{SidesAgree};
+ghost use Rattle.tl_crossings.specs.Headings.{AreProper, HeadApart};
 ghost use Rattle.tl_inside.specs.declared.place.Place.{Place};
 ghost use Rattle.tl_inside.specs.Inside.{IsCount, flanks_at};
 ghost use Rattle.tl_inside.specs.Places.{IsPlaceOf};
@@ -16,11 +18,14 @@ ghost use Rattle.tl_slabs.specs.Heights.{height, AreNear, low_end, high_end};
 ghost use Rattle.tl_slabs.specs.Neighbours.{IsNumbered};
 ghost use Rattle.tl_slabs.specs.Slabs.{IsListOf};
 ghost use Rattle.tl_faces.specs.Rays.{IsCountAt};
-ghost use Rattle.tl_faces.specs.Facing.{FacesAgree};
+ghost use Rattle.tl_faces.specs.Facing.{FacesAgree, IsClearBetween, IsClearFrom, step_x};
+ghost use Rattle.tl_faces.specs.Clear.{IsClearAlong};
 ghost use Rattle.tl_faces.specs.Lists.{AreSlabsFacing, AreAllNear, RunsWest, sides_by_height, west_side, east_side};
 ghost use Rattle.tl_faces.specs.Disagreements.{IsFaceDisagreement, IsOutwardDisagreement, IsInSlab, IsMidway, HaveOneHeight};
-ghost use Rattle.tl_faces.specs.Located.{ListsOneAtMost};
-ghost use Rattle.tl_faces.specs.Truth.{LiesAt, HasOnePolygon, AreSidesTrue};
+ghost use Rattle.tl_faces.specs.Faults.{IsTrueFaceFault};
+ghost use Rattle.tl_faces.specs.Located.{ListsWhatLies};
+ghost use Rattle.tl_faces.specs.declared.fault.FaceFault.{FaceFault};
+ghost use Rattle.tl_faces.specs.Truth.{LiesAt, HasOnePolygon, AreSidesTrue, AreFacesTrue};
 
 /// The counts of rational points are those of whole points, where both speak of one point.
 pub fn counts_of_a_whole_point()
@@ -33,6 +38,13 @@ pub fn sides_have_one_count_at_a_place()
         IsCountAt chains q S n → m ≡ n }
 {}
 
+/// Where sides agree and darts head apart, as on planar chains, the count of any sides stays along a straight line that doesn't meet
+/// their boundary: from the one end to the other, whatever other chains it crosses.
+pub fn counts_stay_along_a_clear_line()
+    ensures { (chains : List MapChain) (S : Side → Bool) (p q : Rational) (n : ℤ) → AreProper chains → HeadApart chains → SidesAgree chains →
+        IsClearAlong chains S p q → IsCountAt chains p S n ↔ IsCountAt chains q S n }
+{}
+
 /// Where chains are planar and faces agree, each place that is on no chain lies in one polygon, or outside of all.
 pub fn one_polygon()
     ensures { (chains : List MapChain) → IsPlanar chains → FacesAgree chains → HasOnePolygon chains }
@@ -43,15 +55,26 @@ pub fn no_two_polygons()
     ensures { (chains : List MapChain) (q : Rational) (side other : Side) → LiesAt chains q side → LiesAt chains q other → side ≡ other }
 {}
 
-/// So there [`tl_inside::locate`] lists at most one polygon of a point that is on no chain, the one that the point is inside of.
-pub fn places_list_one_polygon_at_most()
+/// So there [`tl_inside::locate`] lists what lies at a point that is on no chain: a polygon alone where it lies there, and none in the
+/// outside.
+pub fn places_list_what_lies_there()
     ensures { (m : TheMap) (q : Point) (place : Place) → IsPlanar m.chains → FacesAgree m.chains → IsPlaceOf m q place →
-        ListsOneAtMost m.chains q place }
+        ListsWhatLies m q place }
 {}
 
 /// And then each side of each chain names what lies there.
 pub fn true_sides()
     ensures { (chains : List MapChain) → IsPlanar chains → FacesAgree chains → AreSidesTrue chains }
+{}
+
+/// The other way, on planar chains whose sides agree about nodes: where each side names what lies there, faces agree.
+pub fn faces_agree_where_sides_are_true()
+    ensures { (chains : List MapChain) → AreProper chains → IsPlanar chains → SidesAgree chains → AreSidesTrue chains → FacesAgree chains }
+{}
+
+/// So on such chains faces agree exactly where they are true.
+pub fn faces_agree_exactly_where_they_are_true()
+    ensures { (chains : List MapChain) → AreProper chains → IsPlanar chains → SidesAgree chains → FacesAgree chains ↔ AreFacesTrue chains }
 {}
 
 /// The first of the two by what a sweep can look at: in each slab the segments that are active stand in a list of which each two
@@ -109,6 +132,26 @@ pub fn last_faces_outward()
         east_side K is.joins.chain u ≢ Outside → IsOutwardDisagreement chains is.joins.chain u p K (pos 1) (east_side K is.joins.chain u) }
 {}
 
+/// The other way: where two segments face one another along a line of one height within a slab, from places on them with nothing
+/// between, they are neighbours in each list of the slab, the western one before the eastern one.
+pub fn facing_segments_are_neighbours()
+    ensures { (K n : ℤ) (chains : List MapChain) (list : List ℕ) (s t : ℕ) (u w : Segment) (p q : Rational) → AreAllNear K chains →
+        IsPlanar chains → IsListOf K n chains list → IsNumbered chains s u → IsNumbered chains t w → IsOn u p → IsOn w q →
+        IsInSlab K n p → HaveOneHeight K p q → pos 0 <ℤ step_x p q → IsClearBetween chains p q →
+        (front : List ℕ) × (back : List ℕ) × (list ≡ front ++ (s ∷ (t ∷ back))) }
+{}
+
+/// And a segment that faces nothing along that line is the first of the list if nothing lies to the west, and the last if nothing
+/// lies to the east.
+pub fn segments_that_face_nothing_are_first_or_last()
+    ensures first { (K n : ℤ) (chains : List MapChain) (list : List ℕ) (s : ℕ) (u : Segment) (p : Rational) → AreAllNear K chains →
+        IsPlanar chains → IsListOf K n chains list → IsNumbered chains s u → IsOn u p → IsInSlab K n p →
+        IsClearFrom chains p (pos 0 -ℤ K) (pos 0 -ℤ pos 1) → (back : List ℕ) × (list ≡ s ∷ back) }
+    ensures last { (K n : ℤ) (chains : List MapChain) (list : List ℕ) (s : ℕ) (u : Segment) (p : Rational) → AreAllNear K chains →
+        IsPlanar chains → IsListOf K n chains list → IsNumbered chains s u → IsOn u p → IsInSlab K n p →
+        IsClearFrom chains p K (pos 1) → (front : List ℕ) × (list ≡ front ++ (s ∷ [])) }
+{}
+
 /// The line of each segment has a place midway between any height and the next, strictly within the slab. It lies on the segment where
 /// that is active there, and two such places have one height.
 pub fn segments_have_places_midway()
@@ -126,6 +169,28 @@ pub fn disagreements_contradict()
         IsFaceDisagreement chains one other u w p q side opposite → ¬ FacesAgree chains }
     ensures outward { (chains : List MapChain) (chain : MapChain) (u : Segment) (p : Rational) (x y : ℤ) (side : Side) →
         IsOutwardDisagreement chains chain u p x y side → ¬ FacesAgree chains }
+{}
+
+/// Faces that disagree from a place do so from it however it is written, as in lowest terms.
+pub fn disagreements_are_of_places()
+    ensures first { (chains : List MapChain) (one other : MapChain) (u w : Segment) (p q t : Rational) (side opposite : Side) → IsSame p q →
+        IsFaceDisagreement chains one other u w p t side opposite → IsFaceDisagreement chains one other u w q t side opposite }
+    ensures last { (chains : List MapChain) (one other : MapChain) (u w : Segment) (p q t : Rational) (side opposite : Side) → IsSame p q →
+        IsFaceDisagreement chains one other u w t p side opposite → IsFaceDisagreement chains one other u w t q side opposite }
+    ensures outward { (chains : List MapChain) (chain : MapChain) (u : Segment) (p q : Rational) (x y : ℤ) (side : Side) → IsSame p q →
+        IsOutwardDisagreement chains chain u p x y side → IsOutwardDisagreement chains chain u q x y side }
+{}
+
+/// Where a fault of faces is true of a map, its faces don't agree. So none is told of a map whose faces agree.
+pub fn a_true_face_fault_contradicts()
+    ensures { (m : TheMap) (fault : FaceFault) → IsTrueFaceFault m fault → ¬ FacesAgree m.chains }
+{}
+
+/// And on planar chains whose sides agree about nodes such a fault says that faces aren't true: none is told of a map that has one
+/// polygon at each place, and whose sides name what lies there.
+pub fn a_true_face_fault_denies_true_faces()
+    ensures { (m : TheMap) (fault : FaceFault) → AreProper m.chains → IsPlanar m.chains → SidesAgree m.chains → IsTrueFaceFault m fault →
+        ¬ AreFacesTrue m.chains }
 {}
 
 /// The sides of a segment by its height are its flanks, unless it runs level to the west: then they are the other way round.

@@ -1,5 +1,5 @@
 -- Of two segments of planar chains that are active in one slab one is west of the other.
-use Rattle.std.proofs.Common.{◌≡◌, ◌⊎◌, inl, inr, ⊎_elim, ℕ, ◌+◌, Bool, false, IsTrue, ◌↔◌, ℤ, pos, ◌<ℤ◌, List, sym}
+use Rattle.std.proofs.Common.{◌≡◌, ◌⊎◌, inl, inr, ⊎_elim, ℕ, Bool, false, IsTrue, ◌↔◌, ℤ, pos, ◌<ℤ◌, List, sym}
 use Rattle.tl_geom.specs.declared.rational.Rational.{Rational}
 use Rattle.tl_geom.specs.declared.segment.Segment.{Segment}
 use Rattle.tl_county.specs.TheMap.{MapChain}
@@ -17,10 +17,7 @@ use Rattle.tl_faces.proofs.Tests.{is_west, are_free}
 use Rattle.tl_faces.proofs.Within.{line, spanned_of, begun_of}
 use Rattle.tl_faces.proofs.Midway.{some_midway, inside}
 use Rattle.tl_line.proofs.Tests.{tested}
-
-pub own_near : (K : ℤ) (chains : List MapChain) → AreAllNear K chains → (s : ℕ) (u : Segment) → IsNumbered chains s u → AreNear K u.a u.b
-own_near K chains near s u is = near is.c is.k is.c (is.k + 1) u.a u.b
-    (record { chain = is.joins.chain; is = is.joins.is; point = is.joins.from }) (record { chain = is.joins.chain; is = is.joins.is; point = is.joins.to })
+use Rattle.tl_sweep.proofs.Unique.{own_near}
 
 pub free_back : (u w : Segment) → AreApartOrAtEnds u w → AreApartOrAtEnds w u
 free_back u w =

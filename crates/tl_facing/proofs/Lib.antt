@@ -5,5 +5,10 @@ pub mod Beside
 pub mod Tops
 pub mod Stepping
 pub mod Growing
-pub mod Turns
-pub mod Contradicts
+pub mod Begun
+pub mod BySlabs
+pub mod Zipped
+pub mod Agreeing
+pub mod Apart
+pub mod Lowest
+pub mod Exact

@@ -1,28 +1,32 @@
 -- What a gap of a slab's list tells of the segments on both sides of it.
 use Rattle.std.proofs.Common.{◌≡◌, ℕ, ◌<◌, ℤ, pos, ◌-ℤ◌, None, Some, List, [], ◌∷◌, ◌++◌, length, refl, sym, ap, subst, ◌∙◌}
-use Rattle.std.specs.Prelude.{int_lt, slice_get, if◌then◌else◌}
+use Rattle.std.specs.Prelude.{slice_get}
 use mathlib.Core.List.{append_assoc}
 use Rattle.tl_geom.specs.declared.point.Point.{Point}
 use Rattle.tl_geom.specs.declared.segment.Segment.{Segment}
+use Rattle.tl_geom.proofs.Places.{same_sym}
 use Rattle.tl_county.specs.declared.sides.Side.{Side}
 use Rattle.tl_county.specs.declared.sides.Side.TheVariants.{Outside}
 use Rattle.tl_county.specs.TheMap.{TheMap, MapChain, IsChain}
 use Rattle.tl_county.specs.Segments.{segments_before, IsSegmentOf}
 use Rattle.tl_planar.specs.Planar.{IsPlanar}
 use Rattle.tl_planar.specs.Keeping.Apart.{one_found}
-use Rattle.tl_planar.proofs.Numbering.{HaveSameEnds, one_chain, below_total}
+use Rattle.tl_planar.proofs.Numbering.{one_chain, below_total}
 use Rattle.tl_slabs.specs.Heights.{height, widest}
 use Rattle.tl_slabs.specs.Neighbours.{IsNumbered}
 use Rattle.tl_slabs.specs.Slabs.{IsListOf}
-use Rattle.tl_slabs.proofs.Numbered.{one_segment}
+use Rattle.tl_faces.specs.Facing.{IsStrictlyOn}
 use Rattle.tl_faces.specs.Lists.{west_side, east_side, AreAllNear}
-use Rattle.tl_faces.specs.Disagreements.{IsMidway}
 use Rattle.tl_faces.specs.Odd.{IsOddGap, NamesWest, NamesEast, IsNamedWest, IsNamedEast, first_number, last_number}
 use Rattle.tl_faces.specs.declared.odd.OddGap.{OddGap}
 use Rattle.tl_faces.proofs.Midway.{neighbours_midway, first_midway, last_midway}
-use Rattle.tl_facing.specs.declared.fault.NamedFace.{NamedFace}
-use Rattle.tl_facing.specs.declared.fault.FaceFault.TheVariants.{Facing, Outward}
-use Rattle.tl_facing.specs.Truth.{side_key, IsNamed, IsTrueFacing, IsTrueOutward, IsWestFace, IsEastFace, IsBetween, IsOfGap}
+use Rattle.tl_facing.specs.Keeping.Told.{IsFaceOf}
+use Rattle.tl_sweep.proofs.Sides.{one_west, one_east}
+use Rattle.tl_faces.proofs.Rewritten.{first_rewritten, last_rewritten, outward_rewritten}
+use Rattle.tl_faces.specs.declared.fault.NamedFace.{NamedFace}
+use Rattle.tl_faces.specs.declared.fault.Way.TheVariants.{West, East}
+use Rattle.tl_faces.specs.declared.fault.FaceFault.TheVariants.{Facing, Outward}
+use Rattle.tl_faces.specs.Faults.{side_key, IsNamed, IsLowestMidway, IsTrueFacing, IsTrueOutward, IsWestFace, IsEastFace, IsBetween, IsOfGap}
 
 -- ---- the ends of lists
 
@@ -44,60 +48,39 @@ pub first_none : (xs : List ℕ) → first_number xs ≡ None → xs ≡ []
 first_none [] e = refl
 first_none (x ∷ rest) e = absurd (cc)
 
--- ---- what is told of a segment is of its number
-
-module _ (chains : List MapChain) (s : ℕ) (u w : Segment) (is : IsNumbered chains s u) (is' : IsNumbered chains s w) where
-  ends : HaveSameEnds u w
-  ends = one_segment chains s u w is is'
-
-  chain_is : is.joins.chain ≡ is'.joins.chain
-  chain_is =
-      one_found is.joins.chain is'.joins.chain (slice_get chains is.c) is.joins.is
-      (ap (λ n. slice_get chains n) (one_chain chains s is.c is.k is'.c is'.k is.number is'.number) ∙ is'.joins.is)
-
-  pub one_west : west_side widest is.joins.chain u ≡ west_side widest is'.joins.chain w
-  one_west = λ i. if int_lt (height widest (ends.first i)) (height widest (ends.last i)) then (chain_is i).left else (chain_is i).right
-
-  pub one_east : east_side widest is.joins.chain u ≡ east_side widest is'.joins.chain w
-  one_east = λ i. if int_lt (height widest (ends.first i)) (height widest (ends.last i)) then (chain_is i).right else (chain_is i).left
-
 -- ---- faces as they are read
 
-module _ (m : TheMap) (n : ℤ) (s : ℕ) (u : Segment) (is : IsNumbered m.chains s u) (d j : ℕ) (number : IsSegmentOf m.chains s d j)
-    (tlid : ℕ) (points : List Point) (left right : Side) (read : IsChain (slice_get m.chains d) tlid points left right)
-    (face : NamedFace) (midway : IsMidway widest n u face.at) (tlid_is : face.tlid ≡ tlid) (side : Side)
-    (polygon_is : face.polygon ≡ side_key m.polygons side) where
-  read_is : read.chain ≡ is.joins.chain
-  read_is =
-      one_found read.chain is.joins.chain (slice_get m.chains d) read.is
-      (ap (λ n. slice_get m.chains n) (one_chain m.chains s d j is.c is.k number is.number) ∙ is.joins.is)
+pub face_read : (m : TheMap) (n : ℤ) (s : ℕ) (u : Segment) → IsNumbered m.chains s u → (d j : ℕ) → IsSegmentOf m.chains s d j → (tlid : ℕ)
+    (points : List Point) (left right : Side) → IsChain (slice_get m.chains d) tlid points left right → (face : NamedFace) → IsLowestMidway widest n u face.at →
+    face.tlid ≡ tlid → (side : Side) → face.polygon ≡ side_key m.polygons side → IsFaceOf m n s side face
+face_read m n s u is d j number tlid points left right read face midway tlid_is side polygon_is = record {
+  segment = u;
+  is = is;
+  midway = midway;
+  named = record { tlid = tlid_is ∙ read.tlid_is ∙ ap (λ (c : MapChain). c.tlid) read_is; polygon = polygon_is };
+}
+  where
+    read_is : read.chain ≡ is.joins.chain
+    read_is =
+        one_found read.chain is.joins.chain (slice_get m.chains d) read.is
+        (ap (λ n. slice_get m.chains n) (one_chain m.chains s d j is.c is.k number is.number) ∙ is.joins.is)
 
-  named : (own : Side) → side ≡ own → IsNamed m is.joins.chain own face
-  named own e = record {
-    tlid = tlid_is ∙ read.tlid_is ∙ ap (λ (c : MapChain). c.tlid) read_is;
-    polygon = polygon_is ∙ ap (λ (x : Side). side_key m.polygons x) e;
+-- what it names by its height
+module _ (m : TheMap) (n : ℤ) (s : ℕ) (side : Side) (face : NamedFace) (of : IsFaceOf m n s side face) where
+  pub west_face : NamesWest widest m.chains s side → IsWestFace widest m n s face
+  west_face west = record {
+    segment = of.segment;
+    is = of.is;
+    midway = of.midway;
+    named = subst (λ side. IsNamed m of.is.joins.chain side face) (west.names ∙ one_west m.chains s west.segment of.segment west.is of.is) of.named;
   }
 
-  left_is : left ≡ is.joins.chain.left
-  left_is = read.left_is ∙ ap (λ (c : MapChain). c.left) read_is
-
-  right_is : right ≡ is.joins.chain.right
-  right_is = read.right_is ∙ ap (λ (c : MapChain). c.right) read_is
-
-  pub west_read : side ≡ (if int_lt (height widest u.a) (height widest u.b) then left else right) → IsWestFace widest m n s face
-  west_read e = record {
-    segment = u;
-    is = is;
-    midway = midway;
-    named = named (west_side widest is.joins.chain u) (e ∙ (λ i. if int_lt (height widest u.a) (height widest u.b) then left_is i else right_is i));
-  }
-
-  pub east_read : side ≡ (if int_lt (height widest u.a) (height widest u.b) then right else left) → IsEastFace widest m n s face
-  east_read e = record {
-    segment = u;
-    is = is;
-    midway = midway;
-    named = named (east_side widest is.joins.chain u) (e ∙ (λ i. if int_lt (height widest u.a) (height widest u.b) then right_is i else left_is i));
+  pub east_face : NamesEast widest m.chains s side → IsEastFace widest m n s face
+  east_face east = record {
+    segment = of.segment;
+    is = of.is;
+    midway = of.midway;
+    named = subst (λ side. IsNamed m of.is.joins.chain side face) (east.names ∙ one_east m.chains s east.segment of.segment east.is of.is) of.named;
   }
 
 -- ---- a fault of a gap
@@ -110,16 +93,16 @@ module _ (m : TheMap) (gap : OddGap) where
       (subst (λ o. IsBetween widest m (height widest gap.at) (Some s) o (Facing first last)) (sym f) (one, other))
 
   pub of_western : (s : ℕ) → gap.west ≡ Some s → gap.east ≡ None → (face : NamedFace) → IsEastFace widest m (height widest gap.at) s face →
-      IsOfGap widest m gap (Outward face)
+      IsOfGap widest m gap (Outward face East)
   of_western s e f face one =
-      subst (λ o. IsBetween widest m (height widest gap.at) o gap.east (Outward face)) (sym e)
-      (subst (λ o. IsBetween widest m (height widest gap.at) (Some s) o (Outward face)) (sym f) one)
+      subst (λ o. IsBetween widest m (height widest gap.at) o gap.east (Outward face East)) (sym e)
+      (subst (λ o. IsBetween widest m (height widest gap.at) (Some s) o (Outward face East)) (sym f) (one, refl))
 
   pub of_eastern : (t : ℕ) → gap.west ≡ None → gap.east ≡ Some t → (face : NamedFace) → IsWestFace widest m (height widest gap.at) t face →
-      IsOfGap widest m gap (Outward face)
+      IsOfGap widest m gap (Outward face West)
   of_eastern t e f face one =
-      subst (λ o. IsBetween widest m (height widest gap.at) o gap.east (Outward face)) (sym e)
-      (subst (λ o. IsBetween widest m (height widest gap.at) None o (Outward face)) (sym f) one)
+      subst (λ o. IsBetween widest m (height widest gap.at) o gap.east (Outward face West)) (sym e)
+      (subst (λ o. IsBetween widest m (height widest gap.at) None o (Outward face West)) (sym f) (one, refl))
 
 -- ---- an odd gap
 
@@ -175,14 +158,22 @@ module _ (m : TheMap) (gap : OddGap) (odd : IsOddGap widest m.chains gap) where
           side = east_side widest one.is.joins.chain one.segment;
           opposite = west_side widest other.is.joins.chain other.segment;
           disagree =
-              neighbours_midway widest n m.chains near planar front.0 back.0 s one.segment one.is first.at one.midway t other.segment other.is last.at
-              other.midway listed
-              (λ k. odd.differ (west_is s e one.segment one.is ∙ k ∙ sym (east_is t f other.segment other.is)));
+              last_rewritten other.midway.place last.at (same_sym last.at other.midway.place other.midway.lowest.same) m.chains one.is.joins.chain
+              other.is.joins.chain one.segment other.segment first.at (east_side widest one.is.joins.chain one.segment)
+              (west_side widest other.is.joins.chain other.segment)
+              (first_rewritten one.midway.place first.at (same_sym first.at one.midway.place one.midway.lowest.same) m.chains one.is.joins.chain
+              other.is.joins.chain one.segment other.segment other.midway.place (east_side widest one.is.joins.chain one.segment)
+              (west_side widest other.is.joins.chain other.segment)
+              (neighbours_midway widest n m.chains near planar front.0 back.0 s one.segment one.is one.midway.place one.midway.midway t other.segment
+              other.is other.midway.place other.midway.midway listed
+              (λ k. odd.differ (west_is s e one.segment one.is ∙ k ∙ sym (east_is t f other.segment other.is)))));
+          lowest_first = one.midway.lowest.lowest;
+          lowest_last = other.midway.lowest.lowest;
           named_first = one.named;
           named_last = other.named;
         }
 
-    pub eastward : (s : ℕ) → gap.west ≡ Some s → gap.east ≡ None → (face : NamedFace) → IsEastFace widest m n s face → IsTrueOutward m face
+    pub eastward : (s : ℕ) → gap.west ≡ Some s → gap.east ≡ None → (face : NamedFace) → IsEastFace widest m n s face → IsTrueOutward m face East
     eastward s e f face one =
         let front = last_split odd.front s (sym odd.is_west ∙ e) in
         let none : odd.back ≡ [] = first_none odd.back (sym odd.is_east ∙ f) in
@@ -191,27 +182,47 @@ module _ (m : TheMap) (gap : OddGap) (odd : IsOddGap widest m.chains gap) where
         record {
           chain = one.is.joins.chain;
           u = one.segment;
-          x = widest;
-          y = pos 1;
           side = east_side widest one.is.joins.chain one.segment;
           disagree =
-              last_midway widest n m.chains near planar front.0 [] s one.segment one.is face.at one.midway listed
-              (λ k. odd.differ (west_is s e one.segment one.is ∙ k ∙ sym (east_outside f)));
+              outward_rewritten one.midway.place face.at (same_sym face.at one.midway.place one.midway.lowest.same) m.chains one.is.joins.chain
+              one.segment widest (pos 1) (east_side widest one.is.joins.chain one.segment)
+              (last_midway widest n m.chains near planar front.0 [] s one.segment one.is one.midway.place one.midway.midway listed
+              (λ k. odd.differ (west_is s e one.segment one.is ∙ k ∙ sym (east_outside f))));
+          lowest = one.midway.lowest.lowest;
           named = one.named;
         }
 
-    pub westward : (t : ℕ) → gap.west ≡ None → gap.east ≡ Some t → (face : NamedFace) → IsWestFace widest m n t face → IsTrueOutward m face
+    pub westward : (t : ℕ) → gap.west ≡ None → gap.east ≡ Some t → (face : NamedFace) → IsWestFace widest m n t face → IsTrueOutward m face West
     westward t e f face one =
         let none : odd.front ≡ [] = last_none odd.front (sym odd.is_west ∙ e) in
         let back = first_split odd.back t (sym odd.is_east ∙ f) in
         record {
           chain = one.is.joins.chain;
           u = one.segment;
-          x = pos 0 -ℤ widest;
-          y = pos 0 -ℤ pos 1;
           side = west_side widest one.is.joins.chain one.segment;
           disagree =
-              first_midway widest n m.chains near planar [] back.0 t one.segment one.is face.at one.midway (list_of [] (t ∷ back.0) none back.1)
-              (λ k. odd.differ (west_outside e ∙ sym k ∙ sym (east_is t f one.segment one.is)));
+              outward_rewritten one.midway.place face.at (same_sym face.at one.midway.place one.midway.lowest.same) m.chains one.is.joins.chain
+              one.segment (pos 0 -ℤ widest) (pos 0 -ℤ pos 1) (west_side widest one.is.joins.chain one.segment)
+              (first_midway widest n m.chains near planar [] back.0 t one.segment one.is one.midway.place one.midway.midway
+              (list_of [] (t ∷ back.0) none back.1)
+              (λ k. odd.differ (west_outside e ∙ sym k ∙ sym (east_is t f one.segment one.is))));
+          lowest = one.midway.lowest.lowest;
           named = one.named;
         }
+
+    -- the places lie strictly within the segments
+    pub within_both : (s t : ℕ) → gap.west ≡ Some s → gap.east ≡ Some t → (first last : NamedFace) → (one : IsEastFace widest m n s first) →
+        (other : IsWestFace widest m n t last) → IsStrictlyOn one.segment first.at × IsStrictlyOn other.segment last.at
+    unfolding facing
+    within_both s t e f first last one other =
+        let told = facing s t e f first last one other in (told.disagree.on_first, told.disagree.on_last)
+
+    pub within_western : (s : ℕ) → gap.west ≡ Some s → gap.east ≡ None → (face : NamedFace) → (one : IsEastFace widest m n s face) →
+        IsStrictlyOn one.segment face.at
+    unfolding eastward
+    within_western s e f face one = let told = eastward s e f face one in told.disagree.on
+
+    pub within_eastern : (t : ℕ) → gap.west ≡ None → gap.east ≡ Some t → (face : NamedFace) → (one : IsWestFace widest m n t face) →
+        IsStrictlyOn one.segment face.at
+    unfolding westward
+    within_eastern t e f face one = let told = westward t e f face one in told.disagree.on

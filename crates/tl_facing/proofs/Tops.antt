@@ -1,26 +1,19 @@
 -- The highest end of a segment that isn't above a height: in the slab above that height stands what stands in the slab above this end. So
 -- what holds of the slabs above the ends of all segments, by what stands there, holds of all slabs.
-use Rattle.std.proofs.Common.{◌≡◌, ◌⊎◌, inl, inr, ⊎_elim, ℕ, zero, suc, ◌+◌, ◌<◌, ◌≤◌, ℤ, ◌<ℤ◌, ◌≤ℤ◌, List, [], length, refl, sym, ap, subst, ◌∙◌, arith}
+use Rattle.std.proofs.Common.{◌≡◌, ◌⊎◌, inl, inr, ⊎_elim, ℕ, zero, suc, ◌<◌, ℤ, ◌<ℤ◌, ◌≤ℤ◌, List, length, ap, subst, ◌∙◌, arith}
 use Rattle.std.proofs.lemmas.Bool.{cases_order}
 use Rattle.std.proofs.lemmas.Int.{ints, by_lt_z}
-use Rattle.std.proofs.lemmas.List.Elements.{All-nil}
-use Rattle.tl_geom.specs.declared.point.Point.{Point}
 use Rattle.tl_geom.specs.declared.segment.Segment.{Segment}
 use Rattle.tl_county.specs.TheMap.{MapChain}
 use Rattle.tl_county.specs.Segments.{segments_before}
-use Rattle.tl_planar.specs.Planar.{IsPlanar}
 use Rattle.tl_planar.proofs.Numbering.{below_total, HaveSameEnds}
 use Rattle.tl_slabs.specs.Heights.{height, low_end, high_end}
 use Rattle.tl_slabs.specs.Neighbours.{IsNumbered}
 use Rattle.tl_slabs.specs.Slabs.{IsActive}
 use Rattle.tl_slabs.proofs.Rising.{AreEndsOf, ends_of}
 use Rattle.tl_slabs.proofs.Numbered.{one_segment}
-use Rattle.tl_faces.specs.Facing.{FacesAgree}
 use Rattle.tl_faces.specs.Lists.{AreAllNear}
-use Rattle.tl_faces.proofs.FromSlabs.{by_slabs}
-use Rattle.tl_faces.proofs.ToFaces as faces
-use Rattle.tl_facing.specs.Keeping.Slabs.{IsSlabFacing, AreEndsFacing, AreFirstFacing}
-use Rattle.tl_facing.proofs.Beside.{own_near}
+use Rattle.tl_sweep.proofs.Unique.{own_near}
 
 -- something holds of the slabs above both ends of a segment
 pub record HoldsAbove (K : ℤ) (chains : List MapChain) (Holds : ℤ → Type 0) (s : ℕ) : Type 0 where
@@ -171,38 +164,3 @@ module _ (K n : ℤ) (chains : List MapChain) (Holds : ℤ → Type 0) where
       holds_above holds =
           ⊎_elim (λ all. none (none_active all)) (λ t. same t.0 t.1.under (up t.0 t.1) (down t.0 t.1) t.1.holds)
           (highest (segments_before chains (length chains)) holds)
-
--- ---- facing sides agree
-
-module _ (K n : ℤ) (chains : List MapChain) where
-  none_facing : ((s : ℕ) → ¬ IsActive K n chains s) → IsSlabFacing K n chains
-  none_facing none = ([], record { active = All-nil (IsActive K n chains); once = λ s a. absurd (none s a); tested = tt }, refl)
-
-  same_facing : (h : ℤ) → h ≤ℤ n → ((s : ℕ) → IsActive K h chains s → IsActive K n chains s) → ((s : ℕ) → IsActive K n chains s → IsActive K h chains s) →
-      IsSlabFacing K h chains → IsSlabFacing K n chains
-  same_facing h le up down old = (
-    old.0,
-    record { active = λ k d lt. up _ (old.1.active k d lt); once = λ s a. old.1.once s (down s a); tested = old.1.tested },
-    old.2,
-  )
-
-pub agree : (K : ℤ) (chains : List MapChain) → AreAllNear K chains → IsPlanar chains → (count : ℕ) → segments_before chains (length chains) ≤ count →
-    AreFirstFacing K chains count → FacesAgree chains
-agree K chains near planar count le facing =
-    faces.agree chains planar (by_slabs K chains near planar (λ n.
-    holds_above K n chains (λ h. IsSlabFacing K h chains) near (none_facing K n chains) (same_facing K n chains)
-    (λ s lt. let f = facing s (omega (arith, lt, le)) in record { segment = f.segment; is = f.is; first = f.first; last = f.last })))
-
--- the slabs above the ends of one more segment
-pub one_more : (K : ℤ) (chains : List MapChain) (s : ℕ) → AreFirstFacing K chains s → (u : Segment) → IsNumbered chains s u → (p q : Point) →
-    p ≡ u.a → q ≡ u.b → IsSlabFacing K (height K p) chains → IsSlabFacing K (height K q) chains → AreFirstFacing K chains (s + 1)
-one_more K chains s so_far u is p q e f first last t lt =
-    ⊎_elim
-    (λ (same : t ≡ s). subst (AreEndsFacing K chains) (sym same) (record {
-      segment = u;
-      is = is;
-      first = subst (λ z. IsSlabFacing K (height K z) chains) e first;
-      last = subst (λ z. IsSlabFacing K (height K z) chains) f last;
-    }))
-    (λ w. ⊎_elim (λ less. so_far t less) (λ more. absurd (omega (arith, lt, more))) w)
-    (cases_order t s)

@@ -1,3 +1,4 @@
 -- What the code keeps on its way. No public contract cites a file of this folder.
 pub mod Ranges
 pub mod Slabs
+pub mod Told

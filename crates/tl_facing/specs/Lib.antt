@@ -1,4 +1,3 @@
 -- What the contracts cite.
-pub mod Truth
-pub mod Messages
+pub mod AllFaults
 pub mod Keeping

@@ -1,73 +1,65 @@
-//! Whether faces agree: by a sweep, and where that says nothing of them slab by slab.
-ghost use Rattle.std.specs.Prelude.{◌≡◌, None, Some, IfOk};
+//! Whether faces agree: by what a sweep has told of gaps, and where that is nothing, slab by slab.
+ghost use Rattle.std.specs.Prelude.{◌≡◌, [], None, Some, All, IfOk, IfSome};
 ghost use Rattle.tl_planar.specs.Planar.{IsPlanar};
 ghost use Rattle.tl_slabs.specs.Heights.{widest};
 ghost use Rattle.tl_faces.specs.Facing.{FacesAgree};
-ghost use Rattle.tl_faces.specs.Odd.{IsOddGap};
-ghost use Rattle.tl_faces.specs.declared.odd.OddGap.{OddGap};
-ghost use Rattle.tl_sweep.specs.declared.faces.Faces.TheVariants.{Agree, Odd};
-ghost use Rattle.tl_facing.specs.declared.fault.FaceFault.{FaceFault};
-ghost use Rattle.tl_facing.specs.Truth.{IsTrueFaceFault};
+ghost use Rattle.tl_faces.specs.Odd.{IsLowestOddGap};
+ghost use Rattle.tl_faces.specs.declared.fault.FaceFault.{FaceFault};
+ghost use Rattle.tl_faces.specs.Faults.{IsTrueFaceFault};
 
-use crate::fault::FaceFault;
 use crate::find::face_fault;
-use crate::gaps::find_odd_gap;
+use crate::gaps::gaps_by_slabs;
 use std::alloc::{AllocError, Global};
 use tl_county::Map;
-use tl_faces::OddGap;
-use tl_sweep::{Faces, sweep_for_faces};
+use tl_faces::{FaceFault, OddGap};
+use tl_sweep::{Gaps, SweepReport, sweep};
 
-/// Faces of a map that disagree, where its chains are planar; `None` where all agree. Which of several disagreements is told is open.
-/// The error is that memory was refused.
+/// Faces of a map that disagree, where its chains are planar; `None` where all agree. Which is told of those that
+/// [`crate::find_all_face_faults`] tells is open. The error is that memory was refused.
 pub fn find_face_fault(alloc: Global, map: &Map) -> Result<Option<FaceFault>, AllocError>
     requires planar { IsPlanar map.now.chains }
     ensures agree { IfOk result (λ found. found ≡ None → FacesAgree map.now.chains) }
     ensures fault { IfOk result (λ found. (fault : FaceFault) → found ≡ Some fault → IsTrueFaceFault map.now fault) }
 {
-    let mut suspects = Vec::new(alloc);
-    let swept = sweep_for_faces(alloc, map, &mut suspects)?;
-    face_fault_of(alloc, map, swept.1)
+    let SweepReport {
+        swept: _swept,
+        suspects: _suspects,
+        gaps,
+    } = sweep(alloc, map, Gaps::First)?;
+    face_fault_of(alloc, map, gaps)
 }
 
-/// The same where a sweep of the map has told of faces already. Where it told nothing of them, slabs are listed one by one, as
-/// [`find_odd_gap`] does. The error is that memory was refused.
+/// The same where a sweep of the map has told of gaps already. Where it told nothing of them, slabs are listed one by one, as
+/// [`gaps_by_slabs`] does. The error is that memory was refused.
 pub fn face_fault_of(
     alloc: Global,
     map: &Map,
-    faces: Faces,
+    gaps: Option<Vec<OddGap>>,
 ) -> Result<Option<FaceFault>, AllocError>
     requires planar { IsPlanar map.now.chains }
-    requires agree { faces ≡ Agree → FacesAgree map.now.chains }
-    requires odd { (gap : OddGap) → faces ≡ Odd gap → IsOddGap widest map.now.chains gap }
+    requires odd { IfSome gaps (λ found. All (IsLowestOddGap widest map.now.chains) found.items) }
+    requires agree { IfSome gaps (λ found. found.items ≡ [] → FacesAgree map.now.chains) }
     ensures agree { IfOk result (λ found. found ≡ None → FacesAgree map.now.chains) }
     ensures fault { IfOk result (λ found. (fault : FaceFault) → found ≡ Some fault → IsTrueFaceFault map.now fault) }
 {
-    match faces {
-        Faces::Agree => Ok(None),
-        Faces::Odd(gap) => Ok(Some(face_fault(map, gap))),
-        Faces::Unknown => face_fault_by_slabs(alloc, map),
+    match gaps {
+        Some(gaps) => Ok(first_fault(map, &gaps)),
+        None => {
+            let gaps = gaps_by_slabs(alloc, map)?;
+            Ok(first_fault(map, &gaps))
+        }
     }
 }
 
-/// The same slab by slab.
-fn face_fault_by_slabs(alloc: Global, map: &Map) -> Result<Option<FaceFault>, AllocError>
+/// What is told of the first of these gaps, if there is one.
+fn first_fault(map: &Map, gaps: &[OddGap]) -> Option<FaceFault>
     requires planar { IsPlanar map.now.chains }
-    ensures agree { IfOk result (λ found. found ≡ None → FacesAgree map.now.chains) }
-    ensures fault { IfOk result (λ found. (fault : FaceFault) → found ≡ Some fault → IsTrueFaceFault map.now fault) }
-{
-    let found = find_odd_gap(alloc, map)?;
-    Ok(told(map, found))
-}
-
-/// What is told of a gap, if one was found.
-fn told(map: &Map, found: Option<OddGap>) -> Option<FaceFault>
-    requires planar { IsPlanar map.now.chains }
-    requires odd { (gap : OddGap) → found ≡ Some gap → IsOddGap widest map.now.chains gap }
-    ensures none { result ≡ None → found ≡ None }
+    requires odd { All (IsLowestOddGap widest map.now.chains) gaps.now }
+    ensures none { result ≡ None → gaps.now ≡ [] }
     ensures fault { (fault : FaceFault) → result ≡ Some fault → IsTrueFaceFault map.now fault }
 {
-    match found {
-        Some(gap) => Some(face_fault(map, gap)),
-        None => None,
+    if gaps.is_empty() {
+        return None;
     }
+    Some(face_fault(map, gaps[0]))
 }

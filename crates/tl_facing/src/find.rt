@@ -1,25 +1,25 @@
 //! Faces that disagree, told of a gap in a slab's list.
-ghost use Rattle.std.specs.Prelude.{◌≡◌, ◌<◌, int_lt, if◌then◌else◌, length};
-ghost use Rattle.tl_geom.specs.Plane.{end_a, end_b};
+ghost use Rattle.std.specs.Prelude.{◌≡◌, ◌<◌, length};
 ghost use Rattle.tl_county.specs.Segments.{segments_before};
 ghost use Rattle.tl_planar.specs.Planar.{IsPlanar};
 ghost use Rattle.tl_slabs.specs.Heights.{height, widest};
-ghost use Rattle.tl_faces.specs.Odd.{IsOddGap};
-ghost use Rattle.tl_facing.specs.Truth.{side_key, IsTrueFaceFault, IsWestFace, IsEastFace, IsOfGap};
+ghost use Rattle.tl_faces.specs.Odd.{IsLowestOddGap};
+ghost use Rattle.tl_faces.specs.Faults.{side_key, IsTrueFaceFault, IsWestFace, IsEastFace, IsOfGap};
+ghost use Rattle.tl_facing.specs.Keeping.Told.{IsFaceOf};
 
-use crate::fault::{FaceFault, NamedFace};
 use crate::midway::midway;
 use crate::near::look_at_points;
 use tl_county::{Map, Side};
-use tl_faces::OddGap;
-use tl_geom::{Point, Segment};
+use tl_faces::{FaceFault, NamedFace, OddGap, Way};
+use tl_geom::Point;
 use tl_key::PolyKey;
-use tl_line::height as height_of;
+use tl_sweep::flanks_of;
 
-/// The faces that disagree at a gap of a slab's list whose facing sides differ: what the segments on both sides of it name toward it.
+/// The faces that disagree at a gap of a slab's list whose facing sides differ, the lowest between its segments: what those on both sides of
+/// it name toward it.
 pub fn face_fault(map: &Map, gap: OddGap) -> FaceFault
     requires planar { IsPlanar map.now.chains }
-    requires odd { IsOddGap widest map.now.chains gap }
+    requires odd { IsLowestOddGap widest map.now.chains gap }
     ensures true_one { IsTrueFaceFault map.now result }
     ensures gap { IsOfGap widest map.now gap result }
 {
@@ -29,8 +29,14 @@ pub fn face_fault(map: &Map, gap: OddGap) -> FaceFault
             first: east_face(map, west, gap.at),
             last: west_face(map, east, gap.at),
         },
-        (Some(west), None) => FaceFault::Outward(east_face(map, west, gap.at)),
-        (None, Some(east)) => FaceFault::Outward(west_face(map, east, gap.at)),
+        (Some(west), None) => FaceFault::Outward {
+            face: east_face(map, west, gap.at),
+            way: Way::East,
+        },
+        (None, Some(east)) => FaceFault::Outward {
+            face: west_face(map, east, gap.at),
+            way: Way::West,
+        },
         (None, None) => unreachable!(),
     }
 }
@@ -40,14 +46,7 @@ fn west_face(map: &Map, s: u32, at: Point) -> NamedFace
     requires known { s < segments_before map.now.chains (length map.now.chains) }
     ensures { IsWestFace widest map.now (height widest at) s result }
 {
-    let segment = map.segment(s);
-    let chain = map.chain(map.segment_chain(s));
-    let side = by_height(segment, chain.left, chain.right);
-    NamedFace {
-        tlid: chain.tlid,
-        polygon: key_of(map, side),
-        at: midway(segment, at),
-    }
+    face_of(map, s, flanks_of(map, s).near, at)
 }
 
 /// What it names to the east, from there.
@@ -55,28 +54,21 @@ fn east_face(map: &Map, s: u32, at: Point) -> NamedFace
     requires known { s < segments_before map.now.chains (length map.now.chains) }
     ensures { IsEastFace widest map.now (height widest at) s result }
 {
-    let segment = map.segment(s);
-    let chain = map.chain(map.segment_chain(s));
-    let side = by_height(segment, chain.right, chain.left);
+    face_of(map, s, flanks_of(map, s).far, at)
+}
+
+/// What it has on this side, from there.
+fn face_of(map: &Map, s: u32, side: Side, at: Point) -> NamedFace
+    requires known { s < segments_before map.now.chains (length map.now.chains) }
+    ensures { IsFaceOf map.now (height widest at) s side result }
+{
+    let place = midway(map.segment(s), at);
+    let lowest = place.lowest();
     NamedFace {
-        tlid: chain.tlid,
+        tlid: map.chain(map.segment_chain(s)).tlid,
         polygon: key_of(map, side),
-        at: midway(segment, at),
+        at: lowest,
     }
-}
-
-/// The first side where the segment's end is higher than its start, else the second.
-pub fn by_height(segment: Segment, rising: Side, falling: Side) -> Side
-    ensures { result ≡ (if int_lt (height widest (end_a segment)) (height widest (end_b segment)) then rising else falling) }
-{
-    if rises(segment) { rising } else { falling }
-}
-
-/// Whether a segment's end is higher than its start.
-fn rises(segment: Segment) -> bool
-    ensures { result ≡ int_lt (height widest (end_a segment)) (height widest (end_b segment)) }
-{
-    height_of(segment.a()) < height_of(segment.b())
 }
 
 /// The key of the polygon on a side, if one is there.

@@ -1,11 +1,24 @@
-//! Laws of the definitions, each the contract of a function that does nothing.
-
+//! Laws of what is told of all gaps, each the contract of a function that does nothing.
+ghost use Rattle.std.specs.Prelude.{◌≢◌, List};
+ghost use Rattle.std.specs.List.{AllPairs, Contains};
 ghost use Rattle.tl_county.specs.TheMap.{TheMap};
-ghost use Rattle.tl_faces.specs.Facing.{FacesAgree};
-ghost use Rattle.tl_facing.specs.declared.fault.FaceFault.{FaceFault};
-ghost use Rattle.tl_facing.specs.Truth.{IsTrueFaceFault};
+ghost use Rattle.tl_planar.specs.Planar.{IsPlanar};
+ghost use Rattle.tl_slabs.specs.Heights.{widest};
+ghost use Rattle.tl_faces.specs.Lists.{AreAllNear};
+ghost use Rattle.tl_faces.specs.declared.fault.FaceFault.{FaceFault};
+ghost use Rattle.tl_faces.specs.Faults.{IsTrueFaceFault};
+ghost use Rattle.tl_facing.specs.AllFaults.{AreOfAllGaps};
 
-/// Where a fault of faces is true of a map, its faces don't agree. So none is told of a map whose faces agree.
-pub fn a_true_face_fault_contradicts()
-    ensures { (m : TheMap) (fault : FaceFault) → IsTrueFaceFault m fault → ¬ FacesAgree m.chains }
+/// Of planar chains no two faults of all gaps are equal: a place strictly within a segment tells which segment it is, and the segments on
+/// both sides tell which gap.
+pub fn no_two_faults_are_equal()
+    ensures { (m : TheMap) (faults : List FaceFault) → IsPlanar m.chains → AreAllNear widest m.chains → AreOfAllGaps widest m faults →
+        AllPairs (λ x y. x ≢ y) faults }
+{}
+
+/// Each fault of faces that is true is among the faults of all gaps: that of the lowest gap between two segments, and of it there is one
+/// alone.
+pub fn each_true_fault_is_of_all_gaps()
+    ensures { (m : TheMap) (faults : List FaceFault) (fault : FaceFault) → AreOfAllGaps widest m faults → IsTrueFaceFault m fault →
+        Contains faults fault }
 {}

@@ -1,16 +1,15 @@
 //! Which of two segments is west of the other, and which are active above a height.
-ghost use Rattle.std.specs.Prelude.{◌≡◌, ◌≢◌, ◌↔◌, ◌⊎◌, ◌≤ℤ◌, pos, false, IsTrue};
-ghost use Rattle.tl_geom.specs.Plane.{turn_of};
+ghost use Rattle.std.specs.Prelude.{◌≡◌, ◌≢◌, ◌↔◌, false, IsTrue};
 ghost use Rattle.tl_planar.specs.Planar.{IsPlanar};
 ghost use Rattle.tl_slabs.specs.Heights.{height as height_by, widest};
-ghost use Rattle.tl_slabs.specs.Neighbours.{IsWestOf, AreTested};
+ghost use Rattle.tl_slabs.specs.Neighbours.{AreTested};
 ghost use Rattle.tl_slabs.specs.Slabs.{IsActive};
 ghost use Rattle.tl_faces.specs.Lists.{AreAllNear};
 ghost use Rattle.tl_facing.specs.Keeping.Slabs.{IsBegun};
 
 use tl_county::Map;
-use tl_geom::{Point, Segment, turn};
-use tl_line::{ends, height};
+use tl_geom::{Point, Segment};
+use tl_line::{ends, height, is_west_of};
 
 /// Whether a segment begins at the height of a point or below, and ends above it.
 pub fn is_begun(segment: Segment, at: Point) -> bool
@@ -31,20 +30,4 @@ pub fn is_before(map: &Map, at: Point, s: u32, t: u32) -> bool
     ensures east { result ≡ false → AreTested widest map.now.chains t s }
 {
     is_west_of(map.segment(s), map.segment(t))
-}
-
-/// Whether `u` is west of `w`, by two turns.
-fn is_west_of(u: Segment, w: Segment) -> bool
-    ensures { IsTrue result ↔ IsWestOf widest u w }
-{
-    let (a, b) = ends(u);
-    let (c, e) = ends(w);
-    is_in_order(a, b, a, c, e, c) && is_in_order(a, b, b, c, e, e)
-}
-
-/// Whether `p` isn't east of the line from `c` to `e`, or `q` isn't west of that from `a` to `b`.
-fn is_in_order(a: Point, b: Point, p: Point, c: Point, e: Point, q: Point) -> bool
-    ensures { IsTrue result ↔ ((pos 0 ≤ℤ turn_of c e p) ⊎ (turn_of a b q ≤ℤ pos 0)) }
-{
-    turn(c, e, p).is_ge() || turn(a, b, q).is_le()
 }

@@ -2,12 +2,13 @@
 use Rattle.std.specs.Prelude.{ℕ, List, ◌++◌, Option, None, Some, option_to_list}
 use Rattle.tl_key.specs.declared.key.PolyKey.{PolyKey}
 use Rattle.tl_county.specs.TheMap.{MapChain}
-use Rattle.tl_drawn.specs.declared.fault.MapFault.{MapFault as RecordFault}
-use Rattle.tl_drawn.specs.declared.fault.MapFault.TheVariants.{DuplicateChain, ShapeWithoutChain, ShapeSequence, ShapeGap, ChainWithoutSides, SidesWithoutChain, DuplicateSides, DuplicatePolygon, SideWithoutPolygon, LinkWithoutLandmark, LinkWithoutPolygon, DegenerateChain, TooMany}
+use Rattle.tl_drawn.specs.declared.fault.RecordFault.{RecordFault}
+use Rattle.tl_drawn.specs.declared.fault.RecordFault.TheVariants.{DuplicateChain, ShapeWithoutChain, ShapeSequence, ShapeGap, ChainWithoutSides, SidesWithoutChain, DuplicateSides, DuplicatePolygon, SideWithoutPolygon, LinkWithoutLandmark, LinkWithoutPolygon, DegenerateChain, TooMany}
 use Rattle.tl_inside.specs.declared.misplaced.Misplaced.{Misplaced}
 use Rattle.tl_inside.specs.declared.misplaced.Misplaced.TheVariants.{OnChain, Outside, InOther}
+use Rattle.tl_faces.specs.declared.fault.FaceFault.TheVariants.{Facing, Outward}
 use Rattle.tl_verdict.specs.declared.fault.MapFault.{MapFault}
-use Rattle.tl_verdict.specs.declared.fault.MapFault.TheVariants.{Records, Meet, Side, PolygonPoint, Cell}
+use Rattle.tl_verdict.specs.declared.fault.MapFault.TheVariants.{Records, Meet, Side, PolygonPoint, Cell, Face}
 use Rattle.tl_record_lines.specs.SpokenOf.{tlid_of, other_tlid}
 
 -- one thing or two, or none
@@ -70,11 +71,15 @@ tlids_of chains (Meet meet) = each_once (Some meet.tlid) (Some meet.other)
 tlids_of chains (Side node first next) = each_once (tlid_of chains first) (tlid_of chains next)
 tlids_of chains (PolygonPoint misplaced) = (point_tlid misplaced, None)
 tlids_of chains (Cell odds) = each_once (tlid_of chains odds.first) (tlid_of chains odds.second)
+tlids_of chains (Face (Facing first last)) = each_once (Some first.tlid) (Some last.tlid)
+tlids_of chains (Face (Outward face way)) = (Some face.tlid, None)
 
 -- the keys that it names
 abbrev pub keys_of : MapFault → Pair PolyKey
 keys_of (Records fault) = (record_key fault, None)
 keys_of (PolygonPoint misplaced) = point_keys misplaced
+keys_of (Face (Facing first last)) = (first.polygon, last.polygon)
+keys_of (Face (Outward face way)) = (face.polygon, None)
 keys_of other = (None, None)
 
 -- the LAND that it names

@@ -2,7 +2,7 @@
 use Rattle.std.specs.Prelude.{ℕ, List, ◌++◌, Option, None, Some, codes, if◌then◌else◌}
 use Rattle.tl_geom.specs.declared.rational.Rational.{Rational}
 use Rattle.tl_where.specs.Degrees.{degrees_text, is_in_reach}
-use Rattle.tl_verdict.specs.Messages.{rational_text}
+use Rattle.tl_faces.specs.FaultTexts.{rational_text}
 
 -- a point: the longitude, then the latitude, in degrees with twelve places
 unfoldable pub point_text : Rational → List ℕ

@@ -13,7 +13,7 @@ ghost use Rattle.tl_fault_map.specs.Texts.{names_text, fault_text, fault_feature
 use crate::named::{keys_of, land_of, tlids_of};
 use crate::place::{print_exact, print_geometry};
 use crate::record::print_records;
-use crate::words::{print_words, told_in};
+use crate::words::{print_words, rest_of};
 use tl_county::Map;
 use tl_geojson::{Printer, print_key, print_lead};
 use tl_listing::fault_line;
@@ -60,7 +60,7 @@ fn print_fault<S: Sink>(
     printer.add(b"{\"type\":\"Feature\",\"geometry\":", out);
     print_geometry(at, printer, out);
     printer.add(b",\"properties\":{", out);
-    print_words(told_in(line.as_str().as_bytes()), printer, out);
+    print_words(rest_of(line.as_str().as_bytes()), printer, out);
     printer.add(b",\"at\":", out);
     print_exact(at, printer, out);
     print_names(drawn, fault, printer, out);

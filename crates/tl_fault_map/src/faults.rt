@@ -9,7 +9,8 @@ use crate::chains::{list_tlids, print_chains};
 use crate::fault::print_features;
 use std::alloc::Global;
 use tl_county::Map;
-use tl_geojson::{PrintStop, Printer};
+use tl_geojson::Printer;
+use tl_output::Stop;
 use tl_record::Sink;
 use tl_record_lines::RecordLines;
 use tl_verdict::MapFault;
@@ -24,13 +25,11 @@ pub fn print_faults<S: Sink>(
     lines: &RecordLines,
     faults: &[MapFault],
     out: &mut S,
-) -> Result<(), PrintStop>
+) -> Result<(), Stop>
     ensures { PrintsText S.contents S.failure_count out.old out.new (faults_text (map string_bytes names.now) counts.now
         (option_copied drawn.entry) (held lines.now) faults.now) result }
 {
-    let Ok(tlids) = list_tlids(alloc, drawn, faults) else {
-        return Err(PrintStop::Memory);
-    };
+    let tlids = list_tlids(alloc, drawn, faults)?;
     let mut printer = Printer::new();
     printer.add(
         b"{\"type\":\"FeatureCollection\",\"name\":\"tigertopo\",\"features\":[",

@@ -6,6 +6,7 @@ ghost use Rattle.tl_fault_map.specs.Named.{each_once, record_tlid, record_key, r
 ghost use Rattle.tl_fault_map.specs.Named.{tlids_of, keys_of, land_of};
 
 use tl_county::Map;
+use tl_faces::FaceFault;
 use tl_inside::Misplaced;
 use tl_record::PolyKey;
 use tl_record_lines::tlid_of;
@@ -21,6 +22,10 @@ pub fn tlids_of(map: Option<&Map>, fault: &MapFault) -> (Option<u64>, Option<u64
         MapFault::Side { first, next, .. } => each_once(tlid_of(map, *first), tlid_of(map, *next)),
         MapFault::PolygonPoint(misplaced) => (point_tlid(misplaced), None),
         MapFault::Cell(odds) => each_once(tlid_of(map, odds.first), tlid_of(map, odds.second)),
+        MapFault::Face(FaceFault::Facing { first, last }) => {
+            each_once(Some(first.tlid), Some(last.tlid))
+        }
+        MapFault::Face(FaceFault::Outward { face, .. }) => (Some(face.tlid), None),
     }
 }
 
@@ -35,19 +40,19 @@ fn each_once(tlid: Option<u64>, other: Option<u64>) -> (Option<u64>, Option<u64>
 }
 
 // The TLID that a fault of the records names.
-fn record_tlid(fault: &tl_drawn::MapFault) -> Option<u64>
+fn record_tlid(fault: &tl_drawn::RecordFault) -> Option<u64>
     ensures { result ≡ record_tlid fault.now }
 {
     match *fault {
-        tl_drawn::MapFault::DuplicateChain { tlid }
-        | tl_drawn::MapFault::ShapeWithoutChain { tlid }
-        | tl_drawn::MapFault::ShapeSequence { tlid }
-        | tl_drawn::MapFault::ShapeGap { tlid }
-        | tl_drawn::MapFault::ChainWithoutSides { tlid }
-        | tl_drawn::MapFault::SidesWithoutChain { tlid }
-        | tl_drawn::MapFault::DuplicateSides { tlid }
-        | tl_drawn::MapFault::SideWithoutPolygon { tlid, .. }
-        | tl_drawn::MapFault::DegenerateChain { tlid } => Some(tlid),
+        tl_drawn::RecordFault::DuplicateChain { tlid }
+        | tl_drawn::RecordFault::ShapeWithoutChain { tlid }
+        | tl_drawn::RecordFault::ShapeSequence { tlid }
+        | tl_drawn::RecordFault::ShapeGap { tlid }
+        | tl_drawn::RecordFault::ChainWithoutSides { tlid }
+        | tl_drawn::RecordFault::SidesWithoutChain { tlid }
+        | tl_drawn::RecordFault::DuplicateSides { tlid }
+        | tl_drawn::RecordFault::SideWithoutPolygon { tlid, .. }
+        | tl_drawn::RecordFault::DegenerateChain { tlid } => Some(tlid),
         _ => None,
     }
 }
@@ -69,18 +74,20 @@ pub fn keys_of(fault: &MapFault) -> (Option<PolyKey>, Option<PolyKey>)
     match fault {
         MapFault::Records(fault) => (record_key(fault), None),
         MapFault::PolygonPoint(misplaced) => point_keys(misplaced),
+        MapFault::Face(FaceFault::Facing { first, last }) => (first.polygon, last.polygon),
+        MapFault::Face(FaceFault::Outward { face, .. }) => (face.polygon, None),
         _ => (None, None),
     }
 }
 
 // The key that a fault of the records names.
-fn record_key(fault: &tl_drawn::MapFault) -> Option<PolyKey>
+fn record_key(fault: &tl_drawn::RecordFault) -> Option<PolyKey>
     ensures { result ≡ record_key fault.now }
 {
     match *fault {
-        tl_drawn::MapFault::DuplicatePolygon { polygon }
-        | tl_drawn::MapFault::SideWithoutPolygon { polygon, .. }
-        | tl_drawn::MapFault::LinkWithoutPolygon { polygon, .. } => Some(polygon),
+        tl_drawn::RecordFault::DuplicatePolygon { polygon }
+        | tl_drawn::RecordFault::SideWithoutPolygon { polygon, .. }
+        | tl_drawn::RecordFault::LinkWithoutPolygon { polygon, .. } => Some(polygon),
         _ => None,
     }
 }
@@ -109,12 +116,12 @@ pub fn land_of(fault: &MapFault) -> Option<u64>
 }
 
 // The LAND that a fault of the records names.
-fn record_land(fault: &tl_drawn::MapFault) -> Option<u64>
+fn record_land(fault: &tl_drawn::RecordFault) -> Option<u64>
     ensures { result ≡ record_land fault.now }
 {
     match *fault {
-        tl_drawn::MapFault::LinkWithoutLandmark { land }
-        | tl_drawn::MapFault::LinkWithoutPolygon { land, .. } => Some(land),
+        tl_drawn::RecordFault::LinkWithoutLandmark { land }
+        | tl_drawn::RecordFault::LinkWithoutPolygon { land, .. } => Some(land),
         _ => None,
     }
 }

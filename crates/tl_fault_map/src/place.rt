@@ -2,7 +2,7 @@
 
 ghost use Rattle.std.specs.Prelude.{◌≡◌, true, Some};
 ghost use Rattle.std.specs.Fmt.{signed_decimal};
-ghost use Rattle.tl_verdict.specs.Messages.{rational_text};
+ghost use Rattle.tl_faces.specs.FaultTexts.{rational_text};
 ghost use Rattle.tl_where.specs.Degrees.{degrees_text, is_in_reach};
 ghost use Rattle.tl_geojson.specs.Printing.{Prints};
 ghost use Rattle.tl_fault_map.specs.Places.{point_text, geometry_text, exact_text};

@@ -10,7 +10,7 @@ ghost use Rattle.tl_fault_map.specs.Records.{type_text, unknown_text, known_text
 use tl_geojson::{Printer, print_string};
 use tl_record::{Record, Sink};
 use tl_record_lines::RecordLine;
-use tl_where::{Place, place_of};
+use tl_where::{TextLine, place_of};
 
 /// Prints a list of records: those about a fault's first subject, then those about its second.
 pub fn print_records<S: Sink>(
@@ -121,7 +121,7 @@ fn print_line<S: Sink>(
 // Prints a line's file, where there is one of that number, and its number there.
 fn print_known<S: Sink>(
     names: &[String],
-    place: Place,
+    place: TextLine,
     number: u64,
     printer: &mut Printer,
     out: &mut S,

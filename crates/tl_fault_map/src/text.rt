@@ -3,7 +3,8 @@
 use crate::faults::print_faults;
 use std::alloc::Global;
 use tl_county::Map;
-use tl_geojson::{PrintStop, Text};
+use tl_geojson::Text;
+use tl_output::Stop;
 use tl_record::Sink;
 use tl_record_lines::RecordLines;
 use tl_verdict::MapFault;
@@ -32,7 +33,7 @@ impl Text for FaultsText<'_> {
 
     ghost is_ready = { λ told. ⊤ };
 
-    fn print<S: Sink>(&self, alloc: Global, out: &mut S) -> Result<(), PrintStop> {
+    fn print<S: Sink>(&self, alloc: Global, out: &mut S) -> Result<(), Stop> {
         print_faults(
             alloc,
             self.names,

@@ -13,7 +13,7 @@ use tl_record::Sink;
 const MARK: usize = 10;
 
 /// What a fault's line has behind its first two words.
-pub fn told_in(line: &[u8]) -> &[u8]
+pub fn rest_of(line: &[u8]) -> &[u8]
     ensures { (text : List ℕ) → line.now ≡ line_of text → result.now ≡ drop (length (codes "map fault ")) text }
 {
     if line.len() <= MARK {

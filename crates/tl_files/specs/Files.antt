@@ -3,8 +3,6 @@ use Rattle.std.specs.Prelude.{◌≡◌, ◌++◌, ◌==◌, ◌||◌, ℕ, nat_
 use Rattle.std.specs.List.{starts_with}
 use Rattle.tl_files.specs.declared.beginning.FileKind.{FileKind}
 use Rattle.tl_files.specs.declared.beginning.FileKind.TheVariants.{Certificate, Collection, Picture}
-use Rattle.tl_files.specs.declared.file_system.FileStop.{FileStop}
-use Rattle.tl_files.specs.declared.file_system.FileStop.TheVariants.{Memory, Device}
 use Rattle.tl_files.specs.declared.file_system.Room.{Room}
 use Rattle.tl_files.specs.declared.file_system.Room.TheVariants.{Free, Taken, IsRead}
 
@@ -53,8 +51,3 @@ abbrev pub IsRoom : Under → List ℕ → List (List ℕ) → FileKind → Room
 IsRoom under name read kind Free = IfSome (under name) (λ file. IfSome file (λ bytes. may_go kind bytes ≡ true) × ¬ Contains read name)
 IsRoom under name read kind Taken = IfSome (under name) (λ file. (bytes : List ℕ) × (file ≡ Some bytes) × (may_go kind bytes ≡ false))
 IsRoom under name read kind IsRead = IfSome (under name) (λ file. Contains read name)
-
--- so that is true, if a device failed
-abbrev pub OfDevice : Type 0 → FileStop → Type 0
-OfDevice P Memory = ⊤
-OfDevice P Device = P

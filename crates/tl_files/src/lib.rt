@@ -11,5 +11,5 @@ mod progress;
 mod system;
 
 pub use beginning::{FileKind, may_go};
-pub use file_system::{FileStop, FileSystem, Room};
+pub use file_system::{FileSystem, Room};
 pub use system::{SystemDraft, SystemFiles, SystemReader};

@@ -1,10 +1,10 @@
 //! The files of the system.
 
-ghost use Rattle.std.specs.Prelude.{◌≡◌};
+ghost use Rattle.std.specs.Prelude.{◌≡◌, ◌⊎◌};
 ghost use Rattle.std.specs.Io.{WritesAtMost};
 
 use crate::beginning::{FRONT, FileKind, beginning, may_go};
-use crate::file_system::{FileStop, FileSystem, Room};
+use crate::file_system::{FileSystem, Room};
 use crate::progress::Progress;
 use std::alloc::{AllocError, Global};
 use std::fs::{File, Metadata, OpenOptions, TryLockError};
@@ -14,6 +14,7 @@ use std::path::AsPath;
 use std::rt::Files;
 use std::time::Clock;
 use std::{fs, io};
+use tl_output::Stop;
 use tl_record::{Meter, Sink};
 
 // What follows a name in that of a new file that is to take it.
@@ -192,7 +193,7 @@ impl<'a, R: Files<File = File> + Clock + Eprint> FileSystem for SystemFiles<'a, 
 
     ghost alike = { λ draft. refl };
 
-    fn open(&self, alloc: Global, name: &str) -> Result<Meter<SystemReader<'a, R>>, FileStop> {
+    fn open(&self, alloc: Global, name: &str) -> Result<Meter<SystemReader<'a, R>>, Stop> {
         match File::open(self.rt, name) {
             Ok(file) => {
                 let progress = self.progress_of(alloc, name, &file);
@@ -206,7 +207,7 @@ impl<'a, R: Files<File = File> + Clock + Eprint> FileSystem for SystemFiles<'a, 
         &self,
         alloc: Global,
         name: &str,
-    ) -> Result<Option<Meter<SystemReader<'a, R>>>, FileStop> {
+    ) -> Result<Option<Meter<SystemReader<'a, R>>>, Stop> {
         match fs::metadata(self.rt, name) {
             Ok(stands) if !stands.is_file() => Ok(None),
             Ok(_) => match self.open(alloc, name) {
@@ -232,31 +233,21 @@ impl<'a, R: Files<File = File> + Clock + Eprint> FileSystem for SystemFiles<'a, 
         }
     }
 
-    fn room(&self, name: &str, read: &[String], kind: FileKind) -> Result<Room, FileStop> {
+    fn room(&self, name: &str, read: &[String], kind: FileKind) -> Result<Room, Stop> {
         match room_of(self.rt, name, read, kind) {
             Ok(room) => Ok(room),
             Err(error) => Err(stop_of(&error)),
         }
     }
 
-    fn draft(
-        &self,
-        alloc: Global,
-        name: &str,
-        kind: FileKind,
-    ) -> Result<SystemDraft<'a, R>, FileStop> {
+    fn draft(&self, alloc: Global, name: &str, kind: FileKind) -> Result<SystemDraft<'a, R>, Stop> {
         match draft_of(self.rt, alloc, name, kind) {
             Ok(draft) => Ok(draft),
             Err(error) => Err(stop_of(&error)),
         }
     }
 
-    fn keep(
-        &mut self,
-        _alloc: Global,
-        file: SystemDraft<'a, R>,
-        _name: &str,
-    ) -> Result<(), FileStop> {
+    fn keep(&mut self, _alloc: Global, file: SystemDraft<'a, R>, _name: &str) -> Result<(), Stop> {
         let mut file = file;
         match file.settle() {
             Ok(()) => Ok(()),
@@ -273,11 +264,13 @@ impl<'a, R: Files<File = File> + Clock + Eprint> FileSystem for SystemFiles<'a, 
 }
 
 // What is told of an error of the system.
-fn stop_of(error: &Error) -> FileStop {
+fn stop_of(error: &Error) -> Stop
+    ensures { (result ≡ Stop.Memory) ⊎ (result ≡ Stop.Device) }
+{
     if error.kind() == ErrorKind::OutOfMemory {
-        FileStop::Memory
+        Stop::Memory
     } else {
-        FileStop::Device
+        Stop::Device
     }
 }
 

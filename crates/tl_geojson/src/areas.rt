@@ -1,6 +1,7 @@
 //! Areas of polygons.
 
-ghost use Rattle.std.specs.Prelude.{◌≡◌, ◌+◌, ◌*◌, ◌-◌, ◌<◌, ◌≤◌, ◌^◌, ℕ, ◌+ℤ◌, ◌-ℤ◌, ◌*ℤ◌, IfOk, length, slice_index_or, pos, Some, unsigned_abs, vec_len};
+ghost use Rattle.std.specs.Prelude.{◌≡◌, ◌+◌, ◌*◌, ◌-◌, ◌<◌, ◌≤◌, ◌^◌, ℕ, ◌+ℤ◌, ◌-ℤ◌, ◌*ℤ◌};
+ghost use Rattle.std.specs.Prelude.{IfOk, length, slice_index_or, pos, Some, unsigned_abs, vec_len};
 ghost use Rattle.tl_geom.specs.Plane.{cross as cross_product};
 ghost use Rattle.tl_geojson.specs.Areas.{share, dart_sum as dart_sum_of, AreAreas};
 

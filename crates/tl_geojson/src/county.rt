@@ -14,18 +14,16 @@ use crate::groups::Groups;
 use crate::polygons::{list_links, print_polygons};
 use crate::printer::Printer;
 use crate::rings::{list_walk_polygons, print_boundaries};
-use crate::stop::PrintStop;
 use std::alloc::{AllocError, Global};
 use tl_county::Map;
+use tl_output::Stop;
 use tl_record::Sink;
 
 /// Prints a county: each chain with its TLID and its sides, and each polygon's point with its key and its landmarks.
-pub fn print_county<S: Sink>(alloc: Global, map: &Map, out: &mut S) -> Result<(), PrintStop>
+pub fn print_county<S: Sink>(alloc: Global, map: &Map, out: &mut S) -> Result<(), Stop>
     ensures { PrintsText S.contents S.failure_count out.old out.new (county_text map.now) result }
 {
-    let Ok(links) = Links::new(alloc, map) else {
-        return Err(PrintStop::Memory);
-    };
+    let links = Links::new(alloc, map)?;
     let mut printer = Printer::new();
     print_front(map, &links, &mut printer, out);
     printer.add(b"\n]}\n", out);
@@ -38,23 +36,15 @@ pub fn print_county_with<S: Sink>(
     map: &Map,
     walks: &[Vec<u32>],
     out: &mut S,
-) -> Result<(), PrintStop>
+) -> Result<(), Stop>
     requires { AreWalks map.now.chains (map_list (λ w. w.items) walks.now) }
     ensures { PrintsText S.contents S.failure_count out.old out.new
         (county_text_with map.now (map_list (λ w. w.items) walks.now)) result }
 {
-    let Ok(links) = Links::new(alloc, map) else {
-        return Err(PrintStop::Memory);
-    };
-    let Ok(polygons) = list_walk_polygons(alloc, map, walks) else {
-        return Err(PrintStop::Memory);
-    };
-    let Ok(groups) = Groups::new(alloc, polygons.as_slice(), map.polygons()) else {
-        return Err(PrintStop::Memory);
-    };
-    let Ok(areas) = doubled_areas(alloc, map) else {
-        return Err(PrintStop::Memory);
-    };
+    let links = Links::new(alloc, map)?;
+    let polygons = list_walk_polygons(alloc, map, walks)?;
+    let groups = Groups::new(alloc, polygons.as_slice(), map.polygons())?;
+    let areas = doubled_areas(alloc, map)?;
     let mut printer = Printer::new();
     print_front(map, &links, &mut printer, out);
     print_boundaries(map, walks, &groups, areas.as_slice(), &mut printer, out);

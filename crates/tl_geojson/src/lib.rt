@@ -13,7 +13,6 @@ mod polygons;
 mod positions;
 mod printer;
 mod rings;
-mod stop;
 mod strings;
 mod text;
 
@@ -21,6 +20,5 @@ pub use county::{print_county, print_county_with};
 pub use features::{print_chain, print_lead};
 pub use positions::print_position;
 pub use printer::Printer;
-pub use stop::PrintStop;
 pub use strings::{print_key, print_string};
 pub use text::{CountyText, CountyTextWith, Text};

@@ -1,6 +1,7 @@
 //! Features of polygons' points, and the landmarks of polygons.
 
-ghost use Rattle.std.specs.Prelude.{◌≡◌, ◌+◌, ◌<◌, ◌++◌, [], ◌∷◌, ℕ, List, IfOk, OnOk, Some, codes, decimal, length, slice_index, slice_index_or};
+ghost use Rattle.std.specs.Prelude.{◌≡◌, ◌+◌, ◌<◌, ◌++◌, [], ◌∷◌, ℕ, List};
+ghost use Rattle.std.specs.Prelude.{IfOk, OnOk, Some, codes, decimal, length, slice_index, slice_index_or};
 ghost use Rattle.tl_geojson.specs.Printing.{Prints};
 ghost use Rattle.std.specs.List.{flat_map};
 ghost use Rattle.tl_geojson.specs.Groups.{GoesThrough, AreGroups};

@@ -1,13 +1,13 @@
 //! Text on its way to a sink.
 
 ghost use Rattle.std.specs.Prelude.{◌≡◌, [], false, IfErr};
+ghost use Rattle.tl_output.specs.declared.stop.Stop.TheVariants.{Device};
 ghost use Rattle.tl_geojson.specs.Printing.{Prints, Ends};
 
-use crate::stop::PrintStop;
 use itoa::{Buffer, Integer};
 use std::io;
 use std::marker::Model;
-use tl_output::OutputBuffer;
+use tl_output::{OutputBuffer, Stop};
 use tl_record::Sink;
 
 /// Text on its way to a sink, which each call is given, through a buffer. Behind a write that failed nothing is written:
@@ -56,14 +56,14 @@ impl Printer {
     }
 
     /// Writes what is held. The error is that a write failed, here or before.
-    pub fn finish<S: Sink>(self, out: &mut S) -> Result<(), PrintStop>
+    pub fn finish<S: Sink>(self, out: &mut S) -> Result<(), Stop>
         ensures ends { Ends S.contents S.failure_count out.old out.new self result }
-        ensures stop { IfErr result (λ stop. stop ≡ PrintStop.Failed) }
+        ensures stop { IfErr result (λ stop. stop ≡ Device) }
     {
         let Printer { mut buffer, result } = self;
         if result.is_ok() && buffer.flush(out).is_ok() {
             return Ok(());
         }
-        Err(PrintStop::Failed)
+        Err(Stop::Device)
     }
 }

@@ -1,9 +1,9 @@
 //! Texts that are printed, and those of counties.
 
 use crate::county::{print_county, print_county_with};
-use crate::stop::PrintStop;
 use std::alloc::Global;
 use tl_county::Map;
+use tl_output::Stop;
 use tl_record::Sink;
 
 /// A text that is printed, whatever into.
@@ -18,7 +18,7 @@ pub trait Text {
     ghost is_ready: { Self → Type 0 };
 
     /// Prints the text.
-    fn print<S: Sink>(&self, alloc: Global, out: &mut S) -> Result<(), PrintStop>
+    fn print<S: Sink>(&self, alloc: Global, out: &mut S) -> Result<(), Stop>
         requires { is_ready self.now }
         ensures { PrintsText S.contents S.failure_count out.old out.new (text self.now) result };
 }
@@ -37,7 +37,7 @@ impl Text for CountyText<'_> {
 
     ghost is_ready = { λ county. ⊤ };
 
-    fn print<S: Sink>(&self, alloc: Global, out: &mut S) -> Result<(), PrintStop> {
+    fn print<S: Sink>(&self, alloc: Global, out: &mut S) -> Result<(), Stop> {
         print_county(alloc, self.map, out)
     }
 }
@@ -58,7 +58,7 @@ impl Text for CountyTextWith<'_> {
 
     ghost is_ready = { λ county. AreWalks county.map.now.chains (map_list (λ w. w.items) county.walks.now) };
 
-    fn print<S: Sink>(&self, alloc: Global, out: &mut S) -> Result<(), PrintStop> {
+    fn print<S: Sink>(&self, alloc: Global, out: &mut S) -> Result<(), Stop> {
         print_county_with(alloc, self.map, self.walks, out)
     }
 }

@@ -17,3 +17,4 @@ pub mod Meetings
 pub mod Masks
 pub mod NoOverlaps
 pub mod Turns
+pub mod Dividing

@@ -1,4 +1,5 @@
 pub mod Plane
+pub mod Lowest
 pub mod Contact
 pub mod Turning
 pub mod Ray

@@ -9,6 +9,7 @@ mod common_end;
 mod difference;
 mod direction;
 pub mod laws;
+mod lowest;
 mod meeting;
 mod orientation;
 mod point;

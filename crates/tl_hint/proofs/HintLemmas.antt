@@ -11,14 +11,13 @@ use Rattle.tl_record.specs.declared.refusal.RefusalStop.TheVariants.{Device, End
 use Rattle.tl_record.specs.Refusals.{refusals_of}
 use Rattle.tl_where.specs.LinePlaces.{line_count, place_of}
 use Rattle.tl_where.specs.Finding.{Answers, IsCount}
-use Rattle.tl_files.specs.Files.{Under, bytes_under, trouble_of, OfDevice}
-use Rattle.tl_files.specs.declared.file_system.FileStop.{FileStop}
-use Rattle.tl_files.specs.declared.file_system.FileStop.TheVariants as file
+use Rattle.tl_files.specs.Files.{Under, bytes_under, trouble_of}
 use Rattle.tl_hint.specs.Hints.{refusal_at, hint_at, hint_in}
 use Rattle.tl_hint.specs.Keeping.{IsFirstOf}
-use Rattle.tl_hint.specs.declared.stop.HintStop.{HintStop}
-use Rattle.tl_hint.specs.declared.stop.HintStop.TheVariants as hint
-use Rattle.tl_hint.specs.Again.{IfDevice, SomeUnknown, CountFails, told_of}
+use Rattle.tl_output.specs.declared.stop.Stop.{Stop}
+use Rattle.tl_output.specs.Stops.{StopsFor}
+use Rattle.tl_output.proofs.StopLemmas.{stops_for}
+use Rattle.tl_hint.specs.Again.{SomeUnknown, CountFails}
 use Rattle.tl_hint.specs.Telling.{HaveTexts, TellsWords, TellsTrouble, TellsHint}
 
 -- what holds of a text that was made holds where it is written
@@ -82,11 +81,6 @@ named h (first ∷ names) (suc i) name within is = named h names i name (omega a
 
 -- ---- why files can't be read again
 
--- what failed, told more widely
-pub device_for : (P Q : Type 0) (stop : HintStop) → (P → Q) → IfDevice P stop → IfDevice Q stop
-device_for P Q hint.Memory wider of = tt
-device_for P Q hint.Device wider of = wider of
-
 -- it is given up to count the lines of a text that has no end
 has_no_end : (known : Option (List ℕ)) → Answers known IsCount (Err Endless) → IfSome known (λ text. 2 ^ 64 ≤ length text + 1)
 has_no_end None given = tt
@@ -98,9 +92,8 @@ module _ {A : Type 0} (h : A → List ℕ) (under : Under) (names : List A) (i :
   among = let long = length-map names h in (i, omega (arith, within, long), get_or-map h names i name (h name) within ∙ ap h (sym is))
 
   -- the file of a name can't be opened again
-  pub unopened : (stop : FileStop) → OfDevice (bytes_under under told ≡ None) stop → IfDevice (SomeUnknown under (map h names)) (told_of stop)
-  unopened file.Memory may = tt
-  unopened file.Device may = (h name, among, ap (bytes_under under) (sym said) ∙ may)
+  pub unopened : (why : Stop) → StopsFor (bytes_under under told ≡ None) why → StopsFor (SomeUnknown under (map h names)) why
+  unopened why = stops_for _ _ why (λ none. (h name, among, ap (bytes_under under) (sym said) ∙ none))
 
   -- its lines can't be counted
   pub uncounted : {R : Type 0} (reads : R → ℕ) (old new : R) (known : Option (List ℕ)) (stop : RefusalStop) → known ≡ bytes_under under told → Answers known IsCount (Err stop)

@@ -3,15 +3,6 @@
 use Rattle.std.specs.Prelude.{◌≡◌, ◌⊎◌, ℕ, ◌+◌, ◌≤◌, ◌^◌, Contains, List, length, None, IfSome, ⊤}
 use Rattle.tl_answers.specs.Running.{FailsToRead}
 use Rattle.tl_files.specs.Files.{Under, bytes_under}
-use Rattle.tl_files.specs.declared.file_system.FileStop.{FileStop}
-use Rattle.tl_files.specs.declared.file_system.FileStop.TheVariants as file
-use Rattle.tl_hint.specs.declared.stop.HintStop.{HintStop}
-use Rattle.tl_hint.specs.declared.stop.HintStop.TheVariants.{Memory, Device}
-
--- so that is true, where a device is told to have failed
-abbrev pub IfDevice : Type 0 → HintStop → Type 0
-IfDevice P Memory = ⊤
-IfDevice P Device = P
 
 -- one of these names has no bytes that are known, so that it may be that it can't be opened again
 abbrev pub SomeUnknown : Under → List (List ℕ) → Type 0
@@ -28,8 +19,3 @@ SomeEndless under names = (name : List ℕ) × Contains names name × IfSome (by
 -- the lines of the files of these names can't be counted: one may not be opened again, a read of one failed, or one has no end
 abbrev pub CountFails : {R : Type 0} → (reads : R → ℕ) → Under → List (List ℕ) → Type 0
 CountFails reads under names = SomeUnknown under names ⊎ (SomeReadFails reads ⊎ SomeEndless under names)
-
--- what is told of a file that can't be opened again
-abbrev pub told_of : FileStop → HintStop
-told_of file.Memory = Memory
-told_of file.Device = Device

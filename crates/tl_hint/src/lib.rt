@@ -1,14 +1,12 @@
 //! Hints: what helps a person who reads that a line is refused, or that a device failed.
 //!
-//! [`tell_hint`] reads the files again that can be, and says in which of them the line stands, in which of its lines and
+//! [`say_hint`] reads the files again that can be, and says in which of them the line stands, in which of its lines and
 //! columns, and what it holds there; or which file can't be read, and why.
 #![tactic(auto)]
 
 mod refusal;
 mod shown;
-mod stop;
 mod tell;
 
 pub use refusal::{count_all, open_again};
-pub use stop::HintStop;
-pub use tell::tell_hint;
+pub use tell::say_hint;

@@ -8,11 +8,12 @@ ghost use Rattle.tl_files.specs.Files.{bytes_under};
 ghost use Rattle.tl_where.specs.LinePlaces.{line_count};
 ghost use Rattle.tl_hint.specs.Telling.{HaveTexts};
 ghost use Rattle.tl_hint.specs.Keeping.{IsFirstOf};
-ghost use Rattle.tl_hint.specs.Again.{IfDevice, SomeUnknown, CountFails, told_of};
+ghost use Rattle.tl_hint.specs.Again.{SomeUnknown, CountFails};
+ghost use Rattle.tl_output.specs.Stops.{StopsFor};
 
-use crate::stop::HintStop;
 use std::alloc::Global;
-use tl_files::{FileStop, FileSystem};
+use tl_files::FileSystem;
+use tl_output::Stop;
 use tl_record::{Options, RecordReader, Refusal};
 use tl_text::JoinedSources;
 use tl_where::count_lines;
@@ -24,7 +25,7 @@ pub fn first_refusal<F: FileSystem>(
     alloc: Global,
     names: &[String],
     options: Options,
-) -> Result<Option<Refusal>, HintStop>
+) -> Result<Option<Refusal>, Stop>
     ensures { IfOk result (λ found. (texts : List (List ℕ)) → HaveTexts (F.under files.now) (map string_bytes names.now) texts
         → IsFirstOf (refusals_of (layout_with options) (joined texts)) found) }
 {
@@ -34,7 +35,7 @@ pub fn first_refusal<F: FileSystem>(
     let mut reader = RecordReader::with(JoinedSources::new(readers), options);
     match reader.next_refusal() {
         Ok(refusal) => Ok(refusal),
-        Err(_) => Err(HintStop::Device),
+        Err(_) => Err(Stop::Device),
     }
 }
 
@@ -44,19 +45,19 @@ pub fn open_again<F: FileSystem>(
     files: &F,
     alloc: Global,
     names: &[String],
-) -> Result<Option<Vec<F::Reader>>, HintStop>
+) -> Result<Option<Vec<F::Reader>>, Stop>
     ensures opened { IfOk result (λ found. IfSome found (λ readers. map F.Reader.remaining readers.items
         ≡ map (λ name. bytes_under (F.under files.now) (string_bytes name)) names.now)) }
     ensures passing { IfOk result (λ found. IfNone found ((texts : List (List ℕ)) →
         ¬ HaveTexts (F.under files.now) (map string_bytes names.now) texts)) }
-    ensures stops { IfErr result (IfDevice (SomeUnknown (F.under files.now) (map string_bytes names.now))) }
+    ensures stops { IfErr result (StopsFor (SomeUnknown (F.under files.now) (map string_bytes names.now))) }
 {
     let mut readers = Vec::new(alloc);
     for name in names {
         match files.open_again(alloc, name.as_str()) {
             Ok(Some(file)) => readers.push(file)?,
             Ok(None) => return Ok(None),
-            Err(stop) => return Err(stop_of(stop)),
+            Err(stop) => return Err(stop),
         }
     }
     Ok(Some(readers))
@@ -68,31 +69,21 @@ pub fn count_all<F: FileSystem>(
     files: &F,
     alloc: Global,
     names: &[String],
-) -> Result<Option<Vec<u64>>, HintStop>
+) -> Result<Option<Vec<u64>>, Stop>
     ensures counted { IfOk result (λ found. (texts : List (List ℕ)) → HaveTexts (F.under files.now) (map string_bytes names.now) texts
         → option_map (λ counts. counts.items) found ≡ Some (map line_count texts)) }
-    ensures stops { IfErr result (IfDevice (CountFails F.Reader.failure_count (F.under files.now) (map string_bytes names.now))) }
+    ensures stops { IfErr result (StopsFor (CountFails F.Reader.failure_count (F.under files.now) (map string_bytes names.now))) }
 {
     let mut counts = Vec::new(alloc);
     for name in names {
         match files.open_again(alloc, name.as_str()) {
             Ok(Some(mut file)) => match count_lines(&mut file) {
                 Ok(count) => counts.push(count)?,
-                Err(_) => return Err(HintStop::Device),
+                Err(_) => return Err(Stop::Device),
             },
             Ok(None) => return Ok(None),
-            Err(stop) => return Err(stop_of(stop)),
+            Err(stop) => return Err(stop),
         }
     }
     Ok(Some(counts))
-}
-
-// Why a file can't be opened again.
-pub(crate) fn stop_of(stop: FileStop) -> HintStop
-    ensures { result ≡ told_of stop }
-{
-    match stop {
-        FileStop::Memory => HintStop::Memory,
-        FileStop::Device => HintStop::Device,
-    }
 }

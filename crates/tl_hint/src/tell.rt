@@ -10,15 +10,14 @@ ghost use Rattle.tl_where.specs.LinePlaces.{place_pair};
 ghost use Rattle.tl_hint.specs.Telling.{HaveTexts, TellsHint, TellsRefusal, TellsTrouble};
 ghost use Rattle.tl_hint.specs.Hints.{hint_at, hint_in, refusal_at, trouble_text};
 
-use crate::refusal::{count_all, first_refusal, stop_of};
+use crate::refusal::{count_all, first_refusal};
 use crate::shown::push_place;
-use crate::stop::HintStop;
 use std::alloc::{AllocError, Global};
 use tl_answers::stop::{REFUSED, STOPPED};
 use tl_files::FileSystem;
-use tl_output::write_all;
+use tl_output::{Stop, write_all};
 use tl_record::{Cause, LineBuffer, Options, Refusal, Sink};
-use tl_where::{Found, Place, find_line, place_of};
+use tl_where::{Found, TextLine, find_line, place_of};
 
 /// Says behind the status of a command, which read the files of these names, what helps: behind a refused line in which
 /// file it stands, in which of its lines and columns, and what it holds there; where it stopped, which file can't be opened
@@ -26,14 +25,14 @@ use tl_where::{Found, Place, find_line, place_of};
 ///
 /// Nothing is written where it can't be made, for want of memory or because a file can't be read again. A write of it that
 /// fails isn't told.
-pub fn tell_hint<F: FileSystem, E: Sink>(
+pub fn say_hint<F: FileSystem, E: Sink>(
     files: &F,
     alloc: Global,
     names: &[String],
     options: Options,
     status: u8,
     err: &mut E,
-) -> Result<(), HintStop>
+) -> Result<(), Stop>
     ensures hint { OnOk result (TellsHint status (layout_with options) (F.under files.now) (map string_bytes names.now)
         (TriesToWrite E.contents E.failure_count err.old err.new)) }
     ensures stop { OnErr result (err.new ≡ err.old) }
@@ -50,7 +49,7 @@ fn hint_of<F: FileSystem>(
     names: &[String],
     options: Options,
     status: u8,
-) -> Result<Vec<u8>, HintStop>
+) -> Result<Vec<u8>, Stop>
     ensures { IfOk result (λ text. TellsHint status (layout_with options) (F.under files.now) (map string_bytes names.now)
         (λ told. text.items ≡ told)) }
 {
@@ -64,11 +63,7 @@ fn hint_of<F: FileSystem>(
 }
 
 // Which file can't be opened or read, and why.
-fn trouble_hint<F: FileSystem>(
-    files: &F,
-    alloc: Global,
-    names: &[String],
-) -> Result<Vec<u8>, HintStop>
+fn trouble_hint<F: FileSystem>(files: &F, alloc: Global, names: &[String]) -> Result<Vec<u8>, Stop>
     ensures { IfOk result (λ text. TellsTrouble (F.under files.now) (map string_bytes names.now) (λ told. text.items ≡ told)) }
 {
     for name in names {
@@ -98,7 +93,7 @@ fn refusal_hint<F: FileSystem>(
     alloc: Global,
     names: &[String],
     options: Options,
-) -> Result<Vec<u8>, HintStop>
+) -> Result<Vec<u8>, Stop>
     ensures { IfOk result (λ text. TellsRefusal (layout_with options) (F.under files.now) (map string_bytes names.now)
         (λ told. text.items ≡ told)) }
 {
@@ -115,7 +110,7 @@ fn refusal_line<F: FileSystem>(
     names: &[String],
     options: Options,
     refusal: Refusal,
-) -> Result<Vec<u8>, HintStop>
+) -> Result<Vec<u8>, Stop>
     ensures { IfOk result (λ text. (texts : List (List ℕ)) → HaveTexts (F.under files.now) (map string_bytes names.now) texts
         → text.items ≡ refusal_at (layout_with options) (map string_bytes names.now) texts (pair_of refusal)) }
 {
@@ -134,9 +129,9 @@ fn place_line<F: FileSystem>(
     alloc: Global,
     names: &[String],
     options: Options,
-    place: Place,
+    place: TextLine,
     cause: Cause,
-) -> Result<Vec<u8>, HintStop>
+) -> Result<Vec<u8>, Stop>
     ensures { IfOk result (λ text. (texts : List (List ℕ)) → HaveTexts (F.under files.now) (map string_bytes names.now) texts
         → text.items ≡ hint_at (layout_with options) (map string_bytes names.now) texts cause (place_pair place)) }
 {
@@ -155,7 +150,7 @@ fn line_at<F: FileSystem>(
     options: Options,
     number: u64,
     cause: Cause,
-) -> Result<Vec<u8>, HintStop>
+) -> Result<Vec<u8>, Stop>
     ensures { IfOk result (λ text. (held : List ℕ) → bytes_under (F.under files.now) (string_bytes name.now) ≡ Some held
         → text.items ≡ hint_in (layout_with options) (string_bytes name.now) held cause number) }
 {
@@ -163,7 +158,7 @@ fn line_at<F: FileSystem>(
     let mut file = match files.open_again(alloc, name.as_str()) {
         Ok(Some(file)) => file,
         Ok(None) => return Ok(text),
-        Err(stop) => return Err(stop_of(stop)),
+        Err(stop) => return Err(stop),
     };
     let mut buffer = LineBuffer::new();
     match find_line(&mut buffer, &mut file, number) {
@@ -180,6 +175,6 @@ fn line_at<F: FileSystem>(
             Ok(text)
         }
         Ok(Found::Missing) => Ok(text),
-        Err(_) => Err(HintStop::Device),
+        Err(_) => Err(Stop::Device),
     }
 }

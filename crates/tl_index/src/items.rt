@@ -40,6 +40,14 @@ pub trait Items {
         ¬ AreMeeting (bounds_of items i) (bounds_of items j) → tells items i j None };
 }
 
+/// Items `i` and `j` conflict, `i` below `j`, and `c` is what [`Items::conflict`] tells of them.
+#[derive(Clone, Copy, Debug, PartialEq, Eq)]
+pub struct Conflict<C> {
+    pub i: u32,
+    pub j: u32,
+    pub c: C,
+}
+
 /// What a search for a conflict answers.
 #[derive(Clone, Debug, PartialEq, Eq, Drop)]
 pub enum Search<C> {

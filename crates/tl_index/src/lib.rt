@@ -14,7 +14,7 @@ mod probe;
 
 pub use fault::{TreeFault, TreeStop};
 pub use index::{BoxIndex, Memory};
-pub use items::{Items, Search};
+pub use items::{Conflict, Items, Search};
 pub use node::TreeNode;
 pub use preorder::is_preorder;
 pub use probe::Probe;

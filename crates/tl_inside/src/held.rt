@@ -8,7 +8,7 @@ ghost use Rattle.tl_index.specs.Hits.{AreHits};
 ghost use Rattle.tl_inside.specs.Keeping.Listed.{IsLeastOf};
 ghost use Rattle.tl_inside.specs.Keeping.Probing.{IsHolding};
 
-use crate::probes::Spot;
+use crate::probes::HoldingPoint;
 use tl_county::Map;
 use tl_geom::{Point, on};
 use tl_index::{BoxIndex, Memory};
@@ -25,7 +25,7 @@ pub fn chain_at<X: BoxIndex>(
     ensures { IfOk result (λ found. MatchOption found (IsOffChains map.now.chains point) (IsLowestOn map.now.chains point)) }
 {
     hits.clear();
-    index.collect_hits(&Segments::new(map), &Spot(point), hits)?;
+    index.collect_hits(&Segments::new(map), &HoldingPoint(point), hits)?;
     Ok(lowest_of(map, hits, point))
 }
 

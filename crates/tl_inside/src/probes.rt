@@ -9,9 +9,9 @@ use tl_planar::Segments;
 
 /// The segments that hold a point.
 #[derive(Clone, Copy)]
-pub struct Spot(pub Point);
+pub struct HoldingPoint(pub Point);
 
-impl<'a> Probe<Segments<'a>> for Spot {
+impl<'a> Probe<Segments<'a>> for HoldingPoint {
     ghost use Rattle.tl_geom.specs.Rectangle.{spot_rect};
     ghost use Rattle.tl_inside.specs.Keeping.Probing.{IsHolding, holding_meets};
 

@@ -4,7 +4,7 @@ use Rattle.std.proofs.lemmas.Int.{ints}
 use Rattle.std.proofs.lemmas.Cmp.{int_ranked}
 use Rattle.std.specs.declared.cmp.Ordering.TheVariants.{Less, Equal, Greater}
 use Rattle.std.specs.Prelude.{int_lt, if◌then◌else◌}
-use Rattle.std.specs.Ordering.{int_cmp, is_ge, is_gt, is_le, is_lt, MatchOrdering}
+use Rattle.std.specs.Ordering.{int_cmp, is_gt, is_le, is_lt, MatchOrdering}
 use Rattle.tl_geom.specs.declared.point.Point.{Point}
 use Rattle.tl_geom.specs.declared.segment.Segment.{Segment}
 use Rattle.tl_geom.specs.Plane.{turn_of, IsSame, whole}
@@ -21,14 +21,6 @@ pub never : {A : Type 0} → false ≡ true → A
 never e = absurd (cc)
 
 -- ---- turns
-
-ge_cases : (z : ℤ) (o : Ordering) → MatchOrdering o (z <ℤ pos 0) (z ≡ pos 0) (pos 0 <ℤ z) → IsTrue (is_ge o) → pos 0 ≤ℤ z
-ge_cases z Less m h = absurd (cc)
-ge_cases z Equal m h = omega (arith, ints, m)
-ge_cases z Greater m h = omega (arith, ints, m)
-
-pub ge_test : (z : ℤ) (o : Ordering) (t : Bool) → o ≡ int_cmp z (pos 0) → t ≡ is_ge o → IsTrue t → pos 0 ≤ℤ z
-ge_test z o t e f h = ge_cases z o (int_ranked z (pos 0) o e) (sym f ∙ h)
 
 le_cases : (z : ℤ) (o : Ordering) → MatchOrdering o (z <ℤ pos 0) (z ≡ pos 0) (pos 0 <ℤ z) → IsTrue (is_le o) → z ≤ℤ pos 0
 le_cases z Less m h = omega (arith, ints, m)

@@ -18,8 +18,9 @@ mod vertices;
 
 pub use events::{Event, Events};
 pub use finding::{go_to, go_to_first};
-pub use heights::{ends, height};
+pub use heights::{ends, height, is_lower};
 pub use line::Line;
+pub use neighbours::is_west_of;
 pub use places::Places;
 pub use shifting::{bend, closes, shift};
 pub use vertices::{gather, order};

@@ -1,5 +1,5 @@
 //! What is tested of segments that stand side by side.
-ghost use Rattle.std.specs.Prelude.{◌≤ℤ◌, ◌<ℤ◌, ◌⊎◌, pos, IsTrue};
+ghost use Rattle.std.specs.Prelude.{◌↔◌, ◌≤ℤ◌, ◌<ℤ◌, ◌⊎◌, pos, IsTrue};
 ghost use Rattle.tl_geom.specs.Plane.{turn_of};
 ghost use Rattle.tl_slabs.specs.Heights.{widest};
 ghost use Rattle.tl_slabs.specs.Neighbours.{IsWestOf, AreApartOrAtEnds, AreTested};
@@ -8,27 +8,22 @@ use crate::heights::{ends, is_lower};
 use tl_county::Map;
 use tl_geom::{Contact, Point, Rect, Segment, contact, turn};
 
-/// Whether `p` of the line from `a` to `b` isn't east of the line from `c` to `e`, if `first`; else whether `q` of that line
-/// isn't west of the former.
+/// Whether `p` isn't east of the line from `c` to `e`, or `q` isn't west of that from `a` to `b`.
 #[inline]
-fn is_in_order(first: bool, a: Point, b: Point, p: Point, c: Point, e: Point, q: Point) -> bool
-    ensures { IsTrue result → (pos 0 ≤ℤ turn_of c e p) ⊎ (turn_of a b q ≤ℤ pos 0) }
+fn is_in_order(a: Point, b: Point, p: Point, c: Point, e: Point, q: Point) -> bool
+    ensures { IsTrue result ↔ ((pos 0 ≤ℤ turn_of c e p) ⊎ (turn_of a b q ≤ℤ pos 0)) }
 {
-    if first {
-        turn(c, e, p).is_ge()
-    } else {
-        turn(a, b, q).is_le()
-    }
+    turn(c, e, p).is_ge() || turn(a, b, q).is_le()
 }
 
-/// Whether `u` is west of `w`. The higher of their low ends is asked, and the lower of their high ends.
+/// Whether `u` is west of `w`, by their low ends and by their high ends.
 #[inline]
-fn is_west_of(u: Segment, w: Segment) -> bool
-    ensures { IsTrue result → IsWestOf widest u w }
+pub fn is_west_of(u: Segment, w: Segment) -> bool
+    ensures { IsTrue result ↔ IsWestOf widest u w }
 {
     let (a, b) = ends(u);
     let (c, e) = ends(w);
-    is_in_order(is_lower(c, a), a, b, a, c, e, c) && is_in_order(is_lower(b, e), a, b, b, c, e, e)
+    is_in_order(a, b, a, c, e, c) && is_in_order(a, b, b, c, e, e)
 }
 
 /// Whether `p` of the line from `a` to `b` is west of the line from `c` to `e`, if `first`; else whether `q` of that line is east
@@ -44,7 +39,8 @@ fn is_parted(first: bool, a: Point, b: Point, p: Point, c: Point, e: Point, q: P
     }
 }
 
-/// Whether `u` is west of `w` and doesn't touch it, as it is of most neighbours. The same ends are asked.
+/// Whether `u` is west of `w` and doesn't touch it, as it is of most neighbours. The higher of their low ends is asked, and the
+/// lower of their high ends.
 #[inline]
 fn is_clearly_west_of(u: Segment, w: Segment) -> bool
     ensures west { IsTrue result → IsWestOf widest u w }

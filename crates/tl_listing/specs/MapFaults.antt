@@ -1,5 +1,5 @@
 -- All faults of a map, in their order.
-use Rattle.std.specs.Prelude.{◌≡◌, ◌≢◌, ℕ, pos, Bool, true, false, List, [], ◌++◌, map}
+use Rattle.std.specs.Prelude.{◌≡◌, ◌≢◌, ℕ, pos, Bool, true, false, List, [], ◌++◌, map, ◌⊎◌, IsTrue, All}
 use Rattle.std.specs.Option.{unwrap_or}
 use Rattle.tl_geom.specs.declared.point.Point.{Point}
 use Rattle.tl_county.specs.TheMap.{TheMap, MapChain}
@@ -12,6 +12,12 @@ use Rattle.tl_meets.specs.Meets.{AreAllMeets}
 use Rattle.tl_disagreements.specs.Disagreements.{AreAllDisagreements}
 use Rattle.tl_disagreements.specs.CellOdds.{AreAllCellsAtOdds}
 use Rattle.tl_misplaced.specs.AllMisplaced.{AreAllMisplaced}
+use Rattle.tl_slabs.specs.Heights.{widest}
+use Rattle.tl_faces.specs.declared.fault.FaceFault.{FaceFault}
+use Rattle.tl_faces.specs.Faults.{IsTrueFaceFault}
+use Rattle.tl_faces.specs.Truth.{AreFacesTrue}
+use Rattle.tl_facing.specs.AllFaults.{AreOfAllGaps}
+use Rattle.tl_verdict.specs.Sound.{IsSound}
 use Rattle.tl_verdict.specs.declared.fault.MapFault.{MapFault}
 use Rattle.tl_verdict.specs.declared.fault.MapFault.TheVariants as fault
 
@@ -33,7 +39,7 @@ abbrev pub ArePointsTold : TheMap → List Disagreement → Bool → List Mispla
 ArePointsTold m sides false points = (sides ≡ []) × AreAllMisplaced m points
 ArePointsTold m sides true points = (sides ≢ []) × (points ≡ [])
 
--- all faults of a map: each two segments that meet, all sides that disagree, all zero-cell ids that are at odds, and
+-- all faults of a map but those of faces: each two segments that meet, all sides that disagree, all zero-cell ids that are at odds, and
 -- unless points are left, all that is wrong with where polygons' points lie
 pub record AreMapFaults (m : TheMap) (faults : List MapFault) (points_left : Bool) : Type 0 where
   pub meets : List Meet
@@ -45,3 +51,17 @@ pub record AreMapFaults (m : TheMap) (faults : List MapFault) (points_left : Boo
   pub all_cells : AreAllCellsAtOdds m.chains cells
   pub all_points : ArePointsTold m sides points_left points
   pub are : faults ≡ map fault.Meet meets ++ map (side_fault m.chains) sides ++ map fault.Cell cells ++ map fault.PolygonPoint points
+
+-- all faults of a map that is sound but for its faces, which aren't true: one of each gap along which sides that face one another differ
+pub record AreFaceFaults (m : TheMap) (faults : List MapFault) : Type 0 where
+  pub sound : IsSound m
+  pub untrue : ¬ AreFacesTrue m.chains
+  pub told : List FaceFault
+  pub true_ones : All (IsTrueFaceFault m) told
+  pub all : AreOfAllGaps widest m told
+  pub are : faults ≡ map fault.Face told
+
+-- all faults of a map where faces may be asked for: they are told where nothing else is wrong
+abbrev pub AreFaultsFor : (faces : Bool) → TheMap → List MapFault → Bool → Type 0
+AreFaultsFor faces m faults points_left =
+    AreMapFaults m faults points_left ⊎ (IsTrue faces × ((points_left ≡ false) × AreFaceFaults m faults))

@@ -4,15 +4,18 @@ ghost use Rattle.std.specs.Prelude.{◌≡◌, ◌+◌, ◌≤◌, ◌++◌, cod
 ghost use Rattle.arrayvec.specs.ArrayString.{array_string_len};
 ghost use Rattle.tl_drawn.specs.Messages.{fault_name, subject_text, fault_text, limited_text};
 ghost use Rattle.tl_output.specs.Writing.{line_of};
-ghost use Rattle.tl_verdict.specs.Messages.{map_fault_text, segment_text, node_text, rational_text, misplaced_text};
+ghost use Rattle.tl_faces.specs.FaultTexts.{rational_text, side_text, way_text, named_face_text, face_fault_text};
+ghost use Rattle.tl_verdict.specs.Messages.{map_fault_text, segment_text, node_text, misplaced_text};
 ghost use Rattle.tl_verdict.specs.declared.fault.MapFault.TheVariants.{Meet as MeetFault, Side, PolygonPoint, Cell};
 
 use crate::line::{LINE_ROOM, push_key, push_number};
 use arrayvec::ArrayString;
 use tl_cells::CellsAtOdds;
 use tl_drawn::Limited;
+use tl_faces::{FaceFault, NamedFace, Way};
 use tl_geom::{Point, Rational};
 use tl_inside::Misplaced;
+use tl_key::PolyKey;
 use tl_planar::Meet;
 use tl_verdict::MapFault;
 
@@ -28,7 +31,7 @@ pub fn fault_line(fault: &MapFault) -> ArrayString<LINE_ROOM>
 // The same, without its end.
 fn fault_words(fault: &MapFault) -> ArrayString<LINE_ROOM>
     ensures bytes { result.bytes ≡ map_fault_text fault.now }
-    ensures room { array_string_len result ≤ 500 }
+    ensures room { array_string_len result ≤ 511 }
 {
     match fault {
         MapFault::Records(fault) => record_words(fault),
@@ -36,11 +39,12 @@ fn fault_words(fault: &MapFault) -> ArrayString<LINE_ROOM>
         MapFault::Side { node, first, next } => side_words(*node, *first, *next),
         MapFault::PolygonPoint(misplaced) => misplaced_words(misplaced),
         MapFault::Cell(odds) => cell_words(odds),
+        MapFault::Face(fault) => face_words(fault),
     }
 }
 
 // M1 to M13: the code and the name, and what the fault is about.
-fn record_words(fault: &tl_drawn::MapFault) -> ArrayString<LINE_ROOM>
+fn record_words(fault: &tl_drawn::RecordFault) -> ArrayString<LINE_ROOM>
     ensures bytes { result.bytes ≡ fault_text fault.now }
     ensures room { array_string_len result ≤ 500 }
 {
@@ -52,53 +56,57 @@ fn record_words(fault: &tl_drawn::MapFault) -> ArrayString<LINE_ROOM>
 }
 
 // The code and the name of a fault of the records.
-fn record_name<'a>(fault: &tl_drawn::MapFault) -> &'a str
+fn record_name<'a>(fault: &tl_drawn::RecordFault) -> &'a str
     ensures name { result.now ≡ fault_name fault.now }
     ensures short { length result.now ≤ 24 }
 {
     match fault {
-        tl_drawn::MapFault::DuplicateChain { .. } => "M1 DuplicateChain",
-        tl_drawn::MapFault::ShapeWithoutChain { .. } => "M2 ShapeWithoutChain",
-        tl_drawn::MapFault::ShapeSequence { .. } => "M3 ShapeSequence",
-        tl_drawn::MapFault::ShapeGap { .. } => "M4 ShapeGap",
-        tl_drawn::MapFault::ChainWithoutSides { .. } => "M5 ChainWithoutSides",
-        tl_drawn::MapFault::SidesWithoutChain { .. } => "M6 SidesWithoutChain",
-        tl_drawn::MapFault::DuplicateSides { .. } => "M7 DuplicateSides",
-        tl_drawn::MapFault::DuplicatePolygon { .. } => "M8 DuplicatePolygon",
-        tl_drawn::MapFault::SideWithoutPolygon { .. } => "M9 SideWithoutPolygon",
-        tl_drawn::MapFault::LinkWithoutLandmark { .. } => "M10 LinkWithoutLandmark",
-        tl_drawn::MapFault::LinkWithoutPolygon { .. } => "M11 LinkWithoutPolygon",
-        tl_drawn::MapFault::DegenerateChain { .. } => "M12 DegenerateChain",
-        tl_drawn::MapFault::TooMany(_) => "M13 TooMany",
+        tl_drawn::RecordFault::DuplicateChain { .. } => "M1 DuplicateChain",
+        tl_drawn::RecordFault::ShapeWithoutChain { .. } => "M2 ShapeWithoutChain",
+        tl_drawn::RecordFault::ShapeSequence { .. } => "M3 ShapeSequence",
+        tl_drawn::RecordFault::ShapeGap { .. } => "M4 ShapeGap",
+        tl_drawn::RecordFault::ChainWithoutSides { .. } => "M5 ChainWithoutSides",
+        tl_drawn::RecordFault::SidesWithoutChain { .. } => "M6 SidesWithoutChain",
+        tl_drawn::RecordFault::DuplicateSides { .. } => "M7 DuplicateSides",
+        tl_drawn::RecordFault::DuplicatePolygon { .. } => "M8 DuplicatePolygon",
+        tl_drawn::RecordFault::SideWithoutPolygon { .. } => "M9 SideWithoutPolygon",
+        tl_drawn::RecordFault::LinkWithoutLandmark { .. } => "M10 LinkWithoutLandmark",
+        tl_drawn::RecordFault::LinkWithoutPolygon { .. } => "M11 LinkWithoutPolygon",
+        tl_drawn::RecordFault::DegenerateChain { .. } => "M12 DegenerateChain",
+        tl_drawn::RecordFault::TooMany(_) => "M13 TooMany",
     }
 }
 
 // Adds what a fault of the records is about.
-fn push_subject(line: &mut ArrayString<LINE_ROOM>, fault: &tl_drawn::MapFault)
+fn push_subject(line: &mut ArrayString<LINE_ROOM>, fault: &tl_drawn::RecordFault)
     requires { array_string_len line.old ≤ 40 }
     ensures bytes { line.new.bytes ≡ line.old.bytes ++ subject_text fault.now }
     ensures room { array_string_len line.new ≤ 400 }
 {
     match fault {
-        tl_drawn::MapFault::DuplicateChain { tlid }
-        | tl_drawn::MapFault::ShapeWithoutChain { tlid }
-        | tl_drawn::MapFault::ShapeSequence { tlid }
-        | tl_drawn::MapFault::ShapeGap { tlid }
-        | tl_drawn::MapFault::ChainWithoutSides { tlid }
-        | tl_drawn::MapFault::SidesWithoutChain { tlid }
-        | tl_drawn::MapFault::DuplicateSides { tlid }
-        | tl_drawn::MapFault::DegenerateChain { tlid } => push_number(line, " tlid ", *tlid),
-        tl_drawn::MapFault::DuplicatePolygon { polygon } => push_key(line, " polygon ", *polygon),
-        tl_drawn::MapFault::SideWithoutPolygon { tlid, polygon } => {
+        tl_drawn::RecordFault::DuplicateChain { tlid }
+        | tl_drawn::RecordFault::ShapeWithoutChain { tlid }
+        | tl_drawn::RecordFault::ShapeSequence { tlid }
+        | tl_drawn::RecordFault::ShapeGap { tlid }
+        | tl_drawn::RecordFault::ChainWithoutSides { tlid }
+        | tl_drawn::RecordFault::SidesWithoutChain { tlid }
+        | tl_drawn::RecordFault::DuplicateSides { tlid }
+        | tl_drawn::RecordFault::DegenerateChain { tlid } => push_number(line, " tlid ", *tlid),
+        tl_drawn::RecordFault::DuplicatePolygon { polygon } => push_key(
+            line,
+            " polygon ",
+            *polygon,
+        ),
+        tl_drawn::RecordFault::SideWithoutPolygon { tlid, polygon } => {
             push_number(line, " tlid ", *tlid);
             push_key(line, " polygon ", *polygon);
         }
-        tl_drawn::MapFault::LinkWithoutLandmark { land } => push_number(line, " land ", *land),
-        tl_drawn::MapFault::LinkWithoutPolygon { polygon, land } => {
+        tl_drawn::RecordFault::LinkWithoutLandmark { land } => push_number(line, " land ", *land),
+        tl_drawn::RecordFault::LinkWithoutPolygon { polygon, land } => {
             push_key(line, " polygon ", *polygon);
             push_number(line, " land ", *land);
         }
-        tl_drawn::MapFault::TooMany(what) => {
+        tl_drawn::RecordFault::TooMany(what) => {
             line.push_str(" ");
             line.push_str(limited_word(*what));
         }
@@ -145,7 +153,7 @@ fn push_segment(line: &mut ArrayString<LINE_ROOM>, tlid: u64, number: u32)
 
 // Adds a rational point: two numerators and their denominator.
 fn push_rational(line: &mut ArrayString<LINE_ROOM>, at: &Rational)
-    requires { array_string_len line.old ≤ 300 }
+    requires { array_string_len line.old ≤ 388 }
     ensures bytes { line.new.bytes ≡ line.old.bytes ++ rational_text at.now }
     ensures room { array_string_len line.new ≤ array_string_len line.old + 122 }
 {
@@ -210,4 +218,62 @@ fn cell_words(odds: &CellsAtOdds) -> ArrayString<LINE_ROOM>
     push_number(&mut line, " ids ", odds.first_id);
     push_number(&mut line, " ", odds.second_id);
     line
+}
+
+// G7: what each of two segments names toward the other, or one alone toward the outside, and the way there.
+fn face_words(fault: &FaceFault) -> ArrayString<LINE_ROOM>
+    ensures bytes { result.bytes ≡ face_fault_text fault.now }
+    ensures room { array_string_len result ≤ 511 }
+{
+    let mut line = ArrayString::new();
+    line.push_str("map fault G7 FaceDisagree ");
+    match fault {
+        FaceFault::Facing { first, last } => {
+            push_face(&mut line, first);
+            line.push_str(" ");
+            push_face(&mut line, last);
+        }
+        FaceFault::Outward { face, way } => {
+            push_face(&mut line, face);
+            line.push_str(" outside ");
+            line.push_str(way_word(*way));
+        }
+    }
+    line
+}
+
+// Adds a face: the TLID of its chain, what it names, and a place of it.
+fn push_face(line: &mut ArrayString<LINE_ROOM>, face: &NamedFace)
+    requires { array_string_len line.old ≤ 268 }
+    ensures bytes { line.new.bytes ≡ line.old.bytes ++ named_face_text face.now }
+    ensures room { array_string_len line.new ≤ array_string_len line.old + 241 }
+{
+    push_number(line, "tlid ", face.tlid);
+    line.push_str(" ");
+    push_side(line, face.polygon);
+    line.push_str(" at ");
+    push_rational(line, &face.at);
+}
+
+// Adds a polygon, or that it is the outside.
+fn push_side(line: &mut ArrayString<LINE_ROOM>, polygon: Option<PolyKey>)
+    requires { array_string_len line.old ≤ 320 }
+    ensures bytes { line.new.bytes ≡ line.old.bytes ++ side_text polygon }
+    ensures room { array_string_len line.new ≤ array_string_len line.old + 69 }
+{
+    match polygon {
+        Some(key) => push_key(line, "polygon ", key),
+        None => line.push_str("outside"),
+    }
+}
+
+// The word of a way.
+fn way_word<'a>(way: Way) -> &'a str
+    ensures word { result.now ≡ way_text way }
+    ensures short { length result.now ≤ 4 }
+{
+    match way {
+        Way::West => "west",
+        Way::East => "east",
+    }
 }

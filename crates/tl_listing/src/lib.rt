@@ -11,5 +11,5 @@ mod print;
 
 pub use faults::fault_line;
 pub use line::{LINE_ROOM, push_key, push_number};
-pub use listing::{Listing, ListingStop};
+pub use listing::Listing;
 pub use print::{first_of, print_listing, text_of_end};

@@ -10,8 +10,8 @@ use Rattle.tl_plan.specs.declared.budget.Told.{Told}
 use Rattle.tl_plan.specs.declared.budget.Told.TheVariants.{One, All}
 use Rattle.tl_verdict.specs.declared.fault.MapFault.{MapFault}
 use Rattle.tl_record.specs.declared.refusal.Refusal.{Refusal}
-use Rattle.tl_verdict.specs.declared.stop.Stop.{Stop}
-use Rattle.tl_verdict.specs.declared.stop.Stop.TheVariants.{Record, Memory}
+use Rattle.tl_output.specs.declared.stop.Stop.{Stop}
+use Rattle.tl_output.specs.declared.stop.Stop.TheVariants.{Record, Memory}
 use Rattle.tl_listing.specs.declared.listing.Listing.{Listing}
 use Rattle.tl_listing.specs.declared.listing.Listing.TheVariants.{Sound, Refused, Faults}
 use Rattle.tl_making.specs.Files.{MakesFile}

@@ -6,7 +6,8 @@
 -- where that is known; `wrote` says of a text that it was written to the output, `said` to the error output; `part` that a
 -- beginning of it was written to the output, and that a write failed; `failed` that a file failed.
 use Rattle.std.specs.Prelude.{◌≡◌, ◌⊎◌, ℕ, Bool, true, false, List, [], ◌++◌, length, take, Option, Some, None, IfSome}
-use Rattle.tl_record.specs.declared.layout.Layout.{Layout}
+use Rattle.tl_record.specs.declared.options.Options.{Options}
+use Rattle.tl_record.specs.Layout.{layout_with}
 use Rattle.tl_county.specs.TheMap.{MapChain}
 use Rattle.tl_files.specs.Files.{Under, bytes_under}
 use Rattle.tl_files.specs.declared.beginning.FileKind.TheVariants.{Collection}
@@ -14,11 +15,11 @@ use Rattle.tl_output.specs.Writing.{line_of}
 use Rattle.tl_plan.specs.declared.budget.Told.{Told}
 use Rattle.tl_plan.specs.declared.budget.Told.TheVariants.{One, All}
 use Rattle.tl_verdict.specs.declared.fault.MapFault.{MapFault}
-use Rattle.tl_verdict.specs.declared.stop.Stop.TheVariants.{Memory, Device}
+use Rattle.tl_output.specs.declared.stop.Stop.TheVariants.{Memory, Device}
 use Rattle.tl_verdict.specs.Messages.{map_fault_text}
 use Rattle.tl_verdict.specs.Records.{HaveMap}
-use Rattle.tl_verdict.specs.Sound.{IsSound}
-use Rattle.tl_verdict.specs.Stops.{stop_text}
+use Rattle.tl_verdict.specs.Sound.{IsSoundFor}
+use Rattle.tl_output.specs.Stops.{stop_text}
 use Rattle.tl_record.specs.Records.{records_of}
 use Rattle.tl_listing.specs.declared.listing.Listing.{Listing}
 use Rattle.tl_listing.specs.declared.listing.Listing.TheVariants.{Sound, Refused, Faults}
@@ -81,36 +82,36 @@ TellsText text status wrote said part err_same =
 
 -- faults were told: those of the records and of no other, and all of them, where the text of the records is known; and where
 -- those of all files are, the records behind them are those of the files that they speak of
-pub record TellsFaults (layout : Layout) (known : Option (List ℕ)) (under : Under) (names : List (List ℕ)) (told : Told) (places : Bool) (made : Option (List ℕ)) (wrote stands : List ℕ → Type 0) : Type 0 where
+pub record TellsFaults (options : Options) (known : Option (List ℕ)) (under : Under) (names : List (List ℕ)) (told : Told) (places : Bool) (made : Option (List ℕ)) (wrote stands : List ℕ → Type 0) : Type 0 where
   pub found : Findings
   pub spoken : Spoken
   pub faults : List MapFault
   pub points_left : Bool
-  pub are : IfSome known (λ text. AreFindingsOf layout text found)
-  pub unsound : IfSome known (λ text. ¬ HaveMap (records_of layout text) IsSound)
+  pub are : IfSome known (λ text. AreFindingsOf options text found)
+  pub unsound : IfSome known (λ text. ¬ HaveMap (records_of (layout_with options) text) (IsSoundFor options.faces))
   pub listed : AreFaultsIn found.listing faults points_left
-  pub speak : reads_again places made ≡ true → AreSpoken layout under names (chains_of found.map) (featured told faults) spoken
+  pub speak : reads_again places made ≡ true → AreSpoken (layout_with options) under names (chains_of found.map) (featured told faults) spoken
   pub written : wrote (told_text names (chains_of found.map) spoken places told faults points_left)
   pub kept : stands (faults_text names spoken.counts.items found.map (held spoken.lines) (featured told faults))
 
 -- lines that are refused were told on the output, where all that is wrong is asked for
-abbrev pub TellsRefused : Told → Layout → Option (List ℕ) → (List ℕ → Type 0) → Type 0
-TellsRefused One layout known wrote = ⊥
-TellsRefused (All most) layout known wrote = TellsRefusals most layout known wrote
+abbrev pub TellsRefused : Told → Options → Option (List ℕ) → (List ℕ → Type 0) → Type 0
+TellsRefused One options known wrote = ⊥
+TellsRefused (All most) options known wrote = TellsRefusals most options known wrote
 
 -- what is told on the output, and with which status: the report of a sound map, of which no fault stands in the file; faults; or
 -- refused lines, of which no file is made
-abbrev pub Answers : Layout → Option (List ℕ) → (before after : Under) → List (List ℕ) → Told → Bool → Option (List ℕ) → ℕ → (List ℕ → Type 0) → Type 0
-Answers layout known before after names told places made status wrote =
-    ((status ≡ DONE) × IsAudited layout known wrote × IsMade before after made (faults_text names [] None (λ s. []) []))
-    ⊎ (((status ≡ MAP_FAULT) × TellsFaults layout known before names told places made wrote (IsMade before after made))
-    ⊎ ((status ≡ REFUSED) × TellsRefused told layout known wrote × IsUnmade before after made))
+abbrev pub Answers : Options → Option (List ℕ) → (before after : Under) → List (List ℕ) → Told → Bool → Option (List ℕ) → ℕ → (List ℕ → Type 0) → Type 0
+Answers options known before after names told places made status wrote =
+    ((status ≡ DONE) × IsAudited options known wrote × IsMade before after made (faults_text names [] None (λ s. []) []))
+    ⊎ (((status ≡ MAP_FAULT) × TellsFaults options known before names told places made wrote (IsMade before after made))
+    ⊎ ((status ≡ REFUSED) × TellsRefused told options known wrote × IsUnmade before after made))
 
 -- a line is refused: the first was told on the error output, where one fault is asked for
-pub record TellsFirst (layout : Layout) (known : Option (List ℕ)) (told : Told) (status : ℕ) (said : List ℕ → Type 0) (out_same : Type 0) : Type 0 where
+pub record TellsFirst (options : Options) (known : Option (List ℕ)) (told : Told) (status : ℕ) (said : List ℕ → Type 0) (out_same : Type 0) : Type 0 where
   pub one : told ≡ One
   pub is : status ≡ REFUSED
-  pub names : NamesRefusal layout known said
+  pub names : NamesRefusal (layout_with options) known said
   pub same : out_same
 
 -- it stopped before anything was told, for want of memory, or since a file failed
@@ -124,11 +125,11 @@ Refuses before names made status said out_same =
     (status ≡ USAGE) × ((name : List ℕ) × (made ≡ Some name) × RefusesName Collection before name names said) × out_same
 
 -- what it answers: what is told on the output; or a beginning of that, where a write failed; or why there is no answer
-abbrev pub Lists : Layout → Option (List ℕ) → List (List ℕ) → Told → Bool → Option (List ℕ) → ℕ → (before after : Under) → (wrote said part : List ℕ → Type 0) → (failed out_same err_same : Type 0) → Type 0
-Lists layout known names told places made status before after wrote said part failed out_same err_same =
-    (Answers layout known before after names told places made status wrote × err_same)
-    ⊎ (((status ≡ STOPPED) × said (line_of (stop_text Device)) × ((n : ℕ) × Answers layout known before after names told places made n part))
-    ⊎ ((TellsFirst layout known told status said out_same
+abbrev pub Lists : Options → Option (List ℕ) → List (List ℕ) → Told → Bool → Option (List ℕ) → ℕ → (before after : Under) → (wrote said part : List ℕ → Type 0) → (failed out_same err_same : Type 0) → Type 0
+Lists options known names told places made status before after wrote said part failed out_same err_same =
+    (Answers options known before after names told places made status wrote × err_same)
+    ⊎ (((status ≡ STOPPED) × said (line_of (stop_text Device)) × ((n : ℕ) × Answers options known before after names told places made n part))
+    ⊎ ((TellsFirst options known told status said out_same
     ⊎ (Stops status said failed out_same ⊎ Refuses before names made status said out_same))
     × IsUnmade before after made))
 

@@ -4,11 +4,11 @@
 -- written to the output, and that a write failed.
 use Rattle.std.specs.Prelude.{◌≡◌, ◌⊎◌, ℕ, List, Option, IfSome, Vec}
 use Rattle.std.specs.Global.{Global}
-use Rattle.tl_record.specs.declared.layout.Layout.{Layout}
+use Rattle.tl_record.specs.declared.options.Options.{Options}
 use Rattle.tl_record.specs.declared.refusal.Refusal.{Refusal}
 use Rattle.tl_output.specs.Writing.{line_of}
-use Rattle.tl_verdict.specs.declared.stop.Stop.TheVariants.{Device}
-use Rattle.tl_verdict.specs.Stops.{stop_text}
+use Rattle.tl_output.specs.declared.stop.Stop.TheVariants.{Device}
+use Rattle.tl_output.specs.Stops.{stop_text}
 use Rattle.tl_listing.specs.declared.listing.Listing.{Listing}
 use Rattle.tl_listing.specs.declared.listing.Listing.TheVariants.{Sound, Refused, Faults}
 use Rattle.tl_listing.specs.Texts.{listing_text}
@@ -17,10 +17,10 @@ use Rattle.tl_answers.specs.declared.stop.TheConstants.{DONE, MAP_FAULT, REFUSED
 
 -- a list of refused lines was written as it is printed, or so many of them, and it is that of the records, where their text is
 -- known: it has each line that is refused and no other, and isn't empty
-pub record TellsRefusals (most : Option ℕ) (layout : Layout) (known : Option (List ℕ)) (wrote : List ℕ → Type 0) : Type 0 where
+pub record TellsRefusals (most : Option ℕ) (options : Options) (known : Option (List ℕ)) (wrote : List ℕ → Type 0) : Type 0 where
   pub list : Vec Refusal Global
   pub written : wrote (listing_text most (Refused list))
-  pub are_all : IfSome known (λ text. IsListingOf layout text (Refused list))
+  pub are_all : IfSome known (λ text. IsListingOf options text (Refused list))
 
 -- the status of a listing
 abbrev pub listing_status : Listing → ℕ

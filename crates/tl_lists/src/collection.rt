@@ -5,7 +5,7 @@ ghost use Rattle.tl_making.specs.Files.{NewFileFails};
 ghost use Rattle.tl_fault_map.specs.Texts.{faults_text};
 ghost use Rattle.std.specs.Prelude.{option_copied};
 ghost use Rattle.tl_record_lines.specs.Keeping.{held};
-ghost use Rattle.tl_making.specs.Opening.{StopsOpening};
+ghost use Rattle.tl_output.specs.Stops.{StopsFor};
 ghost use Rattle.tl_lists.specs.Listed.{IsUnknown};
 ghost use Rattle.tl_lists.specs.Keeping.{IsRoomFor, MakesAny};
 
@@ -15,8 +15,9 @@ use tl_export::make_text_file;
 use tl_fault_map::FaultsText;
 use tl_files::{FileKind, FileSystem, Room};
 use tl_making::new_file::room_for;
+use tl_output::Stop;
 use tl_placing::Spoken;
-use tl_verdict::{MapFault, Stop};
+use tl_verdict::MapFault;
 
 /// Whether the file may be made, where one is asked for.
 pub(crate) fn room_of<F: FileSystem>(
@@ -25,7 +26,7 @@ pub(crate) fn room_of<F: FileSystem>(
     names: &[String],
 ) -> Result<Room, Stop>
     ensures room { IfOk result (IsRoomFor (F.under files.now) (option_map string_bytes made.now) (map string_bytes names.now)) }
-    ensures stops { IfErr result (StopsOpening (IsUnknown (F.under files.now) (option_map string_bytes made.now))) }
+    ensures stops { IfErr result (StopsFor (IsUnknown (F.under files.now) (option_map string_bytes made.now))) }
 {
     match made {
         Some(name) => room_for(files, name, names, FileKind::Collection),

@@ -1,20 +1,18 @@
 //! What is found in a county's files.
 
 ghost use Rattle.std.specs.Prelude.{◌≡◌, false, map, string_bytes};
-ghost use Rattle.tl_record.specs.Layout.{layout_with};
 ghost use Rattle.tl_text.specs.Joining.{joined_bytes};
 ghost use Rattle.tl_files.specs.Files.{bytes_under};
 ghost use Rattle.tl_making.specs.Files.{ReadsFail};
-ghost use Rattle.tl_lists.specs.Found.{Finds, told_by};
+ghost use Rattle.tl_lists.specs.Found.{Finds};
 
 use std::alloc::Global;
 use std::hash::RandomState;
 use tl_all_faults::{Findings, list_with_map};
 use tl_files::FileSystem;
-use tl_listing::ListingStop;
 use tl_making::opening::{as_one_text, give_back, open_all, room_for_bytes};
+use tl_output::Stop;
 use tl_record::Options;
-use tl_verdict::Stop;
 
 /// Opens the files of these names, and lists all that is wrong with their text; with the map of its records, where they have one.
 /// It stops where memory was refused, or where a file can't be opened or read.
@@ -25,7 +23,7 @@ pub fn find_all<F: FileSystem>(
     names: &[String],
     options: Options,
 ) -> Result<Findings, Stop>
-    ensures { Finds (layout_with options) (joined_bytes (bytes_under (F.under files.now)) false (map string_bytes names.now))
+    ensures { Finds options (joined_bytes (bytes_under (F.under files.now)) false (map string_bytes names.now))
         (ReadsFail F.Reader.failure_count (F.under files.now) (map string_bytes names.now)) result }
 {
     let Ok(room) = room_for_bytes(alloc) else {
@@ -38,16 +36,5 @@ pub fn find_all<F: FileSystem>(
     let mut records = as_one_text(alloc, &mut readers, room);
     let found = list_with_map(alloc, hasher, &mut records, options);
     give_back(records, &mut readers);
-    found_of(found)
-}
-
-// What was found, or why nothing was.
-fn found_of(found: Result<Findings, ListingStop>) -> Result<Findings, Stop>
-    ensures { result ≡ told_by found }
-{
-    match found {
-        Ok(found) => Ok(found),
-        Err(ListingStop::Memory) => Err(Stop::Memory),
-        Err(ListingStop::Device) => Err(Stop::Device),
-    }
+    found
 }

@@ -8,12 +8,11 @@ ghost use Rattle.tl_lists.specs.Listed.{TellsText};
 
 use tl_answers::stop::{DONE, MAP_FAULT, REFUSED, stopped};
 use tl_listing::{Listing, print_listing};
-use tl_output::write_all;
+use tl_output::{Stop, write_all};
 use tl_record::Sink;
-use tl_verdict::Stop;
 
 /// Writes a listing, or the first `most` of it, and gives its status; where the write fails, that of a stop.
-pub fn tell_listing<W: Sink, E: Sink>(
+pub fn write_listing<W: Sink, E: Sink>(
     listing: &Listing,
     most: Option<u64>,
     out: &mut W,
@@ -41,7 +40,7 @@ fn status_of(listing: &Listing) -> u8
 }
 
 /// Writes the text of faults, and gives their status.
-pub(crate) fn tell_text<W: Sink, E: Sink>(text: &[u8], out: &mut W, err: &mut E) -> u8
+pub(crate) fn write_text<W: Sink, E: Sink>(text: &[u8], out: &mut W, err: &mut E) -> u8
     ensures { TellsText text.now result (Writes W.contents W.failure_count out.old out.new)
         (TriesToWrite E.contents E.failure_count err.old err.new) (WritesSome W.contents W.failure_count out.old out.new)
         (err.new ≡ err.old) }

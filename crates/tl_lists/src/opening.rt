@@ -1,7 +1,6 @@
 //! Lists over files: the file may be made, and what is found is told.
 
 ghost use Rattle.std.specs.Prelude.{◌≡◌, false, map, option_map, string_bytes};
-ghost use Rattle.tl_record.specs.Layout.{layout_with};
 ghost use Rattle.tl_text.specs.Joining.{joined_bytes};
 ghost use Rattle.tl_files.specs.Files.{bytes_under};
 ghost use Rattle.tl_output.specs.Writing.{Writes, WritesSome};
@@ -10,7 +9,7 @@ ghost use Rattle.tl_lists.specs.Listed.{Lists, ListFails};
 
 use crate::collection::room_of;
 use crate::found::find_all;
-use crate::telling::tell_found;
+use crate::telling::write_found;
 use std::alloc::Global;
 use std::hash::RandomState;
 use tl_answers::stop::stopped;
@@ -34,7 +33,7 @@ pub fn open_and_list<F: FileSystem, W: Sink, E: Sink>(
     out: &mut W,
     err: &mut E,
 ) -> u8
-    ensures { Lists (layout_with options) (joined_bytes (bytes_under (F.under files.old)) false (map string_bytes names.now))
+    ensures { Lists options (joined_bytes (bytes_under (F.under files.old)) false (map string_bytes names.now))
         (map string_bytes names.now) told places (option_map string_bytes made.now) result
         (F.under files.old) (F.under files.new) (Writes W.contents W.failure_count out.old out.new)
         (TriesToWrite E.contents E.failure_count err.old err.new) (WritesSome W.contents W.failure_count out.old out.new)
@@ -43,7 +42,7 @@ pub fn open_and_list<F: FileSystem, W: Sink, E: Sink>(
 {
     match room_of(&*files, made, names) {
         Ok(Room::Free) => match find_all(&*files, alloc, hasher, names, options) {
-            Ok(found) => tell_found(
+            Ok(found) => write_found(
                 files, alloc, hasher, told, places, made, options, names, &found, out, err,
             ),
             Err(stop) => stopped(&stop, err),

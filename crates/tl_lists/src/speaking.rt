@@ -3,7 +3,7 @@
 ghost use Rattle.std.specs.Prelude.{◌≡◌, true, IfOk, IfErr, map, option_copied, string_bytes};
 ghost use Rattle.tl_record.specs.Layout.{layout_with};
 ghost use Rattle.tl_record_lines.specs.SpokenOf.{chains_of};
-ghost use Rattle.tl_hint.specs.Again.{IfDevice};
+ghost use Rattle.tl_output.specs.Stops.{StopsFor};
 ghost use Rattle.tl_placing.specs.Again.{AreSpoken, AgainFails};
 ghost use Rattle.tl_lists.specs.Listed.{featured};
 
@@ -11,7 +11,7 @@ use std::alloc::Global;
 use std::hash::RandomState;
 use tl_county::Map;
 use tl_files::FileSystem;
-use tl_hint::HintStop;
+use tl_output::Stop;
 use tl_placing::{Spoken, read_again};
 use tl_plan::Told;
 use tl_record::Options;
@@ -27,10 +27,10 @@ pub(crate) fn speak_of<F: FileSystem>(
     drawn: Option<&Map>,
     again: bool,
     faults: &[MapFault],
-) -> Result<Spoken, HintStop>
+) -> Result<Spoken, Stop>
     ensures spoken { IfOk result (λ spoken. again ≡ true → AreSpoken (layout_with options) (F.under files.now)
         (map string_bytes names.now) (chains_of (option_copied drawn.entry)) faults.now spoken) }
-    ensures stops { IfErr result (IfDevice ((again ≡ true)
+    ensures stops { IfErr result (StopsFor ((again ≡ true)
         × AgainFails F.Reader.failure_count (F.under files.now) (map string_bytes names.now))) }
 {
     if again {

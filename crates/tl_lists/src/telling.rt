@@ -1,7 +1,7 @@
 //! What was found, and how it is told.
 
 ghost use Rattle.std.specs.Prelude.{◌≡◌, ℕ, Bool, true, List, Option, IfSome, map, option_map, option_copied, string_bytes};
-ghost use Rattle.tl_record.specs.declared.layout.Layout.{Layout};
+ghost use Rattle.tl_record.specs.declared.options.Options.{Options};
 ghost use Rattle.tl_record.specs.Layout.{layout_with};
 ghost use Rattle.tl_county.specs.TheMap.{MapChain};
 ghost use Rattle.tl_output.specs.Writing.{Writes, WritesSome};
@@ -17,7 +17,7 @@ ghost use Rattle.tl_lists.specs.Listed.{Lists, TellingFails, TellsText, AreFault
 ghost use Rattle.tl_lists.specs.Keeping.{IsPrepared, IsSoundOne, AreRefusalsIn, first_stop, most_of};
 
 use crate::collection::make_collection;
-use crate::listing::{tell_listing, tell_text};
+use crate::listing::{write_listing, write_text};
 use crate::prepared::prepare;
 use crate::speaking::{featured, speak_of};
 use std::alloc::Global;
@@ -25,15 +25,15 @@ use std::hash::RandomState;
 use tl_all_faults::Findings;
 use tl_answers::stop::stopped;
 use tl_files::FileSystem;
-use tl_hint::HintStop;
 use tl_listing::Listing;
+use tl_output::Stop;
 use tl_placing::Spoken;
 use tl_plan::Told;
 use tl_record::{Options, Refusal, Sink};
-use tl_verdict::{MapFault, Stop};
+use tl_verdict::MapFault;
 
 /// Tells what was found in files of these names, and makes the file that is asked for; gives the program's exit status.
-pub(crate) fn tell_found<F: FileSystem, W: Sink, E: Sink>(
+pub(crate) fn write_found<F: FileSystem, W: Sink, E: Sink>(
     files: &mut F,
     alloc: Global,
     hasher: RandomState,
@@ -46,20 +46,20 @@ pub(crate) fn tell_found<F: FileSystem, W: Sink, E: Sink>(
     out: &mut W,
     err: &mut E,
 ) -> u8
-    ensures { (known : Option (List ℕ)) → IfSome known (λ text. AreFindingsOf (layout_with options) text found.now) →
-        Lists (layout_with options) known (map string_bytes names.now) told places (option_map string_bytes made.now) result
+    ensures { (known : Option (List ℕ)) → IfSome known (λ text. AreFindingsOf options text found.now) →
+        Lists options known (map string_bytes names.now) told places (option_map string_bytes made.now) result
         (F.under files.old) (F.under files.new) (Writes W.contents W.failure_count out.old out.new)
         (TriesToWrite E.contents E.failure_count err.old err.new) (WritesSome W.contents W.failure_count out.old out.new)
         (TellingFails F.Reader.failure_count F.Draft.failure_count F.knows (F.under files.old) places
         (option_map string_bytes made.now) (map string_bytes names.now)) (out.new ≡ out.old) (err.new ≡ err.old) }
 {
     match &found.listing {
-        Listing::Sound(_) => tell_sound(files, alloc, hasher, made, names, found, out, err),
-        Listing::Refused(list) => tell_refused(found, list.as_slice(), told, out, err),
+        Listing::Sound(_) => write_sound(files, alloc, hasher, made, names, found, out, err),
+        Listing::Refused(list) => write_refused(found, list.as_slice(), told, out, err),
         Listing::Faults {
             faults,
             points_left,
-        } => tell_faults(
+        } => write_faults(
             files,
             alloc,
             hasher,
@@ -78,7 +78,7 @@ pub(crate) fn tell_found<F: FileSystem, W: Sink, E: Sink>(
 }
 
 // Tells that the map is sound. Of no fault the file that is asked for has a feature.
-fn tell_sound<F: FileSystem, W: Sink, E: Sink>(
+fn write_sound<F: FileSystem, W: Sink, E: Sink>(
     files: &mut F,
     alloc: Global,
     hasher: RandomState,
@@ -88,9 +88,9 @@ fn tell_sound<F: FileSystem, W: Sink, E: Sink>(
     out: &mut W,
     err: &mut E,
 ) -> u8
-    ensures { (layout : Layout) (known : Option (List ℕ)) (told : Told) (places : Bool) →
-        IfSome known (λ text. AreFindingsOf layout text found.now) → IsSoundOne found.now.listing →
-        Lists layout known (map string_bytes names.now) told places (option_map string_bytes made.now) result
+    ensures { (options : Options) (known : Option (List ℕ)) (told : Told) (places : Bool) →
+        IfSome known (λ text. AreFindingsOf options text found.now) → IsSoundOne found.now.listing →
+        Lists options known (map string_bytes names.now) told places (option_map string_bytes made.now) result
         (F.under files.old) (F.under files.new) (Writes W.contents W.failure_count out.old out.new)
         (TriesToWrite E.contents E.failure_count err.old err.new) (WritesSome W.contents W.failure_count out.old out.new)
         (NewFileFails F.Draft.failure_count F.knows) (out.new ≡ out.old) (err.new ≡ err.old) }
@@ -99,28 +99,28 @@ fn tell_sound<F: FileSystem, W: Sink, E: Sink>(
         return stopped(&Stop::Memory, err);
     };
     match make_collection(files, alloc, made, names, None, &nothing, &[]) {
-        Ok(()) => tell_listing(&found.listing, None, out, err),
+        Ok(()) => write_listing(&found.listing, None, out, err),
         Err(stop) => stopped(&stop, err),
     }
 }
 
 // Tells lines that are refused: the first, or all, or so many from the front. No file is made.
-fn tell_refused<W: Sink, E: Sink>(
+fn write_refused<W: Sink, E: Sink>(
     found: &Findings,
     list: &[Refusal],
     told: Told,
     out: &mut W,
     err: &mut E,
 ) -> u8
-    ensures { (layout : Layout) (known : Option (List ℕ)) (names : List (List ℕ)) (places : Bool) (made : Option (List ℕ))
+    ensures { (options : Options) (known : Option (List ℕ)) (names : List (List ℕ)) (places : Bool) (made : Option (List ℕ))
         (under : List ℕ → Option (Option (List ℕ))) →
-        IfSome known (λ text. AreFindingsOf layout text found.now) → AreRefusalsIn found.now.listing list.now →
-        Lists layout known names told places made result under under (Writes W.contents W.failure_count out.old out.new)
+        IfSome known (λ text. AreFindingsOf options text found.now) → AreRefusalsIn found.now.listing list.now →
+        Lists options known names told places made result under under (Writes W.contents W.failure_count out.old out.new)
         (TriesToWrite E.contents E.failure_count err.old err.new) (WritesSome W.contents W.failure_count out.old out.new)
         ⊥ (out.new ≡ out.old) (err.new ≡ err.old) }
 {
     match told {
-        Told::All(most) => tell_listing(&found.listing, most, out, err),
+        Told::All(most) => write_listing(&found.listing, most, out, err),
         Told::One => stopped(&first_stop(list), err),
     }
 }
@@ -139,7 +139,7 @@ fn first_stop(list: &[Refusal]) -> Stop
 }
 
 // Tells faults, and makes the file of them that is asked for.
-fn tell_faults<F: FileSystem, W: Sink, E: Sink>(
+fn write_faults<F: FileSystem, W: Sink, E: Sink>(
     files: &mut F,
     alloc: Global,
     hasher: RandomState,
@@ -154,9 +154,9 @@ fn tell_faults<F: FileSystem, W: Sink, E: Sink>(
     out: &mut W,
     err: &mut E,
 ) -> u8
-    ensures { (known : Option (List ℕ)) → IfSome known (λ text. AreFindingsOf (layout_with options) text found.now) →
+    ensures { (known : Option (List ℕ)) → IfSome known (λ text. AreFindingsOf options text found.now) →
         AreFaultsIn found.now.listing faults.now points_left →
-        Lists (layout_with options) known (map string_bytes names.now) told places (option_map string_bytes made.now) result
+        Lists options known (map string_bytes names.now) told places (option_map string_bytes made.now) result
         (F.under files.old) (F.under files.new) (Writes W.contents W.failure_count out.old out.new)
         (TriesToWrite E.contents E.failure_count err.old err.new) (WritesSome W.contents W.failure_count out.old out.new)
         (TellingFails F.Reader.failure_count F.Draft.failure_count F.knows (F.under files.old) places
@@ -174,7 +174,7 @@ fn tell_faults<F: FileSystem, W: Sink, E: Sink>(
         again,
         featured(told, faults),
     ) {
-        Ok(spoken) => tell_spoken(
+        Ok(spoken) => write_spoken(
             files,
             alloc,
             told,
@@ -188,8 +188,7 @@ fn tell_faults<F: FileSystem, W: Sink, E: Sink>(
             out,
             err,
         ),
-        Err(HintStop::Memory) => stopped(&Stop::Memory, err),
-        Err(HintStop::Device) => stopped(&Stop::Device, err),
+        Err(stop) => stopped(&stop, err),
     }
 }
 
@@ -204,7 +203,7 @@ fn reads_again(places: bool, made: &Option<String>) -> bool
 }
 
 // Tells faults of which it is known what they speak of, and makes the file that is asked for.
-fn tell_spoken<F: FileSystem, W: Sink, E: Sink>(
+fn write_spoken<F: FileSystem, W: Sink, E: Sink>(
     files: &mut F,
     alloc: Global,
     told: Told,
@@ -218,11 +217,11 @@ fn tell_spoken<F: FileSystem, W: Sink, E: Sink>(
     out: &mut W,
     err: &mut E,
 ) -> u8
-    ensures { (layout : Layout) (known : Option (List ℕ)) → IfSome known (λ text. AreFindingsOf layout text found.now) →
+    ensures { (options : Options) (known : Option (List ℕ)) → IfSome known (λ text. AreFindingsOf options text found.now) →
         AreFaultsIn found.now.listing faults.now points_left →
-        (reads_again places (option_map string_bytes made.now) ≡ true → AreSpoken layout (F.under files.old) (map string_bytes names.now)
+        (reads_again places (option_map string_bytes made.now) ≡ true → AreSpoken (layout_with options) (F.under files.old) (map string_bytes names.now)
         (chains_of found.now.map) (featured told faults.now) spoken.now) →
-        Lists layout known (map string_bytes names.now) told places (option_map string_bytes made.now) result
+        Lists options known (map string_bytes names.now) told places (option_map string_bytes made.now) result
         (F.under files.old) (F.under files.new) (Writes W.contents W.failure_count out.old out.new)
         (TriesToWrite E.contents E.failure_count err.old err.new) (WritesSome W.contents W.failure_count out.old out.new)
         (NewFileFails F.Draft.failure_count F.knows) (out.new ≡ out.old) (err.new ≡ err.old) }
@@ -242,13 +241,13 @@ fn tell_spoken<F: FileSystem, W: Sink, E: Sink>(
     };
     let shown = featured(told, faults);
     match make_collection(files, alloc, made, names, drawn, spoken, shown) {
-        Ok(()) => tell_prepared(&text, &found.listing, told, out, err),
+        Ok(()) => write_prepared(&text, &found.listing, told, out, err),
         Err(stop) => stopped(&stop, err),
     }
 }
 
 // Writes what was prepared of faults, or the listing.
-fn tell_prepared<W: Sink, E: Sink>(
+fn write_prepared<W: Sink, E: Sink>(
     text: &Option<Vec<u8>>,
     listing: &Listing,
     told: Told,
@@ -263,8 +262,8 @@ fn tell_prepared<W: Sink, E: Sink>(
         (WritesSome W.contents W.failure_count out.old out.new) (err.new ≡ err.old) }
 {
     match text {
-        Some(text) => tell_text(text.as_slice(), out, err),
-        None => tell_listing(listing, most_of(told), out, err),
+        Some(text) => write_text(text.as_slice(), out, err),
+        None => write_listing(listing, most_of(told), out, err),
     }
 }
 

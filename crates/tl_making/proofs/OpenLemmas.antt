@@ -5,7 +5,6 @@ use Rattle.std.specs.Option.{IfSome, option_map}
 use Rattle.std.specs.Fmt.{option_append}
 use Rattle.std.specs.Io.KnownBytes.{Appends}
 use Rattle.tl_record.specs.Failures.{one_more}
-use Rattle.tl_record.specs.declared.layout.Layout.{Layout}
 use Rattle.tl_record.specs.declared.options.Options.{Options}
 use Rattle.tl_record.specs.Layout.{layout_with}
 use Rattle.tl_text.specs.Joining.{joined_bytes, closed}
@@ -14,23 +13,21 @@ use Rattle.tl_output.specs.Writing.{line_of}
 use Rattle.tl_files.specs.declared.beginning.FileKind.TheVariants.{Certificate}
 use Rattle.tl_files.specs.declared.file_system.Room.{Room}
 use Rattle.tl_files.specs.declared.file_system.Room.TheVariants.{Free, Taken, IsRead}
-use Rattle.tl_files.specs.Files.{Known, Under, bytes_of, bytes_under, standing, beside, IsRoom, OfDevice}
-use Rattle.tl_files.specs.declared.file_system.FileStop.{FileStop}
-use Rattle.tl_files.specs.declared.file_system.FileStop.TheVariants as file
+use Rattle.tl_files.specs.Files.{Known, Under, bytes_of, bytes_under, standing, beside, IsRoom}
 use Rattle.tl_cert.specs.Text.{certificate_text}
 use Rattle.tl_cert.specs.declared.stop.CertStop.{CertStop}
 use Rattle.tl_cert.specs.declared.stop.CertStop.TheVariants as cert_stop
 use Rattle.tl_verdict.specs.declared.verdict.Verdict.TheVariants as verdict
 use Rattle.tl_verdict.specs.declared.fault.MapFault.{MapFault}
-use Rattle.tl_verdict.specs.declared.fault.MapFault.TheVariants.{Records, Meet, Side, PolygonPoint, Cell}
+use Rattle.tl_verdict.specs.declared.fault.MapFault.TheVariants.{Records, Meet, Side, PolygonPoint, Cell, Face}
 use Rattle.tl_verdict.specs.Records.{LeavesUnread}
 use Rattle.tl_plan.specs.declared.plan.Plan.{Plan}
 use Rattle.tl_plan.specs.declared.plan.Plan.TheVariants.{Show, Landmarks, Locate, Convert, Check, Audit, Build}
-use Rattle.tl_making.specs.declared.building.Making.{Making}
-use Rattle.tl_making.specs.declared.building.Making.TheVariants.{Made, Fault}
+use Rattle.tl_build.specs.declared.answer.Audit.{Audit as Audited}
+use Rattle.tl_build.specs.declared.answer.Audit.TheVariants.{Sound, Fault}
 use Rattle.tl_answers.specs.declared.convert.Converted.{Converted}
-use Rattle.tl_verdict.specs.declared.stop.Stop.{Stop}
-use Rattle.tl_verdict.specs.declared.stop.Stop.TheVariants.{Record, Memory, Device, Budget}
+use Rattle.tl_output.specs.declared.stop.Stop.{Stop}
+use Rattle.tl_output.specs.declared.stop.Stop.TheVariants.{Record, Memory, Device, Budget}
 use Rattle.tl_answers.specs.declared.stop.TheConstants.{DONE, MAP_FAULT, CERT_FAULT, REFUSED, STOPPED, USAGE}
 use Rattle.tl_answers.specs.Running.{IsAnswered, IsBuilt, IsConverted, BreaksOff, FaultsMap, NamesFault, MayBeSearched, FaultsCertificate, TellsRefused, StopsRun, NamesStop, IsTold, IsRunStatus, ReadsNoCertificate, MakesNoCertificate}
 use Rattle.tl_making.specs.Making.{Makes, TellsMaking, was_made}
@@ -38,7 +35,8 @@ use Rattle.tl_answers.specs.Beginnings.{OfMap, IsBegunOf}
 use Rattle.tl_answers.specs.Rewriting.{Rewrites, TellsConverted}
 use Rattle.tl_answers.specs.Beginnings.{BeginsRewritten}
 use Rattle.tl_answers.specs.Deciding.{IsExact}
-use Rattle.tl_making.specs.Opening.{RunsOver, records_under, certificate_under, Stands, KeepsOthers, KeepsAll, RefusesName, taken_text, IsBuildOf, IsCheckBy, IsConversionBy, Converts, IsNamed, FilesFail, names_read, read_by, made_by, StopsOpening, StopsOpeningAll, told_of}
+use Rattle.tl_making.specs.Opening.{RunsOver, records_under, certificate_under, Stands, KeepsOthers, KeepsAll, RefusesName, taken_text, IsBuildOf, IsCheckBy, IsConversionBy, Converts, IsNamed, FilesFail, names_read, read_by, made_by, StopsOpeningAll}
+use Rattle.tl_output.specs.Stops.{StopsFor}
 use Rattle.std.proofs.lemmas.List.{get_or-map, length-map}
 use Rattle.tl_answers.proofs.DecidingLemmas.{build_decides}
 use Rattle.tl_making.proofs.MakingLemmas.{stays_unless, not_done, making_status, making_built, making_fault, making_refused, making_stopped, making_err_stays}
@@ -72,8 +70,8 @@ records_are f h plan under readers names same files =
 
 -- ---- a run that makes no file
 
-fault_read_of : (layout : Layout) (known : Option (List ℕ)) (unread searched : Type 0) (wrote : List ℕ → Type 0) → NamesFault layout known unread searched wrote → NamesFault layout known ⊤ searched wrote
-fault_read_of layout known unread searched wrote is = record { fault = is.fault; written = is.written; holds = is.holds; alone = alone is.fault; behind = is.behind }
+fault_read_of : (options : Options) (known : Option (List ℕ)) (unread searched : Type 0) (wrote : List ℕ → Type 0) → NamesFault options known unread searched wrote → NamesFault options known ⊤ searched wrote
+fault_read_of options known unread searched wrote is = record { fault = is.fault; written = is.written; holds = is.holds; alone = alone is.fault; behind = is.behind }
   where
     alone : (fault : MapFault) → LeavesUnread (Ok (verdict.MapFault fault)) ⊤
     alone (Records fault) = tt
@@ -81,6 +79,7 @@ fault_read_of layout known unread searched wrote is = record { fault = is.fault;
     alone (Side node first next) = tt
     alone (PolygonPoint fault) = tt
     alone (Cell odds) = tt
+    alone (Face fault) = tt
 
 -- a fault, with nothing said of the certificate
 fault_read : (plan : Plan) (known spelt : Option (List ℕ)) (unread : Type 0) (wrote : List ℕ → Type 0) → FaultsMap plan known spelt unread wrote → FaultsMap plan known spelt ⊤ wrote
@@ -88,7 +87,7 @@ fault_read (Show options files) known spelt unread wrote is = is
 fault_read (Landmarks options files) known spelt unread wrote is = is
 fault_read (Locate point options files) known spelt unread wrote is = is
 fault_read (Convert cert to) known spelt unread wrote is = is
-fault_read (Check cert budget options files) known spelt unread wrote is = fault_read_of (layout_with options) known unread (MayBeSearched (layout_with options) known spelt) wrote is
+fault_read (Check cert budget options files) known spelt unread wrote is = fault_read_of options known unread (MayBeSearched (layout_with options) known spelt) wrote is
 fault_read (Audit options files) known spelt unread wrote is = is
 fault_read (Build to options files) known spelt unread wrote is = is
 
@@ -236,14 +235,11 @@ none_failed count none more =
     omega (arith, e)
 
 -- where nothing is known of a name, its bytes aren't
-pub unknown_bytes : (stop : FileStop) (known : Known) → OfDevice (known ≡ None) stop → OfDevice (bytes_of known ≡ None) stop
-unknown_bytes file.Memory known may = tt
-unknown_bytes file.Device known may = ap bytes_of may
-
--- what is told of a file's stop
-pub stops_opening : (failed : Type 0) (stop : FileStop) → OfDevice failed stop → StopsOpening failed (told_of stop)
-stops_opening failed file.Memory may = tt
-stops_opening failed file.Device may = may
+pub unknown_bytes : (stop : Stop) (known : Known) → StopsFor (known ≡ None) stop → StopsFor (bytes_of known ≡ None) stop
+unknown_bytes (Record line cause) known may = may
+unknown_bytes Memory known may = tt
+unknown_bytes Device known may = ap bytes_of may
+unknown_bytes Budget known may = may
 
 -- ---- a run that is stopped before it begins, or where a file may not take its name
 
@@ -273,14 +269,14 @@ others_too None before after all name differs = all name tt
 others_too (Some m) before after all name differs = all name differs.1
 
 -- the line of a stop at files was told: `why` says what failed
-stop_at_files : (stop : Stop) (status : ℕ) (told : List ℕ → Type 0) (why failed same cut : Type 0) → StopsOpening why stop → (why → failed) → same → IsTold stop status told
+stop_at_files : (stop : Stop) (status : ℕ) (told : List ℕ → Type 0) (why failed same cut : Type 0) → StopsFor why stop → (why → failed) → same → IsTold stop status told
     → (status ≡ STOPPED) × NamesStop told failed ⊤ same cut
 stop_at_files (Record line cause) status told why failed same cut may leads stays is = absurd may
 stop_at_files Memory status told why failed same cut may leads stays is = (is.0, inl (is.1, tt, stays))
 stop_at_files Device status told why failed same cut may leads stays is = (is.0, inr (is.1, inl (leads may, stays)))
 stop_at_files Budget status told why failed same cut may leads stays is = absurd may
 
-pub over_stop : (plan : Plan) (stop : Stop) (status : ℕ) (before after : Under) (wrote told part : List ℕ → Type 0) (why failed out_same err_same : Type 0) → StopsOpening why stop → (why → failed) → out_same
+pub over_stop : (plan : Plan) (stop : Stop) (status : ℕ) (before after : Under) (wrote told part : List ℕ → Type 0) (why failed out_same err_same : Type 0) → StopsFor why stop → (why → failed) → out_same
     → IsTold stop status told → KeepsAll before after plan → RunsOver plan status before after wrote told part failed out_same err_same
 over_stop plan stop status before after wrote told part why failed out_same err_same may leads stays is all =
     let names = stop_at_files stop status told why failed out_same (BreaksOff plan (records_under before plan) (certificate_under before plan) ⊤ (Stands after plan) part) may leads stays is in
@@ -303,7 +299,7 @@ over_stop plan stop status before after wrote told part why failed out_same err_
 
 -- one of the plan's names can't be opened, or a new file can't be made, or takes no name
 pub over_unopened : {R D : Type 0} (reads : R → ℕ) (writes : D → ℕ) (knows : Bool) (plan : Plan) (name : List ℕ) (stop : Stop) (status : ℕ) (before : Under) (wrote told part : List ℕ → Type 0)
-    (out_same err_same : Type 0) → IsNamed plan name → StopsOpening (bytes_under before name ≡ None) stop → out_same → IsTold stop status told
+    (out_same err_same : Type 0) → IsNamed plan name → StopsFor (bytes_under before name ≡ None) stop → out_same → IsTold stop status told
     → RunsOver plan status before before wrote told part (FilesFail reads writes knows before plan) out_same err_same
 over_unopened reads writes knows plan name stop status before wrote told part out_same err_same named may stays is =
     over_stop plan stop status before before wrote told part (bytes_under before name ≡ None) (FilesFail reads writes knows before plan) out_same err_same may (λ unknown. inl (name, named, unknown)) stays is
@@ -318,7 +314,7 @@ over_unopened_records reads writes knows plan names stop status before wrote tol
     (λ other differs. refl)
 
 pub over_unmade : {R D : Type 0} (reads : R → ℕ) (writes : D → ℕ) (knows : Bool) (plan : Plan) (stop : Stop) (status : ℕ) (before after : Under) (wrote told part : List ℕ → Type 0)
-    (out_same err_same : Type 0) → StopsOpening (knows ≡ false) stop → out_same → IsTold stop status told → KeepsAll before after plan
+    (out_same err_same : Type 0) → StopsFor (knows ≡ false) stop → out_same → IsTold stop status told → KeepsAll before after plan
     → RunsOver plan status before after wrote told part (FilesFail reads writes knows before plan) out_same err_same
 over_unmade reads writes knows plan stop status before after wrote told part out_same err_same may stays is all =
     over_stop plan stop status before after wrote told part (knows ≡ false) (FilesFail reads writes knows before plan) out_same err_same may (λ unknown. inr (inr (inl unknown))) stays is all
@@ -328,10 +324,12 @@ among : {X : Type 0} (f : X → List ℕ) (xs : List X) (i : ℕ) (x : X) → i 
 among f xs i x lt at = let long = length-map xs f in (i, omega (arith, lt, long), get_or-map f xs i x (f x) lt ∙ ap f (sym at))
 
 -- one of the files of these names can't be opened
-pub unopened_item : {X : Type 0} (f : X → List ℕ) (under : Under) (xs : List X) (i : ℕ) (x : X) (stop : FileStop) → i < length xs → x ≡ get_or xs i x → OfDevice (bytes_under under (f x) ≡ None) stop
-    → StopsOpeningAll under (map f xs) (told_of stop)
-unopened_item f under xs i x file.Memory lt at may = tt
-unopened_item f under xs i x file.Device lt at may = (f x, among f xs i x lt at, may)
+pub unopened_item : {X : Type 0} (f : X → List ℕ) (under : Under) (xs : List X) (i : ℕ) (x : X) (stop : Stop) → i < length xs → x ≡ get_or xs i x → StopsFor (bytes_under under (f x) ≡ None) stop
+    → StopsOpeningAll under (map f xs) stop
+unopened_item f under xs i x (Record line cause) lt at may = may
+unopened_item f under xs i x Memory lt at may = tt
+unopened_item f under xs i x Device lt at may = (f x, among f xs i x lt at, may)
+unopened_item f under xs i x Budget lt at may = may
 
 -- the line of what is wrong with a name was told
 abbrev pub SaysRoom : Room → (List ℕ → Type 0) → Type 0
@@ -418,18 +416,18 @@ keeps_all plan name before after is stays other differs =
 -- ---- a certificate that is made
 
 -- where it is told that it was written, it was
-is_made : (making : Result Making Stop) (status : ℕ) (wrote told part : List ℕ → Type 0) (out_same err_same : Type 0) → TellsMaking making status wrote told part out_same err_same → status ≡ DONE
+is_made : (making : Result Audited Stop) (status : ℕ) (wrote told part : List ℕ → Type 0) (out_same err_same : Type 0) → TellsMaking making status wrote told part out_same err_same → status ≡ DONE
     → was_made making ≡ true
-is_made (Ok (Made report)) status wrote told part out_same err_same tells done = refl
+is_made (Ok (Sound report)) status wrote told part out_same err_same tells done = refl
 is_made (Ok (Fault fault)) status wrote told part out_same err_same (inl is) done = cc (sym is.0 ∙ done)
 is_made (Ok (Fault fault)) status wrote told part out_same err_same (inr is) done = cc (sym is.0 ∙ done)
 is_made (Err stop) status wrote told part out_same err_same tells done = absurd ((not_done stop status told tells.0).0 done)
 
 -- where another thing is told and no stop, it wasn't
-not_made : (making : Result Making Stop) (status : ℕ) (wrote told part : List ℕ → Type 0) (out_same err_same : Type 0) → TellsMaking making status wrote told part out_same err_same → status ≢ DONE → status ≢ STOPPED
+not_made : (making : Result Audited Stop) (status : ℕ) (wrote told part : List ℕ → Type 0) (out_same err_same : Type 0) → TellsMaking making status wrote told part out_same err_same → status ≢ DONE → status ≢ STOPPED
     → was_made making ≡ false
-not_made (Ok (Made report)) status wrote told part out_same err_same (inl is) no_done no_stop = absurd (no_done is.0)
-not_made (Ok (Made report)) status wrote told part out_same err_same (inr is) no_done no_stop = absurd (no_stop is.0)
+not_made (Ok (Sound report)) status wrote told part out_same err_same (inl is) no_done no_stop = absurd (no_done is.0)
+not_made (Ok (Sound report)) status wrote told part out_same err_same (inr is) no_done no_stop = absurd (no_stop is.0)
 not_made (Ok (Fault fault)) status wrote told part out_same err_same tells no_done no_stop = refl
 not_made (Err stop) status wrote told part out_same err_same tells no_done no_stop = refl
 
@@ -455,18 +453,18 @@ stands made knows after name old new text is was now empty grown kept = rw (is, 
     go (Some bytes) (Some more) a b none grows = ap Some (rw none at grows)
 
 -- a certificate that is valid stands, or each name is as it was
-whole_or_none : (layout : Layout) (known : Option (List ℕ)) (made begun : List ℕ → Type 0) (same failed : Type 0) (plan : Plan) (before after : Under) (making : Result Making Stop)
-    → Makes layout known made begun same failed making → (was_made making ≡ true → (text : List ℕ) → made text → Stands after plan text) → (was_made making ≡ false → KeepsAll before after plan)
-    → KeepsAll before after plan ⊎ OfMap layout known (λ m. IsBegunOf m (Stands after plan))
-whole_or_none layout known made begun same failed plan before after (Ok (Made report)) makes kept unkept =
+whole_or_none : (options : Options) (known : Option (List ℕ)) (made begun : List ℕ → Type 0) (same failed : Type 0) (plan : Plan) (before after : Under) (making : Result Audited Stop)
+    → Makes options known made begun same failed making → (was_made making ≡ true → (text : List ℕ) → made text → Stands after plan text) → (was_made making ≡ false → KeepsAll before after plan)
+    → KeepsAll before after plan ⊎ OfMap (layout_with options) known (λ m. IsBegunOf m (Stands after plan))
+whole_or_none options known made begun same failed plan before after (Ok (Sound report)) makes kept unkept =
     let it = makes.2 in
     inr (makes.0, makes.1, record { certificate = it.certificate; valid = it.valid; kept = kept refl (certificate_text it.certificate) it.kept })
-whole_or_none layout known made begun same failed plan before after (Ok (Fault fault)) makes kept unkept = inl (unkept refl)
-whole_or_none layout known made begun same failed plan before after (Err stop) makes kept unkept = inl (unkept refl)
+whole_or_none options known made begun same failed plan before after (Ok (Fault fault)) makes kept unkept = inl (unkept refl)
+whole_or_none options known made begun same failed plan before after (Err stop) makes kept unkept = inl (unkept refl)
 
 -- what was written into a file stands under its name
-built_stands : (layout : Layout) (known : Option (List ℕ)) (made kept wrote : List ℕ → Type 0) → ((text : List ℕ) → made text → kept text) → IsBuilt layout known made wrote → IsBuilt layout known kept wrote
-built_stands layout known made kept wrote stand it = record {
+built_stands : (options : Options) (known : Option (List ℕ)) (made kept wrote : List ℕ → Type 0) → ((text : List ℕ) → made text → kept text) → IsBuilt options known made wrote → IsBuilt options known kept wrote
+built_stands options known made kept wrote stand it = record {
   map = it.map;
   built = record {
     certificate = it.built.certificate;
@@ -492,31 +490,30 @@ converted_stands known made kept wrote stand it = record {
 
 -- the records' fault, refusal or certificate was told, and the file took its name or was taken away
 pub over_build : (plan : Plan) (name : List ℕ) (chosen : Options) (before after : Under) (known : Option (List ℕ)) (made begun wrote told part : List ℕ → Type 0) (same failed out_same err_same any : Type 0)
-    (making : Result Making Stop) (status : ℕ) → (failed → any) → IsBuildOf plan name chosen → known ≡ records_under before plan → Makes (layout_with chosen) known made begun same failed making
+    (making : Result Audited Stop) (status : ℕ) → (failed → any) → IsBuildOf plan name chosen → known ≡ records_under before plan → Makes chosen known made begun same failed making
     → TellsMaking making status wrote told part out_same err_same → KeepsOthers before after plan → (was_made making ≡ true → (text : List ℕ) → made text → Stands after plan text)
     → (was_made making ≡ false → KeepsAll before after plan) → RunsOver plan status before after wrote told part any out_same err_same
 over_build (Build to options files) name chosen before after known made begun wrote told part same failed out_same err_same any making status weaker of is_known makes_chosen tells others kept unkept =
     let plan : Plan = Build to options files in
     let all : Option (List ℕ) = records_under before plan in
-    let layout : Layout = layout_with options in
-    let makes : Makes layout all made begun same failed making =
-    subst (λ (o : Options). Makes (layout_with o) all made begun same failed making) (sym of.1) (subst (λ (k : Option (List ℕ)). Makes (layout_with chosen) k made begun same failed making) is_known makes_chosen) in
+    let makes : Makes options all made begun same failed making =
+    subst (λ (o : Options). Makes o all made begun same failed making) (sym of.1) (subst (λ (k : Option (List ℕ)). Makes chosen k made begun same failed making) is_known makes_chosen) in
     let statuses = making_status making status wrote told part out_same err_same tells in
-    let built : status ≡ DONE → IsBuilt layout all (Stands after plan) wrote = λ done.
-    built_stands layout all made (Stands after plan) wrote (kept (is_made making status wrote told part out_same err_same tells done))
-    (making_built layout all made begun wrote told part same failed out_same err_same making status makes tells done) in
-    let faulty = making_fault layout all made begun wrote told part same failed out_same err_same making status makes tells in
+    let built : status ≡ DONE → IsBuilt options all (Stands after plan) wrote = λ done.
+    built_stands options all made (Stands after plan) wrote (kept (is_made making status wrote told part out_same err_same tells done))
+    (making_built options all made begun wrote told part same failed out_same err_same making status makes tells done) in
+    let faulty = making_fault options all made begun wrote told part same failed out_same err_same making status makes tells in
     record {
       is_status = inl (run_status status statuses);
       answered = built;
       fault = faulty;
-      exactly = build_decides layout all ⊤ ⊤ (Stands after plan) wrote status built faulty;
+      exactly = build_decides options all ⊤ ⊤ (Stands after plan) wrote status built faulty;
       cert_fault = λ e. absurd (no_cert_fault status statuses e);
       refused = λ e.
-          let told_so = making_refused layout all made begun wrote told part same failed out_same err_same making status makes tells e in
+          let told_so = making_refused options all made begun wrote told part same failed out_same err_same making status makes tells e in
           (told_so.0, told_so.1);
-      stopped = λ e. inl (making_stopped layout all made begun wrote told part same failed out_same err_same any ⊤ (BreaksOff plan all (certificate_under before plan) ⊤ (Stands after plan) part) making status 0 0 weaker (λ reads written. tt)
-          (λ whole is. inl (built_stands layout all made (Stands after plan) part (kept whole) is)) (λ is. inr (inl is))
+      stopped = λ e. inl (making_stopped options all made begun wrote told part same failed out_same err_same any ⊤ (BreaksOff plan all (certificate_under before plan) ⊤ (Stands after plan) part) making status 0 0 weaker (λ reads written. tt)
+          (λ whole is. inl (built_stands options all made (Stands after plan) part (kept whole) is)) (λ is. inr (inl is))
           (stays_unless Device 0 0 making refl) makes tells e);
       usage = λ e. absurd (no_usage status (run_status status statuses) e);
       err_stays = λ any. elim any [
@@ -525,7 +522,7 @@ over_build (Build to options files) name chosen before after known made begun wr
       ];
       out_stays = λ e. absurd (no_usage status (run_status status statuses) e);
       others = others;
-      begun = λ e. whole_or_none layout all made begun same failed plan before after making makes kept unkept;
+      begun = λ e. whole_or_none options all made begun same failed plan before after making makes kept unkept;
       unmade = λ not_done not_stopped. unkept (not_made making status wrote told part out_same err_same tells not_done not_stopped);
     }
 over_build (Show options files) name chosen before after known made begun wrote told part same failed out_same err_same any making status weaker of is_known makes tells others kept unkept = absurd of

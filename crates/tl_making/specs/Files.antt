@@ -8,8 +8,8 @@ use Rattle.tl_drawn.specs.declared.fault.MapStop.TheVariants as map_stop
 use Rattle.tl_drawn.specs.Reading.{IsReadFrom}
 use Rattle.tl_files.specs.Files.{Under, beside, bytes_under}
 use Rattle.tl_text.specs.Joining.{failures_of}
-use Rattle.tl_verdict.specs.declared.stop.Stop.{Stop}
-use Rattle.tl_verdict.specs.declared.stop.Stop.TheVariants.{Record, Memory, Device, Budget}
+use Rattle.tl_output.specs.declared.stop.Stop.{Stop}
+use Rattle.tl_output.specs.Stops.{StopsFor}
 use Rattle.tl_answers.specs.Running.{HasFault, IsFirstRefusal}
 use Rattle.tl_making.specs.Opening.{SomeRead, SomeWrite}
 
@@ -41,14 +41,7 @@ KeepsEach before after name = (other : List ℕ) → other ≢ beside name → a
 abbrev pub NewFileFails : {D : Type 0} → (D → ℕ) → Bool → Type 0
 NewFileFails writes knows = (knows ≡ false) ⊎ SomeWrite writes
 
--- no file was made: for want of memory, or since it failed
-abbrev pub StopsFile : Type 0 → Stop → Type 0
-StopsFile failed (Record line cause) = ⊥
-StopsFile failed Memory = ⊤
-StopsFile failed Device = failed
-StopsFile failed Budget = ⊥
-
 -- a file of the text was made, or none was, and each name is as it was
 abbrev pub MakesFile : {T : Type 0} → Under → Under → List ℕ → Type 0 → List ℕ → Result T Stop → Type 0
 MakesFile before after name failed text (Ok done) = KeepsBut before after name × StandsUnder after name text
-MakesFile before after name failed text (Err stop) = KeepsEach before after name × StopsFile failed stop
+MakesFile before after name failed text (Err stop) = KeepsEach before after name × StopsFor failed stop

@@ -5,34 +5,28 @@
 use Rattle.std.specs.Prelude.{ℕ, List, Result, Ok, Err}
 use Rattle.tl_build.specs.declared.answer.Audit.{Audit}
 use Rattle.tl_build.specs.declared.answer.Audit.TheVariants.{Sound, Fault}
-use Rattle.tl_build.specs.declared.stop.AuditStop.{AuditStop}
-use Rattle.tl_build.specs.declared.stop.AuditStop.TheVariants as audit_stop
 use Rattle.tl_drawn.specs.declared.fault.MapStop.{MapStop}
-use Rattle.tl_drawn.specs.declared.fault.MapStop.TheVariants as map_stop
+use Rattle.tl_verdict.specs.declared.fault.MapFault.{MapFault}
 use Rattle.tl_verdict.specs.declared.verdict.Verdict.{Verdict}
 use Rattle.tl_verdict.specs.declared.verdict.Verdict.TheVariants as verdict
-use Rattle.tl_verdict.specs.declared.stop.Stop.{Stop}
-use Rattle.tl_verdict.specs.declared.stop.Stop.TheVariants.{Record, Memory, Device}
-use Rattle.tl_making.specs.declared.building.Making.{Making}
-use Rattle.tl_making.specs.declared.building.Making.TheVariants as making
-use Rattle.tl_verdict.specs.declared.fault.MapFault.TheVariants.{Records}
+use Rattle.tl_output.specs.declared.stop.Stop.{Stop}
+use Rattle.tl_verdict.specs.Stops.{unmapped}
 use Rattle.tl_answers.specs.Telling.{TellsDecision}
 
 -- the decision that an audit comes to
-abbrev pub audit_decision : Result Audit AuditStop → Result Verdict Stop
+abbrev pub audit_decision : Result Audit Stop → Result Verdict Stop
 audit_decision (Ok (Sound report)) = Ok (verdict.Sound report)
 audit_decision (Ok (Fault fault)) = Ok (verdict.MapFault fault)
-audit_decision (Err (audit_stop.Record line cause)) = Err (Record line cause)
-audit_decision (Err audit_stop.Memory) = Err Memory
-audit_decision (Err audit_stop.Device) = Err Device
+audit_decision (Err stop) = Err stop
 
 -- how the answer of an audit is told
-abbrev pub TellsAudit : Result Audit AuditStop → ℕ → (wrote told part : List ℕ → Type 0) → (out_same err_same : Type 0) → Type 0
+abbrev pub TellsAudit : Result Audit Stop → ℕ → (wrote told part : List ℕ → Type 0) → (out_same err_same : Type 0) → Type 0
 TellsAudit audited status wrote told part out_same err_same = TellsDecision (audit_decision audited) status wrote told part out_same err_same
 
 -- what comes of making a certificate of records that have no map
-abbrev pub unmade_by : MapStop → Result Making Stop
-unmade_by (map_stop.Fault fault) = Ok (making.Fault (Records fault))
-unmade_by (map_stop.Refused line cause) = Err (Record line cause)
-unmade_by map_stop.Memory = Err Memory
-unmade_by map_stop.Device = Err Device
+abbrev pub fault_or_stop : Result MapFault Stop → Result Audit Stop
+fault_or_stop (Ok fault) = Ok (Fault fault)
+fault_or_stop (Err stop) = Err stop
+
+abbrev pub unmade_by : MapStop → Result Audit Stop
+unmade_by stop = fault_or_stop (unmapped stop)

@@ -16,10 +16,9 @@ use Rattle.tl_record.specs.declared.options.Options.{Options}
 use Rattle.tl_answers.specs.Running.{IsRunStatus, IsAnswered, FaultsMap, FaultsCertificate, TellsRefused, BreaksOff, StopsRun, FailsToRead}
 use Rattle.tl_answers.specs.Deciding.{IsExact}
 use Rattle.tl_answers.specs.Beginnings.{IsBegunBy}
-use Rattle.tl_verdict.specs.declared.stop.Stop.{Stop}
-use Rattle.tl_verdict.specs.declared.stop.Stop.TheVariants.{Record, Memory, Device, Budget}
-use Rattle.tl_files.specs.declared.file_system.FileStop.{FileStop}
-use Rattle.tl_files.specs.declared.file_system.FileStop.TheVariants as file
+use Rattle.tl_output.specs.declared.stop.Stop.{Stop}
+use Rattle.tl_output.specs.declared.stop.Stop.TheVariants.{Record, Memory, Device, Budget}
+use Rattle.tl_output.specs.Stops.{StopsFor}
 
 -- the name of the certificate that is read
 abbrev pub read_by : Plan → Option (List ℕ)
@@ -145,18 +144,6 @@ pub record RunsOver (plan : Plan) (status : ℕ) (before after : Under) (wrote t
   pub begun : status ≡ STOPPED → KeepsAll before after plan ⊎ IsBegunBy plan (records_under before plan) (certificate_under before plan) (Stands after plan)
   pub unmade : (status ≢ DONE) → (status ≢ STOPPED) → KeepsAll before after plan
 
--- files aren't opened for want of memory, or where a device fails
-abbrev pub StopsOpening : Type 0 → Stop → Type 0
-StopsOpening failed (Record line cause) = ⊥
-StopsOpening failed Memory = ⊤
-StopsOpening failed Device = failed
-StopsOpening failed Budget = ⊥
-
--- the same of files of these names: of one the bytes aren't known
+-- files of these names aren't opened for want of memory, or where a device fails: of one the bytes aren't known
 abbrev pub StopsOpeningAll : Under → List (List ℕ) → Stop → Type 0
-StopsOpeningAll under names = StopsOpening ((name : List ℕ) × Contains names name × (bytes_under under name ≡ None))
-
--- what is told of a file that can't be opened or made
-abbrev pub told_of : FileStop → Stop
-told_of file.Memory = Memory
-told_of file.Device = Device
+StopsOpeningAll under names = StopsFor ((name : List ℕ) × Contains names name × (bytes_under under name ≡ None))

@@ -9,10 +9,11 @@ ghost use Rattle.tl_answers.specs.Running.{IsAudited, NamesFault, NamesRefusal, 
 
 use std::alloc::Global;
 use std::hash::RandomState;
-use tl_answers::deciding::tell_decision;
-use tl_build::{Audit, AuditStop, audit_with};
+use tl_answers::deciding::write_decision;
+use tl_build::{Audit, audit_with};
+use tl_output::Stop;
 use tl_record::{Options, Sink, Source};
-use tl_verdict::{Stop, Verdict};
+use tl_verdict::Verdict;
 
 /// Decides with no certificate given whether the map of the records is sound, and gives the program's exit status.
 pub fn audit<R: Source, W: Sink, E: Sink>(
@@ -24,9 +25,9 @@ pub fn audit<R: Source, W: Sink, E: Sink>(
     err: &mut E,
 ) -> u8
     ensures status { ((result ≡ DONE) ⊎ (result ≡ MAP_FAULT)) ⊎ ((result ≡ REFUSED) ⊎ (result ≡ STOPPED)) }
-    ensures audited { result ≡ DONE → IsAudited (layout_with options) (R.remaining records.old)
+    ensures audited { result ≡ DONE → IsAudited options (R.remaining records.old)
         (Writes W.contents W.failure_count out.old out.new) }
-    ensures fault { result ≡ MAP_FAULT → NamesFault (layout_with options) (R.remaining records.old) ⊤ ⊤
+    ensures fault { result ≡ MAP_FAULT → NamesFault options (R.remaining records.old) ⊤ ⊤
         (Writes W.contents W.failure_count out.old out.new) }
     ensures refused { result ≡ REFUSED → NamesRefusal (layout_with options) (R.remaining records.old)
         (TriesToWrite E.contents E.failure_count err.old err.new) }
@@ -34,35 +35,33 @@ pub fn audit<R: Source, W: Sink, E: Sink>(
         → NamesStop (TriesToWrite E.contents E.failure_count err.old err.new)
         (FailsToRead R.failure_count records.old records.new) (CountStays R.failure_count records.old records.new)
         (out.new ≡ out.old)
-        (IsAudited (layout_with options) (R.remaining records.old) (WritesSome W.contents W.failure_count out.old out.new)
-        ⊎ NamesFault (layout_with options) (R.remaining records.old) ⊤ ⊤ (WritesSome W.contents W.failure_count out.old out.new)) }
+        (IsAudited options (R.remaining records.old) (WritesSome W.contents W.failure_count out.old out.new)
+        ⊎ NamesFault options (R.remaining records.old) ⊤ ⊤ (WritesSome W.contents W.failure_count out.old out.new)) }
     ensures err_stays { (result ≡ DONE) ⊎ (result ≡ MAP_FAULT) → err.new ≡ err.old }
     ensures out_stays { result ≡ REFUSED → out.new ≡ out.old }
     ensures read_whole { result ≢ STOPPED → R.failure_count records.new ≡ R.failure_count records.old }
 {
     let audited = audit_with(alloc, hasher, records, options);
-    tell_audit(audited, out, err)
+    write_audit(audited, out, err)
 }
 
 // Tells the answer of an audit: the numbers of a sound map, which fault the records or their map have, or why there is
 // none.
-fn tell_audit<W: Sink, E: Sink>(audited: Result<Audit, AuditStop>, out: &mut W, err: &mut E) -> u8
+fn write_audit<W: Sink, E: Sink>(audited: Result<Audit, Stop>, out: &mut W, err: &mut E) -> u8
     ensures { TellsAudit audited result (Writes W.contents W.failure_count out.old out.new)
         (TriesToWrite E.contents E.failure_count err.old err.new) (WritesSome W.contents W.failure_count out.old out.new)
         (out.new ≡ out.old) (err.new ≡ err.old) }
 {
-    tell_decision(decision_of(audited), out, err)
+    write_decision(decision_of(audited), out, err)
 }
 
 // The decision that an audit comes to.
-fn decision_of(audited: Result<Audit, AuditStop>) -> Result<Verdict, Stop>
+fn decision_of(audited: Result<Audit, Stop>) -> Result<Verdict, Stop>
     ensures { result ≡ audit_decision audited }
 {
     match audited {
         Ok(Audit::Sound(report)) => Ok(Verdict::Sound(report)),
         Ok(Audit::Fault(fault)) => Ok(Verdict::MapFault(fault)),
-        Err(AuditStop::Record { line, cause }) => Err(Stop::Record { line, cause }),
-        Err(AuditStop::Memory) => Err(Stop::Memory),
-        Err(AuditStop::Device) => Err(Stop::Device),
+        Err(stop) => Err(stop),
     }
 }

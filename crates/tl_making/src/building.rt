@@ -3,7 +3,7 @@
 ghost use Rattle.std.specs.Prelude.{◌≡◌, ◌≢◌, ◌⊎◌, ⊤, length};
 ghost use Rattle.tl_record.specs.Layout.{layout_with};
 ghost use Rattle.tl_output.specs.Writing.{Writes, WritesSome, FailsToWrite};
-ghost use Rattle.tl_verdict.specs.Sound.{IsSound};
+ghost use Rattle.tl_verdict.specs.Sound.{IsSoundFor};
 ghost use Rattle.tl_verdict.specs.Valid.{IsValid};
 ghost use Rattle.tl_answers.specs.declared.stop.TheConstants.{DONE, MAP_FAULT, REFUSED, STOPPED};
 ghost use Rattle.tl_answers.specs.Running.{IsBuilt, NamesFault, NamesRefusal, NamesStop, FailsToRead, CountStays, StaysUnless, TriesToWrite};
@@ -16,24 +16,16 @@ use std::alloc::Global;
 use std::hash::RandomState;
 use tl_answers::reports::BuiltCertificate;
 use tl_answers::stop::{DONE, MAP_FAULT, stopped};
-use tl_answers::tell::tell_line;
-use tl_build::{BuildStop, Built};
+use tl_answers::tell::write_line;
+use tl_build::{Audit, Built, build_with};
 use tl_cert::{Certificate, write_cert};
 use tl_county::Map;
 use tl_map::{MapStop, read_map_with};
+use tl_output::Stop;
 use tl_record::{Options, Sink, Source};
-use tl_verdict::{MapFault, Report, Stop, report};
+use tl_verdict::{fault_of_records, report};
 
-/// What comes of making a certificate of records.
-#[derive(Clone, Copy)]
-pub enum Making {
-    /// It was written; the numbers are those of the map, which is sound.
-    Made(Report),
-    /// The records or their map have this fault, and nothing was written.
-    Fault(MapFault),
-}
-
-/// Makes a certificate of the records' map where that is sound, writes it to `made`, and gives the program's exit status.
+/// Makes a certificate of the records' map where that keeps what the options ask, writes it to `made`, and gives the program's exit status.
 /// Nothing is written to `made` before the records were read whole and their map was found to be sound.
 pub fn build<R: Source, C: Sink, W: Sink, E: Sink>(
     alloc: Global,
@@ -45,9 +37,9 @@ pub fn build<R: Source, C: Sink, W: Sink, E: Sink>(
     err: &mut E,
 ) -> u8
     ensures status { ((result ≡ DONE) ⊎ (result ≡ MAP_FAULT)) ⊎ ((result ≡ REFUSED) ⊎ (result ≡ STOPPED)) }
-    ensures built { result ≡ DONE → IsBuilt (layout_with options) (R.remaining records.old)
+    ensures built { result ≡ DONE → IsBuilt options (R.remaining records.old)
         (Writes C.contents C.failure_count made.old made.new) (Writes W.contents W.failure_count out.old out.new) }
-    ensures fault { result ≡ MAP_FAULT → NamesFault (layout_with options) (R.remaining records.old) ⊤ ⊤
+    ensures fault { result ≡ MAP_FAULT → NamesFault options (R.remaining records.old) ⊤ ⊤
         (Writes W.contents W.failure_count out.old out.new) }
     ensures refused { result ≡ REFUSED → NamesRefusal (layout_with options) (R.remaining records.old)
         (TriesToWrite E.contents E.failure_count err.old err.new) }
@@ -56,9 +48,9 @@ pub fn build<R: Source, C: Sink, W: Sink, E: Sink>(
         (FailsToRead R.failure_count records.old records.new ⊎ FailsToWrite C.failure_count made.old made.new)
         (CountStays R.failure_count records.old records.new × CountStays C.failure_count made.old made.new)
         (out.new ≡ out.old)
-        (IsBuilt (layout_with options) (R.remaining records.old) (Writes C.contents C.failure_count made.old made.new)
+        (IsBuilt options (R.remaining records.old) (Writes C.contents C.failure_count made.old made.new)
         (WritesSome W.contents W.failure_count out.old out.new)
-        ⊎ NamesFault (layout_with options) (R.remaining records.old) ⊤ ⊤ (WritesSome W.contents W.failure_count out.old out.new)) }
+        ⊎ NamesFault options (R.remaining records.old) ⊤ ⊤ (WritesSome W.contents W.failure_count out.old out.new)) }
     ensures err_stays { (result ≡ DONE) ⊎ (result ≡ MAP_FAULT) → err.new ≡ err.old }
     ensures out_stays { result ≡ REFUSED → out.new ≡ out.old }
     ensures unmade { (result ≡ MAP_FAULT) ⊎ (result ≡ REFUSED) → made.new ≡ made.old }
@@ -68,86 +60,90 @@ pub fn build<R: Source, C: Sink, W: Sink, E: Sink>(
     ensures read_whole { result ≢ STOPPED → R.failure_count records.new ≡ R.failure_count records.old }
 {
     let making = make(alloc, hasher, records, made, options);
-    tell_making(&making, out, err)
+    write_making(&making, out, err)
 }
 
-/// Makes a certificate of the records' map where that is sound, and writes it to `made`.
+/// Makes a certificate of the records' map where that keeps what the options ask, and writes it to `made`: [`Audit::Sound`] says
+/// that it was written, with the numbers of the map, and [`Audit::Fault`] that nothing was.
 pub fn make<R: Source, C: Sink>(
     alloc: Global,
     hasher: RandomState,
     records: &mut R,
     made: &mut C,
     options: Options,
-) -> Result<Making, Stop>
-    ensures made { Makes (layout_with options) (R.remaining records.old) (Writes C.contents C.failure_count made.old made.new)
+) -> Result<Audit, Stop>
+    ensures made { Makes options (R.remaining records.old) (Writes C.contents C.failure_count made.old made.new)
         (Begins C.contents made.old made.new) (made.new ≡ made.old)
         (FailsToRead R.failure_count records.old records.new ⊎ FailsToWrite C.failure_count made.old made.new) result }
     ensures reads { StaysUnless Stop.Device (R.failure_count records.old) (R.failure_count records.new) result }
 {
     match read_map_with(alloc, hasher, records, options) {
-        Ok(map) => make_of_map(alloc, &map, made),
+        Ok(map) => make_of_map(alloc, &map, options.faces, made),
         Err(stop) => unmade(stop),
     }
 }
 
 // What comes of it where the records have no map.
-fn unmade(stop: MapStop) -> Result<Making, Stop>
+fn unmade(stop: MapStop) -> Result<Audit, Stop>
     ensures { result ≡ unmade_by stop }
 {
-    match stop {
-        MapStop::Fault(fault) => Ok(Making::Fault(MapFault::Records(fault))),
-        MapStop::Refused { line, cause } => Err(Stop::Record { line, cause }),
-        MapStop::Memory => Err(Stop::Memory),
-        MapStop::Device => Err(Stop::Device),
+    match fault_of_records(stop) {
+        Ok(fault) => Ok(Audit::Fault(fault)),
+        Err(stop) => Err(stop),
     }
 }
 
-// Makes a certificate of a map that is sound.
-fn make_of_map<C: Sink>(alloc: Global, map: &Map, made: &mut C) -> Result<Making, Stop>
-    ensures { MakesOf map.now (Writes C.contents C.failure_count made.old made.new) (Begins C.contents made.old made.new)
+// Makes a certificate of a map that keeps what is asked of it.
+fn make_of_map<C: Sink>(alloc: Global, map: &Map, faces: bool, made: &mut C) -> Result<Audit, Stop>
+    ensures { MakesOf faces map.now (Writes C.contents C.failure_count made.old made.new) (Begins C.contents made.old made.new)
         (made.new ≡ made.old) (FailsToWrite C.failure_count made.old made.new) result }
 {
-    match tl_build::build(alloc, map) {
-        Ok(Built::Cert(certificate)) => keep(map, &certificate, made),
-        Ok(Built::Fault(fault)) => Ok(Making::Fault(fault)),
-        Err(BuildStop::Memory) => Err(Stop::Memory),
+    match build_with(alloc, map, faces) {
+        Ok(Built::Cert(certificate)) => keep(map, faces, &certificate, made),
+        Ok(Built::Fault(fault)) => Ok(Audit::Fault(fault)),
+        Err(stop) => Err(stop),
     }
 }
 
-// Writes a certificate of a sound map.
-fn keep<C: Sink>(map: &Map, certificate: &Certificate, made: &mut C) -> Result<Making, Stop>
-    requires sound { IsSound map.now }
+// Writes a certificate of such a map.
+fn keep<C: Sink>(
+    map: &Map,
+    faces: bool,
+    certificate: &Certificate,
+    made: &mut C,
+) -> Result<Audit, Stop>
+    requires sound { IsSoundFor faces map.now }
     requires valid { IsValid map.now certificate.now }
     requires version { certificate.now.version ≡ 2 }
-    ensures { MakesOf map.now (Writes C.contents C.failure_count made.old made.new) (Begins C.contents made.old made.new)
+    ensures { MakesOf faces map.now (Writes C.contents C.failure_count made.old made.new) (Begins C.contents made.old made.new)
         (made.new ≡ made.old) (FailsToWrite C.failure_count made.old made.new) result }
 {
     match write_cert(certificate, made) {
-        Ok(()) => Ok(Making::Made(report(map, rings_of(certificate)))),
+        Ok(()) => Ok(Audit::Sound(report(map, rings_of(certificate)))),
         Err(_) => Err(Stop::Device),
     }
 }
 
 /// Tells what came of making a certificate, and gives the program's exit status.
-pub fn tell_making<W: Sink, E: Sink>(making: &Result<Making, Stop>, out: &mut W, err: &mut E) -> u8
+pub fn write_making<W: Sink, E: Sink>(making: &Result<Audit, Stop>, out: &mut W, err: &mut E) -> u8
     ensures { TellsMaking making.now result (Writes W.contents W.failure_count out.old out.new)
         (TriesToWrite E.contents E.failure_count err.old err.new) (WritesSome W.contents W.failure_count out.old out.new)
         (out.new ≡ out.old) (err.new ≡ err.old) }
 {
     match *making {
-        Ok(Making::Made(report)) => tell_line(&BuiltCertificate(report), DONE, out, err),
-        Ok(Making::Fault(fault)) => tell_line(&fault, MAP_FAULT, out, err),
+        Ok(Audit::Sound(report)) => write_line(&BuiltCertificate(report), DONE, out, err),
+        Ok(Audit::Fault(fault)) => write_line(&fault, MAP_FAULT, out, err),
         Err(stop) => stopped(&stop, err),
     }
 }
 
 /// Whether a certificate was made.
-pub fn is_made(making: &Result<Making, Stop>) -> bool
+pub fn is_made(making: &Result<Audit, Stop>) -> bool
     ensures { result ≡ was_made making.now }
 {
     match making {
-        Ok(Making::Made(_)) => true,
-        Ok(Making::Fault(_)) | Err(_) => false,
+        Ok(Audit::Sound(_)) => true,
+        Ok(Audit::Fault(_)) | Err(_) => false,
     }
 }
 

@@ -7,24 +7,25 @@ ghost use Rattle.tl_text.specs.Joining.{joined_bytes, failures_of};
 ghost use Rattle.tl_output.specs.Writing.{Writes, WritesSome, FailsToWrite, line_of};
 ghost use Rattle.tl_files.specs.Files.{bytes_under, standing, beside, IsRoom};
 ghost use Rattle.tl_answers.specs.declared.stop.TheConstants.{USAGE};
-ghost use Rattle.tl_making.specs.Opening.{taken_text, RunsOver, IsBuildOf, Converts, records_under, certificate_under, FilesFail, StopsOpening, IsConversionBy};
+ghost use Rattle.tl_making.specs.Opening.{taken_text, RunsOver, IsBuildOf, Converts, records_under, certificate_under, FilesFail, IsConversionBy};
+ghost use Rattle.tl_output.specs.Stops.{StopsFor};
 ghost use Rattle.tl_answers.specs.Beginnings.{Begins};
 ghost use Rattle.tl_making.specs.Making.{Makes};
 ghost use Rattle.tl_answers.specs.Running.{FailsToRead, TriesToWrite};
 
-use crate::building::{Making, is_made, make, tell_making};
-use crate::opening::{as_one_text, give_back, open_certificate, room_for_bytes, stop_of};
+use crate::building::{is_made, make, write_making};
+use crate::opening::{as_one_text, give_back, open_certificate, room_for_bytes};
 use std::alloc::Global;
 use std::hash::RandomState;
 use std::slice;
-use tl_answers::convert::{rewrite, tell_converted};
+use tl_answers::convert::{rewrite, write_converted};
 use tl_answers::stop::{USAGE, stopped};
+use tl_build::Audit;
 use tl_files::{FileKind, FileSystem, Room};
-use tl_output::write_all;
+use tl_output::{Stop, write_all};
 use tl_plan::Plan;
 use tl_record::{Options, Sink, Source};
 use tl_text::Buffered;
-use tl_verdict::Stop;
 
 /// What is said where the name of a new file is one of the files that are read.
 pub const IS_READ: &[u8] = b"OUT is one of the files that are read\n";
@@ -48,11 +49,11 @@ pub fn room_for<F: FileSystem>(
     kind: FileKind,
 ) -> Result<Room, Stop>
     ensures room { IfOk result (IsRoom (F.under files.now) (string_bytes name.now) (map string_bytes read.now) kind) }
-    ensures stops { IfErr result (StopsOpening (bytes_under (F.under files.now) (string_bytes name.now) ≡ None)) }
+    ensures stops { IfErr result (StopsFor (bytes_under (F.under files.now) (string_bytes name.now) ≡ None)) }
 {
     match files.room(name.as_str(), read, kind) {
         Ok(room) => Ok(room),
-        Err(stop) => Err(stop_of(stop)),
+        Err(stop) => Err(stop),
     }
 }
 
@@ -90,12 +91,12 @@ fn build_into<F: FileSystem, W: Sink, E: Sink>(
     };
     let mut draft = match files.draft(alloc, name.as_str(), FileKind::Certificate) {
         Ok(draft) => draft,
-        Err(stop) => return stopped(&stop_of(stop), err),
+        Err(stop) => return stopped(&stop, err),
     };
     let making = make_on_readers(alloc, hasher, readers, room, &mut draft, options);
     match settle(files, alloc, draft, name, is_made(&making)) {
         Some(stop) => stopped(&stop, err),
-        None => tell_making(&making, out, err),
+        None => write_making(&making, out, err),
     }
 }
 
@@ -107,9 +108,9 @@ fn make_on_readers<F: Source + Drop, C: Sink>(
     room: Vec<u8>,
     made: &mut C,
     options: Options,
-) -> Result<Making, Stop>
+) -> Result<Audit, Stop>
     requires { 0 < vec_len room }
-    ensures { Makes (layout_with options) (joined_bytes F.remaining false readers.old.items)
+    ensures { Makes options (joined_bytes F.remaining false readers.old.items)
         (Writes C.contents C.failure_count made.old made.new) (Begins C.contents made.old made.new) (made.new ≡ made.old)
         (FailsToRead (failures_of F.failure_count) readers.old.items readers.new.items
         ⊎ FailsToWrite C.failure_count made.old made.new) result }
@@ -141,12 +142,12 @@ fn convert_into<F: FileSystem, W: Sink, E: Sink>(
 {
     let mut draft = match files.draft(alloc, name.as_str(), FileKind::Certificate) {
         Ok(draft) => draft,
-        Err(stop) => return stopped(&stop_of(stop), err),
+        Err(stop) => return stopped(&stop, err),
     };
     let converted = rewrite(alloc, cert, &mut draft);
     match settle(files, alloc, draft, name, converted.is_ok()) {
         Some(stop) => stopped(&stop, err),
-        None => tell_converted(&converted, out, err),
+        None => write_converted(&converted, out, err),
     }
 }
 
@@ -164,7 +165,7 @@ pub fn settle<F: FileSystem>(
         F.under files.new (string_bytes name.now) ≡ standing (F.Draft.contents draft) }
     ensures stays { (is_whole ≡ false) ⊎ IsSome result → (other : List ℕ) → other ≢ beside (string_bytes name.now) →
         F.under files.new other ≡ F.under files.old other }
-    ensures stops { IfSome result (StopsOpening (F.knows ≡ false)) }
+    ensures stops { IfSome result (StopsFor (F.knows ≡ false)) }
     ensures whole { IsSome result → is_whole ≡ true }
 {
     if !is_whole {
@@ -173,7 +174,7 @@ pub fn settle<F: FileSystem>(
     }
     match files.keep(alloc, draft, name.as_str()) {
         Ok(()) => None,
-        Err(stop) => Some(stop_of(stop)),
+        Err(stop) => Some(stop),
     }
 }
 

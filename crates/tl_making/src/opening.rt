@@ -3,14 +3,15 @@
 ghost use Rattle.std.specs.Prelude.{◌≡◌, ◌<◌, None, false, vec_len, IfOk, IfErr, map, string_bytes};
 ghost use Rattle.tl_text.specs.Joining.{joined_bytes, failures_of};
 ghost use Rattle.tl_files.specs.Files.{bytes_under};
-ghost use Rattle.tl_making.specs.Opening.{StopsOpening, StopsOpeningAll, told_of};
+ghost use Rattle.tl_making.specs.Opening.{StopsOpeningAll};
+ghost use Rattle.tl_output.specs.Stops.{StopsFor};
 
 use std::alloc::{AllocError, Global};
 use std::mem;
-use tl_files::{FileStop, FileSystem};
+use tl_files::FileSystem;
+use tl_output::Stop;
 use tl_record::Source;
 use tl_text::{Buffered, JoinedSources};
-use tl_verdict::Stop;
 
 // How many bytes are read at a time, of the record files and of a certificate.
 const INPUT_BUFFER: usize = 131_072;
@@ -29,7 +30,7 @@ pub fn open_all<F: FileSystem>(
     for name in names {
         let file = match files.open(alloc, name.as_str()) {
             Ok(file) => file,
-            Err(stop) => return Err(stop_of(stop)),
+            Err(stop) => return Err(stop),
         };
         if readers.push(file).is_err() {
             return Err(Stop::Memory);
@@ -46,14 +47,14 @@ pub fn open_certificate<F: FileSystem>(
 ) -> Result<Buffered<F::Reader>, Stop>
     ensures bytes { IfOk result (λ source. ⟦<Buffered<F::Reader> as Source>⟧.remaining source
         ≡ bytes_under (F.under files.now) (string_bytes name.now)) }
-    ensures stops { IfErr result (StopsOpening (bytes_under (F.under files.now) (string_bytes name.now) ≡ None)) }
+    ensures stops { IfErr result (StopsFor (bytes_under (F.under files.now) (string_bytes name.now) ≡ None)) }
 {
     let Ok(room) = room_for_bytes(alloc) else {
         return Err(Stop::Memory);
     };
     match files.open(alloc, name.as_str()) {
         Ok(file) => Ok(Buffered::new(file, room)),
-        Err(stop) => Err(stop_of(stop)),
+        Err(stop) => Err(stop),
     }
 }
 
@@ -64,16 +65,6 @@ pub fn room_for_bytes(alloc: Global) -> Result<Vec<u8>, AllocError>
     let mut room = Vec::with_capacity(alloc, INPUT_BUFFER)?;
     room.resize(INPUT_BUFFER, 0)?;
     Ok(room)
-}
-
-/// What is told of a file that can't be opened or made.
-pub fn stop_of(stop: FileStop) -> Stop
-    ensures { result ≡ told_of stop }
-{
-    match stop {
-        FileStop::Memory => Stop::Memory,
-        FileStop::Device => Stop::Device,
-    }
 }
 
 /// Takes the readers, to read them as one text, of which as many bytes are read at a time as `room` holds.

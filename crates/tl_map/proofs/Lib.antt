@@ -20,4 +20,3 @@ pub mod ProperLemmas
 pub mod OnceLemmas
 pub mod KeptLemmas
 pub mod ReadLemmas
-pub mod ScanLemmas

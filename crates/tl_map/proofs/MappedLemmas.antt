@@ -18,7 +18,7 @@ use Rattle.tl_county.specs.declared.polygons.Polygon.{Polygon}
 use Rattle.tl_county.specs.declared.sides.ChainSides.{ChainSides}
 use Rattle.tl_county.specs.declared.landmarks.LinkedLandmarks.{LinkedLandmarks}
 use Rattle.tl_drawn.specs.declared.fault.Limited.TheVariants.{Chains, Segments, Polygons, Landmarks}
-use Rattle.tl_drawn.specs.declared.fault.MapFault.TheVariants.{DuplicateChain, ShapeWithoutChain, ShapeSequence, ShapeGap, ChainWithoutSides, SidesWithoutChain, DuplicateSides, DuplicatePolygon, SideWithoutPolygon, LinkWithoutLandmark, LinkWithoutPolygon, DegenerateChain, TooMany}
+use Rattle.tl_drawn.specs.declared.fault.RecordFault.TheVariants.{DuplicateChain, ShapeWithoutChain, ShapeSequence, ShapeGap, ChainWithoutSides, SidesWithoutChain, DuplicateSides, DuplicatePolygon, SideWithoutPolygon, LinkWithoutLandmark, LinkWithoutPolygon, DegenerateChain, TooMany}
 use Rattle.tl_drawn.specs.declared.fault.MapStop.{MapStop}
 use Rattle.tl_county.specs.Chains.{CompleteChain, ChainList, tlids}
 use Rattle.tl_drawn.specs.ChainsOf.{AreChainsOf}

@@ -38,7 +38,7 @@ firsts_once P kept (x ∷ xs) once held all =
     ]
 
 -- the place of a key that is one of the keys
-place_below : (ks : List PolyKey) (k : PolyKey) → Contains ks k → place_of ks k < length ks
+pub place_below : (ks : List PolyKey) (k : PolyKey) → Contains ks k → place_of ks k < length ks
 place_below [] k has = absurd (omega (arith, has.1))
 place_below (l ∷ ls) k has = elim (cases_Bool (same_key l k)) [
   | inl same ↦ rw same (omega arith)

@@ -5,7 +5,7 @@ use Rattle.std.proofs.lemmas.Bool.{cases_lt}
 use Rattle.std.proofs.lemmas.Option.{slice_get-get_or}
 use Rattle.std.proofs.lemmas.List.{get_or_default, get_or-map}
 use Rattle.std.proofs.lemmas.List.Sorted.{IsPermutation-map, IsPermutation-sym, IsPermutation-trans, Contains-permutation, sum_by-IsPermutation}
-use Rattle.tl_drawn.specs.declared.fault.MapFault.{MapFault}
+use Rattle.tl_drawn.specs.declared.fault.RecordFault.{RecordFault}
 use Rattle.tl_drawn.specs.declared.fault.MapStop.{MapStop}
 use Rattle.tl_drawn.specs.declared.entry.SidesEntry.{SidesEntry}
 use Rattle.tl_map.specs.Keeping.Sided.{sides_tlids, IsUnpaired, ArePaired, StopsPairing}
@@ -55,7 +55,7 @@ pub same_more : (us ts : List ℕ) (i : ℕ) → ((k : ℕ) → k < i → get_or
 same_more us ts i before here k lt = elim (cases_lt k i) [ inl earlier ↦ before k earlier | inr last ↦ let e : k ≡ i = omega arith in rw e here ]
 
 -- what is unpaired in sorted records is unpaired in the records
-pub unpaired_moved : (ts : List ℕ) (old new : List SidesEntry) (fault : MapFault) → IsPermutation old new → IsUnpaired ts (sides_tlids new) fault → IsUnpaired ts (sides_tlids old) fault
+pub unpaired_moved : (ts : List ℕ) (old new : List SidesEntry) (fault : RecordFault) → IsPermutation old new → IsUnpaired ts (sides_tlids new) fault → IsUnpaired ts (sides_tlids old) fault
 unpaired_moved ts old new fault moved h =
     let there = IsPermutation-map (λ (s : SidesEntry). s.tlid) old new moved in
     let back = IsPermutation-sym (sides_tlids old) (sides_tlids new) there in

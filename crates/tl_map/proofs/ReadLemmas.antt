@@ -5,7 +5,7 @@ use Rattle.tl_record.specs.declared.record.Record.{Record}
 use Rattle.tl_record.specs.Records.{Records}
 use Rattle.tl_county.specs.Chains.{ChainList}
 use Rattle.tl_county.specs.TheMap.{TheMap}
-use Rattle.tl_drawn.specs.declared.fault.MapFault.{MapFault}
+use Rattle.tl_drawn.specs.declared.fault.RecordFault.{RecordFault}
 use Rattle.tl_drawn.specs.declared.fault.MapStop.{MapStop}
 use Rattle.tl_drawn.specs.declared.fault.MapStop.TheVariants.{Refused, Device, Memory, Fault}
 use Rattle.tl_drawn.specs.Reading.{records_in, AreReadFrom, IsReadFrom, StopsReading, IfFault}
@@ -26,7 +26,7 @@ stops_gathered layout (Some x) came (Refused line cause) is why = rw is at why
 stops_gathered layout (Some x) came (Fault fault) is why = absurd why
 
 -- and it is no fault
-pub no_fault_gathered : (P : MapFault → Type 0) (came : Option Records) (stop : MapStop) → StopsGathering came stop → IfFault P stop
+pub no_fault_gathered : (P : RecordFault → Type 0) (came : Option Records) (stop : MapStop) → StopsGathering came stop → IfFault P stop
 no_fault_gathered P came Device why = tt
 no_fault_gathered P came Memory why = tt
 no_fault_gathered P came (Refused line cause) why = tt

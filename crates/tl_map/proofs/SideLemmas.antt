@@ -1,11 +1,15 @@
-use Rattle.std.proofs.Common.{◌≡◌, ℕ, ◌+◌, ◌<◌, inl, inr, List, [], ◌∷◌, ◌++◌, length, map, take, get_or, refl, sym, ap, ◌∙◌, arith}
+use Rattle.std.proofs.Common.{◌≡◌, ℕ, ◌+◌, ◌<◌, All, Contains, inl, inr, Option, Some, None, List, [], ◌∷◌, ◌++◌, length, map, take, get_or, refl, sym, ap, ◌∙◌, arith}
 use Rattle.std.proofs.lemmas.Bool.{cases_lt}
 use Rattle.tl_county.specs.declared.sides.Side.{Side}
 use Rattle.tl_county.specs.declared.sides.ChainSides.{ChainSides}
 use Rattle.std.proofs.lemmas.List.{get_or_default, map_more}
+use Rattle.std.proofs.lemmas.List.Elements.{All-map, All-weaker}
 use Rattle.tl_key.specs.declared.key.PolyKey.{PolyKey}
 use Rattle.tl_drawn.specs.declared.entry.SidesEntry.{SidesEntry}
 use Rattle.tl_drawn.specs.declared.fault.MapStop.{MapStop}
+use Rattle.tl_drawn.specs.MapOf.{side_of}
+use Rattle.tl_county.specs.Sides.{IsSideAmong, AreSidesAmong}
+use Rattle.tl_map.proofs.OnceLemmas.{place_below}
 use Rattle.tl_map.specs.Keeping.Sided.{sided_by, IsSide, NamesKnown, StopsSide, StopsSides}
 
 -- what stops one side stops the sides
@@ -29,3 +33,17 @@ known_more ks entries i d left right lt l r before j e low = elim (cases_lt j i)
   | inl earlier ↦ before j e earlier
   | inr last ↦ let at : j ≡ i = omega arith in rw (at, get_or_default entries i e d lt) (λ k names. elim names [ inl a ↦ l.known k a | inr b ↦ r.known k b ])
 ]
+
+-- the side of a known key is the outside or one of as many polygons as there are keys
+side_among : (ks : List PolyKey) (key : Option PolyKey) → ((k : PolyKey) → key ≡ Some k → Contains ks k) → IsSideAmong (length ks) (side_of ks key)
+side_among ks None known = tt
+side_among ks (Some k) known = place_below ks k (known k refl)
+
+-- and so are the sides of records whose keys are known
+pub all_among : (ks : List PolyKey) (entries : List SidesEntry) → All (NamesKnown ks) entries → All (AreSidesAmong (length ks)) (map (sided_by ks) entries)
+all_among ks entries known =
+    All-map (AreSidesAmong (length ks)) (sided_by ks) entries
+    (All-weaker (NamesKnown ks) (λ (e : SidesEntry). AreSidesAmong (length ks) (sided_by ks e)) (λ e named. record {
+      left = side_among ks e.left (λ k is. named k (inl is));
+      right = side_among ks e.right (λ k is. named k (inr is));
+    }) entries known)

@@ -17,10 +17,10 @@ use crate::passes::{gap_tlid, misnumbered_tlid, repeated_tlid, stray_tlid};
 use crate::sort::{sort_chains, sort_shapes};
 use std::alloc::Global;
 use tl_county::{Chains, release};
-use tl_drawn::{ChainEntry, Limited, MapFault, MapStop, ShapeEntry};
+use tl_drawn::{ChainEntry, Limited, MapStop, RecordFault, ShapeEntry};
 
 /// A fault of sorted chains and shapes that shows before they are joined.
-fn first_fault(chains: &[ChainEntry], shapes: &[ShapeEntry]) -> Option<MapFault>
+fn first_fault(chains: &[ChainEntry], shapes: &[ShapeEntry]) -> Option<RecordFault>
     requires chains { IsNonDecreasingBy (λ (c : ChainEntry). c.tlid) chains.now }
     requires shapes { AreInOrder shapes.now }
     ensures found { (rs : List Record) (pool : List Point) → AreChainEntries rs chains.now →
@@ -28,16 +28,16 @@ fn first_fault(chains: &[ChainEntry], shapes: &[ShapeEntry]) -> Option<MapFault>
     ensures of_chains { IfSome result IsFaultOfChains }
 {
     if let Some(tlid) = repeated_tlid(chains) {
-        return Some(MapFault::DuplicateChain { tlid });
+        return Some(RecordFault::DuplicateChain { tlid });
     }
     if let Some(tlid) = stray_tlid(chains, shapes) {
-        return Some(MapFault::ShapeWithoutChain { tlid });
+        return Some(RecordFault::ShapeWithoutChain { tlid });
     }
     if let Some(tlid) = misnumbered_tlid(shapes) {
-        return Some(MapFault::ShapeSequence { tlid });
+        return Some(RecordFault::ShapeSequence { tlid });
     }
     if let Some(tlid) = gap_tlid(shapes) {
-        return Some(MapFault::ShapeGap { tlid });
+        return Some(RecordFault::ShapeGap { tlid });
     }
     None
 }
@@ -50,7 +50,7 @@ pub fn build_chains(alloc: Global, collected: Collected, skipped: u64) -> Result
     ensures of_chains { IfErr result (IfFault IsFaultOfChains) }
 {
     if collected.too_many {
-        return Err(MapStop::Fault(MapFault::TooMany(Limited::Chains)));
+        return Err(MapStop::Fault(RecordFault::TooMany(Limited::Chains)));
     }
     let Collected {
         mut chains,

@@ -6,6 +6,7 @@ ghost use Rattle.tl_record.specs.declared.record.Record.{Record};
 ghost use Rattle.tl_drawn.specs.MapOf.{same_key, sides_in};
 ghost use Rattle.tl_county.specs.Chains.{CompleteChain, IsProper};
 ghost use Rattle.tl_county.specs.Limits.{most_polygons};
+ghost use Rattle.tl_county.specs.Sides.{AreSidesAmong};
 ghost use Rattle.tl_map.specs.Keeping.Collected.{Collects};
 ghost use Rattle.tl_map.specs.Keeping.Areas.{KeepsAreas};
 ghost use Rattle.tl_map.specs.Keeping.Mapped.{AreMapped, ArePairedChains, AreIndexedSides, StopsIndexedSides, IsLinkedMap};
@@ -23,7 +24,7 @@ use indexmap::IndexMap;
 use std::alloc::Global;
 use std::hash::RandomState;
 use tl_county::{Chains, Map, POLYGON_LIMIT, Polygon, SidesOfChains, release};
-use tl_drawn::{LandmarkEntry, Limited, LinkEntry, MapFault, MapStop};
+use tl_drawn::{LandmarkEntry, Limited, LinkEntry, MapStop, RecordFault};
 use tl_geom::Point;
 use tl_record::PolyKey;
 
@@ -76,6 +77,7 @@ fn link_map(
     requires proper { All (λ (c : CompleteChain). IsProper c.points) chains.chains }
     requires polygons { length index.entries ≤ most_polygons }
     requires unique { IsUnique same_key index }
+    requires among { All (AreSidesAmong (length index.entries)) sides }
     ensures { MatchResult result (IsLinkedMap chains sides index landmarks.now links.now)
         (StopsLinking (keys index) landmarks.now links.now) }
 {
@@ -100,7 +102,7 @@ pub fn build_map(
         MatchResult result (AreMapped rs skipped) (StopsBuilding rs) }
 {
     if areas.polygons.len() > POLYGON_LIMIT as usize {
-        return Err(MapStop::Fault(MapFault::TooMany(Limited::Polygons)));
+        return Err(MapStop::Fault(RecordFault::TooMany(Limited::Polygons)));
     }
     let AreaRecords {
         sides,

@@ -1,7 +1,7 @@
 //! Joins chains with their shapes.
 
-ghost use Rattle.std.specs.Prelude.{◌≡◌, ◌≢◌, ℕ, ◌+◌, ◌<◌, ◌≤◌, ◌++◌, List, OnOk, IfOk, MatchResult, length};
-ghost use Rattle.std.specs.Prelude.{map, slice_index_or, All};
+ghost use Rattle.std.specs.Prelude.{◌≡◌, ◌+◌, ◌<◌, ◌≤◌, ◌++◌, List, OnOk, IfOk, MatchResult, length};
+ghost use Rattle.std.specs.Prelude.{map, All};
 ghost use Rattle.tl_geom.specs.declared.point.Point.{Point};
 ghost use Rattle.tl_drawn.specs.declared.entry.ShapeEntry.{ShapeEntry};
 ghost use Rattle.tl_county.specs.declared.limits.TheConstants.{CHAIN_LIMIT, SEGMENT_LIMIT};
@@ -12,8 +12,8 @@ ghost use Rattle.tl_map.specs.Keeping.Rows.{dedup_after, drawn_through, drawn_by
 ghost use Rattle.tl_map.specs.Keeping.Rows.{AreJoinedBy, StopsJoin};
 
 use std::alloc::{AllocError, Global};
-use tl_county::{CHAIN_LIMIT, ChainRow, Chains, SEGMENT_LIMIT};
-use tl_drawn::{ChainEntry, Limited, MapFault, MapStop, ShapeEntry};
+use tl_county::{CHAIN_LIMIT, ChainRow, Chains, SEGMENT_LIMIT, run_end};
+use tl_drawn::{ChainEntry, Limited, MapStop, RecordFault, ShapeEntry};
 use tl_geom::Point;
 
 /// Appends the points that differ from the one before, where `last` is the one before the first. Gives the last.
@@ -76,10 +76,10 @@ fn add_chain(
     append_chain(points, chain, run, pool)?;
     let count = points.len() - first;
     if count == 1 {
-        return Err(MapStop::Fault(MapFault::DegenerateChain { tlid: chain.tlid }));
+        return Err(MapStop::Fault(RecordFault::DegenerateChain { tlid: chain.tlid }));
     }
     if points.len() > SEGMENT_LIMIT as usize + rows.len() + 1 {
-        return Err(MapStop::Fault(MapFault::TooMany(Limited::Segments)));
+        return Err(MapStop::Fault(RecordFault::TooMany(Limited::Segments)));
     }
     rows.push(ChainRow {
         tlid: chain.tlid,
@@ -87,21 +87,6 @@ fn add_chain(
         count: count as u32,
     })?;
     Ok(())
-}
-
-/// Where the shapes of a TLID end that begin at `start`.
-fn run_end(shapes: &[ShapeEntry], start: usize, tlid: u64) -> usize
-    requires { start ≤ length shapes.now }
-    ensures within { result ≤ length shapes.now }
-    ensures from { start ≤ result }
-    ensures same { (k : ℕ) (d : ShapeEntry) → start ≤ k → k < result → (slice_index_or shapes.now k d).tlid ≡ tlid }
-    ensures stops { (d : ShapeEntry) → result < length shapes.now → (slice_index_or shapes.now result d).tlid ≢ tlid }
-{
-    let mut end = start;
-    while end < shapes.len() && shapes[end].tlid == tlid {
-        end += 1;
-    }
-    end
 }
 
 /// The chains with the points of their shapes, in chains and shapes sorted by TLID, where each shape has the TLID of a

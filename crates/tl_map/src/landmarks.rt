@@ -1,7 +1,7 @@
 //! Landmarks and the polygons that are linked to them.
 
-ghost use Rattle.std.specs.Prelude.{◌≡◌, ◌≢◌, ◌<◌, ◌≤◌, ◌^◌, ◌++◌, [], ℕ, List, IfOk, IfErr, OnOk, MatchResult, All, length};
-ghost use Rattle.std.specs.Prelude.{map, nat_eq, slice_index_or};
+ghost use Rattle.std.specs.Prelude.{◌≡◌, ◌<◌, ◌≤◌, ◌^◌, ◌++◌, [], ℕ, List, IfOk, IfErr, OnOk, MatchResult, All, length};
+ghost use Rattle.std.specs.Prelude.{map, nat_eq};
 ghost use Rattle.tl_key.specs.declared.key.PolyKey.{PolyKey};
 ghost use Rattle.tl_map.specs.Keeping.Index.{Indexes};
 ghost use Rattle.tl_map.specs.Keeping.Landmarks.{ListsLandmarks, StopsLandmarks, IsLink, IndexesLands, StopsLink};
@@ -16,8 +16,8 @@ ghost use Rattle.std.specs.List.Sorted.{IsNonDecreasingBy};
 use indexmap::IndexMap;
 use std::alloc::{AllocError, Global};
 use std::hash::RandomState;
-use tl_county::{LANDMARK_LIMIT, LandmarkRow, LinkedLandmarks};
-use tl_drawn::{LandmarkEntry, Limited, LinkEntry, MapFault, MapStop};
+use tl_county::{Keyed, LANDMARK_LIMIT, LandmarkRow, LinkedLandmarks, run_end};
+use tl_drawn::{LandmarkEntry, Limited, LinkEntry, MapStop, RecordFault};
 use tl_geom::Point;
 use tl_record::PolyKey;
 
@@ -34,7 +34,7 @@ pub fn first_landmarks(
     for entry in entries {
         if !firsts.contains_key(&entry.land) {
             if firsts.len() == LANDMARK_LIMIT as usize {
-                return Err(MapStop::Fault(MapFault::TooMany(Limited::Landmarks)));
+                return Err(MapStop::Fault(RecordFault::TooMany(Limited::Landmarks)));
             }
             firsts.insert(entry.land, entry.point)?;
         }
@@ -67,6 +67,15 @@ pub struct Link {
     pub polygon: u32,
 }
 
+impl Keyed for Link {
+    ghost key_of = { λ link. link.landmark };
+
+    /// The number of its landmark.
+    fn key(&self) -> u64 {
+        u64::from(self.landmark)
+    }
+}
+
 /// The numbers of a link's landmark and polygon.
 fn resolve_link(
     polygons: &IndexMap<PolyKey, Point, RandomState>,
@@ -81,7 +90,7 @@ fn resolve_link(
     let landmark = match landmarks.get_index_of(&link.land) {
         Some(landmark) => landmark as u32,
         None => {
-            return Err(MapStop::Fault(MapFault::LinkWithoutLandmark { land: link.land }));
+            return Err(MapStop::Fault(RecordFault::LinkWithoutLandmark { land: link.land }));
         }
     };
     match polygons.get_index_of(&link.key) {
@@ -89,7 +98,7 @@ fn resolve_link(
             landmark,
             polygon: polygon as u32,
         }),
-        None => Err(MapStop::Fault(MapFault::LinkWithoutPolygon {
+        None => Err(MapStop::Fault(RecordFault::LinkWithoutPolygon {
             polygon: link.key,
             land: link.land,
         })),
@@ -149,21 +158,6 @@ fn append_once(
     Ok(())
 }
 
-/// Where the links of a landmark end that begin at `start`.
-fn links_end(links: &[Link], start: usize, landmark: u32) -> usize
-    requires { start ≤ length links.now }
-    ensures within { result ≤ length links.now }
-    ensures from { start ≤ result }
-    ensures same { (k : ℕ) (d : Link) → start ≤ k → k < result → (slice_index_or links.now k d).landmark ≡ landmark }
-    ensures stops { (d : Link) → result < length links.now → (slice_index_or links.now result d).landmark ≢ landmark }
-{
-    let mut end = start;
-    while end < links.len() && links[end].landmark == landmark {
-        end += 1;
-    }
-    end
-}
-
 /// For each of so many landmarks the polygons of its links, which are sorted by landmark, in one list.
 fn list_linked(
     alloc: Global,
@@ -201,7 +195,7 @@ fn append_rows(
 {
     let mut start = 0;
     for landmark in 0..landmarks {
-        let end = links_end(links, start, landmark);
+        let end = run_end(links, start, u64::from(landmark));
         let first = linked.len();
         append_once(linked, marks, landmark + 1, &links[start..end])?;
         rows.push(LandmarkRow {

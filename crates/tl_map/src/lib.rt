@@ -28,4 +28,4 @@ pub use tl_county::{
     CHAIN_LIMIT, Chain, Chains, LANDMARK_LIMIT, Landmark, Map, POLYGON_LIMIT, Polygon,
     SEGMENT_LIMIT, Side,
 };
-pub use tl_drawn::{Limited, MapFault, MapStop};
+pub use tl_drawn::{Limited, MapStop, RecordFault};

@@ -1,6 +1,6 @@
 //! Looks for faults in sorted entries.
 
-ghost use Rattle.std.specs.Prelude.{◌≡◌, ℕ, ◌+◌, ◌<◌, ◌≤◌, true, false, List, MatchOption, length, slice_index_or, All};
+ghost use Rattle.std.specs.Prelude.{◌≡◌, ℕ, ◌≤◌, true, false, List, MatchOption, All};
 ghost use Rattle.std.specs.List.Sorted.{IsNonDecreasingBy};
 ghost use Rattle.tl_geom.specs.declared.point.Point.{Point};
 ghost use Rattle.tl_record.specs.declared.record.Record.{Record};
@@ -8,6 +8,7 @@ ghost use Rattle.tl_drawn.specs.ChainsOf.{has_gap, pairs_of};
 ghost use Rattle.tl_map.specs.Keeping.Entries.{chains_with, AreRising, shapes_with, AreInOrder, ArePlaced};
 ghost use Rattle.tl_map.specs.Keeping.Entries.{AreNumbered, AreShapeEntries, late_after, ended_after};
 
+use tl_county::first_not_below;
 use tl_drawn::{ChainEntry, Fill, ShapeEntry};
 
 /// A TLID that two chains have, in chains sorted by TLID.
@@ -60,21 +61,6 @@ pub fn stray_tlid(chains: &[ChainEntry], shapes: &[ShapeEntry]) -> Option<u64>
         }
     }
     None
-}
-
-/// The place of the first chain from `start` on whose TLID isn't below `tlid`.
-fn first_not_below(chains: &[ChainEntry], start: usize, tlid: u64) -> usize
-    requires { start ≤ length chains.now }
-    ensures within { result ≤ length chains.now }
-    ensures from { start ≤ result }
-    ensures below { (k : ℕ) (d : ChainEntry) → start ≤ k → k < result → (slice_index_or chains.now k d).tlid < tlid }
-    ensures stops { (d : ChainEntry) → result < length chains.now → tlid ≤ (slice_index_or chains.now result d).tlid }
-{
-    let mut place = start;
-    while place < chains.len() && chains[place].tlid < tlid {
-        place += 1;
-    }
-    place
 }
 
 /// A TLID with a gap among its pairs, in shapes sorted by TLID and RTSQ that are numbered from 1 on.

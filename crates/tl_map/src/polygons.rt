@@ -10,7 +10,7 @@ use indexmap::IndexMap;
 use std::alloc::{AllocError, Global};
 use std::hash::RandomState;
 use tl_county::Polygon;
-use tl_drawn::{MapFault, MapStop};
+use tl_drawn::{MapStop, RecordFault};
 use tl_geom::Point;
 use tl_record::PolyKey;
 
@@ -27,7 +27,7 @@ pub fn index_polygons(
     let mut index = IndexMap::with_capacity_and_hasher(alloc, polygons.len(), hasher)?;
     for polygon in polygons {
         if index.insert(polygon.key, polygon.point)?.is_some() {
-            return Err(MapStop::Fault(MapFault::DuplicatePolygon {
+            return Err(MapStop::Fault(RecordFault::DuplicatePolygon {
                 polygon: polygon.key,
             }));
         }

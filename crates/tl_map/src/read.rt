@@ -17,13 +17,7 @@ use std::alloc::Global;
 use std::hash::RandomState;
 use tl_county::{Chains, Map};
 use tl_drawn::MapStop;
-use tl_record::{NO_RECORD, Options, RecordReader, Source};
-
-/// The default of [`Options`]: nothing is chosen.
-const PLAIN: Options = Options {
-    zero_cells: false,
-    released: false,
-};
+use tl_record::{NO_RECORD, Options, PLAIN, RecordReader, Source};
 
 /// Collects all records that a reader has to give.
 fn collect_records<R: Source>(

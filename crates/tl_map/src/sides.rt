@@ -18,7 +18,7 @@ use indexmap::IndexMap;
 use std::alloc::Global;
 use std::hash::RandomState;
 use tl_county::{ChainSides, Chains, Side, SidesOfChains};
-use tl_drawn::{MapFault, MapStop};
+use tl_drawn::{MapStop, RecordFault};
 use tl_geom::Point;
 use tl_record::PolyKey;
 
@@ -38,7 +38,7 @@ fn resolve_side(
         None => Ok(Side::Outside),
         Some(polygon) => match guesses.number_of(index, polygon) {
             Some(number) => Ok(Side::Polygon(number as u32)),
-            None => Err(MapStop::Fault(MapFault::SideWithoutPolygon { tlid, polygon })),
+            None => Err(MapStop::Fault(RecordFault::SideWithoutPolygon { tlid, polygon })),
         },
     }
 }
@@ -92,7 +92,7 @@ fn repeated_sides(sides: &KeptSides) -> Option<u64>
 }
 
 /// A chain without sides, or sides without a chain, where both rise by TLID.
-fn unpaired(chains: &Chains, sides: &KeptSides) -> Option<MapFault>
+fn unpaired(chains: &Chains, sides: &KeptSides) -> Option<RecordFault>
     requires chains { IsStrictlyIncreasing (tlids chains.now.chains) }
     requires sides { IsStrictlyIncreasing (sides_tlids sides.now) }
     ensures { MatchOption result (sides_tlids sides.now ≡ tlids chains.now.chains)
@@ -103,19 +103,19 @@ fn unpaired(chains: &Chains, sides: &KeptSides) -> Option<MapFault>
         let tlid = chains.tlid(c);
         let place = c as usize;
         if place == sides.len() {
-            return Some(MapFault::ChainWithoutSides { tlid });
+            return Some(RecordFault::ChainWithoutSides { tlid });
         }
         let here = sides.tlid(place);
         if tlid < here {
-            return Some(MapFault::ChainWithoutSides { tlid });
+            return Some(RecordFault::ChainWithoutSides { tlid });
         }
         if here < tlid {
-            return Some(MapFault::SidesWithoutChain { tlid: here });
+            return Some(RecordFault::SidesWithoutChain { tlid: here });
         }
     }
     if sides.len() > count as usize {
         let here = sides.tlid(count as usize);
-        return Some(MapFault::SidesWithoutChain { tlid: here });
+        return Some(RecordFault::SidesWithoutChain { tlid: here });
     }
     None
 }
@@ -132,7 +132,7 @@ pub fn pair_sides(
 {
     sides.sort_by_tlid(alloc)?;
     if let Some(tlid) = repeated_sides(&sides) {
-        return Err(MapStop::Fault(MapFault::DuplicateSides { tlid }));
+        return Err(MapStop::Fault(RecordFault::DuplicateSides { tlid }));
     }
     if let Some(fault) = unpaired(chains, &sides) {
         return Err(MapStop::Fault(fault));

@@ -8,7 +8,7 @@ use Rattle.tl_county.specs.Segments.{segments_before}
 use Rattle.tl_planar.specs.declared.meet.Meet.{Meet}
 use Rattle.tl_planar.specs.Searching.{MayTell}
 use Rattle.tl_planar.proofs.Numbering.{below_total}
-use Rattle.tl_meets.specs.declared.conflicts.Conflict.{Conflict}
+use Rattle.tl_index.specs.declared.items.Conflict.{Conflict}
 use Rattle.tl_meets.specs.Conflicts.{AreAllConflicts}
 use Rattle.tl_meets.specs.Meets.{AreAllMeets}
 use Rattle.tl_meets.specs.Keeping.Telling.{IsMeetOf, AreMeetsOf}

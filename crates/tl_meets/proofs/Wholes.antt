@@ -1,6 +1,6 @@
 -- The conflicts of all items with those behind them are all conflicts.
 use Rattle.std.proofs.Common.{◌≡◌, inl, ℕ, Option, List, arith}
-use Rattle.tl_meets.specs.declared.conflicts.Conflict.{Conflict}
+use Rattle.tl_index.specs.declared.items.Conflict.{Conflict}
 use Rattle.tl_meets.specs.Conflicts.{AreAllConflicts}
 use Rattle.tl_meets.specs.Keeping.Reaching.{AreConflictsBefore}
 

@@ -2,7 +2,7 @@
 use Rattle.std.specs.Prelude.{◌≡◌, ℕ, ◌<◌, Option, None, List, All}
 use Rattle.std.specs.List.{Any}
 use Rattle.tl_index.specs.Searches.{IsConflict}
-use Rattle.tl_meets.specs.declared.conflicts.Conflict.{Conflict}
+use Rattle.tl_index.specs.declared.items.Conflict.{Conflict}
 use Rattle.tl_meets.specs.Orders.{AreRising}
 
 -- each is a conflict of two of the n items; each two items of which it isn't told that they don't conflict stand there;

@@ -8,15 +8,7 @@ use crate::ConsistentItems;
 use crate::behind::list_behind;
 use crate::doubtful::{is_marked, mark_doubtful};
 use std::alloc::Global;
-use tl_index::{BoxIndex, Items, Memory};
-
-/// Items `i` and `j` conflict, `i` below `j`, and `c` is what [`Items::conflict`] tells of them.
-#[derive(Clone, Copy, Debug, PartialEq, Eq)]
-pub struct Conflict<C> {
-    pub i: u32,
-    pub j: u32,
-    pub c: C,
-}
+use tl_index::{BoxIndex, Conflict, Items, Memory};
 
 /// All conflicts of items, by an index that fits them, by rising `i` and of one `i` by rising `j`. An error says that
 /// memory was refused.
@@ -42,13 +34,13 @@ where
             continue;
         }
         list_behind(index, items, i, &mut hits)?;
-        tell_behind(items, i, &hits, &mut found)?;
+        push_behind(items, i, &hits, &mut found)?;
     }
     Ok(found)
 }
 
 /// Appends the conflicts of item `i` with those behind it that conflict with it.
-fn tell_behind<I: ConsistentItems>(
+fn push_behind<I: ConsistentItems>(
     items: &I,
     i: u32,
     hits: &[u32],

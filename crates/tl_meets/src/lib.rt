@@ -13,6 +13,6 @@ pub mod laws;
 mod meets;
 mod near;
 
-pub use conflicts::{Conflict, all_conflicts};
+pub use conflicts::all_conflicts;
 pub use consistent::ConsistentItems;
 pub use meets::all_meets;

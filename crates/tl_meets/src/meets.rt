@@ -8,11 +8,11 @@ ghost use Rattle.tl_meets.specs.Conflicts.{AreAllConflicts};
 ghost use Rattle.tl_meets.specs.Meets.{AreAllMeets};
 ghost use Rattle.tl_meets.specs.Keeping.Telling.{IsMeetOf};
 
-use crate::{Conflict, all_conflicts};
+use crate::all_conflicts;
 use std::alloc::Global;
 use tl_county::Map;
 use tl_geom::Rational;
-use tl_index::{BoxIndex, Memory};
+use tl_index::{BoxIndex, Conflict, Memory};
 use tl_planar::{Meet, Segments};
 
 /// All meets of a map's segments, by an index that fits them, by rising `s` and of one `s` by rising `t`. An error says

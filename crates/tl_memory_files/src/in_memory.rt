@@ -2,14 +2,15 @@
 
 ghost use Rattle.std.specs.Prelude.{◌≡◌, ◌≢◌, ℕ, List, None, Some, IfOk, IfErr, OnOk, OnErr, Contains, map, option_map, string_bytes};
 ghost use Rattle.std.specs.Bool.{OnTrue, OnFalse};
-ghost use Rattle.tl_files.specs.declared.file_system.FileStop.TheVariants.{Memory};
+ghost use Rattle.tl_output.specs.declared.stop.Stop.TheVariants.{Memory};
 ghost use Rattle.tl_memory_files.specs.Keeping.Stored.{found_with as found_with_of};
 
 use std::alloc::{AllocError, Global};
 use std::collections::VecDeque;
 use std::io;
 use std::io::{Read, Write};
-use tl_files::{FileKind, FileStop, FileSystem, Room, may_go};
+use tl_files::{FileKind, FileSystem, Room, may_go};
+use tl_output::Stop;
 use tl_record::{Sink, Source};
 
 /// A file with its name.
@@ -138,14 +139,14 @@ impl FileSystem for FilesInMemory {
 
     ghost alike = { λ draft. refl };
 
-    fn open(&self, alloc: Global, name: &str) -> Result<Held, FileStop> {
+    fn open(&self, alloc: Global, name: &str) -> Result<Held, Stop> {
         match self.bytes(name) {
             Some(bytes) => hold(alloc, bytes),
-            None => Err(FileStop::Device),
+            None => Err(Stop::Device),
         }
     }
 
-    fn open_again(&self, alloc: Global, name: &str) -> Result<Option<Held>, FileStop> {
+    fn open_again(&self, alloc: Global, name: &str) -> Result<Option<Held>, Stop> {
         match self.open(alloc, name) {
             Ok(file) => Ok(Some(file)),
             Err(stop) => Err(stop),
@@ -161,7 +162,7 @@ impl FileSystem for FilesInMemory {
 
     fn show_progress(&mut self, _alloc: Global, _last: &str) {}
 
-    fn room(&self, name: &str, read: &[String], kind: FileKind) -> Result<Room, FileStop> {
+    fn room(&self, name: &str, read: &[String], kind: FileKind) -> Result<Room, Stop> {
         if is_among(name, read) {
             return Ok(Room::IsRead);
         }
@@ -171,20 +172,20 @@ impl FileSystem for FilesInMemory {
         }
     }
 
-    fn draft(&self, alloc: Global, _name: &str, _kind: FileKind) -> Result<Draft, FileStop> {
+    fn draft(&self, alloc: Global, _name: &str, _kind: FileKind) -> Result<Draft, Stop> {
         Ok(Draft {
             bytes: Vec::new(alloc),
             failures: 0,
         })
     }
 
-    fn keep(&mut self, alloc: Global, file: Draft, name: &str) -> Result<(), FileStop> {
+    fn keep(&mut self, alloc: Global, file: Draft, name: &str) -> Result<(), Stop> {
         let Ok(name) = String::from_str(alloc, name) else {
-            return Err(FileStop::Memory);
+            return Err(Stop::Memory);
         };
         match self.store(name, file.bytes) {
             Ok(()) => Ok(()),
-            Err(_) => Err(FileStop::Memory),
+            Err(_) => Err(Stop::Memory),
         }
     }
 
@@ -192,14 +193,14 @@ impl FileSystem for FilesInMemory {
 }
 
 // A file of these bytes, which is read.
-fn hold(alloc: Global, bytes: &[u8]) -> Result<Held, FileStop>
+fn hold(alloc: Global, bytes: &[u8]) -> Result<Held, Stop>
     ensures bytes { IfOk result (λ file. file.bytes.items ≡ bytes.now) }
     ensures stop { IfErr result (λ stop. stop ≡ Memory) }
 {
     let mut held = VecDeque::new(alloc);
     match held.write(bytes) {
         Ok(_) => Ok(Held { bytes: held }),
-        Err(_) => Err(FileStop::Memory),
+        Err(_) => Err(Stop::Memory),
     }
 }
 

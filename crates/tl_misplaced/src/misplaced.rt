@@ -13,7 +13,7 @@ ghost use Rattle.tl_misplaced.specs.Keeping.Parts.{IsOfPolygon, HasPart};
 use crate::listed::sort_once;
 use crate::odd::list_odd;
 use crate::room::Room;
-use crate::telling::tell;
+use crate::telling::push_wrong;
 use std::alloc::Global;
 use tl_county::Map;
 use tl_index::{BoxIndex, Memory};
@@ -80,7 +80,7 @@ pub fn list_at<X: BoxIndex>(
         &mut room.far,
         &mut room.odd,
     )?;
-    tell(map, p, polygon, &room.held, outside, &room.odd, found)
+    push_wrong(map, p, polygon, &room.held, outside, &room.odd, found)
 }
 
 /// Lists the chains that hold a point, by rising number, and the flanks of the segments that its ray crosses, in the place

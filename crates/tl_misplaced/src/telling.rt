@@ -12,7 +12,7 @@ use tl_inside::Misplaced;
 
 /// Appends all that is wrong with the point of polygon `p`: the chains that hold it, that it is outside, and the other
 /// polygons that it lies in.
-pub fn tell(
+pub fn push_wrong(
     map: &Map,
     p: u32,
     polygon: Polygon,
@@ -27,13 +27,13 @@ pub fn tell(
     requires odd { AreListed (IsIn map.now polygon.point p) odd.now }
     ensures { OnOk result (HasPart map.now (IsOfPolygon p) found.old.items found.new.items) }
 {
-    tell_chains(map, p, polygon, held, found)?;
-    tell_outside(map, p, polygon, outside, found)?;
-    tell_others(map, p, polygon, odd, found)
+    push_chains(map, p, polygon, held, found)?;
+    push_outside(map, p, polygon, outside, found)?;
+    push_others(map, p, polygon, odd, found)
 }
 
 /// Appends that the point lies on each of these chains.
-fn tell_chains(
+fn push_chains(
     map: &Map,
     p: u32,
     polygon: Polygon,
@@ -57,7 +57,7 @@ fn tell_chains(
 }
 
 /// Appends that the point is outside its polygon, if it is.
-fn tell_outside(
+fn push_outside(
     map: &Map,
     p: u32,
     polygon: Polygon,
@@ -80,7 +80,7 @@ fn tell_outside(
 }
 
 /// Appends that the point lies in each of these other polygons.
-fn tell_others(
+fn push_others(
     map: &Map,
     p: u32,
     polygon: Polygon,

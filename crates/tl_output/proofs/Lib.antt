@@ -1,3 +1,4 @@
 -- Lemmas on output.
 pub mod LineLemmas
+pub mod StopLemmas
 pub mod WritingLemmas

@@ -1,4 +1,4 @@
 -- What the contracts of output cite.
 pub mod Writing
 pub mod Lines
-pub mod Keeping
+pub mod Stops

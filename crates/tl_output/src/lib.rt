@@ -1,11 +1,14 @@
-//! Text on its way out.
+//! Text on its way out, and why nothing comes of a call.
 //!
 //! What is printed goes through an [`OutputBuffer`], which puts bytes together before they are written, or is a line of its
-//! own, [`print_line`]. Each call says exactly which bytes were written, and an error comes exactly where a write failed.
+//! own, [`print_line`]. Each call says exactly which bytes were written, and an error comes exactly where a write failed. [`Stop`] is what
+//! all that stands above answers where nothing is decided, made or printed.
 #![tactic(auto)]
 
 mod line;
 mod output;
+mod stop;
 
-pub use line::{LineStop, print_line};
+pub use line::print_line;
 pub use output::{OutputBuffer, write_all};
+pub use stop::Stop;

@@ -3,7 +3,8 @@ use Rattle.std.proofs.Common.{◌≡◌, ℕ, zero, suc, Bool, List, [], ◌∷�
 use Rattle.tl_record.specs.declared.record.Record.{Record}
 use Rattle.tl_county.specs.TheMap.{MapChain}
 use Rattle.tl_verdict.specs.declared.fault.MapFault.{MapFault}
-use Rattle.tl_verdict.specs.declared.fault.MapFault.TheVariants.{Records, Meet, Side, PolygonPoint, Cell}
+use Rattle.tl_faces.specs.declared.fault.FaceFault.TheVariants.{Facing, Outward}
+use Rattle.tl_verdict.specs.declared.fault.MapFault.TheVariants.{Records, Meet, Side, PolygonPoint, Cell, Face}
 use Rattle.tl_verdict.specs.Messages.{map_fault_text}
 use Rattle.tl_output.specs.Writing.{line_of}
 use Rattle.tl_plan.specs.declared.budget.Told.{Told}
@@ -28,6 +29,8 @@ module _ (names : List (List ℕ)) (counts : List ℕ) (chains : List MapChain) 
   same_place (Side node first next) holds = refl
   same_place (PolygonPoint misplaced) holds = ap first_point (same_lines (subjects_of chains (PolygonPoint misplaced)).0 holds)
   same_place (Cell odds) holds = refl
+  same_place (Face (Facing first last)) holds = refl
+  same_place (Face (Outward face way)) holds = refl
 
   same_fault : (fault : MapFault) → HoldsLines entries kept (subjects_of chains fault).0 → HoldsLines entries kept (subjects_of chains fault).1
       → placed_fault_text names counts chains (held kept) fault ≡ placed_fault_text names counts chains (lines_about entries) fault

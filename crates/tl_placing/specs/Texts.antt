@@ -9,8 +9,9 @@ use Rattle.tl_record.specs.declared.record.Record.TheVariants.{Chain, Shape, Sid
 use Rattle.tl_county.specs.TheMap.{MapChain}
 use Rattle.tl_county.specs.Darts.{dart_start}
 use Rattle.tl_output.specs.Writing.{line_of}
+use Rattle.tl_faces.specs.declared.fault.FaceFault.TheVariants.{Facing, Outward}
 use Rattle.tl_verdict.specs.declared.fault.MapFault.{MapFault}
-use Rattle.tl_verdict.specs.declared.fault.MapFault.TheVariants.{Records, Meet, Side, PolygonPoint, Cell}
+use Rattle.tl_verdict.specs.declared.fault.MapFault.TheVariants.{Records, Meet, Side, PolygonPoint, Cell, Face}
 use Rattle.tl_verdict.specs.Messages.{map_fault_text}
 use Rattle.tl_where.specs.LinePlaces.{place_of}
 use Rattle.tl_where.specs.Degrees.{degrees_text, is_in_reach}
@@ -80,6 +81,8 @@ fault_place chains about (Meet meet) = Some meet.at
 fault_place chains about (Side node first next) = Some (whole node)
 fault_place chains about (PolygonPoint misplaced) = first_point (lines_for about (subjects_of_point misplaced).0)
 fault_place chains about (Cell odds) = option_map whole (dart_start chains odds.first)
+fault_place chains about (Face (Facing first last)) = Some first.at
+fault_place chains about (Face (Outward face way)) = Some face.at
 
 -- the lines of the records that a fault speaks of
 abbrev pub spoken_text : List (List ℕ) → List ℕ → List MapChain → (Subject → List RecordLine) → MapFault → List ℕ

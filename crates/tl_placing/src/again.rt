@@ -9,16 +9,17 @@ ghost use Rattle.tl_record_lines.specs.declared.subject.Subject.{Subject};
 ghost use Rattle.tl_record_lines.specs.SpokenOf.{chains_of};
 ghost use Rattle.tl_record_lines.specs.Finding.{HoldsAll};
 ghost use Rattle.tl_record_lines.specs.Keeping.{held};
-ghost use Rattle.tl_hint.specs.Again.{IfDevice};
+ghost use Rattle.tl_output.specs.Stops.{StopsFor};
 ghost use Rattle.tl_placing.specs.Again.{AreSpoken, AgainFails};
 
 use std::alloc::{AllocError, Global};
 use std::hash::RandomState;
 use tl_county::Map;
 use tl_files::FileSystem;
-use tl_hint::{HintStop, count_all, open_again};
+use tl_hint::{count_all, open_again};
+use tl_output::Stop;
 use tl_record::Options;
-use tl_record_lines::{LinesStop, RecordLines, record_lines};
+use tl_record_lines::{RecordLines, record_lines};
 use tl_text::JoinedSources;
 use tl_verdict::MapFault;
 
@@ -55,14 +56,14 @@ pub fn read_again<F: FileSystem>(
     options: Options,
     drawn: Option<&Map>,
     faults: &[MapFault],
-) -> Result<Spoken, HintStop>
+) -> Result<Spoken, Stop>
     // Where the bytes of all files are known: so many lines have these, and the records are all that the faults speak of, and
     // no other.
     ensures spoken { IfOk result (AreSpoken (layout_with options) (F.under files.now) (map string_bytes names.now)
         (chains_of (option_copied drawn.entry)) faults.now) }
     // `Device` is answered where one of the files may not be opened, a read failed, or one has no end within 2^64 - 1 bytes, and
     // nowhere else.
-    ensures stops { IfErr result (IfDevice (AgainFails F.Reader.failure_count (F.under files.now) (map string_bytes names.now))) }
+    ensures stops { IfErr result (StopsFor (AgainFails F.Reader.failure_count (F.under files.now) (map string_bytes names.now))) }
 {
     let Some(counts) = count_all(files, alloc, names)? else {
         return Ok(Spoken::nothing(alloc, hasher)?);
@@ -82,19 +83,16 @@ fn lines_again<F: FileSystem>(
     options: Options,
     drawn: Option<&Map>,
     faults: &[MapFault],
-) -> Result<Option<RecordLines>, HintStop>
+) -> Result<Option<RecordLines>, Stop>
     ensures found { IfOk result (λ found. (texts : List (List ℕ)) → HaveTexts (F.under files.now) (map string_bytes names.now) texts
         → IsSomeAnd found (HoldsAll (chains_of (option_copied drawn.entry)) faults.now
         (records_of (layout_with options) (joined texts)).entries)) }
-    ensures stops { IfErr result (IfDevice (AgainFails F.Reader.failure_count (F.under files.now) (map string_bytes names.now))) }
+    ensures stops { IfErr result (StopsFor (AgainFails F.Reader.failure_count (F.under files.now) (map string_bytes names.now))) }
 {
     let Some(readers) = open_again(files, alloc, names)? else {
         return Ok(None);
     };
     let mut text = JoinedSources::new(readers);
-    match record_lines(alloc, hasher, &mut text, options, drawn, faults) {
-        Ok(lines) => Ok(Some(lines)),
-        Err(LinesStop::Memory) => Err(HintStop::Memory),
-        Err(LinesStop::Device) => Err(HintStop::Device),
-    }
+    let lines = record_lines(alloc, hasher, &mut text, options, drawn, faults)?;
+    Ok(Some(lines))
 }

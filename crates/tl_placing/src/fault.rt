@@ -8,13 +8,14 @@ ghost use Rattle.tl_record_lines.specs.Keeping.{held};
 ghost use Rattle.tl_placing.specs.Texts.{fault_place, first_point, lines_for, point_of};
 
 use tl_county::Map;
+use tl_faces::FaceFault;
 use tl_geom::Rational;
 use tl_record::Record;
 use tl_record_lines::{RecordLine, RecordLines, Subject, subjects_of};
 use tl_verdict::MapFault;
 
 /// Where a fault lies, in millionths of a degree: where two segments meet, at a node, at a polygon's point, where a dart
-/// starts. A fault of the records alone has no place.
+/// starts, on the first of two segments that face one another. A fault of the records alone has no place.
 pub fn fault_place(map: Option<&Map>, lines: &RecordLines, fault: &MapFault) -> Option<Rational>
     ensures { result ≡ fault_place (chains_of (option_copied map.entry)) (held lines.now) fault.now }
 {
@@ -27,6 +28,8 @@ pub fn fault_place(map: Option<&Map>, lines: &RecordLines, fault: &MapFault) -> 
             first_point(lines_for(lines, &polygon))
         }
         MapFault::Cell(odds) => start_of(map, odds.first),
+        MapFault::Face(FaceFault::Facing { first, .. }) => Some(first.at),
+        MapFault::Face(FaceFault::Outward { face, .. }) => Some(face.at),
     }
 }
 

@@ -12,7 +12,7 @@ use tl_geom::Rational;
 use tl_listing::{LINE_ROOM, push_key, push_number};
 use tl_record::Record;
 use tl_record_lines::RecordLine;
-use tl_where::{Place, is_in_reach, place_of, push_degrees};
+use tl_where::{TextLine, is_in_reach, place_of, push_degrees};
 
 // How many decimal places of a degree are printed.
 const PLACES: u32 = 10;
@@ -72,7 +72,7 @@ fn push_where(
 fn push_place(
     text: &mut Vec<u8>,
     names: &[String],
-    place: Place,
+    place: TextLine,
     number: u64,
 ) -> Result<(), AllocError>
     ensures { OnOk result (text.new.items ≡ text.old.items ++ named_text (map string_bytes names.now) number (place_pair place)) }

@@ -19,15 +19,13 @@ use Rattle.tl_geom.specs.declared.point.Point.{Point}
 use Rattle.tl_plan.specs.Points.{Spells}
 use Rattle.tl_plan.specs.Commands.{command_line, convert_name, check_name, locate_name, show_name, landmarks_name, audit_name, build_name, export_name, draw_name}
 use Rattle.tl_plan.specs.CommandLine.{IsStopOf, IsUsage, StopsPlanning, Request, request_in, named_in}
-use Rattle.tl_plan.specs.CommandLine.{IsConversionOf, IsTaskOf, IsWhole, HasFiles, IsBudget, IsView, IsSwitch}
-use Rattle.tl_plan.specs.CommandLine.{AreChosen, AsksLinesAlone, AskForTask, AskForTold, AskForFaults}
-use Rattle.tl_plan.specs.CommandLine.{IsFor, IsForTask, IsWatched, IsFaced, DecidesMap}
-use Rattle.tl_plan.specs.Asked.{IsAuditTask, decision}
+use Rattle.tl_plan.specs.CommandLine.{IsConversionOf, IsTaskOf, IsWhole, HasFiles, IsBudget, IsView, IsSwitch, FacesNeedFaults}
+use Rattle.tl_plan.specs.CommandLine.{AreChosen, AskForTask, AskForTold, AskForFaults, IsMore}
+use Rattle.tl_plan.specs.Asked.{audit_task}
 use Rattle.tl_plan.specs.declared.budget.Told.{Told}
 use Rattle.tl_plan.specs.declared.budget.Told.TheVariants.{One, All}
-use Rattle.tl_plan.specs.declared.plan.Plan.{Plan}
 use Rattle.tl_record.specs.declared.options.Options.{Options}
-use Rattle.tl_plan.specs.declared.plan.Plan.TheVariants.{Convert, Audit}
+use Rattle.tl_plan.specs.declared.plan.Plan.TheVariants.{Convert}
 use Rattle.tl_plan.specs.declared.plan.View.{View}
 use Rattle.tl_plan.specs.declared.plan.Task.{Task}
 use Rattle.tl_plan.specs.declared.plan.Task.TheVariants as task
@@ -134,7 +132,7 @@ no_conversion given named lacks (inr (inr (inr (inr (inr (inr (inr drawn))))))) 
 conversion_task : (rows : List Row) (made : Option Task) → IsConversionOf (first_of (codes "cert") rows) (first_of (codes "out") rows) made
     → IsTaskOf (Some (request_in (convert_name, rows))) made
 conversion_task rows (Some (task.Plan (Convert from to) progress)) is =
-    (record { given = request_in (convert_name, rows); same = refl; named = refl; from = is.0; to = is.1 }, is.2, refl)
+    (record { given = request_in (convert_name, rows); same = refl; named = refl; from = is.0; to = is.1 }, is.2)
 conversion_task rows (Some other) is = absurd is
 conversion_task rows None is = no_conversion (request_in (convert_name, rows)) refl is
 
@@ -220,8 +218,7 @@ no_locate given named lacks (inr (inr (inr (inr (inr (inr (inr drawn))))))) = on
 
 -- an audit asks for no faults that may be asked for, or lacks a file
 pub no_audit : (given : Request) → given.command ≡ audit_name
-    → ((files : List Text) → AskForFaults given.all given.most → (IsSwitch given.faces true → AsksLinesAlone given) → given.files ≡ Some files
-    → 0 < length files → ⊥)
+    → ((files : List Text) → AskForFaults given.all given.most → given.files ≡ Some files → 0 < length files → ⊥)
     → IsWhole (Some given) → ⊥
 no_audit given named lacks (inl files) = no_listing given audit_name named refl refl files
 no_audit given named lacks (inr (inl both)) = one_command given both.2.given audit_name convert_name refl named both.2.same both.2.named
@@ -232,7 +229,6 @@ no_audit given named lacks (inr (inr (inr (inr (inr (inl audit)))))) =
     let e = is_request _ _ audit.same in
     lacks audit.files
     (subst (λ (r : Request). AskForFaults r.all r.most) (sym e) audit.asked)
-    (subst (λ (r : Request). IsSwitch r.faces true → AsksLinesAlone r) (sym e) audit.faced)
     (ap (λ r. r.files) e ∙ audit.are) audit.some_file
 no_audit given named lacks (inr (inr (inr (inr (inr (inr (inl exported))))))) = one_command given exported.given audit_name export_name refl named exported.same exported.named
 no_audit given named lacks (inr (inr (inr (inr (inr (inr (inr drawn))))))) = one_command given drawn.given audit_name draw_name refl named drawn.same drawn.named
@@ -252,9 +248,10 @@ no_export given named lacks (inr (inr (inr (inr (inr (inr (inl exported))))))) =
     lacks exported.made exported.files (ap (λ r. r.geojson) e ∙ exported.to) (ap (λ r. r.files) e ∙ exported.are) exported.some_file
 no_export given named lacks (inr (inr (inr (inr (inr (inr (inr drawn))))))) = one_command given drawn.given export_name draw_name refl named drawn.same drawn.named
 
--- a request for a picture lacks its name, a view or none, or a file
+-- a request for a picture lacks its name, a view or none, faults where it asks for faces, or a file
 pub no_drawing : (given : Request) → given.command ≡ draw_name
-    → ((made : Text) (view : Option View) (files : List Text) → given.out ≡ Some made → IsView given.center given.width view → given.files ≡ Some files → 0 < length files → ⊥)
+    → ((made : Text) (view : Option View) (files : List Text) → given.out ≡ Some made → IsView given.center given.width view
+    → FacesNeedFaults given.faces given.faults → given.files ≡ Some files → 0 < length files → ⊥)
     → IsWhole (Some given) → ⊥
 no_drawing given named lacks (inl files) = no_listing given draw_name named refl refl files
 no_drawing given named lacks (inr (inl both)) = one_command given both.2.given draw_name convert_name refl named both.2.same both.2.named
@@ -267,6 +264,7 @@ no_drawing given named lacks (inr (inr (inr (inr (inr (inr (inr drawn))))))) =
     let e = is_request _ _ drawn.same in
     lacks drawn.made drawn.view drawn.files (ap (λ r. r.out) e ∙ drawn.to)
     (subst (λ (r : Request). IsView r.center r.width drawn.view) (sym e) drawn.seen)
+    (subst (λ (r : Request). FacesNeedFaults r.faces r.faults) (sym e) drawn.needed)
     (ap (λ r. r.files) e ∙ drawn.are) drawn.some_file
 
 -- a command that wants files lacks them
@@ -296,6 +294,11 @@ told_the_same result all each most number e f told =
     subst (λ (given : Option Text). MatchOption result (¬ AskForFaults each given) (AskForTold each given)) f
     (subst (λ (given : Option Text). MatchOption result (¬ AskForFaults given most) (AskForTold given most)) e told)
 
+pub chosen_the_same : (released zero_cells ids faces faced : Option Text) (options : Options) → zero_cells ≡ ids → faces ≡ faced
+    → AreChosen released zero_cells faces options → AreChosen released ids faced options
+chosen_the_same released zero_cells ids faces faced options e f chosen =
+    subst (λ (given : Option Text). AreChosen released ids given options) f (subst (λ (given : Option Text). AreChosen released given faces options) e chosen)
+
 pub seen_the_same : (view : Option View) (at center wide width : Option Text) → at ≡ center → wide ≡ width → IsView at wide view → IsView center width view
 seen_the_same view at center wide width e f seen =
     subst (λ (given : Option Text). IsView center given view) f (subst (λ (given : Option Text). IsView given wide view) e seen)
@@ -303,78 +306,59 @@ seen_the_same view at center wide width e f seen =
 pub unseen_the_same : (view : Option View) (at center wide width : Option Text) → at ≡ center → wide ≡ width → ¬ IsView at wide view → ¬ IsView center width view
 unseen_the_same view at center wide width e f unseen seen = unseen (seen_the_same view center at width wide (sym e) (sym f) seen)
 
--- a task that decides as a plan does
-pub decided : (request : Option Request) (plan : Plan) (faces progress : Bool) (made : Task) → made ≡ decision plan faces progress
-    → DecidesMap plan → IsFor request plan → IsWatched request plan progress → IsFaced request plan faces → IsForTask request made
-decided request plan true progress made same decides asked watched faced = rw same (decides, asked, watched, faced)
-decided request plan false progress made same decides asked watched faced = rw same (asked, watched, faced)
+-- a picture that asks for faults may ask for faces, and so may one that asks for no faces
+pub with_faults : (one other : Option Text) (faults : Bool) → IsSwitch other faults → faults ≡ true → FacesNeedFaults one other
+with_faults one other true shown right = λ is. shown.0 refl
+with_faults one other false shown right = absurd (cc right)
 
--- places, or a file that is made, are more than lines alone
-no_places_alone : (given : Request) → IsSwitch given.places true → AsksLinesAlone given → ⊥
-no_places_alone given placed line = absurd (cc (line.placed.1 (placed.0 refl)))
+pub without_faces : (one other : Option Text) (faces : Bool) → IsSwitch one faces → faces ≡ false → FacesNeedFaults one other
+without_faces one other true faced right = absurd (cc right)
+without_faces one other false faced right = λ is. absurd (cc (faced.1 is))
 
-no_file_alone : (given : Request) (name : String Global) → given.geojson ≡ Some (string_bytes name) → AsksLinesAlone given → ⊥
-no_file_alone given name geojson line = cc (line.made, geojson)
-
--- an audit is a task to decide, or one of its own, or none
-pub audit_asked : (given : Request) (told : Told) (places : Bool) (made : Option (String Global)) (faces progress : Bool) (options : Options)
-    (files : Vec (String Global) Global) (wanted : Option Task) → given.command ≡ audit_name → AskForTold given.all given.most told
-    → IsSwitch given.places places → given.geojson ≡ option_map string_bytes made → IsSwitch given.faces faces
-    → AreChosen given.released given.zero_cells options → given.files ≡ Some (map string_bytes files.items)
+-- an audit is a task to decide, or a list
+pub audit_asked : (given : Request) (told : Told) (places : Bool) (made : Option (String Global)) (progress : Bool) (options : Options)
+    (files : Vec (String Global) Global) (wanted : Task) → given.command ≡ audit_name → AskForTold given.all given.most told
+    → IsSwitch given.places places → given.geojson ≡ option_map string_bytes made
+    → AreChosen given.released given.zero_cells given.faces options → given.files ≡ Some (map string_bytes files.items)
     → 0 < length (map string_bytes files.items) → IsSwitch given.progress progress
-    → IsAuditTask told places made faces progress options files wanted → IsTaskOf (Some given) wanted
-audit_asked given told places made faces progress options files wanted named asked placed geojson faced are files_are some watched (inl is) =
-    rw is.1 (decided (Some given) (Audit options files) faces progress (decision (Audit options files) faces progress) refl tt (record {
+    → wanted ≡ audit_task told places made progress options files → IsTaskOf (Some given) (Some wanted)
+audit_asked given told places made progress options files wanted named asked placed geojson are files_are some watched is =
+    subst (λ (t : Task). IsTaskOf (Some given) (Some t)) (sym is) (go told places made asked placed geojson)
+  where
+    listed : (t : Told) (b : Bool) (m : Option (String Global)) → AskForTold given.all given.most t → IsSwitch given.places b
+        → given.geojson ≡ option_map string_bytes m → IsMore t b (option_map string_bytes m)
+        → IsTaskOf (Some given) (Some (task.List t b m progress options files))
+    listed t b m each places_are file more = record {
       given = given;
       same = refl;
       named = named;
-      alone = record {
-        asked = subst (λ (t : Told). AskForTold given.all given.most t) is.0.one asked;
-        placed = subst (λ (b : Bool). IsSwitch given.places b) is.0.no_places placed;
-        made = geojson ∙ ap (option_map string_bytes) is.0.no_file;
-      };
-      chosen = are;
-      are = files_are;
-      some_file = some;
-    }) (given, refl, watched) (given, refl, faced))
-audit_asked given told places made false progress options files wanted named asked placed geojson faced are files_are some watched (inr is) =
-    rw is.1 (record {
-      given = given;
-      same = refl;
-      named = named;
-      asked = asked;
-      placed = placed;
-      to = geojson;
-      more = is.0;
-      plain = faced;
+      asked = each;
+      placed = places_are;
+      to = file;
+      more = more;
       watched = watched;
       chosen = are;
       are = files_are;
       some_file = some;
-    })
-audit_asked given (All most) false None true progress options files wanted named asked placed geojson faced are files_are some watched (inr is) =
-    rw is.1 (record {
-      given = given;
-      same = refl;
-      named = named;
-      asked = asked;
-      placed = placed;
-      no_file = geojson;
-      faced = faced;
-      watched = watched;
-      chosen = are;
-      are = files_are;
-      some_file = some;
-    })
-audit_asked given One false None true progress options files wanted named asked placed geojson faced are files_are some watched (inr is) = absurd is.0
-audit_asked given One true made true progress options files wanted named asked placed geojson faced are files_are some watched (inr is) =
-    rw is.1 (no_audit given named (λ names asks line have many. no_places_alone given placed (line faced)))
-audit_asked given (All most) true made true progress options files wanted named asked placed geojson faced are files_are some watched (inr is) =
-    rw is.1 (no_audit given named (λ names asks line have many. no_places_alone given placed (line faced)))
-audit_asked given One false (Some name) true progress options files wanted named asked placed geojson faced are files_are some watched (inr is) =
-    rw is.1 (no_audit given named (λ names asks line have many. no_file_alone given name geojson (line faced)))
-audit_asked given (All most) false (Some name) true progress options files wanted named asked placed geojson faced are files_are some watched (inr is) =
-    rw is.1 (no_audit given named (λ names asks line have many. no_file_alone given name geojson (line faced)))
+    }
+
+    go : (t : Told) (b : Bool) (m : Option (String Global)) → AskForTold given.all given.most t → IsSwitch given.places b
+        → given.geojson ≡ option_map string_bytes m → IsTaskOf (Some given) (Some (audit_task t b m progress options files))
+    go One false None each places_are file = (
+      record {
+        given = given;
+        same = refl;
+        named = named;
+        alone = record { asked = each; placed = places_are; made = file };
+        chosen = are;
+        are = files_are;
+        some_file = some;
+      },
+      (given, refl, watched),
+    )
+    go One false (Some name) each places_are file = listed One false (Some name) each places_are file tt
+    go One true m each places_are file = listed One true m each places_are file tt
+    go (All most) b m each places_are file = listed (All most) b m each places_are file tt
 
 -- words that clap takes, and that name a task
 pub one_task : (words : List Text) (found : Option (Text × List Row)) (made : Task) → found ≡ subcommand_of command_line words

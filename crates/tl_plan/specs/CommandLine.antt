@@ -27,15 +27,16 @@ use Rattle.tl_plan.specs.Commands.{command_line, show_name, landmarks_name, loca
 use Rattle.tl_plan.specs.Commands.{audit_name, build_name, export_name, draw_name}
 use Rattle.tl_plan.specs.Points.{Spells}
 
--- a command; what was given for its FILES, if anything was, and the values of its --released, its --zero-cells and its --all,
--- each of which is the word true where the switch is given; and what was given for its @X,Y, its CERT or --cert, its OUT or
--- --out, its --tests, and its --most; its --progress, its --faults, its --where and its --faces, which are switches; its
--- --geojson, its --at and its --width
+-- a command; what was given for its FILES, if anything was, and the values of its --released, its --zero-cells, its --faces and its
+-- --all, each of which is the word true where the switch is given; and what was given for its @X,Y, its CERT or --cert, its OUT or
+-- --out, its --tests, and its --most; its --progress, its --faults and its --where, which are switches; its --geojson, its --at and
+-- its --width
 pub record Request : Type 0 where
   pub command : Text
   pub files : Option (List Text)
   pub released : Option Text
   pub zero_cells : Option Text
+  pub faces : Option Text
   pub point : Option Text
   pub cert : Option Text
   pub out : Option Text
@@ -45,7 +46,6 @@ pub record Request : Type 0 where
   pub progress : Option Text
   pub faults : Option Text
   pub places : Option Text
-  pub faces : Option Text
   pub geojson : Option Text
   pub center : Option Text
   pub width : Option Text
@@ -57,6 +57,7 @@ request_in found = record {
   files = all_of (codes "files") found.1;
   released = first_of (codes "released") found.1;
   zero_cells = first_of (codes "zero-cells") found.1;
+  faces = first_of (codes "faces") found.1;
   point = first_of (codes "point") found.1;
   cert = first_of (codes "cert") found.1;
   out = first_of (codes "out") found.1;
@@ -66,7 +67,6 @@ request_in found = record {
   progress = first_of (codes "progress") found.1;
   faults = first_of (codes "faults") found.1;
   places = first_of (codes "where") found.1;
-  faces = first_of (codes "faces") found.1;
   geojson = first_of (codes "geojson") found.1;
   center = first_of (codes "at") found.1;
   width = first_of (codes "width") found.1;
@@ -99,10 +99,11 @@ files_of (Check cert budget options files) = map string_bytes files.items
 files_of (Audit options files) = map string_bytes files.items
 files_of (Build made options files) = map string_bytes files.items
 
--- the values of the two switches say what is chosen of the columns
-pub record AreChosen (released zero_cells : Option Text) (options : Options) : Type 0 where
+-- the values of the three switches say what is asked of a county
+pub record AreChosen (released zero_cells faces : Option Text) (options : Options) : Type 0 where
   pub columns : IsTrue options.released ↔ (released ≡ Some (codes "true"))
   pub cells : IsTrue options.zero_cells ↔ (zero_cells ≡ Some (codes "true"))
+  pub faced : IsTrue options.faces ↔ (faces ≡ Some (codes "true"))
 
 -- the greatest number that can be given, which is the budget where none is
 abbrev pub greatest_budget : ℕ
@@ -144,13 +145,13 @@ abbrev pub AskForFaults : (all most : Option Text) → Type 0
 AskForFaults all most = (told : Told) × AskForTold all most told
 
 -- the request names a command with files: this one, these files word for word and in their order, and the switch; it has
--- no switch for zero-cell ids
+-- no switch for zero-cell ids and none for faces
 pub record AsksOfFiles (request : Option Request) (command : Text) (options : Options) (files : List Text) : Type 0 where
   pub given : Request
   pub same : request ≡ Some given
   pub named : given.command ≡ command
   pub are : given.files ≡ Some files
-  pub chosen : AreChosen given.released None options
+  pub chosen : AreChosen given.released None None options
   pub some_file : 0 < length files
 
 -- the request asks where this point lies, in these files word for word and in their order, with this switch
@@ -161,7 +162,7 @@ pub record AsksToLocate (request : Option Request) (point : Point) (options : Op
   pub named : given.command ≡ locate_name
   pub at : given.point ≡ Some word
   pub spelt : Spells word point
-  pub chosen : AreChosen given.released None options
+  pub chosen : AreChosen given.released None None options
   pub are : given.files ≡ Some files
   pub some_file : 0 < length files
 
@@ -181,7 +182,7 @@ pub record AsksToCheck (request : Option Request) (cert : Text) (budget : ℕ) (
   pub named : given.command ≡ check_name
   pub by : given.cert ≡ Some cert
   pub tests : IsBudget given.tests budget
-  pub chosen : AreChosen given.released given.zero_cells options
+  pub chosen : AreChosen given.released given.zero_cells given.faces options
   pub are : given.files ≡ Some files
   pub some_file : 0 < length files
 
@@ -202,14 +203,9 @@ pub record AsksToAudit (request : Option Request) (options : Options) (files : L
   pub same : request ≡ Some given
   pub named : given.command ≡ audit_name
   pub alone : AsksOneLine given
-  pub chosen : AreChosen given.released given.zero_cells options
+  pub chosen : AreChosen given.released given.zero_cells given.faces options
   pub are : given.files ≡ Some files
   pub some_file : 0 < length files
-
--- what was given for --where and for --geojson asks for lines of faults alone: neither for their records nor for a file of them
-pub record AsksLinesAlone (given : Request) : Type 0 where
-  pub placed : IsSwitch given.places false
-  pub made : given.geojson ≡ None
 
 -- more than one fault, or more than its line, or a file of it
 abbrev pub IsMore : Told → (places : Bool) → (made : Option Text) → Type 0
@@ -217,8 +213,7 @@ IsMore One false None = ⊥
 IsMore told places made = ⊤
 
 -- the request names an audit of these files, word for word and in their order, with these switches, that tells so many faults, with
--- their records or without, and makes this file, word for word, or none; it is more than one fault's line that is asked for, and
--- faces aren't
+-- their records or without, and makes this file, word for word, or none; it is more than one fault's line that is asked for
 pub record AsksToList (request : Option Request) (told : Told) (places : Bool) (made : Option Text) (progress : Bool) (options : Options) (files : List Text) : Type 0 where
   pub given : Request
   pub same : request ≡ Some given
@@ -227,35 +222,19 @@ pub record AsksToList (request : Option Request) (told : Told) (places : Bool) (
   pub placed : IsSwitch given.places places
   pub to : given.geojson ≡ made
   pub more : IsMore told places made
-  pub plain : IsSwitch given.faces false
   pub watched : IsSwitch given.progress progress
-  pub chosen : AreChosen given.released given.zero_cells options
-  pub are : given.files ≡ Some files
-  pub some_file : 0 < length files
-
--- the request names an audit of these files, word for word and in their order, with these switches, that tells so many of all faults
--- and asks for faces, with neither the records of faults nor a file of them
-pub record AsksToListFaces (request : Option Request) (most : Option ℕ) (progress : Bool) (options : Options) (files : List Text) : Type 0 where
-  pub given : Request
-  pub same : request ≡ Some given
-  pub named : given.command ≡ audit_name
-  pub asked : AskForAll given.all given.most most
-  pub placed : IsSwitch given.places false
-  pub no_file : given.geojson ≡ None
-  pub faced : IsSwitch given.faces true
-  pub watched : IsSwitch given.progress progress
-  pub chosen : AreChosen given.released given.zero_cells options
+  pub chosen : AreChosen given.released given.zero_cells given.faces options
   pub are : given.files ≡ Some files
   pub some_file : 0 < length files
 
 -- the request asks to make this file of GeoJSON, word for word, of these files, word for word and in their order; it has no switch
--- for zero-cell ids
+-- for zero-cell ids and none for faces
 pub record AsksToExport (request : Option Request) (made : Text) (options : Options) (files : List Text) : Type 0 where
   pub given : Request
   pub same : request ≡ Some given
   pub named : given.command ≡ export_name
   pub to : given.geojson ≡ Some made
-  pub chosen : AreChosen given.released None options
+  pub chosen : AreChosen given.released None None options
   pub are : given.files ≡ Some files
   pub some_file : 0 < length files
 
@@ -280,6 +259,10 @@ IsView None None None = ⊤
 IsView (Some center) (Some width) (Some view) = SpellsView center width view
 IsView center width view = ⊥
 
+-- faces are asked for only where faults are
+abbrev pub FacesNeedFaults : (faces faults : Option Text) → Type 0
+FacesNeedFaults faces faults = faces ≡ Some (codes "true") → faults ≡ Some (codes "true")
+
 -- the request asks to make this picture, word for word, of these files, word for word and in their order, with this view and these
 -- switches
 pub record AsksToDraw (request : Option Request) (made : Text) (view : Option View) (faults : Bool) (options : Options) (files : List Text) : Type 0 where
@@ -289,7 +272,8 @@ pub record AsksToDraw (request : Option Request) (made : Text) (view : Option Vi
   pub to : given.out ≡ Some made
   pub seen : IsView given.center given.width view
   pub shown : IsSwitch given.faults faults
-  pub chosen : AreChosen given.released given.zero_cells options
+  pub needed : FacesNeedFaults given.faces given.faults
+  pub chosen : AreChosen given.released given.zero_cells given.faces options
   pub are : given.files ≡ Some files
   pub some_file : 0 < length files
 
@@ -300,7 +284,7 @@ pub record AsksToBuild (request : Option Request) (made : Text) (options : Optio
   pub same : request ≡ Some given
   pub named : given.command ≡ build_name
   pub to : given.out ≡ Some made
-  pub chosen : AreChosen given.released given.zero_cells options
+  pub chosen : AreChosen given.released given.zero_cells given.faces options
   pub are : given.files ≡ Some files
   pub some_file : 0 < length files
 
@@ -324,15 +308,13 @@ pub record HasFiles (request : Option Request) : Type 0 where
   pub are : given.files ≡ Some files
   pub some_file : 0 < length files
 
--- the request names an audit of some file, for one fault or for all, with no number but where it asks for all, and for lines of
--- faults alone where it asks for faces
+-- the request names an audit of some file, for one fault or for all, with no number but where it asks for all
 pub record IsAudit (request : Option Request) : Type 0 where
   pub given : Request
   pub files : List Text
   pub same : request ≡ Some given
   pub named : given.command ≡ audit_name
   pub asked : AskForFaults given.all given.most
-  pub faced : IsSwitch given.faces true → AsksLinesAlone given
   pub are : given.files ≡ Some files
   pub some_file : 0 < length files
 
@@ -384,7 +366,7 @@ pub record IsExport (request : Option Request) : Type 0 where
   pub are : given.files ≡ Some files
   pub some_file : 0 < length files
 
--- the request asks for a picture that it names, of some file, with a view or with none
+-- the request asks for a picture that it names, of some file, with a view or with none, and for faces only where it asks for faults
 pub record IsDrawing (request : Option Request) : Type 0 where
   pub given : Request
   pub made : Text
@@ -394,6 +376,7 @@ pub record IsDrawing (request : Option Request) : Type 0 where
   pub named : given.command ≡ draw_name
   pub to : given.out ≡ Some made
   pub seen : IsView given.center given.width view
+  pub needed : FacesNeedFaults given.faces given.faults
   pub are : given.files ≡ Some files
   pub some_file : 0 < length files
 
@@ -413,29 +396,11 @@ IsWatched request (Locate point options files) watched = watched ≡ false
 IsWatched request (Convert cert made) watched = watched ≡ false
 IsWatched request plan watched = (given : Request) × (request ≡ Some given) × IsSwitch given.progress watched
 
--- the plan decides whether a map is sound
-abbrev pub DecidesMap : Plan → Type 0
-DecidesMap (Check cert budget options files) = ⊤
-DecidesMap (Audit options files) = ⊤
-DecidesMap (Build made options files) = ⊤
-DecidesMap other = ⊥
-
--- faces are asked for where the command has a switch for that and it is given
-abbrev pub IsFaced : Option Request → Plan → Bool → Type 0
-IsFaced request (Show options files) faced = faced ≡ false
-IsFaced request (Landmarks options files) faced = faced ≡ false
-IsFaced request (Locate point options files) faced = faced ≡ false
-IsFaced request (Convert cert made) faced = faced ≡ false
-IsFaced request plan faced = (given : Request) × (request ≡ Some given) × IsSwitch given.faces faced
-
 -- the request is one for the task
 abbrev pub IsForTask : Option Request → Task → Type 0
-IsForTask request (task.Plan plan progress) = IsFor request plan × IsWatched request plan progress × IsFaced request plan false
-IsForTask request (task.Faces plan progress) =
-    DecidesMap plan × IsFor request plan × IsWatched request plan progress × IsFaced request plan true
+IsForTask request (task.Plan plan progress) = IsFor request plan × IsWatched request plan progress
 IsForTask request (task.List told places made progress options files) =
     AsksToList request told places (option_map string_bytes made) progress options (map string_bytes files.items)
-IsForTask request (task.ListFaces most progress options files) = AsksToListFaces request most progress options (map string_bytes files.items)
 IsForTask request (task.Export made options files) = AsksToExport request (string_bytes made) options (map string_bytes files.items)
 IsForTask request (task.Draw made view faults options files) =
     AsksToDraw request (string_bytes made) view faults options (map string_bytes files.items)
@@ -453,11 +418,10 @@ IsConversionOf cert out (Some other) = ⊥
 IsConversionOf cert out None = (from to : Text) → cert ≡ Some from → out ≡ Some to → ⊥
 
 -- the words ask for the plan: clap has no error for them, of any kind, and the command that they name, with what they give
--- for its arguments, is one for the plan, and doesn't ask for faces
+-- for its arguments, is one for the plan
 pub record AskFor (words : List Text) (plan : Plan) : Type 0 where
   pub taken : fault_of command_line words ≡ []
   pub asked : IsFor (named_command words) plan
-  pub plain : IsFaced (named_command words) plan false
 
 -- the words ask for the task
 pub record AskForTask (words : List Text) (wanted : Task) : Type 0 where
@@ -510,8 +474,8 @@ abbrev pub HasAnswer : Kinds → Type 0
 HasAnswer kinds = (kind : ErrorKind) × IsAmong kind kinds × IsAnswer kind
 
 -- Why the words make no plan: they are no use of a command, and either a mistake, a wish for help or for the version, or
--- taken by clap, as those with a number or a point that isn't spelt as one, with --most and no --all, or with --faces and --where; or
--- memory was refused, and the first of them doesn't show that they are no use of a command.
+-- taken by clap, as those with a number or a point that isn't spelt as one, with --most and no --all, or that ask for a picture with
+-- --faces and no --faults; or memory was refused, and the first of them doesn't show that they are no use of a command.
 abbrev pub StopsPlanning : List Text → PlanStop → Type 0
 StopsPlanning words (Usage text) = (¬ AreAUse words) × (HasMistake (fault_of command_line words) ⊎ (fault_of command_line words ≡ []))
 StopsPlanning words (Help text) = (¬ AreAUse words) × HasAnswer (fault_of command_line words)

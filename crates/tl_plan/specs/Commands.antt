@@ -85,34 +85,32 @@ convert_name = codes "convert"
 abbrev pub conversion_app : App
 conversion_app = with_rule (with_rule (new_app convert_name) (name_argument (codes "cert"))) (name_argument (codes "out"))
 
--- a command that decides whether a map is sound, with --zero-cells, --released and FILES.. behind what it has of its own
+-- a command that asks whether a map is sound, with --faces, --zero-cells, --released and FILES.. behind what it has of its own
 abbrev pub on_a_map : App → App
-on_a_map app = with_rule (with_rule (with_rule app zero_cells_argument) released_argument) files_argument
+on_a_map app = with_rule (with_rule (with_rule (with_rule app faces_argument) zero_cells_argument) released_argument) files_argument
 
--- audit [--all] [--most N] [--where] [--geojson OUT] [--faces] [--progress] [--zero-cells] [--released] FILES..
+-- audit [--all] [--most N] [--where] [--geojson OUT] [--progress] [--faces] [--zero-cells] [--released] FILES..
 abbrev pub audit_name : Text
 audit_name = codes "audit"
 
 abbrev pub audit_app : App
 audit_app =
-    on_a_map (with_rule (with_rule (with_rule (with_rule (with_rule (with_rule (new_app audit_name) all_argument) most_argument) where_argument)
-    (value_argument (codes "geojson"))) faces_argument) progress_argument)
+    on_a_map (with_rule (with_rule (with_rule (with_rule (with_rule (new_app audit_name) all_argument) most_argument) where_argument)
+    (value_argument (codes "geojson"))) progress_argument)
 
--- build --out CERT [--faces] [--progress] [--zero-cells] [--released] FILES..
+-- build --out CERT [--progress] [--faces] [--zero-cells] [--released] FILES..
 abbrev pub build_name : Text
 build_name = codes "build"
 
 abbrev pub build_app : App
-build_app = on_a_map (with_rule (with_rule (with_rule (new_app build_name) (named_argument (codes "out"))) faces_argument) progress_argument)
+build_app = on_a_map (with_rule (with_rule (new_app build_name) (named_argument (codes "out"))) progress_argument)
 
--- check --cert CERT [--tests N] [--faces] [--progress] [--zero-cells] [--released] FILES..
+-- check --cert CERT [--tests N] [--progress] [--faces] [--zero-cells] [--released] FILES..
 abbrev pub check_name : Text
 check_name = codes "check"
 
 abbrev pub check_app : App
-check_app =
-    on_a_map (with_rule (with_rule (with_rule (with_rule (new_app check_name) (named_argument (codes "cert"))) tests_argument) faces_argument)
-    progress_argument)
+check_app = on_a_map (with_rule (with_rule (with_rule (new_app check_name) (named_argument (codes "cert"))) tests_argument) progress_argument)
 
 -- locate [--released] @X,Y FILES..
 abbrev pub locate_name : Text
@@ -128,7 +126,7 @@ export_name = codes "export"
 abbrev pub export_app : App
 export_app = with_rule (with_rule (with_rule (new_app export_name) (named_argument (codes "geojson"))) released_argument) files_argument
 
--- draw --out OUT [--at @X,Y --width W] [--faults] [--zero-cells] [--released] FILES..
+-- draw --out OUT [--at @X,Y --width W] [--faults [--faces]] [--zero-cells] [--released] FILES..
 abbrev pub draw_name : Text
 draw_name = codes "draw"
 

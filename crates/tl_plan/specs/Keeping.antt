@@ -8,7 +8,7 @@ use Rattle.clap.specs.declared.builder.command.Command.TheViews.{out-Command}
 use Rattle.tl_plan.specs.declared.command_line.Named.{Named}
 use Rattle.tl_plan.specs.declared.command_line.Named.TheVariants.{Show, Landmarks, Locate, Audit, Build, Check, Convert, Export, Draw}
 use Rattle.tl_plan.specs.declared.command_line.Argument.{Argument}
-use Rattle.tl_plan.specs.declared.command_line.Argument.TheVariants.{All, Most, Progress, Where, FacesOfAudit, Faces, FaultsOption, ZeroCells, Released, Files, Point}
+use Rattle.tl_plan.specs.declared.command_line.Argument.TheVariants.{All, Most, Progress, Where, FacesOfDrawing, Faces, FaultsOption, ZeroCells, Released, Files, Point}
 use Rattle.tl_plan.specs.declared.command_line.Argument.TheVariants.{CertOption, OutOption, Tests, Cert, Out, CollectionOption, PictureOption, At, Width, Faults}
 use Rattle.tl_plan.specs.Commands.{all_argument, most_argument, zero_cells_argument, released_argument, files_argument}
 use Rattle.tl_plan.specs.Commands.{progress_argument, where_argument, faces_argument, faults_argument, value_argument}
@@ -31,7 +31,7 @@ rule_for Cert = name_argument (codes "cert")
 rule_for Out = name_argument (codes "out")
 rule_for Progress = progress_argument
 rule_for Where = where_argument
-rule_for FacesOfAudit = faces_argument
+rule_for FacesOfDrawing = faces_argument
 rule_for Faces = faces_argument
 rule_for FaultsOption = value_argument (codes "geojson")
 rule_for CollectionOption = named_argument (codes "geojson")
@@ -93,12 +93,12 @@ abbrev pub arguments_for : Named → List Argument
 arguments_for Show = Released ∷ Files ∷ []
 arguments_for Landmarks = Released ∷ Files ∷ []
 arguments_for Locate = Released ∷ Point ∷ Files ∷ []
-arguments_for Audit = All ∷ Most ∷ Where ∷ FaultsOption ∷ FacesOfAudit ∷ Progress ∷ ZeroCells ∷ Released ∷ Files ∷ []
-arguments_for Build = OutOption ∷ Faces ∷ Progress ∷ ZeroCells ∷ Released ∷ Files ∷ []
-arguments_for Check = CertOption ∷ Tests ∷ Faces ∷ Progress ∷ ZeroCells ∷ Released ∷ Files ∷ []
+arguments_for Audit = All ∷ Most ∷ Where ∷ FaultsOption ∷ Progress ∷ Faces ∷ ZeroCells ∷ Released ∷ Files ∷ []
+arguments_for Build = OutOption ∷ Progress ∷ Faces ∷ ZeroCells ∷ Released ∷ Files ∷ []
+arguments_for Check = CertOption ∷ Tests ∷ Progress ∷ Faces ∷ ZeroCells ∷ Released ∷ Files ∷ []
 arguments_for Convert = Cert ∷ Out ∷ []
 arguments_for Export = CollectionOption ∷ Released ∷ Files ∷ []
-arguments_for Draw = PictureOption ∷ At ∷ Width ∷ Faults ∷ ZeroCells ∷ Released ∷ Files ∷ []
+arguments_for Draw = PictureOption ∷ At ∷ Width ∷ Faults ∷ FacesOfDrawing ∷ ZeroCells ∷ Released ∷ Files ∷ []
 
 -- a command was made, and it is so
 abbrev pub OnMade : {E : Type 0} → Result Command E → (Command → Type 0) → Type 0

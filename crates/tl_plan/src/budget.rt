@@ -27,7 +27,7 @@ pub fn budget_of(given: Option<&str>) -> Option<u64>
 
 /// What an audit is asked to tell, by the values that were given for --all and for --most: one fault, or all of them or the
 /// first so many. A number without --all asks for nothing, and neither does a text that spells no number.
-pub fn told_by(all: Option<&str>, most: Option<&str>) -> Option<Told>
+pub fn asked_by(all: Option<&str>, most: Option<&str>) -> Option<Told>
     ensures { let each = option_map (λ text. text.now) all.entry in
         let number = option_map (λ text. text.now) most.entry in
         MatchOption result (¬ AskForFaults each number) (AskForTold each number) }

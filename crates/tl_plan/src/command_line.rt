@@ -14,7 +14,7 @@ ghost use Rattle.tl_plan.specs.declared.command_line.Named.{Named};
 use crate::help::{
     ABOUT, ALL, AT, AUDIT_ABOUT, AUDIT_EXAMPLE, BUILD_ABOUT, BUILD_EXAMPLE, CHECK_ABOUT,
     CHECK_EXAMPLE, CONVERT_ABOUT, CONVERT_EXAMPLE, DRAW_ABOUT, DRAW_EXAMPLE, EXAMPLES,
-    EXPORT_ABOUT, EXPORT_EXAMPLE, FACES, FACES_OF_AUDIT, FAULTS, FAULTS_COLLECTION,
+    EXPORT_ABOUT, EXPORT_EXAMPLE, FACES, FACES_OF_DRAWING, FAULTS, FAULTS_COLLECTION,
     LANDMARKS_ABOUT, LANDMARKS_EXAMPLE, LOCATE_ABOUT, LOCATE_EXAMPLE, MOST, PROGRESS, RELEASED,
     SHOW_ABOUT, SHOW_EXAMPLE, TESTS, WHERE, WIDTH, ZERO_CELLS,
 };
@@ -65,10 +65,10 @@ enum Argument {
     Progress,
     // --where
     Where,
-    // --faces, of an audit
-    FacesOfAudit,
     // --faces
     Faces,
+    // --faces, of a picture
+    FacesOfDrawing,
     // --geojson OUT, of an audit
     FaultsOption,
     // --geojson OUT
@@ -219,16 +219,16 @@ fn arguments_of<'a>(named: &Named) -> &'a [Argument]
             Argument::Most,
             Argument::Where,
             Argument::FaultsOption,
-            Argument::FacesOfAudit,
             Argument::Progress,
+            Argument::Faces,
             Argument::ZeroCells,
             Argument::Released,
             Argument::Files,
         ],
         Named::Build => &[
             Argument::OutOption,
-            Argument::Faces,
             Argument::Progress,
+            Argument::Faces,
             Argument::ZeroCells,
             Argument::Released,
             Argument::Files,
@@ -236,8 +236,8 @@ fn arguments_of<'a>(named: &Named) -> &'a [Argument]
         Named::Check => &[
             Argument::CertOption,
             Argument::Tests,
-            Argument::Faces,
             Argument::Progress,
+            Argument::Faces,
             Argument::ZeroCells,
             Argument::Released,
             Argument::Files,
@@ -253,6 +253,7 @@ fn arguments_of<'a>(named: &Named) -> &'a [Argument]
             Argument::At,
             Argument::Width,
             Argument::Faults,
+            Argument::FacesOfDrawing,
             Argument::ZeroCells,
             Argument::Released,
             Argument::Files,
@@ -281,13 +282,13 @@ fn args_of<'a>(alloc: Global, arguments: &[Argument]) -> Result<Vec<Arg<'a>>, Al
 {
     let mut args = Vec::new(alloc);
     for argument in arguments {
-        args.push(told(alloc, argument))?;
+        args.push(arg_of(alloc, argument))?;
     }
     Ok(args)
 }
 
 // The argument, as clap is told of it.
-fn told<'a>(alloc: Global, argument: &Argument) -> Arg<'a>
+fn arg_of<'a>(alloc: Global, argument: &Argument) -> Arg<'a>
     ensures { rule_told result ≡ argument_told argument.now }
 {
     match argument {
@@ -309,8 +310,8 @@ fn told<'a>(alloc: Global, argument: &Argument) -> Arg<'a>
         Argument::Out => name_argument(alloc, "out", "OUT", "The certificate that is made"),
         Argument::Progress => switch(alloc, "progress", PROGRESS),
         Argument::Where => switch(alloc, "where", WHERE),
-        Argument::FacesOfAudit => switch(alloc, "faces", FACES_OF_AUDIT),
         Argument::Faces => switch(alloc, "faces", FACES),
+        Argument::FacesOfDrawing => switch(alloc, "faces", FACES_OF_DRAWING),
         Argument::FaultsOption => option(alloc, "geojson", "OUT", FAULTS_COLLECTION),
         Argument::CollectionOption => {
             needed_option(alloc, "geojson", "OUT", "The file of GeoJSON that is made")

@@ -149,9 +149,9 @@ pub const DRAW_ABOUT: &str = "Draws the map as a picture for a browser";
 pub const DRAW_EXAMPLE: &str = "\
 OUT is a picture in SVG, of the whole map, or of the place about X,Y that is W millionths of a degree
 wide: chains, nodes and polygons' points, and with --faults each fault in red, which says what it is
-where the pointer rests on it. What is smaller than a third of a pixel is left out. OUT is made as that of
-`export` is. The line is `drawn chains=C`, with the number of chains that are drawn, and with --faults
-`drawn chains=C faults=F`.
+where the pointer rests on it; with --faces too these are the faults that `audit --all --faces` tells. What
+is smaller than a third of a pixel is left out. OUT is made as that of `export` is. The line is
+`drawn chains=C`, with the number of chains that are drawn, and with --faults `drawn chains=C faults=F`.
 
 Examples:
   tigertopo draw --out TGR24001.svg --faults TGR24001.RT*
@@ -164,10 +164,10 @@ pub const WHERE: &str = "Tells behind each fault in which lines of which files i
 
 pub const FAULTS_COLLECTION: &str = "The file of GeoJSON that is made of the faults";
 
-pub const FACES_OF_AUDIT: &str =
-    "Asks too that sides that face one another name one polygon; not with --where or --geojson";
-
 pub const FACES: &str = "Asks too that sides that face one another name one polygon";
+
+pub const FACES_OF_DRAWING: &str =
+    "Draws too where sides that face one another don't name one polygon; needs --faults";
 
 pub const AT: &str = "The middle of what is drawn, in millionths of a degree; needs --width";
 

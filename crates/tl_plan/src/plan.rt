@@ -8,8 +8,8 @@ use std::alloc::AllocError;
 use tl_geom::Point;
 use tl_record::Options;
 
-/// What the program is asked to do: with record files, which are read one after the other as one text, by the columns
-/// that the options choose, or with a certificate.
+/// What the program is asked to do: with record files, which are read one after the other as one text, as the options say, or with
+/// a certificate.
 #[derive(Drop)]
 pub enum Plan {
     /// To print the chains.
@@ -71,12 +71,6 @@ pub enum Task {
         plan: Plan,
         progress: bool,
     },
-    /// To decide as this plan does, which is an audit, a check or a build, where faces have to agree too: sides that face one
-    /// another. Where `progress` is asked for, how far it is is shown while files are read.
-    Faces {
-        plan: Plan,
-        progress: bool,
-    },
     /// To tell what is wrong with the map otherwise than a plan does: all of it, or with the records that each fault speaks of
     /// where `places` asks for them, or with a file of GeoJSON of this name that is made of the faults. Where `progress` is
     /// asked for, how far it is is shown while files are read.
@@ -88,22 +82,14 @@ pub enum Task {
         options: Options,
         files: Vec<String>,
     },
-    /// To tell all faults, or so many from the front, where faces have to agree too: where nothing else is wrong with the map, each
-    /// two segments that face one another along a line of one height and name different sides. Where `progress` is asked for, how
-    /// far it is is shown while files are read.
-    ListFaces {
-        most: Option<u64>,
-        progress: bool,
-        options: Options,
-        files: Vec<String>,
-    },
     /// To make a file of GeoJSON of this name, of the map.
     Export {
         made: String,
         options: Options,
         files: Vec<String>,
     },
-    /// To make a picture of this name, of the map or of a place in it, with its faults where they are asked for.
+    /// To make a picture of this name, of the map or of a place in it, with its faults where they are asked for: those of faces among
+    /// them where the options ask for these, which they do only where faults are asked for.
     Draw {
         made: String,
         view: Option<View>,

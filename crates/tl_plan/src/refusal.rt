@@ -19,9 +19,8 @@ const SPELLING: &str =
 // What is said of a number of faults where there is no --all.
 const NO_ALL: &str = "the argument '--most <N>' needs '--all'";
 
-// What is said of faces where more than lines of faults is asked for.
-const FACES_ALONE: &str =
-    "the argument '--faces' cannot be used with '--where' or '--geojson <OUT>'";
+// What is said of faces where a picture's faults aren't asked for.
+const NO_FAULTS: &str = "the argument '--faces' needs '--faults'";
 
 // What is said of one part of a view where the other isn't given.
 const NO_WIDTH: &str = "the argument '--at <@X,Y>' needs '--width <W>'";
@@ -118,30 +117,27 @@ fn usage_of(
             POINT_SPELLING,
         );
     }
-    if asks_more_of_faces(matches) {
-        return told_by(alloc, &Named::Audit, "tigertopo audit", FACES_ALONE);
-    }
     if let Some(most) = word_of(matches, "audit", "most") {
         return misused_most(alloc, matches, most);
+    }
+    if lacks_faults(matches) {
+        return refusal_text(alloc, &Named::Draw, "tigertopo draw", NO_FAULTS);
     }
     match (
         word_of(matches, "draw", "at"),
         word_of(matches, "draw", "width"),
     ) {
         (Some(center), Some(width)) => misspelt_view(alloc, center, width),
-        (Some(_), None) => told_by(alloc, &Named::Draw, "tigertopo draw", NO_WIDTH),
-        (None, Some(_)) => told_by(alloc, &Named::Draw, "tigertopo draw", NO_CENTER),
+        (Some(_), None) => refusal_text(alloc, &Named::Draw, "tigertopo draw", NO_WIDTH),
+        (None, Some(_)) => refusal_text(alloc, &Named::Draw, "tigertopo draw", NO_CENTER),
         (None, None) => plain_usage(alloc, command),
     }
 }
 
-// Whether an audit asks for faces, and for the records of faults or a file of them.
-fn asks_more_of_faces(matches: &ArgMatches<'_>) -> bool {
-    if word_of(matches, "audit", "faces") != Some("true") {
-        return false;
-    }
-    word_of(matches, "audit", "where") == Some("true")
-        || word_of(matches, "audit", "geojson").is_some()
+// Whether a picture is asked for with faces and without faults.
+fn lacks_faults(matches: &ArgMatches<'_>) -> bool {
+    word_of(matches, "draw", "faces") == Some("true")
+        && word_of(matches, "draw", "faults") != Some("true")
 }
 
 // What is wrong with the words of a view: one of them isn't spelt as it has to be.
@@ -168,7 +164,7 @@ fn misused_most(alloc: Global, matches: &ArgMatches<'_>, most: &str) -> Result<S
     ensures { IfOk result HasNoEscape }
 {
     if word_of(matches, "audit", "all") != Some("true") {
-        return told_by(alloc, &Named::Audit, "tigertopo audit", NO_ALL);
+        return refusal_text(alloc, &Named::Audit, "tigertopo audit", NO_ALL);
     }
     misspelt(
         alloc,
@@ -208,11 +204,11 @@ fn misspelt(
     ensures { IfOk result HasNoEscape }
 {
     let wrong = format!(in alloc; "invalid value '{value}' for '{argument}': {spelling}")?;
-    told_by(alloc, named, name, wrong.as_str())
+    refusal_text(alloc, named, name, wrong.as_str())
 }
 
 // The same, of what is wrong.
-fn told_by(alloc: Global, named: &Named, name: &str, wrong: &str) -> Result<String, AllocError>
+fn refusal_text(alloc: Global, named: &Named, name: &str, wrong: &str) -> Result<String, AllocError>
     ensures { IfOk result HasNoEscape }
 {
     match shown_as(alloc, named, name) {

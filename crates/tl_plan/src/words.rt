@@ -12,10 +12,10 @@ ghost use Rattle.clap.specs.Matches.{found_of};
 ghost use Rattle.tl_plan.specs.Commands.{command_line, show_name, landmarks_name, audit_name, build_name, check_name, locate_name, export_name, draw_name};
 ghost use Rattle.tl_plan.specs.CommandLine.{request_in, named_in};
 ghost use Rattle.tl_plan.specs.CommandLine.{AreChosen, AskForTask, AskForFaults, AskForTold, StopsPlanning, IsSwitch, IsTaskOf, IsConversionOf};
-ghost use Rattle.tl_plan.specs.Asked.{IsAuditTask, decision, listing_task};
+ghost use Rattle.tl_plan.specs.Asked.{audit_task as audit_task_of};
 ghost use Rattle.tl_plan.specs.Plans.{ShowsNoEscape};
 
-use crate::budget::{Told, budget_of, told_by};
+use crate::budget::{Told, asked_by, budget_of};
 use crate::command_line::command;
 use crate::first_word::unread;
 use crate::plan::{Plan, PlanStop, Task};
@@ -138,7 +138,7 @@ fn show_of(alloc: Global, command: &ArgMatches<'_>) -> Result<Option<Task>, Allo
     }
     Ok(Some(Task::Plan {
         plan: Plan::Show {
-            options: options_of(command, None),
+            options: options_of(command, None, None),
             files,
         },
         progress: false,
@@ -155,7 +155,7 @@ fn landmarks_of(alloc: Global, command: &ArgMatches<'_>) -> Result<Option<Task>,
     }
     Ok(Some(Task::Plan {
         plan: Plan::Landmarks {
-            options: options_of(command, None),
+            options: options_of(command, None, None),
             files,
         },
         progress: false,
@@ -199,19 +199,18 @@ fn locate_of(alloc: Global, command: &ArgMatches<'_>) -> Result<Option<Task>, Al
     Ok(Some(Task::Plan {
         plan: Plan::Locate {
             point,
-            options: options_of(command, None),
+            options: options_of(command, None, None),
             files,
         },
         progress: false,
     }))
 }
 
-// The audit that the command's words name, where they name a file, a number of faults only beside --all, and faces only where
-// lines of faults alone are asked for.
+// The audit that the command's words name, where they name a file, and a number of faults only beside --all.
 fn audit_of(alloc: Global, command: &ArgMatches<'_>) -> Result<Option<Task>, AllocError>
     ensures { IfOk result (IsTaskOf (Some (request_in (audit_name, rows_of (found_of command.now))))) }
 {
-    let Some(told) = told_of(command) else {
+    let Some(told) = asked_of(command) else {
         return Ok(None);
     };
     let files = files_of(alloc, command)?;
@@ -219,15 +218,14 @@ fn audit_of(alloc: Global, command: &ArgMatches<'_>) -> Result<Option<Task>, All
         return Ok(None);
     }
     let made = collection_of(alloc, command)?;
-    Ok(audit_task(
+    Ok(Some(audit_task(
         told,
         switch_of(command, "where"),
         made,
-        switch_of(command, "faces"),
         switch_of(command, "progress"),
-        options_with_zero_cells(command),
+        options_on_a_map(command),
         files,
-    ))
+    )))
 }
 
 // The name that the command's words give for a file of GeoJSON, where they give one.
@@ -243,75 +241,40 @@ fn collection_of(alloc: Global, command: &ArgMatches<'_>) -> Result<Option<Strin
 
 // How many faults the command's words ask for, by --all and --most. A number without --all asks for none, and so does one that
 // isn't spelt as one.
-fn told_of(command: &ArgMatches<'_>) -> Option<Told>
+fn asked_of(command: &ArgMatches<'_>) -> Option<Told>
     ensures { MatchOption result
         (¬ AskForFaults (first_of (codes "all") (rows_of (found_of command.now)))
         (first_of (codes "most") (rows_of (found_of command.now))))
         (AskForTold (first_of (codes "all") (rows_of (found_of command.now)))
         (first_of (codes "most") (rows_of (found_of command.now)))) }
 {
-    told_by(command.get_str("all"), command.get_str("most"))
+    asked_by(command.get_str("all"), command.get_str("most"))
 }
 
-// The task of an audit that tells so many faults: to decide, where it is one alone and nothing else is asked for.
+// The task of an audit that tells so many faults: to decide, where it is one alone and nothing else is asked for, or a list.
 fn audit_task(
     told: Told,
     places: bool,
     made: Option<String>,
-    faces: bool,
     progress: bool,
     options: Options,
     files: Vec<String>,
-) -> Option<Task>
-    ensures { IsAuditTask told places made faces progress options files result }
+) -> Task
+    ensures { result ≡ audit_task_of told places made progress options files }
 {
     match (told, places, made) {
-        (Told::One, false, None) => Some(deciding(Plan::Audit { options, files }, faces, progress)),
-        (told, places, made) => listing(told, places, made, faces, progress, options, files),
-    }
-}
-
-// The task of a list of so many faults. Of faces that disagree lines alone are told.
-fn listing(
-    told: Told,
-    places: bool,
-    made: Option<String>,
-    faces: bool,
-    progress: bool,
-    options: Options,
-    files: Vec<String>,
-) -> Option<Task>
-    ensures { result ≡ listing_task told places made faces progress options files }
-{
-    if !faces {
-        return Some(Task::List {
+        (Told::One, false, None) => Task::Plan {
+            plan: Plan::Audit { options, files },
+            progress,
+        },
+        (told, places, made) => Task::List {
             told,
             places,
             made,
             progress,
             options,
             files,
-        });
-    }
-    match (told, places, made) {
-        (Told::All(most), false, None) => Some(Task::ListFaces {
-            most,
-            progress,
-            options,
-            files,
-        }),
-        _ => None,
-    }
-}
-
-// The task to decide as this plan does, where faces have to agree too, or not.
-fn deciding(plan: Plan, faces: bool, progress: bool) -> Task
-    ensures { result ≡ decision plan faces progress }
-{
-    if faces {
-        Task::Faces { plan, progress }
-    } else {
-        Task::Plan { plan, progress }
+        },
     }
 }
 
@@ -328,12 +291,13 @@ fn export_of(alloc: Global, command: &ArgMatches<'_>) -> Result<Option<Task>, Al
     }
     Ok(Some(Task::Export {
         made: String::from_str(alloc, name)?,
-        options: options_of(command, None),
+        options: options_of(command, None, None),
         files,
     }))
 }
 
-// The picture that the command's words ask for, where they name it and a file, and spell a view or none.
+// The picture that the command's words ask for, where they name it and a file, spell a view or none, and ask for faces only where
+// they ask for faults.
 fn drawing_of(alloc: Global, command: &ArgMatches<'_>) -> Result<Option<Task>, AllocError>
     ensures { IfOk result (IsTaskOf (Some (request_in (draw_name, rows_of (found_of command.now))))) }
 {
@@ -343,6 +307,10 @@ fn drawing_of(alloc: Global, command: &ArgMatches<'_>) -> Result<Option<Task>, A
     let Some(view) = view_of(command.get_str("at"), command.get_str("width")) else {
         return Ok(None);
     };
+    let faults = switch_of(command, "faults");
+    if switch_of(command, "faces") && !faults {
+        return Ok(None);
+    }
     let files = files_of(alloc, command)?;
     if files.is_empty() {
         return Ok(None);
@@ -350,8 +318,8 @@ fn drawing_of(alloc: Global, command: &ArgMatches<'_>) -> Result<Option<Task>, A
     Ok(Some(Task::Draw {
         made: String::from_str(alloc, name)?,
         view,
-        faults: switch_of(command, "faults"),
-        options: options_with_zero_cells(command),
+        faults,
+        options: options_on_a_map(command),
         files,
     }))
 }
@@ -367,16 +335,14 @@ fn build_of(alloc: Global, command: &ArgMatches<'_>) -> Result<Option<Task>, All
     if files.is_empty() {
         return Ok(None);
     }
-    let plan = Plan::Build {
-        made: String::from_str(alloc, name)?,
-        options: options_with_zero_cells(command),
-        files,
-    };
-    Ok(Some(deciding(
-        plan,
-        switch_of(command, "faces"),
-        switch_of(command, "progress"),
-    )))
+    Ok(Some(Task::Plan {
+        plan: Plan::Build {
+            made: String::from_str(alloc, name)?,
+            options: options_on_a_map(command),
+            files,
+        },
+        progress: switch_of(command, "progress"),
+    }))
 }
 
 // The check that the command's words name, where their number of tests is spelt as one.
@@ -393,17 +359,15 @@ fn check_of(alloc: Global, command: &ArgMatches<'_>) -> Result<Option<Task>, All
     if files.is_empty() {
         return Ok(None);
     }
-    let plan = Plan::Check {
-        cert: String::from_str(alloc, cert)?,
-        budget,
-        options: options_with_zero_cells(command),
-        files,
-    };
-    Ok(Some(deciding(
-        plan,
-        switch_of(command, "faces"),
-        switch_of(command, "progress"),
-    )))
+    Ok(Some(Task::Plan {
+        plan: Plan::Check {
+            cert: String::from_str(alloc, cert)?,
+            budget,
+            options: options_on_a_map(command),
+            files,
+        },
+        progress: switch_of(command, "progress"),
+    }))
 }
 
 // The names that were given for the command's FILES.
@@ -414,22 +378,28 @@ fn files_of(alloc: Global, command: &ArgMatches<'_>) -> Result<Vec<String>, Allo
     copied(alloc, command.get_strs("files").unwrap_or(&[]))
 }
 
-// What the switches of a command that decides choose of the columns.
-fn options_with_zero_cells(command: &ArgMatches<'_>) -> Options
+// What the switches of a command that asks whether a map is sound say.
+fn options_on_a_map(command: &ArgMatches<'_>) -> Options
     ensures { AreChosen (first_of (codes "released") (rows_of (found_of command.now)))
-        (first_of (codes "zero-cells") (rows_of (found_of command.now))) result }
+        (first_of (codes "zero-cells") (rows_of (found_of command.now)))
+        (first_of (codes "faces") (rows_of (found_of command.now))) result }
 {
-    options_of(command, command.get_str("zero-cells"))
+    options_of(
+        command,
+        command.get_str("zero-cells"),
+        command.get_str("faces"),
+    )
 }
 
-// What the command's switches choose of the columns: its --released, and its --zero-cells, where it has one.
-fn options_of(command: &ArgMatches<'_>, zero_cells: Option<&str>) -> Options
+// What the command's switches say: its --released, and its --zero-cells and its --faces, where it has them.
+fn options_of(command: &ArgMatches<'_>, zero_cells: Option<&str>, faces: Option<&str>) -> Options
     ensures { AreChosen (first_of (codes "released") (rows_of (found_of command.now)))
-        (option_map (λ text. text.now) zero_cells.entry) result }
+        (option_map (λ text. text.now) zero_cells.entry) (option_map (λ text. text.now) faces.entry) result }
 {
     Options {
         zero_cells: is_set(zero_cells),
         released: is_set(command.get_str("released")),
+        faces: is_set(faces),
     }
 }
 

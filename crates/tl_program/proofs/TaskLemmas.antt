@@ -8,51 +8,20 @@ use Rattle.tl_plan.specs.declared.plan.Task.{Task}
 use Rattle.tl_plan.specs.declared.plan.Task.TheVariants as task
 use Rattle.tl_answers.specs.Running.{NamesStop}
 use Rattle.tl_lists.proofs.ListLemmas.{lists_for}
-use Rattle.tl_face_lists.proofs.Listed.{lists_faces_for}
 use Rattle.tl_command.specs.Starting.{unknown}
 use Rattle.tl_command.proofs.StartLemmas.{answers_plan_any}
-use Rattle.tl_plan.specs.CommandLine.{AskForTask}
-use Rattle.tl_faced_answers.specs.Outcomes.{AnswersFaces, IsWhy}
-use Rattle.tl_verdict.specs.declared.stop.Stop.{Stop}
-use Rattle.tl_verdict.specs.declared.stop.Stop.TheVariants.{Record, Memory, Device, Budget}
-use Rattle.tl_program.specs.Tasks.{Starts, DoesTask, AnswersWords, MayBeAsked}
+use Rattle.tl_program.specs.Tasks.{Starts, DoesTask, AnswersWords}
 
 -- a stop of which less is said of the file that failed
 names_weaker : (told : List ℕ → Type 0) (failed other same cut : Type 0) → (failed → other) → NamesStop told failed ⊤ same cut → NamesStop told other ⊤ same cut
 names_weaker told failed other same cut weaker (inl memory) = inl memory
 names_weaker told failed other same cut weaker (inr device) = inr (device.0, elim device.1 [ inl one ↦ inl (weaker one.0, one.1) | inr broken ↦ inr broken ])
 
-why_any : (plan : Plan) (known spelt : Option (List ℕ)) (failed : Type 0) (stop : Stop) → IsWhy plan known spelt failed stop → IsWhy plan known spelt ⊤ stop
-why_any plan known spelt failed (Record line cause) why = why
-why_any plan known spelt failed Memory why = tt
-why_any plan known spelt failed Device why = tt
-why_any plan known spelt failed Budget why = why
-
-faces_any : (plan : Plan) (status : ℕ) (before after : Under) (wrote told part : List ℕ → Type 0) (failed : Type 0) (out_same err_same : Type 0)
-    → AnswersFaces plan status before after wrote told part failed out_same err_same → AnswersFaces plan status before after wrote told part ⊤ out_same err_same
-faces_any plan status before after wrote told part failed out_same err_same (inl decides) = inl decides
-faces_any plan status before after wrote told part failed out_same err_same (inr (inl stops)) =
-    inr (inl (record { stop = stops.stop; why = why_any plan _ _ failed stops.stop stops.why; tells = stops.tells; same = stops.same; keeps = stops.keeps }))
-faces_any plan status before after wrote told part failed out_same err_same (inr (inr refuses)) = inr (inr refuses)
-
--- what words ask for may be asked
-pub may_be_asked : (words : List Text) (wanted : Task) → AskForTask words wanted → MayBeAsked wanted
-may_be_asked words (task.Plan plan progress) asks = tt
-may_be_asked words (task.Faces plan progress) asks = asks.asked.0
-may_be_asked words (task.List asked places made progress options files) asks = tt
-may_be_asked words (task.ListFaces most progress options files) asks = tt
-may_be_asked words (task.Export made options files) asks = tt
-may_be_asked words (task.Draw made view faults options files) asks = tt
-
 task_any : (wanted : Task) (status : ℕ) (before after : Under) (wrote told part : List ℕ → Type 0) (failed : Type 0) (out_same err_same : Type 0)
     → DoesTask wanted status before after wrote told part failed out_same err_same → DoesTask wanted status before after wrote told part ⊤ out_same err_same
 task_any (task.Plan plan progress) status before after wrote told part failed out_same err_same does = absurd does
-task_any (task.Faces plan progress) status before after wrote told part failed out_same err_same does =
-    faces_any plan status before after wrote told part failed out_same err_same does
 task_any (task.List asked places made progress options files) status before after wrote told part failed out_same err_same does =
     lists_for _ _ _ asked places _ status before after wrote told part failed ⊤ out_same err_same (λ fails. tt) does
-task_any (task.ListFaces most progress options files) status before after wrote told part failed out_same err_same does =
-    (lists_faces_for _ _ most status wrote told part failed ⊤ out_same err_same (λ fails. tt) does.0, does.1)
 task_any (task.Export made options files) status before after wrote told part failed out_same err_same does = record {
   is_status = does.is_status;
   exported = does.exported;

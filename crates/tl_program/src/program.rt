@@ -17,10 +17,10 @@ use std::random::RandomSource;
 use std::rt::{Env, Files};
 use std::time::Clock;
 use tl_answers::stop::stopped;
-use tl_command::program::{tell_unread, words_of};
+use tl_command::program::{say_unread, words_of};
 use tl_files::SystemFiles;
+use tl_output::Stop;
 use tl_record::Sink;
-use tl_verdict::Stop;
 
 /// Does what the words of the command line ask, and gives the program's exit status. Which words these are no contract
 /// knows. `is_seen` says whether the error output is a terminal, on which it may be shown how far reading is.
@@ -38,7 +38,7 @@ pub fn answer<
 {
     match words_of(rt, alloc) {
         Ok(words) => start_over_system(rt, alloc, is_seen, words.as_slice(), out, err),
-        Err(unread) => tell_unread(unread, err),
+        Err(unread) => say_unread(&unread, err),
     }
 }
 

@@ -7,17 +7,15 @@ ghost use Rattle.tl_plan.specs.CommandLine.{AskForTask};
 ghost use Rattle.tl_answers.specs.Running.{TriesToWrite};
 ghost use Rattle.tl_making.specs.Opening.{FilesFail};
 ghost use Rattle.tl_command.specs.Hinting.{HintsAfter};
-ghost use Rattle.tl_program.specs.Tasks.{Starts, TaskFails, MayBeAsked};
+ghost use Rattle.tl_program.specs.Tasks.{Starts, TaskFails};
 
 use std::alloc::Global;
 use std::hash::RandomState;
-use tl_answers::usage::tell_stop;
+use tl_answers::usage::say_stop;
 use tl_command::hint::hint;
-use tl_command::start::{run_plan, watch_plan};
+use tl_command::start::run_plan;
 use tl_draw::open_and_draw;
 use tl_export::open_and_export;
-use tl_face_lists::open_and_list_faces;
-use tl_faced_answers::open_and_decide;
 use tl_files::FileSystem;
 use tl_lists::open_and_list;
 use tl_plan::{Task, words};
@@ -65,7 +63,7 @@ pub fn start<F: FileSystem, W: Sink, E: Sink>(
 {
     match words::task(alloc, words) {
         Ok(task) => perform(files, alloc, hasher, &task, out, err),
-        Err(stop) => tell_stop(&stop, out, err),
+        Err(stop) => say_stop(&stop, out, err),
     }
 }
 
@@ -78,7 +76,6 @@ fn perform<F: FileSystem, W: Sink, E: Sink>(
     out: &mut W,
     err: &mut E,
 ) -> u8
-    requires { MayBeAsked task.now }
     ensures { (words : List Text) → AskForTask words task.now →
         Starts words result (F.under files.old) (F.under files.new)
         (Writes W.contents W.failure_count out.old out.new)
@@ -89,10 +86,6 @@ fn perform<F: FileSystem, W: Sink, E: Sink>(
 {
     match task {
         Task::Plan { plan, progress } => run_plan(files, alloc, hasher, plan, *progress, out, err),
-        Task::Faces { plan, progress } => {
-            watch_plan(files, alloc, plan, *progress);
-            open_and_decide(files, alloc, hasher, plan, out, err)
-        }
         Task::List {
             told,
             places,
@@ -109,24 +102,6 @@ fn perform<F: FileSystem, W: Sink, E: Sink>(
                 *told,
                 *places,
                 made,
-                *options,
-                names.as_slice(),
-                out,
-                err,
-            )
-        }
-        Task::ListFaces {
-            most,
-            progress,
-            options,
-            files: names,
-        } => {
-            watch(files, alloc, names.as_slice(), *progress);
-            open_and_list_faces(
-                &*files,
-                alloc,
-                hasher,
-                *most,
                 *options,
                 names.as_slice(),
                 out,

@@ -1,5 +1,6 @@
 pub mod ListLemmas
 pub mod SortLemmas
+mod StartLemmas
 pub mod CutLemmas
 pub mod RoundLemmas
 pub mod WalkLemmas

@@ -15,7 +15,7 @@ use Rattle.tl_sides.proofs.ListLemmas.{one_place, stands, stands_in, concat-more
 use Rattle.tl_crossings.proofs.Rounds.{two_lists}
 use Rattle.tl_pack.specs.Lists.{HoldsAll}
 use Rattle.tl_pack.proofs.Holding.{once_in, no_other_in}
-use Rattle.tl_propose.specs.declared.rounds.DartStart.{DartStart}
+use Rattle.tl_sides.specs.declared.headed.HeadedDart.{HeadedDart}
 use Rattle.tl_propose.specs.Keeping.Following.{IsLinkedIn}
 use Rattle.tl_propose.specs.Keeping.Lists.{darts_in}
 use Rattle.tl_propose.specs.Keeping.Sorting.{AreSorted, AreCut}
@@ -64,7 +64,7 @@ stays_linked old new round other linked others apart k h =
     others (reverse_dart (slice_index round k)) (ap (λ d. times d other) (back_again (slice_index round k)) ∙ apart k h) ∙ linked k h
 
 -- the following darts are linked by the rounds that were cut off so far
-pub record AreLinkedSoFar (n : ℕ) (starts rest : List DartStart) (following : List ℕ) : Type 0 where
+pub record AreLinkedSoFar (n : ℕ) (starts rest : List HeadedDart) (following : List ℕ) : Type 0 where
   pub rounds : List (List ℕ)
   pub whole : concat rounds ++ darts_in rest ≡ darts_in starts
   pub long : length following ≡ n
@@ -72,7 +72,7 @@ pub record AreLinkedSoFar (n : ℕ) (starts rest : List DartStart) (following : 
   pub linked : EachList (IsLinkedIn following) rounds
   pub cut : AreSorted starts → AreCut starts rest rounds
 
-pub none_linked_yet : (n : ℕ) (starts : List DartStart) (following : List ℕ) → length following ≡ n → All (λ d. d < n) following → AreLinkedSoFar n starts starts following
+pub none_linked_yet : (n : ℕ) (starts : List HeadedDart) (following : List ℕ) → length following ≡ n → All (λ d. d < n) following → AreLinkedSoFar n starts starts following
 none_linked_yet n starts following long kept = record {
   rounds = [];
   whole = refl;
@@ -83,13 +83,13 @@ none_linked_yet n starts following long kept = record {
 }
 
 -- one round more, which is the front of the rest
-module _ (n : ℕ) (starts rest front back : List DartStart) (old : List ℕ) (all : HoldsAll n (darts_in starts)) (same : rest ≡ front ++ back) (so : AreLinkedSoFar n starts rest old) where
+module _ (n : ℕ) (starts rest front back : List HeadedDart) (old : List ℕ) (all : HoldsAll n (darts_in starts)) (same : rest ≡ front ++ back) (so : AreLinkedSoFar n starts rest old) where
   abbrev pub grown : List (List ℕ)
   grown = so.rounds ++ darts_in front ∷ []
 
   grown_whole : concat grown ++ darts_in back ≡ darts_in starts
   grown_whole =
-      let parts : darts_in rest ≡ darts_in front ++ darts_in back = ap darts_in same ∙ map-append (λ (s : DartStart). s.dart) front back in
+      let parts : darts_in rest ≡ darts_in front ++ darts_in back = ap darts_in same ∙ map-append (λ (s : HeadedDart). s.dart) front back in
       ap (λ l. l ++ darts_in back) (concat-more so.rounds (darts_in front ∷ []) ∙ ap (λ l. concat so.rounds ++ l) (append-nil (darts_in front)))
       ∙ append_assoc (concat so.rounds) (darts_in front) (darts_in back)
       ∙ ap (λ l. concat so.rounds ++ l) (sym parts) ∙ so.whole

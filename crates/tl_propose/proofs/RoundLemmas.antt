@@ -17,31 +17,31 @@ use Rattle.tl_sides.proofs.ListLemmas.{one_place}
 use Rattle.tl_sides.proofs.NodeFacts.{starts_first}
 use Rattle.tl_crossings.specs.Headings.{HeadApart}
 use Rattle.tl_crossings.proofs.Rounds.{once_at}
-use Rattle.tl_propose.specs.declared.rounds.DartStart.{DartStart}
+use Rattle.tl_sides.specs.declared.headed.HeadedDart.{HeadedDart}
 use Rattle.tl_propose.specs.Keeping.Lists.{darts_in}
 use Rattle.tl_propose.specs.Keeping.Sorting.{AreCut, IsGroup, IsStartOf, node_of}
 use Rattle.tl_propose.proofs.SortLemmas.{compare}
 use Rattle.tl_propose.proofs.CutLemmas.{some_of}
 
-module _ (chains : List MapChain) (nodes : List Point) (are : AreNodes chains nodes) (starts : List DartStart) (each : All (IsStartOf chains) starts) where
+module _ (chains : List MapChain) (nodes : List Point) (are : AreNodes chains nodes) (starts : List HeadedDart) (each : All (IsStartOf chains) starts) where
   -- ---- one group of darts
 
-  module _ (group : List DartStart) (is : IsGroup group) (held : All (Contains starts) group) (d : DartStart) where
+  module _ (group : List HeadedDart) (is : IsGroup group) (held : All (Contains starts) group) (d : HeadedDart) where
     start_of : (k : ℕ) → k < length group → IsStartOf chains (slice_index_or group k d)
     start_of k h = All-contains (IsStartOf chains) starts (slice_index_or group k d) each (All-get_or (Contains starts) group k d h held)
 
     dart_is : (k : ℕ) → k < length group → slice_index (darts_in group) k ≡ (slice_index_or group k d).dart
-    dart_is k h = get_or-map (λ (s : DartStart). s.dart) group k d 0 h
+    dart_is k h = get_or-map (λ (s : HeadedDart). s.dart) group k d 0 h
 
     node_is : (k : ℕ) → k < length group → (slice_index_or group k d).node ≡ node_of group
-    node_is k h = All-get_or (λ (s : DartStart). s.node ≡ node_of group) group k d h is.one_node
+    node_is k h = All-get_or (λ (s : HeadedDart). s.node ≡ node_of group) group k d h is.one_node
 
     starts_there : (k : ℕ) → k < length group → dart_start chains (slice_index_or group k d).dart ≡ slice_get nodes (node_of group)
     starts_there k h = sym ((start_of k h).starts nodes are) ∙ ap (slice_get nodes) (node_is k h)
 
     round_starts : round_start chains (darts_in group) ≡ slice_get nodes (node_of group)
     round_starts =
-        let some : 0 < length (darts_in group) = omega (arith, length-map group (λ (s : DartStart). s.dart), is.some) in
+        let some : 0 < length (darts_in group) = omega (arith, length-map group (λ (s : HeadedDart). s.dart), is.some) in
         starts_first chains (darts_in group) some ∙ (ap (dart_start chains) (dart_is 0 is.some) ∙ starts_there 0 is.some)
 
     node_within : node_of group < length nodes
@@ -49,12 +49,12 @@ module _ (chains : List MapChain) (nodes : List Point) (are : AreNodes chains no
 
     one_node : HasOneNode chains (darts_in group)
     one_node k h =
-        let within : k < length group = omega (arith, length-map group (λ (s : DartStart). s.dart), h) in
+        let within : k < length group = omega (arith, length-map group (λ (s : HeadedDart). s.dart), h) in
         ap (dart_start chains) (dart_is k within) ∙ (starts_there k within ∙ sym round_starts)
 
     rising : HeadApart chains → ((e : ℕ) → times e (darts_in group) ≤ 1) → AreRising chains (darts_in group)
     rising apart once k h =
-        let long = length-map group (λ (s : DartStart). s.dart) in
+        let long = length-map group (λ (s : HeadedDart). s.dart) in
         let here : k < length group = omega (arith, long, h) in
         let there : suc k < length group = omega (arith, long, h) in
         let up : k + 1 ≡ suc k = omega arith in
@@ -74,7 +74,7 @@ module _ (chains : List MapChain) (nodes : List Point) (are : AreNodes chains no
               let from = (start_of k here).heads in
               let to = (start_of (suc k) there).heads in
               let starts_alike : dart_start chains t.dart ≡ Some from.first = starts_there (suc k) there ∙ (sym (starts_there k here) ∙ from.starts) in
-              let one : s.dart ≡ t.dart = apart s.dart t.dart from.first s.heading t.heading from.starts starts_alike from to ties.1 in
+              let one : s.dart ≡ t.dart = apart s.dart t.dart from.first s.heading t.heading from.starts starts_alike from to ties.one in
               let places : k ≡ suc k = one_place s.dart (darts_in group) k (suc k) (once s.dart) (omega (arith, h)) h (dart_is k here) (dart_is (suc k) there ∙ sym one) in
               absurd (omega (arith, places))
           | inr (inr after) ↦ absurd (is.sorted k d (omega (arith, there)) (rw up after))
@@ -83,7 +83,7 @@ module _ (chains : List MapChain) (nodes : List Point) (are : AreNodes chains no
   -- ---- all rounds
 
   module _ (rounds : List (List ℕ)) (cut : AreCut starts [] rounds) where
-    group_at : ℕ → List DartStart
+    group_at : ℕ → List HeadedDart
     group_at r = slice_index_or cut.groups r []
 
     list_is : (r : ℕ) → r < length cut.groups → list_at rounds r ≡ darts_in (group_at r)
@@ -114,7 +114,7 @@ module _ (chains : List MapChain) (nodes : List Point) (are : AreNodes chains no
         node_within g is (is_held r h) (some_of g is.some)
 
     some_at : (r : ℕ) → r < length cut.groups → 0 < length (list_at rounds r)
-    some_at r h = omega (arith, ap length (list_is r h), length-map (group_at r) (λ (s : DartStart). s.dart), (is_group r h).some)
+    some_at r h = omega (arith, ap length (list_is r h), length-map (group_at r) (λ (s : HeadedDart). s.dart), (is_group r h).some)
 
     rising_nodes : (r s : ℕ) → r < s → s < length cut.groups → node_of (group_at r) < node_of (group_at s)
     unfolding group_at

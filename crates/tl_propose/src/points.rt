@@ -1,6 +1,6 @@
 //! The points of polygons, by the rings of a map.
 
-ghost use Rattle.std.specs.Prelude.{◌≡◌, ◌⊎◌, ℕ, ◌<◌, ◌^◌, Some, length, slice_get, All, Contains, IfOk, MatchOption};
+ghost use Rattle.std.specs.Prelude.{◌≡◌, ◌⊎◌, ℕ, ◌<◌, ◌^◌, Some, length, slice_get, All, Contains, IfOk, MatchOption, false};
 ghost use Rattle.tl_county.specs.Segments.{segments_before};
 ghost use Rattle.tl_county.specs.declared.polygons.Polygon.{Polygon};
 ghost use Rattle.tl_index.specs.Preorder.{IsPreorder};
@@ -31,7 +31,7 @@ pub fn find_misplaced_beside(
     requires sides { SidesAgree map.now.chains }
     requires walks { AreWalks map.now.chains (lists_in walks.now) }
     requires few { length walks.now < 2 ^ 32 }
-    ensures { IfOk result (λ found. MatchOption found (ArePlaced map.now) (IsTrueOfMap map.now)) }
+    ensures { IfOk result (λ found. MatchOption found (ArePlaced map.now) (IsTrueOfMap false map.now)) }
 {
     match propose_tree(alloc, map) {
         Ok(nodes) => find_misplaced_by(alloc, map, &nodes, walks),
@@ -52,7 +52,7 @@ pub fn find_misplaced_by(
     requires sides { SidesAgree map.now.chains }
     requires walks { AreWalks map.now.chains (lists_in walks.now) }
     requires few { length walks.now < 2 ^ 32 }
-    ensures { IfOk result (λ found. MatchOption found (ArePlaced map.now) (IsTrueOfMap map.now)) }
+    ensures { IfOk result (λ found. MatchOption found (ArePlaced map.now) (IsTrueOfMap false map.now)) }
 {
     match rings_of(alloc, map, walks) {
         Ok(rings) => find_misplaced_among(alloc, map, nodes, &rings),
@@ -74,7 +74,7 @@ fn find_misplaced_among(
     requires walks { AreWalks map.now.chains rings.now.rings }
     requires boxed { AreBoxed map.now.chains rings.now }
     requires few { length rings.now.rings < 2 ^ 32 }
-    ensures { IfOk result (λ found. MatchOption found (ArePlaced map.now) (IsTrueOfMap map.now)) }
+    ensures { IfOk result (λ found. MatchOption found (ArePlaced map.now) (IsTrueOfMap false map.now)) }
 {
     let tree = match FlatTree::from_nodes(alloc, nodes) {
         Ok(tree) => tree,

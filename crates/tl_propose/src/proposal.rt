@@ -15,7 +15,7 @@ ghost use Rattle.tl_propose.specs.Keeping.Lists.{lists_in};
 ghost use Rattle.tl_propose.specs.Keeping.Proposed.{IsProposal};
 ghost use Rattle.tl_propose.specs.Keeping.Sorting.{AreStarts};
 
-use crate::rounds::{DartStart, cut_rounds, have_no_ties, sort_starts};
+use crate::rounds::{cut_rounds, have_no_ties, sort_starts};
 use crate::walks::{link_darts, trace_walks};
 use std::alloc::{AllocError, Global};
 use tl_cert::{Certificate, Counts};
@@ -23,6 +23,7 @@ use tl_county::Map;
 use tl_index::TreeNode;
 use tl_pack::pack;
 use tl_planar::Segments;
+use tl_sides::HeadedDart;
 
 /// The certificate of version 2 that is proposed for a map.
 pub fn propose(alloc: Global, map: &Map) -> Result<Certificate, AllocError>
@@ -109,7 +110,7 @@ pub fn propose_walks_apart(alloc: Global, map: &Map) -> Result<Option<Vec<Vec<u3
 }
 
 /// Whether the darts of a map head apart about each node, by the sorted darts.
-fn head_apart(map: &Map, starts: &[DartStart]) -> bool
+fn head_apart(map: &Map, starts: &[HeadedDart]) -> bool
     requires { AreStarts map.now.chains starts.now }
     ensures { IsTrue result ↔ HeadApart map.now.chains }
 {
@@ -119,7 +120,7 @@ fn head_apart(map: &Map, starts: &[DartStart]) -> bool
 }
 
 /// The rounds of a map, by its sorted darts.
-fn rounds_of(alloc: Global, map: &Map, starts: &[DartStart]) -> Result<Vec<Vec<u32>>, AllocError>
+fn rounds_of(alloc: Global, map: &Map, starts: &[HeadedDart]) -> Result<Vec<Vec<u32>>, AllocError>
     requires { AreStarts map.now.chains starts.now }
     ensures hold { IfOk result (λ rounds. HoldOnce (2 * length map.now.chains) (lists_in rounds.items)) }
     ensures are_rounds { IfOk result (λ rounds. AreProper map.now.chains → IsPlanar map.now.chains →
@@ -131,7 +132,7 @@ fn rounds_of(alloc: Global, map: &Map, starts: &[DartStart]) -> Result<Vec<Vec<u
 }
 
 /// The walks of a map, by its sorted darts, whose list is freed before there are walks.
-fn walks_of(alloc: Global, map: &Map, starts: Vec<DartStart>) -> Result<Vec<Vec<u32>>, AllocError>
+fn walks_of(alloc: Global, map: &Map, starts: Vec<HeadedDart>) -> Result<Vec<Vec<u32>>, AllocError>
     requires { AreStarts map.now.chains starts.items }
     ensures hold { IfOk result (λ walks. HoldOnce (2 * length map.now.chains) (lists_in walks.items)) }
     ensures are_walks { IfOk result (λ walks. AreProper map.now.chains → HeadApart map.now.chains →

@@ -3,7 +3,7 @@
 ghost use Rattle.std.specs.Prelude.{◌≡◌, ℕ, ◌<◌, ◌≤◌, ◌%◌, ◌^◌, zero, Some, false};
 ghost use Rattle.std.specs.Prelude.{length, map, All, IfOk, OnOk, slice_get, slice_index};
 ghost use Rattle.std.specs.List.{concat};
-ghost use Rattle.tl_county.specs.Darts.{reverse_dart};
+ghost use Rattle.tl_county.specs.Darts.{reverse_dart as reverse_dart_of};
 ghost use Rattle.tl_index.specs.Keeping.Marked.{mark_at};
 ghost use Rattle.tl_index.specs.Hits.{times};
 ghost use Rattle.tl_sides.specs.Lists.{HoldOnce};
@@ -12,12 +12,14 @@ ghost use Rattle.tl_pack.specs.Lists.{HoldsAll};
 ghost use Rattle.tl_propose.specs.Keeping.Following.{IsOneToOne, IsLinkedBy, IsLinkedIn, AreFollowed, GoesBy};
 ghost use Rattle.tl_propose.specs.Keeping.Lists.{AreUnmarked, darts_in};
 
-use crate::rounds::{DartStart, first_round};
+use crate::rounds::first_round;
 use std::alloc::{AllocError, Global};
+use tl_county::reverse_dart;
+use tl_sides::HeadedDart;
 
 /// Of each dart the one that follows it: about the node where the dart ends, the one before its reverse in the round. The darts
 /// stand together by their nodes, and those of each are a round.
-pub fn link_darts(alloc: Global, starts: &[DartStart]) -> Result<Vec<u32>, AllocError>
+pub fn link_darts(alloc: Global, starts: &[HeadedDart]) -> Result<Vec<u32>, AllocError>
     requires all { HoldsAll (length starts.now) (darts_in starts.now) }
     requires paired { length starts.now % 2 ≡ 0 }
     ensures long { IfOk result (λ following. length following.items ≡ length starts.now) }
@@ -30,7 +32,7 @@ pub fn link_darts(alloc: Global, starts: &[DartStart]) -> Result<Vec<u32>, Alloc
 }
 
 /// Keeps of the reverse of each dart the dart before it in its round.
-fn link_rounds(following: &mut [u32], starts: &[DartStart])
+fn link_rounds(following: &mut [u32], starts: &[HeadedDart])
     requires all { HoldsAll (length following.old) (darts_in starts.now) }
     requires paired { length following.old % 2 ≡ 0 }
     requires kept { All (λ d. d < length following.old) following.old }
@@ -47,7 +49,7 @@ fn link_rounds(following: &mut [u32], starts: &[DartStart])
 }
 
 /// Keeps of the reverse of each dart of a round the dart before it, which is the last one before the first.
-fn link_round(following: &mut [u32], round: &[DartStart])
+fn link_round(following: &mut [u32], round: &[HeadedDart])
     requires some { zero < length round.now }
     requires known { All (λ d. d < length following.old) (darts_in round.now) }
     requires once { (d : ℕ) → times d (darts_in round.now) ≤ 1 }
@@ -56,20 +58,13 @@ fn link_round(following: &mut [u32], round: &[DartStart])
     ensures long { length following.new ≡ length following.old }
     ensures kept { All (λ d. d < length following.old) following.new }
     ensures linked { IsLinkedIn following.new (darts_in round.now) }
-    ensures others { (d : ℕ) → times (reverse_dart d) (darts_in round.now) ≡ 0 → slice_index following.new d ≡ slice_index following.old d }
+    ensures others { (d : ℕ) → times (reverse_dart_of d) (darts_in round.now) ≡ 0 → slice_index following.new d ≡ slice_index following.old d }
 {
     let mut before = round[round.len() - 1].dart;
     for start in round {
-        following[reverse(start.dart) as usize] = before;
+        following[reverse_dart(start.dart) as usize] = before;
         before = start.dart;
     }
-}
-
-/// The reverse of a dart: the other dart of its chain.
-pub fn reverse(dart: u32) -> u32
-    ensures { result ≡ reverse_dart dart }
-{
-    if dart % 2 == 0 { dart + 1 } else { dart - 1 }
 }
 
 /// The walks in which each dart stands, by the dart that follows each.

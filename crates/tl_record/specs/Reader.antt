@@ -139,11 +139,11 @@ Settles standing (Err stop) = standing ≡ Stopped stop
 
 -- An entry bears the number of the last line that was accepted, and a refusal that of the line after it; each other
 -- line up to there was passed over.
-abbrev pub Counts : ℕ → ℕ → ℕ → ℕ → Answer → Type 0
-Counts old_lines old_skipped lines skipped (Ok (Some entry)) = (entry.0 ≡ lines) × (skipped + old_lines + 1 ≡ old_skipped + lines)
-Counts old_lines old_skipped lines skipped (Ok None) = skipped + old_lines ≡ old_skipped + lines
-Counts old_lines old_skipped lines skipped (Err (Refused line cause)) = (line ≡ lines + 1) × (skipped + old_lines ≡ old_skipped + lines)
-Counts old_lines old_skipped lines skipped (Err Device) = skipped + old_lines ≡ old_skipped + lines
+abbrev pub CountsAnswer : ℕ → ℕ → ℕ → ℕ → Answer → Type 0
+CountsAnswer old_lines old_skipped lines skipped (Ok (Some entry)) = (entry.0 ≡ lines) × (skipped + old_lines + 1 ≡ old_skipped + lines)
+CountsAnswer old_lines old_skipped lines skipped (Ok None) = skipped + old_lines ≡ old_skipped + lines
+CountsAnswer old_lines old_skipped lines skipped (Err (Refused line cause)) = (line ≡ lines + 1) × (skipped + old_lines ≡ old_skipped + lines)
+CountsAnswer old_lines old_skipped lines skipped (Err Device) = skipped + old_lines ≡ old_skipped + lines
 
 -- The source counts a failed read, and `Device` comes of nothing else.
 abbrev pub TellsFailure : Standing → ℕ → ℕ → Answer → Type 0
@@ -252,7 +252,7 @@ pub record PassesOver {R : Type 0} (remaining : R → Option (List ℕ)) (failur
 pub record Moves {R : Type 0} (remaining : R → Option (List ℕ)) (failure_count : R → ℕ) (old new : RecordReader R) (answer : Answer) : Type 0 where
   pub gives : Gives (to_come remaining old) (outcome remaining new) (skipped_of new) answer
   pub settles : Settles (standing_of new) answer
-  pub counts : Counts (lines_of old) (skipped_of old) (lines_of new) (skipped_of new) answer
+  pub counts : CountsAnswer (lines_of old) (skipped_of old) (lines_of new) (skipped_of new) answer
   pub failures : TellsFailure Reading (failure_count (source_of old)) (failure_count (source_of new)) answer
   pub whole : FailsWhole remaining old new answer
   pub refusals : KeepsRefusals (refused (layout_of old) (lines_of old) (unjudged remaining old)) (refusals_to_come remaining new)

@@ -32,6 +32,21 @@ impl ColumnRange {
         ColumnRange { first, last }
     }
 
+    /// The first of these columns.
+    pub fn first(self) -> u16
+        ensures first { result ≡ self.first }
+        ensures range { IsRange self }
+    {
+        self.first
+    }
+
+    /// The last of these columns.
+    pub fn last(self) -> u16
+        ensures { result ≡ self.last }
+    {
+        self.last
+    }
+
     /// The bytes of a line at these columns, as far as the line has them.
     pub fn of<'a>(self, line: &Columns<'a>) -> &'a [u8]
         ensures bytes { result.now ≡ take (self.last + 1 - self.first) (drop (self.first - 1) line.now) }
@@ -85,6 +100,13 @@ impl FiveColumns {
         ensures { result ≡ columns first (first + 4) }
     {
         FiveColumns { first }
+    }
+
+    /// These columns as a range.
+    pub fn range(self) -> ColumnRange
+        ensures { result ≡ self }
+    {
+        ColumnRange::new(self.first, self.first + 4)
     }
 
     /// The bytes of a line at these columns, a blank for each column past its end.

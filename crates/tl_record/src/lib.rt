@@ -41,12 +41,13 @@ pub use layout::{
 pub use line_buffer::{Fetched, LineBuffer, fetch_line};
 pub use meter::{Meter, MeterOut};
 pub use number::{Spelt, coordinate_spelt};
-pub use options::Options;
+pub use options::{Options, PLAIN};
 pub use reader::RecordReader;
 pub use record::{NO_RECORD, PAIRS, Record};
 pub use refusal::{Refusal, RefusalStop};
 pub use sink::Sink;
 pub use source::Source;
 pub use stop::{Cause, Field, ReadStop};
+pub use take::skip_line;
 pub use tl_key::PolyKey;
 pub use word::{eight_digits, first_digits, leading_digits};

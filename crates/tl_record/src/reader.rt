@@ -84,7 +84,7 @@ pub(crate) fn long_line_cause(number: u64) -> Cause
 
 impl<R: Source> RecordReader<R> {
     ghost use Rattle.tl_record.specs.Reader.{source_of, layout_of, lines_of, skipped_of, standing_of, pending_of};
-    ghost use Rattle.tl_record.specs.Reader.{outcome, StepsTo, CountsLine, Moves, Gives, Settles, Repeats, Counts};
+    ghost use Rattle.tl_record.specs.Reader.{outcome, StepsTo, CountsLine, Moves, Gives, Settles, Repeats, CountsAnswer};
     ghost use Rattle.tl_record.specs.Reader.{answer_with, KeepsUnanswered};
     ghost use Rattle.tl_record.specs.Searching.{extent, extent_of, GivesRefusal, SettlesSearch, RepeatsSearch};
     ghost use Rattle.tl_record.specs.Searching.{TellsFailed, goes_on, GivesUp, Finds};
@@ -251,7 +251,7 @@ impl<R: Source> RecordReader<R> {
         ensures settles { Settles (standing_of self.new) (answer_with result place.new) }
         ensures repeats { Repeats (standing_of self.old) self.old self.new (answer_with result place.new) }
         ensures counts { WhereReading (standing_of self.old)
-            (Counts (lines_of self.old) (skipped_of self.old) (lines_of self.new) (skipped_of self.new)
+            (CountsAnswer (lines_of self.old) (skipped_of self.old) (lines_of self.new) (skipped_of self.new)
             (answer_with result place.new)) }
         ensures failures { TellsFailure (standing_of self.old) (R.failure_count (source_of self.old))
             (R.failure_count (source_of self.new)) (answer_with result place.new) }
@@ -283,7 +283,7 @@ impl<R: Source> RecordReader<R> {
         ensures repeats { Repeats (standing_of self.old) self.old self.new result }
         // The numbers of lines, and how many were passed over.
         ensures counts { WhereReading (standing_of self.old)
-            (Counts (lines_of self.old) (skipped_of self.old) (lines_of self.new) (skipped_of self.new) result) }
+            (CountsAnswer (lines_of self.old) (skipped_of self.old) (lines_of self.new) (skipped_of self.new) result) }
         // `Device` is answered where a read failed in this call, and nowhere else.
         ensures failures { TellsFailure (standing_of self.old) (R.failure_count (source_of self.old))
             (R.failure_count (source_of self.new)) result }

@@ -1,6 +1,6 @@
 //! Lines that are taken off a text, however long they are, and told by why they are refused.
 
-ghost use Rattle.std.specs.Prelude.{◌≡◌};
+ghost use Rattle.std.specs.Prelude.{◌≡◌, ◌<◌};
 ghost use Rattle.std.specs.Io.KnownBytes.{prepend_known};
 ghost use Rattle.tl_record.specs.Judgement.{judgement};
 ghost use Rattle.tl_record.specs.Refusals.{cause_of};
@@ -37,8 +37,13 @@ fn refusal_cause(layout: &Layout, number: u64, raw: &[u8]) -> Option<Cause>
     }
 }
 
-// Takes bytes off the front up to the first line feed, or to the end where none comes.
-fn skip_line<R: Source>(buffer: &mut LineBuffer<BLOCK>, source: &mut R) -> Result<(), RefusalStop>
+/// Takes bytes off the front up to the first line feed, or to the end where none comes. `Device` comes where a read fails, and
+/// `Endless` of no text that has a line feed or an end within 2^64 - 1 bytes.
+pub fn skip_line<const N: usize, R: Source>(
+    buffer: &mut LineBuffer<N>,
+    source: &mut R,
+) -> Result<(), RefusalStop>
+    requires { 0 < N }
     ensures skips { SkipsLine (prepend_known buffer.old (R.remaining source.old))
         (prepend_known buffer.new (R.remaining source.new)) result }
     ensures failures { CountsSkip (R.failure_count source.old) (R.failure_count source.new) result }

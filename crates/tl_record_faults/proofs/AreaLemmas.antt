@@ -16,8 +16,8 @@ use Rattle.tl_record.specs.declared.record.Record.{Record}
 use Rattle.tl_drawn.specs.declared.entry.SidesEntry.{SidesEntry}
 use Rattle.tl_drawn.specs.declared.entry.LandmarkEntry.{LandmarkEntry}
 use Rattle.tl_drawn.specs.declared.entry.LinkEntry.{LinkEntry}
-use Rattle.tl_drawn.specs.declared.fault.MapFault.{MapFault}
-use Rattle.tl_drawn.specs.declared.fault.MapFault.TheVariants as fault
+use Rattle.tl_drawn.specs.declared.fault.RecordFault.{RecordFault}
+use Rattle.tl_drawn.specs.declared.fault.RecordFault.TheVariants as fault
 use Rattle.tl_drawn.specs.MapOf.{sides_in, polygons_in, landmarks_in, links_in, keys, same_key}
 use Rattle.tl_drawn.specs.Faults.{IsTrueOf, StandsTwice, Names}
 use Rattle.tl_drawn.proofs.CountLemmas.{one_counted}
@@ -85,7 +85,7 @@ next_key ks k sorted t =
     (i, omega arith, λ d. get_or_default ks i d k (omega arith) ∙ first, λ d. get_or_default ks (i + 1) d k (omega arith) ∙ same)
 
 -- M8 is told
-pub told_duplicate_polygons : (rs : List Record) (codes : List ℕ) (ks : List PolyKey) (old new : List MapFault) → AreByKey ks → IsPermutation (keys (polygons_in rs)) ks → Tells (StandsNext fault.DuplicatePolygon ks (length ks)) old new → AreTold rs codes old → AreTold rs (8 ∷ codes) new
+pub told_duplicate_polygons : (rs : List Record) (codes : List ℕ) (ks : List PolyKey) (old new : List RecordFault) → AreByKey ks → IsPermutation (keys (polygons_in rs)) ks → Tells (StandsNext fault.DuplicatePolygon ks (length ks)) old new → AreTold rs codes old → AreTold rs (8 ∷ codes) new
 told_duplicate_polygons rs codes ks old new sorted moved tells before =
     let counts = λ (k : PolyKey). sum_by-IsPermutation (λ (l : PolyKey). cond (same_key l k) 1 0) (keys (polygons_in rs)) ks moved in
     told_more rs codes 8 (StandsNext fault.DuplicatePolygon ks (length ks)) old new
@@ -132,7 +132,7 @@ names_have s k names = elim names [
 ]
 
 -- M9 is told
-pub told_unknown_sides : (rs : List Record) (codes : List ℕ) (names : List NamedSide) (ks : List PolyKey) (old new : List MapFault) → names ≡ flat_map names_of (sides_in rs) → IsPermutation (keys (polygons_in rs)) ks → Tells (IsMissing side_fault (λ n. n.key) names ks) old new → AreTold rs codes old → AreTold rs (9 ∷ codes) new
+pub told_unknown_sides : (rs : List Record) (codes : List ℕ) (names : List NamedSide) (ks : List PolyKey) (old new : List RecordFault) → names ≡ flat_map names_of (sides_in rs) → IsPermutation (keys (polygons_in rs)) ks → Tells (IsMissing side_fault (λ n. n.key) names ks) old new → AreTold rs codes old → AreTold rs (9 ∷ codes) new
 told_unknown_sides rs codes names ks old new are moved tells before =
     told_more rs codes 9 (IsMissing side_fault (λ (n : NamedSide). n.key) names ks) old new
     (λ f m.
@@ -154,7 +154,7 @@ told_unknown_sides rs codes names ks old new are moved tells before =
     tells before
 
 -- M11 is told
-pub told_unknown_links : (rs : List Record) (codes : List ℕ) (links : List LinkEntry) (ks : List PolyKey) (old new : List MapFault) → links ≡ links_in rs → IsPermutation (keys (polygons_in rs)) ks → Tells (IsMissing link_fault (λ l. l.key) links ks) old new → AreTold rs codes old → AreTold rs (11 ∷ codes) new
+pub told_unknown_links : (rs : List Record) (codes : List ℕ) (links : List LinkEntry) (ks : List PolyKey) (old new : List RecordFault) → links ≡ links_in rs → IsPermutation (keys (polygons_in rs)) ks → Tells (IsMissing link_fault (λ l. l.key) links ks) old new → AreTold rs codes old → AreTold rs (11 ∷ codes) new
 told_unknown_links rs codes links ks old new are moved tells before =
     told_more rs codes 11 (IsMissing link_fault (λ (l : LinkEntry). l.key) links ks) old new
     (λ f m.
@@ -184,7 +184,7 @@ map_has : {X : Type 0} (g : X → ℕ) (xs : List X) (n : ℕ) → Any (λ x. g 
 map_has g xs n any = (any.0, omega (arith, any.2, length-map xs g), get_or-map g xs any.0 any.1 n any.2 ∙ ap g any.3 ∙ any.4)
 
 -- M10 is told
-pub told_unknown_lands : (rs : List Record) (codes lands landmarks : List ℕ) (old new : List MapFault) → IsPermutation (map (λ l. l.land) (links_in rs)) lands → IsPermutation (map (λ e. e.land) (landmarks_in rs)) landmarks → Tells (IsMissing (fault_of LinkWithoutLandmark) (λ n. n) lands landmarks) old new → AreTold rs codes old → AreTold rs (10 ∷ codes) new
+pub told_unknown_lands : (rs : List Record) (codes lands landmarks : List ℕ) (old new : List RecordFault) → IsPermutation (map (λ l. l.land) (links_in rs)) lands → IsPermutation (map (λ e. e.land) (landmarks_in rs)) landmarks → Tells (IsMissing (fault_of LinkWithoutLandmark) (λ n. n) lands landmarks) old new → AreTold rs codes old → AreTold rs (10 ∷ codes) new
 told_unknown_lands rs codes lands landmarks old new moved known tells before =
     let links = map (λ (l : LinkEntry). l.land) (links_in rs) in
     let marks = map (λ (e : LandmarkEntry). e.land) (landmarks_in rs) in

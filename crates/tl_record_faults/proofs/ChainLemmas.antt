@@ -5,8 +5,8 @@ use Rattle.std.proofs.lemmas.Bool.{eq-eqb, cases_lt, true≢false, lt-ltb, le-lt
 use Rattle.std.proofs.lemmas.List.{get_or_default, get_or-map, length-map}
 use Rattle.std.proofs.lemmas.List.Sums.{sum_by_more}
 use Rattle.tl_drawn.specs.declared.entry.ChainEntry.{ChainEntry}
-use Rattle.tl_drawn.specs.declared.fault.MapFault.{MapFault}
-use Rattle.tl_drawn.specs.declared.fault.MapFault.TheVariants.{DegenerateChain}
+use Rattle.tl_drawn.specs.declared.fault.RecordFault.{RecordFault}
+use Rattle.tl_drawn.specs.declared.fault.RecordFault.TheVariants.{DegenerateChain}
 use Rattle.tl_drawn.proofs.CountLemmas.{two_counted}
 use Rattle.tl_record_faults.specs.declared.shape.ShapeSummary.{ShapeSummary}
 use Rattle.tl_record_faults.specs.Keeping.Told.{Tells}
@@ -86,20 +86,20 @@ passed_next chains shapes i place e order lt below k d x less next =
     let same : (get_or chains i x).tlid ≡ (get_or chains i e).tlid = ap (λ (c : ChainEntry). c.tlid) (get_or_default chains i x e lt) in
     omega (arith, below k d less, order i (i + 1) x (omega arith) next, same)
 
-pub points_none : (chains : List ChainEntry) (shapes : List ShapeSummary) (faults : List MapFault) → Tells (IsOnePointFault chains shapes 0) faults faults
+pub points_none : (chains : List ChainEntry) (shapes : List ShapeSummary) (faults : List RecordFault) → Tells (IsOnePointFault chains shapes 0) faults faults
 points_none chains shapes faults = tells_none (IsOnePointFault chains shapes 0) faults (λ f p. omega (arith, p.below))
 
-longer : (chains : List ChainEntry) (shapes : List ShapeSummary) (i : ℕ) (f : MapFault) → IsOnePointFault chains shapes i f → IsOnePointFault chains shapes (i + 1) f
+longer : (chains : List ChainEntry) (shapes : List ShapeSummary) (i : ℕ) (f : RecordFault) → IsOnePointFault chains shapes i f → IsOnePointFault chains shapes (i + 1) f
 longer chains shapes i f p = record { chain = p.chain; place = p.place; below = omega (arith, p.below); within = p.within; there = p.there; is = p.is; alone = p.alone; one_point = p.one_point }
 
-split : (chains : List ChainEntry) (shapes : List ShapeSummary) (i : ℕ) (f : MapFault) (d : ChainEntry) → IsOnePointFault chains shapes (i + 1) f → IsOnePointFault chains shapes i f ⊎ ((p : IsOnePointFault chains shapes (i + 1) f) × (get_or chains i d ≡ p.chain))
+split : (chains : List ChainEntry) (shapes : List ShapeSummary) (i : ℕ) (f : RecordFault) (d : ChainEntry) → IsOnePointFault chains shapes (i + 1) f → IsOnePointFault chains shapes i f ⊎ ((p : IsOnePointFault chains shapes (i + 1) f) × (get_or chains i d ≡ p.chain))
 split chains shapes i f d p = elim (cases_lt p.place i) [
   | inl earlier ↦ inl (record { chain = p.chain; place = p.place; below = earlier; within = p.within; there = p.there; is = p.is; alone = p.alone; one_point = p.one_point })
   | inr later ↦ let at : p.place ≡ i = omega (arith, later, p.below) in inr (p, rw at at (p.there d))
 ]
 
 -- the i-th chain is one point and alone
-pub points_more : (chains : List ChainEntry) (shapes : List ShapeSummary) (i : ℕ) (c : ChainEntry) (old new : List MapFault) → i < length chains → ((d : ChainEntry) → get_or chains i d ≡ c) → is_alone chains c.tlid ≡ true → is_one_point c (run_of shapes c.tlid) ≡ true → Tells (IsOnePointFault chains shapes i) old new → Tells (IsOnePointFault chains shapes (i + 1)) old (new ++ DegenerateChain c.tlid ∷ [])
+pub points_more : (chains : List ChainEntry) (shapes : List ShapeSummary) (i : ℕ) (c : ChainEntry) (old new : List RecordFault) → i < length chains → ((d : ChainEntry) → get_or chains i d ≡ c) → is_alone chains c.tlid ≡ true → is_one_point c (run_of shapes c.tlid) ≡ true → Tells (IsOnePointFault chains shapes i) old new → Tells (IsOnePointFault chains shapes (i + 1)) old (new ++ DegenerateChain c.tlid ∷ [])
 points_more chains shapes i c old new lt at alone one h =
     tells_more (IsOnePointFault chains shapes i) (IsOnePointFault chains shapes (i + 1)) old new (DegenerateChain c.tlid) (longer chains shapes i)
     (record { chain = c; place = i; below = omega arith; within = lt; there = at; is = refl; alone = alone; one_point = one })
@@ -109,7 +109,7 @@ points_more chains shapes i c old new lt at alone one h =
     ]) h
 
 -- the i-th chain is not
-pub points_other : (chains : List ChainEntry) (shapes : List ShapeSummary) (i : ℕ) (c : ChainEntry) (old new : List MapFault) → i < length chains → ((d : ChainEntry) → get_or chains i d ≡ c) → (is_alone chains c.tlid ≡ false) ⊎ (is_one_point c (run_of shapes c.tlid) ≡ false) → Tells (IsOnePointFault chains shapes i) old new → Tells (IsOnePointFault chains shapes (i + 1)) old new
+pub points_other : (chains : List ChainEntry) (shapes : List ShapeSummary) (i : ℕ) (c : ChainEntry) (old new : List RecordFault) → i < length chains → ((d : ChainEntry) → get_or chains i d ≡ c) → (is_alone chains c.tlid ≡ false) ⊎ (is_one_point c (run_of shapes c.tlid) ≡ false) → Tells (IsOnePointFault chains shapes i) old new → Tells (IsOnePointFault chains shapes (i + 1)) old new
 points_other chains shapes i c old new lt at none h =
     tells_same (IsOnePointFault chains shapes i) (IsOnePointFault chains shapes (i + 1)) old new (longer chains shapes i)
     (λ f p. elim (split chains shapes i f c p) [

@@ -3,8 +3,8 @@ use Rattle.std.proofs.lemmas.Bool.{cases_Bool, true≢false}
 use Rattle.std.specs.Bool.{Decides}
 use Rattle.std.specs.List.Sorted.{IsNonDecreasing}
 use Rattle.tl_record.specs.declared.record.Record.{Record}
-use Rattle.tl_drawn.specs.declared.fault.MapFault.{MapFault}
-use Rattle.tl_drawn.specs.declared.fault.MapFault.TheVariants as fault
+use Rattle.tl_drawn.specs.declared.fault.RecordFault.{RecordFault}
+use Rattle.tl_drawn.specs.declared.fault.RecordFault.TheVariants as fault
 use Rattle.tl_drawn.specs.ChainsOf.{shape_count}
 use Rattle.tl_drawn.specs.Faults.{IsTrueOf, AreJoined}
 use Rattle.tl_record_faults.specs.declared.numbers.Numbered.TheVariants.{DuplicateChain, ShapeWithoutChain}
@@ -20,7 +20,7 @@ use Rattle.tl_record_faults.proofs.RunLemmas.{nothing}
 use Rattle.tl_record_faults.proofs.ShapeLemmas.{run_true, told_shapes, numbered_run, run_numbered}
 
 -- of records that are joined no fault of chains and shapes is told, and of others one is
-pub told_chains : (rs : List Record) (chains tlids : List ℕ) (shapes : List ShapeSummary) (one two all : List MapFault) (joined : Bool) → IsNonDecreasing chains → StandAsOften (chains_with rs) chains → StandAsOften (shape_count rs) tlids → AreShapes rs shapes → Tells (StandsNext (fault_of DuplicateChain) chains (length chains)) [] one → Tells (IsMissing (fault_of ShapeWithoutChain) (λ n. n) tlids chains) one two → Tells (IsRunFault shapes (length shapes)) two all → Decides joined (all ≡ []) → AreChainsTold rs joined all
+pub told_chains : (rs : List Record) (chains tlids : List ℕ) (shapes : List ShapeSummary) (one two all : List RecordFault) (joined : Bool) → IsNonDecreasing chains → StandAsOften (chains_with rs) chains → StandAsOften (shape_count rs) tlids → AreShapes rs shapes → Tells (StandsNext (fault_of DuplicateChain) chains (length chains)) [] one → Tells (IsMissing (fault_of ShapeWithoutChain) (λ n. n) tlids chains) one two → Tells (IsRunFault shapes (length shapes)) two all → Decides joined (all ≡ []) → AreChainsTold rs joined all
 told_chains rs chains tlids shapes one two all joined order often shape_often are first second third empty =
     let told : AreTold rs (4 ∷ 3 ∷ 2 ∷ 1 ∷ []) all =
     told_shapes rs (2 ∷ 1 ∷ []) shapes two all are third
@@ -37,7 +37,7 @@ told_chains rs chains tlids shapes one two all joined order often shape_often ar
       );
     }
   where
-    never : AreTold rs (4 ∷ 3 ∷ 2 ∷ 1 ∷ []) all → all ≡ [] → (f : MapFault) → IsTrueOf rs f → Contains (4 ∷ 3 ∷ 2 ∷ 1 ∷ []) (fault_place f).0 → ⊥
+    never : AreTold rs (4 ∷ 3 ∷ 2 ∷ 1 ∷ []) all → all ≡ [] → (f : RecordFault) → IsTrueOf rs f → Contains (4 ∷ 3 ∷ 2 ∷ 1 ∷ []) (fault_place f).0 → ⊥
     never told none f holds among = let has = rw none at (told.every f holds among) in omega (arith, has.1)
 
     go : AreTold rs (4 ∷ 3 ∷ 2 ∷ 1 ∷ []) all → all ≡ [] → AreJoined rs

@@ -20,8 +20,8 @@ use Rattle.std.specs.Bool.{Decides}
 use Rattle.std.proofs.lemmas.List.Elements.{All-weaker, All-contains}
 use Rattle.tl_drawn.specs.declared.fault.Limited.{Limited}
 use Rattle.tl_drawn.specs.declared.fault.Limited.TheVariants.{Chains, Segments, Polygons, Landmarks}
-use Rattle.tl_drawn.specs.declared.fault.MapFault.{MapFault}
-use Rattle.tl_drawn.specs.declared.fault.MapFault.TheVariants.{TooMany}
+use Rattle.tl_drawn.specs.declared.fault.RecordFault.{RecordFault}
+use Rattle.tl_drawn.specs.declared.fault.RecordFault.TheVariants.{TooMany}
 use Rattle.tl_drawn.specs.Faults.{IsTrueOf, IsTooMany}
 use Rattle.tl_record_faults.specs.AllFaults.{fault_place}
 use Rattle.tl_record_faults.specs.Keeping.Told.{Tells, AreTold}
@@ -107,15 +107,15 @@ landmarks_counted rs sorted order moved =
     omega (arith, less, more, length-map (first_landmarks rs) land)
 
 -- one fault is told if there is too much
-pub told_if : (is_more : Bool) (what : Limited) (faults : List MapFault) → is_more ≡ true → Tells (IsMore is_more what) faults (faults ++ TooMany what ∷ [])
+pub told_if : (is_more : Bool) (what : Limited) (faults : List RecordFault) → is_more ≡ true → Tells (IsMore is_more what) faults (faults ++ TooMany what ∷ [])
 told_if is_more what faults more =
     tells_more (λ f. ⊥) (IsMore is_more what) faults faults (TooMany what) (λ f e. absurd e) (record { is = refl; more = more }) (λ f m. inr m.is) (tells_none (λ f. ⊥) faults (λ f e. e))
 
-pub told_not : (is_more : Bool) (what : Limited) (faults : List MapFault) → is_more ≡ false → Tells (IsMore is_more what) faults faults
+pub told_not : (is_more : Bool) (what : Limited) (faults : List RecordFault) → is_more ≡ false → Tells (IsMore is_more what) faults faults
 told_not is_more what faults few = tells_none (IsMore is_more what) faults (λ f m. true≢false (sym m.more ∙ few))
 
 -- the faults of two properties are told
-both_told : (P Q : MapFault → Type 0) (a b c : List MapFault) → Tells P a b → Tells Q b c → Tells (λ f. P f ⊎ Q f) a c
+both_told : (P Q : RecordFault → Type 0) (a b c : List RecordFault) → Tells P a b → Tells Q b c → Tells (λ f. P f ⊎ Q f) a c
 both_told P Q a b c first second = record {
   each = All-weaker (λ f. Contains b f ⊎ Q f) (λ f. Contains a f ⊎ (P f ⊎ Q f)) (λ f h. elim h [
     | inl there ↦ elim (All-contains (λ f. Contains a f ⊎ P f) b f first.each there) [ inl before ↦ inl before | inr p ↦ inr (inl p) ]
@@ -133,10 +133,10 @@ pub tests_more : (rs : List Record) (n m k : ℕ) (what : Limited) → n ≡ m �
 tests_more rs n m k what is to back = (λ e. to (omega (arith, is, ltb-true k n e)), λ h. lt-ltb k n (omega (arith, is, back h)))
 
 -- M13 is told
-pub told_limits : (rs : List Record) (codes : List ℕ) (a b c d : Bool) (old one two three new : List MapFault) → Tests rs a Chains → Tests rs b Segments → Tests rs c Polygons → Tests rs d Landmarks → Tells (IsMore a Chains) old one → Tells (IsMore b Segments) one two → Tells (IsMore c Polygons) two three → Tells (IsMore d Landmarks) three new → AreTold rs codes old → AreTold rs (13 ∷ codes) new
+pub told_limits : (rs : List Record) (codes : List ℕ) (a b c d : Bool) (old one two three new : List RecordFault) → Tests rs a Chains → Tests rs b Segments → Tests rs c Polygons → Tests rs d Landmarks → Tells (IsMore a Chains) old one → Tells (IsMore b Segments) one two → Tells (IsMore c Polygons) two three → Tells (IsMore d Landmarks) three new → AreTold rs codes old → AreTold rs (13 ∷ codes) new
 told_limits rs codes a b c d old one two three new chains segments polygons landmarks first second third fourth before =
-    let P = λ (f : MapFault). IsMore a Chains f ⊎ IsMore b Segments f in
-    let Q = λ (f : MapFault). P f ⊎ IsMore c Polygons f in
+    let P = λ (f : RecordFault). IsMore a Chains f ⊎ IsMore b Segments f in
+    let Q = λ (f : RecordFault). P f ⊎ IsMore c Polygons f in
     let all = both_told Q (IsMore d Landmarks) old three new (both_told P (IsMore c Polygons) old two three (both_told (IsMore a Chains) (IsMore b Segments) old one two first second) third) fourth in
     told_more rs codes 13 (λ f. Q f ⊎ IsMore d Landmarks f) old new
     (λ f h. elim h [
@@ -152,10 +152,10 @@ told_limits rs codes a b c d old one two three new chains segments polygons land
     found f what is (subst (IsTrueOf rs) is holds))
     all before
   where
-    said : (f : MapFault) (b : Bool) (what : Limited) → Tests rs b what → IsMore b what f → IsTrueOf rs f
+    said : (f : RecordFault) (b : Bool) (what : Limited) → Tests rs b what → IsMore b what f → IsTrueOf rs f
     said f b what tests m = subst (IsTrueOf rs) (sym m.is) (tests.0 m.more)
 
-    found : (f : MapFault) (what : Limited) → f ≡ TooMany what → IsTooMany rs what → ((IsMore a Chains f ⊎ IsMore b Segments f) ⊎ IsMore c Polygons f) ⊎ IsMore d Landmarks f
+    found : (f : RecordFault) (what : Limited) → f ≡ TooMany what → IsTooMany rs what → ((IsMore a Chains f ⊎ IsMore b Segments f) ⊎ IsMore c Polygons f) ⊎ IsMore d Landmarks f
     found f Chains is many = inl (inl (inl (record { is = is; more = chains.1 many })))
     found f Segments is many = inl (inl (inr (record { is = is; more = segments.1 many })))
     found f Polygons is many = inl (inr (record { is = is; more = polygons.1 many }))

@@ -3,27 +3,27 @@ use Rattle.std.specs.List.Sorted.{IsNonDecreasing}
 use Rattle.std.proofs.lemmas.Bool.{cases_lt}
 use Rattle.std.proofs.lemmas.List.{get_or_default, take_all, take_more}
 use Rattle.std.proofs.lemmas.List.Elements.{Contains-append_left, Contains-push, Contains-push_cases}
-use Rattle.tl_drawn.specs.declared.fault.MapFault.{MapFault}
+use Rattle.tl_drawn.specs.declared.fault.RecordFault.{RecordFault}
 use Rattle.tl_record_faults.specs.Keeping.Told.{Tells}
 use Rattle.tl_record_faults.specs.Keeping.Numbers.{StandsNext, IsMissing}
 use Rattle.tl_record_faults.proofs.ToldLemmas.{tells_none, tells_same, tells_more}
 
 -- no two neighbours end below the second place
-pub next_none : {X : Type 0} (g : X → MapFault) (items : List X) (n : ℕ) (faults : List MapFault) → n ≤ 1 → Tells (StandsNext g items n) faults faults
+pub next_none : {X : Type 0} (g : X → RecordFault) (items : List X) (n : ℕ) (faults : List RecordFault) → n ≤ 1 → Tells (StandsNext g items n) faults faults
 next_none g items n faults few = tells_none (StandsNext g items n) faults (λ f s. omega (arith, s.below))
 
 -- two neighbours up to one place more
-longer : {X : Type 0} (g : X → MapFault) (items : List X) (i j : ℕ) (f : MapFault) → (s : StandsNext g items i f) → s.place + 1 < j → StandsNext g items j f
+longer : {X : Type 0} (g : X → RecordFault) (items : List X) (i j : ℕ) (f : RecordFault) → (s : StandsNext g items i f) → s.place + 1 < j → StandsNext g items j f
 longer g items i j f s lt = record { item = s.item; is = s.is; place = s.place; below = lt; within = s.within; first = s.first; second = s.second }
 
-split : {X : Type 0} (g : X → MapFault) (items : List X) (i : ℕ) (f : MapFault) → StandsNext g items (i + 1) f → StandsNext g items i f ⊎ ((s : StandsNext g items (i + 1) f) × (s.place + 1 ≡ i))
+split : {X : Type 0} (g : X → RecordFault) (items : List X) (i : ℕ) (f : RecordFault) → StandsNext g items (i + 1) f → StandsNext g items i f ⊎ ((s : StandsNext g items (i + 1) f) × (s.place + 1 ≡ i))
 split g items i f s = elim (cases_lt (s.place + 1) i) [
   | inl earlier ↦ inl (longer g items (i + 1) i f s earlier)
   | inr at ↦ inr (s, omega (arith, s.below))
 ]
 
 -- the i-th item is the one before
-pub next_more : {X : Type 0} (g : X → MapFault) (items : List X) (i : ℕ) (d e : X) (old new : List MapFault) → 1 ≤ i → i < length items → get_or items (i - 1) e ≡ get_or items i d → Tells (StandsNext g items i) old new → Tells (StandsNext g items (i + 1)) old (new ++ g (get_or items i d) ∷ [])
+pub next_more : {X : Type 0} (g : X → RecordFault) (items : List X) (i : ℕ) (d e : X) (old new : List RecordFault) → 1 ≤ i → i < length items → get_or items (i - 1) e ≡ get_or items i d → Tells (StandsNext g items i) old new → Tells (StandsNext g items (i + 1)) old (new ++ g (get_or items i d) ∷ [])
 next_more {X} g items i d e old new low lt same h =
     let back : i - 1 + 1 ≡ i = omega arith in
     tells_more (StandsNext g items i) (StandsNext g items (i + 1)) old new (g (get_or items i d)) (λ f s. longer g items i (i + 1) f s (omega (arith, s.below)))
@@ -42,7 +42,7 @@ next_more {X} g items i d e old new low lt same h =
     ]) h
 
 -- the i-th item is another one than the one before
-pub next_other : {X : Type 0} (g : X → MapFault) (items : List X) (i : ℕ) (d e : X) (old new : List MapFault) → 1 ≤ i → i < length items → get_or items (i - 1) e ≢ get_or items i d → Tells (StandsNext g items i) old new → Tells (StandsNext g items (i + 1)) old new
+pub next_other : {X : Type 0} (g : X → RecordFault) (items : List X) (i : ℕ) (d e : X) (old new : List RecordFault) → 1 ≤ i → i < length items → get_or items (i - 1) e ≢ get_or items i d → Tells (StandsNext g items i) old new → Tells (StandsNext g items (i + 1)) old new
 next_other g items i d e old new low lt other h =
     tells_same (StandsNext g items i) (StandsNext g items (i + 1)) old new (λ f s. longer g items i (i + 1) f s (omega (arith, s.below)))
     (λ f s. elim (split g items i f s) [
@@ -53,17 +53,17 @@ next_other g items i d e old new low lt other h =
     ]) h
 
 -- the items up to the end are all
-pub next_all : {X : Type 0} (g : X → MapFault) (items : List X) (i : ℕ) (old new : List MapFault) → length items ≤ i → Tells (StandsNext g items i) old new → Tells (StandsNext g items (length items)) old new
+pub next_all : {X : Type 0} (g : X → RecordFault) (items : List X) (i : ℕ) (old new : List RecordFault) → length items ≤ i → Tells (StandsNext g items i) old new → Tells (StandsNext g items (length items)) old new
 next_all g items i old new past h =
     tells_same (StandsNext g items i) (StandsNext g items (length items)) old new
     (λ f s. longer g items i (length items) f s s.within)
     (λ f s. longer g items (length items) i f s (omega (arith, s.within))) h
 
-more_items : {X K : Type 0} (g : X → MapFault) (name : X → K) (items : List X) (x : X) (known : List K) (f : MapFault) → IsMissing g name items known f → IsMissing g name (items ++ x ∷ []) known f
+more_items : {X K : Type 0} (g : X → RecordFault) (name : X → K) (items : List X) (x : X) (known : List K) (f : RecordFault) → IsMissing g name items known f → IsMissing g name (items ++ x ∷ []) known f
 more_items g name items x known f m = record { item = m.item; is = m.is; among = Contains-append_left items (x ∷ []) m.item m.among; unknown = m.unknown }
 
 -- one more item, of which nothing is told
-pub missing_known : {X K : Type 0} (g : X → MapFault) (name : X → K) (items : List X) (known : List K) (i : ℕ) (d : X) (old new : List MapFault) → i < length items → Contains known (name (get_or items i d)) → Tells (IsMissing g name (take i items) known) old new → Tells (IsMissing g name (take (i + 1) items) known) old new
+pub missing_known : {X K : Type 0} (g : X → RecordFault) (name : X → K) (items : List X) (known : List K) (i : ℕ) (d : X) (old new : List RecordFault) → i < length items → Contains known (name (get_or items i d)) → Tells (IsMissing g name (take i items) known) old new → Tells (IsMissing g name (take (i + 1) items) known) old new
 missing_known g name items known i d old new lt has h = rw (take_more items i d lt)
     (tells_same (IsMissing g name (take i items) known) (IsMissing g name (take i items ++ get_or items i d ∷ []) known) old new
     (λ f m. more_items g name (take i items) (get_or items i d) known f m)
@@ -73,7 +73,7 @@ missing_known g name items known i d old new lt has h = rw (take_more items i d 
     ]) h)
 
 -- one more item, which is told
-pub missing_more : {X K : Type 0} (g : X → MapFault) (name : X → K) (items : List X) (known : List K) (i : ℕ) (d : X) (old new : List MapFault) → i < length items → ¬ Contains known (name (get_or items i d)) → Tells (IsMissing g name (take i items) known) old new → Tells (IsMissing g name (take (i + 1) items) known) old (new ++ g (get_or items i d) ∷ [])
+pub missing_more : {X K : Type 0} (g : X → RecordFault) (name : X → K) (items : List X) (known : List K) (i : ℕ) (d : X) (old new : List RecordFault) → i < length items → ¬ Contains known (name (get_or items i d)) → Tells (IsMissing g name (take i items) known) old new → Tells (IsMissing g name (take (i + 1) items) known) old (new ++ g (get_or items i d) ∷ [])
 missing_more g name items known i d old new lt none h = rw (take_more items i d lt)
     (tells_more (IsMissing g name (take i items) known) (IsMissing g name (take i items ++ get_or items i d ∷ []) known) old new (g (get_or items i d))
     (λ f m. more_items g name (take i items) (get_or items i d) known f m)
@@ -84,11 +84,11 @@ missing_more g name items known i d old new lt none h = rw (take_more items i d 
     ]) h)
 
 -- of no items nothing is told
-pub missing_none : {X K : Type 0} (g : X → MapFault) (name : X → K) (known : List K) (faults : List MapFault) → Tells (IsMissing g name [] known) faults faults
+pub missing_none : {X K : Type 0} (g : X → RecordFault) (name : X → K) (known : List K) (faults : List RecordFault) → Tells (IsMissing g name [] known) faults faults
 missing_none g name known faults = tells_none (IsMissing g name [] known) faults (λ f m. omega (arith, m.among.1))
 
 -- the items up to the end are all
-pub missing_all : {X K : Type 0} (g : X → MapFault) (name : X → K) (items : List X) (known : List K) (i : ℕ) (old new : List MapFault) → length items ≤ i → Tells (IsMissing g name (take i items) known) old new → Tells (IsMissing g name items known) old new
+pub missing_all : {X K : Type 0} (g : X → RecordFault) (name : X → K) (items : List X) (known : List K) (i : ℕ) (old new : List RecordFault) → length items ≤ i → Tells (IsMissing g name (take i items) known) old new → Tells (IsMissing g name items known) old new
 missing_all g name items known i old new past h = rw (take_all i items past) at h
 
 -- the number at a place is known

@@ -13,8 +13,8 @@ use Rattle.tl_key.specs.declared.key.PolyKey.{PolyKey}
 use Rattle.tl_county.specs.declared.polygons.Polygon.{Polygon}
 use Rattle.tl_drawn.specs.declared.entry.ChainEntry.{ChainEntry}
 use Rattle.tl_drawn.specs.declared.fault.Limited.TheVariants.{Segments}
-use Rattle.tl_drawn.specs.declared.fault.MapFault.{MapFault}
-use Rattle.tl_drawn.specs.declared.fault.MapFault.TheVariants.{DuplicateChain, ShapeWithoutChain, ShapeSequence, ShapeGap, ChainWithoutSides, SidesWithoutChain, DuplicateSides, DuplicatePolygon, SideWithoutPolygon, LinkWithoutLandmark, LinkWithoutPolygon, DegenerateChain, TooMany}
+use Rattle.tl_drawn.specs.declared.fault.RecordFault.{RecordFault}
+use Rattle.tl_drawn.specs.declared.fault.RecordFault.TheVariants.{DuplicateChain, ShapeWithoutChain, ShapeSequence, ShapeGap, ChainWithoutSides, SidesWithoutChain, DuplicateSides, DuplicatePolygon, SideWithoutPolygon, LinkWithoutLandmark, LinkWithoutPolygon, DegenerateChain, TooMany}
 use Rattle.tl_drawn.specs.ChainsOf.{shape_count, chain_count, is_any_chain}
 use Rattle.tl_drawn.specs.MapOf.{sides_in, polygons_in, keys}
 use Rattle.tl_drawn.specs.Faults.{IsTrueOf, IsTooMany, AreJoined}
@@ -34,7 +34,7 @@ use Rattle.tl_record_faults.proofs.RunLemmas.{nothing}
 use Rattle.tl_record_faults.proofs.PointLemmas.{told_degenerate, segments_told}
 
 -- what is told of chains, shapes and sides that are sorted
-pub told_sorted : (rs : List Record) (chains : List ChainEntry) (shapes : List ShapeSummary) (sides tlids stlids : List ℕ) (joined : Bool) (segments : ℕ) (one two three : List MapFault) → AreSorted rs chains shapes sides → AreInOrder shapes → tlids ≡ map (λ c. c.tlid) chains → stlids ≡ map (λ s. s.tlid) shapes → (StandAsOften (chains_with rs) tlids → StandAsOften (shape_count rs) stlids → AreShapes rs shapes → AreChainsTold rs joined one) → ((codes : List ℕ) → StandAsOften (chains_with rs) tlids → StandAsOften (sides_with rs) sides → AreTold rs codes one → AreTold rs (with_sides codes) two) → Tells (IsOnePointFault chains shapes (length chains)) two three → segments ≡ cond joined (min (sum_by (steps_with shapes) chains) 18446744073709551615) 0 → AreChainCounts rs segments three
+pub told_sorted : (rs : List Record) (chains : List ChainEntry) (shapes : List ShapeSummary) (sides tlids stlids : List ℕ) (joined : Bool) (segments : ℕ) (one two three : List RecordFault) → AreSorted rs chains shapes sides → AreInOrder shapes → tlids ≡ map (λ c. c.tlid) chains → stlids ≡ map (λ s. s.tlid) shapes → (StandAsOften (chains_with rs) tlids → StandAsOften (shape_count rs) stlids → AreShapes rs shapes → AreChainsTold rs joined one) → ((codes : List ℕ) → StandAsOften (chains_with rs) tlids → StandAsOften (sides_with rs) sides → AreTold rs codes one → AreTold rs (with_sides codes) two) → Tells (IsOnePointFault chains shapes (length chains)) two three → segments ≡ cond joined (min (sum_by (steps_with shapes) chains) 18446744073709551615) 0 → AreChainCounts rs segments three
 told_sorted rs chains shapes sides tlids stlids joined segments one two three sorted order tlids_are stlids_are chains_told sides_told points segments_are =
     let are : AreShapes rs shapes = record { moved = sorted.of_shapes; order = order } in
     let often : StandAsOften (chains_with rs) tlids = rw tlids_are (chain_tlids rs (filter_map chain_at rs) chains refl sorted.of_chains) in
@@ -57,7 +57,7 @@ told_sorted rs chains shapes sides tlids stlids joined segments one two three so
     back false e join are is many = absurd (true≢false (sym (join.1 many.0)))
 
 -- each fault has one of the codes
-coded : (f : MapFault) → Contains all_codes (fault_place f).0
+coded : (f : RecordFault) → Contains all_codes (fault_place f).0
 coded (DuplicateChain t) = (12, omega arith, refl)
 coded (ShapeWithoutChain t) = (11, omega arith, refl)
 coded (ShapeSequence t) = (10, omega arith, refl)
@@ -73,7 +73,7 @@ coded (LinkWithoutPolygon k n) = (1, omega arith, refl)
 coded (TooMany what) = (0, omega arith, refl)
 
 -- faults of all codes, in order, are all faults
-pub all_told : (rs : List Record) (faults ordered : List MapFault) → AreTold rs all_codes faults → AreOrdered faults ordered → AreAllFaults rs ordered
+pub all_told : (rs : List Record) (faults ordered : List RecordFault) → AreTold rs all_codes faults → AreOrdered faults ordered → AreAllFaults rs ordered
 all_told rs faults ordered told order = record {
   each = All-weaker (Contains faults) (IsTrueOf rs) (λ f has. All-contains (IsTrueOf rs) faults f told.each has) ordered order.each;
   every = λ f holds. All-contains (Contains ordered) faults f order.every (told.every f holds (coded f));

@@ -10,7 +10,7 @@ use Rattle.tl_geom.specs.declared.point.Point.{Point}
 use Rattle.tl_record.specs.declared.record.Record.{Record}
 use Rattle.tl_record.specs.declared.record.Record.TheVariants.{Chain, Shape, Sides, PolyPoint, Landmark, AreaLink}
 use Rattle.tl_drawn.specs.declared.entry.ChainEntry.{ChainEntry}
-use Rattle.tl_drawn.specs.declared.fault.MapFault.{MapFault}
+use Rattle.tl_drawn.specs.declared.fault.RecordFault.{RecordFault}
 use Rattle.tl_drawn.specs.ChainsOf.{used, pairs_of, points_between, segments_by, segments_of}
 use Rattle.tl_drawn.specs.Faults.{IsTrueOf, IsRepeated, IsNumbered, IsDegenerate, AreJoined}
 use Rattle.tl_map.proofs.RowLemmas.{dedup_from-is}
@@ -82,7 +82,7 @@ pub with_shapes : (rs : List Record) (shapes : List ShapeSummary) (c : ChainEntr
 with_shapes rs shapes c are numbered = ap (chain_steps c) (seen_run rs shapes c.tlid are (numbered_run rs shapes c.tlid are numbered)) ∙ steps_are c (pairs_of rs c.tlid)
 
 -- M12 is told
-pub told_degenerate : (rs : List Record) (codes : List ℕ) (chains : List ChainEntry) (shapes : List ShapeSummary) (old new : List MapFault) → IsPermutation (filter_map chain_at rs) chains → AreShapes rs shapes → Tells (IsOnePointFault chains shapes (length chains)) old new → AreTold rs codes old → AreTold rs (12 ∷ codes) new
+pub told_degenerate : (rs : List Record) (codes : List ℕ) (chains : List ChainEntry) (shapes : List ShapeSummary) (old new : List RecordFault) → IsPermutation (filter_map chain_at rs) chains → AreShapes rs shapes → Tells (IsOnePointFault chains shapes (length chains)) old new → AreTold rs codes old → AreTold rs (12 ∷ codes) new
 told_degenerate rs codes chains shapes old new moved are tells before =
     told_more rs codes 12 (IsOnePointFault chains shapes (length chains)) old new
     (λ f p. subst (IsTrueOf rs) (sym p.is) (true_point p.chain (p.place, p.within, p.there p.chain) p.alone p.one_point))

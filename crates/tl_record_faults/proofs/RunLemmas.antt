@@ -9,7 +9,7 @@ use Rattle.std.proofs.lemmas.Cmp.{on_total, then_total, nat_cmp_total}
 use Rattle.std.proofs.lemmas.List.{get_or_default}
 use Rattle.std.proofs.lemmas.List.Sorted.{ranks_by, sorted_far}
 use Rattle.tl_map.proofs.JoinLemmas.{filter_part}
-use Rattle.tl_drawn.specs.declared.fault.MapFault.{MapFault}
+use Rattle.tl_drawn.specs.declared.fault.RecordFault.{RecordFault}
 use Rattle.tl_record_faults.specs.declared.shape.ShapeSummary.{ShapeSummary}
 use Rattle.tl_record_faults.specs.Shapes.{start}
 use Rattle.tl_record_faults.specs.Keeping.Told.{Tells}
@@ -48,27 +48,27 @@ run_is shapes s e t le within order before same from other =
     (λ k d past lt. ne_eqb _ _ (λ is. other d (omega arith) (omega (arith, is, (order e k d past lt).by_tlid, (order s e d le (omega arith)).by_tlid, from d (omega arith))))))
 
 -- the fault of the shapes of a TLID, of which one stands at a place
-abbrev pub fault_at_place : List ShapeSummary → ShapeSummary → Option MapFault
+abbrev pub fault_at_place : List ShapeSummary → ShapeSummary → Option RecordFault
 fault_at_place shapes s = run_fault s.tlid (run_of shapes s.tlid)
 
 -- what an index past the end would give
 abbrev pub nothing : ShapeSummary
 nothing = record { tlid = 0; seen = start; rtsq = 0 }
 
-pub runs_none : (shapes : List ShapeSummary) (faults : List MapFault) → Tells (IsRunFault shapes 0) faults faults
+pub runs_none : (shapes : List ShapeSummary) (faults : List RecordFault) → Tells (IsRunFault shapes 0) faults faults
 runs_none shapes faults = tells_none (IsRunFault shapes 0) faults (λ f r. omega (arith, r.below))
 
-longer : (shapes : List ShapeSummary) (i : ℕ) (f : MapFault) → IsRunFault shapes i f → IsRunFault shapes (i + 1) f
+longer : (shapes : List ShapeSummary) (i : ℕ) (f : RecordFault) → IsRunFault shapes i f → IsRunFault shapes (i + 1) f
 longer shapes i f r = record { place = r.place; below = omega (arith, r.below); within = r.within; is = r.is }
 
-split : (shapes : List ShapeSummary) (i : ℕ) (f : MapFault) (d : ShapeSummary) → IsRunFault shapes (i + 1) f → IsRunFault shapes i f ⊎ (fault_at_place shapes (get_or shapes i d) ≡ Some f)
+split : (shapes : List ShapeSummary) (i : ℕ) (f : RecordFault) (d : ShapeSummary) → IsRunFault shapes (i + 1) f → IsRunFault shapes i f ⊎ (fault_at_place shapes (get_or shapes i d) ≡ Some f)
 split shapes i f d r = elim (cases_lt r.place i) [
   | inl earlier ↦ inl (record { place = r.place; below = earlier; within = r.within; is = r.is })
   | inr later ↦ let at : r.place ≡ i = omega (arith, later, r.below) in inr (rw at at (r.is d))
 ]
 
 -- the TLID of the i-th shape has a fault
-pub runs_more : (shapes : List ShapeSummary) (i : ℕ) (d : ShapeSummary) (x : MapFault) (old new : List MapFault) → i < length shapes → fault_at_place shapes (get_or shapes i d) ≡ Some x → Tells (IsRunFault shapes i) old new → Tells (IsRunFault shapes (i + 1)) old (new ++ x ∷ [])
+pub runs_more : (shapes : List ShapeSummary) (i : ℕ) (d : ShapeSummary) (x : RecordFault) (old new : List RecordFault) → i < length shapes → fault_at_place shapes (get_or shapes i d) ≡ Some x → Tells (IsRunFault shapes i) old new → Tells (IsRunFault shapes (i + 1)) old (new ++ x ∷ [])
 runs_more shapes i d x old new lt is h =
     tells_more (IsRunFault shapes i) (IsRunFault shapes (i + 1)) old new x (longer shapes i)
     (record { place = i; below = omega arith; within = lt; is = λ e. rw (get_or_default shapes i e d lt) is })
@@ -78,7 +78,7 @@ runs_more shapes i d x old new lt is h =
     ]) h
 
 -- the TLID of the i-th shape has none
-pub runs_quiet : (shapes : List ShapeSummary) (i : ℕ) (d : ShapeSummary) (old new : List MapFault) → i < length shapes → fault_at_place shapes (get_or shapes i d) ≡ None → Tells (IsRunFault shapes i) old new → Tells (IsRunFault shapes (i + 1)) old new
+pub runs_quiet : (shapes : List ShapeSummary) (i : ℕ) (d : ShapeSummary) (old new : List RecordFault) → i < length shapes → fault_at_place shapes (get_or shapes i d) ≡ None → Tells (IsRunFault shapes i) old new → Tells (IsRunFault shapes (i + 1)) old new
 runs_quiet shapes i d old new lt is h =
     tells_same (IsRunFault shapes i) (IsRunFault shapes (i + 1)) old new (longer shapes i)
     (λ f r. elim (split shapes i f d r) [
@@ -87,7 +87,7 @@ runs_quiet shapes i d old new lt is h =
     ]) h
 
 -- the TLID of the i-th shape is that of the one before
-pub runs_again : (shapes : List ShapeSummary) (i : ℕ) (d e : ShapeSummary) (old new : List MapFault) → 1 ≤ i → i < length shapes → (get_or shapes (i - 1) e).tlid ≡ (get_or shapes i d).tlid → Tells (IsRunFault shapes i) old new → Tells (IsRunFault shapes (i + 1)) old new
+pub runs_again : (shapes : List ShapeSummary) (i : ℕ) (d e : ShapeSummary) (old new : List RecordFault) → 1 ≤ i → i < length shapes → (get_or shapes (i - 1) e).tlid ≡ (get_or shapes i d).tlid → Tells (IsRunFault shapes i) old new → Tells (IsRunFault shapes (i + 1)) old new
 runs_again shapes i d e old new low lt same h =
     tells_same (IsRunFault shapes i) (IsRunFault shapes (i + 1)) old new (longer shapes i)
     (λ f r. elim (split shapes i f d r) [

@@ -12,8 +12,8 @@ use Rattle.tl_record.specs.declared.record.Record.{Record}
 use Rattle.tl_record.specs.declared.record.Record.TheVariants.{Chain, Shape, Sides, PolyPoint, Landmark, AreaLink}
 use Rattle.tl_drawn.specs.ChainsOf.{is_shape, is_shape_at, shape_count, pairs_at, pairs_up_to, pairs_of, has_gap}
 use Rattle.tl_drawn.specs.Faults.{IsTrueOf, IsNumbered, IsBroken}
-use Rattle.tl_drawn.specs.declared.fault.MapFault.{MapFault}
-use Rattle.tl_drawn.specs.declared.fault.MapFault.TheVariants.{ShapeSequence, ShapeGap}
+use Rattle.tl_drawn.specs.declared.fault.RecordFault.{RecordFault}
+use Rattle.tl_drawn.specs.declared.fault.RecordFault.TheVariants.{ShapeSequence, ShapeGap}
 use Rattle.tl_map.proofs.GapLemmas.{pairs_at_is}
 use Rattle.tl_record_faults.specs.declared.shape.ShapeSummary.{ShapeSummary}
 use Rattle.tl_record_faults.specs.declared.shape.Seen.{Seen}
@@ -194,7 +194,7 @@ shape_there rs shapes t are some =
     (among.0, among.1, λ d. ap (λ (s : ShapeSummary). s.tlid) (get_or_default shapes among.0 d first among.1 ∙ among.2) ∙ run_tlid shapes t 0 nothing long)
 
 -- what a fault of a run says
-pub run_true : (rs : List Record) (shapes : List ShapeSummary) (t : ℕ) (f : MapFault) → AreShapes rs shapes → run_fault t (run_of shapes t) ≡ Some f → ((f ≡ ShapeSequence t) × ¬ IsNumbered rs t) ⊎ ((f ≡ ShapeGap t) × IsBroken rs t)
+pub run_true : (rs : List Record) (shapes : List ShapeSummary) (t : ℕ) (f : RecordFault) → AreShapes rs shapes → run_fault t (run_of shapes t) ≡ Some f → ((f ≡ ShapeSequence t) × ¬ IsNumbered rs t) ⊎ ((f ≡ ShapeGap t) × IsBroken rs t)
 run_true rs shapes t f are is = go (in_sequence (run_of shapes t)) refl (seen_in_run (run_of shapes t)).gap refl is
   where
     go : (b : Bool) → in_sequence (run_of shapes t) ≡ b → (g : Bool) → (seen_in_run (run_of shapes t)).gap ≡ g → cond b (cond g (Some (ShapeGap t)) None) (Some (ShapeSequence t)) ≡ Some f → ((f ≡ ShapeSequence t) × ¬ IsNumbered rs t) ⊎ ((f ≡ ShapeGap t) × IsBroken rs t)
@@ -214,11 +214,11 @@ gap_found rs shapes t are broken =
     let up = numbered_run rs shapes t are broken.numbered in
     rw (up, gap_run rs shapes t are up, broken.gap) refl
 
-found_at : (shapes : List ShapeSummary) (t : ℕ) (f : MapFault) → (k : ℕ) × (k < length shapes) × ((d : ShapeSummary) → (get_or shapes k d).tlid ≡ t) → run_fault t (run_of shapes t) ≡ Some f → IsRunFault shapes (length shapes) f
+found_at : (shapes : List ShapeSummary) (t : ℕ) (f : RecordFault) → (k : ℕ) × (k < length shapes) × ((d : ShapeSummary) → (get_or shapes k d).tlid ≡ t) → run_fault t (run_of shapes t) ≡ Some f → IsRunFault shapes (length shapes) f
 found_at shapes t f there is = record { place = there.0; below = there.1; within = there.1; is = λ d. subst (λ u. run_fault u (run_of shapes u) ≡ Some f) (sym (there.2 d)) is }
 
 -- M3 and M4 are told
-pub told_shapes : (rs : List Record) (codes : List ℕ) (shapes : List ShapeSummary) (old new : List MapFault) → AreShapes rs shapes → Tells (IsRunFault shapes (length shapes)) old new → AreTold rs codes old → AreTold rs (4 ∷ 3 ∷ codes) new
+pub told_shapes : (rs : List Record) (codes : List ℕ) (shapes : List ShapeSummary) (old new : List RecordFault) → AreShapes rs shapes → Tells (IsRunFault shapes (length shapes)) old new → AreTold rs codes old → AreTold rs (4 ∷ 3 ∷ codes) new
 told_shapes rs codes shapes old new are tells before =
     let there = λ (t : ℕ) (some : 1 ≤ shape_count rs t). shape_there rs shapes t are some in
     told_also rs (3 ∷ codes) 4 new

@@ -2,7 +2,7 @@ use Rattle.std.proofs.Common.{◌≡◌, ℕ, zero, suc, ◌≤◌, eqb, List, �
 use Rattle.std.specs.List.Sorted.{IsNonDecreasing}
 use Rattle.std.proofs.lemmas.Bool.{eq-eqb}
 use Rattle.tl_record.specs.declared.record.Record.{Record}
-use Rattle.tl_drawn.specs.declared.fault.MapFault.{MapFault}
+use Rattle.tl_drawn.specs.declared.fault.RecordFault.{RecordFault}
 use Rattle.tl_drawn.specs.Faults.{IsTrueOf}
 use Rattle.tl_drawn.specs.ChainsOf.{shape_count}
 use Rattle.tl_drawn.proofs.CountLemmas.{two_counted}
@@ -19,11 +19,11 @@ absent zero h = refl
 absent (suc n) h = absurd (h (omega arith))
 
 -- a number that stands next to itself stands twice
-pub next_counted : (what : Numbered) (count : ℕ → ℕ) (numbers : List ℕ) (f : MapFault) → StandAsOften count numbers → (s : StandsNext (fault_of what) numbers (length numbers) f) → 2 ≤ count s.item
+pub next_counted : (what : Numbered) (count : ℕ → ℕ) (numbers : List ℕ) (f : RecordFault) → StandAsOften count numbers → (s : StandsNext (fault_of what) numbers (length numbers) f) → 2 ≤ count s.item
 next_counted what count numbers f often s = omega (arith, often s.item, two_counted (λ x. eqb x s.item) numbers s.place 0 s.below (eq-eqb _ _ (s.first 0)) (eq-eqb _ _ (s.second 0)))
 
 -- the faults of a code that are true where a number stands twice
-pub told_repeats : (what : Numbered) (rs : List Record) (codes : List ℕ) (count : ℕ → ℕ) (numbers : List ℕ) (old new : List MapFault) → IsNonDecreasing numbers → StandAsOften count numbers → ((n : ℕ) → 2 ≤ count n → IsTrueOf rs (fault_of what n)) → ((n : ℕ) → IsTrueOf rs (fault_of what n) → 2 ≤ count n) → Tells (StandsNext (fault_of what) numbers (length numbers)) old new → AreTold rs codes old → AreTold rs (code_of what ∷ codes) new
+pub told_repeats : (what : Numbered) (rs : List Record) (codes : List ℕ) (count : ℕ → ℕ) (numbers : List ℕ) (old new : List RecordFault) → IsNonDecreasing numbers → StandAsOften count numbers → ((n : ℕ) → 2 ≤ count n → IsTrueOf rs (fault_of what n)) → ((n : ℕ) → IsTrueOf rs (fault_of what n) → 2 ≤ count n) → Tells (StandsNext (fault_of what) numbers (length numbers)) old new → AreTold rs codes old → AreTold rs (code_of what ∷ codes) new
 told_repeats what rs codes count numbers old new order often true twice tells before =
     told_more rs codes (code_of what) (StandsNext (fault_of what) numbers (length numbers)) old new
     (λ f s. subst (IsTrueOf rs) (sym s.is) (true s.item (next_counted what count numbers f often s)))
@@ -34,7 +34,7 @@ told_repeats what rs codes count numbers old new order often true twice tells be
     tells before
 
 -- the faults of a code that are true where a number is not known
-pub told_missing : (what : Numbered) (rs : List Record) (codes : List ℕ) (count among : ℕ → ℕ) (numbers known : List ℕ) (old new : List MapFault) → StandAsOften count numbers → StandAsOften among known → ((n : ℕ) → 1 ≤ count n → among n ≡ 0 → IsTrueOf rs (fault_of what n)) → ((n : ℕ) → IsTrueOf rs (fault_of what n) → (1 ≤ count n) × (among n ≡ 0)) → Tells (IsMissing (fault_of what) (λ (n : ℕ). n) numbers known) old new → AreTold rs codes old → AreTold rs (code_of what ∷ codes) new
+pub told_missing : (what : Numbered) (rs : List Record) (codes : List ℕ) (count among : ℕ → ℕ) (numbers known : List ℕ) (old new : List RecordFault) → StandAsOften count numbers → StandAsOften among known → ((n : ℕ) → 1 ≤ count n → among n ≡ 0 → IsTrueOf rs (fault_of what n)) → ((n : ℕ) → IsTrueOf rs (fault_of what n) → (1 ≤ count n) × (among n ≡ 0)) → Tells (IsMissing (fault_of what) (λ (n : ℕ). n) numbers known) old new → AreTold rs codes old → AreTold rs (code_of what ∷ codes) new
 told_missing what rs codes count among numbers known old new often known_often true missing tells before =
     told_more rs codes (code_of what) (IsMissing (fault_of what) (λ (n : ℕ). n) numbers known) old new
     (λ f m. subst (IsTrueOf rs) (sym m.is) (true m.item (number_counted count numbers m.item often m.among) (absent (among m.item) (λ some. m.unknown (number_stands among known m.item known_often some)))))
@@ -45,29 +45,29 @@ told_missing what rs codes count among numbers known old new often known_often t
     tells before
 
 -- two type 1 records have a TLID
-pub told_duplicate_chains : (rs : List Record) (codes chains : List ℕ) (old new : List MapFault) → IsNonDecreasing chains → StandAsOften (chains_with rs) chains → Tells (StandsNext (fault_of DuplicateChain) chains (length chains)) old new → AreTold rs codes old → AreTold rs (1 ∷ codes) new
+pub told_duplicate_chains : (rs : List Record) (codes chains : List ℕ) (old new : List RecordFault) → IsNonDecreasing chains → StandAsOften (chains_with rs) chains → Tells (StandsNext (fault_of DuplicateChain) chains (length chains)) old new → AreTold rs codes old → AreTold rs (1 ∷ codes) new
 told_duplicate_chains rs codes chains old new order often tells before =
     told_repeats DuplicateChain rs codes (chains_with rs) chains old new order often (λ n h. h) (λ n h. h) tells before
 
 -- two type I records have a TLID
-pub told_duplicate_sides : (rs : List Record) (codes sides : List ℕ) (old new : List MapFault) → IsNonDecreasing sides → StandAsOften (sides_with rs) sides → Tells (StandsNext (fault_of DuplicateSides) sides (length sides)) old new → AreTold rs codes old → AreTold rs (7 ∷ codes) new
+pub told_duplicate_sides : (rs : List Record) (codes sides : List ℕ) (old new : List RecordFault) → IsNonDecreasing sides → StandAsOften (sides_with rs) sides → Tells (StandsNext (fault_of DuplicateSides) sides (length sides)) old new → AreTold rs codes old → AreTold rs (7 ∷ codes) new
 told_duplicate_sides rs codes sides old new order often tells before =
     told_repeats DuplicateSides rs codes (sides_with rs) sides old new order often (λ n h. h) (λ n h. h) tells before
 
 -- a type 2 record has a TLID, and no type 1 record has
-pub told_stray_shapes : (rs : List Record) (codes shapes chains : List ℕ) (old new : List MapFault) → StandAsOften (shape_count rs) shapes → StandAsOften (chains_with rs) chains → Tells (IsMissing (fault_of ShapeWithoutChain) (λ (n : ℕ). n) shapes chains) old new → AreTold rs codes old → AreTold rs (2 ∷ codes) new
+pub told_stray_shapes : (rs : List Record) (codes shapes chains : List ℕ) (old new : List RecordFault) → StandAsOften (shape_count rs) shapes → StandAsOften (chains_with rs) chains → Tells (IsMissing (fault_of ShapeWithoutChain) (λ (n : ℕ). n) shapes chains) old new → AreTold rs codes old → AreTold rs (2 ∷ codes) new
 told_stray_shapes rs codes shapes chains old new often known tells before =
     told_missing ShapeWithoutChain rs codes (shape_count rs) (chains_with rs) shapes chains old new often known (λ n some none. (some, none)) (λ n h. h) tells before
 
 -- a type 1 record has a TLID, and no type I record has
-pub told_chains_without_sides : (rs : List Record) (codes chains sides : List ℕ) (old new : List MapFault) → StandAsOften (chains_with rs) chains → StandAsOften (sides_with rs) sides → Tells (IsMissing (fault_of ChainWithoutSides) (λ (n : ℕ). n) chains sides) old new → AreTold rs codes old → AreTold rs (5 ∷ codes) new
+pub told_chains_without_sides : (rs : List Record) (codes chains sides : List ℕ) (old new : List RecordFault) → StandAsOften (chains_with rs) chains → StandAsOften (sides_with rs) sides → Tells (IsMissing (fault_of ChainWithoutSides) (λ (n : ℕ). n) chains sides) old new → AreTold rs codes old → AreTold rs (5 ∷ codes) new
 told_chains_without_sides rs codes chains sides old new often known tells before =
     told_missing ChainWithoutSides rs codes (chains_with rs) (sides_with rs) chains sides old new often known
     (λ n some none. (has_chain rs n some, λ has. omega (arith, none, counted_sides rs n has)))
     (λ n h. (counted_chain rs n h.0, absent (sides_with rs n) (λ some. h.1 (has_sides rs n some)))) tells before
 
 -- a type I record has a TLID, and no type 1 record has
-pub told_sides_without_chain : (rs : List Record) (codes sides chains : List ℕ) (old new : List MapFault) → StandAsOften (sides_with rs) sides → StandAsOften (chains_with rs) chains → Tells (IsMissing (fault_of SidesWithoutChain) (λ (n : ℕ). n) sides chains) old new → AreTold rs codes old → AreTold rs (6 ∷ codes) new
+pub told_sides_without_chain : (rs : List Record) (codes sides chains : List ℕ) (old new : List RecordFault) → StandAsOften (sides_with rs) sides → StandAsOften (chains_with rs) chains → Tells (IsMissing (fault_of SidesWithoutChain) (λ (n : ℕ). n) sides chains) old new → AreTold rs codes old → AreTold rs (6 ∷ codes) new
 told_sides_without_chain rs codes sides chains old new often known tells before =
     told_missing SidesWithoutChain rs codes (sides_with rs) (chains_with rs) sides chains old new often known
     (λ n some none. (has_sides rs n some, λ has. omega (arith, none, counted_chain rs n has)))

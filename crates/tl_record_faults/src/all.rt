@@ -11,24 +11,24 @@ ghost use Rattle.tl_record_faults.specs.Keeping.Runs.{AreInOrder};
 ghost use Rattle.tl_record_faults.specs.Keeping.Parts.{KeepsChains, AreSorted, AreChainCounts};
 ghost use Rattle.tl_record_faults.specs.Keeping.Parts.{KeepsAreas, AreAreaCounts};
 
-use crate::areas::{lands_of_links, tell_areas};
-use crate::chains::{count_segments, tell_points};
+use crate::areas::{lands_of_links, push_areas};
+use crate::chains::{count_segments, push_points};
 use crate::collect::{KeptRecords, NamedSide};
 use crate::keys::sort_keys;
-use crate::limits::{Counts, count_distinct, tell_too_many};
+use crate::limits::{RecordCounts, count_distinct, push_too_many};
 use crate::numbers::sort_numbers;
 use crate::order::order_faults;
 use crate::runs::sort_shapes;
 use crate::shape::ShapeSummary;
-use crate::tlids::{sort_chains, tell_chains, tell_sides, tlids_of_chains, tlids_of_shapes};
+use crate::tlids::{push_chains, push_sides, sort_chains, tlids_of_chains, tlids_of_shapes};
 use std::alloc::{AllocError, Global};
-use tl_drawn::{ChainEntry, LinkEntry, MapFault};
+use tl_drawn::{ChainEntry, LinkEntry, RecordFault};
 use tl_record::PolyKey;
 
 /// Tells what sorted lists of chains, shapes and sides tell, where no fault is told yet. Gives how many segments there
 /// are, and none where the chains are not joined.
-fn tell_sorted(
-    faults: &mut Vec<MapFault>,
+fn push_sorted(
+    faults: &mut Vec<RecordFault>,
     chains: &[ChainEntry],
     shapes: &[ShapeSummary],
     sides: &[u64],
@@ -44,9 +44,9 @@ fn tell_sorted(
     ensures { (rs : List Record) → AreSorted rs chains.now shapes.now sides.now →
         IfOk result (λ segments. AreChainCounts rs segments faults.new.items) }
 {
-    let joined = tell_chains(faults, chain_tlids, shape_tlids, shapes)?;
-    tell_sides(faults, chain_tlids, sides)?;
-    tell_points(faults, chains, shapes)?;
+    let joined = push_chains(faults, chain_tlids, shape_tlids, shapes)?;
+    push_sides(faults, chain_tlids, sides)?;
+    push_points(faults, chains, shapes)?;
     // Of chains that are not joined the segments are not asked for.
     Ok(if joined {
         count_segments(chains, shapes)
@@ -56,9 +56,9 @@ fn tell_sorted(
 }
 
 /// The same with lists in any order.
-fn tell_of_chains(
+fn push_of_chains(
     alloc: Global,
-    faults: &mut Vec<MapFault>,
+    faults: &mut Vec<RecordFault>,
     mut chains: Vec<ChainEntry>,
     mut shapes: Vec<ShapeSummary>,
     mut sides: Vec<u64>,
@@ -72,13 +72,13 @@ fn tell_of_chains(
     sort_numbers(&mut sides);
     let chain_tlids = tlids_of_chains(alloc, &chains)?;
     let shape_tlids = tlids_of_shapes(alloc, &shapes)?;
-    tell_sorted(faults, &chains, &shapes, &sides, &chain_tlids, &shape_tlids)
+    push_sorted(faults, &chains, &shapes, &sides, &chain_tlids, &shape_tlids)
 }
 
 /// Tells what keys and LANDs tell. Gives how many landmarks there are.
-fn tell_of_areas(
+fn push_of_areas(
     alloc: Global,
-    faults: &mut Vec<MapFault>,
+    faults: &mut Vec<RecordFault>,
     mut polygons: Vec<PolyKey>,
     names: &[NamedSide],
     mut landmarks: Vec<u64>,
@@ -90,13 +90,13 @@ fn tell_of_areas(
     sort_keys(&mut polygons);
     sort_numbers(&mut landmarks);
     let lands = lands_of_links(alloc, links)?;
-    tell_areas(faults, &polygons, names, &landmarks, links, &lands)?;
+    push_areas(faults, &polygons, names, &landmarks, links, &lands)?;
     Ok(count_distinct(&mut landmarks))
 }
 
 /// All faults that are true of the records that were kept, by their codes and then by their numbers, none twice. An
 /// error says that memory was refused.
-pub fn all_record_faults(alloc: Global, kept: KeptRecords) -> Result<Vec<MapFault>, AllocError>
+pub fn all_record_faults(alloc: Global, kept: KeptRecords) -> Result<Vec<RecordFault>, AllocError>
     ensures { (rs : List Record) → KeepsRecords rs kept → IfOk result (λ faults. AreAllFaults rs faults.items) }
 {
     let KeptRecords {
@@ -110,15 +110,15 @@ pub fn all_record_faults(alloc: Global, kept: KeptRecords) -> Result<Vec<MapFaul
     } = kept;
     let mut faults = Vec::new(alloc);
     let (chain_count, polygon_count) = (chains.len(), polygons.len());
-    let segments = tell_of_chains(alloc, &mut faults, chains, shapes, sides)?;
-    let landmarks = tell_of_areas(alloc, &mut faults, polygons, &names, landmarks, &links)?;
-    let counts = Counts {
+    let segments = push_of_chains(alloc, &mut faults, chains, shapes, sides)?;
+    let landmarks = push_of_areas(alloc, &mut faults, polygons, &names, landmarks, &links)?;
+    let counts = RecordCounts {
         chains: chain_count,
         segments,
         polygons: polygon_count,
         landmarks,
     };
-    tell_too_many(&mut faults, counts)?;
+    push_too_many(&mut faults, counts)?;
     order_faults(&mut faults);
     Ok(faults)
 }

@@ -8,10 +8,10 @@ ghost use Rattle.tl_record_faults.specs.Keeping.Keys.{AreByKey};
 ghost use Rattle.tl_record_faults.specs.Keeping.Areas.{AreAreas, with_areas};
 
 use crate::collect::NamedSide;
-use crate::keys::{tell_repeated_keys, tell_unknown_links, tell_unknown_sides};
-use crate::numbers::{Numbered, sort_numbers, tell_missing};
+use crate::keys::{push_repeated_keys, push_unknown_links, push_unknown_sides};
+use crate::numbers::{Numbered, push_missing, sort_numbers};
 use std::alloc::{AllocError, Global};
-use tl_drawn::{LinkEntry, MapFault};
+use tl_drawn::{LinkEntry, RecordFault};
 use tl_record::PolyKey;
 
 /// The LANDs of links, sorted.
@@ -28,8 +28,8 @@ pub fn lands_of_links(alloc: Global, links: &[LinkEntry]) -> Result<Vec<u64>, Al
 }
 
 /// Tells of sorted keys which stand twice, and of sides and links which name a polygon or a landmark that is not there.
-pub fn tell_areas(
-    faults: &mut Vec<MapFault>,
+pub fn push_areas(
+    faults: &mut Vec<RecordFault>,
     polygons: &[PolyKey],
     names: &[NamedSide],
     landmarks: &[u64],
@@ -43,8 +43,8 @@ pub fn tell_areas(
         AreAreas rs polygons.now names.now landmarks.now links.now lands.now →
         AreTold rs codes faults.old.items → OnOk result (AreTold rs (with_areas codes) faults.new.items) }
 {
-    tell_repeated_keys(faults, polygons)?;
-    tell_unknown_sides(faults, names, polygons)?;
-    tell_missing(faults, Numbered::LinkWithoutLandmark, lands, landmarks)?;
-    tell_unknown_links(faults, links, polygons)
+    push_repeated_keys(faults, polygons)?;
+    push_unknown_sides(faults, names, polygons)?;
+    push_missing(faults, Numbered::LinkWithoutLandmark, lands, landmarks)?;
+    push_unknown_links(faults, links, polygons)
 }

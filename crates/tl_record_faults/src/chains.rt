@@ -7,10 +7,11 @@ ghost use Rattle.tl_record_faults.specs.Keeping.Told.{Tells};
 ghost use Rattle.tl_record_faults.specs.Keeping.Runs.{AreInOrder, chain_steps, is_one_point};
 ghost use Rattle.tl_record_faults.specs.Keeping.Chains.{is_alone, IsOnePointFault, steps_with};
 
-use crate::runs::{first_shape_not_below, is_in_sequence, joined_traces, run_at, seen_of_run};
+use crate::runs::{is_in_sequence, joined_traces, run_at, seen_of_run};
 use crate::shape::{Seen, ShapeSummary, with_point};
 use std::alloc::AllocError;
-use tl_drawn::{ChainEntry, MapFault};
+use tl_county::first_not_below;
+use tl_drawn::{ChainEntry, RecordFault};
 
 /// Has the chain at a place of sorted chains a TLID that no other has?
 fn stands_alone(chains: &[ChainEntry], place: usize) -> bool
@@ -42,8 +43,8 @@ fn is_point(chain: ChainEntry, run: &[ShapeSummary]) -> bool
 }
 
 /// Tells of sorted chains with sorted shapes which have a TLID of their own and are one point.
-pub fn tell_points(
-    faults: &mut Vec<MapFault>,
+pub fn push_points(
+    faults: &mut Vec<RecordFault>,
     chains: &[ChainEntry],
     shapes: &[ShapeSummary],
 ) -> Result<(), AllocError>
@@ -55,9 +56,9 @@ pub fn tell_points(
     let mut start = 0;
     for place in 0..chains.len() {
         let chain = chains[place];
-        start = first_shape_not_below(shapes, start, chain.tlid);
+        start = first_not_below(shapes, start, chain.tlid);
         if stands_alone(chains, place) && is_point(chain, run_at(shapes, start, chain.tlid)) {
-            faults.push(MapFault::DegenerateChain { tlid: chain.tlid })?;
+            faults.push(RecordFault::DegenerateChain { tlid: chain.tlid })?;
         }
     }
     Ok(())
@@ -73,7 +74,7 @@ pub fn count_segments(chains: &[ChainEntry], shapes: &[ShapeSummary]) -> u64
     let mut start = 0;
     let mut segments = 0u64;
     for chain in chains {
-        start = first_shape_not_below(shapes, start, chain.tlid);
+        start = first_not_below(shapes, start, chain.tlid);
         let steps = steps_of(*chain, seen_of_run(run_at(shapes, start, chain.tlid)));
         segments = segments.saturating_add(u64::from(steps));
     }

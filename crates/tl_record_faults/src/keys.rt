@@ -3,14 +3,14 @@
 ghost use Rattle.std.specs.Prelude.{◌≡◌, OnOk, Contains, length};
 ghost use Rattle.std.specs.Bool.{Decides};
 ghost use Rattle.std.specs.List.Sorted.{IsPermutation};
-ghost use Rattle.tl_drawn.specs.declared.fault.MapFault.TheVariants.{DuplicatePolygon};
+ghost use Rattle.tl_drawn.specs.declared.fault.RecordFault.TheVariants.{DuplicatePolygon};
 ghost use Rattle.tl_record_faults.specs.Keeping.Told.{Tells};
 ghost use Rattle.tl_record_faults.specs.Keeping.Numbers.{StandsNext, IsMissing};
 ghost use Rattle.tl_record_faults.specs.Keeping.Keys.{parts, AreByKey, side_fault, link_fault};
 
 use crate::collect::NamedSide;
 use std::alloc::AllocError;
-use tl_drawn::{LinkEntry, MapFault};
+use tl_drawn::{LinkEntry, RecordFault};
 use tl_record::PolyKey;
 
 /// Sorts keys by POLYID, and those of one POLYID by CENID: of most counties all keys have one CENID.
@@ -40,22 +40,22 @@ fn has_key(keys: &[PolyKey], key: PolyKey) -> bool
 }
 
 /// Tells each key that stands next to itself.
-pub fn tell_repeated_keys(faults: &mut Vec<MapFault>, keys: &[PolyKey]) -> Result<(), AllocError>
+pub fn push_repeated_keys(faults: &mut Vec<RecordFault>, keys: &[PolyKey]) -> Result<(), AllocError>
     ensures { OnOk result (Tells (StandsNext DuplicatePolygon keys.now (length keys.now))
         faults.old.items faults.new.items) }
 {
     for place in 1..keys.len() {
         let polygon = keys[place];
         if keys[place - 1] == polygon {
-            faults.push(MapFault::DuplicatePolygon { polygon })?;
+            faults.push(RecordFault::DuplicatePolygon { polygon })?;
         }
     }
     Ok(())
 }
 
 /// Tells each key that a side names and that is not one of these, which are sorted.
-pub fn tell_unknown_sides(
-    faults: &mut Vec<MapFault>,
+pub fn push_unknown_sides(
+    faults: &mut Vec<RecordFault>,
     names: &[NamedSide],
     keys: &[PolyKey],
 ) -> Result<(), AllocError>
@@ -65,7 +65,7 @@ pub fn tell_unknown_sides(
 {
     for name in names {
         if !has_key(keys, name.key) {
-            faults.push(MapFault::SideWithoutPolygon {
+            faults.push(RecordFault::SideWithoutPolygon {
                 tlid: name.tlid,
                 polygon: name.key,
             })?;
@@ -75,8 +75,8 @@ pub fn tell_unknown_sides(
 }
 
 /// Tells each link whose key is not one of these, which are sorted.
-pub fn tell_unknown_links(
-    faults: &mut Vec<MapFault>,
+pub fn push_unknown_links(
+    faults: &mut Vec<RecordFault>,
     links: &[LinkEntry],
     keys: &[PolyKey],
 ) -> Result<(), AllocError>
@@ -86,7 +86,7 @@ pub fn tell_unknown_links(
 {
     for link in links {
         if !has_key(keys, link.key) {
-            faults.push(MapFault::LinkWithoutPolygon {
+            faults.push(RecordFault::LinkWithoutPolygon {
                 polygon: link.key,
                 land: link.land,
             })?;

@@ -2,16 +2,16 @@
 
 ghost use Rattle.std.specs.Prelude.{◌≡◌, ◌≢◌, ℕ, ◌<◌, List, length, slice_index_or};
 ghost use Rattle.tl_record.specs.declared.record.Record.{Record};
-ghost use Rattle.tl_drawn.specs.declared.fault.MapFault.{MapFault};
+ghost use Rattle.tl_drawn.specs.declared.fault.RecordFault.{RecordFault};
 ghost use Rattle.tl_record_faults.specs.AllFaults.{AreAllFaults};
 
 /// A list of records has one list of all faults at most.
 pub fn records_have_one_list()
-    ensures { (rs : List Record) (a b : List MapFault) → AreAllFaults rs a → AreAllFaults rs b → a ≡ b }
+    ensures { (rs : List Record) (a b : List RecordFault) → AreAllFaults rs a → AreAllFaults rs b → a ≡ b }
 {}
 
 /// No fault stands in it twice.
 pub fn no_fault_stands_twice()
-    ensures { (rs : List Record) (faults : List MapFault) (i j : ℕ) (d : MapFault) → AreAllFaults rs faults → i < j →
+    ensures { (rs : List Record) (faults : List RecordFault) (i j : ℕ) (d : RecordFault) → AreAllFaults rs faults → i < j →
         j < length faults → slice_index_or faults i d ≢ slice_index_or faults j d }
 {}

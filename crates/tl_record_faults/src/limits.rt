@@ -9,11 +9,11 @@ ghost use Rattle.tl_record_faults.specs.Keeping.Limits.{IsMore, AreCounts};
 
 use std::alloc::AllocError;
 use tl_county::{CHAIN_LIMIT, LANDMARK_LIMIT, POLYGON_LIMIT, SEGMENT_LIMIT};
-use tl_drawn::{Limited, MapFault};
+use tl_drawn::{Limited, RecordFault};
 
 /// How much a county has of each thing. Where its chains are not joined it has no segments.
 #[derive(Clone, Copy)]
-pub struct Counts {
+pub struct RecordCounts {
     pub chains: usize,
     pub segments: u64,
     pub polygons: usize,
@@ -29,36 +29,36 @@ pub fn count_distinct(numbers: &mut Vec<u64>) -> usize
 }
 
 /// Tells that there is too much of something, if there is.
-fn tell_if(faults: &mut Vec<MapFault>, is_more: bool, what: Limited) -> Result<(), AllocError>
+fn push_if(faults: &mut Vec<RecordFault>, is_more: bool, what: Limited) -> Result<(), AllocError>
     ensures { OnOk result (Tells (IsMore is_more what) faults.old.items faults.new.items) }
 {
     if is_more {
-        faults.push(MapFault::TooMany(what))?;
+        faults.push(RecordFault::TooMany(what))?;
     }
     Ok(())
 }
 
 /// Tells what there is too much of.
-pub fn tell_too_many(faults: &mut Vec<MapFault>, counts: Counts) -> Result<(), AllocError>
+pub fn push_too_many(faults: &mut Vec<RecordFault>, counts: RecordCounts) -> Result<(), AllocError>
     ensures { (rs : List Record) (codes : List ℕ) → AreCounts rs counts → AreTold rs codes faults.old.items →
         OnOk result (AreTold rs (13 ∷ codes) faults.new.items) }
 {
-    tell_if(
+    push_if(
         faults,
         counts.chains > CHAIN_LIMIT as usize,
         Limited::Chains,
     )?;
-    tell_if(
+    push_if(
         faults,
         counts.segments > SEGMENT_LIMIT as u64,
         Limited::Segments,
     )?;
-    tell_if(
+    push_if(
         faults,
         counts.polygons > POLYGON_LIMIT as usize,
         Limited::Polygons,
     )?;
-    tell_if(
+    push_if(
         faults,
         counts.landmarks > LANDMARK_LIMIT as usize,
         Limited::Landmarks,

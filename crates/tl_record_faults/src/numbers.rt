@@ -1,12 +1,13 @@
 //! Faults that sorted lists of numbers tell.
 
-ghost use Rattle.std.specs.Prelude.{◌≡◌, ℕ, ◌<◌, ◌≤◌, OnOk, length, slice_index_or};
+ghost use Rattle.std.specs.Prelude.{◌≡◌, OnOk, length};
 ghost use Rattle.std.specs.List.Sorted.{IsNonDecreasing, IsPermutation};
 ghost use Rattle.tl_record_faults.specs.Keeping.Told.{Tells};
 ghost use Rattle.tl_record_faults.specs.Keeping.Numbers.{fault_of, StandsNext, IsMissing};
 
 use std::alloc::AllocError;
-use tl_drawn::MapFault;
+use tl_county::first_not_below;
+use tl_drawn::RecordFault;
 
 /// The faults that have one number and no more.
 #[derive(Clone, Copy)]
@@ -20,16 +21,16 @@ pub enum Numbered {
 }
 
 /// The fault of this number.
-fn fault_with(what: Numbered, number: u64) -> MapFault
+fn fault_with(what: Numbered, number: u64) -> RecordFault
     ensures { result ≡ fault_of what number }
 {
     match what {
-        Numbered::DuplicateChain => MapFault::DuplicateChain { tlid: number },
-        Numbered::ShapeWithoutChain => MapFault::ShapeWithoutChain { tlid: number },
-        Numbered::ChainWithoutSides => MapFault::ChainWithoutSides { tlid: number },
-        Numbered::SidesWithoutChain => MapFault::SidesWithoutChain { tlid: number },
-        Numbered::DuplicateSides => MapFault::DuplicateSides { tlid: number },
-        Numbered::LinkWithoutLandmark => MapFault::LinkWithoutLandmark { land: number },
+        Numbered::DuplicateChain => RecordFault::DuplicateChain { tlid: number },
+        Numbered::ShapeWithoutChain => RecordFault::ShapeWithoutChain { tlid: number },
+        Numbered::ChainWithoutSides => RecordFault::ChainWithoutSides { tlid: number },
+        Numbered::SidesWithoutChain => RecordFault::SidesWithoutChain { tlid: number },
+        Numbered::DuplicateSides => RecordFault::DuplicateSides { tlid: number },
+        Numbered::LinkWithoutLandmark => RecordFault::LinkWithoutLandmark { land: number },
     }
 }
 
@@ -42,8 +43,8 @@ pub fn sort_numbers(numbers: &mut Vec<u64>)
 }
 
 /// Tells the fault of each number that stands next to itself.
-pub fn tell_repeats(
-    faults: &mut Vec<MapFault>,
+pub fn push_repeats(
+    faults: &mut Vec<RecordFault>,
     what: Numbered,
     numbers: &[u64],
 ) -> Result<(), AllocError>
@@ -60,8 +61,8 @@ pub fn tell_repeats(
 }
 
 /// Tells the fault of each number that is not known.
-pub fn tell_missing(
-    faults: &mut Vec<MapFault>,
+pub fn push_missing(
+    faults: &mut Vec<RecordFault>,
     what: Numbered,
     numbers: &[u64],
     known: &[u64],
@@ -79,19 +80,4 @@ pub fn tell_missing(
         }
     }
     Ok(())
-}
-
-/// The place of the first number from `start` on that isn't below this one.
-fn first_not_below(known: &[u64], start: usize, number: u64) -> usize
-    requires { start ≤ length known.now }
-    ensures within { result ≤ length known.now }
-    ensures from { start ≤ result }
-    ensures below { (k : ℕ) (d : ℕ) → start ≤ k → k < result → slice_index_or known.now k d < number }
-    ensures stops { (d : ℕ) → result < length known.now → number ≤ slice_index_or known.now result d }
-{
-    let mut place = start;
-    while place < known.len() && known[place] < number {
-        place += 1;
-    }
-    place
 }

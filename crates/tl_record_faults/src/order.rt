@@ -4,16 +4,16 @@ ghost use Rattle.std.specs.Prelude.{◌≡◌};
 ghost use Rattle.tl_record_faults.specs.AllFaults.{limited_number, fault_place};
 ghost use Rattle.tl_record_faults.specs.Keeping.Told.{AreOrdered};
 
-use tl_drawn::{Limited, MapFault};
+use tl_drawn::{Limited, RecordFault};
 
 /// The code of a fault, and behind it its TLID, CENID, POLYID and LAND, each zero where it has none.
-type Place = (u8, u64, [u8; 5], u64, u64);
+type SortKey = (u8, u64, [u8; 5], u64, u64);
 
 /// The CENID of a fault that has none.
 const NO_CENID: [u8; 5] = [0; 5];
 
 /// Sorts faults by their places, and keeps each once.
-pub fn order_faults(faults: &mut Vec<MapFault>)
+pub fn order_faults(faults: &mut Vec<RecordFault>)
     ensures { AreOrdered faults.old.items faults.new.items }
 {
     faults.sort_unstable_by_key(|fault| place_of(fault));
@@ -21,27 +21,27 @@ pub fn order_faults(faults: &mut Vec<MapFault>)
 }
 
 /// What a fault is ordered by.
-fn place_of(fault: &MapFault) -> Place
+fn place_of(fault: &RecordFault) -> SortKey
     ensures { result ≡ fault_place fault.now }
 {
     match fault {
-        MapFault::DuplicateChain { tlid } => (1, *tlid, NO_CENID, 0, 0),
-        MapFault::ShapeWithoutChain { tlid } => (2, *tlid, NO_CENID, 0, 0),
-        MapFault::ShapeSequence { tlid } => (3, *tlid, NO_CENID, 0, 0),
-        MapFault::ShapeGap { tlid } => (4, *tlid, NO_CENID, 0, 0),
-        MapFault::ChainWithoutSides { tlid } => (5, *tlid, NO_CENID, 0, 0),
-        MapFault::SidesWithoutChain { tlid } => (6, *tlid, NO_CENID, 0, 0),
-        MapFault::DuplicateSides { tlid } => (7, *tlid, NO_CENID, 0, 0),
-        MapFault::DuplicatePolygon { polygon } => (8, 0, polygon.cenid, polygon.polyid, 0),
-        MapFault::SideWithoutPolygon { tlid, polygon } => {
+        RecordFault::DuplicateChain { tlid } => (1, *tlid, NO_CENID, 0, 0),
+        RecordFault::ShapeWithoutChain { tlid } => (2, *tlid, NO_CENID, 0, 0),
+        RecordFault::ShapeSequence { tlid } => (3, *tlid, NO_CENID, 0, 0),
+        RecordFault::ShapeGap { tlid } => (4, *tlid, NO_CENID, 0, 0),
+        RecordFault::ChainWithoutSides { tlid } => (5, *tlid, NO_CENID, 0, 0),
+        RecordFault::SidesWithoutChain { tlid } => (6, *tlid, NO_CENID, 0, 0),
+        RecordFault::DuplicateSides { tlid } => (7, *tlid, NO_CENID, 0, 0),
+        RecordFault::DuplicatePolygon { polygon } => (8, 0, polygon.cenid, polygon.polyid, 0),
+        RecordFault::SideWithoutPolygon { tlid, polygon } => {
             (9, *tlid, polygon.cenid, polygon.polyid, 0)
         }
-        MapFault::LinkWithoutLandmark { land } => (10, 0, NO_CENID, 0, *land),
-        MapFault::LinkWithoutPolygon { polygon, land } => {
+        RecordFault::LinkWithoutLandmark { land } => (10, 0, NO_CENID, 0, *land),
+        RecordFault::LinkWithoutPolygon { polygon, land } => {
             (11, 0, polygon.cenid, polygon.polyid, *land)
         }
-        MapFault::DegenerateChain { tlid } => (12, *tlid, NO_CENID, 0, 0),
-        MapFault::TooMany(what) => (13, number_of(*what), NO_CENID, 0, 0),
+        RecordFault::DegenerateChain { tlid } => (12, *tlid, NO_CENID, 0, 0),
+        RecordFault::TooMany(what) => (13, number_of(*what), NO_CENID, 0, 0),
     }
 }
 

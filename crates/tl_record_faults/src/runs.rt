@@ -1,6 +1,6 @@
 //! The shapes of each TLID, and the faults that they tell.
 
-ghost use Rattle.std.specs.Prelude.{◌≡◌, ◌≢◌, ℕ, ◌<◌, ◌≤◌, OnOk, length, slice_index_or};
+ghost use Rattle.std.specs.Prelude.{◌≡◌, ℕ, ◌<◌, ◌≤◌, OnOk, length, slice_index_or};
 ghost use Rattle.std.specs.List.Sorted.{IsPermutation};
 ghost use Rattle.tl_record_faults.specs.declared.shape.ShapeSummary.{ShapeSummary};
 ghost use Rattle.tl_record_faults.specs.Keeping.Told.{Tells};
@@ -9,8 +9,8 @@ ghost use Rattle.tl_record_faults.specs.Keeping.Runs.{in_sequence, run_fault, Is
 
 use crate::shape::{NOTHING_SEEN, Seen, ShapeSummary, Trace};
 use std::alloc::{AllocError, Global};
-use tl_county::presort_by_rank;
-use tl_drawn::MapFault;
+use tl_county::{presort_by_rank, run_end};
+use tl_drawn::RecordFault;
 
 /// Sorts shapes by TLID, and those of one TLID by RTSQ.
 pub fn sort_shapes(alloc: Global, shapes: &mut Vec<ShapeSummary>) -> Result<(), AllocError>
@@ -20,36 +20,6 @@ pub fn sort_shapes(alloc: Global, shapes: &mut Vec<ShapeSummary>) -> Result<(), 
     presort_by_rank(alloc, shapes)?;
     shapes.sort_unstable_by_key(|shape| (shape.tlid, shape.rtsq));
     Ok(())
-}
-
-/// The place of the first shape from `start` on whose TLID isn't below `tlid`.
-pub fn first_shape_not_below(shapes: &[ShapeSummary], start: usize, tlid: u64) -> usize
-    requires { start ≤ length shapes.now }
-    ensures within { result ≤ length shapes.now }
-    ensures from { start ≤ result }
-    ensures below { (k : ℕ) (d : ShapeSummary) → start ≤ k → k < result → (slice_index_or shapes.now k d).tlid < tlid }
-    ensures stops { (d : ShapeSummary) → result < length shapes.now → tlid ≤ (slice_index_or shapes.now result d).tlid }
-{
-    let mut place = start;
-    while place < shapes.len() && shapes[place].tlid < tlid {
-        place += 1;
-    }
-    place
-}
-
-/// Where the shapes of a TLID end that begin at `start`.
-fn run_end(shapes: &[ShapeSummary], start: usize, tlid: u64) -> usize
-    requires { start ≤ length shapes.now }
-    ensures within { result ≤ length shapes.now }
-    ensures from { start ≤ result }
-    ensures same { (k : ℕ) (d : ShapeSummary) → start ≤ k → k < result → (slice_index_or shapes.now k d).tlid ≡ tlid }
-    ensures stops { (d : ShapeSummary) → result < length shapes.now → (slice_index_or shapes.now result d).tlid ≢ tlid }
-{
-    let mut end = start;
-    while end < shapes.len() && shapes[end].tlid == tlid {
-        end += 1;
-    }
-    end
 }
 
 /// The shapes of a TLID, where those before a place are below it, and the one there is not.
@@ -120,20 +90,20 @@ pub fn joined_traces(trace: Option<Trace>, next: Option<Trace>) -> Option<Trace>
 }
 
 /// The fault that the shapes of a TLID have.
-fn fault_of_run(tlid: u64, run: &[ShapeSummary]) -> Option<MapFault>
+fn fault_of_run(tlid: u64, run: &[ShapeSummary]) -> Option<RecordFault>
     ensures { result ≡ run_fault tlid run.now }
 {
     if !is_in_sequence(run) {
-        Some(MapFault::ShapeSequence { tlid })
+        Some(RecordFault::ShapeSequence { tlid })
     } else if seen_of_run(run).gap {
-        Some(MapFault::ShapeGap { tlid })
+        Some(RecordFault::ShapeGap { tlid })
     } else {
         None
     }
 }
 
 /// Tells of each TLID of sorted shapes whether they are out of sequence, or have a gap.
-pub fn tell_shapes(faults: &mut Vec<MapFault>, shapes: &[ShapeSummary]) -> Result<(), AllocError>
+pub fn push_shapes(faults: &mut Vec<RecordFault>, shapes: &[ShapeSummary]) -> Result<(), AllocError>
     requires { AreInOrder shapes.now }
     ensures { OnOk result (Tells (IsRunFault shapes.now (length shapes.now)) faults.old.items faults.new.items) }
 {

@@ -3,7 +3,7 @@
 ghost use Rattle.std.specs.Prelude.{◌≡◌};
 ghost use Rattle.tl_record_faults.specs.Shapes.{start, see, seen_in, traced};
 
-use tl_county::Ranked;
+use tl_county::{Keyed, Ranked};
 use tl_geom::Point;
 use tl_record::PAIRS;
 
@@ -40,6 +40,15 @@ impl Ranked for ShapeSummary {
         self.tlid
             .wrapping_mul(1000)
             .wrapping_add(u64::from(self.rtsq))
+    }
+}
+
+impl Keyed for ShapeSummary {
+    ghost key_of = { λ shape. shape.tlid };
+
+    /// Its TLID.
+    fn key(&self) -> u64 {
+        self.tlid
     }
 }
 

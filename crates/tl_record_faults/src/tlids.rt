@@ -9,12 +9,12 @@ ghost use Rattle.tl_record_faults.specs.Keeping.Told.{AreTold, AreChainsTold};
 ghost use Rattle.tl_record_faults.specs.Keeping.Numbers.{StandAsOften, chains_with, sides_with, with_sides};
 ghost use Rattle.tl_record_faults.specs.Keeping.Runs.{AreInOrder, AreShapes};
 
-use crate::numbers::{Numbered, tell_missing, tell_repeats};
-use crate::runs::tell_shapes;
+use crate::numbers::{Numbered, push_missing, push_repeats};
+use crate::runs::push_shapes;
 use crate::shape::ShapeSummary;
 use std::alloc::{AllocError, Global};
 use tl_county::presort_by_rank;
-use tl_drawn::{ChainEntry, MapFault};
+use tl_drawn::{ChainEntry, RecordFault};
 
 /// Sorts chains by TLID.
 pub fn sort_chains(alloc: Global, chains: &mut Vec<ChainEntry>) -> Result<(), AllocError>
@@ -50,8 +50,8 @@ pub fn tlids_of_shapes(alloc: Global, shapes: &[ShapeSummary]) -> Result<Vec<u64
 
 /// Tells of chains and shapes, of which no fault is told yet, which TLIDs stand twice, have no chain, are out of
 /// sequence or have a gap. Says whether none has such a fault.
-pub fn tell_chains(
-    faults: &mut Vec<MapFault>,
+pub fn push_chains(
+    faults: &mut Vec<RecordFault>,
     chains: &[u64],
     tlids: &[u64],
     shapes: &[ShapeSummary],
@@ -63,15 +63,15 @@ pub fn tell_chains(
     ensures { (rs : List Record) → StandAsOften (chains_with rs) chains.now → StandAsOften (shape_count rs) tlids.now →
         AreShapes rs shapes.now → IfOk result (λ joined. AreChainsTold rs joined faults.new.items) }
 {
-    tell_repeats(faults, Numbered::DuplicateChain, chains)?;
-    tell_missing(faults, Numbered::ShapeWithoutChain, tlids, chains)?;
-    tell_shapes(faults, shapes)?;
+    push_repeats(faults, Numbered::DuplicateChain, chains)?;
+    push_missing(faults, Numbered::ShapeWithoutChain, tlids, chains)?;
+    push_shapes(faults, shapes)?;
     Ok(faults.is_empty())
 }
 
 /// Tells of sorted TLIDs which chains miss sides, which sides miss a chain, and which sides stand twice.
-pub fn tell_sides(
-    faults: &mut Vec<MapFault>,
+pub fn push_sides(
+    faults: &mut Vec<RecordFault>,
     chains: &[u64],
     sides: &[u64],
 ) -> Result<(), AllocError>
@@ -81,7 +81,7 @@ pub fn tell_sides(
         StandAsOften (sides_with rs) sides.now → AreTold rs codes faults.old.items →
         OnOk result (AreTold rs (with_sides codes) faults.new.items) }
 {
-    tell_missing(faults, Numbered::ChainWithoutSides, chains, sides)?;
-    tell_missing(faults, Numbered::SidesWithoutChain, sides, chains)?;
-    tell_repeats(faults, Numbered::DuplicateSides, sides)
+    push_missing(faults, Numbered::ChainWithoutSides, chains, sides)?;
+    push_missing(faults, Numbered::SidesWithoutChain, sides, chains)?;
+    push_repeats(faults, Numbered::DuplicateSides, sides)
 }

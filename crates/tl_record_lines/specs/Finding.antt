@@ -1,13 +1,10 @@
 -- The lines of the records that faults speak of, as they are found in a text.
-use Rattle.std.specs.Prelude.{◌≡◌, ℕ, ⊤, List, Option, None, Some, Result, Ok, Err, slice_get}
-use Rattle.tl_record.specs.Failures.{one_more}
+use Rattle.std.specs.Prelude.{◌≡◌, ℕ, ⊤, List, Option, None, Some, slice_get}
 use Rattle.tl_record.specs.declared.record.Record.{Record}
 use Rattle.tl_county.specs.TheMap.{MapChain}
 use Rattle.tl_verdict.specs.declared.fault.MapFault.{MapFault}
 use Rattle.tl_record_lines.specs.declared.subject.Subject.{Subject}
 use Rattle.tl_record_lines.specs.declared.lines.RecordLines.{RecordLines}
-use Rattle.tl_record_lines.specs.declared.stop.LinesStop.{LinesStop}
-use Rattle.tl_record_lines.specs.declared.stop.LinesStop.TheVariants.{Device, Memory}
 use Rattle.tl_record_lines.specs.SpokenOf.{lines_about, subjects_of}
 use Rattle.tl_record_lines.specs.Keeping.{held}
 
@@ -21,9 +18,3 @@ HoldsLines entries kept (Some s) = held kept s ≡ lines_about entries s
 abbrev pub HoldsAll : List MapChain → List MapFault → List (ℕ × Record) → RecordLines → Type 0
 HoldsAll chains faults entries kept = (k : ℕ) (fault : MapFault) → slice_get faults k ≡ Some fault
     → HoldsLines entries kept (subjects_of chains fault).0 × HoldsLines entries kept (subjects_of chains fault).1
-
--- `Device` is answered where a read failed, and nowhere else; the count of failures goes from old to new
-abbrev pub TellsDevice : {T : Type 0} → ℕ → ℕ → Result T LinesStop → Type 0
-TellsDevice old new (Ok lines) = new ≡ old
-TellsDevice old new (Err Device) = new ≡ one_more old
-TellsDevice old new (Err Memory) = new ≡ old

@@ -5,12 +5,14 @@ use Rattle.tl_record.specs.declared.record.Record.TheVariants.{Chain, Shape, Sid
 use Rattle.tl_county.specs.TheMap.{TheMap, MapChain}
 use Rattle.tl_county.specs.Darts.{chain_of}
 use Rattle.tl_drawn.specs.MapOf.{same_key}
-use Rattle.tl_drawn.specs.declared.fault.MapFault.{MapFault as RecordFault}
-use Rattle.tl_drawn.specs.declared.fault.MapFault.TheVariants.{DuplicateChain, ShapeWithoutChain, ShapeSequence, ShapeGap, ChainWithoutSides, SidesWithoutChain, DuplicateSides, DuplicatePolygon, SideWithoutPolygon, LinkWithoutLandmark, LinkWithoutPolygon, DegenerateChain, TooMany}
+use Rattle.tl_drawn.specs.declared.fault.RecordFault.{RecordFault}
+use Rattle.tl_drawn.specs.declared.fault.RecordFault.TheVariants.{DuplicateChain, ShapeWithoutChain, ShapeSequence, ShapeGap, ChainWithoutSides, SidesWithoutChain, DuplicateSides, DuplicatePolygon, SideWithoutPolygon, LinkWithoutLandmark, LinkWithoutPolygon, DegenerateChain, TooMany}
+use Rattle.tl_faces.specs.declared.fault.FaceFault.{FaceFault}
+use Rattle.tl_faces.specs.declared.fault.FaceFault.TheVariants.{Facing, Outward}
 use Rattle.tl_inside.specs.declared.misplaced.Misplaced.{Misplaced}
 use Rattle.tl_inside.specs.declared.misplaced.Misplaced.TheVariants.{OnChain, Outside, InOther}
 use Rattle.tl_verdict.specs.declared.fault.MapFault.{MapFault}
-use Rattle.tl_verdict.specs.declared.fault.MapFault.TheVariants.{Records, Meet, Side, PolygonPoint, Cell}
+use Rattle.tl_verdict.specs.declared.fault.MapFault.TheVariants.{Records, Meet, Side, PolygonPoint, Cell, Face}
 use Rattle.tl_record_lines.specs.declared.subject.Subject.{Subject}
 use Rattle.tl_record_lines.specs.declared.subject.Subject.TheVariants as subject
 use Rattle.tl_record_lines.specs.declared.line.RecordLine.{RecordLine}
@@ -75,6 +77,11 @@ subjects_of_point (OnChain polygon tlid) = (Some (subject.Polygon polygon), Some
 subjects_of_point (Outside polygon) = (Some (subject.Polygon polygon), None)
 subjects_of_point (InOther polygon other) = (Some (subject.Polygon polygon), Some (subject.Polygon other))
 
+-- what lies on both sides of the chains of faces that disagree
+abbrev pub subjects_of_faces : FaceFault → Subjects
+subjects_of_faces (Facing first last) = sides_of_darts (Some first.tlid) (Some last.tlid)
+subjects_of_faces (Outward face way) = (Some (subject.Sides face.tlid), None)
+
 -- what a fault speaks of, where these are the map's chains
 abbrev pub subjects_of : List MapChain → MapFault → Subjects
 subjects_of chains (Records fault) = (subject_of fault, None)
@@ -82,6 +89,7 @@ subjects_of chains (Meet meet) = (Some (subject.Drawn meet.tlid), option_map sub
 subjects_of chains (Side node first next) = sides_of_darts (tlid_of chains first) (tlid_of chains next)
 subjects_of chains (PolygonPoint misplaced) = subjects_of_point misplaced
 subjects_of chains (Cell odds) = sides_of_darts (tlid_of chains odds.first) (tlid_of chains odds.second)
+subjects_of chains (Face fault) = subjects_of_faces fault
 
 -- the lines about a subject, where there is one
 abbrev pub lines_about_some : List (ℕ × Record) → Option Subject → List RecordLine

@@ -8,12 +8,10 @@
 mod line;
 mod lines;
 mod read;
-mod stop;
 mod subject;
 mod wanted;
 
 pub use line::RecordLine;
 pub use lines::RecordLines;
 pub use read::record_lines;
-pub use stop::LinesStop;
 pub use subject::{Subject, Subjects, subjects_of, tlid_of};

@@ -1,6 +1,6 @@
 //! Reads a text for the records that faults speak of.
 
-ghost use Rattle.std.specs.Prelude.{◌≡◌, [], IfOk, IfSome, option_copied};
+ghost use Rattle.std.specs.Prelude.{◌≡◌, [], IfOk, IfErr, IfSome, option_copied, ⊤};
 ghost use Rattle.tl_record_lines.specs.declared.subject.Subject.{Subject as SubjectOf};
 ghost use Rattle.tl_record_lines.specs.Keeping.{held};
 ghost use Rattle.tl_record.specs.declared.reader.Standing.TheVariants.{Reading};
@@ -8,16 +8,17 @@ ghost use Rattle.tl_record.specs.Layout.{layout_with};
 ghost use Rattle.tl_record.specs.Records.{records_of};
 ghost use Rattle.tl_record.specs.Reader.{source_of, standing_of, outcome};
 ghost use Rattle.tl_record_lines.specs.SpokenOf.{chains_of};
-ghost use Rattle.tl_record_lines.specs.Finding.{HoldsAll, TellsDevice};
+ghost use Rattle.tl_record_lines.specs.Finding.{HoldsAll};
+ghost use Rattle.tl_output.specs.Stops.{StopsFor, TellsDevice};
 ghost use Rattle.tl_record_lines.specs.Reading.{KeptAll};
 
 use crate::line::RecordLine;
 use crate::lines::RecordLines;
-use crate::stop::LinesStop;
 use crate::wanted::wanted_subjects;
 use std::alloc::Global;
 use std::hash::RandomState;
 use tl_county::Map;
+use tl_output::Stop;
 use tl_record::{NO_RECORD, Options, ReadStop, RecordReader, Source};
 use tl_verdict::MapFault;
 
@@ -30,10 +31,12 @@ pub fn record_lines<R: Source>(
     options: Options,
     map: Option<&Map>,
     faults: &[MapFault],
-) -> Result<RecordLines, LinesStop>
+) -> Result<RecordLines, Stop>
     // Where the bytes are known: the lines of all records that the faults speak of, and of no other.
     ensures lines { IfOk result (λ lines. IfSome (R.remaining records.old) (λ text.
         HoldsAll (chains_of (option_copied map.entry)) faults.now (records_of (layout_with options) text).entries lines)) }
+    // It stops where memory was refused, or a read failed.
+    ensures stops { IfErr result (StopsFor ⊤) }
     // `Device` is answered where a read failed in this call, and nowhere else.
     ensures failures { TellsDevice (R.failure_count records.old) (R.failure_count records.new) result }
 {
@@ -47,10 +50,11 @@ pub fn record_lines<R: Source>(
 fn read_into<R: Source>(
     reader: &mut RecordReader<R>,
     empty: RecordLines,
-) -> Result<RecordLines, LinesStop>
+) -> Result<RecordLines, Stop>
     requires standing { standing_of reader.old ≡ Reading }
     requires empty { (s : SubjectOf) → held empty s ≡ [] }
     ensures lines { IfOk result (KeptAll empty (outcome R.remaining reader.old)) }
+    ensures stops { IfErr result (StopsFor ⊤) }
     ensures failures { TellsDevice (R.failure_count (source_of reader.old))
         (R.failure_count (source_of reader.new)) result }
     ensures same_reference { R.reference (source_of reader.new) ≡ R.reference (source_of reader.old) }
@@ -62,7 +66,7 @@ fn read_into<R: Source>(
             Ok(Some(line)) => lines.note(RecordLine { line, holds: next })?,
             Ok(None) => return Ok(lines),
             Err(ReadStop::Refused { .. }) => return Ok(lines),
-            Err(ReadStop::Device) => return Err(LinesStop::Device),
+            Err(ReadStop::Device) => return Err(Stop::Device),
         }
     }
 }

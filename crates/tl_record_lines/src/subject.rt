@@ -1,12 +1,13 @@
 //! What faults speak of.
 
 ghost use Rattle.std.specs.Prelude.{◌≡◌, Some, option_copied, option_map};
-ghost use Rattle.tl_record_lines.specs.SpokenOf.{subjects_of, subject_of, subjects_of_point, sides_of_darts};
+ghost use Rattle.tl_record_lines.specs.SpokenOf.{subjects_of, subject_of, subjects_of_point, subjects_of_faces, sides_of_darts};
 ghost use Rattle.tl_record_lines.specs.SpokenOf.{other_tlid, tlid_of, chains_of};
 ghost use Rattle.tl_record_lines.specs.Naming.{subjects_naming};
 ghost use Rattle.tl_record_lines.specs.declared.subject.Subject.TheVariants.{Drawn, Sides};
 
 use tl_county::Map;
+use tl_faces::FaceFault;
 use tl_inside::Misplaced;
 use tl_record::{PolyKey, Record};
 use tl_verdict::MapFault;
@@ -47,29 +48,40 @@ pub fn subjects_of(map: Option<&Map>, fault: &MapFault) -> Subjects
         MapFault::Cell(odds) => {
             sides_of_darts(tlid_of(map, odds.first), tlid_of(map, odds.second))
         }
+        MapFault::Face(fault) => subjects_of_faces(fault),
+    }
+}
+
+// What faces that disagree speak of.
+fn subjects_of_faces(fault: &FaceFault) -> Subjects
+    ensures { result ≡ subjects_of_faces fault.now }
+{
+    match fault {
+        FaceFault::Facing { first, last } => sides_of_darts(Some(first.tlid), Some(last.tlid)),
+        FaceFault::Outward { face, .. } => (Some(Subject::Sides(face.tlid)), None),
     }
 }
 
 // What a fault of the records speaks of.
-fn subject_of(fault: &tl_drawn::MapFault) -> Option<Subject>
+fn subject_of(fault: &tl_drawn::RecordFault) -> Option<Subject>
     ensures { result ≡ subject_of fault.now }
 {
     match *fault {
-        tl_drawn::MapFault::DuplicateChain { tlid }
-        | tl_drawn::MapFault::ChainWithoutSides { tlid } => Some(Subject::Chain(tlid)),
-        tl_drawn::MapFault::ShapeWithoutChain { tlid }
-        | tl_drawn::MapFault::ShapeSequence { tlid }
-        | tl_drawn::MapFault::ShapeGap { tlid } => Some(Subject::Shape(tlid)),
-        tl_drawn::MapFault::SidesWithoutChain { tlid }
-        | tl_drawn::MapFault::DuplicateSides { tlid }
-        | tl_drawn::MapFault::SideWithoutPolygon { tlid, .. } => Some(Subject::Sides(tlid)),
-        tl_drawn::MapFault::DuplicatePolygon { polygon } => Some(Subject::Polygon(polygon)),
-        tl_drawn::MapFault::LinkWithoutLandmark { land } => Some(Subject::Land(land)),
-        tl_drawn::MapFault::LinkWithoutPolygon { polygon, land } => {
+        tl_drawn::RecordFault::DuplicateChain { tlid }
+        | tl_drawn::RecordFault::ChainWithoutSides { tlid } => Some(Subject::Chain(tlid)),
+        tl_drawn::RecordFault::ShapeWithoutChain { tlid }
+        | tl_drawn::RecordFault::ShapeSequence { tlid }
+        | tl_drawn::RecordFault::ShapeGap { tlid } => Some(Subject::Shape(tlid)),
+        tl_drawn::RecordFault::SidesWithoutChain { tlid }
+        | tl_drawn::RecordFault::DuplicateSides { tlid }
+        | tl_drawn::RecordFault::SideWithoutPolygon { tlid, .. } => Some(Subject::Sides(tlid)),
+        tl_drawn::RecordFault::DuplicatePolygon { polygon } => Some(Subject::Polygon(polygon)),
+        tl_drawn::RecordFault::LinkWithoutLandmark { land } => Some(Subject::Land(land)),
+        tl_drawn::RecordFault::LinkWithoutPolygon { polygon, land } => {
             Some(Subject::Link(polygon, land))
         }
-        tl_drawn::MapFault::DegenerateChain { tlid } => Some(Subject::Drawn(tlid)),
-        tl_drawn::MapFault::TooMany(_) => None,
+        tl_drawn::RecordFault::DegenerateChain { tlid } => Some(Subject::Drawn(tlid)),
+        tl_drawn::RecordFault::TooMany(_) => None,
     }
 }
 

@@ -4,18 +4,13 @@ use Rattle.std.specs.Option.{option_map}
 use Rattle.std.proofs.lemmas.List.{map-append}
 use Rattle.tl_record.specs.declared.stop.Cause.{Cause}
 use Rattle.tl_record.specs.declared.refusal.Refusal.{Refusal}
-use Rattle.tl_record.specs.declared.refusal.RefusalStop.{RefusalStop}
-use Rattle.tl_record.specs.declared.refusal.RefusalStop.TheVariants as read
 use Rattle.tl_record.specs.declared.reader.Standing.{Standing}
 use Rattle.tl_record.specs.declared.reader.Standing.TheVariants.{Reading, Ended, Stopped}
 use Rattle.tl_record.specs.declared.reader.RecordReader.{RecordReader}
 use Rattle.tl_record.specs.declared.stop.ReadStop.TheVariants.{Refused}
 use Rattle.tl_record.specs.declared.stop.ReadStop.TheVariants as stop
-use Rattle.tl_record.specs.Searching.{pair_of, GivesRefusal, RepeatsSearch, SettlesSearch, TellsFailed, goes_on, extent_of, Shrinks}
-use Rattle.tl_record.specs.Searching as search_of
-use Rattle.tl_refusals.specs.declared.stop.ListStop.{ListStop}
-use Rattle.tl_refusals.specs.declared.stop.ListStop.TheVariants.{Memory}
-use Rattle.tl_refusals.specs.Listing.{ListsAll, TellsDevice, GivesUp, stop_of}
+use Rattle.tl_record.specs.Searching.{pair_of, GivesRefusal, RepeatsSearch, SettlesSearch, failed_once, goes_on}
+use Rattle.tl_refusals.specs.Listing.{ListsAll}
 
 -- the list has the first of the refusals that were to come, and the rest are still to come
 abbrev pub ListsSoFar : Option (List (ℕ × Cause)) → Option (List (ℕ × Cause)) → List Refusal → Type 0
@@ -53,29 +48,9 @@ still_goes_on Ended after old new refusal repeats settles = absurd (let wrong = 
 still_goes_on (Stopped (Refused line cause)) after old new refusal repeats settles = ap goes_on settles
 still_goes_on (Stopped stop.Device) after old new refusal repeats settles = absurd (let wrong = repeats.0 in cc)
 
--- a known sum of lines and bytes that isn't greater than at first
-pub shrinks_none : (known : Option ℕ) → Shrinks known known
-shrinks_none None = tt
-shrinks_none (Some n) = (n, refl, omega arith)
-
-pub shrinks_more : (known old new : Option ℕ) (refusal : Refusal) → Shrinks known old → search_of.GivesUp old new (Ok (Some refusal)) → Shrinks known new
-shrinks_more None old new refusal so_far up = tt
-shrinks_more (Some n) None new refusal so_far up = absurd (let wrong = so_far.1 in cc)
-shrinks_more (Some n) (Some m) new refusal so_far up =
-    let same : m ≡ so_far.0 = let is = so_far.1 in cc in (up.0, up.1, omega (arith, so_far.2, up.2, same))
-
-pub gives_up : (known old new : Option ℕ) (stop : RefusalStop) → Shrinks known old → search_of.GivesUp old new (Err stop) → IfSome known (λ count. GivesUp count (stop_of stop))
-gives_up None old new stop so_far up = tt
-gives_up (Some n) old new read.Device so_far up = tt
-gives_up (Some n) None new read.Endless so_far up = absurd (let wrong = so_far.1 in cc)
-gives_up (Some n) (Some m) new read.Endless so_far up =
-    let same : m ≡ so_far.0 = let is = so_far.1 in cc in omega (arith, so_far.2, up, same)
-
--- a stop is told as what it is
-pub stop_told : (T : Type 0) (standing now : Standing) (first old new : ℕ) (stop : RefusalStop) → old ≡ first → goes_on now ≡ goes_on standing → TellsFailed now old new (Err stop)
-    → TellsDevice {T = T} standing first new (Err (stop_of stop))
-stop_told T standing now first old new read.Device same goes told = rw (← same, ← goes) told
-stop_told T standing now first old new read.Endless same goes told = told ∙ same
+-- a failed read is told as what it is
+pub failure_told : (standing now : Standing) (first old new : ℕ) → old ≡ first → goes_on now ≡ goes_on standing → new ≡ failed_once now old → new ≡ failed_once standing first
+failure_told standing now first old new same goes told = rw (← same, ← goes) told
 
 -- of a whole text
 pub lists_text : (f : List ℕ → List (ℕ × Cause)) (known : Option (List ℕ)) (all : Option (List (ℕ × Cause))) (E : Type 0) (result : Result (Vec Refusal Global) E) → all ≡ option_map f known
@@ -83,14 +58,3 @@ pub lists_text : (f : List ℕ → List (ℕ × Cause)) (known : Option (List �
 lists_text f None all E (Ok list) is listed = tt
 lists_text f (Some text) all E (Ok list) is listed = rw is at listed
 lists_text f known all E (Err stop) is listed = tt
-
-pub gives_up_text : (known : Option (List ℕ)) (counted : Option ℕ) (T : Type 0) (result : Result T ListStop) → counted ≡ extent_of 0 known
-    → IfErr result (λ stop. IfSome counted (λ count. GivesUp count stop)) → IfErr result (λ stop. IfSome known (λ text. GivesUp (length text) stop))
-gives_up_text known counted T (Ok made) is up = tt
-gives_up_text None counted T (Err stop) is up = tt
-gives_up_text (Some text) counted T (Err stop) is up = rw (zero-add (length text)) at (rw is at up)
-
--- memory may be refused at any length
-pub memory_refused : (known : Option ℕ) → IfSome known (λ count. GivesUp count Memory)
-memory_refused None = tt
-memory_refused (Some n) = tt

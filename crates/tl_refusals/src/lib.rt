@@ -6,7 +6,5 @@
 #![tactic(auto)]
 
 mod list;
-mod stop;
 
 pub use list::{list_refusals, refused_lines};
-pub use stop::ListStop;

@@ -1,10 +1,9 @@
 -- What the rings about a point tell.
-use Rattle.std.proofs.Common.{◌≡◌, ℕ, ◌+◌, ◌-◌, ◌*◌, ◌<◌, ◌≤◌, ◌^◌, pos, List, [], ◌∷◌, ◌++◌, length, get_or, All, Contains, sym, subst, ap, ◌∙◌, refl, arith, Option, Some, if◌then◌else◌, false}
+use Rattle.std.proofs.Common.{◌≡◌, ℕ, ◌*◌, ◌<◌, ◌^◌, pos, List, [], ◌++◌, length, All, sym, subst, ap, ◌∙◌, arith, Option, Some, if◌then◌else◌, false}
 use Rattle.std.specs.Option.{option_map_or}
 use Rattle.std.specs.Prelude.{slice_get, slice_index}
 use Rattle.std.proofs.lemmas.Int.{ints}
-use Rattle.std.proofs.lemmas.List.{length-append, get_or_default, get_or_append_left, get_or-append_right}
-use Rattle.std.proofs.lemmas.Option.{slice_get_within}
+use Rattle.std.proofs.lemmas.List.{get_or_default}
 use Rattle.tl_geom.specs.declared.point.Point.{Point}
 use Rattle.tl_county.specs.declared.polygons.Polygon.{Polygon}
 use Rattle.tl_county.specs.TheMap.{TheMap, MapChain}
@@ -14,13 +13,10 @@ use Rattle.tl_sides.specs.Sides.{dart_count, IsRing, SidesAgree}
 use Rattle.tl_sides.specs.Walks.{AreWalks}
 use Rattle.tl_sides.proofs.Headings.{dart_within}
 use Rattle.tl_inside.specs.declared.flanks.Flanks.{Flanks}
-use Rattle.tl_inside.specs.declared.strips.Site.{Site}
 use Rattle.tl_inside.specs.Inside.{balance}
-use Rattle.tl_inside.specs.Placed.{IsPlacedIn, ArePlaced}
-use Rattle.tl_inside.specs.Keeping.Strips.{IsPlacedSite}
+use Rattle.tl_inside.specs.Placed.{IsPlacedIn}
 use Rattle.tl_inside.specs.Keeping.Tallies.{TellCounts}
 use Rattle.tl_inside.proofs.Reaching.{all_below}
-use Rattle.tl_inside.proofs.Stripping.{one_more}
 use Rattle.tl_crossings.specs.Headings.{AreProper}
 use Rattle.tl_county.specs.declared.sides.Side.TheVariants.{Outside}
 use Rattle.tl_county.specs.Darts.{dart_left}
@@ -29,7 +25,7 @@ use Rattle.tl_crossings.proofs.OneLeft.{counts_whole}
 use Rattle.tl_crossings.proofs.RingCounts.{hits_count}
 use Rattle.tl_rings.specs.Rings.{TheRings, AreBoxed, box_at}
 use Rattle.tl_rings.specs.Keeping.Spots.{ring_count, IsBoxAt}
-use Rattle.tl_rings.specs.Keeping.Looking.{AddCounts, ArePlacedBut, IsPlacedPolygon}
+use Rattle.tl_rings.specs.Keeping.Looking.{AddCounts, IsPlacedPolygon}
 
 -- the darts of a ring are darts of the chains
 pub ring_known : (chains : List MapChain) (ring : List ℕ) → IsRing chains ring → All (λ d. d < 2 * length chains) ring
@@ -68,36 +64,6 @@ rings_tell chains r q hits old flanks proper agree are boxed few hit none adds S
   where
     count : balance S flanks ≡ rings_count chains q S r.rings hits
     count = let sum = adds S out in let zero : balance S old ≡ pos 0 = ap (balance S) none in omega (arith, ints, sum, zero)
-
--- ---- one look more
-
-pub right_more : (m : TheMap) (left : List Site) (order : List ℕ) (k e : ℕ) (site : Site) → k < length order → site.polygon ≡ get_or order k e → ArePlacedBut m left order k → IsPlacedSite m site → ArePlacedBut m left order (k + 1)
-right_more m left order k e site lt is before here all = one_more (IsPlacedPolygon m) order k e (before all) lt (subst (IsPlacedPolygon m) is here)
-
-pub left_more : (m : TheMap) (left new : List Site) (order : List ℕ) (k e : ℕ) (site : Site) → k < length order → site.polygon ≡ get_or order k e → new ≡ left ++ site ∷ [] → ArePlacedBut m left order k → ArePlacedBut m new order (k + 1)
-left_more m left new order k e site lt is pushed_is before all = one_more (IsPlacedPolygon m) order k e (before first) lt (subst (IsPlacedPolygon m) is last)
-  where
-    pushed : All (IsPlacedSite m) (left ++ site ∷ [])
-    pushed = subst (All (IsPlacedSite m)) pushed_is all
-
-    first : All (IsPlacedSite m) left
-    first j d inside =
-        subst (IsPlacedSite m) (get_or_append_left left (site ∷ []) d j inside)
-        (pushed j d (let long = length-append left (site ∷ []) in omega (arith, inside, long)))
-
-    last : IsPlacedSite m site
-    last =
-        subst (IsPlacedSite m) (get_or-append_right left (site ∷ []) (length left) (length left) site refl (omega arith) ∙ ap (λ i. get_or (site ∷ []) i site) (let none : length left - length left ≡ 0 = omega arith in none))
-        (pushed (length left) site (let long = length-append left (site ∷ []) in omega (arith, long)))
-
-pub all_seen : (m : TheMap) (left : List Site) (order : List ℕ) (k : ℕ) → length order ≤ k → ArePlacedBut m left order k → All (IsPlacedSite m) left → All (IsPlacedPolygon m) order
-all_seen m left order k past before all j d lt = before all j d (omega (arith, lt, past))
-
--- where all polygons are listed, the point of each lies where it has to
-pub all_placed : (m : TheMap) (order : List ℕ) → All (IsPlacedPolygon m) order → ((p : ℕ) → p < length m.polygons → Contains order p) → ArePlaced m
-all_placed m order all whole p polygon is =
-    let c = whole p (slice_get_within m.polygons p polygon is) in
-    subst (IsPlacedPolygon m) c.2 (all c.0 p c.1) polygon is
 
 -- a polygon is known by its number
 same_polygon : (found : Option Polygon) (one other : Polygon) → found ≡ Some one → found ≡ Some other → one ≡ other

@@ -4,6 +4,8 @@ use Rattle.std.proofs.lemmas.Bool.{cases_order}
 use Rattle.std.proofs.lemmas.List.{map-append, length-map, get_or-map, take_more, take_all}
 use Rattle.std.proofs.lemmas.List.Elements.{Contains-append_left, Contains-append_right}
 use Rattle.std.proofs.lemmas.List.Sorted.{Contains-permutation}
+use Rattle.tl_inside.specs.declared.strips.Site.{Site}
+use Rattle.tl_inside.specs.Keeping.Strips.{numbers}
 use Rattle.tl_pack.specs.declared.order.Placed.{Placed}
 use Rattle.tl_pack.specs.Lists.{up, HoldsAll, items_in, AreItemsBelow}
 
@@ -15,6 +17,16 @@ listed_more order numbers new k p d lt before is same =
     ∙ ap (λ q. items_in (take k order) ++ q ∷ []) same
     ∙ sym (map-append (λ (q : Placed). q.item) (take k order) (get_or order k d ∷ []))
     ∙ ap items_in (sym (take_more order k d lt))
+
+-- and one site more, of the polygons so far
+pub polygon_more : (polygons : List ℕ) (sites new : List Site) (k e : ℕ) (site : Site) → k < length polygons → numbers sites ≡ take k polygons → new ≡ sites ++ site ∷ [] → site.polygon ≡ get_or polygons k e
+    → numbers new ≡ take (k + 1) polygons
+polygon_more polygons sites new k e site lt before is same =
+    ap numbers is
+    ∙ map-append (λ (s : Site). s.polygon) sites (site ∷ [])
+    ∙ ap (λ ns. ns ++ site.polygon ∷ []) before
+    ∙ ap (λ p. take k polygons ++ p ∷ []) same
+    ∙ sym (take_more polygons k e lt)
 
 pub all_listed : (order : List Placed) (numbers : List ℕ) (k : ℕ) → length order ≤ k → numbers ≡ items_in (take k order) → numbers ≡ items_in order
 all_listed order numbers k past is = is ∙ ap items_in (take_all k order past)

@@ -1,13 +1,14 @@
 -- Polygons that are listed where their points aren't known to lie where they have to.
-use Rattle.std.proofs.Common.{◌≡◌, ◌⊎◌, inl, inr, ℕ, ◌+◌, ◌<◌, ◌≤◌, List, [], ◌∷◌, ◌++◌, length, get_or, All, Contains, Some, sym, subst, arith}
+use Rattle.std.proofs.Common.{◌≡◌, ◌⊎◌, inl, inr, ℕ, ◌+◌, ◌<◌, ◌≤◌, List, [], ◌∷◌, ◌++◌, length, get_or, All, Contains, Some, sym, subst, ap, ◌∙◌, arith}
 use Rattle.std.specs.Prelude.{slice_get}
+use Rattle.std.proofs.lemmas.List.{length-map, get_or-map}
 use Rattle.std.proofs.lemmas.List.Elements.{All-push, Contains-append_left, Contains-push}
 use Rattle.std.proofs.lemmas.Option.{slice_get_within}
 use Rattle.tl_county.specs.declared.polygons.Polygon.{Polygon}
 use Rattle.tl_county.specs.TheMap.{TheMap}
 use Rattle.tl_inside.specs.declared.strips.Site.{Site}
-use Rattle.tl_inside.specs.Placed.{IsPlacedIn}
-use Rattle.tl_inside.specs.Keeping.Strips.{IsPlacedSite}
+use Rattle.tl_inside.specs.Placed.{IsPlacedIn, ArePlaced}
+use Rattle.tl_inside.specs.Keeping.Strips.{IsPlacedSite, numbers}
 use Rattle.tl_inside.proofs.Stripping.{one_more}
 use Rattle.tl_rings.specs.Keeping.Looking.{IsPlacedPolygon, IsPlacedOrIn}
 
@@ -41,10 +42,26 @@ all_sorted m suspects order k past before j d lt = before j d (omega (arith, lt,
 
 -- where all polygons stand in the order, each is listed or placed
 pub each_sorted : (m : TheMap) (suspects order : List ℕ) → All (IsPlacedOrIn m suspects) order → ((p : ℕ) → p < length m.polygons → Contains order p)
+    → (p : ℕ) → p < length m.polygons → IsPlacedOrIn m suspects p
+each_sorted m suspects order all whole p lt = let c = whole p lt in subst (IsPlacedOrIn m suspects) c.2 (all c.0 p c.1)
+
+-- so it is of its point
+pub listed_or_placed : (m : TheMap) (suspects : List ℕ) → ((p : ℕ) → p < length m.polygons → IsPlacedOrIn m suspects p)
     → (p : ℕ) (polygon : Polygon) → slice_get m.polygons p ≡ Some polygon → Contains suspects p ⊎ IsPlacedIn m polygon.point p
-each_sorted m suspects order all whole p polygon is =
-    let c = whole p (slice_get_within m.polygons p polygon is) in
-    elim (subst (IsPlacedOrIn m suspects) c.2 (all c.0 p c.1)) [
-      | inl listed ↦ inl listed
-      | inr placed ↦ inr (placed polygon is)
-    ]
+listed_or_placed m suspects all p polygon is = elim (all p (slice_get_within m.polygons p polygon is)) [
+  | inl listed ↦ inl listed
+  | inr placed ↦ inr (placed polygon is)
+]
+
+-- where those that are listed are placed, all are
+pub all_placed : (m : TheMap) (suspects : List ℕ) (sites : List Site) → ((p : ℕ) → p < length m.polygons → IsPlacedOrIn m suspects p) → numbers sites ≡ suspects → All (IsPlacedSite m) sites → ArePlaced m
+all_placed m suspects sites others are all p polygon is = elim (others p (slice_get_within m.polygons p polygon is)) [
+  | inl listed ↦
+      let c = subst (λ ns. Contains ns p) (sym are) listed in
+      let k : ℕ = c.0 in
+      let lt : k < length sites = let long = length-map sites (λ (s : Site). s.polygon) in let less = c.1 in omega (arith, long, less) in
+      let d : Site = record { polygon = p; point = polygon.point } in
+      let at : (get_or sites k d).polygon ≡ p = sym (get_or-map (λ (s : Site). s.polygon) sites k d p lt) ∙ c.2 in
+      subst (IsPlacedIn m polygon.point) at (all k d lt polygon (ap (λ i. slice_get m.polygons i) at ∙ is))
+  | inr placed ↦ placed polygon is
+]

@@ -12,6 +12,7 @@ mod laid;
 mod lent;
 mod look;
 mod misplaced;
+mod points;
 mod rings;
 mod sites;
 mod spot;

@@ -15,7 +15,7 @@ ghost use Rattle.tl_rings.specs.Keeping.Looking.{AreSound, IsLook};
 use crate::darts::{has_outside, list_rings};
 use crate::heights::Heights;
 use crate::rings::Rings;
-use crate::spot::Spot;
+use crate::spot::AboutPoint;
 use tl_county::Map;
 use tl_geom::Point;
 use tl_index::{BoxIndex, Memory};
@@ -101,7 +101,7 @@ fn list_about<Y: BoxIndex>(
     ensures { OnOk result (AreHits (ring_count rings.now) (IsBoxAt rings.now point) hits.new.items) }
 {
     hits.clear();
-    tree.collect_hits(rings, &Spot(point), hits)
+    tree.collect_hits(rings, &AboutPoint(point), hits)
 }
 
 /// How many darts the rings of these numbers have together that have a polygon on their left.

@@ -2,14 +2,14 @@
 
 ghost use Rattle.std.specs.Prelude.{◌≡◌, ℕ, ◌<◌, [], ◌∷◌, ◌++◌, length, All, Contains, IfOk, OnOk};
 ghost use Rattle.tl_pack.specs.Lists.{items_in};
-ghost use Rattle.tl_inside.specs.Keeping.Strips.{IsSiteOf};
+ghost use Rattle.tl_inside.specs.Keeping.Strips.{IsSiteOf, numbers};
 
 use std::alloc::Global;
 use std::marker::Model;
 use tl_county::Map;
 use tl_geom::Rect;
 use tl_index::{Items, Memory};
-use tl_inside::Site;
+use tl_inside::{Site, push_site};
 use tl_pack::{Placed, order_items};
 
 /// The polygons of a map as items, each with the rectangle of its point.
@@ -94,4 +94,17 @@ pub fn site_of(map: &Map, polygon: u32) -> Site
 {
     let point = map.polygon(polygon).point;
     Site { polygon, point }
+}
+
+/// These polygons with their points.
+pub fn sites_of(alloc: Global, map: &Map, polygons: &[u32]) -> Result<Vec<Site>, Memory>
+    requires { All (λ p. p < length map.now.polygons) polygons.now }
+    ensures sites { IfOk result (λ sites. All (IsSiteOf map.now) sites.items) }
+    ensures polygons { IfOk result (λ sites. numbers sites.items ≡ polygons.now) }
+{
+    let mut sites = Vec::new(alloc);
+    for k in 0..polygons.len() {
+        push_site(&mut sites, site_of(map, polygons[k]))?;
+    }
+    Ok(sites)
 }

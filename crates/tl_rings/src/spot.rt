@@ -8,9 +8,9 @@ use tl_index::{Items, Probe};
 
 /// The rings whose rectangles hold a point.
 #[derive(Clone, Copy)]
-pub struct Spot(pub Point);
+pub struct AboutPoint(pub Point);
 
-impl<'a> Probe<Rings<'a>> for Spot {
+impl<'a> Probe<Rings<'a>> for AboutPoint {
     ghost use Rattle.tl_geom.specs.Rectangle.{spot_rect};
     ghost use Rattle.tl_rings.specs.Keeping.Spots.{IsBoxAt, box_meets};
 

@@ -1,6 +1,9 @@
 pub mod MarkLemmas
 pub mod ListLemmas
 pub mod Headings
+pub mod Turns
+mod SortLemmas
+mod Sorting
 pub mod WholeRounds
 pub mod Ends
 pub mod NodeFacts

@@ -4,9 +4,12 @@
 //! ([`Walks`]). Both are taken list by list, against a map, and each is told exactly to be right as a whole, or why it
 //! isn't. Rounds that are right give the next dart about its node of each dart ([`Next`]), which decides whether sides
 //! agree. What sides, rings and boundaries are is defined in `specs/Sides`, without any list of a stranger's.
+//!
+//! Who lists rounds, or looks at the darts of each node, begins with the darts that [`sort_darts`] gives.
 #![tactic(auto)]
 
 mod fault;
+mod headed;
 pub mod laws;
 mod marks;
 mod next;
@@ -14,6 +17,7 @@ mod rounds;
 mod walks;
 
 pub use fault::{Disagreement, RoundFault, WalkFault};
+pub use headed::{HeadedDart, head_together, sort_darts};
 pub use next::Next;
 pub use rounds::Rounds;
 pub use walks::Walks;

@@ -1,12 +1,12 @@
 //! The next dart about its node of each dart.
 
-ghost use Rattle.std.specs.Prelude.{◌≡◌, ◌≢◌, ◌<◌, ◌↔◌, IsTrue, IsFalse, IsNone, IfSome};
-ghost use Rattle.tl_county.specs.Darts.{reverse_dart, dart_left};
+ghost use Rattle.std.specs.Prelude.{◌≡◌, ◌≢◌, ◌<◌, ◌↔◌, IsTrue, IsNone, IfSome};
+ghost use Rattle.tl_county.specs.Darts.{dart_left};
 ghost use Rattle.tl_sides.specs.Sides.{dart_count, dart_right, IsNext, SidesAgree, Follows};
 ghost use Rattle.tl_sides.specs.Keeping.Rounded.{KeepNext};
 
 use crate::fault::Disagreement;
-use tl_county::{Map, Side};
+use tl_county::{Map, reverse_dart};
 
 /// Of each dart of a map the next one about the node where it starts.
 #[derive(Drop)]
@@ -31,7 +31,7 @@ impl Next {
     {
         for dart in 0..map.darts() {
             let next = self.next[dart as usize];
-            if !is_one_side(map.dart_left(dart), map.dart_left(reverse(next))) {
+            if !map.dart_left(dart).is(map.dart_left(reverse_dart(next))) {
                 return Some(Disagreement { first: dart, next });
             }
         }
@@ -45,21 +45,6 @@ impl Next {
         requires e { e < dart_count map.now.chains }
         ensures { IsTrue result ↔ Follows map.now.chains d e }
     {
-        self.next[e as usize] == reverse(d)
+        self.next[e as usize] == reverse_dart(d)
     }
-}
-
-/// The reverse of a dart: the other dart of its chain.
-pub fn reverse(dart: u32) -> u32
-    ensures { result ≡ reverse_dart dart }
-{
-    if dart % 2 == 0 { dart + 1 } else { dart - 1 }
-}
-
-/// Whether two sides are one.
-fn is_one_side(a: Side, b: Side) -> bool
-    ensures same { IsTrue result → a ≡ b }
-    ensures other { IsFalse result → a ≢ b }
-{
-    a == b
 }

@@ -12,8 +12,9 @@ use Rattle.tl_county.specs.TheMap.{TheMap, MapChain}
 use Rattle.tl_county.specs.Darts.{dart_start}
 use Rattle.tl_inside.specs.declared.misplaced.Misplaced.{Misplaced}
 use Rattle.tl_inside.specs.declared.misplaced.Misplaced.TheVariants.{OnChain, Outside, InOther}
+use Rattle.tl_faces.specs.declared.fault.FaceFault.TheVariants.{Facing, Outward}
 use Rattle.tl_verdict.specs.declared.fault.MapFault.{MapFault}
-use Rattle.tl_verdict.specs.declared.fault.MapFault.TheVariants.{Records, Meet, Side, PolygonPoint, Cell}
+use Rattle.tl_verdict.specs.declared.fault.MapFault.TheVariants.{Records, Meet, Side, PolygonPoint, Cell, Face}
 use Rattle.tl_svg.specs.declared.frame.Frame.{Frame}
 use Rattle.tl_svg.specs.declared.picture.Picture.{Picture}
 use Rattle.tl_svg.specs.Frames.{spot_of, is_seen}
@@ -107,6 +108,8 @@ place_of m (Meet meet) = floor_of meet.at
 place_of m (Side node first next) = Some node
 place_of m (PolygonPoint misplaced) = point_of_key m.polygons (polygon_of misplaced)
 place_of m (Cell odds) = dart_start m.chains odds.first
+place_of m (Face (Facing first last)) = floor_of first.at
+place_of m (Face (Outward face way)) = floor_of face.at
 
 -- does a fault lie in the picture
 abbrev pub is_fault_inside : Frame → TheMap → MapFault → Bool

@@ -6,6 +6,7 @@ ghost use Rattle.tl_svg.specs.Pictures.{is_inside, coordinate, floor_of, is_key,
 
 use crate::frame::Frame;
 use tl_county::Map;
+use tl_faces::FaceFault;
 use tl_geom::{Point, Rational};
 use tl_inside::Misplaced;
 use tl_key::PolyKey;
@@ -39,6 +40,8 @@ pub fn place_of(map: &Map, fault: &MapFault) -> Option<Point>
         MapFault::Side { node, .. } => Some(*node),
         MapFault::PolygonPoint(misplaced) => point_of_key(map, polygon_of(*misplaced)),
         MapFault::Cell(odds) => start_of(map, odds.first),
+        MapFault::Face(FaceFault::Facing { first, .. }) => floor_of(first.at),
+        MapFault::Face(FaceFault::Outward { face, .. }) => floor_of(face.at),
     }
 }
 

@@ -1,26 +1,21 @@
 -- A sweep from one place of its events to another.
-use Rattle.std.proofs.Common.{◌≡◌, ◌⊎◌, ⊎_elim, ℕ, zero, suc, ◌+◌, ◌-◌, ◌≤◌, ◌<◌, pos, ◌+ℤ◌, Option, Some, List, [], ◌∷◌, length, take, drop, get_or, count_by, refl, sym, ap, subst, ◌∙◌, arith}
+use Rattle.std.proofs.Common.{◌≡◌, ℕ, zero, suc, ◌+◌, ◌-◌, ◌≤◌, ◌<◌, ℤ, pos, ◌+ℤ◌, ◌<ℤ◌, ◌≤ℤ◌, List, [], ◌∷◌, length, take, drop, get_or, count_by, refl, sym, ap, ◌∙◌, arith}
+use Rattle.std.proofs.lemmas.Int.{ints, by_lt_z}
+use Rattle.std.proofs.lemmas.List.{get_or_default}
 use Rattle.tl_geom.specs.declared.point.Point.{Point}
-use Rattle.tl_county.specs.declared.sides.Side.TheVariants.{Outside}
 use Rattle.tl_county.specs.TheMap.{MapChain}
 use Rattle.tl_index.specs.Hits.{times}
 use Rattle.tl_line.specs.declared.events.Event.{Event}
 use Rattle.tl_slabs.specs.Heights.{height, widest}
 use Rattle.tl_slabs.specs.Neighbours.{AreTested, EachTwo}
+use Rattle.tl_slabs.specs.Slabs.{IsListOf}
 use Rattle.tl_line.specs.Gathered.{AreGathered}
 use Rattle.tl_line.specs.Events.{AreAt, begins_at, ends_at, AreEvents, AreRising, joined, between, before}
-use Rattle.tl_sweep.specs.Keeping.Swept.{IsSwept}
+use Rattle.tl_sweep.specs.Keeping.Swept.{AreAbove, IsSwept}
+use Rattle.tl_sweep.specs.Keeping.Watched.{AreReached, IsBelowNext}
 use Rattle.tl_line.proofs.Joining.{before_past, before_within, part_is, level_there, first_behind}
-use Rattle.tl_sweep.proofs.Slab.{goes_on, facing_on, listed_at}
-use Rattle.tl_faces.specs.declared.odd.OddGap.{OddGap}
-use Rattle.tl_faces.specs.Odd.{IsOddGap}
-use Rattle.tl_sweep.specs.declared.faces.Faces.{Faces}
-use Rattle.tl_sweep.specs.declared.faces.Faces.TheVariants.{Agree, Odd, Unknown}
-use Rattle.tl_sweep.specs.Keeping.Facing.{IsCounted}
-use Rattle.tl_sweep.specs.Keeping.Sided.{IsOddAlong, AreFacingBelow, AreFacesBelow, IsBelowNext}
+use Rattle.tl_sweep.proofs.Slab.{goes_on, lower, earlier, next_list}
 use Rattle.tl_sweep.proofs.Found.{no_event}
-use Rattle.tl_sweep.proofs.Raised.{facing_from}
-use Rattle.tl_sweep.proofs.Odd.{odd_gap}
 
 every : (events : List (List Event)) (from : ℕ) → length events ≤ from → take from events ≡ events
 every [] zero all = refl
@@ -64,30 +59,54 @@ module _ (chains : List MapChain) (events : List (List Event)) (from to : ℕ) (
   pub gone_on : IsSwept chains (joined events) (before to events) next
   gone_on = goes_on chains (joined events) (before from events) (before to events) list next are rising swept past (before_within to events) level sums tested
 
-  -- and what is told of faces
-  module _ (p : Point) (here : (e : List Event) → AreAt p (get_or events from e)) (gaps : Option ℕ) (counted : IsCounted chains gaps next)
-      (odd : Option OddGap) (noted : (gap : OddGap) → odd ≡ Some gap → IsOddAlong chains p next gap) (old : Faces)
-      (told : AreFacesBelow chains (joined events) (before from events) old) where
+  -- the events there have the height of the point
+  module _ (p : Point) (here : (e : List Event) → AreAt p (get_or events from e)) where
     at : (get_or (joined events) (before from events) no_event).height ≡ height widest p +ℤ pos 2147483647
     at = let past = gathered.past in let within = gathered.within in first_behind from events p no_event (omega (arith, past, within)) here
 
-    agreed : (old ≡ Agree) × (gaps ≡ Some 0) → AreFacingBelow chains (joined events) (before to events)
-    agreed both =
-        facing_on chains (joined events) (before from events) (before to events) list next are rising swept past (before_within to events) level sums tested
-        (subst (AreFacesBelow chains (joined events) (before from events)) both.0 told) (facing_from chains Outside next (sym (counted 0 both.1)))
+    -- no event up to them is higher than what they reach
+    pub reached_all : (n : ℤ) → height widest p ≤ℤ n → AreReached n (before to events) (joined events)
+    reached_all n le k d lt inside =
+        let is = at in
+        let same = ap (λ (e : Event). e.height) (get_or_default (joined events) k d no_event inside) in
+        let low = lower chains (joined events) (before from events) (before to events) list next are rising swept past (before_within to events) level sums
+        tested k lt inside n (omega (arith, ints, is, le)) in
+        omega (arith, ints, same, low)
 
-    odd_one : (gap : OddGap) → odd ≡ Some gap → IsBelowNext gap.at (joined events) (before to events) → IsOddGap widest chains gap
-    odd_one gap is below =
-        let along : IsOddAlong chains p next gap = noted gap is in
-        odd_gap chains p next gap
-        (listed_at chains (joined events) (before from events) (before to events) list next are rising swept past
-        (before_within to events) level sums tested p at
-        (subst (λ z. IsBelowNext z (joined events) (before to events)) along.here below)) along
+    -- what is reached by them is no lower than the point
+    pub reached_by : (n : ℤ) → AreReached n (before to events) (joined events) → height widest p ≤ℤ n
+    reached_by n reached =
+        let is = at in
+        let rest = past in
+        let within = before_within to events in
+        let low = reached (before from events) no_event past (omega (arith, rest, within)) in
+        omega (arith, ints, is, low)
 
-    pub faces_on : (new : Faces) → (new ≡ Agree → (old ≡ Agree) × (gaps ≡ Some 0)) →
-        ((gap : OddGap) → new ≡ Odd gap → (old ≡ Odd gap) ⊎ ((odd ≡ Some gap) × IsBelowNext gap.at (joined events) (before to events))) →
-        AreFacesBelow chains (joined events) (before to events) new
-    faces_on Agree agree odd' = agreed (agree refl)
-    faces_on (Odd gap) agree odd' =
-        ⊎_elim (λ e. subst (AreFacesBelow chains (joined events) (before from events)) e told) (λ k. odd_one gap k.0 k.1) (odd' gap refl)
-    faces_on Unknown agree odd' = tt
+    -- of a height below the other events the slab was told of before, or the list is the slab's
+    pub before_or : (n : ℤ) → AreAbove n (before to events) (joined events) → {A : Type 0} → (AreAbove n (before from events) (joined events) → A) →
+        (height widest p ≤ℤ n → IsListOf widest n chains next → A) → A
+    before_or n above told listed =
+        let is = at in
+        by_lt_z (n +ℤ pos 2147483647) (get_or (joined events) (before from events) no_event).height
+        (λ under. told (earlier chains (joined events) (before from events) (before to events) list next are rising swept past (before_within to events)
+        level sums tested n under))
+        (λ reached. listed (omega (arith, ints, is, reached)) (next_list chains (joined events) (before from events) (before to events) list next are rising
+        swept past (before_within to events) level sums tested n above reached))
+
+    -- what is below the point is below the events there and those behind them
+    pub under_here : (n : ℤ) → n <ℤ height widest p → AreAbove n (before from events) (joined events)
+    under_here n below k d le lt =
+        let is = at in
+        let up = rising (before from events) k d le lt in
+        let same = ap (λ (e : Event). e.height) (get_or_default (joined events) (before from events) d no_event (omega (arith, le, lt))) in
+        omega (arith, ints, is, up, same, below)
+
+    -- below the other events the list is that of the slab above the point
+    pub listed_here : IsBelowNext p (joined events) (before to events) → IsListOf widest (height widest p) chains next
+    listed_here below =
+        let is = at in
+        next_list chains (joined events) (before from events) (before to events) list next are rising swept past (before_within to events) level sums
+        tested (height widest p)
+        (λ k d le lt.
+        let up = rising (before to events) k d le lt in let over = below d (omega (arith, le, lt)) in omega (arith, ints, up, over))
+        (omega (arith, ints, is))

@@ -1,8 +1,9 @@
--- A gap of a list where sides differ is one of the slab whose list it is.
-use Rattle.std.proofs.Common.{◌≡◌, inl, inr, ℕ, ℤ, List, [], ◌∷◌, ◌++◌, take, drop, append_assoc, refl, sym, ap, subst, ◌∙◌}
+-- What is named on both sides of a gap of a list is what is counted there.
+use Rattle.std.proofs.Common.{◌≡◌, ⊎_elim, ◌⊎◌, ℕ, ℤ, Option, Some, List, [], ◌∷◌, ◌++◌, take, drop, append_assoc, refl, sym, ap, ◌∙◌}
 use Rattle.std.specs.Prelude.{slice_get}
 use Rattle.std.proofs.lemmas.List.{take-append-drop}
 use Rattle.tl_geom.specs.declared.point.Point.{Point}
+use Rattle.tl_geom.specs.declared.segment.Segment.{Segment}
 use Rattle.tl_county.specs.declared.sides.Side.{Side}
 use Rattle.tl_county.specs.declared.sides.Side.TheVariants.{Outside}
 use Rattle.tl_county.specs.TheMap.{MapChain}
@@ -10,15 +11,17 @@ use Rattle.tl_inside.specs.declared.flanks.Flanks.{Flanks}
 use Rattle.tl_inside.specs.Inside.{flanks_at}
 use Rattle.tl_line.specs.Lined.{last_of}
 use Rattle.tl_line.proofs.Lining.{last_more}
-use Rattle.tl_slabs.specs.Heights.{height, widest}
-use Rattle.tl_slabs.specs.Slabs.{IsActive, IsListOf}
-use Rattle.tl_slabs.proofs.Walking.{IsIn}
+use Rattle.tl_slabs.specs.Heights.{widest}
+use Rattle.tl_slabs.specs.Neighbours.{IsNumbered}
 use Rattle.tl_faces.specs.declared.odd.OddGap.{OddGap}
-use Rattle.tl_faces.specs.Odd.{IsOddGap, IsNamedWest, IsNamedEast, first_number, last_number}
+use Rattle.tl_faces.specs.Odd.{NamesWest, NamesEast, IsNamedWest, IsNamedEast, first_number, last_number}
+use Rattle.tl_sweep.specs.declared.watch.Watch.{Watch}
 use Rattle.tl_sweep.specs.Beside.{seen_side}
-use Rattle.tl_sweep.specs.Keeping.Facing.{raised, last_far}
-use Rattle.tl_sweep.specs.Keeping.Sided.{IsOddAlong}
-use Rattle.tl_sweep.proofs.Between.{in_front, in_back, in_all}
+use Rattle.tl_sweep.specs.Telling.{IsToldAlong}
+use Rattle.tl_sweep.specs.Keeping.Facing.{raised, last_far, gaps_of, IsCounted}
+use Rattle.tl_sweep.specs.Keeping.Passing.{HasLooked}
+use Rattle.tl_sweep.specs.Keeping.Watched.{IsOpen}
+use Rattle.tl_sweep.proofs.Counts.{none_between}
 use Rattle.tl_sweep.proofs.Raised.{sides_are}
 
 -- ---- lists
@@ -40,47 +43,54 @@ parted west ins east k =
 
 -- ---- what is named there
 
-module _ (chains : List MapChain) (n : ℤ) where
-  named_last : (west : Side) (s : ℕ) (rest : List ℕ) → ((t : ℕ) → IsIn t (s ∷ rest) → IsActive widest n chains t) →
-      IsNamedWest widest chains (last_number (s ∷ rest)) (last_far (raised chains) west (s ∷ rest))
-  named_last west s [] active =
-      let a = active s (inl refl) in
-      record { segment = a.segment; is = a.is; names = ap (λ (f : Flanks). f.far) (sides_are chains s a.segment a.is) }
-  named_last west s (t ∷ rest) active = named_last (flanks_at (raised chains) s).far t rest (λ k i. active k (inr i))
+module _ (chains : List MapChain) where
+  far_named : (west : Side) (s : ℕ) (rest : List ℕ) (side : Side) → IsNamedWest widest chains (last_number (s ∷ rest)) side →
+      side ≡ last_far (raised chains) west (s ∷ rest)
+  far_named west s [] side named = named.names ∙ sym (ap (λ (f : Flanks). f.far) (sides_are chains s named.segment named.is))
+  far_named west s (t ∷ rest) side named = far_named (flanks_at (raised chains) s).far t rest side named
 
-  pub named_west : (front : List ℕ) → ((t : ℕ) → IsIn t front → IsActive widest n chains t) →
-      IsNamedWest widest chains (last_number front) (last_far (raised chains) Outside front)
-  named_west [] active = refl
-  named_west (s ∷ rest) active = named_last Outside s rest active
+  named_far : (front : List ℕ) (side : Side) → IsNamedWest widest chains (last_number front) side → side ≡ last_far (raised chains) Outside front
+  named_far [] side named = named
+  named_far (s ∷ rest) side named = far_named Outside s rest side named
 
-  pub named_east : (back : List ℕ) → ((t : ℕ) → IsIn t back → IsActive widest n chains t) →
-      IsNamedEast widest chains (first_number back) (seen_side (raised chains) back)
-  named_east [] active = refl
-  named_east (s ∷ rest) active =
-      let a = active s (inl refl) in
-      record { segment = a.segment; is = a.is; names = ap (λ (f : Flanks). f.near) (sides_are chains s a.segment a.is) }
+  named_near : (back : List ℕ) (side : Side) → IsNamedEast widest chains (first_number back) side → side ≡ seen_side (raised chains) back
+  named_near [] side named = named
+  named_near (s ∷ rest) side named = named.names ∙ sym (ap (λ (f : Flanks). f.near) (sides_are chains s named.segment named.is))
 
-pub odd_gap : (chains : List MapChain) (p : Point) (list : List ℕ) (gap : OddGap) → IsListOf widest (height widest p) chains list →
-    IsOddAlong chains p list gap → IsOddGap widest chains gap
-odd_gap chains p list gap listed along = record {
-  front = along.front;
-  back = along.back;
-  listed = subst (λ z. IsListOf widest (height widest z) chains (along.front ++ along.back)) (sym along.here) there;
-  is_west = along.is_west;
-  is_east = along.is_east;
-  west = last_far (raised chains) Outside along.front;
-  east = seen_side (raised chains) along.back;
-  named_west =
-      subst (λ o. IsNamedWest widest chains o (last_far (raised chains) Outside along.front)) (sym along.is_west)
-      (named_west chains (height widest p) along.front (λ t i. active t (in_front t along.front along.back i)));
-  named_east =
-      subst (λ o. IsNamedEast widest chains o (seen_side (raised chains) along.back)) (sym along.is_east)
-      (named_east chains (height widest p) along.back (λ t i. active t (in_back t along.front along.back i)));
-  differ = along.differ;
-}
-  where
-    there : IsListOf widest (height widest p) chains (along.front ++ along.back)
-    there = subst (IsListOf widest (height widest p) chains) along.parts listed
+  -- what a segment names by its height, as it is counted
+  pub west_named : (s : ℕ) (u : Segment) → IsNumbered chains s u → (flanks : Flanks) → flanks ≡ flanks_at (raised chains) s →
+      NamesWest widest chains s flanks.near
+  west_named s u is flanks e = record { segment = u; is = is; names = ap (λ (f : Flanks). f.near) (e ∙ sides_are chains s u is) }
 
-    active : (t : ℕ) → IsIn t (along.front ++ along.back) → IsActive widest (height widest p) chains t
-    active t i = in_all (IsActive widest (height widest p) chains) t (along.front ++ along.back) there.active i
+  pub east_named : (s : ℕ) (u : Segment) → IsNumbered chains s u → (flanks : Flanks) → flanks ≡ flanks_at (raised chains) s →
+      NamesEast widest chains s flanks.far
+  east_named s u is flanks e = record { segment = u; is = is; names = ap (λ (f : Flanks). f.far) (e ∙ sides_are chains s u is) }
+
+  pub both_named : (s : ℕ) (flanks : Flanks) → NamesWest widest chains s flanks.near → NamesEast widest chains s flanks.far →
+      flanks ≡ flanks_at (raised chains) s
+  both_named s flanks west east =
+      let near : flanks.near ≡ (flanks_at (raised chains) s).near = west.names ∙ sym (ap (λ (f : Flanks). f.near) (sides_are chains s west.segment west.is)) in
+      let far : flanks.far ≡ (flanks_at (raised chains) s).far = east.names ∙ sym (ap (λ (f : Flanks). f.far) (sides_are chains s east.segment east.is)) in
+      λ i. record { near = near i; far = far i }
+
+  -- where sides differ nowhere along a list, nothing is to be told of it
+  none_along : (n : ℤ) (list : List ℕ) (gaps : List OddGap) → gaps_of (raised chains) list ≡ 0 → IsToldAlong chains n list gaps
+  none_along n list gaps none front back is odd =
+      absurd (odd.differ (named_far front odd.side odd.named_west
+      ∙ none_between (raised chains) front back (ap (gaps_of (raised chains)) (sym is) ∙ none)
+      ∙ sym (named_near back odd.opposite odd.named_east)))
+
+  -- nothing more is told of a list along which sides differ nowhere, or when no more gaps are told
+  pub nothing_more : (p : Point) (list next : List ℕ) (gaps : Option ℕ) (watch : Watch) → IsCounted chains gaps next →
+      (gaps ≡ Some 0) ⊎ ¬ IsOpen watch → HasLooked chains p list next gaps watch watch
+  nothing_more p list next gaps watch counted why = record {
+    asked = refl;
+    sure = refl;
+    told = λ still before.
+        ⊎_elim (λ zero. none_along _ next watch.told.items (sym (counted 0 zero))) (λ closed. absurd (closed still)) why;
+    kept = λ n w e listed. listed;
+    true_ones = λ of all. all;
+    here = λ all. all;
+    quiet = λ e. refl;
+    closed = λ never. refl;
+  }

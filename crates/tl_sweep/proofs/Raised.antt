@@ -1,5 +1,5 @@
 -- The sides of segments by their heights: the flanks of segments of raised chains.
-use Rattle.std.proofs.Common.{◌≡◌, inl, inr, ℕ, zero, suc, ◌+◌, ◌-◌, ℤ, ◌*ℤ◌, ◌<ℤ◌, ◌≤ℤ◌, Bool, true, false, if◌then◌else◌, Some, List, [], ◌∷◌, length, map, take, refl, sym, ap, subst, ◌∙◌, arith}
+use Rattle.std.proofs.Common.{◌≡◌, inl, inr, ℕ, zero, suc, ◌+◌, ◌-◌, Bool, true, false, if◌then◌else◌, Some, List, [], ◌∷◌, length, map, take, refl, sym, ap, subst, ◌∙◌, arith}
 use Rattle.std.specs.Prelude.{int_lt, slice_get, option_map}
 use Rattle.std.proofs.lemmas.List.{length-map}
 use Rattle.std.proofs.lemmas.List.Sums.{sum_by-cons}
@@ -7,7 +7,6 @@ use Rattle.std.proofs.lemmas.Option.{slice_get-map}
 use Rattle.tl_geom.specs.declared.point.Point.{Point}
 use Rattle.tl_geom.specs.declared.segment.Segment.{Segment}
 use Rattle.tl_county.specs.declared.sides.Side.{Side}
-use Rattle.tl_county.specs.declared.sides.Side.TheVariants.{Outside}
 use Rattle.tl_county.specs.TheMap.{MapChain, IsChain}
 use Rattle.tl_county.specs.Segments.{segments_before, IsSegmentOf, Joins}
 use Rattle.tl_planar.proofs.Numbering.{one_chain}
@@ -17,15 +16,11 @@ use Rattle.tl_inside.specs.Inside.{flanks_at}
 use Rattle.tl_inside.proofs.Sides.{by_points}
 use Rattle.tl_slabs.specs.Heights.{height, widest, AreNear}
 use Rattle.tl_slabs.specs.Neighbours.{IsNumbered}
-use Rattle.tl_faces.specs.Lists.{sides_by_height, RunsWest, AreFacingFrom}
+use Rattle.tl_faces.specs.Lists.{sides_by_height, RunsWest}
 use Rattle.tl_faces.proofs.Flanks.{are_sides}
-use Rattle.tl_faces.proofs.Toward.{is_lt, no_lt}
-use Rattle.tl_slabs.proofs.Rising.{higher, higher_west, near_back}
-use Rattle.std.proofs.lemmas.Int.{ints, by_lt_z}
 use Rattle.tl_slabs.proofs.Walking.{IsIn}
 use Rattle.tl_sweep.specs.Beside.{AreFacing, seen_side}
-use Rattle.tl_sweep.specs.Keeping.Facing.{raised, raised_chain, raised_point, gaps_between}
-use Rattle.tl_sweep.proofs.Gaps.{none_is}
+use Rattle.tl_sweep.specs.Keeping.Facing.{raised, raised_chain, raised_point}
 
 same_before : (chains : List MapChain) (c : ℕ) → segments_before (raised chains) c ≡ segments_before chains c
 same_before chains zero = refl
@@ -99,32 +94,6 @@ pub same_flanks : (chains : List MapChain) (s : ℕ) (u : Segment) → IsNumbere
     flanks_at (raised chains) s ≡ flanks_at chains s
 same_flanks chains s u n near not_west = sides_are chains s u n ∙ sym (are_sides widest chains s u n near not_west)
 
--- ---- which of two points is lower
-
-pub up_north : (a b : Point) → AreNear widest a b → a.y <ℤ b.y → int_lt (height widest a) (height widest b) ≡ true
-up_north a b near north = is_lt (height widest a) (height widest b) (higher widest a b near north)
-
-pub up_west : (a b : Point) → AreNear widest a b → a.y ≡ b.y → b.x <ℤ a.x → int_lt (height widest a) (height widest b) ≡ true
-up_west a b near level west = is_lt (height widest a) (height widest b) (higher_west widest a b near level west)
-
-pub down_south : (a b : Point) → AreNear widest a b → b.y <ℤ a.y → int_lt (height widest a) (height widest b) ≡ false
-down_south a b near south = no_lt (height widest a) (height widest b) (let h = higher widest b a (near_back widest a b near) south in omega (arith, ints, h))
-
-pub down_east : (a b : Point) → a.y ≡ b.y → a.x ≤ℤ b.x → int_lt (height widest a) (height widest b) ≡ false
-down_east a b level east = no_lt (height widest a) (height widest b)
-    (let same : widest *ℤ a.y ≡ widest *ℤ b.y = ap (λ y. widest *ℤ y) level in omega (arith, ints, same, east))
-
--- by their longitudes where they are level, else by their latitudes
-pub by_longitude : (a b : Point) (x y : ℤ) → x ≡ b.x → y ≡ a.x → AreNear widest a b → a.y ≡ b.y → int_lt x y ≡ int_lt (height widest a) (height widest b)
-by_longitude a b x y e f near level =
-    by_lt_z b.x a.x (λ west. is_lt x y (omega (arith, ints, west, e, f)) ∙ sym (up_west a b near level west))
-    (λ east. no_lt x y (omega (arith, ints, east, e, f)) ∙ sym (down_east a b level east))
-
-pub by_latitude : (a b : Point) (x y : ℤ) → x ≡ a.y → y ≡ b.y → AreNear widest a b → ¬ (a.y ≡ b.y) → int_lt x y ≡ int_lt (height widest a) (height widest b)
-by_latitude a b x y e f near apart =
-    by_lt_z a.y b.y (λ north. is_lt x y (omega (arith, ints, north, e, f)) ∙ sym (up_north a b near north))
-    (λ le. no_lt x y (omega (arith, ints, le, e, f)) ∙ sym (down_south a b near (omega (arith, ints, le, apart))))
-
 -- ---- lists
 
 module _ (chains : List MapChain) where
@@ -142,12 +111,3 @@ module _ (chains : List MapChain) where
       seen_side (raised chains) list ≡ seen_side chains list
   same_seen [] same = refl
   same_seen (s ∷ rest) same = ap (λ (f : Flanks). f.near) (same s (inl refl))
-
-  -- where facing sides never differ
-  pub facing_from : (west : Side) (list : List ℕ) → gaps_between (raised chains) west list Outside ≡ 0 → AreFacingFrom widest chains west list
-  facing_from west [] e = none_is west Outside e
-  facing_from west (s ∷ rest) e = λ u n. (
-    none_is west (flanks_at (raised chains) s).near (omega (arith, e)) ∙ ap (λ (f : Flanks). f.near) (sides_are chains s u n),
-    subst (λ side. AreFacingFrom widest chains side rest) (ap (λ (f : Flanks). f.far) (sides_are chains s u n))
-        (facing_from (flanks_at (raised chains) s).far rest (omega (arith, e))),
-  )

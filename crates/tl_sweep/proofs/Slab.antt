@@ -16,12 +16,6 @@ use Rattle.tl_slabs.specs.Heights.{height, widest, low_end, high_end}
 use Rattle.tl_slabs.specs.Neighbours.{IsNumbered, AreTested, EachTwo}
 use Rattle.tl_slabs.specs.Slabs.{IsActive, IsListOf, AreSlabsTested}
 use Rattle.tl_line.specs.Events.{IsEvent, begins_at, ends_at, AreEvents, AreRising}
-use Rattle.tl_county.specs.declared.sides.Side.TheVariants.{Outside}
-use Rattle.tl_geom.specs.declared.point.Point.{Point}
-use Rattle.tl_faces.specs.Lists.{AreFacingFrom}
-use Rattle.tl_sweep.specs.declared.faces.Faces.{Faces}
-use Rattle.tl_sweep.specs.declared.faces.Faces.TheVariants.{Agree, Odd, Unknown}
-use Rattle.tl_sweep.specs.Keeping.Sided.{AreFacingBelow, AreFacesBelow, AreFacesOfSlabs, IsBelowNext}
 use Rattle.tl_sweep.specs.Keeping.Swept.{AreAbove, IsSwept}
 use Rattle.tl_line.proofs.Bits.{bit}
 use Rattle.tl_sweep.proofs.Found.{no_event, found, both_true, is_number, not_true}
@@ -197,7 +191,7 @@ module _ (chains : List MapChain) (events : List Event) (from to : ℕ) (list ne
       let now = moved s in
       omega (arith, off, on, before, now)
 
-  lower : (k : ℕ) → k < to → k < length events → (n : ℤ) → (get_or events from no_event).height ≤ℤ (n +ℤ pos 2147483647) →
+  pub lower : (k : ℕ) → k < to → k < length events → (n : ℤ) → (get_or events from no_event).height ≤ℤ (n +ℤ pos 2147483647) →
       (get_or events k no_event).height ≤ℤ (n +ℤ pos 2147483647)
   lower k lt here n reached = elim (cases_lt k from) [
     | inl before ↦ let up = rising k from no_event (omega (arith, before)) (omega (arith, past, within)) in omega (arith, ints, up, reached)
@@ -205,13 +199,13 @@ module _ (chains : List MapChain) (events : List Event) (from to : ℕ) (list ne
   ]
 
   -- a height is below the events at hand, or the list is that of the slab above it
-  earlier : (n : ℤ) → (n +ℤ pos 2147483647) <ℤ (get_or events from no_event).height → AreAbove n from events
+  pub earlier : (n : ℤ) → (n +ℤ pos 2147483647) <ℤ (get_or events from no_event).height → AreAbove n from events
   earlier n under k d le lt =
       let up = rising from k d le lt in
       let same = ap (λ (e : Event). e.height) (get_or_default events from d no_event (omega (arith, past, within))) in
       omega (arith, ints, under, up, same)
 
-  next_list : (n : ℤ) → AreAbove n to events → (get_or events from no_event).height ≤ℤ (n +ℤ pos 2147483647) → IsListOf widest n chains next
+  pub next_list : (n : ℤ) → AreAbove n to events → (get_or events from no_event).height ≤ℤ (n +ℤ pos 2147483647) → IsListOf widest n chains next
   next_list n above reached = list_of_slab chains events are to next sums n (λ k lt here. lower k lt here n reached) above tested
 
   pub goes_on : IsSwept chains events to next
@@ -225,29 +219,5 @@ module _ (chains : List MapChain) (events : List Event) (from to : ℕ) (list ne
         (λ reached. (next, next_list n above reached));
   }
 
-  pub facing_on : AreFacingBelow chains events from → AreFacingFrom widest chains Outside next → AreFacingBelow chains events to
-  facing_on before facing n above =
-      by_lt_z (n +ℤ pos 2147483647) (get_or events from no_event).height
-      (λ under. before n (earlier n under))
-      (λ reached. (next, next_list n above reached, facing))
-
-  pub listed_at : (p : Point) → (get_or events from no_event).height ≡ height widest p +ℤ pos 2147483647 → IsBelowNext p events to →
-      IsListOf widest (height widest p) chains next
-  listed_at p here below =
-      next_list (height widest p)
-      (λ k d le lt. let up = rising to k d le lt in let over = below d (omega (arith, le, lt)) in omega (arith, ints, up, over))
-      (omega (arith, ints, here))
-
 pub ends : (chains : List MapChain) (events : List Event) (from : ℕ) (list : List ℕ) → IsSwept chains events from list → length events ≤ from → AreSlabsTested widest chains
 ends chains events from list swept all n = swept.slabs n (λ k d le lt. absurd (omega (arith, all, le, lt)))
-
--- ---- what is told of faces
-
-pub facing_begins : (chains : List MapChain) (events : List Event) → AreEvents chains events → AreFacingBelow chains events 0
-facing_begins chains events are n above = ([], list_of_slab chains events are 0 [] (λ s. refl) n (λ k lt. absurd (omega (arith, lt))) above tt, refl)
-
-pub faces_end : (chains : List MapChain) (events : List Event) (from : ℕ) (faces : Faces) → length events ≤ from → AreFacesBelow chains events from faces →
-    AreFacesOfSlabs chains faces
-faces_end chains events from Agree all told = λ n. told n (λ k d le lt. absurd (omega (arith, all, le, lt)))
-faces_end chains events from (Odd gap) all told = told
-faces_end chains events from Unknown all told = tt

@@ -26,7 +26,7 @@ use Rattle.tl_sweep.specs.Keeping.Swept.{IsSwept}
 use Rattle.tl_sweep.proofs.Between.{placed, turn_same, active_behind, not_west}
 use Rattle.tl_sweep.proofs.Raised.{same_flanks, same_facing, same_seen}
 use Rattle.tl_sweep.proofs.Found.{no_event, found}
-use Rattle.tl_sweep.proofs.Gaps.{facing_behind}
+use Rattle.tl_sweep.proofs.Counts.{facing_behind}
 use Rattle.tl_line.proofs.Lining.{last_more}
 use Rattle.tl_slabs.proofs.Numbered.{one_segment}
 use Rattle.tl_slabs.proofs.Rising.{AreEndsOf, ends_of}

@@ -2,6 +2,8 @@
 pub mod Vertices
 pub mod Swept
 pub mod Facing
-pub mod Sided
+pub mod Watched
+pub mod Passing
+pub mod Kept
 pub mod Spotted
 pub mod Told

@@ -1,3 +1,5 @@
--- What the laws of sweeps cite.
+-- What the contracts and the laws of sweeps cite.
 pub mod Beside
+pub mod Gaps
+pub mod Telling
 pub mod Keeping

@@ -1,36 +1,31 @@
 //! How often facing sides differ along the list of active segments.
-ghost use Rattle.std.specs.Prelude.{◌≡◌, ◌+◌, ◌<◌, ◌∷◌, [], ℕ, Option, Some, List, IsTrue, length, int_lt, slice_get};
+ghost use Rattle.std.specs.Prelude.{◌≡◌, ◌↔◌, ◌+◌, ◌<◌, ◌∷◌, [], ℕ, Option, Some, List, IsTrue, MatchOption, length, slice_get};
+ghost use Rattle.tl_geom.specs.declared.segment.Segment.{Segment};
 ghost use Rattle.tl_county.specs.declared.sides.Side.{Side};
 ghost use Rattle.tl_county.specs.declared.sides.Side.TheVariants.{Outside};
 ghost use Rattle.tl_county.specs.Segments.{segments_before};
 ghost use Rattle.tl_inside.specs.declared.flanks.Flanks.{Flanks};
 ghost use Rattle.tl_inside.specs.Inside.{flanks_at};
 ghost use Rattle.tl_line.specs.Lined.{last_of};
-ghost use Rattle.tl_slabs.specs.Heights.{height as height_by, widest};
+ghost use Rattle.tl_slabs.specs.Heights.{widest};
+ghost use Rattle.tl_slabs.specs.Neighbours.{IsNumbered};
+ghost use Rattle.tl_faces.specs.Odd.{NamesWest, NamesEast, IsNamedWest, IsNamedEast};
 ghost use Rattle.tl_sweep.specs.Beside.{seen_side};
 ghost use Rattle.tl_sweep.specs.Keeping.Facing.{gap as gap_of, gaps_between, last_far, raised};
 
 use tl_county::{Map, Side};
-use tl_geom::Point;
 use tl_inside::Flanks;
-use tl_line::Line;
+use tl_line::{Line, is_lower};
 
-/// Whether one point is lower than another.
-#[inline]
-fn rises(a: Point, b: Point) -> bool
-    ensures { result ≡ int_lt (height_by widest a) (height_by widest b) }
-{
-    if a.y == b.y { b.x < a.x } else { a.y < b.y }
-}
-
-/// The sides of a segment by its height: the near side, to the west along lines of one height, and the far side.
-fn flanks_of(map: &Map, s: u32) -> Flanks
+/// What a segment names on both sides of it along the lines of one height: near to the west, and far to the east.
+pub fn flanks_of(map: &Map, s: u32) -> Flanks
     requires known { s < segments_before map.now.chains (length map.now.chains) }
-    ensures { result ≡ flanks_at (raised map.now.chains) s }
+    ensures west { NamesWest widest map.now.chains s result.near }
+    ensures east { NamesEast widest map.now.chains s result.far }
 {
     let segment = map.segment(s);
     let chain = map.chain(map.segment_chain(s));
-    if rises(segment.a(), segment.b()) {
+    if is_lower(segment.a(), segment.b()) {
         Flanks {
             near: chain.left,
             far: chain.right,
@@ -45,12 +40,21 @@ fn flanks_of(map: &Map, s: u32) -> Flanks
 
 /// The sides of the segment with this number, if there is one.
 fn find_flanks(map: &Map, s: u32) -> Option<Flanks>
-    ensures { (flanks : Flanks) → result ≡ Some flanks → flanks ≡ flanks_at (raised map.now.chains) s }
+    ensures flanks { (flanks : Flanks) → result ≡ Some flanks → flanks ≡ flanks_at (raised map.now.chains) s }
+    ensures named { MatchOption result ((segment : Segment) → ¬ IsNumbered map.now.chains s segment)
+        (λ flanks. NamesWest widest map.now.chains s flanks.near × NamesEast widest map.now.chains s flanks.far) }
 {
     if s >= map.segments() {
         return None;
     }
     Some(flanks_of(map, s))
+}
+
+/// Whether two sides are one.
+pub fn are_same(one: Side, other: Side) -> bool
+    ensures { IsTrue result ↔ (one ≡ other) }
+{
+    one == other
 }
 
 /// 1 where sides that face each other differ, else 0.
@@ -62,7 +66,8 @@ pub fn gap(west: Side, east: Side) -> u64
 
 /// What lies east of a segment, or of none.
 pub fn far_of(map: &Map, s: Option<u32>) -> Option<Side>
-    ensures { (side : Side) (front : List ℕ) → result ≡ Some side → s ≡ last_of front → side ≡ last_far (raised map.now.chains) Outside front }
+    ensures side { (side : Side) (front : List ℕ) → result ≡ Some side → s ≡ last_of front → side ≡ last_far (raised map.now.chains) Outside front }
+    ensures named { MatchOption result ((side : Side) → ¬ IsNamedWest widest map.now.chains s side) (IsNamedWest widest map.now.chains s) }
 {
     match s {
         Some(s) => Some(find_flanks(map, s)?.far),
@@ -72,7 +77,8 @@ pub fn far_of(map: &Map, s: Option<u32>) -> Option<Side>
 
 /// What lies west of a segment, or of none.
 pub fn near_of(map: &Map, s: Option<u32>) -> Option<Side>
-    ensures { (side : Side) (back : List ℕ) → result ≡ Some side → s ≡ slice_get back 0 → side ≡ seen_side (raised map.now.chains) back }
+    ensures side { (side : Side) (back : List ℕ) → result ≡ Some side → s ≡ slice_get back 0 → side ≡ seen_side (raised map.now.chains) back }
+    ensures named { MatchOption result ((side : Side) → ¬ IsNamedEast widest map.now.chains s side) (IsNamedEast widest map.now.chains s) }
 {
     match s {
         Some(s) => Some(find_flanks(map, s)?.near),
@@ -115,10 +121,10 @@ fn go_one_way(map: &Map, s: u32, t: u32) -> bool
     // that the chain has sides
     let _chain = map.chain(c);
     let (one, other) = (map.segment(s), map.segment(t));
-    if rises(one.a(), one.b()) {
-        rises(other.a(), other.b())
+    if is_lower(one.a(), one.b()) {
+        is_lower(other.a(), other.b())
     } else {
-        !rises(other.a(), other.b())
+        !is_lower(other.a(), other.b())
     }
 }
 

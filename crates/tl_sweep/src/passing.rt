@@ -1,23 +1,18 @@
-//! A step of the sweep at a vertex: the segments that end there leave the list, and those that begin there enter it.
-ghost use Rattle.std.specs.Prelude.{◌≡◌, ◌+◌, ℕ, None, Some, IfOk, IsTrue};
-ghost use Rattle.tl_index.specs.Hits.{times};
-ghost use Rattle.tl_slabs.specs.Heights.{widest};
-ghost use Rattle.tl_slabs.specs.Neighbours.{AreTested, EachTwo};
+//! A step of the sweep at a vertex: the segments that end there leave the list, those that begin there enter it, and the gaps about the
+//! latter are told where sides differ.
+ghost use Rattle.std.specs.Prelude.{IfOk, IsTrue};
 ghost use Rattle.tl_line.specs.Lined.{list_of};
-ghost use Rattle.tl_sweep.specs.Keeping.Facing.{IsCounted};
-ghost use Rattle.tl_sweep.specs.Keeping.Sided.{IsOddAlong};
+ghost use Rattle.tl_sweep.specs.Keeping.Passing.{HasPassed};
 
-use crate::faces::note_odd;
 use crate::facing::{are_alike, far_of, near_of, recount};
+use crate::watch::Watch;
 use std::alloc::AllocError;
 use tl_county::Map;
-use tl_faces::OddGap;
 use tl_geom::Point;
-use tl_line::{Line, bend, closes, shift};
+use tl_line::{Line, Places, bend, closes, go_to_first, order, shift};
 
 /// Takes these segments off the list at the place and puts those in, if the former stand there and all that are neighbours for the
-/// first time may be. The places where facing sides differ are counted again, and the first
-/// that has come is noted.
+/// first time may be. The places where facing sides differ are counted again, and told if they are to be.
 fn exchange(
     map: &Map,
     p: Point,
@@ -25,16 +20,10 @@ fn exchange(
     outs: &[u32],
     ins: &[u32],
     gaps: &mut Option<u64>,
-    odd: &mut Option<OddGap>,
+    watch: &mut Watch,
 ) -> Result<bool, AllocError>
-    ensures moved { IfOk result (λ done. IsTrue done → (s : ℕ) →
-        times s (list_of line.new) + times s outs.now ≡ times s (list_of line.old) + times s ins.now) }
-    ensures tested { IfOk result (λ done. IsTrue done → EachTwo (AreTested widest map.now.chains) (list_of line.old) →
-        EachTwo (AreTested widest map.now.chains) (list_of line.new)) }
-    ensures counted { IfOk result (λ done. IsTrue done → IsCounted map.now.chains gaps.old (list_of line.old) →
-        IsCounted map.now.chains gaps.new (list_of line.new)) }
-    ensures odd { IfOk result (λ done. IsTrue done → odd.old ≡ None → (gap : OddGap) → odd.new ≡ Some gap →
-        IsOddAlong map.now.chains p (list_of line.new) gap) }
+    ensures { IfOk result (λ done. IsTrue done → HasPassed map.now.chains p (list_of line.old) (list_of line.new)
+        outs.now ins.now gaps.old gaps.new watch.old watch.new) }
 {
     let front = line.previous();
     let west = far_of(map, front);
@@ -45,31 +34,49 @@ fn exchange(
     let east = near_of(map, back);
     let was = *gaps;
     *gaps = recount(map, west, outs, ins, east, was);
-    *odd = note_odd(map, p, front, ins, back, was, *gaps);
+    watch.look_about(map, p, front, ins, back, *gaps)?;
     Ok(closes(map, line))
 }
 
-/// Does so. At a bend of a chain, the commonest vertex, one segment stands in the stead of another of the same sides.
-pub fn pass(
+/// Does so. At a bend of a chain, the commonest vertex, one segment stands in the stead of another of the same sides, and where no gaps
+/// are to be told nothing else changes.
+fn exchange_or_bend(
     map: &Map,
     p: Point,
     line: &mut Line,
     outs: &[u32],
     ins: &[u32],
     gaps: &mut Option<u64>,
-    odd: &mut Option<OddGap>,
+    watch: &mut Watch,
 ) -> Result<bool, AllocError>
-    ensures moved { IfOk result (λ done. IsTrue done → (s : ℕ) →
-        times s (list_of line.new) + times s outs.now ≡ times s (list_of line.old) + times s ins.now) }
-    ensures tested { IfOk result (λ done. IsTrue done → EachTwo (AreTested widest map.now.chains) (list_of line.old) →
-        EachTwo (AreTested widest map.now.chains) (list_of line.new)) }
-    ensures counted { IfOk result (λ done. IsTrue done → IsCounted map.now.chains gaps.old (list_of line.old) →
-        IsCounted map.now.chains gaps.new (list_of line.new)) }
-    ensures odd { IfOk result (λ done. IsTrue done → odd.old ≡ None → (gap : OddGap) → odd.new ≡ Some gap →
-        IsOddAlong map.now.chains p (list_of line.new) gap) }
+    ensures { IfOk result (λ done. IsTrue done → HasPassed map.now.chains p (list_of line.old) (list_of line.new)
+        outs.now ins.now gaps.old gaps.new watch.old watch.new) }
 {
-    if outs.len() == 1 && ins.len() == 1 && are_alike(map, outs[0], ins[0]) {
+    if outs.len() == 1 && ins.len() == 1 && !watch.looks(*gaps) && are_alike(map, outs[0], ins[0]) {
         return bend(map, line, outs[0], ins[0]);
     }
-    exchange(map, p, line, outs, ins, gaps, odd)
+    exchange(map, p, line, outs, ins, gaps, watch)
+}
+
+/// Passes the vertex at a point, with the segments that end there and those that begin there in any order. The error is that memory
+/// was refused.
+pub fn pass(
+    map: &Map,
+    p: Point,
+    line: &mut Line,
+    outs: &mut Vec<u32>,
+    ins: &mut Vec<u32>,
+    places: &mut Places,
+    gaps: &mut Option<u64>,
+    watch: &mut Watch,
+) -> Result<bool, AllocError>
+    ensures { IfOk result (λ done. IsTrue done → HasPassed map.now.chains p (list_of line.old) (list_of line.new)
+        outs.old.items ins.old.items gaps.old gaps.new watch.old watch.new) }
+{
+    order(map, outs);
+    order(map, ins);
+    go_to_first(map, p, line, places, outs)?;
+    let is_passed = exchange_or_bend(map, p, line, outs, ins, gaps, watch)?;
+    places.keep(line, ins);
+    Ok(is_passed)
 }

@@ -1,5 +1,5 @@
 //! The points of polygons, on the way of a sweep.
-ghost use Rattle.std.specs.Prelude.{◌≡◌, ◌⊎◌, ◌<◌, ℕ, false, true, All, Contains, IfOk, OnOk, IsTrue, length, slice_index_or};
+ghost use Rattle.std.specs.Prelude.{◌≡◌, ◌⊎◌, ◌<◌, ℕ, false, true, All, Contains, IfOk, IsTrue, length, slice_index_or};
 ghost use Rattle.tl_inside.specs.Placed.{ArePlaced};
 ghost use Rattle.tl_sweep.specs.Keeping.Facing.{IsCounted};
 ghost use Rattle.tl_line.specs.Lined.{list_of};
@@ -15,13 +15,13 @@ use tl_line::{Events, Line, height};
 
 /// The point of a polygon, by its height.
 #[derive(Clone, Copy)]
-struct Spot {
+struct InnerPoint {
     height: i64,
     latitude: i32,
     polygon: u32,
 }
 
-impl Ranked for Spot {
+impl Ranked for InnerPoint {
     /// Its height above the least that there is.
     fn rank(&self) -> u64 {
         self.height.abs_diff(i64::MIN)
@@ -30,21 +30,21 @@ impl Ranked for Spot {
 
 /// The points of polygons from the lowest to the highest, and the polygons whose points were found to be placed.
 #[derive(Drop)]
-pub struct Spots {
-    spots: Vec<Spot>,
+pub struct InnerPoints {
+    spots: Vec<InnerPoint>,
     next: usize,
     marks: Vec<bool>,
 }
 
-impl Spots {
+impl InnerPoints {
     /// The points of a map's polygons, none of which is found to be placed yet.
-    pub fn new(alloc: Global, map: &Map) -> Result<Spots, AllocError>
+    pub fn new(alloc: Global, map: &Map) -> Result<InnerPoints, AllocError>
         ensures { IfOk result (λ spots. AreMarks map.now spots.marks.items) }
     {
         let marks = vec![in alloc; false; map.polygons() as usize]?;
         let mut spots = list_spots(alloc, map)?;
         presort_by_rank(alloc, &mut spots)?;
-        Ok(Spots {
+        Ok(InnerPoints {
             spots,
             next: 0,
             marks,
@@ -96,20 +96,20 @@ impl Spots {
     }
 }
 
-/// Lists the polygons of a map that have no mark, in the place of those that were listed.
-pub fn list_unmarked(map: &Map, marks: &[bool], polygons: &mut Vec<u32>) -> Result<(), AllocError>
-    ensures known { OnOk result (All (λ p. p < length map.now.polygons) polygons.new.items) }
-    ensures others { OnOk result ((p : ℕ) → p < length map.now.polygons →
-        Contains polygons.new.items p ⊎ (slice_index_or marks.now p false ≡ true)) }
+/// The polygons of a map that have no mark.
+pub fn list_unmarked(alloc: Global, map: &Map, marks: &[bool]) -> Result<Vec<u32>, AllocError>
+    ensures known { IfOk result (λ polygons. All (λ p. p < length map.now.polygons) polygons.items) }
+    ensures others { IfOk result (λ polygons. (p : ℕ) → p < length map.now.polygons →
+        Contains polygons.items p ⊎ (slice_index_or marks.now p false ≡ true)) }
 {
-    polygons.clear();
+    let mut polygons = Vec::new(alloc);
     for p in 0..map.polygons() {
         if is_marked(marks, p) {
             continue;
         }
         polygons.push(p)?;
     }
-    Ok(())
+    Ok(polygons)
 }
 
 /// Whether a polygon is marked.
@@ -123,11 +123,11 @@ fn is_marked(marks: &[bool], polygon: u32) -> bool
 }
 
 /// The points of a map's polygons.
-fn list_spots(alloc: Global, map: &Map) -> Result<Vec<Spot>, AllocError> {
+fn list_spots(alloc: Global, map: &Map) -> Result<Vec<InnerPoint>, AllocError> {
     let mut spots = Vec::with_capacity(alloc, map.polygons() as usize)?;
     for polygon in 0..map.polygons() {
         let point = map.polygon(polygon).point;
-        spots.push(Spot {
+        spots.push(InnerPoint {
             height: height(point),
             latitude: point.y,
             polygon,
@@ -137,7 +137,7 @@ fn list_spots(alloc: Global, map: &Map) -> Result<Vec<Spot>, AllocError> {
 }
 
 /// Whether a point is below the events from a place on.
-fn is_below(spot: Spot, events: &Events, from: usize) -> bool {
+fn is_below(spot: InnerPoint, events: &Events, from: usize) -> bool {
     from < events.len()
         && spot.latitude <= events.point(from).y
         && spot.height < height(events.point(from))

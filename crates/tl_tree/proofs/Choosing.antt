@@ -6,7 +6,7 @@ use Rattle.tl_geom.specs.declared.rect.Rect.{Rect}
 use Rattle.tl_geom.specs.Rectangle.{AreMeeting}
 use Rattle.tl_index.specs.Pairs.{indices, row_sum, pair_sum, meeting}
 use Rattle.tl_index.specs.Searches.{IsFreePair, IsBeyond, chosen_pairs}
-use Rattle.tl_tree.specs.Keeping.Walking.{Counts, Enough, IsSpent}
+use Rattle.tl_tree.specs.Keeping.Walking.{CountsChosen, Enough, IsSpent}
 use Rattle.tl_tree.proofs.Apart.{turned}
 use Rattle.tl_tree.proofs.Leaving.{enough_from}
 use Rattle.tl_tree.proofs.PairTests.{below_or, free-told, meeting-1, meeting-swap}
@@ -86,9 +86,9 @@ pairs-ordered chosen (suc n) = omega (arith, row-ordered chosen n n (omega arith
 pub beyond : {C : Type 0} (n : ℕ) (b : ℕ → Rect) (tells : ℕ → ℕ → Option C → Type 0) (budget : ℕ) → IsSpent n b tells (λ f. pair_sum f (indices n)) budget → IsBeyond n b tells budget
 beyond n b tells budget h =
     let chosen = h.spent.chosen in
-    let m : Counts n chosen (meeting b) =
+    let m : CountsChosen n chosen (meeting b) =
     record { turned = meeting-swap b; each = λ i j l k t. let e = meeting-1 b i j (λ e. omega (arith, e, l)) (h.spent.free i j l k t).meet in omega (arith, e) } in
-    let o : Counts n chosen (ordered chosen) = record { turned = ordered-turned chosen; each = λ i j l k t. ordered-each chosen i j l t } in
+    let o : CountsChosen n chosen (ordered chosen) = record { turned = ordered-turned chosen; each = λ i j l k t. ordered-each chosen i j l t } in
     record {
       more = omega (arith, h.spent.counted (meeting b) m, h.further);
       chosen = chosen;

@@ -3,7 +3,7 @@ use Rattle.std.proofs.Common.{◌≡◌, ℕ, ◌≤◌, Bool, true, false, Opti
 use Rattle.tl_geom.specs.declared.rect.Rect.{Rect}
 use Rattle.tl_index.specs.Pairs.{indices, pair_sum, meeting, AllPairs, AreFree}
 use Rattle.tl_index.specs.Searches.{IsClear, MayAnswer, meeting_pairs}
-use Rattle.tl_tree.specs.declared.search.Conflict.{Conflict}
+use Rattle.tl_index.specs.declared.items.Conflict.{Conflict}
 use Rattle.tl_tree.specs.declared.search.Progress.{Progress}
 use Rattle.tl_tree.specs.Keeping.Walking.{Stops, MayLeave, answer_of}
 use Rattle.tl_index.specs.Trees.{Forest, leaf_items}

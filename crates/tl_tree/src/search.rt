@@ -18,13 +18,7 @@ use crate::leaf::test_leaf;
 use crate::near::{LIST, do_meet, list_near};
 use crate::walk::{Below, Tree, Trees};
 use crate::{Items, Search};
-
-/// Two items that conflict, and what is told of them.
-pub struct Conflict<C> {
-    pub i: u32,
-    pub j: u32,
-    pub c: C,
-}
+use tl_index::Conflict;
 
 /// How far a search is. Each part of it tells whether it goes on; where it doesn't, a conflict was found or the budget
 /// is spent.

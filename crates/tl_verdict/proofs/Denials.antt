@@ -1,5 +1,5 @@
 -- What is true of a fault and of what it faults can't be true of one map and one certificate.
-use Rattle.std.proofs.Common.{◌≡◌, ℕ, zero, suc, ◌-◌, ◌<◌, ◌≤◌, inl, inr, Some, List, sym, ◌∙◌, arith}
+use Rattle.std.proofs.Common.{◌≡◌, ℕ, Bool, false, zero, suc, ◌-◌, ◌<◌, ◌≤◌, inl, inr, Some, List, sym, ◌∙◌, arith}
 use Rattle.std.proofs.lemmas.Bool.{cases_lt}
 use Rattle.std.proofs.lemmas.Option.{slice_get_within}
 use Rattle.tl_geom.specs.declared.rect.Rect.{Rect}
@@ -24,10 +24,10 @@ use Rattle.tl_inside.specs.Placed.{ArePlaced, IsTrueMisplaced}
 use Rattle.tl_cells.specs.Cells.{CellsAgree, AreCellsAtOdds}
 use Rattle.tl_cert.specs.Certificates.{TheCertificate}
 use Rattle.tl_verdict.specs.declared.fault.MapFault.{MapFault}
-use Rattle.tl_verdict.specs.declared.fault.MapFault.TheVariants.{Records, Meet, Side, PolygonPoint, Cell}
+use Rattle.tl_verdict.specs.declared.fault.MapFault.TheVariants.{Records, Meet, Side, PolygonPoint, Cell, Face}
 use Rattle.tl_verdict.specs.declared.fault.CertFault.{CertFault}
 use Rattle.tl_verdict.specs.declared.fault.CertFault.TheVariants as fault
-use Rattle.tl_verdict.specs.Sound.{IsSound}
+use Rattle.tl_verdict.specs.Sound.{IsSound, IsSoundFor}
 use Rattle.tl_verdict.specs.Truth.{IsTrueOfMap, IsTrueOfCert, IsOfDarts}
 use Rattle.tl_verdict.specs.Valid.{AllowsSearch, IsValid}
 
@@ -46,12 +46,27 @@ misplaced_denies m (InOther polygon other) true placed =
     let lt = slice_get_within m.polygons true.q (record { key = other; point = true.other_point }) true.other_of in
     true.within ((placed true.p (record { key = polygon; point = true.point }) true.of).clear true.q lt true.two)
 
-pub not_sound : (m : TheMap) (f : MapFault) → IsTrueOfMap m f → ¬ IsSound m
-not_sound m (Records f) true sound = absurd true
-not_sound m (Meet meet) true sound = meet_not_planar m.chains meet.s meet.t meet.at true.ordered true.told.meet sound.planar
-not_sound m (Side node first next) true sound = true.differ (sound.sides first next true.is_next)
-not_sound m (PolygonPoint fault) true sound = misplaced_denies m fault true sound.points
-not_sound m (Cell odds) true sound = odds_deny m.chains odds.first odds.second odds.first_id odds.second_id true sound.cells
+-- a fault that is true denies what is asked
+pub not_sound : (faces : Bool) (m : TheMap) (f : MapFault) → IsTrueOfMap faces m f → ¬ IsSoundFor faces m
+not_sound faces m (Records f) true sound = absurd true
+not_sound faces m (Meet meet) true sound = meet_not_planar m.chains meet.s meet.t meet.at true.ordered true.told.meet sound.sound.planar
+not_sound faces m (Side node first next) true sound = true.differ (sound.sound.sides first next true.is_next)
+not_sound faces m (PolygonPoint fault) true sound = misplaced_denies m fault true sound.sound.points
+not_sound faces m (Cell odds) true sound = odds_deny m.chains odds.first odds.second odds.first_id odds.second_id true sound.sound.cells
+not_sound faces m (Face fault) true sound = true.1.1.1 (sound.facing true.0)
+
+-- where faces aren't asked for, it denies that the map is sound
+pub not_sound_alone : (m : TheMap) (f : MapFault) → IsTrueOfMap false m f → ¬ IsSound m
+not_sound_alone m f true sound = not_sound false m f true (record { sound = sound; facing = λ asked. absurd (cc) })
+
+-- a fault that is true where faces aren't asked for is true where they are
+pub true_still : (faces : Bool) (m : TheMap) (f : MapFault) → IsTrueOfMap false m f → IsTrueOfMap faces m f
+true_still faces m (Records f) true = absurd true
+true_still faces m (Meet meet) true = true
+true_still faces m (Side node first next) true = true
+true_still faces m (PolygonPoint fault) true = true
+true_still faces m (Cell odds) true = true
+true_still faces m (Face fault) true = absurd (cc)
 
 -- a rectangle that is too small doesn't cover what is below it
 small_uncovers : (bounds : ℕ → Rect) (f : Forest) (k : ℕ) → IsTooSmall bounds f k → ¬ CoversBelow bounds f

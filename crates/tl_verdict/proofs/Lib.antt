@@ -2,3 +2,4 @@ pub mod NodeCounts
 pub mod Denials
 pub mod OneMap
 pub mod Deciding
+pub mod Asked

@@ -2,7 +2,7 @@
 use Rattle.std.specs.Prelude.{Ok, Err, ⊤}
 use Rattle.tl_verdict.specs.declared.verdict.Verdict.{Verdict}
 use Rattle.tl_verdict.specs.declared.verdict.Verdict.TheVariants as verdict
-use Rattle.tl_verdict.specs.declared.stop.Stop.TheVariants.{Record, Memory, Device, Budget}
+use Rattle.tl_output.specs.declared.stop.Stop.TheVariants.{Record, Memory, Device, Budget}
 use Rattle.tl_verdict.specs.Verdicts.{Answer}
 
 -- the verdict is that the map is sound

@@ -2,11 +2,11 @@
 use Rattle.std.specs.Prelude.{ℕ, List, ◌++◌, Option, None, Some, codes, decimal}
 use Rattle.std.specs.Fmt.{signed_decimal}
 use Rattle.tl_geom.specs.declared.point.Point.{Point}
-use Rattle.tl_geom.specs.declared.rational.Rational.{Rational}
 use Rattle.tl_key.specs.KeyText.{key_text}
 use Rattle.tl_drawn.specs.Messages.{fault_text}
 use Rattle.tl_inside.specs.declared.misplaced.Misplaced.{Misplaced}
 use Rattle.tl_inside.specs.declared.misplaced.Misplaced.TheVariants.{OnChain, Outside, InOther}
+use Rattle.tl_faces.specs.FaultTexts.{rational_text, face_fault_text}
 use Rattle.tl_index.specs.declared.fault.TreeFault.{TreeFault}
 use Rattle.tl_index.specs.declared.fault.TreeFault.TheVariants.{UnknownIndex, IndexTwice, IndexMissing, RectTooSmall}
 use Rattle.tl_sides.specs.declared.fault.RoundFault.{RoundFault}
@@ -14,7 +14,7 @@ use Rattle.tl_sides.specs.declared.fault.RoundFault.TheVariants as round
 use Rattle.tl_sides.specs.declared.fault.WalkFault.{WalkFault}
 use Rattle.tl_sides.specs.declared.fault.WalkFault.TheVariants as walk
 use Rattle.tl_verdict.specs.declared.fault.MapFault.{MapFault}
-use Rattle.tl_verdict.specs.declared.fault.MapFault.TheVariants.{Records, Meet, Side, PolygonPoint, Cell}
+use Rattle.tl_verdict.specs.declared.fault.MapFault.TheVariants.{Records, Meet, Side, PolygonPoint, Cell, Face}
 use Rattle.tl_verdict.specs.declared.fault.CertFault.{CertFault}
 use Rattle.tl_verdict.specs.declared.fault.CertFault.TheVariants.{Text, Counts, Tree, TooDeep, Round, Walk}
 use Rattle.tl_verdict.specs.declared.verdict.Report.{Report}
@@ -26,10 +26,6 @@ segment_text tlid s = codes "tlid " ++ decimal tlid ++ codes " segment " ++ deci
 -- the point of a node: its longitude and its latitude
 abbrev pub node_text : Point → List ℕ
 node_text p = signed_decimal p.x ++ codes " " ++ signed_decimal p.y
-
--- a rational point: two numerators and their denominator
-abbrev pub rational_text : Rational → List ℕ
-rational_text r = signed_decimal r.x ++ codes " " ++ signed_decimal r.y ++ codes " " ++ signed_decimal r.d
 
 -- what is wrong with where a polygon's point lies
 abbrev pub misplaced_text : Misplaced → List ℕ
@@ -47,6 +43,7 @@ map_fault_text (Side node first next) = codes "map fault G2 Side at " ++ node_te
 map_fault_text (PolygonPoint fault) = codes "map fault " ++ misplaced_text fault
 map_fault_text (Cell odds) = codes "map fault G6 Cell darts " ++ decimal odds.first ++ codes " " ++ decimal odds.second
     ++ codes " ids " ++ decimal odds.first_id ++ codes " " ++ decimal odds.second_id
+map_fault_text (Face fault) = face_fault_text fault
 
 -- what is wrong with a tree, and at which index or node
 abbrev pub tree_text : TreeFault → List ℕ

@@ -1,5 +1,5 @@
 -- What is said of records beside the text of a certificate.
-use Rattle.std.specs.Prelude.{◌≡◌, ◌⊎◌, ℕ, Some, None, Ok, Err, ⊤}
+use Rattle.std.specs.Prelude.{◌≡◌, ◌⊎◌, ℕ, Bool, Some, None, Ok, Err, ⊤}
 use Rattle.tl_record.specs.Failures.{one_more}
 use Rattle.tl_record.specs.Records.{Records as AllRecords}
 use Rattle.tl_drawn.specs.Faults.{IsTrueOf}
@@ -9,8 +9,8 @@ use Rattle.tl_planar.specs.Searching.{AreBeyond}
 use Rattle.tl_verdict.specs.declared.fault.MapFault.{MapFault}
 use Rattle.tl_verdict.specs.declared.fault.MapFault.TheVariants.{Records}
 use Rattle.tl_verdict.specs.declared.verdict.Verdict.TheVariants as verdict
-use Rattle.tl_verdict.specs.declared.stop.Stop.{Stop}
-use Rattle.tl_verdict.specs.declared.stop.Stop.TheVariants.{Record, Memory, Device, Budget}
+use Rattle.tl_output.specs.declared.stop.Stop.{Stop}
+use Rattle.tl_output.specs.declared.stop.Stop.TheVariants.{Record, Memory, Device, Budget}
 use Rattle.tl_verdict.specs.Truth.{IsTrueOfMap}
 use Rattle.tl_verdict.specs.Verdicts.{Answer}
 
@@ -22,9 +22,9 @@ pub record HaveMap (all : AllRecords) (P : TheMap → Type 0) : Type 0 where
 
 -- what a fault says of records: no line is refused and they have no map, for this reason; or they have one, and the fault is
 -- true of it
-abbrev pub IsTrueOfRecords : AllRecords → MapFault → Type 0
-IsTrueOfRecords all (Records fault) = (all.refusal ≡ None) × IsTrueOf (records_in all) fault
-IsTrueOfRecords all fault = HaveMap all (λ m. IsTrueOfMap m fault)
+abbrev pub IsTrueOfRecords : (faces : Bool) → AllRecords → MapFault → Type 0
+IsTrueOfRecords faces all (Records fault) = (all.refusal ≡ None) × IsTrueOf (records_in all) fault
+IsTrueOfRecords faces all fault = HaveMap all (λ m. IsTrueOfMap faces m fault)
 
 -- why records aren't decided: this line is the first that is refused, memory was refused, a read failed, or more pairs of
 -- segments of their map than the budget have rectangles that meet, and as many of these as the budget don't conflict

@@ -9,8 +9,8 @@ use Rattle.tl_cert.specs.Text.{head_line, counts_line, tree_lines}
 use Rattle.tl_cert.specs.Beginnings.{IsTextOf, IsRefused}
 use Rattle.tl_verdict.specs.declared.fault.CertFault.{CertFault}
 use Rattle.tl_verdict.specs.declared.fault.CertFault.TheVariants.{Text}
-use Rattle.tl_verdict.specs.declared.stop.Stop.{Stop}
-use Rattle.tl_verdict.specs.declared.stop.Stop.TheVariants.{Record, Memory, Device, Budget}
+use Rattle.tl_output.specs.declared.stop.Stop.{Stop}
+use Rattle.tl_output.specs.declared.stop.Stop.TheVariants.{Record, Memory, Device, Budget}
 use Rattle.tl_verdict.specs.Valid.{AllowsSearch, IsValid}
 use Rattle.tl_verdict.specs.Truth.{IsTrueOfCert}
 use Rattle.tl_verdict.specs.Verdicts.{Answer}
@@ -44,8 +44,3 @@ MayStopReading m budget (Record line cause) = ⊥
 MayStopReading m budget Memory = ⊤
 MayStopReading m budget Device = ⊤
 MayStopReading m budget Budget = AreBeyond m.chains budget
-
--- `Device` is answered where a read of the certificate failed, and nowhere else; the count of failures goes from old to new
-abbrev pub TellsDevice : ℕ → ℕ → Answer → Type 0
-TellsDevice old new (Err Device) = new ≡ one_more old
-TellsDevice old new other = new ≡ old

@@ -1,5 +1,5 @@
 -- What each fault says.
-use Rattle.std.specs.Prelude.{⊤, ◌≡◌, ◌≢◌, ℕ, ◌<◌, Some}
+use Rattle.std.specs.Prelude.{⊤, ◌≡◌, ◌≢◌, ℕ, ◌<◌, Bool, IsTrue, Some}
 use Rattle.tl_geom.specs.declared.point.Point.{Point}
 use Rattle.tl_county.specs.TheMap.{TheMap}
 use Rattle.tl_county.specs.Darts.{dart_start, dart_left}
@@ -12,11 +12,14 @@ use Rattle.tl_sides.specs.Rounds.{IsRoundFault}
 use Rattle.tl_sides.specs.Walks.{IsWalkFault}
 use Rattle.tl_inside.specs.Placed.{IsTrueMisplaced}
 use Rattle.tl_cells.specs.Cells.{AreCellsAtOdds}
+use Rattle.tl_faces.specs.Faults.{IsTrueFaceFault}
+use Rattle.tl_faces.specs.Truth.{AreFacesTrue}
 use Rattle.tl_cert.specs.Certificates.{TheCertificate}
 use Rattle.tl_verdict.specs.declared.fault.MapFault.{MapFault}
-use Rattle.tl_verdict.specs.declared.fault.MapFault.TheVariants.{Records, Meet, Side, PolygonPoint, Cell}
+use Rattle.tl_verdict.specs.declared.fault.MapFault.TheVariants.{Records, Meet, Side, PolygonPoint, Cell, Face}
 use Rattle.tl_verdict.specs.declared.fault.CertFault.{CertFault}
 use Rattle.tl_verdict.specs.declared.fault.CertFault.TheVariants.{Text, Counts, Tree, TooDeep, Round, Walk}
+use Rattle.tl_verdict.specs.Sound.{IsSound}
 use Rattle.tl_verdict.specs.Valid.{segments_of, AreCounts, greatest_depth}
 
 -- about the node the second dart is next after the first, and what is on the left of the first isn't on the right of the
@@ -27,13 +30,15 @@ pub record AreAtOdds (m : TheMap) (node : Point) (first next : ℕ) : Type 0 whe
   pub differ : dart_left m.chains first ≢ dart_right m.chains next
 
 -- what a fault says of a map: two segments meet where they may not, sides don't agree, a polygon's point is misplaced, or
--- zero-cell ids don't agree; that its records have a fault is never true of a map
-abbrev pub IsTrueOfMap : TheMap → MapFault → Type 0
-IsTrueOfMap m (Records fault) = ⊥
-IsTrueOfMap m (Meet meet) = IsTrueMeet m.chains meet
-IsTrueOfMap m (Side node first next) = AreAtOdds m node first next
-IsTrueOfMap m (PolygonPoint fault) = IsTrueMisplaced m fault
-IsTrueOfMap m (Cell odds) = AreCellsAtOdds m.chains odds.first odds.second odds.first_id odds.second_id
+-- zero-cell ids don't agree; or faces are asked for, nothing of this is so, and faces disagree, so that they aren't true. That its
+-- records have a fault is never true of a map
+abbrev pub IsTrueOfMap : (faces : Bool) → TheMap → MapFault → Type 0
+IsTrueOfMap faces m (Records fault) = ⊥
+IsTrueOfMap faces m (Meet meet) = IsTrueMeet m.chains meet
+IsTrueOfMap faces m (Side node first next) = AreAtOdds m node first next
+IsTrueOfMap faces m (PolygonPoint fault) = IsTrueMisplaced m fault
+IsTrueOfMap faces m (Cell odds) = AreCellsAtOdds m.chains odds.first odds.second odds.first_id odds.second_id
+IsTrueOfMap faces m (Face fault) = IsTrue faces × (IsSound m × (IsTrueFaceFault m fault × ¬ AreFacesTrue m.chains))
 
 -- what a fault says of a certificate beside a map; that no certificate has the text is never true of a certificate
 abbrev pub IsTrueOfCert : TheMap → TheCertificate → CertFault → Type 0

@@ -6,13 +6,13 @@ use Rattle.tl_county.specs.Nodes.{AreNodes}
 use Rattle.tl_planar.specs.Searching.{AreBeyond}
 use Rattle.tl_sides.specs.Walks.{AreWalks}
 use Rattle.tl_verdict.specs.declared.fault.MapFault.{MapFault}
-use Rattle.tl_verdict.specs.declared.fault.MapFault.TheVariants.{Records, Meet}
+use Rattle.tl_verdict.specs.declared.fault.MapFault.TheVariants.{Records, Meet, Face}
 use Rattle.tl_verdict.specs.declared.fault.CertFault.{CertFault}
 use Rattle.tl_verdict.specs.declared.verdict.Report.{Report}
 use Rattle.tl_verdict.specs.declared.verdict.Verdict.{Verdict}
 use Rattle.tl_verdict.specs.declared.verdict.Verdict.TheVariants as verdict
-use Rattle.tl_verdict.specs.declared.stop.Stop.{Stop}
-use Rattle.tl_verdict.specs.declared.stop.Stop.TheVariants.{Record, Memory, Device, Budget}
+use Rattle.tl_output.specs.declared.stop.Stop.{Stop}
+use Rattle.tl_output.specs.declared.stop.Stop.TheVariants.{Record, Memory, Device, Budget}
 use Rattle.tl_verdict.specs.Valid.{segments_of}
 
 abbrev pub Answer : Type 0
@@ -27,6 +27,12 @@ IfSound other P = ⊤
 abbrev pub OnSound : Answer → Type 0 → Type 0
 OnSound answer P = IfSound answer (λ report. P)
 
+-- so that is true, if the answer is that the map is sound, but for its faces at most
+abbrev pub OnSoundButFaces : Answer → Type 0 → Type 0
+OnSoundButFaces (Ok (verdict.Sound report)) P = P
+OnSoundButFaces (Ok (verdict.MapFault (Face fault))) P = P
+OnSoundButFaces other P = ⊤
+
 -- if the answer is a fault of the map, the fault is so
 abbrev pub IfMapFault : Answer → (MapFault → Type 0) → Type 0
 IfMapFault (Ok (verdict.MapFault fault)) P = P fault
@@ -37,9 +43,11 @@ abbrev pub IfCertFault : Answer → (CertFault → Type 0) → Type 0
 IfCertFault (Ok (verdict.CertFault fault)) P = P fault
 IfCertFault other P = ⊤
 
--- so that is true, if the answer comes of the search or behind it: a fault of the map itself, or that the budget is spent
+-- so that is true, if the answer comes of the search or behind it: a fault of the map itself, or that the budget is spent. Of faces
+-- that disagree more is said
 abbrev pub OnSearched : Answer → Type 0 → Type 0
 OnSearched (Ok (verdict.MapFault (Records fault))) P = ⊤
+OnSearched (Ok (verdict.MapFault (Face fault))) P = ⊤
 OnSearched (Ok (verdict.MapFault fault)) P = P
 OnSearched (Err Budget) P = P
 OnSearched other P = ⊤

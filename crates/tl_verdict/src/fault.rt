@@ -5,6 +5,7 @@ ghost use Rattle.tl_verdict.specs.Messages.{tree_text, round_text, walk_text};
 
 use std::fmt;
 use tl_cells::CellsAtOdds;
+use tl_faces::FaceFault;
 use tl_geom::Point;
 use tl_index::TreeFault;
 use tl_inside::Misplaced;
@@ -16,7 +17,7 @@ use tl_sides::{RoundFault, WalkFault};
 #[derive(Clone, Copy, PartialEq, Eq)]
 pub enum MapFault {
     /// The records have no map: M1 to M13.
-    Records(tl_drawn::MapFault),
+    Records(tl_drawn::RecordFault),
     /// G1: two segments share a point that they may not share.
     Meet(Meet),
     /// G2: about the node, the second dart is next after the first, and what lies on the left of the first isn't what
@@ -26,6 +27,9 @@ pub enum MapFault {
     PolygonPoint(Misplaced),
     /// G6: two darts have one zero-cell id and start at two points, or have two ids and start at one.
     Cell(CellsAtOdds),
+    /// G7: the map is sound, but two segments that face one another name different sides there, or one that faces the outside
+    /// names a polygon. It is told only where faces are asked for.
+    Face(FaceFault),
 }
 
 impl fmt::Display for MapFault {
@@ -48,6 +52,7 @@ impl fmt::Display for MapFault {
             }
             MapFault::PolygonPoint(fault) => PointText(*fault).fmt(f),
             MapFault::Cell(odds) => CellText(*odds).fmt(f),
+            MapFault::Face(fault) => fault.fmt(f),
         }
     }
 }

@@ -1,6 +1,6 @@
 //! Laws of the definitions, each the contract of a function that does nothing.
 
-ghost use Rattle.std.specs.Prelude.{◌↔◌, ℕ, List, IfOk, IfErr};
+ghost use Rattle.std.specs.Prelude.{◌↔◌, ℕ, Bool, IsTrue, List, IfOk, IfErr};
 ghost use Rattle.tl_record.specs.Records.{Records};
 ghost use Rattle.tl_county.specs.TheMap.{TheMap};
 ghost use Rattle.tl_planar.specs.Planar.{IsPlanar};
@@ -8,10 +8,11 @@ ghost use Rattle.tl_planar.specs.Searching.{AreBeyond};
 ghost use Rattle.tl_sides.specs.Sides.{SidesAgree};
 ghost use Rattle.tl_inside.specs.Placed.{ArePlaced};
 ghost use Rattle.tl_cells.specs.Cells.{CellsAgree};
+ghost use Rattle.tl_faces.specs.Truth.{AreFacesTrue};
 ghost use Rattle.tl_cert.specs.Certificates.{TheCertificate};
 ghost use Rattle.tl_verdict.specs.declared.fault.MapFault.{MapFault};
 ghost use Rattle.tl_verdict.specs.declared.fault.CertFault.{CertFault};
-ghost use Rattle.tl_verdict.specs.Sound.{IsSound, AreClosed};
+ghost use Rattle.tl_verdict.specs.Sound.{IsSoundFor, AreClosed};
 ghost use Rattle.tl_verdict.specs.Valid.{IsValid};
 ghost use Rattle.tl_verdict.specs.Truth.{IsTrueOfMap, IsTrueOfCert};
 ghost use Rattle.tl_verdict.specs.Texts.{IsValidText, IsTrueOfText};
@@ -19,9 +20,9 @@ ghost use Rattle.tl_verdict.specs.Records.{HaveMap, IsTrueOfRecords, MayStopOn};
 ghost use Rattle.tl_verdict.specs.Verdicts.{Answer, OnSound, IfMapFault, IfCertFault};
 ghost use Rattle.tl_verdict.specs.Deciding.{SaysSound, PassesOrStops};
 
-/// No fault is true of a sound map. As each fault that is answered is true, none is answered of one.
+/// No fault is true of a map that keeps what is asked of it. As each fault that is answered is true, none is answered of such a map.
 pub fn a_sound_map_has_no_fault()
-    ensures { (m : TheMap) (fault : MapFault) → IsTrueOfMap m fault → ¬ IsSound m }
+    ensures { (faces : Bool) (m : TheMap) (fault : MapFault) → IsTrueOfMap faces m fault → ¬ IsSoundFor faces m }
 {}
 
 /// No fault is true of a certificate that is valid for the map. So a sound map with a valid certificate is told to be
@@ -30,9 +31,10 @@ pub fn a_valid_certificate_has_no_fault()
     ensures { (m : TheMap) (c : TheCertificate) (fault : CertFault) → IsTrueOfCert m c fault → ¬ IsValid m c }
 {}
 
-/// No fault is true of records whose map is sound: neither of the records nor of their map.
+/// No fault is true of records whose map keeps what is asked of it: neither of the records nor of their map.
 pub fn records_of_a_sound_map_have_no_fault()
-    ensures { (all : Records) (fault : MapFault) → IsTrueOfRecords all fault → ¬ HaveMap all IsSound }
+    ensures { (faces : Bool) (all : Records) (fault : MapFault) → IsTrueOfRecords faces all fault →
+        ¬ HaveMap all (IsSoundFor faces) }
 {}
 
 /// No fault is true of the text of a certificate that is valid for the map: such a text has one certificate, and no other.
@@ -41,21 +43,23 @@ pub fn a_valid_text_has_no_fault()
 {}
 
 /// So where a certificate is valid for the map, [`crate::check_map`] decides: if it isn't stopped, it answers `Sound` exactly
-/// where the map is sound. It is said of each answer that keeps its clauses `planar` to `cells`, `map_fault` and `cert_fault`.
+/// where the map keeps what is asked of it. It is said of each answer that keeps its clauses `planar` to `faces`, `map_fault` and
+/// `cert_fault`.
 pub fn a_valid_certificate_decides()
-    ensures { (m : TheMap) (c : TheCertificate) (answer : Answer) → IsValid m c → OnSound answer (IsPlanar m.chains) →
+    ensures { (faces : Bool) (m : TheMap) (c : TheCertificate) (answer : Answer) → IsValid m c → OnSound answer (IsPlanar m.chains) →
         OnSound answer (SidesAgree m.chains) → OnSound answer (AreClosed m) → OnSound answer (ArePlaced m) →
-        OnSound answer (CellsAgree m.chains) → IfMapFault answer (IsTrueOfMap m) → IfCertFault answer (IsTrueOfCert m c) →
-        IfOk answer (λ verdict. SaysSound verdict ↔ IsSound m) }
+        OnSound answer (CellsAgree m.chains) → OnSound answer (IsTrue faces → AreFacesTrue m.chains) →
+        IfMapFault answer (IsTrueOfMap faces m) → IfCertFault answer (IsTrueOfCert m c) →
+        IfOk answer (λ verdict. SaysSound verdict ↔ IsSoundFor faces m) }
 {}
 
-/// And of records whose map is sound, with the text of a certificate that is valid for it, [`crate::check_with`] answers
-/// `Sound` or stops, for want of memory, for a device, or for the budget; for the budget only where more pairs of the map's
-/// segments have rectangles that meet, and as many of these as the budget don't conflict. It is said of each answer that
-/// keeps its clauses `map_fault`, `cert_fault` and `stops`.
+/// And of records whose map keeps what is asked of it, with the text of a certificate that is valid for it,
+/// [`crate::check_with`] answers `Sound` or stops, for want of memory, for a device, or for the budget; for the budget only
+/// where more pairs of the map's segments have rectangles that meet, and as many of these as the budget don't conflict. It is
+/// said of each answer that keeps its clauses `map_fault`, `cert_fault` and `stops`.
 pub fn a_sound_map_with_a_valid_text_passes()
-    ensures { (all : Records) (spelt : List ℕ) (budget : ℕ) (answer : Answer) → HaveMap all IsSound →
-        HaveMap all (λ m. IsValidText m spelt) → IfMapFault answer (IsTrueOfRecords all) →
+    ensures { (faces : Bool) (all : Records) (spelt : List ℕ) (budget : ℕ) (answer : Answer) → HaveMap all (IsSoundFor faces) →
+        HaveMap all (λ m. IsValidText m spelt) → IfMapFault answer (IsTrueOfRecords faces all) →
         IfCertFault answer (λ fault. HaveMap all (λ m. IsTrueOfText m spelt fault)) → IfErr answer (MayStopOn all budget) →
         PassesOrStops (HaveMap all (λ m. AreBeyond m.chains budget)) answer }
 {}

@@ -13,5 +13,5 @@ mod verdict;
 
 pub use fault::{CertFault, MapFault};
 pub use reports::report;
-pub use stop::Stop;
+pub use stop::{fault_of_records, fault_of_text};
 pub use verdict::{Report, Verdict};

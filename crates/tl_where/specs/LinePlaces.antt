@@ -2,7 +2,7 @@
 use Rattle.std.specs.Prelude.{◌≡◌, ℕ, zero, suc, ◌+◌, ◌-◌, nat_le, List, [], ◌∷◌, ◌++◌, Option, None, Some, option_map, length, map, sum, take, slice_get, if◌then◌else◌}
 use Rattle.tl_record.specs.Lines.{raw_lines}
 use Rattle.tl_text.specs.Joining.{joined}
-use Rattle.tl_where.specs.declared.place.Place.{Place}
+use Rattle.tl_where.specs.declared.place.TextLine.{TextLine}
 
 -- the raw line with this number, where there is one
 abbrev pub line_at : ℕ → List (List ℕ) → Option (List ℕ)
@@ -28,7 +28,7 @@ place_of [] number = None
 place_of (count ∷ counts) number = if nat_le number count then Some (0, number) else option_map text_on (place_of counts (number - count))
 
 -- a place as a pair
-abbrev pub place_pair : Place → ℕ × ℕ
+abbrev pub place_pair : TextLine → ℕ × ℕ
 place_pair place = (place.text, place.line)
 
 -- the line with this number of the texts as one text is that line of that text; or there is none

@@ -16,4 +16,4 @@ pub use columns::columns_of;
 pub use degrees::{COORDINATE_ROOM, is_in_reach, push_degrees};
 pub use field_columns::FieldColumns;
 pub use lines::{BLOCK, Found, count_lines, find_line};
-pub use place::{Place, place_of};
+pub use place::{TextLine, place_of};

@@ -2,12 +2,12 @@
 
 ghost use Rattle.std.specs.Prelude.{◌≡◌, [], IfOk, min, nat_lt};
 ghost use Rattle.std.specs.Io.KnownBytes.{prepend_known};
-ghost use Rattle.tl_record.specs.Searching.{CountsSkip, SkipsLine};
+ghost use Rattle.tl_record.specs.Searching.{CountsSkip};
 ghost use Rattle.tl_record.specs.Limits.{most_line_bytes};
 ghost use Rattle.tl_where.specs.declared.lines.Found.TheVariants.{Line};
 ghost use Rattle.tl_where.specs.Finding.{Answers, IsCount, IsFound, IsWithin, Passes};
 
-use tl_record::{Fetched, LineBuffer, MAX_LINE_BYTES, RefusalStop, Source, fetch_line};
+use tl_record::{Fetched, LineBuffer, MAX_LINE_BYTES, RefusalStop, Source, fetch_line, skip_line};
 
 /// How many bytes of a text are kept: what is fetched at once.
 pub const BLOCK: usize = 65_536;
@@ -122,28 +122,4 @@ fn pass_line<R: Source>(buffer: &mut LineBuffer<BLOCK>, source: &mut R) -> Resul
         },
         Fetched::Failed => Err(RefusalStop::Device),
     }
-}
-
-// Takes bytes off the front up to the first line feed, or to the end where none comes.
-fn skip_line<R: Source>(buffer: &mut LineBuffer<BLOCK>, source: &mut R) -> Result<(), RefusalStop>
-    ensures skips { SkipsLine (prepend_known buffer.old (R.remaining source.old))
-        (prepend_known buffer.new (R.remaining source.new)) result }
-    ensures failures { CountsSkip (R.failure_count source.old) (R.failure_count source.new) result }
-{
-    // A source may have no end.
-    'blocks: for _ in 0..u64::MAX {
-        match fetch_line(buffer, source) {
-            Fetched::Whole(len) => {
-                buffer.consume_line(len);
-                return Ok(());
-            }
-            Fetched::Rest => {
-                buffer.clear();
-                return Ok(());
-            }
-            Fetched::Full => buffer.clear(),
-            Fetched::Failed => return Err(RefusalStop::Device),
-        }
-    }
-    Err(RefusalStop::Endless)
 }

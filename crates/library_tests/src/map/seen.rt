@@ -110,6 +110,7 @@ fn is_seen(alloc: Global, byte: u8) -> bool {
     let options = Options {
         zero_cells: true,
         released: false,
+        faces: false,
     };
     match read_map_with(alloc, hasher, &mut Meter::new(SQUARE.as_bytes()), options) {
         Ok(map) => is_right(&map),

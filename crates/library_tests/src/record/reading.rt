@@ -83,6 +83,7 @@ fn is_read(most: usize) -> bool {
     let options = Options {
         zero_cells: true,
         released: true,
+        faces: false,
     };
     let rest = SQUARE.as_bytes();
     let mut reader = RecordReader::with(Meter::new(Pieces { rest, most }), options);

@@ -11,22 +11,28 @@ use Rattle.tl_disagreements.specs.CellOdds.{AreAllCellsAtOdds}
 use Rattle.tl_misplaced.specs.AllMisplaced.{AreAllMisplaced}
 use Rattle.tl_verdict.specs.declared.fault.MapFault.{MapFault}
 use Rattle.tl_verdict.specs.declared.fault.MapFault.TheVariants as fault
-use Rattle.tl_verdict.specs.Sound.{IsSound}
+use Rattle.tl_verdict.specs.Sound.{IsSound, IsSoundFor}
 use Rattle.tl_verdict.specs.Truth.{IsTrueOfMap}
 use Rattle.tl_verdict.specs.Verdicts.{IsReport}
 use Rattle.tl_listing.specs.declared.listing.Listing.{Listing}
 use Rattle.tl_listing.specs.declared.listing.Listing.TheVariants.{Sound, Refused, Faults}
-use Rattle.tl_listing.specs.MapFaults.{side_fault, AreMapFaults}
+use Rattle.tl_listing.specs.MapFaults.{side_fault, AreMapFaults, AreFaultsFor}
 
--- the map is sound, and these are its numbers; or these are all its faults, and there is one
+-- the map is sound, and these are its numbers; or these are all its faults but those of faces, and there is one
 abbrev pub IsListingOfMap : TheMap → Listing → Type 0
 IsListingOfMap m (Sound report) = IsSound m × IsReport m report
 IsListingOfMap m (Refused list) = ⊥
 IsListingOfMap m (Faults faults points_left) = (faults.items ≢ []) × AreMapFaults m faults.items points_left
 
+-- the same where faces may be asked for
+abbrev pub IsListingFor : (faces : Bool) → TheMap → Listing → Type 0
+IsListingFor faces m (Sound report) = IsSoundFor faces m × IsReport m report
+IsListingFor faces m (Refused list) = ⊥
+IsListingFor faces m (Faults faults points_left) = (faults.items ≢ []) × AreFaultsFor faces m faults.items points_left
+
 -- some fault is true of the map
 abbrev pub IsFaulty : TheMap → Type 0
-IsFaulty m = (fault : MapFault) × IsTrueOfMap m fault
+IsFaulty m = (fault : MapFault) × IsTrueOfMap false m fault
 
 -- sides differ exactly where there is one to tell
 abbrev pub Differ : Bool → List Disagreement → Type 0

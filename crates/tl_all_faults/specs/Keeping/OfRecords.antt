@@ -1,11 +1,11 @@
 -- What is told of records that are read.
-use Rattle.std.specs.Prelude.{◌≡◌, ◌≢◌, ℕ, false, List, [], map, None}
+use Rattle.std.specs.Prelude.{◌≡◌, ◌≢◌, ℕ, false, List, [], map, None, Bool}
 use Rattle.tl_record.specs.declared.stop.Cause.{Cause}
 use Rattle.tl_record.specs.Records.{Records}
 use Rattle.tl_refusals.specs.Listing.{ListsAll}
-use Rattle.tl_drawn.specs.declared.fault.MapFault.{MapFault as RecordFault}
+use Rattle.tl_drawn.specs.declared.fault.RecordFault.{RecordFault}
 use Rattle.tl_verdict.specs.declared.fault.MapFault.TheVariants as fault
-use Rattle.tl_verdict.specs.Sound.{IsSound}
+use Rattle.tl_verdict.specs.Sound.{IsSoundFor}
 use Rattle.tl_verdict.specs.Verdicts.{IsReport}
 use Rattle.tl_verdict.specs.Records.{HaveMap}
 use Rattle.tl_listing.specs.declared.listing.Listing.{Listing}
@@ -16,15 +16,16 @@ use Rattle.tl_record_faults.specs.AllFaults.{AreAllFaults}
 use Rattle.tl_all_faults.specs.declared.of_records.Findings.{Findings}
 use Rattle.tl_all_faults.specs.Findings.{IsMapIfAny}
 
--- the map of the records is sound, and these are its numbers; or no line is refused, and these are all faults
-abbrev pub IsListingOfRecords : Records → Listing → Type 0
-IsListingOfRecords all (Sound report) = HaveMap all (λ m. IsSound m × IsReport m report)
-IsListingOfRecords all (Refused list) = ⊥
-IsListingOfRecords all (Faults faults points_left) = (faults.items ≢ []) × (all.refusal ≡ None) × AreFaults all faults.items points_left
+-- the map of the records keeps what is asked of it, and these are its numbers; or no line is refused, and these are all faults
+abbrev pub IsListingOfRecords : (faces : Bool) → Records → Listing → Type 0
+IsListingOfRecords faces all (Sound report) = HaveMap all (λ m. IsSoundFor faces m × IsReport m report)
+IsListingOfRecords faces all (Refused list) = ⊥
+IsListingOfRecords faces all (Faults faults points_left) =
+    (faults.items ≢ []) × (all.refusal ≡ None) × AreFaults faces all faults.items points_left
 
 -- what is listed of records, none of whose lines is refused, and their map
-pub record AreFindingsOfRecords (all : Records) (listed : Findings) : Type 0 where
-  pub told : IsListingOfRecords all listed.listing
+pub record AreFindingsOfRecords (faces : Bool) (all : Records) (listed : Findings) : Type 0 where
+  pub told : IsListingOfRecords faces all listed.listing
   pub drawn : IsMapIfAny all listed.map
 
 -- these faults of records are listed

@@ -1,12 +1,12 @@
 -- Answers to maps, with one clause for all that each says.
-use Rattle.std.specs.Prelude.{◌≡◌, ◌≤◌, Result, Ok, Err, ⊤}
+use Rattle.std.specs.Prelude.{◌≡◌, ◌≤◌, Result, Ok, Err, Bool, false}
 use Rattle.tl_drawn.specs.declared.fault.MapStop.{MapStop}
 use Rattle.tl_county.specs.TheMap.{TheMap}
 use Rattle.tl_county.specs.declared.map.Map.{Map}
 use Rattle.tl_index.specs.Trees.{depth, tree_of}
 use Rattle.tl_pack.specs.Packed.{IsEvenlySplit}
 use Rattle.tl_cert.specs.Certificates.{TheCertificate}
-use Rattle.tl_verdict.specs.Sound.{IsSound}
+use Rattle.tl_verdict.specs.Sound.{IsSound, IsSoundFor}
 use Rattle.tl_verdict.specs.Valid.{IsValid}
 use Rattle.tl_verdict.specs.Truth.{IsTrueOfMap}
 use Rattle.tl_verdict.specs.Verdicts.{IsReport}
@@ -16,16 +16,22 @@ use Rattle.tl_build.specs.Auditing.{Auditing, IsMemoryStop}
 use Rattle.tl_build.specs.Building.{Building}
 use Rattle.tl_build.specs.Keeping.Judging.{refusal_of}
 
--- what an audit says of a map
+-- what an audit says of a map, without faces
 abbrev pub Audits : TheMap → Auditing → Type 0
 Audits m (Ok (audit.Sound report)) = IsSound m × IsReport m report
-Audits m (Ok (audit.Fault fault)) = IsTrueOfMap m fault
+Audits m (Ok (audit.Fault fault)) = IsTrueOfMap false m fault
 Audits m (Err stop) = IsMemoryStop stop
 
+-- the same where faces may be asked for
+abbrev pub AuditsFor : (faces : Bool) → TheMap → Auditing → Type 0
+AuditsFor faces m (Ok (audit.Sound report)) = IsSoundFor faces m × IsReport m report
+AuditsFor faces m (Ok (audit.Fault fault)) = IsTrueOfMap faces m fault
+AuditsFor faces m (Err stop) = IsMemoryStop stop
+
 -- what an audit says of what was read of records: where there is no map, why that is so
-abbrev pub AuditsRead : Result Map MapStop → Auditing → Type 0
-AuditsRead (Ok m) answer = Audits m answer
-AuditsRead (Err why) answer = answer ≡ refusal_of why
+abbrev pub AuditsRead : (faces : Bool) → Result Map MapStop → Auditing → Type 0
+AuditsRead faces (Ok m) answer = AuditsFor faces m answer
+AuditsRead faces (Err why) answer = answer ≡ refusal_of why
 
 -- a certificate of version 2 that is valid for a map, with a tree of at most 8 levels that is split evenly
 pub record IsBuilt (m : TheMap) (cert : TheCertificate) : Type 0 where
@@ -34,8 +40,14 @@ pub record IsBuilt (m : TheMap) (cert : TheCertificate) : Type 0 where
   pub shallow : depth (tree_of cert.tree) ≤ 8
   pub split : IsEvenlySplit (tree_of cert.tree)
 
--- what a build says of a map
+-- what a build says of a map, without faces
 abbrev pub Builds : TheMap → Building → Type 0
 Builds m (Ok (built.Cert cert)) = IsSound m × IsBuilt m cert
-Builds m (Ok (built.Fault fault)) = IsTrueOfMap m fault
-Builds m (Err stop) = ⊤
+Builds m (Ok (built.Fault fault)) = IsTrueOfMap false m fault
+Builds m (Err stop) = IsMemoryStop stop
+
+-- the same where faces may be asked for
+abbrev pub BuildsFor : (faces : Bool) → TheMap → Building → Type 0
+BuildsFor faces m (Ok (built.Cert cert)) = IsSoundFor faces m × IsBuilt m cert
+BuildsFor faces m (Ok (built.Fault fault)) = IsTrueOfMap faces m fault
+BuildsFor faces m (Err stop) = IsMemoryStop stop

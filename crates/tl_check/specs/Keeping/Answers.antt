@@ -1,15 +1,15 @@
 -- Answers, before anything is shown of them.
-use Rattle.std.specs.Prelude.{Ok, Err}
+use Rattle.std.specs.Prelude.{Result, Ok, Err}
 use Rattle.tl_verdict.specs.declared.verdict.Verdict.TheVariants as verdict
-use Rattle.tl_verdict.specs.declared.stop.Stop.TheVariants as stop
+use Rattle.tl_output.specs.declared.stop.Stop.{Stop}
+use Rattle.tl_output.specs.declared.stop.Stop.TheVariants as stop
+use Rattle.tl_verdict.specs.declared.fault.MapFault.{MapFault}
+use Rattle.tl_verdict.specs.declared.fault.CertFault.{CertFault}
+use Rattle.tl_verdict.specs.Stops.{unmapped, unread}
 use Rattle.tl_check.specs.declared.state.Halt.{Halt}
 use Rattle.tl_check.specs.declared.state.Halt.TheVariants as halt
 use Rattle.tl_drawn.specs.declared.fault.MapStop.{MapStop}
-use Rattle.tl_drawn.specs.declared.fault.MapStop.TheVariants as map
-use Rattle.tl_verdict.specs.declared.fault.MapFault.TheVariants as of_map
 use Rattle.tl_cert.specs.declared.stop.CertStop.{CertStop}
-use Rattle.tl_cert.specs.declared.stop.CertStop.TheVariants as cert
-use Rattle.tl_verdict.specs.declared.fault.CertFault.TheVariants as fault
 use Rattle.tl_verdict.specs.Verdicts.{Answer}
 
 -- the answer where no further part is looked at
@@ -18,15 +18,19 @@ answer_of (halt.Fault fault) = Ok (verdict.MapFault fault)
 answer_of halt.Memory = Err stop.Memory
 answer_of halt.Budget = Err stop.Budget
 
+-- an answer that is a fault, or why there is none
+abbrev pub of_map : Result MapFault Stop → Answer
+of_map (Ok fault) = Ok (verdict.MapFault fault)
+of_map (Err why) = Err why
+
+abbrev pub of_text : Result CertFault Stop → Answer
+of_text (Ok fault) = Ok (verdict.CertFault fault)
+of_text (Err why) = Err why
+
 -- the answer where the certificate can't be read on
 abbrev pub stop_of : CertStop → Answer
-stop_of (cert.Text line) = Ok (verdict.CertFault (fault.Text line))
-stop_of cert.Memory = Err stop.Memory
-stop_of cert.Device = Err stop.Device
+stop_of why = of_text (unread why)
 
 -- the answer where the records have no map
 abbrev pub refusal_of : MapStop → Answer
-refusal_of (map.Refused line cause) = Err (stop.Record line cause)
-refusal_of map.Device = Err stop.Device
-refusal_of map.Memory = Err stop.Memory
-refusal_of (map.Fault f) = Ok (verdict.MapFault (of_map.Records f))
+refusal_of why = of_map (unmapped why)

@@ -1,5 +1,5 @@
 -- What was found of a certificate's rounds and walks so far, behind counts that are the map's and a tree that was taken.
-use Rattle.std.specs.Prelude.{◌≡◌, ℕ, ◌≤◌, List, [], ◌++◌, length, Result, Ok, Err, ⊤}
+use Rattle.std.specs.Prelude.{◌≡◌, ℕ, ◌≤◌, List, [], ◌++◌, length, Result, Ok, Err, ⊤, false}
 use Rattle.tl_county.specs.TheMap.{TheMap}
 use Rattle.tl_index.specs.declared.node.TreeNode.{TreeNode}
 use Rattle.tl_planar.specs.Planar.{IsPlanar}
@@ -101,7 +101,7 @@ IsBehindSearch m (state.Wrong fault) = IsOfDarts fault → IsPlanar m.chains
 
 -- why no further part is looked at
 abbrev pub MayHalt : TheMap → ℕ → Halt → Type 0
-MayHalt m budget (halt.Fault fault) = IsTrueOfMap m fault
+MayHalt m budget (halt.Fault fault) = IsTrueOfMap false m fault
 MayHalt m budget halt.Memory = ⊤
 MayHalt m budget halt.Budget = AreBeyond m.chains budget
 
@@ -120,7 +120,7 @@ UnlessMet halt.Budget P = ⊤
 
 -- the same behind the search
 abbrev pub MayEnd : TheMap → Halt → Type 0
-MayEnd m (halt.Fault fault) = IsTrueOfMap m fault
+MayEnd m (halt.Fault fault) = IsTrueOfMap false m fault
 MayEnd m halt.Memory = ⊤
 MayEnd m halt.Budget = ⊥
 

@@ -1,39 +1,54 @@
--- What an answer says of the map that was read of records.
-use Rattle.std.specs.Prelude.{◌≡◌, ℕ, ◌≤◌, List, Option, Result, Ok, Err, IfErr}
+-- What an answer says of a map, by a certificate in memory or its text, and of the map that was read of records.
+use Rattle.std.specs.Prelude.{◌≡◌, ℕ, ◌≤◌, Bool, List, Option, Result, Ok, Err, IfErr}
 use Rattle.std.specs.Option.{IfSome}
 use Rattle.tl_drawn.specs.declared.fault.MapStop.{MapStop}
 use Rattle.tl_county.specs.TheMap.{TheMap}
 use Rattle.tl_county.specs.declared.map.Map.{Map}
 use Rattle.tl_planar.specs.Planar.{IsPlanar}
 use Rattle.tl_planar.specs.Searching.{meeting_segments}
-use Rattle.tl_sides.specs.Sides.{SidesAgree}
-use Rattle.tl_inside.specs.Placed.{ArePlaced}
-use Rattle.tl_cells.specs.Cells.{CellsAgree}
-use Rattle.tl_verdict.specs.Sound.{AreClosed}
-use Rattle.tl_verdict.specs.Truth.{IsTrueOfMap, IsOfDarts}
-use Rattle.tl_verdict.specs.Verdicts.{Answer, OnSound, IfSound, IfMapFault, IfCertFault, UnlessMeet, OnSearched, IsReport}
-use Rattle.tl_verdict.specs.Texts.{IsTrueOfText, IsValidText, TextAllowsSearch, MayStopReading, TellsDevice}
+use Rattle.tl_cert.specs.Certificates.{TheCertificate}
+use Rattle.tl_verdict.specs.declared.fault.CertFault.{CertFault}
+use Rattle.tl_output.specs.declared.stop.Stop.{Stop}
+use Rattle.tl_verdict.specs.Sound.{IsSoundFor}
+use Rattle.tl_verdict.specs.Valid.{AllowsSearch, IsValid}
+use Rattle.tl_verdict.specs.Truth.{IsTrueOfMap, IsTrueOfCert, IsOfDarts}
+use Rattle.tl_verdict.specs.Verdicts.{Answer, OnSound, OnSoundButFaces, IfSound, IfMapFault, IfCertFault, UnlessMeet, OnSearched, IsReport, MayStop}
+use Rattle.tl_verdict.specs.Texts.{IsTrueOfText, IsValidText, TextAllowsSearch, MayStopReading}
+use Rattle.tl_output.specs.Stops.{TellsDevice}
 use Rattle.tl_check.specs.Keeping.Answers.{refusal_of}
 
--- what an answer says of a map and the text of a certificate, where so many reads failed before and behind
-pub record IsOfText (m : TheMap) (budget : ℕ) (text : Option (List ℕ)) (old new : ℕ) (answer : Answer) : Type 0 where
-  pub planar : OnSound answer (IsPlanar m.chains)
-  pub sides : OnSound answer (SidesAgree m.chains)
-  pub closed : OnSound answer (AreClosed m)
-  pub points : OnSound answer (ArePlaced m)
-  pub cells : OnSound answer (CellsAgree m.chains)
-  pub valid : OnSound answer (IfSome text (IsValidText m))
-  pub within : OnSound answer (meeting_segments m.chains ≤ budget)
+-- What an answer says of a map, where faces are asked for or not. `valid` says that the certificate is valid, `faulty` what a fault
+-- says of it, `allows` that a search may be made by it, and `met` that the chains are planar if one may.
+pub record IsDecision (m : TheMap) (faces : Bool) (budget : ℕ) (valid : Type 0) (faulty : CertFault → Type 0) (allows met : Type 0)
+    (why : Stop → Type 0) (answer : Answer) : Type 0 where
+  pub sound : OnSound answer (IsSoundFor faces m)
+  pub is_valid : OnSoundButFaces answer valid
+  pub within : OnSoundButFaces answer (meeting_segments m.chains ≤ budget)
   pub report : IfSound answer (IsReport m)
-  pub map_fault : IfMapFault answer (IsTrueOfMap m)
-  pub cert_fault : IfCertFault answer (λ fault. IfSome text (λ spelt. IsTrueOfText m spelt fault))
+  pub map_fault : IfMapFault answer (IsTrueOfMap faces m)
+  pub cert_fault : IfCertFault answer faulty
   pub behind : IfCertFault answer (λ fault. IsOfDarts fault → IsPlanar m.chains)
-  pub meets : UnlessMeet answer (IfSome text (λ spelt. TextAllowsSearch m spelt → IsPlanar m.chains))
-  pub searched : OnSearched answer (IfSome text (TextAllowsSearch m))
-  pub stops : IfErr answer (MayStopReading m budget)
+  pub meets : UnlessMeet answer met
+  pub searched : OnSearched answer allows
+  pub stops : IfErr answer why
+
+-- what it says of a map and a certificate in memory
+abbrev pub IsOfCert : TheMap → Bool → ℕ → TheCertificate → Answer → Type 0
+IsOfCert m faces budget c answer =
+    IsDecision m faces budget (IsValid m c) (IsTrueOfCert m c) (AllowsSearch m c) (AllowsSearch m c → IsPlanar m.chains) (MayStop m budget) answer
+
+-- what it says of a map and the text of a certificate
+abbrev pub IsOfSpelt : TheMap → Bool → ℕ → Option (List ℕ) → Answer → Type 0
+IsOfSpelt m faces budget text answer =
+    IsDecision m faces budget (IfSome text (IsValidText m)) (λ fault. IfSome text (λ spelt. IsTrueOfText m spelt fault))
+    (IfSome text (TextAllowsSearch m)) (IfSome text (λ spelt. TextAllowsSearch m spelt → IsPlanar m.chains)) (MayStopReading m budget) answer
+
+-- the same where so many reads failed before and behind
+pub record IsOfText (m : TheMap) (faces : Bool) (budget : ℕ) (text : Option (List ℕ)) (old new : ℕ) (answer : Answer) : Type 0 where
+  pub decides : IsOfSpelt m faces budget text answer
   pub failures : TellsDevice old new answer
 
 -- the same of what was read of records: where there is no map, that is the answer, and the certificate is as it was
-abbrev pub IsOfRead : {S : Type 0} → (S → Option (List ℕ)) → (S → ℕ) → Result Map MapStop → ℕ → S → S → Answer → Type 0
-IsOfRead remaining failures (Ok m) budget old new answer = IsOfText m budget (remaining old) (failures old) (failures new) answer
-IsOfRead remaining failures (Err why) budget old new answer = (answer ≡ refusal_of why) × (new ≡ old)
+abbrev pub IsOfRead : {S : Type 0} → (S → Option (List ℕ)) → (S → ℕ) → Result Map MapStop → Bool → ℕ → S → S → Answer → Type 0
+IsOfRead remaining failures (Ok m) faces budget old new answer = IsOfText m faces budget (remaining old) (failures old) (failures new) answer
+IsOfRead remaining failures (Err why) faces budget old new answer = (answer ≡ refusal_of why) × (new ≡ old)

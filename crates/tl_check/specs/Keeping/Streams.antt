@@ -1,5 +1,5 @@
 -- What is kept of a certificate that is checked as its parts come, and what its answer says.
-use Rattle.std.specs.Prelude.{◌≡◌, ℕ, ◌<◌, ◌≤◌, ◌^◌, List, length, Option, Result, Ok, Err, ⊤}
+use Rattle.std.specs.Prelude.{◌≡◌, ℕ, ◌<◌, ◌≤◌, ◌^◌, List, length, Option, Result, Ok, Err, ⊤, false}
 use Rattle.std.specs.Option.{IfSome}
 use Rattle.tl_county.specs.TheMap.{TheMap}
 use Rattle.tl_index.specs.declared.node.TreeNode.{TreeNode}
@@ -9,8 +9,8 @@ use Rattle.tl_planar.specs.Searching.{meeting_segments, AreBeyond}
 use Rattle.tl_sides.specs.Sides.{SidesAgree}
 use Rattle.tl_inside.specs.Placed.{ArePlaced}
 use Rattle.tl_cells.specs.Cells.{CellsAgree}
-use Rattle.tl_cert.specs.declared.place.Place.{Place}
-use Rattle.tl_cert.specs.declared.place.Place.TheVariants as place
+use Rattle.tl_cert.specs.declared.place.NextPart.{NextPart}
+use Rattle.tl_cert.specs.declared.place.NextPart.TheVariants as place
 use Rattle.tl_cert.specs.declared.place.CertPart.{CertPart}
 use Rattle.tl_cert.specs.declared.place.CertPart.TheVariants as part
 use Rattle.tl_cert.specs.declared.reader.CertReader.{CertReader}
@@ -20,18 +20,19 @@ use Rattle.tl_cert.specs.Reading.{source_of, unread}
 use Rattle.tl_cert.specs.Keeping.Collecting.{Collects}
 use Rattle.tl_verdict.specs.declared.verdict.Report.{Report}
 use Rattle.tl_verdict.specs.declared.verdict.Verdict.TheVariants as verdict
-use Rattle.tl_verdict.specs.declared.stop.Stop.TheVariants.{Record, Memory, Device, Budget}
+use Rattle.tl_output.specs.declared.stop.Stop.TheVariants.{Record, Memory, Device, Budget}
 use Rattle.tl_check.specs.declared.state.State.{State}
 use Rattle.tl_check.specs.declared.state.Halt.{Halt}
 use Rattle.tl_verdict.specs.Sound.{AreClosed}
 use Rattle.tl_verdict.specs.Valid.{AllowsSearch}
 use Rattle.tl_verdict.specs.Truth.{IsTrueOfMap, IsTrueOfCert, IsOfDarts}
-use Rattle.tl_verdict.specs.Texts.{IsTrueOfText, IsValidText, TextAllowsSearch, TellsDevice}
+use Rattle.tl_verdict.specs.Texts.{IsTrueOfText, IsValidText, TextAllowsSearch}
+use Rattle.tl_output.specs.Stops.{TellsDevice}
 use Rattle.tl_verdict.specs.Verdicts.{Answer, OnSound, IfCertFault, UnlessMeet, OnSearched, IsReport, AreNumbers}
 use Rattle.tl_check.specs.Keeping.Parts.{Holds, TakesRounds, TakesWalks, IsSearched, IsBehindSearch, IsShown, IsLed, IsHalted}
 
 -- at this place the state takes what may come
-abbrev pub Suits : Place → State → Type 0
+abbrev pub Suits : NextPart → State → Type 0
 Suits place.Start state = ⊥
 Suits (place.Counted version) state = ⊥
 Suits (place.Treed version) state = TakesRounds state
@@ -59,7 +60,7 @@ LeadsBy m given old (Err halt) = IsHalted m old halt
 
 -- the reader stands behind parts of which the state holds
 pub record Stands {R : Type 0} (remaining : R → Option (List ℕ)) (m : TheMap) (first now : CertReader R) (state : State) : Type 0 where
-  pub place : Place
+  pub place : NextPart
   pub cert : TheCertificate
   pub collects : Collects remaining place first now cert
   pub holds : Holds m cert state
@@ -78,7 +79,7 @@ pub record IsSoundBy (m : TheMap) (text : Option (List ℕ)) (r : Report) : Type
 -- what an answer says of a map and the text of a certificate
 abbrev pub Decides : TheMap → ℕ → Option (List ℕ) → Answer → Type 0
 Decides m budget text (Ok (verdict.Sound report)) = IsSoundBy m text report
-Decides m budget text (Ok (verdict.MapFault fault)) = IsTrueOfMap m fault
+Decides m budget text (Ok (verdict.MapFault fault)) = IsTrueOfMap false m fault
 Decides m budget text (Ok (verdict.CertFault fault)) = IfSome text (λ t. IsTrueOfText m t fault)
 Decides m budget text (Err (Record line cause)) = ⊥
 Decides m budget text (Err Memory) = ⊤
@@ -88,7 +89,7 @@ Decides m budget text (Err Budget) = AreBeyond m.chains budget
 -- what is concluded of a map and a whole certificate
 abbrev pub Concludes : TheMap → TheCertificate → Answer → Type 0
 Concludes m c (Ok (verdict.Sound report)) = (rings : ℕ) × IsShown m c rings × AreNumbers m rings report
-Concludes m c (Ok (verdict.MapFault fault)) = IsTrueOfMap m fault
+Concludes m c (Ok (verdict.MapFault fault)) = IsTrueOfMap false m fault
 Concludes m c (Ok (verdict.CertFault fault)) = IsTrueOfCert m c fault
 Concludes m c (Err (Record line cause)) = ⊥
 Concludes m c (Err Memory) = ⊤
@@ -105,7 +106,7 @@ pub record IsSoundByCert (m : TheMap) (c : TheCertificate) (budget : ℕ) (r : R
 -- what an answer says of a map and a certificate in memory
 abbrev pub Shows : TheMap → TheCertificate → ℕ → Answer → Type 0
 Shows m c budget (Ok (verdict.Sound report)) = IsSoundByCert m c budget report
-Shows m c budget (Ok (verdict.MapFault fault)) = IsTrueOfMap m fault × AllowsSearch m c
+Shows m c budget (Ok (verdict.MapFault fault)) = IsTrueOfMap false m fault × AllowsSearch m c
 Shows m c budget (Ok (verdict.CertFault fault)) = IsTrueOfCert m c fault × (IsOfDarts fault → IsPlanar m.chains)
 Shows m c budget (Err (Record line cause)) = ⊥
 Shows m c budget (Err Memory) = ⊤

@@ -3,17 +3,18 @@ use Rattle.std.specs.Prelude.{◌≡◌, ◌≢◌, ◌⊎◌, ℕ, ◌+◌, ◌
 use Rattle.std.specs.List.{AllPairs}
 use Rattle.tl_county.specs.TheMap.{MapChain}
 use Rattle.tl_sides.specs.Sides.{IsNext}
-use Rattle.tl_disagreements.specs.declared.headed.HeadedDart.{HeadedDart}
+use Rattle.tl_sides.specs.declared.headed.HeadedDart.{HeadedDart}
 use Rattle.tl_disagreements.specs.declared.groups.Groups.{Groups}
-use Rattle.tl_disagreements.specs.Keeping.Around.{headed_at, AreOneGroup, AreAround}
+use Rattle.tl_sides.specs.Headed.{HeadTogether}
+use Rattle.tl_disagreements.specs.Keeping.Around.{headed_at, AreAround}
 
 -- from the place up to the end all are of its group, and behind that end there is another, or none; at the place behind
 -- all darts it is that one
 pub record IsEndOf (darts : List HeadedDart) (place end : ℕ) : Type 0 where
   pub behind : place < length darts → place < end
   pub within : end ≤ length darts
-  pub one : (j : ℕ) → place ≤ j → j < end → AreOneGroup (headed_at darts place) (headed_at darts j)
-  pub other : end < length darts → ¬ AreOneGroup (headed_at darts place) (headed_at darts end)
+  pub one : (j : ℕ) → place ≤ j → j < end → HeadTogether (headed_at darts place) (headed_at darts j)
+  pub other : end < length darts → ¬ HeadTogether (headed_at darts place) (headed_at darts end)
 
 -- of each place from this one on the end of its group
 pub record AreEnds (darts : List HeadedDart) (from : ℕ) (ends : List ℕ) : Type 0 where
@@ -34,15 +35,15 @@ pub record HaveBegun (darts : List HeadedDart) (n first : ℕ) : Type 0 where
 -- the group at next lies behind the place, with nothing between it and the group of the place
 pub record IsBehind (darts : List HeadedDart) (place next : ℕ) : Type 0 where
   pub behind : place < next
-  pub other : ¬ AreOneGroup (headed_at darts place) (headed_at darts next)
-  pub between : (j : ℕ) → place ≤ j → j < next → AreOneGroup (headed_at darts place) (headed_at darts j)
+  pub other : ¬ HeadTogether (headed_at darts place) (headed_at darts next)
+  pub between : (j : ℕ) → place ≤ j → j < next → HeadTogether (headed_at darts place) (headed_at darts j)
 
 -- the group at next is the node's first, and that of the place its last
 pub record IsAround (darts : List HeadedDart) (place next : ℕ) : Type 0 where
   pub before : next ≤ place
   pub first : (j : ℕ) → j < next → (headed_at darts j).node ≢ (headed_at darts place).node
   pub last : (j : ℕ) → place ≤ j → j < length darts → (headed_at darts j).node ≡ (headed_at darts place).node →
-      AreOneGroup (headed_at darts place) (headed_at darts j)
+      HeadTogether (headed_at darts place) (headed_at darts j)
 
 -- at next begins the group that is next after that of the place
 pub record IsNextPlace (darts : List HeadedDart) (place next : ℕ) : Type 0 where

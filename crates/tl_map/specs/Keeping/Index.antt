@@ -7,7 +7,7 @@ use Rattle.tl_county.specs.declared.polygons.Polygon.{Polygon}
 use Rattle.tl_key.specs.declared.key.PolyKey.{PolyKey}
 use Rattle.tl_drawn.specs.declared.fault.MapStop.{MapStop}
 use Rattle.tl_drawn.specs.declared.fault.MapStop.TheVariants.{Memory, Fault}
-use Rattle.tl_drawn.specs.declared.fault.MapFault.TheVariants.{DuplicatePolygon}
+use Rattle.tl_drawn.specs.declared.fault.RecordFault.TheVariants.{DuplicatePolygon}
 use Rattle.tl_drawn.specs.Faults.{StandsTwice}
 use Rattle.tl_drawn.specs.MapOf.{same_key}
 

@@ -9,7 +9,7 @@ use Rattle.tl_drawn.specs.declared.entry.LandmarkEntry.{LandmarkEntry}
 use Rattle.tl_drawn.specs.declared.entry.LinkEntry.{LinkEntry}
 use Rattle.tl_map.specs.declared.landmarks.Link.{Link}
 use Rattle.tl_drawn.specs.declared.fault.Limited.TheVariants.{Landmarks}
-use Rattle.tl_drawn.specs.declared.fault.MapFault.TheVariants.{TooMany, LinkWithoutLandmark, LinkWithoutPolygon}
+use Rattle.tl_drawn.specs.declared.fault.RecordFault.TheVariants.{TooMany, LinkWithoutLandmark, LinkWithoutPolygon}
 use Rattle.tl_drawn.specs.declared.fault.MapStop.{MapStop}
 use Rattle.tl_drawn.specs.declared.fault.MapStop.TheVariants.{Memory, Fault}
 use Rattle.tl_county.specs.declared.landmarks.LinkedLandmarks.{LinkedLandmarks}

@@ -1,5 +1,5 @@
 -- Kept on the way: chains with their sides, and what makes the whole map.
-use Rattle.std.specs.Prelude.{◌≡◌, ℕ, ◌⊎◌, List, All, map}
+use Rattle.std.specs.Prelude.{◌≡◌, ℕ, ◌⊎◌, List, All, length, map}
 use Rattle.std.specs.declared.hash.RandomState.{RandomState}
 use Rattle.indexmap.specs.IndexMap.{IndexMap, IsUnique}
 use Rattle.tl_geom.specs.declared.point.Point.{Point}
@@ -10,6 +10,7 @@ use Rattle.tl_county.specs.declared.sides.ChainSides.{ChainSides}
 use Rattle.tl_county.specs.declared.landmarks.LinkedLandmarks.{LinkedLandmarks}
 use Rattle.tl_county.specs.Chains.{ChainList, tlids}
 use Rattle.tl_county.specs.TheMap.{TheMap}
+use Rattle.tl_county.specs.Sides.{AreSidesAmong}
 use Rattle.tl_county.specs.Rows.{sided, polygon_in, landmarks_in}
 use Rattle.tl_drawn.specs.declared.entry.SidesEntry.{SidesEntry}
 use Rattle.tl_drawn.specs.declared.entry.LandmarkEntry.{LandmarkEntry}
@@ -33,6 +34,7 @@ pub record AreIndexedSides (polygons : List Polygon) (paired : List SidesEntry) 
   pub unique : IsUnique same_key index
   pub resolved : sides ≡ map (sided_by (keys polygons)) paired
   pub known : All (NamesKnown (keys polygons)) paired
+  pub among : All (AreSidesAmong (length polygons)) sides
 
 -- why they aren't: a key stands twice, or a side names none
 abbrev pub StopsIndexedSides : List Polygon → List SidesEntry → MapStop → Type 0

@@ -6,7 +6,7 @@ use Rattle.tl_drawn.specs.declared.entry.ChainEntry.{ChainEntry}
 use Rattle.tl_drawn.specs.declared.entry.ShapeEntry.{ShapeEntry}
 use Rattle.tl_county.specs.declared.limits.TheConstants.{SEGMENT_LIMIT}
 use Rattle.tl_drawn.specs.declared.fault.Limited.TheVariants.{Segments}
-use Rattle.tl_drawn.specs.declared.fault.MapFault.TheVariants.{DegenerateChain, TooMany}
+use Rattle.tl_drawn.specs.declared.fault.RecordFault.TheVariants.{DegenerateChain, TooMany}
 use Rattle.tl_drawn.specs.declared.fault.MapStop.{MapStop}
 use Rattle.tl_drawn.specs.declared.fault.MapStop.TheVariants.{Memory, Fault}
 use Rattle.tl_county.specs.declared.chains.ChainRow.{ChainRow}

@@ -6,8 +6,8 @@ use Rattle.tl_county.specs.declared.sides.ChainSides.{ChainSides}
 use Rattle.tl_county.specs.declared.sides.Side.{Side}
 use Rattle.tl_drawn.specs.declared.fault.MapStop.{MapStop}
 use Rattle.tl_drawn.specs.declared.fault.MapStop.TheVariants.{Memory, Fault}
-use Rattle.tl_drawn.specs.declared.fault.MapFault.{MapFault}
-use Rattle.tl_drawn.specs.declared.fault.MapFault.TheVariants.{SideWithoutPolygon, ChainWithoutSides, SidesWithoutChain, DuplicateSides}
+use Rattle.tl_drawn.specs.declared.fault.RecordFault.{RecordFault}
+use Rattle.tl_drawn.specs.declared.fault.RecordFault.TheVariants.{SideWithoutPolygon, ChainWithoutSides, SidesWithoutChain, DuplicateSides}
 use Rattle.std.specs.List.Sorted.{IsPermutation}
 use Rattle.tl_drawn.specs.Faults.{Names}
 use Rattle.tl_drawn.specs.MapOf.{side_of}
@@ -39,7 +39,7 @@ abbrev pub sides_tlids : List SidesEntry → List ℕ
 sides_tlids sides = map (λ s. s.tlid) sides
 
 -- a TLID of the chains that no sides have, or one of the sides that no chain has
-abbrev pub IsUnpaired : List ℕ → List ℕ → MapFault → Type 0
+abbrev pub IsUnpaired : List ℕ → List ℕ → RecordFault → Type 0
 IsUnpaired ts us fault =
     ((t : ℕ) × (fault ≡ ChainWithoutSides t) × Contains ts t × ¬ Contains us t) ⊎ ((t : ℕ) × (fault ≡ SidesWithoutChain t) × Contains us t × ¬ Contains ts t)
 
@@ -51,4 +51,4 @@ pub record ArePaired (ts : List ℕ) (old new : List SidesEntry) : Type 0 where
 -- why records aren't paired with chains: memory was refused, a TLID stands twice, or one is unpaired
 abbrev pub StopsPairing : List ℕ → List SidesEntry → MapStop → Type 0
 StopsPairing ts sides stop =
-    (stop ≡ Memory) ⊎ (((t : ℕ) × (stop ≡ Fault (DuplicateSides t)) × (2 ≤ count_by (λ s. s.tlid == t) sides)) ⊎ ((fault : MapFault) × (stop ≡ Fault fault) × IsUnpaired ts (sides_tlids sides) fault))
+    (stop ≡ Memory) ⊎ (((t : ℕ) × (stop ≡ Fault (DuplicateSides t)) × (2 ≤ count_by (λ s. s.tlid == t) sides)) ⊎ ((fault : RecordFault) × (stop ≡ Fault fault) × IsUnpaired ts (sides_tlids sides) fault))

@@ -2,7 +2,7 @@
 use Rattle.std.specs.Prelude.{◌≡◌, ℕ, Option, List, All}
 use Rattle.std.specs.List.{Any}
 use Rattle.tl_index.specs.Searches.{IsConflict}
-use Rattle.tl_meets.specs.declared.conflicts.Conflict.{Conflict}
+use Rattle.tl_index.specs.declared.items.Conflict.{Conflict}
 use Rattle.tl_meets.specs.Orders.{IsPairBefore, AreRising}
 use Rattle.tl_meets.specs.Keeping.Listing.{IsListed}
 

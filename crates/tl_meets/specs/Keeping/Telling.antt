@@ -4,7 +4,7 @@ use Rattle.tl_geom.specs.declared.rational.Rational.{Rational}
 use Rattle.tl_county.specs.TheMap.{MapChain}
 use Rattle.tl_planar.specs.declared.meet.Meet.{Meet}
 use Rattle.tl_planar.specs.Searching.{IsTrueMeet}
-use Rattle.tl_meets.specs.declared.conflicts.Conflict.{Conflict}
+use Rattle.tl_index.specs.declared.items.Conflict.{Conflict}
 
 -- the meet is true, and of the two segments that conflict
 pub record IsMeetOf (chains : List MapChain) (conflict : Conflict Rational) (meet : Meet) : Type 0 where

@@ -4,7 +4,7 @@ use Rattle.std.specs.List.{concat}
 use Rattle.tl_county.specs.Darts.{reverse_dart}
 use Rattle.tl_index.specs.Keeping.Marked.{mark_at}
 use Rattle.tl_sides.specs.Lists.{before, EachList}
-use Rattle.tl_propose.specs.declared.rounds.DartStart.{DartStart}
+use Rattle.tl_sides.specs.declared.headed.HeadedDart.{HeadedDart}
 use Rattle.tl_propose.specs.Keeping.Lists.{darts_in}
 use Rattle.tl_propose.specs.Keeping.Sorting.{AreSorted, AreCut}
 
@@ -17,7 +17,7 @@ abbrev pub IsLinkedIn : List ℕ → List ℕ → Type 0
 IsLinkedIn following round = (k : ℕ) → k < length round → slice_index following (reverse_dart (slice_index round k)) ≡ before round k
 
 -- the list is linked along rounds that are the darts together, and are cut of them where they are sorted
-pub record IsLinkedBy (starts : List DartStart) (following : List ℕ) : Type 0 where
+pub record IsLinkedBy (starts : List HeadedDart) (following : List ℕ) : Type 0 where
   pub rounds : List (List ℕ)
   pub whole : concat rounds ≡ darts_in starts
   pub linked : EachList (IsLinkedIn following) rounds

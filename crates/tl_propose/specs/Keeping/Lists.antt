@@ -1,21 +1,17 @@
 -- Lists of darts.
-use Rattle.std.specs.Prelude.{◌≡◌, ℕ, Bool, ◌<◌, List, map, All, Vec}
+use Rattle.std.specs.Prelude.{◌≡◌, ℕ, Bool, List, map, Vec}
 use Rattle.std.specs.Global.{Global}
 use Rattle.tl_index.specs.Keeping.Marked.{mark_at}
 use Rattle.tl_sides.specs.Keeping.Marked.{marked_count}
-use Rattle.tl_propose.specs.declared.rounds.DartStart.{DartStart}
+use Rattle.tl_sides.specs.declared.headed.HeadedDart.{HeadedDart}
 
 -- the lists of numbers that vectors hold
 abbrev pub lists_in : List (Vec ℕ Global) → List (List ℕ)
 lists_in = map (λ v. v.items)
 
 -- the darts of starts
-abbrev pub darts_in : List DartStart → List ℕ
+abbrev pub darts_in : List HeadedDart → List ℕ
 darts_in = map (λ s. s.dart)
-
--- each dart is below n
-abbrev pub AreDartsBelow : ℕ → List DartStart → Type 0
-AreDartsBelow n = All (λ s. s.dart < n)
 
 -- nothing is marked
 pub record AreUnmarked (marks : List Bool) : Type 0 where

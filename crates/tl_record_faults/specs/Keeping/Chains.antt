@@ -1,8 +1,8 @@
 -- Kept on the way: chains that are one point, and the segments of chains.
 use Rattle.std.specs.Prelude.{◌≡◌, ℕ, ◌<◌, Bool, true, ◌==◌, nat_lt, List, length, count_by, slice_index_or}
 use Rattle.tl_drawn.specs.declared.entry.ChainEntry.{ChainEntry}
-use Rattle.tl_drawn.specs.declared.fault.MapFault.{MapFault}
-use Rattle.tl_drawn.specs.declared.fault.MapFault.TheVariants.{DegenerateChain}
+use Rattle.tl_drawn.specs.declared.fault.RecordFault.{RecordFault}
+use Rattle.tl_drawn.specs.declared.fault.RecordFault.TheVariants.{DegenerateChain}
 use Rattle.tl_record_faults.specs.declared.shape.ShapeSummary.{ShapeSummary}
 use Rattle.tl_record_faults.specs.Keeping.Runs.{run_of, seen_in_run, chain_steps, is_one_point}
 
@@ -11,7 +11,7 @@ abbrev pub is_alone : List ChainEntry → ℕ → Bool
 is_alone chains t = nat_lt (count_by (λ c. c.tlid == t) chains) 2
 
 -- the fault is that one of the first chains is one point, and no other chain has its TLID
-pub record IsOnePointFault (chains : List ChainEntry) (shapes : List ShapeSummary) (end : ℕ) (f : MapFault) : Type 0 where
+pub record IsOnePointFault (chains : List ChainEntry) (shapes : List ShapeSummary) (end : ℕ) (f : RecordFault) : Type 0 where
   pub chain : ChainEntry
   pub place : ℕ
   pub below : place < end

@@ -6,8 +6,8 @@ use Rattle.std.specs.Cmp.Lexicographic.{slice_cmp}
 use Rattle.std.specs.List.Sorted.{IsSortedByKey}
 use Rattle.tl_key.specs.declared.key.PolyKey.{PolyKey}
 use Rattle.tl_drawn.specs.declared.entry.LinkEntry.{LinkEntry}
-use Rattle.tl_drawn.specs.declared.fault.MapFault.{MapFault}
-use Rattle.tl_drawn.specs.declared.fault.MapFault.TheVariants.{SideWithoutPolygon, LinkWithoutPolygon}
+use Rattle.tl_drawn.specs.declared.fault.RecordFault.{RecordFault}
+use Rattle.tl_drawn.specs.declared.fault.RecordFault.TheVariants.{SideWithoutPolygon, LinkWithoutPolygon}
 use Rattle.tl_record_faults.specs.declared.collect.NamedSide.{NamedSide}
 
 -- both parts of a key
@@ -23,9 +23,9 @@ abbrev pub AreByKey : List PolyKey → Type 0
 AreByKey keys = IsSortedByKey parts parts_cmp keys
 
 -- a side names a key that no type P record has
-abbrev pub side_fault : NamedSide → MapFault
+abbrev pub side_fault : NamedSide → RecordFault
 side_fault n = SideWithoutPolygon n.tlid n.key
 
 -- a link has a key that no type P record has
-abbrev pub link_fault : LinkEntry → MapFault
+abbrev pub link_fault : LinkEntry → RecordFault
 link_fault l = LinkWithoutPolygon l.key l.land

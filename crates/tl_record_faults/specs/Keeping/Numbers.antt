@@ -3,13 +3,13 @@ use Rattle.std.specs.Prelude.{◌≡◌, ℕ, ◌+◌, ◌<◌, ◌==◌, List, 
 use Rattle.tl_record.specs.declared.record.Record.{Record}
 use Rattle.tl_drawn.specs.ChainsOf.{is_chain}
 use Rattle.tl_drawn.specs.MapOf.{sides_in}
-use Rattle.tl_drawn.specs.declared.fault.MapFault.{MapFault}
-use Rattle.tl_drawn.specs.declared.fault.MapFault.TheVariants as fault
+use Rattle.tl_drawn.specs.declared.fault.RecordFault.{RecordFault}
+use Rattle.tl_drawn.specs.declared.fault.RecordFault.TheVariants as fault
 use Rattle.tl_record_faults.specs.declared.numbers.Numbered.{Numbered}
 use Rattle.tl_record_faults.specs.declared.numbers.Numbered.TheVariants.{DuplicateChain, ShapeWithoutChain, ChainWithoutSides, SidesWithoutChain, DuplicateSides, LinkWithoutLandmark}
 
 -- the fault with this number
-abbrev pub fault_of : Numbered → ℕ → MapFault
+abbrev pub fault_of : Numbered → ℕ → RecordFault
 fault_of DuplicateChain n = fault.DuplicateChain n
 fault_of ShapeWithoutChain n = fault.ShapeWithoutChain n
 fault_of ChainWithoutSides n = fault.ChainWithoutSides n
@@ -18,7 +18,7 @@ fault_of DuplicateSides n = fault.DuplicateSides n
 fault_of LinkWithoutLandmark n = fault.LinkWithoutLandmark n
 
 -- an item of the fault stands at two neighbouring places below an end
-pub record StandsNext {X : Type 0} (g : X → MapFault) (items : List X) (end : ℕ) (f : MapFault) : Type 0 where
+pub record StandsNext {X : Type 0} (g : X → RecordFault) (items : List X) (end : ℕ) (f : RecordFault) : Type 0 where
   pub item : X
   pub is : f ≡ g item
   pub place : ℕ
@@ -28,7 +28,7 @@ pub record StandsNext {X : Type 0} (g : X → MapFault) (items : List X) (end : 
   pub second : (d : X) → slice_index_or items (place + 1) d ≡ item
 
 -- an item of the fault is one of these, and what it names is not known
-pub record IsMissing {X K : Type 0} (g : X → MapFault) (name : X → K) (items : List X) (known : List K) (f : MapFault) : Type 0 where
+pub record IsMissing {X K : Type 0} (g : X → RecordFault) (name : X → K) (items : List X) (known : List K) (f : RecordFault) : Type 0 where
   pub item : X
   pub is : f ≡ g item
   pub among : Contains items item

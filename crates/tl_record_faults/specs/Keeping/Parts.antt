@@ -7,7 +7,7 @@ use Rattle.tl_record.specs.declared.record.Record.{Record}
 use Rattle.tl_drawn.specs.declared.entry.ChainEntry.{ChainEntry}
 use Rattle.tl_drawn.specs.declared.entry.LinkEntry.{LinkEntry}
 use Rattle.tl_drawn.specs.declared.fault.Limited.TheVariants.{Segments}
-use Rattle.tl_drawn.specs.declared.fault.MapFault.{MapFault}
+use Rattle.tl_drawn.specs.declared.fault.RecordFault.{RecordFault}
 use Rattle.tl_drawn.specs.MapOf.{sides_in, polygons_in, landmarks_in, links_in, keys, first_landmarks}
 use Rattle.tl_drawn.specs.Faults.{IsTooMany}
 use Rattle.tl_county.specs.Limits.{most_segments}
@@ -46,12 +46,12 @@ abbrev pub all_codes : List ℕ
 all_codes = 13 ∷ with_areas chain_codes
 
 -- the faults of chains, shapes and sides are told, and the segments are counted
-pub record AreChainCounts (rs : List Record) (segments : ℕ) (faults : List MapFault) : Type 0 where
+pub record AreChainCounts (rs : List Record) (segments : ℕ) (faults : List RecordFault) : Type 0 where
   pub told : AreTold rs chain_codes faults
   pub too_many : most_segments < segments → IsTooMany rs Segments
   pub few : IsTooMany rs Segments → most_segments < segments
 
 -- the faults of keys and LANDs are told too, and the landmarks are counted
-pub record AreAreaCounts (rs : List Record) (codes : List ℕ) (count : ℕ) (faults : List MapFault) : Type 0 where
+pub record AreAreaCounts (rs : List Record) (codes : List ℕ) (count : ℕ) (faults : List RecordFault) : Type 0 where
   pub told : AreTold rs (with_areas codes) faults
   pub landmarks : count ≡ length (first_landmarks rs)

@@ -6,8 +6,8 @@ use Rattle.tl_record.specs.declared.record.Record.{Record}
 use Rattle.tl_record_faults.specs.Kept.{shape_at}
 use Rattle.tl_drawn.specs.ChainsOf.{same_point}
 use Rattle.tl_drawn.specs.declared.entry.ChainEntry.{ChainEntry}
-use Rattle.tl_drawn.specs.declared.fault.MapFault.{MapFault}
-use Rattle.tl_drawn.specs.declared.fault.MapFault.TheVariants.{ShapeSequence, ShapeGap}
+use Rattle.tl_drawn.specs.declared.fault.RecordFault.{RecordFault}
+use Rattle.tl_drawn.specs.declared.fault.RecordFault.TheVariants.{ShapeSequence, ShapeGap}
 use Rattle.tl_record_faults.specs.declared.shape.Trace.{Trace}
 use Rattle.tl_record_faults.specs.declared.shape.Seen.{Seen}
 use Rattle.tl_record_faults.specs.declared.shape.ShapeSummary.{ShapeSummary}
@@ -63,11 +63,11 @@ abbrev pub in_sequence : List ShapeSummary → Bool
 in_sequence run = count_up 1 (map (λ s. s.rtsq) run)
 
 -- the fault that the shapes of a TLID have
-abbrev pub run_fault : ℕ → List ShapeSummary → Option MapFault
+abbrev pub run_fault : ℕ → List ShapeSummary → Option RecordFault
 run_fault t run = if in_sequence run then (if (seen_in_run run).gap then Some (ShapeGap t) else None) else Some (ShapeSequence t)
 
 -- the fault is one of the TLID of one of the first shapes
-pub record IsRunFault (shapes : List ShapeSummary) (end : ℕ) (f : MapFault) : Type 0 where
+pub record IsRunFault (shapes : List ShapeSummary) (end : ℕ) (f : RecordFault) : Type 0 where
   pub place : ℕ
   pub below : place < end
   pub within : place < length shapes

@@ -1,5 +1,5 @@
 -- What is found of a polygon's point on the way.
-use Rattle.std.specs.Prelude.{◌≡◌, ◌⊎◌, ℕ, ◌<◌, ◌^◌, length, ℤ, pos, neg_ℤ, ◌+ℤ◌, Bool, false, if◌then◌else◌, Some, List, slice_get, slice_index_or, All, Contains, ⊤}
+use Rattle.std.specs.Prelude.{◌≡◌, ◌⊎◌, ℕ, ◌<◌, ◌^◌, length, ℤ, pos, neg_ℤ, ◌+ℤ◌, Bool, false, if◌then◌else◌, Some, List, slice_get, Contains, ⊤}
 use Rattle.tl_geom.specs.declared.point.Point.{Point}
 use Rattle.tl_geom.specs.declared.rect.Rect.{Rect}
 use Rattle.tl_county.specs.Segments.{segments_before}
@@ -48,10 +48,6 @@ IsPlacedPolygon m p = (polygon : Polygon) → slice_get m.polygons p ≡ Some po
 -- polygon p is one of these, or its point lies where it has to
 abbrev pub IsPlacedOrIn : TheMap → List ℕ → ℕ → Type 0
 IsPlacedOrIn m suspects p = Contains suspects p ⊎ IsPlacedPolygon m p
-
--- where those that are left are placed, so are the first k of these polygons
-abbrev pub ArePlacedBut : TheMap → List Site → List ℕ → ℕ → Type 0
-ArePlacedBut m left order k = All (IsPlacedSite m) left → (j d : ℕ) → j < k → IsPlacedPolygon m (slice_index_or order j d)
 
 -- the indexes fit the map's segments and its rings, sides agree, and the rings are the map's
 pub record AreSound {X Y : Type 0} (Fits : X → ℕ → (ℕ → Rect) → Type 0) (FitsRings : Y → ℕ → (ℕ → Rect) → Type 0) (by : Grounds X Y) : Type 0 where

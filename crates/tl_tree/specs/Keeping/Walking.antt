@@ -6,7 +6,7 @@ use Rattle.tl_tree.specs.declared.walk.Below.{Below}
 use Rattle.tl_tree.specs.declared.walk.Below.TheVariants.{Items, Children}
 use Rattle.tl_index.specs.declared.items.Search.{Search}
 use Rattle.tl_index.specs.declared.items.Search.TheVariants.{Found, Clear, Budget}
-use Rattle.tl_tree.specs.declared.search.Conflict.{Conflict}
+use Rattle.tl_index.specs.declared.items.Conflict.{Conflict}
 use Rattle.tl_tree.specs.declared.search.Progress.{Progress}
 use Rattle.tl_index.specs.Pairs.{meeting}
 use Rattle.tl_index.specs.Searches.{IsConflict, IsFreePair}
@@ -51,7 +51,7 @@ pub record IsSound {W : Type 0} (n : ℕ) (bounds : ℕ → Rect) (see : W → F
   pub below : CoveredBelow bounds see t.below
 
 -- f is the same in both directions, and counts each chosen pair at least once
-pub record Counts (n : ℕ) (chosen : ℕ → ℕ → Bool) (f : ℕ → ℕ → ℕ) : Type 0 where
+pub record CountsChosen (n : ℕ) (chosen : ℕ → ℕ → Bool) (f : ℕ → ℕ → ℕ) : Type 0 where
   pub turned : (x y : ℕ) → f x y ≡ f y x
   pub each : (i j : ℕ) → i < j → j < n → IsTrue (chosen i j) → 1 ≤ f i j
 
@@ -59,7 +59,7 @@ pub record Counts (n : ℕ) (chosen : ℕ → ℕ → Bool) (f : ℕ → ℕ →
 pub record Enough {C : Type 0} (n : ℕ) (bounds : ℕ → Rect) (tells : ℕ → ℕ → Option C → Type 0) (claim : (ℕ → ℕ → ℕ) → Type 0) : Type 0 where
   pub chosen : ℕ → ℕ → Bool
   pub free : (i j : ℕ) → i < j → j < n → IsTrue (chosen i j) → IsFreePair bounds tells i j
-  pub counted : (f : ℕ → ℕ → ℕ) → Counts n chosen f → claim f
+  pub counted : (f : ℕ → ℕ → ℕ) → CountsChosen n chosen f → claim f
 
 -- a part of a search goes on, over pairs of which `sum` is the sum of what counts pairs: they are free of conflicts, and
 -- as many of the budget are spent as have bounds that meet

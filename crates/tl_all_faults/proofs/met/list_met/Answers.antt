@@ -11,13 +11,13 @@ returns g c =
     let meets = c.args.meets.items in
     let left = c.in_ok-points_left.points_left in
     let rest = c.in_ok-points_left.ensures in
-    let told : c.tell_meets.new.faults.items ≡ map fault.Meet meets =
-    c.in_ok-tell_meets.ensures ∙ rw (c.new-faults.ensures.items, c.deref.ensures.value) refl in
-    let all : AreMapFaults m c.tell_rest.new.faults.items left = all_told m meets left _ _ _ c.requires.all told rest.agreement rest.points in
+    let told : c.push_meets.new.faults.items ≡ map fault.Meet meets =
+    c.in_ok-push_meets.ensures ∙ rw (c.new-faults.ensures.items, c.deref.ensures.value) refl in
+    let all : AreMapFaults m c.push_rest.new.faults.items left = all_told m meets left _ _ _ c.requires.all told rest.agreement rest.points in
     (some_told m _ left all (meet_is_fault m meets c.requires.all c.requires.some), all)
 
-pub returns-in_err-tell_meets : goal.returns-in_err-tell_meets
-returns-in_err-tell_meets g c = let p = err_from_is_err_and c.from_residual.result c.from_residual.ensures.1 in rw p.1 tt
+pub returns-in_err-push_meets : goal.returns-in_err-push_meets
+returns-in_err-push_meets g c = let p = err_from_is_err_and c.from_residual.result c.from_residual.ensures.1 in rw p.1 tt
 
 pub returns-in_err-points_left : goal.returns-in_err-points_left
 returns-in_err-points_left g c = let p = err_from_is_err_and c.from_residual-in_err-points_left.result c.from_residual-in_err-points_left.ensures.1 in rw p.1 tt

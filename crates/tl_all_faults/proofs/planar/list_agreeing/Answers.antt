@@ -10,9 +10,9 @@ pub returns-then-is_empty : goal.returns-then-is_empty
 returns-then-is_empty c =
     let m = c.args.map.now in
     let rings = c.requires.rings in
-    let none : length c.tell_suspects.new.faults.items ≡ 0 = grind (arith, c.is_empty.ensures, c.if-is_empty.true) in
-    let nothing : HasNone m = has_none m c.tell_suspects.new.faults.items false
-    (all_agreeing m c.new-faults.result.items c.tell_all_cells.new.faults.items c.tell_suspects.new.faults.items c.requires.planar c.new-faults.ensures.items c.requires.rings.agree c.in_ok-tell_all_cells.ensures c.in_ok-tell_suspects.ensures) (nil_from_length c.tell_suspects.new.faults.items none) in (
+    let none : length c.push_suspects.new.faults.items ≡ 0 = grind (arith, c.is_empty.ensures, c.if-is_empty.true) in
+    let nothing : HasNone m = has_none m c.push_suspects.new.faults.items false
+    (all_agreeing m c.new-faults.result.items c.push_all_cells.new.faults.items c.push_suspects.new.faults.items c.requires.planar c.new-faults.ensures.items c.requires.rings.agree c.in_ok-push_all_cells.ensures c.in_ok-push_suspects.ensures) (nil_from_length c.push_suspects.new.faults.items none) in (
       sound_by m rings.walks rings.are c.requires.planar
           (rings.agree, (c.cells_agree_where_no_pair_is_listed.ensures m.chains [] nothing.cells).1 refl)
           ((c.placed_where_no_fault_is_listed.ensures m [] nothing.points).1 refl),
@@ -22,13 +22,13 @@ returns-then-is_empty c =
 pub returns : goal.returns
 returns c =
     let m = c.args.map.now in
-    let faults = c.tell_suspects.new.faults.items in (
+    let faults = c.push_suspects.new.faults.items in (
       (λ none. let long : length faults ≡ 0 = rw none refl in grind (arith, long, c.is_empty.ensures, c.if-is_empty.false)),
-      all_agreeing m c.new-faults.result.items c.tell_all_cells.new.faults.items c.tell_suspects.new.faults.items c.requires.planar c.new-faults.ensures.items c.requires.rings.agree c.in_ok-tell_all_cells.ensures c.in_ok-tell_suspects.ensures,
+      all_agreeing m c.new-faults.result.items c.push_all_cells.new.faults.items c.push_suspects.new.faults.items c.requires.planar c.new-faults.ensures.items c.requires.rings.agree c.in_ok-push_all_cells.ensures c.in_ok-push_suspects.ensures,
     )
 
-pub returns-in_err-tell_all_cells : goal.returns-in_err-tell_all_cells
-returns-in_err-tell_all_cells c = let p = err_from_is_err_and c.from_residual.result c.from_residual.ensures.1 in rw p.1 tt
+pub returns-in_err-push_all_cells : goal.returns-in_err-push_all_cells
+returns-in_err-push_all_cells c = let p = err_from_is_err_and c.from_residual.result c.from_residual.ensures.1 in rw p.1 tt
 
-pub returns-in_err-tell_suspects : goal.returns-in_err-tell_suspects
-returns-in_err-tell_suspects c = let p = err_from_is_err_and c.from_residual-in_err-tell_suspects.result c.from_residual-in_err-tell_suspects.ensures.1 in rw p.1 tt
+pub returns-in_err-push_suspects : goal.returns-in_err-push_suspects
+returns-in_err-push_suspects c = let p = err_from_is_err_and c.from_residual-in_err-push_suspects.result c.from_residual-in_err-push_suspects.ensures.1 in rw p.1 tt

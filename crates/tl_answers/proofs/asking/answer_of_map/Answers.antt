@@ -7,7 +7,7 @@ use Rattle.tl_answers.proofs.asking.answer_of_map.Goals as goal
 pub returns-in-Ok : goal.returns-in-Ok
 returns-in-Ok g c =
     let layout = layout_with c.args.options in
-    let told = c.tell_of_map in
+    let told = c.write_asked in
     answered_of layout _ _ _ _ _ _ _ _ _ told.result c.in-Ok.ensures.failures
     (answer_to c.args.asked layout _ c.in-Ok.map (Writes g.W.Sink.contents g.W.Sink.failure_count c.args.out.now told.new.out) c.in-Ok.ensures.map)
     (answer_to c.args.asked layout _ c.in-Ok.map (WritesSome g.W.Sink.contents g.W.Sink.failure_count c.args.out.now told.new.out) c.in-Ok.ensures.map)

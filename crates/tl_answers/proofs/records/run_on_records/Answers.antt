@@ -8,41 +8,41 @@ use Rattle.tl_answers.proofs.ToldLemmas.{line_stops}
 use Rattle.tl_answers.proofs.records.run_on_records.Goals as goal
 
 pub returns-clause-status : goal.returns-clause-status
-returns-clause-status g c = answer_runs _ _ _ _ _ c.answer-answered.result c.tell_answer.result c.tell_answer.ensures
+returns-clause-status g c = answer_runs _ _ _ _ _ c.answer-answered.result c.write_unanswered.result c.write_unanswered.ensures
 
 pub returns-clause-answered : goal.returns-clause-answered
 returns-clause-answered g c = λ done.
-    let t = answer_done _ _ _ _ _ c.answer-answered.result c.tell_answer.result c.tell_answer.ensures done in
+    let t = answer_done _ _ _ _ _ c.answer-answered.result c.write_unanswered.result c.write_unanswered.ensures done in
     rw t.2 (rw t.1 at c.answer-answered.ensures.answered)
 
 pub returns-clause-fault : goal.returns-clause-fault
 returns-clause-fault g c = λ fault.
-    let t = answer_fault _ _ _ _ _ c.answer-answered.result c.tell_answer.result c.tell_answer.ensures fault in
+    let t = answer_fault _ _ _ _ _ c.answer-answered.result c.write_unanswered.result c.write_unanswered.ensures fault in
     let stops = rw t.1 at c.answer-answered.ensures.stops in
     record {
       fault = t.0;
-      written = subst (λ out. Writes g.W.Sink.contents g.W.Sink.failure_count out c.tell_answer.new.out (line_of (fault_text t.0))) stops.0 t.2;
+      written = subst (λ out. Writes g.W.Sink.contents g.W.Sink.failure_count out c.write_unanswered.new.out (line_of (fault_text t.0))) stops.0 t.2;
       is = rw t.1 at c.answer-answered.ensures.sought;
       holds = stops.1;
     }
 
 pub returns-clause-refused : goal.returns-clause-refused
 returns-clause-refused g c = λ refused.
-    let t = answer_refused _ _ _ _ _ c.answer-answered.result c.tell_answer.result c.tell_answer.ensures refused in
+    let t = answer_refused _ _ _ _ _ c.answer-answered.result c.write_unanswered.result c.write_unanswered.ensures refused in
     record { line = t.0; cause = t.1; written = t.3; first = (rw t.2 at c.answer-answered.ensures.stops).1 }
 
 pub returns-clause-out_stays : goal.returns-clause-out_stays
 returns-clause-out_stays g c = λ refused.
-    let t = answer_refused _ _ _ _ _ c.answer-answered.result c.tell_answer.result c.tell_answer.ensures refused in
+    let t = answer_refused _ _ _ _ _ c.answer-answered.result c.write_unanswered.result c.write_unanswered.ensures refused in
     t.4 ∙ (rw t.2 at c.answer-answered.ensures.stops).0
 
 pub returns-clause-stopped : goal.returns-clause-stopped
 returns-clause-stopped g c = λ stopped.
     let answer = c.answer-answered in
-    let out = c.tell_answer.new.out in
-    let told = TriesToWrite g.E.Sink.contents g.E.Sink.failure_count c.args.err.now c.tell_answer.new.err in
+    let out = c.write_unanswered.new.out in
+    let told = TriesToWrite g.E.Sink.contents g.E.Sink.failure_count c.args.err.now c.write_unanswered.new.err in
     let some = WritesSome g.W.Sink.contents g.W.Sink.failure_count in
-    elim (answer_stopped _ _ _ _ _ answer.result c.tell_answer.result c.tell_answer.ensures stopped) [
+    elim (answer_stopped _ _ _ _ _ answer.result c.write_unanswered.result c.write_unanswered.ensures stopped) [
       | inl line ↦
           let stops = rw line.1 at answer.ensures.stops in
           let here = subst (λ old. NamesStop told ⊥ ⊤ (out ≡ old) (some old out (line_of (fault_text line.0)))) stops.0 line.2 in
@@ -56,9 +56,9 @@ returns-clause-stopped g c = λ stopped.
 
 pub returns-clause-err_stays : goal.returns-clause-err_stays
 returns-clause-err_stays g c = λ told. elim told [
-  | inl done ↦ (answer_done _ _ _ _ _ c.answer-answered.result c.tell_answer.result c.tell_answer.ensures done).3
-  | inr fault ↦ (answer_fault _ _ _ _ _ c.answer-answered.result c.tell_answer.result c.tell_answer.ensures fault).3
+  | inl done ↦ (answer_done _ _ _ _ _ c.answer-answered.result c.write_unanswered.result c.write_unanswered.ensures done).3
+  | inr fault ↦ (answer_fault _ _ _ _ _ c.answer-answered.result c.write_unanswered.result c.write_unanswered.ensures fault).3
 ]
 
 pub returns-clause-read_whole : goal.returns-clause-read_whole
-returns-clause-read_whole g c = answer_whole _ _ _ _ _ c.answer-answered.result c.tell_answer.result _ _ c.answer-answered.ensures.reads c.tell_answer.ensures
+returns-clause-read_whole g c = answer_whole _ _ _ _ _ c.answer-answered.result c.write_unanswered.result _ _ c.answer-answered.ensures.reads c.write_unanswered.ensures

@@ -1,14 +1,11 @@
-use Rattle.std.proofs.Common.{length, refl, subst, Ok, arith}
+use Rattle.std.proofs.Common.{length, refl, subst, Ok, arith, false}
 use Rattle.tl_county.specs.Segments.{segments_before}
 use Rattle.tl_planar.specs.Planar.{IsPlanar}
 use Rattle.tl_planar.specs.Rectangles.{segment_rect}
-use Rattle.tl_verdict.specs.declared.stop.Stop.{Stop}
-use Rattle.tl_verdict.specs.declared.stop.Stop.TheVariants.{Budget}
-use Rattle.tl_verdict.specs.Verdicts.{MayStop, OnSound, IfSound, IfMapFault, IfCertFault, IsReport}
-use Rattle.tl_sides.specs.Sides.{SidesAgree}
-use Rattle.tl_inside.specs.Placed.{ArePlaced}
-use Rattle.tl_cells.specs.Cells.{CellsAgree}
-use Rattle.tl_verdict.specs.Sound.{AreClosed}
+use Rattle.tl_output.specs.declared.stop.Stop.{Stop}
+use Rattle.tl_output.specs.declared.stop.Stop.TheVariants.{Budget}
+use Rattle.tl_verdict.specs.Verdicts.{MayStop, OnSound, OnSoundButFaces, IfSound, IfMapFault, IfCertFault, IsReport}
+use Rattle.tl_verdict.specs.Sound.{IsSound}
 use Rattle.tl_verdict.specs.Valid.{IsValid}
 use Rattle.tl_verdict.specs.Truth.{IsTrueOfMap, IsTrueOfCert, IsOfDarts}
 use Rattle.tl_verdict.specs.declared.verdict.Verdict.{Verdict}
@@ -25,7 +22,7 @@ unreachable-requires c =
     subst (λ (v : Verdict). IfCertFault (Ok v) (IsTrueOfCert m cert)) c.in-Ok-CertFault.field-0-is c.in-Ok-CertFault.ensures.cert_fault in
     let behind : IsOfDarts fault → IsPlanar m.chains =
     subst (λ (v : Verdict). IfCertFault (Ok v) (λ f. IsOfDarts f → IsPlanar m.chains)) c.in-Ok-CertFault.field-0-is c.in-Ok-CertFault.ensures.behind in
-    no_fault m cert fault c.requires.proposed c.look_at_chains.ensures is_true behind
+    no_fault m cert fault c.requires.proposed c.has_proper_chains.ensures is_true behind
 
 pub unreachable-requires-in-Err-Budget : goal.unreachable-requires-in-Err-Budget
 unreachable-requires-in-Err-Budget c =
@@ -38,18 +35,12 @@ unreachable-requires-in-Err-Budget c =
 pub returns-in-Ok-Sound : goal.returns-in-Ok-Sound
 returns-in-Ok-Sound c =
     let m = c.args.map.now in
-    let is = c.in-Ok-Sound.field-0-is in
-    let told : (P : Type 0) → OnSound (Ok c.in-Ok-Sound.field-0) P → P = λ P. subst (λ (v : Verdict). OnSound (Ok v) P) is in (
-      record {
-        planar = told (IsPlanar m.chains) c.in-Ok-Sound.ensures.planar;
-        sides = told (SidesAgree m.chains) c.in-Ok-Sound.ensures.sides;
-        closed = told (AreClosed m) c.in-Ok-Sound.ensures.closed;
-        points = told (ArePlaced m) c.in-Ok-Sound.ensures.points;
-        cells = told (CellsAgree m.chains) c.in-Ok-Sound.ensures.cells;
-      },
-      told (IsValid m c.args.cert.now) c.in-Ok-Sound.ensures.valid,
+    let is = c.in-Ok-Sound.field-0-is in (
+      subst (λ (v : Verdict). OnSound (Ok v) (IsSound m)) is c.in-Ok-Sound.ensures.sound,
+      subst (λ (v : Verdict). OnSoundButFaces (Ok v) (IsValid m c.args.cert.now)) is c.in-Ok-Sound.ensures.valid,
       subst (λ (v : Verdict). IfSound (Ok v) (IsReport m)) is c.in-Ok-Sound.ensures.report,
     )
 
 pub returns-in-Ok-MapFault : goal.returns-in-Ok-MapFault
-returns-in-Ok-MapFault c = subst (λ (v : Verdict). IfMapFault (Ok v) (IsTrueOfMap c.args.map.now)) c.in-Ok-MapFault.field-0-is c.in-Ok-MapFault.ensures.map_fault
+returns-in-Ok-MapFault c =
+    subst (λ (v : Verdict). IfMapFault (Ok v) (IsTrueOfMap false c.args.map.now)) c.in-Ok-MapFault.field-0-is c.in-Ok-MapFault.ensures.map_fault

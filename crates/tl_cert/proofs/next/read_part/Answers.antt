@@ -3,8 +3,8 @@ use Rattle.std.specs.Prelude.{◌⊎◌}
 use Rattle.std.specs.Global.{Global}
 use Rattle.tl_index.specs.declared.node.TreeNode.{TreeNode}
 use Rattle.tl_cert.specs.declared.certificate.Counts.{Counts}
-use Rattle.tl_cert.specs.declared.place.Place.{Place}
-use Rattle.tl_cert.specs.declared.place.Place.TheVariants.{Start, Counted, Treed, Rounds}
+use Rattle.tl_cert.specs.declared.place.NextPart.{NextPart}
+use Rattle.tl_cert.specs.declared.place.NextPart.TheVariants.{Start, Counted, Treed, Rounds}
 use Rattle.tl_cert.specs.declared.place.CertPart.{CertPart}
 use Rattle.tl_cert.specs.declared.place.CertPart.TheVariants as part
 use Rattle.tl_cert.specs.Text.{numbered_line, tree_lines}
@@ -71,7 +71,7 @@ returns-in-Err-clause-reads g c =
     (stops_part {T = Counts × ℕ} g.R.Source.remaining AreVersionedCounts versioned_lines Start (at c.args.lines.now c.args.source.now) (at c.read_counts.new.lines c.read_counts.new.source) (at c.read_counts.new.lines c.read_counts.new.source) c.in-Err.stop c.in-Err.ensures.reads)
 
 pub returns-in-Err-clause-failures : goal.returns-in-Err-clause-failures
-returns-in-Err-clause-failures g c = fails_later (Counts × ℕ) (Option (CertPart × Place)) _ _ _ c.in-Err.stop refl c.in-Err.ensures.failures
+returns-in-Err-clause-failures g c = fails_later (Counts × ℕ) (Option (CertPart × NextPart)) _ _ _ c.in-Err.stop refl c.in-Err.ensures.failures
 
 pub returns-in-Err-clause-same_reference : goal.returns-in-Err-clause-same_reference
 returns-in-Err-clause-same_reference g c = c.in-Err.ensures.same_reference
@@ -89,19 +89,19 @@ returns-in-Err-read_tree-clause-reads g c =
     (stops_part {T = Vec TreeNode Global} g.R.Source.remaining (λ v. IsTree version v.items) (λ v. tree_lines version v.items) (Counted version) (at c.args.lines.now c.args.source.now) (at c.read_tree.new.lines c.read_tree.new.source) (at c.read_tree.new.lines c.read_tree.new.source) c.in-Err-read_tree.stop c.in-Err-read_tree.ensures.reads)
 
 pub returns-in-Err-read_tree-clause-failures : goal.returns-in-Err-read_tree-clause-failures
-returns-in-Err-read_tree-clause-failures g c = fails_later (Vec TreeNode Global) (Option (CertPart × Place)) _ _ _ c.in-Err-read_tree.stop refl c.in-Err-read_tree.ensures.failures
+returns-in-Err-read_tree-clause-failures g c = fails_later (Vec TreeNode Global) (Option (CertPart × NextPart)) _ _ _ c.in-Err-read_tree.stop refl c.in-Err-read_tree.ensures.failures
 
 pub returns-in-Err-read_tree-clause-same_reference : goal.returns-in-Err-read_tree-clause-same_reference
 returns-in-Err-read_tree-clause-same_reference g c = c.in-Err-read_tree.ensures.same_reference
 
 pub returns-in-Ok-read-clause-failures : goal.returns-in-Ok-read-clause-failures
-returns-in-Ok-read-clause-failures g c = tells_later (Option (CertPart × Place)) _ _ _ c.read_round.result c.in-Ok-read.ensures.failures c.read_round.ensures.failures
+returns-in-Ok-read-clause-failures g c = tells_later (Option (CertPart × NextPart)) _ _ _ c.read_round.result c.in-Ok-read.ensures.failures c.read_round.ensures.failures
 
 pub returns-in-Ok-read-clause-same_reference : goal.returns-in-Ok-read-clause-same_reference
 returns-in-Ok-read-clause-same_reference g c = c.read_round.ensures.same_reference ∙ c.in-Ok-read.ensures.same_reference
 
 pub returns-in-Err-read-clause-failures : goal.returns-in-Err-read-clause-failures
-returns-in-Err-read-clause-failures g c = fails_later ℕ (Option (CertPart × Place)) _ _ _ c.in-Err-read.stop refl c.in-Err-read.ensures.failures
+returns-in-Err-read-clause-failures g c = fails_later ℕ (Option (CertPart × NextPart)) _ _ _ c.in-Err-read.stop refl c.in-Err-read.ensures.failures
 
 pub returns-in-Err-read-clause-same_reference : goal.returns-in-Err-read-clause-same_reference
 returns-in-Err-read-clause-same_reference g c = c.in-Err-read.ensures.same_reference

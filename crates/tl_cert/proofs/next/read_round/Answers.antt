@@ -1,8 +1,8 @@
 use Rattle.std.proofs.Common.{◌≡◌, ◌∷◌, [], ℕ, Vec, Option, Err, refl, arith, subst, ◌∙◌}
 use Rattle.std.specs.Global.{Global}
-use Rattle.tl_cert.specs.declared.place.Place.{Place}
+use Rattle.tl_cert.specs.declared.place.NextPart.{NextPart}
 use Rattle.tl_cert.specs.declared.place.CertPart.{CertPart}
-use Rattle.tl_cert.specs.declared.place.Place.TheVariants.{Rounds, Walks}
+use Rattle.tl_cert.specs.declared.place.NextPart.TheVariants.{Rounds, Walks}
 use Rattle.tl_cert.specs.Text.{numbered_line}
 use Rattle.tl_cert.specs.Keeping.Places.{ReadsPart}
 use Rattle.tl_cert.specs.Keeping.Steps.{at_walks}
@@ -42,19 +42,19 @@ pub returns-in-Ok-clause-same_reference : goal.returns-in-Ok-clause-same_referen
 returns-in-Ok-clause-same_reference g c = c.in-Ok.ensures.same_reference
 
 pub returns-in-Err-clause-failures : goal.returns-in-Err-clause-failures
-returns-in-Err-clause-failures g c = fails_later (Vec ℕ Global) (Option (CertPart × Place)) _ _ _ c.in-Err.stop refl c.in-Err.ensures.failures
+returns-in-Err-clause-failures g c = fails_later (Vec ℕ Global) (Option (CertPart × NextPart)) _ _ _ c.in-Err.stop refl c.in-Err.ensures.failures
 
 pub returns-in-Err-clause-same_reference : goal.returns-in-Err-clause-same_reference
 returns-in-Err-clause-same_reference g c = c.in-Err.ensures.same_reference
 
 pub returns-in-Ok-read-clause-failures : goal.returns-in-Ok-read-clause-failures
-returns-in-Ok-read-clause-failures g c = tells_later (Option (CertPart × Place)) _ _ _ c.read_walk.result c.in-Ok-read.ensures.failures c.read_walk.ensures.failures
+returns-in-Ok-read-clause-failures g c = tells_later (Option (CertPart × NextPart)) _ _ _ c.read_walk.result c.in-Ok-read.ensures.failures c.read_walk.ensures.failures
 
 pub returns-in-Ok-read-clause-same_reference : goal.returns-in-Ok-read-clause-same_reference
 returns-in-Ok-read-clause-same_reference g c = c.read_walk.ensures.same_reference ∙ c.in-Ok-read.ensures.same_reference
 
 pub returns-in-Err-read-clause-failures : goal.returns-in-Err-read-clause-failures
-returns-in-Err-read-clause-failures g c = fails_later ℕ (Option (CertPart × Place)) _ _ _ c.in-Err-read.stop refl c.in-Err-read.ensures.failures
+returns-in-Err-read-clause-failures g c = fails_later ℕ (Option (CertPart × NextPart)) _ _ _ c.in-Err-read.stop refl c.in-Err-read.ensures.failures
 
 pub returns-in-Err-read-clause-same_reference : goal.returns-in-Err-read-clause-same_reference
 returns-in-Err-read-clause-same_reference g c = c.in-Err-read.ensures.same_reference

@@ -1,8 +1,8 @@
 use Rattle.std.proofs.Common.{◌≡◌, ℕ, Vec, Option, Ok, Err, None, refl, arith, subst, ◌∙◌}
 use Rattle.std.specs.Global.{Global}
-use Rattle.tl_cert.specs.declared.place.Place.{Place}
+use Rattle.tl_cert.specs.declared.place.NextPart.{NextPart}
 use Rattle.tl_cert.specs.declared.place.CertPart.{CertPart}
-use Rattle.tl_cert.specs.declared.place.Place.TheVariants.{Walks}
+use Rattle.tl_cert.specs.declared.place.NextPart.TheVariants.{Walks}
 use Rattle.tl_cert.specs.Keeping.Places.{ReadsPart}
 use Rattle.tl_cert.specs.Keeping.Lines.{at}
 use Rattle.tl_cert.proofs.PlaceLemmas.{walk_read, walk_stops, text_ends, text_goes_on, end_missing}
@@ -43,7 +43,7 @@ pub returns-in-Ok-clause-same_reference : goal.returns-in-Ok-clause-same_referen
 returns-in-Ok-clause-same_reference g c = c.in-Ok.ensures.same_reference
 
 pub returns-in-Err-clause-failures : goal.returns-in-Err-clause-failures
-returns-in-Err-clause-failures g c = fails_later (Vec ℕ Global) (Option (CertPart × Place)) _ _ _ c.in-Err.stop refl c.in-Err.ensures.failures
+returns-in-Err-clause-failures g c = fails_later (Vec ℕ Global) (Option (CertPart × NextPart)) _ _ _ c.in-Err.stop refl c.in-Err.ensures.failures
 
 pub returns-in-Err-clause-same_reference : goal.returns-in-Err-clause-same_reference
 returns-in-Err-clause-same_reference g c = c.in-Err.ensures.same_reference
@@ -55,13 +55,13 @@ pub returns-in-Ok-end-clause-same_reference : goal.returns-in-Ok-end-clause-same
 returns-in-Ok-end-clause-same_reference g c = c.in-Ok-end.ensures.same_reference ∙ c.in-Ok-read.ensures.same_reference
 
 pub returns-in-Err-end-clause-failures : goal.returns-in-Err-end-clause-failures
-returns-in-Err-end-clause-failures g c = fails_later (Unit {0}) (Option (CertPart × Place)) _ _ _ c.in-Err-end.stop c.in-Ok-read.ensures.failures c.in-Err-end.ensures.failures
+returns-in-Err-end-clause-failures g c = fails_later (Unit {0}) (Option (CertPart × NextPart)) _ _ _ c.in-Err-end.stop c.in-Ok-read.ensures.failures c.in-Err-end.ensures.failures
 
 pub returns-in-Err-end-clause-same_reference : goal.returns-in-Err-end-clause-same_reference
 returns-in-Err-end-clause-same_reference g c = c.in-Err-end.ensures.same_reference ∙ c.in-Ok-read.ensures.same_reference
 
 pub returns-in-Err-read-clause-failures : goal.returns-in-Err-read-clause-failures
-returns-in-Err-read-clause-failures g c = fails_later (Unit {0}) (Option (CertPart × Place)) _ _ _ c.in-Err-read.stop refl c.in-Err-read.ensures.failures
+returns-in-Err-read-clause-failures g c = fails_later (Unit {0}) (Option (CertPart × NextPart)) _ _ _ c.in-Err-read.stop refl c.in-Err-read.ensures.failures
 
 pub returns-in-Err-read-clause-same_reference : goal.returns-in-Err-read-clause-same_reference
 returns-in-Err-read-clause-same_reference g c = c.in-Err-read.ensures.same_reference

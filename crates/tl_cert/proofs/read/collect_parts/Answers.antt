@@ -1,7 +1,7 @@
 use Rattle.std.proofs.Common.{◌≡◌, ◌<◌, ℕ, Ok, Err, Some, None, refl, ap, ◌∙◌}
 use Rattle.tl_record.specs.Failures.{one_more}
-use Rattle.tl_cert.specs.declared.place.Place.{Place}
-use Rattle.tl_cert.specs.declared.place.Place.TheVariants.{Start}
+use Rattle.tl_cert.specs.declared.place.NextPart.{NextPart}
+use Rattle.tl_cert.specs.declared.place.NextPart.TheVariants.{Start}
 use Rattle.tl_cert.specs.declared.reader.Standing.{Standing}
 use Rattle.tl_cert.specs.declared.reader.Standing.TheVariants.{Reading}
 use Rattle.tl_cert.specs.declared.stop.CertStop.{CertStop}
@@ -13,10 +13,10 @@ use Rattle.tl_cert.specs.Keeping.Collecting.{left_of}
 use Rattle.tl_cert.proofs.CollectLemmas.{gives_here, tells_here, collects_none, collects_more, collects_all, stops_all, memory_lacks}
 use Rattle.tl_cert.proofs.read.collect_parts.Goals as goal
 
-fewer_left : (place next : Place) (old new : Standing) → old ≡ Reading place → new ≡ Reading next → parts_left next < parts_left place → left_of new < left_of old
+fewer_left : (place next : NextPart) (old new : Standing) → old ≡ Reading place → new ≡ Reading next → parts_left next < parts_left place → left_of new < left_of old
 fewer_left place next old new is now fewer = rw (is, now) fewer
 
-device_told : (T : Type 0) (place : Place) (old mid new : ℕ) (stop : CertStop) → mid ≡ old → TellsFailure (Reading place) mid new (Err stop) → TellsDevice {T = T} old new (Err stop)
+device_told : (T : Type 0) (place : NextPart) (old mid new : ℕ) (stop : CertStop) → mid ≡ old → TellsFailure (Reading place) mid new (Err stop) → TellsDevice {T = T} old new (Err stop)
 device_told T place old mid new (Text line) same tells = tells ∙ same
 device_told T place old mid new Memory same tells = tells ∙ same
 device_told T place old mid new Device same tells = tells ∙ ap one_more same

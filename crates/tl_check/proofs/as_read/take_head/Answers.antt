@@ -1,5 +1,5 @@
 use Rattle.std.proofs.Common.{Ok, Err, refl, sym, subst, ◌∙◌}
-use Rattle.tl_cert.specs.declared.place.Place.TheVariants.{Start, Counted, Treed}
+use Rattle.tl_cert.specs.declared.place.NextPart.TheVariants.{Start, Counted, Treed}
 use Rattle.tl_cert.specs.declared.place.CertPart.TheVariants as part
 use Rattle.tl_cert.specs.Reading.{source_of, standing_of}
 use Rattle.tl_cert.proofs.CollectLemmas.{tells_here}

@@ -9,7 +9,7 @@ pub returns-in-Plan : goal.returns-in-Plan
 returns-in-Plan g c = λ words asks.
     let here : AskForTask words (task.Plan c.in-Plan.plan c.in-Plan.progress) = rw c.in-Plan.is at asks in
     inl (starts_planned words _ _ _ (FilesFail g.F.Reader.Source.failure_count g.F.Draft.Sink.failure_count g.F.FileSystem.knows (g.F.FileSystem.under c.args.files.now)) _ _
-    c.in-Plan.plan _ _ _ (record { taken = here.taken; asked = here.asked.0; plain = here.asked.2 }) c.run_plan.ensures)
+    c.in-Plan.plan _ _ _ (record { taken = here.taken; asked = here.asked.0 }) c.run_plan.ensures)
 
 pub returns-in_default : goal.returns-in_default
 returns-in_default g c = λ words asks.

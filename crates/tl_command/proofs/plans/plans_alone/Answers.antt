@@ -8,4 +8,4 @@ returns-in-Ok g c = c.perform.ensures (map string_bytes c.args.words.now) c.in-O
 
 pub returns-in-Err : goal.returns-in-Err
 returns-in-Err g c =
-    inl (starts_unplanned (map string_bytes c.args.words.now) _ _ _ (FilesFail g.F.Reader.Source.failure_count g.F.Draft.Sink.failure_count g.F.FileSystem.knows (g.F.FileSystem.under c.args.files.now)) _ _ c.in-Err.stop _ _ c.in-Err.ensures.stops c.in-Err.ensures.texts c.tell_stop.ensures)
+    inl (starts_unplanned (map string_bytes c.args.words.now) _ _ _ (FilesFail g.F.Reader.Source.failure_count g.F.Draft.Sink.failure_count g.F.FileSystem.knows (g.F.FileSystem.under c.args.files.now)) _ _ c.in-Err.stop _ _ c.in-Err.ensures.stops c.in-Err.ensures.texts c.say_stop.ensures)

@@ -6,16 +6,16 @@ use Rattle.tl_disagreements.proofs.StartLemmas.{sorted_of, firsts_of}
 use Rattle.tl_disagreements.proofs.Telling.{all_told}
 use Rattle.tl_disagreements.proofs.cells.all_cells_at_odds.Goals as goal
 
-pub tell_all-requires-clause-starts : goal.tell_all-requires-clause-starts
-tell_all-requires-clause-starts c = rw c.deref-2.ensures.value (sorted_of c.args.map.now.chains c.in-Ok.starts.items c.sort_by_id.new.starts.items c.in-Ok.ensures c.sort_by_id.ensures.moved c.sort_by_id.ensures.ordered)
+pub find_pairs-requires-clause-starts : goal.find_pairs-requires-clause-starts
+find_pairs-requires-clause-starts c = rw c.deref-2.ensures.value (sorted_of c.args.map.now.chains c.in-Ok.starts.items c.sort_by_id.new.starts.items c.in-Ok.ensures c.sort_by_id.ensures.moved c.sort_by_id.ensures.ordered)
 
-pub tell_all-requires-clause-firsts : goal.tell_all-requires-clause-firsts
-tell_all-requires-clause-firsts c =
+pub find_pairs-requires-clause-firsts : goal.find_pairs-requires-clause-firsts
+find_pairs-requires-clause-firsts c =
     let firsts = c.in-Ok-first_at_nodes.ensures.firsts in
     rw c.deref-3.ensures.value (firsts_of c.args.map.now.chains c.in-Ok.starts.items _ c.in-Ok.ensures (rw c.deref.ensures.value at firsts))
 
-pub tell_all-requires-clause-known : goal.tell_all-requires-clause-known
-tell_all-requires-clause-known c = rw c.deref-2.ensures.value (λ k d lt.
+pub find_pairs-requires-clause-known : goal.find_pairs-requires-clause-known
+find_pairs-requires-clause-known c = rw c.deref-2.ensures.value (λ k d lt.
     let sorted = sorted_of c.args.map.now.chains c.in-Ok.starts.items c.sort_by_id.new.starts.items c.in-Ok.ensures c.sort_by_id.ensures.moved c.sort_by_id.ensures.ordered in
     let one = sorted.each k d lt in
     let below = one.within c.nodes.ensures.0 c.nodes.ensures.1 in

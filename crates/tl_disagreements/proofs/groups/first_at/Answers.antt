@@ -1,6 +1,6 @@
 use Rattle.std.proofs.Common.{◌-◌, ap, ◌∙◌, arith}
 use Rattle.std.proofs.lemmas.List.{get_or_default}
-use Rattle.tl_disagreements.specs.declared.headed.HeadedDart.{HeadedDart}
+use Rattle.tl_sides.specs.declared.headed.HeadedDart.{HeadedDart}
 use Rattle.tl_disagreements.specs.Keeping.Around.{nowhere}
 use Rattle.tl_disagreements.proofs.Ends.{first_of_all, first_kept, first_here}
 use Rattle.tl_disagreements.proofs.groups.first_at.Goals as goal

@@ -4,7 +4,7 @@ use Rattle.tl_sides.specs.Sides.{dart_count}
 use Rattle.tl_sides.proofs.Headings.{dart_within}
 use Rattle.std.proofs.lemmas.Result.{err_from_is_err_and}
 use Rattle.tl_disagreements.specs.Keeping.Grouped.{AreNexts}
-use Rattle.tl_disagreements.specs.declared.headed.HeadedDart.{HeadedDart}
+use Rattle.tl_sides.specs.declared.headed.HeadedDart.{HeadedDart}
 use Rattle.tl_disagreements.specs.Keeping.Around.{nowhere, headed_at}
 use Rattle.tl_disagreements.proofs.Ends.{begun, one_next}
 use Rattle.tl_disagreements.proofs.groups.next_groups.Goals as goal

@@ -1,6 +1,6 @@
 use Rattle.std.proofs.Common.{ap, ◌∙◌, arith}
 use Rattle.std.proofs.lemmas.List.{get_or_default}
-use Rattle.tl_disagreements.specs.declared.headed.HeadedDart.{HeadedDart}
+use Rattle.tl_sides.specs.declared.headed.HeadedDart.{HeadedDart}
 use Rattle.tl_disagreements.specs.Keeping.Around.{nowhere}
 use Rattle.tl_disagreements.proofs.Ends.{next_behind, next_around}
 use Rattle.tl_disagreements.proofs.groups.next_place.Goals as goal

@@ -13,5 +13,5 @@ returns c =
     let count = c.darts-dart-end.ensures in
     all_of c.args.map.now.chains c.loop-dart.dart c.loop-dart.found.items (omega (arith, past, count)) c.loop-dart.invariant.found
 
-pub returns-in_err-tell_next : goal.returns-in_err-tell_next
-returns-in_err-tell_next c = let p = err_from_is_err_and c.from_residual.result c.from_residual.ensures.1 in rw p.1 tt
+pub returns-in_err-push_next : goal.returns-in_err-push_next
+returns-in_err-push_next c = let p = err_from_is_err_and c.from_residual.result c.from_residual.ensures.1 in rw p.1 tt

@@ -4,7 +4,7 @@ use Rattle.tl_export.proofs.ExportLemmas.{over_export, over_refusal, stops_askin
 use Rattle.tl_export.proofs.opening.open_and_export.Goals as goal
 
 pub returns-in-Ok-Free : goal.returns-in-Ok-Free
-returns-in-Ok-Free g c = over_export _ _ _ _ _ _ _ _ _ _ _ c.export-exporting.result c.tell_export.result c.export-exporting.ensures c.tell_export.ensures
+returns-in-Ok-Free g c = over_export _ _ _ _ _ _ _ _ _ _ _ c.export-exporting.result c.write_export.result c.export-exporting.ensures c.write_export.ensures
 
 pub returns-in-Ok-Taken : goal.returns-in-Ok-Taken
 returns-in-Ok-Taken g c =

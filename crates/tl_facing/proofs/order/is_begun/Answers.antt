@@ -1,7 +1,7 @@
 use Rattle.std.proofs.Common.{◌≡◌, pos, ◌≤ℤ◌, to_z, of_z, w64, ◌∙◌, arith}
 use Rattle.std.proofs.lemmas.Int.{ints}
 use Rattle.tl_slabs.specs.Heights.{height, widest}
-use Rattle.tl_facing.proofs.Turns.{begun_by}
+use Rattle.tl_facing.proofs.Begun.{begun_by}
 use Rattle.tl_facing.proofs.order.is_begun.Goals as goal
 
 pub returns-then-height : goal.returns-then-height

@@ -11,5 +11,5 @@ loop-number-preserved c =
     let n = c.loop-number.number in
     let within : n < length lists = omega (arith, c.loop-number-test.true, many_lists c.args.walks.now) in
     let one : c.polygon_of.result ≡ walk_polygon chains (list_at lists n) =
-    c.polygon_of.ensures ∙ polygon_is chains (list_at lists n) _ _ (some_in_walk chains lists n c.requires within) (rw (c.walk_at.ensures.walk) at c.dart_left.ensures) in
+    c.polygon_of.ensures ∙ polygon_is chains (list_at lists n) _ _ (some_in_walk chains lists n c.requires within) (rw (c.walk_at.ensures.walk) at c.dart_left.ensures.left) in
     c.in_ok-push.ensures.items ∙ ap (λ l. l ++ c.polygon_of.result ∷ []) c.loop-number.invariant ∙ (rw one (sym (polygons_more chains lists n within)))

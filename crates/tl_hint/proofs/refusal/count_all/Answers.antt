@@ -1,6 +1,7 @@
 use Rattle.std.proofs.Common.{inl, ◌∙◌, ap, arith, string_bytes}
 use Rattle.tl_files.specs.Files.{bytes_under}
-use Rattle.tl_hint.proofs.HintLemmas.{same_count, text_at, not_known, counts_more, device_for, unopened, uncounted}
+use Rattle.tl_hint.proofs.HintLemmas.{same_count, text_at, not_known, counts_more, unopened, uncounted}
+use Rattle.tl_output.proofs.StopLemmas.{stops_for}
 use Rattle.tl_hint.proofs.refusal.count_all.Goals as goal
 
 pub returns-in-Ok-None-clause-counted : goal.returns-in-Ok-None-clause-counted
@@ -27,5 +28,5 @@ returns-in-Err-count_lines-clause-stops g c =
 pub returns-in-Err-clause-stops : goal.returns-in-Err-clause-stops
 returns-in-Err-clause-stops g c =
     let failed = c.in-Err.ensures.failed in
-    rw c.stop_of.ensures (device_for _ _ _ (λ unknown. inl unknown)
-    (unopened string_bytes (g.F.FileSystem.under c.args.files.now) c.args.names.now c.loop-name.name-index c.name-item.result c.as_str.result.now c.loop-name-test.true c.name-item.is c.as_str.ensures.value c.in-Err.stop failed))
+    stops_for _ _ _ (λ unknown. inl unknown)
+    (unopened string_bytes (g.F.FileSystem.under c.args.files.now) c.args.names.now c.loop-name.name-index c.name-item.result c.as_str.result.now c.loop-name-test.true c.name-item.is c.as_str.ensures.value c.in-Err.stop failed)

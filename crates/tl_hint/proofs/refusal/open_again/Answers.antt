@@ -11,4 +11,4 @@ returns-in-Ok-None-clause-passing g c = λ texts have.
 pub returns-in-Err-clause-stops : goal.returns-in-Err-clause-stops
 returns-in-Err-clause-stops g c =
     let failed = c.in-Err.ensures.failed in
-    rw c.stop_of.ensures (unopened string_bytes (g.F.FileSystem.under c.args.files.now) c.args.names.now c.loop-name.name-index c.name-item.result c.as_str.result.now c.loop-name-test.true c.name-item.is c.as_str.ensures.value c.in-Err.stop failed)
+    unopened string_bytes (g.F.FileSystem.under c.args.files.now) c.args.names.now c.loop-name.name-index c.name-item.result c.as_str.result.now c.loop-name-test.true c.name-item.is c.as_str.ensures.value c.in-Err.stop failed

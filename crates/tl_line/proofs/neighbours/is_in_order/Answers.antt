@@ -1,10 +1,8 @@
-use Rattle.std.proofs.Common.{inl, inr}
 use Rattle.tl_geom.specs.Plane.{turn_of}
-use Rattle.tl_line.proofs.Tests.{ge_test, le_test}
+use Rattle.tl_line.proofs.West.{other_turn}
 use Rattle.tl_line.proofs.neighbours.is_in_order.Goals as goal
 
-pub returns-then-first : goal.returns-then-first
-returns-then-first c = λ h. inl (ge_test (turn_of c.args.c c.args.e c.args.p) _ _ c.turn.ensures c.is_ge.ensures h)
-
-pub returns-else-first : goal.returns-else-first
-returns-else-first c = λ h. inr (le_test (turn_of c.args.a c.args.b c.args.q) _ _ c.turn-else-first.ensures c.is_le.ensures h)
+pub returns-else-is_ge : goal.returns-else-is_ge
+returns-else-is_ge c =
+    other_turn (turn_of c.args.c c.args.e c.args.p) (turn_of c.args.a c.args.b c.args.q) _ _ _ _ c.turn.ensures c.is_ge.ensures c.if-is_ge.false
+    c.turn-else-is_ge.ensures c.is_le.ensures

@@ -2,15 +2,7 @@ use Rattle.std.proofs.Common.{refl}
 use Rattle.tl_making.proofs.building.make_of_map.Goals as goal
 
 pub keep-requires-clause-sound : goal.keep-requires-clause-sound
-keep-requires-clause-sound g c =
-    let is = c.in-Ok-Cert.field-0-is in
-    let built = c.in-Ok-Cert.ensures in record {
-      planar = rw is at built.planar;
-      sides = rw is at built.sides;
-      closed = rw is at built.closed;
-      points = rw is at built.points;
-      cells = rw is at built.cells;
-    }
+keep-requires-clause-sound g c = rw c.in-Ok-Cert.field-0-is at c.in-Ok-Cert.ensures.sound
 
 pub keep-requires-clause-valid : goal.keep-requires-clause-valid
 keep-requires-clause-valid g c = rw c.in-Ok-Cert.field-0-is at c.in-Ok-Cert.ensures.valid

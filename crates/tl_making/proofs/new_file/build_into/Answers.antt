@@ -1,7 +1,7 @@
 use Rattle.std.proofs.Common.{inl, inr, refl, string_bytes, ◌∙◌}
 use Rattle.tl_output.specs.Writing.{Writes}
 use Rattle.tl_answers.specs.Beginnings.{Begins}
-use Rattle.tl_making.proofs.OpenLemmas.{over_build, over_unmade, made_by_build, keeps_others, keeps_all, stands, stops_opening}
+use Rattle.tl_making.proofs.OpenLemmas.{over_build, over_unmade, made_by_build, keeps_others, keeps_all, stands}
 use Rattle.tl_making.proofs.new_file.build_into.Goals as goal
 
 pub returns-in-None : goal.returns-in-None
@@ -15,10 +15,10 @@ returns-in-None g c =
     let written = making.new.made in
     let made_by = made_by_build plan name c.args.options c.requires.plan in
     over_build plan name c.args.options before after _ (Writes g.F.Draft.Sink.contents g.F.Draft.Sink.failure_count draft written) (Begins g.F.Draft.Sink.contents draft written) _ _ _ _ _ _ _ _
-    making.result c.tell_making.result (λ failed. elim failed [
+    making.result c.write_making.result (λ failed. elim failed [
       | inl read ↦ inr (inl (inr (c.args.readers.now.items, making.new.readers.items, read)))
       | inr write ↦ inr (inr (inr (draft, written, write)))
-    ]) c.requires.plan c.requires.known making.ensures c.tell_making.ensures
+    ]) c.requires.plan c.requires.known making.ensures c.write_making.ensures
     (keeps_others plan name before after made_by c.settle.ensures.others)
     (λ whole text writes. stands _ g.F.FileSystem.knows after name _ _ text made_by (g.met.F.FileSystem.alike draft) (g.met.F.FileSystem.alike written) c.in-Ok-draft.ensures.empty writes.grown
     (c.settle.ensures.kept (c.is_made.ensures ∙ whole) c.in-None.is))
@@ -26,7 +26,7 @@ returns-in-None g c =
 
 pub returns-in-Err : goal.returns-in-Err
 returns-in-Err g c =
-    over_unmade _ _ _ c.args.plan.now c.stop_of.result _ _ _ _ _ _ _ _ (rw c.stop_of.ensures (stops_opening _ c.in-Err.stop c.in-Err.ensures.refused)) refl c.stopped-in-Err.ensures (λ other differs. refl)
+    over_unmade _ _ _ c.args.plan.now c.in-Err.stop _ _ _ _ _ _ _ _ c.in-Err.ensures.refused refl c.stopped-in-Err.ensures (λ other differs. refl)
 
 pub returns-in-Some : goal.returns-in-Some
 returns-in-Some g c =

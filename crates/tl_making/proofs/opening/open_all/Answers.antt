@@ -6,9 +6,8 @@ use Rattle.tl_making.proofs.opening.open_all.Goals as goal
 
 pub returns-in-Err-clause-stops : goal.returns-in-Err-clause-stops
 returns-in-Err-clause-stops g c =
-    rw c.stop_of.ensures
-    (unopened_item string_bytes (g.F.FileSystem.under c.args.files.now) c.args.names.now c.loop-name.name-index c.name-item.result c.in-Err.stop c.loop-name-test.true c.name-item.is
-    (rw c.as_str.ensures.value at c.in-Err.ensures.failed))
+    unopened_item string_bytes (g.F.FileSystem.under c.args.files.now) c.args.names.now c.loop-name.name-index c.name-item.result c.in-Err.stop c.loop-name-test.true c.name-item.is
+    (rw c.as_str.ensures.value at c.in-Err.ensures.failed)
 
 pub loop-name-init : goal.loop-name-init
 loop-name-init g c = none_opened g.F.Reader.Source.remaining (λ name. bytes_under (g.F.FileSystem.under c.args.files.now) (string_bytes name)) _ c.args.names.now c.new-readers.ensures.items

@@ -1,5 +1,4 @@
-use Rattle.tl_making.proofs.OpenLemmas.{stops_opening}
 use Rattle.tl_making.proofs.opening.open_certificate.Goals as goal
 
 pub returns-in-Err-clause-stops : goal.returns-in-Err-clause-stops
-returns-in-Err-clause-stops g c = rw c.stop_of.ensures (stops_opening _ c.in-Err.stop (rw c.as_str.ensures.value at c.in-Err.ensures.failed))
+returns-in-Err-clause-stops g c = rw c.as_str.ensures.value at c.in-Err.ensures.failed

@@ -41,6 +41,9 @@ link_map-requires-clause-polygons c = omega (arith, few_entries c.args.areas.pol
 pub link_map-requires-clause-unique : goal.link_map-requires-clause-unique
 link_map-requires-clause-unique c = c.in_ok-index.ensures.unique
 
+pub link_map-requires-clause-among : goal.link_map-requires-clause-among
+link_map-requires-clause-among c = rw (few_entries c.args.areas.polygons.items c.in_ok-index.index c.in_ok-index.ensures.entries) c.in_ok-index.ensures.among
+
 pub returns : goal.returns
 returns c = λ rs h k.
     let few : length c.args.areas.polygons.items ≤ most_polygons = omega (arith, c.len.ensures, c.if-len.false, c.args.areas.polygons.ok.0) in

@@ -1,7 +1,10 @@
-use Rattle.std.proofs.Common.{inl, inr, arith}
+use Rattle.std.proofs.Common.{◌≡◌, inl, inr, length, arith}
+use Rattle.std.proofs.lemmas.List.{length-map}
 use Rattle.std.proofs.lemmas.Result.{err_from_is_err_and}
+use Rattle.tl_county.specs.declared.polygons.Polygon.{Polygon}
 use Rattle.tl_drawn.specs.MapOf.{keys}
 use Rattle.tl_map.proofs.IndexLemmas.{index_keys, few_entries}
+use Rattle.tl_map.proofs.SideLemmas.{all_among}
 use Rattle.tl_map.proofs.build_map.index_sides.Goals as goal
 
 pub resolve_sides-requires : goal.resolve_sides-requires
@@ -11,11 +14,15 @@ pub returns : goal.returns
 returns c =
     let entries = rw c.deref.ensures.value at c.in_ok-index.ensures.entries in
     let index = index_keys c.args.polygons.items c.in_ok-index.index entries c.in_ok-index.ensures.unique in
+    let resolved = c.in_ok-sides.ensures.sides (keys c.args.polygons.items) index in
+    let known = c.in_ok-sides.ensures.known (keys c.args.polygons.items) index in
+    let many : length (keys c.args.polygons.items) ≡ length c.args.polygons.items = length-map c.args.polygons.items (λ (p : Polygon). p.key) in
     record {
       entries = entries;
       unique = c.in_ok-index.ensures.unique;
-      resolved = c.in_ok-sides.ensures.sides (keys c.args.polygons.items) index;
-      known = c.in_ok-sides.ensures.known (keys c.args.polygons.items) index;
+      resolved = resolved;
+      known = known;
+      among = rw (resolved, ← many) (all_among (keys c.args.polygons.items) c.args.paired known);
     }
 
 pub returns-in_err-index : goal.returns-in_err-index

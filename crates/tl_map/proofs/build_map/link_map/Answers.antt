@@ -36,6 +36,9 @@ pub new-requires-clause-linked : goal.new-requires-clause-linked
 new-requires-clause-linked c =
     rw (c.in_ok-polygons.ensures, length-map c.args.index.entries polygon_in) (rw (length-map c.args.index.entries (λ (e : PolyKey × Point). e.0)) at (rows_once _ _ _ c.in_ok-linked.linked c.in_ok-linked.ensures))
 
+pub new-requires-clause-among : goal.new-requires-clause-among
+new-requires-clause-among c = rw (c.in_ok-polygons.ensures, length-map c.args.index.entries polygon_in) c.requires.among
+
 pub returns : goal.returns
 returns c = record { landmarks = c.in_ok-linked.linked; linked = c.in_ok-linked.ensures; is = rw c.in_ok-polygons.ensures at c.in_ok-map.ensures }
 

@@ -1,7 +1,7 @@
 use Rattle.std.proofs.Common.{◌≡◌, false, get_or, ap, sym, ◌∙◌, arith}
 use Rattle.std.proofs.lemmas.Result.{err_from_is_err_and}
 use Rattle.tl_index.specs.Searches.{IsConflict}
-use Rattle.tl_meets.specs.declared.conflicts.Conflict.{Conflict}
+use Rattle.tl_index.specs.declared.items.Conflict.{Conflict}
 use Rattle.tl_meets.specs.Keeping.Listing.{IsListed}
 use Rattle.tl_meets.proofs.Reaching.{none_yet, row_done}
 use Rattle.tl_meets.proofs.Wholes.{all_of}
@@ -35,5 +35,5 @@ returns-in_err-marks g c = let p = err_from_is_err_and c.from_residual.result c.
 pub returns-in_err-list_behind : goal.returns-in_err-list_behind
 returns-in_err-list_behind g c = let p = err_from_is_err_and c.from_residual-in_err-list_behind.result c.from_residual-in_err-list_behind.ensures.1 in rw p.1 tt
 
-pub returns-in_err-tell_behind : goal.returns-in_err-tell_behind
-returns-in_err-tell_behind g c = let p = err_from_is_err_and c.from_residual-in_err-tell_behind.result c.from_residual-in_err-tell_behind.ensures.1 in rw p.1 tt
+pub returns-in_err-push_behind : goal.returns-in_err-push_behind
+returns-in_err-push_behind g c = let p = err_from_is_err_and c.from_residual-in_err-push_behind.result c.from_residual-in_err-push_behind.ensures.1 in rw p.1 tt

@@ -2,10 +2,10 @@ use Rattle.std.proofs.Common.{sym, subst}
 use Rattle.tl_inside.specs.Keeping.Tallies.{TellCounts}
 use Rattle.tl_misplaced.proofs.misplaced.list_at.Goals as goal
 
-pub tell-requires-clause-outside : goal.tell-requires-clause-outside
-tell-requires-clause-outside g c = c.in_ok-outside.ensures.outside c.polygon-polygon.result.point
+pub push_wrong-requires-clause-outside : goal.push_wrong-requires-clause-outside
+push_wrong-requires-clause-outside g c = c.in_ok-outside.ensures.outside c.polygon-polygon.result.point
     (subst (TellCounts c.args.map.now.chains c.polygon-polygon.result.point) (sym c.deref.ensures.value) c.in_ok-look_about.ensures.tell)
 
-pub tell-requires-clause-odd : goal.tell-requires-clause-odd
-tell-requires-clause-odd g c = rw c.deref-3.ensures.value (c.in_ok-outside.ensures.odd c.polygon-polygon.result.point
+pub push_wrong-requires-clause-odd : goal.push_wrong-requires-clause-odd
+push_wrong-requires-clause-odd g c = rw c.deref-3.ensures.value (c.in_ok-outside.ensures.odd c.polygon-polygon.result.point
     (subst (TellCounts c.args.map.now.chains c.polygon-polygon.result.point) (sym c.deref.ensures.value) c.in_ok-look_about.ensures.tell))

@@ -1,6 +1,5 @@
-use Rattle.std.proofs.Common.{◌≡◌, ◌∙◌, inr, ap, map, Some, sym, string_bytes}
+use Rattle.std.proofs.Common.{◌≡◌, ◌∙◌, map, Some, sym, string_bytes}
 use Rattle.std.specs.Prelude.{option_copied}
-use Rattle.tl_record.specs.Failures.{one_more}
 use Rattle.tl_record.specs.Layout.{layout_with}
 use Rattle.tl_record.specs.Records.{records_of}
 use Rattle.tl_text.specs.Joining.{joined}
@@ -16,15 +15,10 @@ returns-in_default-clause-found g c = λ texts have.
     let passing = c.in_ok-readers.ensures.passing in
     absurd ((rw c.in_default.is at passing) texts have)
 
-pub returns-in-Ok-clause-found : goal.returns-in-Ok-clause-found
-returns-in-Ok-clause-found g c = λ texts have.
+pub returns-clause-found : goal.returns-clause-found
+returns-clause-found g c = λ texts have.
     let opened = c.in_ok-readers.ensures.opened in
     let known : map g.F.Reader.Source.remaining c.in-Some.readers.items ≡ map Some texts =
     (rw c.in-Some.is at opened) ∙ sym (fused (bytes_under (g.F.FileSystem.under c.args.files.now)) string_bytes c.args.names.now) ∙ have in
-    of_known _ (joined texts) (λ text. HoldsAll (chains_of (option_copied c.args.drawn)) c.args.faults.now (records_of (layout_with c.args.options) text).entries c.in-Ok.lines)
-    (c.new-text.ensures.known texts known) c.in-Ok.ensures.lines
-
-pub returns-clause-stops : goal.returns-clause-stops
-returns-clause-stops g c =
-    let failures = c.in-Err-Device.ensures.failures in
-    inr (c.in-Some.readers.items, c.record_lines.new.records.readers.items, (rw c.in-Err-Device.field-0-is at failures) ∙ ap one_more c.new-text.ensures.failures)
+    of_known _ (joined texts) (λ text. HoldsAll (chains_of (option_copied c.args.drawn)) c.args.faults.now (records_of (layout_with c.args.options) text).entries c.in_ok-lines.lines)
+    (c.new-text.ensures.known texts known) c.in_ok-lines.ensures.lines

@@ -4,8 +4,8 @@ use Rattle.tl_plan.proofs.command_line.args_of.Goals as goal
 
 pub loop-argument-preserved : goal.loop-argument-preserved
 loop-argument-preserved c =
-    each_more rule_told argument_told c.loop-argument.args.items _ c.args.arguments.now c.loop-argument.argument-index _ c.told.result c.loop-argument-test.true c.in_ok-push.ensures.items
-    c.told.ensures c.loop-argument.invariant
+    each_more rule_told argument_told c.loop-argument.args.items _ c.args.arguments.now c.loop-argument.argument-index _ c.arg_of.result c.loop-argument-test.true c.in_ok-push.ensures.items
+    c.arg_of.ensures c.loop-argument.invariant
 
 pub returns : goal.returns
 returns c = each_all rule_told argument_told c.loop-argument.args.items c.args.arguments.now c.loop-argument.argument-index c.loop-argument-test.false c.loop-argument.invariant

@@ -5,7 +5,7 @@ use Rattle.clap.specs.Matches.{found_of}
 use Rattle.clap.proofs.WalkLemmas.{first_value-rows}
 use Rattle.tl_plan.specs.Commands.{check_name}
 use Rattle.tl_plan.specs.CommandLine.{request_in, IsBudget}
-use Rattle.tl_plan.proofs.WordsLemmas.{not_given, is_given, are_given, no_check, no_file, decided}
+use Rattle.tl_plan.proofs.WordsLemmas.{not_given, is_given, are_given, no_check, no_file}
 use Rattle.tl_plan.proofs.words.check_of.Goals as goal
 
 pub returns-in_default : goal.returns-in_default
@@ -26,18 +26,19 @@ returns c =
     let tests = c.get_str-2.ensures ∙ first_value-rows (found_of c.args.command.now) (codes "tests") in
     let items : 0 < length c.in_ok-files.files.items = search (rules, arith, nat_tests) in
     let given = request_in (check_name, rows_of (found_of c.args.command.now)) in
-    let files = are_given (all_of (codes "files") (rows_of (found_of c.args.command.now))) c.in_ok-files.files.items c.in_ok-files.ensures items in
-    decided (Some given) _ c.switch_of.result c.switch_of-2.result c.deciding.result c.deciding.ensures tt
-    (record {
-      given = given;
-      same = refl;
-      named = refl;
-      by = is_given c.get_str.result _ c.in-Some.cert cert c.in-Some.is ∙ ap Some (sym c.in_ok-from_str.ensures.ok);
-      tests = subst (λ (given : Option (List ℕ)). IsBudget given c.in-Some-budget_of.budget) tests c.in-Some-budget_of.ensures;
-      chosen = c.options_with_zero_cells.ensures;
-      are = files.0;
-      some_file = files.1;
-    }) (given, refl, c.switch_of-2.ensures) (given, refl, c.switch_of.ensures)
+    let files = are_given (all_of (codes "files") (rows_of (found_of c.args.command.now))) c.in_ok-files.files.items c.in_ok-files.ensures items in (
+      record {
+        given = given;
+        same = refl;
+        named = refl;
+        by = is_given c.get_str.result _ c.in-Some.cert cert c.in-Some.is ∙ ap Some (sym c.in_ok-from_str.ensures.ok);
+        tests = subst (λ (given : Option (List ℕ)). IsBudget given c.in-Some-budget_of.budget) tests c.in-Some-budget_of.ensures;
+        chosen = c.options_on_a_map.ensures;
+        are = files.0;
+        some_file = files.1;
+      },
+      (given, refl, c.switch_of.ensures),
+    )
 
 pub returns-then-is_empty : goal.returns-then-is_empty
 returns-then-is_empty c =

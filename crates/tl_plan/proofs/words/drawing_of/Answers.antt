@@ -5,21 +5,22 @@ use Rattle.clap.specs.Matches.{found_of}
 use Rattle.clap.proofs.WalkLemmas.{first_value-rows}
 use Rattle.tl_plan.specs.Commands.{draw_name}
 use Rattle.tl_plan.specs.CommandLine.{request_in}
-use Rattle.tl_plan.proofs.WordsLemmas.{not_given, is_given, are_given, no_drawing, no_file, seen_the_same, unseen_the_same}
+use Rattle.tl_plan.proofs.WordsLemmas.{not_given, is_given, are_given, no_drawing, no_file, seen_the_same, unseen_the_same, with_faults, without_faces}
 use Rattle.tl_plan.proofs.words.drawing_of.Goals as goal
+use Rattle.tl_plan.proofs.words.drawing_of.Goals.{else-switch_of-via-then-switch_of+else-not-faults, else-switch_of-via-else-switch_of}
 
 pub returns-in_default : goal.returns-in_default
 returns-in_default c =
     let same = c.get_str.ensures ∙ first_value-rows (found_of c.args.command.now) (codes "out") in
     no_drawing (request_in (draw_name, rows_of (found_of c.args.command.now))) refl
-    (λ made view files to seen are some. not_given c.get_str.result _ made same c.in_default.is to)
+    (λ made view files to seen needed are some. not_given c.get_str.result _ made same c.in_default.is to)
 
 pub returns-in_default-view_of : goal.returns-in_default-view_of
 returns-in_default-view_of c =
     let center = c.get_str-2.ensures ∙ first_value-rows (found_of c.args.command.now) (codes "at") in
     let width = c.get_str-3.ensures ∙ first_value-rows (found_of c.args.command.now) (codes "width") in
     no_drawing (request_in (draw_name, rows_of (found_of c.args.command.now))) refl
-    (λ made view files to seen are some. unseen_the_same view _ _ _ _ center width (c.in_default-view_of.ensures view) seen)
+    (λ made view files to seen needed are some. unseen_the_same view _ _ _ _ center width (c.in_default-view_of.ensures view) seen)
 
 pub returns : goal.returns
 returns c =
@@ -33,8 +34,12 @@ returns c =
       named = refl;
       to = is_given c.get_str.result _ c.in-Some.name out c.in-Some.is ∙ ap Some (sym c.in_ok-from_str.ensures.ok);
       seen = seen_the_same c.in-Some-view_of.view _ _ _ _ center width c.in-Some-view_of.ensures;
-      shown = c.switch_of.ensures;
-      chosen = c.options_with_zero_cells.ensures;
+      shown = c.switch_of-faults.ensures;
+      needed = elim c.else-switch_of.branch [
+        | else-switch_of-via-then-switch_of+else-not-faults w ↦ with_faults _ _ c.switch_of-faults.result c.switch_of-faults.ensures w.if-not-faults.false
+        | else-switch_of-via-else-switch_of w ↦ without_faces _ _ c.switch_of.result c.switch_of.ensures w.if-switch_of.false
+      ];
+      chosen = c.options_on_a_map.ensures;
       are = files.0;
       some_file = files.1;
     }

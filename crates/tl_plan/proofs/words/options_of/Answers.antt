@@ -9,4 +9,5 @@ returns c =
     let same = c.get_str.ensures ∙ first_value-rows (found_of c.args.command.now) (codes "released") in record {
       columns = subst (λ (text : Option (List ℕ)). IsTrue c.is_set-2.result ↔ (text ≡ Some (codes "true"))) same c.is_set-2.ensures;
       cells = c.is_set.ensures;
+      faced = c.is_set-3.ensures;
     }

@@ -20,7 +20,6 @@ returns c =
         some_file = files.1;
       },
       refl,
-      refl,
     )
 
 pub returns-then-is_empty : goal.returns-then-is_empty

@@ -9,19 +9,13 @@ pub returns-in-Plan : goal.returns-in-Plan
 returns-in-Plan g c = λ words asks.
     let here : AskForTask words (task.Plan c.in-Plan.plan c.in-Plan.progress) = rw c.in-Plan.is at asks in
     inl (starts_planned words _ _ _ (FilesFail g.F.Reader.Source.failure_count g.F.Draft.Sink.failure_count g.F.FileSystem.knows (g.F.FileSystem.under c.args.files.now)) _ _
-    c.in-Plan.plan _ _ _ (record { taken = here.taken; asked = here.asked.0; plain = here.asked.2 }) c.run_plan.ensures)
+    c.in-Plan.plan _ _ _ (record { taken = here.taken; asked = here.asked.0 }) c.run_plan.ensures)
 
 pub returns-in-List : goal.returns-in-List
 returns-in-List g c = λ words asks.
     let names = c.as_slice-in-List.ensures.value in
     let under = c.watch.ensures in
     inr (c.args.task.now, asks, rw c.in-List.is (rw (under, names) at (c.open_and_list.ensures)))
-
-pub returns-in-ListFaces : goal.returns-in-ListFaces
-returns-in-ListFaces g c = λ words asks.
-    let names = c.as_slice-in-ListFaces-2.ensures.value in
-    let under = c.watch-in-ListFaces.ensures in
-    inr (c.args.task.now, asks, rw c.in-ListFaces.is ((rw (under, names) at (c.open_and_list_faces.ensures)), under))
 
 pub returns-in-Export : goal.returns-in-Export
 returns-in-Export g c = λ words asks.
@@ -32,9 +26,3 @@ pub returns-in-Draw : goal.returns-in-Draw
 returns-in-Draw g c = λ words asks.
     let same = c.as_slice-in-Draw.ensures.value in
     inr (c.args.task.now, asks, rw c.in-Draw.is (rw same at (c.open_and_draw.ensures)))
-
-pub open_and_decide-requires : goal.open_and_decide-requires
-open_and_decide-requires g c = rw c.in-Faces.is at c.requires
-
-pub returns-in-Faces : goal.returns-in-Faces
-returns-in-Faces g c = λ words asks. inr (c.args.task.now, asks, rw c.in-Faces.is (rw c.watch_plan.ensures at c.open_and_decide.ensures))

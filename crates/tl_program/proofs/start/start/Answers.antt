@@ -1,7 +1,6 @@
 use Rattle.std.proofs.Common.{inl, map, string_bytes}
 use Rattle.tl_making.specs.Opening.{FilesFail}
 use Rattle.tl_command.proofs.StartLemmas.{starts_unplanned}
-use Rattle.tl_program.proofs.TaskLemmas.{may_be_asked}
 use Rattle.tl_program.proofs.start.start.Goals as goal
 
 pub returns-in-Ok : goal.returns-in-Ok
@@ -9,7 +8,4 @@ returns-in-Ok g c = c.perform.ensures (map string_bytes c.args.words.now) c.in-O
 
 pub returns-in-Err : goal.returns-in-Err
 returns-in-Err g c =
-    inl (starts_unplanned (map string_bytes c.args.words.now) _ _ _ (FilesFail g.F.Reader.Source.failure_count g.F.Draft.Sink.failure_count g.F.FileSystem.knows (g.F.FileSystem.under c.args.files.now)) _ _ c.in-Err.stop _ _ c.in-Err.ensures.stops c.in-Err.ensures.texts c.tell_stop.ensures)
-
-pub perform-requires : goal.perform-requires
-perform-requires g c = may_be_asked (map string_bytes c.args.words.now) c.in-Ok.task c.in-Ok.ensures.task
+    inl (starts_unplanned (map string_bytes c.args.words.now) _ _ _ (FilesFail g.F.Reader.Source.failure_count g.F.Draft.Sink.failure_count g.F.FileSystem.knows (g.F.FileSystem.under c.args.files.now)) _ _ c.in-Err.stop _ _ c.in-Err.ensures.stops c.in-Err.ensures.texts c.say_stop.ensures)

@@ -2,7 +2,7 @@ use Rattle.std.proofs.Common.{◌≡◌, length, ap, ◌∙◌, ◌*◌, arith}
 use Rattle.std.proofs.lemmas.List.{length-map}
 use Rattle.std.proofs.lemmas.Result.{err_from_is_err_and}
 use Rattle.tl_crossings.proofs.Apart.{apart}
-use Rattle.tl_propose.specs.declared.rounds.DartStart.{DartStart}
+use Rattle.tl_sides.specs.declared.headed.HeadedDart.{HeadedDart}
 use Rattle.tl_propose.specs.Keeping.Lists.{darts_in, lists_in}
 use Rattle.tl_propose.proofs.ListLemmas.{all_in}
 use Rattle.tl_propose.proofs.Holding.{held_once, dart_lists}
@@ -22,7 +22,7 @@ returns-clause-are_rounds c = λ proper planar.
 pub returns-clause-counted : goal.returns-clause-counted
 returns-clause-counted c =
     let long : length (all_in c.in_ok-rounds.rounds.items) ≡ length c.args.starts.now =
-    ap length c.in_ok-rounds.ensures.whole ∙ length-map c.args.starts.now (λ (s : DartStart). s.dart) in
+    ap length c.in_ok-rounds.ensures.whole ∙ length-map c.args.starts.now (λ (s : HeadedDart). s.dart) in
     dart_lists c.in_ok-rounds.rounds.items c.in_ok-rounds.ensures.some (omega (arith, long, c.requires.few))
 
 pub returns-in_err-rounds-clause-hold : goal.returns-in_err-rounds-clause-hold

@@ -2,7 +2,7 @@ use Rattle.std.proofs.Common.{[], refl, subst, zero, ◌<◌, length, ap, arith,
 use Rattle.std.proofs.lemmas.List.{length-map}
 use Rattle.std.proofs.lemmas.List.Elements.{All-nil, All-push, All-same}
 use Rattle.std.proofs.lemmas.Result.{err_from_is_err_and}
-use Rattle.tl_propose.specs.declared.rounds.DartStart.{DartStart}
+use Rattle.tl_sides.specs.declared.headed.HeadedDart.{HeadedDart}
 use Rattle.tl_propose.specs.Keeping.Lists.{lists_in}
 use Rattle.tl_propose.specs.Keeping.Sorting.{AreCut}
 use Rattle.tl_propose.proofs.ListLemmas.{cut_more}
@@ -35,9 +35,9 @@ next_cut c cut =
 pub loop-rest-preserved : goal.loop-rest-preserved
 loop-rest-preserved c =
     let one : zero < length c.in_ok-darts_of.field-0.items =
-    omega (arith, ap length c.in_ok-darts_of.ensures, length-map c.split_at.result.0.now (λ (s : DartStart). s.dart), c.split_at.ensures.front_len, c.first_round.ensures.some) in
+    omega (arith, ap length c.in_ok-darts_of.ensures, length-map c.split_at.result.0.now (λ (s : HeadedDart). s.dart), c.split_at.ensures.front_len, c.first_round.ensures.some) in
     record {
-      cut = cut_more (λ (s : DartStart). s.dart) c.loop-rest.rounds.items _ c.in_ok-darts_of.field-0 c.loop-rest.rest.now c.split_at.result.0.now c.split_at.result.1.now c.args.starts.now
+      cut = cut_more (λ (s : HeadedDart). s.dart) c.loop-rest.rounds.items _ c.in_ok-darts_of.field-0 c.loop-rest.rest.now c.split_at.result.0.now c.split_at.result.1.now c.args.starts.now
           c.split_at.ensures.by_index.0 c.in_ok-darts_of.ensures c.in_ok-push.ensures.items c.loop-rest.invariant.cut;
       some = All-same (λ (r : Vec ℕ Global). zero < length r.items) _ _ c.in_ok-push.ensures.items
           (All-push (λ (r : Vec ℕ Global). zero < length r.items) _ _ c.loop-rest.invariant.some one);

@@ -1,9 +1,7 @@
-use Rattle.std.proofs.Common.{◌∙◌, refl, Vec, Global}
+use Rattle.std.proofs.Common.{◌∙◌, refl}
 use Rattle.std.proofs.lemmas.Result.{err_from_is_err_and}
-use Rattle.tl_record.specs.declared.refusal.Refusal.{Refusal}
 use Rattle.tl_record.specs.Reader.{standing_of, refusals_to_come}
-use Rattle.tl_record.specs.Searching.{extent}
-use Rattle.tl_refusals.proofs.ListLemmas.{lists_none, lists_more, lists_all, still_goes_on, shrinks_none, shrinks_more, gives_up, memory_refused, stop_told}
+use Rattle.tl_refusals.proofs.ListLemmas.{lists_none, lists_more, lists_all, still_goes_on, failure_told}
 use Rattle.tl_refusals.proofs.list.list_refusals.Goals as goal
 
 pub refusals-init : goal.refusals-init
@@ -12,7 +10,6 @@ refusals-init g c = record {
   failures = refl;
   same = refl;
   goes = refl;
-  shrinks = λ goes. shrinks_none (extent g.R.Source.remaining c.args.reader.now);
 }
 
 pub refusals-preserved : goal.refusals-preserved
@@ -22,26 +19,37 @@ refusals-preserved g c =
     let settles = found.settles in
     let repeats = found.repeats in
     let failures = found.failures in
-    let endless = found.endless in
     let before = c.refusals.invariant in
     record {
       so_far = rw c.in_ok-push-in-Ok-Some.ensures.items (lists_more _ _ _ c.refusals.list.items c.in-Ok-Some.refusal before.so_far (rw c.in-Ok-Some.field-0-is at gives));
       failures = failures ∙ before.failures;
       same = found.same_reference ∙ before.same;
       goes = still_goes_on (standing_of c.refusals.reader) (standing_of c.next_refusal.new.self) c.refusals.reader c.next_refusal.new.self c.in-Ok-Some.refusal (rw c.in-Ok-Some.field-0-is at repeats) (rw c.in-Ok-Some.field-0-is at settles) ∙ before.goes;
-      shrinks = λ goes. shrinks_more _ _ _ c.in-Ok-Some.refusal (before.shrinks goes) (rw c.in-Ok-Some.field-0-is at endless (before.goes ∙ goes));
     }
 
-pub returns-in-Err : goal.returns-in-Err
-returns-in-Err g c =
-    let found = c.in-Err.ensures in
+pub returns-in-Err-Device : goal.returns-in-Err-Device
+returns-in-Err-Device g c =
+    let found = c.in-Err-Device.ensures in
+    let failures = found.failures in
     let before = c.refusals.invariant in
-    rw c.from.ensures (record {
+    record {
       refusals = tt;
-      failures = stop_told (Vec Refusal Global) (standing_of c.args.reader.now) (standing_of c.refusals.reader) _ _ _ c.in-Err.stop before.failures before.goes found.failures;
-      endless = λ goes. gives_up _ _ _ c.in-Err.stop (before.shrinks goes) (found.endless (before.goes ∙ goes));
+      failures = failure_told (standing_of c.args.reader.now) (standing_of c.refusals.reader) _ _ _ before.failures before.goes (rw c.in-Err-Device.field-0-is at failures);
+      stops = tt;
       same_reference = found.same_reference ∙ before.same;
-    })
+    }
+
+pub returns-in-Err-Endless : goal.returns-in-Err-Endless
+returns-in-Err-Endless g c =
+    let found = c.in-Err-Endless.ensures in
+    let failures = found.failures in
+    let before = c.refusals.invariant in
+    record {
+      refusals = tt;
+      failures = (rw c.in-Err-Endless.field-0-is at failures) ∙ before.failures;
+      stops = tt;
+      same_reference = found.same_reference ∙ before.same;
+    }
 
 pub returns-in-Ok-None : goal.returns-in-Ok-None
 returns-in-Ok-None g c =
@@ -51,7 +59,7 @@ returns-in-Ok-None g c =
     record {
       refusals = lists_all _ _ _ c.refusals.list.items before.so_far (rw c.in-Ok-None.field-0-is at gives);
       failures = found.failures ∙ before.failures;
-      endless = λ goes. tt;
+      stops = tt;
       same_reference = found.same_reference ∙ before.same;
     }
 
@@ -63,6 +71,6 @@ returns-in_err-push-in-Ok-Some g c =
     rw (p.1, p.2) (record {
       refusals = tt;
       failures = found.failures ∙ before.failures;
-      endless = λ goes. memory_refused _;
+      stops = tt;
       same_reference = found.same_reference ∙ before.same;
     })

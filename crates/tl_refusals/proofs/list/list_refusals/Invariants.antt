@@ -1,6 +1,6 @@
 use Rattle.std.proofs.Common.{◌≡◌, ◌-◌, ◌^◌, length, true}
 use Rattle.tl_record.specs.Reader.{source_of, standing_of, refusals_to_come}
-use Rattle.tl_record.specs.Searching.{extent, goes_on, Shrinks}
+use Rattle.tl_record.specs.Searching.{goes_on}
 use Rattle.tl_refusals.proofs.ListLemmas.{ListsSoFar}
 use Rattle.tl_refusals.proofs.list.list_refusals.Given as goal
 
@@ -10,7 +10,6 @@ invariant-refusals g l = record {
   failures : g.R.Source.failure_count (source_of l.reader) ≡ g.R.Source.failure_count (source_of l.fn.reader);
   same : g.R.Source.reference (source_of l.reader) ≡ g.R.Source.reference (source_of l.fn.reader);
   goes : goes_on (standing_of l.reader) ≡ goes_on (standing_of l.fn.reader);
-  shrinks : goes_on (standing_of l.fn.reader) ≡ true → Shrinks (extent g.R.Source.remaining l.fn.reader) (extent g.R.Source.remaining l.reader);
 }
 
 abbrev pub decreases-refusals : goal.decreases-refusals

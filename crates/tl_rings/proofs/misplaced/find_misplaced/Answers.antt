@@ -1,19 +1,9 @@
+use Rattle.std.proofs.Common.{sym, subst}
+use Rattle.tl_inside.proofs.Misplacing.{told_none}
+use Rattle.tl_rings.specs.Keeping.Looking.{IsPlacedOrIn}
 use Rattle.tl_rings.proofs.misplaced.find_misplaced.Goals as goal
 
-pub find_by-requires-clause-fits : goal.find_by-requires-clause-fits
-find_by-requires-clause-fits g c = c.requires.fits
-
-pub find_by-requires-clause-sides : goal.find_by-requires-clause-sides
-find_by-requires-clause-sides g c = c.requires.sides
-
-pub find_by-requires-clause-walks : goal.find_by-requires-clause-walks
-find_by-requires-clause-walks g c = c.requires.walks
-
-pub find_by-requires-clause-boxed : goal.find_by-requires-clause-boxed
-find_by-requires-clause-boxed g c = c.requires.boxed
-
-pub find_by-requires-clause-few : goal.find_by-requires-clause-few
-find_by-requires-clause-few g c = c.requires.few
-
-pub returns-in-Ok-from_nodes : goal.returns-in-Ok-from_nodes
-returns-in-Ok-from_nodes g c = c.find_by.ensures
+pub find_in_rays-requires-clause-others : goal.find_in_rays-requires-clause-others
+find_in_rays-requires-clause-others g c = λ p lt.
+    subst (λ suspects. IsPlacedOrIn c.args.map.now suspects p) (sym c.deref.ensures.value)
+    (told_none _ _ c.in-Ok-None.field-0 c.in-Ok-None.field-0-is c.in-Ok-None.ensures.found p lt)

@@ -1,5 +1,5 @@
 use Rattle.std.proofs.Common.{◌≡◌, ℕ, List, Option, Result, Ok, Err, Some, None, refl, sym, subst}
-use Rattle.tl_cert.specs.declared.place.Place.{Place}
+use Rattle.tl_cert.specs.declared.place.NextPart.{NextPart}
 use Rattle.tl_cert.specs.declared.place.CertPart.{CertPart}
 use Rattle.tl_cert.specs.declared.reader.CertReader.{CertReader}
 use Rattle.tl_cert.specs.declared.reader.Standing.{Standing}
@@ -26,10 +26,10 @@ none_fails standing count answer is = subst (λ s. TellsFailure s count count an
 none_stops : (standing : Standing) (count : ℕ) (answer : Result (Option CertPart) CertStop) (stop : CertStop) → standing ≡ Stopped stop → TellsFailure standing count count answer
 none_stops standing count answer stop is = subst (λ s. TellsFailure s count count answer) (sym is) refl
 
-part_tells : (standing : Standing) (place : Place) (old new : ℕ) (given : Option CertPart) → standing ≡ Reading place → new ≡ old → TellsFailure standing old new (Ok given)
+part_tells : (standing : Standing) (place : NextPart) (old new : ℕ) (given : Option CertPart) → standing ≡ Reading place → new ≡ old → TellsFailure standing old new (Ok given)
 part_tells standing place old new given is same = subst (λ s. TellsFailure s old new (Ok given)) (sym is) same
 
-stop_tells : (V : Type 0) (standing : Standing) (place : Place) (old new : ℕ) (stop : CertStop) → standing ≡ Reading place → TellsRead {V = V} old new (Err stop) → TellsFailure standing old new (Err stop)
+stop_tells : (V : Type 0) (standing : Standing) (place : NextPart) (old new : ℕ) (stop : CertStop) → standing ≡ Reading place → TellsRead {V = V} old new (Err stop) → TellsFailure standing old new (Err stop)
 stop_tells V standing place old new (Text line) is tells = subst (λ s. TellsFailure s old new (Err (Text line))) (sym is) tells
 stop_tells V standing place old new Memory is tells = subst (λ s. TellsFailure s old new (Err Memory)) (sym is) tells
 stop_tells V standing place old new Device is tells = subst (λ s. TellsFailure s old new (Err Device)) (sym is) tells
@@ -96,7 +96,7 @@ pub returns-in-Err-clause-settles : goal.returns-in-Err-clause-settles
 returns-in-Err-clause-settles g c = refl
 
 pub returns-in-Err-clause-failures : goal.returns-in-Err-clause-failures
-returns-in-Err-clause-failures g c = stop_tells (Option (CertPart × Place)) (standing_of c.args.self.now) c.in-Reading.place _ _ c.in-Err.stop c.in-Reading.is c.in-Err.ensures.failures
+returns-in-Err-clause-failures g c = stop_tells (Option (CertPart × NextPart)) (standing_of c.args.self.now) c.in-Reading.place _ _ c.in-Err.stop c.in-Reading.is c.in-Err.ensures.failures
 
 pub returns-in-Err-clause-same_reference : goal.returns-in-Err-clause-same_reference
 returns-in-Err-clause-same_reference g c = c.in-Err.ensures.same_reference

@@ -1,16 +1,22 @@
-use Rattle.std.proofs.Common.{List, length, subst}
+use Rattle.std.proofs.Common.{List, length, subst, sym}
 use Rattle.std.proofs.lemmas.Result.{err_from_is_err_and}
-use Rattle.tl_disagreements.specs.declared.headed.HeadedDart.{HeadedDart}
+use Rattle.tl_sides.specs.declared.headed.HeadedDart.{HeadedDart}
+use Rattle.tl_disagreements.specs.Keeping.Around.{AreAround}
 use Rattle.tl_disagreements.specs.Keeping.Grouped.{AreEnds, AreNexts}
+use Rattle.tl_disagreements.proofs.Sorting.{around_sorted}
 use Rattle.tl_disagreements.proofs.groups.Groups.new.Goals as goal
 
 pub group_ends-requires : goal.group_ends-requires
-group_ends-requires c = rw c.deref.ensures.value c.in_ok-darts.ensures.few
+group_ends-requires c = rw c.deref.ensures.value (around_sorted c.args.map.now.chains c.in_ok-darts.darts.items c.in_ok-darts.ensures).few
+
+pub next_groups-requires-clause-around : goal.next_groups-requires-clause-around
+next_groups-requires-clause-around c =
+    subst (AreAround c.args.map.now.chains) (sym c.deref-2.ensures.value) (around_sorted c.args.map.now.chains c.in_ok-darts.darts.items c.in_ok-darts.ensures)
 
 pub returns : goal.returns
 returns c =
     record {
-      around = c.in_ok-darts.ensures;
+      around = around_sorted c.args.map.now.chains c.in_ok-darts.darts.items c.in_ok-darts.ensures;
       ends = subst (λ (darts : List HeadedDart). AreEnds darts 0 c.in_ok-ends.ends.items) c.deref.ensures.value c.in_ok-ends.ensures;
       nexts = subst (λ (darts : List HeadedDart). AreNexts darts (length darts) c.in_ok-nexts.nexts.items) c.deref-2.ensures.value c.in_ok-nexts.ensures;
     }

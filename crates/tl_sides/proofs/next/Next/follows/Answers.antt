@@ -12,6 +12,6 @@ returns c =
     let e = c.requires.e in
     let here : c.args.e < length next = omega (arith, long, e) in
     let at : slice_index next c.args.e ≡ c.index.result.now = get_or_default next c.args.e 0 c.index.result.now here ∙ sym c.index.ensures in (
-      λ h. follows_there c.args.map.now.chains c.args.self.now c.requires.next c.args.d c.args.e e (at ∙ eqb-true c.index.result.now c.reverse.result h ∙ c.reverse.ensures),
-      λ f. eq-eqb c.index.result.now c.reverse.result (sym at ∙ follows_back c.args.map.now.chains c.args.self.now c.requires.next c.args.d c.args.e f ∙ sym c.reverse.ensures),
+      λ h. follows_there c.args.map.now.chains c.args.self.now c.requires.next c.args.d c.args.e e (at ∙ eqb-true c.index.result.now c.reverse_dart.result h ∙ c.reverse_dart.ensures),
+      λ f. eq-eqb c.index.result.now c.reverse_dart.result (sym at ∙ follows_back c.args.map.now.chains c.args.self.now c.requires.next c.args.d c.args.e f ∙ sym c.reverse_dart.ensures),
     )

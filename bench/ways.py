@@ -1,0 +1,149 @@
+#!/usr/bin/env python3
+"""Counts, in the built program itself, how often a command sweeps over a map, how often a sweep says nothing of it so that a search decides,
+and how often slabs are listed one by one: by the calls that valgrind's callgrind sees, of maps of each family that the bench makes. One sweep
+is wanted of each, and none of the others. The gate asks for it.
+
+usage: ways.py [--chains N] [PROGRAM]
+
+Where valgrind isn't there it says so and counts nothing.
+"""
+
+import importlib.util
+import re
+import shutil
+import subprocess
+import sys
+import tempfile
+from concurrent.futures import ThreadPoolExecutor
+from pathlib import Path
+
+BENCH = Path(__file__).resolve().parent
+
+
+def bench_run():
+    """The module of bench/run.py. The gate has another of that name."""
+    spec = importlib.util.spec_from_file_location("bench_run", BENCH / "run.py")
+    module = importlib.util.module_from_spec(spec)
+    spec.loader.exec_module(module)
+    return module
+
+
+run = bench_run()
+
+# What is counted, each by a function that is called where it happens and nowhere else. A sweep for a list of all faults says of whether
+# chains meet what one for `audit` says of the same map, so that is asked of `audit` and `build` alone.
+SWEEPS, UNKNOWN, SLOW = "sweeps", "sweeps that say nothing", "slabs listed one by one"
+COUNTED = {
+    SWEEPS: ["tl_sweep::answer::sweep"],
+    UNKNOWN: ["tl_build::judge::judge"],
+    SLOW: ["tl_facing::gaps::push_above"],
+}
+WANTED = {SWEEPS: 1, UNKNOWN: 0, SLOW: 0}
+CHAINS = 300
+# Words of each command that decides a map, and those of one of which a sweep finds that chains meet.
+COMMANDS = [["audit"], ["audit", "--faces"], ["audit", "--all"], ["audit", "--all", "--faces"], ["build"], ["build", "--faces"]]
+DECIDES = [["audit"], ["audit", "--faces"], ["build"]]
+
+
+def missing():
+    return shutil.which("valgrind") is None
+
+
+def maps():
+    """The kinds of maps that are sound, or whose sides are exchanged, with all commands; and those whose chains meet, with those that end
+    there."""
+    for kind in ("county", "shuffled", "grid", "nested"):
+        yield kind, COMMANDS
+    for kind in run.LONG:
+        for seen in ("", "mirrored", "turned", "mirrored-turned"):
+            yield f"{kind}-{seen}", COMMANDS
+        yield f"{kind}-crossed", DECIDES
+    for kind in run.SIDED:
+        yield f"{kind}-exchanged", COMMANDS
+
+
+def records(folder, kind, chains):
+    """The records of such a map in one file."""
+    made = Path(folder, kind)
+    maker, *choices = run.MAKERS[kind]
+    subprocess.run([sys.executable, BENCH / maker, made, str(chains), *choices], check=True, stdout=subprocess.DEVNULL)
+    whole = Path(folder, f"{kind}.records")
+    whole.write_bytes(b"".join(file.read_bytes() for file in sorted(made.glob("*.RT*"))))
+    return whole
+
+
+def calls_in(text):
+    """How often each function was called, by what callgrind wrote."""
+    names, called = {}, {}
+    callee = None
+    for line in text.splitlines():
+        found = re.match(r"(c?)fn=\((\d+)\)(?: (.*))?$", line)
+        if found:
+            if found[3]:
+                names[found[2]] = found[3]
+            callee = found[2] if found[1] else None
+        elif line.startswith("calls=") and callee:
+            called[callee] = called.get(callee, 0) + int(line[6:].split()[0])
+    counts = {}
+    for number, count in called.items():
+        # Recursion has a mark behind the name, and so have forms of a generic function.
+        name = re.sub(r"(::<.*|'\d+)$", "", names.get(number, ""))
+        counts[name] = counts.get(name, 0) + count
+    return counts
+
+
+def counts_of(program, words, folder, number):
+    """How often each of these things happened in a run."""
+    out = Path(folder, f"calls.{number}")
+    subprocess.run(["valgrind", "--tool=callgrind", f"--callgrind-out-file={out}", program, *words], cwd=folder, capture_output=True)
+    called = calls_in(out.read_text())
+    out.unlink()
+    return {what: sum(called.get(name, 0) for name in names) for what, names in COUNTED.items()}
+
+
+def unseen(program):
+    """The functions among those that are counted that the program doesn't have by themselves, so that no call of them is seen."""
+    symbols = subprocess.run(["nm", program], capture_output=True, text=True, check=True).stdout
+    have = {re.sub(r"::<.*$", "", line.split(" ", 2)[2]) for line in symbols.splitlines() if line.count(" ") >= 2}
+    return [name for names in COUNTED.values() for name in names if name not in have]
+
+
+def play_all(program=run.PROGRAM, chains=CHAINS):
+    """Counts of each map and command, in pairs of those that are as wanted and those that aren't."""
+    gone = unseen(program)
+    for name in gone:
+        print(f"the program has no {name}")
+    if gone:
+        return 0, len(gone)
+    passed = failed = 0
+    with tempfile.TemporaryDirectory() as folder, ThreadPoolExecutor(4) as pool:
+        asked = []
+        for kind, commands in maps():
+            file = records(folder, kind, chains)
+            for words in commands:
+                number = len(asked)
+                made = ["--out", f"made.{number}"] if words[0] == "build" else []
+                counts = pool.submit(counts_of, program, [*words, *made, file.name], folder, number)
+                asked.append((kind, words, counts))
+        for kind, words, counts in asked:
+            well = counts.result() == WANTED
+            passed, failed = passed + well, failed + (not well)
+            if not well:
+                print(f"{' '.join(words)} of {kind}: {counts.result()}")
+    return passed, failed
+
+
+def main():
+    words = sys.argv[1:]
+    chains = int(words[1]) if words[:1] == ["--chains"] else CHAINS
+    rest = words[2:] if words[:1] == ["--chains"] else words
+    if missing():
+        print("valgrind isn't there: nothing is counted")
+        return 0
+    passed, failed = play_all(*rest[:1], chains=chains)
+    print(f"{passed} passed, {failed} failed")
+    return failed > 0 or passed == 0
+
+
+if __name__ == "__main__":
+    sys.exit(main())

@@ -1,0 +1,67 @@
+//! Faces of maps that are found to be sound.
+
+ghost use Rattle.std.specs.Prelude.{Ok, ◌≡◌};
+ghost use Rattle.tl_verdict.specs.Sound.{IsSound};
+ghost use Rattle.tl_verdict.specs.Verdicts.{OnSound};
+ghost use Rattle.tl_check.specs.Keeping.Faces.{IsFacing, IsWithFaces, verdict_of};
+
+use std::alloc::Global;
+use tl_county::Map;
+use tl_faces::FaceFault;
+use tl_facing::find_face_fault;
+use tl_output::Stop;
+use tl_verdict::{MapFault, Report, Verdict};
+
+/// The answer where faces may be asked for, by what was decided without them: they are looked at where the map is sound.
+pub fn with_faces(
+    alloc: Global,
+    map: &Map,
+    faces: bool,
+    decided: Result<Verdict, Stop>,
+) -> Result<Verdict, Stop>
+    requires { OnSound decided (IsSound map.now) }
+    ensures { IsWithFaces faces map.now decided result }
+{
+    match decided {
+        Ok(verdict) => by_verdict(alloc, map, faces, verdict),
+        Err(stop) => Err(stop),
+    }
+}
+
+/// The same of a verdict.
+fn by_verdict(alloc: Global, map: &Map, faces: bool, verdict: Verdict) -> Result<Verdict, Stop>
+    requires { OnSound (Ok verdict) (IsSound map.now) }
+    ensures { IsWithFaces faces map.now (Ok verdict) result }
+{
+    match verdict {
+        Verdict::Sound(report) => look_at_faces(alloc, map, faces, report),
+        Verdict::MapFault(fault) => Ok(Verdict::MapFault(fault)),
+        Verdict::CertFault(fault) => Ok(Verdict::CertFault(fault)),
+    }
+}
+
+/// The answer where the map is sound.
+fn look_at_faces(alloc: Global, map: &Map, faces: bool, report: Report) -> Result<Verdict, Stop>
+    requires { IsSound map.now }
+    ensures { IsFacing faces map.now report result }
+{
+    if !faces {
+        return Ok(Verdict::Sound(report));
+    }
+    // so that a fault of faces denies that they are true
+    map.has_proper_chains();
+    match find_face_fault(alloc, map) {
+        Ok(found) => Ok(by_faces(report, found)),
+        Err(_) => Err(Stop::Memory),
+    }
+}
+
+/// What is decided of a sound map by the faces that were found to disagree, if any were.
+fn by_faces(report: Report, found: Option<FaceFault>) -> Verdict
+    ensures { result ≡ verdict_of report found }
+{
+    match found {
+        Some(fault) => Verdict::MapFault(MapFault::Face(fault)),
+        None => Verdict::Sound(report),
+    }
+}

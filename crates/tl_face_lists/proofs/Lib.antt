@@ -1,3 +1,0 @@
--- Lemmas on lists with faces.
-pub mod Listed
-pub mod Printed

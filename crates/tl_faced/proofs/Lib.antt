@@ -1,5 +1,0 @@
-pub mod Faced
-pub mod OfMap
-pub mod OfRecords
-pub mod Audited
-pub mod Deciding

@@ -1,5 +1,0 @@
--- What the contracts cite.
-pub mod Verdicts
-pub mod Audits
-pub mod Reads
-pub mod Keeping

@@ -1,0 +1,16 @@
+-- Faces that disagree deny that faces agree.
+use Rattle.tl_county.specs.TheMap.{TheMap}
+use Rattle.tl_faces.specs.Facing.{FacesAgree}
+use Rattle.tl_faces.proofs.Neighbours.{face_contradicts, outward_contradicts}
+use Rattle.tl_faces.specs.declared.fault.FaceFault.{FaceFault}
+use Rattle.tl_faces.specs.declared.fault.FaceFault.TheVariants.{Facing, Outward}
+use Rattle.tl_faces.specs.Faults.{IsTrueInPlane, IsTrueFaceFault, way_x, way_y}
+
+denied_there : (m : TheMap) (fault : FaceFault) → IsTrueInPlane m fault → ¬ FacesAgree m.chains
+denied_there m (Facing first last) true agree =
+    face_contradicts m.chains true.one true.other true.u true.w first.at last.at true.side true.opposite true.disagree agree
+denied_there m (Outward face way) true agree =
+    outward_contradicts m.chains true.chain true.u face.at (way_x way) (way_y way) true.side true.disagree agree
+
+pub denied : (m : TheMap) (fault : FaceFault) → IsTrueFaceFault m fault → ¬ FacesAgree m.chains
+denied m fault true = denied_there m fault true.in_plane

@@ -1,0 +1,10 @@
+use Rattle.std.proofs.Common.{inr}
+use Rattle.tl_output.proofs.WritingLemmas.{writes_some}
+use Rattle.tl_lists.proofs.listing.write_text.Goals as goal
+
+pub returns-in-Err : goal.returns-in-Err
+returns-in-Err g c = inr (
+  c.stopped.ensures.0,
+  c.stopped.ensures.1,
+  writes_some g.W.Sink.contents g.W.Sink.failure_count _ _ c.args.text.now c.in-Err.ensures.passes c.in-Err.ensures.failures,
+)

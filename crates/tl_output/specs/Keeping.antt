@@ -1,2 +1,0 @@
--- What output keeps on its way. No public contract cites a file of this folder.
-pub mod Held
