@@ -65,11 +65,12 @@ def points_outside():
 
 
 def points_on_a_chain():
-    """So many on one chain."""
+    """So many on one chain. The ray of each to the east runs along it and crosses nothing, so no polygon holds its point."""
     count = MANY - 1
     street = CHAIN % (7, 0, 0, count + 1, 0) + SIDES % (7, b"", b"")
     text = street + b"".join(POINT % (KEY % k, k, 0) for k in range(1, count + 1))
-    return text, [f"map fault G3 PointOnChain polygon A0001/{k} tlid 7" for k in range(1, count + 1)], "faults"
+    of_polygon = lambda key: [f"map fault G3 PointOnChain polygon {key} tlid 7", f"map fault G4 PointOutside polygon {key}"]
+    return text, [line for k in range(1, count + 1) for line in of_polygon(f"A0001/{k}")], "faults"
 
 
 def cells_at_odds():

@@ -72,6 +72,7 @@ def main():
         ("maps judged", judged.play_all),
         ("certificates", certificates.play_all),
         ("answers at full size", full_size.play_all),
+        ("lists at full size", full_size.play_lists),
         ("refused allocations", memory.play_all),
         ("failed reads and writes", devices.play_all),
         ("examples", examples.play_all),
