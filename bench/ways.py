@@ -30,12 +30,11 @@ def bench_run():
 
 run = bench_run()
 
-# What is counted, each by a function that is called where it happens and nowhere else. A sweep for a list of all faults says of whether
-# chains meet what one for `audit` says of the same map, so that is asked of `audit` and `build` alone.
+# What is counted, each by functions that are called where it happens and nowhere else.
 SWEEPS, UNKNOWN, SLOW = "sweeps", "sweeps that say nothing", "slabs listed one by one"
 COUNTED = {
     SWEEPS: ["tl_sweep::answer::sweep"],
-    UNKNOWN: ["tl_build::judge::judge"],
+    UNKNOWN: ["tl_build::judge::judge", "tl_all_faults::of_map::list_by_search"],
     SLOW: ["tl_facing::gaps::push_above"],
 }
 WANTED = {SWEEPS: 1, UNKNOWN: 0, SLOW: 0}

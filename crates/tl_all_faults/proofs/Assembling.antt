@@ -17,7 +17,12 @@ use Rattle.tl_drawn.specs.declared.fault.RecordFault.{RecordFault}
 use Rattle.tl_drawn.specs.Reading.{IsReadFrom}
 use Rattle.tl_county.specs.TheMap.{TheMap}
 use Rattle.tl_record_faults.specs.AllFaults.{AreAllFaults}
-use Rattle.tl_map.specs.Collecting.{IsMapOfRecords}
+use Rattle.tl_map.specs.Collecting.{IsMapOfRecords, StopsOn}
+use Rattle.tl_drawn.specs.declared.fault.MapStop.{MapStop}
+use Rattle.tl_drawn.specs.declared.fault.MapStop.TheVariants as map_stop
+use Rattle.tl_verdict.specs.declared.fault.MapFault.{MapFault}
+use Rattle.tl_verdict.specs.Stops.{unmapped}
+use Rattle.tl_output.specs.declared.stop.Stop.TheVariants.{Memory as MemoryStop}
 use Rattle.tl_verdict.specs.declared.fault.MapFault.TheVariants as fault
 use Rattle.tl_listing.specs.declared.listing.Listing.{Listing}
 use Rattle.tl_listing.specs.declared.listing.Listing.TheVariants.{Sound, Refused, Faults}
@@ -147,3 +152,19 @@ module _ (options : Options) (known : Option (List ℕ)) where
           let kept : now ≡ Some (refusals_of (layout_with options) text) = rw f at keeps in
           let are_told = told.0 in
           listed_refusals options text line cause listed (rw e at refused) (rw kept at are_told) told.1
+
+-- ---- records that have no map
+
+-- their fault is true
+pub fault_of : (rs : List Record) (stop : MapStop) (f : MapFault) → StopsOn rs stop → unmapped stop ≡ Ok f → (fault : RecordFault) × IsTrueOf rs fault
+fault_of rs (map_stop.Fault fault) f stops is = (fault, stops)
+fault_of rs (map_stop.Refused line cause) f stops is = absurd stops
+fault_of rs map_stop.Memory f stops is = absurd (cc)
+fault_of rs map_stop.Device f stops is = absurd stops
+
+-- or memory was refused
+pub memory_of : (rs : List Record) (stop : MapStop) (other : Stop) → StopsOn rs stop → unmapped stop ≡ Err other → other ≡ MemoryStop
+memory_of rs (map_stop.Fault fault) other stops is = absurd (cc)
+memory_of rs (map_stop.Refused line cause) other stops is = absurd stops
+memory_of rs map_stop.Memory other stops is = cc
+memory_of rs map_stop.Device other stops is = absurd stops

@@ -127,7 +127,9 @@ fn list_swept(alloc: Global, map: &Map, swept: Swept, suspects: Vec<u32>) -> Res
     }
 }
 
-/// All faults of a map, or its report where it is sound, by a tree over its segments.
+/// All faults of a map, or its report where it is sound, by a tree over its segments. It is kept out of where it is called, so that
+/// calls of it can be counted.
+#[inline(never)]
 fn list_by_search(alloc: Global, map: &Map, suspects: Vec<u32>) -> Result<Listing, Memory>
     requires { AreSuspects map.now suspects.items }
     ensures { IfOk result (IsListingOfMap map.now) }

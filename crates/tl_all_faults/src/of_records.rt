@@ -20,11 +20,11 @@ use std::alloc::Global;
 use std::hash::RandomState;
 use tl_county::Map;
 use tl_listing::Listing;
-use tl_map::MapStop;
 use tl_output::Stop;
 use tl_record::{Options, RecordReader, Source};
 use tl_record_faults::{KeptRecords, all_record_faults};
 use tl_refusals::list_refusals;
+use tl_verdict::fault_of_records;
 
 /// All that is wrong with a county, and the map that its records draw.
 #[derive(Drop)]
@@ -121,10 +121,10 @@ fn list_kept(
             drop(kept);
             list_drawn(alloc, map, faces)
         }
-        Err(MapStop::Fault(_)) => list_told(alloc, kept),
-        Err(MapStop::Memory) => Err(Stop::Memory),
-        // All records are read.
-        Err(MapStop::Device | MapStop::Refused { .. }) => unreachable!(),
+        Err(stop) => {
+            fault_of_records(stop)?;
+            list_told(alloc, kept)
+        }
     }
 }
 
@@ -133,20 +133,16 @@ fn list_told(alloc: Global, kept: KeptRecords) -> Result<Findings, Stop>
     ensures listed { (rs : List Record) → KeepsRecords rs kept → IfOk result (AreTold rs) }
     ensures stops { IfErr result (λ stop. stop ≡ Stop.Memory) }
 {
+    let told = all_record_faults(alloc, kept)?;
     let mut faults = Vec::new(alloc);
-    let Ok(told) = all_record_faults(alloc, kept) else {
-        return Err(Stop::Memory);
-    };
-    match push_records(&mut faults, &told) {
-        Ok(()) => Ok(Findings {
-            listing: Listing::Faults {
-                faults,
-                points_left: false,
-            },
-            map: None,
-        }),
-        Err(_) => Err(Stop::Memory),
-    }
+    push_records(&mut faults, &told)?;
+    Ok(Findings {
+        listing: Listing::Faults {
+            faults,
+            points_left: false,
+        },
+        map: None,
+    })
 }
 
 /// All faults of a map, or its report.
@@ -154,11 +150,9 @@ fn list_drawn(alloc: Global, map: Map, faces: bool) -> Result<Findings, Stop>
     ensures listed { IfOk result (λ listed. (listed.map ≡ Some map) × IsListingFor faces map listed.listing) }
     ensures stops { IfErr result (λ stop. stop ≡ Stop.Memory) }
 {
-    match list_map(alloc, &map, faces) {
-        Ok(listing) => Ok(Findings {
-            listing,
-            map: Some(map),
-        }),
-        Err(_) => Err(Stop::Memory),
-    }
+    let listing = list_map(alloc, &map, faces)?;
+    Ok(Findings {
+        listing,
+        map: Some(map),
+    })
 }

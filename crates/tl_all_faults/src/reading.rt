@@ -59,10 +59,7 @@ pub fn read_all<R: Source>(
     let mut next = NO_RECORD;
     'records: loop {
         match reader.read_next(&mut next) {
-            Ok(Some(_)) => match both.add(&next) {
-                Ok(()) => {}
-                Err(_) => return Err(Stop::Memory),
-            },
+            Ok(Some(_)) => both.add(&next)?,
             Ok(None) => return Ok(Some(both)),
             Err(ReadStop::Refused { .. }) => return Ok(None),
             Err(ReadStop::Device) => return Err(Stop::Device),

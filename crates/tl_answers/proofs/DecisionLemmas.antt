@@ -1,25 +1,24 @@
 -- What the telling of a decision and of records that have no answer makes of a run.
-use Rattle.std.proofs.Common.{◌≡◌, ◌≢◌, ◌⊎◌, inl, inr, ℕ, List, Result, Ok, Err, refl, sym, ◌∙◌}
+use Rattle.std.proofs.Common.{◌≡◌, ◌≢◌, ◌⊎◌, inl, inr, ℕ, List, Option, Result, Ok, Err, refl, sym, ◌∙◌}
 use Rattle.std.specs.Bool.{⊤}
+use Rattle.tl_record.specs.declared.layout.Layout.{Layout}
 use Rattle.tl_record.specs.Messages.{refusal_text}
 use Rattle.tl_record.specs.declared.stop.Cause.{Cause}
 use Rattle.tl_output.specs.Writing.{line_of}
 use Rattle.tl_drawn.specs.declared.fault.RecordFault.{RecordFault}
-use Rattle.tl_drawn.specs.declared.fault.MapStop.{MapStop}
-use Rattle.tl_drawn.specs.declared.fault.MapStop.TheVariants as map_stop
-use Rattle.tl_drawn.specs.Messages.{fault_text}
+use Rattle.tl_verdict.specs.declared.fault.MapFault.{MapFault}
+use Rattle.tl_verdict.specs.Messages.{map_fault_text}
 use Rattle.tl_verdict.specs.declared.verdict.Verdict.{Verdict}
 use Rattle.tl_verdict.specs.declared.verdict.Verdict.TheVariants as verdict
 use Rattle.tl_output.specs.declared.stop.Stop.{Stop}
-use Rattle.tl_output.specs.declared.stop.Stop.TheVariants.{Memory, Device}
+use Rattle.tl_output.specs.declared.stop.Stop.TheVariants.{Record, Memory, Device, Budget}
 use Rattle.tl_verdict.specs.Records.{TellsEither}
 use Rattle.tl_answers.specs.declared.stop.TheConstants.{DONE, MAP_FAULT, CERT_FAULT, REFUSED, STOPPED}
 use Rattle.tl_answers.specs.Verdicts.{verdict_text, verdict_status}
 use Rattle.tl_answers.specs.Telling.{TellsDecision}
-use Rattle.tl_answers.specs.Keeping.{TellsAnswer}
-use Rattle.tl_output.specs.Stops.{stop_text}
-use Rattle.tl_answers.specs.Running.{IsRunStatus, IsTold, NamesStop, StaysUnless}
-use Rattle.tl_answers.proofs.ToldLemmas.{stop_runs, no_answer, check_whole, stopped_not_done, stopped_not_fault, stopped_not_refused}
+use Rattle.tl_answers.specs.Keeping.{Answered, StopsAnswer, TellsAnswer}
+use Rattle.tl_answers.specs.Running.{IsRunStatus, IsTold, NamesStop}
+use Rattle.tl_answers.proofs.ToldLemmas.{stop_runs, stop_status, no_answer, check_whole, done_not_fault, done_not_refused, done_not_stopped, fault_not_done, fault_not_refused, fault_not_stopped, refused_not_stopped, stopped_not_done, stopped_not_fault, stopped_not_refused}
 
 -- ---- a decision
 
@@ -74,57 +73,61 @@ module _ (wrote told part : List ℕ → Type 0) (out_same err_same : Type 0) wh
   decision_whole (Ok v) status records_old records_new cert_old cert_new reads tells going = reads
   decision_whole (Err stop) status records_old records_new cert_old cert_new reads tells going = check_whole stop status records_old records_new cert_old cert_new reads tells.0.0 going
 
-  -- ---- records that have no answer
+  -- ---- what is answered of records
 
-  pub answer_runs : {A : Type 0} (r : Result A MapStop) (status : ℕ) → TellsAnswer r status wrote told part out_same err_same → ((status ≡ DONE) ⊎ (status ≡ MAP_FAULT)) ⊎ ((status ≡ REFUSED) ⊎ (status ≡ STOPPED))
-  answer_runs (Ok written) status tells = inl (inl tells.0)
-  answer_runs (Err (map_stop.Fault fault)) status (inl is) = inl (inr is.0)
-  answer_runs (Err (map_stop.Fault fault)) status (inr is) = inr (inr is.0)
-  answer_runs (Err (map_stop.Refused line cause)) status tells = inr (inl tells.0.0)
-  answer_runs (Err map_stop.Memory) status tells = inr (inr tells.0.0)
-  answer_runs (Err map_stop.Device) status tells = inr (inr tells.0.0)
+  pub answer_runs : {T : Type 0} (r : Result (Result T MapFault) Stop) (status : ℕ) → TellsAnswer r status wrote told part out_same err_same
+      → ((status ≡ DONE) ⊎ (status ≡ MAP_FAULT)) ⊎ ((status ≡ REFUSED) ⊎ (status ≡ STOPPED))
+  answer_runs (Ok (Ok written)) status tells = inl (inl tells.0)
+  answer_runs (Ok (Err fault)) status (inl is) = inl (inr is.0)
+  answer_runs (Ok (Err fault)) status (inr is) = inr (inr is.0)
+  answer_runs (Err stop) status tells = inr (stop_status stop status tells.0.0)
 
-  pub answer_done : {A : Type 0} (r : Result A MapStop) (status : ℕ) → TellsAnswer r status wrote told part out_same err_same → status ≡ DONE → (written : A) × (r ≡ Ok written) × out_same × err_same
-  answer_done (Ok written) status tells e = (written, refl, tells.1, tells.2)
-  answer_done (Err (map_stop.Fault fault)) status (inl is) e = absurd (cc (sym is.0 ∙ e))
-  answer_done (Err (map_stop.Fault fault)) status (inr is) e = absurd (stopped_not_done (sym is.0 ∙ e))
-  answer_done (Err (map_stop.Refused line cause)) status tells e = absurd (cc (sym tells.0.0 ∙ e))
-  answer_done (Err map_stop.Memory) status tells e = absurd (stopped_not_done (sym tells.0.0 ∙ e))
-  answer_done (Err map_stop.Device) status tells e = absurd (stopped_not_done (sym tells.0.0 ∙ e))
+  pub answer_done : {T : Type 0} (r : Result (Result T MapFault) Stop) (status : ℕ) → TellsAnswer r status wrote told part out_same err_same → status ≡ DONE
+      → (written : T) × (r ≡ Ok (Ok written)) × out_same × err_same
+  answer_done (Ok (Ok written)) status tells e = (written, refl, tells.1, tells.2)
+  answer_done (Ok (Err fault)) status (inl is) e = absurd (fault_not_done (sym is.0 ∙ e))
+  answer_done (Ok (Err fault)) status (inr is) e = absurd (stopped_not_done (sym is.0 ∙ e))
+  answer_done (Err stop) status tells e = absurd (no_answer stop status DONE tells.0.0 done_not_refused done_not_stopped e)
 
-  pub answer_fault : {A : Type 0} (r : Result A MapStop) (status : ℕ) → TellsAnswer r status wrote told part out_same err_same → status ≡ MAP_FAULT
-      → (fault : RecordFault) × (r ≡ Err (map_stop.Fault fault)) × wrote (line_of (fault_text fault)) × err_same
-  answer_fault (Ok written) status tells e = absurd (cc (sym tells.0 ∙ e))
-  answer_fault (Err (map_stop.Fault fault)) status (inl is) e = (fault, refl, is.1, is.2)
-  answer_fault (Err (map_stop.Fault fault)) status (inr is) e = absurd (stopped_not_fault (sym is.0 ∙ e))
-  answer_fault (Err (map_stop.Refused line cause)) status tells e = absurd (cc (sym tells.0.0 ∙ e))
-  answer_fault (Err map_stop.Memory) status tells e = absurd (stopped_not_fault (sym tells.0.0 ∙ e))
-  answer_fault (Err map_stop.Device) status tells e = absurd (stopped_not_fault (sym tells.0.0 ∙ e))
+  pub answer_fault : {T : Type 0} (r : Result (Result T MapFault) Stop) (status : ℕ) → TellsAnswer r status wrote told part out_same err_same → status ≡ MAP_FAULT
+      → (fault : MapFault) × (r ≡ Ok (Err fault)) × wrote (line_of (map_fault_text fault)) × err_same
+  answer_fault (Ok (Ok written)) status tells e = absurd (done_not_fault (sym tells.0 ∙ e))
+  answer_fault (Ok (Err fault)) status (inl is) e = (fault, refl, is.1, is.2)
+  answer_fault (Ok (Err fault)) status (inr is) e = absurd (stopped_not_fault (sym is.0 ∙ e))
+  answer_fault (Err stop) status tells e = absurd (no_answer stop status MAP_FAULT tells.0.0 fault_not_refused fault_not_stopped e)
 
-  pub answer_refused : {A : Type 0} (r : Result A MapStop) (status : ℕ) → TellsAnswer r status wrote told part out_same err_same → status ≡ REFUSED
-      → (line : ℕ) × (cause : Cause) × (r ≡ Err (map_stop.Refused line cause)) × told (line_of (refusal_text line cause)) × out_same
-  answer_refused (Ok written) status tells e = absurd (cc (sym tells.0 ∙ e))
-  answer_refused (Err (map_stop.Fault fault)) status (inl is) e = absurd (cc (sym is.0 ∙ e))
-  answer_refused (Err (map_stop.Fault fault)) status (inr is) e = absurd (stopped_not_refused (sym is.0 ∙ e))
-  answer_refused (Err (map_stop.Refused line cause)) status tells e = (line, cause, refl, tells.0.1, tells.1)
-  answer_refused (Err map_stop.Memory) status tells e = absurd (stopped_not_refused (sym tells.0.0 ∙ e))
-  answer_refused (Err map_stop.Device) status tells e = absurd (stopped_not_refused (sym tells.0.0 ∙ e))
+  pub answer_refused : {T : Type 0} (r : Result (Result T MapFault) Stop) (status : ℕ) → TellsAnswer r status wrote told part out_same err_same → status ≡ REFUSED
+      → (line : ℕ) × (cause : Cause) × (r ≡ Err (Record line cause)) × told (line_of (refusal_text line cause)) × out_same
+  answer_refused (Ok (Ok written)) status tells e = absurd (done_not_refused (sym tells.0 ∙ e))
+  answer_refused (Ok (Err fault)) status (inl is) e = absurd (fault_not_refused (sym is.0 ∙ e))
+  answer_refused (Ok (Err fault)) status (inr is) e = absurd (stopped_not_refused (sym is.0 ∙ e))
+  answer_refused (Err (Record line cause)) status tells e = (line, cause, refl, tells.0.1, tells.1)
+  answer_refused (Err Memory) status tells e = absurd (stopped_not_refused (sym tells.0.0 ∙ e))
+  answer_refused (Err Device) status tells e = absurd (stopped_not_refused (sym tells.0.0 ∙ e))
+  answer_refused (Err Budget) status tells e = absurd (stopped_not_refused (sym tells.0.0 ∙ e))
 
-  -- it stops: for a fault whose line wasn't written, for want of memory, or for a device
-  pub answer_stopped : {A : Type 0} (r : Result A MapStop) (status : ℕ) → TellsAnswer r status wrote told part out_same err_same → status ≡ STOPPED
-      → ((fault : RecordFault) × (r ≡ Err (map_stop.Fault fault)) × NamesStop told ⊥ ⊤ out_same (part (line_of (fault_text fault))))
-      ⊎ (((r ≡ Err map_stop.Memory) × told (line_of (stop_text Memory)) × out_same) ⊎ ((r ≡ Err map_stop.Device) × told (line_of (stop_text Device)) × out_same))
-  answer_stopped (Ok written) status tells e = absurd (cc (sym tells.0 ∙ e))
-  answer_stopped (Err (map_stop.Fault fault)) status (inl is) e = absurd (cc (sym is.0 ∙ e))
-  answer_stopped (Err (map_stop.Fault fault)) status (inr is) e = inl (fault, refl, is.1)
-  answer_stopped (Err (map_stop.Refused line cause)) status tells e = absurd (cc (sym tells.0.0 ∙ e))
-  answer_stopped (Err map_stop.Memory) status tells e = inr (inl (refl, tells.0.1, tells.1))
-  answer_stopped (Err map_stop.Device) status tells e = inr (inr (refl, tells.0.1, tells.1))
+  -- it stops: the line of a fault wasn't written, or nothing is answered
+  pub answer_stopped : {T : Type 0} (r : Result (Result T MapFault) Stop) (status : ℕ) → TellsAnswer r status wrote told part out_same err_same → status ≡ STOPPED
+      → ((fault : MapFault) × (r ≡ Ok (Err fault)) × NamesStop told ⊥ ⊤ out_same (part (line_of (map_fault_text fault)))) ⊎ ((stop : Stop) × (r ≡ Err stop) × IsTold stop status told × out_same)
+  answer_stopped (Ok (Ok written)) status tells e = absurd (done_not_stopped (sym tells.0 ∙ e))
+  answer_stopped (Ok (Err fault)) status (inl is) e = absurd (fault_not_stopped (sym is.0 ∙ e))
+  answer_stopped (Ok (Err fault)) status (inr is) e = inl (fault, refl, is.1)
+  answer_stopped (Err stop) status tells e = inr (stop, refl, tells.0, tells.1)
 
   -- no read failed where it doesn't stop
-  pub answer_whole : {A : Type 0} (r : Result A MapStop) (status old new : ℕ) → StaysUnless map_stop.Device old new r → TellsAnswer r status wrote told part out_same err_same → status ≢ STOPPED → new ≡ old
-  answer_whole (Ok written) status old new reads tells going = reads
-  answer_whole (Err (map_stop.Fault fault)) status old new reads tells going = reads (λ same. cc same)
-  answer_whole (Err (map_stop.Refused line cause)) status old new reads tells going = reads (λ same. cc same)
-  answer_whole (Err map_stop.Memory) status old new reads tells going = reads (λ same. cc same)
-  answer_whole (Err map_stop.Device) status old new reads tells going = absurd (going tells.0.0)
+  pub answer_whole : {T : Type 0} (layout : Layout) (known : Option (List ℕ)) (looks_for : RecordFault → Type 0) (failed well same whole cut : Type 0) (r : Result (Result T MapFault) Stop) (status : ℕ)
+      → Answered layout known looks_for failed well same whole cut r → TellsAnswer r status wrote told part out_same err_same → status ≢ STOPPED → well
+  answer_whole layout known looks_for failed well same whole cut (Ok (Ok written)) status answered tells going = answered.1
+  answer_whole layout known looks_for failed well same whole cut (Ok (Err fault)) status answered tells going = answered.1
+  answer_whole layout known looks_for failed well same whole cut (Err (Record line cause)) status answered tells going = answered.1
+  answer_whole layout known looks_for failed well same whole cut (Err Memory) status answered tells going = absurd (going tells.0.0)
+  answer_whole layout known looks_for failed well same whole cut (Err Device) status answered tells going = absurd (going tells.0.0)
+  answer_whole layout known looks_for failed well same whole cut (Err Budget) status answered tells going = absurd answered
+
+-- a stop that is told, where more is known of the output
+pub stop_told : (layout : Layout) (known : Option (List ℕ)) (told : List ℕ → Type 0) (failed well same cut other broken : Type 0) (stop : Stop) (status : ℕ) → StopsAnswer layout known failed well same cut stop
+    → IsTold stop status told → status ≡ STOPPED → (same → other) → (cut → broken) → NamesStop told failed well other broken
+stop_told layout known told failed well same cut other broken (Record line cause) status stops is e stays breaks = absurd (refused_not_stopped (sym is.0 ∙ e))
+stop_told layout known told failed well same cut other broken Memory status stops is e stays breaks = inl (is.1, stops.0, stays stops.1)
+stop_told layout known told failed well same cut other broken Device status stops is e stays breaks = inr (is.1, elim stops [ inl none ↦ inl (none.0, stays none.1) | inr begun ↦ inr (breaks begun) ])
+stop_told layout known told failed well same cut other broken Budget status stops is e stays breaks = absurd stops

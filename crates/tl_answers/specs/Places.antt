@@ -4,8 +4,6 @@ use Rattle.tl_geom.specs.declared.point.Point.{Point}
 use Rattle.tl_county.specs.TheMap.{TheMap}
 use Rattle.tl_text.specs.Places.{on_text, inside_text}
 use Rattle.tl_inside.specs.Places.{IsPlaceOf}
-use Rattle.tl_drawn.specs.declared.fault.MapStop.{MapStop}
-use Rattle.tl_drawn.specs.declared.fault.MapStop.TheVariants as map_stop
 use Rattle.tl_inside.specs.declared.place.Place.{Place}
 use Rattle.tl_inside.specs.declared.place.Place.TheVariants.{OnChain, In}
 
@@ -17,10 +15,3 @@ place_text m (In polygons landmarks) = inside_text m polygons.items landmarks.it
 -- the line was written of where the point lies in the map
 abbrev pub TellsPlace : TheMap → Point → (List ℕ → Type 0) → Type 0
 TellsPlace m point wrote = (place : Place) × IsPlaceOf m point place × wrote (place_text m place)
-
--- why it wasn't: `same` says that the output is as it was, `cut` that a write of it failed behind a beginning of the line
-abbrev pub StopsTelling : (same cut : Type 0) → MapStop → Type 0
-StopsTelling same cut map_stop.Device = cut
-StopsTelling same cut map_stop.Memory = same
-StopsTelling same cut (map_stop.Refused line cause) = ⊥
-StopsTelling same cut (map_stop.Fault fault) = ⊥

@@ -12,8 +12,6 @@ use Rattle.tl_record.specs.Messages.{refusal_text}
 use Rattle.tl_record.specs.Records.{records_of}
 use Rattle.tl_geom.specs.declared.point.Point.{Point}
 use Rattle.tl_drawn.specs.declared.fault.RecordFault.{RecordFault}
-use Rattle.tl_drawn.specs.declared.fault.MapStop.{MapStop}
-use Rattle.tl_drawn.specs.declared.fault.MapStop.TheVariants as map_stop
 use Rattle.tl_county.specs.Chains.{ChainList}
 use Rattle.tl_drawn.specs.Faults.{IsTrueOf, IsFaultOfChains}
 use Rattle.tl_drawn.specs.Messages.{fault_text}
@@ -342,14 +340,6 @@ status_of Budget = STOPPED
 -- how a stop is told: by its own line and its own status, whichever it is
 abbrev pub IsTold : Stop → ℕ → (List ℕ → Type 0) → Type 0
 IsTold stop status wrote = (status ≡ status_of stop) × wrote (line_of (stop_text stop))
-
--- why nothing was answered: `failed` says that a read failed, `same` that the output is as it was, `cut` that a write of it
--- failed behind a beginning of the answer
-abbrev pub StopsAnswer : Layout → Option (List ℕ) → (failed same cut : Type 0) → MapStop → Type 0
-StopsAnswer layout known failed same cut map_stop.Device = (failed × same) ⊎ cut
-StopsAnswer layout known failed same cut map_stop.Memory = same
-StopsAnswer layout known failed same cut (map_stop.Refused line cause) = same × IfSome known (λ text. IsFirstRefusal layout text line cause)
-StopsAnswer layout known failed same cut (map_stop.Fault fault) = same × IfSome known (λ text. HasFault layout text fault)
 
 -- the count stays, unless this error is answered
 abbrev pub StaysUnless : {T E : Type 0} → E → ℕ → ℕ → Result T E → Type 0

@@ -72,7 +72,8 @@ pub fn convert<S: Source, C: Sink, W: Sink, E: Sink>(
     write_converted(&converted, out, err)
 }
 
-/// Reads a certificate, and writes it to `made` in version 2.
+/// Reads a certificate, and writes it to `made` in version 2. [`CertStop::Text`] comes where no certificate has the text,
+/// [`CertStop::Memory`] where memory was refused for what is read, and [`CertStop::Device`] where a read or a write failed.
 pub fn rewrite<S: Source, C: Sink>(
     alloc: Global,
     cert: &mut S,
@@ -83,10 +84,8 @@ pub fn rewrite<S: Source, C: Sink>(
         (FailsToRead S.failure_count cert.old cert.new ⊎ FailsToWrite C.failure_count made.old made.new) result }
     ensures reads { StaysUnless CertStop.Device (S.failure_count cert.old) (S.failure_count cert.new) result }
 {
-    match read_cert(alloc, cert) {
-        Ok(certificate) => keep(&certificate.to_v2(), made),
-        Err(stop) => Err(stop),
-    }
+    let certificate = read_cert(alloc, cert)?;
+    keep(&certificate.to_v2(), made)
 }
 
 // Writes a certificate.

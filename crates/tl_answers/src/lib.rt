@@ -9,7 +9,7 @@
 mod asking;
 pub mod convert;
 pub mod deciding;
-pub mod locating;
+mod locating;
 pub mod records;
 pub mod reports;
 pub mod stop;

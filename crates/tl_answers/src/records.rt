@@ -8,22 +8,21 @@ ghost use Rattle.tl_answers.specs.declared.stop.TheConstants.{DONE, MAP_FAULT, R
 ghost use Rattle.tl_answers.specs.Running.{AnswersRecords, IsShown, NamesRecordFault, NamesRefusal, TriesToWrite, NamesStop, FailsToRead, CountStays};
 ghost use Rattle.tl_answers.specs.Running.{LooksFor, layout_of};
 ghost use Rattle.tl_drawn.specs.Faults.{IsFaultOfChains};
-ghost use Rattle.tl_answers.specs.Places.{StopsTelling};
-ghost use Rattle.tl_answers.specs.Keeping.{Answered, TellsAnswer, stop_decision};
+ghost use Rattle.tl_answers.specs.Keeping.{Answered, TellsAnswer, StopsTelling};
 
 use crate::asking::{Asked, answer_of_map};
-use crate::deciding::write_decision;
-use crate::stop::DONE;
+use crate::stop::{DONE, MAP_FAULT, stopped};
+use crate::tell::write_line;
 use std::alloc::Global;
 use std::hash::RandomState;
 use std::io;
 use tl_county::{Chains, Map};
-use tl_map::{MapStop, read_chains_with};
+use tl_map::read_chains_with;
 use tl_output::{OutputBuffer, Stop};
 use tl_plan::Plan;
 use tl_record::{Options, Sink, Source};
 use tl_text::{print_chains, print_landmarks};
-use tl_verdict::{Verdict, fault_of_records};
+use tl_verdict::{MapFault, fault_of_records};
 
 /// Does what the plan asks of records alone, and gives the program's exit status. A plan that asks for more than that has
 /// nothing answered.
@@ -56,41 +55,37 @@ pub fn run_on_records<R: Source, W: Sink, E: Sink>(
     write_unanswered(answered, out, err)
 }
 
-// Tells why records have no answer. Of an answer, which is written already, it tells nothing.
-fn write_unanswered<W: Sink, E: Sink>(answered: Result<(), MapStop>, out: &mut W, err: &mut E) -> u8
+// Tells the fault of records, or why nothing is answered. Of an answer, which is written already, it tells nothing.
+fn write_unanswered<W: Sink, E: Sink>(
+    answered: Result<Result<(), MapFault>, Stop>,
+    out: &mut W,
+    err: &mut E,
+) -> u8
     ensures { TellsAnswer answered result (Writes W.contents W.failure_count out.old out.new)
         (TriesToWrite E.contents E.failure_count err.old err.new) (WritesSome W.contents W.failure_count out.old out.new)
         (out.new ≡ out.old) (err.new ≡ err.old) }
 {
     match answered {
-        Ok(()) => DONE,
-        Err(stop) => write_decision(decision_by(stop), out, err),
+        Ok(Ok(())) => DONE,
+        Ok(Err(fault)) => write_line(&fault, MAP_FAULT, out, err),
+        Err(stop) => stopped(&stop, err),
     }
 }
 
-// The decision of records that have no answer.
-fn decision_by(stop: MapStop) -> Result<Verdict, Stop>
-    ensures { result ≡ stop_decision stop }
-{
-    match fault_of_records(stop) {
-        Ok(fault) => Ok(Verdict::MapFault(fault)),
-        Err(stop) => Err(stop),
-    }
-}
-
-// Writes the answer to what the plan asks of records.
+// Writes the answer to what the plan asks of records, or tells their fault. `Stop::Record` comes where a line is refused,
+// `Stop::Memory` where memory was refused, `Stop::Device` where a read or a write failed, and `Stop::Budget` never.
 fn answer<R: Source, W: Sink>(
     alloc: Global,
     hasher: RandomState,
     plan: &Plan,
     records: &mut R,
     out: &mut W,
-) -> Result<(), MapStop>
-    ensures { Answered (layout_of plan.now) (R.remaining records.old)
-        (R.failure_count records.old) (R.failure_count records.new) (out.new ≡ out.old)
+) -> Result<Result<(), MapFault>, Stop>
+    ensures { Answered (layout_of plan.now) (R.remaining records.old) (LooksFor plan.now)
+        (FailsToRead R.failure_count records.old records.new) (CountStays R.failure_count records.old records.new)
+        (out.new ≡ out.old)
         (AnswersRecords plan.now (R.remaining records.old) (Writes W.contents W.failure_count out.old out.new))
-        (AnswersRecords plan.now (R.remaining records.old) (WritesSome W.contents W.failure_count out.old out.new))
-        (LooksFor plan.now) result }
+        (AnswersRecords plan.now (R.remaining records.old) (WritesSome W.contents W.failure_count out.old out.new)) result }
 {
     match plan {
         Plan::Show { options, .. } => show(alloc, *options, records, out),
@@ -111,50 +106,50 @@ fn answer<R: Source, W: Sink>(
             out,
         ),
         // They ask nothing of records alone.
-        _ => Ok(()),
+        _ => Ok(Ok(())),
     }
 }
 
-// Writes the chains that the records draw; a fault is one of theirs.
+// Writes the chains that the records draw, or tells a fault of the chains. It stops as `answer` does.
 fn show<R: Source, W: Sink>(
     alloc: Global,
     options: Options,
     records: &mut R,
     out: &mut W,
-) -> Result<(), MapStop>
-    ensures { Answered (layout_with options) (R.remaining records.old)
-        (R.failure_count records.old) (R.failure_count records.new) (out.new ≡ out.old)
+) -> Result<Result<(), MapFault>, Stop>
+    ensures { Answered (layout_with options) (R.remaining records.old) IsFaultOfChains
+        (FailsToRead R.failure_count records.old records.new) (CountStays R.failure_count records.old records.new)
+        (out.new ≡ out.old)
         (IsShown (layout_with options) (R.remaining records.old) (Writes W.contents W.failure_count out.old out.new))
-        (IsShown (layout_with options) (R.remaining records.old) (WritesSome W.contents W.failure_count out.old out.new))
-        IsFaultOfChains result }
+        (IsShown (layout_with options) (R.remaining records.old) (WritesSome W.contents W.failure_count out.old out.new)) result }
 {
     match read_chains_with(alloc, records, options) {
-        Ok(chains) => write_chains(&chains, out),
-        Err(stop) => Err(stop),
+        Ok(chains) => {
+            write_chains(&chains, out)?;
+            Ok(Ok(()))
+        }
+        Err(stop) => Ok(Err(fault_of_records(stop)?)),
     }
 }
 
-fn write_chains<W: Sink>(chains: &Chains, out: &mut W) -> Result<(), MapStop>
+// Writes the lines of chains. It stops where a write failed, by `Stop::Device`.
+fn write_chains<W: Sink>(chains: &Chains, out: &mut W) -> Result<(), Stop>
     ensures told { OnOk result (Writes W.contents W.failure_count out.old out.new (shown_text chains.now)) }
     ensures stops { IfErr result (StopsTelling (out.new ≡ out.old)
         (WritesSome W.contents W.failure_count out.old out.new (shown_text chains.now))) }
 {
-    match print_all_chains(chains, out) {
-        Ok(()) => Ok(()),
-        Err(_) => Err(MapStop::Device),
-    }
+    print_all_chains(chains, out)?;
+    Ok(())
 }
 
-/// Writes a map's landmarks with their polygons.
-pub(crate) fn write_landmarks<W: Sink>(map: &Map, out: &mut W) -> Result<(), MapStop>
+/// Writes a map's landmarks with their polygons. It stops where a write failed, by [`Stop::Device`].
+pub(crate) fn write_landmarks<W: Sink>(map: &Map, out: &mut W) -> Result<(), Stop>
     ensures told { OnOk result (Writes W.contents W.failure_count out.old out.new (listing_text map.now)) }
     ensures stops { IfErr result (StopsTelling (out.new ≡ out.old)
         (WritesSome W.contents W.failure_count out.old out.new (listing_text map.now))) }
 {
-    match print_all_landmarks(map, out) {
-        Ok(()) => Ok(()),
-        Err(_) => Err(MapStop::Device),
-    }
+    print_all_landmarks(map, out)?;
+    Ok(())
 }
 
 fn print_all_chains<W: Sink>(chains: &Chains, out: &mut W) -> io::Result<()>
@@ -162,10 +157,8 @@ fn print_all_chains<W: Sink>(chains: &Chains, out: &mut W) -> io::Result<()>
     ensures failures { CountsFailure (W.failure_count out.old) (W.failure_count out.new) result }
 {
     let mut buffer = OutputBuffer::new();
-    match print_chains(chains, &mut buffer, out) {
-        Ok(()) => buffer.flush(out),
-        Err(error) => Err(error),
-    }
+    print_chains(chains, &mut buffer, out)?;
+    buffer.flush(out)
 }
 
 fn print_all_landmarks<W: Sink>(map: &Map, out: &mut W) -> io::Result<()>
@@ -173,8 +166,6 @@ fn print_all_landmarks<W: Sink>(map: &Map, out: &mut W) -> io::Result<()>
     ensures failures { CountsFailure (W.failure_count out.old) (W.failure_count out.new) result }
 {
     let mut buffer = OutputBuffer::new();
-    match print_landmarks(map, &mut buffer, out) {
-        Ok(()) => buffer.flush(out),
-        Err(error) => Err(error),
-    }
+    print_landmarks(map, &mut buffer, out)?;
+    buffer.flush(out)
 }

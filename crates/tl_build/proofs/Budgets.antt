@@ -2,8 +2,14 @@
 use Rattle.std.proofs.Common.{◌≡◌, ℕ, zero, suc, ◌+◌, ◌*◌, ◌^◌, ◌<◌, ◌≤◌, ◌==◌, Bool, true, false, if◌then◌else◌, List, [], ◌∷◌, length, refl, arith}
 use Rattle.std.proofs.lemmas.Nat.{mul-le}
 use Rattle.tl_geom.specs.declared.rect.Rect.{Rect}
+use Rattle.tl_county.specs.TheMap.{TheMap}
 use Rattle.tl_index.specs.Pairs.{indices, row_sum, pair_sum, meeting, overlaps}
 use Rattle.tl_index.specs.Searches.{meeting_pairs}
+use Rattle.tl_planar.specs.Searching.{AreBeyond}
+use Rattle.tl_output.specs.declared.stop.Stop.{Stop}
+use Rattle.tl_output.specs.declared.stop.Stop.TheVariants.{Record, Memory, Device, Budget}
+use Rattle.tl_verdict.specs.Verdicts.{MayStop}
+use Rattle.tl_build.specs.Auditing.{IsMemoryStop}
 
 one_at_most : (a b : Bool) → (if a then 0 else (if b then 1 else 0)) ≤ 1
 one_at_most true b = omega arith
@@ -40,3 +46,10 @@ never_beyond bounds n budget h e beyond =
     omega (arith, rw (long n) at few') in
     let square : n * n ≤ 4294967295 * 4294967295 = mul-le n n 4294967295 4294967295 (omega (arith, h)) (omega (arith, h)) in
     omega (arith, few, square, e, beyond)
+
+-- so a check with it stops for memory alone
+pub memory_alone : (m : TheMap) (budget : ℕ) (why : Stop) → ¬ AreBeyond m.chains budget → MayStop m budget why → IsMemoryStop why
+memory_alone m budget (Record line cause) never may = may
+memory_alone m budget Memory never may = tt
+memory_alone m budget Device never may = may
+memory_alone m budget Budget never may = never may

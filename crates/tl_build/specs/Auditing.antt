@@ -1,5 +1,5 @@
 -- What an audit of records says, by its kinds.
-use Rattle.std.specs.Prelude.{◌≡◌, ℕ, Some, Result, Ok, Err, ⊤}
+use Rattle.std.specs.Prelude.{◌≡◌, Some, Result, Ok, ⊤}
 use Rattle.tl_record.specs.Records.{Records}
 use Rattle.tl_verdict.specs.declared.fault.MapFault.{MapFault}
 use Rattle.tl_verdict.specs.declared.verdict.Report.{Report}

@@ -34,10 +34,8 @@ pub fn find_face_fault(
     }
     // so that a fault of faces denies that they are true
     map.has_proper_chains();
-    match face_fault_of(alloc, map, gaps) {
-        Ok(found) => Ok(fault_of(found)),
-        Err(_) => Err(Stop::Memory),
-    }
+    let found = face_fault_of(alloc, map, gaps)?;
+    Ok(fault_of(found))
 }
 
 /// Faces that disagree as a fault of a map.

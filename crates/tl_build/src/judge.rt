@@ -18,12 +18,9 @@ pub fn judge(alloc: Global, map: &Map, cert: &Certificate) -> Result<Result<Repo
     map.has_proper_chains();
     // that there are fewer than 2^32 segments, and so fewer pairs of them than the budget
     let _segments = map.segments();
-    match check_map(alloc, map, cert, u64::MAX) {
-        Ok(Verdict::Sound(report)) => Ok(Ok(report)),
-        Ok(Verdict::MapFault(fault)) => Ok(Err(fault)),
-        Ok(Verdict::CertFault(_)) => unreachable!(),
-        Err(Stop::Memory) => Err(Stop::Memory),
-        Err(Stop::Budget) => unreachable!(),
-        Err(Stop::Record { .. } | Stop::Device) => unreachable!(),
+    match check_map(alloc, map, cert, u64::MAX)? {
+        Verdict::Sound(report) => Ok(Ok(report)),
+        Verdict::MapFault(fault) => Ok(Err(fault)),
+        Verdict::CertFault(_) => unreachable!(),
     }
 }

@@ -82,14 +82,11 @@ pub fn build_with(alloc: Global, map: &Map, faces: bool) -> Result<Built, Stop>
 fn decide(alloc: Global, map: &Map, asked: bool) -> Result<Built, Stop>
     ensures { BuildsFor asked map.now result }
 {
-    let Ok(report) = sweep(alloc, map, Gaps::First) else {
-        return Err(Stop::Memory);
-    };
     let SweepReport {
         swept,
         suspects: _suspects,
         gaps,
-    } = report;
+    } = sweep(alloc, map, Gaps::First)?;
     decide_by(alloc, map, asked, swept, gaps)
 }
 
@@ -108,10 +105,9 @@ fn decide_by(
     requires agree { IfSome gaps (λ found. found.items ≡ [] → FacesAgree map.now.chains) }
     ensures { BuildsFor asked map.now result }
 {
-    match build_swept(alloc, map, swept) {
-        Ok(Built::Cert(cert)) => ask_for_faces(alloc, map, asked, cert, gaps),
-        Ok(Built::Fault(fault)) => Ok(Built::Fault(fault)),
-        Err(stop) => Err(stop),
+    match build_swept(alloc, map, swept)? {
+        Built::Cert(cert) => ask_for_faces(alloc, map, asked, cert, gaps),
+        Built::Fault(fault) => Ok(Built::Fault(fault)),
     }
 }
 
@@ -129,10 +125,9 @@ fn ask_for_faces(
     requires agree { IfSome gaps (λ found. found.items ≡ [] → FacesAgree map.now.chains) }
     ensures { BuildsFor asked map.now result }
 {
-    match find_face_fault(alloc, map, asked, gaps) {
-        Ok(Some(fault)) => Ok(Built::Fault(fault)),
-        Ok(None) => Ok(Built::Cert(cert)),
-        Err(stop) => Err(stop),
+    match find_face_fault(alloc, map, asked, gaps)? {
+        Some(fault) => Ok(Built::Fault(fault)),
+        None => Ok(Built::Cert(cert)),
     }
 }
 
@@ -156,13 +151,9 @@ fn build_swept(alloc: Global, map: &Map, swept: Swept) -> Result<Built, Stop>
 fn build_by_search(alloc: Global, map: &Map) -> Result<Built, Stop>
     ensures { Builds map.now result }
 {
-    let cert = match propose(alloc, map) {
-        Ok(cert) => cert,
-        Err(_) => return Err(Stop::Memory),
-    };
-    match judge(alloc, map, &cert) {
-        Ok(Ok(_)) => Ok(Built::Cert(cert)),
-        Ok(Err(fault)) => Ok(Built::Fault(fault)),
-        Err(stop) => Err(stop),
+    let cert = propose(alloc, map)?;
+    match judge(alloc, map, &cert)? {
+        Ok(_) => Ok(Built::Cert(cert)),
+        Err(fault) => Ok(Built::Fault(fault)),
     }
 }

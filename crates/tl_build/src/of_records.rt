@@ -16,7 +16,6 @@ ghost use Rattle.tl_verdict.specs.Verdicts.{IsReport};
 ghost use Rattle.tl_verdict.specs.Records.{HaveMap, IsTrueOfRecords};
 ghost use Rattle.tl_build.specs.Auditing.{IfSound, OnSound, IfFaulty, SaysSound, IsNotBudget, MayStopAudit};
 ghost use Rattle.tl_output.specs.Stops.{TellsDevice};
-ghost use Rattle.tl_build.specs.Keeping.Judging.{refusal_of};
 ghost use Rattle.tl_build.specs.Keeping.Deciding.{AuditsFor, AuditsRead};
 
 use crate::answer::Audit;
@@ -99,7 +98,7 @@ fn audit_read(alloc: Global, read: Result<Map, MapStop>, asked: bool) -> Result<
 {
     match read {
         Ok(map) => decide(alloc, &map, asked),
-        Err(stop) => refused(stop),
+        Err(stop) => Ok(Audit::Fault(fault_of_records(stop)?)),
     }
 }
 
@@ -107,14 +106,11 @@ fn audit_read(alloc: Global, read: Result<Map, MapStop>, asked: bool) -> Result<
 pub fn decide(alloc: Global, map: &Map, asked: bool) -> Result<Audit, Stop>
     ensures { AuditsFor asked map.now result }
 {
-    let Ok(report) = sweep(alloc, map, Gaps::First) else {
-        return Err(Stop::Memory);
-    };
     let SweepReport {
         swept,
         suspects: _suspects,
         gaps,
-    } = report;
+    } = sweep(alloc, map, Gaps::First)?;
     decide_by(alloc, map, asked, swept, gaps)
 }
 
@@ -133,10 +129,9 @@ fn decide_by(
     requires agree { IfSome gaps (λ found. found.items ≡ [] → FacesAgree map.now.chains) }
     ensures { AuditsFor asked map.now result }
 {
-    match decide_swept(alloc, map, swept) {
-        Ok(Audit::Sound(report)) => ask_for_faces(alloc, map, asked, report, gaps),
-        Ok(Audit::Fault(fault)) => Ok(Audit::Fault(fault)),
-        Err(stop) => Err(stop),
+    match decide_swept(alloc, map, swept)? {
+        Audit::Sound(report) => ask_for_faces(alloc, map, asked, report, gaps),
+        Audit::Fault(fault) => Ok(Audit::Fault(fault)),
     }
 }
 
@@ -154,19 +149,8 @@ fn ask_for_faces(
     requires agree { IfSome gaps (λ found. found.items ≡ [] → FacesAgree map.now.chains) }
     ensures { AuditsFor asked map.now result }
 {
-    match find_face_fault(alloc, map, asked, gaps) {
-        Ok(Some(fault)) => Ok(Audit::Fault(fault)),
-        Ok(None) => Ok(Audit::Sound(report)),
-        Err(stop) => Err(stop),
-    }
-}
-
-/// The answer where the records have no map.
-fn refused(stop: MapStop) -> Result<Audit, Stop>
-    ensures { result ≡ refusal_of stop }
-{
-    match fault_of_records(stop) {
-        Ok(fault) => Ok(Audit::Fault(fault)),
-        Err(stop) => Err(stop),
+    match find_face_fault(alloc, map, asked, gaps)? {
+        Some(fault) => Ok(Audit::Fault(fault)),
+        None => Ok(Audit::Sound(report)),
     }
 }

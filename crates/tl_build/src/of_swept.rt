@@ -6,13 +6,11 @@ ghost use Rattle.tl_planar.specs.declared.meet.Meet.{Meet};
 ghost use Rattle.tl_planar.specs.Searching.{IsTrueMeet};
 ghost use Rattle.tl_inside.specs.Placed.{ArePlaced};
 ghost use Rattle.tl_build.specs.Keeping.Deciding.{Audits};
-ghost use Rattle.tl_propose.specs.Keeping.Proposed.{IsProposal};
 
 use crate::answer::Audit;
 use crate::judge::judge;
 use crate::planar::audit_planar;
 use std::alloc::Global;
-use tl_cert::Certificate;
 use tl_county::Map;
 use tl_output::Stop;
 use tl_propose::propose;
@@ -39,20 +37,9 @@ pub fn decide_swept(alloc: Global, map: &Map, swept: Swept) -> Result<Audit, Sto
 fn audit_by_search(alloc: Global, map: &Map) -> Result<Audit, Stop>
     ensures { Audits map.now result }
 {
-    match propose(alloc, map) {
-        Ok(cert) => audit_by(alloc, map, &cert),
-        Err(_) => Err(Stop::Memory),
-    }
-}
-
-/// Decides whether a map is sound by the certificate that is proposed for it.
-fn audit_by(alloc: Global, map: &Map, cert: &Certificate) -> Result<Audit, Stop>
-    requires proposed { IsProposal map.now cert.now }
-    ensures { Audits map.now result }
-{
-    match judge(alloc, map, cert) {
-        Ok(Ok(report)) => Ok(Audit::Sound(report)),
-        Ok(Err(fault)) => Ok(Audit::Fault(fault)),
-        Err(stop) => Err(stop),
+    let cert = propose(alloc, map)?;
+    match judge(alloc, map, &cert)? {
+        Ok(report) => Ok(Audit::Sound(report)),
+        Err(fault) => Ok(Audit::Fault(fault)),
     }
 }

@@ -32,25 +32,10 @@ pub fn audit_planar(alloc: Global, map: &Map, placed: bool) -> Result<Audit, Sto
     ensures { Audits map.now result }
 {
     map.has_proper_chains();
-    match propose_walks(alloc, map) {
-        Ok(walks) => audit_walks(alloc, map, &walks, placed),
-        Err(_) => Err(Stop::Memory),
-    }
-}
-
-/// The same by the map's walks.
-fn audit_walks(alloc: Global, map: &Map, walks: &[Vec<u32>], placed: bool) -> Result<Audit, Stop>
-    requires planar { IsPlanar map.now.chains }
-    requires proper { AreProper map.now.chains }
-    requires walks { AreWalks map.now.chains (lists_in walks.now) }
-    requires few { length walks.now < 2 ^ 32 }
-    requires placed { IsTrue placed → ArePlaced map.now }
-    ensures { Audits map.now result }
-{
-    match find_fault(alloc, map, walks, placed) {
-        Ok(None) => Ok(Audit::Sound(report(map, walks.len() as u32))),
-        Ok(Some(fault)) => Ok(Audit::Fault(fault)),
-        Err(_) => Err(Stop::Memory),
+    let walks = propose_walks(alloc, map)?;
+    match find_fault(alloc, map, &walks, placed)? {
+        None => Ok(Audit::Sound(report(map, walks.len() as u32))),
+        Some(fault) => Ok(Audit::Fault(fault)),
     }
 }
 
@@ -87,10 +72,9 @@ fn find_at_odds(alloc: Global, map: &Map, walks: &[Vec<u32>]) -> Result<Option<M
     requires walks { AreWalks map.now.chains (lists_in walks.now) }
     ensures { IfOk result (λ found. MatchOption found (SidesAgree map.now.chains × CellsAgree map.now.chains) (IsTrueOfMap false map.now)) }
 {
-    match find_cells_at_odds(alloc, map) {
-        Ok(Some(odds)) => Ok(Some(MapFault::Cell(odds))),
-        Ok(None) => Ok(find_sides_at_odds(map, walks)),
-        Err(_) => Err(Memory),
+    match find_cells_at_odds(alloc, map)? {
+        Some(odds) => Ok(Some(MapFault::Cell(odds))),
+        None => Ok(find_sides_at_odds(map, walks)),
     }
 }
 
@@ -102,14 +86,10 @@ pub fn build_planar(alloc: Global, map: &Map, placed: bool) -> Result<Built, Sto
     ensures { Builds map.now result }
 {
     map.has_proper_chains();
-    let cert = match propose(alloc, map) {
-        Ok(cert) => cert,
-        Err(_) => return Err(Stop::Memory),
-    };
-    match find_fault_beside(alloc, map, &cert, placed) {
-        Ok(None) => Ok(Built::Cert(cert)),
-        Ok(Some(fault)) => Ok(Built::Fault(fault)),
-        Err(_) => Err(Stop::Memory),
+    let cert = propose(alloc, map)?;
+    match find_fault_beside(alloc, map, &cert, placed)? {
+        None => Ok(Built::Cert(cert)),
+        Some(fault) => Ok(Built::Fault(fault)),
     }
 }
 

@@ -1,40 +1,39 @@
 //! The walks of a map that is sound.
 
-ghost use Rattle.std.specs.Prelude.{◌<◌, ◌^◌, length, map as map_list, IfOk, IfSome, MatchOption};
+ghost use Rattle.std.specs.Prelude.{◌<◌, ◌^◌, length, map as map_list, IfOk, IfErr, IfSome, MatchOption};
 ghost use Rattle.tl_sides.specs.Walks.{AreWalks};
 ghost use Rattle.tl_verdict.specs.Sound.{IsSound};
+ghost use Rattle.tl_build.specs.Auditing.{IsMemoryStop};
 
 use crate::answer::Audit;
 use crate::of_records::decide;
 use std::alloc::Global;
 use tl_county::Map;
-use tl_index::Memory;
+use tl_output::Stop;
 use tl_propose::propose_walks;
 
-/// The walks of a map that is sound; none of one that isn't. An error says that memory was refused.
-pub fn find_walks(alloc: Global, map: &Map) -> Result<Option<Vec<Vec<u32>>>, Memory>
+/// The walks of a map that is sound; none of one that isn't. It stops where memory was refused, and nowhere else.
+pub fn find_walks(alloc: Global, map: &Map) -> Result<Option<Vec<Vec<u32>>>, Stop>
     ensures sound { IfOk result (λ found. MatchOption found (¬ IsSound map.now) (λ walks. IsSound map.now)) }
     ensures walks { IfOk result (λ found. IfSome found (λ walks. AreWalks map.now.chains (map_list (λ w. w.items) walks.items))) }
     ensures counted { IfOk result (λ found. IfSome found (λ walks. length walks.items < 2 ^ 32)) }
+    ensures stops { IfErr result IsMemoryStop }
 {
-    match decide(alloc, map, false) {
-        Ok(Audit::Sound(_)) => walks_of(alloc, map),
-        Ok(Audit::Fault(_)) => Ok(None),
-        // It stops for memory alone.
-        Err(_) => Err(Memory),
+    match decide(alloc, map, false)? {
+        Audit::Sound(_) => walks_of(alloc, map),
+        Audit::Fault(_) => Ok(None),
     }
 }
 
 /// The walks of a sound map.
-fn walks_of(alloc: Global, map: &Map) -> Result<Option<Vec<Vec<u32>>>, Memory>
+fn walks_of(alloc: Global, map: &Map) -> Result<Option<Vec<Vec<u32>>>, Stop>
     requires { IsSound map.now }
     ensures sound { IfOk result (λ found. MatchOption found (¬ IsSound map.now) (λ walks. IsSound map.now)) }
     ensures walks { IfOk result (λ found. IfSome found (λ walks. AreWalks map.now.chains (map_list (λ w. w.items) walks.items))) }
     ensures counted { IfOk result (λ found. IfSome found (λ walks. length walks.items < 2 ^ 32)) }
+    ensures stops { IfErr result IsMemoryStop }
 {
     map.has_proper_chains();
-    match propose_walks(alloc, map) {
-        Ok(walks) => Ok(Some(walks)),
-        Err(_) => Err(Memory),
-    }
+    let walks = propose_walks(alloc, map)?;
+    Ok(Some(walks))
 }

@@ -1,5 +1,5 @@
 -- What an answer in which faces take part keeps of one in which they don't.
-use Rattle.std.proofs.Common.{◌≡◌, ◌≤◌, ℕ, Bool, IsTrue, false, Ok, Err, Option, Some, None, refl, sym, subst}
+use Rattle.std.proofs.Common.{◌≡◌, ℕ, Bool, IsTrue, false, Ok, Err, Option, Some, None, refl, sym, subst}
 use Rattle.std.specs.Prelude.{IfErr}
 use Rattle.tl_county.specs.TheMap.{TheMap}
 use Rattle.tl_verdict.specs.declared.fault.MapFault.{MapFault}
@@ -9,7 +9,7 @@ use Rattle.tl_verdict.specs.declared.verdict.Report.{Report}
 use Rattle.tl_verdict.specs.declared.verdict.Verdict.{Verdict}
 use Rattle.tl_verdict.specs.declared.verdict.Verdict.TheVariants as verdict
 use Rattle.tl_output.specs.declared.stop.Stop.{Stop}
-use Rattle.tl_output.specs.declared.stop.Stop.TheVariants.{Record, Memory, Device, Budget}
+use Rattle.tl_output.specs.declared.stop.Stop.TheVariants.{Memory}
 use Rattle.tl_verdict.specs.Sound.{IsSound, IsSoundFor}
 use Rattle.tl_verdict.specs.Truth.{IsTrueOfMap}
 use Rattle.tl_verdict.specs.Verdicts.{Answer, OnSound, OnSoundButFaces, IfSound, IfMapFault, IfCertFault, UnlessMeet, OnSearched}
@@ -21,7 +21,7 @@ use Rattle.tl_faces.specs.Faults.{IsTrueFaceFault}
 use Rattle.tl_verdict.proofs.Denials.{true_still}
 use Rattle.tl_verdict.proofs.Asked.{keeps, disagrees}
 use Rattle.tl_check.specs.Keeping.Faces.{IsOfFaces, IsFacing, IsWithFaces, verdict_of}
-use Rattle.tl_check.specs.Keeping.Read.{IsDecision, IsOfText}
+use Rattle.tl_check.specs.Keeping.Read.{IsDecision}
 
 -- what is so of another thing
 pub sound_so : (answer : Answer) (P Q : Type 0) → OnSound answer P → (P → Q) → OnSound answer Q

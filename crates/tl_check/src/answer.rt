@@ -1,13 +1,12 @@
 //! Answers.
 
 ghost use Rattle.std.specs.Prelude.{◌≡◌};
-ghost use Rattle.tl_check.specs.Keeping.Answers.{answer_of, stop_of, refusal_of};
+ghost use Rattle.tl_check.specs.Keeping.Answers.{answer_of, stop_of};
 
 use crate::state::Halt;
 use tl_cert::CertStop;
-use tl_drawn::MapStop;
 use tl_output::Stop;
-use tl_verdict::{Verdict, fault_of_records, fault_of_text};
+use tl_verdict::{Verdict, fault_of_text};
 
 /// The answer where no further part is looked at.
 pub fn answer(halt: Halt) -> Result<Verdict, Stop>
@@ -24,18 +23,5 @@ pub fn answer(halt: Halt) -> Result<Verdict, Stop>
 pub fn stopped(stop: CertStop) -> Result<Verdict, Stop>
     ensures { result ≡ stop_of stop }
 {
-    match fault_of_text(stop) {
-        Ok(fault) => Ok(Verdict::CertFault(fault)),
-        Err(stop) => Err(stop),
-    }
-}
-
-/// The answer where the records have no map.
-pub fn refused(stop: MapStop) -> Result<Verdict, Stop>
-    ensures { result ≡ refusal_of stop }
-{
-    match fault_of_records(stop) {
-        Ok(fault) => Ok(Verdict::MapFault(fault)),
-        Err(stop) => Err(stop),
-    }
+    Ok(Verdict::CertFault(fault_of_text(stop)?))
 }

@@ -193,10 +193,10 @@ fn take_part<'a>(
 {
     match part {
         CertPart::Round(darts) => Ok(take_round(map, state, &darts)),
-        CertPart::Walk(darts) => match end_rounds(alloc, map, state, &[]) {
-            Ok(ended) => take_walk(map, ended, &darts),
-            Err(halt) => Err(halt),
-        },
+        CertPart::Walk(darts) => {
+            let ended = end_rounds(alloc, map, state, &[])?;
+            take_walk(map, ended, &darts)
+        }
         CertPart::Counts(_, _) | CertPart::Tree(_) => unreachable!(),
     }
 }

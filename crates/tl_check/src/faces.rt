@@ -1,6 +1,6 @@
 //! Faces of maps that are found to be sound.
 
-ghost use Rattle.std.specs.Prelude.{Ok, ◌≡◌};
+ghost use Rattle.std.specs.Prelude.{◌≡◌};
 ghost use Rattle.tl_verdict.specs.Sound.{IsSound};
 ghost use Rattle.tl_verdict.specs.Verdicts.{OnSound};
 ghost use Rattle.tl_check.specs.Keeping.Faces.{IsFacing, IsWithFaces, verdict_of};
@@ -22,18 +22,7 @@ pub fn with_faces(
     requires { OnSound decided (IsSound map.now) }
     ensures { IsWithFaces faces map.now decided result }
 {
-    match decided {
-        Ok(verdict) => by_verdict(alloc, map, faces, verdict),
-        Err(stop) => Err(stop),
-    }
-}
-
-/// The same of a verdict.
-fn by_verdict(alloc: Global, map: &Map, faces: bool, verdict: Verdict) -> Result<Verdict, Stop>
-    requires { OnSound (Ok verdict) (IsSound map.now) }
-    ensures { IsWithFaces faces map.now (Ok verdict) result }
-{
-    match verdict {
+    match decided? {
         Verdict::Sound(report) => look_at_faces(alloc, map, faces, report),
         Verdict::MapFault(fault) => Ok(Verdict::MapFault(fault)),
         Verdict::CertFault(fault) => Ok(Verdict::CertFault(fault)),
@@ -50,10 +39,8 @@ fn look_at_faces(alloc: Global, map: &Map, faces: bool, report: Report) -> Resul
     }
     // so that a fault of faces denies that they are true
     map.has_proper_chains();
-    match find_face_fault(alloc, map) {
-        Ok(found) => Ok(by_faces(report, found)),
-        Err(_) => Err(Stop::Memory),
-    }
+    let found = find_face_fault(alloc, map)?;
+    Ok(by_faces(report, found))
 }
 
 /// What is decided of a sound map by the faces that were found to disagree, if any were.

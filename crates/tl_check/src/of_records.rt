@@ -13,7 +13,6 @@ ghost use Rattle.tl_verdict.specs.Texts.{IsTrueOfText, IsValidText, TextAllowsSe
 ghost use Rattle.tl_verdict.specs.Records.{HaveMap, IsTrueOfRecords, MayStopOn, TellsEither, LeavesUnread};
 ghost use Rattle.tl_check.specs.Keeping.Read.{IsOfRead};
 
-use crate::answer::refused;
 use crate::as_read::decide;
 use std::alloc::Global;
 use std::hash::RandomState;
@@ -21,7 +20,7 @@ use tl_county::Map;
 use tl_map::{MapStop, read_map_with};
 use tl_output::Stop;
 use tl_record::{Options, PLAIN, Source};
-use tl_verdict::Verdict;
+use tl_verdict::{Verdict, fault_of_records};
 
 /// Decides whether the map of a county is sound, from the text of its record files and the text of a certificate.
 ///
@@ -141,6 +140,6 @@ fn check_read<S: Source>(
 {
     match read {
         Ok(map) => decide(alloc, &map, cert, budget, faces),
-        Err(stop) => refused(stop),
+        Err(stop) => Ok(Verdict::MapFault(fault_of_records(stop)?)),
     }
 }

@@ -1,11 +1,10 @@
 //! The points of polygons.
 
-ghost use Rattle.std.specs.Prelude.{◌<◌, ◌^◌, length, OnOk, IfOk, IfErr, MatchOption};
-ghost use Rattle.tl_county.specs.TheMap.{TheMap};
+ghost use Rattle.std.specs.Prelude.{◌<◌, ◌^◌, length, OnOk, IfErr};
 ghost use Rattle.tl_index.specs.Preorder.{IsPreorder};
 ghost use Rattle.tl_sides.specs.Sides.{SidesAgree};
 ghost use Rattle.tl_sides.specs.Walks.{AreWalks};
-ghost use Rattle.tl_inside.specs.Placed.{ArePlaced, IsTrueMisplaced};
+ghost use Rattle.tl_inside.specs.Placed.{ArePlaced};
 ghost use Rattle.tl_rings.specs.Rings.{AreBoxed};
 ghost use Rattle.tl_verdict.specs.Valid.{IsTree};
 ghost use Rattle.tl_check.specs.Keeping.Parts.{MayEnd};
@@ -13,8 +12,7 @@ ghost use Rattle.tl_check.specs.Keeping.Parts.{MayEnd};
 use crate::state::Halt;
 use std::alloc::Global;
 use tl_county::Map;
-use tl_index::{Memory, TreeNode, TreeStop};
-use tl_inside::Misplaced;
+use tl_index::{TreeNode, TreeStop};
 use tl_rings::{Rings, find_misplaced};
 use tl_tree::FlatTree;
 use tl_verdict::MapFault;
@@ -41,17 +39,8 @@ pub fn look_at_points(
         Err(TreeStop::Memory) => return Err(Halt::Memory),
         Err(TreeStop::TooDeep) => unreachable!(),
     };
-    answer_of_points(find_misplaced(alloc, map, &tree, rings))
-}
-
-// What the answer on the points of polygons means for the check.
-fn answer_of_points(found: Result<Option<Misplaced>, Memory>) -> Result<(), Halt>
-    ensures placed { OnOk result ((m : TheMap) → IfOk found (λ at. MatchOption at (ArePlaced m) (IsTrueMisplaced m)) → ArePlaced m) }
-    ensures halts { IfErr result (λ halt. (m : TheMap) → IfOk found (λ at. MatchOption at (ArePlaced m) (IsTrueMisplaced m)) → MayEnd m halt) }
-{
-    match found {
-        Ok(None) => Ok(()),
-        Ok(Some(fault)) => Err(Halt::Fault(MapFault::PolygonPoint(fault))),
-        Err(_) => Err(Halt::Memory),
+    match find_misplaced(alloc, map, &tree, rings)? {
+        None => Ok(()),
+        Some(fault) => Err(Halt::Fault(MapFault::PolygonPoint(fault))),
     }
 }

@@ -68,11 +68,7 @@ fn begin_walks<'a>(
             }));
         }
     }
-    let Ok(walks) = Walks::new(alloc, map, next) else {
-        return Err(Halt::Memory);
-    };
-    match Rings::new(alloc, map.darts(), lent) {
-        Ok(rings) => Ok(State::Walking(walks, rings)),
-        Err(_) => Err(Halt::Memory),
-    }
+    let walks = Walks::new(alloc, map, next)?;
+    let rings = Rings::new(alloc, map.darts(), lent)?;
+    Ok(State::Walking(walks, rings))
 }

@@ -1,5 +1,9 @@
 //! What the checker keeps of a certificate's parts.
 
+ghost use Rattle.std.specs.Prelude.{◌≡◌};
+ghost use Rattle.tl_check.specs.declared.state.Halt.TheVariants.{Memory as MemoryHalt};
+
+use tl_index::Memory;
 use tl_rings::Rings;
 use tl_sides::{RoundFault, Rounds, Walks};
 use tl_verdict::{CertFault, MapFault};
@@ -26,4 +30,12 @@ pub enum Halt {
     Memory,
     /// More pairs of segments than the budget have rectangles that meet, and as many of these as the budget don't conflict.
     Budget,
+}
+
+impl From<Memory> for Halt {
+    ghost from_gives = { λ _ halt. halt ≡ MemoryHalt };
+
+    fn from(_error: Memory) -> Halt {
+        Halt::Memory
+    }
 }

@@ -42,18 +42,17 @@ fn search_by<'a>(alloc: Global, map: &Map, tree: &FlatTree, budget: u64) -> Resu
     requires shallow { depth (tree_of tree.now) ≤ 64 }
     ensures { LeadsBehindTree map.now budget (IsTree map.now tree.now) (λ c. AreCounts map.now c.counts) tree.now result }
 {
-    match tree.check(alloc, &Segments::new(map)) {
-        Ok(None) => {}
-        Ok(Some(fault)) => return Ok(State::Wrong(CertFault::Tree(fault))),
-        Err(_) => return Err(Halt::Memory),
+    match tree.check(alloc, &Segments::new(map))? {
+        Some(fault) => return Ok(State::Wrong(CertFault::Tree(fault))),
+        None => {}
     }
     match first_meet(map, tree, budget) {
         Meeting::Found(meet) => Err(Halt::Fault(MapFault::Meet(meet))),
         Meeting::Budget => Err(Halt::Budget),
-        Meeting::Clear => match begin_rounds(alloc, map) {
-            Ok(rounds) => Ok(State::Rounding(rounds)),
-            Err(halt) => Err(halt),
-        },
+        Meeting::Clear => {
+            let rounds = begin_rounds(alloc, map)?;
+            Ok(State::Rounding(rounds))
+        }
     }
 }
 
@@ -64,13 +63,9 @@ fn begin_rounds(alloc: Global, map: &Map) -> Result<Rounds, Halt>
     ensures none { IfOk result (HaveTaken map.now.chains []) }
     ensures halts { IfErr result (MayEnd map.now) }
 {
-    match find_cells_at_odds(alloc, map) {
-        Ok(None) => {}
-        Ok(Some(odds)) => return Err(Halt::Fault(MapFault::Cell(odds))),
-        Err(_) => return Err(Halt::Memory),
+    match find_cells_at_odds(alloc, map)? {
+        Some(odds) => return Err(Halt::Fault(MapFault::Cell(odds))),
+        None => {}
     }
-    match Rounds::new(alloc, map) {
-        Ok(rounds) => Ok(rounds),
-        Err(_) => Err(Halt::Memory),
-    }
+    Ok(Rounds::new(alloc, map)?)
 }

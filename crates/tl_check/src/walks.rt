@@ -26,10 +26,10 @@ pub fn take_walk<'a>(map: &Map, state: State<'a>, walk: &[u32]) -> Result<State<
 {
     match state {
         State::Walking(mut walks, mut rings) => match walks.take(map, walk) {
-            Ok(()) => match rings.push(map, walk) {
-                Ok(()) => Ok(State::Walking(walks, rings)),
-                Err(_) => Err(Halt::Memory),
-            },
+            Ok(()) => {
+                rings.push(map, walk)?;
+                Ok(State::Walking(walks, rings))
+            }
             Err(fault) => Ok(State::Wrong(CertFault::Walk(fault))),
         },
         faulty => Ok(faulty),

@@ -10,7 +10,6 @@ use Rattle.tl_output.specs.Writing.{Writes, FailsToWrite, CountsFailure, TriesTo
 use Rattle.tl_plan.specs.declared.plan.View.{View}
 use Rattle.tl_output.specs.declared.stop.Stop.{Stop}
 use Rattle.tl_output.specs.declared.stop.Stop.TheVariants.{Record, Memory, Device, Budget}
-use Rattle.tl_verdict.specs.Stops.{unmapped}
 use Rattle.tl_answers.specs.declared.stop.TheConstants.{DONE, STOPPED, USAGE}
 use Rattle.tl_answers.specs.Running.{IsTold, NamesStop, NamesRecordFault}
 use Rattle.tl_answers.proofs.ToldLemmas.{line_stops}
@@ -19,9 +18,9 @@ use Rattle.tl_output.specs.Stops.{StopsFor}
 use Rattle.tl_making.specs.Files.{StandsUnder, KeepsBut, KeepsEach}
 use Rattle.tl_svg.specs.Texts.{picture_text}
 use Rattle.tl_draw.specs.declared.subject.Subject.{Subject}
-use Rattle.tl_drawn.specs.declared.fault.MapStop.{MapStop}
-use Rattle.tl_drawn.specs.declared.fault.MapStop.TheVariants as unread
-use Rattle.tl_draw.specs.Subjects.{IsReadSubject}
+use Rattle.tl_verdict.specs.declared.fault.MapFault.{MapFault}
+use Rattle.tl_verdict.specs.declared.fault.MapFault.TheVariants.{Records, Meet, Side, PolygonPoint, Cell, Face}
+use Rattle.tl_draw.specs.Subjects.{IsUnread, IsReadSubject}
 use Rattle.tl_draw.specs.Drawing.{Draws, IsDrawn, TellsUnread, TellsDrawn, TellsWritten, drawn_text, shown_count, picture_by}
 use Rattle.tl_svg.specs.Pictures.{chain_count, fault_count}
 use Rattle.tl_answers.specs.Lines.{IsLine}
@@ -69,8 +68,8 @@ module _ (options : Options) (known : Option (List ℕ)) (made : List ℕ) (view
   }
 
   -- there is no map, and it was told why
-  pub draws_unread : (stop : MapStop) → IsReadSubject options known shows failed (Err stop) → TellsUnread (unmapped stop) status wrote told part out_same err_same → KeepsEach before after made → IsIt
-  draws_unread (unread.Fault fault) holds (inl is) keeps = record {
+  pub draws_unread : (why : Result MapFault Stop) → IsUnread (layout_with options) known failed why → TellsUnread why status wrote told part out_same err_same → KeepsEach before after made → IsIt
+  draws_unread (Ok (Records fault)) holds (inl is) keeps = record {
     is_status = inl (inr is.0);
     drawn = λ e. absurd (cc (sym is.0 ∙ e));
     fault = λ e. record { fault = fault; written = is.1; is = tt; holds = holds };
@@ -81,9 +80,9 @@ module _ (options : Options) (known : Option (List ℕ)) (made : List ℕ) (view
     others = λ name other differs. keeps name differs;
     unmade = λ e. inl keeps;
   }
-  draws_unread (unread.Fault fault) holds (inr is) keeps =
+  draws_unread (Ok (Records fault)) holds (inr is) keeps =
       stopped_so is.0 (line_stops told failed ⊤ out_same _ _ tt (λ more. inr (record { fault = fault; written = more; is = tt; holds = holds })) is.1) keeps
-  draws_unread (unread.Refused line cause) first is keeps = record {
+  draws_unread (Err (Record line cause)) first is keeps = record {
     is_status = inr (inl is.0.0);
     drawn = λ e. absurd (cc (sym is.0.0 ∙ e));
     fault = λ e. absurd (cc (sym is.0.0 ∙ e));
@@ -94,11 +93,17 @@ module _ (options : Options) (known : Option (List ℕ)) (made : List ℕ) (view
     others = λ name other differs. keeps name differs;
     unmade = λ e. inl keeps;
   }
-  draws_unread unread.Memory read_so is keeps = stopped_so is.0.0 (inl (is.0.1, tt, is.1)) keeps
-  draws_unread unread.Device fails is keeps = stopped_so is.0.0 (inr (is.0.1, inl (fails, is.1))) keeps
+  draws_unread (Err Memory) read_so is keeps = stopped_so is.0.0 (inl (is.0.1, tt, is.1)) keeps
+  draws_unread (Err Device) fails is keeps = stopped_so is.0.0 (inr (is.0.1, inl (fails, is.1))) keeps
+  draws_unread (Err Budget) never is keeps = absurd never
+  draws_unread (Ok (Meet meet)) never is keeps = absurd never
+  draws_unread (Ok (Side node first next)) never is keeps = absurd never
+  draws_unread (Ok (PolygonPoint misplaced)) never is keeps = absurd never
+  draws_unread (Ok (Cell odds)) never is keeps = absurd never
+  draws_unread (Ok (Face fault)) never is keeps = absurd never
 
   -- the picture stands, and it was told
-  pub draws_told : (subject : Subject) → IsReadSubject options known shows ⊥ (Ok subject) → StandsUnder after made (picture_text subject.map (picture_by view subject.map) subject.faults.items)
+  pub draws_told : (subject : Subject) → IsReadSubject options known shows ⊥ (Ok (Ok subject)) → StandsUnder after made (picture_text subject.map (picture_by view subject.map) subject.faults.items)
       → KeepsBut before after made → TellsDrawn (picture_by view subject.map) shows subject status wrote told part out_same err_same → IsIt
   draws_told subject right stands others (inl is) = record {
     is_status = inl (inl is.0);
@@ -125,20 +130,13 @@ module _ (options : Options) (known : Option (List ℕ)) (made : List ℕ) (view
   }
 
   -- the picture was written whole and stands, or it wasn't
-  pub draws_written : (whole : Bool) (subject : Subject) (picture : Picture) → picture ≡ picture_by view subject.map → IsReadSubject options known shows ⊥ (Ok subject)
+  pub draws_written : (whole : Bool) (subject : Subject) (picture : Picture) → picture ≡ picture_by view subject.map → IsReadSubject options known shows ⊥ (Ok (Ok subject))
       → (whole ≡ true → StandsUnder after made (picture_text subject.map picture subject.faults.items)) → KeepsBut before after made → (whole ≡ false → KeepsEach before after made)
       → (whole ≡ false → failed) → TellsWritten whole picture shows subject status wrote told part out_same err_same → IsIt
   draws_written true subject picture is right stands others keeps fails tells =
       draws_told subject right (subst (λ p. StandsUnder after made (picture_text subject.map p subject.faults.items)) is (stands refl)) others
       (subst (λ p. TellsDrawn p shows subject status wrote told part out_same err_same) is tells)
   draws_written false subject picture is right stands others keeps fails tells = draws_stopped Device (fails refl) tells.0 tells.1 (keeps refl)
-
-pub unread_for : (options : Options) (known : Option (List ℕ)) (shows : Bool) (failed other : Type 0) (stop : MapStop) → (failed → other) → IsReadSubject options known shows failed (Err stop)
-    → IsReadSubject options known shows other (Err stop)
-unread_for options known shows failed other (unread.Fault fault) wider is = is
-unread_for options known shows failed other (unread.Refused line cause) wider is = is
-unread_for options known shows failed other unread.Memory wider is = is
-unread_for options known shows failed other unread.Device wider is = wider is
 
 -- ---- the picture in its file
 

@@ -1,8 +1,8 @@
 -- Kept on the way: what of a listing is drawn or told. No public contract cites this file.
-use Rattle.std.specs.Prelude.{List, [], ◌∷◌}
+use Rattle.std.specs.Prelude.{List, [], ◌∷◌, Result, Ok, Err}
 use Rattle.tl_record.specs.declared.refusal.Refusal.{Refusal}
-use Rattle.tl_drawn.specs.declared.fault.MapStop.{MapStop}
-use Rattle.tl_drawn.specs.declared.fault.MapStop.TheVariants as stop
+use Rattle.tl_output.specs.declared.stop.Stop.{Stop}
+use Rattle.tl_output.specs.declared.stop.Stop.TheVariants as stop
 use Rattle.tl_verdict.specs.declared.fault.MapFault.{MapFault}
 use Rattle.tl_verdict.specs.declared.fault.MapFault.TheVariants.{Records, Meet, Side, PolygonPoint, Cell, Face}
 use Rattle.tl_listing.specs.declared.listing.Listing.{Listing}
@@ -15,26 +15,22 @@ listed_faults (Refused list) = []
 listed_faults (Faults faults points_left) = faults.items
 
 -- the first of refusals
-abbrev pub first_refused : List Refusal → MapStop
+abbrev pub first_refused : List Refusal → Stop
 first_refused [] = stop.Memory
-first_refused (refusal ∷ rest) = stop.Refused refusal.line refusal.cause
+first_refused (refusal ∷ rest) = stop.Record refusal.line refusal.cause
 
--- the fault of records, where it's one
-abbrev pub fault_alone : MapFault → MapStop
-fault_alone (Records fault) = stop.Fault fault
-fault_alone (Meet meet) = stop.Memory
-fault_alone (Side node first next) = stop.Memory
-fault_alone (PolygonPoint misplaced) = stop.Memory
-fault_alone (Cell odds) = stop.Memory
-fault_alone (Face fault) = stop.Memory
-
--- the first of faults
-abbrev pub first_fault : List MapFault → MapStop
-first_fault [] = stop.Memory
-first_fault (fault ∷ rest) = fault_alone fault
+-- the first of faults, where it's one of records
+abbrev pub first_fault : List MapFault → Result MapFault Stop
+first_fault [] = Err stop.Memory
+first_fault (Records fault ∷ rest) = Ok (Records fault)
+first_fault (Meet meet ∷ rest) = Err stop.Memory
+first_fault (Side node first next ∷ rest) = Err stop.Memory
+first_fault (PolygonPoint misplaced ∷ rest) = Err stop.Memory
+first_fault (Cell odds ∷ rest) = Err stop.Memory
+first_fault (Face fault ∷ rest) = Err stop.Memory
 
 -- the first of what is listed of records that have no map. Of a text that is known there is one
-abbrev pub first_listed : Listing → MapStop
-first_listed (Sound report) = stop.Memory
-first_listed (Refused list) = first_refused list.items
+abbrev pub first_listed : Listing → Result MapFault Stop
+first_listed (Sound report) = Err stop.Memory
+first_listed (Refused list) = Err (first_refused list.items)
 first_listed (Faults faults points_left) = first_fault faults.items

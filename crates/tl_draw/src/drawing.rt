@@ -6,10 +6,9 @@ ghost use Rattle.tl_text.specs.Joining.{joined_bytes};
 ghost use Rattle.tl_output.specs.Writing.{Writes, WritesSome, FailsToWrite};
 ghost use Rattle.tl_files.specs.Files.{bytes_under};
 ghost use Rattle.tl_answers.specs.Running.{TriesToWrite};
-ghost use Rattle.tl_verdict.specs.Stops.{unmapped};
 ghost use Rattle.tl_svg.specs.Texts.{picture_text};
 ghost use Rattle.tl_draw.specs.Subjects.{IsReadSubject};
-ghost use Rattle.tl_draw.specs.Drawing.{Draws, TellsUnread, TellsDrawn, TellsWritten, picture_by, DrawFails};
+ghost use Rattle.tl_draw.specs.Drawing.{Draws, TellsDrawn, TellsWritten, picture_by, DrawFails};
 ghost use Rattle.tl_making.specs.Files.{ReadsFail};
 
 use crate::subject::{Subject, read_subject};
@@ -22,12 +21,11 @@ use tl_county::Map;
 use tl_files::{FileKind, FileSystem, Room};
 use tl_making::new_file::{IS_READ, room_for, say_refusal, settle, taken_line};
 use tl_making::opening::{as_one_text, give_back, open_all, room_for_bytes};
-use tl_map::MapStop;
 use tl_output::Stop;
 use tl_plan::View;
 use tl_record::{Options, Sink};
 use tl_svg::{Frame, Picture, chain_count, fault_count, picture_of, print_picture};
-use tl_verdict::fault_of_records;
+use tl_verdict::MapFault;
 
 /// Draws the map of the records of these files, fitted to it or the place that is given, into a new file of the name `made`,
 /// and tells how much the picture shows; gives the program's exit status. The file takes its name when it is whole.
@@ -53,7 +51,7 @@ pub fn open_and_draw<F: FileSystem, W: Sink, E: Sink>(
     match room_for(&*files, made, names, FileKind::Picture) {
         Ok(Room::Free) => {
             match read_files(&*files, alloc, hasher, names, shows_faults, options) {
-                Ok(subject) => draw_into(
+                Ok(Ok(subject)) => draw_into(
                     files,
                     alloc,
                     made,
@@ -63,7 +61,8 @@ pub fn open_and_draw<F: FileSystem, W: Sink, E: Sink>(
                     out,
                     err,
                 ),
-                Err(unread) => write_unread(unread, out, err),
+                Ok(Err(fault)) => write_line(&fault, MAP_FAULT, out, err),
+                Err(stop) => stopped(&stop, err),
             }
         }
         Ok(Room::Taken) => say_refusal(taken_line(FileKind::Picture), err),
@@ -80,35 +79,16 @@ fn read_files<F: FileSystem>(
     names: &[String],
     shows_faults: bool,
     options: Options,
-) -> Result<Subject, MapStop>
+) -> Result<Result<Subject, MapFault>, Stop>
     ensures { IsReadSubject options (joined_bytes (bytes_under (F.under files.now)) false (map string_bytes names.now))
         shows_faults (ReadsFail F.Reader.failure_count (F.under files.now) (map string_bytes names.now)) result }
 {
-    let Ok(room) = room_for_bytes(alloc) else {
-        return Err(MapStop::Memory);
-    };
-    let mut readers = match open_all(files, alloc, names) {
-        Ok(readers) => readers,
-        Err(Stop::Device) => return Err(MapStop::Device),
-        // Else memory was refused.
-        Err(_) => return Err(MapStop::Memory),
-    };
+    let room = room_for_bytes(alloc)?;
+    let mut readers = open_all(files, alloc, names)?;
     let mut records = as_one_text(alloc, &mut readers, room);
     let subject = read_subject(alloc, hasher, &mut records, shows_faults, options);
     give_back(records, &mut readers);
     subject
-}
-
-// Tells why nothing is drawn.
-fn write_unread<W: Sink, E: Sink>(unread: MapStop, out: &mut W, err: &mut E) -> u8
-    ensures { TellsUnread (unmapped unread) result (Writes W.contents W.failure_count out.old out.new)
-        (TriesToWrite E.contents E.failure_count err.old err.new) (WritesSome W.contents W.failure_count out.old out.new)
-        (out.new ≡ out.old) (err.new ≡ err.old) }
-{
-    match fault_of_records(unread) {
-        Ok(fault) => write_line(&fault, MAP_FAULT, out, err),
-        Err(stop) => stopped(&stop, err),
-    }
 }
 
 // Draws a map with its faults into a new file, which takes its name when it is whole.
@@ -123,7 +103,7 @@ fn draw_into<F: FileSystem, W: Sink, E: Sink>(
     err: &mut E,
 ) -> u8
     ensures { (options : Options) (known : Option (List ℕ)) (read : List (List ℕ)) →
-        IsReadSubject options known shows_faults ⊥ (Ok subject.now) →
+        IsReadSubject options known shows_faults ⊥ (Ok (Ok subject.now)) →
         Draws options known (string_bytes made.now) view shows_faults read result
         (F.under files.old) (F.under files.new) (Writes W.contents W.failure_count out.old out.new)
         (TriesToWrite E.contents E.failure_count err.old err.new) (WritesSome W.contents W.failure_count out.old out.new)

@@ -2,6 +2,7 @@
 use Rattle.std.proofs.Common.{◌≡◌, inl, inr, ℕ, Bool, List, Option, None, Result, Ok, Err, refl, sym, subst, ◌∙◌}
 use Rattle.std.specs.Prelude.{⊤}
 use Rattle.std.specs.Option.{IfSome}
+use Rattle.std.specs.Result.{IsErrAnd}
 use Rattle.tl_record.specs.declared.layout.Layout.{Layout}
 use Rattle.tl_record.specs.Records.{records_of}
 use Rattle.tl_county.specs.TheMap.{TheMap}
@@ -17,18 +18,21 @@ use Rattle.tl_output.specs.declared.stop.Stop.TheVariants.{Record, Memory, Devic
 use Rattle.tl_answers.specs.declared.stop.TheConstants.{USAGE}
 use Rattle.tl_answers.proofs.ToldLemmas.{line_stops}
 use Rattle.tl_files.specs.declared.beginning.FileKind.TheVariants.{Collection}
-use Rattle.tl_making.specs.Opening.{RefusesName}
+use Rattle.tl_making.specs.Opening.{RefusesName, StopsOpeningAll}
 use Rattle.tl_output.specs.Stops.{StopsFor}
 use Rattle.tl_export.specs.declared.exported.Exported.{Exported}
 use Rattle.tl_export.specs.declared.exporting.Exporting.{Exporting}
 use Rattle.tl_export.specs.declared.exporting.Exporting.TheVariants.{Made, Fault}
 use Rattle.tl_export.specs.Told.{exported_text}
 use Rattle.tl_making.specs.Files.{DrawsMap}
+use Rattle.tl_making.proofs.Stopped.{stopped_by}
+use Rattle.tl_verdict.specs.declared.fault.MapFault.{MapFault}
+use Rattle.tl_build.specs.Auditing.{IsMemoryStop}
 use Rattle.tl_export.specs.Exports.{SomeFileFails, Exports, ExportsMap, made_by, unexported_by}
 use Rattle.tl_export.specs.Answering.{TellsExport, ExportsOver, records_of_files}
 
 -- what is exported of the records' map
-pub exports_of_map : (layout : Layout) (known : Option (List ℕ)) (before after : Under) (name : List ℕ) (file_failed failed : Type 0) (m : TheMap) (result : Result Exported Stop) → (file_failed → failed)
+exports_of_map : (layout : Layout) (known : Option (List ℕ)) (before after : Under) (name : List ℕ) (file_failed failed : Type 0) (m : TheMap) (result : Result Exported Stop) → (file_failed → failed)
     → IfSome known (λ text. IsReadFrom (records_of layout text) m) → ExportsMap m before after name file_failed result → Exports layout known before after name failed (made_by result)
 exports_of_map layout known before after name file_failed failed m (Ok exported) weaker drawn exports = (exports.0, (m, drawn, exports.1))
 exports_of_map layout known before after name file_failed failed m (Err (Record line cause)) weaker drawn exports = absurd exports.1
@@ -37,7 +41,7 @@ exports_of_map layout known before after name file_failed failed m (Err Device) 
 exports_of_map layout known before after name file_failed failed m (Err Budget) weaker drawn exports = absurd exports.1
 
 -- records that have no map
-pub exports_none : (layout : Layout) (known : Option (List ℕ)) (before : Under) (name : List ℕ) (read_failed failed : Type 0) (stop : MapStop) → (read_failed → failed) → DrawsMap layout known read_failed (Err stop)
+exports_none : (layout : Layout) (known : Option (List ℕ)) (before : Under) (name : List ℕ) (read_failed failed : Type 0) (stop : MapStop) → (read_failed → failed) → DrawsMap layout known read_failed (Err stop)
     → Exports layout known before before name failed (unexported_by (unmapped stop))
 exports_none layout known before name read_failed failed (map_stop.Fault fault) weaker draws = ((λ other b. refl), (fault, refl, draws))
 exports_none layout known before name read_failed failed (map_stop.Refused line cause) weaker draws = ((λ other b. refl), draws)
@@ -166,3 +170,49 @@ stops_asking layout known reads writes knows before name read (Record line cause
 stops_asking layout known reads writes knows before name read Memory stops = ((λ other b. refl), tt)
 stops_asking layout known reads writes knows before name read Device stops = ((λ other b. refl), inl (name, inr refl, stops))
 stops_asking layout known reads writes knows before name read Budget stops = absurd stops
+
+-- files that can't be opened
+exports_unopened : {R D : Type 0} (layout : Layout) (known : Option (List ℕ)) (reads : R → ℕ) (writes : D → ℕ) (knows : Bool) (before : Under) (name : List ℕ) (read : List (List ℕ)) (stop : Stop)
+    → StopsOpeningAll before read stop → Exports layout known before before name (SomeFileFails reads writes knows before name read) (Err stop)
+exports_unopened layout known reads writes knows before name read (Record line cause) stops = absurd stops
+exports_unopened layout known reads writes knows before name read Memory stops = ((λ other b. refl), tt)
+exports_unopened layout known reads writes knows before name read Device stops = ((λ other b. refl), inl (stops.0, inl stops.1, stops.2))
+exports_unopened layout known reads writes knows before name read Budget stops = absurd stops
+
+-- nothing is made of a map for want of memory
+pub exports_no_memory : (m : TheMap) (before : Under) (name : List ℕ) (failed : Type 0) (stop : Stop) → IsMemoryStop stop → ExportsMap m before before name failed (Err stop)
+exports_no_memory m before name failed (Record line cause) is = absurd is
+exports_no_memory m before name failed Memory is = ((λ other b. refl), tt)
+exports_no_memory m before name failed Device is = absurd is
+exports_no_memory m before name failed Budget is = absurd is
+
+-- ---- what comes of exporting, by what comes of its parts
+
+pub export_made : (layout : Layout) (known : Option (List ℕ)) (before after : Under) (name : List ℕ) (file_failed failed : Type 0) (m : TheMap) (r : Result Exported Stop) (exported : Exported) → r ≡ Ok exported → (file_failed → failed)
+    → IfSome known (λ text. IsReadFrom (records_of layout text) m) → ExportsMap m before after name file_failed r → Exports layout known before after name failed (Ok (Made exported))
+export_made layout known before after name file_failed failed m r exported is weaker drawn exports =
+    subst (λ x. Exports layout known before after name failed (made_by x)) is (exports_of_map layout known before after name file_failed failed m r weaker drawn exports)
+
+pub export_not_made : (layout : Layout) (known : Option (List ℕ)) (before after : Under) (name : List ℕ) (file_failed failed : Type 0) (m : TheMap) (r : Result Exported Stop) (result : Result Exporting Stop) (told : Stop)
+    → IsErrAnd result (λ s. s ≡ told) → r ≡ Err told → (file_failed → failed) → IfSome known (λ text. IsReadFrom (records_of layout text) m) → ExportsMap m before after name file_failed r
+    → Exports layout known before after name failed result
+export_not_made layout known before after name file_failed failed m r result told stops is weaker drawn exports =
+    stopped_by result told (Exports layout known before after name failed) stops
+    (subst (λ x. Exports layout known before after name failed (made_by x)) is (exports_of_map layout known before after name file_failed failed m r weaker drawn exports))
+
+pub export_faulty : (layout : Layout) (known : Option (List ℕ)) (before : Under) (name : List ℕ) (read_failed failed : Type 0) (stop : MapStop) (fault : MapFault) → unmapped stop ≡ Ok fault → (read_failed → failed)
+    → DrawsMap layout known read_failed (Err stop) → Exports layout known before before name failed (Ok (Fault fault))
+export_faulty layout known before name read_failed failed stop fault is weaker draws =
+    subst (λ x. Exports layout known before before name failed (unexported_by x)) is (exports_none layout known before name read_failed failed stop weaker draws)
+
+pub export_unread : (layout : Layout) (known : Option (List ℕ)) (before : Under) (name : List ℕ) (read_failed failed : Type 0) (stop : MapStop) (result : Result Exporting Stop) (told : Stop) → IsErrAnd result (λ s. s ≡ told)
+    → unmapped stop ≡ Err told → (read_failed → failed) → DrawsMap layout known read_failed (Err stop) → Exports layout known before before name failed result
+export_unread layout known before name read_failed failed stop result told stops is weaker draws =
+    stopped_by result told (Exports layout known before before name failed) stops
+    (subst (λ x. Exports layout known before before name failed (unexported_by x)) is (exports_none layout known before name read_failed failed stop weaker draws))
+
+pub export_unopened : {R D : Type 0} (layout : Layout) (known : Option (List ℕ)) (reads : R → ℕ) (writes : D → ℕ) (knows : Bool) (before : Under) (name : List ℕ) (read : List (List ℕ)) (result : Result Exporting Stop) (told : Stop)
+    → IsErrAnd result (λ s. s ≡ told) → StopsOpeningAll before read told → Exports layout known before before name (SomeFileFails reads writes knows before name read) result
+export_unopened layout known reads writes knows before name read result told stops opening =
+    stopped_by result told (Exports layout known before before name (SomeFileFails reads writes knows before name read)) stops
+    (exports_unopened layout known reads writes knows before name read told opening)

@@ -5,9 +5,8 @@ ghost use Rattle.tl_record.specs.Layout.{layout_with};
 ghost use Rattle.tl_text.specs.Joining.{joined_bytes};
 ghost use Rattle.tl_files.specs.Files.{bytes_under};
 ghost use Rattle.tl_verdict.specs.Sound.{IsSound};
-ghost use Rattle.tl_verdict.specs.Stops.{unmapped};
 ghost use Rattle.tl_sides.specs.Walks.{AreWalks};
-ghost use Rattle.tl_export.specs.Exports.{Exports, ExportsMap, SomeFileFails, made_by, unexported_by};
+ghost use Rattle.tl_export.specs.Exports.{Exports, ExportsMap, SomeFileFails};
 ghost use Rattle.tl_making.specs.Files.{NewFileFails};
 
 use crate::exported::Exported;
@@ -21,7 +20,6 @@ use tl_files::{FileKind, FileSystem};
 use tl_geojson::{CountyText, CountyTextWith};
 use tl_making::county::read_county;
 use tl_making::opening::open_all;
-use tl_map::MapStop;
 use tl_output::Stop;
 use tl_record::Options;
 use tl_verdict::fault_of_records;
@@ -42,33 +40,10 @@ pub fn export<F: FileSystem>(
         (SomeFileFails F.Reader.failure_count F.Draft.failure_count F.knows (F.under files.old) (string_bytes made.now)
         (map_list string_bytes names.now)) result }
 {
-    let mut readers = match open_all(&*files, alloc, names) {
-        Ok(readers) => readers,
-        Err(stop) => return Err(stop),
-    };
+    let mut readers = open_all(&*files, alloc, names)?;
     match read_county(alloc, hasher, &mut readers, options) {
-        Ok(map) => made_of(export_map(files, alloc, made, &map)),
-        Err(stop) => unexported(stop),
-    }
-}
-
-// What comes of it where a map was exported, or wasn't.
-fn made_of(exported: Result<Exported, Stop>) -> Result<Exporting, Stop>
-    ensures { result ≡ made_by exported }
-{
-    match exported {
-        Ok(exported) => Ok(Exporting::Made(exported)),
-        Err(stop) => Err(stop),
-    }
-}
-
-// What comes of it where the records have no map.
-fn unexported(stop: MapStop) -> Result<Exporting, Stop>
-    ensures { result ≡ unexported_by (unmapped stop) }
-{
-    match fault_of_records(stop) {
-        Ok(fault) => Ok(Exporting::Fault(fault)),
-        Err(stop) => Err(stop),
+        Ok(map) => Ok(Exporting::Made(export_map(files, alloc, made, &map)?)),
+        Err(stop) => Ok(Exporting::Fault(fault_of_records(stop)?)),
     }
 }
 
@@ -82,10 +57,9 @@ fn export_map<F: FileSystem>(
     ensures { ExportsMap map.now (F.under files.old) (F.under files.new) (string_bytes made.now)
         (NewFileFails F.Draft.failure_count F.knows) result }
 {
-    match find_walks(alloc, map) {
-        Ok(Some(walks)) => export_sound(files, alloc, made, map, &walks),
-        Ok(None) => export_faulty(files, alloc, made, map),
-        Err(_) => Err(Stop::Memory),
+    match find_walks(alloc, map)? {
+        Some(walks) => export_sound(files, alloc, made, map, &walks),
+        None => export_faulty(files, alloc, made, map),
     }
 }
 
@@ -104,10 +78,8 @@ fn export_sound<F: FileSystem>(
         (NewFileFails F.Draft.failure_count F.knows) result }
 {
     let text = CountyTextWith { map, walks };
-    match make_text_file(files, alloc, made, FileKind::Collection, &text) {
-        Ok(()) => Ok(counts(map, Some(walks.len() as u32))),
-        Err(stop) => Err(stop),
-    }
+    make_text_file(files, alloc, made, FileKind::Collection, &text)?;
+    Ok(counts(map, Some(walks.len() as u32)))
 }
 
 // Exports a map that isn't sound.
@@ -121,16 +93,9 @@ fn export_faulty<F: FileSystem>(
     ensures { ExportsMap map.now (F.under files.old) (F.under files.new) (string_bytes made.now)
         (NewFileFails F.Draft.failure_count F.knows) result }
 {
-    match make_text_file(
-        files,
-        alloc,
-        made,
-        FileKind::Collection,
-        &CountyText { map },
-    ) {
-        Ok(()) => Ok(counts(map, None)),
-        Err(stop) => Err(stop),
-    }
+    let text = CountyText { map };
+    make_text_file(files, alloc, made, FileKind::Collection, &text)?;
+    Ok(counts(map, None))
 }
 
 // The numbers of a map that was exported, with so many rings.

@@ -1,5 +1,5 @@
 -- What stands under the names of a file system.
-use Rattle.std.specs.Prelude.{◌≡◌, ◌++◌, ◌==◌, ◌||◌, ℕ, nat_eq, Bool, true, false, List, length, Option, Some, None, Contains, IfSome, codes, ⊤}
+use Rattle.std.specs.Prelude.{◌≡◌, ◌++◌, ◌==◌, ◌||◌, ℕ, nat_eq, Bool, true, false, List, length, Option, Some, None, Contains, IfSome, codes}
 use Rattle.std.specs.List.{starts_with}
 use Rattle.tl_files.specs.declared.beginning.FileKind.{FileKind}
 use Rattle.tl_files.specs.declared.beginning.FileKind.TheVariants.{Certificate, Collection, Picture}

@@ -21,8 +21,9 @@ pub enum Room {
     IsRead,
 }
 
-/// Files by their names. A call that stops does so for want of memory, or since no file stands there or a device failed. A new file stands beside its name until it is kept: what stood under the name stays till then,
-/// and no one sees a part of the new one.
+/// Files by their names. A call that stops does so for want of memory, or since no file stands there or a device failed. A
+/// new file stands beside its name until it is kept: what stood under the name stays till then, and no one sees a part of
+/// the new one.
 pub trait FileSystem {
     /// A file that is read.
     type Reader: Source + Drop;

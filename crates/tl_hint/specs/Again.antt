@@ -1,6 +1,6 @@
 -- Why files can't be read again. `under` says what stands under each name, where that is known, and `reads` counts the reads of
 -- a file that failed.
-use Rattle.std.specs.Prelude.{◌≡◌, ◌⊎◌, ℕ, ◌+◌, ◌≤◌, ◌^◌, Contains, List, length, None, IfSome, ⊤}
+use Rattle.std.specs.Prelude.{◌≡◌, ◌⊎◌, ℕ, ◌+◌, ◌≤◌, ◌^◌, Contains, List, length, None, IfSome}
 use Rattle.tl_answers.specs.Running.{FailsToRead}
 use Rattle.tl_files.specs.Files.{Under, bytes_under}
 

@@ -1,10 +1,10 @@
 -- What the tests of neighbours say.
-use Rattle.std.proofs.Common.{◌≡◌, ◌⊎◌, inl, inr, ⊎_elim, ℕ, Bool, true, false, IsTrue, Ordering, ℤ, pos, ◌+ℤ◌, ◌<ℤ◌, ◌≤ℤ◌, List, refl, sym, ap, subst, ◌∙◌, arith}
+use Rattle.std.proofs.Common.{◌≡◌, ◌⊎◌, inl, inr, ⊎_elim, ℕ, Bool, true, false, IsTrue, IsFalse, Ordering, ℤ, pos, ◌+ℤ◌, ◌<ℤ◌, ◌≤ℤ◌, List, refl, sym, ap, subst, ◌∙◌, arith}
 use Rattle.std.proofs.lemmas.Int.{ints}
 use Rattle.std.proofs.lemmas.Cmp.{int_ranked}
 use Rattle.std.specs.declared.cmp.Ordering.TheVariants.{Less, Equal, Greater}
 use Rattle.std.specs.Prelude.{int_lt, if◌then◌else◌}
-use Rattle.std.specs.Ordering.{int_cmp, is_gt, is_le, is_lt, MatchOrdering}
+use Rattle.std.specs.Ordering.{int_cmp, is_gt, is_le, is_lt, ordering_reverse, MatchOrdering}
 use Rattle.tl_geom.specs.declared.point.Point.{Point}
 use Rattle.tl_geom.specs.declared.segment.Segment.{Segment}
 use Rattle.tl_geom.specs.Plane.{turn_of, IsSame, whole}
@@ -37,6 +37,32 @@ lt_cases z Greater m h = absurd (cc)
 
 pub lt_test : (z : ℤ) (o : Ordering) (t : Bool) → o ≡ int_cmp z (pos 0) → t ≡ is_lt o → IsTrue t → z <ℤ pos 0
 lt_test z o t e f h = lt_cases z o (int_ranked z (pos 0) o e) (sym f ∙ h)
+
+-- where a turn isn't to the right
+le_not_lt : (z : ℤ) (o : Ordering) → MatchOrdering o (z <ℤ pos 0) (z ≡ pos 0) (pos 0 <ℤ z) → IsFalse (is_lt o) → pos 0 ≤ℤ z
+le_not_lt z Less m h = absurd (cc)
+le_not_lt z Equal m h = omega (arith, ints, m)
+le_not_lt z Greater m h = omega (arith, ints, m)
+
+pub not_lt_test : (z : ℤ) (o : Ordering) → o ≡ int_cmp z (pos 0) → IsFalse (is_lt o) → pos 0 ≤ℤ z
+not_lt_test z o e h = le_not_lt z o (int_ranked z (pos 0) o e) h
+
+-- the same of a turn's reverse
+reversed_cases : (z : ℤ) (o : Ordering) → MatchOrdering o (z <ℤ pos 0) (z ≡ pos 0) (pos 0 <ℤ z) → IsFalse (is_lt (ordering_reverse o)) → z ≤ℤ pos 0
+reversed_cases z Less m h = omega (arith, ints, m)
+reversed_cases z Equal m h = omega (arith, ints, m)
+reversed_cases z Greater m h = absurd (cc)
+
+pub reversed_not_lt : (z : ℤ) (o r : Ordering) → o ≡ int_cmp z (pos 0) → r ≡ ordering_reverse o → IsFalse (is_lt r) → z ≤ℤ pos 0
+reversed_not_lt z o r e f h = reversed_cases z o (int_ranked z (pos 0) o e) (subst (λ q. IsFalse (is_lt q)) f h)
+
+reversed_gt_cases : (z : ℤ) (o : Ordering) → MatchOrdering o (z <ℤ pos 0) (z ≡ pos 0) (pos 0 <ℤ z) → IsTrue (is_gt (ordering_reverse o)) → z <ℤ pos 0
+reversed_gt_cases z Less m h = m
+reversed_gt_cases z Equal m h = absurd (cc)
+reversed_gt_cases z Greater m h = absurd (cc)
+
+pub reversed_gt : (z : ℤ) (o r : Ordering) → o ≡ int_cmp z (pos 0) → r ≡ ordering_reverse o → IsTrue (is_gt r) → z <ℤ pos 0
+reversed_gt z o r e f h = reversed_gt_cases z o (int_ranked z (pos 0) o e) (subst (λ q. IsTrue (is_gt q)) f h)
 
 -- what is moved by the same stays in its order
 pub lower_moved : (a b h k m : ℤ) → h ≡ a +ℤ m → k ≡ b +ℤ m → int_lt h k ≡ int_lt a b
@@ -77,13 +103,6 @@ module _ (K : ℤ) (u w : Segment) (a b c e : Point) (low : a ≡ low_end K u) (
             ⊎_elim (λ k. inl (subst (λ z. pos 0 <ℤ z) (λ i. turn_of (low' i) (high' i) (high i)) k))
             (λ k. inr (subst (λ z. z <ℤ pos 0) (λ i. turn_of (low i) (high i) (high' i)) k)) above;
       }
-
-pub clear_is_west : (K : ℤ) (u w : Segment) → IsClearlyWestOf K u w → IsWestOf K u w
-clear_is_west K u w clear =
-    record {
-      below = ⊎_elim (λ k. inl (omega (arith, ints, k))) (λ k. inr (omega (arith, ints, k))) clear.below;
-      above = ⊎_elim (λ k. inl (omega (arith, ints, k))) (λ k. inr (omega (arith, ints, k))) clear.above;
-    }
 
 -- ends that are near are so in either order
 near_either : (K : ℤ) (p q : Point) (t : Bool) → AreNear K (if t then p else q) (if t then q else p) → AreNear K p q

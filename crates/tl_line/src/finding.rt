@@ -141,8 +141,8 @@ pub fn go_to(map: &Map, line: &mut Line, p: Point) -> Result<(), AllocError>
     Ok(())
 }
 
-/// The place in the open block of the first of the segments that end at a point or, if none does or it isn't found at once, of the
-/// first segment that the point isn't east of.
+/// The place in the open block of the first of the segments that end at a point or, if none does or it isn't there, of the first
+/// segment that the point isn't east of.
 fn find_place(map: &Map, p: Point, line: &Line, places: &Places, outs: &[u32]) -> usize {
     match places.find(line, outs) {
         Some(place) => place,
@@ -150,8 +150,8 @@ fn find_place(map: &Map, p: Point, line: &Line, places: &Places, outs: &[u32]) -
     }
 }
 
-/// Goes to the place of a point at which segments may end: before the first of these or, if none does or it isn't found at once,
-/// as [`go_to`] does. The error is that memory was refused.
+/// Goes to the place of a point at which segments may end: before the first of these or, if none does or it isn't found, as
+/// [`go_to`] does. The error is that memory was refused.
 pub fn go_to_first(
     map: &Map,
     p: Point,

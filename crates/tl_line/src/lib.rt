@@ -13,6 +13,7 @@ mod heights;
 mod line;
 mod neighbours;
 mod places;
+mod search;
 mod shifting;
 mod vertices;
 

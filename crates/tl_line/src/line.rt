@@ -2,12 +2,16 @@
 ghost use Rattle.std.specs.Prelude.{◌≡◌, ◌≤◌, IfOk, IfErr, length, take, drop};
 
 use crate::blocks::{first_east, last_west, stack_east, stack_west, take_east};
+use crate::search::find_first;
 use std::alloc::{AllocError, Global};
 use std::marker::Model;
 use std::mem;
 
 /// How many numbers a block holds at most.
 const MOST: usize = 512;
+
+/// How far before the place where a number is expected it is looked for first.
+const REACH: usize = 32;
 
 /// The numbers of segments from west to east, and a place among them. They stand in blocks, so that what is put in, what is
 /// taken off and each way from place to place moves few of them.
@@ -99,16 +103,15 @@ impl Line {
         self.place
     }
 
-    /// The place of a number in the open block, if it is within so many places of the one where it is looked for first.
-    pub(crate) fn find(&self, s: u32, near: usize, reach: usize) -> Option<usize> {
-        for away in 0..reach {
-            for place in [near.saturating_sub(away), near.saturating_add(away)] {
-                if self.at(place) == Some(s) {
-                    return Some(place);
-                }
-            }
+    /// The place of a number in the open block, if it stands there. It is looked for from a little before this place on, and then
+    /// before that.
+    pub(crate) fn find(&self, s: u32, near: usize) -> Option<usize> {
+        let from = near.saturating_sub(REACH).min(self.items.len());
+        let (before, behind) = self.items.split_at(from);
+        match find_first(behind, s) {
+            Some(place) => Some(from.wrapping_add(place)),
+            None => find_first(before, s),
         }
-        None
     }
 
     /// Goes to a place in the open block, or to its end.

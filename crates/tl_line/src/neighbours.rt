@@ -1,10 +1,12 @@
 //! What is tested of segments that stand side by side.
-ghost use Rattle.std.specs.Prelude.{◌↔◌, ◌≤ℤ◌, ◌<ℤ◌, ◌⊎◌, pos, IsTrue};
+ghost use Rattle.std.specs.Prelude.{◌↔◌, ◌≤ℤ◌, ◌<ℤ◌, ◌⊎◌, pos, IsTrue, IsFalse};
+ghost use Rattle.std.specs.Ordering.{is_lt, is_gt};
 ghost use Rattle.tl_geom.specs.Plane.{turn_of};
 ghost use Rattle.tl_slabs.specs.Heights.{widest};
 ghost use Rattle.tl_slabs.specs.Neighbours.{IsWestOf, AreApartOrAtEnds, AreTested};
 
 use crate::heights::{ends, is_lower};
+use std::cmp::Ordering;
 use tl_county::Map;
 use tl_geom::{Contact, Point, Rect, Segment, contact, turn};
 
@@ -26,29 +28,18 @@ pub fn is_west_of(u: Segment, w: Segment) -> bool
     is_in_order(a, b, a, c, e, c) && is_in_order(a, b, b, c, e, e)
 }
 
-/// Whether `p` of the line from `a` to `b` is west of the line from `c` to `e`, if `first`; else whether `q` of that line is east
-/// of the former.
+/// How `p` of the line from `a` to `b` lies about the line from `c` to `e`, if `first`; else how `q` of that line lies about the
+/// former, the other way round. So it is `Greater` where the first line is west of the second there, and `Equal` where they touch.
 #[inline]
-fn is_parted(first: bool, a: Point, b: Point, p: Point, c: Point, e: Point, q: Point) -> bool
-    ensures { IsTrue result → (pos 0 <ℤ turn_of c e p) ⊎ (turn_of a b q <ℤ pos 0) }
+fn order_at(first: bool, a: Point, b: Point, p: Point, c: Point, e: Point, q: Point) -> Ordering
+    ensures in_order { IsFalse (is_lt result) → (pos 0 ≤ℤ turn_of c e p) ⊎ (turn_of a b q ≤ℤ pos 0) }
+    ensures parted { IsTrue (is_gt result) → (pos 0 <ℤ turn_of c e p) ⊎ (turn_of a b q <ℤ pos 0) }
 {
     if first {
-        turn(c, e, p).is_gt()
+        turn(c, e, p)
     } else {
-        turn(a, b, q).is_lt()
+        turn(a, b, q).reverse()
     }
-}
-
-/// Whether `u` is west of `w` and doesn't touch it, as it is of most neighbours. The higher of their low ends is asked, and the
-/// lower of their high ends.
-#[inline]
-fn is_clearly_west_of(u: Segment, w: Segment) -> bool
-    ensures west { IsTrue result → IsWestOf widest u w }
-    ensures apart { IsTrue result → AreApartOrAtEnds u w }
-{
-    let (a, b) = ends(u);
-    let (c, e) = ends(w);
-    is_parted(is_lower(c, a), a, b, a, c, e, c) && is_parted(is_lower(b, e), a, b, b, c, e, e)
 }
 
 /// Whether the rectangle about `u` is west of that about `w`, and both have a latitude in common, as those of most neighbours.
@@ -79,14 +70,25 @@ fn are_free(u: Segment, w: Segment) -> bool
     }
 }
 
-/// Whether `u` is west of `w`, and they are apart or share an end of both alone, where the rectangles about them don't tell. It is
-/// kept out of where it is called, so that most neighbours take the short way.
+/// Whether `u` is west of `w`, and they are apart or share an end of both alone, where the rectangles about them don't tell. The
+/// higher of their low ends is asked, and the lower of their high ends; mostly both tell that the segments don't touch. It is kept
+/// out of where it is called, so that most neighbours take the short way.
 #[inline(never)]
 fn are_closely_tested(u: Segment, w: Segment) -> bool
     ensures west { IsTrue result → IsWestOf widest u w }
     ensures apart { IsTrue result → AreApartOrAtEnds u w }
 {
-    is_clearly_west_of(u, w) || (is_west_of(u, w) && are_free(u, w))
+    let (a, b) = ends(u);
+    let (c, e) = ends(w);
+    let low = order_at(is_lower(c, a), a, b, a, c, e, c);
+    if low.is_lt() {
+        return false;
+    }
+    let high = order_at(is_lower(b, e), a, b, b, c, e, e);
+    if high.is_lt() {
+        return false;
+    }
+    (low.is_gt() && high.is_gt()) || are_free(u, w)
 }
 
 /// Whether segment `s` is west of segment `t`, and they are apart or share an end of both alone. It is not so of numbers of

@@ -3,11 +3,8 @@
 use crate::line::Line;
 use std::alloc::{AllocError, Global};
 
-/// How far from the place where a segment entered its block it is looked for.
-const REACH: usize = 12;
-
-/// Of each segment the place in a block of the list where it entered. What comes and goes moves it by a few places. Nothing rests
-/// on it.
+/// Of each segment the place in a block of the list where it entered. What comes and goes moves it, mostly by less than twenty
+/// places. Nothing rests on it.
 #[derive(Drop)]
 pub struct Places {
     places: Vec<u16>,
@@ -21,11 +18,12 @@ impl Places {
         })
     }
 
-    /// The place of the first of these segments in the open block, if it is found near the place where it entered.
+    /// The place of the first of these segments in the open block, if it stands there. It is looked for first about the place where
+    /// it entered.
     pub(crate) fn find(&self, line: &Line, outs: &[u32]) -> Option<usize> {
         let s = outs.first().copied()?;
         let near = usize::from(self.places.get(s as usize).copied()?);
-        line.find(s, near, REACH)
+        line.find(s, near)
     }
 
     /// Keeps the places of the segments that entered last.

@@ -27,7 +27,9 @@ use Rattle.tl_verdict.proofs.OneMap.{weaker}
 use Rattle.tl_listing.specs.declared.listing.Listing.{Listing}
 use Rattle.tl_listing.specs.declared.listing.Listing.TheVariants.{Sound, Refused, Faults}
 use Rattle.tl_listing.specs.Listings.{IsListingOf}
+use Rattle.std.specs.Result.{IsErrAnd}
 use Rattle.tl_output.specs.Stops.{StopsFor, TellsDevice}
+use Rattle.tl_making.proofs.Stopped.{stopped_by}
 use Rattle.tl_record.specs.Failures.{one_more}
 use Rattle.tl_listing.specs.Texts.{listing_text}
 use Rattle.tl_all_faults.specs.declared.of_records.Findings.{Findings}
@@ -229,6 +231,10 @@ finds_by options known failed old new (Err (Record line cause)) fails holds stop
 finds_by options known failed old new (Err Memory) fails holds stops reads = tt
 finds_by options known failed old new (Err Device) fails holds stops reads = fails reads
 finds_by options known failed old new (Err Budget) fails holds stops reads = stops
+
+-- or nothing is, since this was answered before
+pub finds_not : (options : Options) (known : Option (List ℕ)) (failed : Type 0) (r : Result Findings Stop) (told : Stop) → IsErrAnd r (λ s. s ≡ told) → StopsFor failed told → Finds options known failed r
+finds_not options known failed r told is stops = stopped_by r told (Finds options known failed) is stops
 
 -- which listing it is
 pub sound_one : (listing : Listing) (report : Report) → listing ≡ Sound report → IsSoundOne listing

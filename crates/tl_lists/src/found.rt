@@ -26,13 +26,8 @@ pub fn find_all<F: FileSystem>(
     ensures { Finds options (joined_bytes (bytes_under (F.under files.now)) false (map string_bytes names.now))
         (ReadsFail F.Reader.failure_count (F.under files.now) (map string_bytes names.now)) result }
 {
-    let Ok(room) = room_for_bytes(alloc) else {
-        return Err(Stop::Memory);
-    };
-    let mut readers = match open_all(files, alloc, names) {
-        Ok(readers) => readers,
-        Err(stop) => return Err(stop),
-    };
+    let room = room_for_bytes(alloc)?;
+    let mut readers = open_all(files, alloc, names)?;
     let mut records = as_one_text(alloc, &mut readers, room);
     let found = list_with_map(alloc, hasher, &mut records, options);
     give_back(records, &mut readers);

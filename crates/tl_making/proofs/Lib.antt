@@ -3,3 +3,4 @@ pub mod AuditLemmas
 pub mod MakingLemmas
 pub mod OpenLemmas
 pub mod OpeningLemmas
+pub mod Stopped

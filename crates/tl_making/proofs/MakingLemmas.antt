@@ -1,7 +1,8 @@
 -- What comes of making a certificate, and of telling it.
-use Rattle.std.proofs.Common.{◌≡◌, ◌≢◌, ◌⊎◌, inl, inr, ℕ, List, Option, true, Result, Ok, Err, length, refl, sym, ◌∙◌, Bool}
+use Rattle.std.proofs.Common.{◌≡◌, ◌≢◌, ◌⊎◌, inl, inr, ℕ, List, Option, true, Result, Ok, Err, length, refl, sym, subst, ◌∙◌, Bool}
 use Rattle.std.specs.Bool.{⊤}
 use Rattle.std.specs.Option.{IfSome}
+use Rattle.std.specs.Result.{IsErrAnd}
 use Rattle.tl_record.specs.declared.options.Options.{Options}
 use Rattle.tl_record.specs.Layout.{layout_with}
 use Rattle.tl_record.specs.Records.{records_of}
@@ -28,10 +29,14 @@ use Rattle.tl_answers.specs.Running.{IsBuilt, NamesFault, NamesRefusal, NamesSto
 use Rattle.tl_record.specs.Failures.{one_more}
 use Rattle.tl_drawn.specs.declared.fault.MapStop.{MapStop}
 use Rattle.tl_drawn.specs.declared.fault.MapStop.TheVariants as map_stop
-use Rattle.tl_making.specs.Keeping.{unmade_by}
+use Rattle.tl_making.specs.Keeping.{fault_or_stop}
+use Rattle.tl_verdict.specs.Stops.{unmapped}
 use Rattle.tl_making.specs.Making.{IsMadeOf, MakesOf, Makes, TellsMaking, was_made}
 use Rattle.tl_answers.specs.Beginnings.{IsBegunOf, OfMap}
 use Rattle.tl_making.proofs.AuditLemmas.{names_fault_alone}
+use Rattle.tl_making.proofs.Stopped.{stopped_by}
+use Rattle.tl_build.specs.Auditing.{IsMemoryStop}
+use Rattle.tl_verdict.specs.declared.fault.MapFault.{MapFault}
 use Rattle.tl_answers.proofs.ToldLemmas.{line_stops}
 
 -- the report of a map, where the certificate has its walks
@@ -215,14 +220,47 @@ makes_for options known made begun same failed other (Err Budget) fails is = is
 
 -- what is made where the records have no map
 pub makes_unmade : (options : Options) (known : Option (List ℕ)) (made begun : List ℕ → Type 0) (same failed : Type 0) (stop : MapStop) (old new : ℕ) → IfSome known (λ text. StopsReading (records_of (layout_with options) text) stop)
-    → TellsDevice {T = ℕ} old new (Err stop) → (new ≡ one_more old → failed) → same → Makes options known made begun same failed (unmade_by stop)
+    → TellsDevice {T = ℕ} old new (Err stop) → (new ≡ one_more old → failed) → same → Makes options known made begun same failed (fault_or_stop (unmapped stop))
 makes_unmade options known made begun same failed (map_stop.Fault fault) old new stops reads fails stays = (stops, stays)
 makes_unmade options known made begun same failed (map_stop.Refused line cause) old new stops reads fails stays = (stops, stays)
 makes_unmade options known made begun same failed map_stop.Memory old new stops reads fails stays = stays
 makes_unmade options known made begun same failed map_stop.Device old new stops reads fails stays = (fails reads, inl stays)
 
-pub stays_unmade : (stop : MapStop) (old new : ℕ) → TellsDevice {T = ℕ} old new (Err stop) → StaysUnless Device old new (unmade_by stop)
+pub stays_unmade : (stop : MapStop) (old new : ℕ) → TellsDevice {T = ℕ} old new (Err stop) → StaysUnless Device old new (fault_or_stop (unmapped stop))
 stays_unmade (map_stop.Fault fault) old new reads = reads
 stays_unmade (map_stop.Refused line cause) old new reads = λ differs. reads
 stays_unmade map_stop.Memory old new reads = λ differs. reads
 stays_unmade map_stop.Device old new reads = λ differs. absurd (differs refl)
+
+-- the same by what is made of why there is none
+pub makes_fault : (options : Options) (known : Option (List ℕ)) (same : Type 0) (stop : MapStop) (old new : ℕ) (fault : MapFault) → unmapped stop ≡ Ok fault
+    → IfSome known (λ text. StopsReading (records_of (layout_with options) text) stop) → TellsDevice {T = ℕ} old new (Err stop) → same
+    → Makes options known (λ text. ⊤) (λ text. ⊤) same ⊤ (Ok (Fault fault))
+makes_fault options known same stop old new fault is stops reads stays =
+    subst (λ u. Makes options known (λ text. ⊤) (λ text. ⊤) same ⊤ (fault_or_stop u)) is (makes_unmade options known (λ text. ⊤) (λ text. ⊤) same ⊤ stop old new stops reads (λ failed. tt) stays)
+
+pub makes_stopped : (options : Options) (known : Option (List ℕ)) (made begun : List ℕ → Type 0) (same failed : Type 0) (stop : MapStop) (old new : ℕ) (r : Result Audit Stop) (told : Stop)
+    → IsErrAnd r (λ s. s ≡ told) → unmapped stop ≡ Err told → IfSome known (λ text. StopsReading (records_of (layout_with options) text) stop) → TellsDevice {T = ℕ} old new (Err stop)
+    → (new ≡ one_more old → failed) → same → Makes options known made begun same failed r
+makes_stopped options known made begun same failed stop old new r told is why stops reads fails stays =
+    stopped_by r told (Makes options known made begun same failed) is
+    (subst (λ u. Makes options known made begun same failed (fault_or_stop u)) why (makes_unmade options known made begun same failed stop old new stops reads fails stays))
+
+pub stays_faulty : (stop : MapStop) (old new : ℕ) (fault : MapFault) → unmapped stop ≡ Ok fault → TellsDevice {T = ℕ} old new (Err stop) → new ≡ old
+stays_faulty stop old new fault is reads = subst (λ u. StaysUnless {T = Audit} Device old new (fault_or_stop u)) is (stays_unmade stop old new reads)
+
+pub stays_stopped : (stop : MapStop) (old new : ℕ) (r : Result Audit Stop) (told : Stop) → IsErrAnd r (λ s. s ≡ told) → unmapped stop ≡ Err told → TellsDevice {T = ℕ} old new (Err stop)
+    → StaysUnless Device old new r
+stays_stopped stop old new r told is why reads =
+    stopped_by r told (StaysUnless Device old new) is (subst (λ u. StaysUnless Device old new (fault_or_stop u)) why (stays_unmade stop old new reads))
+
+-- nothing is made of a map for want of memory
+memory_alone : (faces : Bool) (m : TheMap) (made begun : List ℕ → Type 0) (same failed : Type 0) (stop : Stop) → IsMemoryStop stop → same → MakesOf faces m made begun same failed (Err stop)
+memory_alone faces m made begun same failed (Record line cause) is stays = absurd is
+memory_alone faces m made begun same failed Memory is stays = stays
+memory_alone faces m made begun same failed Device is stays = absurd is
+memory_alone faces m made begun same failed Budget is stays = absurd is
+
+pub makes_none : (faces : Bool) (m : TheMap) (made begun : List ℕ → Type 0) (same failed : Type 0) (r : Result Audit Stop) (told : Stop) → IsErrAnd r (λ s. s ≡ told) → IsMemoryStop told → same
+    → MakesOf faces m made begun same failed r
+makes_none faces m made begun same failed r told is memory stays = stopped_by r told (MakesOf faces m made begun same failed) is (memory_alone faces m made begun same failed told memory stays)

@@ -1,7 +1,5 @@
 -- What is opened of a list of names: what is told of each file that stands opened, and behind it of those to come.
-use Rattle.std.proofs.Common.{◌≡◌, ℕ, ◌+◌, ◌<◌, ◌≤◌, false, List, [], ◌∷◌, ◌++◌, map, length, drop, get_or, Result, Ok, Err, sym, ap, ◌∙◌, append_assoc, append-nil}
-use Rattle.std.specs.Bool.{if◌then◌else◌}
-use Rattle.std.specs.Result.{is_ok, is_err}
+use Rattle.std.proofs.Common.{◌≡◌, ℕ, ◌+◌, ◌<◌, ◌≤◌, List, [], ◌∷◌, ◌++◌, map, length, drop, get_or, sym, ap, ◌∙◌, append_assoc, append-nil}
 use Rattle.std.proofs.lemmas.List.{drop_more, drop_all, map-append}
 
 pub none_opened : {A B X : Type 0} (f : A → X) (h : B → X) (opened : List A) (names : List B) → opened ≡ [] → map f opened ++ map h (drop 0 names) ≡ map h names
@@ -17,8 +15,3 @@ one_more_opened f h opened grown file names i name lt at same is before =
 pub all_opened : {A B X : Type 0} (f : A → X) (h : B → X) (opened : List A) (names : List B) (i : ℕ) → length names ≤ i → map f opened ++ map h (drop i names) ≡ map h names
     → map f opened ≡ map h names
 all_opened f h opened names i past before = sym (append-nil (map f opened)) ∙ ap (λ l. map f opened ++ map h l) (sym (drop_all i names past)) ∙ before
-
--- what a push leaves that didn't fail
-pub pushed : {T E L : Type 0} (r : Result T E) (grown longer same : L) → false ≡ is_err r → grown ≡ (if is_ok r then longer else same) → grown ≡ longer
-pushed (Ok done) grown longer same well is = is
-pushed (Err error) grown longer same well is = absurd (cc well)

@@ -5,12 +5,10 @@
 use Rattle.std.specs.Prelude.{ℕ, List, Result, Ok, Err}
 use Rattle.tl_build.specs.declared.answer.Audit.{Audit}
 use Rattle.tl_build.specs.declared.answer.Audit.TheVariants.{Sound, Fault}
-use Rattle.tl_drawn.specs.declared.fault.MapStop.{MapStop}
 use Rattle.tl_verdict.specs.declared.fault.MapFault.{MapFault}
 use Rattle.tl_verdict.specs.declared.verdict.Verdict.{Verdict}
 use Rattle.tl_verdict.specs.declared.verdict.Verdict.TheVariants as verdict
 use Rattle.tl_output.specs.declared.stop.Stop.{Stop}
-use Rattle.tl_verdict.specs.Stops.{unmapped}
 use Rattle.tl_answers.specs.Telling.{TellsDecision}
 
 -- the decision that an audit comes to
@@ -27,6 +25,3 @@ TellsAudit audited status wrote told part out_same err_same = TellsDecision (aud
 abbrev pub fault_or_stop : Result MapFault Stop → Result Audit Stop
 fault_or_stop (Ok fault) = Ok (Fault fault)
 fault_or_stop (Err stop) = Err stop
-
-abbrev pub unmade_by : MapStop → Result Audit Stop
-unmade_by stop = fault_or_stop (unmapped stop)

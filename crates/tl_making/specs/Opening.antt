@@ -17,7 +17,6 @@ use Rattle.tl_answers.specs.Running.{IsRunStatus, IsAnswered, FaultsMap, FaultsC
 use Rattle.tl_answers.specs.Deciding.{IsExact}
 use Rattle.tl_answers.specs.Beginnings.{IsBegunBy}
 use Rattle.tl_output.specs.declared.stop.Stop.{Stop}
-use Rattle.tl_output.specs.declared.stop.Stop.TheVariants.{Record, Memory, Device, Budget}
 use Rattle.tl_output.specs.Stops.{StopsFor}
 
 -- the name of the certificate that is read

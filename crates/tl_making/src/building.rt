@@ -7,7 +7,6 @@ ghost use Rattle.tl_verdict.specs.Sound.{IsSoundFor};
 ghost use Rattle.tl_verdict.specs.Valid.{IsValid};
 ghost use Rattle.tl_answers.specs.declared.stop.TheConstants.{DONE, MAP_FAULT, REFUSED, STOPPED};
 ghost use Rattle.tl_answers.specs.Running.{IsBuilt, NamesFault, NamesRefusal, NamesStop, FailsToRead, CountStays, StaysUnless, TriesToWrite};
-ghost use Rattle.tl_making.specs.Keeping.{unmade_by};
 ghost use Rattle.tl_answers.specs.Beginnings.{Begins};
 ghost use Rattle.tl_making.specs.Making.{Makes, MakesOf, TellsMaking, was_made};
 ghost use Rattle.tl_answers.specs.Beginnings.{OfMap, IsBegunOf};
@@ -20,7 +19,7 @@ use tl_answers::tell::write_line;
 use tl_build::{Audit, Built, build_with};
 use tl_cert::{Certificate, write_cert};
 use tl_county::Map;
-use tl_map::{MapStop, read_map_with};
+use tl_map::read_map_with;
 use tl_output::Stop;
 use tl_record::{Options, Sink, Source};
 use tl_verdict::{fault_of_records, report};
@@ -79,17 +78,7 @@ pub fn make<R: Source, C: Sink>(
 {
     match read_map_with(alloc, hasher, records, options) {
         Ok(map) => make_of_map(alloc, &map, options.faces, made),
-        Err(stop) => unmade(stop),
-    }
-}
-
-// What comes of it where the records have no map.
-fn unmade(stop: MapStop) -> Result<Audit, Stop>
-    ensures { result ≡ unmade_by stop }
-{
-    match fault_of_records(stop) {
-        Ok(fault) => Ok(Audit::Fault(fault)),
-        Err(stop) => Err(stop),
+        Err(stop) => Ok(Audit::Fault(fault_of_records(stop)?)),
     }
 }
 
@@ -98,10 +87,9 @@ fn make_of_map<C: Sink>(alloc: Global, map: &Map, faces: bool, made: &mut C) -> 
     ensures { MakesOf faces map.now (Writes C.contents C.failure_count made.old made.new) (Begins C.contents made.old made.new)
         (made.new ≡ made.old) (FailsToWrite C.failure_count made.old made.new) result }
 {
-    match build_with(alloc, map, faces) {
-        Ok(Built::Cert(certificate)) => keep(map, faces, &certificate, made),
-        Ok(Built::Fault(fault)) => Ok(Audit::Fault(fault)),
-        Err(stop) => Err(stop),
+    match build_with(alloc, map, faces)? {
+        Built::Cert(certificate) => keep(map, faces, &certificate, made),
+        Built::Fault(fault) => Ok(Audit::Fault(fault)),
     }
 }
 

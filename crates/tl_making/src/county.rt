@@ -23,9 +23,7 @@ pub fn read_county<R: Source + Drop>(
     ensures { DrawsMap (layout_with options) (joined_bytes R.remaining false readers.old.items)
         (FailsToRead (failures_of R.failure_count) readers.old.items readers.new.items) result }
 {
-    let Ok(room) = room_for_bytes(alloc) else {
-        return Err(MapStop::Memory);
-    };
+    let room = room_for_bytes(alloc)?;
     let mut records = as_one_text(alloc, readers, room);
     let read = read_map_with(alloc, hasher, &mut records, options);
     give_back(records, readers);

@@ -28,13 +28,8 @@ pub fn open_all<F: FileSystem>(
 {
     let mut readers = Vec::new(alloc);
     for name in names {
-        let file = match files.open(alloc, name.as_str()) {
-            Ok(file) => file,
-            Err(stop) => return Err(stop),
-        };
-        if readers.push(file).is_err() {
-            return Err(Stop::Memory);
-        }
+        let file = files.open(alloc, name.as_str())?;
+        readers.push(file)?;
     }
     Ok(readers)
 }
@@ -49,13 +44,9 @@ pub fn open_certificate<F: FileSystem>(
         ≡ bytes_under (F.under files.now) (string_bytes name.now)) }
     ensures stops { IfErr result (StopsFor (bytes_under (F.under files.now) (string_bytes name.now) ≡ None)) }
 {
-    let Ok(room) = room_for_bytes(alloc) else {
-        return Err(Stop::Memory);
-    };
-    match files.open(alloc, name.as_str()) {
-        Ok(file) => Ok(Buffered::new(file, room)),
-        Err(stop) => Err(stop),
-    }
+    let room = room_for_bytes(alloc)?;
+    let file = files.open(alloc, name.as_str())?;
+    Ok(Buffered::new(file, room))
 }
 
 /// Room for as many bytes as are read at a time.

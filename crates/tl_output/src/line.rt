@@ -27,10 +27,8 @@ pub fn print_line<D: Display, S: Sink>(value: &D, out: &mut S) -> Result<(), Sto
     ensures stop { IfErr result (StopsLine (D.output value.now) S.contents S.failure_count out.old out.new) }
 {
     let line = line_text(value)?;
-    match write_all(line.as_str().as_bytes(), out) {
-        Ok(()) => Ok(()),
-        Err(_) => Err(Stop::Device),
-    }
+    write_all(line.as_str().as_bytes(), out)?;
+    Ok(())
 }
 
 // The value's line, where there is room for it.

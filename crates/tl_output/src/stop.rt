@@ -1,11 +1,11 @@
 //! Why nothing is decided, made or printed.
 
 ghost use Rattle.std.specs.Prelude.{◌≡◌};
-ghost use Rattle.tl_output.specs.declared.stop.Stop.TheVariants.{Memory as MemoryStop};
+ghost use Rattle.tl_output.specs.declared.stop.Stop.TheVariants.{Memory as MemoryStop, Device as DeviceStop};
 ghost use Rattle.tl_output.specs.Stops.{stop_of};
 
 use std::alloc::{AllocError, AllocFailed};
-use std::fmt;
+use std::{fmt, io};
 use thiserror::Error;
 use tl_index::Memory;
 use tl_record::{Cause, ReadStop, Refusal};
@@ -74,6 +74,15 @@ impl From<Memory> for Stop {
 
     fn from(_error: Memory) -> Stop {
         Stop::Memory
+    }
+}
+
+/// A write failed, or a read did.
+impl From<io::Error> for Stop {
+    ghost from_gives = { λ _ stop. stop ≡ DeviceStop };
+
+    fn from(_error: io::Error) -> Stop {
+        Stop::Device
     }
 }
 

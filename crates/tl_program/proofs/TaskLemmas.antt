@@ -1,5 +1,5 @@
 -- What is answered to tasks, and over files of which nothing is known.
-use Rattle.std.proofs.Common.{inl, inr, ℕ, List, Option}
+use Rattle.std.proofs.Common.{inl, inr, ℕ, List}
 use Rattle.std.specs.Bool.{⊤}
 use Rattle.clap.specs.Walk.{Text}
 use Rattle.tl_files.specs.Files.{Under}

@@ -1,5 +1,5 @@
 -- What the program answers to words, whatever they ask for.
-use Rattle.std.specs.Prelude.{◌≡◌, ◌⊎◌, ℕ, Bool, false, List, map, option_map, string_bytes, ⊤}
+use Rattle.std.specs.Prelude.{◌⊎◌, ℕ, Bool, false, List, map, option_map, string_bytes, ⊤}
 use Rattle.clap.specs.Walk.{Text}
 use Rattle.tl_record.specs.Layout.{layout_with}
 use Rattle.tl_plan.specs.declared.plan.Plan.{Plan}

@@ -1,6 +1,5 @@
 -- What is said of a map beside the text of a certificate.
-use Rattle.std.specs.Prelude.{◌≡◌, ℕ, List, ◌∷◌, ◌++◌, Err, ⊤}
-use Rattle.tl_record.specs.Failures.{one_more}
+use Rattle.std.specs.Prelude.{◌≡◌, ℕ, List, ◌∷◌, ◌++◌, ⊤}
 use Rattle.tl_record.specs.Lines.{joined_lines}
 use Rattle.tl_county.specs.TheMap.{TheMap}
 use Rattle.tl_planar.specs.Searching.{AreBeyond}
@@ -13,7 +12,6 @@ use Rattle.tl_output.specs.declared.stop.Stop.{Stop}
 use Rattle.tl_output.specs.declared.stop.Stop.TheVariants.{Record, Memory, Device, Budget}
 use Rattle.tl_verdict.specs.Valid.{AllowsSearch, IsValid}
 use Rattle.tl_verdict.specs.Truth.{IsTrueOfCert}
-use Rattle.tl_verdict.specs.Verdicts.{Answer}
 
 -- the text is that of a certificate that is valid for the map
 abbrev pub IsValidText : TheMap → List ℕ → Type 0

@@ -21,7 +21,7 @@ records-preserved g c =
     let settles = found.settles in
     let before = c.records.invariant in
     record {
-      so_far = keeps_more _ _ _ _ c.in-Ok-Some.field-0-0 _ _ _ (rw c.in-Ok-Some.field-0-is at gives) c.in-Ok.ensures before.so_far;
+      so_far = keeps_more _ _ _ _ c.in-Ok-Some.field-0-0 _ _ _ (rw c.in-Ok-Some.field-0-is at gives) c.in_ok-add-in-Ok-Some.ensures before.so_far;
       failures = none_failed (standing_of c.records.reader) _ _ _ (rw c.in-Ok-Some.field-0-is at failures) ∙ before.failures;
       same = found.same_reference ∙ before.same;
       standing = rw c.in-Ok-Some.field-0-is at settles;

@@ -1,17 +1,29 @@
 use Rattle.std.proofs.Common.{refl}
+use Rattle.std.proofs.lemmas.Result.{err_from_is_err_and}
 use Rattle.tl_record.specs.Layout.{layout_with}
 use Rattle.tl_output.specs.Writing.{Writes, WritesSome}
-use Rattle.tl_answers.proofs.AnswerLemmas.{answered_of, unanswered, any_fault, answer_to}
+use Rattle.tl_answers.proofs.AnswerLemmas.{stops_of, unread_fault, unread_stop, any_fault, answer_to}
 use Rattle.tl_answers.proofs.asking.answer_of_map.Goals as goal
 
-pub returns-in-Ok : goal.returns-in-Ok
-returns-in-Ok g c =
-    let layout = layout_with c.args.options in
-    let told = c.write_asked in
-    answered_of layout _ _ _ _ _ _ _ _ _ told.result c.in-Ok.ensures.failures
-    (answer_to c.args.asked layout _ c.in-Ok.map (Writes g.W.Sink.contents g.W.Sink.failure_count c.args.out.now told.new.out) c.in-Ok.ensures.map)
-    (answer_to c.args.asked layout _ c.in-Ok.map (WritesSome g.W.Sink.contents g.W.Sink.failure_count c.args.out.now told.new.out) c.in-Ok.ensures.map)
-    told.ensures.told told.ensures.stops
+pub returns-in_ok-write_asked-in-Ok : goal.returns-in_ok-write_asked-in-Ok
+returns-in_ok-write_asked-in-Ok g c = (
+  answer_to c.args.asked (layout_with c.args.options) _ c.in-Ok.map (Writes g.W.Sink.contents g.W.Sink.failure_count c.args.out.now c.write_asked.new.out) c.in-Ok.ensures.map c.in_ok-write_asked-in-Ok.ensures.told,
+  c.in-Ok.ensures.failures,
+)
 
-pub returns-in-Err : goal.returns-in-Err
-returns-in-Err g c = unanswered (layout_with c.args.options) _ _ _ _ _ _ _ c.in-Err.stop c.in-Err.ensures.stops (any_fault c.in-Err.stop) c.in-Err.ensures.failures refl
+pub returns-in_err-write_asked-in-Ok : goal.returns-in_err-write_asked-in-Ok
+returns-in_err-write_asked-in-Ok g c =
+    let p = err_from_is_err_and c.from_residual.result c.from_residual.ensures.1 in
+    rw (p.1, p.2) (stops_of (layout_with c.args.options) _ _ _ _ _ _ _ c.in-Ok.ensures.failures
+    (answer_to c.args.asked (layout_with c.args.options) _ c.in-Ok.map (WritesSome g.W.Sink.contents g.W.Sink.failure_count c.args.out.now c.write_asked.new.out) c.in-Ok.ensures.map)
+    c.in_err-write_asked-in-Ok.ensures.stops)
+
+pub returns-in_ok-fault_of_records-in-Err : goal.returns-in_ok-fault_of_records-in-Err
+returns-in_ok-fault_of_records-in-Err g c =
+    let faults = unread_fault (layout_with c.args.options) _ _ _ _ c.in-Err.stop _ c.in_ok-fault_of_records-in-Err.ensures c.in-Err.ensures.stops (any_fault c.in-Err.stop) c.in-Err.ensures.failures in
+    (faults.0, faults.1, refl)
+
+pub returns-in_err-fault_of_records-in-Err : goal.returns-in_err-fault_of_records-in-Err
+returns-in_err-fault_of_records-in-Err g c =
+    let p = err_from_is_err_and c.from_residual-in_err-fault_of_records-in-Err.result c.from_residual-in_err-fault_of_records-in-Err.ensures.1 in
+    rw (p.1, p.2) (unread_stop (layout_with c.args.options) _ _ _ _ _ c.in-Err.stop _ c.in_err-fault_of_records-in-Err.ensures c.in-Err.ensures.stops c.in-Err.ensures.failures refl)

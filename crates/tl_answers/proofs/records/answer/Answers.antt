@@ -12,9 +12,4 @@ pub returns-in-Locate : goal.returns-in-Locate
 returns-in-Locate g c = rw c.in-Locate.is c.answer_of_map-in-Locate.ensures
 
 pub returns-in_default : goal.returns-in_default
-returns-in_default g c = record {
-  answered = asks_nothing c.args.plan.now _ _ c.in_default.not-Show c.in_default.not-Landmarks c.in_default.not-Locate;
-  stops = tt;
-  sought = tt;
-  reads = refl;
-}
+returns-in_default g c = (asks_nothing c.args.plan.now _ _ c.in_default.not-Show c.in_default.not-Landmarks c.in_default.not-Locate, refl)

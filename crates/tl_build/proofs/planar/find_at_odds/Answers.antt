@@ -11,10 +11,10 @@ find_sides_at_odds-requires-clause-walks c = c.requires.walks
 pub find_sides_at_odds-requires-clause-apart : goal.find_sides_at_odds-requires-clause-apart
 find_sides_at_odds-requires-clause-apart c = apart c.args.map.now.chains c.requires.planar c.requires.proper
 
-pub returns-in-Ok-Some : goal.returns-in-Ok-Some
-returns-in-Ok-Some c = subst (λ found. IfSome found (λ odds. AreCellsAtOdds c.args.map.now.chains odds.first odds.second odds.first_id odds.second_id)) c.in-Ok-Some.field-0-is c.in-Ok-Some.ensures.at_odds
+pub returns-in-Some : goal.returns-in-Some
+returns-in-Some c = subst (λ found. IfSome found (λ odds. AreCellsAtOdds c.args.map.now.chains odds.first odds.second odds.first_id odds.second_id)) c.in-Some.is c.in_ok-odds.ensures.at_odds
 
-pub returns-in-Ok-None : goal.returns-in-Ok-None
-returns-in-Ok-None c = both_agree c.args.map.now c.find_sides_at_odds.result
-    (subst (λ found. IsNone found → CellsAgree c.args.map.now.chains) c.in-Ok-None.field-0-is c.in-Ok-None.ensures.agree refl)
+pub returns-in-None : goal.returns-in-None
+returns-in-None c = both_agree c.args.map.now c.find_sides_at_odds.result
+    (subst (λ found. IsNone found → CellsAgree c.args.map.now.chains) c.in-None.is c.in_ok-odds.ensures.agree refl)
     c.find_sides_at_odds.ensures

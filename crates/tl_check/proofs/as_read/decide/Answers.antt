@@ -1,4 +1,3 @@
-use Rattle.std.proofs.Common.{false}
 use Rattle.tl_verdict.specs.Sound.{IsSound}
 use Rattle.tl_check.proofs.Facing.{decided, sound_so, told}
 use Rattle.tl_check.proofs.as_read.decide.Goals as goal

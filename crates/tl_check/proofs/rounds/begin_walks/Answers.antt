@@ -1,4 +1,5 @@
 use Rattle.std.proofs.Common.{refl, sym, subst, ap, ◌∙◌}
+use Rattle.std.proofs.lemmas.Result.{err_from_is_err_and}
 use Rattle.tl_sides.specs.Keeping.Walked.{HaveWalked}
 use Rattle.tl_sides.proofs.Headings.{dart_within}
 use Rattle.tl_rings.specs.Rings.{TheRings}
@@ -31,30 +32,30 @@ returns-in-Some c = record {
   allowed = λ cert so. record { counts = so.founded.counts; tree = so.founded.tree };
 }
 
-pub returns-in_default : goal.returns-in_default
-returns-in_default c = record {
+pub returns-in_err-walks : goal.returns-in_err-walks
+returns-in_err-walks c = let p = err_from_is_err_and c.from_residual.result c.from_residual.ensures.1 in rw (p.1, p.2) (record {
   halts = tt;
   allowed = λ cert so. record { counts = so.founded.counts; tree = so.founded.tree };
-}
+})
 
-pub returns-in-Ok-new-2 : goal.returns-in-Ok-new-2
-returns-in-Ok-new-2 c = record {
+pub returns : goal.returns
+returns c = record {
   holds = λ cert so. record {
     founded = so.founded;
     rounds = c.in-Ok.ensures.whole cert.rounds so.taken;
     sides = c.in-None.ensures.none refl;
-    ready = c.in-Ok-new.ensures.ready;
-    walked = subst (λ walks. HaveWalked c.args.map.now.chains walks c.in-Ok-new.walks) (sym so.no_walks) c.in-Ok-new.ensures.none;
-    laid = ap (λ (r : TheRings). r.rings) c.in-Ok-new-2.ensures ∙ sym so.no_walks;
-    boxed = none_boxed c.args.map.now.chains c.in-Ok-new-2.rings c.in-Ok-new-2.ensures;
+    ready = c.in_ok-walks.ensures.ready;
+    walked = subst (λ walks. HaveWalked c.args.map.now.chains walks c.in_ok-walks.walks) (sym so.no_walks) c.in_ok-walks.ensures.none;
+    laid = ap (λ (r : TheRings). r.rings) c.in_ok-rings.ensures ∙ sym so.no_walks;
+    boxed = none_boxed c.args.map.now.chains c.in_ok-rings.rings c.in_ok-rings.ensures;
   };
   takes = tt;
   searched = λ n within. within;
   behind = λ planar. planar;
 }
 
-pub returns-in-Err-new : goal.returns-in-Err-new
-returns-in-Err-new c = record {
+pub returns-in_err-rings : goal.returns-in_err-rings
+returns-in_err-rings c = let p = err_from_is_err_and c.from_residual-in_err-rings.result c.from_residual-in_err-rings.ensures.1 in rw (p.1, p.2) (record {
   halts = tt;
   allowed = λ cert so. record { counts = so.founded.counts; tree = so.founded.tree };
-}
+})

@@ -1,4 +1,5 @@
 use Rattle.std.proofs.Common.{refl, sym, subst}
+use Rattle.std.proofs.lemmas.Result.{err_from_is_err_and}
 use Rattle.tl_sides.specs.Keeping.Rounded.{HaveTaken}
 use Rattle.tl_verdict.specs.Valid.{IsTree}
 use Rattle.tl_check.proofs.Halting.{may_halt, so_unless_memory}
@@ -7,55 +8,58 @@ use Rattle.tl_check.proofs.Treed.{tree_fits, tree_is, fault_stays}
 use Rattle.tl_check.proofs.tree.search_by.Goals as goal
 
 pub first_meet-requires : goal.first_meet-requires
-first_meet-requires c = tree_fits c.args.map.now.chains c.args.tree.now c.new.result c.in-Ok-None.field-0 c.in-Ok-None.ensures.found c.in-Ok-None.field-0-is c.new.ensures
+first_meet-requires c = tree_fits c.args.map.now.chains c.args.tree.now c.new.result c.in_ok-fault.field-0 c.in_ok-fault.ensures.found c.in-None.is c.new.ensures
 
-pub returns-in-Ok-Some : goal.returns-in-Ok-Some
-returns-in-Ok-Some c = record {
+pub returns-in-Some : goal.returns-in-Some
+returns-in-Some c = record {
   holds = λ cert counts tree rounds walks d on.
-      fault_stays c.args.map.now cert d c.args.tree.now c.args.tree.now c.new.result c.in-Ok-Some.field-0 c.in-Ok-Some.fault c.in-Ok-Some.ensures.found c.in-Ok-Some.field-0-is c.new.ensures refl tree on;
+      fault_stays c.args.map.now cert d c.args.tree.now c.args.tree.now c.new.result c.in_ok-fault.field-0 c.in-Some.fault c.in_ok-fault.ensures.found c.in-Some.is c.new.ensures refl tree on;
   rounds = tt;
   searched = tt;
   behind = λ of_darts. absurd of_darts;
 }
 
-pub returns-in-Err : goal.returns-in-Err
-returns-in-Err c = record { halts = tt; tree = tt; meets = tt }
+pub returns-in_err-fault : goal.returns-in_err-fault
+returns-in_err-fault c = let p = err_from_is_err_and c.from_residual.result c.from_residual.ensures.1 in rw (p.1, p.2) (record { halts = tt; tree = tt; meets = tt })
 
 pub returns-in-Found : goal.returns-in-Found
 returns-in-Found c = record {
   halts = c.in-Found.ensures;
-  tree = tree_is c.args.map.now c.args.tree.now c.args.tree.now c.new.result c.in-Ok-None.field-0 c.in-Ok-None.ensures.found c.in-Ok-None.field-0-is c.new.ensures refl c.requires.shallow;
+  tree = tree_is c.args.map.now c.args.tree.now c.args.tree.now c.new.result c.in_ok-fault.field-0 c.in_ok-fault.ensures.found c.in-None.is c.new.ensures refl c.requires.shallow;
   meets = tt;
 }
 
 pub returns-in-Budget : goal.returns-in-Budget
 returns-in-Budget c = record {
   halts = c.in-Budget.ensures;
-  tree = tree_is c.args.map.now c.args.tree.now c.args.tree.now c.new.result c.in-Ok-None.field-0 c.in-Ok-None.ensures.found c.in-Ok-None.field-0-is c.new.ensures refl c.requires.shallow;
+  tree = tree_is c.args.map.now c.args.tree.now c.args.tree.now c.new.result c.in_ok-fault.field-0 c.in_ok-fault.ensures.found c.in-None.is c.new.ensures refl c.requires.shallow;
   meets = tt;
 }
 
-pub returns-in-Ok : goal.returns-in-Ok
-returns-in-Ok c = record {
+pub returns-in_ok-rounds-in-Clear : goal.returns-in_ok-rounds-in-Clear
+returns-in_ok-rounds-in-Clear c = record {
   holds = λ cert counts tree rounds walks. record {
     founded = record {
       counts = counts;
-      tree = subst (IsTree c.args.map.now) (sym tree) (tree_is c.args.map.now c.args.tree.now c.args.tree.now c.new.result c.in-Ok-None.field-0 c.in-Ok-None.ensures.found c.in-Ok-None.field-0-is c.new.ensures refl c.requires.shallow);
+      tree = subst (IsTree c.args.map.now) (sym tree) (tree_is c.args.map.now c.args.tree.now c.args.tree.now c.new.result c.in_ok-fault.field-0 c.in_ok-fault.ensures.found c.in-None.is c.new.ensures refl c.requires.shallow);
       planar = c.in-Clear.ensures.planar;
-      cells = c.in-Ok.ensures.agree;
+      cells = c.in_ok-rounds-in-Clear.ensures.agree;
     };
     no_walks = walks;
-    sized = c.in-Ok.ensures.sized;
-    taken = subst (λ taken. HaveTaken c.args.map.now.chains taken c.in-Ok.rounds) (sym rounds) c.in-Ok.ensures.none;
+    sized = c.in_ok-rounds-in-Clear.ensures.sized;
+    taken = subst (λ taken. HaveTaken c.args.map.now.chains taken c.in_ok-rounds-in-Clear.rounds) (sym rounds) c.in_ok-rounds-in-Clear.ensures.none;
   };
   rounds = tt;
   searched = c.in-Clear.ensures.within;
   behind = c.in-Clear.ensures.planar;
 }
 
-pub returns-in-Err-begin_rounds : goal.returns-in-Err-begin_rounds
-returns-in-Err-begin_rounds c = record {
-  halts = may_halt c.args.map.now c.args.budget c.in-Err-begin_rounds.halt c.in-Err-begin_rounds.ensures.halts;
-  tree = so_unless_memory c.in-Err-begin_rounds.halt _ (tree_is c.args.map.now c.args.tree.now c.args.tree.now c.new.result c.in-Ok-None.field-0 c.in-Ok-None.ensures.found c.in-Ok-None.field-0-is c.new.ensures refl c.requires.shallow);
-  meets = met_so c.in-Err-begin_rounds.halt _ c.in-Clear.ensures.planar;
-}
+pub returns-in_err-rounds-in-Clear : goal.returns-in_err-rounds-in-Clear
+returns-in_err-rounds-in-Clear c =
+    let p = err_from_is_err_and c.from_residual-in_err-rounds-in-Clear.result c.from_residual-in_err-rounds-in-Clear.ensures.1 in
+    let halt = c.in_err-rounds-in-Clear.field-0.0 in
+    rw (p.1, p.2) (record {
+      halts = may_halt c.args.map.now c.args.budget halt c.in_err-rounds-in-Clear.ensures.halts;
+      tree = so_unless_memory halt _ (tree_is c.args.map.now c.args.tree.now c.args.tree.now c.new.result c.in_ok-fault.field-0 c.in_ok-fault.ensures.found c.in-None.is c.new.ensures refl c.requires.shallow);
+      meets = met_so halt _ c.in-Clear.ensures.planar;
+    })

@@ -1,4 +1,5 @@
 use Rattle.std.proofs.Common.{sym, subst}
+use Rattle.std.proofs.lemmas.Result.{err_from_is_err_and}
 use Rattle.tl_sides.specs.Walks.{IsWalkFault}
 use Rattle.tl_check.specs.Keeping.Parts.{Holds, AreWalksSoFar, IsSearched, IsBehindSearch}
 use Rattle.tl_check.proofs.Walking.{darts_known, walk_laid, walk_passed}
@@ -21,23 +22,23 @@ push-requires c = record {
   known = darts_known c.args.map.now.chains c.requires.held.0.walks c.args.walk.now c.take.new.self (c.in-Ok.ensures.taken c.requires.held.0.walks (so_far c).walked);
 }
 
-pub returns-in-Ok-push : goal.returns-in-Ok-push
-returns-in-Ok-push c = record {
+pub returns-in-Ok : goal.returns-in-Ok
+returns-in-Ok c = record {
   holds = λ cert held.
       let so : AreWalksSoFar c.args.map.now cert c.in-Walking.walks c.in-Walking.rings = subst (Holds c.args.map.now cert) c.in-Walking.is held in
-      walk_laid c.args.map.now cert c.args.walk.now c.in-Walking.walks c.take.new.self c.in-Walking.rings c.push.new.self c.in-Ok.ensures.ready (c.in-Ok.ensures.taken cert.walks so.walked) c.in-Ok-push.ensures.rings c.in-Ok-push.ensures.boxed so;
+      walk_laid c.args.map.now cert c.args.walk.now c.in-Walking.walks c.take.new.self c.in-Walking.rings c.push.new.self c.in-Ok.ensures.ready (c.in-Ok.ensures.taken cert.walks so.walked) c.in_ok-push-in-Ok.ensures.rings c.in_ok-push-in-Ok.ensures.boxed so;
   takes = tt;
   searched = λ n searched. subst (IsSearched c.args.map.now n) c.in-Walking.is searched;
   behind = λ behind. subst (IsBehindSearch c.args.map.now) c.in-Walking.is behind;
 }
 
-pub returns-in-Ok : goal.returns-in-Ok
-returns-in-Ok c = record {
+pub returns-in_err-push-in-Ok : goal.returns-in_err-push-in-Ok
+returns-in_err-push-in-Ok c = let p = err_from_is_err_and c.from_residual.result c.from_residual.ensures.1 in rw (p.1, p.2) (record {
   halts = tt;
   allowed = λ cert held.
       let so : AreWalksSoFar c.args.map.now cert c.in-Walking.walks c.in-Walking.rings = subst (Holds c.args.map.now cert) c.in-Walking.is held in
       record { counts = so.founded.counts; tree = so.founded.tree };
-}
+})
 
 pub returns-in-Walking : goal.returns-in-Walking
 returns-in-Walking c = record {

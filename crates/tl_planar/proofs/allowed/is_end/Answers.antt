@@ -1,4 +1,4 @@
-use Rattle.std.proofs.Common.{pos, ⊎_elim, inl, inr, length, ◌-◌, sym, ◌∙◌, arith}
+use Rattle.std.proofs.Common.{⊎_elim, inl, inr, length, ◌-◌, arith}
 use Rattle.std.proofs.lemmas.Bool.{iff_false}
 use Rattle.tl_planar.proofs.Ends.{at_place}
 use Rattle.tl_planar.proofs.allowed.is_end.Goals as goal

@@ -1,4 +1,4 @@
-use Rattle.std.proofs.Common.{◌≡◌, ◌-◌, ◌^◌, length, true}
+use Rattle.std.proofs.Common.{◌≡◌, ◌-◌, ◌^◌, length}
 use Rattle.tl_record.specs.Reader.{source_of, standing_of, refusals_to_come}
 use Rattle.tl_record.specs.Searching.{goes_on}
 use Rattle.tl_refusals.proofs.ListLemmas.{ListsSoFar}
