@@ -1,6 +1,6 @@
 #!/usr/bin/env python3
-"""Plays the rows of tests/ over `tigertopo_core`, the program that has plans alone: what they ask for is answered as the
-whole program answers it, and of what it lacks it says so.
+"""Plays the rows of tests/ over `tigertopo_core`, the program without lists, exports and pictures: what they ask for is answered
+as the whole program answers it, and of what it lacks it says so.
 
 usage: core.py [PROGRAM]
 """

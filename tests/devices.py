@@ -154,14 +154,17 @@ def play_calls(count, ask, runs):
     """Fails each read and each write in its turn, and the keys of the hasher."""
     for words in runs:
         usual, whole, _ = ask(words, 0, "FAILED_READ")
+        # These are of how the file begins that stands there, and are tried again: the first, and where another takes its name the last.
+        of_what_stands = [1] if MADE in words else []
         for kind, is_well in KINDS.items():
             for which in range(1, 1_000):
                 answer, left, was_reached = ask(words, which, kind)
                 if not was_reached:
+                    if kind == "FAILED_READ" and whole != standing(words):
+                        of_what_stands.append(which - 1)
                     break
                 wrong = f"{' '.join(map(str, words))}: with {kind} {which}: {answer}, and the file {left[:40]}"
-                # The first read is of how the file begins that stands there, and is tried again.
-                is_again = MADE in words and (kind, which) == ("INTERRUPTED_READ", 1)
+                is_again = kind == "INTERRUPTED_READ" and which in of_what_stands
                 count.count((is_usual if is_again else is_well)(answer, left, usual, whole, standing(words)), wrong)
 
 

@@ -83,7 +83,7 @@ def main():
         ("manual page, completions and programs of the libraries", installed.play_all),
         ("progress", progress.play_all),
         ("rows", rows.play_all),
-        ("rows over the program that has plans alone", core.play_all),
+        ("rows over the core", core.play_all),
     ]
     # Debian's gdal-bin isn't everywhere.
     if not pictures.missing():

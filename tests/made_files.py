@@ -1,13 +1,14 @@
 #!/usr/bin/env python3
-"""Makes certificates and files of GeoJSON where something stands in the way, and looks for a file of a user's that is lost or
-half written.
+"""Makes certificates, files of GeoJSON and pictures where something stands in the way, and looks for a file of a user's that is
+lost or half written.
 
 usage: made_files.py [PROGRAM]
 
 OUT is a file that is none of the kind, one of the files that are read under that or another name, an old one of the kind, a
-link, a pipe, a device, a folder that isn't there; beside it lies what a killed run left, another run's file, or a file
-of somebody else's; the disk is full; and the program is killed at each of its writes. What stood under OUT has to stay
-until the new file is whole. It needs a C compiler, cc, and glibc, whose write it stands before.
+link, a pipe, a device, a folder that isn't there, or may not be written; beside it lies what a killed run left, another run's
+file, one of the files that are read, or a file of somebody else's; the disk is full; and the program is killed at each of its
+writes. What stood under OUT has to stay until the new file is whole. It needs a C compiler, cc, and glibc, whose write it
+stands before.
 """
 
 import fcntl
@@ -30,23 +31,34 @@ TOWN = EXAMPLES / "faults" / "town"
 
 @dataclass
 class Kind:
-    """A kind of file that is made: an old one, beginnings of one, and what is said where OUT is another file."""
+    """A kind of file that is made: an old one, beginnings of one, and its name."""
 
     old: bytes
     beginnings: tuple
-    refusal: tuple
+    name: bytes
+
+    def refusal(self, out=b"OUT"):
+        """What is said where a file of this name is another's."""
+        return 64, b"", out + b" stands and is no " + self.name + b"\n"
 
 
-CERTIFICATE = Kind(b"TIGERCERT 2\nan old one\n", (b"T", b"TIGERCERT "), (64, b"", b"OUT stands and is no certificate\n"))
+CERTIFICATE = Kind(b"TIGERCERT 2\nan old one\n", (b"T", b"TIGERCERT "), b"certificate")
 COLLECTION = Kind(
     b'{"type":"FeatureCollection","name":"tigertopo"\nan old one\n',
     (b"{", b'{"type":"FeatureCollection","name":"tigertopo"'),
-    (64, b"", b"OUT stands and is no GeoJSON of tigertopo\n"),
+    b"GeoJSON of tigertopo",
 )
-KINDS = {"build": CERTIFICATE, "convert": CERTIFICATE, "export": COLLECTION, "audit": COLLECTION}
+PICTURE = Kind(
+    b'<svg xmlns="http://www.w3.org/2000/svg" class="tigertopo"\nan old one\n',
+    (b"<", b'<svg xmlns="http://www.w3.org/2000/svg" class="tigertopo"'),
+    b"picture of tigertopo",
+)
+KINDS = {"build": CERTIFICATE, "convert": CERTIFICATE, "export": COLLECTION, "audit": COLLECTION, "draw": PICTURE}
 # What is no file of any kind.
-STRANGERS = (b"a", b"TIGERCERT", b'{"type":"FeatureCollection","features":[]}\n', b"a file that stands\n", COUNTY.read_bytes())
+FOREIGN = (b'{"type":"FeatureCollection","features":[]}\n', b'<svg xmlns="http://www.w3.org/2000/svg">\n')
+STRANGERS = (b"a", b"TIGERCERT", *FOREIGN, b"a file that stands\n", COUNTY.read_bytes())
 IS_READ = (64, b"", b"OUT is one of the files that are read\n")
+IS_READ_BESIDE = (64, b"", b"OUT.unfinished is one of the files that are read\n")
 DEVICE = (4, b"", b"stopped Device\n")
 KILL = r"""
 #include <signal.h>
@@ -92,6 +104,7 @@ class Play:
             ("convert", ["convert", "cert", out]),
             ("export", ["export", "--geojson", out, "records"]),
             ("audit", ["audit", "--all", "--where", "--geojson", out, "town"]),
+            ("draw", ["draw", "--faults", "--out", out, "town"]),
         ]
 
     def ask(self, words, **more):
@@ -115,11 +128,11 @@ class Play:
     def standing(self):
         """What stands under OUT."""
         for name, words in self.commands():
-            others = [it.old for it in (CERTIFICATE, COLLECTION) if it is not KINDS[name]]
+            others = [it.old for it in (CERTIFICATE, COLLECTION, PICTURE) if it is not KINDS[name]]
             for text in (*STRANGERS, *others):
                 self.made.write_bytes(text)
                 answer = self.ask(words)
-                is_well = answer == KINDS[name].refusal and self.made.read_bytes() == text and not self.beside.exists()
+                is_well = answer == KINDS[name].refusal() and self.made.read_bytes() == text and not self.beside.exists()
                 self.count(is_well, f"{name} over {text[:20]}: {answer}")
             wholes = [self.whole[it] for it in self.whole if KINDS[it] is KINDS[name]]
             for text in (b"", KINDS[name].old, *wholes):
@@ -130,20 +143,82 @@ class Play:
                 self.count(is_well, f"{name} over {text[:20]}: {answer}")
             self.clear()
 
+    # The commands that make a file of records, up to its name.
+    MAKING = (
+        *(["build", "--out"], ["export", "--geojson"], ["audit", "--geojson"], ["audit", "--all", "--geojson"]),
+        *(["draw", "--out"], ["draw", "--faults", "--out"]),
+    )
+
     def inputs(self):
         """OUT is one of the files that are read, by whatever name."""
         os.link(self.folder / "records", self.folder / "hard")
         os.symlink("records", self.folder / "soft")
         for out in ("records", "./records", str(self.folder / "records"), "hard", "soft"):
-            for words in (["build", "--out"], ["export", "--geojson"], ["audit", "--geojson"], ["audit", "--all", "--geojson"]):
+            for words in self.MAKING:
                 answer = self.ask([*words, out, "cert", "records"])
                 self.count(answer == IS_READ, f"{words[0]} over {out}: {answer}")
         for out in ("cert", "./cert"):
             answer = self.ask(["convert", "cert", out])
             self.count(answer == IS_READ, f"convert over {out}: {answer}")
+        self.count(self.stay(), "what is read was written over")
+
+    def stay(self):
+        """What is read stands as it did."""
         stays = (self.folder / "records").read_bytes() == COUNTY.read_bytes()
-        stays = stays and (self.folder / "cert").read_bytes() == (EXAMPLES / "county.CERT").read_bytes()
-        self.count(stays, "what is read was written over")
+        return stays and (self.folder / "cert").read_bytes() == (EXAMPLES / "county.CERT").read_bytes()
+
+    def inputs_beside(self):
+        """What stands beside OUT is one of the files that are read, by that or another name."""
+        cert, beside = self.folder / "cert", self.beside
+        ways = {
+            "a file": (beside.name, lambda: cert.rename(beside), lambda: beside.rename(cert), IS_READ_BESIDE),
+            "a hard link to one": ("cert", lambda: os.link(cert, beside), beside.unlink, IS_READ_BESIDE),
+            "a link to one": ("cert", lambda: beside.symlink_to("cert"), beside.unlink, CERTIFICATE.refusal(b"OUT.unfinished")),
+        }
+        for what, (read, begin, end, wanted) in ways.items():
+            begin()
+            answer = self.ask(["convert", read, "made"])
+            stays = beside.read_bytes() == (EXAMPLES / "county.CERT").read_bytes() and not self.made.exists()
+            end()
+            self.count(answer == wanted and stays, f"convert beside {what} that is read: {answer}")
+        for words in self.MAKING:
+            beside.write_bytes(b"")
+            answer = self.ask([*words, "made", "records", beside.name])
+            stays = beside.exists() and beside.read_bytes() == b"" and not self.made.exists()
+            self.count(answer == IS_READ_BESIDE and stays, f"{words[0]} beside an empty file that is read: {answer}")
+            beside.unlink()
+            os.link(self.folder / "records", beside)
+            answer = self.ask([*words, "made", "cert", "records"])
+            self.count(answer == IS_READ_BESIDE and not self.made.exists(), f"{words[0]} beside a hard link to records: {answer}")
+            beside.unlink()
+        self.count(self.stay(), "what is read was written over")
+
+    def read_only(self):
+        """OUT, what stands beside it, or their folder may not be written. Whoever runs as root may write all."""
+        may_all = os.geteuid() == 0
+        for name, words in self.commands():
+            old = KINDS[name].old
+            self.made.write_bytes(old)
+            self.made.chmod(0o444)
+            answer = self.ask(words)
+            is_well = self.is_made(name, answer) and self.made.stat().st_mode & 0o777 == 0o444
+            self.count(is_well, f"{name} over a file that is read alone: {answer}")
+            self.made.chmod(0o644)
+            self.made.write_bytes(old)
+            self.beside.write_bytes(b"")
+            self.beside.chmod(0o444)
+            answer = self.ask(words)
+            is_well = self.is_made(name, answer) if may_all else answer == DEVICE and self.made.read_bytes() == old
+            self.count(is_well, f"{name} beside a file that is read alone: {answer}")
+            self.clear()
+            if may_all:
+                continue
+            self.made.write_bytes(old)
+            self.folder.chmod(0o555)
+            answer = self.ask(words)
+            self.folder.chmod(0o755)
+            self.count(answer == DEVICE and self.made.read_bytes() == old, f"{name} in a folder that is read alone: {answer}")
+            self.clear()
 
     def links(self):
         """A link stays one, and what it leads to is replaced or made."""
@@ -161,7 +236,8 @@ class Play:
             target.write_bytes(b"another's")
             os.symlink("target", self.made)
             answer = self.ask(words)
-            self.count(answer == KINDS[name].refusal and target.read_bytes() == b"another's", f"{name} over a link to a file: {answer}")
+            is_well = answer == KINDS[name].refusal() and target.read_bytes() == b"another's"
+            self.count(is_well, f"{name} over a link to a file: {answer}")
             self.clear()
             target.unlink()
 
@@ -192,7 +268,8 @@ class Play:
                 self.beside.write_bytes(text)
                 answer = self.ask(words)
                 stays = (self.made.read_bytes(), self.beside.read_bytes()) == (old, text)
-                self.count(answer == DEVICE and stays, f"{name} beside {text}: {answer}")
+                is_well = answer == KINDS[name].refusal(b"OUT.unfinished") and stays
+                self.count(is_well, f"{name} beside {text}: {answer}")
             self.beside.write_bytes(self.whole[name][:99])
             with open(self.beside, "rb") as held:
                 fcntl.flock(held, fcntl.LOCK_EX)
@@ -204,7 +281,8 @@ class Play:
             stranger.write_bytes(old)
             os.symlink("stranger", self.beside)
             answer = self.ask(words)
-            self.count(answer == DEVICE and stranger.read_bytes() == old and not self.made.exists(), f"{name} beside a link: {answer}")
+            is_well = answer == KINDS[name].refusal(b"OUT.unfinished") and stranger.read_bytes() == old and not self.made.exists()
+            self.count(is_well, f"{name} beside a link: {answer}")
             self.clear()
 
     def full_disk(self):
@@ -245,7 +323,8 @@ def play_all(program=PROGRAM):
     """How many runs left what they have to, and how many didn't."""
     with tempfile.TemporaryDirectory() as folder:
         play = Play(program, folder)
-        for part in (play.standing, play.inputs, play.links, play.others, play.beside_it, play.full_disk, play.kills):
+        of_what_stands = (play.standing, play.inputs, play.inputs_beside, play.read_only, play.links, play.others, play.beside_it)
+        for part in (*of_what_stands, play.full_disk, play.kills):
             part()
     return play.passed, play.failed
 

@@ -3,8 +3,9 @@
 use crate::keys::fixed_keys;
 use crate::maps::SQUARE;
 use std::alloc::{AllocError, Global};
+use tl_command::start::start;
 use tl_memory_files::FilesInMemory;
-use tl_program::start::start;
+use tl_program::Whole;
 use tl_record::MeterOut;
 
 /// Words, and the status and the output that they come to, and the error output.
@@ -33,7 +34,12 @@ const RUNS: [(&[&str], u8, &str, &str); 5] = [
         "",
         "OUT stands and is no certificate\n",
     ),
-    (&["audit", "SQUARE", "ROUND"], 4, "", "stopped Device\n"),
+    (
+        &["audit", "SQUARE", "ROUND"],
+        4,
+        "",
+        "stopped Device\n  ROUND: No such file or directory\n",
+    ),
 ];
 
 /// Stores a text under a name.
@@ -70,6 +76,7 @@ fn comes_to(
     let mut printed = Vec::new(alloc);
     let mut told = Vec::new(alloc);
     let ended = start(
+        &Whole,
         files,
         alloc,
         hasher,

@@ -1,14 +1,28 @@
 //! The command `tigertopo`: does what its words ask, over the files of the system.
 #![tactic(auto)]
 
+use std::hash::RandomState;
 use std::io::IsTerminal;
 use std::process::ExitCode;
-use tl_program::program::answer;
+use tl_command::start::answer;
+use tl_command::words::words_of;
+use tl_files::SystemFiles;
+use tl_program::Whole;
 use tl_record::MeterOut;
 
 fn main(rt: HostRuntime) -> ExitCode {
     let mut out = MeterOut::new(rt.stdout());
     let mut err = MeterOut::new(rt.stderr());
-    let is_seen = rt.stderr().is_terminal();
-    ExitCode::from(answer(&rt, rt.alloc(), is_seen, &mut out, &mut err))
+    let mut files = SystemFiles::new(&rt, rt.stderr().is_terminal());
+    let words = words_of(&rt, rt.alloc());
+    let status = answer(
+        &Whole,
+        &mut files,
+        rt.alloc(),
+        RandomState::new(&rt),
+        words,
+        &mut out,
+        &mut err,
+    );
+    ExitCode::from(status)
 }

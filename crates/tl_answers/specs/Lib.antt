@@ -1,12 +1,8 @@
 -- What the contracts of answers cite.
-pub mod Certificates
-pub mod Verdicts
+pub mod Outcomes
 pub mod Places
-pub mod Running
-pub mod Deciding
-pub mod Lines
-pub mod Beginnings
-pub mod Rewriting
+pub mod Records
+pub mod Answers
 pub mod Telling
-pub mod Runs
-pub mod Keeping
+pub mod Rooms
+pub mod Reading

@@ -1,37 +1,50 @@
--- How an answer is told, and with which status: a decision, and what is wrong with words.
---
--- `wrote` says of a text that it was written to the output, `told` to the error output; `part` that a beginning of it was
--- written to the output, and that a write failed.
-use Rattle.std.specs.Prelude.{◌≡◌, ◌≢◌, ◌⊎◌, ℕ, List, [], Result, Ok, Err, string_bytes}
-use Rattle.tl_plan.specs.declared.plan.PlanStop.{PlanStop}
-use Rattle.tl_plan.specs.declared.plan.PlanStop.TheVariants.{Usage, Help}
-use Rattle.tl_plan.specs.declared.plan.PlanStop.TheVariants as plan_stop
+-- How an answer is told, or why there is none.
+use Rattle.std.specs.Prelude.{◌≡◌, ◌≢◌, ◌⊎◌, ℕ, List, [], Option, Result, Ok, Err, string_bytes}
+use Rattle.tl_output.specs.Writing.{Writes, WritesSome, line_of}
 use Rattle.tl_output.specs.Stops.{stop_text}
-use Rattle.tl_answers.specs.declared.usage.TheConstants.{NO_USE}
-use Rattle.tl_output.specs.Writing.{line_of}
-use Rattle.tl_verdict.specs.declared.verdict.Verdict.{Verdict}
 use Rattle.tl_output.specs.declared.stop.Stop.{Stop}
 use Rattle.tl_output.specs.declared.stop.Stop.TheVariants.{Memory, Device}
-use Rattle.tl_answers.specs.declared.stop.TheConstants.{DONE, STOPPED, USAGE}
-use Rattle.tl_answers.specs.Lines.{IsLine}
-use Rattle.tl_answers.specs.Running.{IsTold}
-use Rattle.tl_answers.specs.Verdicts.{verdict_text, verdict_status}
+use Rattle.tl_plan.specs.declared.stop.WordsStop.{WordsStop}
+use Rattle.tl_plan.specs.declared.stop.WordsStop.TheVariants.{Usage, Help}
+use Rattle.tl_plan.specs.declared.stop.WordsStop.TheVariants as words_stop
+use Rattle.tl_answers.specs.declared.said.Answer.{Answer}
+use Rattle.tl_answers.specs.declared.usage.TheConstants.{NO_USE}
+use Rattle.tl_answers.specs.Outcomes.{stop_status}
 
--- how the answer of a check is told
-abbrev pub TellsDecision : Result Verdict Stop → ℕ → (wrote told part : List ℕ → Type 0) → (out_same err_same : Type 0) → Type 0
-TellsDecision (Ok verdict) status wrote told part out_same err_same =
-    IsLine status (verdict_status verdict) (line_of (verdict_text verdict)) wrote told part out_same err_same
-TellsDecision (Err stop) status wrote told part out_same err_same = IsTold stop status told × out_same
+-- what became of an output: this text was written, or a write failed behind a beginning of it, or it is as it was
+pub record Stream : Type 1 where
+  pub wrote : List ℕ → Type 0
+  pub part : List ℕ → Type 0
+  pub same : Type 0
 
--- how a text of help is said
-abbrev pub SaysHelp : List ℕ → ℕ → (wrote told part : List ℕ → Type 0) → Type 0 → Type 0
-SaysHelp text status wrote told part err_same =
-    ((status ≡ DONE) × wrote text × err_same) ⊎ ((status ≡ STOPPED) × told (line_of (stop_text Device)) × part text)
+-- the same of a sink, by what it says of itself
+abbrev pub stream : {S : Type 0} → (S → Option (List ℕ)) → (S → ℕ) → (old new : S) → Stream
+stream contents failures old new = record { wrote = Writes contents failures old new; part = WritesSome contents failures old new; same = new ≡ old }
 
--- how it is told why words make no plan
-abbrev pub TellsPlanStop : PlanStop → ℕ → (wrote told part : List ℕ → Type 0) → (out_same err_same : Type 0) → Type 0
-TellsPlanStop (Usage text) status wrote told part out_same err_same =
-    (status ≡ USAGE) × (told NO_USE.now ⊎ ((string_bytes text ≢ []) × told (string_bytes text))) × out_same
-TellsPlanStop (Help text) status wrote told part out_same err_same =
-    (IsTold Memory status told × out_same) ⊎ ((string_bytes text ≢ []) × SaysHelp (string_bytes text) status wrote told part err_same)
-TellsPlanStop plan_stop.Memory status wrote told part out_same err_same = IsTold Memory status told × out_same
+-- this text was written, or the write of it failed
+abbrev pub Tries : Stream → List ℕ → Type 0
+Tries s text = s.wrote text ⊎ s.part text
+
+-- a text was written to the output, with the status that is its own; or the write failed, and that was told with the status 4; or
+-- memory was refused for it, and nothing of it was written
+abbrev pub TellsText : (out err : Stream) → (status own : ℕ) → List ℕ → Type 0
+TellsText out err status own text =
+    ((status ≡ own) × out.wrote text × err.same)
+    ⊎ ((status ≡ 4) × ((Tries err (line_of (stop_text Device)) × out.part text) ⊎ (Tries err (line_of (stop_text Memory)) × out.same)))
+
+-- why there is no answer was told, and nothing was written to the output
+abbrev pub TellsStop : (out err : Stream) → ℕ → Stop → Type 0
+TellsStop out err status stop = (status ≡ stop_status stop) × Tries err (line_of (stop_text stop)) × out.same
+
+-- an answer was told, or why there is none
+abbrev pub Tells : {T : Type 0} → (text_of : T → List ℕ) → (out err : Stream) → ℕ → Result (Answer T) Stop → Type 0
+Tells text_of out err status (Ok answer) = TellsText out err status answer.status (text_of answer.text)
+Tells text_of out err status (Err stop) = TellsStop out err status stop
+
+-- what is wrong with words, or the help that they wish for, was told
+abbrev pub TellsWordsStop : (out err : Stream) → ℕ → WordsStop → Type 0
+TellsWordsStop out err status (Usage text) =
+    (status ≡ 64) × (Tries err NO_USE.now ⊎ ((string_bytes text ≢ []) × Tries err (string_bytes text))) × out.same
+TellsWordsStop out err status (Help text) =
+    TellsStop out err status Memory ⊎ ((string_bytes text ≢ []) × TellsText out err status 0 (string_bytes text))
+TellsWordsStop out err status words_stop.Memory = TellsStop out err status Memory

@@ -1,122 +1,110 @@
 //! Certificates in version 2.
 
-ghost use Rattle.std.specs.Prelude.{◌≡◌, ◌≢◌, ◌⊎◌};
-ghost use Rattle.tl_output.specs.Writing.{Writes, WritesSome, FailsToWrite};
-ghost use Rattle.tl_answers.specs.declared.stop.TheConstants.{DONE, CERT_FAULT, STOPPED};
-ghost use Rattle.tl_answers.specs.Running.{IsConverted, NamesBadLine, NamesStop, FailsToRead, CountStays, StaysUnless, TriesToWrite};
-ghost use Rattle.tl_answers.specs.Beginnings.{Begins, BeginsRewritten};
-ghost use Rattle.tl_answers.specs.Rewriting.{Rewrites, KeepsText, TellsConverted};
+ghost use Rattle.std.specs.Prelude.{◌≡◌, ◌∷◌, [], Some, None, string_bytes};
+ghost use Rattle.tl_cert.specs.Text.{certificate_text};
+ghost use Rattle.tl_files.specs.Files.{bytes_under, IsFree};
+ghost use Rattle.tl_files.specs.World.{Does, world};
+ghost use Rattle.tl_files.specs.declared.beginning.FileKind.TheVariants.{Certificate as CertificateKind};
+ghost use Rattle.tl_answers.specs.Answers.{ConvertAnswers, IsConversionOf, IsReadCertificate, IsSaid, counts_of};
+ghost use Rattle.tl_answers.specs.Records.{StopsNever};
 
-use crate::stop::{CERT_FAULT, DONE, stopped};
-use crate::tell::write_line;
+use crate::outcome::{Converted, Outcome};
+use crate::reading::{close_certificate, open_certificate};
+use crate::said::{Answer, Said};
 use std::alloc::Global;
-use std::fmt;
-use tl_cert::{CertStop, Certificate, read_cert, write_cert};
-use tl_output::Stop;
-use tl_record::{Sink, Source};
-use tl_verdict::CertFault;
+use std::slice;
+use tl_cert::{Certificate, read_cert, write_cert};
+use tl_files::{FileKind, FileSystem, make_file};
+use tl_output::{Stop, Text};
+use tl_record::Sink;
+use tl_verdict::{CertFault, Verdict, fault_of_text};
 
-/// What was converted: how many nodes, rounds and walks the certificate has.
+/// A certificate as a text.
 #[derive(Clone, Copy)]
-pub struct Converted {
-    pub nodes: usize,
-    pub rounds: usize,
-    pub walks: usize,
+pub struct CertificateText<'a> {
+    pub certificate: &'a Certificate,
 }
 
-impl fmt::Display for Converted {
-    ghost use Rattle.std.specs.Prelude.{Some};
-    ghost use Rattle.tl_answers.specs.Certificates.{counts_text};
+impl Text for CertificateText<'_> {
+    ghost use Rattle.std.specs.Prelude.{⊤};
 
-    ghost output = { λ counts. Some (counts_text counts.nodes counts.rounds counts.walks) };
+    ghost text = { λ text. certificate_text text.certificate.now };
 
-    fn fmt<W: fmt::Write>(&self, f: &mut fmt::Formatter<W>) -> fmt::Result {
-        write!(
-            f,
-            "converted nodes={} rounds={} walks={}",
-            self.nodes, self.rounds, self.walks
-        )
+    ghost is_ready = { λ text. ⊤ };
+
+    fn print<S: Sink>(&self, _alloc: Global, out: &mut S) -> Result<(), Stop> {
+        Ok(write_cert(self.certificate, out)?)
     }
 }
 
-/// Reads a certificate, writes it in version 2, and gives the program's exit status. Nothing is written to `made` before
-/// the certificate was read whole.
-pub fn convert<S: Source, C: Sink, W: Sink, E: Sink>(
+/// Reads the certificate of the first name, and makes one of the second, in version 2, which may take that name. It takes it when it is
+/// whole.
+pub fn convert<F: FileSystem>(
+    files: &mut F,
     alloc: Global,
-    cert: &mut S,
-    made: &mut C,
-    out: &mut W,
-    err: &mut E,
-) -> u8
-    ensures status { (result ≡ DONE) ⊎ ((result ≡ CERT_FAULT) ⊎ (result ≡ STOPPED)) }
-    ensures converted { result ≡ DONE → IsConverted (S.remaining cert.old)
-        (Writes C.contents C.failure_count made.old made.new) (Writes W.contents W.failure_count out.old out.new) }
-    ensures fault { result ≡ CERT_FAULT
-        → NamesBadLine (S.remaining cert.old) (Writes W.contents W.failure_count out.old out.new) }
-    ensures stopped { result ≡ STOPPED
-        → NamesStop (TriesToWrite E.contents E.failure_count err.old err.new)
-        (FailsToRead S.failure_count cert.old cert.new ⊎ FailsToWrite C.failure_count made.old made.new)
-        (CountStays S.failure_count cert.old cert.new × CountStays C.failure_count made.old made.new)
-        (out.new ≡ out.old)
-        (IsConverted (S.remaining cert.old) (Writes C.contents C.failure_count made.old made.new)
-        (WritesSome W.contents W.failure_count out.old out.new)
-        ⊎ NamesBadLine (S.remaining cert.old) (WritesSome W.contents W.failure_count out.old out.new)) }
-    ensures err_stays { (result ≡ DONE) ⊎ (result ≡ CERT_FAULT) → err.new ≡ err.old }
-    ensures made_stays { result ≡ CERT_FAULT → made.new ≡ made.old }
-    // A certificate of another text is not even begun.
-    ensures begun { result ≡ STOPPED → (made.new ≡ made.old)
-        ⊎ BeginsRewritten (S.remaining cert.old) (Begins C.contents made.old made.new) }
-    ensures read_whole { result ≢ STOPPED → S.failure_count cert.new ≡ S.failure_count cert.old }
+    cert: &String,
+    made: &String,
+) -> Result<Answer<Said>, Stop>
+    requires { IsFree (F.under files.old) (string_bytes made.now) (string_bytes cert.now ∷ []) CertificateKind }
+    ensures { let w = world F.under F.log F.knows files.old files.new in
+        Does w (string_bytes cert.now ∷ []) (Some (string_bytes made.now))
+        (IsSaid (ConvertAnswers w (bytes_under (F.under files.old) (string_bytes cert.now)) (string_bytes made.now))) StopsNever result }
 {
-    let converted = rewrite(alloc, cert, made);
-    write_converted(&converted, out, err)
-}
-
-/// Reads a certificate, and writes it to `made` in version 2. [`CertStop::Text`] comes where no certificate has the text,
-/// [`CertStop::Memory`] where memory was refused for what is read, and [`CertStop::Device`] where a read or a write failed.
-pub fn rewrite<S: Source, C: Sink>(
-    alloc: Global,
-    cert: &mut S,
-    made: &mut C,
-) -> Result<Converted, CertStop>
-    ensures made { Rewrites (S.remaining cert.old) (Writes C.contents C.failure_count made.old made.new)
-        (Begins C.contents made.old made.new) (made.new ≡ made.old)
-        (FailsToRead S.failure_count cert.old cert.new ⊎ FailsToWrite C.failure_count made.old made.new) result }
-    ensures reads { StaysUnless CertStop.Device (S.failure_count cert.old) (S.failure_count cert.new) result }
-{
-    let certificate = read_cert(alloc, cert)?;
-    keep(&certificate.to_v2(), made)
-}
-
-// Writes a certificate.
-fn keep<C: Sink>(certificate: &Certificate, made: &mut C) -> Result<Converted, CertStop>
-    ensures { KeepsText certificate.now (Writes C.contents C.failure_count made.old made.new)
-        (Begins C.contents made.old made.new) (FailsToWrite C.failure_count made.old made.new) result }
-{
-    match write_cert(certificate, made) {
-        Ok(()) => Ok(Converted {
-            nodes: certificate.tree().len(),
-            rounds: certificate.rounds().len(),
-            walks: certificate.walks().len(),
-        }),
-        Err(_) => Err(CertStop::Device),
+    match read_certificate(files, alloc, cert)? {
+        Ok(certificate) => make(files, alloc, cert, made, &certificate.to_v2()),
+        Err(fault) => Ok(Answer::of(Outcome::Verdict(Verdict::CertFault(fault)))),
     }
 }
 
-/// Tells what was converted, and gives the program's exit status.
-pub fn write_converted<W: Sink, E: Sink>(
-    converted: &Result<Converted, CertStop>,
-    out: &mut W,
-    err: &mut E,
-) -> u8
-    ensures { TellsConverted converted.now result (Writes W.contents W.failure_count out.old out.new)
-        (TriesToWrite E.contents E.failure_count err.old err.new) (WritesSome W.contents W.failure_count out.old out.new)
-        (out.new ≡ out.old) (err.new ≡ err.old) }
+// Reads the certificate of a name, or tells the line that no certificate has.
+fn read_certificate<F: FileSystem>(
+    files: &mut F,
+    alloc: Global,
+    cert: &String,
+) -> Result<Result<Certificate, CertFault>, Stop>
+    ensures { Does (world F.under F.log F.knows files.old files.new) (string_bytes cert.now ∷ []) None
+        (IsReadCertificate (bytes_under (F.under files.old) (string_bytes cert.now))) StopsNever result }
 {
-    match *converted {
-        Ok(counts) => write_line(&counts, DONE, out, err),
-        Err(CertStop::Text { line }) => write_line(&CertFault::Text { line }, CERT_FAULT, out, err),
-        Err(CertStop::Memory) => stopped(&Stop::Memory, err),
-        Err(CertStop::Device) => stopped(&Stop::Device, err),
+    let mut source = open_certificate(files, alloc, cert.as_str())?;
+    let read = read_cert(alloc, &mut source);
+    close_certificate(files, source);
+    match read {
+        Ok(certificate) => Ok(Ok(certificate)),
+        Err(stop) => Ok(Err(fault_of_text(stop)?)),
+    }
+}
+
+// Makes the file of a certificate.
+fn make<F: FileSystem>(
+    files: &mut F,
+    alloc: Global,
+    cert: &String,
+    made: &String,
+    certificate: &Certificate,
+) -> Result<Answer<Said>, Stop>
+    requires { IsFree (F.under files.old) (string_bytes made.now) (string_bytes cert.now ∷ []) CertificateKind }
+    ensures { let w = world F.under F.log F.knows files.old files.new in
+        Does w [] (Some (string_bytes made.now)) (IsConversionOf w (string_bytes made.now) certificate.now) StopsNever result }
+{
+    let text = CertificateText { certificate };
+    make_file(
+        files,
+        alloc,
+        made.as_str(),
+        slice::from_ref(cert),
+        FileKind::Certificate,
+        &text,
+    )?;
+    Ok(Answer::of(Outcome::Converted(counts_of(certificate))))
+}
+
+// How many nodes, rounds and walks a certificate has.
+fn counts_of(certificate: &Certificate) -> Converted
+    ensures { result ≡ counts_of certificate.now }
+{
+    Converted {
+        nodes: certificate.tree().len(),
+        rounds: certificate.rounds().len(),
+        walks: certificate.walks().len(),
     }
 }

@@ -1,17 +1,19 @@
-//! What each command answers of what it reads: which lines, on which output, and with which exit status.
+//! What each command answers of what it reads, and how that is told: which text, on which output, and with which exit status.
 //!
-//! [`records`] answers of records alone, [`deciding`] decides a map by a certificate, [`convert`] writes a certificate in
-//! version 2, and [`usage`] tells what is wrong with the words. An answer is told as a line ([`tell`]), and [`stop`] says why
-//! there is none. What decides maps with no certificate given stands above, in `tl_making`, so that this is proved beside it;
-//! what lists all that is wrong in `tl_lists`.
+//! What is asked of records is a [`reading::Question`]: [`reading::over_records`] opens their files, has it answered, and closes them.
+//! [`records`] answers of records alone, [`deciding`] decides a map by a certificate, and [`convert`] reads one to write it in version 2.
+//! An answer is an [`Answer`](said::Answer), a text and a status, which [`telling`] tells, or why there is none; [`usage`] tells
+//! what is wrong with the words, and [`room`] whether a file may be made. What decides maps with no certificate given stands above,
+//! in `tl_making`, so that this is proved beside it; what lists all that is wrong in `tl_lists`.
 #![tactic(auto)]
 
-mod asking;
 pub mod convert;
 pub mod deciding;
-mod locating;
+pub mod outcome;
+pub mod reading;
 pub mod records;
-pub mod reports;
+pub mod room;
+pub mod said;
 pub mod stop;
-pub mod tell;
+pub mod telling;
 pub mod usage;

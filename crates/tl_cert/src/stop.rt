@@ -1,5 +1,10 @@
 //! Why reading and writing stop.
 
+ghost use Rattle.std.specs.Prelude.{◌≡◌};
+ghost use Rattle.tl_output.specs.declared.stop.Stop.TheVariants.{Device as DeviceStop};
+
+use tl_output::Stop;
+
 /// Why no further part of a certificate is read.
 #[derive(Clone, Copy, Debug, PartialEq, Eq)]
 pub enum CertStop {
@@ -17,4 +22,13 @@ pub enum CertStop {
 pub enum WriteStop {
     /// A write failed, or took nothing of what it was offered.
     Device,
+}
+
+/// A write failed.
+impl From<WriteStop> for Stop {
+    ghost from_gives = { λ _ stop. stop ≡ DeviceStop };
+
+    fn from(_stop: WriteStop) -> Stop {
+        Stop::Device
+    }
 }

@@ -1,2 +1,2 @@
--- Lemmas on the command.
-pub mod StartLemmas
+-- Lemmas on commands.
+pub mod CommandLemmas

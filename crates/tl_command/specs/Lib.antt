@@ -1,3 +1,5 @@
--- What the command's contracts cite.
-pub mod Starting
+-- What the contracts of commands cite.
+pub mod Commands
+pub mod Running
 pub mod Hinting
+pub mod Starting

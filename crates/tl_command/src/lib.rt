@@ -1,17 +1,14 @@
-//! What the command `tigertopo` does of the words that ask for a plan, from these to its status.
+//! What becomes of the words of the command line, from these to the exit status.
 //!
-//! [`start::run_plan`] does the plan that the words ask for (`tl_plan`): [`open`] opens the files that it names, and [`run`] does
-//! what it asks over any source of records. What is answered is told by `tl_answers`, which says too why it can't be;
-//! certificates are made by `tl_making`. Behind a refused line and a device that failed [`hint`] says where to look. Other tasks
-//! have crates of their own, and `tl_program` does them all. The program that has plans alone ([`plans`]) is proved and built
-//! sooner.
+//! [`start::start`] makes a command of the words (`tl_plan`), and [`run::run`] does what it asks: it asks whether the file that is made
+//! may be made, has the command performed by a [`Program`](run::Program), and tells what came of it. Behind a refused line and behind a
+//! device that failed [`hint`] says where to look. [`plain`] is the program of the commands that make no list of faults, no export and
+//! no picture; `tl_program` has all.
 #![tactic(auto)]
 
 pub mod hint;
-pub mod laws;
-pub mod open;
-pub mod plans;
-pub mod program;
-pub mod readers;
+pub mod plain;
+pub mod room;
 pub mod run;
 pub mod start;
+pub mod words;

@@ -1,86 +1,149 @@
-//! Doing what a plan asks.
+//! Doing what a command asks.
 
-ghost use Rattle.std.specs.Prelude.{◌≡◌, ◌≢◌, ◌⊎◌};
-ghost use Rattle.tl_output.specs.Writing.{Writes, WritesSome, FailsToWrite};
-ghost use Rattle.tl_answers.specs.declared.stop.TheConstants.{DONE, MAP_FAULT, CERT_FAULT, REFUSED, STOPPED};
-ghost use Rattle.tl_answers.specs.Running.{IsAnswered, TriesToWrite, BreaksOff, StopsRun, FaultsMap, FaultsCertificate, TellsRefused};
-ghost use Rattle.tl_answers.specs.Running.{ReadsNoCertificate, MakesNoCertificate, ReadsNoRecords, IsRunStatus, FailsToRead, CountStays};
-ghost use Rattle.tl_answers.specs.Deciding.{IsExact};
-ghost use Rattle.tl_answers.specs.Beginnings.{Begins, IsBegunBy};
+ghost use Rattle.std.specs.Prelude.{◌≡◌, ℕ, true, List, Some, IfOk, OnOk, OnErr, option_map, string_bytes};
+ghost use Rattle.tl_plan.specs.declared.asked.Command.{Command};
+ghost use Rattle.tl_plan.specs.Asked.{made_of};
+ghost use Rattle.tl_files.specs.World.{MayMake, World, world};
+ghost use Rattle.tl_output.specs.declared.stop.Stop.{Stop};
+ghost use Rattle.tl_output.specs.Stops.{stop_text};
+ghost use Rattle.tl_output.specs.Writing.{line_of};
+ghost use Rattle.tl_answers.specs.Outcomes.{stop_status};
+ghost use Rattle.tl_answers.specs.Telling.{Tells, Tries, stream};
+ghost use Rattle.tl_command.specs.Commands.{names_read, kind_of, FailsAgain};
+ghost use Rattle.tl_command.specs.Running.{Performs, Runs, stop_in, streams, terms, last_of, watched};
 
-use std::alloc::Global;
+use crate::room::{kind_of, room_of};
+use std::alloc::{AllocError, Global};
 use std::hash::RandomState;
-use tl_making::running::run_by;
-use tl_plan::Plan;
-use tl_record::{Sink, Source};
+use tl_answers::room::say_refusal;
+use tl_answers::said::Answer;
+use tl_answers::stop::stopped;
+use tl_answers::telling::tell;
+use tl_files::{FileSystem, Room};
+use tl_output::{Stop, Text};
+use tl_plan::Command;
+use tl_record::Sink;
 
-/// Does what the plan asks and gives the program's exit status. Answers and faults go to `out`, refusals and stops to
-/// `err`. `cert` is the certificate that is read, and `made` takes the one that is written; a command that has none leaves
-/// them alone, and one that reads no records leaves those alone.
-pub fn run<R: Source, S: Source, C: Sink, W: Sink, E: Sink>(
+/// What came of a command: its exit status, and why there is no answer, where there is none.
+#[derive(Clone, Copy)]
+pub struct Outcome {
+    pub status: u8,
+    pub stop: Option<Stop>,
+}
+
+/// What does what commands ask.
+pub trait Program {
+    // What is answered to a command, with which status.
+    ghost answers: { Command → World → ℕ → List ℕ → Type 0 };
+
+    // Why nothing is, but for want of memory and for a device that failed; `again` says that files can't be read again.
+    ghost stops: { (again : Type 0) → Command → World → Stop → Type 0 };
+
+    // Which commands it doesn't have.
+    ghost lacks: { Command → Type 0 };
+
+    /// Does what a command asks, whose file may be made, and tells what came of it.
+    fn perform<F: FileSystem, W: Sink, E: Sink>(
+        &self,
+        files: &mut F,
+        alloc: Global,
+        hasher: RandomState,
+        command: &Command,
+        out: &mut W,
+        err: &mut E,
+    ) -> Outcome
+        requires { MayMake (F.under files.old) (made_of command.now.asked) (names_read command.now) (kind_of command.now.asked) }
+        ensures { let w = world F.under F.log F.knows files.old files.new in
+            let s = streams (stream W.contents W.failure_count out.old out.new) (stream E.contents E.failure_count err.old err.new) in
+            Performs (terms (answers command.now w) (stops (FailsAgain F.Reader.failure_count w.before (names_read command.now)) command.now w)
+            (lacks command.now)) command.now w s result };
+}
+
+/// Does what a command asks: nothing is done where the file that it makes may not be made. All files are opened before the first is read,
+/// each once and in the order of their names; a file that is made takes its name when it is whole.
+pub fn run<P: Program, F: FileSystem, W: Sink, E: Sink>(
+    program: &P,
+    files: &mut F,
     alloc: Global,
     hasher: RandomState,
-    plan: &Plan,
-    records: &mut R,
-    cert: &mut S,
-    made: &mut C,
+    command: &Command,
     out: &mut W,
     err: &mut E,
-) -> u8
-    ensures status { IsRunStatus result }
-
-    // The output grew by the answer.
-    ensures answered { result ≡ DONE
-        → IsAnswered plan.now (R.remaining records.old) (S.remaining cert.old)
-        (Writes C.contents C.failure_count made.old made.new) (Writes W.contents W.failure_count out.old out.new) }
-    // The output grew by the line of a fault that is true of the records or of their map. Where the records have no map,
-    // nothing of the certificate was read.
-    ensures fault { result ≡ MAP_FAULT
-        → FaultsMap plan.now (R.remaining records.old) (S.remaining cert.old) (cert.new ≡ cert.old)
-        (Writes W.contents W.failure_count out.old out.new) }
-    // Of `audit`, `build` and `check`: a status of 0 or 1 is 0 exactly where the records have a map that is sound.
-    ensures exactly { (result ≡ DONE) ⊎ (result ≡ MAP_FAULT)
-        → IsExact plan.now (R.remaining records.old) result }
-    // The output grew by the line of a fault that is true of the certificate.
-    ensures cert_fault { result ≡ CERT_FAULT
-        → FaultsCertificate plan.now (R.remaining records.old) (S.remaining cert.old)
-        (Writes W.contents W.failure_count out.old out.new) }
-    // The line of the first refusal was written to `err`, or the write of it failed, and the output is as it was.
-    ensures refused { result ≡ REFUSED
-        → TellsRefused plan.now (R.remaining records.old) (TriesToWrite E.contents E.failure_count err.old err.new)
-        (out.new ≡ out.old) }
-    // The line of a stop was, or the write of it failed; of a device only where a read or a write failed, of a want of
-    // memory and of a spent budget only where none did, and of a budget only where more pairs of segments have rectangles
-    // that meet. The output is as it was, unless a write of it failed: then it grew by a beginning of an answer or of a
-    // fault's line, which is true.
-    ensures stopped { result ≡ STOPPED
-        → StopsRun plan.now (R.remaining records.old) (S.remaining cert.old)
-        (TriesToWrite E.contents E.failure_count err.old err.new)
-        ((FailsToRead R.failure_count records.old records.new ⊎ FailsToRead S.failure_count cert.old cert.new)
-        ⊎ FailsToWrite C.failure_count made.old made.new)
-        ((CountStays R.failure_count records.old records.new × CountStays S.failure_count cert.old cert.new)
-        × CountStays C.failure_count made.old made.new)
-        (out.new ≡ out.old)
-        (BreaksOff plan.now (R.remaining records.old) (S.remaining cert.old) (cert.new ≡ cert.old)
-        (Writes C.contents C.failure_count made.old made.new) (WritesSome W.contents W.failure_count out.old out.new)) }
-
-    // The other stream stays as it was.
-    ensures err_stays { (result ≡ DONE) ⊎ ((result ≡ MAP_FAULT) ⊎ (result ≡ CERT_FAULT)) → err.new ≡ err.old }
-    // No read failed where the run didn't stop.
-    ensures read_whole { result ≢ STOPPED → R.failure_count records.new ≡ R.failure_count records.old }
-    ensures cert_whole { result ≢ STOPPED → S.failure_count cert.new ≡ S.failure_count cert.old }
-
-    // What the command has no use for it leaves alone, and the certificate where a line is refused.
-    ensures cert { ReadsNoCertificate plan.now → cert.new ≡ cert.old }
-    ensures made { MakesNoCertificate plan.now → made.new ≡ made.old }
-    ensures records { ReadsNoRecords plan.now → records.new ≡ records.old }
-    ensures unread { result ≡ REFUSED → cert.new ≡ cert.old }
-    // No certificate is made where the records are refused, they or their map have a fault, or the certificate that is
-    // read has one.
-    ensures unmade { (result ≡ MAP_FAULT) ⊎ ((result ≡ CERT_FAULT) ⊎ (result ≡ REFUSED)) → made.new ≡ made.old }
-    // Where it stops, none was begun but one that is valid.
-    ensures begun { result ≡ STOPPED → (made.new ≡ made.old)
-        ⊎ IsBegunBy plan.now (R.remaining records.old) (S.remaining cert.old) (Begins C.contents made.old made.new) }
+) -> Outcome
+    ensures { let w = world F.under F.log F.knows files.old files.new in
+        let s = streams (stream W.contents W.failure_count out.old out.new) (stream E.contents E.failure_count err.old err.new) in
+        Runs (λ v. terms (P.answers command.now v)
+        (P.stops (FailsAgain F.Reader.failure_count v.before (names_read command.now)) command.now v) (P.lacks command.now)) command.now w s result }
 {
-    run_by(alloc, hasher, plan, records, cert, made, out, err)
+    if watch(files, alloc, command).is_err() {
+        return stop_by(Stop::Memory, err);
+    }
+    match room_of(&*files, alloc, command) {
+        Ok(room) => match room {
+            Room::Free => program.perform(files, alloc, hasher, command, out, err),
+            _ => Outcome {
+                status: say_refusal(kind_of(&command.asked), room, err),
+                stop: None,
+            },
+        },
+        Err(stop) => stop_by(stop, err),
+    }
+}
+
+// Tells why nothing was begun.
+fn stop_by<E: Sink>(stop: Stop, err: &mut E) -> Outcome
+    ensures status { result.status ≡ stop_status stop }
+    ensures told { Tries (stream E.contents E.failure_count err.old err.new) (line_of (stop_text stop)) }
+    ensures stop { result.stop ≡ Some stop }
+{
+    Outcome {
+        status: stopped(&stop, err),
+        stop: Some(stop),
+    }
+}
+
+/// Tells an answer, or why there is none.
+pub fn tell_answer<T: Text + Drop, W: Sink, E: Sink>(
+    alloc: Global,
+    answer: Result<Answer<T>, Stop>,
+    out: &mut W,
+    err: &mut E,
+) -> Outcome
+    requires { IfOk answer (λ answer. T.is_ready answer.text) }
+    ensures told { Tells T.text (stream W.contents W.failure_count out.old out.new)
+        (stream E.contents E.failure_count err.old err.new) result.status answer }
+    ensures stop { result.stop ≡ stop_in answer }
+{
+    let status = tell(alloc, &answer, out, err);
+    let stop = match answer {
+        Ok(_) => None,
+        Err(stop) => Some(stop),
+    };
+    Outcome { status, stop }
+}
+
+// Has it shown how far the reading of the command's files is, where that is asked for.
+fn watch<F: FileSystem>(files: &mut F, alloc: Global, command: &Command) -> Result<(), AllocError>
+    ensures stays { F.under files.new ≡ F.under files.old }
+    ensures watched { OnOk result (F.knows ≡ true → F.log files.new ≡ watched command.now (F.log files.old)) }
+    ensures unwatched { OnErr result (F.log files.new ≡ F.log files.old) }
+{
+    if !command.progress {
+        return Ok(());
+    }
+    if let Some(last) = last_of(command) {
+        let last = String::from_str(alloc, last.as_str())?;
+        files.show_progress(last);
+    }
+    Ok(())
+}
+
+// The name of the file that is read last: that of the certificate, or the last of the records.
+fn last_of(command: &Command) -> Option<&String>
+    ensures { option_map (λ name. string_bytes name.now) result ≡ last_of command.now }
+{
+    match command.cert() {
+        Some(cert) => Some(cert),
+        None => command.files.last(),
+    }
 }

@@ -1,49 +1,98 @@
-//! Doing a plan, and showing how far reading is.
+//! From the words to the exit status.
 
-ghost use Rattle.std.specs.Prelude.{◌≡◌};
-ghost use Rattle.tl_output.specs.Writing.{Writes, WritesSome};
-ghost use Rattle.tl_answers.specs.Running.{TriesToWrite};
-ghost use Rattle.tl_making.specs.Opening.{FilesFail, RunsOver};
+ghost use Rattle.std.specs.Prelude.{IfErr, map, string_bytes};
+ghost use Rattle.tl_files.specs.World.{world};
+ghost use Rattle.tl_hint.specs.Again.{CountFails};
+ghost use Rattle.tl_answers.specs.Telling.{stream};
+ghost use Rattle.tl_command.specs.Commands.{names_read, FailsAgain};
+ghost use Rattle.tl_command.specs.Hinting.{HintsBy};
+ghost use Rattle.tl_command.specs.Running.{streams, terms};
+ghost use Rattle.tl_command.specs.Starting.{AnswersWords, IsUnread, RunsAndHints, Starts};
 
-use crate::open::open_and_run;
+use crate::hint::hint;
+use crate::run::{Program, run};
 use std::alloc::Global;
 use std::hash::RandomState;
+use std::io;
+use tl_answers::stop::stopped;
+use tl_answers::usage::say_stop;
 use tl_files::FileSystem;
-use tl_plan::Plan;
+use tl_output::Stop;
+use tl_plan::{Command, WordsStop, words};
 use tl_record::Sink;
 
-/// Does what a plan asks as [`open_and_run`] does, and has it shown how far the reading of its files is where that is asked for.
-pub fn run_plan<F: FileSystem, W: Sink, E: Sink>(
+/// Does what the words of the command line ask, and gives the program's exit status: the words behind the program's name or why they
+/// can't be read, and the keys of hashers or that there are none, are what the system gave. Behind a refused line and behind a device
+/// that failed it is said what helps to find them, of the files as they stand then.
+pub fn answer<P: Program, F: FileSystem, W: Sink, E: Sink>(
+    program: &P,
     files: &mut F,
     alloc: Global,
-    hasher: RandomState,
-    plan: &Plan,
-    progress: bool,
+    hasher: io::Result<RandomState>,
+    words: Result<Vec<String>, WordsStop>,
     out: &mut W,
     err: &mut E,
 ) -> u8
-    ensures { RunsOver plan.now result (F.under files.old) (F.under files.new)
-        (Writes W.contents W.failure_count out.old out.new)
-        (TriesToWrite E.contents E.failure_count err.old err.new) (WritesSome W.contents W.failure_count out.old out.new)
-        (FilesFail F.Reader.failure_count F.Draft.failure_count F.knows (F.under files.old) plan.now)
-        (out.new ≡ out.old) (err.new ≡ err.old) }
+    requires { IfErr words IsUnread }
+    ensures { (told : E)
+        × AnswersWords words (λ command v. terms (P.answers command v)
+        (P.stops (FailsAgain F.Reader.failure_count v.before (names_read command)) command v) (P.lacks command))
+        (world F.under F.log F.knows files.old files.new)
+        (streams (stream W.contents W.failure_count out.old out.new) (stream E.contents E.failure_count err.old told))
+        (HintsBy (F.under files.new) (CountFails F.Reader.failure_count (F.under files.new)) (stream E.contents E.failure_count told err.new)) result }
 {
-    watch_plan(files, alloc, plan, progress);
-    open_and_run(files, alloc, hasher, plan, out, err)
+    let words = match words {
+        Ok(words) => words,
+        Err(unread) => return say_stop(alloc, &unread, out, err),
+    };
+    let Ok(hasher) = hasher else {
+        return stopped(&Stop::Device, err);
+    };
+    start(program, files, alloc, hasher, words.as_slice(), out, err)
 }
 
-/// Has it shown how far the reading of the plan's files is, where that is asked for. The certificate that is read comes last.
-pub fn watch_plan<F: FileSystem>(files: &mut F, alloc: Global, plan: &Plan, progress: bool)
-    ensures { F.under files.new ≡ F.under files.old }
+/// Does what these words ask, and gives the program's exit status.
+pub fn start<P: Program, F: FileSystem, W: Sink, E: Sink>(
+    program: &P,
+    files: &mut F,
+    alloc: Global,
+    hasher: RandomState,
+    words: &[String],
+    out: &mut W,
+    err: &mut E,
+) -> u8
+    ensures { (told : E)
+        × Starts (map string_bytes words.now) (λ command v. terms (P.answers command v)
+        (P.stops (FailsAgain F.Reader.failure_count v.before (names_read command)) command v) (P.lacks command))
+        (world F.under F.log F.knows files.old files.new)
+        (streams (stream W.contents W.failure_count out.old out.new) (stream E.contents E.failure_count err.old told))
+        (HintsBy (F.under files.new) (CountFails F.Reader.failure_count (F.under files.new)) (stream E.contents E.failure_count told err.new)) result }
 {
-    if !progress {
-        return;
+    match words::command(alloc, words) {
+        Ok(command) => run_and_hint(program, files, alloc, hasher, &command, out, err),
+        Err(stop) => say_stop(alloc, &stop, out, err),
     }
-    let last = match plan {
-        Plan::Check { cert, .. } => Some(cert),
-        _ => plan.files().last(),
-    };
-    if let Some(last) = last {
-        files.show_progress(alloc, last.as_str());
-    }
+}
+
+// Does what a command asks, and says what helps behind a stop.
+fn run_and_hint<P: Program, F: FileSystem, W: Sink, E: Sink>(
+    program: &P,
+    files: &mut F,
+    alloc: Global,
+    hasher: RandomState,
+    command: &Command,
+    out: &mut W,
+    err: &mut E,
+) -> u8
+    ensures { let w = world F.under F.log F.knows files.old files.new in
+        (told : E)
+        × RunsAndHints (λ v. terms (P.answers command.now v)
+        (P.stops (FailsAgain F.Reader.failure_count v.before (names_read command.now)) command.now v) (P.lacks command.now)) command.now w
+        (streams (stream W.contents W.failure_count out.old out.new) (stream E.contents E.failure_count err.old told))
+        (HintsBy (F.under files.new) (CountFails F.Reader.failure_count (F.under files.new)) (stream E.contents E.failure_count told err.new) command.now)
+        result }
+{
+    let outcome = run(program, files, alloc, hasher, command, out, err);
+    let _ = hint(&*files, alloc, command, &outcome.stop, err);
+    outcome.status
 }

@@ -1,15 +1,19 @@
 //! What a picture is drawn of.
 
-ghost use Rattle.std.specs.Prelude.{◌≡◌, ℕ, List, Option, true, IfSome};
+ghost use Rattle.std.specs.Prelude.{◌≡◌, ℕ, List, Option, true, IfOk, IfErr, IfSome};
 ghost use Rattle.tl_record.specs.declared.options.Options.{Options};
+ghost use Rattle.tl_record.specs.Layout.{layout_with};
 ghost use Rattle.tl_all_faults.specs.Findings.{AreFindingsOf};
+ghost use Rattle.tl_files.specs.World.{MayStop};
+ghost use Rattle.tl_output.specs.declared.stop.Stop.TheVariants.{Device};
+ghost use Rattle.tl_answers.specs.Records.{StopsRecords};
 ghost use Rattle.tl_draw.specs.Keeping.{listed_faults, first_refused, first_fault, first_listed};
-ghost use Rattle.tl_answers.specs.Running.{FailsToRead};
-ghost use Rattle.tl_draw.specs.Subjects.{IsReadSubject};
+ghost use Rattle.tl_draw.specs.Subjects.{IsSubjectOf};
 
 use std::alloc::Global;
 use std::hash::RandomState;
 use tl_all_faults::{Findings, list_with_map};
+use tl_answers::reading::Question;
 use tl_county::Map;
 use tl_listing::Listing;
 use tl_map::read_map_with;
@@ -24,35 +28,47 @@ pub struct Subject {
     pub faults: Vec<MapFault>,
 }
 
-/// Reads the map of the records, and where they are to be shown lists all its faults; or tells the fault of records that have no
-/// map.
-pub fn read_subject<R: Source>(
-    alloc: Global,
-    hasher: RandomState,
-    records: &mut R,
-    shows_faults: bool,
-    options: Options,
-) -> Result<Result<Subject, MapFault>, Stop>
-    ensures { IsReadSubject options (R.remaining records.old) shows_faults
-        (FailsToRead R.failure_count records.old records.new) result }
-{
-    if shows_faults {
-        let found = list_with_map(alloc, hasher, records, options)?;
-        return subject_of(alloc, found);
-    }
-    match read_map_with(alloc, hasher, records, options) {
-        Ok(map) => Ok(Ok(Subject {
-            map,
-            faults: Vec::new(alloc),
-        })),
-        Err(stop) => Ok(Err(fault_of_records(stop)?)),
+/// The map of the records, and where they are to be shown all its faults, or the fault of records that have none, as a question.
+#[derive(Clone, Copy)]
+pub struct SubjectOf {
+    pub options: Options,
+    pub shows_faults: bool,
+}
+
+impl Question for SubjectOf {
+    type Answer = Result<Subject, MapFault>;
+
+    ghost answers = { λ asked known. IsSubjectOf asked.options known asked.shows_faults };
+
+    ghost stops = { λ asked known. StopsRecords (layout_with asked.options) known };
+
+    fn ask<R: Source>(
+        &self,
+        alloc: Global,
+        hasher: RandomState,
+        records: &mut R,
+    ) -> Result<Result<Subject, MapFault>, Stop> {
+        if self.shows_faults {
+            let found = list_with_map(alloc, hasher, records, self.options)?;
+            return subject_of(alloc, found);
+        }
+        match read_map_with(alloc, hasher, records, self.options) {
+            Ok(map) => Ok(Ok(Subject {
+                map,
+                faults: Vec::new(alloc),
+            })),
+            Err(stop) => Ok(Err(fault_of_records(stop)?)),
+        }
     }
 }
 
 // The map that was found with its faults, or why there is none.
 fn subject_of(alloc: Global, found: Findings) -> Result<Result<Subject, MapFault>, Stop>
-    ensures { (options : Options) (known : Option (List ℕ)) → IfSome known (λ text. AreFindingsOf options text found) →
-        IsReadSubject options known true ⊥ result }
+    ensures found { (options : Options) (known : Option (List ℕ)) → IfSome known (λ text. AreFindingsOf options text found) →
+        IfOk result (IsSubjectOf options known true) }
+    ensures stopped { (options : Options) (known : Option (List ℕ)) → IfSome known (λ text. AreFindingsOf options text found) →
+        IfErr result (MayStop (StopsRecords (layout_with options) known)) }
+    ensures no_device { IfErr result (λ stop. ¬ (stop ≡ Device)) }
 {
     let Findings { listing, map } = found;
     match map {

@@ -1,4 +1,2 @@
 -- What the contracts of exports cite.
-pub mod Told
 pub mod Exports
-pub mod Answering

@@ -1,49 +1,49 @@
-//! Counties that are exported over a file system.
+//! Counties that are exported.
 
-ghost use Rattle.std.specs.Prelude.{◌≡◌, ◌<◌, ◌^◌, false, length, map as map_list, string_bytes};
+ghost use Rattle.std.specs.Prelude.{◌≡◌, ◌<◌, ◌^◌, [], Some, length, map as map_list, string_bytes};
 ghost use Rattle.tl_record.specs.Layout.{layout_with};
-ghost use Rattle.tl_text.specs.Joining.{joined_bytes};
-ghost use Rattle.tl_files.specs.Files.{bytes_under};
+ghost use Rattle.tl_files.specs.Files.{IsFree};
+ghost use Rattle.tl_files.specs.World.{Does, world};
+ghost use Rattle.tl_files.specs.declared.beginning.FileKind.TheVariants.{Collection};
 ghost use Rattle.tl_verdict.specs.Sound.{IsSound};
 ghost use Rattle.tl_sides.specs.Walks.{AreWalks};
-ghost use Rattle.tl_export.specs.Exports.{Exports, ExportsMap, SomeFileFails};
-ghost use Rattle.tl_making.specs.Files.{NewFileFails};
+ghost use Rattle.tl_answers.specs.Answers.{IsSaid};
+ghost use Rattle.tl_answers.specs.Reading.{text_under};
+ghost use Rattle.tl_answers.specs.Records.{StopsNever, StopsRecords};
+ghost use Rattle.tl_export.specs.Exports.{ExportAnswers, IsExportedOf, counts_of};
 
-use crate::exported::Exported;
-use crate::exporting::Exporting;
-use crate::text_file::make_text_file;
 use std::alloc::Global;
 use std::hash::RandomState;
+use tl_answers::outcome::{Exported, Outcome};
+use tl_answers::reading::over_records;
+use tl_answers::records::MapOf;
+use tl_answers::said::{Answer, Said};
 use tl_build::find_walks;
 use tl_county::Map;
-use tl_files::{FileKind, FileSystem};
+use tl_files::{FileKind, FileSystem, make_file};
 use tl_geojson::{CountyText, CountyTextWith};
-use tl_making::county::read_county;
-use tl_making::opening::open_all;
 use tl_output::Stop;
 use tl_record::Options;
-use tl_verdict::fault_of_records;
 
-/// Exports the map of the records in the files of these names, as GeoJSON under the name `made`. Where it stops, or the records
-/// have a fault, what stood under the name stays.
+/// Exports the map of the records in the files of these names as GeoJSON, to a file of the name `made`, which it may take. The map need
+/// not be sound: of one that isn't there are no boundaries. The file takes its name when it is whole.
 pub fn export<F: FileSystem>(
     files: &mut F,
     alloc: Global,
     hasher: RandomState,
-    made: &String,
     options: Options,
     names: &[String],
-) -> Result<Exporting, Stop>
-    ensures { Exports (layout_with options)
-        (joined_bytes (bytes_under (F.under files.old)) false (map_list string_bytes names.now))
-        (F.under files.old) (F.under files.new) (string_bytes made.now)
-        (SomeFileFails F.Reader.failure_count F.Draft.failure_count F.knows (F.under files.old) (string_bytes made.now)
-        (map_list string_bytes names.now)) result }
+    made: &String,
+) -> Result<Answer<Said>, Stop>
+    requires { IsFree (F.under files.old) (string_bytes made.now) (map_list string_bytes names.now) Collection }
+    ensures { let w = world F.under F.log F.knows files.old files.new in
+        let known = text_under (F.under files.old) (map_list string_bytes names.now) in
+        Does w (map_list string_bytes names.now) (Some (string_bytes made.now))
+        (IsSaid (ExportAnswers w (layout_with options) known (string_bytes made.now))) (StopsRecords (layout_with options) known) result }
 {
-    let mut readers = open_all(&*files, alloc, names)?;
-    match read_county(alloc, hasher, &mut readers, options) {
-        Ok(map) => Ok(Exporting::Made(export_map(files, alloc, made, &map)?)),
-        Err(stop) => Ok(Exporting::Fault(fault_of_records(stop)?)),
+    match over_records(files, alloc, hasher, names, &MapOf { options })? {
+        Ok(map) => export_map(files, alloc, names, made, &map),
+        Err(fault) => Ok(Answer::of(Outcome::fault(fault))),
     }
 }
 
@@ -51,15 +51,17 @@ pub fn export<F: FileSystem>(
 fn export_map<F: FileSystem>(
     files: &mut F,
     alloc: Global,
+    names: &[String],
     made: &String,
     map: &Map,
-) -> Result<Exported, Stop>
-    ensures { ExportsMap map.now (F.under files.old) (F.under files.new) (string_bytes made.now)
-        (NewFileFails F.Draft.failure_count F.knows) result }
+) -> Result<Answer<Said>, Stop>
+    requires { IsFree (F.under files.old) (string_bytes made.now) (map_list string_bytes names.now) Collection }
+    ensures { let w = world F.under F.log F.knows files.old files.new in
+        Does w [] (Some (string_bytes made.now)) (IsExportedOf w (string_bytes made.now) map.now) StopsNever result }
 {
     match find_walks(alloc, map)? {
-        Some(walks) => export_sound(files, alloc, made, map, &walks),
-        None => export_faulty(files, alloc, made, map),
+        Some(walks) => export_sound(files, alloc, names, made, map, &walks),
+        None => export_faulty(files, alloc, names, made, map),
     }
 }
 
@@ -67,40 +69,58 @@ fn export_map<F: FileSystem>(
 fn export_sound<F: FileSystem>(
     files: &mut F,
     alloc: Global,
+    names: &[String],
     made: &String,
     map: &Map,
     walks: &[Vec<u32>],
-) -> Result<Exported, Stop>
+) -> Result<Answer<Said>, Stop>
+    requires free { IsFree (F.under files.old) (string_bytes made.now) (map_list string_bytes names.now) Collection }
     requires sound { IsSound map.now }
     requires walks { AreWalks map.now.chains (map_list (λ w. w.items) walks.now) }
     requires counted { length walks.now < 2 ^ 32 }
-    ensures { ExportsMap map.now (F.under files.old) (F.under files.new) (string_bytes made.now)
-        (NewFileFails F.Draft.failure_count F.knows) result }
+    ensures { let w = world F.under F.log F.knows files.old files.new in
+        Does w [] (Some (string_bytes made.now)) (IsExportedOf w (string_bytes made.now) map.now) StopsNever result }
 {
     let text = CountyTextWith { map, walks };
-    make_text_file(files, alloc, made, FileKind::Collection, &text)?;
-    Ok(counts(map, Some(walks.len() as u32)))
+    make_file(
+        files,
+        alloc,
+        made.as_str(),
+        names,
+        FileKind::Collection,
+        &text,
+    )?;
+    Ok(Answer::of(Outcome::Exported(counts(map, Some(walks.len() as u32)))))
 }
 
 // Exports a map that isn't sound.
 fn export_faulty<F: FileSystem>(
     files: &mut F,
     alloc: Global,
+    names: &[String],
     made: &String,
     map: &Map,
-) -> Result<Exported, Stop>
-    requires { ¬ IsSound map.now }
-    ensures { ExportsMap map.now (F.under files.old) (F.under files.new) (string_bytes made.now)
-        (NewFileFails F.Draft.failure_count F.knows) result }
+) -> Result<Answer<Said>, Stop>
+    requires free { IsFree (F.under files.old) (string_bytes made.now) (map_list string_bytes names.now) Collection }
+    requires faulty { ¬ IsSound map.now }
+    ensures { let w = world F.under F.log F.knows files.old files.new in
+        Does w [] (Some (string_bytes made.now)) (IsExportedOf w (string_bytes made.now) map.now) StopsNever result }
 {
     let text = CountyText { map };
-    make_text_file(files, alloc, made, FileKind::Collection, &text)?;
-    Ok(counts(map, None))
+    make_file(
+        files,
+        alloc,
+        made.as_str(),
+        names,
+        FileKind::Collection,
+        &text,
+    )?;
+    Ok(Answer::of(Outcome::Exported(counts(map, None))))
 }
 
 // The numbers of a map that was exported, with so many rings.
 fn counts(map: &Map, rings: Option<u32>) -> Exported
-    ensures { result ≡ record { chains = length map.now.chains; polygons = length map.now.polygons; rings = rings } }
+    ensures { result ≡ counts_of map.now rings }
 {
     Exported {
         chains: map.chains(),

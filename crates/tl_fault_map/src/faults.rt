@@ -2,7 +2,7 @@
 
 ghost use Rattle.std.specs.Prelude.{map, string_bytes, option_copied};
 ghost use Rattle.tl_record_lines.specs.Keeping.{held};
-ghost use Rattle.tl_geojson.specs.Ending.{PrintsText};
+ghost use Rattle.tl_output.specs.Texts.{PrintsText};
 ghost use Rattle.tl_fault_map.specs.Texts.{faults_text};
 
 use crate::chains::{list_tlids, print_chains};

@@ -3,8 +3,7 @@
 use crate::faults::print_faults;
 use std::alloc::Global;
 use tl_county::Map;
-use tl_geojson::Text;
-use tl_output::Stop;
+use tl_output::{Stop, Text};
 use tl_record::Sink;
 use tl_record_lines::RecordLines;
 use tl_verdict::MapFault;

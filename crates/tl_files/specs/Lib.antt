@@ -1,1 +1,6 @@
+-- What the contracts of files cite.
 pub mod Files
+pub mod Log
+pub mod World
+pub mod Calls
+pub mod Looking

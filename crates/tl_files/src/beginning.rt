@@ -1,7 +1,7 @@
 //! The kinds of files that are made, and how each begins.
 
 ghost use Rattle.std.specs.Prelude.{◌≡◌, ◌≤◌, length};
-ghost use Rattle.tl_files.specs.Files.{beginning_of, may_go as may_go_of};
+ghost use Rattle.tl_files.specs.Files.{beginning_of, may_go as may_go_of, may_be_left as may_be_left_of};
 
 /// What is made.
 #[derive(Clone, Copy, Debug, PartialEq, Eq)]
@@ -35,4 +35,12 @@ pub fn may_go(kind: FileKind, bytes: &[u8]) -> bool
     ensures { result ≡ may_go_of kind bytes.now }
 {
     bytes.is_empty() || bytes.starts_with(beginning(kind))
+}
+
+/// Whether a file of these bytes may be one of the kind that an earlier run left unfinished: they begin as those of the kind do, or
+/// end before that could be told.
+pub fn may_be_left(kind: FileKind, bytes: &[u8]) -> bool
+    ensures { result ≡ may_be_left_of kind bytes.now }
+{
+    bytes.starts_with(beginning(kind)) || beginning(kind).starts_with(bytes)
 }

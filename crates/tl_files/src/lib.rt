@@ -1,15 +1,28 @@
 //! Files by their names: what a command opens, and what it makes.
 //!
-//! A [`FileSystem`] opens a name, tells whether a file may be made of one, and lets a new file take a name when it is whole.
-//! Its contract says what stands under each name before and after, where that is known: of [`SystemFiles`], those of the
-//! system, no bytes are. `tl_memory_files` has files whose bytes are.
+//! A [`FileSystem`] opens a name, tells whether a file may be made of one, and lets a new file take a name when it is whole:
+//! [`make_file`] makes one of a text. Its contract says what stands under each name before and after, where that is known, and what
+//! was done: of [`SystemFiles`], those of the system, neither is. `tl_memory_files` has files of which both are. What is made of the bytes
+//! and the errors that a system's calls answer is generic ([`ShownReader`], [`NewFile`], [`room_of`]), and proved where these are known.
 #![tactic(auto)]
 
 mod beginning;
 mod file_system;
+mod front;
+mod looking;
+mod making;
+mod new_file;
+mod place;
 mod progress;
+mod reading;
+mod stops;
 mod system;
 
-pub use beginning::{FileKind, may_go};
-pub use file_system::{FileSystem, Room};
-pub use system::{SystemDraft, SystemFiles, SystemReader};
+pub use beginning::{FileKind, may_be_left, may_go};
+pub use file_system::{Draft, FileSystem, Room};
+pub use looking::{Lookup, Seen, Spot, Standing, name_beside, room_of, stands_under};
+pub use making::make_file;
+pub use new_file::{NewBytes, NewFile, Place};
+pub use place::SystemPlace;
+pub use reading::ShownReader;
+pub use system::SystemFiles;

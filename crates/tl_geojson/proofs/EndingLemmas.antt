@@ -9,7 +9,7 @@ use Rattle.tl_output.specs.Writing.{PassesSome}
 use Rattle.tl_output.proofs.WritingLemmas.{passes_both, passes_some_then, writes_some}
 use Rattle.tl_geojson.specs.Printed.{Printed}
 use Rattle.tl_geojson.specs.Printing.{Goes, Prints, EndsAfter, Ends}
-use Rattle.tl_geojson.specs.Ending.{PrintsText}
+use Rattle.tl_output.specs.Texts.{PrintsText}
 
 module _ {S T : Type 0} (C : S → Option (List ℕ)) (F : S → ℕ) (a b c : S) (held text : List ℕ) where
   ends_cases : (failed : Bool) (r : Result T Stop) → Goes false failed (C a) (C b) (F a) (F b) [] held text → EndsAfter failed (C b) (C c) (F b) (F c) held r → IfErr r (λ stop. stop ≡ Device)

@@ -7,4 +7,3 @@ pub mod Groups
 pub mod Areas
 pub mod Features
 pub mod Rings
-pub mod Ending

@@ -3,7 +3,7 @@
 ghost use Rattle.std.specs.Prelude.{◌≡◌, ◌++◌, IfOk, length, map as map_list};
 ghost use Rattle.tl_sides.specs.Walks.{AreWalks};
 ghost use Rattle.tl_geojson.specs.Printing.{Prints};
-ghost use Rattle.tl_geojson.specs.Ending.{PrintsText};
+ghost use Rattle.tl_output.specs.Texts.{PrintsText};
 ghost use Rattle.tl_geojson.specs.Features.{linked_lands, linked_polygons, collection_opening};
 ghost use Rattle.tl_geojson.specs.Groups.{AreGroups};
 ghost use Rattle.tl_geojson.specs.Rings.{chains_and_points, county_text, county_text_with};

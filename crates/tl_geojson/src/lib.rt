@@ -1,8 +1,8 @@
 //! Counties as GeoJSON, and a printer for such texts.
 //!
 //! A [`Printer`] takes text on its way to a sink, and keeps its first failure. [`print_county`] and [`print_county_with`] write a
-//! county's chains and polygons as one FeatureCollection of RFC 7946, and say exactly which bytes are written. As a [`Text`] what is
-//! printed can be handed to whoever makes a file of it.
+//! county's chains and polygons as one FeatureCollection of RFC 7946, and say exactly which bytes are written. [`CountyText`] and
+//! [`CountyTextWith`] are these as texts that can be handed to whoever makes a file of them.
 #![tactic(auto)]
 
 mod areas;
@@ -21,4 +21,4 @@ pub use features::{print_chain, print_lead};
 pub use positions::print_position;
 pub use printer::Printer;
 pub use strings::{print_key, print_string};
-pub use text::{CountyText, CountyTextWith, Text};
+pub use text::{CountyText, CountyTextWith};

@@ -1,27 +1,10 @@
-//! Texts that are printed, and those of counties.
+//! Counties as texts that are printed.
 
 use crate::county::{print_county, print_county_with};
 use std::alloc::Global;
 use tl_county::Map;
-use tl_output::Stop;
+use tl_output::{Stop, Text};
 use tl_record::Sink;
-
-/// A text that is printed, whatever into.
-pub trait Text {
-    ghost use Rattle.std.specs.Prelude.{ℕ, List};
-    ghost use Rattle.tl_geojson.specs.Ending.{PrintsText};
-
-    // The text.
-    ghost text: { Self → List ℕ };
-
-    // What has to be true of it before it is printed.
-    ghost is_ready: { Self → Type 0 };
-
-    /// Prints the text.
-    fn print<S: Sink>(&self, alloc: Global, out: &mut S) -> Result<(), Stop>
-        requires { is_ready self.now }
-        ensures { PrintsText S.contents S.failure_count out.old out.new (text self.now) result };
-}
 
 /// A county's chains and its polygons' points.
 #[derive(Clone, Copy)]

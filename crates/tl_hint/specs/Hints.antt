@@ -1,5 +1,5 @@
 -- What is said behind a refused line, and behind a device that failed: in which file, where in it, and why.
-use Rattle.std.specs.Prelude.{ℕ, List, [], ◌∷◌, ◌++◌, Option, None, Some, codes, decimal, map, take, slice_get, slice_index, slice_index_or}
+use Rattle.std.specs.Prelude.{ℕ, List, [], ◌++◌, Option, None, Some, codes, decimal, map, take, slice_get, slice_index, slice_index_or}
 use Rattle.std.specs.Option.{option_map_or, option_and_then}
 use Rattle.tl_record.specs.declared.layout.Layout.{Layout}
 use Rattle.tl_record.specs.declared.stop.Field.{Field}
@@ -48,11 +48,6 @@ hint_at layout names texts cause place =
 -- the line of a refusal among the texts of these names
 abbrev pub refusal_at : Layout → List (List ℕ) → List (List ℕ) → ℕ × Cause → List ℕ
 refusal_at layout names texts refusal = option_map_or (hint_at layout names texts refusal.1) (place_of (map line_count texts) refusal.0) []
-
--- what is said of the first refused line of the texts of these names, or nothing where none is refused
-abbrev pub refusal_hint : Layout → List (List ℕ) → List (List ℕ) → List (ℕ × Cause) → List ℕ
-refusal_hint layout names texts [] = []
-refusal_hint layout names texts (refusal ∷ rest) = refusal_at layout names texts refusal
 
 -- a file, and why it can't be opened or read
 abbrev pub trouble_text : List ℕ → List ℕ → List ℕ

@@ -2,5 +2,4 @@
 pub mod Shown
 pub mod Hints
 pub mod Telling
-pub mod Keeping
 pub mod Again

@@ -4,9 +4,9 @@
 //! columns, and what it holds there; or which file can't be read, and why.
 #![tactic(auto)]
 
-mod refusal;
+mod again;
 mod shown;
 mod tell;
 
-pub use refusal::{count_all, open_again};
+pub use again::{count_all, open_again};
 pub use tell::say_hint;

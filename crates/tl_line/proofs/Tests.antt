@@ -1,19 +1,17 @@
 -- What the tests of neighbours say.
-use Rattle.std.proofs.Common.{◌≡◌, ◌⊎◌, inl, inr, ⊎_elim, ℕ, Bool, true, false, IsTrue, IsFalse, Ordering, ℤ, pos, ◌+ℤ◌, ◌<ℤ◌, ◌≤ℤ◌, List, refl, sym, ap, subst, ◌∙◌, arith}
+use Rattle.std.proofs.Common.{◌≡◌, ◌⊎◌, inl, inr, ⊎_elim, ℕ, Bool, true, false, IsTrue, Ordering, ℤ, pos, ◌+ℤ◌, ◌<ℤ◌, ◌≤ℤ◌, List, refl, sym, ap, subst, ◌∙◌, arith}
 use Rattle.std.proofs.lemmas.Int.{ints}
 use Rattle.std.proofs.lemmas.Cmp.{int_ranked}
 use Rattle.std.specs.declared.cmp.Ordering.TheVariants.{Less, Equal, Greater}
-use Rattle.std.specs.Prelude.{int_lt, if◌then◌else◌}
-use Rattle.std.specs.Ordering.{int_cmp, is_gt, is_le, is_lt, ordering_reverse, MatchOrdering}
+use Rattle.std.specs.Prelude.{int_lt}
+use Rattle.std.specs.Ordering.{int_cmp, is_ge, is_le, is_lt, MatchOrdering}
 use Rattle.tl_geom.specs.declared.point.Point.{Point}
 use Rattle.tl_geom.specs.declared.segment.Segment.{Segment}
 use Rattle.tl_geom.specs.Plane.{turn_of, IsSame, whole}
 use Rattle.tl_county.specs.TheMap.{MapChain}
 use Rattle.tl_planar.proofs.Numbering.{HaveSameEnds}
-use Rattle.tl_slabs.specs.Heights.{height, widest, AreNear, low_end, high_end}
+use Rattle.tl_slabs.specs.Heights.{height, widest, low_end, high_end}
 use Rattle.tl_slabs.specs.Neighbours.{IsNumbered, IsWestOf, AreApartOrAtEnds, AreTested}
-use Rattle.tl_slabs.specs.Keeping.Clear.{IsClearlyWestOf}
-use Rattle.tl_slabs.proofs.Rising.{near_back}
 use Rattle.tl_slabs.proofs.Numbered.{one_segment, on_same}
 
 -- what is no is not yes
@@ -39,30 +37,13 @@ pub lt_test : (z : ℤ) (o : Ordering) (t : Bool) → o ≡ int_cmp z (pos 0) �
 lt_test z o t e f h = lt_cases z o (int_ranked z (pos 0) o e) (sym f ∙ h)
 
 -- where a turn isn't to the right
-le_not_lt : (z : ℤ) (o : Ordering) → MatchOrdering o (z <ℤ pos 0) (z ≡ pos 0) (pos 0 <ℤ z) → IsFalse (is_lt o) → pos 0 ≤ℤ z
-le_not_lt z Less m h = absurd (cc)
-le_not_lt z Equal m h = omega (arith, ints, m)
-le_not_lt z Greater m h = omega (arith, ints, m)
+ge_cases : (z : ℤ) (o : Ordering) → MatchOrdering o (z <ℤ pos 0) (z ≡ pos 0) (pos 0 <ℤ z) → IsTrue (is_ge o) → pos 0 ≤ℤ z
+ge_cases z Less m h = absurd (cc)
+ge_cases z Equal m h = omega (arith, ints, m)
+ge_cases z Greater m h = omega (arith, ints, m)
 
-pub not_lt_test : (z : ℤ) (o : Ordering) → o ≡ int_cmp z (pos 0) → IsFalse (is_lt o) → pos 0 ≤ℤ z
-not_lt_test z o e h = le_not_lt z o (int_ranked z (pos 0) o e) h
-
--- the same of a turn's reverse
-reversed_cases : (z : ℤ) (o : Ordering) → MatchOrdering o (z <ℤ pos 0) (z ≡ pos 0) (pos 0 <ℤ z) → IsFalse (is_lt (ordering_reverse o)) → z ≤ℤ pos 0
-reversed_cases z Less m h = omega (arith, ints, m)
-reversed_cases z Equal m h = omega (arith, ints, m)
-reversed_cases z Greater m h = absurd (cc)
-
-pub reversed_not_lt : (z : ℤ) (o r : Ordering) → o ≡ int_cmp z (pos 0) → r ≡ ordering_reverse o → IsFalse (is_lt r) → z ≤ℤ pos 0
-reversed_not_lt z o r e f h = reversed_cases z o (int_ranked z (pos 0) o e) (subst (λ q. IsFalse (is_lt q)) f h)
-
-reversed_gt_cases : (z : ℤ) (o : Ordering) → MatchOrdering o (z <ℤ pos 0) (z ≡ pos 0) (pos 0 <ℤ z) → IsTrue (is_gt (ordering_reverse o)) → z <ℤ pos 0
-reversed_gt_cases z Less m h = m
-reversed_gt_cases z Equal m h = absurd (cc)
-reversed_gt_cases z Greater m h = absurd (cc)
-
-pub reversed_gt : (z : ℤ) (o r : Ordering) → o ≡ int_cmp z (pos 0) → r ≡ ordering_reverse o → IsTrue (is_gt r) → z <ℤ pos 0
-reversed_gt z o r e f h = reversed_gt_cases z o (int_ranked z (pos 0) o e) (subst (λ q. IsTrue (is_gt q)) f h)
+pub ge_test : (z : ℤ) (o : Ordering) (t : Bool) → o ≡ int_cmp z (pos 0) → t ≡ is_ge o → IsTrue t → pos 0 ≤ℤ z
+ge_test z o t e f h = ge_cases z o (int_ranked z (pos 0) o e) (sym f ∙ h)
 
 -- what is moved by the same stays in its order
 pub lower_moved : (a b h k m : ℤ) → h ≡ a +ℤ m → k ≡ b +ℤ m → int_lt h k ≡ int_lt a b
@@ -81,37 +62,6 @@ module _ (K : ℤ) (u w : Segment) (a b c e : Point) (low : a ≡ low_end K u) (
             ⊎_elim (λ k. inl (subst (λ z. pos 0 ≤ℤ z) (λ i. turn_of (low' i) (high' i) (high i)) k))
             (λ k. inr (subst (λ z. z ≤ℤ pos 0) (λ i. turn_of (low i) (high i) (high' i)) k)) above;
       }
-
--- ---- which of two is clearly west
-
-gt_cases : (z : ℤ) (o : Ordering) → MatchOrdering o (z <ℤ pos 0) (z ≡ pos 0) (pos 0 <ℤ z) → IsTrue (is_gt o) → pos 0 <ℤ z
-gt_cases z Less m h = absurd (cc)
-gt_cases z Equal m h = absurd (cc)
-gt_cases z Greater m h = m
-
-pub gt_test : (z : ℤ) (o : Ordering) (t : Bool) → o ≡ int_cmp z (pos 0) → t ≡ is_gt o → IsTrue t → pos 0 <ℤ z
-gt_test z o t e f h = gt_cases z o (int_ranked z (pos 0) o e) (sym f ∙ h)
-
-module _ (K : ℤ) (u w : Segment) (a b c e : Point) (low : a ≡ low_end K u) (high : b ≡ high_end K u) (low' : c ≡ low_end K w) (high' : e ≡ high_end K w) where
-  pub is_clear : (pos 0 <ℤ turn_of c e a) ⊎ (turn_of a b c <ℤ pos 0) → (pos 0 <ℤ turn_of c e b) ⊎ (turn_of a b e <ℤ pos 0) → IsClearlyWestOf K u w
-  is_clear below above =
-      record {
-        below =
-            ⊎_elim (λ k. inl (subst (λ z. pos 0 <ℤ z) (λ i. turn_of (low' i) (high' i) (low i)) k))
-            (λ k. inr (subst (λ z. z <ℤ pos 0) (λ i. turn_of (low i) (high i) (low' i)) k)) below;
-        above =
-            ⊎_elim (λ k. inl (subst (λ z. pos 0 <ℤ z) (λ i. turn_of (low' i) (high' i) (high i)) k))
-            (λ k. inr (subst (λ z. z <ℤ pos 0) (λ i. turn_of (low i) (high i) (high' i)) k)) above;
-      }
-
--- ends that are near are so in either order
-near_either : (K : ℤ) (p q : Point) (t : Bool) → AreNear K (if t then p else q) (if t then q else p) → AreNear K p q
-near_either K p q true near = near
-near_either K p q false near = near_back K q p near
-
-pub near_by_ends : (u : Segment) (a b : Point) → a ≡ low_end widest u → b ≡ high_end widest u → AreNear widest a b → AreNear widest u.a u.b
-near_by_ends u a b low high near =
-    near_either widest u.a u.b (int_lt (height widest u.a) (height widest u.b)) (subst (λ p. AreNear widest (low_end widest u) p) high (subst (λ p. AreNear widest p b) low near))
 
 -- ---- by numbers
 

@@ -1,12 +1,10 @@
 //! What is tested of segments that stand side by side.
-ghost use Rattle.std.specs.Prelude.{◌↔◌, ◌≤ℤ◌, ◌<ℤ◌, ◌⊎◌, pos, IsTrue, IsFalse};
-ghost use Rattle.std.specs.Ordering.{is_lt, is_gt};
+ghost use Rattle.std.specs.Prelude.{◌↔◌, ◌≤ℤ◌, ◌⊎◌, pos, IsTrue};
 ghost use Rattle.tl_geom.specs.Plane.{turn_of};
 ghost use Rattle.tl_slabs.specs.Heights.{widest};
 ghost use Rattle.tl_slabs.specs.Neighbours.{IsWestOf, AreApartOrAtEnds, AreTested};
 
 use crate::heights::{ends, is_lower};
-use std::cmp::Ordering;
 use tl_county::Map;
 use tl_geom::{Contact, Point, Rect, Segment, contact, turn};
 
@@ -28,17 +26,15 @@ pub fn is_west_of(u: Segment, w: Segment) -> bool
     is_in_order(a, b, a, c, e, c) && is_in_order(a, b, b, c, e, e)
 }
 
-/// How `p` of the line from `a` to `b` lies about the line from `c` to `e`, if `first`; else how `q` of that line lies about the
-/// former, the other way round. So it is `Greater` where the first line is west of the second there, and `Equal` where they touch.
+/// Whether the lines aren't out of order at `p` of the first, if `first`; else at `q` of the second.
 #[inline]
-fn order_at(first: bool, a: Point, b: Point, p: Point, c: Point, e: Point, q: Point) -> Ordering
-    ensures in_order { IsFalse (is_lt result) → (pos 0 ≤ℤ turn_of c e p) ⊎ (turn_of a b q ≤ℤ pos 0) }
-    ensures parted { IsTrue (is_gt result) → (pos 0 <ℤ turn_of c e p) ⊎ (turn_of a b q <ℤ pos 0) }
+fn is_in_order_at(first: bool, a: Point, b: Point, p: Point, c: Point, e: Point, q: Point) -> bool
+    ensures { IsTrue result → (pos 0 ≤ℤ turn_of c e p) ⊎ (turn_of a b q ≤ℤ pos 0) }
 {
     if first {
-        turn(c, e, p)
+        turn(c, e, p).is_ge()
     } else {
-        turn(a, b, q).reverse()
+        turn(a, b, q).is_le()
     }
 }
 
@@ -71,8 +67,8 @@ fn are_free(u: Segment, w: Segment) -> bool
 }
 
 /// Whether `u` is west of `w`, and they are apart or share an end of both alone, where the rectangles about them don't tell. The
-/// higher of their low ends is asked, and the lower of their high ends; mostly both tell that the segments don't touch. It is kept
-/// out of where it is called, so that most neighbours take the short way.
+/// higher of their low ends is asked, and the lower of their high ends; most such segments share an end, so that the turns there
+/// don't tell that they are apart. It is kept out of where it is called, so that most neighbours take the short way.
 #[inline(never)]
 fn are_closely_tested(u: Segment, w: Segment) -> bool
     ensures west { IsTrue result → IsWestOf widest u w }
@@ -80,15 +76,9 @@ fn are_closely_tested(u: Segment, w: Segment) -> bool
 {
     let (a, b) = ends(u);
     let (c, e) = ends(w);
-    let low = order_at(is_lower(c, a), a, b, a, c, e, c);
-    if low.is_lt() {
-        return false;
-    }
-    let high = order_at(is_lower(b, e), a, b, b, c, e, e);
-    if high.is_lt() {
-        return false;
-    }
-    (low.is_gt() && high.is_gt()) || are_free(u, w)
+    is_in_order_at(is_lower(c, a), a, b, a, c, e, c)
+        && is_in_order_at(is_lower(b, e), a, b, b, c, e, e)
+        && are_free(u, w)
 }
 
 /// Whether segment `s` is west of segment `t`, and they are apart or share an end of both alone. It is not so of numbers of

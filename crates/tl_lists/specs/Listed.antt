@@ -1,42 +1,55 @@
--- What is told of a county where all that is wrong is asked for, or the records that faults speak of, or a file that is made of
--- them, over the files of a file system.
+-- What is answered where all that is wrong is asked for, or the records that faults speak of, or a file that is made of them.
 --
--- `told` says which faults are told, the first or all or so many from the front; `places` whether with their records; and `made`
--- is the name of the file of GeoJSON that is made of them, where one is. `before` and `after` say what stands under each name,
--- where that is known; `wrote` says of a text that it was written to the output, `said` to the error output; `part` that a
--- beginning of it was written to the output, and that a write failed; `failed` that a file failed.
-use Rattle.std.specs.Prelude.{◌≡◌, ◌⊎◌, ℕ, Bool, true, false, List, [], ◌++◌, length, take, Option, Some, None, IfSome}
+-- `w` is what became of files, `known` the text of the records, where it is known, and `asked` what is asked.
+use Rattle.std.specs.Prelude.{◌≡◌, ◌⊎◌, ℕ, Bool, true, false, List, [], ◌++◌, length, take, Option, Some, None, IfSome, option_map, string_bytes, Vec}
+use Rattle.std.specs.Global.{Global}
 use Rattle.tl_record.specs.declared.options.Options.{Options}
+use Rattle.tl_record.specs.declared.layout.Layout.{Layout}
+use Rattle.tl_record.specs.declared.refusal.Refusal.{Refusal}
 use Rattle.tl_record.specs.Layout.{layout_with}
-use Rattle.tl_county.specs.TheMap.{MapChain}
-use Rattle.tl_files.specs.Files.{Under, bytes_under}
-use Rattle.tl_files.specs.declared.beginning.FileKind.TheVariants.{Collection}
-use Rattle.tl_output.specs.Writing.{line_of}
+use Rattle.tl_record.specs.Records.{records_of}
+use Rattle.tl_county.specs.TheMap.{TheMap, MapChain}
+use Rattle.tl_files.specs.World.{World, Made, Unmade}
 use Rattle.tl_plan.specs.declared.budget.Told.{Told}
 use Rattle.tl_plan.specs.declared.budget.Told.TheVariants.{One, All}
+use Rattle.tl_output.specs.declared.stop.Stop.{Stop}
+use Rattle.tl_output.specs.declared.stop.Stop.TheVariants.{Record, Device}
 use Rattle.tl_verdict.specs.declared.fault.MapFault.{MapFault}
-use Rattle.tl_output.specs.declared.stop.Stop.TheVariants.{Memory, Device}
+use Rattle.tl_verdict.specs.declared.verdict.Report.{Report}
 use Rattle.tl_verdict.specs.Messages.{map_fault_text}
 use Rattle.tl_verdict.specs.Records.{HaveMap}
 use Rattle.tl_verdict.specs.Sound.{IsSoundFor}
-use Rattle.tl_output.specs.Stops.{stop_text}
-use Rattle.tl_record.specs.Records.{records_of}
-use Rattle.tl_listing.specs.declared.listing.Listing.{Listing}
-use Rattle.tl_listing.specs.declared.listing.Listing.TheVariants.{Sound, Refused, Faults}
-use Rattle.tl_listing.specs.Texts.{lines}
-use Rattle.tl_all_faults.specs.declared.of_records.Findings.{Findings}
+use Rattle.tl_listing.specs.declared.listing.Listing.TheVariants as listing
+use Rattle.tl_listing.specs.Listings.{IsListingOf}
+use Rattle.tl_listing.specs.Texts.{lines, listing_text}
 use Rattle.tl_all_faults.specs.Findings.{AreFindingsOf}
 use Rattle.tl_record_lines.specs.SpokenOf.{chains_of}
 use Rattle.tl_record_lines.specs.Keeping.{held}
 use Rattle.tl_placing.specs.declared.again.Spoken.{Spoken}
-use Rattle.tl_placing.specs.Again.{AreSpoken, AgainFails}
+use Rattle.tl_placing.specs.Again.{AreSpoken}
 use Rattle.tl_placing.specs.Texts.{placed_text, chosen, end_text}
 use Rattle.tl_fault_map.specs.Texts.{faults_text}
-use Rattle.tl_answers.specs.declared.stop.TheConstants.{DONE, MAP_FAULT, REFUSED, STOPPED, USAGE}
-use Rattle.tl_answers.specs.Running.{IsAudited, NamesRefusal}
-use Rattle.tl_making.specs.Opening.{RefusesName}
-use Rattle.tl_making.specs.Files.{ReadsFail, StandsUnder, KeepsBut, KeepsEach, NewFileFails}
-use Rattle.tl_lists.specs.Listings.{TellsRefusals}
+use Rattle.tl_answers.specs.declared.said.Answer.{Answer}
+use Rattle.tl_answers.specs.Records.{IsSoundWith, OfMap, StopsRecords}
+use Rattle.tl_lists.specs.declared.listed.Listed.{Listed}
+use Rattle.tl_lists.specs.declared.listed.Listed.TheVariants.{Listing, Lines}
+use Rattle.tl_lists.specs.declared.listing.Wanted.{Wanted as TheWanted}
+
+-- the text that is answered
+abbrev pub listed_text : Listed → List ℕ
+listed_text (Listing list most) = listing_text most list
+listed_text (Lines text) = text.items
+
+-- what is asked: of which files, which faults are told, the first or all or so many from the front, whether with the records that they
+-- speak of, and the name of the file that is made of them, if one is
+pub record Asked : Type 0 where
+  pub names : List (List ℕ)
+  pub told : Told
+  pub places : Bool
+  pub made : Option (List ℕ)
+
+abbrev pub wanted_of : List (List ℕ) → TheWanted → Asked
+wanted_of names wanted = record { names = names; told = wanted.told; places = wanted.places; made = option_map string_bytes wanted.made.now }
 
 -- what is printed of faults without their records: the first line, or all, or so many from the front, and where all are told,
 -- how many there are
@@ -59,92 +72,68 @@ abbrev pub reads_again : Bool → Option (List ℕ) → Bool
 reads_again places None = places
 reads_again places (Some name) = true
 
--- the text stands under the name, and nothing else changed but what isn't whole yet; where no file is made, nothing did
-abbrev pub IsMade : (before after : Under) → Option (List ℕ) → List ℕ → Type 0
-IsMade before after None text = after ≡ before
-IsMade before after (Some name) text = KeepsBut before after name × StandsUnder after name text
+-- the report of a sound map is answered, and no fault stands in the file
+pub record IsSoundList (w : World) (asked : Asked) (report : Report) (answer : Answer Listed) : Type 0 where
+  pub kept : Made w asked.made (faults_text asked.names [] None (λ s. []) [])
+  pub is : answer ≡ record { status = 0; text = Listing (listing.Sound report) None }
 
--- nothing changed but what isn't whole yet
-abbrev pub IsUnmade : (before after : Under) → Option (List ℕ) → Type 0
-IsUnmade before after None = after ≡ before
-IsUnmade before after (Some name) = KeepsEach before after name
-
--- these are the faults that are listed
-abbrev pub AreFaultsIn : Listing → List MapFault → Bool → Type 0
-AreFaultsIn (Sound report) faults points_left = ⊥
-AreFaultsIn (Refused list) faults points_left = ⊥
-AreFaultsIn (Faults list left) faults points_left = (list.items ≡ faults) × (left ≡ points_left)
-
--- the text of faults was written, or a beginning of it, and a device was told
-abbrev pub TellsText : List ℕ → ℕ → (wrote said part : List ℕ → Type 0) → (err_same : Type 0) → Type 0
-TellsText text status wrote said part err_same =
-    ((status ≡ MAP_FAULT) × wrote text × err_same) ⊎ ((status ≡ STOPPED) × said (line_of (stop_text Device)) × part text)
-
--- faults were told: those of the records and of no other, and all of them, where the text of the records is known; and where
--- those of all files are, the records behind them are those of the files that they speak of
-pub record TellsFaults (options : Options) (known : Option (List ℕ)) (under : Under) (names : List (List ℕ)) (told : Told) (places : Bool) (made : Option (List ℕ)) (wrote stands : List ℕ → Type 0) : Type 0 where
-  pub found : Findings
-  pub spoken : Spoken
-  pub faults : List MapFault
+-- faults that are listed, and whether the polygons' points weren't looked at
+pub record Faults : Type 0 where
+  pub faults : Vec MapFault Global
   pub points_left : Bool
-  pub are : IfSome known (λ text. AreFindingsOf options text found)
-  pub unsound : IfSome known (λ text. ¬ HaveMap (records_of (layout_with options) text) (IsSoundFor options.faces))
-  pub listed : AreFaultsIn found.listing faults points_left
-  pub speak : reads_again places made ≡ true → AreSpoken (layout_with options) under names (chains_of found.map) (featured told faults) spoken
-  pub written : wrote (told_text names (chains_of found.map) spoken places told faults points_left)
-  pub kept : stands (faults_text names spoken.counts.items found.map (held spoken.lines) (featured told faults))
 
--- lines that are refused were told on the output, where all that is wrong is asked for
-abbrev pub TellsRefused : Told → Options → Option (List ℕ) → (List ℕ → Type 0) → Type 0
-TellsRefused One options known wrote = ⊥
-TellsRefused (All most) options known wrote = TellsRefusals most options known wrote
+-- faults are answered, with the records that they speak of where these are asked for, and those that are told stand in the file
+pub record IsFaultList (w : World) (layout : Layout) (asked : Asked) (map : Option TheMap) (list : Faults) (answer : Answer Listed) : Type 0 where
+  pub spoken : Spoken
+  pub speak : reads_again asked.places asked.made ≡ true → AreSpoken layout w.before asked.names (chains_of map) (featured asked.told list.faults.items) spoken
+  pub kept : Made w asked.made (faults_text asked.names spoken.counts.items map (held spoken.lines) (featured asked.told list.faults.items))
+  pub is : answer.status ≡ 1
+  pub lines : listed_text answer.text ≡ told_text asked.names (chains_of map) spoken asked.places asked.told list.faults.items list.points_left
 
--- what is told on the output, and with which status: the report of a sound map, of which no fault stands in the file; faults; or
--- refused lines, of which no file is made
-abbrev pub Answers : Options → Option (List ℕ) → (before after : Under) → List (List ℕ) → Told → Bool → Option (List ℕ) → ℕ → (List ℕ → Type 0) → Type 0
-Answers options known before after names told places made status wrote =
-    ((status ≡ DONE) × IsAudited options known wrote × IsMade before after made (faults_text names [] None (λ s. []) []))
-    ⊎ (((status ≡ MAP_FAULT) × TellsFaults options known before names told places made wrote (IsMade before after made))
-    ⊎ ((status ≡ REFUSED) × TellsRefused told options known wrote × IsUnmade before after made))
+-- why that isn't: where files are read again for the records, a device failed for this
+abbrev pub StopsAgain : Asked → (again : Type 0) → Stop → Type 0
+StopsAgain asked again Device = (reads_again asked.places asked.made ≡ true) × again
+StopsAgain asked again other = ⊥
 
--- a line is refused: the first was told on the error output, where one fault is asked for
-pub record TellsFirst (options : Options) (known : Option (List ℕ)) (told : Told) (status : ℕ) (said : List ℕ → Type 0) (out_same : Type 0) : Type 0 where
-  pub one : told ≡ One
-  pub is : status ≡ REFUSED
-  pub names : NamesRefusal (layout_with options) known said
-  pub same : out_same
+-- why nothing is answered: the same, or the first line that is refused, where one fault is asked for
+abbrev pub StopsList : Options → (known : Option (List ℕ)) → Asked → (again : Type 0) → Stop → Type 0
+StopsList options known asked again (Record line cause) = (asked.told ≡ One) × StopsRecords (layout_with options) known (Record line cause)
+StopsList options known asked again other = StopsAgain asked again other
 
--- it stopped before anything was told, for want of memory, or since a file failed
-abbrev pub Stops : ℕ → (List ℕ → Type 0) → (failed out_same : Type 0) → Type 0
-Stops status said failed out_same = (status ≡ STOPPED) × out_same
-    × (said (line_of (stop_text Memory)) ⊎ (said (line_of (stop_text Device)) × failed))
+-- with the status 0 the report of a map that is sound, of which no fault stands in the file
+pub record TellsSound (w : World) (options : Options) (known : Option (List ℕ)) (asked : Asked) (status : ℕ) (text : List ℕ) : Type 0 where
+  pub report : Report
+  pub sound : OfMap (layout_with options) known (IsSoundWith options.faces report)
+  pub kept : Made w asked.made (faults_text asked.names [] None (λ s. []) [])
+  pub is : status ≡ 0
+  pub line : text ≡ listing_text None (listing.Sound report)
 
--- the file may not be made
-abbrev pub Refuses : Under → List (List ℕ) → Option (List ℕ) → ℕ → (List ℕ → Type 0) → Type 0 → Type 0
-Refuses before names made status said out_same =
-    (status ≡ USAGE) × ((name : List ℕ) × (made ≡ Some name) × RefusesName Collection before name names said) × out_same
+-- with the status 1 faults: those of the records and of no other, and all of them, where the text of the records is known; and where
+-- those of all files are, the records behind them are those of the files that they speak of
+pub record TellsFaults (w : World) (options : Options) (known : Option (List ℕ)) (asked : Asked) (status : ℕ) (text : List ℕ) : Type 0 where
+  pub map : Option TheMap
+  pub faults : Vec MapFault Global
+  pub points_left : Bool
+  pub are : IfSome known (λ held. AreFindingsOf options held (record { listing = listing.Faults faults points_left; map = map }))
+  pub unsound : IfSome known (λ held. ¬ HaveMap (records_of (layout_with options) held) (IsSoundFor options.faces))
+  pub spoken : Spoken
+  pub speak : reads_again asked.places asked.made ≡ true → AreSpoken (layout_with options) w.before asked.names (chains_of map) (featured asked.told faults.items) spoken
+  pub kept : Made w asked.made (faults_text asked.names spoken.counts.items map (held spoken.lines) (featured asked.told faults.items))
+  pub is : status ≡ 1
+  pub lines : text ≡ told_text asked.names (chains_of map) spoken asked.places asked.told faults.items points_left
 
--- what it answers: what is told on the output; or a beginning of that, where a write failed; or why there is no answer
-abbrev pub Lists : Options → Option (List ℕ) → List (List ℕ) → Told → Bool → Option (List ℕ) → ℕ → (before after : Under) → (wrote said part : List ℕ → Type 0) → (failed out_same err_same : Type 0) → Type 0
-Lists options known names told places made status before after wrote said part failed out_same err_same =
-    (Answers options known before after names told places made status wrote × err_same)
-    ⊎ (((status ≡ STOPPED) × said (line_of (stop_text Device)) × ((n : ℕ) × Answers options known before after names told places made n part))
-    ⊎ ((TellsFirst options known told status said out_same
-    ⊎ (Stops status said failed out_same ⊎ Refuses before names made status said out_same))
-    × IsUnmade before after made))
+-- with the status 3 lines that are refused, where all that is wrong is asked for: each of the records', and no other; no file is made
+pub record TellsRefusals (w : World) (options : Options) (known : Option (List ℕ)) (asked : Asked) (status : ℕ) (text : List ℕ) : Type 0 where
+  pub most : Option ℕ
+  pub all : asked.told ≡ All most
+  pub list : Vec Refusal Global
+  pub are_all : IfSome known (λ held. IsListingOf options held (listing.Refused list))
+  pub unmade : Unmade w asked.made
+  pub is : status ≡ 3
+  pub lines : text ≡ listing_text most (listing.Refused list)
 
--- it can't be told what stands under the name of the file that is made
-abbrev pub IsUnknown : Under → Option (List ℕ) → Type 0
-IsUnknown before None = ⊥
-IsUnknown before (Some name) = bytes_under before name ≡ None
-
--- a file failed behind the first reading: one that is read again, where files are, or the new one
-abbrev pub TellingFails : {R D : Type 0} → (reads : R → ℕ) → (writes : D → ℕ) → (knows : Bool) → Under → Bool → Option (List ℕ) → List (List ℕ) → Type 0
-TellingFails reads writes knows before places made names =
-    NewFileFails writes knows ⊎ ((reads_again places made ≡ true) × AgainFails reads before names)
-
--- a file failed: it can't be told whether the new one may have its name, one that is read failed, or one did behind the first
--- reading
-abbrev pub ListFails : {R D : Type 0} → (reads : R → ℕ) → (writes : D → ℕ) → (knows : Bool) → Under → Bool → Option (List ℕ) → List (List ℕ) → Type 0
-ListFails reads writes knows before places made names =
-    IsUnknown before made ⊎ (ReadsFail reads before names ⊎ TellingFails reads writes knows before places made names)
+-- what a list answers
+abbrev pub ListAnswers : World → Options → (known : Option (List ℕ)) → Asked → ℕ → List ℕ → Type 0
+ListAnswers w options known asked status text =
+    TellsSound w options known asked status text
+    ⊎ (TellsFaults w options known asked status text ⊎ TellsRefusals w options known asked status text)

@@ -1,35 +1,35 @@
-//! What is found in a county's files.
+//! What is found in records.
 
-ghost use Rattle.std.specs.Prelude.{◌≡◌, false, map, string_bytes};
-ghost use Rattle.tl_text.specs.Joining.{joined_bytes};
-ghost use Rattle.tl_files.specs.Files.{bytes_under};
-ghost use Rattle.tl_making.specs.Files.{ReadsFail};
-ghost use Rattle.tl_lists.specs.Found.{Finds};
+ghost use Rattle.std.specs.Prelude.{IfSome};
+ghost use Rattle.tl_all_faults.specs.Findings.{AreFindingsOf};
+ghost use Rattle.tl_answers.specs.Records.{StopsNever};
 
 use std::alloc::Global;
 use std::hash::RandomState;
 use tl_all_faults::{Findings, list_with_map};
-use tl_files::FileSystem;
-use tl_making::opening::{as_one_text, give_back, open_all, room_for_bytes};
+use tl_answers::reading::Question;
 use tl_output::Stop;
-use tl_record::Options;
+use tl_record::{Options, Source};
 
-/// Opens the files of these names, and lists all that is wrong with their text; with the map of its records, where they have one.
-/// It stops where memory was refused, or where a file can't be opened or read.
-pub fn find_all<F: FileSystem>(
-    files: &F,
-    alloc: Global,
-    hasher: RandomState,
-    names: &[String],
-    options: Options,
-) -> Result<Findings, Stop>
-    ensures { Finds options (joined_bytes (bytes_under (F.under files.now)) false (map string_bytes names.now))
-        (ReadsFail F.Reader.failure_count (F.under files.now) (map string_bytes names.now)) result }
-{
-    let room = room_for_bytes(alloc)?;
-    let mut readers = open_all(files, alloc, names)?;
-    let mut records = as_one_text(alloc, &mut readers, room);
-    let found = list_with_map(alloc, hasher, &mut records, options);
-    give_back(records, &mut readers);
-    found
+/// All that is wrong with records, with their map, where they have one, as a question.
+#[derive(Clone, Copy)]
+pub(crate) struct FindingsIn {
+    pub options: Options,
+}
+
+impl Question for FindingsIn {
+    type Answer = Findings;
+
+    ghost answers = { λ asked known found. IfSome known (λ text. AreFindingsOf asked.options text found) };
+
+    ghost stops = { λ asked known. StopsNever };
+
+    fn ask<R: Source>(
+        &self,
+        alloc: Global,
+        hasher: RandomState,
+        records: &mut R,
+    ) -> Result<Findings, Stop> {
+        list_with_map(alloc, hasher, records, self.options)
+    }
 }

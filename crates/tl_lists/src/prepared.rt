@@ -1,6 +1,6 @@
 //! What is printed of faults, put together before anything is made or told.
 
-ghost use Rattle.std.specs.Prelude.{◌≡◌, ◌++◌, IfOk, OnOk, map, option_copied, string_bytes};
+ghost use Rattle.std.specs.Prelude.{◌≡◌, IfOk, map, option_copied, string_bytes};
 ghost use Rattle.tl_record_lines.specs.SpokenOf.{chains_of};
 ghost use Rattle.tl_listing.specs.Texts.{lines};
 ghost use Rattle.tl_verdict.specs.Messages.{map_fault_text};

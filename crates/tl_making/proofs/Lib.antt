@@ -1,6 +1,4 @@
--- Lemmas on what is made.
+-- Lemmas on what is decided and made of records.
 pub mod AuditLemmas
-pub mod MakingLemmas
-pub mod OpenLemmas
-pub mod OpeningLemmas
-pub mod Stopped
+pub mod BuildLemmas
+pub mod LawLemmas

@@ -1,67 +1,61 @@
 //! The decision of records with no certificate given.
 
-ghost use Rattle.std.specs.Prelude.{◌≡◌, ◌≢◌, ◌⊎◌, ⊤};
+ghost use Rattle.std.specs.Prelude.{None, map, string_bytes};
 ghost use Rattle.tl_record.specs.Layout.{layout_with};
-ghost use Rattle.tl_output.specs.Writing.{Writes, WritesSome};
-ghost use Rattle.tl_answers.specs.declared.stop.TheConstants.{DONE, MAP_FAULT, REFUSED, STOPPED};
-ghost use Rattle.tl_making.specs.Keeping.{TellsAudit, audit_decision};
-ghost use Rattle.tl_answers.specs.Running.{IsAudited, NamesFault, NamesRefusal, NamesStop, FailsToRead, CountStays, TriesToWrite};
+ghost use Rattle.tl_files.specs.World.{Does, world};
+ghost use Rattle.tl_answers.specs.Answers.{AuditAnswers, IsSaid};
+ghost use Rattle.tl_answers.specs.Reading.{text_under};
+ghost use Rattle.tl_answers.specs.Records.{IsAudited, StopsRecords};
 
 use std::alloc::Global;
 use std::hash::RandomState;
-use tl_answers::deciding::write_decision;
+use tl_answers::outcome::Outcome;
+use tl_answers::reading::{Question, over_records};
+use tl_answers::said::{Answer, Said};
 use tl_build::{Audit, audit_with};
+use tl_files::FileSystem;
 use tl_output::Stop;
-use tl_record::{Options, Sink, Source};
+use tl_record::{Options, Source};
 use tl_verdict::Verdict;
 
-/// Decides with no certificate given whether the map of the records is sound, and gives the program's exit status.
-pub fn audit<R: Source, W: Sink, E: Sink>(
+// Whether the map of the records is sound, or the fault of records that have none.
+#[derive(Clone, Copy)]
+struct AuditOf {
+    options: Options,
+}
+
+impl Question for AuditOf {
+    type Answer = Verdict;
+
+    ghost answers = { λ asked known. IsAudited asked.options known };
+
+    ghost stops = { λ asked known. StopsRecords (layout_with asked.options) known };
+
+    fn ask<R: Source>(
+        &self,
+        alloc: Global,
+        hasher: RandomState,
+        records: &mut R,
+    ) -> Result<Verdict, Stop> {
+        match audit_with(alloc, hasher, records, self.options)? {
+            Audit::Sound(report) => Ok(Verdict::Sound(report)),
+            Audit::Fault(fault) => Ok(Verdict::MapFault(fault)),
+        }
+    }
+}
+
+/// Decides with no certificate given whether the map of the records of these files is sound.
+pub fn audit<F: FileSystem>(
+    files: &mut F,
     alloc: Global,
     hasher: RandomState,
-    records: &mut R,
     options: Options,
-    out: &mut W,
-    err: &mut E,
-) -> u8
-    ensures status { ((result ≡ DONE) ⊎ (result ≡ MAP_FAULT)) ⊎ ((result ≡ REFUSED) ⊎ (result ≡ STOPPED)) }
-    ensures audited { result ≡ DONE → IsAudited options (R.remaining records.old)
-        (Writes W.contents W.failure_count out.old out.new) }
-    ensures fault { result ≡ MAP_FAULT → NamesFault options (R.remaining records.old) ⊤ ⊤
-        (Writes W.contents W.failure_count out.old out.new) }
-    ensures refused { result ≡ REFUSED → NamesRefusal (layout_with options) (R.remaining records.old)
-        (TriesToWrite E.contents E.failure_count err.old err.new) }
-    ensures stopped { result ≡ STOPPED
-        → NamesStop (TriesToWrite E.contents E.failure_count err.old err.new)
-        (FailsToRead R.failure_count records.old records.new) (CountStays R.failure_count records.old records.new)
-        (out.new ≡ out.old)
-        (IsAudited options (R.remaining records.old) (WritesSome W.contents W.failure_count out.old out.new)
-        ⊎ NamesFault options (R.remaining records.old) ⊤ ⊤ (WritesSome W.contents W.failure_count out.old out.new)) }
-    ensures err_stays { (result ≡ DONE) ⊎ (result ≡ MAP_FAULT) → err.new ≡ err.old }
-    ensures out_stays { result ≡ REFUSED → out.new ≡ out.old }
-    ensures read_whole { result ≢ STOPPED → R.failure_count records.new ≡ R.failure_count records.old }
+    names: &[String],
+) -> Result<Answer<Said>, Stop>
+    ensures { Does (world F.under F.log F.knows files.old files.new) (map string_bytes names.now) None
+        (IsSaid (AuditAnswers options (text_under (F.under files.old) (map string_bytes names.now))))
+        (StopsRecords (layout_with options) (text_under (F.under files.old) (map string_bytes names.now))) result }
 {
-    let audited = audit_with(alloc, hasher, records, options);
-    write_audit(audited, out, err)
-}
-
-// Tells the answer of an audit: the numbers of a sound map, which fault the records or their map have, or why there is
-// none.
-fn write_audit<W: Sink, E: Sink>(audited: Result<Audit, Stop>, out: &mut W, err: &mut E) -> u8
-    ensures { TellsAudit audited result (Writes W.contents W.failure_count out.old out.new)
-        (TriesToWrite E.contents E.failure_count err.old err.new) (WritesSome W.contents W.failure_count out.old out.new)
-        (out.new ≡ out.old) (err.new ≡ err.old) }
-{
-    write_decision(decision_of(audited), out, err)
-}
-
-// The decision that an audit comes to.
-fn decision_of(audited: Result<Audit, Stop>) -> Result<Verdict, Stop>
-    ensures { result ≡ audit_decision audited }
-{
-    match audited {
-        Ok(Audit::Sound(report)) => Ok(Verdict::Sound(report)),
-        Ok(Audit::Fault(fault)) => Ok(Verdict::MapFault(fault)),
-        Err(stop) => Err(stop),
-    }
+    let verdict = over_records(files, alloc, hasher, names, &AuditOf { options })?;
+    Ok(Answer::of(Outcome::Verdict(verdict)))
 }

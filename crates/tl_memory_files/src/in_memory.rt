@@ -1,16 +1,17 @@
 //! Files in memory, for tests and for who has no other.
 
-ghost use Rattle.std.specs.Prelude.{◌≡◌, ◌≢◌, ℕ, List, None, Some, IfOk, IfErr, OnOk, OnErr, Contains, map, option_map, string_bytes};
+ghost use Rattle.std.specs.Prelude.{◌≡◌, ◌≢◌, ◌++◌, ℕ, List, None, Some, IfOk, IfErr, OnOk, OnErr, Contains, map, option_map, string_bytes};
 ghost use Rattle.std.specs.Bool.{OnTrue, OnFalse};
 ghost use Rattle.tl_output.specs.declared.stop.Stop.TheVariants.{Memory};
+ghost use Rattle.tl_output.specs.Stops.{StopsFor};
 ghost use Rattle.tl_memory_files.specs.Keeping.Stored.{found_with as found_with_of};
 
 use std::alloc::{AllocError, Global};
 use std::collections::VecDeque;
 use std::io;
-use std::io::{Read, Write};
-use tl_files::{FileKind, FileSystem, Room, may_go};
-use tl_output::Stop;
+use std::io::{ErrorKind, Read, Write};
+use tl_files::{FileKind, FileSystem, Lookup, Room, Seen, Spot, name_beside, room_of};
+use tl_output::{Stop, Text};
 use tl_record::{Sink, Source};
 
 /// A file with its name.
@@ -20,21 +21,35 @@ pub struct Stored {
     pub bytes: Vec<u8>,
 }
 
-/// Files in memory, all of whose bytes are known. A name has no links, and each name is a file of its own.
+/// Files in memory, all of whose bytes are known, and what was done with them. A name has no links, and each name is a file of its
+/// own. No read or write of them fails: what can't be held stops for want of memory.
 #[derive(Drop)]
 pub struct FilesInMemory {
+    alloc: Global,
     files: Vec<Stored>,
+    // The names of the files that were opened.
+    opened: Vec<String>,
+    // How many new files are neither kept nor taken away.
+    drafts: u64,
+    // The name of the file that is read last, where it is to be shown how far reading is.
+    watched: Option<String>,
 }
 
 impl FilesInMemory {
     ghost use Rattle.tl_files.specs.Files.{bytes_under};
+    ghost use Rattle.tl_files.specs.Log.{nothing_done};
 
-    /// No file.
+    /// No file, and nothing was done.
     pub fn new(alloc: Global) -> FilesInMemory
-        ensures { (name : List ℕ) → ⟦<FilesInMemory as FileSystem>⟧.under result name ≡ Some None }
+        ensures under { (name : List ℕ) → ⟦<FilesInMemory as FileSystem>⟧.under result name ≡ Some None }
+        ensures log { ⟦<FilesInMemory as FileSystem>⟧.log result ≡ nothing_done }
     {
         FilesInMemory {
+            alloc,
             files: Vec::new(alloc),
+            opened: Vec::new(alloc),
+            drafts: 0,
+            watched: None,
         }
     }
 
@@ -48,6 +63,8 @@ impl FilesInMemory {
         ensures failed { OnErr result ((other : List ℕ) →
             ⟦<FilesInMemory as FileSystem>⟧.under self.new other
             ≡ ⟦<FilesInMemory as FileSystem>⟧.under self.old other) }
+        ensures logs_nothing { ⟦<FilesInMemory as FileSystem>⟧.log self.new
+            ≡ ⟦<FilesInMemory as FileSystem>⟧.log self.old }
     {
         self.files.push(Stored { name, bytes })?;
         Ok(())
@@ -98,17 +115,41 @@ impl Source for Held {
     }
 }
 
-/// A file that isn't whole yet.
+/// A file that isn't whole yet. No write of it fails: where it can't hold a text, memory was refused, and it is as it was.
 #[derive(Drop)]
 pub struct Draft {
+    // The name that it is to take.
+    name: String,
+    kind: FileKind,
+    bytes: Vec<u8>,
+}
+
+impl tl_files::Draft for Draft {
+    ghost contents = { λ draft. Some draft.bytes.items };
+
+    ghost failure_count = { λ _. 0 };
+
+    ghost target = { λ draft. string_bytes draft.name };
+
+    ghost kind = { λ draft. draft.kind };
+
+    fn print<T: Text>(&mut self, alloc: Global, text: &T) -> Result<(), Stop> {
+        self.bytes = with_printed(alloc, self.bytes.as_slice(), text)?;
+        Ok(())
+    }
+}
+
+// What is printed, behind what was held before.
+#[derive(Drop)]
+struct Printed {
     bytes: Vec<u8>,
     failures: u64,
 }
 
-impl Sink for Draft {
-    ghost contents = { λ draft. Some draft.bytes.items };
+impl Sink for Printed {
+    ghost contents = { λ printed. Some printed.bytes.items };
 
-    ghost failure_count = { λ draft. draft.failures };
+    ghost failure_count = { λ printed. printed.failures };
 
     fn put(&mut self, bytes: &[u8]) -> io::Result<usize> {
         match self.bytes.write(bytes) {
@@ -125,29 +166,52 @@ impl Sink for Draft {
     }
 }
 
+// These bytes and a text behind them.
+fn with_printed<T: Text>(alloc: Global, held: &[u8], text: &T) -> Result<Vec<u8>, Stop>
+    requires { T.is_ready text.now }
+    ensures bytes { IfOk result (λ bytes. bytes.items ≡ held.now ++ T.text text.now) }
+    ensures stop { IfErr result (λ stop. stop ≡ Memory) }
+{
+    let bytes = Vec::from_slice(alloc, held)?;
+    let mut printed = Printed { bytes, failures: 0 };
+    match text.print(alloc, &mut printed) {
+        Ok(()) => Ok(printed.bytes),
+        Err(_) => Err(Stop::Memory),
+    }
+}
+
 impl FileSystem for FilesInMemory {
     type Reader = Held;
 
     type Draft = Draft;
 
-    ghost use Rattle.std.specs.Prelude.{Some, true, refl};
+    ghost use Rattle.std.specs.Prelude.{Some, true, refl, map, option_map, string_bytes};
     ghost use Rattle.tl_memory_files.specs.Keeping.Stored.{file_in};
 
     ghost under = { λ files name. Some (file_in files.files.items name) };
+
+    ghost log = { λ files. record {
+      opened = map string_bytes files.opened.items;
+      drafts = files.drafts;
+      failures = 0;
+      watched = option_map string_bytes files.watched;
+    } };
 
     ghost knows = { true };
 
     ghost alike = { λ draft. refl };
 
-    fn open(&self, alloc: Global, name: &str) -> Result<Held, Stop> {
-        match self.bytes(name) {
-            Some(bytes) => hold(alloc, bytes),
-            None => Err(Stop::Device),
-        }
+    fn open(&mut self, alloc: Global, name: &str) -> Result<Held, Stop> {
+        let held = held_of(self.bytes(name), alloc)?;
+        let opened = String::from_str(alloc, name)?;
+        self.opened.push(opened)?;
+        Ok(held)
     }
 
+    fn close(&mut self, _file: Held) {}
+
     fn open_again(&self, alloc: Global, name: &str) -> Result<Option<Held>, Stop> {
-        match self.open(alloc, name) {
+        match held_of(self.bytes(name), alloc) {
             Ok(file) => Ok(Some(file)),
             Err(stop) => Err(stop),
         }
@@ -160,43 +224,96 @@ impl FileSystem for FilesInMemory {
         }
     }
 
-    fn show_progress(&mut self, _alloc: Global, _last: &str) {}
+    fn show_progress(&mut self, last: String) {
+        self.watched = Some(last);
+    }
 
-    fn room(&self, name: &str, read: &[String], kind: FileKind) -> Result<Room, Stop> {
-        if is_among(name, read) {
-            return Ok(Room::IsRead);
-        }
-        match self.bytes(name) {
-            Some(bytes) if !may_go(kind, bytes) => Ok(Room::Taken),
-            _ => Ok(Room::Free),
+    fn room(
+        &self,
+        alloc: Global,
+        name: &str,
+        read: &[String],
+        kind: FileKind,
+    ) -> Result<Room, Stop> {
+        match room_of(self, alloc, name, read, kind) {
+            Ok(room) => Ok(room),
+            Err(_) => Err(Stop::Memory),
         }
     }
 
-    fn draft(&self, alloc: Global, _name: &str, _kind: FileKind) -> Result<Draft, Stop> {
+    fn draft(
+        &mut self,
+        alloc: Global,
+        name: &str,
+        _read: &[String],
+        kind: FileKind,
+    ) -> Result<Draft, Stop> {
+        let Some(drafts) = self.drafts.checked_add(1) else {
+            return Err(Stop::Memory);
+        };
+        let name = String::from_str(alloc, name)?;
+        self.drafts = drafts;
         Ok(Draft {
+            name,
+            kind,
             bytes: Vec::new(alloc),
-            failures: 0,
         })
     }
 
-    fn keep(&mut self, alloc: Global, file: Draft, name: &str) -> Result<(), Stop> {
-        let Ok(name) = String::from_str(alloc, name) else {
-            return Err(Stop::Memory);
-        };
-        match self.store(name, file.bytes) {
+    fn keep(&mut self, _alloc: Global, file: Draft) -> Result<(), Stop> {
+        self.drafts = self.drafts.saturating_sub(1);
+        match self.store(file.name, file.bytes) {
             Ok(()) => Ok(()),
             Err(_) => Err(Stop::Memory),
         }
     }
 
-    fn discard(&mut self, _file: Draft, _name: &str) {}
+    fn discard(&mut self, _file: Draft) {
+        self.drafts = self.drafts.saturating_sub(1);
+    }
 }
 
-// A file of these bytes, which is read.
-fn hold(alloc: Global, bytes: &[u8]) -> Result<Held, Stop>
-    ensures bytes { IfOk result (λ file. file.bytes.items ≡ bytes.now) }
-    ensures stop { IfErr result (λ stop. stop ≡ Memory) }
+impl Lookup for FilesInMemory {
+    type File = VecDeque<u8>;
+
+    ghost use Rattle.std.specs.Prelude.{Some};
+    ghost use Rattle.tl_memory_files.specs.Keeping.Stored.{file_in};
+
+    ghost held = { λ files. Some (file_in files.files.items) };
+
+    fn look(&self, name: &str, _spot: Spot) -> io::Result<Seen> {
+        match self.bytes(name) {
+            Some(bytes) => Ok(Seen::File {
+                size: bytes.len() as u64,
+            }),
+            None => Ok(Seen::Nothing),
+        }
+    }
+
+    fn is_among(&self, name: &str, read: &[String], _spot: Spot) -> bool {
+        is_among(name, read)
+    }
+
+    fn front(&self, name: &str, _spot: Spot) -> io::Result<VecDeque<u8>> {
+        match held_of(self.bytes(name), self.alloc) {
+            Ok(held) => Ok(held.bytes),
+            Err(_) => Err(io::Error::from(ErrorKind::OutOfMemory)),
+        }
+    }
+
+    fn beside(&self, alloc: Global, name: &str) -> io::Result<Option<String>> {
+        Ok(Some(name_beside(alloc, name)?))
+    }
+}
+
+// A file of these bytes, which is read, where there are any.
+fn held_of(bytes: Option<&[u8]>, alloc: Global) -> Result<Held, Stop>
+    ensures bytes { IfOk result (λ file. option_map (λ bytes. bytes.now) bytes.entry ≡ Some file.bytes.items) }
+    ensures stop { IfErr result (StopsFor (bytes.entry ≡ None)) }
 {
+    let Some(bytes) = bytes else {
+        return Err(Stop::Device);
+    };
     let mut held = VecDeque::new(alloc);
     match held.write(bytes) {
         Ok(_) => Ok(Held { bytes: held }),

@@ -1,4 +1,5 @@
 -- Lemmas on output.
 pub mod LineLemmas
 pub mod StopLemmas
+pub mod TextLemmas
 pub mod WritingLemmas

@@ -1,7 +1,6 @@
 //! The lines of records.
 
-ghost use Rattle.std.specs.Prelude.{◌≡◌, ◌≤◌, ◌++◌, OnOk, map, string_bytes, codes, decimal, option_map};
-ghost use Rattle.arrayvec.specs.ArrayString.{array_string_len};
+ghost use Rattle.std.specs.Prelude.{◌≡◌, ◌++◌, OnOk, map, string_bytes, decimal};
 ghost use Rattle.tl_where.specs.LinePlaces.{place_pair};
 ghost use Rattle.tl_placing.specs.Texts.{record_text, at_text, number_text, named_text, where_text, record_line_text, record_lines_text};
 

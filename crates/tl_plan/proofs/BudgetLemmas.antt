@@ -3,7 +3,7 @@ use Rattle.std.proofs.Common.{◌≡◌, ◌≢◌, ℕ, zero, suc, ◌<◌, ◌
 use Rattle.std.specs.Str.Parse.{ParsesUnsigned, AllDigits, IsNumeral, digits_value}
 use Rattle.std.proofs.lemmas.Str.Parse.{IsNumeralModel, digit_at, without_leading_plus_none}
 use Rattle.std.proofs.lemmas.Fmt.{decimal-digits_value, decimal_is_IsNumeral, decimal_nonempty, first_decimal, decimal_digit, decimal_injective, parse-decimal}
-use Rattle.tl_plan.specs.CommandLine.{IsSpelt, SpellsWidth, greatest_width}
+use Rattle.tl_plan.specs.Arguments.{IsSpelt, SpellsWidth, greatest_width}
 use Rattle.tl_plan.specs.Spelling.{MaySpell}
 
 own : IsNumeralModel (AllDigits 10) (digits_value 10)

@@ -9,8 +9,8 @@ use Rattle.clap.specs.declared.builder.arg.Arg.{Arg}
 use Rattle.clap.specs.declared.builder.command.Command.{Command}
 use Rattle.clap.specs.declared.builder.command.Command.TheViews.{out-Command}
 use Rattle.clap.specs.declared.builder.command.Command.TheOpen.{Command-F}
-use Rattle.tl_plan.specs.Commands.{IsLocal}
-use Rattle.tl_plan.specs.Keeping.{rule_for, with_each, app_named, with_named, name_of, arguments_for, OnMade, told_of, named_told, rule_told, argument_told}
+use Rattle.tl_plan.specs.Commands.{IsLocal, name_of}
+use Rattle.tl_plan.specs.Keeping.{rule_for, with_each, app_named, with_named, arguments_for, OnMade, told_of, named_told, rule_told, argument_told}
 use Rattle.tl_plan.specs.declared.command_line.Argument.{Argument}
 use Rattle.tl_plan.specs.declared.command_line.Named.{Named}
 use Rattle.tl_plan.specs.declared.command_line.Named.TheVariants.{Show, Landmarks, Locate, Audit, Build, Check, Convert, Export, Draw}

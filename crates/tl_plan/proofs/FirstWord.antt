@@ -13,9 +13,9 @@ use Rattle.clap.specs.declared.error.kind.ErrorKind.TheVariants.{UnknownArgument
 use Rattle.clap.proofs.OnLiterals.{clap_on_literals}
 use Rattle.tl_plan.specs.Commands.{command_line}
 use Rattle.tl_plan.specs.CommandLine.{AreAUse, HasMistake, HasAnswer, StopsPlanning, first_names, is_option, may_be_use}
-use Rattle.tl_plan.specs.declared.plan.Task.{Task}
-use Rattle.tl_plan.specs.declared.plan.PlanStop.{PlanStop}
-use Rattle.tl_plan.specs.declared.plan.PlanStop.TheVariants.{Memory}
+use Rattle.tl_plan.specs.declared.asked.Command.{Command}
+use Rattle.tl_plan.specs.declared.stop.WordsStop.{WordsStop}
+use Rattle.tl_plan.specs.declared.stop.WordsStop.TheVariants.{Memory}
 
 -- neither of two tests holds
 neither : (a b : Bool) → (a || b) ≡ false → (a ≡ false) × (b ≡ false)
@@ -159,6 +159,6 @@ wish_may words wish = go (may_be_use words) refl
     go false is = absurd (no_use_answer words is wish)
 
 -- a want of memory behind the words
-pub stops_may : (stopped : Result Task PlanStop) (words : List Text) → IsErrAnd stopped (λ stop. stop ≡ Memory) → may_be_use words ≡ true → IfErr stopped (StopsPlanning words)
-stops_may (Ok task) words is may = tt
+pub stops_may : (stopped : Result Command WordsStop) (words : List Text) → IsErrAnd stopped (λ stop. stop ≡ Memory) → may_be_use words ≡ true → IfErr stopped (StopsPlanning words)
+stops_may (Ok command) words is may = tt
 stops_may (Err stop) words is may = subst (StopsPlanning words) (sym is) may

@@ -1,7 +1,9 @@
--- Lemmas on words and plans.
+-- Lemmas on words and commands.
+pub mod ArgumentLemmas
 pub mod BudgetLemmas
 pub mod CommandsLemmas
+pub mod EscapeLemmas
 pub mod FirstWord
-pub mod PlansLemmas
 pub mod PointLemmas
+pub mod RequestLemmas
 pub mod WordsLemmas

@@ -6,6 +6,8 @@ use Rattle.clap.specs.Walk.{Rule, Text}
 use Rattle.clap.specs.declared.builder.action.ArgAction.TheVariants.{Append, SetTrue}
 use Rattle.clap.specs.declared.builder.command.Command.{Command}
 use Rattle.clap.specs.declared.builder.command.Command.TheViews.{out-Command}
+use Rattle.tl_plan.specs.declared.command_line.Named.{Named}
+use Rattle.tl_plan.specs.declared.command_line.Named.TheVariants.{Show, Landmarks, Locate, Audit, Build, Check, Convert, Export, Draw}
 
 -- FILES..: one name or more
 abbrev pub files_argument : Rule
@@ -134,6 +136,18 @@ abbrev pub draw_app : App
 draw_app =
     on_a_map (with_rule (with_rule (with_rule (with_rule (new_app draw_name) (named_argument (codes "out"))) (value_argument (codes "at")))
     (value_argument (codes "width"))) faults_argument)
+
+-- the name of a command
+abbrev pub name_of : Named → Text
+name_of Show = show_name
+name_of Landmarks = landmarks_name
+name_of Locate = locate_name
+name_of Audit = audit_name
+name_of Build = build_name
+name_of Check = check_name
+name_of Convert = convert_name
+name_of Export = export_name
+name_of Draw = draw_name
 
 -- the program, whose words begin behind its own name, which has a version, and which wants a command
 abbrev pub program : App

@@ -1,7 +1,7 @@
 -- Kept on the way: commands and their arguments by the names that the code gives them. No public contract cites this file.
 use Rattle.std.specs.Prelude.{Bool, false, List, [], ◌∷◌, Result, Ok, Err, codes}
 use Rattle.clap.specs.Simple.{App, app_of, with_rule, with_subcommand}
-use Rattle.clap.specs.Walk.{Rule, Text, rule_of}
+use Rattle.clap.specs.Walk.{Rule, rule_of}
 use Rattle.clap.specs.declared.builder.arg.Arg.{Arg}
 use Rattle.clap.specs.declared.builder.command.Command.{Command}
 use Rattle.clap.specs.declared.builder.command.Command.TheViews.{out-Command}
@@ -13,7 +13,7 @@ use Rattle.tl_plan.specs.declared.command_line.Argument.TheVariants.{CertOption,
 use Rattle.tl_plan.specs.Commands.{all_argument, most_argument, zero_cells_argument, released_argument, files_argument}
 use Rattle.tl_plan.specs.Commands.{progress_argument, where_argument, faces_argument, faults_argument, value_argument}
 use Rattle.tl_plan.specs.Commands.{name_argument, named_argument, tests_argument}
-use Rattle.tl_plan.specs.Commands.{command_on_files, show_name, landmarks_name, locate_name, audit_name, build_name, check_name, convert_name, export_name, draw_name}
+use Rattle.tl_plan.specs.Commands.{command_on_files, show_name, landmarks_name}
 use Rattle.tl_plan.specs.Commands.{locate_app, audit_app, build_app, check_app, conversion_app, export_app, draw_app}
 
 -- what clap is told of an argument
@@ -75,18 +75,6 @@ argument_told argument = (rule_for argument, false)
 abbrev pub with_named : App → List Named → App
 with_named app [] = app
 with_named app (named ∷ rest) = with_named (with_subcommand app (app_named named).top) rest
-
--- the name of a command
-abbrev pub name_of : Named → Text
-name_of Show = show_name
-name_of Landmarks = landmarks_name
-name_of Locate = locate_name
-name_of Audit = audit_name
-name_of Build = build_name
-name_of Check = check_name
-name_of Convert = convert_name
-name_of Export = export_name
-name_of Draw = draw_name
 
 -- the arguments of a command
 abbrev pub arguments_for : Named → List Argument

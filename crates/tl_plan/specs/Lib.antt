@@ -1,8 +1,10 @@
--- What the contracts of plans cite.
+-- What the contracts of commands cite.
 pub mod Commands
 pub mod Points
-pub mod CommandLine
-pub mod Plans
-pub mod Spelling
+pub mod Arguments
+pub mod Requests
 pub mod Asked
+pub mod CommandLine
+pub mod Escapes
+pub mod Spelling
 pub mod Keeping

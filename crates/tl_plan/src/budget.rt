@@ -1,7 +1,7 @@
 //! Numbers: how many pairs of segments may be tested, and how many faults are told.
 
 ghost use Rattle.std.specs.Prelude.{ℕ, ◌↔◌, MatchOption, IsTrue, option_map};
-ghost use Rattle.tl_plan.specs.CommandLine.{IsBudget, IsSpelt, AskForFaults, AskForTold};
+ghost use Rattle.tl_plan.specs.Arguments.{IsBudget, IsSpelt, AskForFaults, AskForTold};
 ghost use Rattle.tl_plan.specs.Spelling.{MaySpell};
 
 /// What an audit is asked to tell.

@@ -3,10 +3,10 @@
 ghost use Rattle.std.specs.Prelude.{◌≡◌, false, List, map, IfOk};
 ghost use Rattle.clap.specs.Simple.{app_of, new_app};
 ghost use Rattle.clap.specs.Walk.{rule_of};
-ghost use Rattle.tl_plan.specs.Commands.{program, command_line, name_argument as name_rule};
+ghost use Rattle.tl_plan.specs.Commands.{program, command_line, name_of, name_argument as name_rule};
 ghost use Rattle.tl_plan.specs.Commands.{switch as switch_rule, files_argument as files_rule};
 ghost use Rattle.tl_plan.specs.Commands.{named_argument as named_rule, value_argument};
-ghost use Rattle.tl_plan.specs.Keeping.{with_each, with_named, name_of, arguments_for, OnMade};
+ghost use Rattle.tl_plan.specs.Keeping.{with_each, with_named, arguments_for, OnMade};
 ghost use Rattle.tl_plan.specs.Keeping.{told_of, named_told, rule_told, argument_told};
 ghost use Rattle.tl_plan.specs.declared.command_line.Argument.{Argument};
 ghost use Rattle.tl_plan.specs.declared.command_line.Named.{Named};
@@ -25,6 +25,7 @@ use std::alloc::{AllocError, Global};
 const VERSION: &str = "0.1.0, proved with rattle-kit-13f logic dac8208d650f15bf";
 
 /// A command of the program.
+#[derive(Clone, Copy)]
 pub enum Named {
     Show,
     Landmarks,

@@ -4,22 +4,22 @@ ghost use Rattle.std.specs.Prelude.{◌≡◌, map};
 ghost use Rattle.std.specs.List.{list_any};
 ghost use Rattle.std.specs.Str.{bytes_eq};
 ghost use Rattle.tl_plan.specs.CommandLine.{StopsPlanning, may_be_use as may_be_use_of, is_option as is_option_of, first_names};
-ghost use Rattle.tl_plan.specs.Plans.{ShowsNoEscape};
+ghost use Rattle.tl_plan.specs.Escapes.{ShowsNoEscape};
 
-use crate::plan::PlanStop;
+use crate::stop::WordsStop;
 use std::alloc::Global;
 use std::convert::AsStr;
 
-/// Why there is no plan of words that couldn't be read for want of memory: for that, unless their first word shows that they
-/// are no use of a command.
-pub fn unread<S: AsStr>(alloc: Global, words: &[S]) -> PlanStop
+/// Why words that couldn't be read for want of memory are no command: for that, unless their first word shows that they
+/// are no use of one.
+pub fn unread<S: AsStr>(alloc: Global, words: &[S]) -> WordsStop
     ensures stops { StopsPlanning (map S.text words.now) result }
     ensures texts { ShowsNoEscape result }
 {
     if may_be_use(words) {
-        PlanStop::Memory
+        WordsStop::Memory
     } else {
-        PlanStop::Usage(String::new(alloc))
+        WordsStop::Usage(String::new(alloc))
     }
 }
 

@@ -63,7 +63,7 @@ pub const AUDIT_ABOUT: &str = "Decides whether the map is sound, with no certifi
 
 pub const AUDIT_EXAMPLE: &str = "\
 Of a sound map the line is `sound chains=C segments=S nodes=N polygons=P landmarks=L rings=R`. Else it
-is `map fault` with a code, a name and what it is about. A certificate is made, checked and not kept.
+is `map fault` with a code, a name and what it is about. No certificate is read, and none is kept.
 
 With --all each fault has its line, or each line that is refused, on the standard output, and the last
 line is `faults=K` or `refused=K`. Where a record is refused no fault is looked for, where records have

@@ -1,15 +1,19 @@
-//! What the words of the command line ask for: a [`Task`], which [`words::task`] makes of them by `clap`'s reading.
+//! What the words of the command line ask for: a [`Command`], which [`words::command`] makes of them by `clap`'s reading.
 #![tactic(auto)]
 
+mod arguments;
+mod asked;
+mod asking;
 mod budget;
 mod command_line;
 mod first_word;
 mod help;
-mod plan;
 mod point;
 mod refusal;
+mod stop;
 mod view;
 pub mod words;
 
+pub use asked::{Asked, Command, View};
 pub use budget::Told;
-pub use plan::{Plan, PlanStop, Task, View};
+pub use stop::WordsStop;

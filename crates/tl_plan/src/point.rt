@@ -1,13 +1,25 @@
 //! How a point is spelt as a word.
 
-ghost use Rattle.std.specs.Prelude.{◌≡◌, ◌≢◌, ◌<◌, ◌≤◌, ◌^◌, ℤ, MatchOption, unsigned_abs};
+ghost use Rattle.std.specs.Prelude.{◌≡◌, ◌≢◌, ◌<◌, ◌≤◌, ◌^◌, ℤ, MatchOption, option_map, unsigned_abs};
 ghost use Rattle.std.specs.Fmt.{signed_decimal};
 ghost use Rattle.tl_geom.specs.declared.point.Point.{Point};
+ghost use Rattle.tl_plan.specs.Arguments.{IsPlace};
 ghost use Rattle.tl_plan.specs.Points.{Spells};
 
 use itoa::Buffer;
 use tl_geom::Point;
 use tl_record::{MAX_LATITUDE, MAX_LONGITUDE};
+
+/// The point that was given, where a word was and spells one.
+pub fn place_of(given: Option<&str>) -> Option<Point>
+    ensures { let place = option_map (λ text. text.now) given.entry in
+        MatchOption result ((p : Point) → ¬ IsPlace place p) (IsPlace place) }
+{
+    match given {
+        Some(word) => point_of(word),
+        None => None,
+    }
+}
 
 /// The point that the word spells: `@`, its longitude, a comma and its latitude, in millionths of a degree, each with
 /// no plus and no leading zero. A word that spells none, or one past the limits of records, has no point.

@@ -1,13 +1,13 @@
-//! What is said where words make no plan.
+//! What is said where words make no command.
 
 ghost use Rattle.std.specs.Prelude.{◌≡◌, IfOk, string_bytes};
 ghost use Rattle.clap.specs.Values.{kind_of};
 ghost use Rattle.tl_plan.specs.CommandLine.{IsStopOf, IsUsage};
-ghost use Rattle.tl_plan.specs.Plans.{plain_text, HasNoEscape, ShowsNoEscape};
+ghost use Rattle.tl_plan.specs.Escapes.{plain_text, HasNoEscape, ShowsNoEscape};
 
 use crate::command_line::{Named, subcommand};
-use crate::plan::PlanStop;
 use crate::point::point_of;
+use crate::stop::WordsStop;
 use clap::error::ErrorKind;
 use clap::{ArgMatches, Command, Error};
 use std::alloc::{AllocError, Global};
@@ -36,20 +36,20 @@ const POINT_SPELLING: &str =
     "@, a longitude from -180000000 to 180000000, a comma and a latitude from -90000000 to \
     90000000 are wanted, with no plus, no leading zero and no -0";
 
-/// Why there is no plan where `clap` gives this error.
-pub fn stop_of(alloc: Global, error: &Error) -> PlanStop
+/// Why words of which `clap` gives this error are no command.
+pub fn stop_of(alloc: Global, error: &Error) -> WordsStop
     ensures stop { IsStopOf (kind_of error.now) result }
     ensures texts { ShowsNoEscape result }
 {
     if error.kind() == ErrorKind::OutOfMemory {
-        return PlanStop::Memory;
+        return WordsStop::Memory;
     }
     if error.use_stderr() {
-        return PlanStop::Usage(or_empty(alloc, text_of(alloc, error)));
+        return WordsStop::Usage(or_empty(alloc, text_of(alloc, error)));
     }
     match text_of(alloc, error) {
-        Ok(text) => PlanStop::Help(text),
-        Err(_) => PlanStop::Memory,
+        Ok(text) => WordsStop::Help(text),
+        Err(_) => WordsStop::Memory,
     }
 }
 
@@ -81,15 +81,15 @@ fn without_escapes(alloc: Global, text: &str) -> Result<String, AllocError>
     Ok(plain)
 }
 
-/// Why there is no plan of words that `clap` takes.
-pub fn misuse(alloc: Global, command: &mut Command<'_>, matches: &ArgMatches<'_>) -> PlanStop
+/// Why words that `clap` takes are no command.
+pub fn misuse(alloc: Global, command: &mut Command<'_>, matches: &ArgMatches<'_>) -> WordsStop
     ensures usage { IsUsage result }
     ensures texts { ShowsNoEscape result }
 {
-    PlanStop::Usage(or_empty(alloc, usage_of(alloc, command, matches)))
+    WordsStop::Usage(or_empty(alloc, usage_of(alloc, command, matches)))
 }
 
-// What is wrong with words that `clap` takes and that are no plan.
+// What is wrong with words that `clap` takes and that are no command.
 fn usage_of(
     alloc: Global,
     command: &mut Command<'_>,

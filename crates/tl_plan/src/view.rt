@@ -1,11 +1,11 @@
 //! How a view is spelt, by the word of a point and that of a width.
 
 ghost use Rattle.std.specs.Prelude.{ℕ, Option, MatchOption, option_map};
-ghost use Rattle.tl_plan.specs.CommandLine.{IsView, SpellsView, SpellsWidth};
-ghost use Rattle.tl_plan.specs.declared.plan.View.{View};
+ghost use Rattle.tl_plan.specs.Arguments.{IsView, SpellsView, SpellsWidth};
+ghost use Rattle.tl_plan.specs.declared.asked.View.{View};
 
+use crate::asked::View;
 use crate::budget::number_of;
-use crate::plan::View;
 use crate::point::point_of;
 
 // The greatest width of a view, in millionths of a degree: the whole way round.

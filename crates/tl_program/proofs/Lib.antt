@@ -1,2 +1,2 @@
 -- Lemmas on the program.
-pub mod TaskLemmas
+pub mod WholeLemmas

@@ -1,2 +1,2 @@
--- What the program's contracts cite.
-pub mod Tasks
+-- What the contracts of the program cite.
+pub mod Answers

@@ -1,8 +1,9 @@
-//! The program `tigertopo`, from its words to its status.
+//! The program `tigertopo`: all its commands.
 //!
-//! The words ask for a task (`tl_plan`), which [`start`] does: a plan by `tl_command`, and lists of faults, exports and pictures by
-//! crates of their own. [`program`] asks the system for the words.
+//! [`Whole`] does what each command asks: lists of faults, exports and pictures by crates of their own, and the others as
+//! `tl_command` does them.
 #![tactic(auto)]
 
-pub mod program;
-pub mod start;
+mod whole;
+
+pub use whole::Whole;

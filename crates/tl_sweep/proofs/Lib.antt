@@ -20,3 +20,4 @@ pub mod Agreeing
 pub mod Spotting
 pub mod Answered
 pub mod Unmarked
+pub mod Turning

@@ -1,28 +1,37 @@
-use Rattle.std.proofs.Common.{inl, inr, ap}
-use Rattle.tl_output.specs.Writing.{Writes}
-use Rattle.tl_answers.specs.Beginnings.{Begins}
-use Rattle.tl_answers.proofs.ConvertLemmas.{converted_status, converted_is, converted_stopped, converted_err_stays, converted_whole, converted_begun, begins_whole}
+use Rattle.std.proofs.Common.{◌∷◌, [], Some, Ok, string_bytes, refl, sym, subst}
+use Rattle.tl_files.specs.Files.{bytes_under, IsFree}
+use Rattle.tl_files.specs.World.{world}
+use Rattle.tl_files.specs.declared.beginning.FileKind.TheVariants.{Certificate}
+use Rattle.tl_files.proofs.WorldLemmas.{does_then, does_read, does_stop, none_made}
+use Rattle.tl_answers.specs.Answers.{ConvertAnswers, IsReadCertificate, IsSaid}
+use Rattle.tl_answers.specs.Records.{StopsNever}
+use Rattle.tl_answers.proofs.ConvertLemmas.{tells_fault, tells_conversion}
 use Rattle.tl_answers.proofs.convert.convert.Goals as goal
 
-pub returns-clause-converted : goal.returns-clause-converted
-returns-clause-converted g c =
-    converted_is _ _ (Begins g.C.Sink.contents c.args.made.now c.rewrite-converted.new.made) _ _ _ _ _ _ _ c.rewrite-converted.result c.write_converted.result c.rewrite-converted.ensures.made c.write_converted.ensures
+pub returns-in_err-certificate : goal.returns-in_err-certificate
+returns-in_err-certificate g c =
+    let w = world g.F.FileSystem.under g.F.FileSystem.log g.F.FileSystem.knows c.args.files.now c.read_certificate.new.files in
+    does_stop w (string_bytes c.args.cert.now ∷ []) (IsReadCertificate (bytes_under w.before (string_bytes c.args.cert.now))) StopsNever (Some (string_bytes c.args.made.now)) StopsNever c.in_err-certificate.field-0.0
+    c.in_err-certificate.ensures (λ s so. so) _ c.from_residual.result c.from_residual.ensures.1
 
-pub returns-clause-begun : goal.returns-clause-begun
-returns-clause-begun g c = λ stopped.
-    converted_begun _ _ (Begins g.C.Sink.contents c.args.made.now c.rewrite-converted.new.made) _ _ c.rewrite-converted.result (begins_whole g.C.Sink.contents g.C.Sink.failure_count c.args.made.now c.rewrite-converted.new.made)
-    c.rewrite-converted.ensures.made
+pub make-requires : goal.make-requires
+make-requires g c = subst (λ under. IsFree under (string_bytes c.args.made.now) (string_bytes c.args.cert.now ∷ []) Certificate) (sym c.in_ok-certificate.ensures.keeps) c.requires
 
-pub returns-clause-stopped : goal.returns-clause-stopped
-returns-clause-stopped g c =
-    converted_stopped _ (Writes g.C.Sink.contents g.C.Sink.failure_count c.args.made.now c.rewrite-converted.new.made) (Begins g.C.Sink.contents c.args.made.now c.rewrite-converted.new.made) _ _ _ _ _ _ _ _ _ _ c.rewrite-converted.result c.write_converted.result _ _
-    (λ any. any) (λ reads written. (reads, elim written [ inl same ↦ ap g.C.Sink.failure_count same | inr text ↦ text.1.no_failure ])) (λ whole is. inl is) (λ is. inr is) c.rewrite-converted.ensures.reads c.rewrite-converted.ensures.made c.write_converted.ensures
+pub returns-in-Err : goal.returns-in-Err
+returns-in-Err g c =
+    let w = world g.F.FileSystem.under g.F.FileSystem.log g.F.FileSystem.knows c.args.files.now c.read_certificate.new.files in
+    does_read w (string_bytes c.args.cert.now ∷ []) (IsReadCertificate (bytes_under w.before (string_bytes c.args.cert.now))) StopsNever (Some (string_bytes c.args.made.now)) _ c.in_ok-certificate.ensures
+    _ c.of.result (rw c.of.ensures (
+      tells_fault w (bytes_under w.before (string_bytes c.args.cert.now)) (string_bytes c.args.made.now) c.in-Err.fault (rw c.in-Err.is at c.in_ok-certificate.ensures.answered)
+          (none_made w (Some (string_bytes c.args.made.now)) c.in_ok-certificate.ensures.keeps),
+      tt,
+    ))
 
-pub returns-clause-status : goal.returns-clause-status
-returns-clause-status g c = converted_status c.rewrite-converted.result c.write_converted.result _ _ _ _ _ c.write_converted.ensures
-
-pub returns-clause-err_stays : goal.returns-clause-err_stays
-returns-clause-err_stays g c = converted_err_stays c.rewrite-converted.result c.write_converted.result _ _ _ _ _ c.write_converted.ensures
-
-pub returns-clause-read_whole : goal.returns-clause-read_whole
-returns-clause-read_whole g c = converted_whole c.rewrite-converted.result c.write_converted.result _ _ _ _ _ _ _ c.rewrite-converted.ensures.reads c.write_converted.ensures
+pub returns-in-Ok : goal.returns-in-Ok
+returns-in-Ok g c =
+    let w = world g.F.FileSystem.under g.F.FileSystem.log g.F.FileSystem.knows c.args.files.now c.make-in-Ok.new.files in
+    let name = string_bytes c.args.made.now in
+    let spelt = bytes_under w.before (string_bytes c.args.cert.now) in
+    does_then w.before (g.F.FileSystem.under c.read_certificate.new.files) w.after w.log (g.F.FileSystem.log c.read_certificate.new.files) w.logged w.knows (string_bytes c.args.cert.now ∷ []) (Some name)
+    (IsReadCertificate spelt) StopsNever (Ok c.in-Ok.certificate) (rw c.in-Ok.is at c.in_ok-certificate.ensures) _ (IsSaid (ConvertAnswers w spelt name)) StopsNever c.make-in-Ok.result c.make-in-Ok.ensures
+    (λ t made. tells_conversion w w spelt name c.in-Ok.certificate c.to_v2.result t refl c.to_v2.ensures (rw c.in-Ok.is at c.in_ok-certificate.ensures.answered) (record { is = made.is; kept = made.kept })) (λ s so. so)

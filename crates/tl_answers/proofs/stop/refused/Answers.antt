@@ -1,9 +1,7 @@
 use Rattle.std.proofs.Common.{◌∙◌, subst}
-use Rattle.tl_answers.specs.Running.{TriesToWrite}
-use Rattle.tl_answers.proofs.ToldLemmas.{tries}
+use Rattle.tl_answers.specs.Telling.{Tries, stream}
 use Rattle.tl_answers.proofs.stop.refused.Goals as goal
 
-pub returns-clause-said : goal.returns-clause-said
-returns-clause-said g c =
-    subst (TriesToWrite g.E.Sink.contents g.E.Sink.failure_count c.args.err.now c.write_all.new.out) (c.as_bytes.ensures.value ∙ c.as_str.ensures.value ∙ c.refusal_line-text.ensures)
-    (tries g.E.Sink.contents g.E.Sink.failure_count c.args.err.now c.write_all.new.out _ c.write_all.result c.write_all.ensures.bytes c.write_all.ensures.passes c.write_all.ensures.failures)
+pub returns-clause-told : goal.returns-clause-told
+returns-clause-told g c =
+    subst (Tries (stream g.E.Sink.contents g.E.Sink.failure_count c.args.err.now c.try_to_write.new.err)) (c.as_bytes.ensures.value ∙ c.as_str.ensures.value ∙ c.refusal_line-text.ensures) c.try_to_write.ensures

@@ -1,49 +1,49 @@
+use Rattle.std.proofs.Common.{◌≡◌, inl, inr, ◌∙◌, true, refl, sym, subst}
+use Rattle.std.specs.Prelude.{◌++◌}
+use Rattle.tl_output.specs.Stops.{StopsFor}
+use Rattle.tl_plan.specs.Asked.{made_of}
+use Rattle.tl_files.specs.World.{world}
+use Rattle.tl_answers.specs.Telling.{stream}
+use Rattle.tl_command.specs.Commands.{inputs_of, kind_of}
+use Rattle.tl_command.specs.Running.{SomeUnknown, watched}
+use Rattle.tl_command.proofs.CommandLemmas.{on_ok, refused_name}
 use Rattle.tl_command.proofs.run.run.Goals as goal
 
-pub returns-clause-status : goal.returns-clause-status
-returns-clause-status g c = c.run_by.ensures.is_status
+pub returns-in-Free : goal.returns-in-Free
+returns-in-Free g c =
+    let mid = world g.F.FileSystem.under g.F.FileSystem.log g.F.FileSystem.knows c.watch.new.files c.perform.new.files in
+    let log = on_ok (g.F.FileSystem.knows ≡ true → g.F.FileSystem.log c.watch.new.files ≡ watched c.args.command.now (g.F.FileSystem.log c.args.files.now)) c.watch.result _ c.is_err.ensures.value c.if-is_err.false c.watch.ensures.watched in
+    inr (mid, record { before = c.watch.ensures.stays; after = refl; logged = refl; knows = refl; log = log }, inr (inr c.perform.ensures))
 
-pub returns-clause-answered : goal.returns-clause-answered
-returns-clause-answered g c = c.run_by.ensures.answered
+pub returns-in_default : goal.returns-in_default
+returns-in_default g c =
+    let mid = world g.F.FileSystem.under g.F.FileSystem.log g.F.FileSystem.knows c.watch.new.files c.watch.new.files in
+    let log = on_ok (g.F.FileSystem.knows ≡ true → g.F.FileSystem.log c.watch.new.files ≡ watched c.args.command.now (g.F.FileSystem.log c.args.files.now)) c.watch.result _ c.is_err.ensures.value c.if-is_err.false c.watch.ensures.watched in
+    let refused = refused_name (g.F.FileSystem.under c.watch.new.files) (made_of c.args.command.now.asked) (inputs_of c.args.command.now) (kind_of c.args.command.now.asked) c.in-Ok.room c.in_default.not-Free c.in-Ok.ensures.room in
+    inr (
+      mid,
+      record { before = c.watch.ensures.stays; after = refl; logged = refl; knows = refl; log = log },
+      inl (record {
+        name = refused.0;
+        made = refused.1;
+        refuses = record { room = c.in-Ok.room; taken = c.in_default.not-Free; so = refused.2; is = c.say_refusal.ensures.status; told = rw c.kind_of.ensures at c.say_refusal.ensures.said; same = refl };
+        none = refl;
+        untouched = record { stays = refl; logged = λ known. refl };
+      }),
+    )
 
-pub returns-clause-fault : goal.returns-clause-fault
-returns-clause-fault g c = c.run_by.ensures.fault
-
-pub returns-clause-exactly : goal.returns-clause-exactly
-returns-clause-exactly g c = c.run_by.ensures.exactly
-
-pub returns-clause-cert_fault : goal.returns-clause-cert_fault
-returns-clause-cert_fault g c = c.run_by.ensures.cert_fault
-
-pub returns-clause-refused : goal.returns-clause-refused
-returns-clause-refused g c = c.run_by.ensures.refused
-
-pub returns-clause-stopped : goal.returns-clause-stopped
-returns-clause-stopped g c = c.run_by.ensures.stopped
-
-pub returns-clause-err_stays : goal.returns-clause-err_stays
-returns-clause-err_stays g c = c.run_by.ensures.err_stays
-
-pub returns-clause-read_whole : goal.returns-clause-read_whole
-returns-clause-read_whole g c = c.run_by.ensures.read_whole
-
-pub returns-clause-cert_whole : goal.returns-clause-cert_whole
-returns-clause-cert_whole g c = c.run_by.ensures.cert_whole
-
-pub returns-clause-cert : goal.returns-clause-cert
-returns-clause-cert g c = c.run_by.ensures.cert
-
-pub returns-clause-made : goal.returns-clause-made
-returns-clause-made g c = c.run_by.ensures.made_stays
-
-pub returns-clause-records : goal.returns-clause-records
-returns-clause-records g c = c.run_by.ensures.records
-
-pub returns-clause-unread : goal.returns-clause-unread
-returns-clause-unread g c = c.run_by.ensures.unread
-
-pub returns-clause-unmade : goal.returns-clause-unmade
-returns-clause-unmade g c = c.run_by.ensures.unmade
-
-pub returns-clause-begun : goal.returns-clause-begun
-returns-clause-begun g c = c.run_by.ensures.begins
+pub returns-in-Err : goal.returns-in-Err
+returns-in-Err g c =
+    let mid = world g.F.FileSystem.under g.F.FileSystem.log g.F.FileSystem.knows c.watch.new.files c.watch.new.files in
+    let log = on_ok (g.F.FileSystem.knows ≡ true → g.F.FileSystem.log c.watch.new.files ≡ watched c.args.command.now (g.F.FileSystem.log c.args.files.now)) c.watch.result _ c.is_err.ensures.value c.if-is_err.false c.watch.ensures.watched in
+    inr (
+      mid,
+      record { before = c.watch.ensures.stays; after = refl; logged = refl; knows = refl; log = log },
+      inr (inl (record {
+        stop = c.in-Err.stop;
+        may = c.in-Err.ensures.stops;
+        told = (c.stop_by-in-Err.ensures.status, c.stop_by-in-Err.ensures.told, refl);
+        same = c.stop_by-in-Err.ensures.stop;
+        untouched = record { stays = refl; logged = λ known. refl };
+      })),
+    )

@@ -1,48 +1,37 @@
-use Rattle.std.proofs.Common.{inl, inr, string_bytes, map, false, sym, subst, ◌∙◌, Option, List, ℕ, Err}
-use Rattle.std.specs.Prelude.{⊤}
-use Rattle.tl_text.specs.Joining.{joined_bytes, failures_of}
-use Rattle.tl_files.specs.Files.{bytes_under}
-use Rattle.tl_answers.specs.Running.{FailsToRead}
-use Rattle.tl_making.specs.Files.{DrawsMap}
-use Rattle.tl_making.proofs.OpenLemmas.{joined_under}
+use Rattle.std.proofs.Common.{Some, map, string_bytes, sym, subst}
 use Rattle.tl_record.specs.Layout.{layout_with}
-use Rattle.tl_export.proofs.ExportLemmas.{export_made, export_not_made, export_faulty, export_unread, export_unopened}
+use Rattle.tl_files.specs.Files.{IsFree}
+use Rattle.tl_files.specs.World.{world}
+use Rattle.tl_files.specs.declared.beginning.FileKind.TheVariants.{Collection}
+use Rattle.tl_files.proofs.WorldLemmas.{does_stop}
+use Rattle.tl_answers.specs.Answers.{IsReadMap, IsSaid}
+use Rattle.tl_answers.specs.Reading.{text_under}
+use Rattle.tl_answers.specs.Records.{StopsRecords}
+use Rattle.tl_export.specs.Exports.{ExportAnswers}
+use Rattle.tl_export.proofs.ExportLemmas.{export_of_fault, export_of_read}
 use Rattle.tl_export.proofs.county.export.Goals as goal
 
-pub returns-in_err-readers : goal.returns-in_err-readers
-returns-in_err-readers g c =
-    export_unopened (layout_with c.args.options) _ g.F.Reader.Source.failure_count g.F.Draft.Sink.failure_count g.F.FileSystem.knows (g.F.FileSystem.under c.args.files.now) (string_bytes c.args.made.now) (map string_bytes c.args.names.now)
-    c.from_residual.result c.in_err-readers.field-0.0 c.from_residual.ensures.1 c.in_err-readers.ensures.stops
+pub returns-in_err-map : goal.returns-in_err-map
+returns-in_err-map g c =
+    let w = world g.F.FileSystem.under g.F.FileSystem.log g.F.FileSystem.knows c.args.files.now c.over_records.new.files in
+    let layout = layout_with c.args.options in
+    let known = text_under w.before (map string_bytes c.args.names.now) in
+    does_stop w (map string_bytes c.args.names.now) (IsReadMap layout known) (StopsRecords layout known) (Some (string_bytes c.args.made.now)) (StopsRecords layout known) c.in_err-map.field-0.0
+    c.in_err-map.ensures (λ s so. so) (IsSaid (ExportAnswers w layout known (string_bytes c.args.made.now))) c.from_residual.result c.from_residual.ensures.1
+
+pub export_map-requires : goal.export_map-requires
+export_map-requires g c =
+    subst (λ under. IsFree under (string_bytes c.args.made.now) (map string_bytes c.args.names.now) Collection) (sym c.in_ok-map.ensures.keeps) c.requires
 
 pub returns-in-Ok : goal.returns-in-Ok
 returns-in-Ok g c =
-    let joined = joined_under g.F.Reader.Source.remaining string_bytes (g.F.FileSystem.under c.args.files.now) c.in_ok-readers.readers.items c.args.names.now c.in_ok-readers.ensures.opened in
-    export_made (layout_with c.args.options) _ _ _ (string_bytes c.args.made.now) _ ⊤ c.in-Ok.map c.export_map.result c.in_ok-export_map-in-Ok.field-0 c.in_ok-export_map-in-Ok.was (λ fails. tt)
-    (rw (← joined) c.in-Ok.ensures) c.export_map.ensures
+    let w = world g.F.FileSystem.under g.F.FileSystem.log g.F.FileSystem.knows c.args.files.now c.export_map.new.files in
+    let known = text_under w.before (map string_bytes c.args.names.now) in
+    export_of_read w.before (g.F.FileSystem.under c.over_records.new.files) w.after w.log (g.F.FileSystem.log c.over_records.new.files) w.logged w.knows (map string_bytes c.args.names.now) (string_bytes c.args.made.now)
+    (layout_with c.args.options) known c.in-Ok.map (rw c.in-Ok.is at c.in_ok-map.ensures) c.export_map.result c.export_map.ensures
 
-pub returns-in_err-export_map-in-Ok : goal.returns-in_err-export_map-in-Ok
-returns-in_err-export_map-in-Ok g c =
-    let joined = joined_under g.F.Reader.Source.remaining string_bytes (g.F.FileSystem.under c.args.files.now) c.in_ok-readers.readers.items c.args.names.now c.in_ok-readers.ensures.opened in
-    export_not_made (layout_with c.args.options) _ _ _ (string_bytes c.args.made.now) _ _ c.in-Ok.map c.export_map.result c.from_residual-in_err-export_map-in-Ok.result c.in_err-export_map-in-Ok.field-0.0
-    c.from_residual-in_err-export_map-in-Ok.ensures.1 c.in_err-export_map-in-Ok.was (λ fails. inr (inr fails)) (rw (← joined) c.in-Ok.ensures) c.export_map.ensures
-
-pub returns : goal.returns
-returns g c =
-    let layout = layout_with c.args.options in
-    let known = joined_bytes (bytes_under (g.F.FileSystem.under c.args.files.now)) false (map string_bytes c.args.names.now) in
-    let reads = FailsToRead (failures_of g.F.Reader.Source.failure_count) c.in_ok-readers.readers.items c.read_county.new.readers.items in
-    let joined = joined_under g.F.Reader.Source.remaining string_bytes (g.F.FileSystem.under c.args.files.now) c.in_ok-readers.readers.items c.args.names.now c.in_ok-readers.ensures.opened in
-    let draws = subst (λ (k : Option (List ℕ)). DrawsMap layout k reads (Err c.in-Err.stop)) joined c.in-Err.ensures in
-    export_faulty layout known (g.F.FileSystem.under c.args.files.now) (string_bytes c.args.made.now) reads ⊤ c.in-Err.stop c.in_ok-fault_of_records-in-Err.field-0
-    (sym c.fault_of_records.ensures ∙ c.in_ok-fault_of_records-in-Err.was) (λ read. tt) draws
-
-pub returns-in_err-fault_of_records-in-Err : goal.returns-in_err-fault_of_records-in-Err
-returns-in_err-fault_of_records-in-Err g c =
-    let layout = layout_with c.args.options in
-    let known = joined_bytes (bytes_under (g.F.FileSystem.under c.args.files.now)) false (map string_bytes c.args.names.now) in
-    let reads = FailsToRead (failures_of g.F.Reader.Source.failure_count) c.in_ok-readers.readers.items c.read_county.new.readers.items in
-    let joined = joined_under g.F.Reader.Source.remaining string_bytes (g.F.FileSystem.under c.args.files.now) c.in_ok-readers.readers.items c.args.names.now c.in_ok-readers.ensures.opened in
-    let draws = subst (λ (k : Option (List ℕ)). DrawsMap layout k reads (Err c.in-Err.stop)) joined c.in-Err.ensures in
-    export_unread layout known (g.F.FileSystem.under c.args.files.now) (string_bytes c.args.made.now) reads _ c.in-Err.stop c.from_residual-in_err-fault_of_records-in-Err.result c.in_err-fault_of_records-in-Err.field-0.0
-    c.from_residual-in_err-fault_of_records-in-Err.ensures.1 (sym c.fault_of_records.ensures ∙ c.in_err-fault_of_records-in-Err.was)
-    (λ read. inr (inl (c.in_ok-readers.readers.items, c.read_county.new.readers.items, read))) draws
+pub returns-in-Err : goal.returns-in-Err
+returns-in-Err g c =
+    let w = world g.F.FileSystem.under g.F.FileSystem.log g.F.FileSystem.knows c.args.files.now c.over_records.new.files in
+    let known = text_under w.before (map string_bytes c.args.names.now) in
+    rw (c.of.ensures, c.fault.ensures) (export_of_fault w (map string_bytes c.args.names.now) (string_bytes c.args.made.now) (layout_with c.args.options) known c.in-Err.fault (rw c.in-Err.is at c.in_ok-map.ensures))

@@ -1,38 +1,37 @@
-use Rattle.std.proofs.Common.{inl, inr, ap}
-use Rattle.tl_output.specs.Writing.{Writes}
-use Rattle.tl_making.proofs.MakingLemmas.{making_status, making_built, making_fault, making_refused, making_stopped, making_err_stays, making_unmade, making_begun, making_whole}
-use Rattle.tl_answers.proofs.ConvertLemmas.{begins_whole}
+use Rattle.std.proofs.Common.{Some, map, string_bytes, sym, subst}
+use Rattle.tl_record.specs.Layout.{layout_with}
+use Rattle.tl_files.specs.Files.{IsFree}
+use Rattle.tl_files.specs.World.{world}
+use Rattle.tl_files.specs.declared.beginning.FileKind.TheVariants.{Certificate}
+use Rattle.tl_files.proofs.WorldLemmas.{does_stop}
+use Rattle.tl_answers.specs.Answers.{IsReadMap, IsSaid}
+use Rattle.tl_answers.specs.Reading.{text_under}
+use Rattle.tl_answers.specs.Records.{StopsRecords}
+use Rattle.tl_making.specs.Building.{BuildAnswers}
+use Rattle.tl_making.proofs.BuildLemmas.{build_of_fault, build_of_read}
 use Rattle.tl_making.proofs.building.build.Goals as goal
 
-pub returns-clause-status : goal.returns-clause-status
-returns-clause-status g c = making_status c.make-making.result c.write_making.result _ _ _ _ _ c.write_making.ensures
+pub returns-in_err-map : goal.returns-in_err-map
+returns-in_err-map g c =
+    let w = world g.F.FileSystem.under g.F.FileSystem.log g.F.FileSystem.knows c.args.files.now c.over_records.new.files in
+    let layout = layout_with c.args.options in
+    let known = text_under w.before (map string_bytes c.args.names.now) in
+    does_stop w (map string_bytes c.args.names.now) (IsReadMap layout known) (StopsRecords layout known) (Some (string_bytes c.args.made.now)) (StopsRecords layout known) c.in_err-map.field-0.0
+    c.in_err-map.ensures (λ s so. so) (IsSaid (BuildAnswers w c.args.options known (string_bytes c.args.made.now))) c.from_residual.result c.from_residual.ensures.1
 
-pub returns-clause-built : goal.returns-clause-built
-returns-clause-built g c = making_built c.args.options _ _ _ _ _ _ _ _ _ _ c.make-making.result c.write_making.result c.make-making.ensures.made c.write_making.ensures
+pub build_of_map-requires : goal.build_of_map-requires
+build_of_map-requires g c =
+    subst (λ under. IsFree under (string_bytes c.args.made.now) (map string_bytes c.args.names.now) Certificate) (sym c.in_ok-map.ensures.keeps) c.requires
 
-pub returns-clause-fault : goal.returns-clause-fault
-returns-clause-fault g c = making_fault c.args.options _ _ _ _ _ _ _ _ _ _ c.make-making.result c.write_making.result c.make-making.ensures.made c.write_making.ensures
+pub returns-in-Ok : goal.returns-in-Ok
+returns-in-Ok g c =
+    let w = world g.F.FileSystem.under g.F.FileSystem.log g.F.FileSystem.knows c.args.files.now c.build_of_map.new.files in
+    let known = text_under w.before (map string_bytes c.args.names.now) in
+    build_of_read w.before (g.F.FileSystem.under c.over_records.new.files) w.after w.log (g.F.FileSystem.log c.over_records.new.files) w.logged w.knows (map string_bytes c.args.names.now) (string_bytes c.args.made.now)
+    c.args.options known c.in-Ok.map (rw c.in-Ok.is at c.in_ok-map.ensures) c.build_of_map.result c.build_of_map.ensures
 
-pub returns-clause-refused : goal.returns-clause-refused
-returns-clause-refused g c = λ refused. (making_refused c.args.options _ _ _ _ _ _ _ _ _ _ c.make-making.result c.write_making.result c.make-making.ensures.made c.write_making.ensures refused).0
-
-pub returns-clause-out_stays : goal.returns-clause-out_stays
-returns-clause-out_stays g c = λ refused. (making_refused c.args.options _ _ _ _ _ _ _ _ _ _ c.make-making.result c.write_making.result c.make-making.ensures.made c.write_making.ensures refused).1
-
-pub returns-clause-stopped : goal.returns-clause-stopped
-returns-clause-stopped g c =
-    making_stopped c.args.options _ (Writes g.C.Sink.contents g.C.Sink.failure_count c.args.made.now c.make-making.new.made) _ _ _ _ _ _ _ _ _ _ _ c.make-making.result c.write_making.result _ _ (λ any. any)
-    (λ reads written. (reads, elim written [ inl same ↦ ap g.C.Sink.failure_count same | inr text ↦ text.1.no_failure ])) (λ whole is. inl is) (λ is. inr is) c.make-making.ensures.reads c.make-making.ensures.made c.write_making.ensures
-
-pub returns-clause-err_stays : goal.returns-clause-err_stays
-returns-clause-err_stays g c = making_err_stays c.make-making.result c.write_making.result _ _ _ _ _ c.write_making.ensures
-
-pub returns-clause-unmade : goal.returns-clause-unmade
-returns-clause-unmade g c = making_unmade c.args.options _ _ _ _ _ _ _ _ _ _ c.make-making.result c.write_making.result c.make-making.ensures.made c.write_making.ensures
-
-pub returns-clause-begun : goal.returns-clause-begun
-returns-clause-begun g c =
-    making_begun c.args.options _ _ _ _ _ _ _ _ _ _ c.make-making.result c.write_making.result (begins_whole g.C.Sink.contents g.C.Sink.failure_count c.args.made.now c.make-making.new.made) c.make-making.ensures.made c.write_making.ensures
-
-pub returns-clause-read_whole : goal.returns-clause-read_whole
-returns-clause-read_whole g c = making_whole c.make-making.result c.write_making.result _ _ _ _ _ _ _ c.make-making.ensures.reads c.write_making.ensures
+pub returns-in-Err : goal.returns-in-Err
+returns-in-Err g c =
+    let w = world g.F.FileSystem.under g.F.FileSystem.log g.F.FileSystem.knows c.args.files.now c.over_records.new.files in
+    let known = text_under w.before (map string_bytes c.args.names.now) in
+    rw (c.of.ensures, c.fault.ensures) (build_of_fault w (map string_bytes c.args.names.now) (string_bytes c.args.made.now) c.args.options known c.in-Err.fault (rw c.in-Err.is at c.in_ok-map.ensures))

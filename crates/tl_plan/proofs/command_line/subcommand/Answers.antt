@@ -1,7 +1,8 @@
 use Rattle.std.proofs.Common.{◌≡◌, false, ap, subst, ◌∙◌}
 use Rattle.std.specs.Prelude.{IfOk}
 use Rattle.clap.specs.Simple.{App, new_app}
-use Rattle.tl_plan.specs.Keeping.{name_of, with_each, told_of}
+use Rattle.tl_plan.specs.Commands.{name_of}
+use Rattle.tl_plan.specs.Keeping.{with_each, told_of}
 use Rattle.tl_plan.proofs.CommandsLemmas.{named_app}
 use Rattle.tl_plan.proofs.command_line.subcommand.Goals as goal
 

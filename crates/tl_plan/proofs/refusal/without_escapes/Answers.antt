@@ -2,8 +2,8 @@ use Rattle.std.proofs.Common.{◌≡◌, ◌≢◌, ap, sym, subst, ◌∙◌, A
 use Rattle.std.proofs.lemmas.List.Elements.{filter_from_retain}
 use Rattle.std.specs.Str.{encode_utf8_all}
 use Rattle.std.specs.Prelude.{string_bytes}
-use Rattle.tl_plan.specs.Plans.{escape, plain_text}
-use Rattle.tl_plan.proofs.PlansLemmas.{is_plain, plain_text-chars, All-plain_text}
+use Rattle.tl_plan.specs.Escapes.{escape, plain_text}
+use Rattle.tl_plan.proofs.EscapeLemmas.{is_plain, plain_text-chars, All-plain_text}
 use Rattle.tl_plan.proofs.refusal.without_escapes.Goals as goal
 
 made_plain : (c : goal.After-retain) → string_bytes c.retain.new.self ≡ plain_text c.args.text.now

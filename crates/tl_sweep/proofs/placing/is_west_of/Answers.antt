@@ -3,7 +3,7 @@ use Rattle.tl_planar.specs.Keeping.Apart.{one_found}
 use Rattle.tl_slabs.specs.Heights.{widest}
 use Rattle.tl_line.proofs.Listing.{own}
 use Rattle.tl_sweep.proofs.Spotting.{west_by}
-use Rattle.tl_line.proofs.Tests.{gt_test}
+use Rattle.tl_sweep.proofs.Turning.{gt_test}
 use Rattle.tl_sweep.proofs.placing.is_west_of.Goals as goal
 
 pub returns : goal.returns

@@ -1,0 +1,5 @@
+use Rattle.tl_output.proofs.TextLemmas.{prints_text}
+use Rattle.tl_draw.proofs.drawing.PictureTextText.print.Goals as goal
+
+pub returns : goal.returns
+returns g c = prints_text g.S.Sink.contents g.S.Sink.failure_count _ _ _ _ _ c.as_printed.ensures c.print_picture.ensures.bytes c.print_picture.ensures.failures

@@ -1,0 +1,6 @@
+-- Lemmas on files.
+pub mod WorldLemmas
+pub mod FrontLemmas
+pub mod ReadLemmas
+pub mod WordLemmas
+pub mod LookLemmas

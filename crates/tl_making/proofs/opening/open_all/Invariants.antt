@@ -1,8 +1,0 @@
-use Rattle.std.proofs.Common.{◌≡◌, ◌++◌, map, drop, string_bytes}
-use Rattle.tl_files.specs.Files.{bytes_under}
-use Rattle.tl_making.proofs.opening.open_all.Given as goal
-
-abbrev pub invariant-loop-name : goal.invariant-loop-name
-invariant-loop-name g l =
-    map g.F.Reader.Source.remaining l.readers.items ++ map (λ name. bytes_under (g.F.FileSystem.under l.files) (string_bytes name)) (drop l.name-index l.names)
-    ≡ map (λ name. bytes_under (g.F.FileSystem.under l.files) (string_bytes name)) l.names

@@ -1,0 +1,31 @@
+-- What the program answers to a command, whichever it is.
+use Rattle.std.specs.Prelude.{ℕ, Bool, true, false, List, Option, Some, None, option_map, string_bytes}
+use Rattle.tl_record.specs.declared.options.Options.{Options}
+use Rattle.tl_record.specs.Layout.{layout_with}
+use Rattle.tl_output.specs.declared.stop.Stop.{Stop}
+use Rattle.tl_plan.specs.declared.asked.Asked.{Asked}
+use Rattle.tl_plan.specs.declared.asked.Asked.TheVariants.{Audit, Export, Draw}
+use Rattle.tl_plan.specs.declared.budget.Told.TheVariants.{One}
+use Rattle.tl_files.specs.World.{World}
+use Rattle.tl_answers.specs.Reading.{text_under}
+use Rattle.tl_command.specs.Commands.{PlainAnswers, PlainStops}
+use Rattle.tl_draw.specs.Drawing.{DrawAnswers}
+use Rattle.tl_export.specs.Exports.{ExportAnswers}
+use Rattle.tl_lists.specs.Listed.{ListAnswers, StopsList}
+
+-- what is answered, with which status, where the records are in the files of these names
+abbrev pub AllAnswers : Asked → Options → (names : List (List ℕ)) → World → ℕ → List ℕ → Type 0
+AllAnswers (Audit One false None) options names w = PlainAnswers (Audit One false None) options names w
+AllAnswers (Audit told places made) options names w =
+    ListAnswers w options (text_under w.before names) (record { names = names; told = told; places = places; made = option_map string_bytes made })
+AllAnswers (Export made) options names w = ExportAnswers w (layout_with options) (text_under w.before names) (string_bytes made)
+AllAnswers (Draw made view faults) options names w =
+    DrawAnswers w options (text_under w.before names) (record { name = string_bytes made; view = view; shows = faults })
+AllAnswers other options names w = PlainAnswers other options names w
+
+-- why nothing is, but for want of memory and for a device that failed; `again` says that files can't be read again
+abbrev pub AllStops : (again : Type 0) → Asked → Options → (names : List (List ℕ)) → World → Stop → Type 0
+AllStops again (Audit One false None) options names w = PlainStops (Audit One false None) options names w
+AllStops again (Audit told places made) options names w =
+    StopsList options (text_under w.before names) (record { names = names; told = told; places = places; made = option_map string_bytes made }) again
+AllStops again other options names w = PlainStops other options names w

@@ -1,0 +1,64 @@
+//! A program that has all commands.
+
+ghost use Rattle.std.specs.Prelude.{map, string_bytes};
+ghost use Rattle.tl_program.specs.Answers.{AllAnswers, AllStops};
+
+use std::alloc::Global;
+use std::hash::RandomState;
+use tl_command::plain::{answer, is_plain};
+use tl_command::run::{Outcome, Program, tell_answer};
+use tl_draw::draw;
+use tl_export::export;
+use tl_files::FileSystem;
+use tl_lists::{Wanted, list};
+use tl_plan::{Asked, Command};
+use tl_record::Sink;
+
+/// A program that has all commands.
+#[derive(Clone, Copy)]
+pub struct Whole;
+
+impl Program for Whole {
+    ghost answers = { λ command. AllAnswers command.asked command.options (map string_bytes command.files.items) };
+
+    ghost stops = { λ again command. AllStops again command.asked command.options (map string_bytes command.files.items) };
+
+    ghost lacks = { λ command. ⊥ };
+
+    fn perform<F: FileSystem, W: Sink, E: Sink>(
+        &self,
+        files: &mut F,
+        alloc: Global,
+        hasher: RandomState,
+        command: &Command,
+        out: &mut W,
+        err: &mut E,
+    ) -> Outcome {
+        if is_plain(&command.asked) {
+            let answer = answer(files, alloc, hasher, command);
+            return tell_answer(alloc, answer, out, err);
+        }
+        let options = command.options;
+        let names = command.files.as_slice();
+        match &command.asked {
+            Asked::Audit { told, places, made } => {
+                let wanted = Wanted {
+                    told: *told,
+                    places: *places,
+                    made,
+                };
+                let answer = list(files, alloc, hasher, options, names, wanted);
+                tell_answer(alloc, answer, out, err)
+            }
+            Asked::Export { made } => {
+                let answer = export(files, alloc, hasher, options, names, made);
+                tell_answer(alloc, answer, out, err)
+            }
+            Asked::Draw { made, view, faults } => {
+                let answer = draw(files, alloc, hasher, options, names, made, *view, *faults);
+                tell_answer(alloc, answer, out, err)
+            }
+            _ => unreachable!(),
+        }
+    }
+}
