@@ -284,6 +284,17 @@ class Play:
             is_well = answer == KINDS[name].refusal(b"OUT.unfinished") and stranger.read_bytes() == old and not self.made.exists()
             self.count(is_well, f"{name} beside a link: {answer}")
             self.clear()
+            # A file that isn't read, by another name of its own, and a pipe, of which nothing may be awaited.
+            os.link(stranger, self.beside)
+            answer = self.ask(words)
+            is_well = answer == KINDS[name].refusal(b"OUT.unfinished") and stranger.read_bytes() == old and not self.made.exists()
+            self.count(is_well, f"{name} beside a hard link: {answer}")
+            self.clear()
+            os.mkfifo(self.beside)
+            answer = self.ask(words, timeout=10)
+            is_well = answer == KINDS[name].refusal(b"OUT.unfinished") and self.beside.is_fifo() and not self.made.exists()
+            self.count(is_well, f"{name} beside a pipe: {answer}")
+            self.clear()
 
     def full_disk(self):
         """Files may not grow beyond so many bytes."""
