@@ -8,7 +8,7 @@ use Rattle.tl_geom.specs.Plane.{IsSame, whole}
 use Rattle.tl_county.specs.TheMap.{MapChain}
 use Rattle.tl_planar.specs.declared.meet.Meet.{Meet}
 use Rattle.tl_planar.specs.Planar.{IsVertex, IsChainEnd, IsBetweenSegments, IsClosingPoint, IsPlanar}
-use Rattle.tl_planar.specs.Meets.{IsSharedBy, MayShare, IsAllowed}
+use Rattle.tl_planar.specs.Meets.{IsSharedBy, IsAllowed}
 use Rattle.tl_planar.proofs.Planes.{free_planar, meet_not_planar}
 use Rattle.tl_meets.specs.Meets.{AreAllMeets}
 use Rattle.tl_meets.proofs.Deciding.{Decided, same_int, same_point, same_option, both, either}
@@ -47,23 +47,23 @@ closing points i j r = elim (both (both (cases_eq i 0) (cases_eq (j + 2) (length
   | inr other ↦ inr (λ c. other ((c.first, c.last), (c.closed, c.start)))
 ]
 
-may_share : (c i : ℕ) (points : List Point) (d j : ℕ) (others : List Point) (r : Rational) → Decided (MayShare c i points d j others r)
-may_share c i points d j others r = elim (cases_eq c d) [
-  | inl same ↦ elim (either (between points i j r) (closing points i j r)) [
+allowed : (chains : List MapChain) (s t : ℕ) (r : Rational) (m : IsSharedBy chains s t r) → Decided (IsAllowed chains s t r m)
+allowed chains s t r m = elim (cases_eq m.c m.d) [
+  | inl same ↦ elim (either (between m.first.chain.points m.i m.j r) (closing m.first.chain.points m.i m.j r)) [
     | inl within ↦ inl (inr (same, within))
     | inr not_within ↦ inr (λ h. elim h [ inl apart ↦ apart.0 same | inr one ↦ not_within one.1 ])
   ]
-  | inr other ↦ elim (both (chain_end points r) (chain_end others r)) [
+  | inr other ↦ elim (both (chain_end m.first.chain.points r) (chain_end m.second.chain.points r)) [
     | inl ends ↦ inl (inl (other, ends))
     | inr not_ends ↦ inr (λ h. elim h [ inl apart ↦ not_ends apart.1 | inr one ↦ other one.0 ])
   ]
 ]
 
 pub planar_without : (chains : List MapChain) → AreAllMeets chains [] → IsPlanar chains
-planar_without chains all = free_planar chains (λ s t lt r m. allowed s t r lt m)
+planar_without chains all = free_planar chains (λ s t lt r m. each s t r lt m)
   where
-    allowed : (s t : ℕ) (r : Rational) → s < t → (m : IsSharedBy chains s t r) → IsAllowed chains s t r m
-    allowed s t r lt m = elim (may_share m.c m.i m.first.chain.points m.d m.j m.second.chain.points r) [
+    each : (s t : ℕ) (r : Rational) → s < t → (m : IsSharedBy chains s t r) → IsAllowed chains s t r m
+    each s t r lt m = elim (allowed chains s t r m) [
       | inl fine ↦ fine
       | inr refused ↦
           let named = all.complete s t r lt (record { shared = m; refused = refused }) in

@@ -1,6 +1,5 @@
 -- What two segments of a map's chains share, by the segments' numbers, and what of it is allowed.
 use Rattle.std.specs.Prelude.{◌≡◌, ◌≢◌, ◌⊎◌, ℕ, List}
-use Rattle.tl_geom.specs.declared.point.Point.{Point}
 use Rattle.tl_geom.specs.declared.rational.Rational.{Rational}
 use Rattle.tl_county.specs.TheMap.{MapChain}
 use Rattle.tl_county.specs.Segments.{IsSegmentOf}
@@ -17,15 +16,11 @@ pub record IsSharedBy (chains : List MapChain) (s t : ℕ) (r : Rational) : Type
   pub on_first : IsOnSegment first.chain.points i r
   pub on_second : IsOnSegment second.chain.points j r
 
--- segment i of chain c and segment j of chain d may share the rational point: it is an end of both chains, or they are one
--- chain that may share it
-abbrev pub MayShare : (c i : ℕ) (points : List Point) (d j : ℕ) (others : List Point) → Rational → Type 0
-MayShare c i points d j others r =
-    ((c ≢ d) × (IsChainEnd points r × IsChainEnd others r)) ⊎ ((c ≡ d) × MayShareWithin points i j r)
-
--- a shared point is allowed
+-- a shared point is allowed: it is an end of both chains, which are different, or they are one chain whose segments may share it
 abbrev pub IsAllowed : (chains : List MapChain) (s t : ℕ) (r : Rational) → IsSharedBy chains s t r → Type 0
-IsAllowed chains s t r m = MayShare m.c m.i m.first.chain.points m.d m.j m.second.chain.points r
+IsAllowed chains s t r m =
+    ((m.c ≢ m.d) × (IsChainEnd m.first.chain.points r × IsChainEnd m.second.chain.points r))
+    ⊎ ((m.c ≡ m.d) × MayShareWithin m.first.chain.points m.i m.j r)
 
 -- segments s and t, s below t, conflict: they share the rational point, and it isn't allowed
 pub record IsMeet (chains : List MapChain) (s t : ℕ) (r : Rational) : Type 0 where
